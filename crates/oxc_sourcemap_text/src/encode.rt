@@ -1,0 +1,317 @@
+//! Writing the `mappings` text.
+ghost use Rattle.std.specs.Prelude.{◌≡◌, ◌≢◌, ℕ, ◌+◌, ◌-◌, ◌*◌, ◌/◌, ◌%◌, ◌^◌, ◌<◌, ◌≤◌, ◌++◌, List, ◌∷◌, [], length, replicate, string_bytes, OnOk, OnErr, IfErr, IfOk, Option, Some, None, IsNone, if◌then◌else◌, nat_lt, drop, take};
+ghost use Rattle.std.specs.Option.{option_map};
+ghost use Rattle.oxc_sourcemap_text.specs.declared.error.Error.TheVariants.{OutOfMemory};
+ghost use Rattle.oxc_sourcemap_text.specs.Token.{AreInBounds, last_line};
+ghost use Rattle.oxc_sourcemap_text.specs.State.{initial};
+ghost use Rattle.oxc_sourcemap_text.specs.Canonical.{letter, vlq_text, raw_delta, delta_text, separator, column_text, source_text, name_text, token_text, canonical, first_back, back_from};
+ghost use Rattle.oxc_sourcemap_text.specs.Chunks.{writing_fault};
+ghost use Rattle.oxc_sourcemap_text.specs.Encoding.{state_of, advanced, text_from, Extends, OnlyAdds};
+
+use crate::error::{Error, Result};
+use crate::token::{Token, TokenChunk};
+use std::alloc::AllocError;
+
+/// What the next token is written against: line and column of the token in front, source position of the last mapped
+/// one, and name id of the last mapped one that has a name.
+#[derive(Clone, Copy, Drop)]
+struct Previous {
+    dst_line: u32,
+    dst_col: u32,
+    source_id: u32,
+    src_line: u32,
+    src_col: u32,
+    name_id: u32,
+}
+
+impl Previous {
+    /// What the first token of a list is written against.
+    fn new() -> Self
+        ensures { state_of result ≡ initial }
+    {
+        Self {
+            dst_line: 0,
+            dst_col: 0,
+            source_id: 0,
+            src_line: 0,
+            src_col: 0,
+            name_id: 0,
+        }
+    }
+
+    /// What the token behind this one is written against.
+    fn behind(&self, token: &Token) -> Self
+        ensures { state_of result ≡ advanced (state_of self.now) token.now }
+    {
+        match token.get_source_id() {
+            Some(source_id) => Self {
+                dst_line: token.get_dst_line(),
+                dst_col: token.get_dst_col(),
+                source_id,
+                src_line: token.get_src_line(),
+                src_col: token.get_src_col(),
+                name_id: token.get_name_id().unwrap_or(self.name_id),
+            },
+            None => Self {
+                dst_line: token.get_dst_line(),
+                dst_col: token.get_dst_col(),
+                ..*self
+            },
+        }
+    }
+}
+
+/// The character of a digit in the base64 alphabet.
+#[tactic(auto, unfolding(crate::specs::Canonical::letter))]
+fn letter_of(digit: u8) -> char
+    requires { digit < 64 }
+    ensures value { result ≡ letter digit }
+    ensures ascii { result < 128 }
+{
+    match digit {
+        0..=25 => (digit + b'A') as char,
+        26..=51 => (digit - 26 + b'a') as char,
+        52..=61 => (digit - 52 + b'0') as char,
+        62 => '+',
+        _ => '/',
+    }
+}
+
+// After an `Err` of a call `push_`, a beginning of what it adds may stand in `out`, and nothing else has changed.
+
+fn push_ascii(out: &mut String, mark: char) -> std::result::Result<(), AllocError>
+    requires { mark < 128 }
+    ensures ok { OnOk result (string_bytes out.new ≡ string_bytes out.old ++ mark ∷ []) }
+    ensures adds { OnlyAdds (string_bytes out.old) (string_bytes out.new) }
+{
+    out.push(mark)
+}
+
+fn push_digit(out: &mut String, digit: u8) -> std::result::Result<(), AllocError>
+    requires { digit < 64 }
+    ensures ok { OnOk result (string_bytes out.new ≡ string_bytes out.old ++ letter digit ∷ []) }
+    ensures adds { OnlyAdds (string_bytes out.old) (string_bytes out.new) }
+{
+    push_ascii(out, letter_of(digit))
+}
+
+/// Adds a raw number, lowest digit first.
+fn push_vlq(out: &mut String, raw: u64) -> std::result::Result<(), AllocError>
+    ensures ok { OnOk result (string_bytes out.new ≡ string_bytes out.old ++ vlq_text raw) }
+    ensures adds { OnlyAdds (string_bytes out.old) (string_bytes out.new) }
+{
+    let mut rest = raw;
+    while rest >= 32 {
+        push_digit(out, (rest % 32) as u8 + 32)?;
+        rest /= 32;
+    }
+    push_digit(out, rest as u8)?;
+    Ok(())
+}
+
+/// The raw number of the delta `to - from`.
+fn raw_of(to: u32, from: u32) -> u64
+    ensures { result ≡ raw_delta to from }
+{
+    if to < from {
+        u64::from(from - to) * 2 + 1
+    } else {
+        u64::from(to - from) * 2
+    }
+}
+
+/// Adds the delta `to - from`.
+fn push_delta(out: &mut String, to: u32, from: u32) -> std::result::Result<(), AllocError>
+    ensures ok { OnOk result (string_bytes out.new ≡ string_bytes out.old ++ delta_text to from) }
+    ensures adds { OnlyAdds (string_bytes out.old) (string_bytes out.new) }
+{
+    push_vlq(out, raw_of(to, from))
+}
+
+/// Adds this many `;`.
+fn push_semicolons(out: &mut String, count: u32) -> std::result::Result<(), AllocError>
+    ensures ok { OnOk result (string_bytes out.new ≡ string_bytes out.old ++ replicate count 59) }
+    ensures adds { OnlyAdds (string_bytes out.old) (string_bytes out.new) }
+{
+    for i in 0..count {
+        push_ascii(out, ';')?;
+    }
+    Ok(())
+}
+
+/// Adds what parts a token from the one in front of it.
+#[tactic(auto, unfolding(crate::specs::Canonical::separator))]
+fn push_separator(
+    out: &mut String,
+    is_first: bool,
+    previous: &Previous,
+    token: &Token,
+) -> std::result::Result<(), AllocError>
+    requires { previous.now.dst_line ≤ token.now.dst_line }
+    ensures ok { OnOk result (string_bytes out.new ≡ string_bytes out.old ++ separator is_first (state_of previous.now) token.now) }
+    ensures adds { OnlyAdds (string_bytes out.old) (string_bytes out.new) }
+{
+    if token.get_dst_line() == previous.dst_line {
+        if !is_first {
+            push_ascii(out, ',')?;
+        }
+    } else {
+        push_semicolons(out, token.get_dst_line() - previous.dst_line)?;
+    }
+    Ok(())
+}
+
+/// Adds the generated column of a token.
+fn push_column(
+    out: &mut String,
+    previous: &Previous,
+    token: &Token,
+) -> std::result::Result<(), AllocError>
+    ensures ok { OnOk result (string_bytes out.new ≡ string_bytes out.old ++ column_text (state_of previous.now) token.now) }
+    ensures adds { OnlyAdds (string_bytes out.old) (string_bytes out.new) }
+{
+    let from = if token.get_dst_line() == previous.dst_line {
+        previous.dst_col
+    } else {
+        0
+    };
+    push_delta(out, token.get_dst_col(), from)
+}
+
+/// Adds the source position of a token, where it is mapped.
+fn push_source(
+    out: &mut String,
+    previous: &Previous,
+    token: &Token,
+) -> std::result::Result<(), AllocError>
+    ensures ok { OnOk result (string_bytes out.new ≡ string_bytes out.old ++ source_text (state_of previous.now) token.now) }
+    ensures adds { OnlyAdds (string_bytes out.old) (string_bytes out.new) }
+{
+    if let Some(source_id) = token.get_source_id() {
+        push_delta(out, source_id, previous.source_id)?;
+        push_delta(out, token.get_src_line(), previous.src_line)?;
+        push_delta(out, token.get_src_col(), previous.src_col)?;
+    }
+    Ok(())
+}
+
+/// Adds the name of a token, where it is mapped and has one.
+fn push_name(
+    out: &mut String,
+    previous: &Previous,
+    token: &Token,
+) -> std::result::Result<(), AllocError>
+    ensures ok { OnOk result (string_bytes out.new ≡ string_bytes out.old ++ name_text (state_of previous.now) token.now) }
+    ensures adds { OnlyAdds (string_bytes out.old) (string_bytes out.new) }
+{
+    if token.get_source_id().is_some() {
+        if let Some(name_id) = token.get_name_id() {
+            push_delta(out, name_id, previous.name_id)?;
+        }
+    }
+    Ok(())
+}
+
+/// Adds a token.
+#[tactic(auto, unfolding(crate::specs::Canonical::token_text))]
+fn push_token(
+    out: &mut String,
+    is_first: bool,
+    previous: &Previous,
+    token: &Token,
+) -> std::result::Result<(), AllocError>
+    requires { previous.now.dst_line ≤ token.now.dst_line }
+    ensures ok { OnOk result (string_bytes out.new ≡ string_bytes out.old ++ token_text is_first (state_of previous.now) token.now) }
+    ensures adds { OnlyAdds (string_bytes out.old) (string_bytes out.new) }
+{
+    push_separator(out, is_first, previous, token)?;
+    push_column(out, previous, token)?;
+    push_source(out, previous, token)?;
+    push_name(out, previous, token)?;
+    Ok(())
+}
+
+/// Adds tokens in line order behind a state.
+fn push_tokens(
+    out: &mut String,
+    at_start: bool,
+    header: Previous,
+    tokens: &[Token],
+) -> std::result::Result<(), AllocError>
+    requires { back_from header.dst_line 0 tokens.now ≡ None }
+    ensures ok { OnOk result (string_bytes out.new ≡ string_bytes out.old ++ text_from at_start (state_of header) tokens.now) }
+    ensures adds { OnlyAdds (string_bytes out.old) (string_bytes out.new) }
+{
+    let mut previous = header;
+    let mut is_first = at_start;
+    for token in tokens {
+        push_token(out, is_first, &previous, token)?;
+        previous = previous.behind(token);
+        is_first = false;
+    }
+    Ok(())
+}
+
+/// The place of the first token on a line before the one in front of it.
+fn line_order_fault(tokens: &[Token]) -> Option<usize>
+    ensures place { result ≡ first_back tokens.now }
+    ensures in_bounds { result ≡ None → AreInBounds tokens.now }
+{
+    let mut line = 0;
+    for (i, token) in tokens.iter().enumerate() {
+        if token.get_dst_line() < line {
+            return Some(i);
+        }
+        line = token.get_dst_line();
+    }
+    None
+}
+
+/// Why tokens without chunks are not written.
+fn fault_of(tokens: &[Token]) -> Option<Error>
+    ensures fault { result ≡ writing_fault tokens.now None }
+    ensures in_bounds { result ≡ None → AreInBounds tokens.now }
+{
+    if let Some(i) = line_order_fault(tokens) {
+        return Some(Error::LineOrder(i));
+    }
+    if tokens.len() > 4294967295 {
+        return Some(Error::TooLarge);
+    }
+    None
+}
+
+/// Appends the canonical text of the tokens to `out`: the one `mappings` text of this list. Columns may go back on a
+/// line. An unmapped token's source position and name are not written. (ECMA-426, "Mappings structure"; the rules are
+/// in docs/FORMAT.md.)
+///
+/// The text of n tokens has at most 36 n bytes, and one more for each line up to the last token's.
+///
+/// Refused in this order, with `out` as it was:
+/// - `LineOrder(i)` where token i is the first on a line before the one of the token in front of it;
+/// - `TooLarge` for more than 4294967295 tokens;
+/// - `OutOfMemory` where memory is refused.
+pub fn encode_mappings(
+    tokens: &[Token],
+    chunks: Option<&[TokenChunk]>,
+    out: &mut String,
+) -> Result<()>
+    requires { IsNone chunks }
+    ensures text { OnOk result (string_bytes out.new ≡ string_bytes out.old ++ canonical tokens.now) }
+    ensures allowed { OnOk result (writing_fault tokens.now (option_map (λ cs. cs.now) chunks.entry) ≡ None) }
+    ensures fault { IfErr result (λ e. (e ≢ OutOfMemory) → writing_fault tokens.now (option_map (λ cs. cs.now) chunks.entry) ≡ Some e) }
+    ensures bound { OnOk result (length (string_bytes out.new) ≤ length (string_bytes out.old) + 36 * length tokens.now + last_line 0 tokens.now) }
+    ensures unchanged { OnErr result (string_bytes out.new ≡ string_bytes out.old) }
+{
+    if let Some(fault) = fault_of(tokens) {
+        return Err(fault);
+    }
+    let start = out.len();
+    match push_tokens(out, true, Previous::new(), tokens) {
+        Ok(()) => Ok(()),
+        Err(refused) => {
+            out.truncate(start);
+            Err(Error::from(refused))
+        }
+    }
+}

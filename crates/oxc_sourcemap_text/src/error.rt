@@ -1,0 +1,158 @@
+//! What is refused, and the text that says so.
+ghost use Rattle.std.specs.Prelude.{◌≡◌, Some, option_map};
+ghost use Rattle.oxc_sourcemap_text.specs.Messages.{key_of, json_fault_text, error_text};
+ghost use Rattle.oxc_sourcemap_text.specs.declared.error.Error.TheVariants.{OutOfMemory};
+
+use std::alloc::{AllocError, AllocFailed};
+use std::fmt;
+
+/// What a call of this library refuses. Lines, columns, ids and places in lists count from 0.
+#[derive(Clone, Copy, Debug, PartialEq, Eq)]
+pub enum Error {
+    /// The last digit of a number in a mappings text asks for one more, and none follows.
+    VlqLeftover,
+    /// A mappings segment without a number. Decoding leaves empty segments out, so it never answers this.
+    VlqNoValues,
+    /// A number in a mappings text has more than 63 bits, or a line or column passes 4294967295.
+    VlqOverflow,
+    /// The text is no JSON, or the JSON value is no source map.
+    BadJson(JsonFault),
+    /// A mappings segment has this many fields, and not 1, 4 or 5. With 0: a line or column is below 0.
+    BadSegmentSize(u32),
+    /// A source id is out of range. Tells the source id in front of it, or the entry of an ignore list.
+    BadSourceReference(u32),
+    /// A name id is out of range. Tells its low 32 bits.
+    BadNameReference(u32),
+    /// Memory was refused.
+    OutOfMemory,
+    /// A line, an id or a count passes what 32 bits hold.
+    TooLarge,
+    /// This token is the first on a line before the one of the token in front of it.
+    LineOrder(usize),
+    /// This chunk is the first that does not fit the tokens. The number of chunks, where all fit and end too soon.
+    BadChunks(usize),
+    /// A map with this many sources, more than one, cannot transform another map.
+    SeveralSources(usize),
+}
+
+/// Why a text or a JSON value is not a source map of version 3.
+#[derive(Clone, Copy, Debug, PartialEq, Eq)]
+pub enum JsonFault {
+    /// The text is not JSON.
+    Reading,
+    /// The field is missing or has the wrong type.
+    Shape(Field),
+    /// The version is this number, and not 3.
+    Version(u32),
+}
+
+/// What of a JSON value has the wrong type: the value itself, or one of its fields.
+#[derive(Clone, Copy, Debug, PartialEq, Eq)]
+pub enum Field {
+    /// The value itself, which is not an object.
+    Object,
+    Version,
+    File,
+    Mappings,
+    SourceRoot,
+    Sources,
+    SourcesContent,
+    Names,
+    DebugId,
+    IgnoreList,
+    /// `x_google_ignoreList`, which stands in for a missing `ignoreList`.
+    GoogleIgnoreList,
+}
+
+/// The result of a call that may be refused.
+pub type Result<T> = std::result::Result<T, Error>;
+
+impl Field {
+    /// The key of the field in the JSON object, and None for the object itself.
+    fn key(self) -> Option<&'static str>
+        ensures { option_map (λ key. key.now) result ≡ key_of self }
+    {
+        match self {
+            Field::Object => None,
+            Field::Version => Some("version"),
+            Field::File => Some("file"),
+            Field::Mappings => Some("mappings"),
+            Field::SourceRoot => Some("sourceRoot"),
+            Field::Sources => Some("sources"),
+            Field::SourcesContent => Some("sourcesContent"),
+            Field::Names => Some("names"),
+            Field::DebugId => Some("debugId"),
+            Field::IgnoreList => Some("ignoreList"),
+            Field::GoogleIgnoreList => Some("x_google_ignoreList"),
+        }
+    }
+}
+
+impl fmt::Display for JsonFault {
+    ghost output = { λ fault. Some (json_fault_text fault) };
+
+    fn fmt<W: fmt::Write>(&self, f: &mut fmt::Formatter<W>) -> fmt::Result {
+        match self {
+            JsonFault::Reading => write!(f, "the text is not JSON"),
+            JsonFault::Shape(field) => match field.key() {
+                None => write!(f, "the value is not an object"),
+                Some(key) => write!(f, "field {key} is missing or has the wrong type"),
+            },
+            JsonFault::Version(version) => {
+                write!(f, "unsupported source map version: {version}")
+            }
+        }
+    }
+}
+
+impl fmt::Display for Error {
+    ghost output = { λ error. Some (error_text error) };
+
+    fn fmt<W: fmt::Write>(&self, f: &mut fmt::Formatter<W>) -> fmt::Result {
+        match self {
+            Error::VlqLeftover => write!(f, "VLQ string was malformed and data was left over"),
+            Error::VlqNoValues => write!(f, "VLQ string was empty and no values could be decoded"),
+            Error::VlqOverflow => write!(f, "The input encoded a number that didn't fit into i64"),
+            Error::BadJson(fault) => write!(f, "JSON parsing error: {fault}"),
+            Error::BadSegmentSize(size) => {
+                write!(f, "Mapping segment had an unsupported size of {size}")
+            }
+            Error::BadSourceReference(id) => {
+                write!(f, "Reference to non-existing source at position {id}")
+            }
+            Error::BadNameReference(id) => {
+                write!(f, "Reference to non-existing name at position {id}")
+            }
+            Error::OutOfMemory => write!(f, "Out of memory"),
+            Error::TooLarge => write!(f, "A line, an id or a count is too large"),
+            Error::LineOrder(i) => {
+                write!(
+                    f,
+                    "Token {i} lies on a line before the token in front of it"
+                )
+            }
+            Error::BadChunks(k) => write!(f, "Token chunk {k} does not fit the tokens"),
+            Error::SeveralSources(n) => {
+                write!(f, "Cannot compose a transformation map with {n} sources")
+            }
+        }
+    }
+}
+
+impl std::error::Error for Error {}
+
+impl From<AllocError> for Error {
+    ghost from_gives = { λ _ e. e ≡ OutOfMemory };
+
+    fn from(_: AllocError) -> Error {
+        Error::OutOfMemory
+    }
+}
+
+impl<T: Drop> From<AllocFailed<T>> for Error {
+    ghost from_gives = { λ _ e. e ≡ OutOfMemory };
+
+    fn from(_: AllocFailed<T>) -> Error {
+        Error::OutOfMemory
+    }
+}

@@ -1,0 +1,16 @@
+//! Reading and writing the `mappings` text of a source map of version 3 (ECMA-426), with the tokens, chunks and
+//! refusals that it speaks of.
+//!
+//! This is the lowest crate of the port of `oxc_sourcemap`. Users name the crate `oxc_sourcemap`, which hands all
+//! public items of this one on.
+#![tactic(auto)]
+
+mod decode;
+mod encode;
+mod error;
+mod token;
+
+pub use decode::decode_mappings;
+pub use encode::encode_mappings;
+pub use error::{Error, Field, JsonFault, Result};
+pub use token::{Token, TokenChunk};

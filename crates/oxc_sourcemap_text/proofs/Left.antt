@@ -1,5 +1,5 @@
 -- Reading from the front on: what is left of a text, behind a line and a place.
-use Rattle.std.proofs.Common.{◌≡◌, ℕ, ◌+◌, ◌<◌, Bool, true, false, cond, List, [], ◌∷◌, ◌++◌, length, map, drop, filter, ℤ, Option, Some, None, Result, Ok, Err, if◌then◌else◌, nat_lt, slice_get, arith, refl, sym, ap, ◌∙◌, append_assoc}
+use Rattle.std.proofs.Common.{◌≡◌, ℕ, ◌+◌, ◌<◌, true, false, cond, List, [], ◌∷◌, ◌++◌, length, map, drop, filter, ℤ, Option, Some, None, Result, Ok, Err, if◌then◌else◌, nat_lt, slice_get, arith, refl, sym, ap, ◌∙◌, append_assoc}
 use Rattle.std.specs.List.{slice_split, onto_first}
 use Rattle.std.proofs.lemmas.List.{append-nil}
 use Rattle.std.proofs.lemmas.Bool.Decides.{nat_tests}

@@ -1,5 +1,5 @@
 -- How long the text of a list is.
-use Rattle.std.proofs.Common.{◌≡◌, ℕ, zero, suc, ◌+◌, ◌-◌, ◌*◌, ◌/◌, ◌^◌, ◌<◌, ◌≤◌, Bool, true, false, cond, ◌==◌, nat_lt, List, [], ◌∷◌, ◌++◌, length, replicate, arith, refl, ap, lit<, lit≤, Option, Some, None, inl, inr}
+use Rattle.std.proofs.Common.{◌≡◌, ℕ, zero, suc, ◌+◌, ◌-◌, ◌*◌, ◌/◌, ◌^◌, ◌<◌, ◌≤◌, Bool, true, false, cond, ◌==◌, nat_lt, List, [], ◌∷◌, ◌++◌, length, replicate, arith, refl, ap, ◌∙◌, lit<, lit≤, Option, Some, None, inl, inr}
 use Rattle.std.specs.List.{AllByRecursion}
 use Rattle.std.proofs.Math.Nat.{pow-suc}
 use Rattle.std.proofs.lemmas.Bool.{cases_lt}
@@ -9,8 +9,9 @@ use Rattle.std.proofs.lemmas.List.Elements.{recursion_from_All}
 use Rattle.std.specs.Option.{option_map_or, unwrap_or, IfSome}
 use Rattle.oxc_sourcemap_text.specs.Token.{TokenRecord, IsInBounds, AreInBounds, last_line, mapped_name, name_beside, beside_source}
 use Rattle.oxc_sourcemap_text.specs.State.{State, initial}
-use Rattle.oxc_sourcemap_text.specs.Canonical.{digits, vlq_text, letter, raw_delta, delta_text, separator, column_text, token_text, canonical, back_from, first_back}
-use Rattle.oxc_sourcemap_text.specs.Encoding.{text_from, advanced}
+use Rattle.oxc_sourcemap_text.specs.Canonical.{digits, vlq_text, letter, raw_delta, delta_text, separator, column_text, token_text, canonical, first_out_of_order}
+use Rattle.oxc_sourcemap_text.specs.Encoding.{text_from, advanced, back_from}
+use Rattle.oxc_sourcemap_text.proofs.Order.{back_from-all}
 use Rattle.oxc_sourcemap_text.proofs.Vlq.{digits_zero, digits_small, digits_large}
 use Rattle.oxc_sourcemap_text.proofs.Writing.{canonical-is}
 
@@ -104,7 +105,7 @@ length-text_from first s i (t ∷ ts) h w o =
     let r = length-text_from false (advanced s t) (i + 1) ts (IsBounded-advanced s t h w.0) w.1 q.1 in
     omega (arith, length-append (token_text first s t) (text_from false (advanced s t) ts))
 
-pub length-canonical : (ts : List TokenRecord) → AreInBounds ts → first_back ts ≡ None → length (canonical ts) ≤ 36 * length ts + last_line 0 ts
+pub length-canonical : (ts : List TokenRecord) → AreInBounds ts → first_out_of_order ts ≡ None → length (canonical ts) ≤ 36 * length ts + last_line 0 ts
 length-canonical ts w o =
     let h : IsBounded initial = record { dst_line = lit< tt; dst_col = lit< tt; source_id = lit< tt; src_line = lit< tt; src_col = lit< tt; name_id = lit< tt } in
-    omega (arith, ap length (canonical-is ts), length-text_from true initial 0 ts h (recursion_from_All IsInBounds ts w) o)
+    omega (arith, ap length (canonical-is ts), length-text_from true initial 0 ts h (recursion_from_All IsInBounds ts w) (back_from-all ts ∙ o))

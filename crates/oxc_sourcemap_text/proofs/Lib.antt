@@ -1,6 +1,7 @@
 pub mod Powers
 pub mod Runs
 pub mod Left
+pub mod Order
 pub mod Vlq
 pub mod Writing
 pub mod Length

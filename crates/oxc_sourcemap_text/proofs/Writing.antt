@@ -1,21 +1,21 @@
 -- The text of a list with the state carried along, and what is cut off again.
-use Rattle.std.proofs.Common.{◌≡◌, ℕ, ◌<◌, ◌≤◌, Bool, true, false, ◌&&◌, List, [], ◌∷◌, ◌++◌, length, take, get_or, slice_index, arith, refl, sym, ap, ◌∙◌, lit<, Option, Some, None}
+use Rattle.std.proofs.Common.{◌≡◌, ℕ, ◌<◌, ◌≤◌, Bool, true, false, ◌&&◌, List, [], ◌∷◌, ◌++◌, length, take, get_or, slice_index, arith, refl, sym, ap, ◌∙◌, lit<}
 use Rattle.std.specs.List.{AllByRecursion}
 use Rattle.std.proofs.lemmas.List.{append-nil, take_at, length-append, get_or_at, get_or_past}
 use Rattle.oxc_sourcemap_text.specs.Token.{TokenRecord}
 use Rattle.oxc_sourcemap_text.specs.State.{State, initial, state_behind}
-use Rattle.oxc_sourcemap_text.specs.Canonical.{token_text, text_behind, canonical, is_none_seen}
+use Rattle.oxc_sourcemap_text.specs.Canonical.{token_text, text_behind, canonical, has_none_in_front}
 use Rattle.oxc_sourcemap_text.specs.Encoding.{text_from, advanced, Extends}
 
 pub and-false : (b : Bool) → (b && false) ≡ false
 and-false true = refl
 and-false false = refl
 
-pub text_behind-is : (first : Bool) (h : State) (seen ts : List TokenRecord) → text_behind first h seen ts ≡ text_from (first && is_none_seen seen) (state_behind h seen) ts
+pub text_behind-is : (first : Bool) (h : State) (seen ts : List TokenRecord) → text_behind first h seen ts ≡ text_from (first && has_none_in_front seen) (state_behind h seen) ts
 unfolding text_behind
 text_behind-is first h seen [] = refl
 text_behind-is first h seen (t ∷ ts) =
-    ap (λ xs. token_text (first && is_none_seen seen) (state_behind h seen) t ++ xs) (text_behind-is first h (t ∷ seen) ts ∙ ap (λ b. text_from b (advanced (state_behind h seen) t) ts) (and-false first))
+    ap (λ xs. token_text (first && has_none_in_front seen) (state_behind h seen) t ++ xs) (text_behind-is first h (t ∷ seen) ts ∙ ap (λ b. text_from b (advanced (state_behind h seen) t) ts) (and-false first))
 
 pub canonical-is : (ts : List TokenRecord) → canonical ts ≡ text_from true initial ts
 unfolding canonical

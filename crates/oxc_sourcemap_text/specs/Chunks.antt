@@ -1,5 +1,6 @@
--- Chunks: parts of a list of tokens that are written each from a header, which stands for all in front.
+-- Chunks: parts of a list of tokens, each written from a header of its own, which stands for all that lies in front.
 use Rattle.std.specs.Prelude.{◌≡◌, ℕ, ◌+◌, ◌-◌, ◌≤◌, Bool, ◌&&◌, List, [], ◌∷◌, length, Option, Some, None, if◌then◌else◌, nat_lt, nat_le, ◌==◌, take, drop}
+use Rattle.std.specs.Borrow.{Bor}
 use Rattle.std.specs.Option.{option_map, option_map_or}
 use Rattle.oxc_sourcemap_text.specs.declared.error.Error.{Error}
 use Rattle.oxc_sourcemap_text.specs.declared.error.Error.TheVariants.{LineOrder, BadChunks, TooLarge}
@@ -7,7 +8,7 @@ use Rattle.oxc_sourcemap_text.specs.declared.token.TokenChunk.{TokenChunk}
 use Rattle.oxc_sourcemap_text.specs.Token.{TokenRecord}
 use Rattle.oxc_sourcemap_text.specs.Faults.{◌orelse◌}
 use Rattle.oxc_sourcemap_text.specs.State.{State, state_at}
-use Rattle.oxc_sourcemap_text.specs.Canonical.{text_behind, first_back}
+use Rattle.oxc_sourcemap_text.specs.Canonical.{text_behind, first_out_of_order}
 
 -- the state that a chunk says it starts from
 abbrev pub header : TokenChunk → State
@@ -17,48 +18,54 @@ header c = record { dst_line = c.prev_dst_line; dst_col = c.prev_dst_col; source
 abbrev pub chunk_tokens : List TokenRecord → TokenChunk → List TokenRecord
 chunk_tokens tokens c = take (c.end - c.start) (drop c.start tokens)
 
--- The text of a chunk from its header as it is, true or false. Only a chunk at place 0 has the first token of all.
+-- The text of the tokens of a chunk, written against its header even where that is not the state there. Only a chunk
+-- that starts at index 0 has the first token of all.
 unfoldable pub piece : List TokenRecord → TokenChunk → List ℕ
 piece tokens c = text_behind (c.start == 0) (header c) [] (chunk_tokens tokens c)
 
--- A chunk fits the tokens where the chunk in front of it ended here.
-pub record ChunkFits (tokens : List TokenRecord) (place : ℕ) (c : TokenChunk) : Type 0 where
-  pub starts : c.start ≡ place
+-- A chunk fits the tokens, where the one in front of it ended at this index.
+pub record ChunkFits (tokens : List TokenRecord) (index : ℕ) (c : TokenChunk) : Type 0 where
+  pub starts : c.start ≡ index
   pub ordered : c.start ≤ c.end
   pub within : c.end ≤ length tokens
   pub true_header : header c ≡ state_at tokens c.start
 
--- each chunk fits from this place on, and the last one ends with the tokens
+-- each chunk fits from this index on, and no token is left over
 abbrev pub ChunksFitFrom : List TokenRecord → ℕ → List TokenChunk → Type 0
-ChunksFitFrom tokens place [] = place ≡ length tokens
-ChunksFitFrom tokens place (c ∷ cs) = ChunkFits tokens place c × ChunksFitFrom tokens c.end cs
+ChunksFitFrom tokens index [] = index ≡ length tokens
+ChunksFitFrom tokens index (c ∷ cs) = ChunkFits tokens index c × ChunksFitFrom tokens c.end cs
 
--- the chunks tile the tokens in order, empty ones allowed, and each header is the state at its start
+-- each chunk fits behind the one in front of it, the first at index 0, and no token is left over
 abbrev pub ChunksFit : List TokenRecord → List TokenChunk → Type 0
 ChunksFit tokens chunks = ChunksFitFrom tokens 0 chunks
 
+-- equality of states, as a test
 abbrev pub is_same_state : State → State → Bool
 is_same_state a b =
     a.dst_line == b.dst_line && (a.dst_col == b.dst_col && (a.source_id == b.source_id
     && (a.src_line == b.src_line && (a.src_col == b.src_col && a.name_id == b.name_id))))
 
--- whether a chunk fits, as a test
+-- that a chunk fits, as a test
 abbrev pub is_fitting_chunk : List TokenRecord → ℕ → TokenChunk → Bool
-is_fitting_chunk tokens place c =
-    c.start == place && (nat_le c.start c.end && (nat_le c.end (length tokens) && is_same_state (header c) (state_at tokens c.start)))
+is_fitting_chunk tokens index c =
+    c.start == index && (nat_le c.start c.end && (nat_le c.end (length tokens) && is_same_state (header c) (state_at tokens c.start)))
 
--- the number of the first chunk that does not fit, from this place and number on
+-- the first misfit, from this index of the tokens and chunk k on
 abbrev pub first_misfit_from : List TokenRecord → ℕ → ℕ → List TokenChunk → Option ℕ
-first_misfit_from tokens place k [] = if place == length tokens then None else Some k
-first_misfit_from tokens place k (c ∷ cs) = if is_fitting_chunk tokens place c then first_misfit_from tokens c.end (k + 1) cs else Some k
+first_misfit_from tokens index k [] = if index == length tokens then None else Some k
+first_misfit_from tokens index k (c ∷ cs) = if is_fitting_chunk tokens index c then first_misfit_from tokens c.end (k + 1) cs else Some k
 
--- the number of the first chunk that does not fit, or of chunks where all fit and the last one ends too soon
+-- The index of the first chunk that does not fit. Where there is none, but tokens are left over, the number of chunks.
 abbrev pub first_misfit : List TokenRecord → List TokenChunk → Option ℕ
 first_misfit tokens chunks = first_misfit_from tokens 0 0 chunks
 
 -- why a list is not written: its line order, then its chunks, then its length
 abbrev pub writing_fault : List TokenRecord → Option (List TokenChunk) → Option Error
 writing_fault tokens chunks =
-    option_map (λ i. LineOrder i) (first_back tokens)
+    option_map (λ i. LineOrder i) (first_out_of_order tokens)
     orelse option_map_or (λ cs. option_map (λ k. BadChunks k) (first_misfit tokens cs)) chunks None
     orelse (if nat_lt 4294967295 (length tokens) then Some TooLarge else None)
+
+-- the chunks that a call is lent
+abbrev pub lent_chunks : Option (Bor (List TokenChunk)) → Option (List TokenChunk)
+lent_chunks chunks = option_map (λ cs. cs.now) chunks

@@ -1,6 +1,6 @@
 -- How the steps of the decoder are seen, against the sums of `Places` and the faults of `Faults`. No public contract
 -- speaks of these.
-use Rattle.std.specs.Prelude.{◌≡◌, ℕ, ◌+◌, ◌<◌, ◌^◌, Bool, ◌||◌, ◌&&◌, List, [], ◌∷◌, length, get_or, ℤ, pos, ◌+ℤ◌, nat_abs, None, if◌then◌else◌, nat_lt, ◌==◌}
+use Rattle.std.specs.Prelude.{◌≡◌, ℕ, ◌<◌, ◌^◌, Bool, ◌||◌, ◌&&◌, List, [], ◌∷◌, length, get_or, ℤ, pos, ◌+ℤ◌, nat_abs, None, if◌then◌else◌, nat_lt, ◌==◌}
 use Rattle.oxc_sourcemap_text.specs.declared.decode.Fields.{Fields}
 use Rattle.oxc_sourcemap_text.specs.declared.decode.Sums.{Sums}
 use Rattle.oxc_sourcemap_text.specs.Number.{digit, payload}
@@ -21,9 +21,9 @@ front_digits (byte ∷ bytes) = if ends_segment byte then [] else digit byte ∷
 abbrev pub front_segment : List ℕ → Segment
 front_segment text = runs (front_digits text)
 
--- a digit at this place, counted from 0, makes a run that does not fit
+-- a digit at this exponent, counted from 0, makes a run that does not fit
 abbrev pub is_over : ℕ → ℕ → Bool
-is_over place d = nat_lt 12 place || (place == 12 && nat_lt 7 (payload d))
+is_over exponent d = nat_lt 12 exponent || (exponent == 12 && nat_lt 7 (payload d))
 
 -- the fields that were read are those of the segment, whose digits have no fault
 pub record AreFieldsOf (s : Segment) (f : Fields) : Type 0 where
@@ -36,6 +36,7 @@ pub record AreSmall (f : Fields) : Type 0 where
   pub small : (k : ℕ) → nat_abs (get_or f.values k (pos 0)) < 2 ^ 62
   pub five : length f.values ≡ 5
 
+-- field k, as it was read
 abbrev pub value : Fields → ℕ → ℤ
 value f k = get_or f.values k (pos 0)
 

@@ -1,5 +1,5 @@
 -- What may be wrong with a segment, in the order in which it is asked.
-use Rattle.std.specs.Prelude.{ℕ, ◌^◌, Bool, false, ◌||◌, List, [], ◌∷◌, length, ℤ, pos, negsuc, min, Option, Some, None, if◌then◌else◌, nat_lt, nat_le, ◌==◌}
+use Rattle.std.specs.Prelude.{ℕ, ◌^◌, Bool, false, ◌||◌, [], ◌∷◌, length, ℤ, pos, negsuc, min, Option, Some, None, if◌then◌else◌, nat_lt, nat_le, ◌==◌}
 use Rattle.std.specs.Int.{int_rem_euclid}
 use Rattle.oxc_sourcemap_text.specs.declared.error.Error.{Error}
 use Rattle.oxc_sourcemap_text.specs.declared.error.Error.TheVariants.{VlqLeftover, VlqOverflow, BadSegmentSize, BadSourceReference, BadNameReference}
@@ -20,7 +20,7 @@ digit_fault (run ∷ more) =
     if is_fitting run then (if is_open run then Some VlqLeftover else digit_fault more)
     else Some VlqOverflow
 
--- the fault of a line or column outside of 0 to 4294967295
+-- the fault of a generated column, source line or source column outside of 0 to 4294967295
 abbrev pub range_fault : ℤ → Option Error
 range_fault (pos n) = if nat_le n 4294967295 then None else Some VlqOverflow
 range_fault (negsuc n) = Some (BadSegmentSize 0)
@@ -38,6 +38,7 @@ pub record Counts : Type 0 where
 abbrev pub counts_of : ℕ → ℕ → Counts
 counts_of names sources = record { names = min names 4294967295; sources = min sources 4294967295 }
 
+-- an id that is not negative and below the count
 abbrev pub is_id_below : ℤ → ℕ → Bool
 is_id_below (pos id) count = nat_lt id count
 is_id_below (negsuc n) count = false
@@ -51,7 +52,8 @@ nat_of (negsuc n) = 0
 abbrev pub low_bits : ℤ → ℕ
 low_bits z = nat_of (int_rem_euclid z (pos (2 ^ 32)))
 
--- The fault of the source id, source line and source column. The fault of a source id tells the one in front of it.
+-- The fault of the source id, source line and source column. That of a source id tells the one that the sums have in
+-- front of the segment.
 abbrev pub source_fault : Counts → ℤ → Place → Option Error
 source_fault counts id_in_front p =
     (if is_id_below p.source_id counts.sources then None else Some (BadSourceReference (nat_of id_in_front)))
@@ -62,7 +64,8 @@ source_fault counts id_in_front p =
 abbrev pub name_fault : Counts → Place → Option Error
 name_fault counts p = if is_id_below p.name_id counts.names then None else Some (BadNameReference (low_bits p.name_id))
 
--- the first fault of the place of a segment of this size, where the source id in front of it is given
+-- The first fault of a segment of this size but for its digits. Given is also the source id that the sums have in front
+-- of it.
 unfoldable pub place_fault : Counts → ℤ → ℕ → Place → Option Error
 place_fault counts id_in_front size p =
     range_fault p.dst_col

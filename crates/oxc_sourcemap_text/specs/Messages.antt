@@ -22,15 +22,18 @@ key_of DebugId = Some (codes "debugId")
 key_of IgnoreList = Some (codes "ignoreList")
 key_of GoogleIgnoreList = Some (codes "x_google_ignoreList")
 
+-- that the value, or the field of this key, has the wrong type
 abbrev pub shape_text : Option (List ℕ) → List ℕ
 shape_text None = codes "the value is not an object"
 shape_text (Some key) = codes "field " ++ key ++ codes " is missing or has the wrong type"
 
+-- why a text or a JSON value is not a source map
 abbrev pub json_fault_text : JsonFault → List ℕ
 json_fault_text Reading = codes "the text is not JSON"
 json_fault_text (Shape field) = shape_text (key_of field)
 json_fault_text (Version n) = codes "unsupported source map version: " ++ decimal n
 
+-- what a call refuses
 abbrev pub error_text : Error → List ℕ
 error_text VlqLeftover = codes "VLQ string was malformed and data was left over"
 error_text VlqNoValues = codes "VLQ string was empty and no values could be decoded"

@@ -1,7 +1,11 @@
 -- Digits, and the numbers that runs of digits spell (ECMA-426, "Base64 VLQ").
+--
+-- The standard refuses a byte outside the base64 alphabet and a number past 32 bits. Here the byte is read as the digit
+-- 63, and numbers go up to 63 bits; both as the Rust crate does.
 use Rattle.std.specs.Prelude.{ℕ, ◌+◌, ◌-◌, ◌*◌, ◌/◌, ◌%◌, ◌^◌, Bool, false, ◌&&◌, List, [], ◌∷◌, length, slice_index, ℤ, pos, neg_ℤ, if◌then◌else◌, nat_lt, nat_le, ◌==◌}
 
--- the value of a byte in the base64 alphabet, and 63 for every byte outside of it
+-- The value of a byte in the base64 alphabet, where `/` is 63, and 63 for every byte outside of it. (`,` and `;` never
+-- come here: they part the segments.)
 unfoldable pub digit : ℕ → ℕ
 digit byte =
     if nat_le 65 byte && nat_le byte 90 then byte - 65
@@ -10,24 +14,25 @@ digit byte =
     else if byte == 43 then 62
     else 63
 
--- a digit below 32 ends its run, and one of 32 or more continues it
+-- a digit below 32 is the last of its run; to one of 32 or more another digit belongs
 abbrev pub ends_run : ℕ → Bool
 ends_run d = nat_lt d 32
 
--- the part of a digit that counts
+-- a digit without the bit that asks for another
 abbrev pub payload : ℕ → ℕ
 payload d = d % 32
 
--- the sum of the payloads, each times 32 to the power of its place, where the first digit has this place
+-- the number whose digits in base 32 are the payloads, lowest first, the first of them at this exponent
 abbrev pub raw_from : ℕ → List ℕ → ℕ
-raw_from place [] = 0
-raw_from place (d ∷ ds) = payload d * 32 ^ place + raw_from (place + 1) ds
+raw_from exponent [] = 0
+raw_from exponent (d ∷ ds) = payload d * 32 ^ exponent + raw_from (exponent + 1) ds
 
 -- the raw number of a run of digits
 abbrev pub raw_number : List ℕ → ℕ
 raw_number run = raw_from 0 run
 
--- the number of a raw number: its half, downwards, and negative where the raw number is odd
+-- The number of a raw number: the half of it, rounded down, with its sign turned where the raw number is odd. Minus zero
+-- is zero.
 abbrev pub signed : ℕ → ℤ
 signed raw = if raw % 2 == 1 then neg_ℤ (pos (raw / 2)) else pos (raw / 2)
 
@@ -35,11 +40,12 @@ signed raw = if raw % 2 == 1 then neg_ℤ (pos (raw / 2)) else pos (raw / 2)
 abbrev pub number : List ℕ → ℤ
 number run = signed (raw_number run)
 
--- A run fits if it has at most 13 digits and the payload of a 13th is at most 7: its raw number is below 2 ^ 63.
+-- Too long is a run of more than 13 digits, or one whose 13th payload needs more than three bits. So 63 bits hold each
+-- raw number that fits.
 abbrev pub is_fitting : List ℕ → Bool
 is_fitting run = nat_le (length run) 13 && nat_le (payload (slice_index run 12)) 7
 
--- the last digit of a run asks for one more
+-- the last digit of a run asks for another
 abbrev pub is_open : List ℕ → Bool
 is_open [] = false
 is_open (d ∷ []) = nat_le 32 d

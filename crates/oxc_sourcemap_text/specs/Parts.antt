@@ -16,14 +16,15 @@ Segment = List (List ℕ)
 abbrev pub segment : List ℕ → Segment
 segment bytes = runs (map digit bytes)
 
--- ends a generated line: `;`
+-- `;`, behind which the next generated line begins
 abbrev pub is_semicolon : ℕ → Bool
 is_semicolon byte = byte == 59
 
--- parts the segments of a line: `,`
+-- `,`, which stands between two segments of a line
 abbrev pub is_comma : ℕ → Bool
 is_comma byte = byte == 44
 
+-- not empty
 abbrev pub is_filled : List ℕ → Bool
 is_filled [] = false
 is_filled (byte ∷ bytes) = true

@@ -7,6 +7,7 @@ abbrev pub field_sum : (ℕ → Bool) → ℕ → List Segment → ℤ
 field_sum test k [] = pos 0
 field_sum test k (s ∷ ss) = if test (length s) then field_sum test k ss +ℤ field k s else field_sum test k ss
 
+-- lets segments of every size pass
 abbrev pub of_any_size : ℕ → Bool
 of_any_size size = true
 

@@ -1,4 +1,4 @@
--- What a `mappings` text reads as: its tokens, or its first fault (ECMA-426, "Decoding source maps").
+-- What a `mappings` text reads as: its tokens, or its first fault (ECMA-426, "Mappings structure").
 use Rattle.std.specs.Prelude.{ℕ, ◌+◌, List, [], ◌∷◌, ◌++◌, length, ℤ, Option, Some, None, Result, Ok, Err, if◌then◌else◌, nat_lt}
 use Rattle.oxc_sourcemap_text.specs.declared.error.Error.{Error}
 use Rattle.oxc_sourcemap_text.specs.declared.error.Error.TheVariants.{TooLarge}
@@ -18,6 +18,7 @@ token_at line size p = record {
   name_id = if has_name size then Some (nat_of p.name_id) else None;
 }
 
+-- the token, where there is no fault
 abbrev pub unless : Option Error → TokenRecord → Result TokenRecord Error
 unless None token = Ok token
 unless (Some fault) token = Err fault
@@ -39,7 +40,8 @@ abbrev pub passed : List Segment → List Segment → List Segment
 passed [] in_front = in_front
 passed (s ∷ more) in_front = passed more (s ∷ in_front)
 
--- What each segment of some lines gives, the first of which has this number. A line of the number 4294967296 is a fault.
+-- What each segment of some lines gives, the first of which has this number. The line that the 4294967296th `;` begins is
+-- a fault, and nothing behind it is read.
 unfoldable pub text_outcomes : Counts → ℕ → List Segment → List (List Segment) → List (Result TokenRecord Error)
 text_outcomes counts line in_text [] = []
 text_outcomes counts line in_text (l ∷ ls) =
@@ -47,6 +49,7 @@ text_outcomes counts line in_text (l ∷ ls) =
     then line_outcomes counts line [] in_text l ++ text_outcomes counts (line + 1) (passed l in_text) ls
     else Err TooLarge ∷ []
 
+-- this token in front of a reading
 abbrev pub onto : TokenRecord → Result (List TokenRecord) Error → Result (List TokenRecord) Error
 onto token (Ok tokens) = Ok (token ∷ tokens)
 onto token (Err fault) = Err fault

@@ -1,5 +1,5 @@
--- What a token is written against: the state at its place of a list.
-use Rattle.std.specs.Prelude.{ℕ, List, [], ◌∷◌, Option, Some, None, reverse, take}
+-- What a token is written against: the state at its index of a list.
+use Rattle.std.specs.Prelude.{ℕ, List, [], ◌∷◌, Option, Some, reverse, take}
 use Rattle.std.specs.Option.{unwrap_or}
 use Rattle.oxc_sourcemap_text.specs.Token.{TokenRecord, mapped_name, beside_source}
 
@@ -12,17 +12,18 @@ pub record State : Type 0 where
   pub src_col : ℕ
   pub name_id : ℕ
 
--- the state of a place that no token stands in front of
+-- the state that no token stands in front of
 abbrev pub initial : State
 initial = record { dst_line = 0; dst_col = 0; source_id = 0; src_line = 0; src_col = 0; name_id = 0 }
 
--- What the nearest token says that says something, else this. The tokens in front stand the nearest first.
+-- The number of the nearest token that gives one, else the default. The tokens in front stand the nearest first.
 abbrev pub nearest : (TokenRecord → Option ℕ) → ℕ → List TokenRecord → ℕ
-nearest said otherwise [] = otherwise
-nearest said otherwise (t ∷ in_front) = unwrap_or (said t) (nearest said otherwise in_front)
+nearest given default [] = default
+nearest given default (t ∷ in_front) = unwrap_or (given t) (nearest given default in_front)
 
--- The state behind some tokens, the nearest first, where this state stands in front of them all: line and column of the
--- nearest token; source id, line and column of the nearest mapped one; name id of the nearest mapped one that has a name.
+-- The state behind some tokens, the nearest first, with this state in front of them all. Generated line and column come
+-- from the nearest token, source id, line and column from the nearest mapped one, and the name id from the nearest mapped
+-- one with a name.
 abbrev pub state_behind : State → List TokenRecord → State
 state_behind s in_front = record {
   dst_line = nearest (λ t. Some t.dst_line) s.dst_line in_front;
@@ -33,6 +34,6 @@ state_behind s in_front = record {
   name_id = nearest mapped_name s.name_id in_front;
 }
 
--- the state at place i of a list
+-- the state at index i of a list
 abbrev pub state_at : List TokenRecord → ℕ → State
 state_at tokens i = state_behind initial (reverse (take i tokens))

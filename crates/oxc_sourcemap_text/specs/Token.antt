@@ -1,5 +1,5 @@
 -- What contracts see of a token.
-use Rattle.std.specs.Prelude.{ℕ, ◌+◌, ◌<◌, Bool, List, [], ◌∷◌, Option, Some, None, if◌then◌else◌, nat_lt, is_some, IfSome}
+use Rattle.std.specs.Prelude.{ℕ, ◌<◌, Bool, List, [], ◌∷◌, Option, Some, None, if◌then◌else◌, nat_lt, is_some, IfSome}
 use Rattle.std.specs.List.{All}
 use Rattle.std.specs.Option.{option_map}
 
@@ -25,11 +25,11 @@ kept_id (Some n) = id_of n
 abbrev pub is_mapped : TokenRecord → Bool
 is_mapped t = is_some t.source_id
 
--- a number of the source position, which counts beside a source alone
+-- this number of the source position, or none where there is no source
 abbrev pub beside_source : Option ℕ → ℕ → Option ℕ
 beside_source source_id n = option_map (λ _. n) source_id
 
--- a name id, which counts beside a source alone
+-- this name id, or none where there is no source
 abbrev pub name_beside : Option ℕ → Option ℕ → Option ℕ
 name_beside source_id name_id = if is_some source_id then name_id else None
 
@@ -46,6 +46,7 @@ pub record IsInBounds (t : TokenRecord) : Type 0 where
   pub source_id : IfSome t.source_id (λ n. n < 4294967295)
   pub name_id : IfSome t.name_id (λ n. n < 4294967295)
 
+-- all of these are
 abbrev pub AreInBounds : List TokenRecord → Type 0
 AreInBounds tokens = All IsInBounds tokens
 

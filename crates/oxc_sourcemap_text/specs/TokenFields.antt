@@ -24,6 +24,7 @@ abbrev pub number_of : Option ℕ → ℕ
 number_of None = 4294967295
 number_of (Some n) = if nat_lt n 4294967295 then n else n + 1
 
+-- the stored fields of a record
 abbrev pub fields_of : TokenRecord → Inside
 fields_of t = record { dst_line = t.dst_line; dst_col = t.dst_col; src_line = t.src_line; src_col = t.src_col; source_id = number_of t.source_id; name_id = number_of t.name_id }
 

@@ -70,22 +70,22 @@ fn signed_of(raw: u64) -> i64
     if raw % 2 == 1 { -magnitude } else { magnitude }
 }
 
-/// Whether a digit at this place, counted from 0, makes a run that does not fit.
-fn is_too_far(place: u32, digit: u8) -> bool
-    ensures { result ≡ is_over place digit }
+/// Whether a digit at this exponent, counted from 0, makes a run that does not fit.
+fn is_too_far(exponent: u32, digit: u8) -> bool
+    ensures { result ≡ is_over exponent digit }
 {
-    place > 12 || (place == 12 && digit % 32 > 7)
+    exponent > 12 || (exponent == 12 && digit % 32 > 7)
 }
 
-/// The raw number with one more digit, at this place.
-fn raised(raw: u64, place: u32, digit: u8) -> u64
-    requires place { is_over place digit ≡ false }
-    requires raw { raw < 32 ^ place }
-    ensures value { result ≡ raw + payload digit * 32 ^ place }
-    ensures below { result < 32 ^ (place + 1) }
+/// The raw number with one more digit, at this exponent.
+fn raised(raw: u64, exponent: u32, digit: u8) -> u64
+    requires exponent { is_over exponent digit ≡ false }
+    requires raw { raw < 32 ^ exponent }
+    ensures value { result ≡ raw + payload digit * 32 ^ exponent }
+    ensures below { result < 32 ^ (exponent + 1) }
     ensures fits { result < 2 ^ 63 }
 {
-    raw + u64::from(digit % 32) * 32u64.pow(place)
+    raw + u64::from(digit % 32) * 32u64.pow(exponent)
 }
 
 /// Keeps a field, where it is one of the first five.
@@ -109,24 +109,24 @@ fn read_segment(text: &[u8]) -> Result<Fields>
     let mut count: usize = 0;
     let mut len: usize = 0;
     let mut raw: u64 = 0;
-    let mut place: u32 = 0;
+    let mut exponent: u32 = 0;
     while let Some(digit) = digit_at(text, len) {
-        if is_too_far(place, digit) {
+        if is_too_far(exponent, digit) {
             return Err(Error::VlqOverflow);
         }
-        let sum = raised(raw, place, digit);
+        let sum = raised(raw, exponent, digit);
         if digit < 32 {
             keep(&mut values, count, signed_of(sum));
             count += 1;
             raw = 0;
-            place = 0;
+            exponent = 0;
         } else {
             raw = sum;
-            place += 1;
+            exponent += 1;
         }
         len += 1;
     }
-    if place > 0 {
+    if exponent > 0 {
         return Err(Error::VlqLeftover);
     }
     Ok(Fields { values, count, len })
@@ -191,8 +191,10 @@ impl Sums {
         requires small { AreSmall fields.now }
         ensures place { OnOk result (place_of self.new ≡ source_moved (place_of self.old) (value fields.now)) }
         ensures id { OnOk result (self.new.source_id < 4294967295) }
-        ensures clean { OnOk result (source_fault (counts_of names sources) (pos self.old.source_id) (source_moved (place_of self.old) (value fields.now)) ≡ None) }
-        ensures fault { IfErr result (λ e. source_fault (counts_of names sources) (pos self.old.source_id) (source_moved (place_of self.old) (value fields.now)) ≡ Some e) }
+        ensures clean { let place = source_moved (place_of self.old) (value fields.now) in
+            OnOk result (source_fault (counts_of names sources) (pos self.old.source_id) place ≡ None) }
+        ensures fault { let place = source_moved (place_of self.old) (value fields.now) in
+            IfErr result (λ e. source_fault (counts_of names sources) (pos self.old.source_id) place ≡ Some e) }
     {
         let Some(source_id) = moved_below(self.source_id, fields.values[1], sources) else {
             return Err(Error::BadSourceReference(self.source_id));
@@ -207,10 +209,15 @@ impl Sums {
     #[tactic(auto, unfolding(crate::specs::Faults::place_fault))]
     fn step(&mut self, line: u32, fields: &Fields, names: usize, sources: usize) -> Result<Token>
         requires small { AreSmall fields.now }
-        ensures place { OnOk result (place_of self.new ≡ moved (place_of self.old) fields.now.count (value fields.now)) }
+        ensures place { let place = moved (place_of self.old) fields.now.count (value fields.now) in
+            OnOk result (place_of self.new ≡ place) }
         ensures token { IfOk result (λ t. t ≡ token_at line fields.now.count (place_of self.new)) }
-        ensures clean { OnOk result (place_fault (counts_of names sources) (pos self.old.source_id) fields.now.count (moved (place_of self.old) fields.now.count (value fields.now)) ≡ None) }
-        ensures fault { IfErr result (λ e. place_fault (counts_of names sources) (pos self.old.source_id) fields.now.count (moved (place_of self.old) fields.now.count (value fields.now)) ≡ Some e) }
+        ensures clean { let place = moved (place_of self.old) fields.now.count (value fields.now) in
+            let counts = counts_of names sources in
+            OnOk result (place_fault counts (pos self.old.source_id) fields.now.count place ≡ None) }
+        ensures fault { let place = moved (place_of self.old) fields.now.count (value fields.now) in
+            let counts = counts_of names sources in
+            IfErr result (λ e. place_fault counts (pos self.old.source_id) fields.now.count place ≡ Some e) }
     {
         self.dst_col = moved_within(self.dst_col, fields.values[0])?;
         match fields.count {
@@ -242,10 +249,14 @@ impl Sums {
         sources: usize,
     ) -> Result<(Token, usize)>
         ensures place { OnOk result (place_of self.new ≡ moved_by (place_of self.old) (front_segment text.now)) }
-        ensures token { IfOk result (λ read. outcome (counts_of names sources) line (pos self.old.source_id) (front_segment text.now) (moved_by (place_of self.old) (front_segment text.now)) ≡ Ok read.0) }
+        ensures token { let s = front_segment text.now in
+            let place = moved_by (place_of self.old) s in
+            IfOk result (λ read. outcome (counts_of names sources) line (pos self.old.source_id) s place ≡ Ok read.0) }
         ensures len { IfOk result (λ read. read.1 ≡ length (front_digits text.now)) }
         ensures within { IfOk result (λ read. read.1 ≤ length text.now) }
-        ensures fault { IfErr result (λ e. outcome (counts_of names sources) line (pos self.old.source_id) (front_segment text.now) (moved_by (place_of self.old) (front_segment text.now)) ≡ Err e) }
+        ensures fault { let s = front_segment text.now in
+            let place = moved_by (place_of self.old) s in
+            IfErr result (λ e. outcome (counts_of names sources) line (pos self.old.source_id) s place ≡ Err e) }
     {
         let fields = read_segment(text)?;
         let token = self.step(line, &fields, names, sources)?;
@@ -255,7 +266,14 @@ impl Sums {
     fn token(&self, line: u32, source_id: Option<u32>, name_id: Option<u32>) -> Token
         requires source { IfSome source_id (λ n. n < 4294967295) }
         requires name { IfSome name_id (λ n. n < 4294967295) }
-        ensures { result ≡ record { dst_line = line; dst_col = self.now.dst_col; src_line = self.now.src_line; src_col = self.now.src_col; source_id = source_id; name_id = name_id } }
+        ensures { result ≡ record {
+          dst_line = line;
+          dst_col = self.now.dst_col;
+          src_line = self.now.src_line;
+          src_col = self.now.src_col;
+          source_id = source_id;
+          name_id = name_id;
+        } }
     {
         Token::new(
             line,
@@ -276,19 +294,21 @@ fn next_line(line: u32) -> Result<u32>
     line.checked_add(1).ok_or(Error::TooLarge)
 }
 
-/// The tokens of a `mappings` text in text order, where so many names and sources stand beside it. Empty segments are
-/// left out. (ECMA-426, "Mappings structure"; the rules are in docs/FORMAT.md.)
+/// Reads a `mappings` text into tokens, in text order (docs/FORMAT.md, "Reading"; ECMA-426, "Mappings structure").
+/// `names` and `sources` are the lengths of the lists that its ids refer to; more than 4294967295 are taken as
+/// 4294967295. Empty segments are passed over. A segment of one field gives an unmapped token, which carries the source
+/// line and column reached so far. A byte outside the base64 alphabet counts as the digit 63.
 ///
-/// Refused for want of memory, and as the first fault in the text's order. Within a segment the checks come in this
-/// order:
-/// - its first bad number: `VlqOverflow` for more than 63 bits, else `VlqLeftover` where it does not end;
-/// - the generated column: `BadSegmentSize(0)` below 0, `VlqOverflow` above 4294967295;
-/// - the number of fields: `BadSegmentSize(n)` unless it is 1, 4 or 5;
-/// - with a source: `BadSourceReference` with the source id in front, unless the id is below `sources`; then the source
-///   line and the source column, as the generated column;
-/// - with a name: `BadNameReference` with the low 32 bits of the id, unless it is below `names`.
-///
-/// `TooLarge` for the `;` that would make the generated line 4294967296.
+/// Answers `OutOfMemory` where memory is refused, else the fault that stands first in the text: of a segment, as below,
+/// or `TooLarge` at the `;` that begins line 4294967296. A segment is checked for, one after the other:
+/// - its numbers, up to the first bad one: `VlqOverflow` for a 14th digit or a 13th whose payload is above 7, else
+///   `VlqLeftover` where the last digit asks for another;
+/// - its generated column: `BadSegmentSize(0)` if negative, `VlqOverflow` above 4294967295;
+/// - its number of fields, n: `BadSegmentSize(n)` unless 1, 4 or 5, with 4294967295 for more than that;
+/// - its source id, in 4 or 5 fields: `BadSourceReference` if negative or not below `sources`, with the source id of the
+///   last segment in front that has one, 0 if none has;
+/// - its source line, then its source column: as the generated column;
+/// - its name id, in 5 fields: `BadNameReference` if negative or not below `names`, with the low 32 bits of it.
 pub fn decode_mappings(
     alloc: Global,
     text: &str,

@@ -1,12 +1,11 @@
 //! Writing the `mappings` text.
 ghost use Rattle.std.specs.Prelude.{◌≡◌, ◌≢◌, ℕ, ◌+◌, ◌-◌, ◌*◌, ◌/◌, ◌%◌, ◌^◌, ◌<◌, ◌≤◌, ◌++◌, List, ◌∷◌, [], length, replicate, string_bytes, OnOk, OnErr, IfErr, IfOk, Option, Some, None, IsNone, if◌then◌else◌, nat_lt, drop, take};
-ghost use Rattle.std.specs.Option.{option_map};
 ghost use Rattle.oxc_sourcemap_text.specs.declared.error.Error.TheVariants.{OutOfMemory};
 ghost use Rattle.oxc_sourcemap_text.specs.Token.{AreInBounds, last_line};
 ghost use Rattle.oxc_sourcemap_text.specs.State.{initial};
-ghost use Rattle.oxc_sourcemap_text.specs.Canonical.{letter, vlq_text, raw_delta, delta_text, separator, column_text, source_text, name_text, token_text, canonical, first_back, back_from};
-ghost use Rattle.oxc_sourcemap_text.specs.Chunks.{writing_fault};
-ghost use Rattle.oxc_sourcemap_text.specs.Encoding.{state_of, advanced, text_from, Extends, OnlyAdds};
+ghost use Rattle.oxc_sourcemap_text.specs.Canonical.{letter, vlq_text, raw_delta, delta_text, separator, column_text, source_text, name_text, token_text, canonical, first_out_of_order};
+ghost use Rattle.oxc_sourcemap_text.specs.Chunks.{writing_fault, lent_chunks};
+ghost use Rattle.oxc_sourcemap_text.specs.Encoding.{state_of, advanced, text_from, back_from, Extends, OnlyAdds};
 
 use crate::error::{Error, Result};
 use crate::token::{Token, TokenChunk};
@@ -252,9 +251,9 @@ fn push_tokens(
     Ok(())
 }
 
-/// The place of the first token on a line before the one in front of it.
+/// The index of the first token on a line before the line of the token in front of it.
 fn line_order_fault(tokens: &[Token]) -> Option<usize>
-    ensures place { result ≡ first_back tokens.now }
+    ensures place { result ≡ first_out_of_order tokens.now }
     ensures in_bounds { result ≡ None → AreInBounds tokens.now }
 {
     let mut line = 0;
@@ -281,14 +280,14 @@ fn fault_of(tokens: &[Token]) -> Option<Error>
     None
 }
 
-/// Appends the canonical text of the tokens to `out`: the one `mappings` text of this list. Columns may go back on a
-/// line. An unmapped token's source position and name are not written. (ECMA-426, "Mappings structure"; the rules are
-/// in docs/FORMAT.md.)
+/// Appends the canonical text of the tokens to `out`: the one `mappings` text of this list (docs/FORMAT.md, "Writing";
+/// for its form ECMA-426, "Mappings structure"). Columns may go back on a line. Of an unmapped token only the generated
+/// position goes into the text. For now, `chunks` must be None.
 ///
-/// The text of n tokens has at most 36 n bytes, and one more for each line up to the last token's.
+/// The text of n tokens has at most 36 n bytes and one more for each line in front of the last token's.
 ///
 /// Refused in this order, with `out` as it was:
-/// - `LineOrder(i)` where token i is the first on a line before the one of the token in front of it;
+/// - `LineOrder(i)`, where i is the first token whose generated line is smaller than that of the token in front;
 /// - `TooLarge` for more than 4294967295 tokens;
 /// - `OutOfMemory` where memory is refused.
 pub fn encode_mappings(
@@ -298,9 +297,11 @@ pub fn encode_mappings(
 ) -> Result<()>
     requires { IsNone chunks }
     ensures text { OnOk result (string_bytes out.new ≡ string_bytes out.old ++ canonical tokens.now) }
-    ensures allowed { OnOk result (writing_fault tokens.now (option_map (λ cs. cs.now) chunks.entry) ≡ None) }
-    ensures fault { IfErr result (λ e. (e ≢ OutOfMemory) → writing_fault tokens.now (option_map (λ cs. cs.now) chunks.entry) ≡ Some e) }
-    ensures bound { OnOk result (length (string_bytes out.new) ≤ length (string_bytes out.old) + 36 * length tokens.now + last_line 0 tokens.now) }
+    ensures clean { OnOk result (writing_fault tokens.now (lent_chunks chunks.entry) ≡ None) }
+    ensures fault { IfErr result (λ e. (e ≢ OutOfMemory) → writing_fault tokens.now (lent_chunks chunks.entry) ≡ Some e) }
+
+    ensures bound { let most = 36 * length tokens.now + last_line 0 tokens.now in
+        OnOk result (length (string_bytes out.new) ≤ length (string_bytes out.old) + most) }
     ensures unchanged { OnErr result (string_bytes out.new ≡ string_bytes out.old) }
 {
     if let Some(fault) = fault_of(tokens) {

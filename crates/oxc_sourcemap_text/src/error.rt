@@ -6,30 +6,35 @@ ghost use Rattle.oxc_sourcemap_text.specs.declared.error.Error.TheVariants.{OutO
 use std::alloc::{AllocError, AllocFailed};
 use std::fmt;
 
-/// What a call of this library refuses. Lines, columns, ids and places in lists count from 0.
+/// What a call of this library refuses. Lines, columns, ids and indices count from 0. (docs/FORMAT.md, "Refusals", has
+/// the texts that `Display` prints.)
 #[derive(Clone, Copy, Debug, PartialEq, Eq)]
 pub enum Error {
-    /// The last digit of a number in a mappings text asks for one more, and none follows.
+    /// The last digit of a number in a mappings text asks for another, and none follows.
     VlqLeftover,
     /// A mappings segment without a number. Decoding leaves empty segments out, so it never answers this.
     VlqNoValues,
-    /// A number in a mappings text has more than 63 bits, or a line or column passes 4294967295.
+    /// A number in a mappings text has more than 13 digits, or a 13th whose payload is above 7. Or a generated column,
+    /// source line or source column passes 4294967295.
     VlqOverflow,
     /// The text is no JSON, or the JSON value is no source map.
     BadJson(JsonFault),
-    /// A mappings segment has this many fields, and not 1, 4 or 5. With 0: a line or column is below 0.
+    /// A mappings segment has this many fields (4294967295 stands for more), and not 1, 4 or 5. With 0: a generated
+    /// column, source line or source column is below 0.
     BadSegmentSize(u32),
-    /// A source id is out of range. Tells the source id in front of it, or the entry of an ignore list.
+    /// A source id is out of range. In a mappings text this tells the source id of the last segment in front that has one,
+    /// 0 if none has; in an ignore list, the entry itself.
     BadSourceReference(u32),
-    /// A name id is out of range. Tells its low 32 bits.
+    /// A name id is out of range. This tells its low 32 bits.
     BadNameReference(u32),
     /// Memory was refused.
     OutOfMemory,
-    /// A line, an id or a count passes what 32 bits hold.
+    /// A line or a count is above 4294967295, or an id above 4294967294.
     TooLarge,
-    /// This token is the first on a line before the one of the token in front of it.
+    /// The first token, by its index, whose generated line is smaller than that of the token in front.
     LineOrder(usize),
-    /// This chunk is the first that does not fit the tokens. The number of chunks, where all fit and end too soon.
+    /// The first chunk, by its index, that does not begin where the one in front ended, ends past the tokens, or has a
+    /// header that is not the state there. The number of chunks where tokens are left over behind them.
     BadChunks(usize),
     /// A map with this many sources, more than one, cannot transform another map.
     SeveralSources(usize),
@@ -40,13 +45,13 @@ pub enum Error {
 pub enum JsonFault {
     /// The text is not JSON.
     Reading,
-    /// The field is missing or has the wrong type.
+    /// The value is not an object, or this field of it is missing or has the wrong type.
     Shape(Field),
     /// The version is this number, and not 3.
     Version(u32),
 }
 
-/// What of a JSON value has the wrong type: the value itself, or one of its fields.
+/// What of a JSON value is missing or has the wrong type: the value itself, or one of its fields.
 #[derive(Clone, Copy, Debug, PartialEq, Eq)]
 pub enum Field {
     /// The value itself, which is not an object.
@@ -60,7 +65,7 @@ pub enum Field {
     Names,
     DebugId,
     IgnoreList,
-    /// `x_google_ignoreList`, which stands in for a missing `ignoreList`.
+    /// `x_google_ignoreList`, which stands in for an `ignoreList` that is missing or null.
     GoogleIgnoreList,
 }
 

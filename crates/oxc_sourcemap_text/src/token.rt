@@ -8,9 +8,10 @@ use std::marker::Model;
 const INVALID_ID: u32 = 4294967295;
 
 /// One mapping: a generated position, and the source position and name that it stands for. Lines and columns count
-/// from 0, columns in UTF-16 units.
+/// from 0, columns in UTF-16 code units; nothing here looks at a text.
 ///
-/// A token without a source id is unmapped: its source position and its name say nothing.
+/// A token without a source id is unmapped: its source position and its name say nothing. All six fields count for
+/// `==`, those of an unmapped token, too.
 #[derive(Clone, Copy, Debug, PartialEq, Eq)]
 pub struct Token {
     dst_line: u32,
@@ -47,7 +48,14 @@ impl Token {
         source_id: Option<u32>,
         name_id: Option<u32>,
     ) -> Self
-        ensures { result ≡ record { dst_line = dst_line; dst_col = dst_col; src_line = src_line; src_col = src_col; source_id = kept_id source_id; name_id = kept_id name_id } }
+        ensures { result ≡ record {
+          dst_line = dst_line;
+          dst_col = dst_col;
+          src_line = src_line;
+          src_col = src_col;
+          source_id = kept_id source_id;
+          name_id = kept_id name_id;
+        } }
     {
         Self {
             dst_line,
@@ -62,6 +70,8 @@ impl Token {
     /// The generated line.
     pub fn get_dst_line(&self) -> u32
         ensures value { result ≡ self.now.dst_line }
+
+        // True of every token, and stated here once, for callers that need it.
         ensures in_bounds { IsInBounds self.now }
     {
         self.dst_line
@@ -88,7 +98,8 @@ impl Token {
         self.src_col
     }
 
-    /// The name id, which is never 4294967295.
+    /// The name id, which is never 4294967295. None where the token has no name; that of an unmapped token is answered as it
+    /// stands.
     pub fn get_name_id(&self) -> Option<u32>
         ensures { result ≡ self.now.name_id }
     {
@@ -111,9 +122,9 @@ impl Token {
     }
 }
 
-/// A part of a list of tokens, from place `start` up to and without place `end`, with what its text starts from: the
-/// line and column of the token in front of `start`, the source position of the last mapped one, and the name id of
-/// the last mapped one that has a name; each 0 where there is none.
+/// The tokens of a list from index `start` up to and without index `end`. The six `prev_` fields are what their deltas
+/// start from. They are meant to be the generated line and column in front of `start`, the source id, line and column of
+/// the nearest mapped token there, and the nearest name id of a mapped token, or 0; this type does not check it.
 #[derive(Clone, Debug, Default, PartialEq, Eq, Drop)]
 pub struct TokenChunk {
     pub start: u32,
@@ -138,7 +149,16 @@ impl TokenChunk {
         prev_name_id: u32,
         prev_source_id: u32,
     ) -> Self
-        ensures { result ≡ record { start = start; end = end; prev_dst_line = prev_dst_line; prev_dst_col = prev_dst_col; prev_src_line = prev_src_line; prev_src_col = prev_src_col; prev_name_id = prev_name_id; prev_source_id = prev_source_id } }
+        ensures { result ≡ record {
+          start = start;
+          end = end;
+          prev_dst_line = prev_dst_line;
+          prev_dst_col = prev_dst_col;
+          prev_src_line = prev_src_line;
+          prev_src_col = prev_src_col;
+          prev_name_id = prev_name_id;
+          prev_source_id = prev_source_id;
+        } }
     {
         Self {
             start,

@@ -1,10 +1,10 @@
-use Rattle.std.proofs.Common.{arith, ◌≡◌, ◌∷◌, ◌++◌, [], drop, length, pos, true, false, Some, Ok, Err, slice_get, ◌∙◌, sym, ap}
+use Rattle.std.proofs.Common.{arith, ◌≡◌, drop, false, Some, Err, slice_get, ◌∙◌, sym, ap}
 use Rattle.std.proofs.lemmas.Result.{err_from_is_err_and}
 use Rattle.std.proofs.lemmas.List.{take_rest}
 use Rattle.std.proofs.lemmas.Bool.Decides.{nat_tests}
 use Rattle.oxc_sourcemap_text.specs.Faults.{counts_of}
-use Rattle.oxc_sourcemap_text.specs.Reading.{gathered, outcome}
-use Rattle.oxc_sourcemap_text.specs.Decoding.{place_of, moved_by, front_segment, front_digits, ends_segment}
+use Rattle.oxc_sourcemap_text.specs.Reading.{gathered}
+use Rattle.oxc_sourcemap_text.specs.Decoding.{place_of, ends_segment}
 use Rattle.oxc_sourcemap_text.proofs.Left.{onto_all, onto_all-none, onto_all-token, onto_all-fault, left_outcomes, left-too_large, left-segment, front-byte, front-filled, reading-is}
 use Rattle.oxc_sourcemap_text.proofs.decode.decode_mappings.Goals as goal
 

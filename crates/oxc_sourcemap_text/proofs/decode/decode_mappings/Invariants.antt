@@ -1,4 +1,4 @@
-use Rattle.std.proofs.Common.{◌≡◌, ℕ, length}
+use Rattle.std.proofs.Common.{◌≡◌, length}
 use Rattle.oxc_sourcemap_text.specs.Faults.{counts_of}
 use Rattle.oxc_sourcemap_text.specs.Reading.{gathered, reading}
 use Rattle.oxc_sourcemap_text.specs.Decoding.{place_of}

@@ -9,27 +9,27 @@ use Rattle.oxc_sourcemap_text.proofs.decode.read_segment.Goals.{then-digit-lt32,
 pub returns-then-is_too_far-clause-fault : goal.returns-then-is_too_far-clause-fault
 returns-then-is_too_far-clause-fault c =
     sym (faults_from-all (front_digits c.args.text.now)) ∙ sym c.loop-digit.invariant.faults
-    ∙ ap (faults_from c.loop-digit.place) c.in-Some.ensures.digit
-    ∙ faults-over c.loop-digit.place c.in-Some.digit (front_digits (drop (c.loop-digit.len + 1) c.args.text.now)) (sym c.is_too_far.ensures ∙ c.if-is_too_far.true)
+    ∙ ap (faults_from c.loop-digit.exponent) c.in-Some.ensures.digit
+    ∙ faults-over c.loop-digit.exponent c.in-Some.digit (front_digits (drop (c.loop-digit.len + 1) c.args.text.now)) (sym c.is_too_far.ensures ∙ c.if-is_too_far.true)
 
 pub loop-digit-preserved : goal.loop-digit-preserved
 loop-digit-preserved c =
     let inv = c.loop-digit.invariant in
     let d = c.in-Some.digit in
-    let place = c.loop-digit.place in
+    let exponent = c.loop-digit.exponent in
     let more = front_digits (drop (c.loop-digit.len + 1) c.args.text.now) in
     let next : front_digits (drop c.loop-digit.len c.args.text.now) ≡ d ∷ more = c.in-Some.ensures.digit in
-    let free : is_over place d ≡ false = sym c.is_too_far.ensures ∙ c.if-is_too_far.false in
+    let free : is_over exponent d ≡ false = sym c.is_too_far.ensures ∙ c.if-is_too_far.false in
     let all = numbers_from 0 0 (front_digits c.args.text.now) in
     elim c.if-digit-lt32.branch [
       | then-digit-lt32 w ↦ (
-          let y = signed (c.loop-digit.raw + (d % 32) * 32 ^ place) in
-          let h = drop-is_cons all c.loop-digit.count (pos 0) y _ (sym inv.numbers ∙ ap (numbers_from c.loop-digit.raw place) next ∙ numbers-end c.loop-digit.raw place d more w.if-digit-lt32.true) in
+          let y = signed (c.loop-digit.raw + (d % 32) * 32 ^ exponent) in
+          let h = drop-is_cons all c.loop-digit.count (pos 0) y _ (sym inv.numbers ∙ ap (numbers_from c.loop-digit.raw exponent) next ∙ numbers-end c.loop-digit.raw exponent d more w.if-digit-lt32.true) in
           let z : w.signed_of.result ≡ y = w.signed_of.ensures.value ∙ ap signed c.raised-sum.ensures.value in
           let v : c.if-digit-lt32.values ≡ set c.loop-digit.values c.loop-digit.count w.signed_of.result = w.values-is ∙ w.keep.ensures ∙ ap (set c.loop-digit.values c.loop-digit.count) (to_z-of_z w64 w.signed_of.result (search rules)) in
           record {
-            faults = rw w.place-is (sym (ap (faults_from place) next ∙ faults-end place d more free w.if-digit-lt32.true) ∙ inv.faults);
-            numbers = rw (w.raw-is, w.place-is, w.count-is) (sym h.2);
+            faults = rw w.exponent-is (sym (ap (faults_from exponent) next ∙ faults-end exponent d more free w.if-digit-lt32.true) ∙ inv.faults);
+            numbers = rw (w.raw-is, w.exponent-is, w.count-is) (sym h.2);
             len = omega (arith, ap length next);
             within = omega (arith, c.in-Some.ensures.within);
             count = omega (arith, h.0);
@@ -38,12 +38,12 @@ loop-digit-preserved c =
             zero = rw (v, w.count-is) (keep-zero c.loop-digit.values c.loop-digit.count w.signed_of.result inv.zero);
             small = rw v (keep-small c.loop-digit.values c.loop-digit.count w.signed_of.result inv.small w.signed_of.ensures.small);
             five = rw w.values-is w.keep.array_long;
-            place = omega arith;
-            raw = rw (w.raw-is, w.place-is) (omega arith);
+            exponent = omega arith;
+            raw = rw (w.raw-is, w.exponent-is) (omega arith);
           })
       | else-digit-lt32 w ↦ record {
-        faults = rw w.place-is (sym (ap (faults_from place) next ∙ faults-on place d more free w.if-digit-lt32.false) ∙ inv.faults);
-        numbers = rw (w.raw-is, w.place-is, w.count-is, c.raised-sum.ensures.value) (sym (ap (numbers_from c.loop-digit.raw place) next ∙ numbers-on c.loop-digit.raw place d more w.if-digit-lt32.false) ∙ inv.numbers);
+        faults = rw w.exponent-is (sym (ap (faults_from exponent) next ∙ faults-on exponent d more free w.if-digit-lt32.false) ∙ inv.faults);
+        numbers = rw (w.raw-is, w.exponent-is, w.count-is, c.raised-sum.ensures.value) (sym (ap (numbers_from c.loop-digit.raw exponent) next ∙ numbers-on c.loop-digit.raw exponent d more w.if-digit-lt32.false) ∙ inv.numbers);
         len = omega (arith, ap length next);
         within = omega (arith, c.in-Some.ensures.within);
         count = omega arith;
@@ -52,24 +52,24 @@ loop-digit-preserved c =
         zero = rw (w.values-is, w.count-is) inv.zero;
         small = rw w.values-is inv.small;
         five = rw w.values-is inv.five;
-        place = omega (arith, (not-over place d free).0);
-        raw = rw (w.raw-is, w.place-is) c.raised-sum.ensures.below;
+        exponent = omega (arith, (not-over exponent d free).0);
+        raw = rw (w.raw-is, w.exponent-is) c.raised-sum.ensures.below;
       }
     ]
 
-pub returns-then-place-gt0-clause-fault : goal.returns-then-place-gt0-clause-fault
-returns-then-place-gt0-clause-fault c =
+pub returns-then-exponent-gt0-clause-fault : goal.returns-then-exponent-gt0-clause-fault
+returns-then-exponent-gt0-clause-fault c =
     sym (faults_from-all (front_digits c.args.text.now)) ∙ sym c.loop-digit.invariant.faults
-    ∙ ap (faults_from c.loop-digit.place) c.in_default.ensures.end ∙ faults-none c.loop-digit.place c.if-place-gt0.true
+    ∙ ap (faults_from c.loop-digit.exponent) c.in_default.ensures.end ∙ faults-none c.loop-digit.exponent c.if-exponent-gt0.true
 
 pub returns-clause-fields : goal.returns-clause-fields
 returns-clause-fields c =
     let all = front_digits c.args.text.now in
     let inv = c.loop-digit.invariant in
-    let closed : c.loop-digit.place ≡ 0 = omega arith in
-    let n = finished-count all _ c.loop-digit.place c.in_default.ensures.end closed c.loop-digit.raw c.loop-digit.count inv.numbers inv.count in
+    let closed : c.loop-digit.exponent ≡ 0 = omega arith in
+    let n = finished-count all _ c.loop-digit.exponent c.in_default.ensures.end closed c.loop-digit.raw c.loop-digit.count inv.numbers inv.count in
     record {
-      clean = finished-clean all _ c.loop-digit.place c.in_default.ensures.end closed inv.faults;
+      clean = finished-clean all _ c.loop-digit.exponent c.in_default.ensures.end closed inv.faults;
       count = n;
       values = finished-values all c.loop-digit.values c.loop-digit.count n inv.done inv.zero;
     }

@@ -6,8 +6,8 @@ use Rattle.oxc_sourcemap_text.proofs.decode.read_segment.Given as goal
 -- what the digits that are left say behind those that were read is what all digits of the segment say
 abbrev pub invariant-loop-digit : goal.invariant-loop-digit
 invariant-loop-digit l = record {
-  faults : faults_from l.place (front_digits (drop l.len l.text)) ≡ faults_from 0 (front_digits l.text);
-  numbers : numbers_from l.raw l.place (front_digits (drop l.len l.text)) ≡ drop l.count (numbers_from 0 0 (front_digits l.text));
+  faults : faults_from l.exponent (front_digits (drop l.len l.text)) ≡ faults_from 0 (front_digits l.text);
+  numbers : numbers_from l.raw l.exponent (front_digits (drop l.len l.text)) ≡ drop l.count (numbers_from 0 0 (front_digits l.text));
   len : l.len + length (front_digits (drop l.len l.text)) ≡ length (front_digits l.text);
   within : l.len ≤ length l.text;
   count : l.count ≤ length (numbers_from 0 0 (front_digits l.text));
@@ -16,8 +16,8 @@ invariant-loop-digit l = record {
   zero : (k : ℕ) → k < 5 → l.count ≤ k → get_or l.values k (pos 0) ≡ pos 0;
   small : (k : ℕ) → nat_abs (get_or l.values k (pos 0)) < 2 ^ 62;
   five : length l.values ≡ 5;
-  place : l.place < 14;
-  raw : l.raw < 32 ^ l.place;
+  exponent : l.exponent < 14;
+  raw : l.raw < 32 ^ l.exponent;
 }
 
 abbrev pub decreases-loop-digit : goal.decreases-loop-digit

@@ -1,10 +1,14 @@
-use Rattle.std.proofs.Common.{arith, ◌≡◌, subst, take}
+use Rattle.std.proofs.Common.{rules, arith, ◌≡◌, subst, take}
 use Rattle.std.specs.List.{All}
 use Rattle.std.proofs.lemmas.List.{take_all}
 use Rattle.std.proofs.lemmas.List.Elements.{All-more}
 use Rattle.std.proofs.lemmas.Grind.{common_steps}
 use Rattle.oxc_sourcemap_text.specs.Token.{IsInBounds}
+use Rattle.oxc_sourcemap_text.proofs.Order.{back_from-all}
 use Rattle.oxc_sourcemap_text.proofs.encode.line_order_fault.Goals as goal
+
+pub loop-i-init : goal.loop-i-init
+loop-i-init c = record { place = back_from-all c.args.tokens.now; in_bounds = search rules }
 
 pub loop-i-preserved : goal.loop-i-preserved
 loop-i-preserved c = record {

@@ -1,0 +1,5 @@
+//! Worked examples of the library, run through its public calls. It has tests alone.
+#![tactic(auto)]
+
+#[cfg(test)]
+mod mappings;

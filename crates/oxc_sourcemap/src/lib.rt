@@ -1,0 +1,9 @@
+//! Source maps of version 3 (ECMA-426): a port of the Rust crate `oxc_sourcemap`, with each call proved to meet its
+//! contract.
+//!
+//! Users name this crate alone: it hands on all public items of the crates below.
+#![tactic(auto)]
+
+pub use oxc_sourcemap_text::{
+    Error, Field, JsonFault, Result, Token, TokenChunk, decode_mappings, encode_mappings,
+};

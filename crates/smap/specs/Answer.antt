@@ -1,0 +1,35 @@
+-- What a command answers to an input.
+use Rattle.std.specs.Prelude.{◌≡◌, ℕ, List, Option, Some, None, Result, Ok, Err, ◌⊎◌, IsUtf8}
+use Rattle.std.specs.Io.BufRead.{strip_last}
+use Rattle.oxc_sourcemap.specs.Error.{Error}
+use Rattle.oxc_sourcemap.specs.Token.{TokenRecord}
+use Rattle.oxc_sourcemap.specs.Reading.{reading}
+use Rattle.oxc_sourcemap.specs.Canonical.{canonical}
+use Rattle.oxc_sourcemap.specs.Chunks.{writing_fault}
+use Rattle.smap.specs.declared.plan.PlanError.TheVariants.{Map}
+use Rattle.smap.specs.declared.run.RunError.{RunError}
+use Rattle.smap.specs.declared.run.RunError.TheVariants.{Plan, Utf8}
+use Rattle.smap.specs.declared.words.Command.{Command}
+use Rattle.smap.specs.declared.words.Command.TheVariants.{Mappings}
+
+-- a text without the line feed at its end, if it has one
+abbrev pub without_line_feed : List ℕ → List ℕ
+without_line_feed text = strip_last 10 text
+
+-- the canonical text of a list, or why it is not written
+abbrev pub written : Option Error → List TokenRecord → Result (List ℕ) RunError
+written None tokens = Ok (canonical tokens)
+written (Some fault) tokens = Err (Plan (Map fault))
+
+-- a reading, written again
+abbrev pub rewritten : Result (List TokenRecord) Error → Result (List ℕ) RunError
+rewritten (Ok tokens) = written (writing_fault tokens None) tokens
+rewritten (Err fault) = Err (Plan (Map fault))
+
+-- What a command answers to a text. One line feed is written behind it.
+abbrev pub answer : Command → List ℕ → Result (List ℕ) RunError
+answer (Mappings names sources) text = rewritten (reading (without_line_feed text) names sources)
+
+-- A command refuses an input: it is not UTF-8, or its text is refused.
+abbrev pub Refuses : Command → List ℕ → RunError → Type 0
+Refuses command input refusal = ((¬ (IsUtf8 input)) × (refusal ≡ Utf8)) ⊎ (IsUtf8 input × (answer command input ≡ Err refusal))

@@ -1,0 +1,30 @@
+-- The texts of the program's refusals, as bytes, and the status that it ends with.
+use Rattle.std.specs.Prelude.{ℕ, List, codes}
+use Rattle.oxc_sourcemap.specs.Error.TheVariants.{OutOfMemory}
+use Rattle.oxc_sourcemap.specs.Messages.{error_text}
+use Rattle.smap.specs.declared.plan.PlanError.{PlanError}
+use Rattle.smap.specs.declared.plan.PlanError.TheVariants.{Map}
+use Rattle.smap.specs.declared.run.RunError.{RunError}
+use Rattle.smap.specs.declared.run.RunError.TheVariants.{Plan, Read, Write, Utf8, Arguments}
+
+abbrev pub plan_error_text : PlanError → List ℕ
+plan_error_text (Map error) = error_text error
+
+abbrev pub run_error_text : RunError → List ℕ
+run_error_text (Plan error) = plan_error_text error
+run_error_text Read = codes "read failed"
+run_error_text Write = codes "write failed"
+run_error_text Utf8 = codes "input is not UTF-8"
+run_error_text Arguments = codes "bad arguments"
+
+-- bad words end with 2, and all else that is refused with 1
+abbrev pub status_of : RunError → ℕ
+status_of (Plan error) = 1
+status_of Read = 1
+status_of Write = 1
+status_of Utf8 = 1
+status_of Arguments = 2
+
+-- want of memory
+abbrev pub out_of_memory : RunError
+out_of_memory = Plan (Map OutOfMemory)

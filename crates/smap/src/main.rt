@@ -1,0 +1,52 @@
+//! `smap`: reads and writes source maps at a shell.
+//!
+//!     smap mappings NAMES SOURCES < mappings.txt
+//!
+//! A refusal goes to standard error, behind `smap: `; the status is then 2 for bad words and 1 for all else.
+#![tactic(auto)]
+
+mod plan;
+mod port;
+mod run;
+#[cfg(test)]
+mod tests;
+mod words;
+
+use port::Port;
+use run::{RunError, run};
+use std::alloc::AllocError;
+use std::env;
+use std::io::ErrorKind;
+use std::process::ExitCode;
+use words::read_words;
+
+/// The words behind the program's name. Words that are not UTF-8 are bad arguments.
+fn words_of(rt: &HostRuntime) -> Result<Vec<String>, RunError> {
+    let args = match env::args(rt) {
+        Ok(args) => args,
+        Err(error) if error.kind() == ErrorKind::OutOfMemory => return Err(AllocError.into()),
+        Err(_) => return Err(RunError::Arguments),
+    };
+    let mut words = Vec::new(rt.alloc());
+    for word in args.skip(1) {
+        words.push(word)?;
+    }
+    Ok(words)
+}
+
+fn smap(rt: &HostRuntime) -> Result<(), RunError> {
+    let command = read_words(rt.alloc(), words_of(rt)?.as_slice())?;
+    let mut reader = Port::new(rt.stdin());
+    let mut writer = Port::new(rt.stdout());
+    run(rt.alloc(), &command, &mut reader, &mut writer)
+}
+
+fn main(rt: HostRuntime) -> ExitCode {
+    match smap(&rt) {
+        Ok(()) => ExitCode::SUCCESS,
+        Err(refusal) => {
+            let _ = eprintln!(rt; "smap: {refusal}");
+            ExitCode::from(refusal.status())
+        }
+    }
+}

@@ -1,0 +1,182 @@
+//! Running a command over a reader and a writer.
+ghost use Rattle.std.specs.Prelude.{◌≡◌, ◌≢◌, ◌++◌, ◌∷◌, [], ℕ, Bool, true, false, ◌↔◌, IfOk, OnOk, OnErr, IfErr, IfSome, List, Some, None, Option, Ok, Err, IsErrOf, ◌⊎◌, IsUtf8, string_bytes};
+ghost use Rattle.std.specs.Io.KnownBytes.{Appends, Keeps};
+ghost use Rattle.smap.specs.declared.plan.PlanError.TheVariants.{Map};
+ghost use Rattle.smap.specs.declared.run.RunError.TheVariants.{Plan};
+ghost use Rattle.smap.specs.Refusals.{run_error_text, status_of, out_of_memory};
+ghost use Rattle.smap.specs.Answer.{without_line_feed, rewritten, answer, Refuses};
+ghost use Rattle.oxc_sourcemap.specs.Reading.{reading};
+
+use crate::plan::PlanError;
+use crate::port::Port;
+use crate::words::Command;
+use oxc_sourcemap::{Error, decode_mappings, encode_mappings};
+use std::alloc::{AllocError, AllocFailed, Global};
+use std::fmt;
+use std::io::{Read, Write};
+
+/// What the program refuses.
+#[derive(Clone, Copy, Debug, PartialEq, Eq)]
+pub enum RunError {
+    /// The evaluation of a plan, or a call on a map or a mappings text, was refused; want of memory, too.
+    Plan(PlanError),
+    /// A read failed.
+    Read,
+    /// A write failed, or took none of some bytes.
+    Write,
+    /// The input is not UTF-8.
+    Utf8,
+    /// The words say no command.
+    Arguments,
+}
+
+impl RunError {
+    /// The status that the program ends with: 2 for bad words, else 1.
+    pub fn status(&self) -> u8
+        ensures { result ≡ status_of self.now }
+    {
+        match self {
+            RunError::Arguments => 2,
+            _ => 1,
+        }
+    }
+}
+
+impl fmt::Display for RunError {
+    ghost output = { λ error. Some (run_error_text error) };
+
+    fn fmt<W: fmt::Write>(&self, f: &mut fmt::Formatter<W>) -> fmt::Result {
+        match self {
+            RunError::Plan(error) => write!(f, "{error}"),
+            RunError::Read => write!(f, "read failed"),
+            RunError::Write => write!(f, "write failed"),
+            RunError::Utf8 => write!(f, "input is not UTF-8"),
+            RunError::Arguments => write!(f, "bad arguments"),
+        }
+    }
+}
+
+impl std::error::Error for RunError {}
+
+impl From<Error> for RunError {
+    ghost from_gives = { λ error run. run ≡ Plan (Map error) };
+
+    fn from(error: Error) -> RunError {
+        RunError::Plan(PlanError::Map(error))
+    }
+}
+
+impl From<AllocError> for RunError {
+    ghost from_gives = { λ _ run. run ≡ out_of_memory };
+
+    fn from(_: AllocError) -> RunError {
+        RunError::Plan(PlanError::Map(Error::OutOfMemory))
+    }
+}
+
+impl<T: Drop> From<AllocFailed<T>> for RunError {
+    ghost from_gives = { λ _ run. run ≡ out_of_memory };
+
+    fn from(_: AllocFailed<T>) -> RunError {
+        RunError::Plan(PlanError::Map(Error::OutOfMemory))
+    }
+}
+
+/// Reads up to the end, by a loop over `read`.
+fn read_all<R: Read>(alloc: Global, reader: &mut Port<R>) -> Result<Vec<u8>, RunError>
+    ensures bytes { IfOk result (λ input. IfSome (R.remaining reader.old.inner) (λ all. input.items ≡ all)) }
+    ensures flag { reader.old.failed ≡ false → IsErrOf result RunError.Read ↔ (reader.new.failed ≡ true) }
+    ensures causes { IfErr result (λ e. (e ≡ RunError.Read) ⊎ (e ≡ out_of_memory)) }
+{
+    let mut input = Vec::new(alloc);
+    let mut buf = [0u8; 8192];
+    loop {
+        match reader.read(&mut buf) {
+            Ok(0) => return Ok(input),
+            Ok(n) => input.extend_from_slice(&buf[..n])?,
+            Err(_) => return Err(RunError::Read),
+        }
+    }
+}
+
+/// Writes all of the bytes, by a loop over `write`.
+fn write_all<W: Write>(bytes: &[u8], writer: &mut Port<W>) -> Result<(), RunError>
+    ensures ok { OnOk result (Appends (W.contents writer.old.inner) (W.contents writer.new.inner) bytes.now) }
+    ensures flag { writer.old.failed ≡ false → IsErrOf result RunError.Write ↔ (writer.new.failed ≡ true) }
+    ensures causes { IfErr result (λ e. e ≡ RunError.Write) }
+{
+    let mut rest = bytes;
+    while !rest.is_empty() {
+        match writer.write(rest) {
+            Ok(0) => return Err(RunError::Write),
+            Ok(n) => rest = &rest[n..],
+            Err(_) => return Err(RunError::Write),
+        }
+    }
+    Ok(())
+}
+
+/// A text without one line feed at its end.
+fn without_last_line_feed(text: &str) -> &str
+    ensures { result.now ≡ without_line_feed text.now }
+{
+    text.strip_suffix('\n').unwrap_or(text)
+}
+
+/// The canonical text of a mappings text.
+fn rewrite_mappings(alloc: Global, text: &str, names: u32, sources: u32) -> Result<String, RunError>
+    ensures text { IfOk result (λ out. rewritten (reading text.now names sources) ≡ Ok (string_bytes out)) }
+    ensures refused { IfErr result (λ e. (e ≢ out_of_memory) → rewritten (reading text.now names sources) ≡ Err e) }
+{
+    let tokens = decode_mappings(alloc, text, names as usize, sources as usize)?;
+    let mut out = String::new(alloc);
+    encode_mappings(tokens.as_slice(), None, &mut out)?;
+    Ok(out)
+}
+
+/// What a command answers to an input.
+fn answer(alloc: Global, command: &Command, input: Vec<u8>) -> Result<String, RunError>
+    ensures text { IfOk result (λ out. IsUtf8 input.items × (answer command.now input.items ≡ Ok (string_bytes out))) }
+    ensures refused { IfErr result (λ e. (e ≢ out_of_memory) → Refuses command.now input.items e) }
+{
+    let Ok(text) = String::from_utf8(input) else {
+        return Err(RunError::Utf8);
+    };
+    match command {
+        Command::Mappings(names, sources) => {
+            rewrite_mappings(
+                alloc,
+                without_last_line_feed(text.as_str()),
+                *names,
+                *sources,
+            )
+        }
+    }
+}
+
+/// Reads the whole input, and writes what the command answers to it and one line feed.
+///
+/// - `Mappings(names, sources)`: the input is a mappings text, with one line feed at its end or none; the answer is the
+///   canonical text of its tokens, where so many names and sources stand beside it.
+///
+/// Refused as `Read` where a read fails, as `Utf8` where the input is not UTF-8, as `Plan(Map(e))` where a call on the
+/// text is refused or memory is (also for an input of more than 9223372036854775807 bytes), and as `Write` where a
+/// write fails or takes none of some bytes. No call is made again after it failed. Nothing is written but where the
+/// answer stands, and a fault of writing leaves a beginning of it.
+pub fn run<R: Read, W: Write>(
+    alloc: Global,
+    command: &Command,
+    reader: &mut Port<R>,
+    writer: &mut Port<W>,
+) -> Result<(), RunError>
+    ensures written { OnOk result (IfSome (R.remaining reader.old.inner) (λ input. (out : List ℕ) × IsUtf8 input × (answer command.now input ≡ Ok out) × Appends (W.contents writer.old.inner) (W.contents writer.new.inner) (out ++ 10 ∷ []))) }
+    ensures refused { IfErr result (λ e. (e ≢ out_of_memory) → (e ≢ RunError.Read) → (e ≢ RunError.Write) → IfSome (R.remaining reader.old.inner) (λ input. Refuses command.now input e)) }
+    ensures nothing_written { IfErr result (λ e. (e ≢ RunError.Write) → Keeps (W.contents writer.old.inner) (W.contents writer.new.inner)) }
+    ensures read { reader.old.failed ≡ false → IsErrOf result RunError.Read ↔ (reader.new.failed ≡ true) }
+    ensures write { writer.old.failed ≡ false → IsErrOf result RunError.Write ↔ (writer.new.failed ≡ true) }
+{
+    let input = read_all(alloc, reader)?;
+    let mut out = answer(alloc, command, input)?;
+    out.push('\n')?;
+    write_all(out.as_bytes(), writer)
+}

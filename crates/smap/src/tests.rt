@@ -1,0 +1,226 @@
+//! The program's worked examples, and readers and writers that fail.
+use crate::plan::PlanError;
+use crate::port::Port;
+use crate::run::{RunError, run};
+use crate::words::{Command, read_words};
+use oxc_sourcemap::Error;
+use std::alloc::{AllocError, Global};
+use std::io;
+use std::io::{ErrorKind, Read, Write};
+use std::test::Fail;
+
+/// Words behind the program's name, an input, and what is written or refused.
+const RUNS: &[(&[&str], &str, Result<&str, RunError>)] = &[
+    (&["mappings", "0", "0"], "gD,!C", Ok("gD,/C\n")),
+    (&["mappings", "0", "0"], "gD,!C\n", Ok("gD,/C\n")),
+    (&["mappings", "00", "000"], "G,D", Ok("G,D\n")),
+    (&["mappings", "1", "4294967295"], "AAAAA", Ok("AAAAA\n")),
+    (&["mappings", "0", "0"], "", Ok("\n")),
+    (&["mappings", "0", "0"], "\n", Ok("\n")),
+    (
+        &["mappings", "0", "0"],
+        "AA",
+        Err(RunError::Plan(PlanError::Map(Error::BadSegmentSize(2)))),
+    ),
+    (
+        &["mappings", "0", "0"],
+        "A\n\n",
+        Err(RunError::Plan(PlanError::Map(Error::VlqLeftover))),
+    ),
+    (&["mappings", "0"], "A", Err(RunError::Arguments)),
+    (&["mappings", "0", "0", "0"], "A", Err(RunError::Arguments)),
+    (&["mappings", "+1", "0"], "A", Err(RunError::Arguments)),
+    (&["mappings", "", "0"], "A", Err(RunError::Arguments)),
+    (
+        &["mappings", "0", "4294967296"],
+        "A",
+        Err(RunError::Arguments),
+    ),
+    (&["mapping", "0", "0"], "A", Err(RunError::Arguments)),
+    (&[], "A", Err(RunError::Arguments)),
+];
+
+/// Refusals, with their texts and the status that the program ends with.
+const REFUSALS: &[(RunError, &str, u8)] = &[
+    (RunError::Read, "read failed", 1),
+    (RunError::Write, "write failed", 1),
+    (RunError::Utf8, "input is not UTF-8", 1),
+    (RunError::Arguments, "bad arguments", 2),
+    (
+        RunError::Plan(PlanError::Map(Error::BadSegmentSize(2))),
+        "Mapping segment had an unsupported size of 2",
+        1,
+    ),
+    (
+        RunError::Plan(PlanError::Map(Error::OutOfMemory)),
+        "Out of memory",
+        1,
+    ),
+];
+
+/// Reads at most this many bytes at a time, and fails once they were read so often.
+#[derive(Drop)]
+struct FailingReader<'a> {
+    rest: &'a [u8],
+    calls: usize,
+}
+
+impl<'a> Read for FailingReader<'a> {
+    fn read(&mut self, buf: &mut [u8]) -> io::Result<usize> {
+        if self.calls == 0 {
+            return Err(io::Error::from(ErrorKind::Other));
+        }
+        self.calls -= 1;
+        let room = buf.len().min(1);
+        self.rest.read(&mut buf[..room])
+    }
+}
+
+/// Takes one byte at a time, and then fails, or takes none, once it was called so often.
+#[derive(Drop)]
+struct FailingWriter {
+    taken: Vec<u8>,
+    calls: usize,
+    takes_none: bool,
+}
+
+impl Write for FailingWriter {
+    fn write(&mut self, buf: &[u8]) -> io::Result<usize> {
+        if self.calls == 0 && self.takes_none {
+            return Ok(0);
+        }
+        if self.calls == 0 {
+            return Err(io::Error::from(ErrorKind::Other));
+        }
+        self.calls -= 1;
+        let part = buf.len().min(1);
+        self.taken.write(&buf[..part])
+    }
+
+    fn flush(&mut self) -> io::Result<()> {
+        Ok(())
+    }
+}
+
+fn strings(alloc: Global, words: &[&str]) -> Result<Vec<String>, AllocError> {
+    let mut all = Vec::new(alloc);
+    for word in words {
+        all.push(String::from_str(alloc, word)?)?;
+    }
+    Ok(all)
+}
+
+/// Reads the words, runs the command on the input, and adds what it writes.
+fn run_words(
+    alloc: Global,
+    words: &[&str],
+    input: &[u8],
+    written: &mut Vec<u8>,
+) -> Result<(), RunError> {
+    let words = strings(alloc, words)?;
+    let command = read_words(alloc, words.as_slice())?;
+    let mut reader = Port::new(input);
+    let mut writer = Port::new(Vec::new(alloc));
+    let result = run(alloc, &command, &mut reader, &mut writer);
+    written.append(&mut writer.into_inner())?;
+    result
+}
+
+#[test]
+fn commands_answer(rt: HostRuntime) -> Result<(), Fail> {
+    for (words, input, want) in RUNS {
+        let mut written = Vec::new(rt.alloc());
+        let result = run_words(rt.alloc(), words, input.as_bytes(), &mut written);
+        match want {
+            Ok(text) => {
+                assert_eq!(rt; result, Ok(()), "{input}");
+                assert_eq!(rt; written.as_slice(), text.as_bytes());
+            }
+            Err(refusal) => {
+                assert_eq!(rt; result, Err(*refusal), "{input}");
+                assert!(rt; written.is_empty());
+            }
+        }
+    }
+    Ok(())
+}
+
+#[test]
+fn input_is_utf8(rt: HostRuntime) -> Result<(), Fail> {
+    let mut written = Vec::new(rt.alloc());
+    let result = run_words(rt.alloc(), &["mappings", "0", "0"], b"A\xff", &mut written);
+    assert_eq!(rt; result, Err(RunError::Utf8));
+    assert!(rt; written.is_empty());
+    Ok(())
+}
+
+#[test]
+fn refusals_have_a_text_and_a_status(rt: HostRuntime) -> Result<(), Fail> {
+    for (refusal, text, status) in REFUSALS {
+        assert_eq!(rt; format!(in rt.alloc(); "{refusal}")?.as_str(), *text);
+        assert_eq!(rt; refusal.status(), *status);
+    }
+    Ok(())
+}
+
+#[test]
+fn a_failed_read_is_told_and_nothing_is_written(rt: HostRuntime) {
+    let input = b"gD,!C";
+    for calls in 0..6 {
+        let rest: &[u8] = input;
+        let mut reader = Port::new(FailingReader { rest, calls });
+        let mut writer = Port::new(Vec::new(rt.alloc()));
+        let result = run(
+            rt.alloc(),
+            &Command::Mappings(0, 0),
+            &mut reader,
+            &mut writer,
+        );
+        assert_eq!(rt; result, Err(RunError::Read));
+        assert!(rt; reader.failed() && !writer.failed());
+        assert!(rt; writer.into_inner().is_empty());
+    }
+    let rest: &[u8] = input;
+    let mut reader = Port::new(FailingReader { rest, calls: 6 });
+    let mut writer = Port::new(Vec::new(rt.alloc()));
+    assert_eq!(rt;
+        run(
+            rt.alloc(),
+            &Command::Mappings(0, 0),
+            &mut reader,
+            &mut writer
+        ),
+        Ok(())
+    );
+    assert!(rt; !reader.failed() && !writer.failed());
+}
+
+#[test]
+fn a_failed_write_is_told_and_a_beginning_stands(rt: HostRuntime) {
+    let whole = b"gD,/C\n";
+    for takes_none in [false, true] {
+        for calls in 0..7 {
+            let input: &[u8] = b"gD,!C";
+            let mut reader = Port::new(input);
+            let mut writer = Port::new(FailingWriter {
+                taken: Vec::new(rt.alloc()),
+                calls,
+                takes_none,
+            });
+            let result = run(
+                rt.alloc(),
+                &Command::Mappings(0, 0),
+                &mut reader,
+                &mut writer,
+            );
+            assert_eq!(rt; result.is_ok(), calls == 6);
+            assert_eq!(rt; writer.failed(), calls < 6);
+            assert!(rt; !reader.failed());
+            if let Err(refusal) = result {
+                assert_eq!(rt; refusal, RunError::Write);
+            }
+            let taken = writer.into_inner().taken;
+            assert_eq!(rt; taken.as_slice(), &whole[..calls]);
+        }
+    }
+}

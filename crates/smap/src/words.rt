@@ -1,0 +1,51 @@
+//! The words behind the program's name.
+ghost use Rattle.std.specs.Prelude.{◌≡◌, ◌∷◌, [], map, string_bytes, option_map, MatchOption, IfOk, IfErr, Option, Some, None};
+ghost use Rattle.smap.specs.Words.{number_of, mappings_words, command_of};
+
+use crate::run::RunError;
+use std::alloc::Global;
+
+/// What the program is asked to do with its input.
+#[derive(Clone, Debug, PartialEq, Eq, Drop)]
+pub enum Command {
+    /// Read a mappings text, with this many names and sources beside it, and write its canonical text.
+    Mappings(u32, u32),
+}
+
+/// The number of a word: one or more decimal digits without a sign, leading zeros allowed, of 0 to 4294967295.
+fn read_number(word: &str) -> Option<u32>
+    ensures { result ≡ number_of word.now }
+{
+    if word.starts_with('+') {
+        return None;
+    }
+    word.parse().ok()
+}
+
+/// The command of the words behind `mappings`: NAMES SOURCES.
+fn read_mappings(words: &[String]) -> Option<Command>
+    ensures { result ≡ mappings_words (map string_bytes words.now) }
+{
+    let [names, sources] = words else {
+        return None;
+    };
+    Some(Command::Mappings(read_number(names.as_str())?, read_number(sources.as_str())?))
+}
+
+/// The command that some words say: `mappings NAMES SOURCES`. A number is one or more decimal digits without a sign,
+/// leading zeros allowed, of 0 to 4294967295.
+///
+/// Refused as `Arguments` for all other words. This command takes no memory.
+pub fn read_words(_alloc: Global, words: &[String]) -> Result<Command, RunError>
+    ensures command { IfOk result (λ command. command_of (map string_bytes words.now) ≡ Some command) }
+    ensures refused { IfErr result (λ e. (e ≡ RunError.Arguments) × (command_of (map string_bytes words.now) ≡ None)) }
+{
+    let Some((name, words)) = words.split_first() else {
+        return Err(RunError::Arguments);
+    };
+    let command = match name.as_str() {
+        "mappings" => read_mappings(words),
+        _ => None,
+    };
+    command.ok_or(RunError::Arguments)
+}

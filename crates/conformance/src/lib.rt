@@ -1,5 +1,31 @@
-//! Worked examples of the library, run through its public calls. It has tests alone.
+//! Worked examples of the library, run through its public calls; and callers that are proved from its public contracts
+//! alone.
 #![tactic(auto)]
+
+ghost use Rattle.std.specs.Prelude.{◌≡◌, ◌≤◌, ℕ, length, IfOk, IfErr};
+ghost use Rattle.oxc_sourcemap.specs.Error.TheVariants.{OutOfMemory};
+ghost use Rattle.oxc_sourcemap.specs.Canonical.{bare};
+ghost use Rattle.oxc_sourcemap.specs.Sound.{IsSound};
+ghost use Rattle.oxc_sourcemap.specs.Sheet.{sheet_of};
+
+use oxc_sourcemap::laws::canonical_unique;
+use oxc_sourcemap::{Result, SourceMap};
+use std::alloc::Global;
 
 #[cfg(test)]
 mod mappings;
+#[cfg(test)]
+mod maps;
+
+/// A map that is written as a JSON source map and read again. Where it is sound, it keeps its meaning, and nothing but want
+/// of memory and more than 4294967295 tokens is refused.
+pub fn rewrite(alloc: Global, map: &SourceMap<'_>) -> Result<SourceMap<'static>>
+    ensures sheet { IfOk result (λ back. IsSound map.now → sheet_of back ≡ sheet_of map.now) }
+    ensures names { IfOk result (λ back. IsSound map.now → back.names ≡ map.now.names) }
+    ensures tokens { IfOk result (λ back. IsSound map.now → bare back.tokens ≡ bare map.now.tokens) }
+    ensures only_memory { IfErr result (λ e. IsSound map.now → length map.now.tokens ≤ 4294967295 → e ≡ OutOfMemory) }
+{
+    canonical_unique();
+    let json = map.to_json(alloc)?;
+    SourceMap::from_json(alloc, json)
+}

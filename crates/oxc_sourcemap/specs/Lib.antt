@@ -1,7 +1,24 @@
 -- What the contracts of this crate's items speak of.
 pub use Rattle.oxc_sourcemap_text.specs.declared.error.Error
+pub use Rattle.oxc_sourcemap_text.specs.declared.error.JsonFault
+pub use Rattle.oxc_sourcemap_text.specs.declared.error.Field
+pub use Rattle.oxc_sourcemap_text.specs.declared.token.TokenChunk
+pub use Rattle.oxc_sourcemap_text.specs.declared.decode.JSONSourceMap
+pub use Rattle.oxc_sourcemap_map.specs.declared.sourcemap.SourceMapParts
 pub use Rattle.oxc_sourcemap_text.specs.Token
+pub use Rattle.oxc_sourcemap_text.specs.Faults
 pub use Rattle.oxc_sourcemap_text.specs.Reading
+pub use Rattle.oxc_sourcemap_text.specs.State
 pub use Rattle.oxc_sourcemap_text.specs.Canonical
 pub use Rattle.oxc_sourcemap_text.specs.Chunks
+pub use Rattle.oxc_sourcemap_text.specs.TextLaws
+pub use Rattle.oxc_sourcemap_text.specs.Json
 pub use Rattle.oxc_sourcemap_text.specs.Messages
+pub use Rattle.oxc_sourcemap_map.specs.Record
+pub use Rattle.oxc_sourcemap_map.specs.Views
+pub use Rattle.oxc_sourcemap_map.specs.Sorted
+pub use Rattle.oxc_sourcemap_map.specs.Sound
+pub use Rattle.oxc_sourcemap_map.specs.Sheet
+pub use Rattle.oxc_sourcemap_map.specs.Decoded
+pub use Rattle.oxc_sourcemap_map.specs.Encoded
+pub use Rattle.oxc_sourcemap_map.specs.MapLaws

@@ -4,6 +4,10 @@
 //! Users name this crate alone: it hands on all public items of the crates below.
 #![tactic(auto)]
 
+pub mod laws;
+
+pub use oxc_sourcemap_map::{SourceMap, SourceMapParts, decode, encode};
 pub use oxc_sourcemap_text::{
-    Error, Field, JsonFault, Result, Token, TokenChunk, decode_mappings, encode_mappings,
+    Error, Field, JSONSourceMap, JsonFault, Result, Token, TokenChunk, chunk_fault,
+    decode_mappings, encode_mappings,
 };

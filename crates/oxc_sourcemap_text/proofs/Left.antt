@@ -65,10 +65,13 @@ along_lines-parts : (c : Counts) (line : ℕ) (p : Place) (parts : List (List �
 along_lines-parts c line p [] h = refl
 along_lines-parts c line p (l ∷ ls) h = let t : nat_lt line 4294967296 ≡ true = grind (arith, nat_tests) in rw t
 
-pub reading-is : (text : List ℕ) (names sources : ℕ) → reading text names sources ≡ gathered (left_outcomes (counts_of names sources) 0 (place [] []) text)
+pub reading-lines : (text : List ℕ) (names sources : ℕ) → reading text names sources ≡ gathered (along_lines (counts_of names sources) 0 (place [] []) (lines text))
 unfolding reading
+reading-lines text names sources = ap gathered (text_outcomes-is (counts_of names sources) 0 (lines text) [] [])
+
+pub reading-is : (text : List ℕ) (names sources : ℕ) → reading text names sources ≡ gathered (left_outcomes (counts_of names sources) 0 (place [] []) text)
 reading-is text names sources =
-    ap gathered (text_outcomes-is (counts_of names sources) 0 (lines text) [] [] ∙ along_lines-parts (counts_of names sources) 0 (place [] []) (slice_split is_semicolon text) (omega arith))
+    reading-lines text names sources ∙ ap gathered (along_lines-parts (counts_of names sources) 0 (place [] []) (slice_split is_semicolon text) (omega arith))
 
 -- behind a `;`
 pub left-semicolon : (c : Counts) (line : ℕ) (p : Place) (text : List ℕ) → line + 1 < 4294967296 → left_outcomes c line p (59 ∷ text) ≡ left_outcomes c (line + 1) (at_line_start p) text

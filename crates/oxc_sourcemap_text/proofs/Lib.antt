@@ -6,4 +6,9 @@ pub mod Vlq
 pub mod Writing
 pub mod Length
 pub mod Chunks
+pub mod Digits
+pub mod Texts
+pub mod Segments
+pub mod RoundTrip
+pub mod Again
 mod Worked

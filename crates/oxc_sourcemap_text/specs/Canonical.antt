@@ -73,17 +73,31 @@ canonical tokens = text_behind true initial [] tokens
 abbrev pub bare_token : TokenRecord → TokenRecord
 bare_token t = if is_mapped t then t else record t { src_line = 0; src_col = 0; name_id = None }
 
--- a list as its text tells it
+-- a list without what its text leaves out
 abbrev pub bare : List TokenRecord → List TokenRecord
 bare tokens = map bare_token tokens
 
--- the index of the first token on a line before the line of the token in front of it
+-- the index of the first token whose generated line goes back
 abbrev pub first_out_of_order : List TokenRecord → Option ℕ
 first_out_of_order [] = None
 first_out_of_order (t ∷ []) = None
 first_out_of_order (t ∷ u ∷ ts) =
     if nat_lt u.dst_line t.dst_line then Some 1 else option_map (λ i. i + 1) (first_out_of_order (u ∷ ts))
 
--- no token lies on a line before the line of the token in front of it
+-- generated lines never go back
 abbrev pub IsInLineOrder : List TokenRecord → Type 0
 IsInLineOrder tokens = first_out_of_order tokens ≡ None
+
+-- A token as it comes back from its text: an unmapped one takes its source position from the state, and has no name.
+abbrev pub carried_token : State → TokenRecord → TokenRecord
+carried_token s t =
+    if is_mapped t then t else record t { src_line = s.src_line; src_col = s.src_col; name_id = None }
+
+-- tokens as they come back, behind these, the nearest first
+abbrev pub carried_behind : List TokenRecord → List TokenRecord → List TokenRecord
+carried_behind in_front [] = []
+carried_behind in_front (t ∷ ts) = carried_token (state_behind initial in_front) t ∷ carried_behind (t ∷ in_front) ts
+
+-- a list as it comes back from its text
+abbrev pub carried : List TokenRecord → List TokenRecord
+carried tokens = carried_behind [] tokens

@@ -23,7 +23,7 @@ chunk_tokens tokens c = take (c.end - c.start) (drop c.start tokens)
 unfoldable pub piece : List TokenRecord → TokenChunk → List ℕ
 piece tokens c = text_behind (c.start == 0) (header c) [] (chunk_tokens tokens c)
 
--- A chunk fits the tokens, where the one in front of it ended at this index.
+-- A chunk fits the tokens, where its predecessor ended at this index.
 pub record ChunkFits (tokens : List TokenRecord) (index : ℕ) (c : TokenChunk) : Type 0 where
   pub starts : c.start ≡ index
   pub ordered : c.start ≤ c.end
@@ -35,7 +35,7 @@ abbrev pub ChunksFitFrom : List TokenRecord → ℕ → List TokenChunk → Type
 ChunksFitFrom tokens index [] = index ≡ length tokens
 ChunksFitFrom tokens index (c ∷ cs) = ChunkFits tokens index c × ChunksFitFrom tokens c.end cs
 
--- each chunk fits behind the one in front of it, the first at index 0, and no token is left over
+-- each chunk fits behind its predecessor, the first at index 0, and no token is left over
 abbrev pub ChunksFit : List TokenRecord → List TokenChunk → Type 0
 ChunksFit tokens chunks = ChunksFitFrom tokens 0 chunks
 

@@ -22,6 +22,11 @@ advanced s t = record {
   name_id = unwrap_or (mapped_name t) s.name_id;
 }
 
+-- the state behind these tokens, in the order of the list
+abbrev pub advanced_all : State → List TokenRecord → State
+advanced_all s [] = s
+advanced_all s (t ∷ ts) = advanced_all (advanced s t) ts
+
 -- the text of these tokens from a state on, the state carried along
 abbrev pub text_from : Bool → State → List TokenRecord → List ℕ
 text_from is_first s [] = []

@@ -7,6 +7,8 @@ pub mod Reading
 pub mod State
 pub mod Canonical
 pub mod Chunks
+pub mod TextLaws
+pub mod Json
 pub mod Messages
 pub mod TokenFields
 pub mod Decoding

@@ -13,6 +13,31 @@ use crate::token::Token;
 use std::alloc::Global;
 use std::boxed::BoxedSlice;
 
+/// The fields of a source map as its JSON object has them (ECMA-426, "Source map format").
+#[derive(Drop)]
+pub struct JSONSourceMap {
+    /// The version. `decode` refuses all but 3.
+    pub version: u32,
+    /// The name of the generated file.
+    pub file: Option<String>,
+    /// The mappings text.
+    pub mappings: String,
+    /// What stands in front of each source when it is looked up; nothing here joins them.
+    pub source_root: Option<String>,
+    /// The sources that the mappings refer to by their index.
+    pub sources: Vec<String>,
+    /// The content of each source, None where it is not known. There may be fewer or more than there are sources. None
+    /// where the object has no list, which reads as the empty one.
+    pub sources_content: Option<Vec<Option<String>>>,
+    /// The names that the mappings refer to by their index.
+    pub names: Vec<String>,
+    /// An id that ties this map to its generated code.
+    pub debug_id: Option<String>,
+    /// The indices of sources that debuggers may pass over, as third-party code. `decode` refuses those that are not below
+    /// the number of sources.
+    pub ignore_list: Option<Vec<u32>>,
+}
+
 /// The fields of one segment.
 #[derive(Drop)]
 struct Fields {
@@ -296,8 +321,8 @@ fn next_line(line: u32) -> Result<u32>
 
 /// Reads a `mappings` text into tokens, in text order (docs/FORMAT.md, "Reading"; ECMA-426, "Mappings structure").
 /// `names` and `sources` are the lengths of the lists that its ids refer to; more than 4294967295 are taken as
-/// 4294967295. Empty segments are passed over. A segment of one field gives an unmapped token, which carries the source
-/// line and column reached so far. A byte outside the base64 alphabet counts as the digit 63.
+/// 4294967295. Empty segments are passed over. One field makes an unmapped token, which carries the source line and
+/// column reached so far. A byte outside the base64 alphabet counts as the digit 63.
 ///
 /// Answers `OutOfMemory` where memory is refused, else the fault that stands first in the text: of a segment, as below,
 /// or `TooLarge` at the `;` that begins line 4294967296. A segment is checked for, one after the other:

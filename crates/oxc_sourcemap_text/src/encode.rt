@@ -1,18 +1,18 @@
 //! Writing the `mappings` text.
-ghost use Rattle.std.specs.Prelude.{◌≡◌, ◌≢◌, ℕ, ◌+◌, ◌-◌, ◌*◌, ◌/◌, ◌%◌, ◌^◌, ◌<◌, ◌≤◌, ◌++◌, List, ◌∷◌, [], length, replicate, string_bytes, OnOk, OnErr, IfErr, IfOk, Option, Some, None, IsNone, if◌then◌else◌, nat_lt, drop, take};
+ghost use Rattle.std.specs.Prelude.{◌≡◌, ◌≢◌, ◌↔◌, ℕ, ◌+◌, ◌-◌, ◌*◌, ◌/◌, ◌%◌, ◌^◌, ◌<◌, ◌≤◌, ◌++◌, List, ◌∷◌, [], length, replicate, string_bytes, OnOk, OnErr, IfErr, IfOk, Option, Some, None, IsNone, if◌then◌else◌, nat_lt, drop, take};
 ghost use Rattle.oxc_sourcemap_text.specs.declared.error.Error.TheVariants.{OutOfMemory};
 ghost use Rattle.oxc_sourcemap_text.specs.Token.{AreInBounds, last_line};
 ghost use Rattle.oxc_sourcemap_text.specs.State.{initial};
 ghost use Rattle.oxc_sourcemap_text.specs.Canonical.{letter, vlq_text, raw_delta, delta_text, separator, column_text, source_text, name_text, token_text, canonical, first_out_of_order};
-ghost use Rattle.oxc_sourcemap_text.specs.Chunks.{writing_fault, lent_chunks};
-ghost use Rattle.oxc_sourcemap_text.specs.Encoding.{state_of, advanced, text_from, back_from, Extends, OnlyAdds};
+ghost use Rattle.oxc_sourcemap_text.specs.Chunks.{header, is_same_state, first_misfit, ChunksFit, writing_fault, lent_chunks};
+ghost use Rattle.oxc_sourcemap_text.specs.Encoding.{state_of, advanced, advanced_all, text_from, back_from, Extends, OnlyAdds};
 
 use crate::error::{Error, Result};
 use crate::token::{Token, TokenChunk};
 use std::alloc::AllocError;
 
-/// What the next token is written against: line and column of the token in front, source position of the last mapped
-/// one, and name id of the last mapped one that has a name.
+/// What the next token is written against: the generated position in front, the source position of the nearest mapped
+/// token there, and the nearest name id of a mapped token.
 #[derive(Clone, Copy, Drop)]
 struct Previous {
     dst_line: u32,
@@ -58,6 +58,29 @@ impl Previous {
             },
         }
     }
+}
+
+/// What stands behind a state and these tokens.
+fn behind_all(previous: Previous, tokens: &[Token]) -> Previous
+    ensures { state_of result ≡ advanced_all (state_of previous) tokens.now }
+{
+    let mut reached = previous;
+    for token in tokens {
+        reached = reached.behind(token);
+    }
+    reached
+}
+
+/// Whether a state is the header of a chunk.
+fn is_header_of(chunk: &TokenChunk, previous: &Previous) -> bool
+    ensures { result ≡ is_same_state (header chunk.now) (state_of previous.now) }
+{
+    chunk.prev_dst_line == previous.dst_line
+        && chunk.prev_dst_col == previous.dst_col
+        && chunk.prev_source_id == previous.source_id
+        && chunk.prev_src_line == previous.src_line
+        && chunk.prev_src_col == previous.src_col
+        && chunk.prev_name_id == previous.name_id
 }
 
 /// The character of a digit in the base64 alphabet.
@@ -251,7 +274,7 @@ fn push_tokens(
     Ok(())
 }
 
-/// The index of the first token on a line before the line of the token in front of it.
+/// The index of the first token whose generated line goes back.
 fn line_order_fault(tokens: &[Token]) -> Option<usize>
     ensures place { result ≡ first_out_of_order tokens.now }
     ensures in_bounds { result ≡ None → AreInBounds tokens.now }
@@ -266,13 +289,47 @@ fn line_order_fault(tokens: &[Token]) -> Option<usize>
     None
 }
 
-/// Why tokens without chunks are not written.
-fn fault_of(tokens: &[Token]) -> Option<Error>
-    ensures fault { result ≡ writing_fault tokens.now None }
+/// The index of the first chunk that does not fit the tokens; where there is none, but tokens are left over behind the
+/// last chunk, the number of chunks; None where all chunks fit. A chunk fits if it begins where its predecessor ended (the
+/// first at 0), does not end before it starts nor behind the tokens, and its header tells the state there (docs/FORMAT.md,
+/// "Chunks"). It goes over the tokens once, takes no memory, and asks nothing of the tokens.
+pub fn chunk_fault(tokens: &[Token], chunks: &[TokenChunk]) -> Option<usize>
+    ensures misfit { result ≡ first_misfit tokens.now chunks.now }
+    ensures fits { IsNone result ↔ ChunksFit tokens.now chunks.now }
+{
+    let mut previous = Previous::new();
+    let mut done: usize = 0;
+    for (k, chunk) in chunks.iter().enumerate() {
+        let start = chunk.start as usize;
+        let end = chunk.end as usize;
+        if start != done || start > end || end > tokens.len() {
+            return Some(k);
+        }
+        if !is_header_of(chunk, &previous) {
+            return Some(k);
+        }
+        previous = behind_all(previous, &tokens[start..end]);
+        done = end;
+    }
+    if done == tokens.len() {
+        None
+    } else {
+        Some(chunks.len())
+    }
+}
+
+/// Why tokens with these chunks are not written.
+fn fault_of(tokens: &[Token], chunks: Option<&[TokenChunk]>) -> Option<Error>
+    ensures fault { result ≡ writing_fault tokens.now (lent_chunks chunks.entry) }
     ensures in_bounds { result ≡ None → AreInBounds tokens.now }
 {
     if let Some(i) = line_order_fault(tokens) {
         return Some(Error::LineOrder(i));
+    }
+    if let Some(chunks) = chunks {
+        if let Some(k) = chunk_fault(tokens, chunks) {
+            return Some(Error::BadChunks(k));
+        }
     }
     if tokens.len() > 4294967295 {
         return Some(Error::TooLarge);
@@ -282,12 +339,13 @@ fn fault_of(tokens: &[Token]) -> Option<Error>
 
 /// Appends the canonical text of the tokens to `out`: the one `mappings` text of this list (docs/FORMAT.md, "Writing";
 /// for its form ECMA-426, "Mappings structure"). Columns may go back on a line. Of an unmapped token only the generated
-/// position goes into the text. For now, `chunks` must be None.
+/// position goes into the text. Chunks change nothing in the text: they only have to fit the tokens.
 ///
-/// The text of n tokens has at most 36 n bytes and one more for each line in front of the last token's.
+/// Each token takes at most 36 bytes, and each line in front of the last token's one more.
 ///
 /// Refused in this order, with `out` as it was:
 /// - `LineOrder(i)`, where i is the first token whose generated line is smaller than that of the token in front;
+/// - `BadChunks(k)`, the `k` of `chunk_fault`, where there are chunks that do not fit;
 /// - `TooLarge` for more than 4294967295 tokens;
 /// - `OutOfMemory` where memory is refused.
 pub fn encode_mappings(
@@ -295,16 +353,17 @@ pub fn encode_mappings(
     chunks: Option<&[TokenChunk]>,
     out: &mut String,
 ) -> Result<()>
-    requires { IsNone chunks }
     ensures text { OnOk result (string_bytes out.new ≡ string_bytes out.old ++ canonical tokens.now) }
     ensures clean { OnOk result (writing_fault tokens.now (lent_chunks chunks.entry) ≡ None) }
     ensures fault { IfErr result (λ e. (e ≢ OutOfMemory) → writing_fault tokens.now (lent_chunks chunks.entry) ≡ Some e) }
 
+    // True of every list of tokens, and stated here for callers that need it.
+    ensures in_bounds { OnOk result (AreInBounds tokens.now) }
     ensures bound { let most = 36 * length tokens.now + last_line 0 tokens.now in
         OnOk result (length (string_bytes out.new) ≤ length (string_bytes out.old) + most) }
     ensures unchanged { OnErr result (string_bytes out.new ≡ string_bytes out.old) }
 {
-    if let Some(fault) = fault_of(tokens) {
+    if let Some(fault) = fault_of(tokens, chunks) {
         return Err(fault);
     }
     let start = out.len();

@@ -33,8 +33,8 @@ pub enum Error {
     TooLarge,
     /// The first token, by its index, whose generated line is smaller than that of the token in front.
     LineOrder(usize),
-    /// The first chunk, by its index, that does not begin where the one in front ended, ends past the tokens, or has a
-    /// header that is not the state there. The number of chunks where tokens are left over behind them.
+    /// The first chunk, by its index, that does not begin where its predecessor ended, ends before it starts or past the
+    /// tokens, or has a header other than the state there. The number of chunks where tokens are left over behind them.
     BadChunks(usize),
     /// A map with this many sources, more than one, cannot transform another map.
     SeveralSources(usize),

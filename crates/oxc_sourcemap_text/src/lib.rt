@@ -10,7 +10,7 @@ mod encode;
 mod error;
 mod token;
 
-pub use decode::decode_mappings;
-pub use encode::encode_mappings;
+pub use decode::{JSONSourceMap, decode_mappings};
+pub use encode::{chunk_fault, encode_mappings};
 pub use error::{Error, Field, JsonFault, Result};
 pub use token::{Token, TokenChunk};

@@ -1,6 +1,7 @@
 -- What a command answers to an input.
-use Rattle.std.specs.Prelude.{◌≡◌, ℕ, List, Option, Some, None, Result, Ok, Err, ◌⊎◌, IsUtf8}
+use Rattle.std.specs.Prelude.{◌≡◌, ◌++◌, ℕ, List, Option, Some, None, Result, Ok, Err, ◌⊎◌, IsUtf8}
 use Rattle.std.specs.Io.BufRead.{strip_last}
+use Rattle.std.specs.Io.KnownBytes.{Appends}
 use Rattle.oxc_sourcemap.specs.Error.{Error}
 use Rattle.oxc_sourcemap.specs.Token.{TokenRecord}
 use Rattle.oxc_sourcemap.specs.Reading.{reading}
@@ -29,6 +30,10 @@ rewritten (Err fault) = Err (Plan (Map fault))
 -- What a command answers to a text. One line feed is written behind it.
 abbrev pub answer : Command → List ℕ → Result (List ℕ) RunError
 answer (Mappings names sources) text = rewritten (reading (without_line_feed text) names sources)
+
+-- known bytes grow by a beginning of these, perhaps by none of them
+abbrev pub AppendsBeginning : Option (List ℕ) → Option (List ℕ) → List ℕ → Type 0
+AppendsBeginning old new bytes = (done : List ℕ) × (more : List ℕ) × (done ++ more ≡ bytes) × Appends old new done
 
 -- A command refuses an input: it is not UTF-8, or its text is refused.
 abbrev pub Refuses : Command → List ℕ → RunError → Type 0

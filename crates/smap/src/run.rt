@@ -4,7 +4,7 @@ ghost use Rattle.std.specs.Io.KnownBytes.{Appends, Keeps};
 ghost use Rattle.smap.specs.declared.plan.PlanError.TheVariants.{Map};
 ghost use Rattle.smap.specs.declared.run.RunError.TheVariants.{Plan};
 ghost use Rattle.smap.specs.Refusals.{run_error_text, status_of, out_of_memory};
-ghost use Rattle.smap.specs.Answer.{without_line_feed, rewritten, answer, Refuses};
+ghost use Rattle.smap.specs.Answer.{without_line_feed, rewritten, answer, Refuses, AppendsBeginning};
 ghost use Rattle.oxc_sourcemap.specs.Reading.{reading};
 
 use crate::plan::PlanError;
@@ -104,6 +104,7 @@ fn write_all<W: Write>(bytes: &[u8], writer: &mut Port<W>) -> Result<(), RunErro
     ensures ok { OnOk result (Appends (W.contents writer.old.inner) (W.contents writer.new.inner) bytes.now) }
     ensures flag { writer.old.failed ≡ false → IsErrOf result RunError.Write ↔ (writer.new.failed ≡ true) }
     ensures causes { IfErr result (λ e. e ≡ RunError.Write) }
+    ensures begun { OnErr result (AppendsBeginning (W.contents writer.old.inner) (W.contents writer.new.inner) bytes.now) }
 {
     let mut rest = bytes;
     while !rest.is_empty() {
@@ -161,8 +162,8 @@ fn answer(alloc: Global, command: &Command, input: Vec<u8>) -> Result<String, Ru
 ///
 /// Refused as `Read` where a read fails, as `Utf8` where the input is not UTF-8, as `Plan(Map(e))` where a call on the
 /// text is refused or memory is (also for an input of more than 9223372036854775807 bytes), and as `Write` where a
-/// write fails or takes none of some bytes. No call is made again after it failed. Nothing is written but where the
-/// answer stands, and a fault of writing leaves a beginning of it.
+/// write fails or takes none of some bytes. Nothing is written but where the answer stands, and a fault of writing leaves
+/// a beginning of it and its line feed.
 pub fn run<R: Read, W: Write>(
     alloc: Global,
     command: &Command,
@@ -172,6 +173,7 @@ pub fn run<R: Read, W: Write>(
     ensures written { OnOk result (IfSome (R.remaining reader.old.inner) (λ input. (out : List ℕ) × IsUtf8 input × (answer command.now input ≡ Ok out) × Appends (W.contents writer.old.inner) (W.contents writer.new.inner) (out ++ 10 ∷ []))) }
     ensures refused { IfErr result (λ e. (e ≢ out_of_memory) → (e ≢ RunError.Read) → (e ≢ RunError.Write) → IfSome (R.remaining reader.old.inner) (λ input. Refuses command.now input e)) }
     ensures nothing_written { IfErr result (λ e. (e ≢ RunError.Write) → Keeps (W.contents writer.old.inner) (W.contents writer.new.inner)) }
+    ensures begun { IsErrOf result RunError.Write → IfSome (R.remaining reader.old.inner) (λ input. (out : List ℕ) × IsUtf8 input × (answer command.now input ≡ Ok out) × AppendsBeginning (W.contents writer.old.inner) (W.contents writer.new.inner) (out ++ 10 ∷ [])) }
     ensures read { reader.old.failed ≡ false → IsErrOf result RunError.Read ↔ (reader.new.failed ≡ true) }
     ensures write { writer.old.failed ≡ false → IsErrOf result RunError.Write ↔ (writer.new.failed ≡ true) }
 {

@@ -58,41 +58,45 @@ const REFUSALS: &[(RunError, &str, u8)] = &[
     ),
 ];
 
-/// Reads at most this many bytes at a time, and fails once they were read so often.
+/// Gives one byte at each call, but fails once, at the call of this number (the first is 0).
 #[derive(Drop)]
 struct FailingReader<'a> {
     rest: &'a [u8],
-    calls: usize,
+    calls: u64,
+    fails_at: u64,
 }
 
 impl<'a> Read for FailingReader<'a> {
     fn read(&mut self, buf: &mut [u8]) -> io::Result<usize> {
-        if self.calls == 0 {
+        let call = self.calls;
+        self.calls = self.calls.saturating_add(1);
+        if call == self.fails_at {
             return Err(io::Error::from(ErrorKind::Other));
         }
-        self.calls -= 1;
         let room = buf.len().min(1);
         self.rest.read(&mut buf[..room])
     }
 }
 
-/// Takes one byte at a time, and then fails, or takes none, once it was called so often.
+/// Takes one byte at each call, but fails once, or takes none, at the call of this number (the first is 0).
 #[derive(Drop)]
 struct FailingWriter {
     taken: Vec<u8>,
-    calls: usize,
+    calls: u64,
+    fails_at: u64,
     takes_none: bool,
 }
 
 impl Write for FailingWriter {
     fn write(&mut self, buf: &[u8]) -> io::Result<usize> {
-        if self.calls == 0 && self.takes_none {
+        let call = self.calls;
+        self.calls = self.calls.saturating_add(1);
+        if call == self.fails_at && self.takes_none {
             return Ok(0);
         }
-        if self.calls == 0 {
+        if call == self.fails_at {
             return Err(io::Error::from(ErrorKind::Other));
         }
-        self.calls -= 1;
         let part = buf.len().min(1);
         self.taken.write(&buf[..part])
     }
@@ -166,9 +170,13 @@ fn refusals_have_a_text_and_a_status(rt: HostRuntime) -> Result<(), Fail> {
 #[test]
 fn a_failed_read_is_told_and_nothing_is_written(rt: HostRuntime) {
     let input = b"gD,!C";
-    for calls in 0..6 {
+    for fails_at in 0..7 {
         let rest: &[u8] = input;
-        let mut reader = Port::new(FailingReader { rest, calls });
+        let mut reader = Port::new(FailingReader {
+            rest,
+            calls: 0,
+            fails_at,
+        });
         let mut writer = Port::new(Vec::new(rt.alloc()));
         let result = run(
             rt.alloc(),
@@ -176,35 +184,34 @@ fn a_failed_read_is_told_and_nothing_is_written(rt: HostRuntime) {
             &mut reader,
             &mut writer,
         );
-        assert_eq!(rt; result, Err(RunError::Read));
-        assert!(rt; reader.failed() && !writer.failed());
-        assert!(rt; writer.into_inner().is_empty());
+        // The read behind the last byte, of number 5, is the last one.
+        assert_eq!(rt;
+            result,
+            if fails_at < 6 {
+                Err(RunError::Read)
+            } else {
+                Ok(())
+            }
+        );
+        assert_eq!(rt; reader.failed(), fails_at < 6);
+        assert!(rt; !writer.failed());
+        let written = writer.into_inner();
+        let wanted: &[u8] = if fails_at < 6 { b"" } else { b"gD,/C\n" };
+        assert_eq!(rt; written.as_slice(), wanted);
     }
-    let rest: &[u8] = input;
-    let mut reader = Port::new(FailingReader { rest, calls: 6 });
-    let mut writer = Port::new(Vec::new(rt.alloc()));
-    assert_eq!(rt;
-        run(
-            rt.alloc(),
-            &Command::Mappings(0, 0),
-            &mut reader,
-            &mut writer
-        ),
-        Ok(())
-    );
-    assert!(rt; !reader.failed() && !writer.failed());
 }
 
 #[test]
 fn a_failed_write_is_told_and_a_beginning_stands(rt: HostRuntime) {
     let whole = b"gD,/C\n";
     for takes_none in [false, true] {
-        for calls in 0..7 {
+        for fails_at in 0..7 {
             let input: &[u8] = b"gD,!C";
             let mut reader = Port::new(input);
             let mut writer = Port::new(FailingWriter {
                 taken: Vec::new(rt.alloc()),
-                calls,
+                calls: 0,
+                fails_at,
                 takes_none,
             });
             let result = run(
@@ -213,14 +220,19 @@ fn a_failed_write_is_told_and_a_beginning_stands(rt: HostRuntime) {
                 &mut reader,
                 &mut writer,
             );
-            assert_eq!(rt; result.is_ok(), calls == 6);
-            assert_eq!(rt; writer.failed(), calls < 6);
+            assert_eq!(rt;
+                result,
+                if fails_at < 6 {
+                    Err(RunError::Write)
+                } else {
+                    Ok(())
+                }
+            );
+            assert_eq!(rt; writer.failed(), fails_at < 6);
             assert!(rt; !reader.failed());
-            if let Err(refusal) = result {
-                assert_eq!(rt; refusal, RunError::Write);
-            }
+            // Nothing is written behind the call that failed.
             let taken = writer.into_inner().taken;
-            assert_eq!(rt; taken.as_slice(), &whole[..calls]);
+            assert_eq!(rt; taken.as_slice(), &whole[..fails_at as usize]);
         }
     }
 }

@@ -1,0 +1,35 @@
+-- A map that is written and read again.
+use Rattle.std.specs.Prelude.{◌≡◌, ◌≤◌, [], length, None, Ok}
+use Rattle.std.specs.Option.{unwrap_or}
+use Rattle.oxc_sourcemap_text.specs.Token.{AreInBounds}
+use Rattle.oxc_sourcemap_text.specs.Canonical.{bare, carried}
+use Rattle.oxc_sourcemap_map.specs.Record.{MapRecord}
+use Rattle.oxc_sourcemap_map.specs.Sound.{IsSound}
+use Rattle.oxc_sourcemap_map.specs.Sheet.{sheet_of}
+use Rattle.oxc_sourcemap_map.specs.Encoded.{encoded, encoded_record, written_contents}
+use Rattle.oxc_sourcemap_map.specs.Decoded.{decoded}
+
+-- A map as it comes back: its tokens carry what texts do not tell, contents are there where there is some content, and
+-- it has no chunks.
+abbrev pub rewritten : MapRecord → MapRecord
+rewritten r = record r {
+  source_contents = unwrap_or (written_contents r.source_contents) [];
+  tokens = carried r.tokens;
+  token_chunks = None;
+}
+
+-- Every sound map of at most 4294967295 tokens is written.
+abbrev pub SoundIsWritten : Type 0
+SoundIsWritten = (r : MapRecord) → IsSound r → length r.tokens ≤ 4294967295 → encoded r ≡ Ok (encoded_record r)
+
+-- What is written of a map is read as `rewritten` says, and that has the same sheet, the same names, and tokens that are
+-- equal as far as texts tell.
+pub record ComesBack (r : MapRecord) : Type 0 where
+  pub is_read : decoded (encoded_record r) ≡ Ok (rewritten r)
+  pub sheet : sheet_of (rewritten r) ≡ sheet_of r
+  pub names : (rewritten r).names ≡ r.names
+  pub tokens : bare (rewritten r).tokens ≡ bare r.tokens
+
+-- so it is for every sound map whose tokens are in bounds
+abbrev pub SoundReadsBack : Type 0
+SoundReadsBack = (r : MapRecord) → IsSound r → AreInBounds r.tokens → ComesBack r

@@ -9,6 +9,8 @@ pub mod Canonical
 pub mod Chunks
 pub mod TextLaws
 pub mod Json
+pub mod Shape
+pub mod Refusals
 pub mod Messages
 pub mod TokenFields
 pub mod Decoding

@@ -1,6 +1,7 @@
 //! What is refused, and the text that says so.
 ghost use Rattle.std.specs.Prelude.{◌≡◌, Some, option_map};
 ghost use Rattle.oxc_sourcemap_text.specs.Messages.{key_of, json_fault_text, error_text};
+ghost use Rattle.oxc_sourcemap_text.specs.Refusals.{refusal_of_json};
 ghost use Rattle.oxc_sourcemap_text.specs.declared.error.Error.TheVariants.{OutOfMemory};
 
 use std::alloc::{AllocError, AllocFailed};
@@ -145,6 +146,19 @@ impl fmt::Display for Error {
 }
 
 impl std::error::Error for Error {}
+
+impl From<serde_json::Error> for Error {
+    ghost from_gives = { refusal_of_json };
+
+    /// Want of memory is `OutOfMemory`, and every other cause `BadJson(Reading)`.
+    fn from(cause: serde_json::Error) -> Error {
+        if cause.is_memory() {
+            Error::OutOfMemory
+        } else {
+            Error::BadJson(JsonFault::Reading)
+        }
+    }
+}
 
 impl From<AllocError> for Error {
     ghost from_gives = { λ _ e. e ≡ OutOfMemory };

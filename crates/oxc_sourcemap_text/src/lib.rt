@@ -8,6 +8,7 @@
 mod decode;
 mod encode;
 mod error;
+mod shape;
 mod token;
 
 pub use decode::{JSONSourceMap, decode_mappings};

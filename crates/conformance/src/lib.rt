@@ -16,6 +16,8 @@ use std::alloc::Global;
 mod mappings;
 #[cfg(test)]
 mod maps;
+#[cfg(test)]
+mod texts;
 
 /// A map that is written as a JSON source map and read again. Where it is sound, it keeps its meaning, and nothing but want
 /// of memory and more than 4294967295 tokens is refused.

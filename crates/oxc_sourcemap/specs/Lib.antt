@@ -13,6 +13,9 @@ pub use Rattle.oxc_sourcemap_text.specs.Canonical
 pub use Rattle.oxc_sourcemap_text.specs.Chunks
 pub use Rattle.oxc_sourcemap_text.specs.TextLaws
 pub use Rattle.oxc_sourcemap_text.specs.Json
+pub use Rattle.oxc_sourcemap_text.specs.Shape
+pub use Rattle.oxc_sourcemap_text.specs.JsonString
+pub use Rattle.oxc_sourcemap_text.specs.Refusals
 pub use Rattle.oxc_sourcemap_text.specs.Messages
 pub use Rattle.oxc_sourcemap_map.specs.Record
 pub use Rattle.oxc_sourcemap_map.specs.Views
@@ -21,4 +24,6 @@ pub use Rattle.oxc_sourcemap_map.specs.Sound
 pub use Rattle.oxc_sourcemap_map.specs.Sheet
 pub use Rattle.oxc_sourcemap_map.specs.Decoded
 pub use Rattle.oxc_sourcemap_map.specs.Encoded
+pub use Rattle.oxc_sourcemap_map.specs.ReadMap
+pub use Rattle.oxc_sourcemap_map.specs.JsonText
 pub use Rattle.oxc_sourcemap_map.specs.MapLaws

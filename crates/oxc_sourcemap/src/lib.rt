@@ -6,8 +6,10 @@
 
 pub mod laws;
 
-pub use oxc_sourcemap_map::{SourceMap, SourceMapParts, decode, encode};
+pub use oxc_sourcemap_map::{
+    SourceMap, SourceMapParts, decode, decode_from_string, encode, encode_to_string,
+};
 pub use oxc_sourcemap_text::{
     Error, Field, JSONSourceMap, JsonFault, Result, Token, TokenChunk, chunk_fault,
-    decode_mappings, encode_mappings,
+    decode_mappings, encode_mappings, push_json_string,
 };

@@ -1,3 +1,5 @@
 pub mod Order
 pub mod Each
 pub mod ReadsBack
+pub mod ReadSound
+pub mod JsonTexts

@@ -12,12 +12,12 @@ use Rattle.oxc_sourcemap_map.specs.Record.{Text, MapRecord}
 abbrev pub written_contents : List (Option Text) → Option (List (Option Text))
 written_contents contents = if list_any is_some contents then Some contents else None
 
--- the fields of a map, its tokens written canonically
-abbrev pub encoded_record : MapRecord → JsonRecord
-encoded_record r = record {
+-- the fields of a map, with this mappings text
+abbrev pub record_with : MapRecord → Text → JsonRecord
+record_with r mappings = record {
   version = 3;
   file = r.file;
-  mappings = canonical r.tokens;
+  mappings = mappings;
   source_root = r.source_root;
   sources = r.sources;
   sources_content = written_contents r.source_contents;
@@ -25,6 +25,10 @@ encoded_record r = record {
   debug_id = r.debug_id;
   ignore_list = r.ignore_list;
 }
+
+-- the fields of a map, its tokens written canonically
+abbrev pub encoded_record : MapRecord → JsonRecord
+encoded_record r = record_with r (canonical r.tokens)
 
 -- what is written, unless there is a fault
 abbrev pub encoded_unless : Option Error → MapRecord → Result JsonRecord Error

@@ -5,4 +5,6 @@ pub mod Sound
 pub mod Sheet
 pub mod Decoded
 pub mod Encoded
+pub mod ReadMap
+pub mod JsonText
 pub mod MapLaws

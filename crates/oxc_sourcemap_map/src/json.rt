@@ -10,11 +10,13 @@ ghost use Rattle.oxc_sourcemap_text.specs.Json.{json_record, json_contents};
 ghost use Rattle.oxc_sourcemap_map.specs.Views.{text_of, texts_of, contents_of, ids_of};
 ghost use Rattle.oxc_sourcemap_map.specs.Decoded.{decoded, first_not_below, ignore_list_fault};
 ghost use Rattle.oxc_sourcemap_map.specs.Encoded.{encoded, written_contents};
+ghost use Rattle.oxc_sourcemap_map.specs.ReadMap.{read_map};
 
 use crate::sourcemap::SourceMap;
 use oxc_sourcemap_text::{
     Error, JSONSourceMap, JsonFault, Result, decode_mappings, encode_mappings,
 };
+use serde_json::Value;
 use std::alloc::{AllocError, Global};
 use std::borrow::CowStr;
 
@@ -111,6 +113,26 @@ pub fn decode(alloc: Global, json: JSONSourceMap) -> Result<SourceMap<'static>>
     })
 }
 
+/// The map that a JSON text says: `serde_json` reads the text, `JSONSourceMap::from_value` the value, and `decode` the
+/// fields. All its texts are owned.
+///
+/// Refused in this order:
+/// - `BadJson(Reading)` where `serde_json` reads no value, as for a text that is not JSON, one with more behind the value,
+///   and one that nests deeper than 127;
+/// - what `JSONSourceMap::from_value` refuses;
+/// - what `decode` refuses.
+///
+/// `OutOfMemory` where memory is refused, which may be before a fault is met.
+#[tactic(auto, unfolding(crate::specs::ReadMap::read_map))]
+pub fn decode_from_string(alloc: Global, text: &str) -> Result<SourceMap<'static>>
+    ensures map { IfOk result (λ map. read_map text.now ≡ Ok map) }
+    ensures refused { IfErr result (λ e. (e ≢ OutOfMemory) → read_map text.now ≡ Err e) }
+{
+    let value = Value::from_str(alloc, text)?;
+    let json = JSONSourceMap::from_value(alloc, &value)?;
+    decode(alloc, json)
+}
+
 /// A copy of a text that may be there.
 fn copied(
     alloc: Global,
@@ -136,7 +158,7 @@ fn copied_texts(alloc: Global, texts: &[CowStr<'_>]) -> std::result::Result<Vec<
 }
 
 /// Whether there is some content in a list.
-fn has_content(contents: &[Option<CowStr<'_>>]) -> bool
+pub(crate) fn has_content(contents: &[Option<CowStr<'_>>]) -> bool
     ensures { result ≡ list_any is_some (map (option_map cow_str_bytes) contents.now) }
 {
     for content in contents {

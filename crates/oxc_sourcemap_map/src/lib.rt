@@ -4,7 +4,9 @@
 #![tactic(auto)]
 
 mod json;
+mod json_text;
 mod sourcemap;
 
-pub use json::{decode, encode};
+pub use json::{decode, decode_from_string, encode};
+pub use json_text::encode_to_string;
 pub use sourcemap::{SourceMap, SourceMapParts};

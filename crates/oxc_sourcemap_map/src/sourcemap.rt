@@ -1,5 +1,5 @@
 //! The map and its parts.
-ghost use Rattle.std.specs.Prelude.{◌≡◌, ◌≢◌, ◌↔◌, ◌<◌, ℕ, IsTrue, IfSome, IfOk, IfErr, Ok, Err, Some, None, OnOk};
+ghost use Rattle.std.specs.Prelude.{◌≡◌, ◌≢◌, ◌↔◌, ◌<◌, ℕ, IsTrue, true, IfSome, string_bytes, IfOk, IfErr, Ok, Err, Some, None, OnOk};
 ghost use Rattle.std.specs.Box.{boxed_slice_items};
 ghost use Rattle.oxc_sourcemap_text.specs.declared.error.Error.TheVariants.{OutOfMemory};
 ghost use Rattle.std.specs.List.{AllByRecursion};
@@ -11,8 +11,13 @@ ghost use Rattle.oxc_sourcemap_map.specs.Sorted.{are_tokens_sorted, may_precede,
 ghost use Rattle.oxc_sourcemap_map.specs.Sound.{IsInRange, IsSound};
 ghost use Rattle.oxc_sourcemap_map.specs.Decoded.{decoded};
 ghost use Rattle.oxc_sourcemap_map.specs.Encoded.{encoded};
+ghost use Rattle.oxc_sourcemap_map.specs.Sheet.{sheet_of};
+ghost use Rattle.oxc_sourcemap_map.specs.ReadMap.{read_map, read_sheet};
+ghost use Rattle.oxc_sourcemap_map.specs.JsonText.{map_text, map_url};
 
-use crate::json::{decode, encode};
+use crate::json::{decode, decode_from_string, encode};
+use crate::json_text::encode_to_string;
+use base64::engine::general_purpose::STANDARD;
 use oxc_sourcemap_text::{JSONSourceMap, Result, Token, TokenChunk, chunk_fault};
 use std::alloc::Global;
 use std::borrow::CowStr;
@@ -152,6 +157,20 @@ impl<'a> SourceMap<'a> {
         decode(alloc, value)
     }
 
+    /// The map that a JSON text says, by `decode_from_string`, and refused as that refuses. All its texts are owned.
+    ///
+    /// Its ids are in range and it has no chunks, so it is sound exactly where its tokens are sorted. A text may well
+    /// list the columns of a line in another order; `is_sorted` tells.
+    #[tactic(auto, using(crate::proofs::ReadSound::read_map_sound))]
+    pub fn from_json_string(alloc: Global, text: &str) -> Result<SourceMap<'static>>
+        ensures map { IfOk result (λ map. read_map text.now ≡ Ok map) }
+        ensures sheet { IfOk result (λ map. read_sheet text.now ≡ Ok (sheet_of map)) }
+        ensures sound { IfOk result (λ map. IsSound map ↔ (are_tokens_sorted map.tokens ≡ true)) }
+        ensures refused { IfErr result (λ e. (e ≢ OutOfMemory) → read_map text.now ≡ Err e) }
+    {
+        decode_from_string(alloc, text)
+    }
+
     /// The JSON source map of this map, by `encode`, and refused as `encode` refuses.
     pub fn to_json(&self, alloc: Global) -> Result<JSONSourceMap>
         ensures json { IfOk result (λ json. encoded self.now ≡ Ok (json_record json)) }
@@ -159,6 +178,29 @@ impl<'a> SourceMap<'a> {
         ensures in_bounds { OnOk result (AreInBounds self.now.tokens) }
     {
         encode(alloc, self)
+    }
+
+    /// The JSON text of this map, by `encode_to_string`, and refused as that refuses.
+    pub fn to_json_string(&self, alloc: Global) -> Result<String>
+        ensures text { IfOk result (λ text. map_text self.now ≡ Ok (string_bytes text)) }
+        ensures refused { IfErr result (λ e. (e ≢ OutOfMemory) → map_text self.now ≡ Err e) }
+        ensures in_bounds { OnOk result (AreInBounds self.now.tokens) }
+    {
+        encode_to_string(alloc, self)
+    }
+
+    /// The data URL of the JSON text of this map (RFC 2397): `data:application/json;charset=utf-8;base64,` and the
+    /// text in padded base64 of the standard alphabet (RFC 4648). Refused as `to_json_string` refuses.
+    #[tactic(auto, unfolding(crate::specs::JsonText::map_url))]
+    pub fn to_data_url(&self, alloc: Global) -> Result<String>
+        ensures url { IfOk result (λ url. map_url self.now ≡ Ok (string_bytes url)) }
+        ensures refused { IfErr result (λ e. (e ≢ OutOfMemory) → map_url self.now ≡ Err e) }
+        ensures in_bounds { OnOk result (AreInBounds self.now.tokens) }
+    {
+        let text = self.to_json_string(alloc)?;
+        let mut url = String::from_str(alloc, "data:application/json;charset=utf-8;base64,")?;
+        STANDARD.encode_string(text.as_bytes(), &mut url)?;
+        Ok(url)
     }
 
     /// The parts of this map, unchanged. No memory is taken.

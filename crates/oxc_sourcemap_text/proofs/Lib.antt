@@ -12,3 +12,4 @@ pub mod Segments
 pub mod RoundTrip
 pub mod Again
 mod Worked
+pub mod JsonString

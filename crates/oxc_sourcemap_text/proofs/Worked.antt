@@ -9,6 +9,7 @@ use Rattle.oxc_sourcemap_text.specs.Token.{TokenRecord}
 use Rattle.oxc_sourcemap_text.specs.Reading.{reading, text_outcomes, line_outcomes}
 use Rattle.oxc_sourcemap_text.specs.Canonical.{canonical, text_behind, token_text, separator, delta_text, vlq_text, digits, letter}
 use Rattle.oxc_sourcemap_text.specs.Chunks.{piece, writing_fault}
+use Rattle.oxc_sourcemap_text.specs.JsonString.{json_string, escaped}
 
 -- generated line and column, source line and column, source id, name id
 abbrev token : ℕ → ℕ → ℕ → ℕ → Option ℕ → Option ℕ → TokenRecord
@@ -370,3 +371,20 @@ delta-minus_536870912 = refl
 delta-minus_4294967295 : delta_text 0 4294967295 ≡ codes "//////H"
 unfolding vlq_text digits letter
 delta-minus_4294967295 = refl
+
+writes-no_characters : json_string [] ≡ codes "\"\""
+unfolding json_string
+writes-no_characters = refl
+
+writes-escapes : json_string (codes "a\"b\\c" ++ 9 ∷ 1 ∷ []) ≡ codes "\"a\\\"b\\\\c\\t\\u0001\""
+unfolding json_string escaped
+writes-escapes = refl
+
+writes-control_characters : json_string (8 ∷ 10 ∷ 12 ∷ 13 ∷ 31 ∷ 127 ∷ []) ≡ codes "\"\\b\\n\\f\\r\\u001f" ++ 127 ∷ 34 ∷ []
+unfolding json_string escaped
+writes-control_characters = refl
+
+-- é and 😀, by their bytes
+writes-other_characters : json_string (195 ∷ 169 ∷ 240 ∷ 159 ∷ 152 ∷ 128 ∷ []) ≡ 34 ∷ 195 ∷ 169 ∷ 240 ∷ 159 ∷ 152 ∷ 128 ∷ 34 ∷ []
+unfolding json_string escaped
+writes-other_characters = refl

@@ -15,3 +15,4 @@ pub mod Messages
 pub mod TokenFields
 pub mod Decoding
 pub mod Encoding
+pub mod JsonString

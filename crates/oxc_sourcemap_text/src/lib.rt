@@ -12,6 +12,6 @@ mod shape;
 mod token;
 
 pub use decode::{JSONSourceMap, decode_mappings};
-pub use encode::{chunk_fault, encode_mappings};
+pub use encode::{chunk_fault, encode_mappings, push_json_string};
 pub use error::{Error, Field, JsonFault, Result};
 pub use token::{Token, TokenChunk};

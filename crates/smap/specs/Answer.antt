@@ -7,11 +7,14 @@ use Rattle.oxc_sourcemap.specs.Token.{TokenRecord}
 use Rattle.oxc_sourcemap.specs.Reading.{reading}
 use Rattle.oxc_sourcemap.specs.Canonical.{canonical}
 use Rattle.oxc_sourcemap.specs.Chunks.{writing_fault}
+use Rattle.oxc_sourcemap.specs.Shape.{◌>>=◌}
+use Rattle.oxc_sourcemap.specs.ReadMap.{read_map}
+use Rattle.oxc_sourcemap.specs.JsonText.{map_text, map_url}
 use Rattle.smap.specs.declared.plan.PlanError.TheVariants.{Map}
 use Rattle.smap.specs.declared.run.RunError.{RunError}
 use Rattle.smap.specs.declared.run.RunError.TheVariants.{Plan, Utf8}
 use Rattle.smap.specs.declared.words.Command.{Command}
-use Rattle.smap.specs.declared.words.Command.TheVariants.{Mappings}
+use Rattle.smap.specs.declared.words.Command.TheVariants.{Mappings, Normalise, Url}
 
 -- a text without the line feed at its end, if it has one
 abbrev pub without_line_feed : List ℕ → List ℕ
@@ -27,9 +30,24 @@ abbrev pub rewritten : Result (List TokenRecord) Error → Result (List ℕ) Run
 rewritten (Ok tokens) = written (writing_fault tokens None) tokens
 rewritten (Err fault) = Err (Plan (Map fault))
 
+-- the JSON text of the map that a JSON text says
+abbrev pub normalised : List ℕ → Result (List ℕ) Error
+normalised text = read_map text >>= map_text
+
+-- its data URL
+abbrev pub normalised_url : List ℕ → Result (List ℕ) Error
+normalised_url text = read_map text >>= map_url
+
+-- a call on a map, whose refusal is the program's
+abbrev pub of_map : Result (List ℕ) Error → Result (List ℕ) RunError
+of_map (Ok text) = Ok text
+of_map (Err fault) = Err (Plan (Map fault))
+
 -- What a command answers to a text. One line feed is written behind it.
 abbrev pub answer : Command → List ℕ → Result (List ℕ) RunError
 answer (Mappings names sources) text = rewritten (reading (without_line_feed text) names sources)
+answer Normalise text = of_map (normalised text)
+answer Url text = of_map (normalised_url text)
 
 -- known bytes grow by a beginning of these, perhaps by none of them
 abbrev pub AppendsBeginning : Option (List ℕ) → Option (List ℕ) → List ℕ → Type 0

@@ -5,7 +5,7 @@ use Rattle.std.specs.Str.{bytes_eq}
 use Rattle.std.specs.Char.{digit_value}
 use Rattle.std.specs.Str.Parse.{digits_value}
 use Rattle.smap.specs.declared.words.Command.{Command}
-use Rattle.smap.specs.declared.words.Command.TheVariants.{Mappings}
+use Rattle.smap.specs.declared.words.Command.TheVariants.{Mappings, Normalise, Url}
 
 abbrev pub is_decimal_digit : ℕ → Bool
 is_decimal_digit byte = nat_lt (digit_value byte) 10
@@ -32,7 +32,16 @@ mappings_words [] = None
 mappings_words (names ∷ []) = None
 mappings_words (names ∷ sources ∷ more ∷ words) = None
 
+-- this command, where no words stand behind its name
+abbrev pub without_words : Command → List (List ℕ) → Option Command
+without_words command [] = Some command
+without_words command (word ∷ words) = None
+
 -- the command of some words, the first of which names it
 abbrev pub command_of : List (List ℕ) → Option Command
 command_of [] = None
-command_of (name ∷ words) = if bytes_eq name (codes "mappings") then mappings_words words else None
+command_of (name ∷ words) =
+    if bytes_eq name (codes "mappings") then mappings_words words
+    else if bytes_eq name (codes "normalise") then without_words Normalise words
+    else if bytes_eq name (codes "url") then without_words Url words
+    else None

@@ -4,13 +4,14 @@ ghost use Rattle.std.specs.Io.KnownBytes.{Appends, Keeps};
 ghost use Rattle.smap.specs.declared.plan.PlanError.TheVariants.{Map};
 ghost use Rattle.smap.specs.declared.run.RunError.TheVariants.{Plan};
 ghost use Rattle.smap.specs.Refusals.{run_error_text, status_of, out_of_memory};
-ghost use Rattle.smap.specs.Answer.{without_line_feed, rewritten, answer, Refuses, AppendsBeginning};
+ghost use Rattle.smap.specs.Answer.{without_line_feed, rewritten, normalised, normalised_url, of_map, answer, Refuses, AppendsBeginning};
+ghost use Rattle.oxc_sourcemap.specs.Error.TheVariants.{OutOfMemory};
 ghost use Rattle.oxc_sourcemap.specs.Reading.{reading};
 
 use crate::plan::PlanError;
 use crate::port::Port;
 use crate::words::Command;
-use oxc_sourcemap::{Error, decode_mappings, encode_mappings};
+use oxc_sourcemap::{Error, SourceMap, decode_mappings, encode_mappings};
 use std::alloc::{AllocError, AllocFailed, Global};
 use std::fmt;
 use std::io::{Read, Write};
@@ -135,6 +136,24 @@ fn rewrite_mappings(alloc: Global, text: &str, names: u32, sources: u32) -> Resu
     Ok(out)
 }
 
+/// The JSON text of the map that a JSON text says.
+fn normalise(alloc: Global, text: &str) -> Result<String, Error>
+    ensures text { IfOk result (λ out. normalised text.now ≡ Ok (string_bytes out)) }
+    ensures refused { IfErr result (λ e. (e ≢ OutOfMemory) → normalised text.now ≡ Err e) }
+{
+    let map = SourceMap::from_json_string(alloc, text)?;
+    Ok(map.to_json_string(alloc)?)
+}
+
+/// The data URL of the map that a JSON text says.
+fn data_url(alloc: Global, text: &str) -> Result<String, Error>
+    ensures url { IfOk result (λ out. normalised_url text.now ≡ Ok (string_bytes out)) }
+    ensures refused { IfErr result (λ e. (e ≢ OutOfMemory) → normalised_url text.now ≡ Err e) }
+{
+    let map = SourceMap::from_json_string(alloc, text)?;
+    Ok(map.to_data_url(alloc)?)
+}
+
 /// What a command answers to an input.
 fn answer(alloc: Global, command: &Command, input: Vec<u8>) -> Result<String, RunError>
     ensures text { IfOk result (λ out. IsUtf8 input.items × (answer command.now input.items ≡ Ok (string_bytes out))) }
@@ -152,6 +171,8 @@ fn answer(alloc: Global, command: &Command, input: Vec<u8>) -> Result<String, Ru
                 *sources,
             )
         }
+        Command::Normalise => Ok(normalise(alloc, text.as_str())?),
+        Command::Url => Ok(data_url(alloc, text.as_str())?),
     }
 }
 
@@ -159,6 +180,8 @@ fn answer(alloc: Global, command: &Command, input: Vec<u8>) -> Result<String, Ru
 ///
 /// - `Mappings(names, sources)`: the input is a mappings text, with one line feed at its end or none; the answer is the
 ///   canonical text of its tokens, where so many names and sources stand beside it.
+/// - `Normalise`: the input is the JSON text of a map; the answer is the JSON text that `SourceMap::to_json_string` gives.
+/// - `Url`: the input is the JSON text of a map; the answer is its data URL.
 ///
 /// Refused as `Read` where a read fails, as `Utf8` where the input is not UTF-8, as `Plan(Map(e))` where a call on the
 /// text is refused or memory is (also for an input of more than 9223372036854775807 bytes), and as `Write` where a

@@ -37,7 +37,59 @@ const RUNS: &[(&[&str], &str, Result<&str, RunError>)] = &[
         Err(RunError::Arguments),
     ),
     (&["mapping", "0", "0"], "A", Err(RunError::Arguments)),
+    (&["normalise", "0"], "{}", Err(RunError::Arguments)),
+    (&["url", "0"], "{}", Err(RunError::Arguments)),
     (&[], "A", Err(RunError::Arguments)),
+];
+
+/// A JSON text, and what `normalise` writes, or the text of what it refuses.
+const NORMALISED: &[(&str, Result<&str, &str>)] = &[
+    (
+        r#"{"mappings":"gD,!C","version":3,"sources":["a.js"],"x_google_ignoreList":[0],"extra":1}"#,
+        Ok(r#"{"version":3,"names":[],"sources":["a.js"],"ignoreList":[0],"mappings":"gD,/C"}"#),
+    ),
+    (
+        r#"{"version":3,"sources":["a.js","b.js"],"mappings":"","ignoreList":[0],"x_google_ignoreList":false}"#,
+        Ok(r#"{"version":3,"names":[],"sources":["a.js","b.js"],"ignoreList":[0],"mappings":""}"#),
+    ),
+    (
+        r#"{"version":3,"file":"a\"b\\c\t\u0001\u0008\n\f\r\u001F\u007f\/é\ud83d\ude00","sources":[],"mappings":""}"#,
+        Ok(
+            "{\"version\":3,\"file\":\"a\\\"b\\\\c\\t\\u0001\\b\\n\\f\\r\\u001f\u{7f}/é😀\",\"names\":[],\"sources\":[],\"mappings\":\"\"}",
+        ),
+    ),
+    (
+        r#"{"debugId":"d","ignoreList":[],"names":["x"],"sourcesContent":[null,"A"],"sources":["a","b"],"sourceRoot":"r","mappings":"AAAAA","file":"f","version":3}"#,
+        Ok(
+            r#"{"version":3,"file":"f","sourceRoot":"r","names":["x"],"sources":["a","b"],"sourcesContent":[null,"A"],"ignoreList":[],"mappings":"AAAAA","debugId":"d"}"#,
+        ),
+    ),
+    (
+        r#"{"version":3,"sources":["a"],"sourcesContent":[null],"mappings":"","file":null}"#,
+        Ok(r#"{"version":3,"names":[],"sources":["a"],"mappings":""}"#),
+    ),
+    ("{", Err("JSON parsing error: the text is not JSON")),
+    ("[3]", Err("JSON parsing error: the value is not an object")),
+    (
+        r#"{"version":2}"#,
+        Err("JSON parsing error: unsupported source map version: 2"),
+    ),
+    (
+        r#"{"version":2,"sources":["a.js"],"mappings":""}"#,
+        Err("JSON parsing error: unsupported source map version: 2"),
+    ),
+    (
+        r#"{"version":3,"sources":[],"mappings":"","names":null}"#,
+        Err("JSON parsing error: field names is missing or has the wrong type"),
+    ),
+    (
+        r#"{"version":3,"sources":["a.js","b.js"],"mappings":"","ignoreList":null,"x_google_ignoreList":[3]}"#,
+        Err("Reference to non-existing source at position 3"),
+    ),
+    (
+        r#"{"version":3,"sources":["a.js","b.js"],"mappings":"","ignoreList":[0.5]}"#,
+        Err("JSON parsing error: field ignoreList is missing or has the wrong type"),
+    ),
 ];
 
 /// Refusals, with their texts and the status that the program ends with.
@@ -146,6 +198,49 @@ fn commands_answer(rt: HostRuntime) -> Result<(), Fail> {
             }
         }
     }
+    Ok(())
+}
+
+#[test]
+fn maps_are_normalised(rt: HostRuntime) -> Result<(), Fail> {
+    for (input, want) in NORMALISED {
+        let mut written = Vec::new(rt.alloc());
+        let result = run_words(rt.alloc(), &["normalise"], input.as_bytes(), &mut written);
+        match want {
+            Ok(text) => {
+                assert_eq!(rt; result, Ok(()), "{input}");
+                assert_eq!(rt; written.pop(), Some(b'\n'));
+                assert_eq!(rt; written.as_slice(), text.as_bytes());
+                // What is written is read, and written as the same text.
+                let mut again = Vec::new(rt.alloc());
+                let result = run_words(rt.alloc(), &["normalise"], text.as_bytes(), &mut again);
+                assert_eq!(rt; result, Ok(()), "{text}");
+                assert_eq!(rt; again.pop(), Some(b'\n'));
+                assert_eq!(rt; again.as_slice(), text.as_bytes());
+            }
+            Err(message) => {
+                let Err(refusal) = result else {
+                    assert!(rt; false, "{input}");
+                    return Ok(());
+                };
+                assert_eq!(rt; format!(in rt.alloc(); "{refusal}")?.as_str(), *message);
+                assert_eq!(rt; refusal.status(), 1);
+                assert!(rt; written.is_empty());
+            }
+        }
+    }
+    Ok(())
+}
+
+#[test]
+fn a_map_has_a_data_url(rt: HostRuntime) -> Result<(), Fail> {
+    let input = br#"{"version":3,"sources":[],"mappings":""}"#;
+    let mut written = Vec::new(rt.alloc());
+    let result = run_words(rt.alloc(), &["url"], input, &mut written);
+    assert_eq!(rt; result, Ok(()));
+    let url: &[u8] =
+        b"data:application/json;charset=utf-8;base64,eyJ2ZXJzaW9uIjozLCJuYW1lcyI6W10sInNvdXJjZXMiOltdLCJtYXBwaW5ncyI6IiJ9\n";
+    assert_eq!(rt; written.as_slice(), url);
     Ok(())
 }
 

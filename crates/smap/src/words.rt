@@ -1,6 +1,6 @@
 //! The words behind the program's name.
 ghost use Rattle.std.specs.Prelude.{◌≡◌, ◌∷◌, [], map, string_bytes, option_map, MatchOption, IfOk, IfErr, Option, Some, None};
-ghost use Rattle.smap.specs.Words.{number_of, mappings_words, command_of};
+ghost use Rattle.smap.specs.Words.{number_of, mappings_words, without_words, command_of};
 
 use crate::run::RunError;
 use std::alloc::Global;
@@ -10,6 +10,10 @@ use std::alloc::Global;
 pub enum Command {
     /// Read a mappings text, with this many names and sources beside it, and write its canonical text.
     Mappings(u32, u32),
+    /// Read a map from its JSON text, and write its JSON text.
+    Normalise,
+    /// Read a map from its JSON text, and write its data URL.
+    Url,
 }
 
 /// The number of a word: one or more decimal digits without a sign, leading zeros allowed, of 0 to 4294967295.
@@ -32,7 +36,17 @@ fn read_mappings(words: &[String]) -> Option<Command>
     Some(Command::Mappings(read_number(names.as_str())?, read_number(sources.as_str())?))
 }
 
-/// The command that some words say: `mappings NAMES SOURCES`. A number is one or more decimal digits without a sign,
+/// This command, where no words stand behind its name.
+fn without_words(command: Command, words: &[String]) -> Option<Command>
+    ensures { result ≡ without_words command (map string_bytes words.now) }
+{
+    match words {
+        [] => Some(command),
+        _ => None,
+    }
+}
+
+/// The command that some words say: `mappings NAMES SOURCES`, `normalise` or `url`. A number is one or more decimal digits without a sign,
 /// leading zeros allowed, of 0 to 4294967295.
 ///
 /// Refused as `Arguments` for all other words. This command takes no memory.
@@ -45,6 +59,8 @@ pub fn read_words(_alloc: Global, words: &[String]) -> Result<Command, RunError>
     };
     let command = match name.as_str() {
         "mappings" => read_mappings(words),
+        "normalise" => without_words(Command::Normalise, words),
+        "url" => without_words(Command::Url, words),
         _ => None,
     };
     command.ok_or(RunError::Arguments)

@@ -1,0 +1,256 @@
+//! The JSON text of a map, written field by field. (In the Rust crate `encode_to_string` stands in its module `encode`.)
+ghost use Rattle.std.specs.Prelude.{◌≡◌, ◌≢◌, ◌++◌, map, option_map, string_bytes, codes, decimal, IfOk, IfErr, OnOk, Ok, Err};
+ghost use Rattle.std.specs.Cow.{cow_str_bytes};
+ghost use Rattle.oxc_sourcemap_text.specs.declared.error.Error.TheVariants.{OutOfMemory};
+ghost use Rattle.oxc_sourcemap_text.specs.Token.{AreInBounds};
+ghost use Rattle.oxc_sourcemap_text.specs.JsonString.{json_string};
+ghost use Rattle.oxc_sourcemap_map.specs.Views.{text_of, ids_of};
+ghost use Rattle.oxc_sourcemap_map.specs.Encoded.{written_contents, record_with};
+ghost use Rattle.oxc_sourcemap_map.specs.JsonText.{texts_list, contents_list, content_text, ids_list, field_text, optional_text, head_text, lists_text, tail_text, json_text, map_text};
+
+use crate::json::has_content;
+use crate::sourcemap::SourceMap;
+use oxc_sourcemap_text::{Result, encode_mappings, push_json_string};
+use std::alloc::Global;
+use std::borrow::CowStr;
+
+/// Appends a comma, a key and a colon.
+fn push_key(key: &str, out: &mut String) -> Result<()>
+    ensures text { OnOk result (string_bytes out.new ≡ string_bytes out.old ++ (codes ",\"" ++ (key.now ++ codes "\":"))) }
+    ensures refused { IfErr result (λ e. e ≡ OutOfMemory) }
+{
+    out.push_str(",\"")?;
+    out.push_str(key)?;
+    out.push_str("\":")?;
+    Ok(())
+}
+
+/// Appends a list of strings.
+#[tactic(auto, unfolding(crate::specs::JsonText::json_list))]
+fn push_texts(texts: &[CowStr<'_>], out: &mut String) -> Result<()>
+    ensures text { OnOk result (string_bytes out.new ≡ string_bytes out.old ++ texts_list (map cow_str_bytes texts.now)) }
+    ensures refused { IfErr result (λ e. e ≡ OutOfMemory) }
+{
+    out.push('[')?;
+    let mut is_first = true;
+    for text in texts {
+        if !is_first {
+            out.push(',')?;
+        }
+        push_json_string(text.as_str(), out)?;
+        is_first = false;
+    }
+    out.push(']')?;
+    Ok(())
+}
+
+/// Appends a content, or `null` where it is not known.
+fn push_content(content: &Option<CowStr<'_>>, out: &mut String) -> Result<()>
+    ensures text { OnOk result (string_bytes out.new ≡ string_bytes out.old ++ content_text (text_of content.now)) }
+    ensures refused { IfErr result (λ e. e ≡ OutOfMemory) }
+{
+    match content {
+        Some(content) => push_json_string(content.as_str(), out),
+        None => Ok(out.push_str("null")?),
+    }
+}
+
+/// Appends a list of contents.
+#[tactic(auto, unfolding(crate::specs::JsonText::json_list))]
+fn push_contents(contents: &[Option<CowStr<'_>>], out: &mut String) -> Result<()>
+    ensures text { OnOk result (string_bytes out.new ≡ string_bytes out.old ++ contents_list (map text_of contents.now)) }
+    ensures refused { IfErr result (λ e. e ≡ OutOfMemory) }
+{
+    out.push('[')?;
+    let mut is_first = true;
+    for content in contents {
+        if !is_first {
+            out.push(',')?;
+        }
+        push_content(content, out)?;
+        is_first = false;
+    }
+    out.push(']')?;
+    Ok(())
+}
+
+/// Appends a list of numbers.
+#[tactic(auto, unfolding(crate::specs::JsonText::json_list))]
+fn push_ids(alloc: Global, ids: &[u32], out: &mut String) -> Result<()>
+    ensures text { OnOk result (string_bytes out.new ≡ string_bytes out.old ++ ids_list ids.now) }
+    ensures refused { IfErr result (λ e. e ≡ OutOfMemory) }
+{
+    out.push('[')?;
+    let mut is_first = true;
+    for id in ids {
+        if !is_first {
+            out.push(',')?;
+        }
+        out.push_str(id.to_string(alloc)?.as_str())?;
+        is_first = false;
+    }
+    out.push(']')?;
+    Ok(())
+}
+
+/// Appends a field with a text, where there is one.
+#[tactic(auto, unfolding(crate::specs::JsonText::field_text, crate::specs::JsonText::optional_text))]
+fn push_optional_text(key: &str, text: &Option<CowStr<'_>>, out: &mut String) -> Result<()>
+    ensures text { OnOk result (string_bytes out.new ≡ string_bytes out.old ++ optional_text key.now json_string (text_of text.now)) }
+    ensures refused { IfErr result (λ e. e ≡ OutOfMemory) }
+{
+    let Some(text) = text else {
+        return Ok(());
+    };
+    push_key(key, out)?;
+    push_json_string(text.as_str(), out)
+}
+
+/// Appends a field with contents, where there is some content among them.
+#[tactic(auto, unfolding(crate::specs::JsonText::field_text, crate::specs::JsonText::optional_text))]
+fn push_optional_contents(
+    key: &str,
+    contents: &[Option<CowStr<'_>>],
+    out: &mut String,
+) -> Result<()>
+    ensures text { OnOk result (string_bytes out.new ≡ string_bytes out.old ++ optional_text key.now contents_list (written_contents (map text_of contents.now))) }
+    ensures refused { IfErr result (λ e. e ≡ OutOfMemory) }
+{
+    if !has_content(contents) {
+        return Ok(());
+    }
+    push_key(key, out)?;
+    push_contents(contents, out)
+}
+
+/// Appends a field with numbers, where there are any.
+#[tactic(auto, unfolding(crate::specs::JsonText::field_text, crate::specs::JsonText::optional_text))]
+fn push_optional_ids(
+    alloc: Global,
+    key: &str,
+    list: &Option<Vec<u32>>,
+    out: &mut String,
+) -> Result<()>
+    ensures text { OnOk result (string_bytes out.new ≡ string_bytes out.old ++ optional_text key.now ids_list (ids_of list.now)) }
+    ensures refused { IfErr result (λ e. e ≡ OutOfMemory) }
+{
+    let Some(list) = list else {
+        return Ok(());
+    };
+    push_key(key, out)?;
+    push_ids(alloc, list.as_slice(), out)
+}
+
+/// Appends a field with strings.
+#[tactic(auto, unfolding(crate::specs::JsonText::field_text))]
+fn push_texts_field(key: &str, texts: &[CowStr<'_>], out: &mut String) -> Result<()>
+    ensures text { OnOk result (string_bytes out.new ≡ string_bytes out.old ++ field_text key.now (texts_list (map cow_str_bytes texts.now))) }
+    ensures refused { IfErr result (λ e. e ≡ OutOfMemory) }
+{
+    push_key(key, out)?;
+    push_texts(texts, out)
+}
+
+/// Appends a field with a text.
+#[tactic(auto, unfolding(crate::specs::JsonText::field_text))]
+fn push_text_field(key: &str, text: &str, out: &mut String) -> Result<()>
+    ensures text { OnOk result (string_bytes out.new ≡ string_bytes out.old ++ field_text key.now (json_string text.now)) }
+    ensures refused { IfErr result (λ e. e ≡ OutOfMemory) }
+{
+    push_key(key, out)?;
+    push_json_string(text, out)
+}
+
+/// Appends the beginning of the object, up to the root of sources.
+#[tactic(auto, unfolding(crate::specs::JsonText::head_text))]
+fn push_head(
+    file: &Option<CowStr<'_>>,
+    source_root: &Option<CowStr<'_>>,
+    out: &mut String,
+) -> Result<()>
+    ensures text { OnOk result (string_bytes out.new ≡ string_bytes out.old ++ head_text (text_of file.now) (text_of source_root.now)) }
+    ensures refused { IfErr result (λ e. e ≡ OutOfMemory) }
+{
+    out.push_str("{\"version\":3")?;
+    push_optional_text("file", file, out)?;
+    push_optional_text("sourceRoot", source_root, out)?;
+    Ok(())
+}
+
+/// Appends the lists of names, sources and contents, and the ignore list.
+#[tactic(auto, unfolding(crate::specs::JsonText::lists_text))]
+fn push_lists(
+    alloc: Global,
+    names: &[CowStr<'_>],
+    sources: &[CowStr<'_>],
+    contents: &[Option<CowStr<'_>>],
+    ignore_list: &Option<Vec<u32>>,
+    out: &mut String,
+) -> Result<()>
+    ensures text { OnOk result (string_bytes out.new ≡ string_bytes out.old ++ lists_text (map cow_str_bytes names.now) (map cow_str_bytes sources.now) (written_contents (map text_of contents.now)) (ids_of ignore_list.now)) }
+    ensures refused { IfErr result (λ e. e ≡ OutOfMemory) }
+{
+    push_texts_field("names", names, out)?;
+    push_texts_field("sources", sources, out)?;
+    push_optional_contents("sourcesContent", contents, out)?;
+    push_optional_ids(alloc, "ignoreList", ignore_list, out)?;
+    Ok(())
+}
+
+/// Appends the mappings, the debug id, and the end of the object.
+#[tactic(auto, unfolding(crate::specs::JsonText::tail_text))]
+fn push_tail(mappings: &str, debug_id: &Option<CowStr<'_>>, out: &mut String) -> Result<()>
+    ensures text { OnOk result (string_bytes out.new ≡ string_bytes out.old ++ tail_text mappings.now (text_of debug_id.now)) }
+    ensures refused { IfErr result (λ e. e ≡ OutOfMemory) }
+{
+    push_text_field("mappings", mappings, out)?;
+    push_optional_text("debugId", debug_id, out)?;
+    out.push('}')?;
+    Ok(())
+}
+
+/// Appends the fields of a map as a JSON object, with this mappings text.
+fn push_object(
+    alloc: Global,
+    sourcemap: &SourceMap<'_>,
+    mappings: &str,
+    out: &mut String,
+) -> Result<()>
+    ensures text { OnOk result (string_bytes out.new ≡ string_bytes out.old ++ json_text (record_with sourcemap.now mappings.now)) }
+    ensures refused { IfErr result (λ e. e ≡ OutOfMemory) }
+{
+    push_head(&sourcemap.file, &sourcemap.source_root, out)?;
+    push_lists(
+        alloc,
+        sourcemap.names.as_slice(),
+        sourcemap.sources.as_slice(),
+        sourcemap.source_contents.as_slice(),
+        &sourcemap.ignore_list,
+        out,
+    )?;
+    push_tail(mappings, &sourcemap.debug_id, out)
+}
+
+/// The JSON text of a map, without spaces and in the order `version`, `file`, `sourceRoot`, `names`, `sources`,
+/// `sourcesContent`, `ignoreList`, `mappings`, `debugId`: what `encode` gives, as text. `names`, `sources` and `mappings`
+/// are always there, `sourcesContent` where there is some content, and the others where the map has them. The `mappings`
+/// are the canonical text of the tokens. Chunks change nothing but have to fit.
+///
+/// Refused as `encode` refuses: `LineOrder(i)`, `BadChunks(k)`, `TooLarge`, in this order, and `OutOfMemory` where memory
+/// is refused.
+#[tactic(auto, unfolding(crate::specs::JsonText::map_text))]
+pub fn encode_to_string(alloc: Global, sourcemap: &SourceMap<'_>) -> Result<String>
+    ensures text { IfOk result (λ text. map_text sourcemap.now ≡ Ok (string_bytes text)) }
+    ensures refused { IfErr result (λ e. (e ≢ OutOfMemory) → map_text sourcemap.now ≡ Err e) }
+    ensures in_bounds { OnOk result (AreInBounds sourcemap.now.tokens) }
+{
+    let mut mappings = String::new(alloc);
+    let chunks = match &sourcemap.token_chunks {
+        Some(chunks) => Some(chunks.as_slice()),
+        None => None,
+    };
+    encode_mappings(sourcemap.tokens.as_slice(), chunks, &mut mappings)?;
+    let mut out = String::new(alloc);
+    push_object(alloc, sourcemap, mappings.as_str(), &mut out)?;
+    Ok(out)
+}

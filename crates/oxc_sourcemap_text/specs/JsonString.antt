@@ -1,0 +1,39 @@
+-- A text as a JSON string (RFC 8259, section 7).
+use Rattle.std.specs.Prelude.{◌≡◌, ℕ, ◌/◌, ◌%◌, List, [], ◌∷◌, ◌++◌, codes, flat_map, ◌⊎◌, if◌then◌else◌, nat_lt, ◌==◌}
+use Rattle.std.specs.Char.{digit_char}
+
+-- `\u00` and the two lower-case hexadecimal digits of a byte
+abbrev pub hex_escape : ℕ → List ℕ
+hex_escape b = codes "\\u00" ++ digit_char (b / 16) ∷ digit_char (b % 16) ∷ []
+
+-- A byte as it stands in a JSON string: `\"`, `\\`, `\b`, `\t`, `\n`, `\f` and `\r` for the bytes that have an escape of
+-- their own, `\u00` and two digits for every other byte below 32, and every byte above as itself.
+unfoldable pub escaped : ℕ → List ℕ
+escaped b =
+    if b == 34 then codes "\\\""
+    else if b == 92 then codes "\\\\"
+    else if b == 8 then codes "\\b"
+    else if b == 9 then codes "\\t"
+    else if b == 10 then codes "\\n"
+    else if b == 12 then codes "\\f"
+    else if b == 13 then codes "\\r"
+    else if nat_lt b 32 then hex_escape b
+    else b ∷ []
+
+-- the bytes of a text, escaped, in quotes
+unfoldable pub json_string : List ℕ → List ℕ
+json_string text = 34 ∷ flat_map escaped text ++ 34 ∷ []
+
+-- How the steps of the writer are seen. No public contract speaks of these.
+
+-- the base, a quote, and what may follow
+abbrev pub Opened : List ℕ → List ℕ → Type 0
+Opened base new = (more : List ℕ) × (new ≡ base ++ 34 ∷ more)
+
+-- Whatever text was opened stays opened: what follows the quote only grows.
+abbrev pub StaysOpened : List ℕ → List ℕ → Type 0
+StaysOpened old new = (base : List ℕ) → Opened base old → Opened base new
+
+-- the old text, or that text opened: the old one can be had again by a cut
+abbrev pub Begins : List ℕ → List ℕ → Type 0
+Begins old new = (new ≡ old) ⊎ Opened old new

@@ -1,5 +1,5 @@
 -- The map that a JSON text says, or why it says none.
-use Rattle.std.specs.Prelude.{ℕ, List, Option, Some, None, Result, Ok, Err}
+use Rattle.std.specs.Prelude.{Option, Some, None, Result, Ok, Err}
 use Rattle.serde_json.specs.Data.{Data}
 use Rattle.serde_json.specs.Read.{read}
 use Rattle.oxc_sourcemap_text.specs.declared.error.Error.{Error}

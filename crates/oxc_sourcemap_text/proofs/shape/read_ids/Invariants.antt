@@ -1,4 +1,4 @@
-use Rattle.std.proofs.Common.{◌≡◌, ◌++◌, map, drop, option_map, string_bytes}
+use Rattle.std.proofs.Common.{◌≡◌, ◌++◌, drop, option_map}
 use Rattle.serde_json.specs.View.{items_view}
 use Rattle.oxc_sourcemap_text.specs.Shape.{all_items, as_id}
 use Rattle.oxc_sourcemap_text.proofs.shape.read_ids.Given as goal

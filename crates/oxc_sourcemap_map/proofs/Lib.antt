@@ -3,3 +3,5 @@ pub mod Each
 pub mod ReadsBack
 pub mod ReadSound
 pub mod JsonTexts
+pub mod Separated
+mod Worked

@@ -19,7 +19,7 @@ use Rattle.oxc_sourcemap_map.specs.Record.{Text, MapRecord}
 use Rattle.oxc_sourcemap_map.specs.Sorted.{are_tokens_sorted}
 use Rattle.oxc_sourcemap_map.specs.Sound.{IsInRange, AreIdsInRange, IsSound}
 use Rattle.oxc_sourcemap_map.specs.Decoded.{first_not_below, ignore_list_fault, decoded_record, with_tokens, with_ignore_list, decoded}
-use Rattle.oxc_sourcemap_map.specs.ReadMap.{fields_of, read_map}
+use Rattle.oxc_sourcemap_map.specs.ReadMap.{json_fields, read_map}
 
 -- ---- ids
 
@@ -101,4 +101,4 @@ of-fields (Err fault) r e = cc
 
 pub read_map_sound : (text : Text) (r : MapRecord) → read_map text ≡ Ok r → IsSound r ↔ (are_tokens_sorted r.tokens ≡ true)
 unfolding read_map
-read_map_sound text r e = of-fields (fields_of (read text)) r e
+read_map_sound text r e = of-fields (json_fields (read text)) r e

@@ -7,4 +7,5 @@ pub mod Decoded
 pub mod Encoded
 pub mod ReadMap
 pub mod JsonText
+pub mod JsonParts
 pub mod MapLaws

@@ -9,8 +9,8 @@ use Rattle.oxc_sourcemap_map.specs.Sheet.{sheet_of}
 use Rattle.oxc_sourcemap_map.specs.Encoded.{encoded, encoded_record, written_contents}
 use Rattle.oxc_sourcemap_map.specs.Decoded.{decoded}
 
--- A map as it comes back: its tokens carry what texts do not tell, contents are there where there is some content, and
--- it has no chunks.
+-- A map as it comes back: an unmapped token has the source position that the sums have reached there, and no name;
+-- contents are there where there is some content; and it has no chunks.
 abbrev pub rewritten : MapRecord → MapRecord
 rewritten r = record r {
   source_contents = unwrap_or (written_contents r.source_contents) [];

@@ -12,14 +12,14 @@ use Rattle.oxc_sourcemap_map.specs.Decoded.{decoded}
 use Rattle.oxc_sourcemap_map.specs.Sheet.{Sheet, sheet_of}
 
 -- the fields of the value that was read, if one was
-abbrev pub fields_of : Option Data → Result JsonRecord Error
-fields_of None = Err (BadJson Reading)
-fields_of (Some d) = shape d
+abbrev pub json_fields : Option Data → Result JsonRecord Error
+json_fields None = Err (BadJson Reading)
+json_fields (Some d) = shape d
 
 -- The map that a JSON text says, or its first refusal: the text is not JSON, the value has not the shape of a source map,
 -- or its fields say no map.
 unfoldable pub read_map : Text → Result MapRecord Error
-read_map text = fields_of (read text) >>= decoded
+read_map text = json_fields (read text) >>= decoded
 
 -- what a JSON text means: the sheet of its map, or its first refusal
 abbrev pub read_sheet : Text → Result Sheet Error

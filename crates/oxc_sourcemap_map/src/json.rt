@@ -117,8 +117,8 @@ pub fn decode(alloc: Global, json: JSONSourceMap) -> Result<SourceMap<'static>>
 /// fields. All its texts are owned.
 ///
 /// Refused in this order:
-/// - `BadJson(Reading)` where `serde_json` reads no value, as for a text that is not JSON, one with more behind the value,
-///   and one that nests deeper than 127;
+/// - `BadJson(Reading)` where `serde_json` reads no value, as for a text that is not JSON, one with more than white
+///   space behind the value, and one that nests deeper than 127;
 /// - what `JSONSourceMap::from_value` refuses;
 /// - what `decode` refuses.
 ///
@@ -207,6 +207,8 @@ fn copied_ids(
 pub fn encode(alloc: Global, sourcemap: &SourceMap<'_>) -> Result<JSONSourceMap>
     ensures json { IfOk result (λ json. encoded sourcemap.now ≡ Ok (json_record json)) }
     ensures refused { IfErr result (λ e. (e ≢ OutOfMemory) → encoded sourcemap.now ≡ Err e) }
+
+    // True of every map, and stated here for callers that need it.
     ensures in_bounds { OnOk result (AreInBounds sourcemap.now.tokens) }
 {
     let mut mappings = String::new(alloc);

@@ -2,11 +2,11 @@
 ghost use Rattle.std.specs.Prelude.{◌≡◌, ◌≢◌, ◌++◌, map, option_map, string_bytes, codes, decimal, IfOk, IfErr, OnOk, Ok, Err};
 ghost use Rattle.std.specs.Cow.{cow_str_bytes};
 ghost use Rattle.oxc_sourcemap_text.specs.declared.error.Error.TheVariants.{OutOfMemory};
-ghost use Rattle.oxc_sourcemap_text.specs.Token.{AreInBounds};
 ghost use Rattle.oxc_sourcemap_text.specs.JsonString.{json_string};
 ghost use Rattle.oxc_sourcemap_map.specs.Views.{text_of, ids_of};
 ghost use Rattle.oxc_sourcemap_map.specs.Encoded.{written_contents, record_with};
-ghost use Rattle.oxc_sourcemap_map.specs.JsonText.{texts_list, contents_list, content_text, ids_list, field_text, optional_text, head_text, lists_text, tail_text, json_text, map_text};
+ghost use Rattle.oxc_sourcemap_map.specs.JsonText.{json_list, content_text, field_text, optional_field, json_text, map_text};
+ghost use Rattle.oxc_sourcemap_map.specs.JsonParts.{head_text, lists_text, tail_text};
 
 use crate::json::has_content;
 use crate::sourcemap::SourceMap;
@@ -28,7 +28,7 @@ fn push_key(key: &str, out: &mut String) -> Result<()>
 /// Appends a list of strings.
 #[tactic(auto, unfolding(crate::specs::JsonText::json_list))]
 fn push_texts(texts: &[CowStr<'_>], out: &mut String) -> Result<()>
-    ensures text { OnOk result (string_bytes out.new ≡ string_bytes out.old ++ texts_list (map cow_str_bytes texts.now)) }
+    ensures text { OnOk result (string_bytes out.new ≡ string_bytes out.old ++ json_list json_string (map cow_str_bytes texts.now)) }
     ensures refused { IfErr result (λ e. e ≡ OutOfMemory) }
 {
     out.push('[')?;
@@ -58,7 +58,7 @@ fn push_content(content: &Option<CowStr<'_>>, out: &mut String) -> Result<()>
 /// Appends a list of contents.
 #[tactic(auto, unfolding(crate::specs::JsonText::json_list))]
 fn push_contents(contents: &[Option<CowStr<'_>>], out: &mut String) -> Result<()>
-    ensures text { OnOk result (string_bytes out.new ≡ string_bytes out.old ++ contents_list (map text_of contents.now)) }
+    ensures text { OnOk result (string_bytes out.new ≡ string_bytes out.old ++ json_list content_text (map text_of contents.now)) }
     ensures refused { IfErr result (λ e. e ≡ OutOfMemory) }
 {
     out.push('[')?;
@@ -77,7 +77,7 @@ fn push_contents(contents: &[Option<CowStr<'_>>], out: &mut String) -> Result<()
 /// Appends a list of numbers.
 #[tactic(auto, unfolding(crate::specs::JsonText::json_list))]
 fn push_ids(alloc: Global, ids: &[u32], out: &mut String) -> Result<()>
-    ensures text { OnOk result (string_bytes out.new ≡ string_bytes out.old ++ ids_list ids.now) }
+    ensures text { OnOk result (string_bytes out.new ≡ string_bytes out.old ++ json_list decimal ids.now) }
     ensures refused { IfErr result (λ e. e ≡ OutOfMemory) }
 {
     out.push('[')?;
@@ -94,9 +94,9 @@ fn push_ids(alloc: Global, ids: &[u32], out: &mut String) -> Result<()>
 }
 
 /// Appends a field with a text, where there is one.
-#[tactic(auto, unfolding(crate::specs::JsonText::field_text, crate::specs::JsonText::optional_text))]
+#[tactic(auto, unfolding(crate::specs::JsonText::field_text, crate::specs::JsonText::optional_field))]
 fn push_optional_text(key: &str, text: &Option<CowStr<'_>>, out: &mut String) -> Result<()>
-    ensures text { OnOk result (string_bytes out.new ≡ string_bytes out.old ++ optional_text key.now json_string (text_of text.now)) }
+    ensures text { OnOk result (string_bytes out.new ≡ string_bytes out.old ++ optional_field key.now json_string (text_of text.now)) }
     ensures refused { IfErr result (λ e. e ≡ OutOfMemory) }
 {
     let Some(text) = text else {
@@ -107,13 +107,13 @@ fn push_optional_text(key: &str, text: &Option<CowStr<'_>>, out: &mut String) ->
 }
 
 /// Appends a field with contents, where there is some content among them.
-#[tactic(auto, unfolding(crate::specs::JsonText::field_text, crate::specs::JsonText::optional_text))]
+#[tactic(auto, unfolding(crate::specs::JsonText::field_text, crate::specs::JsonText::optional_field))]
 fn push_optional_contents(
     key: &str,
     contents: &[Option<CowStr<'_>>],
     out: &mut String,
 ) -> Result<()>
-    ensures text { OnOk result (string_bytes out.new ≡ string_bytes out.old ++ optional_text key.now contents_list (written_contents (map text_of contents.now))) }
+    ensures text { OnOk result (string_bytes out.new ≡ string_bytes out.old ++ optional_field key.now (json_list content_text) (written_contents (map text_of contents.now))) }
     ensures refused { IfErr result (λ e. e ≡ OutOfMemory) }
 {
     if !has_content(contents) {
@@ -124,14 +124,14 @@ fn push_optional_contents(
 }
 
 /// Appends a field with numbers, where there are any.
-#[tactic(auto, unfolding(crate::specs::JsonText::field_text, crate::specs::JsonText::optional_text))]
+#[tactic(auto, unfolding(crate::specs::JsonText::field_text, crate::specs::JsonText::optional_field))]
 fn push_optional_ids(
     alloc: Global,
     key: &str,
     list: &Option<Vec<u32>>,
     out: &mut String,
 ) -> Result<()>
-    ensures text { OnOk result (string_bytes out.new ≡ string_bytes out.old ++ optional_text key.now ids_list (ids_of list.now)) }
+    ensures text { OnOk result (string_bytes out.new ≡ string_bytes out.old ++ optional_field key.now (json_list decimal) (ids_of list.now)) }
     ensures refused { IfErr result (λ e. e ≡ OutOfMemory) }
 {
     let Some(list) = list else {
@@ -144,7 +144,7 @@ fn push_optional_ids(
 /// Appends a field with strings.
 #[tactic(auto, unfolding(crate::specs::JsonText::field_text))]
 fn push_texts_field(key: &str, texts: &[CowStr<'_>], out: &mut String) -> Result<()>
-    ensures text { OnOk result (string_bytes out.new ≡ string_bytes out.old ++ field_text key.now (texts_list (map cow_str_bytes texts.now))) }
+    ensures text { OnOk result (string_bytes out.new ≡ string_bytes out.old ++ field_text key.now (json_list json_string (map cow_str_bytes texts.now))) }
     ensures refused { IfErr result (λ e. e ≡ OutOfMemory) }
 {
     push_key(key, out)?;
@@ -162,7 +162,7 @@ fn push_text_field(key: &str, text: &str, out: &mut String) -> Result<()>
 }
 
 /// Appends the beginning of the object, up to the root of sources.
-#[tactic(auto, unfolding(crate::specs::JsonText::head_text))]
+#[tactic(auto, unfolding(crate::specs::JsonParts::head_text))]
 fn push_head(
     file: &Option<CowStr<'_>>,
     source_root: &Option<CowStr<'_>>,
@@ -178,7 +178,7 @@ fn push_head(
 }
 
 /// Appends the lists of names, sources and contents, and the ignore list.
-#[tactic(auto, unfolding(crate::specs::JsonText::lists_text))]
+#[tactic(auto, unfolding(crate::specs::JsonParts::lists_text))]
 fn push_lists(
     alloc: Global,
     names: &[CowStr<'_>],
@@ -198,7 +198,7 @@ fn push_lists(
 }
 
 /// Appends the mappings, the debug id, and the end of the object.
-#[tactic(auto, unfolding(crate::specs::JsonText::tail_text))]
+#[tactic(auto, unfolding(crate::specs::JsonParts::tail_text))]
 fn push_tail(mappings: &str, debug_id: &Option<CowStr<'_>>, out: &mut String) -> Result<()>
     ensures text { OnOk result (string_bytes out.new ≡ string_bytes out.old ++ tail_text mappings.now (text_of debug_id.now)) }
     ensures refused { IfErr result (λ e. e ≡ OutOfMemory) }
@@ -228,7 +228,8 @@ fn push_object(
         &sourcemap.ignore_list,
         out,
     )?;
-    push_tail(mappings, &sourcemap.debug_id, out)
+    push_tail(mappings, &sourcemap.debug_id, out)?;
+    Ok(())
 }
 
 /// The JSON text of a map, without spaces and in the order `version`, `file`, `sourceRoot`, `names`, `sources`,
@@ -242,7 +243,6 @@ fn push_object(
 pub fn encode_to_string(alloc: Global, sourcemap: &SourceMap<'_>) -> Result<String>
     ensures text { IfOk result (λ text. map_text sourcemap.now ≡ Ok (string_bytes text)) }
     ensures refused { IfErr result (λ e. (e ≢ OutOfMemory) → map_text sourcemap.now ≡ Err e) }
-    ensures in_bounds { OnOk result (AreInBounds sourcemap.now.tokens) }
 {
     let mut mappings = String::new(alloc);
     let chunks = match &sourcemap.token_chunks {

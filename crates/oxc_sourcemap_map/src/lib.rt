@@ -1,4 +1,4 @@
-//! The map: its fields, and reading it from and writing it to a JSON source map.
+//! The map: its fields, and reading it from and writing it to a JSON source map, a JSON text and a data URL.
 //!
 //! This crate stands below `oxc_sourcemap`, which users name, and which hands all public items of this one on.
 #![tactic(auto)]

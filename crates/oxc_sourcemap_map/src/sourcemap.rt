@@ -175,6 +175,8 @@ impl<'a> SourceMap<'a> {
     pub fn to_json(&self, alloc: Global) -> Result<JSONSourceMap>
         ensures json { IfOk result (λ json. encoded self.now ≡ Ok (json_record json)) }
         ensures refused { IfErr result (λ e. (e ≢ OutOfMemory) → encoded self.now ≡ Err e) }
+
+        // True of every map, and stated here for callers that need it.
         ensures in_bounds { OnOk result (AreInBounds self.now.tokens) }
     {
         encode(alloc, self)
@@ -184,7 +186,6 @@ impl<'a> SourceMap<'a> {
     pub fn to_json_string(&self, alloc: Global) -> Result<String>
         ensures text { IfOk result (λ text. map_text self.now ≡ Ok (string_bytes text)) }
         ensures refused { IfErr result (λ e. (e ≢ OutOfMemory) → map_text self.now ≡ Err e) }
-        ensures in_bounds { OnOk result (AreInBounds self.now.tokens) }
     {
         encode_to_string(alloc, self)
     }
@@ -195,7 +196,6 @@ impl<'a> SourceMap<'a> {
     pub fn to_data_url(&self, alloc: Global) -> Result<String>
         ensures url { IfOk result (λ url. map_url self.now ≡ Ok (string_bytes url)) }
         ensures refused { IfErr result (λ e. (e ≢ OutOfMemory) → map_url self.now ≡ Err e) }
-        ensures in_bounds { OnOk result (AreInBounds self.now.tokens) }
     {
         let text = self.to_json_string(alloc)?;
         let mut url = String::from_str(alloc, "data:application/json;charset=utf-8;base64,")?;

@@ -1,7 +1,9 @@
 -- Worked examples, computed by the definitions themselves.
-use Rattle.std.specs.Prelude.{◌≡◌, refl, ℕ, [], ◌∷◌, ◌++◌, codes, Ok, Err, Option, Some, None}
+use Rattle.std.specs.Prelude.{◌≡◌, refl, ℕ, List, [], ◌∷◌, ◌++◌, codes, Ok, Err, Option, Some, None}
 use Rattle.std.specs.List.{flat_map}
-use Rattle.oxc_sourcemap_text.specs.declared.error.Error.TheVariants.{VlqLeftover, VlqOverflow, BadSegmentSize, BadSourceReference, BadNameReference, LineOrder, BadChunks}
+use Rattle.oxc_sourcemap_text.specs.declared.error.Error.TheVariants.{VlqLeftover, VlqOverflow, BadJson, BadSegmentSize, BadSourceReference, BadNameReference, LineOrder, BadChunks}
+use Rattle.oxc_sourcemap_text.specs.declared.error.JsonFault.TheVariants.{Shape, Version}
+use Rattle.oxc_sourcemap_text.specs.declared.error.Field.TheVariants.{Object, Version as VersionField, Names, IgnoreList}
 use Rattle.oxc_sourcemap_text.specs.declared.token.TokenChunk.{TokenChunk}
 use Rattle.oxc_sourcemap_text.specs.Number.{digit}
 use Rattle.oxc_sourcemap_text.specs.Faults.{digit_fault, place_fault}
@@ -10,6 +12,8 @@ use Rattle.oxc_sourcemap_text.specs.Reading.{reading, text_outcomes, line_outcom
 use Rattle.oxc_sourcemap_text.specs.Canonical.{canonical, text_behind, token_text, separator, delta_text, vlq_text, digits, letter}
 use Rattle.oxc_sourcemap_text.specs.Chunks.{piece, writing_fault}
 use Rattle.oxc_sourcemap_text.specs.JsonString.{json_string, escaped}
+use Rattle.oxc_sourcemap_text.specs.Shape.{shape}
+use Rattle.serde_json.specs.Data.{Data, null, number, string, array, object, unsigned, no_items, item, no_members, member}
 
 -- generated line and column, source line and column, source id, name id
 abbrev token : ℕ → ℕ → ℕ → ℕ → Option ℕ → Option ℕ → TokenRecord
@@ -388,3 +392,38 @@ writes-control_characters = refl
 writes-other_characters : json_string (195 ∷ 169 ∷ 240 ∷ 159 ∷ 152 ∷ 128 ∷ []) ≡ 34 ∷ 195 ∷ 169 ∷ 240 ∷ 159 ∷ 152 ∷ 128 ∷ 34 ∷ []
 unfolding json_string escaped
 writes-other_characters = refl
+
+-- a JSON object of version 3 without sources and tokens, and one more member
+abbrev object_with : List ℕ → Data → Data
+object_with key value =
+    object (member (codes "version") (number (unsigned 3)) (member (codes "sources") (array no_items) (member (codes "mappings") (string []) (member key value no_members))))
+
+shape-no_object : shape (array (item (number (unsigned 3)) no_items)) ≡ Err (BadJson (Shape Object))
+unfolding shape
+shape-no_object = refl
+
+shape-another_version : shape (object (member (codes "version") (number (unsigned 2)) no_members)) ≡ Err (BadJson (Version 2))
+unfolding shape
+shape-another_version = refl
+
+shape-a_version_that_is_no_number : shape (object (member (codes "version") (string (codes "3")) no_members)) ≡ Err (BadJson (Shape VersionField))
+unfolding shape
+shape-a_version_that_is_no_number = refl
+
+shape-names_are_never_null : shape (object_with (codes "names") null) ≡ Err (BadJson (Shape Names))
+unfolding shape
+shape-names_are_never_null = refl
+
+shape-an_older_ignore_list : shape (object_with (codes "x_google_ignoreList") (array (item (number (unsigned 3)) no_items)))
+    ≡ Ok (record { version = 3; file = None; mappings = []; source_root = None; sources = []; sources_content = None; names = []; debug_id = None; ignore_list = Some (3 ∷ []) })
+unfolding shape
+shape-an_older_ignore_list = refl
+
+shape-an_id_past_32_bits : shape (object_with (codes "ignoreList") (array (item (number (unsigned 4294967296)) no_items))) ≡ Err (BadJson (Shape IgnoreList))
+unfolding shape
+shape-an_id_past_32_bits = refl
+
+shape-unknown_content : shape (object_with (codes "sourcesContent") (array (item null (item (string (codes "A")) no_items))))
+    ≡ Ok (record { version = 3; file = None; mappings = []; source_root = None; sources = []; sources_content = Some (None ∷ Some (codes "A") ∷ []); names = []; debug_id = None; ignore_list = None })
+unfolding shape
+shape-unknown_content = refl

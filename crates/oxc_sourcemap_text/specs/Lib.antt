@@ -10,9 +10,9 @@ pub mod Chunks
 pub mod TextLaws
 pub mod Json
 pub mod Shape
+pub mod JsonString
 pub mod Refusals
 pub mod Messages
 pub mod TokenFields
 pub mod Decoding
 pub mod Encoding
-pub mod JsonString

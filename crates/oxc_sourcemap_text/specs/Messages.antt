@@ -22,7 +22,7 @@ key_of DebugId = Some (codes "debugId")
 key_of IgnoreList = Some (codes "ignoreList")
 key_of GoogleIgnoreList = Some (codes "x_google_ignoreList")
 
--- that the value, or the field of this key, has the wrong type
+-- that the value is no object, or that the field of this key is missing or has the wrong type
 abbrev pub shape_text : Option (List ℕ) → List ℕ
 shape_text None = codes "the value is not an object"
 shape_text (Some key) = codes "field " ++ key ++ codes " is missing or has the wrong type"

@@ -6,6 +6,6 @@ use Rattle.oxc_sourcemap_text.specs.declared.error.Error.{Error}
 use Rattle.oxc_sourcemap_text.specs.declared.error.Error.TheVariants.{BadJson, OutOfMemory}
 use Rattle.oxc_sourcemap_text.specs.declared.error.JsonFault.TheVariants.{Reading}
 
--- want of memory stays that, and every other cause is that the text is not JSON
+-- want of memory stays that, and every other cause is that no value is read
 abbrev pub refusal_of_json : json.Error → Error → Type 0
 refusal_of_json cause e = (IsMemory cause → e ≡ OutOfMemory) × (¬ (IsMemory cause) → e ≡ BadJson Reading)

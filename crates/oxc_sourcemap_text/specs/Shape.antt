@@ -16,7 +16,7 @@ abbrev pub ◌>>=◌ : {A B : Type 0} → Result A Error → (A → Result B Err
 (Ok x) >>= next = next x
 (Err fault) >>= next = Err fault
 
--- the value, or that this field has the wrong type
+-- the value, or that this field is missing or has the wrong type
 abbrev pub or_misshapen : {A : Type 0} → Field → Option A → Result A Error
 or_misshapen field (Some x) = Ok x
 or_misshapen field None = Err (BadJson (Shape field))
@@ -36,6 +36,7 @@ abbrev pub optional : {A : Type 0} → (Data → Result A Error) → Option Data
 optional read None = Ok None
 optional read (Some d) = read d >>= (λ x. Ok (Some x))
 
+-- an item in front of the others, where both were read
 abbrev pub onto_read : {A : Type 0} → Option A → Option (List A) → Option (List A)
 onto_read None rest = None
 onto_read (Some x) None = None
@@ -59,6 +60,7 @@ as_content (string s) = Some (Some s)
 as_content (array ds) = None
 as_content (object ms) = None
 
+-- a number that is at most 4294967295
 abbrev pub if_id : Option ℕ → Option ℕ
 if_id None = None
 if_id (Some n) = if nat_lt n 4294967296 then Some n else None
@@ -87,10 +89,11 @@ ids_in field d = or_misshapen field (as_list as_id d)
 abbrev pub required : {A : Type 0} → Field → (Data → Result A Error) → Option Data → Result A Error
 required field read member = or_misshapen field member >>= read
 
--- the version, which must be 3
+-- 3, and no other version
 abbrev pub version_three : ℕ → Result ℕ Error
 version_three n = if n == 3 then Ok n else Err (BadJson (Version n))
 
+-- the number of a version, which must be 3
 abbrev pub version_in : Data → Result ℕ Error
 version_in d = or_misshapen VersionField (as_id d) >>= version_three
 

@@ -1,4 +1,4 @@
-//! Reading the `mappings` text.
+//! Reading the `mappings` text, and the fields of a JSON source map.
 ghost use Rattle.std.specs.Box.{boxed_slice_items};
 ghost use Rattle.std.specs.Prelude.{◌≡◌, ◌≢◌, ℕ, ◌+◌, ◌*◌, ◌%◌, ◌^◌, ◌<◌, ◌≤◌, length, List, ◌∷◌, [], drop, ℤ, pos, nat_abs, ◌+ℤ◌, set, true, false, min, is_some, IfSome, IfNone, OnOk, IfOk, IfErr, Option, Some, None, Result, Ok, Err};
 ghost use Rattle.oxc_sourcemap_text.specs.declared.error.Error.TheVariants.{OutOfMemory, TooLarge};

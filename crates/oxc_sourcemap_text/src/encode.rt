@@ -1,4 +1,4 @@
-//! Writing the `mappings` text.
+//! Writing the `mappings` text, and JSON strings.
 ghost use Rattle.std.specs.Prelude.{◌≡◌, ◌≢◌, ◌↔◌, ℕ, ◌+◌, ◌-◌, ◌*◌, ◌/◌, ◌%◌, ◌^◌, ◌<◌, ◌≤◌, ◌++◌, List, ◌∷◌, [], length, replicate, string_bytes, OnOk, OnErr, IfErr, IfOk, Option, Some, None, IsNone, if◌then◌else◌, nat_lt, drop, take, flat_map, encode_utf8};
 ghost use Rattle.oxc_sourcemap_text.specs.declared.error.Error.TheVariants.{OutOfMemory};
 ghost use Rattle.oxc_sourcemap_text.specs.Token.{AreInBounds, last_line};
@@ -291,8 +291,8 @@ fn line_order_fault(tokens: &[Token]) -> Option<usize>
     None
 }
 
-/// The index of the first chunk that does not fit the tokens; where there is none, but tokens are left over behind the
-/// last chunk, the number of chunks; None where all chunks fit. A chunk fits if it begins where its predecessor ended (the
+/// The index of the first chunk that does not fit the tokens; where there is none, but tokens are left over (behind the
+/// last chunk, or without any chunk), the number of chunks; None where all chunks fit. A chunk fits if it begins where its predecessor ended (the
 /// first at 0), does not end before it starts nor behind the tokens, and its header tells the state there (docs/FORMAT.md,
 /// "Chunks"). It goes over the tokens once, takes no memory, and asks nothing of the tokens.
 pub fn chunk_fault(tokens: &[Token], chunks: &[TokenChunk]) -> Option<usize>

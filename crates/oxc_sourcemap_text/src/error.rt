@@ -18,7 +18,7 @@ pub enum Error {
     /// A number in a mappings text has more than 13 digits, or a 13th whose payload is above 7. Or a generated column,
     /// source line or source column passes 4294967295.
     VlqOverflow,
-    /// The text is no JSON, or the JSON value is no source map.
+    /// No JSON value is read from the text, or the value is no source map.
     BadJson(JsonFault),
     /// A mappings segment has this many fields (4294967295 stands for more), and not 1, 4 or 5. With 0: a generated
     /// column, source line or source column is below 0.
@@ -44,7 +44,7 @@ pub enum Error {
 /// Why a text or a JSON value is not a source map of version 3.
 #[derive(Clone, Copy, Debug, PartialEq, Eq)]
 pub enum JsonFault {
-    /// The text is not JSON.
+    /// `serde_json` reads no value from the text.
     Reading,
     /// The value is not an object, or this field of it is missing or has the wrong type.
     Shape(Field),

@@ -1,5 +1,5 @@
 //! Reading and writing the `mappings` text of a source map of version 3 (ECMA-426), with the tokens, chunks and
-//! refusals that it speaks of.
+//! refusals that it speaks of; the shape of a source map as a JSON value; and JSON strings.
 //!
 //! This is the lowest crate of the port of `oxc_sourcemap`. Users name the crate `oxc_sourcemap`, which hands all
 //! public items of this one on.

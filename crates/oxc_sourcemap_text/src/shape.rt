@@ -182,12 +182,13 @@ fn read_ignore_list(alloc: Global, value: &Value) -> Result<Option<Vec<u32>>>
 }
 
 impl JSONSourceMap {
-    /// The fields of a JSON value (docs/FORMAT.md, "JSON values"; ECMA-426, "Source map format"). Keys that are not listed
+    /// The fields of a JSON value (docs/FORMAT.md, "The shape of a JSON value"; ECMA-426, "Source map format"). Keys that are not listed
     /// here are passed over.
     ///
     /// Refused as `BadJson`, for the first of these in this order, and as `OutOfMemory` where memory is refused:
     /// - `Shape(Object)` unless the value is an object;
-    /// - `version`: `Version(n)` for a whole number n of 0 to 4294967295 other than 3, `Shape(Version)` for all else;
+    /// - `version`, which has to be 3: `Version(n)` for another whole number n of 0 to 4294967295, `Shape(Version)` for all
+    ///   other values, and where it is missing;
     /// - `file`: `Shape(File)` unless a text, missing or null;
     /// - `mappings`: `Shape(Mappings)` unless a text;
     /// - `sourceRoot`: `Shape(SourceRoot)` unless a text, missing or null;

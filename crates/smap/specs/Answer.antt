@@ -25,10 +25,10 @@ abbrev pub written : Option Error → List TokenRecord → Result (List ℕ) Run
 written None tokens = Ok (canonical tokens)
 written (Some fault) tokens = Err (Plan (Map fault))
 
--- a reading, written again
-abbrev pub rewritten : Result (List TokenRecord) Error → Result (List ℕ) RunError
-rewritten (Ok tokens) = written (writing_fault tokens None) tokens
-rewritten (Err fault) = Err (Plan (Map fault))
+-- what `mappings` answers to a text that reads so: the canonical text of its tokens
+abbrev pub mappings_answer : Result (List TokenRecord) Error → Result (List ℕ) RunError
+mappings_answer (Ok tokens) = written (writing_fault tokens None) tokens
+mappings_answer (Err fault) = Err (Plan (Map fault))
 
 -- the JSON text of the map that a JSON text says
 abbrev pub normalised : List ℕ → Result (List ℕ) Error
@@ -45,7 +45,7 @@ of_map (Err fault) = Err (Plan (Map fault))
 
 -- What a command answers to a text. One line feed is written behind it.
 abbrev pub answer : Command → List ℕ → Result (List ℕ) RunError
-answer (Mappings names sources) text = rewritten (reading (without_line_feed text) names sources)
+answer (Mappings names sources) text = mappings_answer (reading (without_line_feed text) names sources)
 answer Normalise text = of_map (normalised text)
 answer Url text = of_map (normalised_url text)
 

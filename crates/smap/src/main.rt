@@ -1,6 +1,8 @@
 //! `smap`: reads and writes source maps at a shell.
 //!
 //!     smap mappings NAMES SOURCES < mappings.txt
+//!     smap normalise < bundle.js.map
+//!     smap url < bundle.js.map
 //!
 //! A refusal goes to standard error, behind `smap: `; the status is then 2 for bad words and 1 for all else.
 #![tactic(auto)]

@@ -4,7 +4,7 @@ ghost use Rattle.std.specs.Io.KnownBytes.{Appends, Keeps};
 ghost use Rattle.smap.specs.declared.plan.PlanError.TheVariants.{Map};
 ghost use Rattle.smap.specs.declared.run.RunError.TheVariants.{Plan};
 ghost use Rattle.smap.specs.Refusals.{run_error_text, status_of, out_of_memory};
-ghost use Rattle.smap.specs.Answer.{without_line_feed, rewritten, normalised, normalised_url, of_map, answer, Refuses, AppendsBeginning};
+ghost use Rattle.smap.specs.Answer.{without_line_feed, mappings_answer, normalised, normalised_url, of_map, answer, Refuses, AppendsBeginning};
 ghost use Rattle.oxc_sourcemap.specs.Error.TheVariants.{OutOfMemory};
 ghost use Rattle.oxc_sourcemap.specs.Reading.{reading};
 
@@ -127,8 +127,8 @@ fn without_last_line_feed(text: &str) -> &str
 
 /// The canonical text of a mappings text.
 fn rewrite_mappings(alloc: Global, text: &str, names: u32, sources: u32) -> Result<String, RunError>
-    ensures text { IfOk result (λ out. rewritten (reading text.now names sources) ≡ Ok (string_bytes out)) }
-    ensures refused { IfErr result (λ e. (e ≢ out_of_memory) → rewritten (reading text.now names sources) ≡ Err e) }
+    ensures text { IfOk result (λ out. mappings_answer (reading text.now names sources) ≡ Ok (string_bytes out)) }
+    ensures refused { IfErr result (λ e. (e ≢ out_of_memory) → mappings_answer (reading text.now names sources) ≡ Err e) }
 {
     let tokens = decode_mappings(alloc, text, names as usize, sources as usize)?;
     let mut out = String::new(alloc);

@@ -59,6 +59,14 @@ const NORMALISED: &[(&str, Result<&str, &str>)] = &[
         ),
     ),
     (
+        r#"{"version":3,"file":"a\"b\\c\t\u0001","names":[],"sources":[],"mappings":""}"#,
+        Ok(r#"{"version":3,"file":"a\"b\\c\t\u0001","names":[],"sources":[],"mappings":""}"#),
+    ),
+    (
+        r#"{"version":3,"names":[],"sources":[],"mappings":""}"#,
+        Ok(r#"{"version":3,"names":[],"sources":[],"mappings":""}"#),
+    ),
+    (
         r#"{"debugId":"d","ignoreList":[],"names":["x"],"sourcesContent":[null,"A"],"sources":["a","b"],"sourceRoot":"r","mappings":"AAAAA","file":"f","version":3}"#,
         Ok(
             r#"{"version":3,"file":"f","sourceRoot":"r","names":["x"],"sources":["a","b"],"sourcesContent":[null,"A"],"ignoreList":[],"mappings":"AAAAA","debugId":"d"}"#,
@@ -89,6 +97,30 @@ const NORMALISED: &[(&str, Result<&str, &str>)] = &[
     (
         r#"{"version":3,"sources":["a.js","b.js"],"mappings":"","ignoreList":[0.5]}"#,
         Err("JSON parsing error: field ignoreList is missing or has the wrong type"),
+    ),
+];
+
+/// The JSON text of a map, and its data URL: without padding, and with one and two symbols of it.
+const URLS: &[(&str, &str)] = &[
+    (
+        r#"{"version":3,"names":[],"sources":[],"mappings":""}"#,
+        "data:application/json;charset=utf-8;base64,eyJ2ZXJzaW9uIjozLCJuYW1lcyI6W10sInNvdXJjZXMiOltdLCJtYXBwaW5ncyI6IiJ9\n",
+    ),
+    (
+        r#"{"version":3,"file":"","names":[],"sources":[],"mappings":""}"#,
+        "data:application/json;charset=utf-8;base64,eyJ2ZXJzaW9uIjozLCJmaWxlIjoiIiwibmFtZXMiOltdLCJzb3VyY2VzIjpbXSwibWFwcGluZ3MiOiIifQ==\n",
+    ),
+    (
+        r#"{"version":3,"file":"a","names":[],"sources":[],"mappings":""}"#,
+        "data:application/json;charset=utf-8;base64,eyJ2ZXJzaW9uIjozLCJmaWxlIjoiYSIsIm5hbWVzIjpbXSwic291cmNlcyI6W10sIm1hcHBpbmdzIjoiIn0=\n",
+    ),
+    (
+        r#"{"version":3,"file":"ab?>~","names":[],"sources":[],"mappings":""}"#,
+        "data:application/json;charset=utf-8;base64,eyJ2ZXJzaW9uIjozLCJmaWxlIjoiYWI/Pn4iLCJuYW1lcyI6W10sInNvdXJjZXMiOltdLCJtYXBwaW5ncyI6IiJ9\n",
+    ),
+    (
+        r#"{"version":3,"file":"ab","names":[],"sources":["ÿ>?"],"mappings":""}"#,
+        "data:application/json;charset=utf-8;base64,eyJ2ZXJzaW9uIjozLCJmaWxlIjoiYWIiLCJuYW1lcyI6W10sInNvdXJjZXMiOlsiw78+PyJdLCJtYXBwaW5ncyI6IiJ9\n",
     ),
 ];
 
@@ -234,13 +266,12 @@ fn maps_are_normalised(rt: HostRuntime) -> Result<(), Fail> {
 
 #[test]
 fn a_map_has_a_data_url(rt: HostRuntime) -> Result<(), Fail> {
-    let input = br#"{"version":3,"sources":[],"mappings":""}"#;
-    let mut written = Vec::new(rt.alloc());
-    let result = run_words(rt.alloc(), &["url"], input, &mut written);
-    assert_eq!(rt; result, Ok(()));
-    let url: &[u8] =
-        b"data:application/json;charset=utf-8;base64,eyJ2ZXJzaW9uIjozLCJuYW1lcyI6W10sInNvdXJjZXMiOltdLCJtYXBwaW5ncyI6IiJ9\n";
-    assert_eq!(rt; written.as_slice(), url);
+    for (text, url) in URLS {
+        let mut written = Vec::new(rt.alloc());
+        let result = run_words(rt.alloc(), &["url"], text.as_bytes(), &mut written);
+        assert_eq!(rt; result, Ok(()), "{text}");
+        assert_eq!(rt; written.as_slice(), url.as_bytes());
+    }
     Ok(())
 }
 
@@ -330,4 +361,29 @@ fn a_failed_write_is_told_and_a_beginning_stands(rt: HostRuntime) {
             assert_eq!(rt; taken.as_slice(), &whole[..fails_at as usize]);
         }
     }
+}
+
+/// A writer that counts how often it is flushed.
+#[derive(Drop)]
+struct FlushedWriter {
+    flushes: u32,
+}
+
+impl Write for FlushedWriter {
+    fn write(&mut self, buf: &[u8]) -> io::Result<usize> {
+        Ok(buf.len())
+    }
+
+    fn flush(&mut self) -> io::Result<()> {
+        self.flushes = self.flushes.saturating_add(1);
+        Err(io::Error::from(ErrorKind::Other))
+    }
+}
+
+#[test]
+fn a_flush_is_handed_on_and_sets_no_flag(rt: HostRuntime) {
+    let mut writer = Port::new(FlushedWriter { flushes: 0 });
+    assert!(rt; writer.flush().is_err());
+    assert!(rt; !writer.failed());
+    assert_eq!(rt; writer.into_inner().flushes, 1);
 }

@@ -46,10 +46,10 @@ fn without_words(command: Command, words: &[String]) -> Option<Command>
     }
 }
 
-/// The command that some words say: `mappings NAMES SOURCES`, `normalise` or `url`. A number is one or more decimal digits without a sign,
-/// leading zeros allowed, of 0 to 4294967295.
+/// The command that some words say: `mappings NAMES SOURCES`, `normalise` or `url`. A number is one or more decimal
+/// digits without a sign, leading zeros allowed, of 0 to 4294967295.
 ///
-/// Refused as `Arguments` for all other words. This command takes no memory.
+/// Refused as `Arguments` for all other words. This call takes no memory.
 pub fn read_words(_alloc: Global, words: &[String]) -> Result<Command, RunError>
     ensures command { IfOk result (λ command. command_of (map string_bytes words.now) ≡ Some command) }
     ensures refused { IfErr result (λ e. (e ≡ RunError.Arguments) × (command_of (map string_bytes words.now) ≡ None)) }

@@ -1,4 +1,4 @@
-use Rattle.oxc_sourcemap_map.specs.JsonText.{head_text}
+use Rattle.oxc_sourcemap_map.specs.JsonParts.{head_text}
 use Rattle.oxc_sourcemap_map.proofs.JsonTexts.{three_added}
 use Rattle.oxc_sourcemap_map.proofs.json_text.push_head.Goals as goal
 

@@ -1,4 +1,4 @@
-use Rattle.oxc_sourcemap_map.specs.JsonText.{lists_text}
+use Rattle.oxc_sourcemap_map.specs.JsonParts.{lists_text}
 use Rattle.oxc_sourcemap_map.proofs.JsonTexts.{four_added}
 use Rattle.oxc_sourcemap_map.proofs.json_text.push_lists.Goals as goal
 

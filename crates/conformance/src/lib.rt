@@ -2,20 +2,24 @@
 //! alone.
 #![tactic(auto)]
 
-ghost use Rattle.std.specs.Prelude.{◌≡◌, ◌≤◌, ℕ, length, IfOk, IfErr};
+ghost use Rattle.std.specs.Prelude.{◌≡◌, ◌≤◌, ℕ, length, IfOk, IfErr, OnOk, OnErr, Some};
 ghost use Rattle.oxc_sourcemap.specs.Error.TheVariants.{OutOfMemory};
 ghost use Rattle.oxc_sourcemap.specs.Canonical.{bare};
 ghost use Rattle.oxc_sourcemap.specs.Sound.{IsSound};
 ghost use Rattle.oxc_sourcemap.specs.Sheet.{sheet_of};
 
 use oxc_sourcemap::laws::canonical_unique;
-use oxc_sourcemap::{Result, SourceMap};
+use oxc_sourcemap::{OwnedSourceMap, Result, SourceMap};
 use std::alloc::Global;
 
+#[cfg(test)]
+mod accessors;
 #[cfg(test)]
 mod mappings;
 #[cfg(test)]
 mod maps;
+#[cfg(test)]
+mod owned;
 #[cfg(test)]
 mod texts;
 
@@ -30,4 +34,27 @@ pub fn rewrite(alloc: Global, map: &SourceMap<'_>) -> Result<SourceMap<'static>>
     canonical_unique();
     let json = map.to_json(alloc)?;
     SourceMap::from_json(alloc, json)
+}
+
+/// Sets the file of the map inside, through `as_source_map_mut`. The owned map then has it, and nothing else has changed.
+pub fn rename(alloc: Global, map: &mut OwnedSourceMap, file: &str) -> Result<()>
+    ensures kept { OnOk result (map.new ≡ record map.old { file = Some file.now }) }
+    ensures unchanged { OnErr result (map.new ≡ map.old) }
+{
+    map.as_source_map_mut().set_file(alloc, file)
+}
+
+/// Sets the ignore list of the map inside, through `DerefMut`. The owned map then has it, and nothing else has changed.
+pub fn ignore(map: &mut OwnedSourceMap, ignore_list: Vec<u32>)
+    ensures { map.new ≡ record map.old { ignore_list = Some ignore_list.items } }
+{
+    let inside: &mut SourceMap<'static> = &mut *map;
+    inside.set_ignore_list(ignore_list);
+}
+
+/// The number of names, by going over them.
+pub fn name_count(map: &OwnedSourceMap) -> usize
+    ensures { result ≡ length map.now.names }
+{
+    map.get_names().count()
 }

@@ -5,6 +5,7 @@ pub use Rattle.oxc_sourcemap_text.specs.declared.error.Field
 pub use Rattle.oxc_sourcemap_text.specs.declared.token.TokenChunk
 pub use Rattle.oxc_sourcemap_text.specs.declared.decode.JSONSourceMap
 pub use Rattle.oxc_sourcemap_map.specs.declared.sourcemap.SourceMapParts
+pub use Rattle.oxc_sourcemap_map.specs.declared.source_view_token.SourceViewToken
 pub use Rattle.oxc_sourcemap_text.specs.Token
 pub use Rattle.oxc_sourcemap_text.specs.Faults
 pub use Rattle.oxc_sourcemap_text.specs.Reading
@@ -22,6 +23,7 @@ pub use Rattle.oxc_sourcemap_map.specs.Views
 pub use Rattle.oxc_sourcemap_map.specs.Sorted
 pub use Rattle.oxc_sourcemap_map.specs.Sound
 pub use Rattle.oxc_sourcemap_map.specs.Sheet
+pub use Rattle.oxc_sourcemap_map.specs.View
 pub use Rattle.oxc_sourcemap_map.specs.Decoded
 pub use Rattle.oxc_sourcemap_map.specs.Encoded
 pub use Rattle.oxc_sourcemap_map.specs.ReadMap

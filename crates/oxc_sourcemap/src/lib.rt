@@ -7,7 +7,8 @@
 pub mod laws;
 
 pub use oxc_sourcemap_map::{
-    SourceMap, SourceMapParts, decode, decode_from_string, encode, encode_to_string,
+    Contents, Names, OwnedSourceMap, SourceMap, SourceMapParts, SourceViewToken, Sources, Tokens,
+    ViewTokens, decode, decode_from_string, encode, encode_to_string,
 };
 pub use oxc_sourcemap_text::{
     Error, Field, JSONSourceMap, JsonFault, Result, Token, TokenChunk, chunk_fault,

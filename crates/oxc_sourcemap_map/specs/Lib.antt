@@ -3,6 +3,7 @@ pub mod Views
 pub mod Sorted
 pub mod Sound
 pub mod Sheet
+pub mod View
 pub mod Decoded
 pub mod Encoded
 pub mod ReadMap

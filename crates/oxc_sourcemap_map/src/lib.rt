@@ -1,12 +1,20 @@
-//! The map: its fields, and reading it from and writing it to a JSON source map, a JSON text and a data URL.
+//! The map, borrowing or owned: its fields, iterators over them and views of its tokens; and reading it from and writing
+//! it to a JSON source map, a JSON text and a data URL.
 //!
 //! This crate stands below `oxc_sourcemap`, which users name, and which hands all public items of this one on.
 #![tactic(auto)]
 
+mod iterators;
 mod json;
 mod json_text;
+mod owned_sourcemap;
+mod source_view_token;
 mod sourcemap;
+mod texts;
 
+pub use iterators::{Contents, Names, Sources, Tokens, ViewTokens};
 pub use json::{decode, decode_from_string, encode};
 pub use json_text::encode_to_string;
+pub use owned_sourcemap::OwnedSourceMap;
+pub use source_view_token::SourceViewToken;
 pub use sourcemap::{SourceMap, SourceMapParts};

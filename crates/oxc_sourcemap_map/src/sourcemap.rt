@@ -1,5 +1,6 @@
 //! The map and its parts.
-ghost use Rattle.std.specs.Prelude.{◌≡◌, ◌≢◌, ◌↔◌, ◌<◌, ℕ, IsTrue, true, IfSome, string_bytes, IfOk, IfErr, Ok, Err, Some, None, OnOk};
+ghost use Rattle.std.specs.Prelude.{◌≡◌, ◌≢◌, ◌↔◌, ◌<◌, ℕ, List, map, option_map, slice_get, IsTrue, true, IfSome, string_bytes, IfOk, IfErr, Ok, Err, Some, None, OnOk, OnErr};
+ghost use Rattle.std.specs.Iterator.{IsFinite, Drains};
 ghost use Rattle.std.specs.Box.{boxed_slice_items};
 ghost use Rattle.oxc_sourcemap_text.specs.declared.error.Error.TheVariants.{OutOfMemory};
 ghost use Rattle.std.specs.List.{AllByRecursion};
@@ -14,14 +15,22 @@ ghost use Rattle.oxc_sourcemap_map.specs.Encoded.{encoded};
 ghost use Rattle.oxc_sourcemap_map.specs.Sheet.{sheet_of};
 ghost use Rattle.oxc_sourcemap_map.specs.ReadMap.{read_map, read_sheet};
 ghost use Rattle.oxc_sourcemap_map.specs.JsonText.{map_text, map_url};
+ghost use Rattle.oxc_sourcemap_map.specs.View.{view_of, seen_in, content_at, source_and_content_at};
 
+use crate::iterators::{Contents, Names, Sources, Tokens, ViewTokens};
 use crate::json::{decode, decode_from_string, encode};
 use crate::json_text::encode_to_string;
+use crate::source_view_token::SourceViewToken;
+use crate::texts::{
+    cloned_chunks, cloned_contents, cloned_ids, cloned_text, cloned_texts, detached_contents,
+    detached_text, detached_texts, stored_contents, stored_texts,
+};
 use base64::engine::general_purpose::STANDARD;
 use oxc_sourcemap_text::{JSONSourceMap, Result, Token, TokenChunk, chunk_fault};
 use std::alloc::Global;
 use std::borrow::CowStr;
 use std::boxed::BoxedSlice;
+use std::convert::AsStr;
 use std::marker::Model;
 
 /// A source map of version 3. Its texts are borrowed for `'a` or owned.
@@ -101,6 +110,24 @@ impl<'a> SourceMapParts<'a> {
             token_chunks: None,
             ignore_list: None,
             debug_id: None,
+        })
+    }
+
+    /// Parts equal to these. A borrowed text stays borrowed. Refused for memory alone.
+    pub fn clone(&self, alloc: Global) -> Result<SourceMapParts<'a>>
+        ensures parts { IfOk result (λ parts. record_of_parts parts ≡ record_of_parts self.now) }
+        ensures refused { IfErr result (λ e. e ≡ OutOfMemory) }
+    {
+        Ok(SourceMapParts {
+            file: cloned_text(&self.file)?,
+            names: cloned_texts(alloc, self.names.as_slice())?,
+            source_root: cloned_text(&self.source_root)?,
+            sources: cloned_texts(alloc, self.sources.as_slice())?,
+            source_contents: cloned_contents(alloc, self.source_contents.as_slice())?,
+            tokens: self.tokens.as_slice().to_vec(alloc)?.into_boxed_slice(),
+            token_chunks: cloned_chunks(alloc, &self.token_chunks)?,
+            ignore_list: cloned_ids(alloc, &self.ignore_list)?,
+            debug_id: cloned_text(&self.debug_id)?,
         })
     }
 }
@@ -203,6 +230,44 @@ impl<'a> SourceMap<'a> {
         Ok(url)
     }
 
+    /// A map equal to this one. A borrowed text stays borrowed. Refused for memory alone.
+    pub fn clone(&self, alloc: Global) -> Result<SourceMap<'a>>
+        ensures map { IfOk result (λ map. map ≡ self.now) }
+        ensures refused { IfErr result (λ e. e ≡ OutOfMemory) }
+    {
+        Ok(SourceMap {
+            file: cloned_text(&self.file)?,
+            names: cloned_texts(alloc, self.names.as_slice())?,
+            source_root: cloned_text(&self.source_root)?,
+            sources: cloned_texts(alloc, self.sources.as_slice())?,
+            source_contents: cloned_contents(alloc, self.source_contents.as_slice())?,
+            tokens: self.tokens.as_slice().to_vec(alloc)?.into_boxed_slice(),
+            token_chunks: cloned_chunks(alloc, &self.token_chunks)?,
+            ignore_list: cloned_ids(alloc, &self.ignore_list)?,
+            debug_id: cloned_text(&self.debug_id)?,
+        })
+    }
+
+    /// The same map, borrowing nothing: owned texts are moved, borrowed ones copied. Refused for memory alone; the map is
+    /// then dropped.
+    pub fn into_owned(self, alloc: Global) -> Result<SourceMap<'static>>
+        ensures map { IfOk result (λ map. map ≡ self.entry) }
+        ensures refused { IfErr result (λ e. e ≡ OutOfMemory) }
+    {
+        let parts = self.into_parts();
+        Ok(SourceMap {
+            file: detached_text(alloc, parts.file)?,
+            names: detached_texts(alloc, parts.names)?,
+            source_root: detached_text(alloc, parts.source_root)?,
+            sources: detached_texts(alloc, parts.sources)?,
+            source_contents: detached_contents(alloc, parts.source_contents)?,
+            tokens: parts.tokens,
+            token_chunks: parts.token_chunks,
+            ignore_list: parts.ignore_list,
+            debug_id: detached_text(alloc, parts.debug_id)?,
+        })
+    }
+
     /// The parts of this map, unchanged. No memory is taken.
     pub fn into_parts(self) -> SourceMapParts<'a>
         ensures { record_of_parts result ≡ self.entry }
@@ -235,6 +300,174 @@ impl<'a> SourceMap<'a> {
             ignore_list: parts.ignore_list,
             debug_id: parts.debug_id,
         }
+    }
+
+    /// The name of the generated file.
+    pub fn get_file(&self) -> Option<&str>
+        ensures { option_map (λ file. file.now) result ≡ self.now.file }
+    {
+        self.file.as_deref()
+    }
+
+    /// Sets the name of the generated file to a copy of this text. Refused for memory alone; the map is then as it was.
+    pub fn set_file(&mut self, alloc: Global, file: &str) -> Result<()>
+        ensures set { OnOk result (self.new ≡ record self.old { file = Some file.now }) }
+        ensures refused { IfErr result (λ e. e ≡ OutOfMemory) }
+        ensures unchanged { OnErr result (self.new ≡ self.old) }
+    {
+        self.file = Some(CowStr::Owned(String::from_str(alloc, file)?));
+        Ok(())
+    }
+
+    /// What stands in front of each source when it is looked up.
+    pub fn get_source_root(&self) -> Option<&str>
+        ensures { option_map (λ root. root.now) result ≡ self.now.source_root }
+    {
+        self.source_root.as_deref()
+    }
+
+    /// The indices of sources that debuggers may pass over.
+    pub fn get_ignore_list(&self) -> Option<&[u32]>
+        ensures { option_map (λ list. list.now) result ≡ self.now.ignore_list }
+    {
+        self.ignore_list.as_deref()
+    }
+
+    /// Sets the ignore list. Nothing is checked, and no memory is taken.
+    pub fn set_ignore_list(&mut self, ignore_list: Vec<u32>)
+        ensures { self.new ≡ record self.old { ignore_list = Some ignore_list.items } }
+    {
+        self.ignore_list = Some(ignore_list);
+    }
+
+    /// Sets the debug id to a copy of this text. Refused for memory alone; the map is then as it was.
+    pub fn set_debug_id(&mut self, alloc: Global, debug_id: &str) -> Result<()>
+        ensures set { OnOk result (self.new ≡ record self.old { debug_id = Some debug_id.now }) }
+        ensures refused { IfErr result (λ e. e ≡ OutOfMemory) }
+        ensures unchanged { OnErr result (self.new ≡ self.old) }
+    {
+        self.debug_id = Some(CowStr::Owned(String::from_str(alloc, debug_id)?));
+        Ok(())
+    }
+
+    /// The id that ties this map to its generated code.
+    pub fn get_debug_id(&self) -> Option<&str>
+        ensures { option_map (λ id. id.now) result ≡ self.now.debug_id }
+    {
+        self.debug_id.as_deref()
+    }
+
+    /// The names, in order of their ids.
+    pub fn get_names(&self) -> Names<'_, 'a>
+        ensures { result ≡ self.now.names }
+    {
+        Names::new(self.names.as_slice())
+    }
+
+    /// Sets the sources to copies of these texts. Tokens, contents and the ignore list stay as they are, so ids may then
+    /// be out of range.
+    ///
+    /// The iterator must end. Refused for memory alone; the map is then as it was.
+    pub fn set_sources<S: AsStr, I: Iterator<Item = S>>(
+        &mut self,
+        alloc: Global,
+        sources: I,
+    ) -> Result<()>
+    where
+        S: Drop,
+        requires can { I.can_next sources }
+        requires ends { IsFinite (I.remaining sources) }
+        ensures set { OnOk result ((items : List S) × Drains I.next_gives sources items × (self.new ≡ record self.old { sources = map S.text items })) }
+        ensures refused { IfErr result (λ e. e ≡ OutOfMemory) }
+        ensures unchanged { OnErr result (self.new ≡ self.old) }
+    {
+        self.sources = stored_texts(alloc, sources)?;
+        Ok(())
+    }
+
+    /// The sources, in order of their ids.
+    pub fn get_sources(&self) -> Sources<'_, 'a>
+        ensures { result ≡ self.now.sources }
+    {
+        Sources::new(self.sources.as_slice())
+    }
+
+    /// Sets the contents of sources to copies of these texts, None where a content is not known. There may be fewer or more
+    /// than there are sources. Refused for memory alone; the map is then as it was.
+    pub fn set_source_contents(
+        &mut self,
+        alloc: Global,
+        source_contents: Vec<Option<&str>>,
+    ) -> Result<()>
+        ensures set { OnOk result (self.new ≡ record self.old { source_contents = map (option_map (λ content. content.now)) source_contents.entry.items }) }
+        ensures refused { IfErr result (λ e. e ≡ OutOfMemory) }
+        ensures unchanged { OnErr result (self.new ≡ self.old) }
+    {
+        self.source_contents = stored_contents(alloc, source_contents)?;
+        Ok(())
+    }
+
+    /// The contents of sources, in order of the sources' ids, None where a content is not known.
+    pub fn get_source_contents(&self) -> Contents<'_, 'a>
+        ensures { result ≡ self.now.source_contents }
+    {
+        Contents::new(self.source_contents.as_slice())
+    }
+
+    /// The token at an index. None where there is none.
+    pub fn get_token(&self, index: u32) -> Option<Token>
+        ensures { result ≡ slice_get self.now.tokens index }
+    {
+        self.tokens.as_slice().get(index as usize).copied()
+    }
+
+    /// The token at an index, as a view of this map. None where there is none.
+    pub fn get_source_view_token(&self, index: u32) -> Option<SourceViewToken<'_, 'a>>
+        ensures { option_map view_of result ≡ option_map (seen_in self.now) (slice_get self.now.tokens index) }
+    {
+        Some(SourceViewToken::new(self.get_token(index)?, self))
+    }
+
+    /// The tokens, in order.
+    pub fn get_tokens(&self) -> Tokens<'_>
+        ensures { result ≡ self.now.tokens }
+    {
+        Tokens::new(self.tokens.as_slice())
+    }
+
+    /// The tokens, in order, each as a view of this map.
+    pub fn get_source_view_tokens(&self) -> ViewTokens<'_, 'a>
+        ensures { result ≡ map (seen_in self.now) self.now.tokens }
+    {
+        ViewTokens::new(self)
+    }
+
+    /// The name with this id. None where there is none.
+    pub fn get_name(&self, id: u32) -> Option<&str>
+        ensures { option_map (λ name. name.now) result ≡ slice_get self.now.names id }
+    {
+        Some(self.names.get(id as usize)?.as_str())
+    }
+
+    /// The source with this id. None where there is none.
+    pub fn get_source(&self, id: u32) -> Option<&str>
+        ensures { option_map (λ source. source.now) result ≡ slice_get self.now.sources id }
+    {
+        Some(self.sources.get(id as usize)?.as_str())
+    }
+
+    /// The content listed for the source with this id. None where none is listed, or it is not known.
+    pub fn get_source_content(&self, id: u32) -> Option<&str>
+        ensures { option_map (λ content. content.now) result ≡ content_at self.now.source_contents id }
+    {
+        self.source_contents.get(id as usize)?.as_deref()
+    }
+
+    /// The source with this id, and its content. None unless both are there.
+    pub fn get_source_and_content(&self, id: u32) -> Option<(&str, &str)>
+        ensures { option_map (λ texts. (texts.0.now, texts.1.now)) result ≡ source_and_content_at self.now id }
+    {
+        Some((self.get_source(id)?, self.get_source_content(id)?))
     }
 
     /// Whether the tokens are sorted by generated line, then by generated column. Equal positions may follow one another. No

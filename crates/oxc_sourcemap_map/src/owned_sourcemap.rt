@@ -1,0 +1,365 @@
+//! A map in a type without a lifetime.
+ghost use mir.Syntax.{static};
+ghost use Rattle.std.specs.Prelude.{◌≡◌, ◌≢◌, ℕ, List, [], map, option_map, slice_get, string_bytes, IfOk, IfErr, Ok, Err, Some, OnOk, OnErr, ◌↔◌, true};
+ghost use Rattle.std.specs.Borrow.{Lends, sem};
+ghost use Rattle.std.specs.Iterator.{IsFinite, Drains};
+ghost use Rattle.oxc_sourcemap_text.specs.declared.error.Error.TheVariants.{OutOfMemory};
+ghost use Rattle.oxc_sourcemap_text.specs.Token.{AreInBounds};
+ghost use Rattle.oxc_sourcemap_text.specs.Json.{json_record};
+ghost use Rattle.oxc_sourcemap_map.specs.Views.{record_of_parts, empty_record};
+ghost use Rattle.oxc_sourcemap_map.specs.Sorted.{are_tokens_sorted};
+ghost use Rattle.oxc_sourcemap_map.specs.Sound.{IsSound};
+ghost use Rattle.oxc_sourcemap_map.specs.Sheet.{sheet_of};
+ghost use Rattle.oxc_sourcemap_map.specs.Decoded.{decoded};
+ghost use Rattle.oxc_sourcemap_map.specs.Encoded.{encoded};
+ghost use Rattle.oxc_sourcemap_map.specs.ReadMap.{read_map, read_sheet};
+ghost use Rattle.oxc_sourcemap_map.specs.JsonText.{map_text, map_url};
+ghost use Rattle.oxc_sourcemap_map.specs.View.{view_of, seen_in, content_at, source_and_content_at};
+ghost use Rattle.oxc_sourcemap_map.specs.contracts.owned_sourcemap.OwnedSourceMap.{the_row};
+ghost use Rattle.oxc_sourcemap_map.specs.contracts.sourcemap.SourceMap.{the_row as map_row};
+
+use crate::iterators::{Contents, Names, Sources, Tokens, ViewTokens};
+use crate::source_view_token::SourceViewToken;
+use crate::sourcemap::{SourceMap, SourceMapParts};
+use oxc_sourcemap_text::{JSONSourceMap, Result, Token};
+use std::alloc::Global;
+use std::convert::AsStr;
+use std::marker::Model;
+use std::ops::{Deref, DerefMut};
+
+/// A map that borrows nothing, in a type without a lifetime: a `SourceMap<'static>`, for fields that keep a map.
+///
+/// It has the calls of the map that it wraps, with the same answers and refusals; of those that are not listed here, the
+/// ones that only look at the map, as `is_sound`, are reached through `Deref`.
+#[derive(Drop)]
+pub struct OwnedSourceMap {
+    inner: SourceMap<'static>,
+}
+
+impl Model for OwnedSourceMap {
+    ghost use Rattle.oxc_sourcemap_map.specs.Record.{MapRecord};
+
+    ghost Value = { MapRecord };
+
+    ghost view = { λ owned. owned.inner };
+}
+
+impl OwnedSourceMap {
+    /// This map, wrapped. No memory is taken.
+    pub fn new(inner: SourceMap<'static>) -> OwnedSourceMap
+        ensures { result ≡ inner.entry }
+    {
+        OwnedSourceMap { inner }
+    }
+
+    /// The map without anything. Refused for memory alone.
+    pub fn empty(alloc: Global) -> Result<OwnedSourceMap>
+        ensures map { IfOk result (λ map. map ≡ empty_record) }
+        ensures refused { IfErr result (λ e. e ≡ OutOfMemory) }
+    {
+        Ok(OwnedSourceMap::new(SourceMap::empty(alloc)?))
+    }
+
+    /// A map equal to this one. Refused for memory alone.
+    pub fn clone(&self, alloc: Global) -> Result<OwnedSourceMap>
+        ensures map { IfOk result (λ map. map ≡ self.now) }
+        ensures refused { IfErr result (λ e. e ≡ OutOfMemory) }
+    {
+        Ok(OwnedSourceMap::new(self.inner.clone(alloc)?))
+    }
+
+    /// The wrapped map.
+    pub fn as_source_map(&self) -> &SourceMap<'static>
+        ensures { result.now ≡ self.now }
+    {
+        &self.inner
+    }
+
+    /// The wrapped map, to be changed: what is written to it is what this map then holds.
+    pub fn as_source_map_mut(&mut self) -> &mut SourceMap<'static>
+        ensures* writes_back { sem 𝓛 (Lends the_row (map_row (record { mir = static; lft = [] })) self.entry result (λ w. w)) }
+        ensures value { result.now ≡ self.old }
+    {
+        &mut self.inner
+    }
+
+    /// The wrapped map, moved out. No memory is taken.
+    pub fn into_inner(self) -> SourceMap<'static>
+        ensures { result ≡ self }
+    {
+        self.inner
+    }
+
+    /// The map that a JSON source map says, and refused as `SourceMap::from_json` is.
+    pub fn from_json(alloc: Global, value: JSONSourceMap) -> Result<OwnedSourceMap>
+        ensures map { IfOk result (λ map. decoded (json_record value) ≡ Ok map) }
+        ensures refused { IfErr result (λ e. (e ≢ OutOfMemory) → decoded (json_record value) ≡ Err e) }
+    {
+        Ok(OwnedSourceMap::new(SourceMap::from_json(alloc, value)?))
+    }
+
+    /// The map that a JSON text says, and refused as `SourceMap::from_json_string` is.
+    pub fn from_json_string(alloc: Global, text: &str) -> Result<OwnedSourceMap>
+        ensures map { IfOk result (λ map. read_map text.now ≡ Ok map) }
+        ensures sheet { IfOk result (λ map. read_sheet text.now ≡ Ok (sheet_of map)) }
+        ensures sound { IfOk result (λ map. IsSound map ↔ (are_tokens_sorted map.tokens ≡ true)) }
+        ensures refused { IfErr result (λ e. (e ≢ OutOfMemory) → read_map text.now ≡ Err e) }
+    {
+        Ok(OwnedSourceMap::new(SourceMap::from_json_string(alloc, text)?))
+    }
+
+    /// The JSON source map of this map, and refused as `SourceMap::to_json` is.
+    pub fn to_json(&self, alloc: Global) -> Result<JSONSourceMap>
+        ensures json { IfOk result (λ json. encoded self.now ≡ Ok (json_record json)) }
+        ensures refused { IfErr result (λ e. (e ≢ OutOfMemory) → encoded self.now ≡ Err e) }
+
+        // True of every map, and stated here for callers that need it.
+        ensures in_bounds { OnOk result (AreInBounds self.now.tokens) }
+    {
+        self.inner.to_json(alloc)
+    }
+
+    /// The JSON text of this map, and refused as `SourceMap::to_json_string` is.
+    pub fn to_json_string(&self, alloc: Global) -> Result<String>
+        ensures text { IfOk result (λ text. map_text self.now ≡ Ok (string_bytes text)) }
+        ensures refused { IfErr result (λ e. (e ≢ OutOfMemory) → map_text self.now ≡ Err e) }
+    {
+        self.inner.to_json_string(alloc)
+    }
+
+    /// The data URL of the JSON text of this map, and refused as `SourceMap::to_data_url` is.
+    pub fn to_data_url(&self, alloc: Global) -> Result<String>
+        ensures url { IfOk result (λ url. map_url self.now ≡ Ok (string_bytes url)) }
+        ensures refused { IfErr result (λ e. (e ≢ OutOfMemory) → map_url self.now ≡ Err e) }
+    {
+        self.inner.to_data_url(alloc)
+    }
+
+    /// The name of the generated file.
+    pub fn get_file(&self) -> Option<&str>
+        ensures { option_map (λ file. file.now) result ≡ self.now.file }
+    {
+        self.inner.get_file()
+    }
+
+    /// Sets the name of the generated file to a copy of this text. Refused for memory alone; the map is then as it was.
+    pub fn set_file(&mut self, alloc: Global, file: &str) -> Result<()>
+        ensures set { OnOk result (self.new ≡ record self.old { file = Some file.now }) }
+        ensures refused { IfErr result (λ e. e ≡ OutOfMemory) }
+        ensures unchanged { OnErr result (self.new ≡ self.old) }
+    {
+        self.inner.set_file(alloc, file)
+    }
+
+    /// What stands in front of each source when it is looked up.
+    pub fn get_source_root(&self) -> Option<&str>
+        ensures { option_map (λ root. root.now) result ≡ self.now.source_root }
+    {
+        self.inner.get_source_root()
+    }
+
+    /// The indices of sources that debuggers may pass over.
+    pub fn get_ignore_list(&self) -> Option<&[u32]>
+        ensures { option_map (λ list. list.now) result ≡ self.now.ignore_list }
+    {
+        self.inner.get_ignore_list()
+    }
+
+    /// Sets the ignore list. Nothing is checked, and no memory is taken.
+    pub fn set_ignore_list(&mut self, ignore_list: Vec<u32>)
+        ensures { self.new ≡ record self.old { ignore_list = Some ignore_list.items } }
+    {
+        self.inner.set_ignore_list(ignore_list);
+    }
+
+    /// The id that ties this map to its generated code.
+    pub fn get_debug_id(&self) -> Option<&str>
+        ensures { option_map (λ id. id.now) result ≡ self.now.debug_id }
+    {
+        self.inner.get_debug_id()
+    }
+
+    /// Sets the debug id to a copy of this text. Refused for memory alone; the map is then as it was.
+    pub fn set_debug_id(&mut self, alloc: Global, debug_id: &str) -> Result<()>
+        ensures set { OnOk result (self.new ≡ record self.old { debug_id = Some debug_id.now }) }
+        ensures refused { IfErr result (λ e. e ≡ OutOfMemory) }
+        ensures unchanged { OnErr result (self.new ≡ self.old) }
+    {
+        self.inner.set_debug_id(alloc, debug_id)
+    }
+
+    /// The names, in order of their ids.
+    pub fn get_names(&self) -> Names<'_, 'static>
+        ensures { result ≡ self.now.names }
+    {
+        self.inner.get_names()
+    }
+
+    /// The sources, in order of their ids.
+    pub fn get_sources(&self) -> Sources<'_, 'static>
+        ensures { result ≡ self.now.sources }
+    {
+        self.inner.get_sources()
+    }
+
+    /// Sets the sources to copies of these texts. Tokens, contents and the ignore list stay as they are, so ids may then
+    /// be out of range.
+    ///
+    /// The iterator must end. Refused for memory alone; the map is then as it was.
+    pub fn set_sources<S: AsStr, I: Iterator<Item = S>>(
+        &mut self,
+        alloc: Global,
+        sources: I,
+    ) -> Result<()>
+    where
+        S: Drop,
+        requires can { I.can_next sources }
+        requires ends { IsFinite (I.remaining sources) }
+        ensures set { OnOk result ((items : List S) × Drains I.next_gives sources items × (self.new ≡ record self.old { sources = map S.text items })) }
+        ensures refused { IfErr result (λ e. e ≡ OutOfMemory) }
+        ensures unchanged { OnErr result (self.new ≡ self.old) }
+    {
+        self.inner.set_sources(alloc, sources)
+    }
+
+    /// The contents of sources, in order of the sources' ids, None where a content is not known.
+    pub fn get_source_contents(&self) -> Contents<'_, 'static>
+        ensures { result ≡ self.now.source_contents }
+    {
+        self.inner.get_source_contents()
+    }
+
+    /// Sets the contents of sources to copies of these texts, None where a content is not known. There may be fewer or more
+    /// than there are sources. Refused for memory alone; the map is then as it was.
+    pub fn set_source_contents(
+        &mut self,
+        alloc: Global,
+        source_contents: Vec<Option<&str>>,
+    ) -> Result<()>
+        ensures set { OnOk result (self.new ≡ record self.old { source_contents = map (option_map (λ content. content.now)) source_contents.entry.items }) }
+        ensures refused { IfErr result (λ e. e ≡ OutOfMemory) }
+        ensures unchanged { OnErr result (self.new ≡ self.old) }
+    {
+        self.inner.set_source_contents(alloc, source_contents)
+    }
+
+    /// The name with this id. None where there is none.
+    pub fn get_name(&self, id: u32) -> Option<&str>
+        ensures { option_map (λ name. name.now) result ≡ slice_get self.now.names id }
+    {
+        self.inner.get_name(id)
+    }
+
+    /// The source with this id. None where there is none.
+    pub fn get_source(&self, id: u32) -> Option<&str>
+        ensures { option_map (λ source. source.now) result ≡ slice_get self.now.sources id }
+    {
+        self.inner.get_source(id)
+    }
+
+    /// The content listed for the source with this id. None where none is listed, or it is not known.
+    pub fn get_source_content(&self, id: u32) -> Option<&str>
+        ensures { option_map (λ content. content.now) result ≡ content_at self.now.source_contents id }
+    {
+        self.inner.get_source_content(id)
+    }
+
+    /// The source with this id, and its content. None unless both are there.
+    pub fn get_source_and_content(&self, id: u32) -> Option<(&str, &str)>
+        ensures { option_map (λ texts. (texts.0.now, texts.1.now)) result ≡ source_and_content_at self.now id }
+    {
+        self.inner.get_source_and_content(id)
+    }
+
+    /// The token at an index. None where there is none.
+    pub fn get_token(&self, index: u32) -> Option<Token>
+        ensures { result ≡ slice_get self.now.tokens index }
+    {
+        self.inner.get_token(index)
+    }
+
+    /// The tokens, in order.
+    pub fn get_tokens(&self) -> Tokens<'_>
+        ensures { result ≡ self.now.tokens }
+    {
+        self.inner.get_tokens()
+    }
+
+    /// The token at an index, as a view of this map. None where there is none.
+    pub fn get_source_view_token(&self, index: u32) -> Option<SourceViewToken<'_, 'static>>
+        ensures { option_map view_of result ≡ option_map (seen_in self.now) (slice_get self.now.tokens index) }
+    {
+        self.inner.get_source_view_token(index)
+    }
+
+    /// The tokens, in order, each as a view of this map.
+    pub fn get_source_view_tokens(&self) -> ViewTokens<'_, 'static>
+        ensures { result ≡ map (seen_in self.now) self.now.tokens }
+    {
+        self.inner.get_source_view_tokens()
+    }
+
+    /// The parts of this map, unchanged. No memory is taken.
+    pub fn into_parts(self) -> SourceMapParts<'static>
+        ensures { record_of_parts result ≡ self }
+    {
+        self.inner.into_parts()
+    }
+
+    /// The map of these parts, unchanged. Nothing is checked, and no memory is taken.
+    pub fn from_parts(parts: SourceMapParts<'static>) -> OwnedSourceMap
+        ensures { result ≡ record_of_parts parts.entry }
+    {
+        OwnedSourceMap::new(SourceMap::from_parts(parts))
+    }
+}
+
+impl From<SourceMap<'static>> for OwnedSourceMap {
+    ghost from_gives = { λ inner owned. owned ≡ inner };
+
+    /// This map, wrapped.
+    fn from(inner: SourceMap<'static>) -> OwnedSourceMap {
+        OwnedSourceMap::new(inner)
+    }
+}
+
+impl From<OwnedSourceMap> for SourceMap<'static> {
+    ghost from_gives = { λ owned inner. inner ≡ owned };
+
+    /// The wrapped map.
+    fn from(owned: OwnedSourceMap) -> SourceMap<'static> {
+        owned.into_inner()
+    }
+}
+
+impl<'a> SourceMap<'a> {
+    /// The same map, borrowing nothing, in a type without a lifetime: `into_owned`, and refused as that is.
+    pub fn into_owned_sourcemap(self, alloc: Global) -> Result<OwnedSourceMap>
+        ensures map { IfOk result (λ map. map ≡ self.entry) }
+        ensures refused { IfErr result (λ e. e ≡ OutOfMemory) }
+    {
+        Ok(OwnedSourceMap::new(self.into_owned(alloc)?))
+    }
+}
+
+impl Deref for OwnedSourceMap {
+    type Target = SourceMap<'static>;
+
+    /// The wrapped map.
+    fn deref(&self) -> &SourceMap<'static>
+        ensures { result.now ≡ self.now }
+    {
+        self.as_source_map()
+    }
+}
+
+impl DerefMut for OwnedSourceMap {
+    /// The wrapped map, to be changed: what is written to it is what this map then holds.
+    fn deref_mut(&mut self) -> &mut SourceMap<'static>
+        ensures* writes_back { sem 𝓛 (Lends the_row (map_row (record { mir = static; lft = [] })) self.entry result (λ w. w)) }
+        ensures value { result.now ≡ self.old }
+    {
+        let OwnedSourceMap { inner } = self;
+        inner
+    }
+}

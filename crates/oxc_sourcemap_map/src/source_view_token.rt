@@ -1,0 +1,114 @@
+//! A token together with its map. (In the Rust crate it stands in the module `token`.)
+ghost use Rattle.std.specs.Prelude.{◌≡◌, option_map};
+ghost use Rattle.oxc_sourcemap_map.specs.View.{view_of, seen_in, view_name, view_source, view_content, view_source_and_content};
+
+use crate::sourcemap::SourceMap;
+use oxc_sourcemap_text::Token;
+
+/// A token, and the map that its ids are looked up in. The texts that it gives live as long as the borrow of the map
+/// (`'sm`); `'data` is the life of the texts that the map itself borrows.
+///
+/// An id that is missing or out of range names nothing. No call takes memory.
+#[derive(Clone, Copy)]
+pub struct SourceViewToken<'sm, 'data> {
+    token: Token,
+    sourcemap: &'sm SourceMap<'data>,
+}
+
+impl<'sm, 'data> SourceViewToken<'sm, 'data> {
+    /// The token, seen in this map. Nothing is checked: it may be a token of another map.
+    pub fn new(token: Token, sourcemap: &'sm SourceMap<'data>) -> SourceViewToken<'sm, 'data>
+        ensures { view_of result ≡ seen_in sourcemap.now token }
+    {
+        SourceViewToken { token, sourcemap }
+    }
+
+    /// The generated line.
+    pub fn get_dst_line(&self) -> u32
+        ensures { result ≡ (view_of self.now).token.dst_line }
+    {
+        self.token.get_dst_line()
+    }
+
+    /// The generated column.
+    pub fn get_dst_col(&self) -> u32
+        ensures { result ≡ (view_of self.now).token.dst_col }
+    {
+        self.token.get_dst_col()
+    }
+
+    /// The source line.
+    pub fn get_src_line(&self) -> u32
+        ensures { result ≡ (view_of self.now).token.src_line }
+    {
+        self.token.get_src_line()
+    }
+
+    /// The source column.
+    pub fn get_src_col(&self) -> u32
+        ensures { result ≡ (view_of self.now).token.src_col }
+    {
+        self.token.get_src_col()
+    }
+
+    /// The name id, in range or not. None where the token has no name.
+    pub fn get_name_id(&self) -> Option<u32>
+        ensures { result ≡ (view_of self.now).token.name_id }
+    {
+        self.token.get_name_id()
+    }
+
+    /// The source id, in range or not. None where the token is unmapped.
+    pub fn get_source_id(&self) -> Option<u32>
+        ensures { result ≡ (view_of self.now).token.source_id }
+    {
+        self.token.get_source_id()
+    }
+
+    /// The name. None where the token has no name id, or the map no such name.
+    pub fn get_name(&self) -> Option<&'sm str>
+        ensures { option_map (λ name. name.now) result ≡ view_name (view_of self.now) }
+    {
+        let sourcemap = self.sourcemap;
+        sourcemap.get_name(self.get_name_id()?)
+    }
+
+    /// The source. None where the token has no source id, or the map no such source.
+    pub fn get_source(&self) -> Option<&'sm str>
+        ensures { option_map (λ source. source.now) result ≡ view_source (view_of self.now) }
+    {
+        let sourcemap = self.sourcemap;
+        sourcemap.get_source(self.get_source_id()?)
+    }
+
+    /// The content of the source. None where the token has no source id, or the map no content for it.
+    pub fn get_source_content(&self) -> Option<&'sm str>
+        ensures { option_map (λ content. content.now) result ≡ view_content (view_of self.now) }
+    {
+        let sourcemap = self.sourcemap;
+        sourcemap.get_source_content(self.get_source_id()?)
+    }
+
+    /// The source and its content. None unless both are there.
+    pub fn get_source_and_content(&self) -> Option<(&'sm str, &'sm str)>
+        ensures { option_map (λ texts. (texts.0.now, texts.1.now)) result ≡ view_source_and_content (view_of self.now) }
+    {
+        let sourcemap = self.sourcemap;
+        sourcemap.get_source_and_content(self.get_source_id()?)
+    }
+
+    /// The source, the source line, the source column and the name.
+    pub fn to_tuple(&self) -> (Option<&'sm str>, u32, u32, Option<&'sm str>)
+        ensures source { option_map (λ source. source.now) result.0 ≡ view_source (view_of self.now) }
+        ensures line { result.1 ≡ (view_of self.now).token.src_line }
+        ensures column { result.2 ≡ (view_of self.now).token.src_col }
+        ensures name { option_map (λ name. name.now) result.3 ≡ view_name (view_of self.now) }
+    {
+        (
+            self.get_source(),
+            self.get_src_line(),
+            self.get_src_col(),
+            self.get_name(),
+        )
+    }
+}

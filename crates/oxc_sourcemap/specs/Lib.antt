@@ -24,6 +24,8 @@ pub use Rattle.oxc_sourcemap_map.specs.Sorted
 pub use Rattle.oxc_sourcemap_map.specs.Sound
 pub use Rattle.oxc_sourcemap_map.specs.Sheet
 pub use Rattle.oxc_sourcemap_map.specs.View
+pub use Rattle.oxc_sourcemap_map.specs.Lookup
+pub use Rattle.oxc_sourcemap_map.specs.Trace
 pub use Rattle.oxc_sourcemap_map.specs.Decoded
 pub use Rattle.oxc_sourcemap_map.specs.Encoded
 pub use Rattle.oxc_sourcemap_map.specs.ReadMap

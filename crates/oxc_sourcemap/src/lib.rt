@@ -1,7 +1,8 @@
 //! Source maps of version 3 (ECMA-426): a port of the Rust crate `oxc_sourcemap`, with each call proved to meet its
 //! contract.
 //!
-//! Users name this crate alone: it hands on all public items of the crates below.
+//! Users name this crate alone: it hands on the public items of the crates below, all but `line_order_fault`, which
+//! those need among themselves.
 #![tactic(auto)]
 
 pub mod laws;

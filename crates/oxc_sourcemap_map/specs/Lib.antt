@@ -4,6 +4,8 @@ pub mod Sorted
 pub mod Sound
 pub mod Sheet
 pub mod View
+pub mod Lookup
+pub mod Trace
 pub mod Decoded
 pub mod Encoded
 pub mod ReadMap

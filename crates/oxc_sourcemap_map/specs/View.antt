@@ -1,9 +1,9 @@
 -- A token together with the map that its ids are looked up in, and what the ids name there.
 use Rattle.std.specs.Prelude.{ℕ, List, slice_get, Option}
-use Rattle.std.specs.Option.{option_map, option_and_then}
+use Rattle.std.specs.Option.{option_and_then, option_zip}
 use Rattle.oxc_sourcemap_text.specs.Token.{TokenRecord}
 use Rattle.oxc_sourcemap_map.specs.Record.{Text, MapRecord}
-use Rattle.oxc_sourcemap_map.specs.Sheet.{name_of}
+use Rattle.oxc_sourcemap_map.specs.Sheet.{Origin, sources_of, origin_of, name_of}
 use Rattle.oxc_sourcemap_map.specs.declared.source_view_token.SourceViewToken.{SourceViewToken}
 
 -- a token of a map
@@ -23,13 +23,9 @@ seen_in r t = record { token = t; map = r }
 abbrev pub content_at : List (Option Text) → ℕ → Option Text
 content_at contents i = option_and_then (λ content. content) (slice_get contents i)
 
--- both, where both are there
-abbrev pub both : Option Text → Option Text → Option (Text × Text)
-both first second = option_and_then (λ a. option_map (λ b. (a, b)) second) first
-
 -- the source at an index, and its content, where both are there
 abbrev pub source_and_content_at : MapRecord → ℕ → Option (Text × Text)
-source_and_content_at r i = both (slice_get r.sources i) (content_at r.source_contents i)
+source_and_content_at r i = option_zip (slice_get r.sources i) (content_at r.source_contents i)
 
 -- what the ids of a view name: the name, the source, its content, and both of these
 abbrev pub view_name : ViewRecord → Option Text
@@ -42,4 +38,8 @@ abbrev pub view_content : ViewRecord → Option Text
 view_content v = option_and_then (content_at v.map.source_contents) v.token.source_id
 
 abbrev pub view_source_and_content : ViewRecord → Option (Text × Text)
-view_source_and_content v = both (view_source v) (view_content v)
+view_source_and_content v = option_zip (view_source v) (view_content v)
+
+-- what its token points to there
+abbrev pub view_origin : ViewRecord → Option Origin
+view_origin v = origin_of (sources_of v.map.sources v.map.source_contents) v.map.names v.token

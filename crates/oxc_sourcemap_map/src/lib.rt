@@ -7,6 +7,7 @@
 mod iterators;
 mod json;
 mod json_text;
+mod lookup;
 mod owned_sourcemap;
 mod source_view_token;
 mod sourcemap;

@@ -1,20 +1,23 @@
 //! A map in a type without a lifetime.
 ghost use mir.Syntax.{static};
-ghost use Rattle.std.specs.Prelude.{◌≡◌, ◌≢◌, ℕ, List, [], map, option_map, slice_get, string_bytes, IfOk, IfErr, Ok, Err, Some, OnOk, OnErr, ◌↔◌, true};
+ghost use Rattle.std.specs.Prelude.{◌≡◌, ◌≢◌, ℕ, List, [], map, option_map, slice_get, string_bytes, IfOk, IfErr, IfSome, IsNone, Ok, Err, Some, OnOk, OnErr, ◌↔◌, true};
 ghost use Rattle.std.specs.Borrow.{Lends, sem};
 ghost use Rattle.std.specs.Iterator.{IsFinite, Drains};
+ghost use Rattle.std.specs.List.{Contains};
 ghost use Rattle.oxc_sourcemap_text.specs.declared.error.Error.TheVariants.{OutOfMemory};
 ghost use Rattle.oxc_sourcemap_text.specs.Token.{AreInBounds};
 ghost use Rattle.oxc_sourcemap_text.specs.Json.{json_record};
 ghost use Rattle.oxc_sourcemap_map.specs.Views.{record_of_parts, empty_record};
-ghost use Rattle.oxc_sourcemap_map.specs.Sorted.{are_tokens_sorted};
+ghost use Rattle.oxc_sourcemap_map.specs.Sorted.{are_tokens_sorted, token_line, token_column};
 ghost use Rattle.oxc_sourcemap_map.specs.Sound.{IsSound};
 ghost use Rattle.oxc_sourcemap_map.specs.Sheet.{sheet_of};
 ghost use Rattle.oxc_sourcemap_map.specs.Decoded.{decoded};
 ghost use Rattle.oxc_sourcemap_map.specs.Encoded.{encoded};
 ghost use Rattle.oxc_sourcemap_map.specs.ReadMap.{read_map, read_sheet};
 ghost use Rattle.oxc_sourcemap_map.specs.JsonText.{map_text, map_url};
-ghost use Rattle.oxc_sourcemap_map.specs.View.{view_of, seen_in, content_at, source_and_content_at};
+ghost use Rattle.oxc_sourcemap_map.specs.Lookup.{at, clamped_at, pick, clamped_pick, no_column_goes_back, line_table, slice_of};
+ghost use Rattle.oxc_sourcemap_map.specs.Trace.{trace, clamped_trace};
+ghost use Rattle.oxc_sourcemap_map.specs.View.{view_of, seen_in, view_origin, content_at, source_and_content_at};
 ghost use Rattle.oxc_sourcemap_map.specs.contracts.owned_sourcemap.OwnedSourceMap.{the_row};
 ghost use Rattle.oxc_sourcemap_map.specs.contracts.sourcemap.SourceMap.{the_row as map_row};
 
@@ -297,6 +300,90 @@ impl OwnedSourceMap {
         ensures { result ≡ map (seen_in self.now) self.now.tokens }
     {
         self.inner.get_source_view_tokens()
+    }
+
+    /// The lookup table: for each generated line up to the last token's, the tokens on it, lent from this map, in order.
+    /// Without tokens it has no slices.
+    ///
+    /// Refused as `LineOrder(i)` for the first token whose line is smaller than that of the token in front, and as
+    /// `OutOfMemory` where memory is refused; the table takes a slice for each line, with tokens or without.
+    pub fn generate_lookup_table(&self, alloc: Global) -> Result<Vec<&[Token]>>
+        ensures table { IfOk result (λ table. line_table self.now.tokens ≡ Ok (map (λ s. s.now) table.items)) }
+        ensures refused { IfErr result (λ e. (e ≢ OutOfMemory) → line_table self.now.tokens ≡ Err e) }
+    {
+        self.inner.generate_lookup_table(alloc)
+    }
+
+    /// The token at a generated position, by `search` in the slice that the table has for the line; None past the table's
+    /// end. The table is meant to be that of `generate_lookup_table`, but whichever is handed in is read, and nothing else,
+    /// whatever line its tokens name.
+    ///
+    /// Of the tokens on the line whose column is the greatest not past `col`, it is the first where that is `col`, else the
+    /// last; None where there are none. Where the columns of the line go back it is some token of the line, or None. No
+    /// memory is taken.
+    pub fn lookup_token(&self, lookup_table: &[&[Token]], line: u32, col: u32) -> Option<Token>
+        ensures found { let tokens = slice_of (map (λ s. s.now) lookup_table.now) line in
+            no_column_goes_back token_column tokens ≡ true → result ≡ at token_column tokens col }
+        ensures among { IfSome result (Contains (slice_of (map (λ s. s.now) lookup_table.now) line)) }
+        ensures own_table { are_tokens_sorted self.now.tokens ≡ true → line_table self.now.tokens ≡ Ok (map (λ s. s.now) lookup_table.now)
+            → result ≡ pick token_line token_column self.now.tokens line col }
+    {
+        self.inner.lookup_token(lookup_table, line, col)
+    }
+
+    /// The token of `lookup_token`, as a view of this map. No memory is taken.
+    pub fn lookup_source_view_token(
+        &self,
+        lookup_table: &[&[Token]],
+        line: u32,
+        col: u32,
+    ) -> Option<SourceViewToken<'_, 'static>>
+        ensures found { let tokens = slice_of (map (λ s. s.now) lookup_table.now) line in
+            no_column_goes_back token_column tokens ≡ true → option_map view_of result ≡ option_map (seen_in self.now) (at token_column tokens col) }
+        ensures among { IfSome result (λ view. ((view_of view).map ≡ self.now) × Contains (slice_of (map (λ s. s.now) lookup_table.now) line) (view_of view).token) }
+        ensures own_table { are_tokens_sorted self.now.tokens ≡ true → line_table self.now.tokens ≡ Ok (map (λ s. s.now) lookup_table.now)
+            → option_map view_of result ≡ option_map (seen_in self.now) (pick token_line token_column self.now.tokens line col) }
+        ensures traced { are_tokens_sorted self.now.tokens ≡ true → line_table self.now.tokens ≡ Ok (map (λ s. s.now) lookup_table.now)
+            → option_map view_origin (option_map view_of result) ≡ trace (sheet_of self.now) line col }
+    {
+        self.inner.lookup_source_view_token(lookup_table, line, col)
+    }
+
+    /// As `lookup_token`, but in place of None the first token of the line: so a mapping stands in for what lies in front of
+    /// it, as composition wants it. It is None on a line without tokens and past the table's end alone. No memory is taken.
+    pub fn lookup_token_approx(
+        &self,
+        lookup_table: &[&[Token]],
+        line: u32,
+        col: u32,
+    ) -> Option<Token>
+        ensures found { let tokens = slice_of (map (λ s. s.now) lookup_table.now) line in
+            no_column_goes_back token_column tokens ≡ true → result ≡ clamped_at token_column tokens col }
+        ensures among { IfSome result (Contains (slice_of (map (λ s. s.now) lookup_table.now) line)) }
+        ensures own_table { are_tokens_sorted self.now.tokens ≡ true → line_table self.now.tokens ≡ Ok (map (λ s. s.now) lookup_table.now)
+            → result ≡ clamped_pick token_line token_column self.now.tokens line col }
+        ensures clamped { IsNone result → slice_of (map (λ s. s.now) lookup_table.now) line ≡ [] }
+    {
+        self.inner.lookup_token_approx(lookup_table, line, col)
+    }
+
+    /// The token of `lookup_token_approx`, as a view of this map. No memory is taken.
+    pub fn lookup_source_view_token_approx(
+        &self,
+        lookup_table: &[&[Token]],
+        line: u32,
+        col: u32,
+    ) -> Option<SourceViewToken<'_, 'static>>
+        ensures found { let tokens = slice_of (map (λ s. s.now) lookup_table.now) line in
+            no_column_goes_back token_column tokens ≡ true → option_map view_of result ≡ option_map (seen_in self.now) (clamped_at token_column tokens col) }
+        ensures among { IfSome result (λ view. ((view_of view).map ≡ self.now) × Contains (slice_of (map (λ s. s.now) lookup_table.now) line) (view_of view).token) }
+        ensures own_table { are_tokens_sorted self.now.tokens ≡ true → line_table self.now.tokens ≡ Ok (map (λ s. s.now) lookup_table.now)
+            → option_map view_of result ≡ option_map (seen_in self.now) (clamped_pick token_line token_column self.now.tokens line col) }
+        ensures traced { are_tokens_sorted self.now.tokens ≡ true → line_table self.now.tokens ≡ Ok (map (λ s. s.now) lookup_table.now)
+            → option_map view_origin (option_map view_of result) ≡ clamped_trace (sheet_of self.now) line col }
+    {
+        self.inner
+            .lookup_source_view_token_approx(lookup_table, line, col)
     }
 
     /// The parts of this map, unchanged. No memory is taken.

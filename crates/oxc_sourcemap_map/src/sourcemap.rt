@@ -6,6 +6,7 @@ ghost use Rattle.oxc_sourcemap_text.specs.declared.error.Error.TheVariants.{OutO
 ghost use Rattle.std.specs.List.{AllByRecursion};
 ghost use Rattle.oxc_sourcemap_text.specs.Chunks.{ChunksFit};
 ghost use Rattle.oxc_sourcemap_text.specs.Token.{AreInBounds};
+ghost use Rattle.oxc_sourcemap_text.specs.Canonical.{IsInLineOrder};
 ghost use Rattle.oxc_sourcemap_text.specs.Json.{json_record};
 ghost use Rattle.oxc_sourcemap_map.specs.Views.{text_of, texts_of, contents_of, chunks_of, ids_of, record_of_parts, empty_record};
 ghost use Rattle.oxc_sourcemap_map.specs.Sorted.{are_tokens_sorted, may_precede, token_line, token_column};
@@ -425,7 +426,7 @@ impl<'a> SourceMap<'a> {
     pub fn get_source_view_token(&self, index: u32) -> Option<SourceViewToken<'_, 'a>>
         ensures { option_map view_of result ≡ option_map (seen_in self.now) (slice_get self.now.tokens index) }
     {
-        Some(SourceViewToken::new(self.get_token(index)?, self))
+        self.seen(self.get_token(index))
     }
 
     /// The tokens, in order.
@@ -472,8 +473,10 @@ impl<'a> SourceMap<'a> {
 
     /// Whether the tokens are sorted by generated line, then by generated column. Equal positions may follow one another. No
     /// memory is taken.
+    #[tactic(auto, using(crate::proofs::OwnTables::sorted_in_order))]
     pub fn is_sorted(&self) -> bool
-        ensures { result ≡ are_tokens_sorted self.now.tokens }
+        ensures sorted { result ≡ are_tokens_sorted self.now.tokens }
+        ensures in_line_order { IsTrue result → IsInLineOrder self.now.tokens }
     {
         are_sorted(self.tokens.as_slice())
     }

@@ -276,8 +276,9 @@ fn push_tokens(
     Ok(())
 }
 
-/// The index of the first token whose generated line goes back.
-fn line_order_fault(tokens: &[Token]) -> Option<usize>
+/// The index of the first token whose generated line is smaller than that of the token in front, which `LineOrder` tells;
+/// None where there is none. It takes no memory.
+pub fn line_order_fault(tokens: &[Token]) -> Option<usize>
     ensures place { result ≡ first_out_of_order tokens.now }
     ensures in_bounds { result ≡ None → AreInBounds tokens.now }
 {

@@ -10,11 +10,13 @@ use Rattle.oxc_sourcemap.specs.Chunks.{writing_fault}
 use Rattle.oxc_sourcemap.specs.Shape.{◌>>=◌}
 use Rattle.oxc_sourcemap.specs.ReadMap.{read_map}
 use Rattle.oxc_sourcemap.specs.JsonText.{map_text, map_url}
+use Rattle.smap.specs.declared.plan.PlanError.{PlanError}
 use Rattle.smap.specs.declared.plan.PlanError.TheVariants.{Map}
 use Rattle.smap.specs.declared.run.RunError.{RunError}
 use Rattle.smap.specs.declared.run.RunError.TheVariants.{Plan, Utf8}
 use Rattle.smap.specs.declared.words.Command.{Command}
-use Rattle.smap.specs.declared.words.Command.TheVariants.{Mappings, Normalise, Url}
+use Rattle.smap.specs.Traced.{traced}
+use Rattle.smap.specs.declared.words.Command.TheVariants.{Mappings, Normalise, Url, Trace}
 
 -- a text without the line feed at its end, if it has one
 abbrev pub without_line_feed : List ℕ → List ℕ
@@ -43,11 +45,17 @@ abbrev pub of_map : Result (List ℕ) Error → Result (List ℕ) RunError
 of_map (Ok text) = Ok text
 of_map (Err fault) = Err (Plan (Map fault))
 
+-- a text, or a refusal that is the program's
+abbrev pub of_plan : Result (List ℕ) PlanError → Result (List ℕ) RunError
+of_plan (Ok text) = Ok text
+of_plan (Err refusal) = Err (Plan refusal)
+
 -- What a command answers to a text. One line feed is written behind it.
 abbrev pub answer : Command → List ℕ → Result (List ℕ) RunError
 answer (Mappings names sources) text = mappings_answer (reading (without_line_feed text) names sources)
 answer Normalise text = of_map (normalised text)
 answer Url text = of_map (normalised_url text)
+answer (Trace line col) text = of_plan (traced text line col)
 
 -- known bytes grow by a beginning of these, perhaps by none of them
 abbrev pub AppendsBeginning : Option (List ℕ) → Option (List ℕ) → List ℕ → Type 0

@@ -1,4 +1,5 @@
 pub mod Words
 pub mod Flags
 pub mod Refusals
+pub mod Traced
 pub mod Answer

@@ -3,12 +3,13 @@ use Rattle.std.specs.Prelude.{ℕ, List, codes}
 use Rattle.oxc_sourcemap.specs.Error.TheVariants.{OutOfMemory}
 use Rattle.oxc_sourcemap.specs.Messages.{error_text}
 use Rattle.smap.specs.declared.plan.PlanError.{PlanError}
-use Rattle.smap.specs.declared.plan.PlanError.TheVariants.{Map}
+use Rattle.smap.specs.declared.plan.PlanError.TheVariants.{Map, Unsorted}
 use Rattle.smap.specs.declared.run.RunError.{RunError}
 use Rattle.smap.specs.declared.run.RunError.TheVariants.{Plan, Read, Write, Utf8, Arguments}
 
 abbrev pub plan_error_text : PlanError → List ℕ
 plan_error_text (Map error) = error_text error
+plan_error_text Unsorted = codes "Tokens are not in order of line and column"
 
 abbrev pub run_error_text : RunError → List ℕ
 run_error_text (Plan error) = plan_error_text error

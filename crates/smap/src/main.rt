@@ -2,6 +2,7 @@
 //!
 //!     smap mappings NAMES SOURCES < mappings.txt
 //!     smap normalise < bundle.js.map
+//!     smap trace LINE COL < bundle.js.map
 //!     smap url < bundle.js.map
 //!
 //! A refusal goes to standard error, behind `smap: `; the status is then 2 for bad words and 1 for all else.
@@ -12,6 +13,7 @@ mod port;
 mod run;
 #[cfg(test)]
 mod tests;
+mod trace;
 mod words;
 
 use port::Port;

@@ -10,6 +10,7 @@ ghost use Rattle.oxc_sourcemap.specs.Reading.{reading};
 
 use crate::plan::PlanError;
 use crate::port::Port;
+use crate::trace::trace;
 use crate::words::Command;
 use oxc_sourcemap::{Error, SourceMap, decode_mappings, encode_mappings};
 use std::alloc::{AllocError, AllocFailed, Global};
@@ -64,6 +65,14 @@ impl From<Error> for RunError {
 
     fn from(error: Error) -> RunError {
         RunError::Plan(PlanError::Map(error))
+    }
+}
+
+impl From<PlanError> for RunError {
+    ghost from_gives = { λ error run. run ≡ Plan error };
+
+    fn from(error: PlanError) -> RunError {
+        RunError::Plan(error)
     }
 }
 
@@ -172,6 +181,7 @@ fn answer(alloc: Global, command: &Command, input: Vec<u8>) -> Result<String, Ru
             )
         }
         Command::Normalise => Ok(normalise(alloc, text.as_str())?),
+        Command::Trace(line, col) => Ok(trace(alloc, text.as_str(), *line, *col)?),
         Command::Url => Ok(data_url(alloc, text.as_str())?),
     }
 }
@@ -181,12 +191,13 @@ fn answer(alloc: Global, command: &Command, input: Vec<u8>) -> Result<String, Ru
 /// - `Mappings(names, sources)`: the input is a mappings text, with one line feed at its end or none; the answer is the
 ///   canonical text of its tokens, where so many names and sources stand beside it.
 /// - `Normalise`: the input is the JSON text of a map; the answer is the JSON text that `SourceMap::to_json_string` gives.
+/// - `Trace(line, col)`: the input is the JSON text of a map; the answer is what `trace` says of this generated position.
 /// - `Url`: the input is the JSON text of a map; the answer is its data URL.
 ///
-/// Refused as `Read` where a read fails, as `Utf8` where the input is not UTF-8, as `Plan(Map(e))` where a call on the
-/// text is refused or memory is (also for an input of more than 9223372036854775807 bytes), and as `Write` where a
-/// write fails or takes none of some bytes. Nothing is written but where the answer stands, and a fault of writing leaves
-/// a beginning of it and its line feed.
+/// Refused as `Read` where a read fails, as `Utf8` where the input is not UTF-8, as `Plan(Map(e))` where a call on the text
+/// is refused or memory is (also for an input of more than 9223372036854775807 bytes), as `Plan(Unsorted)` where a map that
+/// is to be traced is not sorted, and as `Write` where a write fails or takes none of some bytes. Nothing is written but
+/// where the answer stands, and a fault of writing leaves a beginning of it and its line feed.
 pub fn run<R: Read, W: Write>(
     alloc: Global,
     command: &Command,

@@ -3,7 +3,7 @@ use crate::plan::PlanError;
 use crate::port::Port;
 use crate::run::{RunError, run};
 use crate::words::{Command, read_words};
-use oxc_sourcemap::Error;
+use oxc_sourcemap::{Error, JsonFault};
 use std::alloc::{AllocError, Global};
 use std::io;
 use std::io::{ErrorKind, Read, Write};
@@ -124,12 +124,58 @@ const URLS: &[(&str, &str)] = &[
     ),
 ];
 
+/// The words behind `trace`, the JSON text of a map, and what is written or refused.
+const TRACES: &[(&[&str], &str, Result<&str, RunError>)] = &[
+    (
+        &["trace", "0", "3"],
+        r#"{"version":3,"sources":["coolstuff.js"],"names":["x"],"mappings":"AAAA,GAAIA"}"#,
+        Ok("\"coolstuff.js\":0:4 \"x\"\n"),
+    ),
+    (
+        &["trace", "0", "2"],
+        r#"{"version":3,"sources":["coolstuff.js"],"names":["x"],"mappings":"AAAA,GAAIA"}"#,
+        Ok("\"coolstuff.js\":0:0\n"),
+    ),
+    (
+        &["trace", "0", "3"],
+        r#"{"version":3,"sources":[],"mappings":"G"}"#,
+        Ok("unmapped\n"),
+    ),
+    (
+        &["trace", "0", "2"],
+        r#"{"version":3,"sources":[],"mappings":"G"}"#,
+        Ok("nothing\n"),
+    ),
+    (
+        &["trace", "9", "0"],
+        r#"{"version":3,"sources":[],"mappings":"G"}"#,
+        Ok("nothing\n"),
+    ),
+    (
+        &["trace", "0", "0"],
+        r#"{"version":3,"sources":[],"mappings":"G,D"}"#,
+        Err(RunError::Plan(PlanError::Unsorted)),
+    ),
+    (
+        &["trace", "0", "0"],
+        "{",
+        Err(RunError::Plan(PlanError::Map(Error::BadJson(JsonFault::Reading)))),
+    ),
+    (&["trace", "0"], "{}", Err(RunError::Arguments)),
+    (&["trace", "0", "-1"], "{}", Err(RunError::Arguments)),
+];
+
 /// Refusals, with their texts and the status that the program ends with.
 const REFUSALS: &[(RunError, &str, u8)] = &[
     (RunError::Read, "read failed", 1),
     (RunError::Write, "write failed", 1),
     (RunError::Utf8, "input is not UTF-8", 1),
     (RunError::Arguments, "bad arguments", 2),
+    (
+        RunError::Plan(PlanError::Unsorted),
+        "Tokens are not in order of line and column",
+        1,
+    ),
     (
         RunError::Plan(PlanError::Map(Error::BadSegmentSize(2))),
         "Mapping segment had an unsupported size of 2",
@@ -271,6 +317,21 @@ fn a_map_has_a_data_url(rt: HostRuntime) -> Result<(), Fail> {
         let result = run_words(rt.alloc(), &["url"], text.as_bytes(), &mut written);
         assert_eq!(rt; result, Ok(()), "{text}");
         assert_eq!(rt; written.as_slice(), url.as_bytes());
+    }
+    Ok(())
+}
+
+#[test]
+fn positions_are_traced(rt: HostRuntime) -> Result<(), Fail> {
+    for (words, text, want) in TRACES {
+        let mut written = Vec::new(rt.alloc());
+        let result = run_words(rt.alloc(), words, text.as_bytes(), &mut written);
+        let (wanted, line) = match want {
+            Ok(line) => (Ok(()), *line),
+            Err(refusal) => (Err(*refusal), ""),
+        };
+        assert_eq!(rt; result, wanted, "{text}");
+        assert_eq!(rt; written.as_slice(), line.as_bytes());
     }
     Ok(())
 }

@@ -1,6 +1,6 @@
 //! The words behind the program's name.
 ghost use Rattle.std.specs.Prelude.{◌≡◌, ◌∷◌, [], map, string_bytes, option_map, MatchOption, IfOk, IfErr, Option, Some, None};
-ghost use Rattle.smap.specs.Words.{number_of, mappings_words, without_words, command_of};
+ghost use Rattle.smap.specs.Words.{number_of, two_numbers, without_words, command_named, command_of};
 
 use crate::run::RunError;
 use std::alloc::Global;
@@ -12,6 +12,8 @@ pub enum Command {
     Mappings(u32, u32),
     /// Read a map from its JSON text, and write its JSON text.
     Normalise,
+    /// Read a map from its JSON text, and write what it says of this generated line and column.
+    Trace(u32, u32),
     /// Read a map from its JSON text, and write its data URL.
     Url,
 }
@@ -26,14 +28,14 @@ fn read_number(word: &str) -> Option<u32>
     word.parse().ok()
 }
 
-/// The command of the words behind `mappings`: NAMES SOURCES.
-fn read_mappings(words: &[String]) -> Option<Command>
-    ensures { result ≡ mappings_words (map string_bytes words.now) }
+/// The numbers of exactly two words.
+fn read_numbers(words: &[String]) -> Option<(u32, u32)>
+    ensures { result ≡ two_numbers (map string_bytes words.now) }
 {
-    let [names, sources] = words else {
+    let [a, b] = words else {
         return None;
     };
-    Some(Command::Mappings(read_number(names.as_str())?, read_number(sources.as_str())?))
+    Some((read_number(a.as_str())?, read_number(b.as_str())?))
 }
 
 /// This command, where no words stand behind its name.
@@ -46,8 +48,27 @@ fn without_words(command: Command, words: &[String]) -> Option<Command>
     }
 }
 
-/// The command that some words say: `mappings NAMES SOURCES`, `normalise` or `url`. A number is one or more decimal
-/// digits without a sign, leading zeros allowed, of 0 to 4294967295.
+/// The command of this name, with these words behind it.
+fn read_command(name: &str, words: &[String]) -> Option<Command>
+    ensures { result ≡ command_named name.now (map string_bytes words.now) }
+{
+    match name {
+        "mappings" => {
+            let (names, sources) = read_numbers(words)?;
+            Some(Command::Mappings(names, sources))
+        }
+        "normalise" => without_words(Command::Normalise, words),
+        "url" => without_words(Command::Url, words),
+        "trace" => {
+            let (line, col) = read_numbers(words)?;
+            Some(Command::Trace(line, col))
+        }
+        _ => None,
+    }
+}
+
+/// The command that some words say: `mappings NAMES SOURCES`, `normalise`, `trace LINE COL` or `url`. A number is one or
+/// more decimal digits without a sign, leading zeros allowed, of 0 to 4294967295.
 ///
 /// Refused as `Arguments` for all other words. This call takes no memory.
 pub fn read_words(_alloc: Global, words: &[String]) -> Result<Command, RunError>
@@ -57,11 +78,5 @@ pub fn read_words(_alloc: Global, words: &[String]) -> Result<Command, RunError>
     let Some((name, words)) = words.split_first() else {
         return Err(RunError::Arguments);
     };
-    let command = match name.as_str() {
-        "mappings" => read_mappings(words),
-        "normalise" => without_words(Command::Normalise, words),
-        "url" => without_words(Command::Url, words),
-        _ => None,
-    };
-    command.ok_or(RunError::Arguments)
+    read_command(name.as_str(), words).ok_or(RunError::Arguments)
 }

@@ -1,0 +1,9 @@
+use Rattle.oxc_sourcemap_map.specs.Sorted.{token_column}
+use Rattle.oxc_sourcemap_map.specs.Lookup.{clamped_at}
+use Rattle.oxc_sourcemap_map.proofs.OwnTables.{own_table}
+use Rattle.oxc_sourcemap_map.proofs.sourcemap.SourceMap.lookup_token_approx.Goals as goal
+
+pub returns-clause-own_table : goal.returns-clause-own_table
+returns-clause-own_table c =
+    own_table (λ tokens. clamped_at token_column tokens c.args.col) _ c.args.line c.args.self.now.tokens _
+    (rw c.slice_of.ensures at c.search_clamped.ensures.found)

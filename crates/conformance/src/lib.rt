@@ -15,6 +15,8 @@ use std::alloc::Global;
 #[cfg(test)]
 mod accessors;
 #[cfg(test)]
+mod builder;
+#[cfg(test)]
 mod lookups;
 #[cfg(test)]
 mod mappings;

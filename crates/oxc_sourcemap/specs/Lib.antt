@@ -1,4 +1,6 @@
 -- What the contracts of this crate's items speak of.
+pub mod Built
+pub mod Building
 pub use Rattle.oxc_sourcemap_text.specs.declared.error.Error
 pub use Rattle.oxc_sourcemap_text.specs.declared.error.JsonFault
 pub use Rattle.oxc_sourcemap_text.specs.declared.error.Field

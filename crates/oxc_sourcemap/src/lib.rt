@@ -6,6 +6,7 @@
 #![tactic(auto)]
 
 pub mod laws;
+mod sourcemap_builder;
 
 pub use oxc_sourcemap_map::{
     Contents, Names, OwnedSourceMap, SourceMap, SourceMapParts, SourceViewToken, Sources, Tokens,
@@ -15,3 +16,4 @@ pub use oxc_sourcemap_text::{
     Error, Field, JSONSourceMap, JsonFault, Result, Token, TokenChunk, chunk_fault,
     decode_mappings, encode_mappings, push_json_string,
 };
+pub use sourcemap_builder::SourceMapBuilder;

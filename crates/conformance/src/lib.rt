@@ -17,6 +17,10 @@ mod accessors;
 #[cfg(test)]
 mod builder;
 #[cfg(test)]
+mod composition;
+#[cfg(test)]
+mod joins;
+#[cfg(test)]
 mod lookups;
 #[cfg(test)]
 mod mappings;
@@ -26,6 +30,8 @@ mod maps;
 mod owned;
 #[cfg(test)]
 mod texts;
+#[cfg(test)]
+mod visualizer;
 
 /// A map that is written as a JSON source map and read again. Where it is sound, it keeps its meaning, and nothing but want
 /// of memory and more than 4294967295 tokens is refused.

@@ -1,2 +1,17 @@
 pub mod GivenIds
+pub mod Squeezing
+pub mod Same
+pub mod AlikeSheets
+pub mod Seams
+pub mod Joins
+pub mod JoinSheets
+pub mod JoinStands
+pub mod Compositions
+pub mod ComposedNames
+pub mod Groupings
+pub mod Appends
+pub mod Cuts
+pub mod Printing
+pub mod SourceEnds
 mod Worked
+pub mod ComposedBounds

@@ -1,14 +1,9 @@
 -- What the calls of a builder make of it, and the ids that they answer.
-use Rattle.std.specs.Prelude.{ℕ, List, [], ◌∷◌, ◌++◌, length, Option, Some, None}
-use Rattle.std.specs.List.{position_from}
-use Rattle.std.specs.Str.{bytes_eq}
+use Rattle.std.specs.Prelude.{ℕ, [], ◌∷◌, ◌++◌, length, Option, Some, None}
 use Rattle.std.specs.FinMap as fin
 use Rattle.oxc_sourcemap_map.specs.Record.{Text, MapRecord}
+use Rattle.oxc_sourcemap_map.specs.Texts.{place_of}
 use Rattle.oxc_sourcemap.specs.Built.{Built}
-
--- the index of the first text in a list that is equal to this one
-abbrev pub place_of : Text → List Text → Option ℕ
-place_of text texts = position_from (bytes_eq text) 0 texts
 
 -- A name: the id of the equal one, else a new last one.
 abbrev pub named_at : Built → Text → Option ℕ → Built × ℕ

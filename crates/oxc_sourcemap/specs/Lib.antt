@@ -1,6 +1,14 @@
 -- What the contracts of this crate's items speak of.
 pub mod Built
 pub mod Building
+pub mod Squeezed
+pub mod JoinedSheets
+pub mod JoinLaws
+pub mod ComposedSheets
+pub mod ComposeLaws
+pub mod TextLines
+pub mod VisualText
+pub mod Link
 pub use Rattle.oxc_sourcemap_text.specs.declared.error.Error
 pub use Rattle.oxc_sourcemap_text.specs.declared.error.JsonFault
 pub use Rattle.oxc_sourcemap_text.specs.declared.error.Field
@@ -28,8 +36,11 @@ pub use Rattle.oxc_sourcemap_map.specs.Sheet
 pub use Rattle.oxc_sourcemap_map.specs.View
 pub use Rattle.oxc_sourcemap_map.specs.Lookup
 pub use Rattle.oxc_sourcemap_map.specs.Trace
+pub use Rattle.oxc_sourcemap_map.specs.Texts
+pub use Rattle.oxc_sourcemap_map.specs.Composed
 pub use Rattle.oxc_sourcemap_map.specs.Decoded
 pub use Rattle.oxc_sourcemap_map.specs.Encoded
 pub use Rattle.oxc_sourcemap_map.specs.ReadMap
 pub use Rattle.oxc_sourcemap_map.specs.JsonText
 pub use Rattle.oxc_sourcemap_map.specs.MapLaws
+pub use Rattle.oxc_sourcemap_map.specs.Joined

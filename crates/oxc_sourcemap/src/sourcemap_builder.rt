@@ -6,8 +6,9 @@ ghost use Rattle.std.specs.Cmp.Lexicographic.{slice_cmp};
 ghost use Rattle.oxc_sourcemap_text.specs.declared.error.Error.TheVariants.{OutOfMemory, TooLarge};
 ghost use Rattle.oxc_sourcemap_text.specs.Token.{kept_id};
 ghost use Rattle.oxc_sourcemap_map.specs.Views.{text_of, texts_of, contents_of};
+ghost use Rattle.oxc_sourcemap_map.specs.Texts.{place_of};
 ghost use Rattle.oxc_sourcemap.specs.Built.{nothing_built};
-ghost use Rattle.oxc_sourcemap.specs.Building.{place_of, named, sourced, added};
+ghost use Rattle.oxc_sourcemap.specs.Building.{named, sourced, added};
 
 use oxc_sourcemap_map::{OwnedSourceMap, SourceMap};
 use oxc_sourcemap_text::{Error, Result, Token, TokenChunk};

@@ -45,7 +45,7 @@ row-by_line-of false n tokens p e =
     let le : lines_through (last tokens) ≤ n = grind (arith, e) in
     row-past (λ n. on_line token_line n tokens) 0 (lines_through (last tokens)) n [] le ∙ sym (none-behind n tokens p le)
 
-row-by_line : (n : ℕ) (tokens : List TokenRecord) → first_out_of_order tokens ≡ None → slice_of (tokens_by_line tokens) n ≡ on_line token_line n tokens
+pub row-by_line : (n : ℕ) (tokens : List TokenRecord) → first_out_of_order tokens ≡ None → slice_of (tokens_by_line tokens) n ≡ on_line token_line n tokens
 row-by_line n tokens p = row-by_line-of (nat_lt n (lines_through (last tokens))) n tokens p refl
 
 pub own_row : (n : ℕ) (tokens : List TokenRecord) (table : List (List TokenRecord)) → line_table tokens ≡ Ok table → slice_of table n ≡ on_line token_line n tokens

@@ -6,14 +6,14 @@ use Rattle.std.proofs.lemmas.Bool.{cases_lt}
 use Rattle.std.proofs.lemmas.Bool.Decides.{nat_tests}
 use Rattle.serde_json.specs.Read.{read}
 use Rattle.oxc_sourcemap_text.specs.declared.error.Error.{Error}
-use Rattle.oxc_sourcemap_text.specs.Token.{TokenRecord, mapped_name, name_beside}
+use Rattle.oxc_sourcemap_text.specs.Token.{TokenRecord, AreInBounds, mapped_name, name_beside}
 use Rattle.oxc_sourcemap_text.specs.Json.{JsonRecord}
 use Rattle.oxc_sourcemap_text.specs.Shape.{◌>>=◌}
 use Rattle.oxc_sourcemap_text.specs.Reading.{reading}
 use Rattle.oxc_sourcemap_text.specs.State.{State, initial}
 use Rattle.oxc_sourcemap_text.specs.Canonical.{carried_token}
 use Rattle.oxc_sourcemap_text.specs.Encoding.{advanced}
-use Rattle.oxc_sourcemap_text.proofs.Again.{reads_of}
+use Rattle.oxc_sourcemap_text.proofs.Again.{reads_of, bounds_within}
 use Rattle.oxc_sourcemap_text.proofs.RoundTrip.{IsWithin, carrying}
 use Rattle.oxc_sourcemap_map.specs.Record.{Text, MapRecord}
 use Rattle.oxc_sourcemap_map.specs.Sorted.{are_tokens_sorted}
@@ -23,7 +23,7 @@ use Rattle.oxc_sourcemap_map.specs.ReadMap.{json_fields, read_map}
 
 -- ---- ids
 
-carried-name : (s : State) (t : TokenRecord) → (carried_token s t).name_id ≡ mapped_name t
+pub carried-name : (s : State) (t : TokenRecord) → (carried_token s t).name_id ≡ mapped_name t
 carried-name s t =
     elim t.source_id as (λ o. (cond (is_some o) t (record t { src_line = s.src_line; src_col = s.src_col; name_id = None })).name_id ≡ name_beside o t.name_id) [
       | Some i ↦ refl
@@ -102,3 +102,19 @@ of-fields (Err fault) r e = cc
 pub read_map_sound : (text : Text) (r : MapRecord) → read_map text ≡ Ok r → IsSound r ↔ (are_tokens_sorted r.tokens ≡ true)
 unfolding read_map
 read_map_sound text r e = of-fields (json_fields (read text)) r e
+
+-- ---- bounds
+decoded-in-bounds : (j : JsonRecord) (r : MapRecord) → decoded j ≡ Ok r → AreInBounds r.tokens
+decoded-in-bounds j r e =
+    let listed = of-list (ignore_list_fault j) _ r (of-version _ _ _ r e) in
+    let found = of-tokens j _ r listed.1 in
+    let reads = reads_of j.mappings (length j.names) (length j.sources) found.tokens found.are_read in
+    subst (λ (m : MapRecord). AreInBounds m.tokens) found.is_map (bounds_within (length j.names) (length j.sources) found.tokens reads.within)
+
+fields-in-bounds : (x : Result JsonRecord Error) (r : MapRecord) → (x >>= decoded) ≡ Ok r → AreInBounds r.tokens
+fields-in-bounds (Ok j) r e = decoded-in-bounds j r e
+fields-in-bounds (Err fault) r e = cc
+
+pub read_in_bounds : (text : Text) (r : MapRecord) → read_map text ≡ Ok r → AreInBounds r.tokens
+unfolding read_map
+read_in_bounds text r e = fields-in-bounds (json_fields (read text)) r e

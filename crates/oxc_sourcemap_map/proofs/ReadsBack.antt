@@ -1,10 +1,10 @@
 -- A sound map comes back from what is written of it.
-use Rattle.std.proofs.Common.{◌≡◌, ℕ, ◌<◌, ◌≤◌, Bool, true, false, cond, ◌&&◌, nat_lt, List, [], ◌∷◌, length, map, arith, refl, ap, ◌∙◌, Option, Some, None, Ok}
+use Rattle.std.proofs.Common.{◌≡◌, ℕ, ◌<◌, ◌≤◌, Bool, true, false, cond, ◌&&◌, nat_lt, List, [], ◌∷◌, length, map, arith, refl, ap, ◌∙◌, Option, Some, None, Ok, Err}
 use Rattle.std.specs.List.{AllByRecursion, list_any}
 use Rattle.std.specs.Option.{IfSome, is_some, option_map, option_map_or, unwrap_or}
 use Rattle.std.proofs.lemmas.Bool.Decides.{nat_tests}
 use Rattle.std.proofs.lemmas.List.Elements.{recursion_from_All}
-use Rattle.oxc_sourcemap_text.specs.declared.error.Error.TheVariants.{BadChunks}
+use Rattle.oxc_sourcemap_text.specs.declared.error.Error.TheVariants.{BadChunks, TooLarge}
 use Rattle.oxc_sourcemap_text.specs.declared.token.TokenChunk.{TokenChunk}
 use Rattle.oxc_sourcemap_text.specs.Token.{TokenRecord, IsInBounds, AreInBounds, name_beside}
 use Rattle.oxc_sourcemap_text.specs.Reading.{reading}
@@ -56,7 +56,7 @@ list-below : (count : ℕ) (list : Option (List ℕ)) → IfSome list (AllByRecu
 list-below count None h = refl
 list-below count (Some ids) h = none-not-below count ids h
 
-beside-in : (source name : Option ℕ) (n : ℕ) → IfSome name (λ id. id < n) → IfSome (name_beside source name) (λ id. id < n)
+pub beside-in : (source name : Option ℕ) (n : ℕ) → IfSome name (λ id. id < n) → IfSome (name_beside source name) (λ id. id < n)
 beside-in None name n h = tt
 beside-in (Some i) name n h = h
 
@@ -76,7 +76,7 @@ carried-entry sources names s t =
       | None ↦ (λ e. rw e)
     ] refl
 
-carried-entries : (sources : List Source) (names : List Text) (s : State) (ts : List TokenRecord) → map (entry_of sources names) (carrying s ts) ≡ map (entry_of sources names) ts
+pub carried-entries : (sources : List Source) (names : List Text) (s : State) (ts : List TokenRecord) → map (entry_of sources names) (carrying s ts) ≡ map (entry_of sources names) ts
 carried-entries sources names s [] = refl
 carried-entries sources names s (t ∷ ts) =
     ap (λ e. e ∷ map (entry_of sources names) (carrying (advanced s t) ts)) (carried-entry sources names s t)
@@ -95,7 +95,7 @@ same-sources paths contents =
       | false ↦ (λ e. no-contents paths contents e)
     ] refl
 
-same-sheet : (r : MapRecord) → sheet_of (rewritten r) ≡ sheet_of r
+pub same-sheet : (r : MapRecord) → sheet_of (rewritten r) ≡ sheet_of r
 same-sheet r =
     let entries : map (entry_of (sources_of r.sources r.source_contents) r.names) (carried r.tokens) ≡ map (entry_of (sources_of r.sources r.source_contents) r.names) r.tokens =
     ap (map (entry_of (sources_of r.sources r.source_contents) r.names)) (carried-is [] r.tokens) ∙ carried-entries (sources_of r.sources r.source_contents) r.names initial r.tokens in
@@ -103,6 +103,14 @@ same-sheet r =
 
 pub is_written : (r : MapRecord) → IsSound r → length r.tokens ≤ 4294967295 → encoded r ≡ Ok (encoded_record r)
 is_written r s l = ap (λ o. encoded_unless o r) (no-fault r.tokens r.token_chunks (sorted-order r.tokens s.sorted) s.chunks l)
+
+no-other-fault : (ts : List TokenRecord) (chunks : Option (List TokenChunk)) → first_out_of_order ts ≡ None → IfSome chunks (ChunksFit ts) → 4294967295 < length ts → writing_fault ts chunks ≡ Some TooLarge
+no-other-fault ts chunks o f l =
+    let t : nat_lt 4294967295 (length ts) ≡ true = grind (arith, nat_tests) in
+    rw (o, no-misfit ts chunks f, t)
+
+pub is_too_large : (r : MapRecord) → IsSound r → 4294967295 < length r.tokens → encoded r ≡ Err TooLarge
+is_too_large r s l = ap (λ o. encoded_unless o r) (no-other-fault r.tokens r.token_chunks (sorted-order r.tokens s.sorted) s.chunks l)
 
 pub reads_back : (r : MapRecord) → IsSound r → AreInBounds r.tokens → ComesBack r
 reads_back r s b =

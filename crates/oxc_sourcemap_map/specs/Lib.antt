@@ -6,9 +6,14 @@ pub mod Sheet
 pub mod View
 pub mod Lookup
 pub mod Trace
+pub mod Texts
+pub mod Composed
+pub mod Taking
 pub mod Decoded
 pub mod Encoded
 pub mod ReadMap
 pub mod JsonText
 pub mod JsonParts
 pub mod MapLaws
+pub mod Joined
+pub mod Joining

@@ -1,13 +1,15 @@
 -- A map that is written and read again.
-use Rattle.std.specs.Prelude.{◌≡◌, ◌≤◌, [], length, None, Ok}
+use Rattle.std.specs.Prelude.{◌≡◌, ◌<◌, ◌≤◌, [], length, None, Ok, Err}
 use Rattle.std.specs.Option.{unwrap_or}
+use Rattle.oxc_sourcemap_text.specs.declared.error.Error.TheVariants.{TooLarge}
 use Rattle.oxc_sourcemap_text.specs.Token.{AreInBounds}
 use Rattle.oxc_sourcemap_text.specs.Canonical.{bare, carried}
-use Rattle.oxc_sourcemap_map.specs.Record.{MapRecord}
+use Rattle.oxc_sourcemap_map.specs.Record.{Text, MapRecord}
 use Rattle.oxc_sourcemap_map.specs.Sound.{IsSound}
 use Rattle.oxc_sourcemap_map.specs.Sheet.{sheet_of}
 use Rattle.oxc_sourcemap_map.specs.Encoded.{encoded, encoded_record, written_contents}
 use Rattle.oxc_sourcemap_map.specs.Decoded.{decoded}
+use Rattle.oxc_sourcemap_map.specs.ReadMap.{read_map}
 
 -- A map as it comes back: an unmapped token has the source position that the sums have reached there, and no name;
 -- contents are there where there is some content; and it has no chunks.
@@ -22,6 +24,10 @@ rewritten r = record r {
 abbrev pub SoundIsWritten : Type 0
 SoundIsWritten = (r : MapRecord) → IsSound r → length r.tokens ≤ 4294967295 → encoded r ≡ Ok (encoded_record r)
 
+-- One of more tokens is refused for that alone.
+abbrev pub SoundIsTooLarge : Type 0
+SoundIsTooLarge = (r : MapRecord) → IsSound r → 4294967295 < length r.tokens → encoded r ≡ Err TooLarge
+
 -- What is written of a map is read as `rewritten` says, and that has the same sheet, the same names, and tokens that are
 -- equal as far as texts tell.
 pub record ComesBack (r : MapRecord) : Type 0 where
@@ -33,3 +39,18 @@ pub record ComesBack (r : MapRecord) : Type 0 where
 -- so it is for every sound map whose tokens are in bounds
 abbrev pub SoundReadsBack : Type 0
 SoundReadsBack = (r : MapRecord) → IsSound r → AreInBounds r.tokens → ComesBack r
+
+-- What comes back of a map is sound, has the same sheet and as many tokens, and comes back a second time as it is.
+pub record StaysSound (r : MapRecord) : Type 0 where
+  pub sound : IsSound (rewritten r)
+  pub sheet : sheet_of (rewritten r) ≡ sheet_of r
+  pub count : length (rewritten r).tokens ≡ length r.tokens
+  pub again : (rewritten (rewritten r)).tokens ≡ (rewritten r).tokens
+
+-- so it is for every sound map
+abbrev pub SoundStaysSound : Type 0
+SoundStaysSound = (r : MapRecord) → IsSound r → StaysSound r
+
+-- The tokens of a map that a JSON text says are in bounds.
+abbrev pub ReadIsInBounds : Type 0
+ReadIsInBounds = (text : Text) (r : MapRecord) → read_map text ≡ Ok r → AreInBounds r.tokens

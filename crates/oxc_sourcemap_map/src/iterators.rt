@@ -204,6 +204,13 @@ impl<'s> Tokens<'s> {
             tokens: tokens.iter(),
         }
     }
+
+    /// The tokens that are left, as a slice of the map's list.
+    pub fn as_slice(&self) -> &'s [Token]
+        ensures { result.now ≡ self.now }
+    {
+        self.tokens.as_slice()
+    }
 }
 
 impl<'s> Iterator for Tokens<'s> {

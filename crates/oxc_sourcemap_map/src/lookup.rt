@@ -37,7 +37,7 @@ fn line_length(tokens: &[Token], line: u64) -> usize
 }
 
 /// The tokens of each line, for tokens in line order.
-fn table_of<'s>(
+pub(crate) fn table_of<'s>(
     alloc: Global,
     tokens: &'s [Token],
 ) -> std::result::Result<Vec<&'s [Token]>, AllocError>
@@ -56,7 +56,7 @@ fn table_of<'s>(
 }
 
 /// The tokens that a table has for a line: none past its end.
-fn slice_of<'t>(lookup_table: &[&'t [Token]], line: u32) -> &'t [Token]
+pub(crate) fn slice_of<'t>(lookup_table: &[&'t [Token]], line: u32) -> &'t [Token]
     ensures { result.now ≡ slice_of (map (λ s. s.now) lookup_table.now) line }
 {
     match lookup_table.get(line as usize) {
@@ -76,7 +76,7 @@ fn compare_column(token: &Token, col: u32, steps: &mut u64) -> Ordering
 }
 
 /// `search`, and the first token in place of None.
-fn search_clamped(line: &[Token], col: u32) -> Option<Token>
+pub(crate) fn search_clamped(line: &[Token], col: u32) -> Option<Token>
     ensures found { no_column_goes_back token_column line.now ≡ true → result ≡ clamped_at token_column line.now col }
     ensures among { IfSome result (Contains line.now) }
     ensures clamped { IsNone result → line.now ≡ [] }

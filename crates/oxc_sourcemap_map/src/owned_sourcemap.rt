@@ -16,6 +16,7 @@ ghost use Rattle.oxc_sourcemap_map.specs.Encoded.{encoded};
 ghost use Rattle.oxc_sourcemap_map.specs.ReadMap.{read_map, read_sheet};
 ghost use Rattle.oxc_sourcemap_map.specs.JsonText.{map_text, map_url};
 ghost use Rattle.oxc_sourcemap_map.specs.Lookup.{at, clamped_at, pick, clamped_pick, no_column_goes_back, line_table, slice_of};
+ghost use Rattle.oxc_sourcemap_map.specs.Composed.{composition, SomeComposition, ColumnsGoOn};
 ghost use Rattle.oxc_sourcemap_map.specs.Trace.{trace, clamped_trace};
 ghost use Rattle.oxc_sourcemap_map.specs.View.{view_of, seen_in, view_origin, content_at, source_and_content_at};
 ghost use Rattle.oxc_sourcemap_map.specs.contracts.owned_sourcemap.OwnedSourceMap.{the_row};
@@ -136,6 +137,20 @@ impl OwnedSourceMap {
         ensures refused { IfErr result (λ e. (e ≢ OutOfMemory) → map_url self.now ≡ Err e) }
     {
         self.inner.to_data_url(alloc)
+    }
+
+    /// Composes two maps: this one from generated to intermediate code, and `input` from there to original code. It is as
+    /// `SourceMap::compose`, and refused as that is; both maps are then dropped.
+    pub fn compose(self, alloc: Global, input: OwnedSourceMap) -> Result<OwnedSourceMap>
+        ensures map { ColumnsGoOn input.tokens → IfOk result (λ map. composition self input ≡ Ok map) }
+        ensures refused { ColumnsGoOn input.tokens → IfErr result (λ e. (e ≢ OutOfMemory) → composition self input ≡ Err e) }
+        ensures any_map { IfOk result (λ map. SomeComposition self input (Ok map)) }
+        ensures any_refused { IfErr result (λ e. (e ≢ OutOfMemory) → SomeComposition self input (Err e)) }
+
+        // True of every list, and stated here for callers that need it.
+        ensures sorted_goes_on { are_tokens_sorted input.tokens ≡ true → ColumnsGoOn input.tokens }
+    {
+        Ok(OwnedSourceMap::new(self.inner.compose(alloc, input.inner)?))
     }
 
     /// The name of the generated file.

@@ -2,17 +2,18 @@
 use Rattle.std.proofs.Common.{◌≡◌, ℕ, ◌+◌, ◌<◌, ◌≤◌, true, false, cond, ◌||◌, ◌==◌, nat_lt, nat_le, List, [], ◌∷◌, ◌++◌, length, ℤ, pos, negsuc, min, arith, refl, sym, ap, ◌∙◌, inl, inr, ◌⊎◌, Option, Some, None, Result, Ok, Err, subst}
 use Rattle.std.specs.List.{AllByRecursion}
 use Rattle.std.proofs.lemmas.Bool.{cases_lt, cases_eq}
+use Rattle.std.proofs.lemmas.List.Elements.{All-from_recursion}
 use Rattle.std.proofs.lemmas.Bool.Decides.{nat_tests}
 use Rattle.oxc_sourcemap_text.specs.declared.error.Error.{Error}
-use Rattle.oxc_sourcemap_text.specs.Token.{TokenRecord}
+use Rattle.oxc_sourcemap_text.specs.Token.{TokenRecord, IsInBounds, AreInBounds}
 use Rattle.oxc_sourcemap_text.specs.Parts.{Segment, lines, field}
 use Rattle.oxc_sourcemap_text.specs.Places.{Place}
 use Rattle.oxc_sourcemap_text.specs.Faults.{◌orelse◌, counts_of, range_fault, size_fault, place_fault, is_id_below}
 use Rattle.oxc_sourcemap_text.specs.Reading.{token_at, unless, outcome, gathered, onto, reading}
 use Rattle.oxc_sourcemap_text.specs.State.{State, initial}
-use Rattle.oxc_sourcemap_text.specs.Canonical.{carried_token, canonical}
+use Rattle.oxc_sourcemap_text.specs.Canonical.{carried_token, canonical, back_from}
 use Rattle.oxc_sourcemap_text.specs.Decoding.{moved, moved_by}
-use Rattle.oxc_sourcemap_text.specs.Encoding.{advanced, back_from}
+use Rattle.oxc_sourcemap_text.specs.Encoding.{advanced}
 use Rattle.oxc_sourcemap_text.proofs.Order.{back_from-all}
 use Rattle.oxc_sourcemap_text.proofs.Length.{IsBounded, IsBounded-advanced}
 use Rattle.oxc_sourcemap_text.proofs.Left.{along, along_lines, moved_by_all, reading-lines}
@@ -248,3 +249,11 @@ pub read_again : (text : List ℕ) (names sources : ℕ) (ts : List TokenRecord)
 read_again text names sources ts e =
     let r = reads_of text names sources ts e in
     round_trip names sources ts r.within (sym (back_from-all ts) ∙ r.order 0) ∙ ap Ok (carried-is [] ts ∙ r.carries)
+
+each-within : (names sources : ℕ) (ts : List TokenRecord) → AllByRecursion (IsWithin names sources) ts → AllByRecursion IsInBounds ts
+each-within names sources [] w = tt
+each-within names sources (t ∷ ts) w = (w.0.in_bounds, each-within names sources ts w.1)
+
+-- what is within counts is in bounds
+pub bounds_within : (names sources : ℕ) (ts : List TokenRecord) → AllByRecursion (IsWithin names sources) ts → AreInBounds ts
+bounds_within names sources ts w = All-from_recursion IsInBounds ts (each-within names sources ts w)

@@ -1,6 +1,6 @@
 -- Chunks that fit, and lists that are written.
-use Rattle.std.proofs.Common.{◌≡◌, ℕ, ◌+◌, ◌-◌, ◌<◌, ◌≤◌, Bool, true, false, cond, ◌&&◌, ◌==◌, List, [], ◌∷◌, ◌++◌, length, get_or, if◌then◌else◌, take, drop, arith, refl, sym, ap, ◌∙◌, append_assoc, nat_lt, nat_le, Option, Some, None, ◌↔◌}
-use Rattle.std.specs.List.{flat_map}
+use Rattle.std.proofs.Common.{◌≡◌, ℕ, zero, suc, ◌+◌, ◌-◌, ◌<◌, ◌≤◌, Bool, true, false, cond, ◌&&◌, ◌==◌, List, [], ◌∷◌, ◌++◌, length, get_or, if◌then◌else◌, take, drop, arith, refl, sym, ap, ◌∙◌, append_assoc, subst, slice_get, nat_lt, nat_le, Option, Some, None, ◌↔◌}
+use Rattle.std.specs.List.{flat_map, AllByRecursion}
 use Rattle.std.specs.Option.{option_map, IsNone, is_some}
 use mathlib.Core.List.{reverse_aux}
 use Rattle.std.proofs.Math.Seq.{take-add}
@@ -8,14 +8,15 @@ use Rattle.std.proofs.lemmas.Bool.{eqb-true as eqb-eq, leb-true, eq-eqb, le-leb}
 use Rattle.std.proofs.lemmas.Bool.Decides.{nat_tests}
 use Rattle.std.proofs.lemmas.List.{take-append-drop, drop_all, length-take, length-drop, drop-drop, drop_more}
 use Rattle.oxc_sourcemap_text.specs.declared.error.Error.{Error}
-use Rattle.oxc_sourcemap_text.specs.declared.error.Error.TheVariants.{LineOrder}
+use Rattle.oxc_sourcemap_text.specs.declared.error.Error.TheVariants.{LineOrder, BadChunks}
 use Rattle.oxc_sourcemap_text.specs.declared.token.TokenChunk.{TokenChunk}
 use Rattle.oxc_sourcemap_text.specs.Token.{TokenRecord}
 use Rattle.oxc_sourcemap_text.specs.Faults.{◌orelse◌}
 use Rattle.oxc_sourcemap_text.specs.State.{State, initial, state_behind, state_at}
-use Rattle.oxc_sourcemap_text.specs.Canonical.{token_text, canonical, has_none_in_front, first_out_of_order}
-use Rattle.oxc_sourcemap_text.specs.Chunks.{header, piece, ChunkFits, ChunksFitFrom, ChunksFit, is_same_state, is_fitting_chunk, first_misfit_from, first_misfit, writing_fault}
-use Rattle.oxc_sourcemap_text.specs.Encoding.{advanced, advanced_all, text_from, back_from}
+use Rattle.oxc_sourcemap_text.specs.Canonical.{token_text, canonical, has_none_in_front, first_out_of_order, back_from}
+use Rattle.oxc_sourcemap_text.specs.Chunks.{header, chunk_tokens, piece, piece_fault, ChunkFits, ChunksFitFrom, ChunksFit, is_same_state, is_fitting_chunk, first_misfit_from, first_misfit, writing_fault, chunk_from}
+use Rattle.oxc_sourcemap_text.specs.Encoding.{advanced, advanced_all, text_from}
+use Rattle.oxc_sourcemap_text.proofs.Order.{back_from-all}
 use Rattle.oxc_sourcemap_text.proofs.Length.{in_order}
 use Rattle.oxc_sourcemap_text.proofs.Writing.{text_behind-is, canonical-is, and-false}
 
@@ -183,3 +184,100 @@ clear-front (Some i) f later more e = cc
 
 pub writing-order : (ts : List TokenRecord) (chunks : Option (List TokenChunk)) → writing_fault ts chunks ≡ None → first_out_of_order ts ≡ None
 writing-order ts chunks e = clear-front (first_out_of_order ts) (λ i. LineOrder i) _ _ e
+
+-- ---- what fits is written
+back_from-append : (line i : ℕ) (xs ys : List TokenRecord) (s : State) → s.dst_line ≡ line → back_from line i (xs ++ ys) ≡ None →
+    (back_from line i xs ≡ None) × (back_from (advanced_all s xs).dst_line (i + length xs) ys ≡ None)
+back_from-append line i [] ys s e h = (refl, rw e (back-shift line i (i + 0) ys h))
+back_from-append line i (x ∷ xs) ys s e h =
+    let q = in_order (nat_lt x.dst_line line) i _ h in
+    let r = back_from-append x.dst_line (i + 1) xs ys (advanced s x) refl q.1 in
+    let n : i + 1 + length xs ≡ i + length (x ∷ xs) = omega arith in
+    (rw q.0 r.0, subst (λ k. back_from (advanced_all (advanced s x) xs).dst_line k ys ≡ None) n r.1)
+
+pub chunk-in-order : (ts : List TokenRecord) (i : ℕ) (c : TokenChunk) → first_out_of_order ts ≡ None → ChunkFits ts i c →
+    back_from c.prev_dst_line c.start (chunk_tokens ts c) ≡ None
+chunk-in-order ts i c h f =
+    let whole : back_from 0 0 (take c.start ts ++ drop c.start ts) ≡ None = ap (back_from 0 0) (take-append-drop c.start ts) ∙ back_from-all ts ∙ h in
+    let behind = back_from-append 0 0 (take c.start ts) (drop c.start ts) initial refl whole in
+    let line : (advanced_all initial (take c.start ts)).dst_line ≡ c.prev_dst_line = ap (λ s. s.dst_line) (sym (state_at-is ts c.start) ∙ sym f.true_header) in
+    let part = back_from-append c.prev_dst_line c.start (chunk_tokens ts c) (drop (c.end - c.start) (drop c.start ts)) (header c) refl
+    (ap (back_from c.prev_dst_line c.start) (take-append-drop (c.end - c.start) (drop c.start ts))
+    ∙ back-shift c.prev_dst_line (0 + length (take c.start ts)) c.start (drop c.start ts) (ap (λ l. back_from l (0 + length (take c.start ts)) (drop c.start ts)) (sym line) ∙ behind.1)) in
+    part.0
+
+pub fitting-is-written : (ts : List TokenRecord) (i : ℕ) (c : TokenChunk) → first_out_of_order ts ≡ None → ChunkFits ts i c → piece_fault ts c ≡ None
+fitting-is-written ts i c h f =
+    rw (le-leb _ _ f.ordered, le-leb _ _ f.within, chunk-in-order ts i c h f)
+
+pub fitting-are-written : (ts : List TokenRecord) (i : ℕ) (cs : List TokenChunk) → first_out_of_order ts ≡ None → ChunksFitFrom ts i cs → AllByRecursion (λ c. piece_fault ts c ≡ None) cs
+fitting-are-written ts i [] h f = tt
+fitting-are-written ts i (c ∷ cs) h f = (fitting-is-written ts i c h f.0, fitting-are-written ts c.end cs h f.1)
+
+-- the one chunk of a whole list fits
+pub whole-fits : (ts : List TokenRecord) → ChunksFit ts (chunk_from initial 0 (length ts) ∷ [])
+whole-fits ts = (record { starts = refl; ordered = omega arith; within = omega arith; true_header = refl }, refl)
+
+fault-none : (b : Bool) (o : Option ℕ) → cond b (option_map (λ i. LineOrder i) o) (Some (BadChunks 0)) ≡ None → (b ≡ true) × (o ≡ None)
+fault-none true None e = (refl, refl)
+fault-none true (Some i) e = cc
+fault-none false o e = cc
+
+-- the tokens of a chunk that is written do not go back
+pub written-in-order : (ts : List TokenRecord) (c : TokenChunk) → piece_fault ts c ≡ None → back_from c.prev_dst_line 0 (chunk_tokens ts c) ≡ None
+written-in-order ts c e = back-shift c.prev_dst_line c.start 0 (chunk_tokens ts c) (fault-none _ _ e).1
+
+pub written-in-range : (ts : List TokenRecord) (c : TokenChunk) → piece_fault ts c ≡ None → (c.start ≤ c.end) × (c.end ≤ length ts)
+written-in-range ts c e =
+    let p = andb (nat_le c.start c.end) (nat_le c.end (length ts)) (fault-none _ _ e).0 in
+    (leb-true _ _ p.0, leb-true _ _ p.1)
+
+last-fits-at : (ts : List TokenRecord) (i n : ℕ) (cs : List TokenChunk) (c : TokenChunk) → ChunksFitFrom ts i cs → length cs ≡ suc n → slice_get cs n ≡ Some c → ChunkFits ts c.start c × (c.end ≡ length ts)
+last-fits-at ts i n [] c h e g = absurd (omega (arith, e))
+last-fits-at ts i zero (x ∷ []) c h e g =
+    let same : x ≡ c = cc in
+    subst (λ y. ChunkFits ts y.start y × (y.end ≡ length ts)) same (record { starts = refl; ordered = h.0.ordered; within = h.0.within; true_header = h.0.true_header }, h.1)
+last-fits-at ts i (suc n) (x ∷ []) c h e g = absurd (omega (arith, e))
+last-fits-at ts i zero (x ∷ y ∷ cs) c h e g = absurd (omega (arith, e))
+last-fits-at ts i (suc n) (x ∷ y ∷ cs) c h e g = last-fits-at ts x.end n (y ∷ cs) c h.1 (omega (arith, e)) g
+
+-- the last of chunks that fit ends where the tokens end
+pub last-fits : (ts : List TokenRecord) (cs : List TokenChunk) (c : TokenChunk) → ChunksFit ts cs → slice_get cs (length cs - 1) ≡ Some c → ChunkFits ts c.start c × (c.end ≡ length ts)
+last-fits ts [] c h e = cc
+last-fits ts (x ∷ cs) c h e = last-fits-at ts 0 (length (x ∷ cs) - 1) (x ∷ cs) c h (omega arith) e
+
+-- what stands behind the last chunk is what stands behind all tokens
+pub behind-last : (ts : List TokenRecord) (c : TokenChunk) → ChunkFits ts c.start c → c.end ≡ length ts → advanced_all (header c) (chunk_tokens ts c) ≡ state_at ts (length ts)
+behind-last ts c f e =
+    ap (λ s. advanced_all s (chunk_tokens ts c)) (f.true_header ∙ state_at-is ts c.start)
+    ∙ sym (advanced_all-append initial (take c.start ts) (chunk_tokens ts c))
+    ∙ ap (advanced_all initial) (sym (take-split c.start c.end ts f.ordered) ∙ ap (λ n. take n ts) e)
+    ∙ sym (state_at-is ts (length ts))
+
+orelse-none : (a b : Option Error) → (a orelse b) ≡ None → (a ≡ None) × (b ≡ None)
+orelse-none None b e = (refl, e)
+orelse-none (Some x) b e = cc
+
+no-misfit : (o : Option ℕ) → option_map (λ k. BadChunks k) o ≡ None → o ≡ None
+no-misfit None e = refl
+no-misfit (Some k) e = cc
+
+-- tokens that are written in chunks
+pub writing-fits : (ts : List TokenRecord) (cs : List TokenChunk) → writing_fault ts (Some cs) ≡ None → ChunksFit ts cs
+writing-fits ts cs e =
+    let front = option_map (λ i. LineOrder i) (first_out_of_order ts) orelse option_map (λ k. BadChunks k) (first_misfit ts cs) in
+    let before : front ≡ None = (orelse-none front _ e).0 in
+    first_misfit_from-none ts 0 0 cs (no-misfit (first_misfit ts cs) (orelse-none (option_map (λ i. LineOrder i) (first_out_of_order ts)) _ before).1)
+
+pub all-written : (ts : List TokenRecord) (cs : List TokenChunk) → writing_fault ts (Some cs) ≡ None → AllByRecursion (λ c. piece_fault ts c ≡ None) cs
+all-written ts cs e = fitting-are-written ts 0 cs (writing-order ts (Some cs) e) (writing-fits ts cs e)
+
+pub all-pieces : (ts : List TokenRecord) (cs : List TokenChunk) → writing_fault ts (Some cs) ≡ None → flat_map (piece ts) cs ≡ canonical ts
+all-pieces ts cs e = pieces-is ts cs (writing-fits ts cs e)
+
+-- tokens that are written in one chunk
+pub whole-written : (ts : List TokenRecord) → writing_fault ts None ≡ None → piece_fault ts (chunk_from initial 0 (length ts)) ≡ None
+whole-written ts e = fitting-is-written ts 0 _ (writing-order ts None e) (whole-fits ts).0
+
+pub whole-piece : (ts : List TokenRecord) → flat_map (piece ts) (chunk_from initial 0 (length ts) ∷ []) ≡ canonical ts
+whole-piece ts = pieces-is ts (chunk_from initial 0 (length ts) ∷ []) (whole-fits ts)

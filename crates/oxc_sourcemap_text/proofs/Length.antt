@@ -9,8 +9,8 @@ use Rattle.std.proofs.lemmas.List.Elements.{recursion_from_All}
 use Rattle.std.specs.Option.{option_map_or, unwrap_or, IfSome}
 use Rattle.oxc_sourcemap_text.specs.Token.{TokenRecord, IsInBounds, AreInBounds, last_line, mapped_name, name_beside, beside_source}
 use Rattle.oxc_sourcemap_text.specs.State.{State, initial}
-use Rattle.oxc_sourcemap_text.specs.Canonical.{digits, vlq_text, letter, raw_delta, delta_text, separator, column_text, token_text, canonical, first_out_of_order}
-use Rattle.oxc_sourcemap_text.specs.Encoding.{text_from, advanced, back_from}
+use Rattle.oxc_sourcemap_text.specs.Canonical.{digits, vlq_text, letter, raw_delta, delta_text, separator, column_text, token_text, canonical, first_out_of_order, back_from}
+use Rattle.oxc_sourcemap_text.specs.Encoding.{text_from, advanced}
 use Rattle.oxc_sourcemap_text.proofs.Order.{back_from-all}
 use Rattle.oxc_sourcemap_text.proofs.Vlq.{digits_zero, digits_small, digits_large}
 use Rattle.oxc_sourcemap_text.proofs.Writing.{canonical-is}

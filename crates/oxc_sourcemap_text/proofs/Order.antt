@@ -3,8 +3,7 @@ use Rattle.std.proofs.Common.{◌≡◌, ℕ, ◌+◌, ◌≤◌, true, false, c
 use Rattle.std.specs.Option.{option_map}
 use Rattle.std.proofs.lemmas.Bool.Decides.{nat_tests}
 use Rattle.oxc_sourcemap_text.specs.Token.{TokenRecord}
-use Rattle.oxc_sourcemap_text.specs.Canonical.{first_out_of_order}
-use Rattle.oxc_sourcemap_text.specs.Encoding.{back_from}
+use Rattle.oxc_sourcemap_text.specs.Canonical.{first_out_of_order, back_from}
 
 moved-twice : (i : ℕ) (o : Option ℕ) → option_map (λ k. i + 1 + k) o ≡ option_map (λ k. i + k) (option_map (λ k. k + 1) o)
 moved-twice i None = refl

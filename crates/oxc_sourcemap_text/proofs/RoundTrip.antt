@@ -12,10 +12,10 @@ use Rattle.oxc_sourcemap_text.specs.Places.{Place, place}
 use Rattle.oxc_sourcemap_text.specs.Faults.{Counts, counts_of}
 use Rattle.oxc_sourcemap_text.specs.Reading.{outcome, gathered, onto, reading}
 use Rattle.oxc_sourcemap_text.specs.State.{State, initial, state_behind}
-use Rattle.oxc_sourcemap_text.specs.Canonical.{digits, vlq_text, letter, separator, token_text, canonical, bare, bare_token, carried, carried_token, carried_behind, first_out_of_order}
+use Rattle.oxc_sourcemap_text.specs.Canonical.{digits, vlq_text, letter, separator, token_text, canonical, bare, bare_token, carried, carried_token, carried_behind, first_out_of_order, back_from}
 use Rattle.oxc_sourcemap_text.specs.TextLaws.{AreWrittenIdsBelow}
 use Rattle.oxc_sourcemap_text.specs.Decoding.{moved_by, at_line_start}
-use Rattle.oxc_sourcemap_text.specs.Encoding.{advanced, text_from, back_from}
+use Rattle.oxc_sourcemap_text.specs.Encoding.{advanced, text_from}
 use Rattle.oxc_sourcemap_text.proofs.Order.{back_from-all}
 use Rattle.oxc_sourcemap_text.proofs.Length.{name_beside-id, IsBounded, IsBounded-advanced, in_order}
 use Rattle.oxc_sourcemap_text.proofs.Digits.{length-digits-pos}

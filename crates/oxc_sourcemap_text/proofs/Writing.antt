@@ -1,11 +1,11 @@
 -- The text of a list with the state carried along, and what is cut off again.
-use Rattle.std.proofs.Common.{◌≡◌, ℕ, ◌<◌, ◌≤◌, Bool, true, false, ◌&&◌, List, [], ◌∷◌, ◌++◌, length, take, get_or, slice_index, arith, refl, sym, ap, ◌∙◌, lit<}
+use Rattle.std.proofs.Common.{◌≡◌, ℕ, ◌<◌, ◌≤◌, Bool, true, false, ◌&&◌, List, [], ◌∷◌, ◌++◌, length, take, get_or, slice_index, arith, refl, sym, ap, ◌∙◌, lit<, append_assoc}
 use Rattle.std.specs.List.{AllByRecursion}
 use Rattle.std.proofs.lemmas.List.{append-nil, take_at, length-append, get_or_at, get_or_past}
 use Rattle.oxc_sourcemap_text.specs.Token.{TokenRecord}
 use Rattle.oxc_sourcemap_text.specs.State.{State, initial, state_behind}
-use Rattle.oxc_sourcemap_text.specs.Canonical.{token_text, text_behind, canonical, has_none_in_front}
-use Rattle.oxc_sourcemap_text.specs.Encoding.{text_from, advanced, Extends}
+use Rattle.oxc_sourcemap_text.specs.Canonical.{token_text, text_behind, canonical, has_none_in_front, Extends}
+use Rattle.oxc_sourcemap_text.specs.Encoding.{text_from, advanced}
 
 pub and-false : (b : Bool) → (b && false) ≡ false
 and-false true = refl
@@ -21,8 +21,15 @@ pub canonical-is : (ts : List TokenRecord) → canonical ts ≡ text_from true i
 unfolding canonical
 canonical-is ts = text_behind-is true initial [] ts
 
+all-append : (xs ys : List ℕ) → AllByRecursion (λ b. b < 128) xs → AllByRecursion (λ b. b < 128) ys → AllByRecursion (λ b. b < 128) (xs ++ ys)
+all-append [] ys p q = q
+all-append (x ∷ xs) ys p q = (p.0, all-append xs ys p.1 q)
+
 pub extends-none : (old : List ℕ) → Extends old old
 extends-none old = ([], sym (append-nil old), tt)
+
+pub extends-more : (base old new : List ℕ) → Extends base old → Extends old new → Extends base new
+extends-more base old new e f = (e.0 ++ f.0, f.1 ∙ ap (λ xs. xs ++ f.0) e.1 ∙ append_assoc base e.0 f.0, all-append e.0 f.0 e.2 f.2)
 
 pub cut-back : (old new : List ℕ) (n : ℕ) → Extends old new → n ≡ length old → take n new ≡ old
 cut-back old new n g e = ap (take n) g.1 ∙ take_at old g.0 n (sym e)

@@ -1,5 +1,6 @@
 -- The one canonical text of a list of tokens (for its form, ECMA-426, "Mappings structure").
-use Rattle.std.specs.Prelude.{◌≡◌, ℕ, zero, suc, ◌+◌, ◌-◌, ◌*◌, ◌/◌, ◌%◌, Bool, true, false, ◌&&◌, List, [], ◌∷◌, ◌++◌, map, replicate, Option, Some, None, if◌then◌else◌, nat_lt, ◌==◌}
+use Rattle.std.specs.Prelude.{◌≡◌, ℕ, zero, suc, ◌+◌, ◌-◌, ◌*◌, ◌/◌, ◌%◌, ◌<◌, Bool, true, false, ◌&&◌, List, [], ◌∷◌, ◌++◌, map, replicate, Option, Some, None, if◌then◌else◌, nat_lt, ◌==◌}
+use Rattle.std.specs.List.{AllByRecursion}
 use Rattle.std.specs.Option.{option_map, option_map_or}
 use Rattle.oxc_sourcemap_text.specs.Token.{TokenRecord, is_mapped, mapped_name}
 use Rattle.oxc_sourcemap_text.specs.State.{State, initial, state_behind}
@@ -69,6 +70,10 @@ text_behind at_start s in_front (t ∷ ts) =
 unfoldable pub canonical : List TokenRecord → List ℕ
 canonical tokens = text_behind true initial [] tokens
 
+-- a text with some ASCII bytes more
+abbrev pub Extends : List ℕ → List ℕ → Type 0
+Extends old new = (more : List ℕ) × (new ≡ old ++ more) × AllByRecursion (λ b. b < 128) more
+
 -- a token as far as it is written: of an unmapped one, the generated position alone
 abbrev pub bare_token : TokenRecord → TokenRecord
 bare_token t = if is_mapped t then t else record t { src_line = 0; src_col = 0; name_id = None }
@@ -83,6 +88,11 @@ first_out_of_order [] = None
 first_out_of_order (t ∷ []) = None
 first_out_of_order (t ∷ u ∷ ts) =
     if nat_lt u.dst_line t.dst_line then Some 1 else option_map (λ i. i + 1) (first_out_of_order (u ∷ ts))
+
+-- The same for tokens that stand behind a token on this line, the first of them at index i.
+abbrev pub back_from : ℕ → ℕ → List TokenRecord → Option ℕ
+back_from line i [] = None
+back_from line i (t ∷ ts) = if nat_lt t.dst_line line then Some i else back_from t.dst_line (i + 1) ts
 
 -- generated lines never go back
 abbrev pub IsInLineOrder : List TokenRecord → Type 0

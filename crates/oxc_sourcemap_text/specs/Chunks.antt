@@ -8,7 +8,7 @@ use Rattle.oxc_sourcemap_text.specs.declared.token.TokenChunk.{TokenChunk}
 use Rattle.oxc_sourcemap_text.specs.Token.{TokenRecord}
 use Rattle.oxc_sourcemap_text.specs.Faults.{◌orelse◌}
 use Rattle.oxc_sourcemap_text.specs.State.{State, state_at}
-use Rattle.oxc_sourcemap_text.specs.Canonical.{text_behind, first_out_of_order}
+use Rattle.oxc_sourcemap_text.specs.Canonical.{text_behind, first_out_of_order, back_from}
 
 -- the state that a chunk says it starts from
 abbrev pub header : TokenChunk → State
@@ -22,6 +22,27 @@ chunk_tokens tokens c = take (c.end - c.start) (drop c.start tokens)
 -- that starts at index 0 has the first token of all.
 unfoldable pub piece : List TokenRecord → TokenChunk → List ℕ
 piece tokens c = text_behind (c.start == 0) (header c) [] (chunk_tokens tokens c)
+
+-- Why a piece is not written: the chunk's range, else the first of its tokens on a line before that of the token in front
+-- of it. In front of the first stands the header's line.
+abbrev pub piece_fault : List TokenRecord → TokenChunk → Option Error
+piece_fault tokens c =
+    if nat_le c.start c.end && nat_le c.end (length tokens)
+    then option_map (λ i. LineOrder i) (back_from c.prev_dst_line c.start (chunk_tokens tokens c))
+    else Some (BadChunks 0)
+
+-- the chunk of the tokens from one index up to another, which is written from this state
+abbrev pub chunk_from : State → ℕ → ℕ → TokenChunk
+chunk_from s start end = record {
+  start = start;
+  end = end;
+  prev_dst_line = s.dst_line;
+  prev_dst_col = s.dst_col;
+  prev_src_line = s.src_line;
+  prev_src_col = s.src_col;
+  prev_name_id = s.name_id;
+  prev_source_id = s.source_id;
+}
 
 -- A chunk fits the tokens, where its predecessor ended at this index.
 pub record ChunkFits (tokens : List TokenRecord) (index : ℕ) (c : TokenChunk) : Type 0 where

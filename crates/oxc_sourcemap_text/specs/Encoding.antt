@@ -1,11 +1,10 @@
 -- How the steps of the encoder are seen, against the states of `State`. No public contract speaks of these.
-use Rattle.std.specs.Prelude.{◌≡◌, ℕ, ◌+◌, ◌<◌, ◌++◌, Bool, false, List, [], ◌∷◌, Option, Some, None, if◌then◌else◌, nat_lt}
-use Rattle.std.specs.List.{AllByRecursion}
+use Rattle.std.specs.Prelude.{ℕ, ◌++◌, Bool, false, List, [], ◌∷◌}
 use Rattle.std.specs.Option.{unwrap_or}
 use Rattle.oxc_sourcemap_text.specs.declared.encode.Previous.{Previous}
 use Rattle.oxc_sourcemap_text.specs.Token.{TokenRecord, mapped_name, beside_source}
 use Rattle.oxc_sourcemap_text.specs.State.{State}
-use Rattle.oxc_sourcemap_text.specs.Canonical.{token_text}
+use Rattle.oxc_sourcemap_text.specs.Canonical.{token_text, Extends}
 
 -- the state that the encoder carries
 abbrev pub state_of : Previous → State
@@ -31,15 +30,6 @@ advanced_all s (t ∷ ts) = advanced_all (advanced s t) ts
 abbrev pub text_from : Bool → State → List TokenRecord → List ℕ
 text_from is_first s [] = []
 text_from is_first s (t ∷ ts) = token_text is_first s t ++ text_from false (advanced s t) ts
-
--- the index of the first token that goes back, where the list begins at index i behind a token on this line
-abbrev pub back_from : ℕ → ℕ → List TokenRecord → Option ℕ
-back_from line i [] = None
-back_from line i (t ∷ ts) = if nat_lt t.dst_line line then Some i else back_from t.dst_line (i + 1) ts
-
--- a text with some ASCII bytes more
-abbrev pub Extends : List ℕ → List ℕ → Type 0
-Extends old new = (more : List ℕ) × (new ≡ old ++ more) × AllByRecursion (λ b. b < 128) more
 
 -- Whatever text the old one extended, the new one extends: what was added can be cut off again.
 abbrev pub OnlyAdds : List ℕ → List ℕ → Type 0

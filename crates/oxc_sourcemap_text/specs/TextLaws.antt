@@ -27,10 +27,10 @@ abbrev pub ReadsBack : Type 0
 ReadsBack = (names sources : ℕ) (tokens : List TokenRecord) → IsOrderedInBounds tokens → AllByRecursion (AreWrittenIdsBelow names sources) tokens
     → (reading (canonical tokens) names sources ≡ Ok (carried tokens)) × (bare (carried tokens) ≡ bare tokens)
 
--- What a text reads as is in line order, and written and read again it is the same.
+-- What a text reads as is in line order and in bounds, and written and read again it is the same.
 abbrev pub ReadsAgain : Type 0
 ReadsAgain = (text : List ℕ) (names sources : ℕ) (tokens : List TokenRecord) → reading text names sources ≡ Ok tokens
-    → IsInLineOrder tokens × (reading (canonical tokens) names sources ≡ Ok tokens)
+    → IsOrderedInBounds tokens × (reading (canonical tokens) names sources ≡ Ok tokens)
 
 -- Whatever chunks fit a list, their pieces in order are its text.
 abbrev pub InPieces : Type 0

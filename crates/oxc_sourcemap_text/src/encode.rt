@@ -2,10 +2,11 @@
 ghost use Rattle.std.specs.Prelude.{◌≡◌, ◌≢◌, ◌↔◌, ℕ, ◌+◌, ◌-◌, ◌*◌, ◌/◌, ◌%◌, ◌^◌, ◌<◌, ◌≤◌, ◌++◌, List, ◌∷◌, [], length, replicate, string_bytes, OnOk, OnErr, IfErr, IfOk, Option, Some, None, IsNone, if◌then◌else◌, nat_lt, drop, take, flat_map, encode_utf8};
 ghost use Rattle.oxc_sourcemap_text.specs.declared.error.Error.TheVariants.{OutOfMemory};
 ghost use Rattle.oxc_sourcemap_text.specs.Token.{AreInBounds, last_line};
-ghost use Rattle.oxc_sourcemap_text.specs.State.{initial};
-ghost use Rattle.oxc_sourcemap_text.specs.Canonical.{letter, vlq_text, raw_delta, delta_text, separator, column_text, source_text, name_text, token_text, canonical, first_out_of_order};
-ghost use Rattle.oxc_sourcemap_text.specs.Chunks.{header, is_same_state, first_misfit, ChunksFit, writing_fault, lent_chunks};
-ghost use Rattle.oxc_sourcemap_text.specs.Encoding.{state_of, advanced, advanced_all, text_from, back_from, Extends, OnlyAdds};
+ghost use Rattle.oxc_sourcemap_text.specs.State.{initial, state_at};
+ghost use Rattle.oxc_sourcemap_text.specs.Canonical.{letter, vlq_text, raw_delta, delta_text, separator, column_text, source_text, name_text, token_text, canonical, first_out_of_order, back_from, Extends};
+ghost use Rattle.oxc_sourcemap_text.specs.Chunks.{header, chunk_tokens, piece, piece_fault, chunk_from, is_same_state, first_misfit, ChunksFit, writing_fault, lent_chunks};
+ghost use Rattle.oxc_sourcemap_text.specs.Encoding.{state_of, advanced, advanced_all, text_from, OnlyAdds};
+ghost use Rattle.std.specs.List.{AllByRecursion};
 ghost use Rattle.std.specs.Char.{digit_char};
 ghost use Rattle.oxc_sourcemap_text.specs.JsonString.{hex_escape, escaped, json_string, StaysOpened, Begins};
 
@@ -37,6 +38,20 @@ impl Previous {
             src_line: 0,
             src_col: 0,
             name_id: 0,
+        }
+    }
+
+    /// What the first token of a chunk is written against: the chunk's header.
+    fn header_of(chunk: &TokenChunk) -> Self
+        ensures { state_of result ≡ header chunk.now }
+    {
+        Self {
+            dst_line: chunk.prev_dst_line,
+            dst_col: chunk.prev_dst_col,
+            source_id: chunk.prev_source_id,
+            src_line: chunk.prev_src_line,
+            src_col: chunk.prev_src_col,
+            name_id: chunk.prev_name_id,
         }
     }
 
@@ -276,20 +291,30 @@ fn push_tokens(
     Ok(())
 }
 
+/// The index of the first token whose generated line is smaller than that of the token in front. In front of the first
+/// stands `line`, and its own index is `first`.
+fn line_back_from(line: u32, first: usize, tokens: &[Token]) -> Option<usize>
+    requires { first + length tokens.now < 2 ^ 64 }
+    ensures place { result ≡ back_from line first tokens.now }
+    ensures in_bounds { result ≡ None → AreInBounds tokens.now }
+{
+    let mut line_in_front = line;
+    for (i, token) in tokens.iter().enumerate() {
+        if token.get_dst_line() < line_in_front {
+            return Some(first + i);
+        }
+        line_in_front = token.get_dst_line();
+    }
+    None
+}
+
 /// The index of the first token whose generated line is smaller than that of the token in front, which `LineOrder` tells;
 /// None where there is none. It takes no memory.
 pub fn line_order_fault(tokens: &[Token]) -> Option<usize>
     ensures place { result ≡ first_out_of_order tokens.now }
     ensures in_bounds { result ≡ None → AreInBounds tokens.now }
 {
-    let mut line = 0;
-    for (i, token) in tokens.iter().enumerate() {
-        if token.get_dst_line() < line {
-            return Some(i);
-        }
-        line = token.get_dst_line();
-    }
-    None
+    line_back_from(0, 0, tokens)
 }
 
 /// The index of the first chunk that does not fit the tokens; where there is none, but tokens are left over (behind the
@@ -321,6 +346,104 @@ pub fn chunk_fault(tokens: &[Token], chunks: &[TokenChunk]) -> Option<usize>
     }
 }
 
+/// The tokens of a chunk.
+fn tokens_of<'t>(tokens: &'t [Token], chunk: &TokenChunk) -> &'t [Token]
+    requires ordered { chunk.now.start ≤ chunk.now.end }
+    requires within { chunk.now.end ≤ length tokens.now }
+    ensures { result.now ≡ chunk_tokens tokens.now chunk.now }
+{
+    &tokens[chunk.start as usize..chunk.end as usize]
+}
+
+/// What stands behind all of the tokens, by the last of these chunks, which fit them.
+fn behind_chunks(tokens: &[Token], chunks: &[TokenChunk]) -> Previous
+    requires { ChunksFit tokens.now chunks.now }
+    ensures { state_of result ≡ state_at tokens.now (length tokens.now) }
+{
+    match chunks.last() {
+        Some(chunk) => behind_all(Previous::header_of(chunk), tokens_of(tokens, chunk)),
+        None => Previous::new(),
+    }
+}
+
+/// The chunk behind these, which fit the tokens: it starts at the end of the tokens, with the state there for its header,
+/// and ends at `end`. It goes over the tokens of the last chunk alone.
+pub fn next_chunk(tokens: &[Token], chunks: &[TokenChunk], end: u32) -> TokenChunk
+    requires fits { ChunksFit tokens.now chunks.now }
+    requires counted { length tokens.now ≤ 4294967295 }
+    ensures { result ≡ chunk_from (state_at tokens.now (length tokens.now)) (length tokens.now) end }
+{
+    let reached = behind_chunks(tokens, chunks);
+    TokenChunk::new(
+        tokens.len() as u32,
+        end,
+        reached.dst_line,
+        reached.dst_col,
+        reached.src_line,
+        reached.src_col,
+        reached.name_id,
+        reached.source_id,
+    )
+}
+
+/// Why a chunk is not written.
+fn fault_of_chunk(tokens: &[Token], chunk: &TokenChunk) -> Option<Error>
+    ensures { result ≡ piece_fault tokens.now chunk.now }
+{
+    if chunk.start > chunk.end || chunk.end as usize > tokens.len() {
+        return Some(Error::BadChunks(0));
+    }
+    let first = chunk.start as usize;
+    let i = line_back_from(chunk.prev_dst_line, first, tokens_of(tokens, chunk))?;
+    Some(Error::LineOrder(i))
+}
+
+/// Appends the piece of a chunk to `out`: the text of its tokens, written from the chunk's header as it is, also where
+/// that does not tell the state in front of the chunk (docs/FORMAT.md, "Chunks"). A chunk that starts at index 0 has the
+/// first token of all, which takes no `,` in front. The pieces of chunks that fit, one after the other, are the canonical
+/// text of the tokens.
+///
+/// Refused in this order, with `out` as it was:
+/// - `BadChunks(0)`, where not start <= end <= the number of tokens;
+/// - `LineOrder(i)`, where i is the first token of the chunk whose generated line is smaller than that of the token in
+///   front, and for the token at `start` smaller than the header's;
+/// - `OutOfMemory` where memory is refused.
+pub fn encode_chunk(tokens: &[Token], chunk: &TokenChunk, out: &mut String) -> Result<()>
+    ensures text { OnOk result (string_bytes out.new ≡ string_bytes out.old ++ piece tokens.now chunk.now) }
+    ensures clean { OnOk result (piece_fault tokens.now chunk.now ≡ None) }
+    ensures fault { IfErr result (λ e. (e ≢ OutOfMemory) → piece_fault tokens.now chunk.now ≡ Some e) }
+    ensures unchanged { OnErr result (string_bytes out.new ≡ string_bytes out.old) }
+
+    // What is added is ASCII. True of every piece, and stated here for callers that cut it off again.
+    ensures ascii { Extends (string_bytes out.old) (string_bytes out.new) }
+{
+    if let Some(fault) = fault_of_chunk(tokens, chunk) {
+        return Err(fault);
+    }
+    let kept = out.len();
+    let header = Previous::header_of(chunk);
+    match push_tokens(out, chunk.start == 0, header, tokens_of(tokens, chunk)) {
+        Ok(()) => Ok(()),
+        Err(refused) => {
+            out.truncate(kept);
+            Err(Error::from(refused))
+        }
+    }
+}
+
+/// Adds the pieces of chunks that are written, one after the other. After an `Err` the first of them may stand in `out`.
+fn push_chunks(out: &mut String, tokens: &[Token], chunks: &[TokenChunk]) -> Result<()>
+    requires { AllByRecursion (λ c. piece_fault tokens.now c ≡ None) chunks.now }
+    ensures ok { OnOk result (string_bytes out.new ≡ string_bytes out.old ++ flat_map (piece tokens.now) chunks.now) }
+    ensures memory { IfErr result (λ e. e ≡ OutOfMemory) }
+    ensures adds { OnlyAdds (string_bytes out.old) (string_bytes out.new) }
+{
+    for chunk in chunks {
+        encode_chunk(tokens, chunk, out)?;
+    }
+    Ok(())
+}
+
 /// Why tokens with these chunks are not written.
 fn fault_of(tokens: &[Token], chunks: Option<&[TokenChunk]>) -> Option<Error>
     ensures fault { result ≡ writing_fault tokens.now (lent_chunks chunks.entry) }
@@ -338,6 +461,23 @@ fn fault_of(tokens: &[Token], chunks: Option<&[TokenChunk]>) -> Option<Error>
         return Some(Error::TooLarge);
     }
     None
+}
+
+/// Adds the text of tokens that are written: in these chunks, or in one of them all. After an `Err` a beginning of it may
+/// stand in `out`.
+fn push_in_chunks(out: &mut String, tokens: &[Token], chunks: Option<&[TokenChunk]>) -> Result<()>
+    requires { writing_fault tokens.now (lent_chunks chunks) ≡ None }
+    ensures ok { OnOk result (string_bytes out.new ≡ string_bytes out.old ++ canonical tokens.now) }
+    ensures memory { IfErr result (λ e. e ≡ OutOfMemory) }
+    ensures adds { OnlyAdds (string_bytes out.old) (string_bytes out.new) }
+{
+    match chunks {
+        Some(chunks) => push_chunks(out, tokens, chunks),
+        None => {
+            let whole = next_chunk(&[], &[], tokens.len() as u32);
+            push_chunks(out, tokens, &[whole])
+        }
+    }
 }
 
 /// Appends the canonical text of the tokens to `out`: the one `mappings` text of this list (docs/FORMAT.md, "Writing";
@@ -370,11 +510,11 @@ pub fn encode_mappings(
         return Err(fault);
     }
     let start = out.len();
-    match push_tokens(out, true, Previous::new(), tokens) {
+    match push_in_chunks(out, tokens, chunks) {
         Ok(()) => Ok(()),
         Err(refused) => {
             out.truncate(start);
-            Err(Error::from(refused))
+            Err(refused)
         }
     }
 }

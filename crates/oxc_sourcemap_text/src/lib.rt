@@ -2,7 +2,7 @@
 //! refusals that it speaks of; the shape of a source map as a JSON value; and JSON strings.
 //!
 //! This is the lowest crate of the port of `oxc_sourcemap`. Users name the crate `oxc_sourcemap`, which hands
-//! the public items of this one on (all but `line_order_fault`).
+//! the public items of this one on (all but `line_order_fault` and `next_chunk`).
 #![tactic(auto)]
 
 mod decode;
@@ -12,6 +12,8 @@ mod shape;
 mod token;
 
 pub use decode::{JSONSourceMap, decode_mappings};
-pub use encode::{chunk_fault, encode_mappings, line_order_fault, push_json_string};
+pub use encode::{
+    chunk_fault, encode_chunk, encode_mappings, line_order_fault, next_chunk, push_json_string,
+};
 pub use error::{Error, Field, JsonFault, Result};
 pub use token::{Token, TokenChunk};

@@ -1,5 +1,5 @@
 //! Tokens, and the chunks in which they are written.
-ghost use Rattle.std.specs.Prelude.{◌≡◌, ℕ};
+ghost use Rattle.std.specs.Prelude.{◌≡◌, ℕ, ◌<◌, IfSome};
 ghost use Rattle.oxc_sourcemap_text.specs.Token.{kept_id, IsInBounds};
 
 use std::marker::Model;
@@ -101,7 +101,8 @@ impl Token {
     /// The name id, which is never 4294967295. None where the token has no name; that of an unmapped token is answered as it
     /// stands.
     pub fn get_name_id(&self) -> Option<u32>
-        ensures { result ≡ self.now.name_id }
+        ensures value { result ≡ self.now.name_id }
+        ensures small { IfSome result (λ id. id < 4294967295) }
     {
         if self.name_id == INVALID_ID {
             None
@@ -112,7 +113,8 @@ impl Token {
 
     /// The source id, which is never 4294967295. None where the token is unmapped.
     pub fn get_source_id(&self) -> Option<u32>
-        ensures { result ≡ self.now.source_id }
+        ensures value { result ≡ self.now.source_id }
+        ensures small { IfSome result (λ id. id < 4294967295) }
     {
         if self.source_id == INVALID_ID {
             None

@@ -1,2 +1,12 @@
 pub mod Texts
 pub mod Maps
+pub mod Plans
+pub mod Known
+pub mod Decoding
+pub mod Giving
+pub mod Parts
+pub mod Answering
+pub mod Worked
+pub mod PlanTexts
+pub mod PlanWords
+pub mod PlanAnswers

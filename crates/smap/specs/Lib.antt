@@ -3,3 +3,11 @@ pub mod Flags
 pub mod Refusals
 pub mod Traced
 pub mod Answer
+pub mod Depth
+pub mod Meaning
+pub mod Room
+pub mod Outcome
+pub mod Evaluated
+pub mod Request
+pub mod PlanTexts
+pub mod PlanWords

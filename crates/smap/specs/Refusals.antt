@@ -1,15 +1,16 @@
 -- The texts of the program's refusals, as bytes, and the status that it ends with.
-use Rattle.std.specs.Prelude.{ℕ, List, codes}
+use Rattle.std.specs.Prelude.{ℕ, Bool, true, false, List, ◌++◌, codes, decimal}
 use Rattle.oxc_sourcemap.specs.Error.TheVariants.{OutOfMemory}
 use Rattle.oxc_sourcemap.specs.Messages.{error_text}
 use Rattle.smap.specs.declared.plan.PlanError.{PlanError}
-use Rattle.smap.specs.declared.plan.PlanError.TheVariants.{Map, Unsorted}
+use Rattle.smap.specs.declared.plan.PlanError.TheVariants.{Map, Unsorted, TooDeep}
 use Rattle.smap.specs.declared.run.RunError.{RunError}
-use Rattle.smap.specs.declared.run.RunError.TheVariants.{Plan, Read, Write, Utf8, Arguments}
+use Rattle.smap.specs.declared.run.RunError.TheVariants.{Plan, Read, Write, Utf8, Arguments, NoText}
 
 abbrev pub plan_error_text : PlanError → List ℕ
 plan_error_text (Map error) = error_text error
 plan_error_text Unsorted = codes "Tokens are not in order of line and column"
+plan_error_text TooDeep = codes "The plan is deeper than 64"
 
 abbrev pub run_error_text : RunError → List ℕ
 run_error_text (Plan error) = plan_error_text error
@@ -17,6 +18,7 @@ run_error_text Read = codes "read failed"
 run_error_text Write = codes "write failed"
 run_error_text Utf8 = codes "input is not UTF-8"
 run_error_text Arguments = codes "bad arguments"
+run_error_text (NoText k) = codes "no text " ++ decimal k
 
 -- bad words end with 2, and all else that is refused with 1
 abbrev pub status_of : RunError → ℕ
@@ -25,7 +27,17 @@ status_of Read = 1
 status_of Write = 1
 status_of Utf8 = 1
 status_of Arguments = 2
+status_of (NoText k) = 1
 
 -- want of memory
 abbrev pub out_of_memory : RunError
 out_of_memory = Plan (Map OutOfMemory)
+
+-- a failed read or write
+abbrev pub is_of_port : RunError → Bool
+is_of_port (Plan error) = false
+is_of_port Read = true
+is_of_port Write = true
+is_of_port Utf8 = false
+is_of_port Arguments = false
+is_of_port (NoText k) = false

@@ -5,8 +5,7 @@ use Rattle.std.specs.Option.{option_map, option_zip}
 use Rattle.std.specs.Str.{bytes_eq}
 use Rattle.std.specs.Char.{digit_value}
 use Rattle.std.specs.Str.Parse.{digits_value}
-use Rattle.smap.specs.declared.words.Command.{Command}
-use Rattle.smap.specs.declared.words.Command.TheVariants.{Mappings, Normalise, Url, Trace}
+use Rattle.smap.specs.Request.{Request, Mappings, Normalise, Plan, Trace, Url}
 
 abbrev pub is_decimal_digit : ℕ → Bool
 is_decimal_digit byte = nat_lt (digit_value byte) 10
@@ -28,13 +27,13 @@ two_numbers [] = None
 two_numbers (a ∷ []) = None
 two_numbers (a ∷ b ∷ more ∷ words) = None
 
--- this command, where no words stand behind its name
-abbrev pub without_words : Command → List (List ℕ) → Option Command
-without_words command [] = Some command
-without_words command (word ∷ words) = None
+-- this request, where no words stand behind its name
+abbrev pub without_words : Request → List (List ℕ) → Option Request
+without_words request [] = Some request
+without_words request (word ∷ words) = None
 
--- the command of this name, with these words behind it
-abbrev pub command_named : List ℕ → List (List ℕ) → Option Command
+-- the request of this name, with these words behind it
+abbrev pub command_named : List ℕ → List (List ℕ) → Option Request
 command_named name words =
     if bytes_eq name (codes "mappings") then option_map (λ n. Mappings n.0 n.1) (two_numbers words)
     else if bytes_eq name (codes "normalise") then without_words Normalise words
@@ -42,7 +41,7 @@ command_named name words =
     else if bytes_eq name (codes "trace") then option_map (λ n. Trace n.0 n.1) (two_numbers words)
     else None
 
--- the command of some words, the first of which names it
-abbrev pub command_of : List (List ℕ) → Option Command
+-- the request of some words, the first of which names it; the words of a plan are kept as they are
+abbrev pub command_of : List (List ℕ) → Option Request
 command_of [] = None
-command_of (name ∷ words) = command_named name words
+command_of (name ∷ words) = if bytes_eq name (codes "plan") then Some (Plan words) else command_named name words

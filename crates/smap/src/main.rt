@@ -2,6 +2,7 @@
 //!
 //!     smap mappings NAMES SOURCES < mappings.txt
 //!     smap normalise < bundle.js.map
+//!     smap plan WORDS.. < bundles.txt
 //!     smap trace LINE COL < bundle.js.map
 //!     smap url < bundle.js.map
 //!
@@ -9,6 +10,7 @@
 #![tactic(auto)]
 
 mod plan;
+mod plan_words;
 mod port;
 mod run;
 #[cfg(test)]

@@ -1,17 +1,22 @@
 //! Running a command over a reader and a writer.
-ghost use Rattle.std.specs.Prelude.{◌≡◌, ◌≢◌, ◌++◌, ◌∷◌, [], ℕ, Bool, true, false, ◌↔◌, IfOk, OnOk, OnErr, IfErr, IfSome, List, Some, None, Option, Ok, Err, IsErrOf, ◌⊎◌, IsUtf8, string_bytes};
+ghost use Rattle.std.specs.Prelude.{◌≡◌, ◌≢◌, ◌++◌, ◌∷◌, [], ℕ, Bool, true, false, ◌↔◌, IfOk, OnOk, OnErr, IfErr, IfSome, List, Some, None, Option, Ok, Err, IsErrOf, ◌⊎◌, IsUtf8, string_bytes, map};
 ghost use Rattle.std.specs.Io.KnownBytes.{Appends, Keeps};
 ghost use Rattle.smap.specs.declared.plan.PlanError.TheVariants.{Map};
 ghost use Rattle.smap.specs.declared.run.RunError.TheVariants.{Plan};
-ghost use Rattle.smap.specs.Refusals.{run_error_text, status_of, out_of_memory};
-ghost use Rattle.smap.specs.Answer.{without_line_feed, mappings_answer, normalised, normalised_url, of_map, answer, Refuses, AppendsBeginning};
+ghost use Rattle.smap.specs.Refusals.{run_error_text, status_of, out_of_memory, is_of_port};
+ghost use Rattle.smap.specs.Answer.{without_line_feed, mappings_answer, normalised, normalised_url, of_map, IsPlanAnswer, IsPlanRefusal, IsAnswer, Refuses, AppendsBeginning};
 ghost use Rattle.oxc_sourcemap.specs.Error.TheVariants.{OutOfMemory};
 ghost use Rattle.oxc_sourcemap.specs.Reading.{reading};
+ghost use Rattle.smap.specs.PlanTexts.{texts_in};
+ghost use Rattle.smap.specs.PlanWords.{plan_named};
+ghost use Rattle.smap.specs.Request.{request_of};
 
-use crate::plan::PlanError;
+use crate::plan::{PlanError, evaluate};
+use crate::plan_words::{read_plan, texts_in};
 use crate::port::Port;
 use crate::trace::trace;
 use crate::words::Command;
+use oxc_sourcemap::laws::canonical_unique;
 use oxc_sourcemap::{Error, SourceMap, decode_mappings, encode_mappings};
 use std::alloc::{AllocError, AllocFailed, Global};
 use std::fmt;
@@ -28,8 +33,10 @@ pub enum RunError {
     Write,
     /// The input is not UTF-8.
     Utf8,
-    /// The words say no command.
+    /// The words say no command, or no plan.
     Arguments,
+    /// The words of a plan name a text that the input has not.
+    NoText(u32),
 }
 
 impl RunError {
@@ -54,6 +61,7 @@ impl fmt::Display for RunError {
             RunError::Write => write!(f, "write failed"),
             RunError::Utf8 => write!(f, "input is not UTF-8"),
             RunError::Arguments => write!(f, "bad arguments"),
+            RunError::NoText(number) => write!(f, "no text {number}"),
         }
     }
 }
@@ -138,6 +146,7 @@ fn without_last_line_feed(text: &str) -> &str
 fn rewrite_mappings(alloc: Global, text: &str, names: u32, sources: u32) -> Result<String, RunError>
     ensures text { IfOk result (λ out. mappings_answer (reading text.now names sources) ≡ Ok (string_bytes out)) }
     ensures refused { IfErr result (λ e. (e ≢ out_of_memory) → mappings_answer (reading text.now names sources) ≡ Err e) }
+    ensures causes { IfErr result (λ e. is_of_port e ≡ false) }
 {
     let tokens = decode_mappings(alloc, text, names as usize, sources as usize)?;
     let mut out = String::new(alloc);
@@ -163,10 +172,24 @@ fn data_url(alloc: Global, text: &str) -> Result<String, Error>
     Ok(map.to_data_url(alloc)?)
 }
 
+/// The JSON text of the map of the plan that words name, over the texts of an input.
+fn plan_text(alloc: Global, input: &str, words: &[String]) -> Result<String, RunError>
+    ensures text { IfOk result (λ out. IsPlanAnswer (plan_named (texts_in input.now) (map string_bytes words.now)) (string_bytes out)) }
+    ensures refused { IfErr result (λ e. (e ≢ out_of_memory) → IsPlanRefusal (plan_named (texts_in input.now) (map string_bytes words.now)) e) }
+    ensures causes { IfErr result (λ e. is_of_port e ≡ false) }
+{
+    canonical_unique();
+    let texts = texts_in(alloc, input)?;
+    let plan = read_plan(alloc, texts.as_slice(), words)?;
+    let map = evaluate(alloc, &plan)?;
+    Ok(map.to_json_string(alloc)?)
+}
+
 /// What a command answers to an input.
 fn answer(alloc: Global, command: &Command, input: Vec<u8>) -> Result<String, RunError>
-    ensures text { IfOk result (λ out. IsUtf8 input.items × (answer command.now input.items ≡ Ok (string_bytes out))) }
-    ensures refused { IfErr result (λ e. (e ≢ out_of_memory) → Refuses command.now input.items e) }
+    ensures text { IfOk result (λ out. IsUtf8 input.items × IsAnswer (request_of command.now) input.items (string_bytes out)) }
+    ensures refused { IfErr result (λ e. (e ≢ out_of_memory) → Refuses (request_of command.now) input.items e) }
+    ensures causes { IfErr result (λ e. is_of_port e ≡ false) }
 {
     let Ok(text) = String::from_utf8(input) else {
         return Err(RunError::Utf8);
@@ -181,6 +204,7 @@ fn answer(alloc: Global, command: &Command, input: Vec<u8>) -> Result<String, Ru
             )
         }
         Command::Normalise => Ok(normalise(alloc, text.as_str())?),
+        Command::Plan(words) => plan_text(alloc, text.as_str(), words.as_slice()),
         Command::Trace(line, col) => Ok(trace(alloc, text.as_str(), *line, *col)?),
         Command::Url => Ok(data_url(alloc, text.as_str())?),
     }
@@ -191,6 +215,8 @@ fn answer(alloc: Global, command: &Command, input: Vec<u8>) -> Result<String, Ru
 /// - `Mappings(names, sources)`: the input is a mappings text, with one line feed at its end or none; the answer is the
 ///   canonical text of its tokens, where so many names and sources stand beside it.
 /// - `Normalise`: the input is the JSON text of a map; the answer is the JSON text that `SourceMap::to_json_string` gives.
+/// - `Plan(words)`: the input is the JSON texts of maps, parted by lines that are exactly `---`; the answer is the JSON text of
+///   a map that is as the contract of `evaluate` says of the plan that the words name.
 /// - `Trace(line, col)`: the input is the JSON text of a map; the answer is what `trace` says of this generated position.
 /// - `Url`: the input is the JSON text of a map; the answer is its data URL.
 ///
@@ -204,10 +230,10 @@ pub fn run<R: Read, W: Write>(
     reader: &mut Port<R>,
     writer: &mut Port<W>,
 ) -> Result<(), RunError>
-    ensures written { OnOk result (IfSome (R.remaining reader.old.inner) (λ input. (out : List ℕ) × IsUtf8 input × (answer command.now input ≡ Ok out) × Appends (W.contents writer.old.inner) (W.contents writer.new.inner) (out ++ 10 ∷ []))) }
-    ensures refused { IfErr result (λ e. (e ≢ out_of_memory) → (e ≢ RunError.Read) → (e ≢ RunError.Write) → IfSome (R.remaining reader.old.inner) (λ input. Refuses command.now input e)) }
+    ensures written { OnOk result (IfSome (R.remaining reader.old.inner) (λ input. (out : List ℕ) × IsUtf8 input × IsAnswer (request_of command.now) input out × Appends (W.contents writer.old.inner) (W.contents writer.new.inner) (out ++ 10 ∷ []))) }
+    ensures refused { IfErr result (λ e. (e ≢ out_of_memory) → (e ≢ RunError.Read) → (e ≢ RunError.Write) → IfSome (R.remaining reader.old.inner) (λ input. Refuses (request_of command.now) input e)) }
     ensures nothing_written { IfErr result (λ e. (e ≢ RunError.Write) → Keeps (W.contents writer.old.inner) (W.contents writer.new.inner)) }
-    ensures begun { IsErrOf result RunError.Write → IfSome (R.remaining reader.old.inner) (λ input. (out : List ℕ) × IsUtf8 input × (answer command.now input ≡ Ok out) × AppendsBeginning (W.contents writer.old.inner) (W.contents writer.new.inner) (out ++ 10 ∷ [])) }
+    ensures begun { IsErrOf result RunError.Write → IfSome (R.remaining reader.old.inner) (λ input. (out : List ℕ) × IsUtf8 input × IsAnswer (request_of command.now) input out × AppendsBeginning (W.contents writer.old.inner) (W.contents writer.new.inner) (out ++ 10 ∷ [])) }
     ensures read { reader.old.failed ≡ false → IsErrOf result RunError.Read ↔ (reader.new.failed ≡ true) }
     ensures write { writer.old.failed ≡ false → IsErrOf result RunError.Write ↔ (writer.new.failed ≡ true) }
 {

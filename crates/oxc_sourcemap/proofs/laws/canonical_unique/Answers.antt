@@ -1,11 +1,13 @@
 use Rattle.oxc_sourcemap_text.proofs.Chunks.{pieces-is}
 use Rattle.oxc_sourcemap_text.proofs.Order.{back_from-all}
 use Rattle.oxc_sourcemap_text.proofs.RoundTrip.{are-within, round_trip, bare-of_carried, bare-from_canonical, canonical-from_bare}
-use Rattle.oxc_sourcemap_text.proofs.Again.{reads_of, read_again}
+use Rattle.oxc_sourcemap_text.proofs.Again.{reads_of, read_again, bounds_within}
 use Rattle.std.proofs.Common.{◌∙◌, sym}
 use Rattle.std.proofs.lemmas.List.Elements.{recursion_from_All}
 use Rattle.oxc_sourcemap_text.specs.Token.{IsInBounds}
-use Rattle.oxc_sourcemap_map.proofs.ReadsBack.{is_written, reads_back}
+use Rattle.oxc_sourcemap_map.proofs.ReadsBack.{is_written, is_too_large, reads_back}
+use Rattle.oxc_sourcemap_map.proofs.ReadSound.{read_in_bounds}
+use Rattle.oxc_sourcemap_map.proofs.Rewriting.{stays_sound}
 use Rattle.oxc_sourcemap.proofs.laws.canonical_unique.Goals as goal
 
 pub returns-clause-unique : goal.returns-clause-unique
@@ -15,7 +17,9 @@ pub returns-clause-reads_back : goal.returns-clause-reads_back
 returns-clause-reads_back c = λ names sources tokens p w. (round_trip names sources tokens (are-within names sources tokens (recursion_from_All IsInBounds tokens p.in_bounds) w) p.in_order, bare-of_carried tokens)
 
 pub returns-clause-reads_again : goal.returns-clause-reads_again
-returns-clause-reads_again c = λ text names sources tokens e. (sym (back_from-all tokens) ∙ (reads_of text names sources tokens e).order 0, read_again text names sources tokens e)
+returns-clause-reads_again c = λ text names sources tokens e.
+    let r = reads_of text names sources tokens e in
+    (record { in_order = sym (back_from-all tokens) ∙ r.order 0; in_bounds = bounds_within names sources tokens r.within }, read_again text names sources tokens e)
 
 pub returns-clause-in_pieces : goal.returns-clause-in_pieces
 returns-clause-in_pieces c = pieces-is
@@ -23,5 +27,14 @@ returns-clause-in_pieces c = pieces-is
 pub returns-clause-sound_is_written : goal.returns-clause-sound_is_written
 returns-clause-sound_is_written c = is_written
 
+pub returns-clause-sound_is_too_large : goal.returns-clause-sound_is_too_large
+returns-clause-sound_is_too_large c = is_too_large
+
 pub returns-clause-sound_reads_back : goal.returns-clause-sound_reads_back
 returns-clause-sound_reads_back c = reads_back
+
+pub returns-clause-sound_stays_sound : goal.returns-clause-sound_stays_sound
+returns-clause-sound_stays_sound c = stays_sound
+
+pub returns-clause-read_is_in_bounds : goal.returns-clause-read_is_in_bounds
+returns-clause-read_is_in_bounds c = read_in_bounds

@@ -1,7 +1,7 @@
 use Rattle.std.proofs.Common.{◌≡◌, drop, map}
 use Rattle.std.specs.List.{position_from}
 use Rattle.std.specs.Str.{bytes_eq}
-use Rattle.oxc_sourcemap.specs.Building.{place_of}
+use Rattle.oxc_sourcemap_map.specs.Texts.{place_of}
 use Rattle.oxc_sourcemap.proofs.sourcemap_builder.position_of.Given as goal
 
 abbrev pub invariant-loop-i : goal.invariant-loop-i

@@ -1,5 +1,6 @@
 use Rattle.std.proofs.Common.{◌≡◌, ◌++◌, drop, None, string_bytes}
-use Rattle.oxc_sourcemap_text.specs.Encoding.{back_from, state_of, text_from, OnlyAdds}
+use Rattle.oxc_sourcemap_text.specs.Canonical.{back_from}
+use Rattle.oxc_sourcemap_text.specs.Encoding.{state_of, text_from, OnlyAdds}
 use Rattle.oxc_sourcemap_text.proofs.encode.push_tokens.Given as goal
 
 abbrev pub invariant-loop-token : goal.invariant-loop-token

@@ -1,0 +1,113 @@
+-- Joins: several maps as one, each some lines further down, its ids raised to where its names and sources are listed.
+use Rattle.std.specs.Prelude.{ℕ, zero, suc, ◌+◌, Bool, true, false, ◌&&◌, ◌≤◌, List, [], ◌∷◌, ◌++◌, map, length, Option, Some, None, if◌then◌else◌, ◌==◌}
+use Rattle.std.specs.Borrow.{Bor}
+use Rattle.std.specs.Option.{option_map, unwrap_or}
+use Rattle.oxc_sourcemap_text.specs.declared.token.TokenChunk.{TokenChunk}
+use Rattle.oxc_sourcemap_text.specs.Token.{TokenRecord, AreInBounds}
+use Rattle.oxc_sourcemap_text.specs.State.{state_at}
+use Rattle.oxc_sourcemap_text.specs.Chunks.{chunk_from}
+use Rattle.oxc_sourcemap_map.specs.Record.{Text, MapRecord}
+use Rattle.oxc_sourcemap_map.specs.Lookup.{last}
+
+-- contents padded with none, or cut, to this number
+abbrev pub fitted : ℕ → List (Option Text) → List (Option Text)
+fitted zero contents = []
+fitted (suc n) [] = None ∷ fitted n []
+fitted (suc n) (content ∷ contents) = content ∷ fitted n contents
+
+-- an id raised by a number; none stays none
+abbrev pub raised_id : ℕ → Option ℕ → Option ℕ
+raised_id number id = option_map (λ i. i + number) id
+
+-- a token of a map whose names and sources stand behind so many others, this many lines further down
+abbrev pub shifted : ℕ → ℕ → ℕ → TokenRecord → TokenRecord
+shifted names sources offset t = record t {
+  dst_line = t.dst_line + offset;
+  source_id = raised_id sources t.source_id;
+  name_id = raised_id names t.name_id;
+}
+
+-- equality of options, as a test
+abbrev pub is_same_option : {A : Type 0} → (A → A → Bool) → Option A → Option A → Bool
+is_same_option same None None = true
+is_same_option same None (Some y) = false
+is_same_option same (Some x) None = false
+is_same_option same (Some x) (Some y) = same x y
+
+-- equality of ids, where they are there
+abbrev pub is_same_id : Option ℕ → Option ℕ → Bool
+is_same_id a b = is_same_option (λ i j. i == j) a b
+
+-- equality of tokens in all six fields, as a test
+abbrev pub is_same_token : TokenRecord → TokenRecord → Bool
+is_same_token a b =
+    a.dst_line == b.dst_line && (a.dst_col == b.dst_col && (a.src_line == b.src_line
+    && (a.src_col == b.src_col && (is_same_id a.source_id b.source_id && is_same_id a.name_id b.name_id))))
+
+-- A list behind this item, where there is one: without its own first item where the two are the same. No other item is
+-- left out.
+abbrev pub without_repeat : {A : Type 0} → (A → A → Bool) → Option A → List A → List A
+without_repeat same None items = items
+without_repeat same (Some x) [] = []
+without_repeat same (Some x) (item ∷ items) = if same x item then items else item ∷ items
+
+-- two lists end to end; where the second begins with the last item of the first, that stands once
+abbrev pub seamed : {A : Type 0} → (A → A → Bool) → List A → List A → List A
+seamed same xs ys = xs ++ without_repeat same (last xs) ys
+
+-- the tokens of a join, and behind them those of a map
+abbrev pub added_tokens : MapRecord → MapRecord → ℕ → List TokenRecord
+added_tokens r m offset = seamed is_same_token r.tokens (map (shifted (length r.names) (length r.sources) offset) m.tokens)
+
+-- the chunk of what is added: its header is the state behind all tokens so far
+abbrev pub added_chunk : MapRecord → MapRecord → ℕ → TokenChunk
+added_chunk r m offset = chunk_from (state_at r.tokens (length r.tokens)) (length r.tokens) (length (added_tokens r m offset))
+
+-- A join, and a map behind it. The join has one content for each source, a chunk for each map, and no file, source root,
+-- ignore list or debug id.
+abbrev pub added : MapRecord → MapRecord → ℕ → MapRecord
+added r m offset = record {
+  file = None;
+  names = r.names ++ m.names;
+  source_root = None;
+  sources = r.sources ++ m.sources;
+  source_contents = fitted (length (r.sources ++ m.sources)) (r.source_contents ++ m.source_contents);
+  tokens = added_tokens r m offset;
+  token_chunks = Some (unwrap_or r.token_chunks [] ++ added_chunk r m offset ∷ []);
+  ignore_list = None;
+  debug_id = None;
+}
+
+-- the join of no maps
+abbrev pub nothing_joined : MapRecord
+nothing_joined = record {
+  file = None;
+  names = [];
+  source_root = None;
+  sources = [];
+  source_contents = [];
+  tokens = [];
+  token_chunks = Some [];
+  ignore_list = None;
+  debug_id = None;
+}
+
+-- a join, and behind it these maps, each at its offset
+abbrev pub added_all : MapRecord → List (MapRecord × ℕ) → MapRecord
+added_all r [] = r
+added_all r (m ∷ ms) = added_all (added r m.0 m.1) ms
+
+-- the join of these maps, each at its offset
+abbrev pub joined : List (MapRecord × ℕ) → MapRecord
+joined maps = added_all nothing_joined maps
+
+-- maps that a call is lent, each with its offset
+abbrev pub lent_maps : List (Bor MapRecord × ℕ) → List (MapRecord × ℕ)
+lent_maps maps = map (λ m. (m.0.now, m.1)) maps
+
+-- A map within limits: at most 4294967295 names, sources and tokens, and all tokens in bounds.
+pub record IsWithinLimits (r : MapRecord) : Type 0 where
+  pub names : length r.names ≤ 4294967295
+  pub sources : length r.sources ≤ 4294967295
+  pub tokens : length r.tokens ≤ 4294967295
+  pub in_bounds : AreInBounds r.tokens

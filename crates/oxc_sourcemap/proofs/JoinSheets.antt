@@ -7,9 +7,9 @@ use Rattle.oxc_sourcemap_text.specs.Token.{TokenRecord}
 use Rattle.oxc_sourcemap_map.specs.Record.{Text, MapRecord}
 use Rattle.oxc_sourcemap_map.specs.Sound.{IsInRange}
 use Rattle.oxc_sourcemap_map.specs.Sheet.{Source, sources_of, name_of, entry_of, sheet_of}
-use Rattle.oxc_sourcemap_map.specs.Joined.{fitted, is_same_token, seamed, joined}
-use Rattle.oxc_sourcemap_map.proofs.SameToken.{decides_token}
-use Rattle.oxc_sourcemap_map.proofs.Fitted.{length-fitted}
+use Rattle.oxc_sourcemap_join.specs.Joined.{fitted, is_same_token, seamed, joined}
+use Rattle.oxc_sourcemap_join.proofs.SameToken.{decides_token}
+use Rattle.oxc_sourcemap_join.proofs.Fitted.{length-fitted}
 use Rattle.oxc_sourcemap.specs.Squeezed.{squeezed, is_same_entry, Alike}
 use Rattle.oxc_sourcemap.specs.JoinedSheets.{lowered, joined_sheets}
 use Rattle.oxc_sourcemap.specs.JoinLaws.{AreAllInRange, sheets_of}

@@ -7,10 +7,10 @@ use Rattle.oxc_sourcemap_map.specs.Record.{MapRecord}
 use Rattle.oxc_sourcemap_map.specs.Sorted.{are_tokens_sorted}
 use Rattle.oxc_sourcemap_map.specs.Sound.{IsInRange, AreIdsInRange}
 use Rattle.oxc_sourcemap_map.specs.Sheet.{Sheet, sources_of, sheet_of}
-use Rattle.oxc_sourcemap_map.specs.Joined.{is_same_token, joined}
-use Rattle.oxc_sourcemap_map.proofs.SameToken.{decides_token}
+use Rattle.oxc_sourcemap_join.specs.Joined.{is_same_token, joined}
+use Rattle.oxc_sourcemap_join.proofs.SameToken.{decides_token}
 use Rattle.oxc_sourcemap_map.proofs.Rewriting.{sorted-tokens}
-use Rattle.oxc_sourcemap_map.proofs.Joining.{chunks_joined}
+use Rattle.oxc_sourcemap_join.proofs.Joining.{chunks_joined}
 use Rattle.oxc_sourcemap.specs.Squeezed.{Alike, is_sorted_sheet}
 use Rattle.oxc_sourcemap.specs.JoinedSheets.{joined_sheets}
 use Rattle.oxc_sourcemap.specs.JoinLaws.{AreAlike, AreAllInRange, sheets_of, StandsFor, AllStandFor}

@@ -7,9 +7,9 @@ use Rattle.std.proofs.lemmas.List.{append-nil, length-append}
 use Rattle.oxc_sourcemap_text.specs.declared.token.TokenChunk.{TokenChunk}
 use Rattle.oxc_sourcemap_text.specs.Token.{TokenRecord}
 use Rattle.oxc_sourcemap_map.specs.Record.{Text, MapRecord}
-use Rattle.oxc_sourcemap_map.specs.Joined.{fitted, shifted, is_same_id, is_same_token, seamed, added_tokens, added, nothing_joined, added_all, joined}
-use Rattle.oxc_sourcemap_map.proofs.SameToken.{decides_token}
-use Rattle.oxc_sourcemap_map.proofs.Fitted.{length-fitted, fitted-exact, fitted-more}
+use Rattle.oxc_sourcemap_join.specs.Joined.{fitted, shifted, is_same_id, is_same_token, seamed, added_tokens, added, nothing_joined, added_all, joined}
+use Rattle.oxc_sourcemap_join.proofs.SameToken.{decides_token}
+use Rattle.oxc_sourcemap_join.proofs.Fitted.{length-fitted, fitted-exact, fitted-more}
 use Rattle.oxc_sourcemap.specs.JoinLaws.{Group, groups_joined, maps_of, without_chunks}
 use Rattle.oxc_sourcemap.proofs.Seams.{seamed_assoc, seamed_nil, seamed-map}
 

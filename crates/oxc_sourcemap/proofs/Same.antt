@@ -5,7 +5,7 @@ use Rattle.std.specs.Cmp.Lexicographic.{bytes_decides}
 use Rattle.std.specs.Str.{bytes_eq}
 use Rattle.std.proofs.lemmas.Bool.Decides.{Decides-eqb}
 use Rattle.oxc_sourcemap_map.specs.Sheet.{Source, Origin, Entry}
-use Rattle.oxc_sourcemap_map.proofs.SameToken.{decides_and, decides_as, decides_option}
+use Rattle.oxc_sourcemap_join.proofs.SameToken.{decides_and, decides_as, decides_option}
 use Rattle.oxc_sourcemap.specs.Squeezed.{is_same_source, is_same_origin, is_same_entry}
 
 pub source_by : (a : Source) (x0 : List ℕ) (x1 : Option (List ℕ)) → a.path ≡ x0 → a.content ≡ x1 → a ≡ record { path = x0; content = x1 }

@@ -4,7 +4,7 @@ use Rattle.std.specs.Bool.{Decides}
 use Rattle.std.specs.List.{AllByRecursion, last_or}
 use Rattle.std.proofs.lemmas.List.{length-append}
 use Rattle.oxc_sourcemap_map.specs.Lookup.{last}
-use Rattle.oxc_sourcemap_map.specs.Joined.{without_repeat, seamed}
+use Rattle.oxc_sourcemap_join.specs.Joined.{without_repeat, seamed}
 use Rattle.oxc_sourcemap.proofs.Squeezing.{IsBlind}
 
 -- `seamed`, by recursion

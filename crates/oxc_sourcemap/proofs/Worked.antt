@@ -5,7 +5,7 @@ use Rattle.oxc_sourcemap_map.specs.Record.{Text, MapRecord}
 use Rattle.oxc_sourcemap_map.specs.Views.{empty_record}
 use Rattle.oxc_sourcemap_map.specs.Sheet.{Entry, sheet_of}
 use Rattle.oxc_sourcemap_map.specs.Trace.{trace}
-use Rattle.oxc_sourcemap_map.specs.Joined.{joined, shifted}
+use Rattle.oxc_sourcemap_join.specs.Joined.{joined, shifted}
 use Rattle.std.specs.Fmt.{digits, debug_escape}
 use lib.Utf8.{encode}
 use Rattle.base64.specs.Rfc4648.{encode_symbols}

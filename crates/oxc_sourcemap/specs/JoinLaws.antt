@@ -8,7 +8,7 @@ use Rattle.oxc_sourcemap_map.specs.Sorted.{are_tokens_sorted}
 use Rattle.oxc_sourcemap_map.specs.Sound.{IsInRange, AreIdsInRange, IsSound}
 use Rattle.oxc_sourcemap_map.specs.Sheet.{Entry, Sheet, sheet_of}
 use Rattle.oxc_sourcemap_map.specs.Trace.{trace, clamped_trace}
-use Rattle.oxc_sourcemap_map.specs.Joined.{joined}
+use Rattle.oxc_sourcemap_join.specs.Joined.{joined}
 use Rattle.oxc_sourcemap.specs.Squeezed.{squeezed_sheet, Alike, is_sorted_sheet}
 use Rattle.oxc_sourcemap.specs.JoinedSheets.{joined_sheets}
 

@@ -43,4 +43,4 @@ pub use Rattle.oxc_sourcemap_map.specs.Encoded
 pub use Rattle.oxc_sourcemap_map.specs.ReadMap
 pub use Rattle.oxc_sourcemap_map.specs.JsonText
 pub use Rattle.oxc_sourcemap_map.specs.MapLaws
-pub use Rattle.oxc_sourcemap_map.specs.Joined
+pub use Rattle.oxc_sourcemap_join.specs.Joined

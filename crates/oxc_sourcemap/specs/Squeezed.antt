@@ -4,7 +4,7 @@ use Rattle.std.specs.Str.{bytes_eq}
 use Rattle.oxc_sourcemap_map.specs.Sorted.{is_sorted_by}
 use Rattle.oxc_sourcemap_map.specs.Sheet.{Source, Origin, Entry, Sheet}
 use Rattle.oxc_sourcemap_map.specs.Trace.{entry_line, entry_column}
-use Rattle.oxc_sourcemap_map.specs.Joined.{is_same_option}
+use Rattle.oxc_sourcemap_join.specs.Joined.{is_same_option}
 
 -- a list that stands behind this item: what equals the item in front of it is left out
 abbrev pub squeezed_behind : {A : Type 0} → (A → A → Bool) → A → List A → List A

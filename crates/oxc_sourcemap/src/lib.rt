@@ -10,10 +10,10 @@ mod sourcemap_builder;
 mod sourcemap_visualizer;
 mod text_lines;
 
+pub use oxc_sourcemap_join::ConcatSourceMapBuilder;
 pub use oxc_sourcemap_map::{
-    ConcatSourceMapBuilder, Contents, Names, OwnedSourceMap, SourceMap, SourceMapParts,
-    SourceViewToken, Sources, Tokens, ViewTokens, decode, decode_from_string, encode,
-    encode_to_string,
+    Contents, Names, OwnedSourceMap, SourceMap, SourceMapParts, SourceViewToken, Sources, Tokens,
+    ViewTokens, decode, decode_from_string, encode, encode_to_string,
 };
 pub use oxc_sourcemap_text::{
     Error, Field, JSONSourceMap, JsonFault, Result, Token, TokenChunk, chunk_fault,

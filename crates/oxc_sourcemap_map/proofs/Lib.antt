@@ -12,9 +12,4 @@ pub mod Separated
 pub mod TakenNames
 pub mod Leads
 pub mod Compositions
-pub mod Fitted
-pub mod SameToken
-pub mod Joining
-pub mod Moving
-pub mod Adding
 mod Worked

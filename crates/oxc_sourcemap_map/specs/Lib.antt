@@ -15,5 +15,3 @@ pub mod ReadMap
 pub mod JsonText
 pub mod JsonParts
 pub mod MapLaws
-pub mod Joined
-pub mod Joining

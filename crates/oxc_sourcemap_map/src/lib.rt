@@ -1,11 +1,11 @@
 //! The map, borrowing or owned: its fields, iterators over them and views of its tokens; reading it from and writing
-//! it to a JSON source map, a JSON text and a data URL; and looking up in maps, joining and composing them.
+//! it to a JSON source map, a JSON text and a data URL; and looking up in maps and composing them.
 //!
-//! This crate stands below `oxc_sourcemap`, which users name, and which hands all public items of this one on.
+//! This crate stands below `oxc_sourcemap`, which users name, and which hands all public items of this one on. Joins of
+//! maps stand on it, in `oxc_sourcemap_join`.
 #![tactic(auto)]
 
 mod compose;
-mod concat_sourcemap_builder;
 mod iterators;
 mod json;
 mod json_text;
@@ -15,7 +15,6 @@ mod source_view_token;
 mod sourcemap;
 mod texts;
 
-pub use concat_sourcemap_builder::ConcatSourceMapBuilder;
 pub use iterators::{Contents, Names, Sources, Tokens, ViewTokens};
 pub use json::{decode, decode_from_string, encode};
 pub use json_text::encode_to_string;

@@ -1,4 +1,4 @@
-use Rattle.oxc_sourcemap_map.proofs.Joining.{fitting_chunks}
+use Rattle.oxc_sourcemap_join.proofs.Joining.{fitting_chunks}
 use Rattle.oxc_sourcemap.proofs.Joins.{joins_associative}
 use Rattle.oxc_sourcemap.proofs.laws.joins_associative.Goals as goal
 

@@ -1,0 +1,136 @@
+-- What an add works out is right.
+use Rattle.std.proofs.Common.{◌≡◌, ℕ, ◌+◌, ◌-◌, ◌≤◌, List, [], ◌∷◌, ◌++◌, length, take, drop, refl, sym, ap, ◌∙◌, subst, arith, Option, Some, None, Result, Ok, Err, IsErrAnd, IfErr, ◌⊎◌, inl, inr}
+use Rattle.oxc_sourcemap_text.specs.declared.error.Error.{Error}
+use Rattle.oxc_sourcemap_text.specs.declared.error.Error.TheVariants.{OutOfMemory, TooLarge}
+use Rattle.std.specs.List.{AllByRecursion, All}
+use Rattle.std.specs.Option.{unwrap_or}
+use Rattle.std.proofs.lemmas.List.{length-append, length-drop, take_all}
+use Rattle.std.proofs.lemmas.List.Elements.{All-append, All-from_recursion, recursion_from_All}
+use Rattle.oxc_sourcemap_text.specs.declared.token.TokenChunk.{TokenChunk}
+use Rattle.oxc_sourcemap_text.specs.Token.{TokenRecord, IsInBounds, AreInBounds}
+use Rattle.oxc_sourcemap_text.specs.State.{state_at}
+use Rattle.oxc_sourcemap_text.specs.Chunks.{chunk_from, ChunksFit}
+use Rattle.oxc_sourcemap_map.specs.Record.{Text, MapRecord}
+use Rattle.oxc_sourcemap_map.specs.Lookup.{last}
+use Rattle.oxc_sourcemap_join.specs.Joined.{fitted, shifted, is_same_token, without_repeat, added, added_tokens, added_chunk, nothing_joined, added_all, IsWithinLimits}
+use Rattle.oxc_sourcemap_join.specs.Joining.{IsJoin, all_shifted, IsAddition}
+use Rattle.oxc_sourcemap_join.specs.declared.concat_sourcemap_builder.Shift.{Shift}
+use Rattle.oxc_sourcemap_join.specs.declared.concat_sourcemap_builder.Addition.{Addition}
+use Rattle.oxc_sourcemap_join.proofs.Fitted.{length-fitted, fitted-more}
+use Rattle.oxc_sourcemap_join.proofs.Joining.{fit-added, added_all-continues, length-front, all-front}
+use Rattle.oxc_sourcemap_join.proofs.Moving.{repeat-in-bounds, kept-in-bounds, length-mapped}
+
+-- where a join is within limits, all tokens of the map, moved, are in bounds
+pub moved-in-bounds : (r m : MapRecord) (offset : ℕ) (s : Shift) → s.names ≡ length r.names → s.sources ≡ length r.sources → s.lines ≡ offset
+    → AreInBounds r.tokens → IsWithinLimits (added r m offset) → AreInBounds (all_shifted s m.tokens)
+moved-in-bounds r m offset s n o l h w =
+    repeat-in-bounds r.tokens (all_shifted s m.tokens)
+    (rw (n, o, l) w.in_bounds) h
+
+after : {A : Type 0} (P : A → Type 0) (xs ys : List A) → AllByRecursion P (xs ++ ys) → AllByRecursion P ys
+after P [] ys h = h
+after P (x ∷ xs) ys h = after P xs ys h.1
+
+module _ (r m : MapRecord) (offset : ℕ) (s : Shift) (passed : ℕ) (n : s.names ≡ length r.names) (o : s.sources ≡ length r.sources) (l : s.lines ≡ offset)
+    (k : all_shifted s (drop passed m.tokens) ≡ without_repeat is_same_token (last r.tokens) (all_shifted s m.tokens)) where
+  -- the tokens of the join, by what is kept
+  pub added-tokens : added_tokens r m offset ≡ r.tokens ++ all_shifted s (drop passed m.tokens)
+  added-tokens = rw k (rw (n, o, l) refl)
+
+  pub added-count : passed ≤ length m.tokens → length (added_tokens r m offset) ≡ length r.tokens + (length m.tokens - passed)
+  added-count p =
+      ap length added-tokens ∙ length-append r.tokens (all_shifted s (drop passed m.tokens))
+      ∙ ap (λ i. length r.tokens + i) (length-mapped (shifted s.names s.sources s.lines) (drop passed m.tokens) ∙ length-drop passed m.tokens)
+
+  pub addition-is : (chunk : TokenChunk) → AreInBounds r.tokens
+      → length r.names + length m.names ≤ 4294967295 → length r.sources + length m.sources ≤ 4294967295
+      → AreInBounds (all_shifted s m.tokens) → passed ≤ length m.tokens → length r.tokens + (length m.tokens - passed) ≤ 4294967295
+      → chunk ≡ chunk_from (state_at r.tokens (length r.tokens)) (length r.tokens) (length r.tokens + (length m.tokens - passed))
+      → IsAddition r m offset (record { shift = s; passed = passed; chunk = chunk })
+  addition-is chunk b nn ss ib p tt c = record {
+    names = n;
+    sources = o;
+    lines = l;
+    passed = p;
+    kept = k;
+    chunk = c ∙ ap (chunk_from (state_at r.tokens (length r.tokens)) (length r.tokens)) (sym (added-count p));
+    within = record {
+      names = omega (arith, length-append r.names m.names);
+      sources = omega (arith, length-append r.sources m.sources);
+      tokens = omega (arith, added-count p);
+      in_bounds = subst AreInBounds (sym added-tokens) (All-append IsInBounds r.tokens (all_shifted s (drop passed m.tokens)) b
+          (subst AreInBounds (sym k) (kept-in-bounds (last r.tokens) (all_shifted s m.tokens) ib)));
+    };
+  }
+
+behind : {A : Type 0} (P : A → Type 0) (xs ys : List A) → All P (xs ++ ys) → All P ys
+behind P xs ys h = All-from_recursion P ys (after P xs ys (recursion_from_All P (xs ++ ys) h))
+
+-- the tokens that are kept, moved, are in bounds
+pub kept-are-in-bounds : (r m : MapRecord) (offset : ℕ) (a : Addition) → IsAddition r m offset a → AreInBounds (all_shifted a.shift (drop a.passed m.tokens))
+kept-are-in-bounds r m offset a h =
+    subst AreInBounds (sym h.kept) (behind IsInBounds r.tokens (without_repeat is_same_token (last r.tokens) (all_shifted a.shift m.tokens))
+    (rw (h.names, h.sources, h.lines) h.within.in_bounds))
+
+module _ (r m : MapRecord) (offset : ℕ) (a : Addition) (h : IsAddition r m offset a) (chunks : List TokenChunk) (has : r.token_chunks ≡ Some chunks)
+    (each : length r.sources ≡ length r.source_contents)
+    (ns ss : List Text) (cs : List (Option Text)) (ts : List TokenRecord) (ks : List TokenChunk)
+    (en : ns ≡ r.names ++ m.names) (es : ss ≡ r.sources ++ m.sources) (ec : cs ≡ r.source_contents ++ fitted (length m.sources) m.source_contents)
+    (et : ts ≡ r.tokens ++ all_shifted a.shift (drop a.passed m.tokens)) (ek : ks ≡ chunks ++ a.chunk ∷ []) where
+  contents-is : cs ≡ fitted (length (r.sources ++ m.sources)) (r.source_contents ++ m.source_contents)
+  contents-is = ec ∙ sym (ap (λ n. fitted n (r.source_contents ++ m.source_contents)) (length-append r.sources m.sources) ∙ fitted-more r.sources m.sources r.source_contents m.source_contents each)
+
+  tokens-is : ts ≡ added_tokens r m offset
+  tokens-is = et ∙ sym (added-tokens r m offset a.shift a.passed h.names h.sources h.lines h.kept)
+
+  chunks-is : ks ≡ unwrap_or r.token_chunks [] ++ added_chunk r m offset ∷ []
+  chunks-is = ek ∙ ap (λ k. chunks ++ k ∷ []) h.chunk ∙ ap (λ o. unwrap_or o [] ++ added_chunk r m offset ∷ []) (sym has)
+
+  -- what the lists of a join become is the join with one map more
+  pub added-is : record { file = None; names = ns; source_root = None; sources = ss; source_contents = cs; tokens = ts; token_chunks = Some ks; ignore_list = None; debug_id = None } ≡ added r m offset
+  added-is = rw (en, es, contents-is, tokens-is, chunks-is) refl
+
+  -- and they are those of a join in the making
+  pub join-is : ChunksFit r.tokens chunks → IsJoin ns ss cs ts ks
+  join-is f = rw (en, es, contents-is, tokens-is, chunks-is) (record {
+    names = h.within.names;
+    sources = h.within.sources;
+    contents = sym (length-fitted (length (r.sources ++ m.sources)) (r.source_contents ++ m.source_contents));
+    tokens = h.within.tokens;
+    in_bounds = h.within.in_bounds;
+    fit = fit-added r m offset (subst (λ o. ChunksFit r.tokens (unwrap_or o [])) (sym has) f);
+  })
+
+-- all items behind some
+pub all-behind-some : {A : Type 0} (p : ℕ) (xs : List A) → take (length xs - p) (drop p xs) ≡ drop p xs
+all-behind-some p xs = take_all (length xs - p) (drop p xs) (omega (arith, length-drop p xs))
+
+-- two lists end to end, each as said
+pub glued : {A : Type 0} {xs ys us vs : List A} → xs ≡ ys → us ≡ vs → xs ++ us ≡ ys ++ vs
+glued {xs = xs} {ys = ys} {us = us} {vs = vs} p q = ap (λ zs. zs ++ us) p ∙ ap (λ zs. ys ++ zs) q
+
+-- ---- many maps
+-- what is in front of more adds is within limits where all is
+pub front-within : (r : MapRecord) (ms : List (MapRecord × ℕ)) → IsWithinLimits (added_all r ms) → IsWithinLimits r
+front-within r ms w =
+    let f = added_all-continues r ms in
+    record {
+      names = omega (arith, w.names, length-front r.names (added_all r ms).names f.names);
+      sources = omega (arith, w.sources, length-front r.sources (added_all r ms).sources f.sources);
+      tokens = omega (arith, w.tokens, length-front r.tokens (added_all r ms).tokens f.tokens);
+      in_bounds = All-from_recursion IsInBounds r.tokens (all-front IsInBounds r.tokens (added_all r ms).tokens f.tokens (recursion_from_All IsInBounds (added_all r ms).tokens w.in_bounds));
+    }
+
+pub nothing-within : IsWithinLimits nothing_joined
+nothing-within = record { names = omega arith; sources = omega arith; tokens = omega arith; in_bounds = All-from_recursion IsInBounds [] tt }
+
+-- a refusal of an add, as the refusal of all adds
+pub refusal-of-all : (r m : MapRecord) (offset : ℕ) (ms rest : List (MapRecord × ℕ)) (all : MapRecord) → added_all r ms ≡ all → ms ≡ (m, offset) ∷ rest → (e : Error)
+    → (e ≡ OutOfMemory) ⊎ (e ≡ TooLarge) → (e ≡ TooLarge → ¬ (IsWithinLimits (added r m offset))) → (e ≡ OutOfMemory) ⊎ ((e ≡ TooLarge) × ¬ (IsWithinLimits all))
+refusal-of-all r m offset ms rest all p q e (inl o) h = inl o
+refusal-of-all r m offset ms rest all p q e (inr l) h =
+    inr (l, λ w. h l (front-within (added r m offset) rest (subst IsWithinLimits (sym p ∙ ap (added_all r) q) w)))
+
+pub carried_error : {T E : Type 0} (result : Result T E) (fault : E) (P : E → Type 0) → IsErrAnd result (λ e. e ≡ fault) → P fault → IfErr result P
+carried_error (Ok x) fault P same p = tt
+carried_error (Err e) fault P same p = subst P (sym same) p

@@ -1,0 +1,6 @@
+pub mod Fitted
+pub mod SameToken
+pub mod Joining
+pub mod Moving
+pub mod Adding
+mod Worked

@@ -1,0 +1,97 @@
+-- Tokens moved to their place in a join, and contents fitted to sources.
+use Rattle.std.proofs.Common.{◌≡◌, ℕ, zero, suc, ◌-◌, ◌<◌, List, [], ◌∷◌, ◌++◌, map, length, take, replicate, get_or, refl, sym, ap, ◌∙◌, subst, arith, Option, Some, None, slice_get, true, false, cond}
+use Rattle.std.specs.List.{All, AllByRecursion}
+use Rattle.std.specs.Option.{IfSome, option_map, unwrap_or}
+use Rattle.std.specs.Iterator.{YieldsFirstBy}
+use Rattle.std.proofs.lemmas.List.{get_or-map, take-map}
+use Rattle.std.proofs.lemmas.List.Elements.{All-get_or, All-from_recursion, recursion_from_All}
+use Rattle.oxc_sourcemap_text.specs.Token.{TokenRecord, IsInBounds, AreInBounds}
+use Rattle.oxc_sourcemap_map.specs.Record.{Text}
+use Rattle.oxc_sourcemap_map.specs.Lookup.{last}
+use Rattle.oxc_sourcemap_join.specs.Joined.{fitted, is_same_token, without_repeat}
+use Rattle.oxc_sourcemap_join.proofs.SameToken.{decides_token}
+
+pub length-mapped : {A B : Type 0} (f : A → B) (xs : List A) → length (map f xs) ≡ length xs
+length-mapped f [] = refl
+length-mapped f (x ∷ xs) = ap suc (length-mapped f xs)
+
+-- an item of a mapped list
+pub all-mapped-at : {A B : Type 0} (P : B → Type 0) (f : A → B) (xs : List A) (i : ℕ) (d : A) → i < length xs → All P (map f xs) → P (f (get_or xs i d))
+all-mapped-at P f xs i d h a = subst P (get_or-map f xs i d (f d) h) (All-get_or P (map f xs) i (f d) (omega (arith, length-mapped f xs)) a)
+
+fitted-none : (n : ℕ) → fitted n [] ≡ replicate n None
+fitted-none zero = refl
+fitted-none (suc n) = ap (λ cs. None ∷ cs) (fitted-none n)
+
+-- contents, padded or cut
+pub fitted-parts : (n : ℕ) (cs : List (Option Text)) → fitted n cs ≡ take n cs ++ replicate (n - length (take n cs)) None
+fitted-parts zero cs = refl
+fitted-parts (suc n) [] = let e : suc n ≡ suc n - 0 = omega arith in fitted-none (suc n) ∙ ap (λ k. replicate k None) e
+fitted-parts (suc n) (c ∷ cs) =
+    let e : n - length (take n cs) ≡ suc n - suc (length (take n cs)) = omega arith in
+    ap (λ ds. c ∷ ds) (fitted-parts n cs ∙ ap (λ k. take n cs ++ replicate k None) e)
+
+-- contents cut, and as many unknown ones as are missing
+pub fitted-cut : {A : Type 0} (f : A → Option Text) (n k : ℕ) (xs : List A) → k ≡ length (take n xs) → map f (take n xs) ++ replicate (n - k) None ≡ fitted n (map f xs)
+fitted-cut f n k xs e =
+    ap (λ j. map f (take n xs) ++ replicate (n - j) None) (e ∙ sym (length-mapped f (take n xs)))
+    ∙ ap (λ ys. ys ++ replicate (n - length ys) None) (sym (take-map f n xs)) ∙ sym (fitted-parts n (map f xs))
+
+-- contents, padded or cut, by what the next call on their iterator gives
+pub fitted-next : {A : Type 0} (view : A → Option Text) (n : ℕ) (cs ds : List (Option Text)) (r : Option A) → YieldsFirstBy view (λ left. left) cs r ds
+    → fitted (suc n) cs ≡ unwrap_or (option_map view r) None ∷ fitted n ds
+fitted-next view n cs ds None h = ap (fitted (suc n)) h.0 ∙ ap (λ es. None ∷ fitted n es) (sym h.1)
+fitted-next view n cs ds (Some x) h = ap (fitted (suc n)) h
+
+-- the last item, by its index
+pub last-slice_get : {A : Type 0} (xs : List A) → last xs ≡ slice_get xs (length xs - 1)
+last-slice_get [] = refl
+last-slice_get (x ∷ []) = refl
+last-slice_get (x ∷ y ∷ xs) =
+    let e : length (y ∷ xs) - 1 ≡ length xs = omega arith in
+    let f : length (x ∷ y ∷ xs) - 1 ≡ suc (length xs) = omega arith in
+    last-slice_get (y ∷ xs) ∙ ap (slice_get (y ∷ xs)) e ∙ sym (ap (slice_get (x ∷ y ∷ xs)) f)
+
+-- ---- bounds
+all-behind : {A : Type 0} (P : A → Type 0) (xs ys : List A) → AllByRecursion P (xs ++ ys) → AllByRecursion P ys
+all-behind P [] ys h = h
+all-behind P (x ∷ xs) ys h = all-behind P xs ys h.1
+
+last-holds : {A : Type 0} (P : A → Type 0) (xs : List A) → AllByRecursion P xs → IfSome (last xs) P
+last-holds P [] h = tt
+last-holds P (x ∷ []) h = h.0
+last-holds P (x ∷ y ∷ xs) h = last-holds P (y ∷ xs) h.1
+
+with-repeat : (o : Option TokenRecord) (us : List TokenRecord) → IfSome o IsInBounds → AllByRecursion IsInBounds (without_repeat is_same_token o us) → AllByRecursion IsInBounds us
+with-repeat None us h g = g
+with-repeat (Some x) [] h g = g
+with-repeat (Some x) (u ∷ us) h g =
+    elim (is_same_token x u) as (λ b. is_same_token x u ≡ b → AllByRecursion IsInBounds (cond b us (u ∷ us)) → AllByRecursion IsInBounds (u ∷ us)) [
+      | true ↦ (λ e k. (subst IsInBounds ((decides_token x u).0 e) h, k))
+      | false ↦ (λ e k. k)
+    ] refl g
+
+-- where what is kept behind some tokens is in bounds, so is what was left out
+pub repeat-in-bounds : (ts us : List TokenRecord) → AreInBounds (ts ++ without_repeat is_same_token (last ts) us) → AreInBounds ts → AreInBounds us
+repeat-in-bounds ts us g h =
+    All-from_recursion IsInBounds us (with-repeat (last ts) us (last-holds IsInBounds ts (recursion_from_All IsInBounds ts h))
+    (all-behind IsInBounds ts (without_repeat is_same_token (last ts) us) (recursion_from_All IsInBounds (ts ++ without_repeat is_same_token (last ts) us) g)))
+
+without-in-bounds : (o : Option TokenRecord) (us : List TokenRecord) → AllByRecursion IsInBounds us → AllByRecursion IsInBounds (without_repeat is_same_token o us)
+without-in-bounds None us h = h
+without-in-bounds (Some x) [] h = h
+without-in-bounds (Some x) (u ∷ us) h =
+    elim (is_same_token x u) as (λ b. AllByRecursion IsInBounds (cond b us (u ∷ us))) [ true ↦ h.1 | false ↦ h ]
+
+-- what is kept is in bounds where all is
+pub kept-in-bounds : (o : Option TokenRecord) (us : List TokenRecord) → AreInBounds us → AreInBounds (without_repeat is_same_token o us)
+kept-in-bounds o us h = All-from_recursion IsInBounds _ (without-in-bounds o us (recursion_from_All IsInBounds us h))
+
+-- a first token that is not the one in front is kept
+pub first-kept : (f : TokenRecord → TokenRecord) (x : TokenRecord) (ts : List TokenRecord) (t : TokenRecord) → slice_get ts 0 ≡ Some t → is_same_token x (f t) ≡ false
+    → map f ts ≡ without_repeat is_same_token (Some x) (map f ts)
+first-kept f x [] t e h = refl
+first-kept f x (u ∷ ts) t e h =
+    let same : u ≡ t = cc in
+    let other : is_same_token x (f u) ≡ false = ap (λ v. is_same_token x (f v)) same ∙ h in
+    rw other

@@ -1,0 +1,79 @@
+-- Worked examples of joins, computed by the definitions themselves.
+use Rattle.std.specs.Prelude.{◌≡◌, refl, ℕ, List, [], ◌∷◌, codes, Option, Some, None}
+use Rattle.oxc_sourcemap_text.specs.declared.token.TokenChunk.{TokenChunk}
+use Rattle.oxc_sourcemap_text.specs.Token.{TokenRecord}
+use Rattle.oxc_sourcemap_text.specs.Canonical.{canonical, text_behind, token_text, separator, vlq_text, digits, letter}
+use Rattle.oxc_sourcemap_map.specs.Record.{MapRecord}
+use Rattle.oxc_sourcemap_map.specs.Views.{empty_record}
+use Rattle.oxc_sourcemap_join.specs.Joined.{joined}
+
+-- generated line and column, source line and column, source id, name id
+abbrev token : ℕ → ℕ → ℕ → ℕ → Option ℕ → Option ℕ → TokenRecord
+token dst_line dst_col src_line src_col source_id name_id =
+    record { dst_line = dst_line; dst_col = dst_col; src_line = src_line; src_col = src_col; source_id = source_id; name_id = name_id }
+
+-- start and end, then what the header says: generated line and column, source line and column, name id, source id
+abbrev chunk : ℕ → ℕ → ℕ → ℕ → ℕ → ℕ → ℕ → ℕ → TokenChunk
+chunk start end dst_line dst_col src_line src_col name_id source_id =
+    record { start = start; end = end; prev_dst_line = dst_line; prev_dst_col = dst_col; prev_src_line = src_line; prev_src_col = src_col; prev_name_id = name_id; prev_source_id = source_id }
+
+-- a map of these names, of these sources, and of these tokens
+abbrev plain : List (List ℕ) → List (List ℕ) → List TokenRecord → MapRecord
+plain names sources tokens = record empty_record { names = names; sources = sources; tokens = tokens }
+
+-- the second map has no tokens
+abbrev one_source_each : MapRecord
+one_source_each = joined (
+    (plain [] (codes "a.js" ∷ []) (token 0 0 5 3 (Some 0) None ∷ []), 0)
+    ∷ (plain [] (codes "b.js" ∷ []) [], 0)
+    ∷ (plain [] (codes "c.js" ∷ []) (token 0 2 1 1 (Some 0) None ∷ []), 1)
+    ∷ []
+    )
+
+joins-behind_a_map_without_tokens : one_source_each.tokens ≡ token 0 0 5 3 (Some 0) None ∷ token 1 2 1 1 (Some 2) None ∷ []
+joins-behind_a_map_without_tokens = refl
+
+joins-with_an_empty_chunk : one_source_each.token_chunks ≡ Some (chunk 0 1 0 0 0 0 0 0 ∷ chunk 1 1 0 0 5 3 0 0 ∷ chunk 1 2 0 0 5 3 0 0 ∷ [])
+joins-with_an_empty_chunk = refl
+
+writes-behind_a_map_without_tokens : canonical one_source_each.tokens ≡ codes "AAKG;EEJF"
+unfolding canonical text_behind token_text separator vlq_text digits letter
+writes-behind_a_map_without_tokens = refl
+
+-- an unmapped token with a name, which the header does not count
+abbrev three_names : MapRecord
+three_names = joined (
+    (plain (codes "x" ∷ codes "y" ∷ codes "z" ∷ []) (codes "a.js" ∷ []) (token 0 0 0 0 (Some 0) (Some 0) ∷ token 0 1 0 0 None (Some 2) ∷ []), 0)
+    ∷ (plain (codes "w" ∷ []) (codes "b.js" ∷ []) (token 0 0 0 0 (Some 0) (Some 0) ∷ []), 1)
+    ∷ []
+    )
+
+joins-behind_an_unmapped_token_with_a_name : three_names.tokens ≡ token 0 0 0 0 (Some 0) (Some 0) ∷ token 0 1 0 0 None (Some 2) ∷ token 1 0 0 0 (Some 1) (Some 3) ∷ []
+joins-behind_an_unmapped_token_with_a_name = refl
+
+joins-without_the_name_of_an_unmapped_token : three_names.token_chunks ≡ Some (chunk 0 2 0 0 0 0 0 0 ∷ chunk 2 3 0 1 0 0 0 0 ∷ [])
+joins-without_the_name_of_an_unmapped_token = refl
+
+writes-behind_an_unmapped_token_with_a_name : canonical three_names.tokens ≡ codes "AAAAA,C;ACAAG"
+unfolding canonical text_behind token_text separator vlq_text digits letter
+writes-behind_an_unmapped_token_with_a_name = refl
+
+-- the second map's only token repeats the first map's
+abbrev unmapped_twice : MapRecord
+unmapped_twice = joined ((plain [] [] (token 0 0 0 0 None None ∷ []), 0) ∷ (plain [] [] (token 0 0 0 0 None None ∷ []), 0) ∷ [])
+
+joins-once_what_repeats : unmapped_twice.tokens ≡ token 0 0 0 0 None None ∷ []
+joins-once_what_repeats = refl
+
+joins-an_empty_chunk_where_all_repeats : unmapped_twice.token_chunks ≡ Some (chunk 0 1 0 0 0 0 0 0 ∷ chunk 1 1 0 0 0 0 0 0 ∷ [])
+joins-an_empty_chunk_where_all_repeats = refl
+
+writes-once_what_repeats : canonical unmapped_twice.tokens ≡ codes "A"
+unfolding canonical text_behind token_text separator vlq_text digits letter
+writes-once_what_repeats = refl
+
+joins-contents_padded : (joined ((plain [] (codes "a.js" ∷ []) [], 0) ∷ (record (plain [] (codes "b.js" ∷ []) []) { source_contents = Some (codes "B") ∷ [] }, 1) ∷ [])).source_contents ≡ None ∷ Some (codes "B") ∷ []
+joins-contents_padded = refl
+
+joins-contents_cut : (joined ((record (plain [] (codes "a.js" ∷ []) []) { source_contents = Some (codes "A") ∷ Some (codes "EXTRA") ∷ [] }, 0) ∷ (record (plain [] (codes "b.js" ∷ []) []) { source_contents = Some (codes "B") ∷ [] }, 1) ∷ [])).source_contents ≡ Some (codes "A") ∷ Some (codes "B") ∷ []
+joins-contents_cut = refl

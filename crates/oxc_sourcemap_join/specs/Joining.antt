@@ -1,0 +1,35 @@
+-- How the private steps of a join are seen. No public contract speaks of these.
+use Rattle.std.specs.Prelude.{◌≡◌, ℕ, ◌≤◌, List, map, length, drop, Option}
+use Rattle.oxc_sourcemap_text.specs.Token.{TokenRecord, AreInBounds}
+use Rattle.oxc_sourcemap_text.specs.declared.token.TokenChunk.{TokenChunk}
+use Rattle.oxc_sourcemap_text.specs.Chunks.{ChunksFit}
+use Rattle.oxc_sourcemap_map.specs.Record.{Text, MapRecord}
+use Rattle.oxc_sourcemap_map.specs.Lookup.{last}
+use Rattle.oxc_sourcemap_join.specs.Joined.{shifted, is_same_token, without_repeat, added_chunk, added, IsWithinLimits}
+use Rattle.oxc_sourcemap_join.specs.declared.concat_sourcemap_builder.Shift.{Shift}
+use Rattle.oxc_sourcemap_join.specs.declared.concat_sourcemap_builder.Addition.{Addition}
+
+-- What a join in the making consists of: counts within limits, tokens in bounds, a content for each source, and chunks that
+-- fit.
+pub record IsJoin (ns ss : List Text) (cs : List (Option Text)) (ts : List TokenRecord) (chunks : List TokenChunk) : Type 0 where
+  pub names : length ns ≤ 4294967295
+  pub sources : length ss ≤ 4294967295
+  pub contents : length ss ≡ length cs
+  pub tokens : length ts ≤ 4294967295
+  pub in_bounds : AreInBounds ts
+  pub fit : ChunksFit ts chunks
+
+-- tokens, moved
+abbrev pub all_shifted : Shift → List TokenRecord → List TokenRecord
+all_shifted s tokens = map (shifted s.names s.sources s.lines) tokens
+
+-- What is worked out for a map behind a join: how its tokens are moved, how many of them are passed over in front, and the
+-- chunk of the others.
+pub record IsAddition (r m : MapRecord) (offset : ℕ) (a : Addition) : Type 0 where
+  pub names : a.shift.names ≡ length r.names
+  pub sources : a.shift.sources ≡ length r.sources
+  pub lines : a.shift.lines ≡ offset
+  pub passed : a.passed ≤ length m.tokens
+  pub kept : all_shifted a.shift (drop a.passed m.tokens) ≡ without_repeat is_same_token (last r.tokens) (all_shifted a.shift m.tokens)
+  pub chunk : a.chunk ≡ added_chunk r m offset
+  pub within : IsWithinLimits (added r m offset)

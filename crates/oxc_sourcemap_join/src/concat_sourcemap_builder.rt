@@ -1,0 +1,514 @@
+//! Joining maps into one.
+ghost use Rattle.std.specs.Prelude.{◌≡◌, ◌↔◌, ◌≤◌, ◌<◌, ◌+◌, ◌++◌, ◌⊎◌, ℕ, [], option_map, length, replicate, drop, Some, None, IsTrue, IfSome, IfOk, IfErr, IsErrOf, OnOk, OnErr, vec_len};
+ghost use Rattle.std.specs.Vec.{vec_capacity};
+ghost use Rattle.std.specs.Cow.{cow_str_bytes};
+ghost use Rattle.std.specs.Option.{unwrap_or};
+ghost use Rattle.oxc_sourcemap_text.specs.declared.error.Error.TheVariants.{OutOfMemory, TooLarge};
+ghost use Rattle.oxc_sourcemap_text.specs.Token.{IsInBounds, AreInBounds};
+ghost use Rattle.oxc_sourcemap_text.specs.Chunks.{ChunksFit};
+ghost use Rattle.oxc_sourcemap_map.specs.Views.{texts_of, contents_of};
+ghost use Rattle.oxc_sourcemap_map.specs.Lookup.{last};
+ghost use Rattle.oxc_sourcemap_join.specs.Joined.{fitted, raised_id, shifted, is_same_token, without_repeat, added, nothing_joined, joined, lent_maps, IsWithinLimits};
+ghost use Rattle.oxc_sourcemap_join.specs.Joining.{all_shifted, IsAddition};
+
+use oxc_sourcemap_map::{Contents, Names, OwnedSourceMap, SourceMap, SourceMapParts, Sources};
+use oxc_sourcemap_text::{Error, Result, Token, TokenChunk, next_chunk};
+use std::alloc::{AllocError, Global};
+use std::borrow::CowStr;
+use std::marker::Model;
+
+/// The largest count of names, sources or tokens of a join.
+const MAX_COUNT: usize = 4294967295;
+
+/// How the tokens of a map are moved to their place in a join: the numbers of names and sources in front, and the lines.
+#[derive(Clone, Copy)]
+struct Shift {
+    names: u32,
+    sources: u32,
+    lines: u32,
+}
+
+/// Whether an id raised by a number is at most 4294967294; none is.
+fn is_id_raisable(id: Option<u32>, number: u32) -> bool
+    ensures { IsTrue result ↔ IfSome (raised_id number id) (λ i. i < 4294967295) }
+{
+    match id {
+        Some(id) => u64::from(id) + u64::from(number) < 4294967295,
+        None => true,
+    }
+}
+
+/// An id raised by a number; none stays none.
+fn raised(id: Option<u32>, number: u32) -> Option<u32>
+    requires { IfSome (raised_id number id) (λ i. i < 4294967295) }
+    ensures { result ≡ raised_id number id }
+{
+    match id {
+        Some(id) => Some(id + number),
+        None => None,
+    }
+}
+
+impl Shift {
+    /// Whether the moved token is in bounds.
+    fn fits(&self, token: &Token) -> bool
+        ensures { IsTrue result ↔ IsInBounds (shifted self.now.names self.now.sources self.now.lines token.now) }
+    {
+        u64::from(token.get_dst_line()) + u64::from(self.lines) < 4294967296
+            && is_id_raisable(token.get_source_id(), self.sources)
+            && is_id_raisable(token.get_name_id(), self.names)
+    }
+
+    /// Whether all of the moved tokens are in bounds.
+    fn fits_all(&self, tokens: &[Token]) -> bool
+        ensures { IsTrue result ↔ AreInBounds (all_shifted self.now tokens.now) }
+    {
+        for token in tokens {
+            if !self.fits(token) {
+                return false;
+            }
+        }
+        true
+    }
+
+    /// The moved token.
+    fn moved(&self, token: &Token) -> Token
+        requires { IsInBounds (shifted self.now.names self.now.sources self.now.lines token.now) }
+        ensures { result ≡ shifted self.now.names self.now.sources self.now.lines token.now }
+    {
+        Token::new(
+            token.get_dst_line() + self.lines,
+            token.get_dst_col(),
+            token.get_src_line(),
+            token.get_src_col(),
+            raised(token.get_source_id(), self.sources),
+            raised(token.get_name_id(), self.names),
+        )
+    }
+
+    /// How many of the tokens of a map are passed over in front: one where the first, moved, equals the last token so far in
+    /// all six fields.
+    fn passed_over(&self, last_token: Option<Token>, tokens: &[Token]) -> usize
+        requires { AreInBounds (all_shifted self.now tokens.now) }
+        ensures kept { all_shifted self.now (drop result tokens.now) ≡ without_repeat is_same_token last_token (all_shifted self.now tokens.now) }
+        ensures within { result ≤ length tokens.now }
+    {
+        if let (Some(last_token), Some(first)) = (last_token, tokens.first()) {
+            if last_token == self.moved(first) {
+                return 1;
+            }
+        }
+        0
+    }
+}
+
+/// What is worked out before a map is added: how its tokens are moved, how many of them are passed over in front, and the
+/// chunk of the others.
+#[derive(Drop)]
+struct Addition {
+    shift: Shift,
+    passed: usize,
+    chunk: TokenChunk,
+}
+
+// Each of these calls `push_` is made where there is room for what it adds.
+
+/// Adds names, lent.
+fn push_names<'a>(texts: &mut Vec<CowStr<'a>>, lent: Names<'a, '_>)
+    requires { vec_len texts.old + length lent ≤ vec_capacity texts.old }
+    ensures { texts_of texts.new ≡ texts_of texts.old ++ lent.entry }
+{
+    for name in lent {
+        let pushed: std::result::Result<_, _> = texts.push(CowStr::Borrowed(name));
+        pushed.unwrap();
+    }
+}
+
+/// Adds sources, lent.
+fn push_sources<'a>(texts: &mut Vec<CowStr<'a>>, lent: Sources<'a, '_>)
+    requires { vec_len texts.old + length lent ≤ vec_capacity texts.old }
+    ensures { texts_of texts.new ≡ texts_of texts.old ++ lent.entry }
+{
+    for source in lent {
+        let pushed: std::result::Result<_, _> = texts.push(CowStr::Borrowed(source));
+        pushed.unwrap();
+    }
+}
+
+/// Adds this many unknown contents.
+fn push_unknown<'a>(contents: &mut Vec<Option<CowStr<'a>>>, count: usize)
+    requires { vec_len contents.old + count ≤ vec_capacity contents.old }
+    ensures { contents_of contents.new ≡ contents_of contents.old ++ replicate count None }
+{
+    for i in 0..count {
+        let pushed: std::result::Result<_, _> = contents.push(None);
+        pushed.unwrap();
+    }
+}
+
+/// A content, lent; one that is missing is unknown.
+fn lent_content<'a>(content: Option<Option<&'a str>>) -> Option<CowStr<'a>>
+    ensures { option_map cow_str_bytes result ≡ unwrap_or (option_map (option_map (λ text. text.now)) content.entry) None }
+{
+    match content {
+        Some(Some(content)) => Some(CowStr::Borrowed(content)),
+        _ => None,
+    }
+}
+
+/// Adds this many contents: these, lent, and padded with unknown ones or cut.
+fn push_lent_fitted<'a>(
+    contents: &mut Vec<Option<CowStr<'a>>>,
+    mut lent: Contents<'a, '_>,
+    count: usize,
+)
+    requires { vec_len contents.old + count ≤ vec_capacity contents.old }
+    ensures { contents_of contents.new ≡ contents_of contents.old ++ fitted count lent.entry }
+{
+    for id in 0..count {
+        let pushed: std::result::Result<_, _> = contents.push(lent_content(lent.next()));
+        pushed.unwrap();
+    }
+}
+
+/// Adds this many contents: these, moved, and padded with unknown ones or cut.
+fn push_fitted<'a>(
+    contents: &mut Vec<Option<CowStr<'a>>>,
+    mut added: Vec<Option<CowStr<'a>>>,
+    count: usize,
+)
+    requires { vec_len contents.old + count ≤ vec_capacity contents.old }
+    ensures { contents_of contents.new ≡ contents_of contents.old ++ fitted count (contents_of added.entry) }
+{
+    added.truncate(count);
+    let unknown = count - added.len();
+    let appended = contents.append(&mut added);
+    appended.unwrap();
+    push_unknown(contents, unknown);
+}
+
+/// Adds tokens, moved.
+fn push_moved(tokens: &mut Vec<Token>, shift: &Shift, added: &[Token])
+    requires room { vec_len tokens.old + length added.now ≤ vec_capacity tokens.old }
+    requires in_bounds { AreInBounds (all_shifted shift.now added.now) }
+    ensures { tokens.new.items ≡ tokens.old.items ++ all_shifted shift.now added.now }
+{
+    for token in added {
+        let pushed: std::result::Result<_, _> = tokens.push(shift.moved(token));
+        pushed.unwrap();
+    }
+}
+
+/// Joins maps into one, each some lines further down. The texts of a map that is lent are borrowed for `'a`, and those of a map
+/// that is taken are moved: a join copies no text.
+///
+/// An add that is refused leaves the builder as it was. Line order is not asked here; `SourceMap::is_sorted` tells.
+#[derive(Drop)]
+pub struct ConcatSourceMapBuilder<'a> {
+    alloc: Global,
+    names: Vec<CowStr<'a>>,
+    sources: Vec<CowStr<'a>>,
+    source_contents: Vec<Option<CowStr<'a>>>,
+    tokens: Vec<Token>,
+    token_chunks: Vec<TokenChunk>,
+}
+
+impl<'a> Model for ConcatSourceMapBuilder<'a> {
+    ghost use Rattle.std.specs.Prelude.{Some, None};
+    ghost use Rattle.oxc_sourcemap_map.specs.Record.{MapRecord};
+    ghost use Rattle.oxc_sourcemap_map.specs.Views.{texts_of, contents_of};
+    ghost use Rattle.oxc_sourcemap_join.specs.Joining.{IsJoin};
+
+    ghost Value = { MapRecord };
+
+    ghost view = { λ b. record {
+      file = None;
+      names = texts_of b.names;
+      source_root = None;
+      sources = texts_of b.sources;
+      source_contents = contents_of b.source_contents;
+      tokens = b.tokens.items;
+      token_chunks = Some b.token_chunks.items;
+      ignore_list = None;
+      debug_id = None;
+    } };
+
+    ghost invariant = { λ b. IsJoin (texts_of b.names) (texts_of b.sources) (contents_of b.source_contents) b.tokens.items b.token_chunks.items };
+}
+
+impl<'a> ConcatSourceMapBuilder<'a> {
+    /// A builder of the join of no maps. It keeps the allocator, and takes no memory.
+    pub fn empty(alloc: Global) -> ConcatSourceMapBuilder<'a>
+        ensures { result ≡ nothing_joined }
+    {
+        ConcatSourceMapBuilder {
+            alloc,
+            names: Vec::new(alloc),
+            sources: Vec::new(alloc),
+            source_contents: Vec::new(alloc),
+            tokens: Vec::new(alloc),
+            token_chunks: Vec::new(alloc),
+        }
+    }
+
+    /// A builder of the join of no maps, for which room for so many names, sources, tokens and chunks was asked. It keeps
+    /// the allocator. Refused for memory alone.
+    pub fn with_capacity(
+        alloc: Global,
+        names_len: usize,
+        sources_len: usize,
+        tokens_len: usize,
+        token_chunks_len: usize,
+    ) -> Result<ConcatSourceMapBuilder<'a>>
+        ensures builder { IfOk result (λ builder. builder ≡ nothing_joined) }
+        ensures refused { IfErr result (λ e. e ≡ OutOfMemory) }
+    {
+        Ok(ConcatSourceMapBuilder {
+            alloc,
+            names: Vec::with_capacity(alloc, names_len)?,
+            sources: Vec::with_capacity(alloc, sources_len)?,
+            source_contents: Vec::with_capacity(alloc, sources_len)?,
+            tokens: Vec::with_capacity(alloc, tokens_len)?,
+            token_chunks: Vec::with_capacity(alloc, token_chunks_len)?,
+        })
+    }
+
+    /// The last token so far.
+    fn last_token(&self) -> Option<Token>
+        ensures { result ≡ last self.now.tokens }
+    {
+        self.tokens.as_slice().last().copied()
+    }
+
+    /// What an add of this map takes, None where it would pass a limit.
+    fn addition(&self, sourcemap: &SourceMap<'_>, line_offset: u32) -> Option<Addition>
+        ensures fits { IfSome result (λ a. IsAddition self.now sourcemap.now line_offset a) }
+        ensures too_large { result ≡ None → ¬ (IsWithinLimits (added self.now sourcemap.now line_offset)) }
+    {
+        let shift = Shift {
+            names: self.names.len() as u32,
+            sources: self.sources.len() as u32,
+            lines: line_offset,
+        };
+        let tokens = sourcemap.get_tokens().as_slice();
+        if sourcemap.get_names().len() > MAX_COUNT - self.names.len()
+            || sourcemap.get_sources().len() > MAX_COUNT - self.sources.len()
+            || !shift.fits_all(tokens)
+        {
+            return None;
+        }
+        let passed = shift.passed_over(self.last_token(), tokens);
+        let kept = tokens.len() - passed;
+        if kept > MAX_COUNT - self.tokens.len() {
+            return None;
+        }
+        let end = self.tokens.len() + kept;
+        let chunk = next_chunk(
+            self.tokens.as_slice(),
+            self.token_chunks.as_slice(),
+            end as u32,
+        );
+        Some(Addition {
+            shift,
+            passed,
+            chunk,
+        })
+    }
+
+    /// Adds a map behind the others, `line_offset` lines further down. Its names, sources and contents are lent, and one
+    /// content stands for each source: missing ones are unknown, and further ones are left out. Its tokens are moved by
+    /// the offset, their ids by the numbers of names and sources so far; where the first then equals the last token so
+    /// far in all six fields, it is left out. One chunk is recorded, perhaps of no token, whose header is the state in front
+    /// of it (docs/FORMAT.md, "Joins").
+    ///
+    /// Refused as `TooLarge` where there would be more than 4294967295 names, sources or tokens, a line above 4294967295 or an
+    /// id above 4294967294, then as `OutOfMemory` where memory is refused; the builder is then as it was.
+    pub fn add_sourcemap(&mut self, sourcemap: &'a SourceMap<'_>, line_offset: u32) -> Result<()>
+        ensures joined { OnOk result (self.new ≡ added self.old sourcemap.now line_offset) }
+        ensures limits { OnOk result (IsWithinLimits (added self.old sourcemap.now line_offset)) }
+        ensures too_large { IsErrOf result TooLarge ↔ ¬ (IsWithinLimits (added self.old sourcemap.now line_offset)) }
+        ensures refused { IfErr result (λ e. (e ≡ OutOfMemory) ⊎ (e ≡ TooLarge)) }
+        ensures unchanged { OnErr result (self.new ≡ self.old) }
+    {
+        let Some(addition) = self.addition(sourcemap, line_offset) else {
+            return Err(Error::TooLarge);
+        };
+        let kept = &sourcemap.get_tokens().as_slice()[addition.passed..];
+        let source_count = sourcemap.get_sources().len();
+        self.names.reserve(sourcemap.get_names().len())?;
+        self.sources.reserve(source_count)?;
+        self.source_contents.reserve(source_count)?;
+        self.tokens.reserve(kept.len())?;
+        self.token_chunks.reserve(1)?;
+        push_names(&mut self.names, sourcemap.get_names());
+        push_sources(&mut self.sources, sourcemap.get_sources());
+        push_lent_fitted(
+            &mut self.source_contents,
+            sourcemap.get_source_contents(),
+            source_count,
+        );
+        push_moved(&mut self.tokens, &addition.shift, kept);
+        let pushed: std::result::Result<_, _> = self.token_chunks.push(addition.chunk);
+        pushed.unwrap();
+        Ok(())
+    }
+
+    /// Adds a map behind the others as `add_sourcemap` does, with the same result, but moves its texts and drops the rest of it.
+    /// Refused as that is; the builder is then as it was, and the map is dropped.
+    pub fn add_sourcemap_owned(&mut self, sourcemap: SourceMap<'a>, line_offset: u32) -> Result<()>
+        ensures joined { OnOk result (self.new ≡ added self.old sourcemap.entry line_offset) }
+        ensures limits { OnOk result (IsWithinLimits (added self.old sourcemap.entry line_offset)) }
+        ensures too_large { IsErrOf result TooLarge ↔ ¬ (IsWithinLimits (added self.old sourcemap.entry line_offset)) }
+        ensures refused { IfErr result (λ e. (e ≡ OutOfMemory) ⊎ (e ≡ TooLarge)) }
+        ensures unchanged { OnErr result (self.new ≡ self.old) }
+    {
+        let Some(addition) = self.addition(&sourcemap, line_offset) else {
+            return Err(Error::TooLarge);
+        };
+        let SourceMapParts {
+            mut names,
+            mut sources,
+            source_contents,
+            tokens,
+            ..
+        } = sourcemap.into_parts();
+        let kept = &tokens.as_slice()[addition.passed..];
+        let count = sources.len();
+        self.names.reserve(names.len())?;
+        self.sources.reserve(count)?;
+        self.source_contents.reserve(count)?;
+        self.tokens.reserve(kept.len())?;
+        self.token_chunks.reserve(1)?;
+        self.names.append(&mut names).unwrap();
+        self.sources.append(&mut sources).unwrap();
+        push_fitted(&mut self.source_contents, source_contents, count);
+        push_moved(&mut self.tokens, &addition.shift, kept);
+        let pushed: std::result::Result<_, _> = self.token_chunks.push(addition.chunk);
+        pushed.unwrap();
+        Ok(())
+    }
+
+    /// The builder of the join of these maps, each at its offset of lines: the adds of `add_sourcemap` in the order of the list.
+    /// Their texts are lent.
+    ///
+    /// The first refusal of an add stands, and want of memory for what they all take comes before; the builder is then
+    /// dropped.
+    pub fn from_sourcemaps(
+        alloc: Global,
+        sourcemap_and_line_offsets: &[(&'a SourceMap<'_>, u32)],
+    ) -> Result<ConcatSourceMapBuilder<'a>>
+        ensures joined { IfOk result (λ builder. builder ≡ joined (lent_maps sourcemap_and_line_offsets.now)) }
+        ensures limits { IfOk result IsWithinLimits }
+        ensures refused { IfErr result (λ e. (e ≡ OutOfMemory) ⊎ ((e ≡ TooLarge) × ¬ (IsWithinLimits (joined (lent_maps sourcemap_and_line_offsets.now))))) }
+    {
+        let lengths = lent_lengths(sourcemap_and_line_offsets);
+        let mut builder = lengths.builder(alloc, sourcemap_and_line_offsets.len())?;
+        for (sourcemap, line_offset) in sourcemap_and_line_offsets {
+            builder.add_sourcemap(sourcemap, *line_offset)?;
+        }
+        Ok(builder)
+    }
+
+    /// The builder of the join of these maps as `from_sourcemaps` makes it, but of maps whose texts are moved. Refused as that
+    /// is; the builder and all maps are then dropped.
+    pub fn from_owned_sourcemaps(
+        alloc: Global,
+        sourcemap_and_line_offsets: Vec<(SourceMap<'a>, u32)>,
+    ) -> Result<ConcatSourceMapBuilder<'a>>
+        ensures joined { IfOk result (λ builder. builder ≡ joined sourcemap_and_line_offsets.entry.items) }
+        ensures limits { IfOk result IsWithinLimits }
+        ensures refused { IfErr result (λ e. (e ≡ OutOfMemory) ⊎ ((e ≡ TooLarge) × ¬ (IsWithinLimits (joined sourcemap_and_line_offsets.entry.items)))) }
+    {
+        let lengths = owned_lengths(sourcemap_and_line_offsets.as_slice());
+        let mut builder = lengths.builder(alloc, sourcemap_and_line_offsets.len())?;
+        for (sourcemap, line_offset) in sourcemap_and_line_offsets {
+            builder.add_sourcemap_owned(sourcemap, line_offset)?;
+        }
+        Ok(builder)
+    }
+
+    /// The joined map: with chunks, which fit, and without file, source root, ignore list and debug id. Lent texts stay
+    /// lent. Refused for memory alone; the builder is then dropped.
+    pub fn into_sourcemap(self) -> Result<SourceMap<'a>>
+        ensures map { IfOk result (λ map. map ≡ self.entry) }
+        ensures fits { IfOk result (λ map. IfSome map.token_chunks (ChunksFit map.tokens)) }
+        ensures limits { IfOk result IsWithinLimits }
+        ensures refused { IfErr result (λ e. e ≡ OutOfMemory) }
+    {
+        Ok(SourceMap::new(
+            None,
+            self.names,
+            None,
+            self.sources,
+            self.source_contents,
+            self.tokens.into_boxed_slice(),
+            Some(self.token_chunks),
+        ))
+    }
+
+    /// The joined map as `into_sourcemap` gives it, with copies of lent texts; texts that were moved in are moved on. Refused
+    /// for memory alone; the builder is then dropped.
+    pub fn into_owned_sourcemap(self) -> Result<OwnedSourceMap>
+        ensures map { IfOk result (λ map. map ≡ self.entry) }
+        ensures fits { IfOk result (λ map. IfSome map.token_chunks (ChunksFit map.tokens)) }
+        ensures limits { IfOk result IsWithinLimits }
+        ensures refused { IfErr result (λ e. e ≡ OutOfMemory) }
+    {
+        let alloc = self.alloc;
+        self.into_sourcemap()?.into_owned_sourcemap(alloc)
+    }
+}
+
+/// How many names, sources and tokens some maps have, up to the largest count there is.
+#[derive(Clone, Copy)]
+struct Lengths {
+    names: usize,
+    sources: usize,
+    tokens: usize,
+}
+
+impl Lengths {
+    /// Those of no maps.
+    fn none() -> Lengths {
+        Lengths {
+            names: 0,
+            sources: 0,
+            tokens: 0,
+        }
+    }
+
+    /// Those of one map more.
+    fn and(self, sourcemap: &SourceMap<'_>) -> Lengths {
+        Lengths {
+            names: self.names.saturating_add(sourcemap.get_names().len()),
+            sources: self.sources.saturating_add(sourcemap.get_sources().len()),
+            tokens: self.tokens.saturating_add(sourcemap.get_tokens().len()),
+        }
+    }
+
+    /// A builder with room for so much, and for this many chunks.
+    fn builder<'a>(self, alloc: Global, chunks: usize) -> Result<ConcatSourceMapBuilder<'a>>
+        ensures builder { IfOk result (λ builder. builder ≡ nothing_joined) }
+        ensures refused { IfErr result (λ e. e ≡ OutOfMemory) }
+    {
+        ConcatSourceMapBuilder::with_capacity(alloc, self.names, self.sources, self.tokens, chunks)
+    }
+}
+
+/// The lengths of maps that are lent.
+fn lent_lengths(maps: &[(&SourceMap<'_>, u32)]) -> Lengths {
+    let mut lengths = Lengths::none();
+    for (sourcemap, _) in maps {
+        lengths = lengths.and(sourcemap);
+    }
+    lengths
+}
+
+/// The lengths of maps that are taken.
+fn owned_lengths(maps: &[(SourceMap<'_>, u32)]) -> Lengths {
+    let mut lengths = Lengths::none();
+    for (sourcemap, _) in maps {
+        lengths = lengths.and(sourcemap);
+    }
+    lengths
+}

@@ -1,0 +1,8 @@
+//! Joins: maps as one, each some lines further down.
+//!
+//! This crate stands below `oxc_sourcemap`, which users name, and which hands all public items of this one on.
+#![tactic(auto)]
+
+mod concat_sourcemap_builder;
+
+pub use concat_sourcemap_builder::ConcatSourceMapBuilder;

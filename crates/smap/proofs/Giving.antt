@@ -34,7 +34,7 @@ use Rattle.smap.specs.declared.plan.PlanError.TheVariants.{Map, Unsorted}
 use Rattle.smap.specs.Meaning.{read_meaning, onto_sheets, all_sheets, join_meaning, composition_meaning}
 use Rattle.smap.specs.Room.{are_counts_fitting, are_lines_fitting, is_fitting, is_join_fitting}
 use Rattle.smap.specs.Outcome.{Outcome, read_outcome, rewrite_outcome, meanings, names_of_all, are_all_roomy, join_outcome, composition_outcome}
-use Rattle.smap.specs.Evaluated.{is_among, are_among, IsSameButEntries, Gives, Refuses, AllGive}
+use Rattle.smap.specs.Evaluated.{is_among, are_among, IsSameButEntries, Gives, RefusesFor, AllGive}
 use Rattle.smap.proofs.Known.{among-left, among-right, among-both, among-self, all-more, all-weaker}
 use Rattle.smap.proofs.Decoding.{decoded-bounds, sorted-order}
 
@@ -54,7 +54,7 @@ memory_or_not (BadChunks k) = inr (λ q. cc (q))
 memory_or_not (SeveralSources n) = inr (λ q. cc (q))
 
 -- what is refused as is meant, where it is not want of memory
-pub unless_memory : (e : Error) (o : Outcome) → ((e ≢ OutOfMemory) → Refuses (Map e) o) → Refuses (Map e) o
+pub unless_memory : (e : Error) (o : Outcome) → ((e ≢ OutOfMemory) → RefusesFor (Map e) o) → RefusesFor (Map e) o
 unless_memory e o f = elim (memory_or_not e) [ inl m ↦ inl (ap (λ x. Map x) m) | inr n ↦ f n ]
 
 -- alike sheets agree in all but their entries
@@ -108,10 +108,10 @@ read_gives law text r e h s =
       rewritten = λ k. absurd (both_ways false refl k);
     })
 
-pub read_unsorted : (text : Text) (r : MapRecord) → read_map text ≡ Ok r → are_tokens_sorted r.tokens ≡ false → Refuses Unsorted (read_outcome (read_map text))
+pub read_unsorted : (text : Text) (r : MapRecord) → read_map text ≡ Ok r → are_tokens_sorted r.tokens ≡ false → RefusesFor Unsorted (read_outcome (read_map text))
 read_unsorted text r e s = inr (inl (ap read_meaning e ∙ ap (λ b. cond b (Ok (sheet_of r)) (Err Unsorted)) s))
 
-pub read_refused : (text : Text) (e : Error) → read_map text ≡ Err e → Refuses (Map e) (read_outcome (read_map text))
+pub read_refused : (text : Text) (e : Error) → read_map text ≡ Err e → RefusesFor (Map e) (read_outcome (read_map text))
 read_refused text e q = inr (inl (ap read_meaning q))
 
 -- ---- a rewriting
@@ -148,15 +148,15 @@ rewrite_gives law back stays r m j e d o g =
       rewritten = λ _. (refl, st.again);
     })
 
-pub rewrite_refused : SoundIsWritten → SoundIsTooLarge → (r : MapRecord) (e : Error) → encoded r ≡ Err e → (o : Outcome) → Gives r o → Refuses (Map e) (rewrite_outcome o)
+pub rewrite_refused : SoundIsWritten → SoundIsTooLarge → (r : MapRecord) (e : Error) → encoded r ≡ Err e → (o : Outcome) → Gives r o → RefusesFor (Map e) (rewrite_outcome o)
 rewrite_refused written large r e k o g =
     elim (cases_lt 4294967295 (length r.tokens)) [
       | inl l ↦ (let t = err-same _ _ (sym (large r g.stands.sound l) ∙ k) in
-          subst (λ x. Refuses (Map x) (rewrite_outcome o)) t (inr (inr (refl, false_from_ne_true o.is_roomy (λ q. (let n = g.room q in let c = g.tokens in omega arith))))))
+          subst (λ x. RefusesFor (Map x) (rewrite_outcome o)) t (inr (inr (refl, false_from_ne_true o.is_roomy (λ q. (let n = g.room q in let c = g.tokens in omega arith))))))
       | inr l ↦ no-ok-err _ _ (sym (written r g.stands.sound (omega arith)) ∙ k)
     ]
 
-pub reading_refused : SoundReadsBack → (r : MapRecord) (j : JsonRecord) (e : Error) → encoded r ≡ Ok j → decoded j ≡ Err e → (o : Outcome) → Gives r o → Refuses (Map e) (rewrite_outcome o)
+pub reading_refused : SoundReadsBack → (r : MapRecord) (j : JsonRecord) (e : Error) → encoded r ≡ Ok j → decoded j ≡ Err e → (o : Outcome) → Gives r o → RefusesFor (Map e) (rewrite_outcome o)
 reading_refused back r j e w d o g =
     let b = back r g.stands.sound g.in_bounds in
     no-ok-err _ _ (sym b.is_read ∙ ap decoded (written-is (writing_fault r.tokens r.token_chunks) r j w) ∙ d)
@@ -294,7 +294,7 @@ module _ (laws : JoinLaws) (ms : List (MapRecord × ℕ)) (os : List (Outcome ×
         rewritten = λ r. absurd (both_ways false refl r);
       }
 
-  pub join_unsorted : are_tokens_sorted (joined ms).tokens ≡ false → Refuses Unsorted (join_outcome os)
+  pub join_unsorted : are_tokens_sorted (joined ms).tokens ≡ false → RefusesFor Unsorted (join_outcome os)
   join_unsorted e =
       let j = joint ms os h in
       let s = laws.stands ms j.sheets j.stand in
@@ -324,7 +324,7 @@ module _ (laws : JoinLaws) (ms : List (MapRecord × ℕ)) (os : List (Outcome ×
             (in-bounds (length (joined ms).names) (length (joined ms).sources) (sources_of (joined ms).sources (joined ms).source_contents) (joined ms).names (joined ms).tokens bn bs lines r.tokens stay);
       }
 
-  pub join_refused : (e : Error) → (e ≡ OutOfMemory) ⊎ ((e ≡ TooLarge) × (IsWithinLimits (joined ms) → ⊥)) → Refuses (Map e) (join_outcome os)
+  pub join_refused : (e : Error) → (e ≡ OutOfMemory) ⊎ ((e ≡ TooLarge) × (IsWithinLimits (joined ms) → ⊥)) → RefusesFor (Map e) (join_outcome os)
   join_refused e r = elim r [
     | inl m ↦ inl (ap (λ e. Map e) m)
     | inr t ↦ inr (inr (ap (λ e. Map e) t.0, false_from_ne_true _ (λ k. t.1 (join_within k))))
@@ -341,9 +341,9 @@ no-room-part : (os ps : List (Outcome × ℕ)) (o : Outcome) (n : ℕ) → o.is_
 no-room-part [] ps o n q = and_left _ _ q
 no-room-part (p ∷ os) ps o n q = and_right _ _ (no-room-part os ps o n q)
 
-pub part_refuses : (ms : List (MapRecord × ℕ)) (os ps : List (Outcome × ℕ)) (o : Outcome) (n : ℕ) (e : PlanError) → AllGive ms os → Refuses e o → (all : List (Outcome × ℕ)) → all ≡ os ++ (o, n) ∷ ps → Refuses e (join_outcome all)
+pub part_refuses : (ms : List (MapRecord × ℕ)) (os ps : List (Outcome × ℕ)) (o : Outcome) (n : ℕ) (e : PlanError) → AllGive ms os → RefusesFor e o → (all : List (Outcome × ℕ)) → all ≡ os ++ (o, n) ∷ ps → RefusesFor e (join_outcome all)
 part_refuses ms os ps o n e h r all q =
-    subst (λ (xs : List (Outcome × ℕ)). Refuses e (join_outcome xs)) (sym q) (elim r [
+    subst (λ (xs : List (Outcome × ℕ)). RefusesFor e (join_outcome xs)) (sym q) (elim r [
       | inl m ↦ inl m
       | inr t ↦ elim t [
         | inl k ↦ inr (inl (ap join_meaning (sheets-refused ms os ps o n e h k)))
@@ -352,7 +352,7 @@ part_refuses ms os ps o n e h r all q =
     ])
 
 -- ---- a composition
-pub first_refuses : (p q : Outcome) (e : PlanError) → Refuses e p → Refuses e (composition_outcome p q)
+pub first_refuses : (p q : Outcome) (e : PlanError) → RefusesFor e p → RefusesFor e (composition_outcome p q)
 first_refuses p q e r = elim r [
   | inl m ↦ inl m
   | inr t ↦ elim t [
@@ -361,7 +361,7 @@ first_refuses p q e r = elim r [
   ]
 ]
 
-pub second_refuses : (a : MapRecord) (p q : Outcome) (e : PlanError) → Gives a p → Refuses e q → Refuses e (composition_outcome p q)
+pub second_refuses : (a : MapRecord) (p q : Outcome) (e : PlanError) → Gives a p → RefusesFor e q → RefusesFor e (composition_outcome p q)
 second_refuses a p q e g r = elim r [
   | inl m ↦ inl m
   | inr t ↦ elim t [
@@ -428,14 +428,14 @@ module _ (laws : ComposeLaws) (a b : MapRecord) (p q : Outcome) (g : Gives a p) 
         rewritten = λ r. absurd (both_ways false refl r);
       })
 
-  pub compose_refused : (e : Error) → composition a b ≡ Err e → Refuses (Map e) (composition_outcome p q)
+  pub compose_refused : (e : Error) → composition a b ≡ Err e → RefusesFor (Map e) (composition_outcome p q)
   compose_refused e r =
       let c = not-given (nat_lt 1 (length a.sources)) (length a.sources) (first_out_of_order b.tokens) (are_ids a.names (composed_names a.names b.names (leads a b)) (leads a b)) (composed a b) e (sorted-order b.tokens k.stands.sound.sorted) r in
       elim c [
-        | inl s ↦ subst (λ x. Refuses (Map x) (composition_outcome p q)) s.1 (inr (inl (both-mean
+        | inl s ↦ subst (λ x. RefusesFor (Map x) (composition_outcome p q)) s.1 (inr (inl (both-mean
             ∙ ap (λ t. cond t (Err (Map (SeveralSources (length g.sheet.sources)))) (Ok (composed_sheets g.sheet k.sheet))) (several ∙ s.0)
             ∙ ap (λ n. Err (Map (SeveralSources n))) (sym (same-sources a g.sheet g.stands.alike)))))
-        | inr s ↦ subst (λ x. Refuses (Map x) (composition_outcome p q)) s.1 (inr (inr (
+        | inr s ↦ subst (λ x. RefusesFor (Map x) (composition_outcome p q)) s.1 (inr (inr (
           refl,
           false_from_ne_true _ (λ t.
               (let f = (fits-one s.0 t).names_fit in

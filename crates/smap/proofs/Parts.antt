@@ -6,7 +6,7 @@ use Rattle.oxc_sourcemap.specs.Record.{MapRecord}
 use Rattle.smap.specs.declared.plan.Plan.{Plan}
 use Rattle.smap.specs.declared.plan.PlanError.{PlanError}
 use Rattle.smap.specs.Outcome.{outcome_of, join_outcome}
-use Rattle.smap.specs.Evaluated.{Gives, Refuses, AllGive}
+use Rattle.smap.specs.Evaluated.{Gives, RefusesFor, AllGive}
 use Rattle.smap.proofs.Plans.{outcomes}
 use Rattle.smap.proofs.Giving.{part_refuses}
 
@@ -25,7 +25,7 @@ one_more (n ∷ ms) (q ∷ ps) m p h g = (h.0, one_more ms ps m p h.1 g)
 pub more_given : (ms : List (MapRecord × ℕ)) (ps : List (Plan × ℕ)) (i : ℕ) (m : MapRecord) (p : Plan × ℕ) → i < length ps → p ≡ get_or ps i p → AllGive ms (outcomes (take i ps)) → Gives m (outcome_of p.0) → AllGive (ms ++ (m, p.1) ∷ []) (outcomes (take (i + 1) ps))
 more_given ms ps i m p l e h g = subst (λ qs. AllGive (ms ++ (m, p.1) ∷ []) (outcomes qs)) (ap (λ q. take i ps ++ q ∷ []) e ∙ sym (take_more ps i p l)) (one_more ms (take i ps) m p h g)
 
-pub part_refused : (ms : List (MapRecord × ℕ)) (ps : List (Plan × ℕ)) (i : ℕ) (p : Plan × ℕ) (e : PlanError) → i < length ps → p ≡ get_or ps i p → AllGive ms (outcomes (take i ps)) → Refuses e (outcome_of p.0) → Refuses e (join_outcome (outcomes ps))
+pub part_refused : (ms : List (MapRecord × ℕ)) (ps : List (Plan × ℕ)) (i : ℕ) (p : Plan × ℕ) (e : PlanError) → i < length ps → p ≡ get_or ps i p → AllGive ms (outcomes (take i ps)) → RefusesFor e (outcome_of p.0) → RefusesFor e (join_outcome (outcomes ps))
 part_refused ms ps i p e l q h r =
     let s : ps ≡ take i ps ++ p ∷ drop (i + 1) ps = sym (take-append-drop i ps) ∙ ap (λ xs. take i ps ++ xs) (drop_more ps i p l ∙ ap (λ x. x ∷ drop (i + 1) ps) (sym q)) in
     part_refuses ms (outcomes (take i ps)) (outcomes (drop (i + 1) ps)) (outcome_of p.0) p.1 e h r (outcomes ps) (ap outcomes s ∙ map-append (λ (p : Plan × ℕ). (outcome_of p.0, p.1)) (take i ps) (p ∷ drop (i + 1) ps))

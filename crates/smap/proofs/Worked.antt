@@ -1,12 +1,16 @@
--- Worked examples of what plans mean, computed by the definitions themselves.
-use Rattle.std.specs.Prelude.{◌≡◌, refl, ℕ, true, false, List, [], ◌∷◌, codes, Option, Some, None, Ok, Err}
+-- Worked examples of what plans mean, and of their words and texts, computed by the definitions themselves.
+use Rattle.std.specs.Prelude.{◌≡◌, refl, ℕ, zero, suc, length, true, false, List, [], ◌∷◌, codes, Option, Some, None, Ok, Err}
 use Rattle.oxc_sourcemap.specs.Error.TheVariants.{BadJson, SeveralSources}
 use Rattle.oxc_sourcemap.specs.JsonFault.TheVariants.{Reading}
 use Rattle.oxc_sourcemap.specs.Token.{TokenRecord}
 use Rattle.oxc_sourcemap.specs.Record.{Text, MapRecord}
 use Rattle.oxc_sourcemap.specs.Views.{empty_record}
 use Rattle.oxc_sourcemap.specs.Sheet.{Entry}
-use Rattle.smap.specs.declared.plan.PlanError.TheVariants.{Map, Unsorted}
+use Rattle.smap.specs.declared.plan.PlanError.TheVariants.{Map, Unsorted, TooDeep}
+use Rattle.smap.specs.declared.run.RunError.TheVariants.{Plan, Arguments, NoText}
+use Rattle.smap.specs.Words.{number_of}
+use Rattle.smap.specs.PlanTexts.{texts_in}
+use Rattle.smap.specs.PlanWords.{plan_named}
 use Rattle.smap.specs.Meaning.{Meaning}
 use Rattle.smap.specs.Outcome.{Outcome, read_outcome, rewrite_outcome, join_outcome, composition_outcome}
 
@@ -83,3 +87,68 @@ composes = refl
 -- compose @0 @0, with two sources
 several : (composition_outcome (of_map (plain [] (codes "a" ∷ codes "b" ∷ []) [])) (of_map (plain [] (codes "a" ∷ codes "b" ∷ []) []))).meaning ≡ Err (Map (SeveralSources 2))
 several = refl
+
+-- so many times `rewrite`, in front of these words
+abbrev rewrites : ℕ → List Text → List Text
+rewrites zero words = words
+rewrites (suc n) words = codes "rewrite" ∷ rewrites n words
+
+abbrev one_text : List Text
+one_text = codes "{}" ∷ []
+
+-- a part that begins at depth 65 is too deep, whatever its word
+too-deep : plan_named one_text (rewrites 64 (codes "@9" ∷ [])) ≡ Err (Plan TooDeep)
+too-deep = refl
+
+too-deep-bad-word : plan_named one_text (rewrites 63 (codes "join" ∷ codes "1" ∷ codes "part" ∷ [])) ≡ Err (Plan TooDeep)
+too-deep-bad-word = refl
+
+-- one that begins at depth 64 is not
+no-text : plan_named one_text (rewrites 63 (codes "@9" ∷ [])) ≡ Err (NoText 9)
+no-text = refl
+
+-- a missing word is bad arguments at any depth
+no-word : plan_named one_text [] ≡ Err Arguments
+no-word = refl
+
+no-word-at-65 : plan_named one_text (rewrites 64 []) ≡ Err Arguments
+no-word-at-65 = refl
+
+-- a missing text is met before a word that is left over
+no-text-first : plan_named one_text (codes "@1" ∷ codes "@0" ∷ []) ≡ Err (NoText 1)
+no-text-first = refl
+
+left-over : plan_named one_text (codes "join" ∷ codes "0" ∷ codes "0" ∷ []) ≡ Err Arguments
+left-over = refl
+
+-- numbers have no sign, and are at most 4294967295
+zeros : number_of (codes "00") ≡ Some 0
+zeros = refl
+
+signed : number_of (codes "+1") ≡ None
+signed = refl
+
+largest : number_of (codes "4294967295") ≡ Some 4294967295
+largest = refl
+
+too-large : number_of (codes "4294967296") ≡ None
+too-large = refl
+
+no-digits : number_of [] ≡ None
+no-digits = refl
+
+-- texts are parted by lines of three dashes alone
+empty-input : texts_in [] ≡ [] ∷ []
+empty-input = refl
+
+only-dashes : texts_in (codes "---") ≡ [] ∷ [] ∷ []
+only-dashes = refl
+
+dashes-last : texts_in (codes "a\n---\n") ≡ codes "a" ∷ [] ∷ []
+dashes-last = refl
+
+line-feed-kept : texts_in (codes "a\n\n---\nb\n") ≡ codes "a\n" ∷ codes "b\n" ∷ []
+line-feed-kept = refl
+
+carriage-return : length (texts_in (codes "a\r\n---\r\nb")) ≡ 1
+carriage-return = refl

@@ -1,4 +1,5 @@
--- How the answer of an evaluation stands to the outcome of a plan.
+-- How the answer of an evaluation stands to the outcome of a plan. `Gives`, `RefusesFor` and `AllGive` are for the steps of
+-- the evaluation; no public contract cites them.
 use Rattle.std.specs.Prelude.{◌≡◌, ℕ, ◌≤◌, Bool, true, false, List, length, Ok, Err, None, ◌⊎◌}
 use Rattle.std.specs.List.{AllZip, list_all, list_any}
 use Rattle.std.specs.Str.{bytes_eq}
@@ -51,14 +52,15 @@ pub record Gives (m : MapRecord) (o : Outcome) : Type 0 where
   pub rewritten : o.is_rewritten ≡ true → (m.token_chunks ≡ None) × ((rewritten m).tokens ≡ m.tokens)
 
 -- A refusal is the one that is meant, or want of memory, or `TooLarge` where there is no room.
-abbrev pub Refuses : PlanError → Outcome → Type 0
-Refuses e o = (e ≡ Map OutOfMemory) ⊎ ((o.meaning ≡ Err e) ⊎ ((e ≡ Map TooLarge) × (o.is_roomy ≡ false)))
+abbrev pub RefusesFor : PlanError → Outcome → Type 0
+RefusesFor e o = (e ≡ Map OutOfMemory) ⊎ ((o.meaning ≡ Err e) ⊎ ((e ≡ Map TooLarge) × (o.is_roomy ≡ false)))
 
 -- each map is as the outcome in the other list says, at the same offset
 abbrev pub AllGive : List (MapRecord × ℕ) → List (Outcome × ℕ) → Type 0
 AllGive ms os = AllZip (λ m o. Gives m.0 o.0 × (m.1 ≡ o.1)) ms os
 
--- A map is as the contract of `evaluate` says of a plan with this outcome.
+-- A map is as the contract of `evaluate` says of a plan with this outcome, but for what that says of writing: this is cited
+-- where the map's text stands.
 pub record IsEvaluated (m : MapRecord) (o : Outcome) : Type 0 where
   pub sheet : Sheet
   pub means : o.meaning ≡ Ok sheet

@@ -95,7 +95,8 @@ abbrev pub names_read : Plan → List Text
 names_read plan = (outcome plan).names
 
 -- Whether at every part of a plan names, sources and entries number at most 4294967295, and no line of a join is above
--- that. A part that is refused counts nothing; but a join of parts that are not counts also where it is not sorted.
+-- that. A join counts what all its parts have; a composition the names of both, the sources of the second and the entries
+-- of the first. A part that is refused counts nothing; but a join of parts that are not counts also where it is not sorted.
 abbrev pub is_roomy : Plan → Bool
 is_roomy plan = (outcome plan).is_roomy
 

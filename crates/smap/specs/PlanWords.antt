@@ -69,6 +69,6 @@ whole (Err fault) = Err fault
 whole (Ok (o, [])) = Ok o
 whole (Ok (o, word ∷ words)) = Err Arguments
 
--- The outcome of the plan that these words name, over these texts.
+-- The outcome of the plan that these words name, over these texts. Plans of one outcome are not told apart.
 abbrev pub plan_named : List Text → List Text → Result Outcome RunError
 plan_named texts words = whole (part_named texts 64 words)

@@ -10,6 +10,8 @@
 #![tactic(auto)]
 
 mod plan;
+#[cfg(test)]
+mod plan_tests;
 mod plan_words;
 mod port;
 mod run;

@@ -4,7 +4,7 @@ ghost use Rattle.std.specs.Result.{IsOkAnd};
 ghost use Rattle.smap.specs.Refusals.{plan_error_text};
 ghost use Rattle.smap.specs.Depth.{depth};
 ghost use Rattle.smap.specs.Outcome.{Outcome, read_outcome, rewrite_outcome, join_outcome, composition_outcome, outcome_of, outcome, meaning, names_read, is_roomy, is_rewriting};
-ghost use Rattle.smap.specs.Evaluated.{are_among, IsSameButEntries, IsReadBack, Gives, Refuses, AllGive};
+ghost use Rattle.smap.specs.Evaluated.{are_among, IsSameButEntries, IsReadBack, Gives, RefusesFor, AllGive};
 ghost use Rattle.oxc_sourcemap.specs.Error.TheVariants.{OutOfMemory, TooLarge};
 ghost use Rattle.oxc_sourcemap.specs.ReadMap.{read_map};
 ghost use Rattle.oxc_sourcemap.specs.Sorted.{are_tokens_sorted};
@@ -123,7 +123,7 @@ fn sorted(map: SourceMap<'static>) -> Result<SourceMap<'static>, PlanError>
 /// The map that a JSON text says.
 fn read(alloc: Global, text: &str) -> Result<SourceMap<'static>, PlanError>
     ensures map { IfOk result (λ map. Gives map (read_outcome (read_map text.now))) }
-    ensures refused { IfErr result (λ e. Refuses e (read_outcome (read_map text.now))) }
+    ensures refused { IfErr result (λ e. RefusesFor e (read_outcome (read_map text.now))) }
 {
     canonical_unique();
     sorted(SourceMap::from_json_string(alloc, text)?)
@@ -132,7 +132,7 @@ fn read(alloc: Global, text: &str) -> Result<SourceMap<'static>, PlanError>
 /// A map, written and read again.
 fn rewrite(alloc: Global, map: SourceMap<'static>) -> Result<SourceMap<'static>, PlanError>
     ensures map { IfOk result (λ m. (o : Outcome) → Gives map.entry o → Gives m (rewrite_outcome o)) }
-    ensures refused { IfErr result (λ e. (o : Outcome) → Gives map.entry o → Refuses e (rewrite_outcome o)) }
+    ensures refused { IfErr result (λ e. (o : Outcome) → Gives map.entry o → RefusesFor e (rewrite_outcome o)) }
 {
     canonical_unique();
     let json = map.to_json(alloc)?;
@@ -145,7 +145,7 @@ fn join(
     maps: Vec<(SourceMap<'static>, u32)>,
 ) -> Result<SourceMap<'static>, PlanError>
     ensures map { IfOk result (λ m. (os : List (Outcome × ℕ)) → AllGive maps.entry.items os → Gives m (join_outcome os)) }
-    ensures refused { IfErr result (λ e. (os : List (Outcome × ℕ)) → AllGive maps.entry.items os → Refuses e (join_outcome os)) }
+    ensures refused { IfErr result (λ e. (os : List (Outcome × ℕ)) → AllGive maps.entry.items os → RefusesFor e (join_outcome os)) }
 {
     dropping_harmless();
     let builder = ConcatSourceMapBuilder::from_owned_sourcemaps(alloc, maps)?;
@@ -159,7 +159,7 @@ fn compose(
     second: SourceMap<'static>,
 ) -> Result<SourceMap<'static>, PlanError>
     ensures map { IfOk result (λ m. (p q : Outcome) → Gives first.entry p → Gives second.entry q → Gives m (composition_outcome p q)) }
-    ensures refused { IfErr result (λ e. (p q : Outcome) → Gives first.entry p → Gives second.entry q → Refuses e (composition_outcome p q)) }
+    ensures refused { IfErr result (λ e. (p q : Outcome) → Gives first.entry p → Gives second.entry q → RefusesFor e (composition_outcome p q)) }
 {
     composition_associative();
     Ok(first.compose(alloc, second)?)
@@ -168,7 +168,7 @@ fn compose(
 /// The map of a plan of any depth.
 fn evaluate_part(alloc: Global, plan: &Plan<'_>) -> Result<SourceMap<'static>, PlanError>
     ensures map { IfOk result (λ map. Gives map (outcome_of plan.now)) }
-    ensures refused { IfErr result (λ e. Refuses e (outcome_of plan.now)) }
+    ensures refused { IfErr result (λ e. RefusesFor e (outcome_of plan.now)) }
 {
     match plan {
         Plan::Read(text) => read(alloc, text),
@@ -200,7 +200,10 @@ fn evaluate_part(alloc: Global, plan: &Plan<'_>) -> Result<SourceMap<'static>, P
 /// - `Compose`: the map of the first part, composed with that of the second.
 ///
 /// Parts are evaluated from left to right, all parts of a join before they are joined. The meaning of a plan says the same of
-/// sheets (what maps mean: their ids looked up), and has one refusal where it has no sheet. (docs/PROMISES.md.)
+/// sheets (what maps mean: their ids looked up), or it is one refusal. A plan deeper than 64, where a text alone is 1 deep, is
+/// `TooDeep` before anything is read. Else the first refusal from left to right stands: `Map(e)` where a text says no map,
+/// `Unsorted` where the map of a text or of a join is not sorted, and `Map(SeveralSources(n))` where the first map of a
+/// composition has n sources and n is above 1. (docs/PROMISES.md.)
 ///
 /// Where a map is answered, the meaning is a sheet, and
 /// - the map is sound (`sound`), and its sheet alike to the meaning, that is equal but for entries that repeat the one in front
@@ -208,14 +211,15 @@ fn evaluate_part(alloc: Global, plan: &Plan<'_>) -> Result<SourceMap<'static>, P
 ///   sources, contents, file, source root, debug id and ignore list are (`metadata`);
 /// - each of its names is a name of some text that was read (`names`);
 /// - the map of a `Rewrite` has no chunks, and its text reads as its very tokens (`rewritten`);
-/// - `to_json` writes it, with the canonical text of its tokens as `mappings` (`written`): where the plan is roomy it has no
-///   more tokens than can be written (`room`);
+/// - `to_json` writes it, with the canonical text of its tokens as `mappings`, where it has at most 4294967295 tokens
+///   (`written`), as it has where the plan is roomy (`room`);
 /// - `from_json` reads what is written as a map with the same sheet, the same names, and tokens that are equal but for the
 ///   source positions and names of unmapped ones (`comes_back`).
 ///
 /// Where a refusal is answered, it is the one that is meant, or one of these (`refused`):
-/// - `Map(TooLarge)` where the plan is not roomy: somewhere in it are more than 4294967295 names, sources or tokens, or a line
-///   above 4294967295;
+/// - `Map(TooLarge)` where the plan is not roomy: at some part of it are more than 4294967295 names, sources or tokens, or a
+///   join has a line above that. A join counts what all its parts have, repeated tokens too; a composition the names of both
+///   parts, the sources of the second and the tokens of the first;
 /// - `Map(OutOfMemory)` where memory is refused.
 pub fn evaluate(alloc: Global, plan: &Plan<'_>) -> Result<OwnedSourceMap, PlanError>
     ensures sound { IfOk result (λ map. IsSound map) }

@@ -220,10 +220,15 @@ fn answer(alloc: Global, command: &Command, input: Vec<u8>) -> Result<String, Ru
 /// - `Trace(line, col)`: the input is the JSON text of a map; the answer is what `trace` says of this generated position.
 /// - `Url`: the input is the JSON text of a map; the answer is its data URL.
 ///
-/// Refused as `Read` where a read fails, as `Utf8` where the input is not UTF-8, as `Plan(Map(e))` where a call on the text
-/// is refused or memory is (also for an input of more than 9223372036854775807 bytes), as `Plan(Unsorted)` where a map that
-/// is to be traced is not sorted, and as `Write` where a write fails or takes none of some bytes. Nothing is written but
-/// where the answer stands, and a fault of writing leaves a beginning of it and its line feed.
+/// Refused as `Read` where a read fails, then as `Utf8` where the input is not UTF-8, then as the text is refused:
+/// - for a plan, the first fault of its words (`Arguments`, `NoText`, `Plan(TooDeep)`: see `read_plan`), and then what
+///   `evaluate` refuses, as `Plan(e)`;
+/// - else as `Plan(Map(e))` where a call on the text is refused, and as `Plan(Unsorted)` where a map that is to be traced is not
+///   sorted.
+///
+/// Refused as `Write` where a write fails or takes none of some bytes, and as `Plan(Map(OutOfMemory))` where memory is refused
+/// (also for an input of more than 9223372036854775807 bytes). Nothing is written but where the answer stands, and a fault of
+/// writing leaves a beginning of it and its line feed.
 pub fn run<R: Read, W: Write>(
     alloc: Global,
     command: &Command,

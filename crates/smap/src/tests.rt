@@ -1,5 +1,5 @@
 //! The program's worked examples, and readers and writers that fail.
-use crate::plan::{Plan, PlanError, evaluate};
+use crate::plan::PlanError;
 use crate::port::Port;
 use crate::run::{RunError, run};
 use crate::words::{Command, read_words};
@@ -40,47 +40,6 @@ const RUNS: &[(&[&str], &str, Result<&str, RunError>)] = &[
     (&["normalise", "0"], "{}", Err(RunError::Arguments)),
     (&["url", "0"], "{}", Err(RunError::Arguments)),
     (&[], "A", Err(RunError::Arguments)),
-    (
-        &["plan", "@0"],
-        r#"{"version":3,"sources":[],"mappings":"G,D"}"#,
-        Err(RunError::Plan(PlanError::Unsorted)),
-    ),
-    (
-        &["plan", "@1"],
-        r#"{"version":3,"sources":[],"mappings":"G,D"}"#,
-        Err(RunError::NoText(1)),
-    ),
-    (
-        &["plan", "join", "1", "@0"],
-        r#"{"version":3,"sources":[],"mappings":"G,D"}"#,
-        Err(RunError::Arguments),
-    ),
-    (
-        &["plan", "compose", "@0", "@0"],
-        r#"{"version":3,"sources":["a","b"],"mappings":""}"#,
-        Err(RunError::Plan(PlanError::Map(Error::SeveralSources(2)))),
-    ),
-    (
-        &["plan", "compose", "@0", "@1"],
-        "{\"version\":3,\"names\":[\"x\"],\"sources\":[\"m.js\"],\"mappings\":\"AAAAA,GAASA\"}\n---\n{\"version\":3,\"names\":[\"y\"],\"sources\":[\"o.ts\"],\"mappings\":\"AAIIA,QACC\"}",
-        Ok(
-            "{\"version\":3,\"names\":[\"y\",\"x\"],\"sources\":[\"o.ts\"],\"mappings\":\"AAIIA,GACCC\"}\n",
-        ),
-    ),
-    (
-        &["plan", "rewrite", "join", "2", "@0", "0", "@1", "1"],
-        "{\"version\":3,\"sources\":[\"a.js\"],\"mappings\":\"AAKG,I\"}\n---\n{\"version\":3,\"sources\":[\"b.js\"],\"mappings\":\"AAOC\"}",
-        Ok(
-            "{\"version\":3,\"names\":[],\"sources\":[\"a.js\",\"b.js\"],\"mappings\":\"AAKG,I;ACEF\"}\n",
-        ),
-    ),
-    (
-        &["plan", "join", "2", "@0", "0", "join", "1", "@1", "1", "0"],
-        "{\"version\":3,\"sources\":[\"a.js\"],\"mappings\":\"AAKG,I\"}\n---\n{\"version\":3,\"sources\":[\"b.js\"],\"mappings\":\"AAOC\"}\n",
-        Ok(
-            "{\"version\":3,\"names\":[],\"sources\":[\"a.js\",\"b.js\"],\"mappings\":\"AAKG,I;ACEF\"}\n",
-        ),
-    ),
 ];
 
 /// A JSON text, and what `normalise` writes, or the text of what it refuses.
@@ -283,7 +242,8 @@ impl Write for FailingWriter {
     }
 }
 
-fn strings(alloc: Global, words: &[&str]) -> Result<Vec<String>, AllocError> {
+/// Copies of words.
+pub fn strings(alloc: Global, words: &[&str]) -> Result<Vec<String>, AllocError> {
     let mut all = Vec::new(alloc);
     for word in words {
         all.push(String::from_str(alloc, word)?)?;
@@ -292,7 +252,7 @@ fn strings(alloc: Global, words: &[&str]) -> Result<Vec<String>, AllocError> {
 }
 
 /// Reads the words, runs the command on the input, and adds what it writes.
-fn run_words(
+pub fn run_words(
     alloc: Global,
     words: &[&str],
     input: &[u8],
@@ -381,34 +341,6 @@ fn positions_are_traced(rt: HostRuntime) -> Result<(), Fail> {
         assert_eq!(rt; written.as_slice(), line.as_bytes());
     }
     Ok(())
-}
-
-/// The JSON text of the map of a plan.
-fn evaluated(alloc: Global, plan: &Plan<'_>) -> Result<String, PlanError> {
-    let map = evaluate(alloc, plan)?;
-    Ok(map.to_json_string(alloc)?)
-}
-
-#[test]
-fn plans_are_evaluated(rt: HostRuntime) -> Result<(), Fail> {
-    let a = r#"{"version":3,"sources":["a.js"],"mappings":"AAKG,I"}"#;
-    let b = r#"{"version":3,"sources":["b.js"],"mappings":"AAOC"}"#;
-    let mut parts = Vec::new(rt.alloc());
-    parts.push((Plan::Read(a), 0))?;
-    parts.push((Plan::Read(b), 1))?;
-    let plan = Plan::Rewrite(Box::new(rt.alloc(), Plan::Join(parts))?);
-    let joined = r#"{"version":3,"names":[],"sources":["a.js","b.js"],"mappings":"AAKG,I;ACEF"}"#;
-    match evaluated(rt.alloc(), &plan) {
-        Ok(text) => assert_eq!(rt; text.as_str(), joined),
-        Err(refusal) => assert!(rt; false, "{refusal}"),
-    }
-    Ok(())
-}
-
-#[test]
-fn a_plan_of_an_unsorted_text_is_refused(rt: HostRuntime) {
-    let plan = Plan::Read(r#"{"version":3,"sources":[],"mappings":"G,D"}"#);
-    assert!(rt; evaluated(rt.alloc(), &plan).err() == Some(PlanError::Unsorted));
 }
 
 #[test]

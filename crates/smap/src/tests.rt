@@ -103,6 +103,10 @@ const NORMALISED: &[(&str, Result<&str, &str>)] = &[
 /// The JSON text of a map, and its data URL: without padding, and with one and two symbols of it.
 const URLS: &[(&str, &str)] = &[
     (
+        r#"{"version":3,"sources":[],"mappings":""}"#,
+        "data:application/json;charset=utf-8;base64,eyJ2ZXJzaW9uIjozLCJuYW1lcyI6W10sInNvdXJjZXMiOltdLCJtYXBwaW5ncyI6IiJ9\n",
+    ),
+    (
         r#"{"version":3,"names":[],"sources":[],"mappings":""}"#,
         "data:application/json;charset=utf-8;base64,eyJ2ZXJzaW9uIjozLCJuYW1lcyI6W10sInNvdXJjZXMiOltdLCJtYXBwaW5ncyI6IiJ9\n",
     ),

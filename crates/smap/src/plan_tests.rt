@@ -3,7 +3,7 @@ use crate::plan::{Plan, PlanError, evaluate};
 use crate::plan_words::{read_plan, texts_in};
 use crate::run::RunError;
 use crate::tests::{run_words, strings};
-use oxc_sourcemap::{Error, JsonFault, OwnedSourceMap, SourceMap, Token, TokenChunk};
+use oxc_sourcemap::{Error, JsonFault, Token, TokenChunk};
 use std::alloc::{AllocError, Global};
 use std::test::Fail;
 

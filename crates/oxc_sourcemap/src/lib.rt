@@ -1,23 +1,23 @@
 //! Source maps of version 3 (ECMA-426): a port of the Rust crate `oxc_sourcemap`, with each call proved to meet its
 //! contract.
 //!
-//! Users name this crate alone: it hands on the public items of the crates below, all but `line_order_fault` and
-//! `next_chunk`, which those need among themselves.
+//! Users name this crate alone. Its items stand in the crates below, one for each subject; docs/ARCHITECTURE.md has the map.
 #![tactic(auto)]
 
+mod decoding;
+mod encoding;
 pub mod laws;
-mod sourcemap_builder;
-mod sourcemap_visualizer;
-mod text_lines;
 
+pub use decoding::{decode, decode_from_string};
+pub use encoding::{encode, encode_to_string};
+pub use oxc_sourcemap_builder::SourceMapBuilder;
 pub use oxc_sourcemap_join::ConcatSourceMapBuilder;
-pub use oxc_sourcemap_map::{
-    Contents, Names, OwnedSourceMap, SourceMap, SourceMapParts, SourceViewToken, Sources, Tokens,
-    ViewTokens, decode, decode_from_string, encode, encode_to_string,
+pub use oxc_sourcemap_json::{JSONSourceMap, push_json_string};
+pub use oxc_sourcemap_map::{OwnedSourceMap, SourceMap, SourceViewToken, ViewTokens};
+pub use oxc_sourcemap_mappings::{
+    Error, Field, JsonFault, Result, Token, TokenChunk, chunk_fault, decode_mappings, encode_chunk,
+    encode_mappings,
 };
-pub use oxc_sourcemap_text::{
-    Error, Field, JSONSourceMap, JsonFault, Result, Token, TokenChunk, chunk_fault,
-    decode_mappings, encode_chunk, encode_mappings, push_json_string,
-};
-pub use sourcemap_builder::SourceMapBuilder;
-pub use sourcemap_visualizer::SourcemapVisualizer;
+pub use oxc_sourcemap_parts::{Contents, Names, SourceMapParts, Sources, Tokens};
+pub use oxc_sourcemap_plan::{Plan, PlanError, evaluate};
+pub use oxc_sourcemap_visualizer::SourcemapVisualizer;

@@ -5,9 +5,9 @@ use Rattle.std.specs.Option.{IfSome, option_map, unwrap_or}
 use Rattle.std.specs.Iterator.{YieldsFirstBy}
 use Rattle.std.proofs.lemmas.List.{get_or-map, take-map}
 use Rattle.std.proofs.lemmas.List.Elements.{All-get_or, All-from_recursion, recursion_from_All}
-use Rattle.oxc_sourcemap_text.specs.Token.{TokenRecord, IsInBounds, AreInBounds}
-use Rattle.oxc_sourcemap_map.specs.Record.{Text}
-use Rattle.oxc_sourcemap_map.specs.Lookup.{last}
+use Rattle.oxc_sourcemap_mappings.specs.Token.{TokenRecord, IsInBounds, AreInBounds}
+use Rattle.oxc_sourcemap_parts.specs.Record.{Text}
+use Rattle.oxc_sourcemap_lookup.specs.Lookup.{last}
 use Rattle.oxc_sourcemap_join.specs.Joined.{fitted, is_same_token, without_repeat}
 use Rattle.oxc_sourcemap_join.proofs.SameToken.{decides_token}
 

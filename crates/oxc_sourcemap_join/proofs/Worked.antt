@@ -1,10 +1,10 @@
 -- Worked examples of joins, computed by the definitions themselves.
 use Rattle.std.specs.Prelude.{◌≡◌, refl, ℕ, List, [], ◌∷◌, codes, Option, Some, None}
-use Rattle.oxc_sourcemap_text.specs.declared.token.TokenChunk.{TokenChunk}
-use Rattle.oxc_sourcemap_text.specs.Token.{TokenRecord}
-use Rattle.oxc_sourcemap_text.specs.Canonical.{canonical, text_behind, token_text, separator, vlq_text, digits, letter}
-use Rattle.oxc_sourcemap_map.specs.Record.{MapRecord}
-use Rattle.oxc_sourcemap_map.specs.Views.{empty_record}
+use Rattle.oxc_sourcemap_mappings.specs.declared.token.TokenChunk.{TokenChunk}
+use Rattle.oxc_sourcemap_mappings.specs.Token.{TokenRecord}
+use Rattle.oxc_sourcemap_mappings.specs.Canonical.{canonical, text_behind, token_text, separator, vlq_text, digits, letter}
+use Rattle.oxc_sourcemap_parts.specs.Record.{MapRecord}
+use Rattle.oxc_sourcemap_parts.specs.Views.{empty_record}
 use Rattle.oxc_sourcemap_join.specs.Joined.{joined}
 
 -- generated line and column, source line and column, source id, name id

@@ -2,12 +2,12 @@
 use Rattle.std.specs.Prelude.{ℕ, zero, suc, ◌+◌, Bool, true, false, ◌&&◌, ◌≤◌, List, [], ◌∷◌, ◌++◌, map, length, Option, Some, None, if◌then◌else◌, ◌==◌}
 use Rattle.std.specs.Borrow.{Bor}
 use Rattle.std.specs.Option.{option_map, unwrap_or}
-use Rattle.oxc_sourcemap_text.specs.declared.token.TokenChunk.{TokenChunk}
-use Rattle.oxc_sourcemap_text.specs.Token.{TokenRecord, AreInBounds}
-use Rattle.oxc_sourcemap_text.specs.State.{state_at}
-use Rattle.oxc_sourcemap_text.specs.Chunks.{chunk_from}
-use Rattle.oxc_sourcemap_map.specs.Record.{Text, MapRecord}
-use Rattle.oxc_sourcemap_map.specs.Lookup.{last}
+use Rattle.oxc_sourcemap_mappings.specs.declared.token.TokenChunk.{TokenChunk}
+use Rattle.oxc_sourcemap_mappings.specs.Token.{TokenRecord, AreInBounds}
+use Rattle.oxc_sourcemap_mappings.specs.State.{state_at}
+use Rattle.oxc_sourcemap_mappings.specs.Chunks.{chunk_from}
+use Rattle.oxc_sourcemap_parts.specs.Record.{Text, MapRecord}
+use Rattle.oxc_sourcemap_lookup.specs.Lookup.{last}
 
 -- contents padded with none, or cut, to this number
 abbrev pub fitted : ℕ → List (Option Text) → List (Option Text)

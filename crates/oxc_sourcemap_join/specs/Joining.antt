@@ -1,10 +1,10 @@
 -- How the private steps of a join are seen. No public contract speaks of these.
 use Rattle.std.specs.Prelude.{◌≡◌, ℕ, ◌≤◌, List, map, length, drop, Option}
-use Rattle.oxc_sourcemap_text.specs.Token.{TokenRecord, AreInBounds}
-use Rattle.oxc_sourcemap_text.specs.declared.token.TokenChunk.{TokenChunk}
-use Rattle.oxc_sourcemap_text.specs.Chunks.{ChunksFit}
-use Rattle.oxc_sourcemap_map.specs.Record.{Text, MapRecord}
-use Rattle.oxc_sourcemap_map.specs.Lookup.{last}
+use Rattle.oxc_sourcemap_mappings.specs.Token.{TokenRecord, AreInBounds}
+use Rattle.oxc_sourcemap_mappings.specs.declared.token.TokenChunk.{TokenChunk}
+use Rattle.oxc_sourcemap_mappings.specs.Chunks.{ChunksFit}
+use Rattle.oxc_sourcemap_parts.specs.Record.{Text, MapRecord}
+use Rattle.oxc_sourcemap_lookup.specs.Lookup.{last}
 use Rattle.oxc_sourcemap_join.specs.Joined.{shifted, is_same_token, without_repeat, added_chunk, added, IsWithinLimits}
 use Rattle.oxc_sourcemap_join.specs.declared.concat_sourcemap_builder.Shift.{Shift}
 use Rattle.oxc_sourcemap_join.specs.declared.concat_sourcemap_builder.Addition.{Addition}

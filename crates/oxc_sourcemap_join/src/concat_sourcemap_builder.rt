@@ -3,16 +3,17 @@ ghost use Rattle.std.specs.Prelude.{◌≡◌, ◌↔◌, ◌≤◌, ◌<◌, �
 ghost use Rattle.std.specs.Vec.{vec_capacity};
 ghost use Rattle.std.specs.Cow.{cow_str_bytes};
 ghost use Rattle.std.specs.Option.{unwrap_or};
-ghost use Rattle.oxc_sourcemap_text.specs.declared.error.Error.TheVariants.{OutOfMemory, TooLarge};
-ghost use Rattle.oxc_sourcemap_text.specs.Token.{IsInBounds, AreInBounds};
-ghost use Rattle.oxc_sourcemap_text.specs.Chunks.{ChunksFit};
-ghost use Rattle.oxc_sourcemap_map.specs.Views.{texts_of, contents_of};
-ghost use Rattle.oxc_sourcemap_map.specs.Lookup.{last};
+ghost use Rattle.oxc_sourcemap_mappings.specs.declared.error.Error.TheVariants.{OutOfMemory, TooLarge};
+ghost use Rattle.oxc_sourcemap_mappings.specs.Token.{IsInBounds, AreInBounds};
+ghost use Rattle.oxc_sourcemap_mappings.specs.Chunks.{ChunksFit};
+ghost use Rattle.oxc_sourcemap_parts.specs.Views.{texts_of, contents_of};
+ghost use Rattle.oxc_sourcemap_lookup.specs.Lookup.{last};
 ghost use Rattle.oxc_sourcemap_join.specs.Joined.{fitted, raised_id, shifted, is_same_token, without_repeat, added, nothing_joined, joined, lent_maps, IsWithinLimits};
 ghost use Rattle.oxc_sourcemap_join.specs.Joining.{all_shifted, IsAddition};
 
-use oxc_sourcemap_map::{Contents, Names, OwnedSourceMap, SourceMap, SourceMapParts, Sources};
-use oxc_sourcemap_text::{Error, Result, Token, TokenChunk, next_chunk};
+use oxc_sourcemap_map::{OwnedSourceMap, SourceMap};
+use oxc_sourcemap_mappings::{Error, Result, Token, TokenChunk, next_chunk};
+use oxc_sourcemap_parts::{Contents, Names, SourceMapParts, Sources};
 use std::alloc::{AllocError, Global};
 use std::borrow::CowStr;
 use std::marker::Model;
@@ -215,8 +216,8 @@ pub struct ConcatSourceMapBuilder<'a> {
 
 impl<'a> Model for ConcatSourceMapBuilder<'a> {
     ghost use Rattle.std.specs.Prelude.{Some, None};
-    ghost use Rattle.oxc_sourcemap_map.specs.Record.{MapRecord};
-    ghost use Rattle.oxc_sourcemap_map.specs.Views.{texts_of, contents_of};
+    ghost use Rattle.oxc_sourcemap_parts.specs.Record.{MapRecord};
+    ghost use Rattle.oxc_sourcemap_parts.specs.Views.{texts_of, contents_of};
     ghost use Rattle.oxc_sourcemap_join.specs.Joining.{IsJoin};
 
     ghost Value = { MapRecord };

@@ -1,17 +1,1 @@
-pub mod Record
-pub mod Views
-pub mod Sorted
-pub mod Sound
-pub mod Sheet
 pub mod View
-pub mod Lookup
-pub mod Trace
-pub mod Texts
-pub mod Composed
-pub mod Taking
-pub mod Decoded
-pub mod Encoded
-pub mod ReadMap
-pub mod JsonText
-pub mod JsonParts
-pub mod MapLaws

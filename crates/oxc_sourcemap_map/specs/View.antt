@@ -1,9 +1,9 @@
 -- A token together with the map that its ids are looked up in, and what the ids name there.
 use Rattle.std.specs.Prelude.{ℕ, List, slice_get, Option}
 use Rattle.std.specs.Option.{option_and_then, option_zip}
-use Rattle.oxc_sourcemap_text.specs.Token.{TokenRecord}
-use Rattle.oxc_sourcemap_map.specs.Record.{Text, MapRecord}
-use Rattle.oxc_sourcemap_map.specs.Sheet.{Origin, sources_of, origin_of, name_of}
+use Rattle.oxc_sourcemap_mappings.specs.Token.{TokenRecord}
+use Rattle.oxc_sourcemap_parts.specs.Record.{Text, MapRecord}
+use Rattle.oxc_sourcemap_parts.specs.Sheet.{Origin, sources_of, origin_of, name_of}
 use Rattle.oxc_sourcemap_map.specs.declared.source_view_token.SourceViewToken.{SourceViewToken}
 
 -- a token of a map

@@ -4,28 +4,30 @@ ghost use Rattle.std.specs.Prelude.{◌≡◌, ◌≢◌, ℕ, List, [], map, op
 ghost use Rattle.std.specs.Borrow.{Lends, sem};
 ghost use Rattle.std.specs.Iterator.{IsFinite, Drains};
 ghost use Rattle.std.specs.List.{Contains};
-ghost use Rattle.oxc_sourcemap_text.specs.declared.error.Error.TheVariants.{OutOfMemory};
-ghost use Rattle.oxc_sourcemap_text.specs.Token.{AreInBounds};
-ghost use Rattle.oxc_sourcemap_text.specs.Json.{json_record};
-ghost use Rattle.oxc_sourcemap_map.specs.Views.{record_of_parts, empty_record};
-ghost use Rattle.oxc_sourcemap_map.specs.Sorted.{are_tokens_sorted, token_line, token_column};
-ghost use Rattle.oxc_sourcemap_map.specs.Sound.{IsSound};
-ghost use Rattle.oxc_sourcemap_map.specs.Sheet.{sheet_of};
-ghost use Rattle.oxc_sourcemap_map.specs.Decoded.{decoded};
-ghost use Rattle.oxc_sourcemap_map.specs.Encoded.{encoded};
-ghost use Rattle.oxc_sourcemap_map.specs.ReadMap.{read_map, read_sheet};
-ghost use Rattle.oxc_sourcemap_map.specs.JsonText.{map_text, map_url};
-ghost use Rattle.oxc_sourcemap_map.specs.Lookup.{at, clamped_at, pick, clamped_pick, no_column_goes_back, line_table, slice_of};
-ghost use Rattle.oxc_sourcemap_map.specs.Composed.{composition, SomeComposition, ColumnsGoOn};
-ghost use Rattle.oxc_sourcemap_map.specs.Trace.{trace, clamped_trace};
+ghost use Rattle.oxc_sourcemap_mappings.specs.declared.error.Error.TheVariants.{OutOfMemory};
+ghost use Rattle.oxc_sourcemap_mappings.specs.Token.{AreInBounds};
+ghost use Rattle.oxc_sourcemap_json.specs.Json.{json_record};
+ghost use Rattle.oxc_sourcemap_parts.specs.Views.{record_of_parts, empty_record};
+ghost use Rattle.oxc_sourcemap_parts.specs.Sorted.{are_tokens_sorted, token_line, token_column};
+ghost use Rattle.oxc_sourcemap_parts.specs.Sound.{IsSound};
+ghost use Rattle.oxc_sourcemap_parts.specs.Sheet.{sheet_of};
+ghost use Rattle.oxc_sourcemap_json.specs.Decoded.{decoded};
+ghost use Rattle.oxc_sourcemap_json.specs.Encoded.{encoded};
+ghost use Rattle.oxc_sourcemap_json.specs.ReadMap.{read_map, read_sheet};
+ghost use Rattle.oxc_sourcemap_json.specs.JsonText.{map_text, map_url};
+ghost use Rattle.oxc_sourcemap_lookup.specs.Lookup.{at, clamped_at, pick, clamped_pick, no_column_goes_back, line_table, slice_of};
+ghost use Rattle.oxc_sourcemap_compose.specs.Composed.{composition, SomeComposition, ColumnsGoOn};
+ghost use Rattle.oxc_sourcemap_lookup.specs.Trace.{trace, clamped_trace};
 ghost use Rattle.oxc_sourcemap_map.specs.View.{view_of, seen_in, view_origin, content_at, source_and_content_at};
 ghost use Rattle.oxc_sourcemap_map.specs.contracts.owned_sourcemap.OwnedSourceMap.{the_row};
 ghost use Rattle.oxc_sourcemap_map.specs.contracts.sourcemap.SourceMap.{the_row as map_row};
 
-use crate::iterators::{Contents, Names, Sources, Tokens, ViewTokens};
 use crate::source_view_token::SourceViewToken;
-use crate::sourcemap::{SourceMap, SourceMapParts};
-use oxc_sourcemap_text::{JSONSourceMap, Result, Token};
+use crate::sourcemap::SourceMap;
+use crate::view_tokens::ViewTokens;
+use oxc_sourcemap_json::JSONSourceMap;
+use oxc_sourcemap_mappings::{Result, Token};
+use oxc_sourcemap_parts::{Contents, Names, SourceMapParts, Sources, Tokens};
 use std::alloc::Global;
 use std::convert::AsStr;
 use std::marker::Model;
@@ -41,7 +43,7 @@ pub struct OwnedSourceMap {
 }
 
 impl Model for OwnedSourceMap {
-    ghost use Rattle.oxc_sourcemap_map.specs.Record.{MapRecord};
+    ghost use Rattle.oxc_sourcemap_parts.specs.Record.{MapRecord};
 
     ghost Value = { MapRecord };
 

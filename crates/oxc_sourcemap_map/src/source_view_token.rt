@@ -3,7 +3,7 @@ ghost use Rattle.std.specs.Prelude.{◌≡◌, option_map, MatchOption, Some, No
 ghost use Rattle.oxc_sourcemap_map.specs.View.{view_of, seen_in, view_name, view_source, view_content, view_source_and_content, view_origin};
 
 use crate::sourcemap::SourceMap;
-use oxc_sourcemap_text::Token;
+use oxc_sourcemap_mappings::Token;
 
 /// A token, and the map that its ids are looked up in. The texts that it gives live as long as the borrow of the map
 /// (`'sm`); `'data` is the life of the texts that the map itself borrows.

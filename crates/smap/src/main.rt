@@ -9,24 +9,16 @@
 //! A refusal goes to standard error, behind `smap: `; the status is then 2 for bad words and 1 for all else.
 #![tactic(auto)]
 
-mod plan;
 #[cfg(test)]
 mod plan_tests;
-mod plan_words;
-mod port;
-mod run;
 #[cfg(test)]
 mod tests;
-mod trace;
-mod words;
 
-use port::Port;
-use run::{RunError, run};
+use smap_run::{Port, RunError, read_words, run};
 use std::alloc::AllocError;
 use std::env;
 use std::io::ErrorKind;
 use std::process::ExitCode;
-use words::read_words;
 
 /// The words behind the program's name. Words that are not UTF-8 are bad arguments.
 fn words_of(rt: &HostRuntime) -> Result<Vec<String>, RunError> {

@@ -1,9 +1,7 @@
 //! Worked examples of plans: by their words and texts, and as values.
-use crate::plan::{Plan, PlanError, evaluate};
-use crate::plan_words::{read_plan, texts_in};
-use crate::run::RunError;
 use crate::tests::{run_words, strings};
-use oxc_sourcemap::{Error, JsonFault, Token, TokenChunk};
+use oxc_sourcemap::{Error, JsonFault, Plan, PlanError, Token, TokenChunk, evaluate};
+use smap_run::{RunError, read_plan, texts_in};
 use std::alloc::{AllocError, Global};
 use std::test::Fail;
 

@@ -1,9 +1,6 @@
 //! The program's worked examples, and readers and writers that fail.
-use crate::plan::PlanError;
-use crate::port::Port;
-use crate::run::{RunError, run};
-use crate::words::{Command, read_words};
-use oxc_sourcemap::{Error, JsonFault};
+use oxc_sourcemap::{Error, JsonFault, PlanError};
+use smap_run::{Command, Port, RunError, read_words, run};
 use std::alloc::{AllocError, Global};
 use std::io;
 use std::io::{ErrorKind, Read, Write};

@@ -2,7 +2,7 @@ use Rattle.std.proofs.Common.{◌≡◌, ◌++◌, ◌-◌, ◌∙◌, ap, map, 
 use Rattle.std.specs.Option.{option_map}
 use Rattle.std.specs.Cow.{cow_str_bytes}
 use Rattle.std.proofs.lemmas.List.{map-append}
-use Rattle.oxc_sourcemap_map.specs.Views.{contents_of}
+use Rattle.oxc_sourcemap_parts.specs.Views.{contents_of}
 use Rattle.oxc_sourcemap_join.proofs.Moving.{fitted-cut}
 use Rattle.oxc_sourcemap_join.proofs.concat_sourcemap_builder.push_fitted.Goals as goal
 

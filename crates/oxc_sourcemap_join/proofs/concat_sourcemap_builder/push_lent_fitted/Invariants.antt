@@ -1,6 +1,6 @@
 use Rattle.std.proofs.Common.{◌≡◌, ◌+◌, ◌-◌, ◌++◌, ◌≤◌, vec_len}
 use Rattle.std.specs.Vec.{vec_capacity}
-use Rattle.oxc_sourcemap_map.specs.Views.{contents_of}
+use Rattle.oxc_sourcemap_parts.specs.Views.{contents_of}
 use Rattle.oxc_sourcemap_join.specs.Joined.{fitted}
 use Rattle.oxc_sourcemap_join.proofs.concat_sourcemap_builder.push_lent_fitted.Given as goal
 

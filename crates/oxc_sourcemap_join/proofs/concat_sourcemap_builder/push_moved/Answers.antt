@@ -1,5 +1,5 @@
 use Rattle.std.proofs.Common.{sym, subst}
-use Rattle.oxc_sourcemap_text.specs.Token.{IsInBounds}
+use Rattle.oxc_sourcemap_mappings.specs.Token.{IsInBounds}
 use Rattle.oxc_sourcemap_join.specs.Joined.{shifted}
 use Rattle.oxc_sourcemap_join.proofs.Moving.{all-mapped-at}
 use Rattle.oxc_sourcemap_join.proofs.concat_sourcemap_builder.push_moved.Goals as goal

@@ -1,6 +1,6 @@
 use Rattle.std.proofs.Common.{◌≡◌, ◌+◌, ◌++◌, ◌≤◌, length, vec_len}
 use Rattle.std.specs.Vec.{vec_capacity}
-use Rattle.oxc_sourcemap_map.specs.Views.{texts_of}
+use Rattle.oxc_sourcemap_parts.specs.Views.{texts_of}
 use Rattle.oxc_sourcemap_join.proofs.concat_sourcemap_builder.push_sources.Given as goal
 
 abbrev pub invariant-loop-source : goal.invariant-loop-source

@@ -1,6 +1,6 @@
 use Rattle.std.proofs.Common.{◌≡◌, ◌+◌, ◌++◌, ◌≤◌, replicate, vec_len, None}
 use Rattle.std.specs.Vec.{vec_capacity}
-use Rattle.oxc_sourcemap_map.specs.Views.{contents_of}
+use Rattle.oxc_sourcemap_parts.specs.Views.{contents_of}
 use Rattle.oxc_sourcemap_join.proofs.concat_sourcemap_builder.push_unknown.Given as goal
 
 abbrev pub invariant-loop-i : goal.invariant-loop-i

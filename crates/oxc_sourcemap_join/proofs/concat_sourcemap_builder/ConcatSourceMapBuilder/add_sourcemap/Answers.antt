@@ -1,11 +1,11 @@
 use Rattle.std.proofs.Common.{◌++◌, ◌∷◌, [], Some, arith, ap, length, map, drop, ◌≡◌, ◌∙◌, sym, subst}
 use Rattle.std.specs.Option.{option_map}
 use Rattle.std.specs.Cow.{cow_str_bytes}
-use Rattle.oxc_sourcemap_text.specs.Token.{AreInBounds}
-use Rattle.oxc_sourcemap_text.specs.Chunks.{ChunksFit}
+use Rattle.oxc_sourcemap_mappings.specs.Token.{AreInBounds}
+use Rattle.oxc_sourcemap_mappings.specs.Chunks.{ChunksFit}
 use Rattle.oxc_sourcemap_join.specs.Joined.{fitted}
 use Rattle.oxc_sourcemap_join.specs.Joining.{all_shifted}
-use Rattle.oxc_sourcemap_map.specs.Views.{texts_of, contents_of}
+use Rattle.oxc_sourcemap_parts.specs.Views.{texts_of, contents_of}
 use Rattle.oxc_sourcemap_join.proofs.Adding.{kept-are-in-bounds, added-is, join-is, all-behind-some, glued}
 use Rattle.oxc_sourcemap_join.proofs.concat_sourcemap_builder.ConcatSourceMapBuilder.add_sourcemap.Goals as goal
 use Rattle.oxc_sourcemap_join.proofs.concat_sourcemap_builder.ConcatSourceMapBuilder.add_sourcemap.Goals.{After-unwrap}

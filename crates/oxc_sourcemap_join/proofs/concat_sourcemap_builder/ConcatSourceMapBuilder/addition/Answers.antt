@@ -1,10 +1,10 @@
 use Rattle.std.proofs.Common.{◌+◌, ◌-◌, arith, ap, length, drop, ◌≡◌, ◌∙◌, sym, refl, subst, true, false}
 use Rattle.std.specs.Cow.{cow_str_bytes}
 use Rattle.std.proofs.lemmas.List.{length-append}
-use Rattle.oxc_sourcemap_text.specs.Token.{AreInBounds}
-use Rattle.oxc_sourcemap_text.specs.State.{state_at}
-use Rattle.oxc_sourcemap_text.specs.Chunks.{chunk_from}
-use Rattle.oxc_sourcemap_map.specs.Lookup.{last}
+use Rattle.oxc_sourcemap_mappings.specs.Token.{AreInBounds}
+use Rattle.oxc_sourcemap_mappings.specs.State.{state_at}
+use Rattle.oxc_sourcemap_mappings.specs.Chunks.{chunk_from}
+use Rattle.oxc_sourcemap_lookup.specs.Lookup.{last}
 use Rattle.oxc_sourcemap_join.specs.Joined.{is_same_token, without_repeat}
 use Rattle.oxc_sourcemap_join.specs.Joining.{all_shifted}
 use Rattle.oxc_sourcemap_join.specs.declared.concat_sourcemap_builder.Shift.{Shift}

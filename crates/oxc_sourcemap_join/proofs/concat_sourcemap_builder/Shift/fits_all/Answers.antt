@@ -2,7 +2,7 @@ use Rattle.std.proofs.Common.{refl, sym, ◌∙◌, subst}
 use Rattle.std.specs.List.{All}
 use Rattle.std.proofs.lemmas.List.{take_all}
 use Rattle.std.proofs.lemmas.List.Elements.{All-map, All-more}
-use Rattle.oxc_sourcemap_text.specs.Token.{IsInBounds}
+use Rattle.oxc_sourcemap_mappings.specs.Token.{IsInBounds}
 use Rattle.oxc_sourcemap_join.specs.Joined.{shifted}
 use Rattle.oxc_sourcemap_join.proofs.Moving.{all-mapped-at}
 use Rattle.oxc_sourcemap_join.proofs.concat_sourcemap_builder.Shift.fits_all.Goals as goal

@@ -1,6 +1,6 @@
 use Rattle.std.proofs.Common.{take}
 use Rattle.std.specs.List.{All}
-use Rattle.oxc_sourcemap_text.specs.Token.{IsInBounds}
+use Rattle.oxc_sourcemap_mappings.specs.Token.{IsInBounds}
 use Rattle.oxc_sourcemap_join.specs.Joined.{shifted}
 use Rattle.oxc_sourcemap_join.proofs.concat_sourcemap_builder.Shift.fits_all.Given as goal
 

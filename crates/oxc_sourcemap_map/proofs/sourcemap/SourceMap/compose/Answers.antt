@@ -1,54 +1,17 @@
-use Rattle.std.proofs.Common.{arith, ◌≡◌, nat_lt, length, true, false, map, None, Some, Err, subst, ◌∙◌}
-use Rattle.std.specs.Box.{boxed_slice_items}
-use Rattle.std.proofs.lemmas.Grind.{common_steps}
-use Rattle.std.proofs.lemmas.Bool.Decides.{nat_tests}
 use Rattle.std.proofs.lemmas.Result.{err_from_is_err_and}
-use Rattle.std.specs.Cow.{cow_str_bytes}
-use Rattle.oxc_sourcemap_text.specs.declared.error.Error.TheVariants.{SeveralSources}
-use Rattle.oxc_sourcemap_text.specs.Canonical.{first_out_of_order}
-use Rattle.oxc_sourcemap_map.specs.Views.{record_of_parts, text_of}
-use Rattle.oxc_sourcemap_map.specs.Composed.{SomeComposition}
-use Rattle.oxc_sourcemap_map.proofs.Compositions.{several, not_in_order, too_large, is_composed, exact, exact_refusal, of_equals}
+use Rattle.oxc_sourcemap_compose.proofs.Compositions.{exact, exact_refusal, of_equals}
 use Rattle.oxc_sourcemap_map.proofs.sourcemap.SourceMap.compose.Goals as goal
 
-pub returns-then-len-gt1-clause-any_refused : goal.returns-then-len-gt1-clause-any_refused
-returns-then-len-gt1-clause-any_refused c = λ other.
-    let many : nat_lt 1 (length c.args.self.sources) ≡ true = grind (arith, common_steps, nat_tests) in
-    let count : length c.args.self.sources ≡ c.len-then-len-gt1.result = grind (arith, common_steps) in
-    subst (λ n. SomeComposition c.args.self c.args.input (Err (SeveralSources n))) count (several c.args.self c.args.input many)
-
-pub returns-in-Some-clause-any_refused : goal.returns-in-Some-clause-any_refused
-returns-in-Some-clause-any_refused c = λ other.
-    let few : nat_lt 1 (length c.args.self.sources) ≡ false = grind (arith, common_steps, nat_tests) in
-    let place : first_out_of_order c.args.input.tokens ≡ Some c.in-Some.i = grind (arith, common_steps) in
-    not_in_order c.args.self c.args.input _ few place
-
-pub returns-in_err-tokens-clause-any_refused : goal.returns-in_err-tokens-clause-any_refused
-returns-in_err-tokens-clause-any_refused c =
-    let a = record_of_parts c.into_parts-first.result in
-    let b = record_of_parts c.into_parts-second.result in
-    let few : nat_lt 1 (length a.sources) ≡ false = grind (arith, common_steps, nat_tests) in
-    let in_order : first_out_of_order b.tokens ≡ None = grind (arith, common_steps) in
+pub returns-in_err-parts-clause-any_refused : goal.returns-in_err-parts-clause-any_refused
+returns-in_err-parts-clause-any_refused c =
     let p = err_from_is_err_and c.from_residual.result c.from_residual.ensures.1 in
-    rw (p.1, p.2) (λ other.
-    let r = rw (c.as_slice-2.ensures.value, c.as_slice-3.ensures.value, c.as_slice-4.ensures.value) at c.in_err-tokens.ensures.refused other in
-    rw r.0 (
-    of_equals a c.args.self b c.args.input _ c.into_parts-first.ensures c.into_parts-second.ensures (
-    too_large a b few in_order r.1 r.2 r.3)))
+    rw (p.1, p.2) (λ other. of_equals _ c.args.self _ c.args.input _ c.self.view_is c.input.view_is (c.in_err-parts.ensures.any_refused other))
 
-pub returns-in_err-tokens-clause-refused : goal.returns-in_err-tokens-clause-refused
-returns-in_err-tokens-clause-refused c = λ g. exact_refusal c.args.self c.args.input c.from_residual.result g (returns-in_err-tokens-clause-any_refused c)
+pub returns-in_err-parts-clause-refused : goal.returns-in_err-parts-clause-refused
+returns-in_err-parts-clause-refused c = λ g. exact_refusal c.args.self c.args.input c.from_residual.result g (returns-in_err-parts-clause-any_refused c)
 
 pub returns-clause-any_map : goal.returns-clause-any_map
-returns-clause-any_map c =
-    let a = record_of_parts c.into_parts-first.result in
-    let b = record_of_parts c.into_parts-second.result in
-    let few : nat_lt 1 (length a.sources) ≡ false = grind (arith, common_steps, nat_tests) in
-    let in_order : first_out_of_order b.tokens ≡ None = grind (arith, common_steps) in
-    let r = rw (c.as_slice-2.ensures.value, c.as_slice-3.ensures.value, c.as_slice-4.ensures.value) at c.in_ok-tokens.ensures.composed in
-    of_equals a c.args.self b c.args.input _ c.into_parts-first.ensures c.into_parts-second.ensures (
-    is_composed a b few in_order r.0 (text_of c.in_ok-detached_text.field-0) (map cow_str_bytes c.composed_tokens.new.names.items) (boxed_slice_items c.into_boxed_slice.result) (text_of c.in_ok-detached_text-2.field-0)
-    r.1 c.in_ok-detached_text.ensures c.in_ok-detached_text-2.ensures r.2 (c.into_boxed_slice.ensures.items ∙ r.3) r.4)
+returns-clause-any_map c = rw c.from_parts.ensures (of_equals _ c.args.self _ c.args.input _ c.self.view_is c.input.view_is c.in_ok-parts.ensures.any_map)
 
 pub returns-clause-map : goal.returns-clause-map
 returns-clause-map c = λ g. exact c.args.self c.args.input _ g (returns-clause-any_map c)

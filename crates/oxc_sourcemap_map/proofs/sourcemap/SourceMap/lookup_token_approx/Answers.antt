@@ -1,6 +1,6 @@
-use Rattle.oxc_sourcemap_map.specs.Sorted.{token_column}
-use Rattle.oxc_sourcemap_map.specs.Lookup.{clamped_at}
-use Rattle.oxc_sourcemap_map.proofs.OwnTables.{own_table}
+use Rattle.oxc_sourcemap_parts.specs.Sorted.{token_column}
+use Rattle.oxc_sourcemap_lookup.specs.Lookup.{clamped_at}
+use Rattle.oxc_sourcemap_lookup.proofs.OwnTables.{own_table}
 use Rattle.oxc_sourcemap_map.proofs.sourcemap.SourceMap.lookup_token_approx.Goals as goal
 
 pub returns-clause-own_table : goal.returns-clause-own_table

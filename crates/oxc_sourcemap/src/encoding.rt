@@ -1,0 +1,41 @@
+//! Writing a map as a JSON source map and as a JSON text.
+ghost use Rattle.std.specs.Prelude.{◌≡◌, ◌≢◌, string_bytes, IfOk, IfErr, OnOk, Ok, Err};
+ghost use Rattle.oxc_sourcemap_mappings.specs.declared.error.Error.TheVariants.{OutOfMemory};
+ghost use Rattle.oxc_sourcemap_mappings.specs.Token.{AreInBounds};
+ghost use Rattle.oxc_sourcemap_json.specs.Json.{json_record};
+ghost use Rattle.oxc_sourcemap_json.specs.Encoded.{encoded};
+ghost use Rattle.oxc_sourcemap_json.specs.JsonText.{map_text};
+
+use oxc_sourcemap_json::JSONSourceMap;
+use oxc_sourcemap_map::SourceMap;
+use oxc_sourcemap_mappings::Result;
+use std::alloc::Global;
+
+/// The JSON source map of a map: copies of its fields, and its tokens in their canonical text. A list of contents without
+/// any content is left out; any other is written whole. Chunks change nothing but have to fit.
+///
+/// Refused as `encode_mappings` refuses the tokens and chunks: `LineOrder(i)`, `BadChunks(k)`, `TooLarge`, in this order;
+/// and as `OutOfMemory` where memory is refused.
+pub fn encode(alloc: Global, sourcemap: &SourceMap<'_>) -> Result<JSONSourceMap>
+    ensures json { IfOk result (λ json. encoded sourcemap.now ≡ Ok (json_record json)) }
+    ensures refused { IfErr result (λ e. (e ≢ OutOfMemory) → encoded sourcemap.now ≡ Err e) }
+
+    // True of every map, and stated here for callers that need it.
+    ensures in_bounds { OnOk result (AreInBounds sourcemap.now.tokens) }
+{
+    sourcemap.to_json(alloc)
+}
+
+/// The JSON text of a map, without spaces and in the order `version`, `file`, `sourceRoot`, `names`, `sources`,
+/// `sourcesContent`, `ignoreList`, `mappings`, `debugId`: what `encode` gives, as text. `names`, `sources` and `mappings`
+/// are always there, `sourcesContent` where there is some content, and the others where the map has them. The `mappings`
+/// are the canonical text of the tokens. Chunks change nothing but have to fit.
+///
+/// Refused as `encode` refuses: `LineOrder(i)`, `BadChunks(k)`, `TooLarge`, in this order, and `OutOfMemory` where memory
+/// is refused.
+pub fn encode_to_string(alloc: Global, sourcemap: &SourceMap<'_>) -> Result<String>
+    ensures text { IfOk result (λ text. map_text sourcemap.now ≡ Ok (string_bytes text)) }
+    ensures refused { IfErr result (λ e. (e ≢ OutOfMemory) → map_text sourcemap.now ≡ Err e) }
+{
+    sourcemap.to_json_string(alloc)
+}

@@ -1,0 +1,2 @@
+pub mod GivenIds
+mod Worked

@@ -1,0 +1,25 @@
+-- What contracts see of a builder.
+use Rattle.std.specs.Prelude.{ℕ, []}
+use Rattle.std.specs.Ordering.{nat_cmp}
+use Rattle.std.specs.Cmp.Lexicographic.{slice_cmp}
+use Rattle.std.specs.Coded.{Coded, coded_ℕ, coded_list}
+use Rattle.std.specs.FinMap as fin
+use Rattle.oxc_sourcemap_parts.specs.Record.{MapRecord}
+use Rattle.oxc_sourcemap_parts.specs.Views.{empty_record}
+
+-- the ids given to paths
+abbrev pub Ids : Type 0
+Ids = fin.FinMap (slice_cmp nat_cmp) ℕ
+
+-- the code of these ids, which a model asks for
+abbrev pub ids_code : Coded Ids
+ids_code = fin.code (coded_list coded_ℕ) coded_ℕ
+
+-- A builder: the map built so far, and the ids that `add_source_and_content` has given to paths.
+pub record Built : Type 0 where
+  pub map : MapRecord
+  pub given : Ids
+
+-- nothing is built, and no path has an id
+abbrev pub nothing_built : Built
+nothing_built = record { map = empty_record; given = fin.from_entries [] }

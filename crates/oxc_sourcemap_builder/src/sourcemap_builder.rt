@@ -1,0 +1,320 @@
+//! Building a map call by call.
+ghost use Rattle.std.specs.Prelude.{◌≡◌, ◌↔◌, ◌≤◌, ◌<◌, ◌++◌, ◌∷◌, ◌⊎◌, ℕ, [], map, option_map, length, Some, None, IsNone, IfSome, IfOk, IfErr, IsErrOf, OnOk, OnErr};
+ghost use Rattle.std.specs.FinMap as fin;
+ghost use Rattle.std.specs.Ordering.{nat_cmp};
+ghost use Rattle.std.specs.Cmp.Lexicographic.{slice_cmp};
+ghost use Rattle.oxc_sourcemap_mappings.specs.declared.error.Error.TheVariants.{OutOfMemory, TooLarge};
+ghost use Rattle.oxc_sourcemap_mappings.specs.Token.{kept_id};
+ghost use Rattle.oxc_sourcemap_parts.specs.Views.{text_of, texts_of, contents_of};
+ghost use Rattle.oxc_sourcemap_parts.specs.Texts.{place_of};
+ghost use Rattle.oxc_sourcemap_builder.specs.Built.{nothing_built};
+ghost use Rattle.oxc_sourcemap_builder.specs.Building.{named, sourced, added};
+
+use oxc_sourcemap_map::{OwnedSourceMap, SourceMap};
+use oxc_sourcemap_mappings::{Error, Result, Token, TokenChunk};
+use std::alloc::{AllocError, Global};
+use std::borrow::CowStr;
+use std::marker::Model;
+
+/// A path, and the id that `add_source_and_content` gave to it.
+#[derive(Clone, Copy)]
+struct GivenId<'a> {
+    path: &'a str,
+    id: u32,
+}
+
+/// Builds a map call by call. All texts are borrowed for `'a`.
+///
+/// Ids are counted from 0, in the order in which names and sources come. An add that is refused leaves the builder as it
+/// was, and a refused `into_` call drops it.
+#[derive(Drop)]
+pub struct SourceMapBuilder<'a> {
+    alloc: Global,
+    file: Option<&'a str>,
+    names: Vec<&'a str>,
+    sources: Vec<&'a str>,
+    source_contents: Vec<Option<&'a str>>,
+    tokens: Vec<Token>,
+    token_chunks: Option<Vec<TokenChunk>>,
+    given: Vec<GivenId<'a>>,
+}
+
+impl<'a> Model for SourceMapBuilder<'a> {
+    ghost use Rattle.std.specs.Prelude.{map, option_map, None, length, ◌≤◌};
+    ghost use Rattle.std.specs.Coded.{codes};
+    ghost use Rattle.std.specs.FinMap as fin;
+    ghost use Rattle.oxc_sourcemap_parts.specs.Views.{chunks_of};
+    ghost use Rattle.oxc_sourcemap_builder.specs.Built.{Built, ids_code};
+
+    ghost Value = { Built };
+
+    ghost coded = { Prim.hlevel (codes, ids_code) };
+
+    ghost view = { λ b. record {
+      map = record {
+        file = option_map (λ text. text.now) b.file;
+        names = map (λ text. text.now) b.names.items;
+        source_root = None;
+        sources = map (λ text. text.now) b.sources.items;
+        source_contents = map (λ content. option_map (λ text. text.now) content) b.source_contents.items;
+        tokens = b.tokens.items;
+        token_chunks = chunks_of b.token_chunks;
+        ignore_list = None;
+        debug_id = None;
+      };
+      given = fin.from_entries (map (λ entry. (entry.path.now, entry.id)) b.given.items);
+    } };
+
+    // So an index of a name is an id.
+    ghost invariant = { λ b. length b.names.items ≤ 4294967295 };
+}
+
+/// The id of a new last item behind this many others.
+fn next_id(count: usize) -> Result<u32>
+    ensures id { IfOk result (λ id. id ≡ count) }
+    ensures too_large { IsErrOf result TooLarge ↔ (4294967295 ≤ count) }
+    ensures refused { IfErr result (λ e. e ≡ TooLarge) }
+{
+    if count >= 4294967295 {
+        return Err(Error::TooLarge);
+    }
+    Ok(count as u32)
+}
+
+/// The index of the first text that is equal to this one.
+fn position_of(texts: &[&str], text: &str) -> Option<usize>
+    ensures place { result ≡ place_of text.now (map (λ text. text.now) texts.now) }
+    ensures within { IfSome result (λ i. i < length texts.now) }
+{
+    for (i, other) in texts.iter().enumerate() {
+        if text == *other {
+            return Some(i);
+        }
+    }
+    None
+}
+
+/// The id that was given to a path.
+fn find_given(given: &[GivenId<'_>], path: &str) -> Option<u32>
+    ensures { result ≡ fin.find (slice_cmp nat_cmp) path.now (map (λ entry. (entry.path.now, entry.id)) given.now) }
+{
+    for entry in given {
+        if path == entry.path {
+            return Some(entry.id);
+        }
+    }
+    None
+}
+
+/// Adds a path and a content, or neither.
+fn push_source<'a>(
+    sources: &mut Vec<&'a str>,
+    contents: &mut Vec<Option<&'a str>>,
+    path: &'a str,
+    content: &'a str,
+) -> std::result::Result<(), AllocError>
+    ensures sources { OnOk result (map (λ text. text.now) sources.new.items ≡ map (λ text. text.now) sources.old.items ++ path.now ∷ []) }
+    ensures contents { OnOk result (map (option_map (λ text. text.now)) contents.new.items ≡ map (option_map (λ text. text.now)) contents.old.items ++ Some content.now ∷ []) }
+    ensures unchanged { OnErr result ((sources.new.items ≡ sources.old.items) × (contents.new.items ≡ contents.old.items)) }
+{
+    sources.reserve(1)?;
+    contents.reserve(1)?;
+    let pushed: std::result::Result<_, _> = sources.push(path);
+    pushed.unwrap();
+    let pushed: std::result::Result<_, _> = contents.push(Some(content));
+    pushed.unwrap();
+    Ok(())
+}
+
+impl<'a> SourceMapBuilder<'a> {
+    /// A builder without anything. It keeps the allocator, and takes no memory.
+    pub fn empty(alloc: Global) -> SourceMapBuilder<'a>
+        ensures { result ≡ nothing_built }
+    {
+        SourceMapBuilder {
+            alloc,
+            file: None,
+            names: Vec::new(alloc),
+            sources: Vec::new(alloc),
+            source_contents: Vec::new(alloc),
+            tokens: Vec::new(alloc),
+            token_chunks: None,
+            given: Vec::new(alloc),
+        }
+    }
+
+    /// The id of a name: that of the equal name, else that of a new last one.
+    ///
+    /// Refused as `TooLarge` where the new id would be 4294967295, then as `OutOfMemory` where memory is refused; the builder
+    /// is then as it was.
+    pub fn add_name(&mut self, name: &'a str) -> Result<u32>
+        ensures added { IfOk result (λ id. (self.new, id) ≡ named self.old name.now) }
+        ensures too_large { IsErrOf result TooLarge ↔ (IsNone (place_of name.now self.old.map.names) × (4294967295 ≤ length self.old.map.names)) }
+        ensures refused { IfErr result (λ e. (e ≡ OutOfMemory) ⊎ (e ≡ TooLarge)) }
+        ensures unchanged { OnErr result (self.new ≡ self.old) }
+    {
+        if let Some(id) = position_of(self.names.as_slice(), name) {
+            return Ok(id as u32);
+        }
+        let id = next_id(self.names.len())?;
+        self.names.push(name)?;
+        Ok(id)
+    }
+
+    /// The id that `add_source_and_content` gave to a path.
+    #[tactic(auto, using(crate::proofs::GivenIds::get_given))]
+    fn given_id(&self, path: &str) -> Option<u32>
+        ensures { result ≡ fin.get self.now.given path.now }
+    {
+        find_given(self.given.as_slice(), path)
+    }
+
+    /// The id of a source by its path: the id that this call gave to the equal path, whose content stays; else that of a new
+    /// last source with this content. It does not see sources of `set_source_and_content`.
+    ///
+    /// Refused as `TooLarge` where the new id would be 4294967295, then as `OutOfMemory` where memory is refused; the builder
+    /// is then as it was.
+    pub fn add_source_and_content(&mut self, path: &'a str, content: &'a str) -> Result<u32>
+        ensures added { IfOk result (λ id. (self.new, id) ≡ added self.old path.now content.now) }
+        ensures too_large { IsErrOf result TooLarge ↔ (IsNone (fin.get self.old.given path.now) × (4294967295 ≤ length self.old.map.sources)) }
+        ensures refused { IfErr result (λ e. (e ≡ OutOfMemory) ⊎ (e ≡ TooLarge)) }
+        ensures unchanged { OnErr result (self.new ≡ self.old) }
+    {
+        if let Some(id) = self.given_id(path) {
+            return Ok(id);
+        }
+        let id = next_id(self.sources.len())?;
+        self.given.reserve(1)?;
+        push_source(&mut self.sources, &mut self.source_contents, path, content)?;
+        let pushed: std::result::Result<_, _> = self.given.push(GivenId { path, id });
+        pushed.unwrap();
+        Ok(id)
+    }
+
+    /// The id of a new last source with this content, whether there is a source of this path or not. A later
+    /// `add_source_and_content` does not see it.
+    ///
+    /// Refused as `TooLarge` where the new id would be 4294967295, then as `OutOfMemory` where memory is refused; the builder
+    /// is then as it was.
+    pub fn set_source_and_content(&mut self, path: &'a str, content: &'a str) -> Result<u32>
+        ensures added { IfOk result (λ id. (self.new, id) ≡ sourced self.old path.now content.now) }
+        ensures too_large { IsErrOf result TooLarge ↔ (4294967295 ≤ length self.old.map.sources) }
+        ensures refused { IfErr result (λ e. (e ≡ OutOfMemory) ⊎ (e ≡ TooLarge)) }
+        ensures unchanged { OnErr result (self.new ≡ self.old) }
+    {
+        let last = next_id(self.sources.len())?;
+        push_source(&mut self.sources, &mut self.source_contents, path, content)?;
+        Ok(last)
+    }
+
+    /// Adds a token behind the others, as `Token::new` makes it. Nothing is checked. Refused for memory alone; the builder is
+    /// then as it was.
+    pub fn add_token(
+        &mut self,
+        dst_line: u32,
+        dst_col: u32,
+        src_line: u32,
+        src_col: u32,
+        src_id: Option<u32>,
+        name_id: Option<u32>,
+    ) -> Result<()>
+        ensures added { OnOk result (self.new ≡ record self.old {
+          map = record self.old.map {
+            tokens = self.old.map.tokens ++ record {
+              dst_line = dst_line;
+              dst_col = dst_col;
+              src_line = src_line;
+              src_col = src_col;
+              source_id = kept_id src_id;
+              name_id = kept_id name_id;
+            } ∷ [];
+          };
+        }) }
+        ensures refused { IfErr result (λ e. e ≡ OutOfMemory) }
+        ensures unchanged { OnErr result (self.new ≡ self.old) }
+    {
+        self.tokens.push(Token::new(dst_line, dst_col, src_line, src_col, src_id, name_id))?;
+        Ok(())
+    }
+
+    /// Sets the name of the generated file. It cannot be refused.
+    pub fn set_file(&mut self, file: &'a str)
+        ensures { self.new ≡ record self.old { map = record self.old.map { file = Some file.now } } }
+    {
+        self.file = Some(file);
+    }
+
+    /// Sets the chunks in which the tokens are written. Nothing is checked, and it cannot be refused.
+    pub fn set_token_chunks(&mut self, token_chunks: Vec<TokenChunk>)
+        ensures { self.new ≡ record self.old { map = record self.old.map { token_chunks = Some token_chunks.items } } }
+    {
+        self.token_chunks = Some(token_chunks);
+    }
+
+    /// The map that was built, without source root, ignore list and debug id. Its texts are borrowed. Refused for memory
+    /// alone; the builder is then dropped.
+    pub fn into_sourcemap(self) -> Result<SourceMap<'a>>
+        ensures map { IfOk result (λ map. map ≡ self.entry.map) }
+        ensures bare { IfOk result (λ map. (map.source_root ≡ None) × (map.ignore_list ≡ None) × (map.debug_id ≡ None)) }
+        ensures refused { IfErr result (λ e. e ≡ OutOfMemory) }
+    {
+        Ok(SourceMap::new(
+            lent(self.file),
+            lent_texts(self.alloc, self.names)?,
+            None,
+            lent_texts(self.alloc, self.sources)?,
+            lent_contents(self.alloc, self.source_contents)?,
+            self.tokens.into_boxed_slice(),
+            self.token_chunks,
+        ))
+    }
+
+    /// The map that was built, as `into_sourcemap` gives it, with copies of its texts. Refused for memory alone; the builder
+    /// is then dropped.
+    pub fn into_owned_sourcemap(self) -> Result<OwnedSourceMap>
+        ensures map { IfOk result (λ map. map ≡ self.entry.map) }
+        ensures bare { IfOk result (λ map. (map.source_root ≡ None) × (map.ignore_list ≡ None) × (map.debug_id ≡ None)) }
+        ensures refused { IfErr result (λ e. e ≡ OutOfMemory) }
+    {
+        let alloc = self.alloc;
+        self.into_sourcemap()?.into_owned_sourcemap(alloc)
+    }
+}
+
+/// A borrowed text that may be there.
+fn lent<'a>(text: Option<&'a str>) -> Option<CowStr<'a>>
+    ensures { text_of result ≡ option_map (λ text. text.now) text.entry }
+{
+    match text {
+        Some(text) => Some(CowStr::Borrowed(text)),
+        None => None,
+    }
+}
+
+/// Borrowed texts.
+fn lent_texts<'a>(
+    alloc: Global,
+    texts: Vec<&'a str>,
+) -> std::result::Result<Vec<CowStr<'a>>, AllocError>
+    ensures { IfOk result (λ lent. texts_of lent ≡ map (λ text. text.now) texts.entry.items) }
+{
+    let mut lent_ones = Vec::with_capacity(alloc, texts.len())?;
+    for text in texts {
+        lent_ones.push(CowStr::Borrowed(text))?;
+    }
+    Ok(lent_ones)
+}
+
+/// Borrowed contents.
+fn lent_contents<'a>(
+    alloc: Global,
+    contents: Vec<Option<&'a str>>,
+) -> std::result::Result<Vec<Option<CowStr<'a>>>, AllocError>
+    ensures { IfOk result (λ lent. contents_of lent ≡ map (option_map (λ text. text.now)) contents.entry.items) }
+{
+    let mut lent_ones = Vec::with_capacity(alloc, contents.len())?;
+    for content in contents {
+        lent_ones.push(lent(content))?;
+    }
+    Ok(lent_ones)
+}

@@ -1,0 +1,61 @@
+-- From leads to the composed map.
+use Rattle.std.proofs.Common.{◌≡◌, sym, ap, subst, ◌∙◌, ℕ, Bool, true, false, cond, List, map, length, Option, Some, None, Result, Ok, Err, nat_lt, ◌≢◌, IfErr}
+use Rattle.oxc_sourcemap_mappings.specs.declared.error.Error.{Error}
+use Rattle.oxc_sourcemap_mappings.specs.declared.error.Error.TheVariants.{SeveralSources, TooLarge, LineOrder, OutOfMemory}
+use Rattle.oxc_sourcemap_mappings.specs.Token.{TokenRecord}
+use Rattle.oxc_sourcemap_mappings.specs.Canonical.{first_out_of_order}
+use Rattle.oxc_sourcemap_parts.specs.Record.{Text, MapRecord}
+use Rattle.oxc_sourcemap_compose.specs.Composed.{Lead, lead_into, leads, composed_names, composed_token, composed_by, are_ids, composition_by, composition, AreLeads, SomeComposition, ColumnsGoOn}
+use Rattle.oxc_sourcemap_compose.proofs.Leads.{are_leads, leads-are}
+
+module _ (a b : MapRecord) where
+  -- the refusals
+  pub several : nat_lt 1 (length a.sources) ≡ true → SomeComposition a b (Err (SeveralSources (length a.sources)))
+  several e = (leads a b, are_leads b.tokens a.tokens, rw e)
+
+  pub not_in_order : (i : ℕ) → nat_lt 1 (length a.sources) ≡ false → first_out_of_order b.tokens ≡ Some i → SomeComposition a b (Err (LineOrder i))
+  not_in_order i e f = (leads a b, are_leads b.tokens a.tokens, rw (e, f))
+
+  module _ (e : nat_lt 1 (length a.sources) ≡ false) (f : first_out_of_order b.tokens ≡ None) where
+    ids-by : (ls : List Lead) (t : Bool) → are_ids a.names (composed_names a.names b.names ls) ls ≡ t → composition_by ls a b ≡ cond t (Ok (composed_by ls a b)) (Err TooLarge)
+    ids-by ls t i = rw (e, f, i)
+
+    pub too_large : (ls : List Lead) → AreLeads a.tokens b.tokens ls → are_ids a.names (composed_names a.names b.names ls) ls ≡ false → SomeComposition a b (Err TooLarge)
+    too_large ls h i = (ls, h, ids-by ls false i)
+
+    -- and the map
+    abbrev pub made : Option Text → List Text → List TokenRecord → Option Text → MapRecord
+    made file names tokens debug_id = record {
+      file = file;
+      names = names;
+      source_root = b.source_root;
+      sources = b.sources;
+      source_contents = b.source_contents;
+      tokens = tokens;
+      token_chunks = None;
+      ignore_list = b.ignore_list;
+      debug_id = debug_id;
+    }
+
+    pub is_composed : (ls : List Lead) (file : Option Text) (names : List Text) (tokens : List TokenRecord) (debug_id : Option Text) → AreLeads a.tokens b.tokens ls
+        → file ≡ a.file → debug_id ≡ a.debug_id → names ≡ composed_names a.names b.names ls → tokens ≡ map (composed_token a.names names) ls → are_ids a.names names ls ≡ true
+        → SomeComposition a b (Ok (made file names tokens debug_id))
+    is_composed ls file names tokens debug_id h f d n t i = (
+      ls,
+      h,
+      ids-by ls true (ap (λ ns. are_ids a.names ns ls) (sym n) ∙ i)
+          ∙ sym (ap (λ x. Ok (made x names tokens debug_id)) f ∙ ap (λ x. Ok (made a.file names tokens x)) d ∙ ap (λ ts. Ok (made a.file names ts a.debug_id)) t ∙ ap (λ ns. Ok (made a.file ns (map (composed_token a.names ns) ls) a.debug_id)) n),
+    )
+
+  -- where no columns go back, there is but one answer
+  pub exact : (answer : Result MapRecord Error) → ColumnsGoOn b.tokens → SomeComposition a b answer → composition a b ≡ answer
+  exact answer g s =
+      let is : s.0 ≡ leads a b = leads-are b.tokens s.0 g s.1.1 ∙ ap (map (lead_into b.tokens)) s.1.0 in
+      sym (ap (λ ls. composition_by ls a b) is) ∙ s.2
+
+  pub exact_refusal : {X : Type 0} (r : Result X Error) → ColumnsGoOn b.tokens → IfErr r (λ e. (e ≢ OutOfMemory) → SomeComposition a b (Err e)) → IfErr r (λ e. (e ≢ OutOfMemory) → composition a b ≡ Err e)
+  exact_refusal (Ok x) g s = tt
+  exact_refusal (Err e) g s = λ other. exact (Err e) g (s other)
+
+pub of_equals : (a p b q : MapRecord) (answer : Result MapRecord Error) → a ≡ p → b ≡ q → SomeComposition a b answer → SomeComposition p q answer
+of_equals a p b q answer e f s = subst (λ a. SomeComposition a q answer) e (subst (λ b. SomeComposition a b answer) f s)

@@ -1,0 +1,4 @@
+pub mod TakenNames
+pub mod Leads
+pub mod Compositions
+mod Worked

@@ -1,0 +1,7 @@
+pub mod JsonString
+pub mod ReadsBack
+pub mod ReadSound
+pub mod Rewriting
+pub mod Separated
+pub mod JsonTexts
+mod Worked

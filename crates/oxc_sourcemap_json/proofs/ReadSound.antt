@@ -1,0 +1,120 @@
+-- A map that is read has its ids in range and no chunks, so it is sound exactly where it is sorted.
+use Rattle.std.proofs.Common.{◌≡◌, ◌↔◌, ℕ, ◌<◌, Bool, true, false, cond, nat_lt, List, [], ◌∷◌, length, get_or, drop, arith, refl, ap, sym, subst, ◌∙◌, inl, inr, Option, Some, None, Result, Ok, Err}
+use Rattle.std.specs.List.{AllByRecursion}
+use Rattle.std.specs.Option.{IfSome, is_some, option_map_or}
+use Rattle.std.proofs.lemmas.Bool.{cases_lt}
+use Rattle.std.proofs.lemmas.Bool.Decides.{nat_tests}
+use Rattle.serde_json.specs.Read.{read}
+use Rattle.oxc_sourcemap_mappings.specs.declared.error.Error.{Error}
+use Rattle.oxc_sourcemap_mappings.specs.Token.{TokenRecord, AreInBounds, mapped_name, name_beside}
+use Rattle.oxc_sourcemap_json.specs.Json.{JsonRecord}
+use Rattle.oxc_sourcemap_json.specs.Shape.{◌>>=◌}
+use Rattle.oxc_sourcemap_mappings.specs.Reading.{reading}
+use Rattle.oxc_sourcemap_mappings.specs.State.{State, initial}
+use Rattle.oxc_sourcemap_mappings.specs.Canonical.{carried_token}
+use Rattle.oxc_sourcemap_mappings.specs.Encoding.{advanced}
+use Rattle.oxc_sourcemap_mappings.proofs.Again.{reads_of, bounds_within}
+use Rattle.oxc_sourcemap_mappings.proofs.RoundTrip.{IsWithin, carrying}
+use Rattle.oxc_sourcemap_parts.specs.Record.{Text, MapRecord}
+use Rattle.oxc_sourcemap_parts.specs.Sorted.{are_tokens_sorted}
+use Rattle.oxc_sourcemap_parts.specs.Sound.{IsInRange, AreIdsInRange, IsSound}
+use Rattle.oxc_sourcemap_json.specs.Decoded.{first_not_below, ignore_list_fault, decoded_record, with_tokens, with_ignore_list, decoded}
+use Rattle.oxc_sourcemap_json.specs.ReadMap.{json_fields, read_map}
+
+-- ---- ids
+
+pub carried-name : (s : State) (t : TokenRecord) → (carried_token s t).name_id ≡ mapped_name t
+carried-name s t =
+    elim t.source_id as (λ o. (cond (is_some o) t (record t { src_line = s.src_line; src_col = s.src_col; name_id = None })).name_id ≡ name_beside o t.name_id) [
+      | Some i ↦ refl
+      | None ↦ refl
+    ]
+
+in-range : (names sources : ℕ) (s : State) (t : TokenRecord) → IsWithin names sources t → carried_token s t ≡ t → IsInRange names sources t
+in-range names sources s t w c = record {
+  source_id = w.source_id;
+  name_id = subst (λ o. IfSome o (λ id. id < names)) (sym (carried-name s t) ∙ ap (λ u. u.name_id) c) w.name_id;
+}
+
+all-in-range : (names sources : ℕ) (s : State) (ts : List TokenRecord) → AllByRecursion (IsWithin names sources) ts → carrying s ts ≡ ts → AllByRecursion (IsInRange names sources) ts
+all-in-range names sources s [] w c = tt
+all-in-range names sources s (t ∷ ts) w c = (
+  in-range names sources s t w.0 (ap (λ l. get_or l 0 t) c),
+  all-in-range names sources (advanced s t) ts w.1 (ap (drop 1) c),
+)
+
+all-below : (count : ℕ) (ids : List ℕ) → first_not_below count ids ≡ None → AllByRecursion (λ id. id < count) ids
+all-below count [] e = tt
+all-below count (id ∷ ids) e =
+    elim (cases_lt id count) [
+      | inl l ↦ (let t : nat_lt id count ≡ true = grind (arith, nat_tests) in (l, all-below count ids (rw t at e)))
+      | inr g ↦ (let t : nat_lt id count ≡ false = grind (arith, nat_tests) in let k = rw t at e in cc)
+    ]
+
+list-below : (count : ℕ) (list : Option (List ℕ)) → option_map_or (first_not_below count) list None ≡ None → IfSome list (AllByRecursion (λ id. id < count))
+list-below count None e = tt
+list-below count (Some ids) e = all-below count ids e
+
+-- ---- a map that is read
+
+of-version : (b : Bool) (x : Result MapRecord Error) (fault : Error) (r : MapRecord) → cond b x (Err fault) ≡ Ok r → x ≡ Ok r
+of-version true x fault r e = e
+of-version false x fault r e = cc
+
+of-list : (o : Option ℕ) (x : Result MapRecord Error) (r : MapRecord) → with_ignore_list o x ≡ Ok r → (o ≡ None) × (x ≡ Ok r)
+of-list None x r e = (refl, e)
+of-list (Some id) x r e = cc
+
+record Tokens (j : JsonRecord) (x : Result (List TokenRecord) Error) (r : MapRecord) : Type 0 where
+  tokens : List TokenRecord
+  are_read : x ≡ Ok tokens
+  is_map : decoded_record j tokens ≡ r
+
+of-tokens : (j : JsonRecord) (x : Result (List TokenRecord) Error) (r : MapRecord) → with_tokens j x ≡ Ok r → Tokens j x r
+of-tokens j (Ok ts) r e = record { tokens = ts; are_read = refl; is_map = cc }
+of-tokens j (Err fault) r e = cc
+
+ids-in-range : (j : JsonRecord) (ts : List TokenRecord) → ignore_list_fault j ≡ None → reading j.mappings (length j.names) (length j.sources) ≡ Ok ts → AreIdsInRange (decoded_record j ts)
+ids-in-range j ts l e =
+    let r = reads_of j.mappings (length j.names) (length j.sources) ts e in
+    record {
+      tokens = all-in-range (length j.names) (length j.sources) initial ts r.within r.carries;
+      ignore_list = list-below (length j.sources) j.ignore_list l;
+    }
+
+-- a record without chunks, whose ids are in range
+abbrev OnlyOrder : MapRecord → Type 0
+OnlyOrder r = IsSound r ↔ (are_tokens_sorted r.tokens ≡ true)
+
+only-order : (j : JsonRecord) (ts : List TokenRecord) → AreIdsInRange (decoded_record j ts) → OnlyOrder (decoded_record j ts)
+only-order j ts h = (λ s. s.sorted, λ o. record { sorted = o; in_range = h; chunks = tt })
+
+decoded-sound : (j : JsonRecord) (r : MapRecord) → decoded j ≡ Ok r → OnlyOrder r
+decoded-sound j r e =
+    let listed = of-list (ignore_list_fault j) _ r (of-version _ _ _ r e) in
+    let read = of-tokens j _ r listed.1 in
+    subst OnlyOrder read.is_map (only-order j read.tokens (ids-in-range j read.tokens listed.0 read.are_read))
+
+of-fields : (x : Result JsonRecord Error) (r : MapRecord) → (x >>= decoded) ≡ Ok r → OnlyOrder r
+of-fields (Ok j) r e = decoded-sound j r e
+of-fields (Err fault) r e = cc
+
+pub read_map_sound : (text : Text) (r : MapRecord) → read_map text ≡ Ok r → IsSound r ↔ (are_tokens_sorted r.tokens ≡ true)
+unfolding read_map
+read_map_sound text r e = of-fields (json_fields (read text)) r e
+
+-- ---- bounds
+decoded-in-bounds : (j : JsonRecord) (r : MapRecord) → decoded j ≡ Ok r → AreInBounds r.tokens
+decoded-in-bounds j r e =
+    let listed = of-list (ignore_list_fault j) _ r (of-version _ _ _ r e) in
+    let found = of-tokens j _ r listed.1 in
+    let reads = reads_of j.mappings (length j.names) (length j.sources) found.tokens found.are_read in
+    subst (λ (m : MapRecord). AreInBounds m.tokens) found.is_map (bounds_within (length j.names) (length j.sources) found.tokens reads.within)
+
+fields-in-bounds : (x : Result JsonRecord Error) (r : MapRecord) → (x >>= decoded) ≡ Ok r → AreInBounds r.tokens
+fields-in-bounds (Ok j) r e = decoded-in-bounds j r e
+fields-in-bounds (Err fault) r e = cc
+
+pub read_in_bounds : (text : Text) (r : MapRecord) → read_map text ≡ Ok r → AreInBounds r.tokens
+unfolding read_map
+read_in_bounds text r e = fields-in-bounds (json_fields (read text)) r e

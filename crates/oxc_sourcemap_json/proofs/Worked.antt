@@ -1,0 +1,121 @@
+-- Worked examples, computed by the definitions themselves.
+use Rattle.std.specs.Prelude.{◌≡◌, refl, ℕ, true, List, [], ◌∷◌, ◌++◌, codes, Ok, Err, Option, Some, None}
+use Rattle.base64.specs.Engines.{standard}
+use Rattle.base64.specs.Rfc4648.{encode_symbols}
+use Rattle.oxc_sourcemap_mappings.specs.declared.error.Error.TheVariants.{BadJson, BadSourceReference}
+use Rattle.oxc_sourcemap_json.specs.JsonString.{json_string, escaped}
+use Rattle.oxc_sourcemap_json.specs.Json.{JsonRecord}
+use Rattle.oxc_sourcemap_mappings.specs.Reading.{reading, text_outcomes, line_outcomes}
+use Rattle.oxc_sourcemap_parts.specs.Views.{empty_record}
+use Rattle.oxc_sourcemap_json.specs.Encoded.{record_with}
+use Rattle.oxc_sourcemap_json.specs.JsonText.{json_list, field_text, optional_field, json_text, data_url}
+use Rattle.oxc_sourcemap_json.specs.Decoded.{decoded}
+use Rattle.oxc_sourcemap_mappings.specs.declared.error.JsonFault.TheVariants.{Shape, Version}
+use Rattle.oxc_sourcemap_mappings.specs.declared.error.Field.TheVariants.{Object, Version as VersionField, Names, IgnoreList}
+use Rattle.oxc_sourcemap_json.specs.Shape.{shape}
+use Rattle.serde_json.specs.Data.{Data, null, number, string, array, object, unsigned, no_items, item, no_members, member}
+
+writes-no_characters : json_string [] ≡ codes "\"\""
+unfolding json_string
+writes-no_characters = refl
+
+writes-escapes : json_string (codes "a\"b\\c" ++ 9 ∷ 1 ∷ []) ≡ codes "\"a\\\"b\\\\c\\t\\u0001\""
+unfolding json_string escaped
+writes-escapes = refl
+
+writes-control_characters : json_string (8 ∷ 10 ∷ 12 ∷ 13 ∷ 31 ∷ 127 ∷ []) ≡ codes "\"\\b\\n\\f\\r\\u001f" ++ 127 ∷ 34 ∷ []
+unfolding json_string escaped
+writes-control_characters = refl
+
+-- é and 😀, by their bytes
+writes-other_characters : json_string (195 ∷ 169 ∷ 240 ∷ 159 ∷ 152 ∷ 128 ∷ []) ≡ 34 ∷ 195 ∷ 169 ∷ 240 ∷ 159 ∷ 152 ∷ 128 ∷ 34 ∷ []
+unfolding json_string escaped
+writes-other_characters = refl
+
+-- a JSON object of version 3 without sources and tokens, and one more member
+abbrev object_with : List ℕ → Data → Data
+object_with key value =
+    object (member (codes "version") (number (unsigned 3)) (member (codes "sources") (array no_items) (member (codes "mappings") (string []) (member key value no_members))))
+
+shape-no_object : shape (array (item (number (unsigned 3)) no_items)) ≡ Err (BadJson (Shape Object))
+unfolding shape
+shape-no_object = refl
+
+shape-another_version : shape (object (member (codes "version") (number (unsigned 2)) no_members)) ≡ Err (BadJson (Version 2))
+unfolding shape
+shape-another_version = refl
+
+shape-a_version_that_is_no_number : shape (object (member (codes "version") (string (codes "3")) no_members)) ≡ Err (BadJson (Shape VersionField))
+unfolding shape
+shape-a_version_that_is_no_number = refl
+
+shape-names_are_never_null : shape (object_with (codes "names") null) ≡ Err (BadJson (Shape Names))
+unfolding shape
+shape-names_are_never_null = refl
+
+shape-an_older_ignore_list : shape (object_with (codes "x_google_ignoreList") (array (item (number (unsigned 3)) no_items)))
+    ≡ Ok (record { version = 3; file = None; mappings = []; source_root = None; sources = []; sources_content = None; names = []; debug_id = None; ignore_list = Some (3 ∷ []) })
+unfolding shape
+shape-an_older_ignore_list = refl
+
+shape-an_id_past_32_bits : shape (object_with (codes "ignoreList") (array (item (number (unsigned 4294967296)) no_items))) ≡ Err (BadJson (Shape IgnoreList))
+unfolding shape
+shape-an_id_past_32_bits = refl
+
+shape-unknown_content : shape (object_with (codes "sourcesContent") (array (item null (item (string (codes "A")) no_items))))
+    ≡ Ok (record { version = 3; file = None; mappings = []; source_root = None; sources = []; sources_content = Some (None ∷ Some (codes "A") ∷ []); names = []; debug_id = None; ignore_list = None })
+unfolding shape
+shape-unknown_content = refl
+
+-- the engine of data URLs has the alphabet of RFC 4648, section 4, and pads with `=`
+base64-alphabet : standard.encode_table ≡ codes "ABCDEFGHIJKLMNOPQRSTUVWXYZabcdefghijklmnopqrstuvwxyz0123456789+/"
+base64-alphabet = refl
+
+base64-padding : standard.padding.value ≡ 61
+base64-padding = refl
+
+base64-pads : standard.config.encode_padding ≡ true
+base64-pads = refl
+
+writes-nothing : json_text (record_with empty_record []) ≡ codes "{\"version\":3,\"names\":[],\"sources\":[],\"mappings\":\"\"}"
+unfolding json_text json_list field_text optional_field json_string
+writes-nothing = refl
+
+writes-an_empty_ignore_list : json_text (record_with (record empty_record { ignore_list = Some [] }) [])
+    ≡ codes "{\"version\":3,\"names\":[],\"sources\":[],\"ignoreList\":[],\"mappings\":\"\"}"
+unfolding json_text json_list field_text optional_field json_string
+writes-an_empty_ignore_list = refl
+
+writes-a_source_with_empty_content : json_text (record_with (record empty_record { file = Some (codes "file"); names = codes "x" ∷ []; sources = codes "baz.js" ∷ []; source_contents = Some [] ∷ [] }) [])
+    ≡ codes "{\"version\":3,\"file\":\"file\",\"names\":[\"x\"],\"sources\":[\"baz.js\"],\"sourcesContent\":[\"\"],\"mappings\":\"\"}"
+unfolding json_text json_list field_text optional_field json_string escaped
+writes-a_source_with_empty_content = refl
+
+writes-the_url_of_nothing : data_url (codes "{\"version\":3,\"names\":[],\"sources\":[],\"mappings\":\"\"}")
+    ≡ codes "data:application/json;charset=utf-8;base64,eyJ2ZXJzaW9uIjozLCJuYW1lcyI6W10sInNvdXJjZXMiOltdLCJtYXBwaW5ncyI6IiJ9"
+unfolding encode_symbols
+writes-the_url_of_nothing = refl
+
+-- the fields of a JSON source map with two sources and no tokens
+abbrev two_sources : ℕ → Option (List ℕ) → JsonRecord
+two_sources version ignore_list = record {
+  version = version;
+  file = None;
+  mappings = [];
+  source_root = None;
+  sources = codes "a.js" ∷ codes "b.js" ∷ [];
+  sources_content = None;
+  names = [];
+  debug_id = None;
+  ignore_list = ignore_list;
+}
+
+reads-an_ignore_list : decoded (two_sources 3 (Some (0 ∷ []))) ≡ Ok (record empty_record { sources = codes "a.js" ∷ codes "b.js" ∷ []; ignore_list = Some (0 ∷ []) })
+unfolding reading text_outcomes line_outcomes
+reads-an_ignore_list = refl
+
+reads-no_entry_past_the_sources : decoded (two_sources 3 (Some (1 ∷ 3 ∷ 4 ∷ []))) ≡ Err (BadSourceReference 3)
+reads-no_entry_past_the_sources = refl
+
+reads-no_other_version : decoded (two_sources 2 (Some (3 ∷ []))) ≡ Err (BadJson (Version 2))
+reads-no_other_version = refl

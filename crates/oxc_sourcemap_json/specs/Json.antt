@@ -1,0 +1,34 @@
+-- What contracts see of a JSON source map.
+use Rattle.std.specs.Prelude.{ℕ, List, Option, map, option_map, string_bytes, Vec, String}
+use Rattle.std.specs.declared.alloc.Global.{Global}
+use Rattle.oxc_sourcemap_json.specs.declared.json_source_map.JSONSourceMap.{JSONSourceMap}
+
+-- the fields of the JSON object, as numbers, texts and lists
+pub record JsonRecord : Type 0 where
+  pub version : ℕ
+  pub file : Option (List ℕ)
+  pub mappings : List ℕ
+  pub source_root : Option (List ℕ)
+  pub sources : List (List ℕ)
+  pub sources_content : Option (List (Option (List ℕ)))
+  pub names : List (List ℕ)
+  pub debug_id : Option (List ℕ)
+  pub ignore_list : Option (List ℕ)
+
+-- the contents that may be there
+abbrev pub json_contents : Option (Vec (Option (String Global)) Global) → Option (List (Option (List ℕ)))
+json_contents contents = option_map (λ list. map (option_map string_bytes) list.items) contents
+
+-- the fields of a stored JSON source map
+abbrev pub json_record : JSONSourceMap → JsonRecord
+json_record j = record {
+  version = j.version;
+  file = option_map string_bytes j.file;
+  mappings = string_bytes j.mappings;
+  source_root = option_map string_bytes j.source_root;
+  sources = map string_bytes j.sources.items;
+  sources_content = json_contents j.sources_content;
+  names = map string_bytes j.names.items;
+  debug_id = option_map string_bytes j.debug_id;
+  ignore_list = option_map (λ list. list.items) j.ignore_list;
+}

@@ -1,0 +1,9 @@
+pub mod Json
+pub mod Shape
+pub mod JsonString
+pub mod Decoded
+pub mod Encoded
+pub mod ReadMap
+pub mod JsonText
+pub mod JsonParts
+pub mod MapLaws

@@ -1,0 +1,133 @@
+-- The shape of a source map as a JSON value: its fields, or the first fault in their order (ECMA-426, "Source map format").
+use Rattle.std.specs.Prelude.{ℕ, List, [], ◌∷◌, codes, Option, Some, None, Result, Ok, Err, if◌then◌else◌, nat_lt, ◌==◌}
+use Rattle.std.specs.Option.{option_and_then}
+use Rattle.serde_json.specs.Data.{Data, null, boolean, number, string, array, object, Items, no_items, item}
+use Rattle.serde_json.specs.Find.{get, as_number, as_u64, as_str, as_array, as_object}
+use Rattle.oxc_sourcemap_mappings.specs.declared.error.Error.{Error}
+use Rattle.oxc_sourcemap_mappings.specs.declared.error.Error.TheVariants.{BadJson}
+use Rattle.oxc_sourcemap_mappings.specs.declared.error.JsonFault.TheVariants.{Shape, Version}
+use Rattle.oxc_sourcemap_mappings.specs.declared.error.Field.{Field}
+use Rattle.oxc_sourcemap_mappings.specs.declared.error.Field.TheVariants.{Object, Version as VersionField, File, Mappings, SourceRoot, Sources, SourcesContent, Names, DebugId, IgnoreList, GoogleIgnoreList}
+use Rattle.oxc_sourcemap_json.specs.Json.{JsonRecord}
+
+-- the second step, where the first gave a value; else the first fault
+infixl 10 ◌>>=◌
+abbrev pub ◌>>=◌ : {A B : Type 0} → Result A Error → (A → Result B Error) → Result B Error
+(Ok x) >>= next = next x
+(Err fault) >>= next = Err fault
+
+-- the value, or that this field is missing or has the wrong type
+abbrev pub or_misshapen : {A : Type 0} → Field → Option A → Result A Error
+or_misshapen field (Some x) = Ok x
+or_misshapen field None = Err (BadJson (Shape field))
+
+-- a member that is there and is not null
+abbrev pub present : Option Data → Option Data
+present None = None
+present (Some null) = None
+present (Some (boolean b)) = Some (boolean b)
+present (Some (number n)) = Some (number n)
+present (Some (string s)) = Some (string s)
+present (Some (array ds)) = Some (array ds)
+present (Some (object ms)) = Some (object ms)
+
+-- a value where there is a member, and none where there is none
+abbrev pub optional : {A : Type 0} → (Data → Result A Error) → Option Data → Result (Option A) Error
+optional read None = Ok None
+optional read (Some d) = read d >>= (λ x. Ok (Some x))
+
+-- an item in front of the others, where both were read
+abbrev pub onto_read : {A : Type 0} → Option A → Option (List A) → Option (List A)
+onto_read None rest = None
+onto_read (Some x) None = None
+onto_read (Some x) (Some rest) = Some (x ∷ rest)
+
+-- all items, where each can be read
+abbrev pub all_items : {A : Type 0} → (Data → Option A) → Items → Option (List A)
+all_items read no_items = Some []
+all_items read (item d ds) = onto_read (read d) (all_items read ds)
+
+-- a list whose items can all be read
+abbrev pub as_list : {A : Type 0} → (Data → Option A) → Data → Option (List A)
+as_list read d = option_and_then (all_items read) (as_array d)
+
+-- a content: a text, or null where it is not known
+abbrev pub as_content : Data → Option (Option (List ℕ))
+as_content null = Some None
+as_content (boolean b) = None
+as_content (number n) = None
+as_content (string s) = Some (Some s)
+as_content (array ds) = None
+as_content (object ms) = None
+
+-- a number that is at most 4294967295
+abbrev pub if_id : Option ℕ → Option ℕ
+if_id None = None
+if_id (Some n) = if nat_lt n 4294967296 then Some n else None
+
+-- a whole number of 0 to 4294967295
+abbrev pub as_id : Data → Option ℕ
+as_id d = if_id (option_and_then as_u64 (as_number d))
+
+-- a text in this field
+abbrev pub text_in : Field → Data → Result (List ℕ) Error
+text_in field d = or_misshapen field (as_str d)
+
+-- a list of texts in this field
+abbrev pub texts_in : Field → Data → Result (List (List ℕ)) Error
+texts_in field d = or_misshapen field (as_list as_str d)
+
+-- a list of contents in this field
+abbrev pub contents_in : Field → Data → Result (List (Option (List ℕ))) Error
+contents_in field d = or_misshapen field (as_list as_content d)
+
+-- a list of whole numbers in this field
+abbrev pub ids_in : Field → Data → Result (List ℕ) Error
+ids_in field d = or_misshapen field (as_list as_id d)
+
+-- a member that must be there
+abbrev pub required : {A : Type 0} → Field → (Data → Result A Error) → Option Data → Result A Error
+required field read member = or_misshapen field member >>= read
+
+-- 3, and no other version
+abbrev pub version_three : ℕ → Result ℕ Error
+version_three n = if n == 3 then Ok n else Err (BadJson (Version n))
+
+-- the number of a version, which must be 3
+abbrev pub version_in : Data → Result ℕ Error
+version_in d = or_misshapen VersionField (as_id d) >>= version_three
+
+-- the list of names: a missing one is empty, and null is misshapen
+abbrev pub names_of : Option Data → Result (List (List ℕ)) Error
+names_of None = Ok []
+names_of (Some d) = texts_in Names d
+
+-- the ignore list: where it is missing or null, the one of the older key
+abbrev pub ignore_list_of : Option Data → Option Data → Result (Option (List ℕ)) Error
+ignore_list_of (Some d) older = ids_in IgnoreList d >>= (λ ids. Ok (Some ids))
+ignore_list_of None older = optional (ids_in GoogleIgnoreList) older
+
+-- the fields of a JSON value, or its first fault
+unfoldable pub shape : Data → Result JsonRecord Error
+shape d = do
+  members ← or_misshapen Object (as_object d)
+  version ← required VersionField version_in (get (codes "version") d)
+  file ← optional (text_in File) (present (get (codes "file") d))
+  mappings ← required Mappings (text_in Mappings) (get (codes "mappings") d)
+  source_root ← optional (text_in SourceRoot) (present (get (codes "sourceRoot") d))
+  sources ← required Sources (texts_in Sources) (get (codes "sources") d)
+  contents ← optional (contents_in SourcesContent) (present (get (codes "sourcesContent") d))
+  names ← names_of (get (codes "names") d)
+  debug_id ← optional (text_in DebugId) (present (get (codes "debugId") d))
+  ignore_list ← ignore_list_of (present (get (codes "ignoreList") d)) (present (get (codes "x_google_ignoreList") d))
+  Ok (record {
+    version = version;
+    file = file;
+    mappings = mappings;
+    source_root = source_root;
+    sources = sources;
+    sources_content = contents;
+    names = names;
+    debug_id = debug_id;
+    ignore_list = ignore_list;
+  })

@@ -1,0 +1,128 @@
+//! Reading the parts of a map from a JSON source map and from a JSON text.
+ghost use Rattle.std.specs.Prelude.{◌≡◌, ◌≢◌, ℕ, List, length, map, option_map, string_bytes, IfOk, IfErr, Ok, Err, []};
+ghost use Rattle.std.specs.Option.{unwrap_or};
+ghost use Rattle.oxc_sourcemap_mappings.specs.declared.error.Error.TheVariants.{OutOfMemory};
+ghost use Rattle.oxc_sourcemap_parts.specs.Views.{text_of, texts_of, contents_of, record_of_parts};
+ghost use Rattle.oxc_sourcemap_json.specs.Json.{json_record, json_contents};
+ghost use Rattle.oxc_sourcemap_json.specs.Decoded.{decoded, first_not_below};
+ghost use Rattle.oxc_sourcemap_json.specs.ReadMap.{read_map};
+
+use crate::json_source_map::JSONSourceMap;
+use oxc_sourcemap_mappings::{Error, JsonFault, Result, decode_mappings};
+use oxc_sourcemap_parts::SourceMapParts;
+use serde_json::Value;
+use std::alloc::{AllocError, Global};
+use std::borrow::CowStr;
+
+/// The first id that is not below a count.
+fn first_id_not_below(count: usize, ids: &[u32]) -> Option<u32>
+    ensures { result ≡ first_not_below count ids.now }
+{
+    for id in ids {
+        if *id as usize >= count {
+            return Some(*id);
+        }
+    }
+    None
+}
+
+/// A text that may be there, moved.
+fn owned(text: Option<String>) -> Option<CowStr<'static>>
+    ensures { text_of result ≡ option_map string_bytes text }
+{
+    match text {
+        Some(text) => Some(CowStr::Owned(text)),
+        None => None,
+    }
+}
+
+/// Texts, moved.
+fn owned_texts(
+    alloc: Global,
+    texts: Vec<String>,
+) -> std::result::Result<Vec<CowStr<'static>>, AllocError>
+    ensures { IfOk result (λ owned. texts_of owned ≡ map string_bytes texts.items) }
+{
+    let mut moved = Vec::with_capacity(alloc, texts.len())?;
+    for text in texts {
+        moved.push(CowStr::Owned(text))?;
+    }
+    Ok(moved)
+}
+
+/// Contents, moved; missing ones are the empty list.
+fn owned_contents(
+    alloc: Global,
+    contents: Option<Vec<Option<String>>>,
+) -> std::result::Result<Vec<Option<CowStr<'static>>>, AllocError>
+    ensures { IfOk result (λ owned. contents_of owned ≡ unwrap_or (json_contents contents) []) }
+{
+    let Some(contents) = contents else {
+        return Ok(Vec::new(alloc));
+    };
+    let mut moved = Vec::with_capacity(alloc, contents.len())?;
+    for content in contents {
+        moved.push(owned(content))?;
+    }
+    Ok(moved)
+}
+
+/// The parts of the map that a JSON source map says. Its texts are moved, and contents that are missing are the empty list; it has no
+/// chunks.
+///
+/// Refused in this order, and the value is then dropped:
+/// - `BadJson(Version(n))` for a version n other than 3;
+/// - `BadSourceReference(id)` for the first entry of the ignore list that is not below the number of sources;
+/// - what `decode_mappings` refuses, with the numbers of names and sources.
+///
+/// `OutOfMemory` where memory is refused, which may be before a fault of the mappings is met.
+pub fn decode_parts(alloc: Global, json: JSONSourceMap) -> Result<SourceMapParts<'static>>
+    ensures map { IfOk result (λ parts. decoded (json_record json) ≡ Ok (record_of_parts parts)) }
+    ensures refused { IfErr result (λ e. (e ≢ OutOfMemory) → decoded (json_record json) ≡ Err e) }
+{
+    if json.version != 3 {
+        return Err(Error::BadJson(JsonFault::Version(json.version)));
+    }
+    if let Some(list) = &json.ignore_list {
+        if let Some(id) = first_id_not_below(json.sources.len(), list.as_slice()) {
+            return Err(Error::BadSourceReference(id));
+        }
+    }
+    let tokens = decode_mappings(
+        alloc,
+        json.mappings.as_str(),
+        json.names.len(),
+        json.sources.len(),
+    )?;
+    Ok(SourceMapParts {
+        file: owned(json.file),
+        names: owned_texts(alloc, json.names)?,
+        source_root: owned(json.source_root),
+        sources: owned_texts(alloc, json.sources)?,
+        source_contents: owned_contents(alloc, json.sources_content)?,
+        tokens,
+        token_chunks: None,
+        ignore_list: json.ignore_list,
+        debug_id: owned(json.debug_id),
+    })
+}
+
+/// The parts of the map that a JSON text says: `serde_json` reads the text, `JSONSourceMap::from_value` the value, and
+/// `decode_parts` the fields. All its texts are owned.
+///
+/// Refused in this order:
+/// - `BadJson(Reading)` where `serde_json` reads no value, as for a text that is not JSON, one with more than white
+///   space behind the value, and one that nests deeper than 127;
+/// - what `JSONSourceMap::from_value` refuses;
+/// - what `decode_parts` refuses.
+///
+/// `OutOfMemory` where memory is refused, which may be before a fault is met.
+#[tactic(auto, unfolding(crate::specs::ReadMap::read_map))]
+pub fn decode_parts_from_string(alloc: Global, text: &str) -> Result<SourceMapParts<'static>>
+    ensures map { IfOk result (λ parts. read_map text.now ≡ Ok (record_of_parts parts)) }
+    ensures refused { IfErr result (λ e. (e ≢ OutOfMemory) → read_map text.now ≡ Err e) }
+{
+    let value = Value::from_str(alloc, text)?;
+    let json = JSONSourceMap::from_value(alloc, &value)?;
+    decode_parts(alloc, json)
+}

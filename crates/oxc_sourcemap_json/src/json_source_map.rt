@@ -1,0 +1,26 @@
+//! The fields of a source map as its JSON object has them.
+
+/// The fields of a source map as its JSON object has them (ECMA-426, "Source map format").
+#[derive(Drop)]
+pub struct JSONSourceMap {
+    /// The version. `decode` refuses all but 3.
+    pub version: u32,
+    /// The name of the generated file.
+    pub file: Option<String>,
+    /// The mappings text.
+    pub mappings: String,
+    /// What stands in front of each source when it is looked up; nothing here joins them.
+    pub source_root: Option<String>,
+    /// The sources that the mappings refer to by their index.
+    pub sources: Vec<String>,
+    /// The content of each source, None where it is not known. There may be fewer or more than there are sources. None
+    /// where the object has no list, which reads as the empty one.
+    pub sources_content: Option<Vec<Option<String>>>,
+    /// The names that the mappings refer to by their index.
+    pub names: Vec<String>,
+    /// An id that ties this map to its generated code.
+    pub debug_id: Option<String>,
+    /// The indices of sources that debuggers may pass over, as third-party code. `decode` refuses those that are not below
+    /// the number of sources.
+    pub ignore_list: Option<Vec<u32>>,
+}

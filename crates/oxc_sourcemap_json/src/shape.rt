@@ -1,0 +1,230 @@
+//! The shape of a source map as a JSON value.
+ghost use Rattle.std.specs.Prelude.{◌≡◌, ◌≢◌, ◌++◌, ℕ, List, map, option_map, string_bytes, codes, IfOk, IfErr, Ok, Err, Some, None, Option};
+ghost use Rattle.serde_json.specs.View.{view};
+ghost use Rattle.serde_json.specs.Find.{get, as_object};
+ghost use Rattle.oxc_sourcemap_mappings.specs.declared.error.Error.TheVariants.{OutOfMemory};
+ghost use Rattle.oxc_sourcemap_mappings.specs.declared.error.Field.TheVariants.{Version as VersionField, Mappings, Sources, SourcesContent};
+ghost use Rattle.oxc_sourcemap_json.specs.Json.{json_record, json_contents};
+ghost use Rattle.oxc_sourcemap_json.specs.Shape.{present, optional, required, text_in, texts_in, contents_in, ids_in, version_in, names_of, ignore_list_of, as_id, shape};
+
+use crate::json_source_map::JSONSourceMap;
+use oxc_sourcemap_mappings::{Error, Field, JsonFault, Result};
+use serde_json::Value;
+use std::alloc::Global;
+
+/// A member that is there and is not null.
+fn present_member<'v>(value: &'v Value, key: &str) -> Option<&'v Value>
+    ensures { option_map (λ member. view member.now) result ≡ present (get key.now (view value.now)) }
+{
+    let member = value.get(key)?;
+    if member.is_null() { None } else { Some(member) }
+}
+
+/// A text.
+fn read_text(alloc: Global, member: &Value, field: Field) -> Result<String>
+    ensures text { IfOk result (λ text. text_in field (view member.now) ≡ Ok (string_bytes text)) }
+    ensures refused { IfErr result (λ e. (e ≢ OutOfMemory) → text_in field (view member.now) ≡ Err e) }
+{
+    let Some(text) = member.as_str() else {
+        return Err(Error::BadJson(JsonFault::Shape(field)));
+    };
+    Ok(String::from_str(alloc, text)?)
+}
+
+/// A list of texts.
+fn read_texts(alloc: Global, member: &Value, field: Field) -> Result<Vec<String>>
+    ensures texts { IfOk result (λ texts. texts_in field (view member.now) ≡ Ok (map string_bytes texts.items)) }
+    ensures refused { IfErr result (λ e. (e ≢ OutOfMemory) → texts_in field (view member.now) ≡ Err e) }
+{
+    let Some(items) = member.as_array() else {
+        return Err(Error::BadJson(JsonFault::Shape(field)));
+    };
+    let mut texts = Vec::new(alloc);
+    for item in items {
+        let Some(text) = item.as_str() else {
+            return Err(Error::BadJson(JsonFault::Shape(field)));
+        };
+        texts.push(String::from_str(alloc, text)?)?;
+    }
+    Ok(texts)
+}
+
+/// A whole number of 0 to 4294967295.
+fn read_id(item: &Value) -> Option<u32>
+    ensures { result ≡ as_id (view item.now) }
+{
+    let number = item.as_u64()?;
+    if number > 4294967295 {
+        return None;
+    }
+    Some(number as u32)
+}
+
+/// A list of whole numbers of 0 to 4294967295.
+fn read_ids(alloc: Global, member: &Value, field: Field) -> Result<Vec<u32>>
+    ensures ids { IfOk result (λ ids. ids_in field (view member.now) ≡ Ok ids.items) }
+    ensures refused { IfErr result (λ e. (e ≢ OutOfMemory) → ids_in field (view member.now) ≡ Err e) }
+{
+    let Some(items) = member.as_array() else {
+        return Err(Error::BadJson(JsonFault::Shape(field)));
+    };
+    let mut ids = Vec::new(alloc);
+    for item in items {
+        let Some(id) = read_id(item) else {
+            return Err(Error::BadJson(JsonFault::Shape(field)));
+        };
+        ids.push(id)?;
+    }
+    Ok(ids)
+}
+
+/// A list of texts and nulls.
+fn read_contents(alloc: Global, member: &Value, field: Field) -> Result<Vec<Option<String>>>
+    ensures contents { IfOk result (λ contents. contents_in field (view member.now) ≡ Ok (map (option_map string_bytes) contents.items)) }
+    ensures refused { IfErr result (λ e. (e ≢ OutOfMemory) → contents_in field (view member.now) ≡ Err e) }
+{
+    let Some(items) = member.as_array() else {
+        return Err(Error::BadJson(JsonFault::Shape(field)));
+    };
+    let mut contents = Vec::new(alloc);
+    for item in items {
+        if item.is_null() {
+            contents.push(None)?;
+        } else if let Some(text) = item.as_str() {
+            contents.push(Some(String::from_str(alloc, text)?))?;
+        } else {
+            return Err(Error::BadJson(JsonFault::Shape(field)));
+        }
+    }
+    Ok(contents)
+}
+
+/// The version, which must be 3.
+fn read_version(value: &Value) -> Result<u32>
+    ensures { result ≡ required VersionField version_in (get (codes "version") (view value.now)) }
+{
+    let Some(version) = value.get("version").and_then(read_id) else {
+        return Err(Error::BadJson(JsonFault::Shape(Field::Version)));
+    };
+    if version != 3 {
+        return Err(Error::BadJson(JsonFault::Version(version)));
+    }
+    Ok(version)
+}
+
+/// A text that may be missing or null.
+fn optional_text(alloc: Global, value: &Value, key: &str, field: Field) -> Result<Option<String>>
+    ensures text { IfOk result (λ text. optional (text_in field) (present (get key.now (view value.now))) ≡ Ok (option_map string_bytes text)) }
+    ensures refused { IfErr result (λ e. (e ≢ OutOfMemory) → optional (text_in field) (present (get key.now (view value.now))) ≡ Err e) }
+{
+    let Some(member) = present_member(value, key) else {
+        return Ok(None);
+    };
+    Ok(Some(read_text(alloc, member, field)?))
+}
+
+/// The mappings, which must be there.
+fn read_mappings(alloc: Global, value: &Value) -> Result<String>
+    ensures text { IfOk result (λ text. required Mappings (text_in Mappings) (get (codes "mappings") (view value.now)) ≡ Ok (string_bytes text)) }
+    ensures refused { IfErr result (λ e. (e ≢ OutOfMemory) → required Mappings (text_in Mappings) (get (codes "mappings") (view value.now)) ≡ Err e) }
+{
+    let Some(member) = value.get("mappings") else {
+        return Err(Error::BadJson(JsonFault::Shape(Field::Mappings)));
+    };
+    read_text(alloc, member, Field::Mappings)
+}
+
+/// The sources, which must be there.
+fn read_sources(alloc: Global, value: &Value) -> Result<Vec<String>>
+    ensures texts { IfOk result (λ texts. required Sources (texts_in Sources) (get (codes "sources") (view value.now)) ≡ Ok (map string_bytes texts.items)) }
+    ensures refused { IfErr result (λ e. (e ≢ OutOfMemory) → required Sources (texts_in Sources) (get (codes "sources") (view value.now)) ≡ Err e) }
+{
+    let Some(member) = value.get("sources") else {
+        return Err(Error::BadJson(JsonFault::Shape(Field::Sources)));
+    };
+    read_texts(alloc, member, Field::Sources)
+}
+
+/// The contents of sources, which may be missing or null.
+fn read_sources_content(alloc: Global, value: &Value) -> Result<Option<Vec<Option<String>>>>
+    ensures contents { IfOk result (λ contents. optional (contents_in SourcesContent) (present (get (codes "sourcesContent") (view value.now))) ≡ Ok (json_contents contents)) }
+    ensures refused { IfErr result (λ e. (e ≢ OutOfMemory) → optional (contents_in SourcesContent) (present (get (codes "sourcesContent") (view value.now))) ≡ Err e) }
+{
+    let Some(member) = present_member(value, "sourcesContent") else {
+        return Ok(None);
+    };
+    Ok(Some(read_contents(alloc, member, Field::SourcesContent)?))
+}
+
+/// The names, which may be missing but not null.
+fn read_names(alloc: Global, value: &Value) -> Result<Vec<String>>
+    ensures texts { IfOk result (λ texts. names_of (get (codes "names") (view value.now)) ≡ Ok (map string_bytes texts.items)) }
+    ensures refused { IfErr result (λ e. (e ≢ OutOfMemory) → names_of (get (codes "names") (view value.now)) ≡ Err e) }
+{
+    match value.get("names") {
+        Some(member) => read_texts(alloc, member, Field::Names),
+        None => Ok(Vec::new(alloc)),
+    }
+}
+
+/// The ignore list: where it is missing or null, the one of the older key, which may be missing or null, too.
+fn read_ignore_list(alloc: Global, value: &Value) -> Result<Option<Vec<u32>>>
+    ensures ids { IfOk result (λ ids. ignore_list_of (present (get (codes "ignoreList") (view value.now))) (present (get (codes "x_google_ignoreList") (view value.now))) ≡ Ok (option_map (λ list. list.items) ids)) }
+    ensures refused { IfErr result (λ e. (e ≢ OutOfMemory) → ignore_list_of (present (get (codes "ignoreList") (view value.now))) (present (get (codes "x_google_ignoreList") (view value.now))) ≡ Err e) }
+{
+    if let Some(member) = present_member(value, "ignoreList") {
+        return Ok(Some(read_ids(alloc, member, Field::IgnoreList)?));
+    }
+    let Some(member) = present_member(value, "x_google_ignoreList") else {
+        return Ok(None);
+    };
+    Ok(Some(read_ids(alloc, member, Field::GoogleIgnoreList)?))
+}
+
+impl JSONSourceMap {
+    /// The fields of a JSON value (docs/FORMAT.md, "The shape of a JSON value"; ECMA-426, "Source map format"). Keys that are not listed
+    /// here are passed over.
+    ///
+    /// Refused as `BadJson`, for the first of these in this order, and as `OutOfMemory` where memory is refused:
+    /// - `Shape(Object)` unless the value is an object;
+    /// - `version`, which has to be 3: `Version(n)` for another whole number n of 0 to 4294967295, `Shape(Version)` for all
+    ///   other values, and where it is missing;
+    /// - `file`: `Shape(File)` unless a text, missing or null;
+    /// - `mappings`: `Shape(Mappings)` unless a text;
+    /// - `sourceRoot`: `Shape(SourceRoot)` unless a text, missing or null;
+    /// - `sources`: `Shape(Sources)` unless a list of texts;
+    /// - `sourcesContent`: `Shape(SourcesContent)` unless a list of texts and nulls, missing or null;
+    /// - `names`: `Shape(Names)` unless a list of texts, or missing;
+    /// - `debugId`: `Shape(DebugId)` unless a text, missing or null;
+    /// - `ignoreList`: `Shape(IgnoreList)` unless a list of whole numbers of 0 to 4294967295, missing or null; where it is
+    ///   missing or null, `x_google_ignoreList` in its place, with `Shape(GoogleIgnoreList)`.
+    #[tactic(auto, unfolding(crate::specs::Shape::shape))]
+    pub fn from_value(alloc: Global, value: &Value) -> Result<JSONSourceMap>
+        ensures json { IfOk result (λ json. shape (view value.now) ≡ Ok (json_record json)) }
+        ensures refused { IfErr result (λ e. (e ≢ OutOfMemory) → shape (view value.now) ≡ Err e) }
+    {
+        if !value.is_object() {
+            return Err(Error::BadJson(JsonFault::Shape(Field::Object)));
+        }
+        let version = read_version(value)?;
+        let file = optional_text(alloc, value, "file", Field::File)?;
+        let mappings = read_mappings(alloc, value)?;
+        let source_root = optional_text(alloc, value, "sourceRoot", Field::SourceRoot)?;
+        let sources = read_sources(alloc, value)?;
+        let sources_content = read_sources_content(alloc, value)?;
+        let names = read_names(alloc, value)?;
+        let debug_id = optional_text(alloc, value, "debugId", Field::DebugId)?;
+        let ignore_list = read_ignore_list(alloc, value)?;
+        Ok(JSONSourceMap {
+            version,
+            file,
+            mappings,
+            source_root,
+            sources,
+            sources_content,
+            names,
+            debug_id,
+            ignore_list,
+        })
+    }
+}

@@ -1,0 +1,151 @@
+-- The two groupings of a composition of three maps, and their refusals.
+use Rattle.std.proofs.Common.{◌≡◌, ◌≢◌, ◌↔◌, ℕ, ◌+◌, ◌≤◌, ◌<◌, Bool, true, false, cond, ◌&&◌, List, [], ◌∷◌, length, refl, sym, ap, ◌∙◌, arith, nat_lt, Option, Some, None, Result, Ok, Err}
+use Rattle.std.proofs.lemmas.Bool.Decides.{nat_tests}
+use Rattle.std.specs.Option.{option_and_then}
+use Rattle.oxc_sourcemap_mappings.specs.declared.error.Error.{Error}
+use Rattle.oxc_sourcemap_mappings.specs.declared.error.Error.TheVariants.{SeveralSources, TooLarge}
+use Rattle.oxc_sourcemap_mappings.specs.Canonical.{first_out_of_order}
+use Rattle.oxc_sourcemap_parts.specs.Record.{Text, MapRecord}
+use Rattle.oxc_sourcemap_parts.specs.Texts.{place_of}
+use Rattle.oxc_sourcemap_parts.specs.Sound.{IsSound}
+use Rattle.oxc_sourcemap_parts.specs.Sheet.{sheet_of}
+use Rattle.oxc_sourcemap_compose.specs.Composed.{Lead, leads, taken_name, taken_id, may_be_id, are_ids, composed_names, composed, if_in_order, composition}
+use Rattle.oxc_sourcemap_parts.proofs.Order.{sorted_in_order}
+use Rattle.oxc_sourcemap_laws.specs.ComposeLaws.{then_with, with_then, grouped_left, grouped_right, IsSeveralSources}
+use Rattle.oxc_sourcemap_laws.proofs.Compositions.{place-below, records_associative, sound_composed}
+use Rattle.oxc_sourcemap_laws.proofs.ComposedNames.{names-most}
+
+-- ---- a composition, case by case
+abbrev composition_if : Bool → Option ℕ → Bool → MapRecord → MapRecord → Result MapRecord Error
+composition_if many order fit a b = cond many (Err (SeveralSources (length a.sources))) (if_in_order order (cond fit (Ok (composed a b)) (Err TooLarge)))
+
+abbrev is_many : MapRecord → Bool
+is_many a = nat_lt 1 (length a.sources)
+
+abbrev do_ids_fit : MapRecord → MapRecord → Bool
+do_ids_fit a b = are_ids a.names (composed_names a.names b.names (leads a b)) (leads a b)
+
+ok-if : (many : Bool) (order : Option ℕ) (fit : Bool) (a b r : MapRecord) → composition_if many order fit a b ≡ Ok r → r ≡ composed a b
+ok-if true order fit a b r e = absurd (cc (e))
+ok-if false (Some i) fit a b r e = absurd (cc (e))
+ok-if false None true a b r e = cc (e)
+ok-if false None false a b r e = absurd (cc (e))
+
+is-composed : (a b r : MapRecord) → composition a b ≡ Ok r → r ≡ composed a b
+is-composed a b r e = ok-if (is_many a) (first_out_of_order b.tokens) (do_ids_fit a b) a b r e
+
+several : (a b : MapRecord) → is_many a ≡ true → composition a b ≡ Err (SeveralSources (length a.sources))
+several a b e = rw e
+
+-- the second map is sound
+fits-if : (fit : Bool) (a b : MapRecord) → is_many a ≡ false → IsSound b → do_ids_fit a b ≡ fit → composition a b ≡ cond fit (Ok (composed a b)) (Err TooLarge)
+fits-if fit a b e s i = let o = sorted_in_order b.tokens s.sorted in rw (e, o, i)
+
+given-if : (fit : Bool) (a b : MapRecord) → is_many a ≡ false → IsSound b → do_ids_fit a b ≡ fit → composition a b ≢ Err TooLarge → composition a b ≡ Ok (composed a b)
+given-if true a b e s i n = fits-if true a b e s i
+given-if false a b e s i n = absurd (n (fits-if false a b e s i))
+
+given : (a b : MapRecord) → is_many a ≡ false → IsSound b → composition a b ≢ Err TooLarge → composition a b ≡ Ok (composed a b)
+given a b e s n = given-if (do_ids_fit a b) a b e s refl n
+
+-- ---- the groupings
+left-is : (q : Result MapRecord Error) (a b c left : MapRecord) → composition a b ≡ q → then_with q c ≡ Ok left → left ≡ composed (composed a b) c
+left-is (Ok ab) a b c left e f = is-composed ab c left f ∙ ap (λ m. composed m c) (is-composed a b ab e)
+left-is (Err x) a b c left e f = absurd (cc (f))
+
+right-is : (q : Result MapRecord Error) (a b c right : MapRecord) → composition b c ≡ q → with_then a q ≡ Ok right → right ≡ composed a (composed b c)
+right-is (Ok bc) a b c right e f = is-composed a bc right f ∙ ap (composed a) (is-composed b c bc e)
+right-is (Err x) a b c right e f = absurd (cc (f))
+
+pub groupings_agree : (a b c : MapRecord) → IsSound a → IsSound b → IsSound c → (left right : MapRecord) → grouped_left a b c ≡ Ok left → grouped_right a b c ≡ Ok right → sheet_of left ≡ sheet_of right
+groupings_agree a b c x y z left right e f =
+    ap sheet_of (left-is (composition a b) a b c left refl e) ∙ records_associative a b c x y z ∙ sym (ap sheet_of (right-is (composition b c) a b c right refl f))
+
+-- what both groupings are
+record BothRefused (a b c : MapRecord) : Type 0 where
+  pub left : IsSeveralSources (grouped_left a b c)
+  pub right : IsSeveralSources (grouped_right a b c)
+
+record BothGiven (a b c : MapRecord) : Type 0 where
+  pub left : grouped_left a b c ≡ Ok (composed (composed a b) c)
+  pub right : grouped_right a b c ≡ Ok (composed a (composed b c))
+
+module _ (a b c : MapRecord) (y : IsSound b) (z : IsSound c) (x : IsSound a) (n : grouped_left a b c ≢ Err TooLarge) (k : grouped_right a b c ≢ Err TooLarge) where
+  -- no step of a grouping is too large
+  first-given : is_many a ≡ false → composition a b ≡ Ok (composed a b)
+  first-given e = given a b e y (λ t. n (ap (λ q. then_with q c) t))
+
+  last-given : is_many b ≡ false → composition b c ≡ Ok (composed b c)
+  last-given e = given b c e z (λ t. k (ap (with_then a) t))
+
+  right-many : (m : Bool) → is_many b ≡ m → is_many a ≡ true → IsSeveralSources (grouped_right a b c)
+  right-many true e f = (length b.sources, ap (with_then a) (several b c e))
+  right-many false e f = (length a.sources, ap (with_then a) (last-given e) ∙ several a (composed b c) f)
+
+  refused-first : is_many a ≡ true → BothRefused a b c
+  refused-first e = record { left = (length a.sources, ap (λ q. then_with q c) (several a b e)); right = right-many (is_many b) refl e }
+
+  refused-second : is_many a ≡ false → is_many b ≡ true → BothRefused a b c
+  refused-second e f = record {
+    left = (length b.sources, ap (λ q. then_with q c) (first-given e) ∙ several (composed a b) c f);
+    right = (length b.sources, ap (with_then a) (several b c f));
+  }
+
+  both-given : is_many a ≡ false → is_many b ≡ false → BothGiven a b c
+  both-given e f =
+      let ab = ap (λ q. then_with q c) (first-given e) in
+      let bc = ap (with_then a) (last-given f) in
+      record {
+        left = ab ∙ given (composed a b) c f z (λ t. n (ab ∙ t));
+        right = bc ∙ given a (composed b c) e (sound_composed b c y z) (λ t. k (bc ∙ t));
+      }
+
+  refused-iff : BothRefused a b c → IsSeveralSources (grouped_left a b c) ↔ IsSeveralSources (grouped_right a b c)
+  refused-iff r = (λ _. r.right, λ _. r.left)
+
+  not-refused : (answer : Result MapRecord Error) (m : MapRecord) → answer ≡ Ok m → IsSeveralSources answer → ⊥
+  not-refused answer m e s = cc (e, s.1)
+
+  given-iff : BothGiven a b c → IsSeveralSources (grouped_left a b c) ↔ IsSeveralSources (grouped_right a b c)
+  given-iff g = (λ s. absurd (not-refused (grouped_left a b c) _ g.left s), λ s. absurd (not-refused (grouped_right a b c) _ g.right s))
+
+  refused-by : (p q : Bool) → is_many a ≡ p → is_many b ≡ q → IsSeveralSources (grouped_left a b c) ↔ IsSeveralSources (grouped_right a b c)
+  refused-by true q e f = refused-iff (refused-first e)
+  refused-by false true e f = refused-iff (refused-second e f)
+  refused-by false false e f = given-iff (both-given e f)
+
+  pub refused_alike : IsSeveralSources (grouped_left a b c) ↔ IsSeveralSources (grouped_right a b c)
+  refused_alike = refused-by (is_many a) (is_many b) refl refl
+
+  pub both_answer : length a.sources ≤ 1 → length b.sources ≤ 1 → ((left : MapRecord) × (grouped_left a b c ≡ Ok left)) × ((right : MapRecord) × (grouped_right a b c ≡ Ok right))
+  both_answer h j =
+      let e : is_many a ≡ false = grind (arith, nat_tests, h) in
+      let f : is_many b ≡ false = grind (arith, nat_tests, j) in
+      let g = both-given e f in
+      ((composed (composed a b) c, g.left), (composed a (composed b c), g.right))
+
+-- ---- too many names
+past-at : (o : Option ℕ) (count : ℕ) → ((i : ℕ) → o ≡ Some i → i < count) → may_be_id o ≡ false → 4294967295 < count
+past-at None count h e = absurd (cc (e))
+past-at (Some i) count h e = let l = h i refl in let g : 4294967295 ≤ i = grind (arith, nat_tests, e) in omega (arith, l, g)
+
+place-within : (names : List Text) (o : Option Text) (i : ℕ) → option_and_then (λ name. place_of name names) o ≡ Some i → i < length names
+place-within names None i e = absurd (cc (e))
+place-within names (Some x) i e = place-below x names i e
+
+past-ids : (first names : List Text) (ls : List Lead) → are_ids first names ls ≡ false → 4294967295 < length names
+past-ids first names [] e = absurd (cc (e))
+past-ids first names (l ∷ ls) e =
+    elim (may_be_id (taken_id first names l)) as (λ b. may_be_id (taken_id first names l) ≡ b → (b && are_ids first names ls) ≡ false → 4294967295 < length names) [
+      | true ↦ (λ q k. past-ids first names ls k)
+      | false ↦ (λ q k. past-at (taken_id first names l) (length names) (λ i p. place-within names (taken_name first l) i p) q)
+    ] refl e
+
+room-if : (many : Bool) (order : Option ℕ) (fit : Bool) (a b : MapRecord) → do_ids_fit a b ≡ fit → composition_if many order fit a b ≡ Err TooLarge → 4294967295 < length a.names + length b.names
+room-if true order fit a b i e = absurd (cc (e))
+room-if false (Some j) fit a b i e = absurd (cc (e))
+room-if false None true a b i e = absurd (cc (e))
+room-if false None false a b i e = let p = past-ids a.names (composed a b).names (leads a b) i in let m = names-most a b in omega (arith, p, m)
+
+pub room : (a b : MapRecord) → composition a b ≡ Err TooLarge → 4294967295 < length a.names + length b.names
+room a b e = room-if (is_many a) (first_out_of_order b.tokens) (do_ids_fit a b) a b refl e

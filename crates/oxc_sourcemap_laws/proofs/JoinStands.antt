@@ -1,0 +1,102 @@
+-- The ids of a join, its order, its soundness, and how much it has.
+use Rattle.std.proofs.Common.{◌≡◌, ℕ, ◌+◌, ◌<◌, ◌≤◌, true, List, [], ◌∷◌, ◌++◌, map, length, refl, sym, ap, ◌∙◌, subst, arith, Option, Some, None}
+use Rattle.std.specs.List.{flat_map, AllByRecursion}
+use Rattle.std.specs.Option.{option_map, IfSome}
+use Rattle.std.proofs.lemmas.List.{length-append, length-map}
+use Rattle.oxc_sourcemap_parts.specs.Record.{MapRecord}
+use Rattle.oxc_sourcemap_parts.specs.Sorted.{are_tokens_sorted}
+use Rattle.oxc_sourcemap_parts.specs.Sound.{IsInRange, AreIdsInRange}
+use Rattle.oxc_sourcemap_parts.specs.Sheet.{Sheet, sources_of, sheet_of}
+use Rattle.oxc_sourcemap_join.specs.Joined.{is_same_token, joined}
+use Rattle.oxc_sourcemap_join.proofs.SameToken.{decides_token}
+use Rattle.oxc_sourcemap_json.proofs.Rewriting.{sorted-tokens}
+use Rattle.oxc_sourcemap_join.proofs.Joining.{chunks_joined}
+use Rattle.oxc_sourcemap_laws.specs.Squeezed.{Alike, is_sorted_sheet}
+use Rattle.oxc_sourcemap_laws.specs.JoinedSheets.{joined_sheets}
+use Rattle.oxc_sourcemap_laws.specs.JoinLaws.{AreAlike, AreAllInRange, sheets_of, StandsFor, AllStandFor}
+use Rattle.oxc_sourcemap_laws.proofs.Seams.{seamed_all, length-seamed}
+use Rattle.oxc_sourcemap_laws.proofs.AlikeSheets.{joined_alike, sorted_sheet_alike}
+use Rattle.oxc_sourcemap_laws.proofs.Joins.{raised, behind, together, alone, all_together, joined-is}
+use Rattle.oxc_sourcemap_laws.proofs.JoinSheets.{metadata, sheet_joined}
+
+-- ---- soundness
+pub all_weaker : {A : Type 0} (P Q : A → Type 0) → ((x : A) → P x → Q x) → (xs : List A) → AllByRecursion P xs → AllByRecursion Q xs
+all_weaker P Q f [] h = tt
+all_weaker P Q f (x ∷ xs) h = (f x h.0, all_weaker P Q f xs h.1)
+
+pub all_map : {A B : Type 0} (P : A → Type 0) (Q : B → Type 0) (f : A → B) → ((x : A) → P x → Q (f x)) → (xs : List A) → AllByRecursion P xs → AllByRecursion Q (map f xs)
+all_map P Q f g [] h = tt
+all_map P Q f g (x ∷ xs) h = (g x h.0, all_map P Q f g xs h.1)
+
+below-more : (o : Option ℕ) (m n : ℕ) → m ≤ n → IfSome o (λ i. i < m) → IfSome o (λ i. i < n)
+below-more None m n l h = tt
+below-more (Some i) m n l h = omega arith
+
+below-moved : (o : Option ℕ) (m k n : ℕ) → k + m ≡ n → IfSome o (λ i. i < m) → IfSome (option_map (λ i. i + k) o) (λ i. i < n)
+below-moved None m k n l h = tt
+below-moved (Some i) m k n l h = omega arith
+
+range_together : (a b : MapRecord) → AllByRecursion (IsInRange (length a.names) (length a.sources)) a.tokens → AllByRecursion (IsInRange (length b.names) (length b.sources)) b.tokens
+    → AllByRecursion (IsInRange (length (a.names ++ b.names)) (length (a.sources ++ b.sources))) (together a b).tokens
+range_together a b h k =
+    let en = length-append a.names b.names in
+    let es = length-append a.sources b.sources in
+    seamed_all is_same_token decides_token _ a.tokens (map (behind (length a.names) (length a.sources)) b.tokens)
+    (all_weaker _ _ (λ x i. record { source_id = below-more x.source_id (length a.sources) _ (omega arith) i.source_id; name_id = below-more x.name_id (length a.names) _ (omega arith) i.name_id }) a.tokens h)
+    (all_map _ _ _ (λ x i. record { source_id = below-moved x.source_id (length b.sources) (length a.sources) _ (omega arith) i.source_id; name_id = below-moved x.name_id (length b.names) (length a.names) _ (omega arith) i.name_id }) b.tokens k)
+
+range_all : (ms : List (MapRecord × ℕ)) → AreAllInRange ms → AllByRecursion (IsInRange (length (all_together ms).names) (length (all_together ms).sources)) (all_together ms).tokens
+range_all [] h = tt
+range_all (m ∷ ms) h = range_together (alone m.0 m.1) (all_together ms) (all_map _ _ (raised m.1) (λ x i. record { source_id = i.source_id; name_id = i.name_id }) m.0.tokens h.0) (range_all ms h.1)
+
+pub range_joined : (ms : List (MapRecord × ℕ)) → AreAllInRange ms → AreIdsInRange (joined ms)
+range_joined ms h =
+    let k : AreIdsInRange (all_together ms) = record { tokens = range_all ms h; ignore_list = subst (λ o. IfSome o (AllByRecursion (λ i. i < length (all_together ms).sources))) (sym (metadata ms).3) tt } in
+    let l = subst AreIdsInRange (sym (joined-is ms)) k in
+    record { tokens = l.tokens; ignore_list = l.ignore_list }
+
+-- ---- how much a join has
+count-together : (ms : List (MapRecord × ℕ)) → length (all_together ms).tokens ≤ length (flat_map (λ m. m.0.tokens) ms)
+count-together [] = omega arith
+count-together (m ∷ ms) =
+    let h = count-together ms in
+    let s = length-seamed is_same_token (map (raised m.1) m.0.tokens) (map (behind (length m.0.names) (length m.0.sources)) (all_together ms).tokens) in
+    let a = length-map m.0.tokens (raised m.1) in
+    let b = length-map (all_together ms).tokens (behind (length m.0.names) (length m.0.sources)) in
+    let c = length-append m.0.tokens (flat_map (λ m. m.0.tokens) ms) in
+    omega arith
+
+names-together : (ms : List (MapRecord × ℕ)) → (all_together ms).names ≡ flat_map (λ m. m.0.names) ms
+names-together [] = refl
+names-together (m ∷ ms) = ap (λ ns. m.0.names ++ ns) (names-together ms)
+
+pub count_joined : (ms : List (MapRecord × ℕ)) → length (joined ms).tokens ≤ length (flat_map (λ m. m.0.tokens) ms)
+count_joined ms = subst (λ (r : MapRecord). length r.tokens ≤ length (flat_map (λ m. m.0.tokens) ms)) (sym (joined-is ms)) (count-together ms)
+
+pub names_joined : (ms : List (MapRecord × ℕ)) → (joined ms).names ≡ flat_map (λ m. m.0.names) ms
+names_joined ms = ap (λ (r : MapRecord). r.names) (joined-is ms) ∙ names-together ms
+
+-- ---- order
+pub sorted-entries : (r : MapRecord) → is_sorted_sheet (sheet_of r) ≡ are_tokens_sorted r.tokens
+sorted-entries r = sorted-tokens (sources_of r.sources r.source_contents) r.names r.tokens
+
+-- ---- records of sound maps with sheets alike to given ones
+placed : (ms : List (MapRecord × ℕ)) (ss : List (Sheet × ℕ)) → AllStandFor ms ss → AreAllInRange ms
+placed [] ss h = tt
+placed (m ∷ ms) [] h = absurd h
+placed (m ∷ ms) (s ∷ ss) h = (h.0.0.sound.in_range.tokens, placed ms ss h.1)
+
+sheets_alike : (ms : List (MapRecord × ℕ)) (ss : List (Sheet × ℕ)) → AllStandFor ms ss → AreAlike (sheets_of ms) ss
+sheets_alike [] [] h = h
+sheets_alike [] (s ∷ ss) h = h
+sheets_alike (m ∷ ms) [] h = h
+sheets_alike (m ∷ ms) (s ∷ ss) h = ((h.0.0.alike, h.0.1), sheets_alike ms ss h.1)
+
+join_alike : (ms : List (MapRecord × ℕ)) (ss : List (Sheet × ℕ)) → AllStandFor ms ss → Alike (sheet_of (joined ms)) (joined_sheets ss)
+join_alike ms ss h = sheet_joined ms (placed ms ss h) ∙ joined_alike (sheets_of ms) ss (sheets_alike ms ss h)
+
+pub join_sorted : (ms : List (MapRecord × ℕ)) (ss : List (Sheet × ℕ)) → AllStandFor ms ss → are_tokens_sorted (joined ms).tokens ≡ is_sorted_sheet (joined_sheets ss)
+join_sorted ms ss h = sym (sorted-entries (joined ms)) ∙ sorted_sheet_alike (sheet_of (joined ms)) (joined_sheets ss) (join_alike ms ss h)
+
+pub join_stands : (ms : List (MapRecord × ℕ)) (ss : List (Sheet × ℕ)) → AllStandFor ms ss → is_sorted_sheet (joined_sheets ss) ≡ true → StandsFor (joined ms) (joined_sheets ss)
+join_stands ms ss h e = record { sound = record { sorted = join_sorted ms ss h ∙ e; in_range = range_joined ms (placed ms ss h); chunks = chunks_joined ms }; alike = join_alike ms ss h }

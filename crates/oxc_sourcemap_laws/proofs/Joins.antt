@@ -1,0 +1,195 @@
+-- Joins as a monoid, and their sheets.
+use Rattle.std.proofs.Common.{◌≡◌, ℕ, ◌+◌, ◌==◌, List, [], ◌∷◌, ◌++◌, map, length, refl, sym, ap, ◌∙◌, append_assoc, arith, Option, Some, None}
+use Rattle.std.specs.List.{flat_map}
+use Rattle.std.specs.Option.{option_map}
+use Rattle.std.proofs.lemmas.Bool.Decides.{nat_tests}
+use Rattle.std.proofs.lemmas.List.{append-nil, length-append}
+use Rattle.oxc_sourcemap_mappings.specs.declared.token.TokenChunk.{TokenChunk}
+use Rattle.oxc_sourcemap_mappings.specs.Token.{TokenRecord}
+use Rattle.oxc_sourcemap_parts.specs.Record.{Text, MapRecord}
+use Rattle.oxc_sourcemap_join.specs.Joined.{fitted, shifted, is_same_id, is_same_token, seamed, added_tokens, added, nothing_joined, added_all, joined}
+use Rattle.oxc_sourcemap_join.proofs.SameToken.{decides_token}
+use Rattle.oxc_sourcemap_join.proofs.Fitted.{length-fitted, fitted-exact, fitted-more}
+use Rattle.oxc_sourcemap_laws.specs.JoinLaws.{Group, groups_joined, maps_of, without_chunks}
+use Rattle.oxc_sourcemap_laws.proofs.Seams.{seamed_assoc, seamed_nil, seamed-map}
+
+pub record_by : (a : MapRecord) (x0 : Option Text) (x1 : List Text) (x2 : Option Text) (x3 : List Text) (x4 : List (Option Text)) (x5 : List TokenRecord) (x6 : Option (List TokenChunk)) (x7 : Option (List ℕ)) (x8 : Option Text)
+    → a.file ≡ x0 → a.names ≡ x1 → a.source_root ≡ x2 → a.sources ≡ x3 → a.source_contents ≡ x4 → a.tokens ≡ x5 → a.token_chunks ≡ x6 → a.ignore_list ≡ x7 → a.debug_id ≡ x8
+    → a ≡ record { file = x0; names = x1; source_root = x2; sources = x3; source_contents = x4; tokens = x5; token_chunks = x6; ignore_list = x7; debug_id = x8 }
+record_by a x0 x1 x2 x3 x4 x5 x6 x7 x8 e0 e1 e2 e3 e4 e5 e6 e7 e8 = rw (← e0, ← e1, ← e2, ← e3, ← e4, ← e5, ← e6, ← e7, ← e8)
+
+-- on a later line
+abbrev pub raised : ℕ → TokenRecord → TokenRecord
+raised offset m = record m { dst_line = m.dst_line + offset }
+
+-- behind so many names and sources
+abbrev pub behind : ℕ → ℕ → TokenRecord → TokenRecord
+behind names sources m = record m { source_id = option_map (λ i. i + sources) m.source_id; name_id = option_map (λ i. i + names) m.name_id }
+
+shifted-is : (names sources offset : ℕ) (m : TokenRecord) → shifted names sources offset m ≡ behind names sources (raised offset m)
+shifted-is names sources offset m = refl
+
+abbrev pub parts : List Text → List Text → List (Option Text) → List TokenRecord → MapRecord
+parts names sources source_contents tokens = record { file = None; source_root = None; debug_id = None; ignore_list = None; names = names; sources = sources; source_contents = source_contents; tokens = tokens; token_chunks = None }
+
+-- one record behind another
+abbrev pub together : MapRecord → MapRecord → MapRecord
+together a b = parts (a.names ++ b.names) (a.sources ++ b.sources) (a.source_contents ++ b.source_contents) (seamed is_same_token a.tokens (map (behind (length a.names) (length a.sources)) b.tokens))
+
+-- a map by itself, at an offset
+abbrev pub alone : MapRecord → ℕ → MapRecord
+alone m offset = parts m.names m.sources (fitted (length m.sources) m.source_contents) (map (raised offset) m.tokens)
+
+abbrev pub empty : MapRecord
+empty = parts [] [] [] []
+
+abbrev pub all_together : List (MapRecord × ℕ) → MapRecord
+all_together [] = empty
+all_together (m ∷ ms) = together (alone m.0 m.1) (all_together ms)
+
+-- ---- tokens
+number-moved : (a b n : ℕ) → (a + n == b + n) ≡ (a == b)
+number-moved a b n = grind (arith, nat_tests)
+
+option-moved : (a b : Option ℕ) (n : ℕ) → is_same_id (option_map (λ i. i + n) a) (option_map (λ i. i + n) b) ≡ is_same_id a b
+option-moved None None n = refl
+option-moved None (Some y) n = refl
+option-moved (Some x) None n = refl
+option-moved (Some x) (Some y) n = number-moved x y n
+
+same-behind : (names sources : ℕ) (a b : TokenRecord) → is_same_token (behind names sources a) (behind names sources b) ≡ is_same_token a b
+same-behind names sources a b = rw (option-moved a.source_id b.source_id sources, option-moved a.name_id b.name_id names)
+
+same-raised : (offset : ℕ) (a b : TokenRecord) → is_same_token (raised offset a) (raised offset b) ≡ is_same_token a b
+same-raised offset a b = rw (number-moved a.dst_line b.dst_line offset)
+
+option-twice : (a : Option ℕ) (m n k : ℕ) → m + n ≡ k → option_map (λ i. i + n) (option_map (λ i. i + m) a) ≡ option_map (λ i. i + k) a
+option-twice None m n k e = refl
+option-twice (Some i) m n k e = ap (λ j. Some j) (omega arith)
+
+option-zero : (a : Option ℕ) → option_map (λ i. i + 0) a ≡ a
+option-zero None = refl
+option-zero (Some i) = ap (λ j. Some j) (omega arith)
+
+behind-zero : (m : TokenRecord) → behind 0 0 m ≡ m
+behind-zero m = ap (λ o. record m { source_id = o; name_id = option_map (λ i. i + 0) m.name_id }) (option-zero m.source_id) ∙ ap (λ o. record m { name_id = o }) (option-zero m.name_id)
+
+behind-twice : (n s n' s' n'' s'' : ℕ) → n + n' ≡ n'' → s + s' ≡ s'' → (m : TokenRecord) → behind n' s' (behind n s m) ≡ behind n'' s'' m
+behind-twice n s n' s' n'' s'' e f m =
+    ap (λ o. record m { source_id = o; name_id = option_map (λ i. i + n') (option_map (λ i. i + n) m.name_id) }) (option-twice m.source_id s s' s'' f)
+    ∙ ap (λ o. record m { source_id = option_map (λ i. i + s'') m.source_id; name_id = o }) (option-twice m.name_id n n' n'' e)
+
+raised-twice : (a b : ℕ) (m : TokenRecord) → raised b (raised a m) ≡ raised (a + b) m
+raised-twice a b m = let e : m.dst_line + a + b ≡ m.dst_line + (a + b) = omega arith in ap (λ l. record m { dst_line = l }) e
+
+pub map_same : {A B : Type 0} (f g : A → B) → ((x : A) → f x ≡ g x) → (xs : List A) → map f xs ≡ map g xs
+map_same f g h [] = refl
+map_same f g h (x ∷ xs) = ap (λ y. y ∷ map f xs) (h x) ∙ ap (λ ys. g x ∷ ys) (map_same f g h xs)
+
+pub map_twice : {A B C : Type 0} (f : A → B) (g : B → C) (h : A → C) → ((x : A) → g (f x) ≡ h x) → (xs : List A) → map g (map f xs) ≡ map h xs
+map_twice f g h e [] = refl
+map_twice f g h e (x ∷ xs) = ap (λ y. y ∷ map g (map f xs)) (e x) ∙ ap (λ ys. h x ∷ ys) (map_twice f g h e xs)
+
+map_self : {A : Type 0} (f : A → A) → ((x : A) → f x ≡ x) → (xs : List A) → map f xs ≡ xs
+map_self f e [] = refl
+map_self f e (x ∷ xs) = ap (λ y. y ∷ map f xs) (e x) ∙ ap (λ ys. x ∷ ys) (map_self f e xs)
+
+-- ---- the monoid
+pub together_assoc : (a b c : MapRecord) → together (together a b) c ≡ together a (together b c)
+together_assoc a b c =
+    let n = length a.names in let s = length a.sources in
+    let en : length b.names + n ≡ length (a.names ++ b.names) = simp length-append (omega arith) in
+    let es : length b.sources + s ≡ length (a.sources ++ b.sources) = simp length-append (omega arith) in
+    let bs = map (behind n s) b.tokens in
+    let cs = map (behind (length b.names) (length b.sources)) c.tokens in
+    let e5 : seamed is_same_token (seamed is_same_token a.tokens bs) (map (behind (length (a.names ++ b.names)) (length (a.sources ++ b.sources))) c.tokens) ≡ seamed is_same_token a.tokens (map (behind n s) (seamed is_same_token b.tokens cs)) =
+    seamed_assoc is_same_token decides_token a.tokens bs _
+    ∙ ap (λ zs. seamed is_same_token a.tokens (seamed is_same_token bs zs)) (sym (map_twice _ _ _ (behind-twice (length b.names) (length b.sources) n s _ _ en es) c.tokens))
+    ∙ ap (seamed is_same_token a.tokens) (sym (seamed-map is_same_token is_same_token (behind n s) (same-behind n s) b.tokens cs)) in
+    record_by _ _ _ _ _ _ _ _ _ _ refl (append_assoc a.names b.names c.names) refl (append_assoc a.sources b.sources c.sources) (append_assoc a.source_contents b.source_contents c.source_contents) e5 refl refl refl
+
+pub nothing_together : (a : MapRecord) → together empty a ≡ parts a.names a.sources a.source_contents a.tokens
+nothing_together a = ap (parts a.names a.sources a.source_contents) (map_self _ behind-zero a.tokens)
+
+pub all_plain : (ms : List (MapRecord × ℕ)) → together empty (all_together ms) ≡ all_together ms
+all_plain [] = refl
+all_plain (m ∷ ms) = nothing_together (all_together (m ∷ ms))
+
+pub all_append : (ms ns : List (MapRecord × ℕ)) → all_together (ms ++ ns) ≡ together (all_together ms) (all_together ns)
+all_append [] ns = sym (all_plain ns)
+all_append (m ∷ ms) ns = ap (together (alone m.0 m.1)) (all_append ms ns) ∙ sym (together_assoc (alone m.0 m.1) (all_together ms) (all_together ns))
+
+-- ---- contents
+-- a record without metadata, with one content for each source
+pub record IsExact (r : MapRecord) : Type 0 where
+  pub source_contents : length r.source_contents ≡ length r.sources
+  pub file : r.file ≡ None
+  pub source_root : r.source_root ≡ None
+  pub debug_id : r.debug_id ≡ None
+  pub ignore_list : r.ignore_list ≡ None
+
+pub exact_added : (r m : MapRecord) (offset : ℕ) → IsExact (added r m offset)
+exact_added r m offset = record { source_contents = length-fitted (length (r.sources ++ m.sources)) (r.source_contents ++ m.source_contents); file = refl; source_root = refl; debug_id = refl; ignore_list = refl }
+
+pub exact_added_all : (r : MapRecord) (ms : List (MapRecord × ℕ)) → IsExact r → IsExact (added_all r ms)
+exact_added_all r [] x = x
+exact_added_all r (m ∷ ms) x = exact_added_all (added r m.0 m.1) ms (exact_added r m.0 m.1)
+
+pub exact_joined : (ms : List (MapRecord × ℕ)) → IsExact (joined ms)
+exact_joined ms = exact_added_all nothing_joined ms (record { source_contents = refl; file = refl; source_root = refl; debug_id = refl; ignore_list = refl })
+
+added-is : (r m : MapRecord) (offset : ℕ) → IsExact r → without_chunks (added r m offset) ≡ together r (alone m offset)
+added-is r m offset x =
+    let e4 : fitted (length (r.sources ++ m.sources)) (r.source_contents ++ m.source_contents) ≡ r.source_contents ++ fitted (length m.sources) m.source_contents = ap (λ n. fitted n (r.source_contents ++ m.source_contents)) (length-append r.sources m.sources) ∙ fitted-more r.sources m.sources r.source_contents m.source_contents (sym x.source_contents) in
+    let e5 : added_tokens r m offset ≡ seamed is_same_token r.tokens (map (behind (length r.names) (length r.sources)) (map (raised offset) m.tokens)) = ap (seamed is_same_token r.tokens) (sym (map_twice _ _ _ (λ x. refl) m.tokens)) in
+    record_by _ _ _ _ _ _ _ _ _ _ refl refl refl refl e4 e5 refl refl refl
+
+pub added_all-is : (r : MapRecord) (ms : List (MapRecord × ℕ)) → IsExact r → without_chunks (added_all r ms) ≡ together r (all_together ms)
+added_all-is r [] x = record_by _ _ _ _ _ _ _ _ _ _ x.file (sym (append-nil r.names)) x.source_root (sym (append-nil r.sources)) (sym (append-nil r.source_contents)) (sym (seamed_nil is_same_token decides_token r.tokens)) refl x.ignore_list x.debug_id
+added_all-is r (m ∷ ms) x =
+    added_all-is (added r m.0 m.1) ms (exact_added r m.0 m.1)
+    ∙ ap (λ q. together q (all_together ms)) (added-is r m.0 m.1 x)
+    ∙ together_assoc r (alone m.0 m.1) (all_together ms)
+
+-- a join, in all but its chunks
+pub joined-is : (ms : List (MapRecord × ℕ)) → without_chunks (joined ms) ≡ all_together ms
+joined-is ms = added_all-is nothing_joined ms (record { source_contents = refl; file = refl; source_root = refl; debug_id = refl; ignore_list = refl }) ∙ all_plain ms
+
+-- ---- groups
+abbrev pub raise_all : ℕ → MapRecord → MapRecord
+raise_all offset r = record r { tokens = map (raised offset) r.tokens }
+
+raise_together : (offset : ℕ) (a b : MapRecord) → together (raise_all offset a) (raise_all offset b) ≡ raise_all offset (together a b)
+raise_together offset a b =
+    let n = length a.names in let s = length a.sources in
+    ap (parts (a.names ++ b.names) (a.sources ++ b.sources) (a.source_contents ++ b.source_contents))
+    (ap (seamed is_same_token (map (raised offset) a.tokens)) (map_twice (raised offset) (behind n s) (λ x. raised offset (behind n s x)) (λ x. refl) b.tokens ∙ sym (map_twice (behind n s) (raised offset) (λ x. raised offset (behind n s x)) (λ x. refl) b.tokens))
+    ∙ sym (seamed-map is_same_token is_same_token (raised offset) (same-raised offset) a.tokens (map (behind n s) b.tokens)))
+
+alone_raised : (offset : ℕ) (m : MapRecord) (o : ℕ) → alone m (o + offset) ≡ raise_all offset (alone m o)
+alone_raised offset m o = ap (parts m.names m.sources (fitted (length m.sources) m.source_contents)) (sym (map_twice (raised o) (raised offset) (raised (o + offset)) (raised-twice o offset) m.tokens))
+
+pub raised_group : (offset : ℕ) (ms : List (MapRecord × ℕ)) → all_together (map (λ m. (m.0, m.1 + offset)) ms) ≡ raise_all offset (all_together ms)
+raised_group offset [] = refl
+raised_group offset (m ∷ ms) =
+    ap (λ r. together r (all_together (map (λ m. (m.0, m.1 + offset)) ms))) (alone_raised offset m.0 m.1)
+    ∙ ap (together (raise_all offset (alone m.0 m.1))) (raised_group offset ms)
+    ∙ raise_together offset (alone m.0 m.1) (all_together ms)
+
+alone_joined : (ms : List (MapRecord × ℕ)) (offset : ℕ) → alone (joined ms) offset ≡ raise_all offset (without_chunks (joined ms))
+alone_joined ms offset =
+    let r = joined ms in
+    let x = exact_joined ms in
+    record_by _ _ _ _ _ _ _ _ _ _ (sym x.file) refl (sym x.source_root) refl (ap (λ n. fitted n r.source_contents) (sym x.source_contents) ∙ fitted-exact r.source_contents) refl refl (sym x.ignore_list) (sym x.debug_id)
+
+pub groups : (gs : List Group) → all_together (groups_joined gs) ≡ all_together (maps_of gs)
+groups [] = refl
+groups (g ∷ gs) =
+    let rest = all_together (map (λ g. (joined g.0, g.1)) gs) in
+    let here : alone (joined g.0) g.1 ≡ all_together (map (λ m. (m.0, m.1 + g.1)) g.0) = alone_joined g.0 g.1 ∙ ap (raise_all g.1) (joined-is g.0) ∙ sym (raised_group g.1 g.0) in
+    ap (λ r. together r rest) here
+    ∙ ap (together (all_together (map (λ m. (m.0, m.1 + g.1)) g.0))) (groups gs)
+    ∙ sym (all_append (map (λ m. (m.0, m.1 + g.1)) g.0) (flat_map (λ g. map (λ m. (m.0, m.1 + g.1)) g.0) gs))
+
+pub joins_associative : (gs : List Group) → without_chunks (joined (groups_joined gs)) ≡ without_chunks (joined (maps_of gs))
+joins_associative gs = joined-is (groups_joined gs) ∙ groups gs ∙ sym (joined-is (maps_of gs))

@@ -1,0 +1,68 @@
+-- Worked examples, computed by the definitions themselves.
+use Rattle.std.specs.Prelude.{◌≡◌, refl, ℕ, true, false, List, [], ◌∷◌, Option, Some, None}
+use Rattle.oxc_sourcemap_mappings.specs.Token.{TokenRecord}
+use Rattle.oxc_sourcemap_parts.specs.Record.{Text, MapRecord}
+use Rattle.oxc_sourcemap_parts.specs.Views.{empty_record}
+use Rattle.oxc_sourcemap_parts.specs.Sheet.{Entry, sheet_of}
+use Rattle.oxc_sourcemap_lookup.specs.Trace.{trace}
+use Rattle.oxc_sourcemap_join.specs.Joined.{joined, shifted}
+use Rattle.oxc_sourcemap_laws.specs.Squeezed.{squeezed_sheet, Alike, is_sorted_sheet}
+use Rattle.oxc_sourcemap_laws.specs.JoinedSheets.{joined_sheets}
+use Rattle.oxc_sourcemap_laws.specs.JoinLaws.{sheets_of, Group, groups_joined, maps_of, without_chunks}
+
+-- generated line and column, source line and column, source id, name id
+abbrev token : ℕ → ℕ → ℕ → ℕ → Option ℕ → Option ℕ → TokenRecord
+token dst_line dst_col src_line src_col source_id name_id =
+    record { dst_line = dst_line; dst_col = dst_col; src_line = src_line; src_col = src_col; source_id = source_id; name_id = name_id }
+
+-- a map of these sources and these tokens
+abbrev plain : List Text → List TokenRecord → MapRecord
+plain sources tokens = record empty_record { sources = sources; tokens = tokens }
+
+-- an entry without origin
+abbrev unmapped : ℕ → ℕ → Entry
+unmapped dst_line dst_col = record { dst_line = dst_line; dst_col = dst_col; origin = None }
+
+-- the second map begins, moved down, with the last token of the first
+abbrev a_seam : List (MapRecord × ℕ)
+a_seam = (plain [] (token 0 0 0 0 None None ∷ token 2 3 0 0 None None ∷ []), 0) ∷ (plain [] (token 0 3 0 0 None None ∷ token 1 9 0 0 None None ∷ []), 2) ∷ []
+
+joins-with_a_seam : (sheet_of (joined a_seam)).entries ≡ unmapped 0 0 ∷ unmapped 2 3 ∷ unmapped 3 9 ∷ []
+joins-with_a_seam = refl
+
+joins-sheets_without_a_seam : (joined_sheets (sheets_of a_seam)).entries ≡ unmapped 0 0 ∷ unmapped 2 3 ∷ unmapped 2 3 ∷ unmapped 3 9 ∷ []
+joins-sheets_without_a_seam = refl
+
+joins-alike : Alike (sheet_of (joined a_seam)) (joined_sheets (sheets_of a_seam))
+joins-alike = refl
+
+squeezes-what_repeats : (squeezed_sheet (joined_sheets (sheets_of a_seam))).entries ≡ unmapped 0 0 ∷ unmapped 2 3 ∷ unmapped 3 9 ∷ []
+squeezes-what_repeats = refl
+
+traces-behind_what_repeats : trace (joined_sheets (sheets_of a_seam)) 2 5 ≡ Some None
+traces-behind_what_repeats = refl
+
+joins-sorted : is_sorted_sheet (joined_sheets (sheets_of a_seam)) ≡ true
+joins-sorted = refl
+
+-- a first line that joins the line of the map in front of it
+joins-not_sorted : is_sorted_sheet (joined_sheets (sheets_of ((plain [] (token 0 4 0 0 None None ∷ []), 0) ∷ (plain [] (token 0 0 0 0 None None ∷ []), 0) ∷ []))) ≡ false
+joins-not_sorted = refl
+
+-- two groups; the only token of the second one's map is left out
+abbrev two_groups : List Group
+two_groups = (a_seam, 1) ∷ ((plain [] (token 0 9 0 0 None None ∷ []), 1) ∷ [], 3) ∷ []
+
+groups-left_empty : (joined (groups_joined two_groups)).tokens ≡ token 1 0 0 0 None None ∷ token 3 3 0 0 None None ∷ token 4 9 0 0 None None ∷ []
+groups-left_empty = refl
+
+groups-as_one : without_chunks (joined (groups_joined two_groups)) ≡ without_chunks (joined (maps_of two_groups))
+groups-as_one = refl
+
+-- a chunk for each group, or for each map
+groups-have_a_chunk_each : (joined (groups_joined two_groups)).token_chunks ≡ Some (record { start = 0; end = 3; prev_dst_line = 0; prev_dst_col = 0; prev_src_line = 0; prev_src_col = 0; prev_name_id = 0; prev_source_id = 0 } ∷ record { start = 3; end = 3; prev_dst_line = 4; prev_dst_col = 9; prev_src_line = 0; prev_src_col = 0; prev_name_id = 0; prev_source_id = 0 } ∷ [])
+groups-have_a_chunk_each = refl
+
+-- Ids are numbers without limit: one that does not fit in a token any more is still an id, and not none.
+shifts-the_last_id : shifted 0 1 0 (token 0 0 0 0 (Some 4294967294) None) ≡ token 0 0 0 0 (Some 4294967295) None
+shifts-the_last_id = refl

@@ -1,0 +1,38 @@
+use Rattle.oxc_sourcemap_laws.proofs.Compositions.{composed_alike, sheets_associative, sheet_composed, range_composed, count_composed, composition_stands}
+use Rattle.oxc_sourcemap_laws.proofs.ComposedNames.{names-most, names-tested}
+use Rattle.oxc_sourcemap_laws.proofs.Groupings.{groupings_agree, refused_alike, both_answer, room}
+use Rattle.oxc_sourcemap_laws.proofs.ComposedBounds.{bounds_composed}
+use Rattle.oxc_sourcemap_laws.proofs.composition_associative.Goals as goal
+
+pub returns-clause-sheet_of_composition : goal.returns-clause-sheet_of_composition
+returns-clause-sheet_of_composition c = sheet_composed
+
+pub returns-clause-keeps_alike : goal.returns-clause-keeps_alike
+returns-clause-keeps_alike c = composed_alike
+
+pub returns-clause-stands_for : goal.returns-clause-stands_for
+returns-clause-stands_for c = composition_stands
+
+pub returns-clause-sheets : goal.returns-clause-sheets
+returns-clause-sheets c = sheets_associative
+
+pub returns-clause-associative : goal.returns-clause-associative
+returns-clause-associative c = groupings_agree
+
+pub returns-clause-refused : goal.returns-clause-refused
+returns-clause-refused c = λ a b m x y z n k. (refused_alike a b m y z x n k, both_answer a b m y z x n k)
+
+pub returns-clause-in_range : goal.returns-clause-in_range
+returns-clause-in_range c = range_composed
+
+pub returns-clause-names : goal.returns-clause-names
+returns-clause-names c = λ a b. (λ test h k. names-tested test a b h k, names-most a b)
+
+pub returns-clause-tokens : goal.returns-clause-tokens
+returns-clause-tokens c = count_composed
+
+pub returns-clause-room : goal.returns-clause-room
+returns-clause-room c = room
+
+pub returns-clause-in_bounds : goal.returns-clause-in_bounds
+returns-clause-in_bounds c = bounds_composed

@@ -1,0 +1,5 @@
+pub mod Squeezed
+pub mod JoinedSheets
+pub mod JoinLaws
+pub mod ComposedSheets
+pub mod ComposeLaws

@@ -1,0 +1,101 @@
+//! Laws over the definitions. Each is a function without parameters, answer or body: its contract is the law, and a
+//! caller learns it by calling the function.
+//!
+//! Users name the module `laws` of the crate `oxc_sourcemap`, which hands these on.
+#![tactic(auto)]
+
+ghost use Rattle.oxc_sourcemap_mappings.specs.TextLaws.{CanonicalUnique, ReadsBack, ReadsAgain, InPieces};
+ghost use Rattle.oxc_sourcemap_json.specs.MapLaws.{SoundIsWritten, SoundIsTooLarge, SoundReadsBack, SoundStaysSound, ReadIsInBounds};
+ghost use Rattle.oxc_sourcemap_laws.specs.ComposeLaws.{SheetOfComposition, CompositionKeepsAlike, CompositionStandsFor, SheetsAssociative, CompositionAssociative, GroupingsRefused, CompositionInRange, CompositionNames, CompositionTokens, CompositionRoom, CompositionInBounds};
+ghost use Rattle.oxc_sourcemap_laws.specs.JoinLaws.{SqueezingHarmless, AlikeTracesSame, AlikeTestAlike, JoinKeepsAlike, SheetOfJoin, JoinStandsFor, JoinInRange, JoinNames, JoinTokens, JoinChunksFit, JoinsAssociative};
+
+/// The `mappings` text is unique, and reading undoes writing. A text leaves out the source position and the name of
+/// unmapped tokens; the list without them is the bare list.
+/// - Lists in line order and in bounds (lines and columns of 0 to 4294967295, ids of 0 to 4294967294) share a text exactly
+///   where their bare lists are equal (`unique`).
+/// - The text of such a list reads, with counts above its ids, without fault, and the bare list comes back; an unmapped
+///   token comes back with the source line and column reached there (`reads_back`).
+/// - What a text reads as is in line order and in bounds, and written and read again it is the same (`reads_again`).
+/// - The pieces of fitting chunks, one after the other, are the text (`in_pieces`).
+/// - A sound map is written, up to 4294967295 tokens (`sound_is_written`); one of more is `TooLarge` (`sound_is_too_large`).
+///   What is written is read as a map with the same sheet (what a map means: its ids looked up), the same names and the
+///   same bare list (`sound_reads_back`). What comes back is sound, has as many tokens, and comes back a second time as it
+///   is (`sound_stays_sound`).
+/// - The tokens of a map that a JSON text says are in bounds (`read_is_in_bounds`).
+pub fn canonical_unique()
+    ensures unique { CanonicalUnique }
+    ensures reads_back { ReadsBack }
+    ensures reads_again { ReadsAgain }
+    ensures in_pieces { InPieces }
+    ensures sound_is_written { SoundIsWritten }
+    ensures sound_is_too_large { SoundIsTooLarge }
+    ensures sound_reads_back { SoundReadsBack }
+    ensures sound_stays_sound { SoundStaysSound }
+    ensures read_is_in_bounds { ReadIsInBounds }
+{}
+
+/// Leaving out what repeats the token in front of it is harmless. Squeezing leaves out of a sheet (what a map means: its
+/// ids looked up) each entry that equals the one in front of it; two sheets with one squeezed form are alike. A
+/// join is that of records: what a list of calls of `ConcatSourceMapBuilder` makes. It leaves out a map's first token where
+/// that equals the last token so far.
+/// - Squeezing changes no trace, exact or clamped, at any line and column, and a sheet is sorted exactly where its squeezed
+///   one is (`squeezing`). So sheets that are alike have the same traces (`alike_traces`), and one answer to every test of
+///   their entries that takes an entry that stands twice in a row as one (`alike_tests`).
+/// - Joins of sheets that are alike are alike (`joins_keep_alike`).
+/// - Where the ids of all maps are in range, the sheet of their join is alike to the join of their sheets
+///   (`sheet_of_join`), and the ids of the join are in range, sorted or not (`in_range`).
+/// - Where each map is sound and its sheet alike to a given one, the join is sorted exactly where the join of the given
+///   sheets is, and then sound, with a sheet alike to it (`stands_for`).
+/// - The names of a join are those of its maps, in order (`names`), and it has no more tokens than they (`tokens`).
+pub fn dropping_harmless()
+    ensures squeezing { SqueezingHarmless }
+    ensures alike_traces { AlikeTracesSame }
+    ensures alike_tests { AlikeTestAlike }
+    ensures joins_keep_alike { JoinKeepsAlike }
+    ensures sheet_of_join { SheetOfJoin }
+    ensures in_range { JoinInRange }
+    ensures stands_for { JoinStandsFor }
+    ensures names { JoinNames }
+    ensures tokens { JoinTokens }
+{}
+
+/// Joins may be grouped. The maps are any maps, sound or not.
+/// - Maps may be joined in groups and the groups then joined: chunks aside, this is the join of them all, one behind the
+///   other, with both offsets of each added (`associative`). Groups may be empty, or end up
+///   empty because their first token is left out. Lines and ids are numbers without limit here.
+/// - The chunks of every join, one for each map, fit its tokens (`chunks_fit`), so that the canonical text is the chunks'
+///   pieces in order (see `in_pieces` of `canonical_unique`).
+pub fn joins_associative()
+    ensures associative { JoinsAssociative }
+    ensures chunks_fit { JoinChunksFit }
+{}
+
+/// Composition is associative. It is that of records, as `SourceMap::compose` makes it, and of sheets, where names and
+/// sources stand for their ids.
+/// - Where the source ids of the first map and the ids of the second one's tokens are in range, the sheet of the composed
+///   map is the composition of the sheets (`sheet_of_composition`).
+/// - Sheets that are alike stay alike when they are composed, on either side (`keeps_alike`). Where two maps are sound and
+///   their sheets alike to given ones, the composed map is sound, with a sheet alike to the composition of the given
+///   sheets (`stands_for`).
+/// - Composition of sheets is associative (`sheets`). So, for sound maps, `a.compose(b).compose(c)` and
+///   `a.compose(b.compose(c))` have equal sheets where both give a map (`associative`). Lists of names and ids may differ.
+/// - Where no id of a name is too large, one grouping is refused for several sources exactly where the other is; which
+///   number is told may differ. Where the first and the second map have at most one source, neither is refused
+///   (`refused`).
+/// - The ids of a composed map are in range where those of the second map are (`in_range`). Its names are names of the two
+///   maps, and at most as many as they have together (`names`); it has as many tokens as the first map (`tokens`). An id is
+///   too large only where the two maps have more than 4294967295 names (`room`). Its tokens are in bounds where those of the
+///   two maps are (`in_bounds`).
+pub fn composition_associative()
+    ensures sheet_of_composition { SheetOfComposition }
+    ensures keeps_alike { CompositionKeepsAlike }
+    ensures stands_for { CompositionStandsFor }
+    ensures sheets { SheetsAssociative }
+    ensures associative { CompositionAssociative }
+    ensures refused { GroupingsRefused }
+    ensures in_range { CompositionInRange }
+    ensures names { CompositionNames }
+    ensures tokens { CompositionTokens }
+    ensures room { CompositionRoom }
+    ensures in_bounds { CompositionInBounds }
+{}

@@ -1,0 +1,78 @@
+-- Cutting the front line off a list in line order.
+use Rattle.std.proofs.Common.{◌≡◌, ℕ, suc, zero, ◌+◌, ◌-◌, ◌≤◌, ◌<◌, List, [], ◌∷◌, ◌++◌, map, take, drop, length, slice_get, ◌==◌, refl, arith, Bool, true, false, cond, ap, ◌∙◌, Some, None}
+use Rattle.std.specs.List.{prefix_len, last_or, range_with_len}
+use Rattle.oxc_sourcemap_mappings.specs.Token.{TokenRecord}
+use Rattle.oxc_sourcemap_mappings.specs.Canonical.{first_out_of_order}
+use Rattle.oxc_sourcemap_parts.specs.Sorted.{token_line}
+use Rattle.oxc_sourcemap_lookup.specs.Lookup.{last, on_line}
+
+-- the last item, by its index
+last_or-at : {A : Type 0} (x : A) (xs : List A) → last_or (Some x) xs ≡ slice_get (x ∷ xs) (length xs)
+last_or-at x [] = refl
+last_or-at x (y ∷ ys) = last_or-at y ys
+
+pub last_at : {A : Type 0} (xs : List A) → last xs ≡ slice_get xs (length xs - 1)
+last_at [] = refl
+last_at (x ∷ xs) = last_or-at x xs ∙ ap (slice_get (x ∷ xs)) (omega arith)
+
+-- no token lies on a line before that of the token in front, nor before this one
+abbrev pub IsFrom : ℕ → List TokenRecord → Type 0
+IsFrom from [] = Unit {0}
+IsFrom from (t ∷ ts) = (from ≤ t.dst_line) × IsFrom t.dst_line ts
+
+in_order-from : (t : TokenRecord) (ts : List TokenRecord) → first_out_of_order (t ∷ ts) ≡ None → IsFrom t.dst_line ts
+in_order-from t [] h = tt
+in_order-from t (u ∷ us) h =
+    let le : t.dst_line ≤ u.dst_line = grind (arith, h) in
+    let more : first_out_of_order (u ∷ us) ≡ None = grind (arith, h) in
+    (le, in_order-from u us more)
+
+pub in_order-from_0 : (ts : List TokenRecord) → first_out_of_order ts ≡ None → IsFrom 0 ts
+in_order-from_0 [] h = tt
+in_order-from_0 (t ∷ ts) h = (omega arith, in_order-from t ts h)
+
+take-one : {X : Type 0} (n m : ℕ) (x : X) (xs : List X) → m ≡ suc n → take m (x ∷ xs) ≡ x ∷ take n xs
+take-one n m x xs e = rw e refl
+
+drop-one : {X : Type 0} (n m : ℕ) (x : X) (xs : List X) → m ≡ suc n → drop m (x ∷ xs) ≡ drop n xs
+drop-one n m x xs e = rw e refl
+
+pub IsFrom-le : (a b : ℕ) (ts : List TokenRecord) → a ≤ b → IsFrom b ts → IsFrom a ts
+IsFrom-le a b [] h p = p
+IsFrom-le a b (t ∷ ts) h p = (omega (arith, h, p.0), p.1)
+
+-- nothing lies on a line before the first one
+pub on_line-before : (n from : ℕ) (ts : List TokenRecord) → IsFrom from ts → n < from → on_line token_line n ts ≡ []
+on_line-before n from [] p h = refl
+on_line-before n from (t ∷ ts) p h = grind (arith, p.0, h, on_line-before n t.dst_line ts p.1)
+
+-- the front is the line
+pub front : (line : ℕ) (ts : List TokenRecord) → IsFrom line ts → take (prefix_len (λ t. t.dst_line == line) ts) ts ≡ on_line token_line line ts
+front line [] p = refl
+front line (t ∷ ts) p =
+    let n = prefix_len (λ t. t.dst_line == line) ts in
+    let rest = on_line-before line t.dst_line ts p.1 in
+    let one = take-one n (1 + n) t ts in
+    grind (arith, one, rest, p.0, front line ts (IsFrom-le line t.dst_line ts p.0 p.1))
+
+left_at : (b : Bool) (line n : ℕ) (t : TokenRecord) (ts : List TokenRecord) → (t.dst_line == line) ≡ b → IsFrom line (t ∷ ts) → IsFrom (line + 1) (drop n ts) → IsFrom (line + 1) (drop (cond b (1 + n) 0) (t ∷ ts))
+left_at true line n t ts e p more = rw (drop-one n (1 + n) t ts (omega arith)) more
+left_at false line n t ts e p more = (grind (arith, e, p.0), p.1)
+
+-- what is left begins behind the line
+pub left : (line : ℕ) (ts : List TokenRecord) → IsFrom line ts → IsFrom (line + 1) (drop (prefix_len (λ t. t.dst_line == line) ts) ts)
+left line [] p = p
+left line (t ∷ ts) p = left_at (t.dst_line == line) line (prefix_len (λ t. t.dst_line == line) ts) t ts refl p (left line ts (IsFrom-le line t.dst_line ts p.0 p.1))
+
+-- and has all tokens of other lines
+pub others : (n line : ℕ) (ts : List TokenRecord) → line < n → on_line token_line n (drop (prefix_len (λ t. t.dst_line == line) ts) ts) ≡ on_line token_line n ts
+others n line [] h = refl
+others n line (t ∷ ts) h =
+    let k = prefix_len (λ t. t.dst_line == line) ts in
+    let one = drop-one k (1 + k) t ts in
+    grind (arith, one, h, others n line ts h)
+
+-- one number more
+pub rows-push : {X : Type 0} (f : ℕ → X) (a n : ℕ) → map f (range_with_len a (suc n)) ≡ map f (range_with_len a n) ++ f (a + n) ∷ []
+rows-push f a zero = ap (λ i. f i ∷ []) (omega arith)
+rows-push f a (suc n) = ap (λ rows. f a ∷ rows) (rows-push f (a + 1) n ∙ ap (λ i. map f (range_with_len (a + 1) n) ++ f i ∷ []) (omega arith))

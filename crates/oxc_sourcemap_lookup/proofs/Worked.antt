@@ -1,0 +1,66 @@
+-- Worked examples, computed by the definitions themselves.
+use Rattle.std.specs.Prelude.{◌≡◌, refl, ℕ, List, [], ◌∷◌, codes, Ok, Err, Option, Some, None}
+use Rattle.oxc_sourcemap_mappings.specs.declared.error.Error.TheVariants.{LineOrder}
+use Rattle.oxc_sourcemap_mappings.specs.Token.{TokenRecord}
+use Rattle.oxc_sourcemap_parts.specs.Record.{MapRecord}
+use Rattle.oxc_sourcemap_parts.specs.Views.{empty_record}
+use Rattle.oxc_sourcemap_parts.specs.Sorted.{token_line, token_column}
+use Rattle.oxc_sourcemap_parts.specs.Sheet.{sheet_of}
+use Rattle.oxc_sourcemap_lookup.specs.Lookup.{pick, clamped_pick, line_table}
+use Rattle.oxc_sourcemap_lookup.specs.Trace.{trace}
+
+-- generated line and column, source line and column, source id, name id
+abbrev token : ℕ → ℕ → ℕ → ℕ → Option ℕ → Option ℕ → TokenRecord
+token dst_line dst_col src_line src_col source_id name_id =
+    record { dst_line = dst_line; dst_col = dst_col; src_line = src_line; src_col = src_col; source_id = source_id; name_id = name_id }
+
+-- one token in front of five at one column
+abbrev five_equal : List TokenRecord
+five_equal =
+    token 0 0 9 9 (Some 0) None
+    ∷ token 0 7 1 0 (Some 0) None
+    ∷ token 0 7 2 0 (Some 0) None
+    ∷ token 0 7 3 0 (Some 0) None
+    ∷ token 0 7 4 0 (Some 0) None
+    ∷ token 0 7 5 0 (Some 0) None
+    ∷ []
+
+looks_up-the_first_of_equal_columns : pick token_line token_column five_equal 0 7 ≡ Some (token 0 7 1 0 (Some 0) None)
+looks_up-the_first_of_equal_columns = refl
+
+looks_up-the_last_behind_equal_columns : pick token_line token_column five_equal 0 8 ≡ Some (token 0 7 5 0 (Some 0) None)
+looks_up-the_last_behind_equal_columns = refl
+
+looks_up-nothing_on_another_line : clamped_pick token_line token_column five_equal 1 8 ≡ None
+looks_up-nothing_on_another_line = refl
+
+looks_up-nothing_in_front : pick token_line token_column (token 0 5 0 0 None None ∷ []) 0 0 ≡ None
+looks_up-nothing_in_front = refl
+
+looks_up-the_first_when_clamped : clamped_pick token_line token_column (token 0 5 0 0 None None ∷ []) 0 0 ≡ Some (token 0 5 0 0 None None)
+looks_up-the_first_when_clamped = refl
+
+-- tokens on lines 1 and 3
+tables-have_each_line : line_table (token 1 1 1 1 (Some 0) (Some 0) ∷ token 3 1 1 1 (Some 1) (Some 2) ∷ token 3 2 2 2 (Some 2) (Some 3) ∷ [])
+    ≡ Ok ([] ∷ (token 1 1 1 1 (Some 0) (Some 0) ∷ []) ∷ [] ∷ (token 3 1 1 1 (Some 1) (Some 2) ∷ token 3 2 2 2 (Some 2) (Some 3) ∷ []) ∷ [])
+tables-have_each_line = refl
+
+tables-ask_for_line_order : line_table (token 1 0 0 0 None None ∷ token 0 0 0 0 None None ∷ []) ≡ Err (LineOrder 1)
+tables-ask_for_line_order = refl
+
+-- two tokens of one source, the second with a name
+abbrev named : MapRecord
+named = record empty_record {
+  names = codes "x" ∷ [];
+  sources = codes "coolstuff.js" ∷ [];
+  tokens = token 0 0 0 0 (Some 0) None ∷ token 0 3 0 4 (Some 0) (Some 0) ∷ token 0 9 0 0 None None ∷ [];
+}
+
+traces-a_name : trace (sheet_of named) 0 5 ≡ Some (Some (record { source = record { path = codes "coolstuff.js"; content = None }; src_line = 0; src_col = 4; name = Some (codes "x") }))
+traces-a_name = refl
+
+traces-an_unmapped_token : trace (sheet_of named) 0 9 ≡ Some None
+traces-an_unmapped_token = refl
+
+traces-nothing : trace (sheet_of named) 1 0 ≡ None
+traces-nothing = refl

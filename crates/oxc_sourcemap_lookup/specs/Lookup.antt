@@ -1,0 +1,81 @@
+-- Looking up by generated position, in any list of items that have a line and a column.
+use Rattle.std.specs.Prelude.{ℕ, ◌+◌, Bool, true, ◌&&◌, List, [], ◌∷◌, map, filter, max, Option, Some, None, Result, Ok, Err, if◌then◌else◌, nat_le, ◌==◌, slice_get}
+use Rattle.std.specs.List.{last_or, range_with_len}
+use Rattle.std.specs.Option.{unwrap_or, option_or}
+use Rattle.oxc_sourcemap_mappings.specs.declared.error.Error.{Error}
+use Rattle.oxc_sourcemap_mappings.specs.declared.error.Error.TheVariants.{LineOrder}
+use Rattle.oxc_sourcemap_mappings.specs.Token.{TokenRecord}
+use Rattle.oxc_sourcemap_mappings.specs.Canonical.{first_out_of_order}
+use Rattle.oxc_sourcemap_parts.specs.Sorted.{token_line}
+
+-- the first item
+abbrev pub first : {A : Type 0} → List A → Option A
+first [] = None
+first (x ∷ xs) = Some x
+
+-- the last item
+abbrev pub last : {A : Type 0} → List A → Option A
+last items = last_or None items
+
+-- the greatest column, 0 where there are no items
+abbrev pub greatest : {A : Type 0} → (A → ℕ) → List A → ℕ
+greatest column [] = 0
+greatest column (x ∷ xs) = max (column x) (greatest column xs)
+
+-- the items whose column is not past this one
+abbrev pub not_past : {A : Type 0} → (A → ℕ) → ℕ → List A → List A
+not_past column col items = filter (λ x. nat_le (column x) col) items
+
+-- the items at this column
+abbrev pub in_column : {A : Type 0} → (A → ℕ) → ℕ → List A → List A
+in_column column col items = filter (λ x. column x == col) items
+
+-- Of the items whose column is the greatest one not past the asked one: the first where that is the asked one, else the
+-- last. None where there are none.
+abbrev pub at : {A : Type 0} → (A → ℕ) → List A → ℕ → Option A
+at column items col =
+    let best = greatest column (not_past column col items) in
+    let near = in_column column best (not_past column col items) in
+    if best == col then first near else last near
+
+-- `at`, and the first item in place of none
+abbrev pub clamped_at : {A : Type 0} → (A → ℕ) → List A → ℕ → Option A
+clamped_at column items col = option_or (at column items col) (first items)
+
+-- the items on a line
+abbrev pub on_line : {A : Type 0} → (A → ℕ) → ℕ → List A → List A
+on_line line n items = filter (λ x. line x == n) items
+
+-- `at` and `clamped_at` of the items on a line
+abbrev pub pick : {A : Type 0} → (A → ℕ) → (A → ℕ) → List A → ℕ → ℕ → Option A
+pick line column items n col = at column (on_line line n items) col
+
+abbrev pub clamped_pick : {A : Type 0} → (A → ℕ) → (A → ℕ) → List A → ℕ → ℕ → Option A
+clamped_pick line column items n col = clamped_at column (on_line line n items) col
+
+-- no item's column is smaller than that of the item in front of it
+abbrev pub no_column_goes_back : {A : Type 0} → (A → ℕ) → List A → Bool
+no_column_goes_back column [] = true
+no_column_goes_back column (x ∷ []) = true
+no_column_goes_back column (x ∷ y ∷ more) = nat_le (column x) (column y) && no_column_goes_back column (y ∷ more)
+
+-- how many lines there are up to that of this token, and none without one
+abbrev pub lines_through : Option TokenRecord → ℕ
+lines_through None = 0
+lines_through (Some t) = t.dst_line + 1
+
+-- for each line up to the last token's, the tokens on it
+abbrev pub tokens_by_line : List TokenRecord → List (List TokenRecord)
+tokens_by_line tokens = map (λ n. on_line token_line n tokens) (range_with_len 0 (lines_through (last tokens)))
+
+-- the lookup table of a list of tokens, unless one lies on a line before that of the token in front
+abbrev pub table_unless : Option ℕ → List TokenRecord → Result (List (List TokenRecord)) Error
+table_unless None tokens = Ok (tokens_by_line tokens)
+table_unless (Some i) tokens = Err (LineOrder i)
+
+abbrev pub line_table : List TokenRecord → Result (List (List TokenRecord)) Error
+line_table tokens = table_unless (first_out_of_order tokens) tokens
+
+-- the tokens that a table has for a line: none past its end
+abbrev pub slice_of : List (List TokenRecord) → ℕ → List TokenRecord
+slice_of table n = unwrap_or (slice_get table n) []

@@ -1,0 +1,9 @@
+//! Looking up by generated position, over slices of tokens: the search on a line, and tables that have a slice for each
+//! line.
+//!
+//! The lookups of `SourceMap` and composition stand on this crate. Users name the crate `oxc_sourcemap`.
+#![tactic(auto)]
+
+mod lookup;
+
+pub use lookup::{lookup_table, search, search_clamped, slice_of, table_of};

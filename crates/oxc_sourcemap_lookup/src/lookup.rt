@@ -1,0 +1,119 @@
+//! Lookup tables over slices of tokens, and lookups on a line. (In the Rust crate these stand in the module `sourcemap`.)
+ghost use Rattle.std.specs.Prelude.{◌≡◌, ◌≢◌, ◌==◌, ℕ, ◌+◌, ◌<◌, ◌≤◌, true, length, map, option_map, slice_get, IfOk, IfErr, IfSome, IsNone, Ok, Err, None, []};
+ghost use Rattle.std.specs.List.{Contains, prefix_len};
+ghost use Rattle.std.specs.Ordering.{nat_cmp};
+ghost use Rattle.oxc_sourcemap_mappings.specs.declared.error.Error.TheVariants.{OutOfMemory};
+ghost use Rattle.oxc_sourcemap_mappings.specs.Canonical.{IsInLineOrder};
+ghost use Rattle.oxc_sourcemap_parts.specs.Sorted.{are_tokens_sorted, token_line, token_column};
+ghost use Rattle.oxc_sourcemap_lookup.specs.Lookup.{last, at, clamped_at, pick, clamped_pick, no_column_goes_back, lines_through, tokens_by_line, line_table, slice_of};
+
+use oxc_sourcemap_mappings::{Error, Result, Token, line_order_fault};
+use std::alloc::{AllocError, Global};
+use std::cmp::Ordering;
+
+/// How many lines there are up to that of the last token.
+fn line_count(tokens: &[Token]) -> u64
+    ensures { result ≡ lines_through (last tokens.now) }
+{
+    match tokens.last() {
+        Some(token) => u64::from(token.get_dst_line()) + 1,
+        None => 0,
+    }
+}
+
+/// How many tokens at the front lie on a line.
+fn line_length(tokens: &[Token], line: u64) -> usize
+    ensures { result ≡ prefix_len (λ t. t.dst_line == line) tokens.now }
+{
+    tokens
+        .iter()
+        .take_while(|token| u64::from(token.get_dst_line()) == line)
+        .count()
+}
+
+/// The tokens of each line, for tokens in line order.
+pub fn table_of<'s>(
+    alloc: Global,
+    tokens: &'s [Token],
+) -> std::result::Result<Vec<&'s [Token]>, AllocError>
+    requires { IsInLineOrder tokens.now }
+    ensures { IfOk result (λ table. map (λ s. s.now) table.items ≡ tokens_by_line tokens.now) }
+{
+    let lines = line_count(tokens);
+    let mut table = Vec::with_capacity(alloc, lines as usize)?;
+    let mut rest = tokens;
+    for line in 0..lines {
+        let (on_line, others) = rest.split_at(line_length(rest, line));
+        table.push(on_line)?;
+        rest = others;
+    }
+    Ok(table)
+}
+
+/// The tokens that a table has for a line: none past its end.
+pub fn slice_of<'t>(lookup_table: &[&'t [Token]], line: u32) -> &'t [Token]
+    ensures { result.now ≡ slice_of (map (λ s. s.now) lookup_table.now) line }
+{
+    match lookup_table.get(line as usize) {
+        Some(tokens) => tokens,
+        None => &[],
+    }
+}
+
+/// How a token's column compares with the asked one. A lookup compares columns here alone, and counts each comparison.
+fn compare_column(token: &Token, col: u32, steps: &mut u64) -> Ordering
+    requires { steps.old < 18446744073709551615 }
+    ensures value { result ≡ nat_cmp token.now.dst_col col }
+    ensures counted { steps.new ≡ steps.old + 1 }
+{
+    *steps += 1;
+    token.get_dst_col().cmp(&col)
+}
+
+/// The lookup on one line: of the tokens whose column is the greatest not past `col`, the first where that is `col`,
+/// else the last; None where there are none. Where the columns go back it answers some token of the line, or None.
+///
+/// `steps` is set to the number of columns that were compared with `col`, which is at most the number of tokens. No
+/// memory is taken.
+#[tactic(auto, using(crate::proofs::Lookups::walked_is_at))]
+pub fn search(line: &[Token], col: u32, steps: &mut u64) -> Option<Token>
+    ensures found { no_column_goes_back token_column line.now ≡ true → result ≡ at token_column line.now col }
+    ensures among { IfSome result (Contains line.now) }
+    ensures counted { steps.new ≤ length line.now }
+    ensures started { 0 < length line.now → 0 < steps.new }
+{
+    *steps = 0;
+    let mut found = None;
+    for token in line {
+        match compare_column(token, col, steps) {
+            Ordering::Less => found = Some(*token),
+            Ordering::Equal => return Some(*token),
+            Ordering::Greater => return found,
+        }
+    }
+    found
+}
+
+/// `search`, and the first token in place of None.
+pub fn search_clamped(line: &[Token], col: u32) -> Option<Token>
+    ensures found { no_column_goes_back token_column line.now ≡ true → result ≡ clamped_at token_column line.now col }
+    ensures among { IfSome result (Contains line.now) }
+    ensures clamped { IsNone result → line.now ≡ [] }
+{
+    search(line, col, &mut 0).or(line.first().copied())
+}
+
+/// The lookup table of tokens: for each generated line up to the last token's, the tokens on it, lent, in order. Without
+/// tokens it has no slices.
+///
+/// Refused as `LineOrder(i)` for the first token whose line is smaller than that of the token in front, and as
+/// `OutOfMemory` where memory is refused.
+pub fn lookup_table(alloc: Global, tokens: &[Token]) -> Result<Vec<&[Token]>>
+    ensures table { IfOk result (λ table. line_table tokens.now ≡ Ok (map (λ s. s.now) table.items)) }
+    ensures refused { IfErr result (λ e. (e ≢ OutOfMemory) → line_table tokens.now ≡ Err e) }
+{
+    if let Some(i) = line_order_fault(tokens) {
+        return Err(Error::LineOrder(i));
+    }
+    Ok(table_of(alloc, tokens)?)
+}

@@ -1,6 +1,0 @@
-use Rattle.oxc_sourcemap_map.specs.Sound.{IsInRange}
-use Rattle.oxc_sourcemap_map.proofs.Each.{IsLeft}
-use Rattle.oxc_sourcemap_map.proofs.sourcemap.are_in_range.Given as goal
-
-abbrev pub invariant-loop-token : goal.invariant-loop-token
-invariant-loop-token l = IsLeft (IsInRange l.names l.sources) l.tokens l.token-index

@@ -1,0 +1,263 @@
+-- Reading from the front on: what is left of a text, behind a line and a place.
+use Rattle.std.proofs.Common.{◌≡◌, ℕ, ◌+◌, ◌<◌, true, false, cond, List, [], ◌∷◌, ◌++◌, length, map, drop, filter, ℤ, Option, Some, None, Result, Ok, Err, if◌then◌else◌, nat_lt, slice_get, arith, refl, sym, ap, ◌∙◌, append_assoc}
+use Rattle.std.specs.List.{slice_split, onto_first}
+use Rattle.std.proofs.lemmas.List.{append-nil}
+use Rattle.std.proofs.lemmas.Bool.Decides.{nat_tests}
+use Rattle.oxc_sourcemap_mappings.specs.declared.error.Error.{Error}
+use Rattle.oxc_sourcemap_mappings.specs.declared.error.Error.TheVariants.{TooLarge}
+use Rattle.oxc_sourcemap_mappings.specs.declared.decode.Fields.{Fields}
+use Rattle.oxc_sourcemap_mappings.specs.Number.{digit}
+use Rattle.oxc_sourcemap_mappings.specs.Parts.{Segment, segment, segments, lines, is_filled, is_semicolon, is_comma, has_source}
+use Rattle.oxc_sourcemap_mappings.specs.Places.{Place, place, field_sum}
+use Rattle.oxc_sourcemap_mappings.specs.Faults.{Counts, counts_of, digit_fault, place_fault}
+use Rattle.oxc_sourcemap_mappings.specs.Token.{TokenRecord}
+use Rattle.oxc_sourcemap_mappings.specs.Reading.{outcome, unless, token_at, line_outcomes, text_outcomes, passed, onto, gathered, reading}
+use Rattle.oxc_sourcemap_mappings.specs.Decoding.{ends_segment, front_digits, front_segment, AreFieldsOf, value, moved, moved_by, at_line_start}
+
+-- ---- the outcomes of a text, the place carried along
+
+-- those of a line, behind this place
+abbrev pub along : Counts → ℕ → Place → List Segment → List (Result TokenRecord Error)
+along c line p [] = []
+along c line p (s ∷ more) = outcome c line p.source_id s (moved_by p s) ∷ along c line (moved_by p s) more
+
+abbrev pub moved_by_all : Place → List Segment → Place
+moved_by_all p [] = p
+moved_by_all p (s ∷ more) = moved_by_all (moved_by p s) more
+
+-- those of some lines, the first of which has this number
+abbrev pub along_lines : Counts → ℕ → Place → List (List Segment) → List (Result TokenRecord Error)
+along_lines c line p [] = []
+along_lines c line p (l ∷ ls) =
+    if nat_lt line 4294967296
+    then along c line (at_line_start p) l ++ along_lines c (line + 1) (moved_by_all (at_line_start p) l) ls
+    else Err TooLarge ∷ []
+
+moved_by_all-place : (ss on_line in_text : List Segment) → moved_by_all (place on_line in_text) ss ≡ place (passed ss on_line) (passed ss in_text)
+moved_by_all-place [] on_line in_text = refl
+moved_by_all-place (s ∷ more) on_line in_text = moved_by_all-place more (s ∷ on_line) (s ∷ in_text)
+
+line_outcomes-is : (c : Counts) (line : ℕ) (ss on_line in_text : List Segment) → line_outcomes c line on_line in_text ss ≡ along c line (place on_line in_text) ss
+unfolding line_outcomes
+line_outcomes-is c line [] on_line in_text = refl
+line_outcomes-is c line (s ∷ more) on_line in_text =
+    ap (λ rest. outcome c line (field_sum has_source 1 in_text) s (place (s ∷ on_line) (s ∷ in_text)) ∷ rest) (line_outcomes-is c line more (s ∷ on_line) (s ∷ in_text))
+
+text_outcomes-is : (c : Counts) (line : ℕ) (ls : List (List Segment)) (on_line in_text : List Segment) → text_outcomes c line in_text ls ≡ along_lines c line (place on_line in_text) ls
+unfolding text_outcomes
+text_outcomes-is c line [] on_line in_text = refl
+text_outcomes-is c line (l ∷ ls) on_line in_text =
+    let here : line_outcomes c line [] in_text l ≡ along c line (place [] in_text) l = line_outcomes-is c line l [] in_text in
+    let there : text_outcomes c (line + 1) (passed l in_text) ls ≡ along_lines c (line + 1) (moved_by_all (place [] in_text) l) ls = text_outcomes-is c (line + 1) ls (passed l []) (passed l in_text) ∙ ap (λ p. along_lines c (line + 1) p ls) (sym (moved_by_all-place l [] in_text)) in
+    rw (here, there)
+
+-- ---- what is left, from anywhere in a line on
+
+-- the outcomes of the parts of a text, the first of which is the rest of a line
+abbrev along_parts : Counts → ℕ → Place → List (List ℕ) → List (Result TokenRecord Error)
+along_parts c line p [] = []
+along_parts c line p (l ∷ ls) = along c line p (segments l) ++ along_lines c (line + 1) (moved_by_all p (segments l)) (map segments ls)
+
+abbrev pub left_outcomes : Counts → ℕ → Place → List ℕ → List (Result TokenRecord Error)
+left_outcomes c line p text = along_parts c line p (slice_split is_semicolon text)
+
+along_lines-parts : (c : Counts) (line : ℕ) (p : Place) (parts : List (List ℕ)) → line < 4294967296 → along_lines c line p (map segments parts) ≡ along_parts c line (at_line_start p) parts
+along_lines-parts c line p [] h = refl
+along_lines-parts c line p (l ∷ ls) h = let t : nat_lt line 4294967296 ≡ true = grind (arith, nat_tests) in rw t
+
+pub reading-lines : (text : List ℕ) (names sources : ℕ) → reading text names sources ≡ gathered (along_lines (counts_of names sources) 0 (place [] []) (lines text))
+unfolding reading
+reading-lines text names sources = ap gathered (text_outcomes-is (counts_of names sources) 0 (lines text) [] [])
+
+pub reading-is : (text : List ℕ) (names sources : ℕ) → reading text names sources ≡ gathered (left_outcomes (counts_of names sources) 0 (place [] []) text)
+reading-is text names sources =
+    reading-lines text names sources ∙ ap gathered (along_lines-parts (counts_of names sources) 0 (place [] []) (slice_split is_semicolon text) (omega arith))
+
+-- behind a `;`
+pub left-semicolon : (c : Counts) (line : ℕ) (p : Place) (text : List ℕ) → line + 1 < 4294967296 → left_outcomes c line p (59 ∷ text) ≡ left_outcomes c (line + 1) (at_line_start p) text
+left-semicolon c line p text h = along_lines-parts c (line + 1) p (slice_split is_semicolon text) h
+
+onto_first-lines : (c : Counts) (p : Place) (line b : ℕ) (parts : List (List ℕ)) → nat_lt line 4294967296 ≡ false → along_lines c line p (map segments (onto_first b parts)) ≡ Err TooLarge ∷ []
+onto_first-lines c p line b [] t = rw t
+onto_first-lines c p line b (l ∷ ls) t = rw t
+
+lines-too_large : (c : Counts) (line : ℕ) (p : Place) (text : List ℕ) → nat_lt line 4294967296 ≡ false → along_lines c line p (lines text) ≡ Err TooLarge ∷ []
+lines-too_large c line p [] t = rw t
+lines-too_large c line p (b ∷ bs) t =
+    elim (is_semicolon b) as (λ v. along_lines c line p (map segments (cond v ([] ∷ slice_split is_semicolon bs) (onto_first b (slice_split is_semicolon bs)))) ≡ Err TooLarge ∷ []) [
+      | true ↦ rw t
+      | false ↦ onto_first-lines c p line b (slice_split is_semicolon bs) t
+    ]
+
+pub left-too_large : (c : Counts) (line : ℕ) (p : Place) (text : List ℕ) → line ≡ 4294967295 → left_outcomes c line p (59 ∷ text) ≡ Err TooLarge ∷ []
+left-too_large c line p text e = let t : nat_lt (line + 1) 4294967296 ≡ false = grind (arith, nat_tests) in lines-too_large c (line + 1) p text t
+
+-- behind a `,`
+parts-comma : (c : Counts) (line : ℕ) (p : Place) (parts : List (List ℕ)) → along_parts c line p (onto_first 44 parts) ≡ along_parts c line p parts
+parts-comma c line p [] = refl
+parts-comma c line p (l ∷ ls) = refl
+
+pub left-comma : (c : Counts) (line : ℕ) (p : Place) (text : List ℕ) → left_outcomes c line p (44 ∷ text) ≡ left_outcomes c line p text
+left-comma c line p text = parts-comma c line p (slice_split is_semicolon text)
+
+-- ---- the segment at the front
+
+abbrev front : List ℕ → List ℕ
+front [] = []
+front (b ∷ bs) = if ends_segment b then [] else b ∷ front bs
+
+abbrev behind_front : List ℕ → List ℕ
+behind_front [] = []
+behind_front (b ∷ bs) = if ends_segment b then b ∷ bs else behind_front bs
+
+front_digits-front : (text : List ℕ) → front_digits text ≡ map digit (front text)
+front_digits-front [] = refl
+front_digits-front (b ∷ bs) =
+    elim (ends_segment b) as (λ v. (if v then [] else digit b ∷ front_digits bs) ≡ map digit (if v then [] else b ∷ front bs)) [
+      | true ↦ refl
+      | false ↦ ap (λ ds. digit b ∷ ds) (front_digits-front bs)
+    ]
+
+drop-front : (text : List ℕ) → drop (length (front_digits text)) text ≡ behind_front text
+drop-front [] = refl
+drop-front (b ∷ bs) =
+    elim (ends_segment b) as (λ v. drop (length (if v then [] else digit b ∷ front_digits bs)) (b ∷ bs) ≡ (if v then b ∷ bs else behind_front bs)) [
+      | true ↦ refl
+      | false ↦ drop-front bs
+    ]
+
+-- bytes put in front of the first part
+abbrev onto_all_first : List ℕ → List (List ℕ) → List (List ℕ)
+onto_all_first [] parts = parts
+onto_all_first (b ∷ bs) parts = onto_first b (onto_all_first bs parts)
+
+onto_all_first-cons : (bs part : List ℕ) (parts : List (List ℕ)) → onto_all_first bs (part ∷ parts) ≡ (bs ++ part) ∷ parts
+onto_all_first-cons [] part parts = refl
+onto_all_first-cons (b ∷ bs) part parts = ap (onto_first b) (onto_all_first-cons bs part parts)
+
+-- a byte inside a segment is neither mark
+inside : (b : ℕ) → ends_segment b ≡ false → (is_semicolon b ≡ false) × (is_comma b ≡ false)
+inside b e = (grind (arith, nat_tests), grind (arith, nat_tests))
+
+split-front : (text : List ℕ) → slice_split is_semicolon text ≡ onto_all_first (front text) (slice_split is_semicolon (behind_front text))
+split-front [] = refl
+split-front (b ∷ bs) =
+    elim (ends_segment b) as (λ v. ends_segment b ≡ v → slice_split is_semicolon (b ∷ bs) ≡ onto_all_first (if v then [] else b ∷ front bs) (slice_split is_semicolon (if v then b ∷ bs else behind_front bs))) [
+      | true ↦ (λ e. refl)
+      | false ↦ (λ e. rw ((inside b e).0) (ap (onto_first b) (split-front bs)))
+    ] refl
+
+split-comma : (text more : List ℕ) → slice_split is_comma (front text ++ more) ≡ onto_all_first (front text) (slice_split is_comma more)
+split-comma [] more = refl
+split-comma (b ∷ bs) more =
+    elim (ends_segment b) as (λ v. ends_segment b ≡ v → slice_split is_comma ((if v then [] else b ∷ front bs) ++ more) ≡ onto_all_first (if v then [] else b ∷ front bs) (slice_split is_comma more)) [
+      | true ↦ (λ e. refl)
+      | false ↦ (λ e. rw ((inside b e).1) (ap (onto_first b) (split-comma bs more)))
+    ] refl
+
+-- the rest of a line is empty or begins with a `,`
+abbrev IsCut : List (List ℕ) → Type 0
+IsCut [] = ⊥
+IsCut ([] ∷ ls) = Unit {0}
+IsCut ((b ∷ l) ∷ ls) = is_comma b ≡ true
+
+onto_first-cut : (b : ℕ) (parts : List (List ℕ)) → is_comma b ≡ true → IsCut (onto_first b parts)
+onto_first-cut b [] e = e
+onto_first-cut b (l ∷ ls) e = e
+
+mark-comma : (b : ℕ) → ends_segment b ≡ true → is_semicolon b ≡ false → is_comma b ≡ true
+mark-comma b e s = grind (arith, nat_tests)
+
+mark-cut : (b : ℕ) (bs : List ℕ) → ends_segment b ≡ true → IsCut (slice_split is_semicolon (b ∷ bs))
+mark-cut b bs e =
+    elim (is_semicolon b) as (λ v. is_semicolon b ≡ v → IsCut (cond v ([] ∷ slice_split is_semicolon bs) (onto_first b (slice_split is_semicolon bs)))) [
+      | true ↦ (λ s. tt)
+      | false ↦ (λ s. onto_first-cut b (slice_split is_semicolon bs) (mark-comma b e s))
+    ] refl
+
+behind_front-cut : (text : List ℕ) → IsCut (slice_split is_semicolon (behind_front text))
+behind_front-cut [] = tt
+behind_front-cut (b ∷ bs) =
+    elim (ends_segment b) as (λ v. ends_segment b ≡ v → IsCut (slice_split is_semicolon (if v then b ∷ bs else behind_front bs))) [
+      | true ↦ (λ e. mark-cut b bs e)
+      | false ↦ (λ e. behind_front-cut bs)
+    ] refl
+
+segments-front : (text l : List ℕ) (ls : List (List ℕ)) → is_filled (front text) ≡ true → IsCut (l ∷ ls) → segments (front text ++ l) ≡ segment (front text) ∷ segments l
+segments-front text [] ls f h =
+    let e : slice_split is_comma (front text ++ []) ≡ (front text ++ []) ∷ [] = split-comma text [] ∙ onto_all_first-cons (front text) [] [] in
+    rw (e, append-nil (front text), f)
+segments-front text (b ∷ l) ls f h =
+    let parts = slice_split is_comma l in
+    let cut : slice_split is_comma (b ∷ l) ≡ [] ∷ parts = rw h in
+    let e : slice_split is_comma (front text ++ b ∷ l) ≡ (front text ++ []) ∷ parts =
+    split-comma text (b ∷ l) ∙ ap (onto_all_first (front text)) cut ∙ onto_all_first-cons (front text) [] parts in
+    ap (λ ps. map segment (filter is_filled ps)) (e ∙ ap (λ bs. bs ∷ parts) (append-nil (front text))) ∙ rw (f, h)
+
+parts-front : (c : Counts) (line : ℕ) (p : Place) (text : List ℕ) (parts : List (List ℕ)) → is_filled (front text) ≡ true → IsCut parts →
+    along_parts c line p (onto_all_first (front text) parts)
+    ≡ outcome c line p.source_id (segment (front text)) (moved_by p (segment (front text))) ∷ along_parts c line (moved_by p (segment (front text))) parts
+parts-front c line p text [] f h = absurd h
+parts-front c line p text (l ∷ ls) f h =
+    ap (along_parts c line p) (onto_all_first-cons (front text) l ls)
+    ∙ ap (λ ss. along c line p ss ++ along_lines c (line + 1) (moved_by_all p ss) (map segments ls)) (segments-front text l ls f h)
+
+-- what a text gives whose first byte lies in a segment
+pub left-segment : (c : Counts) (line : ℕ) (p : Place) (text : List ℕ) → is_filled (front text) ≡ true →
+    left_outcomes c line p text
+    ≡ outcome c line p.source_id (front_segment text) (moved_by p (front_segment text)) ∷ left_outcomes c line (moved_by p (front_segment text)) (drop (length (front_digits text)) text)
+left-segment c line p text f =
+    ap (along_parts c line p) (split-front text)
+    ∙ parts-front c line p text (slice_split is_semicolon (behind_front text)) f (behind_front-cut text)
+    ∙ rw (drop-front text, front_digits-front text)
+
+-- a byte in front lies in a segment
+pub front-filled : (text : List ℕ) (b : ℕ) → slice_get text 0 ≡ Some b → ends_segment b ≡ false → is_filled (front text) ≡ true
+front-filled [] b e h = cc
+front-filled (a ∷ text) b e h = let k : a ≡ b = cc in rw (k, h)
+
+pub front_digits-filled : (text : List ℕ) → is_filled (front text) ≡ true → 0 < length (front_digits text)
+front_digits-filled [] f = cc
+front_digits-filled (b ∷ bs) f =
+    elim (ends_segment b) as (λ v. is_filled (if v then [] else b ∷ front bs) ≡ true → 0 < length (if v then [] else digit b ∷ front_digits bs)) [
+      | true ↦ (λ e. cc)
+      | false ↦ (λ e. omega arith)
+    ] f
+
+-- ---- what the steps of the decoder say of the segment
+
+-- what the fields say is what the segment says
+pub moved-moved_by : (p : Place) (s : Segment) (f : Fields) → AreFieldsOf s f → moved p f.count (value f) ≡ moved_by p s
+moved-moved_by p s f a =
+    rw (a.count, a.values 0 (omega arith), a.values 1 (omega arith), a.values 2 (omega arith), a.values 3 (omega arith), a.values 4 (omega arith))
+
+pub outcome-clean : (c : Counts) (line : ℕ) (in_front : ℤ) (s : Segment) (p : Place) (o : Option Error) → digit_fault s ≡ None → place_fault c in_front (length s) p ≡ o → outcome c line in_front s p ≡ unless o (token_at line (length s) p)
+outcome-clean c line in_front s p o e h = rw (e, h)
+
+pub outcome-fault : (c : Counts) (line : ℕ) (in_front : ℤ) (s : Segment) (p : Place) (fault : Error) → digit_fault s ≡ Some fault → outcome c line in_front s p ≡ Err fault
+outcome-fault c line in_front s p fault h = rw h
+
+-- ---- the tokens so far, and what is left
+
+-- these tokens in front of a reading
+abbrev pub onto_all : List TokenRecord → Result (List TokenRecord) Error → Result (List TokenRecord) Error
+onto_all front (Ok ts) = Ok (front ++ ts)
+onto_all front (Err e) = Err e
+
+onto_all-onto : (toks : List TokenRecord) (t : TokenRecord) (r : Result (List TokenRecord) Error) → onto_all toks (onto t r) ≡ onto_all (toks ++ t ∷ []) r
+onto_all-onto toks t (Ok ts) = ap Ok (sym (append_assoc toks (t ∷ []) ts))
+onto_all-onto toks t (Err e) = refl
+
+pub onto_all-token : (toks : List TokenRecord) (t : TokenRecord) (o : Result TokenRecord Error) (more : List (Result TokenRecord Error)) → o ≡ Ok t → onto_all toks (gathered (o ∷ more)) ≡ onto_all (toks ++ t ∷ []) (gathered more)
+onto_all-token toks t o more e = rw e (onto_all-onto toks t (gathered more))
+
+pub onto_all-fault : (toks : List TokenRecord) (e : Error) (o : Result TokenRecord Error) (more : List (Result TokenRecord Error)) → o ≡ Err e → onto_all toks (gathered (o ∷ more)) ≡ Err e
+onto_all-fault toks e o more h = rw h
+
+pub onto_all-none : (r : Result (List TokenRecord) Error) → onto_all [] r ≡ r
+onto_all-none (Ok ts) = refl
+onto_all-none (Err e) = refl
+
+pub front-byte : (text : List ℕ) (b : ℕ) → slice_get text 0 ≡ Some b → text ≡ b ∷ drop 1 text
+front-byte [] b e = cc
+front-byte (a ∷ text) b e = let k : a ≡ b = cc in rw k refl

@@ -1,0 +1,51 @@
+use Rattle.std.proofs.Common.{arith, ◌≡◌, drop, false, Some, Err, slice_get, ◌∙◌, sym, ap}
+use Rattle.std.proofs.lemmas.Result.{err_from_is_err_and}
+use Rattle.std.proofs.lemmas.List.{take_rest}
+use Rattle.std.proofs.lemmas.Bool.Decides.{nat_tests}
+use Rattle.oxc_sourcemap_mappings.specs.Faults.{counts_of}
+use Rattle.oxc_sourcemap_mappings.specs.Reading.{gathered}
+use Rattle.oxc_sourcemap_mappings.specs.Decoding.{place_of, ends_segment}
+use Rattle.oxc_sourcemap_mappings.proofs.Left.{onto_all, onto_all-none, onto_all-token, onto_all-fault, left_outcomes, left-too_large, left-segment, front-byte, front-filled, reading-is}
+use Rattle.oxc_sourcemap_mappings.proofs.decode.decode_mappings.Goals as goal
+
+pub loop-byte-init : goal.loop-byte-init
+loop-byte-init c =
+    rw (c.new-tokens.ensures.items, c.new-sums.ensures, c.as_bytes-rest.ensures.value)
+    (onto_all-none _ ∙ sym (reading-is c.args.text.now c.args.names c.args.sources))
+
+pub returns-in_err-line-in-59-clause-fault : goal.returns-in_err-line-in-59-clause-fault
+returns-in_err-line-in-59-clause-fault c =
+    let rest = c.loop-byte.rest.now in
+    let counts = counts_of c.args.names c.args.sources in
+    let p = err_from_is_err_and c.from_residual.result c.from_residual.ensures.1 in
+    let g : slice_get rest 0 ≡ Some 59 = sym c.in-Some.ensures.value ∙ ap Some c.in-59.is in
+    rw (p.1, p.2) (λ _. sym c.loop-byte.invariant
+    ∙ ap (λ text. onto_all c.loop-byte.tokens.items (gathered (left_outcomes counts c.loop-byte.line (place_of c.loop-byte.sums) text))) (front-byte rest 59 g)
+    ∙ ap (λ os. onto_all c.loop-byte.tokens.items (gathered os)) (left-too_large counts c.loop-byte.line (place_of c.loop-byte.sums) (drop 1 rest) c.in_err-line-in-59.ensures.last.1)
+    ∙ ap Err (sym c.in_err-line-in-59.ensures.last.0))
+
+pub returns-in_err-token-in_default-byte-clause-fault :
+    goal.returns-in_err-token-in_default-byte-clause-fault
+returns-in_err-token-in_default-byte-clause-fault c =
+    let rest = c.loop-byte.rest.now in
+    let place = place_of c.loop-byte.sums in
+    let counts = counts_of c.args.names c.args.sources in
+    let p = err_from_is_err_and c.from_residual-in_err-token-in_default-byte.result c.from_residual-in_err-token-in_default-byte.ensures.1 in
+    let g : slice_get rest 0 ≡ Some c.in-Some.byte.now = sym c.in-Some.ensures.value in
+    let m : ends_segment c.in-Some.byte.now ≡ false = grind (arith, nat_tests) in
+    rw (p.1, p.2) (λ _. sym c.loop-byte.invariant
+    ∙ ap (λ os. onto_all c.loop-byte.tokens.items (gathered os)) (left-segment counts c.loop-byte.line place rest (front-filled rest c.in-Some.byte.now g m))
+    ∙ onto_all-fault c.loop-byte.tokens.items _ _ _ c.in_err-token-in_default-byte.ensures.fault)
+
+pub loop-byte-preserved : goal.loop-byte-preserved
+loop-byte-preserved c =
+    let rest = c.loop-byte.rest.now in
+    let place = place_of c.loop-byte.sums in
+    let counts = counts_of c.args.names c.args.sources in
+    let read = c.in_ok-token-in_default-byte in
+    let g : slice_get rest 0 ≡ Some c.in-Some.byte.now = sym c.in-Some.ensures.value in
+    let m : ends_segment c.in-Some.byte.now ≡ false = grind (arith, nat_tests) in
+    rw (take_rest rest read.len, read.ensures.len, read.ensures.place, c.in_ok-push-in_default-byte.ensures.items)
+    (sym (ap (λ os. onto_all c.loop-byte.tokens.items (gathered os)) (left-segment counts c.loop-byte.line place rest (front-filled rest c.in-Some.byte.now g m))
+    ∙ onto_all-token c.loop-byte.tokens.items read.token _ _ read.ensures.token)
+    ∙ c.loop-byte.invariant)

@@ -1,0 +1,113 @@
+-- The one canonical text of a list of tokens (for its form, ECMA-426, "Mappings structure").
+use Rattle.std.specs.Prelude.{◌≡◌, ℕ, zero, suc, ◌+◌, ◌-◌, ◌*◌, ◌/◌, ◌%◌, ◌<◌, Bool, true, false, ◌&&◌, List, [], ◌∷◌, ◌++◌, map, replicate, Option, Some, None, if◌then◌else◌, nat_lt, ◌==◌}
+use Rattle.std.specs.List.{AllByRecursion}
+use Rattle.std.specs.Option.{option_map, option_map_or}
+use Rattle.oxc_sourcemap_mappings.specs.Token.{TokenRecord, is_mapped, mapped_name}
+use Rattle.oxc_sourcemap_mappings.specs.State.{State, initial, state_behind}
+
+-- the byte of a digit below 64 in the base64 alphabet
+unfoldable pub letter : ℕ → ℕ
+letter d =
+    if nat_lt d 26 then d + 65
+    else if nat_lt d 52 then d + 71
+    else if nat_lt d 62 then d - 4
+    else if d == 62 then 43
+    else 47
+
+-- The digits of a raw number in base 32, lowest first and without leading zeros; to a digit that another follows, 32 is
+-- added. The first argument bounds how many follow the first digit: the raw number itself always suffices.
+unfoldable pub digits : ℕ → ℕ → List ℕ
+digits zero raw = raw ∷ []
+digits (suc most) raw = elim (nat_lt raw 32) [ true ↦ raw ∷ [] | false ↦ (raw % 32 + 32) ∷ digits most (raw / 32) ]
+
+-- the text of a raw number
+unfoldable pub vlq_text : ℕ → List ℕ
+vlq_text raw = map letter (digits raw raw)
+
+-- the raw number of the delta a - b: twice its magnitude, and one more where it is negative
+abbrev pub raw_delta : ℕ → ℕ → ℕ
+raw_delta a b = if nat_lt a b then 2 * (b - a) + 1 else 2 * (a - b)
+
+-- the text of the delta a - b
+abbrev pub delta_text : ℕ → ℕ → List ℕ
+delta_text a b = vlq_text (raw_delta a b)
+
+-- What parts a token from the state in front of it: on another line as many `;` as lines lie between, and on the same
+-- line a `,`, which the first token of all goes without.
+unfoldable pub separator : Bool → State → TokenRecord → List ℕ
+separator is_first s t = if t.dst_line == s.dst_line then (if is_first then [] else 44 ∷ []) else replicate (t.dst_line - s.dst_line) 59
+
+-- the delta of the generated column, which starts from 0 on a new line
+abbrev pub column_text : State → TokenRecord → List ℕ
+column_text s t = delta_text t.dst_col (if t.dst_line == s.dst_line then s.dst_col else 0)
+
+-- the deltas of a mapped token's source id, source line and source column
+abbrev pub source_text : State → TokenRecord → List ℕ
+source_text s t =
+    option_map_or (λ id. delta_text id s.source_id ++ delta_text t.src_line s.src_line ++ delta_text t.src_col s.src_col) t.source_id []
+
+-- the delta of a mapped token's name id
+abbrev pub name_text : State → TokenRecord → List ℕ
+name_text s t = option_map_or (λ id. delta_text id s.name_id) (mapped_name t) []
+
+-- what a token adds to the text at a state
+unfoldable pub token_text : Bool → State → TokenRecord → List ℕ
+token_text is_first s t = separator is_first s t ++ column_text s t ++ source_text s t ++ name_text s t
+
+-- no token stands in front
+abbrev pub has_none_in_front : List TokenRecord → Bool
+has_none_in_front [] = true
+has_none_in_front (t ∷ ts) = false
+
+-- The text of some tokens. In front of them stand `in_front`, the nearest first, and in front of these the state `s`.
+-- At the start of the whole list, the first of all is written without a `,`.
+unfoldable pub text_behind : Bool → State → List TokenRecord → List TokenRecord → List ℕ
+text_behind at_start s in_front [] = []
+text_behind at_start s in_front (t ∷ ts) =
+    token_text (at_start && has_none_in_front in_front) (state_behind s in_front) t ++ text_behind at_start s (t ∷ in_front) ts
+
+-- the canonical text of a list in line order
+unfoldable pub canonical : List TokenRecord → List ℕ
+canonical tokens = text_behind true initial [] tokens
+
+-- a text with some ASCII bytes more
+abbrev pub Extends : List ℕ → List ℕ → Type 0
+Extends old new = (more : List ℕ) × (new ≡ old ++ more) × AllByRecursion (λ b. b < 128) more
+
+-- a token as far as it is written: of an unmapped one, the generated position alone
+abbrev pub bare_token : TokenRecord → TokenRecord
+bare_token t = if is_mapped t then t else record t { src_line = 0; src_col = 0; name_id = None }
+
+-- a list without what its text leaves out
+abbrev pub bare : List TokenRecord → List TokenRecord
+bare tokens = map bare_token tokens
+
+-- the index of the first token whose generated line goes back
+abbrev pub first_out_of_order : List TokenRecord → Option ℕ
+first_out_of_order [] = None
+first_out_of_order (t ∷ []) = None
+first_out_of_order (t ∷ u ∷ ts) =
+    if nat_lt u.dst_line t.dst_line then Some 1 else option_map (λ i. i + 1) (first_out_of_order (u ∷ ts))
+
+-- The same for tokens that stand behind a token on this line, the first of them at index i.
+abbrev pub back_from : ℕ → ℕ → List TokenRecord → Option ℕ
+back_from line i [] = None
+back_from line i (t ∷ ts) = if nat_lt t.dst_line line then Some i else back_from t.dst_line (i + 1) ts
+
+-- generated lines never go back
+abbrev pub IsInLineOrder : List TokenRecord → Type 0
+IsInLineOrder tokens = first_out_of_order tokens ≡ None
+
+-- A token as it comes back from its text: an unmapped one takes its source position from the state, and has no name.
+abbrev pub carried_token : State → TokenRecord → TokenRecord
+carried_token s t =
+    if is_mapped t then t else record t { src_line = s.src_line; src_col = s.src_col; name_id = None }
+
+-- tokens as they come back, behind these, the nearest first
+abbrev pub carried_behind : List TokenRecord → List TokenRecord → List TokenRecord
+carried_behind in_front [] = []
+carried_behind in_front (t ∷ ts) = carried_token (state_behind initial in_front) t ∷ carried_behind (t ∷ in_front) ts
+
+-- a list as it comes back from its text
+abbrev pub carried : List TokenRecord → List TokenRecord
+carried tokens = carried_behind [] tokens

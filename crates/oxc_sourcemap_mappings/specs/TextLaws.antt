@@ -1,0 +1,37 @@
+-- Laws of reading and writing.
+use Rattle.std.specs.Prelude.{◌≡◌, ℕ, ◌<◌, List, Ok, IfSome, ◌↔◌}
+use Rattle.std.specs.List.{AllByRecursion, flat_map}
+use Rattle.oxc_sourcemap_mappings.specs.declared.token.TokenChunk.{TokenChunk}
+use Rattle.oxc_sourcemap_mappings.specs.Token.{TokenRecord, AreInBounds, mapped_name}
+use Rattle.oxc_sourcemap_mappings.specs.Reading.{reading}
+use Rattle.oxc_sourcemap_mappings.specs.Canonical.{canonical, bare, carried, IsInLineOrder}
+use Rattle.oxc_sourcemap_mappings.specs.Chunks.{piece, ChunksFit}
+
+-- a list in line order and in bounds
+pub record IsOrderedInBounds (tokens : List TokenRecord) : Type 0 where
+  pub in_order : IsInLineOrder tokens
+  pub in_bounds : AreInBounds tokens
+
+-- the ids of a token that are written are below these counts
+pub record AreWrittenIdsBelow (names sources : ℕ) (t : TokenRecord) : Type 0 where
+  pub source_id : IfSome t.source_id (λ id. id < sources)
+  pub name_id : IfSome (mapped_name t) (λ id. id < names)
+
+-- Two lists have one text exactly where they are equal as far as texts tell.
+abbrev pub CanonicalUnique : Type 0
+CanonicalUnique = (a b : List TokenRecord) → IsOrderedInBounds a → IsOrderedInBounds b → (canonical a ≡ canonical b) ↔ (bare a ≡ bare b)
+
+-- A written text reads, with counts above its ids, without fault, and as far as texts tell as the list that was written:
+-- an unmapped token comes back with the source position that the sums have there.
+abbrev pub ReadsBack : Type 0
+ReadsBack = (names sources : ℕ) (tokens : List TokenRecord) → IsOrderedInBounds tokens → AllByRecursion (AreWrittenIdsBelow names sources) tokens
+    → (reading (canonical tokens) names sources ≡ Ok (carried tokens)) × (bare (carried tokens) ≡ bare tokens)
+
+-- What a text reads as is in line order and in bounds, and written and read again it is the same.
+abbrev pub ReadsAgain : Type 0
+ReadsAgain = (text : List ℕ) (names sources : ℕ) (tokens : List TokenRecord) → reading text names sources ≡ Ok tokens
+    → IsOrderedInBounds tokens × (reading (canonical tokens) names sources ≡ Ok tokens)
+
+-- Whatever chunks fit a list, their pieces in order are its text.
+abbrev pub InPieces : Type 0
+InPieces = (tokens : List TokenRecord) (chunks : List TokenChunk) → ChunksFit tokens chunks → flat_map (piece tokens) chunks ≡ canonical tokens

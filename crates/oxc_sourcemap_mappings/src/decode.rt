@@ -1,0 +1,341 @@
+//! Reading the `mappings` text.
+ghost use Rattle.std.specs.Box.{boxed_slice_items};
+ghost use Rattle.std.specs.Prelude.{◌≡◌, ◌≢◌, ℕ, ◌+◌, ◌*◌, ◌%◌, ◌^◌, ◌<◌, ◌≤◌, length, List, ◌∷◌, [], drop, ℤ, pos, nat_abs, ◌+ℤ◌, set, true, false, min, is_some, IfSome, IfNone, OnOk, IfOk, IfErr, Option, Some, None, Result, Ok, Err};
+ghost use Rattle.oxc_sourcemap_mappings.specs.declared.error.Error.TheVariants.{OutOfMemory, TooLarge};
+ghost use Rattle.oxc_sourcemap_mappings.specs.Number.{digit, payload, signed};
+ghost use Rattle.oxc_sourcemap_mappings.specs.Places.{place};
+ghost use Rattle.oxc_sourcemap_mappings.specs.Faults.{digit_fault, range_fault, is_id_below, low_bits, source_fault, place_fault, counts_of};
+ghost use Rattle.oxc_sourcemap_mappings.specs.Reading.{token_at, outcome, reading};
+ghost use Rattle.oxc_sourcemap_mappings.specs.Decoding.{ends_segment, front_digits, front_segment, is_over, AreFieldsOf, AreSmall, value, place_of, source_moved, moved, moved_by};
+
+use crate::error::{Error, Result};
+use crate::token::Token;
+use std::alloc::Global;
+use std::boxed::BoxedSlice;
+
+/// The fields of one segment.
+#[derive(Drop)]
+struct Fields {
+    /// The first five, 0 where there are fewer.
+    values: [i64; 5],
+    /// How many there are.
+    count: usize,
+    /// How many bytes spell them.
+    len: usize,
+}
+
+/// The sums of the fields read so far.
+#[derive(Drop)]
+struct Sums {
+    dst_col: u32,
+    source_id: u32,
+    src_line: u32,
+    src_col: u32,
+    name_id: u32,
+}
+
+#[tactic(auto, unfolding(crate::specs::Number::digit))]
+fn digit_of(byte: u8) -> u8
+    ensures value { result ≡ digit byte }
+    ensures below { result < 64 }
+{
+    match byte {
+        b'A'..=b'Z' => byte - b'A',
+        b'a'..=b'z' => byte - b'a' + 26,
+        b'0'..=b'9' => byte - b'0' + 52,
+        b'+' => 62,
+        _ => 63,
+    }
+}
+
+/// The digit at this place of a text, None at a `,`, a `;` and the end.
+fn digit_at(text: &[u8], at: usize) -> Option<u8>
+    ensures end { IfNone result (front_digits (drop at text.now) ≡ []) }
+    ensures digit { IfSome result (λ d. front_digits (drop at text.now) ≡ d ∷ front_digits (drop (at + 1) text.now)) }
+    ensures within { IfSome result (λ d. at < length text.now) }
+{
+    match *text.get(at)? {
+        b',' | b';' => None,
+        byte => Some(digit_of(byte)),
+    }
+}
+
+/// The number of a raw number: its half, negative where it is odd.
+fn signed_of(raw: u64) -> i64
+    requires { raw < 2 ^ 63 }
+    ensures value { result ≡ signed raw }
+    ensures small { nat_abs result < 2 ^ 62 }
+{
+    let magnitude = (raw / 2) as i64;
+    if raw % 2 == 1 { -magnitude } else { magnitude }
+}
+
+/// Whether a digit at this exponent, counted from 0, makes a run that does not fit.
+fn is_too_far(exponent: u32, digit: u8) -> bool
+    ensures { result ≡ is_over exponent digit }
+{
+    exponent > 12 || (exponent == 12 && digit % 32 > 7)
+}
+
+/// The raw number with one more digit, at this exponent.
+fn raised(raw: u64, exponent: u32, digit: u8) -> u64
+    requires exponent { is_over exponent digit ≡ false }
+    requires raw { raw < 32 ^ exponent }
+    ensures value { result ≡ raw + payload digit * 32 ^ exponent }
+    ensures below { result < 32 ^ (exponent + 1) }
+    ensures fits { result < 2 ^ 63 }
+{
+    raw + u64::from(digit % 32) * 32u64.pow(exponent)
+}
+
+/// Keeps a field, where it is one of the first five.
+fn keep(values: &mut [i64; 5], k: usize, number: i64)
+    ensures { values.new ≡ set values.old k number }
+{
+    if k < 5 {
+        values[k] = number;
+    }
+}
+
+/// The fields of the segment at the front of a text, digit by digit, or the fault of its digits.
+fn read_segment(text: &[u8]) -> Result<Fields>
+    ensures fields { IfOk result (λ fields. AreFieldsOf (front_segment text.now) fields) }
+    ensures len { IfOk result (λ fields. fields.len ≡ length (front_digits text.now)) }
+    ensures within { IfOk result (λ fields. fields.len ≤ length text.now) }
+    ensures small { IfOk result AreSmall }
+    ensures fault { IfErr result (λ e. digit_fault (front_segment text.now) ≡ Some e) }
+{
+    let mut values = [0i64; 5];
+    let mut count: usize = 0;
+    let mut len: usize = 0;
+    let mut raw: u64 = 0;
+    let mut exponent: u32 = 0;
+    while let Some(digit) = digit_at(text, len) {
+        if is_too_far(exponent, digit) {
+            return Err(Error::VlqOverflow);
+        }
+        let sum = raised(raw, exponent, digit);
+        if digit < 32 {
+            keep(&mut values, count, signed_of(sum));
+            count += 1;
+            raw = 0;
+            exponent = 0;
+        } else {
+            raw = sum;
+            exponent += 1;
+        }
+        len += 1;
+    }
+    if exponent > 0 {
+        return Err(Error::VlqLeftover);
+    }
+    Ok(Fields { values, count, len })
+}
+
+/// A line or column moved by a field, where it stays within 0 to 4294967295.
+fn moved_within(sum: u32, by: i64) -> Result<u32>
+    requires { nat_abs by < 2 ^ 62 }
+    ensures value { IfOk result (λ n. pos n ≡ pos sum +ℤ by) }
+    ensures clean { IfOk result (λ n. range_fault (pos sum +ℤ by) ≡ None) }
+    ensures fault { IfErr result (λ e. range_fault (pos sum +ℤ by) ≡ Some e) }
+{
+    let moved = i64::from(sum) + by;
+    if moved < 0 {
+        return Err(Error::BadSegmentSize(0));
+    }
+    if moved > 4294967295 {
+        return Err(Error::VlqOverflow);
+    }
+    Ok(moved as u32)
+}
+
+/// An id moved by a field, where it stays below the count.
+fn moved_below(id: u32, by: i64, count: usize) -> Option<u32>
+    requires { nat_abs by < 2 ^ 62 }
+    ensures value { IfSome result (λ n. pos n ≡ pos id +ℤ by) }
+    ensures below { is_some result ≡ is_id_below (pos id +ℤ by) (min count 4294967295) }
+    ensures small { IfSome result (λ n. n < 4294967295) }
+{
+    let moved = i64::from(id) + by;
+    if moved < 0 || moved >= 4294967295 || moved as usize >= count {
+        None
+    } else {
+        Some(moved as u32)
+    }
+}
+
+/// The low 32 bits of an id moved by a field.
+fn low_bits_of(id: u32, by: i64) -> u32
+    requires { nat_abs by < 2 ^ 62 }
+    ensures { result ≡ low_bits (pos id +ℤ by) }
+{
+    (i64::from(id) + by).rem_euclid(4294967296) as u32
+}
+
+impl Sums {
+    /// The sums in front of the first segment.
+    fn new() -> Self
+        ensures { place_of result ≡ place [] [] }
+    {
+        Self {
+            dst_col: 0,
+            source_id: 0,
+            src_line: 0,
+            src_col: 0,
+            name_id: 0,
+        }
+    }
+
+    /// Moves the source position. After an `Err` it stands somewhere.
+    fn move_source(&mut self, fields: &Fields, names: usize, sources: usize) -> Result<()>
+        requires small { AreSmall fields.now }
+        ensures place { OnOk result (place_of self.new ≡ source_moved (place_of self.old) (value fields.now)) }
+        ensures id { OnOk result (self.new.source_id < 4294967295) }
+        ensures clean { let place = source_moved (place_of self.old) (value fields.now) in
+            OnOk result (source_fault (counts_of names sources) (pos self.old.source_id) place ≡ None) }
+        ensures fault { let place = source_moved (place_of self.old) (value fields.now) in
+            IfErr result (λ e. source_fault (counts_of names sources) (pos self.old.source_id) place ≡ Some e) }
+    {
+        let Some(source_id) = moved_below(self.source_id, fields.values[1], sources) else {
+            return Err(Error::BadSourceReference(self.source_id));
+        };
+        self.src_line = moved_within(self.src_line, fields.values[2])?;
+        self.src_col = moved_within(self.src_col, fields.values[3])?;
+        self.source_id = source_id;
+        Ok(())
+    }
+
+    /// The token of a segment, and the sums moved by it. After an `Err` they stand somewhere.
+    #[tactic(auto, unfolding(crate::specs::Faults::place_fault))]
+    fn step(&mut self, line: u32, fields: &Fields, names: usize, sources: usize) -> Result<Token>
+        requires small { AreSmall fields.now }
+        ensures place { let place = moved (place_of self.old) fields.now.count (value fields.now) in
+            OnOk result (place_of self.new ≡ place) }
+        ensures token { IfOk result (λ t. t ≡ token_at line fields.now.count (place_of self.new)) }
+        ensures clean { let place = moved (place_of self.old) fields.now.count (value fields.now) in
+            let counts = counts_of names sources in
+            OnOk result (place_fault counts (pos self.old.source_id) fields.now.count place ≡ None) }
+        ensures fault { let place = moved (place_of self.old) fields.now.count (value fields.now) in
+            let counts = counts_of names sources in
+            IfErr result (λ e. place_fault counts (pos self.old.source_id) fields.now.count place ≡ Some e) }
+    {
+        self.dst_col = moved_within(self.dst_col, fields.values[0])?;
+        match fields.count {
+            1 => Ok(self.token(line, None, None)),
+            4 => {
+                self.move_source(fields, names, sources)?;
+                Ok(self.token(line, Some(self.source_id), None))
+            }
+            5 => {
+                self.move_source(fields, names, sources)?;
+                let by = fields.values[4];
+                let Some(name_id) = moved_below(self.name_id, by, names) else {
+                    return Err(Error::BadNameReference(low_bits_of(self.name_id, by)));
+                };
+                self.name_id = name_id;
+                Ok(self.token(line, Some(self.source_id), Some(name_id)))
+            }
+            n => Err(Error::BadSegmentSize(n.min(4294967295) as u32)),
+        }
+    }
+
+    /// The token of the segment at the front of a text and the number of its bytes, and the sums moved by it. After an
+    /// `Err` they stand somewhere.
+    fn read_token(
+        &mut self,
+        line: u32,
+        text: &[u8],
+        names: usize,
+        sources: usize,
+    ) -> Result<(Token, usize)>
+        ensures place { OnOk result (place_of self.new ≡ moved_by (place_of self.old) (front_segment text.now)) }
+        ensures token { let s = front_segment text.now in
+            let place = moved_by (place_of self.old) s in
+            IfOk result (λ read. outcome (counts_of names sources) line (pos self.old.source_id) s place ≡ Ok read.0) }
+        ensures len { IfOk result (λ read. read.1 ≡ length (front_digits text.now)) }
+        ensures within { IfOk result (λ read. read.1 ≤ length text.now) }
+        ensures fault { let s = front_segment text.now in
+            let place = moved_by (place_of self.old) s in
+            IfErr result (λ e. outcome (counts_of names sources) line (pos self.old.source_id) s place ≡ Err e) }
+    {
+        let fields = read_segment(text)?;
+        let token = self.step(line, &fields, names, sources)?;
+        Ok((token, fields.len))
+    }
+
+    fn token(&self, line: u32, source_id: Option<u32>, name_id: Option<u32>) -> Token
+        requires source { IfSome source_id (λ n. n < 4294967295) }
+        requires name { IfSome name_id (λ n. n < 4294967295) }
+        ensures { result ≡ record {
+          dst_line = line;
+          dst_col = self.now.dst_col;
+          src_line = self.now.src_line;
+          src_col = self.now.src_col;
+          source_id = source_id;
+          name_id = name_id;
+        } }
+    {
+        Token::new(
+            line,
+            self.dst_col,
+            self.src_line,
+            self.src_col,
+            source_id,
+            name_id,
+        )
+    }
+}
+
+/// The line behind this one.
+fn next_line(line: u32) -> Result<u32>
+    ensures line { IfOk result (λ next. next ≡ line + 1) }
+    ensures last { IfErr result (λ e. (e ≡ TooLarge) × (line ≡ 4294967295)) }
+{
+    line.checked_add(1).ok_or(Error::TooLarge)
+}
+
+/// Reads a `mappings` text into tokens, in text order (docs/FORMAT.md, "Reading"; ECMA-426, "Mappings structure").
+/// `names` and `sources` are the lengths of the lists that its ids refer to; more than 4294967295 are taken as
+/// 4294967295. Empty segments are passed over. One field makes an unmapped token, which carries the source line and
+/// column reached so far. A byte outside the base64 alphabet counts as the digit 63.
+///
+/// Answers `OutOfMemory` where memory is refused, else the fault that stands first in the text: of a segment, as below,
+/// or `TooLarge` at the `;` that begins line 4294967296. A segment is checked for, one after the other:
+/// - its numbers, up to the first bad one: `VlqOverflow` for a 14th digit or a 13th whose payload is above 7, else
+///   `VlqLeftover` where the last digit asks for another;
+/// - its generated column: `BadSegmentSize(0)` if negative, `VlqOverflow` above 4294967295;
+/// - its number of fields, n: `BadSegmentSize(n)` unless 1, 4 or 5, with 4294967295 for more than that;
+/// - its source id, in 4 or 5 fields: `BadSourceReference` if negative or not below `sources`, with the source id of the
+///   last segment in front that has one, 0 if none has;
+/// - its source line, then its source column: as the generated column;
+/// - its name id, in 5 fields: `BadNameReference` if negative or not below `names`, with the low 32 bits of it.
+pub fn decode_mappings(
+    alloc: Global,
+    text: &str,
+    names: usize,
+    sources: usize,
+) -> Result<BoxedSlice<Token>>
+    ensures tokens { IfOk result (λ tokens. reading text.now names sources ≡ Ok (boxed_slice_items tokens)) }
+    ensures fault { IfErr result (λ e. (e ≢ OutOfMemory) → reading text.now names sources ≡ Err e) }
+{
+    let mut tokens = Vec::new(alloc);
+    let mut sums = Sums::new();
+    let mut line = 0;
+    let mut rest = text.as_bytes();
+    while let Some(byte) = rest.first() {
+        match *byte {
+            b';' => {
+                line = next_line(line)?;
+                sums.dst_col = 0;
+                rest = &rest[1..];
+            }
+            b',' => rest = &rest[1..],
+            _ => {
+                let (token, len) = sums.read_token(line, rest, names, sources)?;
+                tokens.push(token)?;
+                rest = &rest[len..];
+            }
+        }
+    }
+    Ok(tokens.into_boxed_slice())
+}

@@ -1,0 +1,177 @@
+//! What is refused, and the text that says so.
+ghost use Rattle.std.specs.Prelude.{◌≡◌, Some, option_map};
+ghost use Rattle.oxc_sourcemap_mappings.specs.Messages.{key_of, json_fault_text, error_text};
+ghost use Rattle.oxc_sourcemap_mappings.specs.Refusals.{refusal_of_json};
+ghost use Rattle.oxc_sourcemap_mappings.specs.declared.error.Error.TheVariants.{OutOfMemory};
+
+use std::alloc::{AllocError, AllocFailed};
+use std::fmt;
+
+/// What a call of this library refuses. Lines, columns, ids and indices count from 0. (docs/FORMAT.md, "Refusals", has
+/// the texts that `Display` prints.)
+#[derive(Clone, Copy, Debug, PartialEq, Eq)]
+pub enum Error {
+    /// The last digit of a number in a mappings text asks for another, and none follows.
+    VlqLeftover,
+    /// A mappings segment without a number. Decoding leaves empty segments out, so it never answers this.
+    VlqNoValues,
+    /// A number in a mappings text has more than 13 digits, or a 13th whose payload is above 7. Or a generated column,
+    /// source line or source column passes 4294967295.
+    VlqOverflow,
+    /// No JSON value is read from the text, or the value is no source map.
+    BadJson(JsonFault),
+    /// A mappings segment has this many fields (4294967295 stands for more), and not 1, 4 or 5. With 0: a generated
+    /// column, source line or source column is below 0.
+    BadSegmentSize(u32),
+    /// A source id is out of range. In a mappings text this tells the source id of the last segment in front that has one,
+    /// 0 if none has; in an ignore list, the entry itself.
+    BadSourceReference(u32),
+    /// A name id is out of range. This tells its low 32 bits.
+    BadNameReference(u32),
+    /// Memory was refused.
+    OutOfMemory,
+    /// A line or a count is above 4294967295, or an id above 4294967294.
+    TooLarge,
+    /// The first token, by its index, whose generated line is smaller than that of the token in front.
+    LineOrder(usize),
+    /// The first chunk, by its index, that does not begin where its predecessor ended, ends before it starts or past the
+    /// tokens, or has a header other than the state there. The number of chunks where tokens are left over behind them.
+    BadChunks(usize),
+    /// A map with this many sources, more than one, cannot transform another map.
+    SeveralSources(usize),
+}
+
+/// Why a text or a JSON value is not a source map of version 3.
+#[derive(Clone, Copy, Debug, PartialEq, Eq)]
+pub enum JsonFault {
+    /// `serde_json` reads no value from the text.
+    Reading,
+    /// The value is not an object, or this field of it is missing or has the wrong type.
+    Shape(Field),
+    /// The version is this number, and not 3.
+    Version(u32),
+}
+
+/// What of a JSON value is missing or has the wrong type: the value itself, or one of its fields.
+#[derive(Clone, Copy, Debug, PartialEq, Eq)]
+pub enum Field {
+    /// The value itself, which is not an object.
+    Object,
+    Version,
+    File,
+    Mappings,
+    SourceRoot,
+    Sources,
+    SourcesContent,
+    Names,
+    DebugId,
+    IgnoreList,
+    /// `x_google_ignoreList`, which stands in for an `ignoreList` that is missing or null.
+    GoogleIgnoreList,
+}
+
+/// The result of a call that may be refused.
+pub type Result<T> = std::result::Result<T, Error>;
+
+impl Field {
+    /// The key of the field in the JSON object, and None for the object itself.
+    fn key(self) -> Option<&'static str>
+        ensures { option_map (λ key. key.now) result ≡ key_of self }
+    {
+        match self {
+            Field::Object => None,
+            Field::Version => Some("version"),
+            Field::File => Some("file"),
+            Field::Mappings => Some("mappings"),
+            Field::SourceRoot => Some("sourceRoot"),
+            Field::Sources => Some("sources"),
+            Field::SourcesContent => Some("sourcesContent"),
+            Field::Names => Some("names"),
+            Field::DebugId => Some("debugId"),
+            Field::IgnoreList => Some("ignoreList"),
+            Field::GoogleIgnoreList => Some("x_google_ignoreList"),
+        }
+    }
+}
+
+impl fmt::Display for JsonFault {
+    ghost output = { λ fault. Some (json_fault_text fault) };
+
+    fn fmt<W: fmt::Write>(&self, f: &mut fmt::Formatter<W>) -> fmt::Result {
+        match self {
+            JsonFault::Reading => write!(f, "the text is not JSON"),
+            JsonFault::Shape(field) => match field.key() {
+                None => write!(f, "the value is not an object"),
+                Some(key) => write!(f, "field {key} is missing or has the wrong type"),
+            },
+            JsonFault::Version(version) => {
+                write!(f, "unsupported source map version: {version}")
+            }
+        }
+    }
+}
+
+impl fmt::Display for Error {
+    ghost output = { λ error. Some (error_text error) };
+
+    fn fmt<W: fmt::Write>(&self, f: &mut fmt::Formatter<W>) -> fmt::Result {
+        match self {
+            Error::VlqLeftover => write!(f, "VLQ string was malformed and data was left over"),
+            Error::VlqNoValues => write!(f, "VLQ string was empty and no values could be decoded"),
+            Error::VlqOverflow => write!(f, "The input encoded a number that didn't fit into i64"),
+            Error::BadJson(fault) => write!(f, "JSON parsing error: {fault}"),
+            Error::BadSegmentSize(size) => {
+                write!(f, "Mapping segment had an unsupported size of {size}")
+            }
+            Error::BadSourceReference(id) => {
+                write!(f, "Reference to non-existing source at position {id}")
+            }
+            Error::BadNameReference(id) => {
+                write!(f, "Reference to non-existing name at position {id}")
+            }
+            Error::OutOfMemory => write!(f, "Out of memory"),
+            Error::TooLarge => write!(f, "A line, an id or a count is too large"),
+            Error::LineOrder(i) => {
+                write!(
+                    f,
+                    "Token {i} lies on a line before the token in front of it"
+                )
+            }
+            Error::BadChunks(k) => write!(f, "Token chunk {k} does not fit the tokens"),
+            Error::SeveralSources(n) => {
+                write!(f, "Cannot compose a transformation map with {n} sources")
+            }
+        }
+    }
+}
+
+impl std::error::Error for Error {}
+
+impl From<serde_json::Error> for Error {
+    ghost from_gives = { refusal_of_json };
+
+    /// Want of memory is `OutOfMemory`, and every other cause `BadJson(Reading)`.
+    fn from(cause: serde_json::Error) -> Error {
+        if cause.is_memory() {
+            Error::OutOfMemory
+        } else {
+            Error::BadJson(JsonFault::Reading)
+        }
+    }
+}
+
+impl From<AllocError> for Error {
+    ghost from_gives = { λ _ e. e ≡ OutOfMemory };
+
+    fn from(_: AllocError) -> Error {
+        Error::OutOfMemory
+    }
+}
+
+impl<T: Drop> From<AllocFailed<T>> for Error {
+    ghost from_gives = { λ _ e. e ≡ OutOfMemory };
+
+    fn from(_: AllocFailed<T>) -> Error {
+        Error::OutOfMemory
+    }
+}

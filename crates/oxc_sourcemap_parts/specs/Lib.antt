@@ -1,0 +1,6 @@
+pub mod Record
+pub mod Views
+pub mod Sorted
+pub mod Sound
+pub mod Sheet
+pub mod Texts

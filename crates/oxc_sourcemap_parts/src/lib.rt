@@ -1,0 +1,18 @@
+//! The parts of a map: its nine fields, borrowed or owned, with what they mean; the iterators over them; and whether they
+//! are sorted and sound.
+//!
+//! `SourceMap` is made of these parts. The crates that read, write and compose maps speak of parts, since they stand below
+//! it. Users name the crate `oxc_sourcemap`, which hands on what is meant for them: `SourceMapParts` and the iterators.
+#![tactic(auto)]
+
+mod iterators;
+mod parts;
+mod soundness;
+mod texts;
+
+pub use iterators::{
+    Contents, Names, Sources, Tokens, contents_in, names_in, sources_in, tokens_in,
+};
+pub use parts::{SourceMapParts, owned_parts};
+pub use soundness::{are_sorted, are_sound};
+pub use texts::{detached_text, stored_contents, stored_texts};

@@ -1,0 +1,104 @@
+//! Whether tokens are sorted, and whether a map is sound.
+ghost use Rattle.std.specs.Prelude.{◌≡◌, ◌↔◌, ◌<◌, ℕ, IsTrue, IfSome};
+ghost use Rattle.std.specs.List.{AllByRecursion};
+ghost use Rattle.oxc_sourcemap_mappings.specs.Canonical.{IsInLineOrder};
+ghost use Rattle.oxc_sourcemap_mappings.specs.Chunks.{ChunksFit};
+ghost use Rattle.oxc_sourcemap_parts.specs.Views.{chunks_of, ids_of, record_of_parts};
+ghost use Rattle.oxc_sourcemap_parts.specs.Sorted.{are_tokens_sorted, may_precede, token_line, token_column};
+ghost use Rattle.oxc_sourcemap_parts.specs.Sound.{IsInRange, IsSound};
+
+use crate::parts::SourceMapParts;
+use oxc_sourcemap_mappings::{Token, TokenChunk, chunk_fault};
+
+/// Whether a token may stand in front of another in a sorted list.
+fn precedes(first: &Token, second: &Token) -> bool
+    ensures { result ≡ may_precede token_line token_column first.now second.now }
+{
+    first.get_dst_line() < second.get_dst_line()
+        || (first.get_dst_line() == second.get_dst_line()
+            && first.get_dst_col() <= second.get_dst_col())
+}
+
+/// Whether tokens are sorted by generated line, then by generated column. Equal positions may follow one another.
+pub fn are_sorted(tokens: &[Token]) -> bool
+    ensures sorted { result ≡ are_tokens_sorted tokens.now }
+    ensures in_line_order { IsTrue result → IsInLineOrder tokens.now }
+{
+    for i in 1..tokens.len() {
+        if !precedes(&tokens[i - 1], &tokens[i]) {
+            return false;
+        }
+    }
+    true
+}
+
+/// Whether the ids of a token, where it has them, are below these counts.
+fn is_in_range(token: &Token, names: usize, sources: usize) -> bool
+    ensures { IsTrue result ↔ IsInRange names sources token.now }
+{
+    let is_source_there = match token.get_source_id() {
+        Some(id) => (id as usize) < sources,
+        None => true,
+    };
+    let is_name_there = match token.get_name_id() {
+        Some(id) => (id as usize) < names,
+        None => true,
+    };
+    is_source_there && is_name_there
+}
+
+/// Whether this holds of all tokens.
+fn are_in_range(tokens: &[Token], names: usize, sources: usize) -> bool
+    ensures { IsTrue result ↔ AllByRecursion (IsInRange names sources) tokens.now }
+{
+    for token in tokens {
+        if !is_in_range(token, names, sources) {
+            return false;
+        }
+    }
+    true
+}
+
+/// Whether each id of a list is below a count.
+fn are_below(ids: &[u32], count: usize) -> bool
+    ensures { IsTrue result ↔ AllByRecursion (λ id. id < count) ids.now }
+{
+    for id in ids {
+        if *id as usize >= count {
+            return false;
+        }
+    }
+    true
+}
+
+/// Whether this holds of a list that may be there.
+fn is_list_below(list: &Option<Vec<u32>>, count: usize) -> bool
+    ensures { IsTrue result ↔ IfSome (ids_of list.now) (AllByRecursion (λ id. id < count)) }
+{
+    match list {
+        Some(ids) => are_below(ids.as_slice(), count),
+        None => true,
+    }
+}
+
+/// Whether chunks that may be there fit the tokens.
+fn do_chunks_fit(tokens: &[Token], chunks: &Option<Vec<TokenChunk>>) -> bool
+    ensures { IsTrue result ↔ IfSome (chunks_of chunks.now) (ChunksFit tokens.now) }
+{
+    match chunks {
+        Some(chunks) => chunk_fault(tokens, chunks.as_slice()).is_none(),
+        None => true,
+    }
+}
+
+/// Whether the map of these parts is sound: its tokens are sorted, its ids and its ignore list refer to what is there, and
+/// its chunks are absent or fit.
+pub fn are_sound(parts: &SourceMapParts<'_>) -> bool
+    ensures { IsTrue result ↔ IsSound (record_of_parts parts.now) }
+{
+    let tokens = parts.tokens.as_slice();
+    are_sorted(tokens)
+        && are_in_range(tokens, parts.names.len(), parts.sources.len())
+        && is_list_below(&parts.ignore_list, parts.sources.len())
+        && do_chunks_fit(tokens, &parts.token_chunks)
+}

@@ -1,0 +1,85 @@
+-- Worked examples of what plans mean, and of their words and texts, computed by the definitions themselves.
+use Rattle.std.specs.Prelude.{◌≡◌, refl, ℕ, true, false, List, [], ◌∷◌, codes, Option, Some, None, Ok, Err}
+use Rattle.oxc_sourcemap_mappings.specs.declared.error.Error.TheVariants.{BadJson, SeveralSources}
+use Rattle.oxc_sourcemap_mappings.specs.declared.error.JsonFault.TheVariants.{Reading}
+use Rattle.oxc_sourcemap_mappings.specs.Token.{TokenRecord}
+use Rattle.oxc_sourcemap_parts.specs.Record.{Text, MapRecord}
+use Rattle.oxc_sourcemap_parts.specs.Views.{empty_record}
+use Rattle.oxc_sourcemap_parts.specs.Sheet.{Entry}
+use Rattle.oxc_sourcemap_plan.specs.declared.plan.PlanError.TheVariants.{Map, Unsorted}
+use Rattle.oxc_sourcemap_plan.specs.Meaning.{Meaning}
+use Rattle.oxc_sourcemap_plan.specs.Outcome.{Outcome, read_outcome, rewrite_outcome, join_outcome, composition_outcome}
+
+-- generated line and column, source line and column, source id, name id
+abbrev token : ℕ → ℕ → ℕ → ℕ → Option ℕ → Option ℕ → TokenRecord
+token dst_line dst_col src_line src_col source_id name_id =
+    record { dst_line = dst_line; dst_col = dst_col; src_line = src_line; src_col = src_col; source_id = source_id; name_id = name_id }
+
+-- a map of these names, sources and tokens
+abbrev plain : List Text → List Text → List TokenRecord → MapRecord
+plain names sources tokens = record empty_record { names = names; sources = sources; tokens = tokens }
+
+-- what a text that says this map comes to
+abbrev of_map : MapRecord → Outcome
+of_map r = read_outcome (Ok r)
+
+-- an entry at a position, which points to this one of a source
+abbrev points : ℕ → ℕ → Text → ℕ → ℕ → Option Text → Entry
+points line col path src_line src_col name =
+    record { dst_line = line; dst_col = col; origin = Some (record { source = record { path = path; content = None }; src_line = src_line; src_col = src_col; name = name }) }
+
+abbrev unmapped : ℕ → ℕ → Entry
+unmapped line col = record { dst_line = line; dst_col = col; origin = None }
+
+-- the entries of a meaning
+abbrev entries_of : Meaning → List Entry
+entries_of (Ok s) = s.entries
+entries_of (Err e) = []
+
+-- AAKG,I with a.js, and AAOC with b.js
+abbrev first_map : MapRecord
+first_map = plain [] (codes "a.js" ∷ []) (token 0 0 5 3 (Some 0) None ∷ token 0 4 5 3 None None ∷ [])
+
+abbrev second_map : MapRecord
+second_map = plain [] (codes "b.js" ∷ []) (token 0 0 7 1 (Some 0) None ∷ [])
+
+-- join 2 @0 0 @1 1
+joins-two : entries_of (join_outcome ((of_map first_map, 0) ∷ (of_map second_map, 1) ∷ [])).meaning
+    ≡ points 0 0 (codes "a.js") 5 3 None ∷ unmapped 0 4 ∷ points 1 0 (codes "b.js") 7 1 None ∷ []
+joins-two = refl
+
+-- join 2 @0 0 join 1 @1 1 0
+joins-grouped : (join_outcome ((of_map first_map, 0) ∷ (join_outcome ((of_map second_map, 1) ∷ []), 0) ∷ [])).meaning
+    ≡ (join_outcome ((of_map first_map, 0) ∷ (of_map second_map, 1) ∷ [])).meaning
+joins-grouped = refl
+
+-- rewrite join 2 @0 0 @1 1
+rewrites-a-join : (rewrite_outcome (join_outcome ((of_map first_map, 0) ∷ (of_map second_map, 1) ∷ []))).meaning
+    ≡ (join_outcome ((of_map first_map, 0) ∷ (of_map second_map, 1) ∷ [])).meaning
+rewrites-a-join = refl
+
+-- the second map at a line in front of the first
+joins-unsorted : (join_outcome ((of_map first_map, 1) ∷ (of_map second_map, 0) ∷ [])).meaning ≡ Err Unsorted
+joins-unsorted = refl
+
+-- a map on line 1 at the last line, and a text that is no JSON: the text's fault, and nothing is counted
+bad-part-first : (join_outcome ((of_map (plain [] [] (token 1 0 0 0 None None ∷ [])), 4294967295) ∷ (read_outcome (Err (BadJson Reading)), 0) ∷ [])).meaning ≡ Err (Map (BadJson Reading))
+bad-part-first = refl
+
+bad-part-counts-nothing : (join_outcome ((of_map (plain [] [] (token 1 0 0 0 None None ∷ [])), 4294967295) ∷ (read_outcome (Err (BadJson Reading)), 0) ∷ [])).is_roomy ≡ true
+bad-part-counts-nothing = refl
+
+-- without that text there is no room
+no-room : (join_outcome ((of_map (plain [] [] (token 1 0 0 0 None None ∷ [])), 4294967295) ∷ [])).is_roomy ≡ false
+no-room = refl
+
+-- compose @0 @1
+composes : entries_of (composition_outcome
+    (of_map (plain (codes "x" ∷ []) (codes "m.js" ∷ []) (token 0 0 0 0 (Some 0) (Some 0) ∷ token 0 3 0 9 (Some 0) (Some 0) ∷ [])))
+    (of_map (plain (codes "y" ∷ []) (codes "o.ts" ∷ []) (token 0 0 4 4 (Some 0) (Some 0) ∷ token 0 8 5 5 (Some 0) None ∷ [])))).meaning
+    ≡ points 0 0 (codes "o.ts") 4 4 (Some (codes "y")) ∷ points 0 3 (codes "o.ts") 5 5 (Some (codes "x")) ∷ []
+composes = refl
+
+-- compose @0 @0, with two sources
+several : (composition_outcome (of_map (plain [] (codes "a" ∷ codes "b" ∷ []) [])) (of_map (plain [] (codes "a" ∷ codes "b" ∷ []) []))).meaning ≡ Err (Map (SeveralSources 2))
+several = refl

@@ -1,0 +1,105 @@
+-- What is said of a plan, by cases on it: what it means, the names of the texts read for it, and whether it is roomy.
+use Rattle.std.specs.Prelude.{ℕ, Bool, true, false, ◌&&◌, List, [], ◌++◌, map, Result, Ok, Err, if◌then◌else◌, nat_le}
+use Rattle.std.specs.List.{flat_map, list_all}
+use Rattle.oxc_sourcemap_mappings.specs.declared.error.Error.{Error}
+use Rattle.oxc_sourcemap_parts.specs.Record.{Text, MapRecord}
+use Rattle.oxc_sourcemap_json.specs.ReadMap.{read_map}
+use Rattle.oxc_sourcemap_plan.specs.declared.plan.Plan.{Plan}
+use Rattle.oxc_sourcemap_plan.specs.declared.plan.Plan.TheOpen.{Plan-F}
+use Rattle.oxc_sourcemap_plan.specs.declared.plan.Plan.TheFolds.{fold-Plan}
+use Rattle.oxc_sourcemap_plan.specs.declared.plan.PlanError.TheVariants.{TooDeep}
+use Rattle.oxc_sourcemap_plan.specs.Depth.{depth}
+use Rattle.oxc_sourcemap_plan.specs.Meaning.{Meaning, read_meaning, all_sheets, join_meaning, composition_meaning}
+use Rattle.oxc_sourcemap_plan.specs.Room.{is_fitting, is_join_fitting}
+
+pub record Outcome : Type 0 where
+  -- a sheet or the first refusal
+  pub meaning : Meaning
+  -- the names of all texts that are read
+  pub names : List Text
+  -- at every part counts and lines are within the limits
+  pub is_roomy : Bool
+  -- the last thing done is to write and read again
+  pub is_rewritten : Bool
+
+-- the names of a text that is read
+abbrev pub names_of_read : Result MapRecord Error → List Text
+names_of_read (Err fault) = []
+names_of_read (Ok r) = r.names
+
+abbrev pub read_outcome : Result MapRecord Error → Outcome
+read_outcome read = record {
+  meaning = read_meaning read;
+  names = names_of_read read;
+  is_roomy = is_fitting (names_of_read read) (read_meaning read);
+  is_rewritten = false;
+}
+
+-- a rewriting is as its part
+abbrev pub rewrite_outcome : Outcome → Outcome
+rewrite_outcome part = record part { is_rewritten = true }
+
+-- what the parts of a join mean, each at its offset
+abbrev pub meanings : List (Outcome × ℕ) → List (Meaning × ℕ)
+meanings parts = map (λ p. (p.0.meaning, p.1)) parts
+
+-- the names of all parts of a join, in order
+abbrev pub names_of_all : List (Outcome × ℕ) → List Text
+names_of_all parts = flat_map (λ p. p.0.names) parts
+
+-- all parts of a join are roomy
+abbrev pub are_all_roomy : List (Outcome × ℕ) → Bool
+are_all_roomy parts = list_all (λ p. p.0.is_roomy) parts
+
+abbrev pub join_outcome : List (Outcome × ℕ) → Outcome
+join_outcome parts = record {
+  meaning = join_meaning (all_sheets (meanings parts));
+  names = names_of_all parts;
+  is_roomy = are_all_roomy parts && is_join_fitting (names_of_all parts) (all_sheets (meanings parts));
+  is_rewritten = false;
+}
+
+abbrev pub composition_outcome : Outcome → Outcome → Outcome
+composition_outcome first second = record {
+  meaning = composition_meaning first.meaning second.meaning;
+  names = first.names ++ second.names;
+  is_roomy = (first.is_roomy && second.is_roomy) && is_fitting (first.names ++ second.names) (composition_meaning first.meaning second.meaning);
+  is_rewritten = false;
+}
+
+-- the cases of a plan, by the outcomes of its parts
+abbrev pub outcome_step : Plan-F Outcome → Outcome
+outcome_step (Plan-F.Read text) = read_outcome (read_map text.now)
+outcome_step (Plan-F.Rewrite part) = rewrite_outcome part.value
+outcome_step (Plan-F.Join parts) = join_outcome parts.items
+outcome_step (Plan-F.Compose first second) = composition_outcome first.value second.value
+
+-- the outcome of a plan of any depth
+abbrev pub outcome_of : Plan → Outcome
+outcome_of = fold-Plan Outcome outcome_step
+
+-- what is refused before anything is read
+abbrev pub too_deep : Outcome
+too_deep = record { meaning = Err TooDeep; names = []; is_roomy = true; is_rewritten = false }
+
+-- the outcome of a plan, which is at most 64 deep
+abbrev pub outcome : Plan → Outcome
+outcome plan = if nat_le (depth plan) 64 then outcome_of plan else too_deep
+
+-- What a plan means: a sheet, or the first refusal.
+abbrev pub meaning : Plan → Meaning
+meaning plan = (outcome plan).meaning
+
+-- the names of all texts that are read for a plan
+abbrev pub names_read : Plan → List Text
+names_read plan = (outcome plan).names
+
+-- Whether at every part of a plan names, sources and entries number at most 4294967295, and no line of a join is above
+-- that. A join counts what all its parts have; a composition the names of both, the sources of the second and the entries
+-- of the first. A part that is refused counts nothing; but a join of parts that are not counts also where it is not sorted.
+abbrev pub is_roomy : Plan → Bool
+is_roomy plan = (outcome plan).is_roomy
+
+-- whether the last thing that a plan does is to write and read again
+abbrev pub is_rewriting : Plan → Bool
+is_rewriting plan = (outcome plan).is_rewritten

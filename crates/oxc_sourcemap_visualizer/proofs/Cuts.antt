@@ -1,0 +1,62 @@
+-- Lines, cut one behind the other.
+use Rattle.std.proofs.Common.{◌≡◌, ℕ, ◌+◌, ◌<◌, ◌≤◌, true, false, List, [], ◌∷◌, ◌++◌, length, take, drop, get_or, map, option_map, Option, Some, None, Vec, Global, refl, sym, ap, ◌∙◌, add-one, if◌then◌else◌}
+use Rattle.std.proofs.Math.Seq.{drop-cons}
+use Rattle.std.proofs.lemmas.List.{take_more, drop_all, take_all}
+use Rattle.std.proofs.lemmas.List.{append-nil}
+use mathlib.Core.List.{append_assoc}
+use Rattle.oxc_sourcemap_parts.specs.Record.{Text}
+use Rattle.oxc_sourcemap_visualizer.specs.TextLines.{units_of, ends_line, onto_first, lines_of, text_lines}
+
+-- units in front of the first of some lines
+abbrev pub before_first : List ℕ → List (List ℕ) → List (List ℕ)
+before_first units [] = units ∷ []
+before_first units (line ∷ lines) = (units ++ line) ∷ lines
+
+before-none-onto : (unit : ℕ) (lines : List (List ℕ)) → before_first [] (onto_first unit lines) ≡ onto_first unit lines
+before-none-onto unit [] = refl
+before-none-onto unit (line ∷ lines) = refl
+
+pub before-none : (units : List ℕ) → before_first [] (lines_of units) ≡ lines_of units
+unfolding lines_of
+before-none [] = refl
+before-none (unit ∷ units) = elim (ends_line unit units) as (λ b. before_first [] (if b then (unit ∷ []) ∷ lines_of units else onto_first unit (lines_of units)) ≡ (if b then (unit ∷ []) ∷ lines_of units else onto_first unit (lines_of units))) [ true ↦ refl | false ↦ before-none-onto unit (lines_of units) ]
+
+before-onto : (front : List ℕ) (unit : ℕ) (lines : List (List ℕ)) → before_first front (onto_first unit lines) ≡ before_first (front ++ unit ∷ []) lines
+before-onto front unit [] = refl
+before-onto front unit (line ∷ lines) = ap (λ l. l ∷ lines) (sym (append_assoc front (unit ∷ []) line))
+
+pub lines-end : (unit : ℕ) (behind : List ℕ) → ends_line unit behind ≡ true → lines_of (unit ∷ behind) ≡ (unit ∷ []) ∷ lines_of behind
+unfolding lines_of
+lines-end unit behind e = rw e
+
+pub lines-no_end : (unit : ℕ) (behind : List ℕ) → ends_line unit behind ≡ false → lines_of (unit ∷ behind) ≡ onto_first unit (lines_of behind)
+unfolding lines_of
+lines-no_end unit behind e = rw e
+
+-- what is left from place i on begins with the unit there
+opened : (units : List ℕ) (i : ℕ) → i < length units → drop i units ≡ get_or units i 0 ∷ drop (i + 1) units
+opened units i h = rw (add-one, drop-cons units i 0 h)
+
+-- what is known in front of place i: the line so far, in front of the first line of what is left
+pub cut-further : (units : List ℕ) (i : ℕ) → i < length units → ends_line (get_or units i 0) (drop (i + 1) units) ≡ false
+    → before_first (take i units) (lines_of (drop i units)) ≡ before_first (take (i + 1) units) (lines_of (drop (i + 1) units))
+cut-further units i h e =
+    rw (opened units i h, take_more units i 0 h, lines-no_end (get_or units i 0) (drop (i + 1) units) e) (before-onto (take i units) (get_or units i 0) (lines_of (drop (i + 1) units)))
+
+pub cut-here : (units : List ℕ) (i : ℕ) → i < length units → ends_line (get_or units i 0) (drop (i + 1) units) ≡ true
+    → before_first (take i units) (lines_of (drop i units)) ≡ take (i + 1) units ∷ lines_of (drop (i + 1) units)
+cut-here units i h e = rw (opened units i h, take_more units i 0 h, lines-end (get_or units i 0) (drop (i + 1) units) e)
+
+pub cut-nowhere : (units : List ℕ) (i : ℕ) → length units ≤ i → before_first (take i units) (lines_of (drop i units)) ≡ units ∷ []
+unfolding lines_of
+cut-nowhere units i h = rw (drop_all i units h, take_all i units h, append-nil units)
+
+known-twice : {A B C : Type 0} (f : A → B) (g : B → C) (xs : List (Option A)) → map (option_map g) (map (option_map f) xs) ≡ map (option_map (λ x. g (f x))) xs
+known-twice f g [] = refl
+known-twice f g (None ∷ xs) = ap (λ ys. None ∷ ys) (known-twice f g xs)
+known-twice f g (Some x ∷ xs) = ap (λ ys. Some (g (f x)) ∷ ys) (known-twice f g xs)
+
+-- contents whose units were taken first, and then cut into lines
+pub cut-known : (units : List (Option (Vec ℕ Global))) (contents : List (Option Text)) → map (option_map (λ v. v.items)) units ≡ map (option_map units_of) contents
+    → map (option_map (λ v. lines_of v.items)) units ≡ map (option_map text_lines) contents
+cut-known units contents e = sym (known-twice (λ v. v.items) lines_of units) ∙ ap (map (option_map lines_of)) e ∙ known-twice units_of lines_of contents

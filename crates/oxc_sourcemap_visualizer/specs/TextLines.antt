@@ -1,0 +1,37 @@
+-- The lines of a text, in UTF-16 units (docs/FORMAT.md, "The visual text").
+use Rattle.std.specs.Prelude.{ℕ, Bool, false, not, ◌&&◌, ◌||◌, List, [], ◌∷◌, flat_map, slice_get, if◌then◌else◌, ◌==◌}
+use Rattle.std.specs.Option.{unwrap_or}
+use Rattle.std.specs.Str.{chars}
+use Rattle.std.specs.Char.Escape.{encode_utf16}
+use Rattle.oxc_sourcemap_parts.specs.Record.{Text}
+
+-- the UTF-16 units of a text, in which columns are counted
+abbrev pub units_of : Text → List ℕ
+units_of text = flat_map encode_utf16 (chars text)
+
+-- a line feed comes first
+abbrev pub begins_with_line_feed : List ℕ → Bool
+begins_with_line_feed [] = false
+begins_with_line_feed (unit ∷ units) = unit == 10
+
+-- A line ends behind a line feed, U+2028 and U+2029, and behind a carriage return that no line feed follows.
+abbrev pub ends_line : ℕ → List ℕ → Bool
+ends_line unit behind = unit == 10 || unit == 0x2028 || unit == 0x2029 || (unit == 13 && not (begins_with_line_feed behind))
+
+-- a unit in front of the first of some lines
+abbrev pub onto_first : ℕ → List (List ℕ) → List (List ℕ)
+onto_first unit [] = (unit ∷ []) ∷ []
+onto_first unit (line ∷ lines) = (unit ∷ line) ∷ lines
+
+-- the lines of these units, cut behind each line end; behind the last cut stands one more line, which may be empty
+unfoldable pub lines_of : List ℕ → List (List ℕ)
+lines_of [] = [] ∷ []
+lines_of (unit ∷ behind) = if ends_line unit behind then (unit ∷ []) ∷ lines_of behind else onto_first unit (lines_of behind)
+
+-- the lines of a text
+abbrev pub text_lines : Text → List (List ℕ)
+text_lines text = lines_of (units_of text)
+
+-- the line of this number, from 0; one that is not there is empty
+abbrev pub line_at : List (List ℕ) → ℕ → List ℕ
+line_at lines n = unwrap_or (slice_get lines n) []

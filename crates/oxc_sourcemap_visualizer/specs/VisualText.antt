@@ -1,0 +1,115 @@
+-- The visual text of a code and its map (docs/FORMAT.md, "The visual text").
+use Rattle.std.specs.Prelude.{ℕ, Bool, false, not, ◌&&◌, List, [], ◌∷◌, ◌++◌, codes, decimal, length, take, drop, filter, min, max, Option, Some, None, if◌then◌else◌, nat_lt, ◌==◌}
+use Rattle.std.specs.Fmt.{◌++?◌, debug_str}
+use Rattle.std.specs.List.{find, take_while}
+use Rattle.std.specs.Option.{option_map, option_map_or, option_and_then, option_or}
+use Rattle.std.specs.Str.{bytes_eq, chars, encode_utf8_all}
+use Rattle.std.specs.Char.Utf16.{utf16_lossy_chars}
+use Rattle.oxc_sourcemap_mappings.specs.Token.{TokenRecord}
+use Rattle.oxc_sourcemap_parts.specs.Record.{Text, MapRecord}
+use Rattle.oxc_sourcemap_map.specs.View.{source_and_content_at}
+use Rattle.oxc_sourcemap_visualizer.specs.TextLines.{line_at, text_lines}
+
+-- what a visualizer shows: a generated code and its map
+pub record CodeAndMap : Type 0 where
+  pub code : Text
+  pub map : MapRecord
+
+-- a position lies in front of the end of its line; a line that is not there has no columns
+abbrev pub is_within : List (List ℕ) → ℕ → ℕ → Bool
+is_within lines line col = nat_lt col (length (line_at lines line))
+
+-- The generated column at which a token's part ends: that of the next token, where it is on the line, else the line's length.
+abbrev pub dst_end : ℕ → TokenRecord → List TokenRecord → ℕ
+dst_end len t [] = len
+dst_end len t (next ∷ more) = if next.dst_line == t.dst_line then next.dst_col else len
+
+-- a token has this source id and source line
+abbrev pub is_on_source_line : ℕ → ℕ → TokenRecord → Bool
+is_on_source_line id line t = option_map_or (λ n. n == id) t.source_id false && t.src_line == line
+
+-- The source column at which a token's part ends. Of the tokens that follow it without a break on its source and source line
+-- it is the column of the first whose column is greater, else the line's length.
+abbrev pub src_end : ℕ → ℕ → TokenRecord → List TokenRecord → ℕ
+src_end len id t behind =
+    option_map_or (λ u. u.src_col) (find (λ u. nat_lt t.src_col u.src_col) (take_while (is_on_source_line id t.src_line) behind)) len
+
+-- the part of a line between two columns, whichever is the smaller, cut to the line's length
+abbrev pub between : List ℕ → ℕ → ℕ → List ℕ
+between line a b = drop (min a b) (take (max a b) line)
+
+-- a text without its carriage returns
+abbrev pub without_returns : Text → Text
+without_returns text = encode_utf8_all (filter (λ c. not (c == 13)) (chars text))
+
+-- A part of a line as it is printed: as a text, with U+FFFD for each half of a surrogate pair, then without carriage returns,
+-- then in the debug form. Past ASCII that form is left open: None.
+abbrev pub part_text : List ℕ → Option Text
+part_text units = debug_str (without_returns (encode_utf8_all (utf16_lossy_chars units)))
+
+-- `(line:column)`
+abbrev pub position_text : ℕ → ℕ → Text
+position_text line col = codes "(" ++ (decimal line ++ (codes ":" ++ (decimal col ++ codes ")")))
+
+-- the mark of a position that lies in no line
+abbrev pub mark : Bool → Text
+mark is_valid = if is_valid then [] else codes " [invalid]"
+
+-- a token that points to or from a position that is not there
+abbrev pub invalid_text : Bool → Bool → TokenRecord → Text
+invalid_text is_src_valid is_dst_valid t =
+    position_text t.src_line t.src_col ++ (mark is_src_valid ++ (codes " --> " ++ (position_text t.dst_line t.dst_col ++ (mark is_dst_valid ++ codes "\n"))))
+
+-- a token with the parts of its source line and of its generated line
+abbrev pub parts_text : TokenRecord → List ℕ → List ℕ → Option Text
+parts_text t src dst =
+    Some (position_text t.src_line t.src_col ++ codes " ") ++? (part_text src
+    ++? (Some (codes " --> " ++ (position_text t.dst_line t.dst_col ++ codes " ")) ++? (part_text dst ++? Some (codes "\n"))))
+
+-- the line of a token with this source id: the lines of its source's content, those of the code, and the tokens behind it
+unfoldable pub mapping_text : List (List ℕ) → List (List ℕ) → ℕ → TokenRecord → List TokenRecord → Option Text
+mapping_text src dst id t behind =
+    let src_line = line_at src t.src_line in
+    let dst_line = line_at dst t.dst_line in
+    if is_within src t.src_line t.src_col && is_within dst t.dst_line t.dst_col
+    then parts_text t (between src_line t.src_col (src_end (length src_line) id t behind)) (between dst_line t.dst_col (dst_end (length dst_line) t behind))
+    else Some (invalid_text (is_within src t.src_line t.src_col) (is_within dst t.dst_line t.dst_col) t)
+
+-- what a token points to, where it prints: its source and that source's content, where it has both
+abbrev pub shown : MapRecord → TokenRecord → Option (Text × Text)
+shown r t = option_and_then (source_and_content_at r) t.source_id
+
+-- the source of a token that prints
+abbrev pub shown_source : MapRecord → TokenRecord → Option Text
+shown_source r t = option_map (λ s. s.0) (shown r t)
+
+-- the source of the nearest token in front that prints; the tokens in front stand the nearest first
+abbrev pub nearest_source : MapRecord → List TokenRecord → Option Text
+nearest_source r [] = None
+nearest_source r (t ∷ in_front) = option_or (shown_source r t) (nearest_source r in_front)
+
+-- The line of a source: it is printed where the source is another than that of the nearest token in front that prints, or
+-- there is none.
+abbrev pub heading : Option Text → Text → Text
+heading None source = codes "- " ++ (source ++ codes "\n")
+heading (Some last) source = if bytes_eq last source then [] else codes "- " ++ (source ++ codes "\n")
+
+-- what a token prints: nothing, or its source's line and its own
+abbrev pub token_text : List (List ℕ) → Option Text → TokenRecord → List TokenRecord → Option ℕ → Option (Text × Text) → Option Text
+token_text code last t behind (Some id) (Some s) = Some (heading last s.0) ++? mapping_text (text_lines s.1) code id t behind
+token_text code last t behind id s = Some []
+
+-- what some tokens print, behind these in front of them, the nearest first
+unfoldable pub tokens_text : List (List ℕ) → MapRecord → List TokenRecord → List TokenRecord → Option Text
+tokens_text code r in_front [] = Some []
+tokens_text code r in_front (t ∷ behind) =
+    token_text code (nearest_source r in_front) t behind t.source_id (shown r t) ++? tokens_text code r (t ∷ in_front) behind
+
+-- the visual text where there are contents, and where there are none
+abbrev pub text_with : List (Option Text) → Option Text → Option Text
+text_with [] text = Some (codes "[no source contents]\n")
+text_with (content ∷ contents) text = text
+
+-- The visual text of a code and its map. It is None where some part that is printed is not ASCII.
+unfoldable pub visual_text : Text → MapRecord → Option Text
+visual_text code r = text_with r.source_contents (tokens_text (text_lines code) r [] r.tokens)

@@ -1,0 +1,381 @@
+//! A map beside its texts, for people who test source maps.
+ghost use Rattle.std.specs.Prelude.{◌≡◌, ◌≢◌, ◌++◌, ℕ, List, [], map, option_map, string_bytes, codes, Some, None, IfOk, IfErr, IfSome, OnOk, Ok, Err};
+ghost use Rattle.std.specs.Fmt.{AppendsText};
+ghost use Rattle.std.specs.Option.{option_or};
+ghost use Rattle.oxc_sourcemap_mappings.specs.declared.error.Error.TheVariants.{OutOfMemory};
+ghost use Rattle.oxc_sourcemap_parts.specs.Record.{Text};
+ghost use Rattle.oxc_sourcemap_visualizer.specs.Link.{counted, map_link};
+ghost use Rattle.oxc_sourcemap_visualizer.specs.TextLines.{units_of, lines_of, text_lines};
+ghost use Rattle.oxc_sourcemap_visualizer.specs.VisualText.{is_within, dst_end, src_end, is_on_source_line, between, part_text, position_text, mark, heading, invalid_text, parts_text, mapping_text, shown, shown_source, token_text, tokens_text, visual_text};
+
+use crate::text_lines::{Lines, utf16_units};
+use base64::engine::general_purpose::STANDARD;
+use oxc_sourcemap_map::SourceMap;
+use oxc_sourcemap_mappings::{Error, Result, Token};
+use oxc_sourcemap_parts::Contents;
+use std::alloc::{AllocError, Global};
+use std::fmt::Write;
+use std::marker::Model;
+
+/// Shows what a map says of a code, for people who test source maps: as a text, or as a link to a page that draws it.
+#[derive(Drop)]
+pub struct SourcemapVisualizer<'a, 'sm> {
+    code: &'a str,
+    sourcemap: &'a SourceMap<'sm>,
+}
+
+impl<'a, 'sm> Model for SourcemapVisualizer<'a, 'sm> {
+    ghost use Rattle.oxc_sourcemap_visualizer.specs.VisualText.{CodeAndMap};
+
+    ghost Value = { CodeAndMap };
+
+    ghost view = { λ v. record { code = v.code.now; map = v.sourcemap.now } };
+}
+
+impl<'a, 'sm> SourcemapVisualizer<'a, 'sm> {
+    /// A visualizer of a generated code and its map. Nothing is checked, and no memory is taken.
+    pub fn new(code: &'a str, sourcemap: &'a SourceMap<'sm>) -> SourcemapVisualizer<'a, 'sm>
+        ensures { result ≡ record { code = code.now; map = sourcemap.now } }
+    {
+        SourcemapVisualizer { code, sourcemap }
+    }
+
+    /// The link to a page that draws the code and its map: `https://evanw.github.io/source-map-visualization/#`, and in
+    /// padded base64 of the standard alphabet the code and then the map's JSON text, each behind its length in bytes, which
+    /// is written in decimal and ended by a zero byte.
+    ///
+    /// Refused as `SourceMap::to_json_string` refuses: `LineOrder(i)`, `BadChunks(k)`, `TooLarge`, in this order, and
+    /// `OutOfMemory` where memory is refused.
+    #[tactic(auto, unfolding(crate::specs::Link::map_link))]
+    pub fn get_url(&self, alloc: Global) -> Result<String>
+        ensures url { IfOk result (λ url. map_link self.now.code self.now.map ≡ Ok (string_bytes url)) }
+        ensures refused { IfErr result (λ e. (e ≢ OutOfMemory) → map_link self.now.code self.now.map ≡ Err e) }
+    {
+        let json = self.sourcemap.to_json_string(alloc)?;
+        let mut parts = String::new(alloc);
+        push_counted(self.code, &mut parts)?;
+        push_counted(json.as_str(), &mut parts)?;
+        let mut url = String::from_str(
+            alloc,
+            "https://evanw.github.io/source-map-visualization/#",
+        )?;
+        STANDARD.encode_string(parts.as_bytes(), &mut url)?;
+        Ok(url)
+    }
+
+    /// The text that shows what each token ties together: `docs/FORMAT.md`, "The visual text". Lines and columns count from
+    /// 0, columns in UTF-16 units.
+    ///
+    /// Where all parts of lines that it prints are ASCII, it is exactly that text; past ASCII, which characters the debug
+    /// form of a text escapes is the library's choice. Refused for memory alone.
+    ///
+    /// The code and each content are cut into lines once. A token costs its own parts, and a walk over the tokens behind it
+    /// that lie on its source line and not at a greater source column: it is long only where many tokens in a row point to
+    /// one source line and their columns do not grow.
+    #[tactic(auto, unfolding(crate::specs::VisualText::visual_text))]
+    pub fn get_text(&self, alloc: Global) -> Result<String>
+        ensures text { IfOk result (λ text. IfSome (visual_text self.now.code self.now.map) (λ shown. string_bytes text ≡ shown)) }
+        ensures refused { IfErr result (λ e. e ≡ OutOfMemory) }
+    {
+        let contents = self.sourcemap.get_source_contents();
+        if contents.len() == 0 {
+            return Ok(String::from_str(alloc, "[no source contents]\n")?);
+        }
+        let contents = content_units(alloc, contents)?;
+        let code = utf16_units(alloc, self.code)?;
+        let printer = Printer::new(alloc, self.sourcemap, contents.as_slice(), code.as_slice())?;
+        let tokens = self.sourcemap.get_tokens();
+        let mut out = String::new(alloc);
+        printer.push_tokens(tokens.as_slice(), &mut out)?;
+        Ok(out)
+    }
+}
+
+/// Appends the number of bytes of a text in decimal, a zero byte, and the text.
+fn push_counted(text: &str, out: &mut String) -> Result<()>
+    ensures text { OnOk result (string_bytes out.new ≡ string_bytes out.old ++ counted text.now) }
+    ensures refused { IfErr result (λ e. e ≡ OutOfMemory) }
+{
+    write!(out, "{}\0{text}", text.len()).map_err(|_| Error::OutOfMemory)
+}
+
+/// The lines of each content, None where it is not known. They are slices of these units.
+fn cut_contents<'u>(
+    alloc: Global,
+    contents: &'u [Option<Vec<u16>>],
+) -> std::result::Result<Vec<Option<Lines<'u>>>, AllocError>
+    ensures { IfOk result (λ lines. lines.items ≡ map (option_map (λ units. lines_of units.items)) contents.now) }
+{
+    let mut lines = Vec::with_capacity(alloc, contents.len())?;
+    for content in contents {
+        match content {
+            Some(units) => lines.push(Some(Lines::cut(alloc, units.as_slice())?))?,
+            None => lines.push(None)?,
+        }
+    }
+    Ok(lines)
+}
+
+/// The UTF-16 units of a content, None where it is not known.
+fn units_where_known(
+    alloc: Global,
+    content: Option<&str>,
+) -> std::result::Result<Option<Vec<u16>>, AllocError>
+    ensures { IfOk result (λ units. option_map (λ units. units.items) units ≡ option_map units_of (option_map (λ text. text.now) content.entry)) }
+{
+    match content {
+        Some(text) => Ok(Some(utf16_units(alloc, text)?)),
+        None => Ok(None),
+    }
+}
+
+/// The UTF-16 units of each content, None where it is not known.
+fn content_units(
+    alloc: Global,
+    contents: Contents<'_, '_>,
+) -> std::result::Result<Vec<Option<Vec<u16>>>, AllocError>
+    ensures { IfOk result (λ units. map (option_map (λ units. units.items)) units.items ≡ map (option_map units_of) contents.entry) }
+{
+    let mut units = Vec::with_capacity(alloc, contents.len())?;
+    for content in contents {
+        units.push(units_where_known(alloc, content)?)?;
+    }
+    Ok(units)
+}
+
+/// Whether a position lies in front of the end of its line.
+fn is_within(lines: &Lines<'_>, line: u32, col: u32) -> bool
+    ensures { result ≡ is_within lines.now line col }
+{
+    (col as usize) < lines.line(line).len()
+}
+
+/// The generated column at which the part of a token ends.
+fn dst_end(token: &Token, behind: &[Token], len: usize) -> usize
+    ensures { result ≡ dst_end len token.now behind.now }
+{
+    match behind.first() {
+        Some(next) if next.get_dst_line() == token.get_dst_line() => next.get_dst_col() as usize,
+        _ => len,
+    }
+}
+
+/// Whether a token has this source id and source line.
+fn is_on_source_line(token: &Token, id: u32, line: u32) -> bool
+    ensures { result ≡ is_on_source_line id line token.now }
+{
+    token.get_source_id() == Some(id) && token.get_src_line() == line
+}
+
+/// The source column at which the part of a token ends. It looks at the tokens behind as long as they are on the same
+/// source line and not at a greater column.
+fn src_end(id: u32, token: &Token, behind: &[Token], len: usize) -> usize
+    ensures { result ≡ src_end len id token.now behind.now }
+{
+    for other in behind {
+        if !is_on_source_line(other, id, token.get_src_line()) {
+            return len;
+        }
+        if other.get_src_col() > token.get_src_col() {
+            return other.get_src_col() as usize;
+        }
+    }
+    len
+}
+
+/// The part of a line between two columns, whichever is the smaller, cut to the line's length.
+fn between(line: &[u16], a: usize, b: usize) -> &[u16]
+    ensures { result.now ≡ between line.now a b }
+{
+    &line[a.min(b).min(line.len())..a.max(b).min(line.len())]
+}
+
+/// Appends a part of a line in the debug form of a text, without carriage returns and with U+FFFD for each half of a
+/// surrogate pair.
+fn push_part(alloc: Global, units: &[u16], out: &mut String) -> Result<()>
+    ensures text { OnOk result (AppendsText (string_bytes out.old) (string_bytes out.new) (part_text units.now)) }
+    ensures refused { IfErr result (λ e. e ≡ OutOfMemory) }
+{
+    let mut part = String::from_utf16_lossy(alloc, units)?;
+    part.retain(|ch| ch != '\r');
+    write!(out, "{part:?}").map_err(|_| Error::OutOfMemory)
+}
+
+/// Appends `(line:column)`.
+fn push_position(line: u32, col: u32, out: &mut String) -> Result<()>
+    ensures text { OnOk result (string_bytes out.new ≡ string_bytes out.old ++ position_text line col) }
+    ensures refused { IfErr result (λ e. e ≡ OutOfMemory) }
+{
+    write!(out, "({line}:{col})").map_err(|_| Error::OutOfMemory)
+}
+
+/// Appends the mark of a position that is not there, or nothing.
+fn push_mark(is_valid: bool, out: &mut String) -> Result<()>
+    ensures text { OnOk result (string_bytes out.new ≡ string_bytes out.old ++ mark is_valid) }
+    ensures refused { IfErr result (λ e. e ≡ OutOfMemory) }
+{
+    if is_valid {
+        return Ok(());
+    }
+    Ok(out.push_str(" [invalid]")?)
+}
+
+/// Appends the line of a token that points to or from a position that is not there.
+fn push_invalid(
+    token: &Token,
+    is_src_valid: bool,
+    is_dst_valid: bool,
+    out: &mut String,
+) -> Result<()>
+    ensures text { OnOk result (string_bytes out.new ≡ string_bytes out.old ++ invalid_text is_src_valid is_dst_valid token.now) }
+    ensures refused { IfErr result (λ e. e ≡ OutOfMemory) }
+{
+    push_position(token.get_src_line(), token.get_src_col(), out)?;
+    push_mark(is_src_valid, out)?;
+    out.push_str(" --> ")?;
+    push_position(token.get_dst_line(), token.get_dst_col(), out)?;
+    push_mark(is_dst_valid, out)?;
+    Ok(out.push('\n')?)
+}
+
+/// Appends the line of a token with these parts of its source line and of its generated line.
+fn push_parts(
+    alloc: Global,
+    token: &Token,
+    src: &[u16],
+    dst: &[u16],
+    out: &mut String,
+) -> Result<()>
+    ensures text { OnOk result (AppendsText (string_bytes out.old) (string_bytes out.new) (parts_text token.now src.now dst.now)) }
+    ensures refused { IfErr result (λ e. e ≡ OutOfMemory) }
+{
+    push_position(token.get_src_line(), token.get_src_col(), out)?;
+    out.push(' ')?;
+    push_part(alloc, src, out)?;
+    out.push_str(" --> ")?;
+    push_position(token.get_dst_line(), token.get_dst_col(), out)?;
+    out.push(' ')?;
+    push_part(alloc, dst, out)?;
+    Ok(out.push('\n')?)
+}
+
+/// Appends the line of a token with this source id: `src` are the lines of its source's content, `dst` those of the code.
+#[tactic(auto, unfolding(crate::specs::VisualText::mapping_text))]
+fn push_mapping(
+    alloc: Global,
+    src: &Lines<'_>,
+    dst: &Lines<'_>,
+    id: u32,
+    token: &Token,
+    behind: &[Token],
+    out: &mut String,
+) -> Result<()>
+    ensures text { OnOk result (AppendsText (string_bytes out.old) (string_bytes out.new) (mapping_text src.now dst.now id token.now behind.now)) }
+    ensures refused { IfErr result (λ e. e ≡ OutOfMemory) }
+{
+    let (src_col, dst_col) = (token.get_src_col(), token.get_dst_col());
+    let is_src_valid = is_within(src, token.get_src_line(), src_col);
+    let is_dst_valid = is_within(dst, token.get_dst_line(), dst_col);
+    if !is_src_valid || !is_dst_valid {
+        return push_invalid(token, is_src_valid, is_dst_valid, out);
+    }
+    let src_line = src.line(token.get_src_line());
+    let dst_line = dst.line(token.get_dst_line());
+    let src_end = src_end(id, token, behind, src_line.len());
+    let dst_end = dst_end(token, behind, dst_line.len());
+    push_parts(
+        alloc,
+        token,
+        between(src_line, src_col as usize, src_end),
+        between(dst_line, dst_col as usize, dst_end),
+        out,
+    )
+}
+
+/// Appends the line of a source, unless it is the last one that was printed.
+fn push_heading(last: Option<&str>, source: &str, out: &mut String) -> Result<()>
+    ensures text { OnOk result (string_bytes out.new ≡ string_bytes out.old ++ heading (option_map (λ text. text.now) last.entry) source.now) }
+    ensures refused { IfErr result (λ e. e ≡ OutOfMemory) }
+{
+    if last == Some(source) {
+        return Ok(());
+    }
+    write!(out, "- {source}\n").map_err(|_| Error::OutOfMemory)
+}
+
+/// A map with the lines of its contents and of the code, for printing.
+#[derive(Drop)]
+struct Printer<'s, 'u, 'sm> {
+    alloc: Global,
+    sourcemap: &'s SourceMap<'sm>,
+    sources: Vec<Option<Lines<'u>>>,
+    code: Lines<'u>,
+}
+
+impl<'s, 'u, 'sm> Printer<'s, 'u, 'sm> {
+    /// A map with the lines of these contents and of this code, given by their UTF-16 units.
+    fn new(
+        alloc: Global,
+        sourcemap: &'s SourceMap<'sm>,
+        contents: &'u [Option<Vec<u16>>],
+        code: &'u [u16],
+    ) -> std::result::Result<Printer<'s, 'u, 'sm>, AllocError>
+        ensures sourcemap { IfOk result (λ printer. printer.sourcemap.now ≡ sourcemap.now) }
+        ensures sources { IfOk result (λ printer. printer.sources.items ≡ map (option_map (λ units. lines_of units.items)) contents.now) }
+        ensures code { IfOk result (λ printer. printer.code ≡ lines_of code.now) }
+    {
+        Ok(Printer {
+            alloc,
+            sourcemap,
+            sources: cut_contents(alloc, contents)?,
+            code: Lines::cut(alloc, code)?,
+        })
+    }
+
+    /// What a token points to, where it prints: its source id, its source, and the lines of that source's content.
+    fn shown(&self, token: &Token) -> Option<(u32, &'s str, &Lines<'u>)>
+        requires { self.now.sources.items ≡ map (option_map text_lines) self.now.sourcemap.now.source_contents }
+        ensures shown { option_map {U = Text × List (List ℕ)} (λ s. (s.1.now, s.2.now)) result ≡ option_map {U = Text × List (List ℕ)} (λ s. (s.0, text_lines s.1)) (shown self.now.sourcemap.now token.now) }
+        ensures id { IfSome result (λ s. token.now.source_id ≡ Some s.0) }
+    {
+        let id = token.get_source_id()?;
+        let source = self.sourcemap.get_source(id)?;
+        let lines = self.sources.get(id as usize)?.as_ref()?;
+        Some((id, source, lines))
+    }
+
+    /// Appends what a token prints behind the source that was printed last, and answers the one that is then the last.
+    fn push_token(
+        &self,
+        last: Option<&'s str>,
+        token: &Token,
+        behind: &[Token],
+        out: &mut String,
+    ) -> Result<Option<&'s str>>
+        requires { self.now.sources.items ≡ map (option_map text_lines) self.now.sourcemap.now.source_contents }
+        ensures text { OnOk result (AppendsText (string_bytes out.old) (string_bytes out.new)
+            (token_text self.now.code (option_map (λ text. text.now) last.entry) token.now behind.now token.now.source_id (shown self.now.sourcemap.now token.now))) }
+        ensures last { IfOk result (λ source. option_map (λ text. text.now) source ≡ option_or (shown_source self.now.sourcemap.now token.now) (option_map (λ text. text.now) last.entry)) }
+        ensures refused { IfErr result (λ e. e ≡ OutOfMemory) }
+    {
+        let Some((id, source, lines)) = self.shown(token) else {
+            return Ok(last);
+        };
+        push_heading(last, source, out)?;
+        push_mapping(self.alloc, lines, &self.code, id, token, behind, out)?;
+        Ok(Some(source))
+    }
+
+    /// Appends what the tokens of the map print.
+    fn push_tokens(&self, tokens: &[Token], out: &mut String) -> Result<()>
+        requires { self.now.sources.items ≡ map (option_map text_lines) self.now.sourcemap.now.source_contents }
+        ensures text { OnOk result (AppendsText (string_bytes out.old) (string_bytes out.new) (tokens_text self.now.code self.now.sourcemap.now [] tokens.now)) }
+        ensures refused { IfErr result (λ e. e ≡ OutOfMemory) }
+    {
+        let mut last = None;
+        for (i, token) in tokens.iter().enumerate() {
+            last = self.push_token(last, token, &tokens[i + 1..], out)?;
+        }
+        Ok(())
+    }
+}

@@ -1,7 +1,0 @@
-use Rattle.std.proofs.Common.{arith}
-use Rattle.std.proofs.lemmas.Grind.{common_steps}
-use Rattle.smap.proofs.Plans.{depth_join}
-use Rattle.smap.proofs.plan.+is_within_depth.Goals as goal
-
-pub returns-after-loop-part : goal.returns-after-loop-part
-returns-after-loop-part t c = grind (arith, common_steps, depth_join c.in-Join.parts)

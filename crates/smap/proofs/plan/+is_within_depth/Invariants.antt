@@ -1,9 +1,0 @@
-use Rattle.std.proofs.Common.{◌<◌, ◌↔◌, map, drop}
-use Rattle.smap.specs.Depth.{depth, deepest}
-use Rattle.smap.proofs.plan.+is_within_depth.Given as goal
-
-abbrev pub decreases-is_within_depth : goal.decreases-is_within_depth
-decreases-is_within_depth l = goal.size-is_within_depth l
-
-abbrev pub invariant-loop-part : goal.invariant-loop-part
-invariant-loop-part l = (deepest (map (λ p. (depth p.0, p.1)) l.part-items) < l.room) ↔ (deepest (map (λ p. (depth p.0, p.1)) (drop l.part-index l.part-items)) < l.room)

@@ -1,0 +1,86 @@
+-- The line feed at the end of a text, and the numbers of words.
+use Rattle.std.proofs.Common.{◌≡◌, ◌≢◌, ℕ, ◌+◌, ◌-◌, ◌^◌, ◌<◌, Bool, true, false, ◌&&◌, cond, nat_lt, ◌==◌, List, [], ◌∷◌, ◌++◌, length, take, get_or, Option, Some, None, Result, Ok, Err, arith, refl, sym, ap, ◌∙◌}
+use Rattle.std.specs.Borrow.{Bor}
+use Rattle.std.specs.Option.{unwrap_or, MatchOption}
+use Rattle.std.specs.Result.{OkIff, result_ok}
+use Rattle.std.specs.List.{list_all}
+use Rattle.std.specs.Io.BufRead.{strip_last}
+use Rattle.std.specs.Char.{digit_value}
+use Rattle.std.specs.Str.Parse.{AllDigits, IsNumeral, digits_value, without_leading_plus}
+use Rattle.std.proofs.lemmas.Str.Parse.{without_leading_plus_none}
+use Rattle.std.proofs.lemmas.Bool.Decides.{nat_tests}
+use Rattle.std.proofs.lemmas.List.{take_at, get_or_at, length-append}
+use Rattle.smap_run.specs.Answer.{without_line_feed}
+use Rattle.smap_run.specs.Words.{is_decimal_digit, is_numeral, number_of}
+
+strip_last-push : (xs : List ℕ) → strip_last 10 (xs ++ 10 ∷ []) ≡ xs
+strip_last-push xs =
+    let l : length (xs ++ 10 ∷ []) ≡ length xs + 1 = length-append xs (10 ∷ []) in
+    let m : length xs + 1 - 1 ≡ length xs = omega arith in
+    let t : nat_lt 0 (length xs + 1) ≡ true = grind (arith, nat_tests) in
+    rw (l, m, t, get_or_at xs 10 [] 0 (length xs) refl) (take_at xs (10 ∷ []) (length xs) refl)
+
+last-of : (b : ℕ) (bs : List ℕ) → (front : List ℕ) × (b ∷ bs ≡ front ++ get_or (b ∷ bs) (length bs) 0 ∷ [])
+last-of b [] = ([], refl)
+last-of b (c ∷ bs) = let (front, e) = last-of c bs in (b ∷ front, ap (λ xs. b ∷ xs) e)
+
+strip_last-none : (bs : List ℕ) → ((front : List ℕ) → bs ≢ front ++ 10 ∷ []) → strip_last 10 bs ≡ bs
+strip_last-none [] h = refl
+strip_last-none (b ∷ bs) h =
+    let (front, e) = last-of b bs in
+    let m : length (b ∷ bs) - 1 ≡ length bs = omega arith in
+    let t : nat_lt 0 (length (b ∷ bs)) ≡ true = grind (arith, nat_tests) in
+    rw (t, m) (elim (get_or (b ∷ bs) (length bs) 0 == 10) as (λ v. (get_or (b ∷ bs) (length bs) 0 == 10) ≡ v → cond v (take (length bs) (b ∷ bs)) (b ∷ bs) ≡ b ∷ bs) [
+      | true ↦ (λ t. let ten : get_or (b ∷ bs) (length bs) 0 ≡ 10 = grind (arith, nat_tests) in absurd (h front (e ∙ ap (λ x. front ++ x ∷ []) ten)))
+      | false ↦ (λ t. refl)
+    ] refl)
+
+pub stripped : (bs : List ℕ) (r : Option (Bor (List ℕ))) (whole : Bor (List ℕ)) → whole.now ≡ bs → MatchOption r ((front : List ℕ) → bs ≢ front ++ 10 ∷ []) (λ x. bs ≡ x.now ++ 10 ∷ []) → (unwrap_or r whole).now ≡ without_line_feed bs
+stripped bs None whole e h = e ∙ sym (strip_last-none bs h)
+stripped bs (Some x) whole e h = sym (ap (strip_last 10) h ∙ strip_last-push x.now)
+
+-- ---- numbers
+
+digits-all : (bs : List ℕ) → AllDigits 10 bs → list_all is_decimal_digit bs ≡ true
+digits-all [] h = refl
+digits-all (b ∷ bs) h = let t : nat_lt (digit_value b) 10 ≡ true = grind (arith, nat_tests, h.0) in rw (t, digits-all bs h.1)
+
+all-digits : (bs : List ℕ) → list_all is_decimal_digit bs ≡ true → AllDigits 10 bs
+all-digits [] h = tt
+all-digits (b ∷ bs) h =
+    elim (nat_lt (digit_value b) 10) as (λ v. nat_lt (digit_value b) 10 ≡ v → (v && list_all is_decimal_digit bs) ≡ true → AllDigits 10 (b ∷ bs)) [
+      | true ↦ (λ t g. (grind (arith, nat_tests), all-digits bs g))
+      | false ↦ (λ t g. cc)
+    ] refl h
+
+numeral-test : (word : List ℕ) → IsNumeral 10 word → is_numeral word ≡ true
+numeral-test [] h = absurd (omega arith)
+numeral-test (b ∷ bs) h = digits-all (b ∷ bs) h.1
+
+test-numeral : (word : List ℕ) → is_numeral word ≡ true → IsNumeral 10 word
+test-numeral [] h = cc
+test-numeral (b ∷ bs) h = (omega arith, all-digits (b ∷ bs) h)
+
+both-true : (a b : Bool) → (a && b) ≡ true → (a ≡ true) × (b ≡ true)
+both-true true b e = (refl, e)
+both-true false b e = cc
+
+-- a word with a sign in front is no number
+pub number_of-plus : (word : List ℕ) → get_or word 0 0 ≡ 43 → number_of word ≡ None
+number_of-plus [] e = refl
+number_of-plus (b ∷ bs) e = rw e refl
+
+-- what `parse` answers to a word without a sign
+pub number_of-parse : {E : Type 0} (word : List ℕ) (r : Result ℕ E) → get_or word 0 0 ≢ 43 → OkIff r (IsNumeral 10 (without_leading_plus word) × (digits_value 10 (without_leading_plus word) < 2 ^ 32)) (digits_value 10 (without_leading_plus word)) → result_ok r ≡ number_of word
+number_of-parse word (Ok x) n h =
+    let plain = without_leading_plus_none word n in
+    let k : (IsNumeral 10 word × (digits_value 10 word < 2 ^ 32)) × (x ≡ digits_value 10 word) = rw plain at h in
+    let t : nat_lt (digits_value 10 word) 4294967296 ≡ true = grind (arith, nat_tests, k.0.1) in
+    rw (numeral-test word k.0.0, t) (ap Some k.1)
+number_of-parse word (Err e) n h =
+    let plain = without_leading_plus_none word n in
+    let k : IsNumeral 10 word × (digits_value 10 word < 2 ^ 32) → ⊥ = rw plain at h in
+    elim (is_numeral word && nat_lt (digits_value 10 word) 4294967296) as (λ v. (is_numeral word && nat_lt (digits_value 10 word) 4294967296) ≡ v → None ≡ cond v (Some (digits_value 10 word)) None) [
+      | true ↦ (λ t. let b = both-true (is_numeral word) _ t in absurd (k (test-numeral word b.0, grind (arith, nat_tests, b.1))))
+      | false ↦ (λ t. refl)
+    ] refl

@@ -1,0 +1,25 @@
+use Rattle.std.proofs.Common.{◌≡◌, rules, ◌++◌, ◌∷◌, [], string_bytes, subst, sym, ◌∙◌}
+use Rattle.smap_run.specs.declared.running.RunError.TheVariants.{Write}
+use Rattle.smap_run.specs.Request.{request_of}
+use Rattle.smap_run.specs.Answer.{IsAnswer, Refuses, AppendsBeginning}
+use Rattle.std.specs.Str.{IsUtf8}
+use Rattle.oxc_sourcemap_plan.proofs.Parts.{from_err}
+use Rattle.smap_run.proofs.PlanAnswers.{some_weaker, of_err}
+use Rattle.smap_run.proofs.running.run.Goals as goal
+
+pub returns-in_err-out-clause-refused : goal.returns-in_err-out-clause-refused
+returns-in_err-out-clause-refused g c =
+    let asked = request_of c.args.command.now in
+    from_err c.from_residual-in_err-out.result _ _ c.from_residual-in_err-out.ensures.1 (λ e h n r w. some_weaker (g.R.Read.remaining c.args.reader.now.inner) _ _ (λ input same. subst (λ i. Refuses asked i e) same
+    (subst (λ f. Refuses asked c.in_ok-input.input.items f) (sym h) (c.in_err-out.ensures.refused (λ q. n (h ∙ q))))) c.in_ok-input.ensures.bytes)
+
+pub returns-clause-begun : goal.returns-clause-begun
+returns-clause-begun g c = λ w.
+    let bytes : c.as_bytes.result.now ≡ string_bytes c.in_ok-out.out ++ 10 ∷ [] = search rules in
+    let begun = of_err c.write_all.result Write _ w c.write_all.ensures.begun in
+    some_weaker (g.R.Read.remaining c.args.reader.now.inner) _ _ (λ input same. (
+      string_bytes c.in_ok-out.out,
+      subst IsUtf8 same c.in_ok-out.ensures.text.0,
+      subst (λ i. IsAnswer (request_of c.args.command.now) i (string_bytes c.in_ok-out.out)) same c.in_ok-out.ensures.text.1,
+      subst (λ b. AppendsBeginning (g.W.Write.contents c.args.writer.now.inner) (g.W.Write.contents c.write_all.new.writer.inner) b) bytes begun,
+    )) c.in_ok-input.ensures.bytes

@@ -1,0 +1,90 @@
+-- What a command answers to an input.
+use Rattle.std.specs.Prelude.{◌≡◌, ◌++◌, false, ℕ, List, Option, Some, None, Result, Ok, Err, ◌⊎◌, IsUtf8}
+use Rattle.std.specs.Io.BufRead.{strip_last}
+use Rattle.std.specs.Io.KnownBytes.{Appends}
+use Rattle.oxc_sourcemap.specs.Error.{Error}
+use Rattle.oxc_sourcemap.specs.Error.TheVariants.{TooLarge}
+use Rattle.oxc_sourcemap.specs.Record.{MapRecord}
+use Rattle.oxc_sourcemap.specs.Token.{TokenRecord}
+use Rattle.oxc_sourcemap.specs.Reading.{reading}
+use Rattle.oxc_sourcemap.specs.Canonical.{canonical}
+use Rattle.oxc_sourcemap.specs.Chunks.{writing_fault}
+use Rattle.oxc_sourcemap.specs.Shape.{◌>>=◌}
+use Rattle.oxc_sourcemap.specs.ReadMap.{read_map}
+use Rattle.oxc_sourcemap.specs.JsonText.{map_text, map_url}
+use Rattle.oxc_sourcemap.specs.PlanError.{PlanError}
+use Rattle.oxc_sourcemap.specs.PlanError.TheVariants.{Map}
+use Rattle.smap_run.specs.declared.running.RunError.{RunError}
+use Rattle.smap_run.specs.declared.running.RunError.TheVariants.{Plan, Utf8}
+use Rattle.smap_run.specs.Traced.{traced}
+use Rattle.smap_run.specs.Request.{Request, Mappings, Normalise, Plan as PlanOf, Trace, Url}
+use Rattle.oxc_sourcemap.specs.Outcome.{Outcome}
+use Rattle.oxc_sourcemap.specs.Evaluated.{IsEvaluated}
+use Rattle.smap_run.specs.PlanTexts.{texts_in}
+use Rattle.smap_run.specs.PlanWords.{plan_named}
+
+-- a text without the line feed at its end, if it has one
+abbrev pub without_line_feed : List ℕ → List ℕ
+without_line_feed text = strip_last 10 text
+
+-- the canonical text of a list, or why it is not written
+abbrev pub written : Option Error → List TokenRecord → Result (List ℕ) RunError
+written None tokens = Ok (canonical tokens)
+written (Some fault) tokens = Err (Plan (Map fault))
+
+-- what `mappings` answers to a text that reads so: the canonical text of its tokens
+abbrev pub mappings_answer : Result (List TokenRecord) Error → Result (List ℕ) RunError
+mappings_answer (Ok tokens) = written (writing_fault tokens None) tokens
+mappings_answer (Err fault) = Err (Plan (Map fault))
+
+-- the JSON text of the map that a JSON text says
+abbrev pub normalised : List ℕ → Result (List ℕ) Error
+normalised text = read_map text >>= map_text
+
+-- its data URL
+abbrev pub normalised_url : List ℕ → Result (List ℕ) Error
+normalised_url text = read_map text >>= map_url
+
+-- a call on a map, whose refusal is the program's
+abbrev pub of_map : Result (List ℕ) Error → Result (List ℕ) RunError
+of_map (Ok text) = Ok text
+of_map (Err fault) = Err (Plan (Map fault))
+
+-- a text, or a refusal that is the program's
+abbrev pub of_plan : Result (List ℕ) PlanError → Result (List ℕ) RunError
+of_plan (Ok text) = Ok text
+of_plan (Err refusal) = Err (Plan refusal)
+
+-- What a plan that words name answers: the JSON text of a map that is as its outcome says.
+abbrev pub IsPlanAnswer : Result Outcome RunError → List ℕ → Type 0
+IsPlanAnswer (Err fault) out = ⊥
+IsPlanAnswer (Ok o) out = (m : MapRecord) × IsEvaluated m o × (map_text m ≡ Ok out)
+
+-- What it refuses: the first fault of its words, what the plan means, or `TooLarge` where it is not roomy.
+abbrev pub IsPlanRefusal : Result Outcome RunError → RunError → Type 0
+IsPlanRefusal (Err fault) e = e ≡ fault
+IsPlanRefusal (Ok o) e = (p : PlanError) × (e ≡ Plan p) × ((o.meaning ≡ Err p) ⊎ ((p ≡ Map TooLarge) × (o.is_roomy ≡ false)))
+
+-- What a command answers to a text. One line feed is written behind it.
+abbrev pub IsAnswer : Request → List ℕ → List ℕ → Type 0
+IsAnswer (Mappings names sources) text out = mappings_answer (reading (without_line_feed text) names sources) ≡ Ok out
+IsAnswer Normalise text out = of_map (normalised text) ≡ Ok out
+IsAnswer Url text out = of_map (normalised_url text) ≡ Ok out
+IsAnswer (Trace line col) text out = of_plan (traced text line col) ≡ Ok out
+IsAnswer (PlanOf words) text out = IsPlanAnswer (plan_named (texts_in text) words) out
+
+-- what it refuses of a text
+abbrev pub IsRefusal : Request → List ℕ → RunError → Type 0
+IsRefusal (Mappings names sources) text e = mappings_answer (reading (without_line_feed text) names sources) ≡ Err e
+IsRefusal Normalise text e = of_map (normalised text) ≡ Err e
+IsRefusal Url text e = of_map (normalised_url text) ≡ Err e
+IsRefusal (Trace line col) text e = of_plan (traced text line col) ≡ Err e
+IsRefusal (PlanOf words) text e = IsPlanRefusal (plan_named (texts_in text) words) e
+
+-- known bytes grow by a beginning of these, perhaps by none of them
+abbrev pub AppendsBeginning : Option (List ℕ) → Option (List ℕ) → List ℕ → Type 0
+AppendsBeginning old new bytes = (done : List ℕ) × (more : List ℕ) × (done ++ more ≡ bytes) × Appends old new done
+
+-- A command refuses an input: it is not UTF-8, or its text is refused.
+abbrev pub Refuses : Request → List ℕ → RunError → Type 0
+Refuses request input refusal = ((¬ (IsUtf8 input)) × (refusal ≡ Utf8)) ⊎ (IsUtf8 input × IsRefusal request input refusal)

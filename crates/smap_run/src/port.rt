@@ -1,0 +1,89 @@
+//! Readers and writers that remember whether a call failed.
+ghost use Rattle.std.specs.Prelude.{◌≡◌, Bool, true, false, length};
+ghost use Rattle.std.specs.Io.{ReadsAtMost, WritesAtMost};
+ghost use Rattle.std.specs.Io.KnownBytes.{ReadConsumes, WriteAppends, Keeps};
+ghost use Rattle.smap_run.specs.Flags.{read_flag, write_flag};
+
+use std::io;
+use std::io::{Read, Write};
+
+/// A reader or writer with a flag, which is set by the first call that fails: a read or write that the inner value
+/// refuses, or a write of some bytes of which it takes none.
+///
+/// Each call goes to the inner value, and its answer comes back unchanged.
+#[derive(Drop)]
+pub struct Port<T> {
+    inner: T,
+    failed: bool,
+}
+
+impl<T> Port<T> {
+    /// A port over a reader or writer, its flag unset.
+    pub fn new(inner: T) -> Port<T>
+        ensures { result ≡ record { inner = inner; failed = false } }
+    {
+        Port {
+            inner,
+            failed: false,
+        }
+    }
+
+    /// Whether the flag is set.
+    pub fn failed(&self) -> bool
+        ensures { result ≡ self.now.failed }
+    {
+        self.failed
+    }
+
+    /// The reader or writer inside.
+    pub fn into_inner(self) -> T
+    where
+        T: Drop,
+        ensures { result ≡ self.inner }
+    {
+        self.inner
+    }
+}
+
+impl<T: Read> Read for Port<T> {
+    // What is left to read is what the inner value has left.
+    ghost remaining = { λ port. T.remaining port.inner };
+
+    fn read(&mut self, buf: &mut [u8]) -> io::Result<usize>
+        ensures bound { ReadsAtMost result buf.new }
+        ensures bytes { ReadConsumes (T.remaining self.old.inner) (T.remaining self.new.inner) result buf.new }
+        ensures flag { self.new.failed ≡ read_flag self.old.failed result }
+    {
+        let result = self.inner.read(buf);
+        if result.is_err() {
+            self.failed = true;
+        }
+        result
+    }
+}
+
+impl<T: Write> Write for Port<T> {
+    // What was written is what the inner value holds.
+    ghost contents = { λ port. T.contents port.inner };
+
+    fn write(&mut self, buf: &[u8]) -> io::Result<usize>
+        ensures bound { WritesAtMost result buf.now }
+        ensures bytes { WriteAppends (T.contents self.old.inner) (T.contents self.new.inner) result buf.now }
+        ensures flag { self.new.failed ≡ write_flag self.old.failed result (length buf.now) }
+    {
+        let result = self.inner.write(buf);
+        match &result {
+            Ok(0) if !buf.is_empty() => self.failed = true,
+            Ok(_) => {}
+            Err(_) => self.failed = true,
+        }
+        result
+    }
+
+    fn flush(&mut self) -> io::Result<()>
+        ensures bytes { Keeps (T.contents self.old.inner) (T.contents self.new.inner) }
+        ensures flag { self.new.failed ≡ self.old.failed }
+    {
+        self.inner.flush()
+    }
+}

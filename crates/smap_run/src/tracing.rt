@@ -1,0 +1,83 @@
+//! What a map says of a generated position, as a line of text.
+ghost use Rattle.std.specs.Prelude.{◌≡◌, ◌≢◌, ◌++◌, option_map, string_bytes, Some, IfOk, IfErr, OnOk, Ok, Err};
+ghost use Rattle.oxc_sourcemap.specs.Error.TheVariants.{OutOfMemory};
+ghost use Rattle.oxc_sourcemap.specs.View.{view_of, view_origin};
+ghost use Rattle.oxc_sourcemap.specs.PlanError.TheVariants.{Map};
+ghost use Rattle.smap_run.specs.Traced.{number_part, name_part, origin_text, trace_text, traced};
+
+use oxc_sourcemap::{Error, PlanError, SourceMap, SourceViewToken, push_json_string};
+use std::alloc::Global;
+
+/// Appends a colon and a number.
+fn push_number(alloc: Global, number: u32, out: &mut String) -> Result<(), Error>
+    ensures text { OnOk result (string_bytes out.new ≡ string_bytes out.old ++ number_part number) }
+    ensures refused { IfErr result (λ e. e ≡ OutOfMemory) }
+{
+    out.push(':')?;
+    out.push_str(number.to_string(alloc)?.as_str())?;
+    Ok(())
+}
+
+/// Appends a space and a name, where there is one.
+fn push_name(name: Option<&str>, out: &mut String) -> Result<(), Error>
+    ensures text { OnOk result (string_bytes out.new ≡ string_bytes out.old ++ name_part (option_map (λ text. text.now) name.entry)) }
+    ensures refused { IfErr result (λ e. e ≡ OutOfMemory) }
+{
+    let Some(name) = name else {
+        return Ok(());
+    };
+    out.push(' ')?;
+    push_json_string(name, out)
+}
+
+/// The text of a source, a source line and column, and a name.
+fn origin_text(
+    alloc: Global,
+    source: &str,
+    line: u32,
+    col: u32,
+    name: Option<&str>,
+) -> Result<String, Error>
+    ensures text { IfOk result (λ out. string_bytes out ≡ origin_text source.now line col (option_map (λ text. text.now) name.entry)) }
+    ensures refused { IfErr result (λ e. e ≡ OutOfMemory) }
+{
+    let mut out = String::new(alloc);
+    push_json_string(source, &mut out)?;
+    push_number(alloc, line, &mut out)?;
+    push_number(alloc, col, &mut out)?;
+    push_name(name, &mut out)?;
+    Ok(out)
+}
+
+/// The text of a token that was found.
+fn token_text(alloc: Global, view: &SourceViewToken<'_, '_>) -> Result<String, Error>
+    ensures text { IfOk result (λ out. string_bytes out ≡ trace_text (Some (view_origin (view_of view.now)))) }
+    ensures refused { IfErr result (λ e. e ≡ OutOfMemory) }
+{
+    let (source, line, col, name) = view.to_tuple();
+    match source {
+        Some(source) => origin_text(alloc, source, line, col, name),
+        None => Ok(String::from_str(alloc, "unmapped")?),
+    }
+}
+
+/// What the map that a JSON text says has at a generated line and column: `nothing` where there is no token, `unmapped` for
+/// an unmapped one, and else its source as a JSON string, `:`, the source line, `:`, the source column, and where it has a
+/// name a space and that as a JSON string. All numbers count from 0.
+///
+/// Refused as `Map(e)` where `SourceMap::from_json_string` refuses the text, then as `Unsorted` where the tokens are not
+/// sorted, and as `Map(OutOfMemory)` where memory is refused.
+pub fn trace(alloc: Global, text: &str, line: u32, col: u32) -> Result<String, PlanError>
+    ensures text { IfOk result (λ out. traced text.now line col ≡ Ok (string_bytes out)) }
+    ensures refused { IfErr result (λ e. (e ≢ Map OutOfMemory) → traced text.now line col ≡ Err e) }
+{
+    let map = SourceMap::from_json_string(alloc, text)?;
+    if !map.is_sorted() {
+        return Err(PlanError::Unsorted);
+    }
+    let table = map.generate_lookup_table(alloc)?;
+    match map.lookup_source_view_token(table.as_slice(), line, col) {
+        Some(view) => Ok(token_text(alloc, &view)?),
+        None => Ok(String::from_str(alloc, "nothing")?),
+    }
+}

@@ -1,24 +1,20 @@
 -- From leads to the composed map.
-use Rattle.std.proofs.Common.{◌≡◌, sym, ap, subst, ◌∙◌, ℕ, Bool, true, false, cond, List, map, length, Option, Some, None, Result, Ok, Err, nat_lt, ◌≢◌, IfErr}
+use Rattle.std.proofs.Common.{◌≡◌, sym, ap, subst, ◌∙◌, Bool, true, false, cond, List, map, Option, Some, None, Result, Ok, Err, ◌≢◌, IfErr}
 use Rattle.oxc_sourcemap_mappings.specs.declared.error.Error.{Error}
-use Rattle.oxc_sourcemap_mappings.specs.declared.error.Error.TheVariants.{SeveralSources, TooLarge, LineOrder, OutOfMemory}
+use Rattle.oxc_sourcemap_mappings.specs.declared.error.Error.TheVariants.{TooLarge, OutOfMemory}
 use Rattle.oxc_sourcemap_mappings.specs.Token.{TokenRecord}
-use Rattle.oxc_sourcemap_mappings.specs.Canonical.{first_out_of_order}
 use Rattle.oxc_sourcemap_parts.specs.Record.{Text, MapRecord}
-use Rattle.oxc_sourcemap_compose.specs.Composed.{Lead, lead_into, leads, composed_names, composed_token, composed_by, are_ids, composition_by, composition, AreLeads, SomeComposition, ColumnsGoOn}
+use Rattle.oxc_sourcemap_compose.specs.Composed.{Lead, lead_into, leads, composed_names, composed_token, composed_by, are_ids, composition_fault, composition_by, composition, AreLeads, SomeComposition, ColumnsGoOn}
 use Rattle.oxc_sourcemap_compose.proofs.Leads.{are_leads, leads-are}
 
 module _ (a b : MapRecord) where
   -- the refusals
-  pub several : nat_lt 1 (length a.sources) ≡ true → SomeComposition a b (Err (SeveralSources (length a.sources)))
-  several e = (leads a b, are_leads b.tokens a.tokens, rw e)
+  pub at_fault : (e : Error) → composition_fault a b ≡ Some e → SomeComposition a b (Err e)
+  at_fault e f = (leads a b, are_leads b.tokens a.tokens, rw f)
 
-  pub not_in_order : (i : ℕ) → nat_lt 1 (length a.sources) ≡ false → first_out_of_order b.tokens ≡ Some i → SomeComposition a b (Err (LineOrder i))
-  not_in_order i e f = (leads a b, are_leads b.tokens a.tokens, rw (e, f))
-
-  module _ (e : nat_lt 1 (length a.sources) ≡ false) (f : first_out_of_order b.tokens ≡ None) where
+  module _ (f : composition_fault a b ≡ None) where
     ids-by : (ls : List Lead) (t : Bool) → are_ids a.names (composed_names a.names b.names ls) ls ≡ t → composition_by ls a b ≡ cond t (Ok (composed_by ls a b)) (Err TooLarge)
-    ids-by ls t i = rw (e, f, i)
+    ids-by ls t i = rw (f, i)
 
     pub too_large : (ls : List Lead) → AreLeads a.tokens b.tokens ls → are_ids a.names (composed_names a.names b.names ls) ls ≡ false → SomeComposition a b (Err TooLarge)
     too_large ls h i = (ls, h, ids-by ls false i)

@@ -1,5 +1,5 @@
 -- Composition: a map from generated to intermediate code, and one from intermediate to original code, made one map.
-use Rattle.std.specs.Prelude.{◌≡◌, ℕ, Bool, true, false, List, map, length, Option, Some, None, Result, Ok, Err, IfSome, if◌then◌else◌, nat_lt}
+use Rattle.std.specs.Prelude.{◌≡◌, ℕ, Bool, true, false, List, map, length, Option, Some, None, option_map, Result, Ok, Err, IfSome, if◌then◌else◌, nat_lt}
 use Rattle.std.specs.List.{filter_map, list_all, Contains, AllByRecursion}
 use Rattle.std.specs.Option.{option_and_then, option_or}
 use Rattle.oxc_sourcemap_mappings.specs.declared.error.Error.{Error}
@@ -94,16 +94,19 @@ may_be_id (Some id) = nat_lt id 4294967295
 abbrev pub are_ids : List Text → List Text → List Lead → Bool
 are_ids first names ls = list_all (λ l. may_be_id (taken_id first names l)) ls
 
--- The map that these leads make, or the first of: the first map has several sources, the second is not in line order, an id
--- of a taken name is above 4294967294.
-abbrev pub if_in_order : Option ℕ → Result MapRecord Error → Result MapRecord Error
-if_in_order None answer = answer
-if_in_order (Some i) answer = Err (LineOrder i)
+-- Why two maps are not composed: the first has several sources, or the tokens of the second go back in lines.
+abbrev pub composition_fault : MapRecord → MapRecord → Option Error
+composition_fault a b =
+    if nat_lt 1 (length a.sources) then Some (SeveralSources (length a.sources))
+    else option_map LineOrder (first_out_of_order b.tokens)
 
+abbrev pub unless : {A : Type 0} → Option Error → Result A Error → Result A Error
+unless None answer = answer
+unless (Some fault) answer = Err fault
+
+-- The map that these leads make; `TooLarge` where the id of a taken name would be above 4294967294.
 abbrev pub composition_by : List Lead → MapRecord → MapRecord → Result MapRecord Error
-composition_by ls a b =
-    if nat_lt 1 (length a.sources) then Err (SeveralSources (length a.sources))
-    else if_in_order (first_out_of_order b.tokens)
+composition_by ls a b = unless (composition_fault a b)
     (if are_ids a.names (composed_names a.names b.names ls) ls then Ok (composed_by ls a b) else Err TooLarge)
 
 abbrev pub composition : MapRecord → MapRecord → Result MapRecord Error

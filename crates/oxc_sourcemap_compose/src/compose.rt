@@ -1,15 +1,17 @@
 //! Composition of maps: a map from generated to intermediate code and one from intermediate to original code, made one
 //! map from generated to original code.
-ghost use Rattle.std.specs.Prelude.{◌≡◌, ◌≢◌, ◌<◌, ◌≤◌, ℕ, List, length, map, option_map, slice_get, IfOk, IfErr, IfSome, Ok, Err, Option, Some, None, true, false};
+ghost use Rattle.std.specs.Prelude.{◌≡◌, ◌≢◌, ◌<◌, ◌≤◌, ℕ, List, length, map, option_map, slice_get, IfOk, OnOk, IfErr, IfSome, Ok, Err, Option, Some, None, true, false};
+ghost use Rattle.std.specs.Box.{boxed_slice_items};
 ghost use Rattle.std.specs.Cow.{cow_str_bytes};
 ghost use Rattle.std.specs.Option.{option_and_then};
+ghost use Rattle.oxc_sourcemap_mappings.specs.declared.error.Error.{Error};
 ghost use Rattle.oxc_sourcemap_mappings.specs.declared.error.Error.TheVariants.{OutOfMemory, TooLarge};
 ghost use Rattle.oxc_sourcemap_mappings.specs.Canonical.{IsInLineOrder};
 ghost use Rattle.oxc_sourcemap_parts.specs.Views.{texts_of, record_of_parts};
 ghost use Rattle.oxc_sourcemap_parts.specs.Texts.{place_of, with_text};
 ghost use Rattle.oxc_sourcemap_parts.specs.Sorted.{are_tokens_sorted};
 ghost use Rattle.oxc_sourcemap_lookup.specs.Lookup.{slice_of};
-ghost use Rattle.oxc_sourcemap_compose.specs.Composed.{Lead, lead_to, IsLead, AreLeads, taken_name, composed_names, composed_token, may_be_id, are_ids, composition, SomeComposition, ColumnsGoOn};
+ghost use Rattle.oxc_sourcemap_compose.specs.Composed.{Lead, lead_to, IsLead, AreLeads, taken_name, composed_names, composed_token, may_be_id, are_ids, composition_fault, composition, SomeComposition, ColumnsGoOn};
 ghost use Rattle.oxc_sourcemap_compose.specs.Taking.{with_taken, taken_place};
 
 use oxc_sourcemap_lookup::{search_clamped, slice_of, table_of};
@@ -17,6 +19,7 @@ use oxc_sourcemap_mappings::{Error, Result, Token, line_order_fault};
 use oxc_sourcemap_parts::{SourceMapParts, detached_text};
 use std::alloc::Global;
 use std::borrow::CowStr;
+use std::mem;
 
 /// The index of the first text that is equal to this one.
 fn position_of(texts: &[CowStr<'_>], text: &str) -> Option<usize>
@@ -152,15 +155,57 @@ fn composed_tokens(
     Ok(composed)
 }
 
+/// Why two maps are not composed, if they are not: the first has several sources, or the tokens of the second go back in
+/// lines.
+fn composition_fault(first: &SourceMapParts<'_>, second: &SourceMapParts<'_>) -> Option<Error>
+    ensures fault { result ≡ composition_fault (record_of_parts first.now) (record_of_parts second.now) }
+    ensures in_order { result ≡ None → IsInLineOrder (boxed_slice_items second.now.tokens) }
+{
+    if first.sources.len() > 1 {
+        return Some(Error::SeveralSources(first.sources.len()));
+    }
+    let i = line_order_fault(second.tokens.as_slice())?;
+    Some(Error::LineOrder(i))
+}
+
+/// Makes the second map the composition of the two. Texts of the first that it takes are moved.
+fn compose_into(
+    alloc: Global,
+    first: &mut SourceMapParts<'_>,
+    second: &mut SourceMapParts<'_>,
+) -> Result<()>
+    ensures made { OnOk result (SomeComposition (record_of_parts first.old) (record_of_parts second.old) (Ok (record_of_parts second.new))) }
+    ensures refused { IfErr result (λ e. (e ≢ OutOfMemory) → SomeComposition (record_of_parts first.old) (record_of_parts second.old) (Err e)) }
+    ensures fault { (e : Error) → composition_fault (record_of_parts first.old) (record_of_parts second.old) ≡ Some e → result ≡ Err e }
+{
+    if let Some(fault) = composition_fault(first, second) {
+        return Err(fault);
+    }
+    let mut names = mem::replace(&mut second.names, Vec::new(alloc));
+    let tokens = composed_tokens(
+        alloc,
+        &mut names,
+        first.names.as_slice(),
+        first.tokens.as_slice(),
+        second.tokens.as_slice(),
+    )?;
+    second.file = detached_text(alloc, first.file.take())?;
+    second.debug_id = detached_text(alloc, first.debug_id.take())?;
+    second.names = names;
+    second.tokens = tokens.into_boxed_slice();
+    second.token_chunks = None;
+    Ok(())
+}
+
 /// The composition of the maps of two lists of parts: of the first map, from generated to intermediate code, and the
 /// second, from there to original code. (docs/FORMAT.md, "Composition".)
 ///
 /// Refused in this order; both are then dropped: `SeveralSources(n)`, `LineOrder(i)` for the tokens of the second map,
-/// `TooLarge`, and `OutOfMemory` where memory is refused.
+/// `TooLarge`, and `OutOfMemory` where memory is refused. The first two are told wherever they hold.
 pub fn compose_parts<'input>(
     alloc: Global,
-    first: SourceMapParts<'_>,
-    second: SourceMapParts<'input>,
+    mut first: SourceMapParts<'_>,
+    mut second: SourceMapParts<'input>,
 ) -> Result<SourceMapParts<'input>>
     ensures map { let a = record_of_parts first.entry in let b = record_of_parts second.entry in
         ColumnsGoOn b.tokens → IfOk result (λ parts. composition a b ≡ Ok (record_of_parts parts)) }
@@ -168,31 +213,8 @@ pub fn compose_parts<'input>(
         ColumnsGoOn b.tokens → IfErr result (λ e. (e ≢ OutOfMemory) → composition a b ≡ Err e) }
     ensures any_map { IfOk result (λ parts. SomeComposition (record_of_parts first.entry) (record_of_parts second.entry) (Ok (record_of_parts parts))) }
     ensures any_refused { IfErr result (λ e. (e ≢ OutOfMemory) → SomeComposition (record_of_parts first.entry) (record_of_parts second.entry) (Err e)) }
+    ensures fault { (e : Error) → composition_fault (record_of_parts first.entry) (record_of_parts second.entry) ≡ Some e → result ≡ Err e }
 {
-    if first.sources.len() > 1 {
-        return Err(Error::SeveralSources(first.sources.len()));
-    }
-    let input_tokens = second.tokens;
-    let mut names = second.names;
-    if let Some(i) = line_order_fault(input_tokens.as_slice()) {
-        return Err(Error::LineOrder(i));
-    }
-    let tokens = composed_tokens(
-        alloc,
-        &mut names,
-        first.names.as_slice(),
-        first.tokens.as_slice(),
-        input_tokens.as_slice(),
-    )?;
-    Ok(SourceMapParts {
-        file: detached_text(alloc, first.file)?,
-        names,
-        source_root: second.source_root,
-        sources: second.sources,
-        source_contents: second.source_contents,
-        tokens: tokens.into_boxed_slice(),
-        token_chunks: None,
-        ignore_list: second.ignore_list,
-        debug_id: detached_text(alloc, first.debug_id)?,
-    })
+    compose_into(alloc, &mut first, &mut second)?;
+    Ok(second)
 }

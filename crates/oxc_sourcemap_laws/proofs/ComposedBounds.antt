@@ -1,15 +1,15 @@
 -- The tokens of a composition are in bounds.
-use Rattle.std.proofs.Common.{◌≡◌, ℕ, ◌<◌, Bool, true, false, cond, nat_lt, List, [], ◌∷◌, map, refl, subst, arith, Option, Some, None, Ok, Err}
+use Rattle.std.proofs.Common.{◌≡◌, ℕ, ◌<◌, Bool, true, false, cond, List, [], ◌∷◌, map, refl, subst, arith, Option, Some, None, Ok, Err}
 use Rattle.std.specs.List.{AllByRecursion}
 use Rattle.std.specs.Option.{IfSome, option_or}
 use Rattle.std.proofs.lemmas.Bool.{and_parts}
 use Rattle.std.proofs.lemmas.Bool.Decides.{nat_tests}
 use Rattle.std.proofs.lemmas.List.Elements.{recursion_from_All, All-from_recursion}
-use Rattle.oxc_sourcemap_mappings.specs.declared.error.Error.TheVariants.{SeveralSources, TooLarge}
+use Rattle.oxc_sourcemap_mappings.specs.declared.error.Error.{Error}
+use Rattle.oxc_sourcemap_mappings.specs.declared.error.Error.TheVariants.{TooLarge}
 use Rattle.oxc_sourcemap_mappings.specs.Token.{TokenRecord, IsInBounds, AreInBounds}
-use Rattle.oxc_sourcemap_mappings.specs.Canonical.{first_out_of_order}
 use Rattle.oxc_sourcemap_parts.specs.Record.{Text, MapRecord}
-use Rattle.oxc_sourcemap_compose.specs.Composed.{lead_to, lead_into, line_of, found_on, leads, taken_id, composed_names, composed_token, composed, may_be_id, are_ids, if_in_order, composition}
+use Rattle.oxc_sourcemap_compose.specs.Composed.{lead_to, lead_into, line_of, found_on, leads, taken_id, composed_names, composed_token, composed, may_be_id, are_ids, unless, composition_fault, composition}
 use Rattle.oxc_sourcemap_compose.proofs.Leads.{found-all}
 
 small-id : (id taken : Option ℕ) → IfSome id (λ n. n < 4294967295) → may_be_id taken ≡ true → IfSome (option_or id taken) (λ n. n < 4294967295)
@@ -28,15 +28,14 @@ all-through olds names bs (t ∷ ts) h k e =
     let p = and_parts (may_be_id (taken_id olds names (lead_into bs t))) (are_ids olds names (map (lead_into bs) ts)) e in
     (through olds names t (found_on (line_of bs t) t) k.0 (found-all IsInBounds bs t h) p.0, all-through olds names bs ts h k.1 p.1)
 
-given : (several : Bool) (n : ℕ) (order : Option ℕ) (ids : Bool) (r m : MapRecord) → cond several (Err (SeveralSources n)) (if_in_order order (cond ids (Ok r) (Err TooLarge))) ≡ Ok m → (ids ≡ true) × (r ≡ m)
-given true n order ids r m e = absurd (cc (e))
-given false n (Some i) ids r m e = absurd (cc (e))
-given false n None true r m e = (refl, cc (e))
-given false n None false r m e = absurd (cc (e))
+given : (fault : Option Error) (ids : Bool) (r m : MapRecord) → unless fault (cond ids (Ok r) (Err TooLarge)) ≡ Ok m → (ids ≡ true) × (r ≡ m)
+given (Some f) ids r m e = absurd (cc (e))
+given None true r m e = (refl, cc (e))
+given None false r m e = absurd (cc (e))
 
 pub bounds_composed : (a b m : MapRecord) → AreInBounds a.tokens → AreInBounds b.tokens → composition a b ≡ Ok m → AreInBounds m.tokens
 bounds_composed a b m h k e =
     let names = composed_names a.names b.names (leads a b) in
-    let g = given (nat_lt 1 _) _ (first_out_of_order b.tokens) (are_ids a.names names (leads a b)) (composed a b) m e in
+    let g = given (composition_fault a b) (are_ids a.names names (leads a b)) (composed a b) m e in
     let all = all-through a.names names b.tokens a.tokens (recursion_from_All IsInBounds b.tokens k) (recursion_from_All IsInBounds a.tokens h) g.0 in
     subst (λ (r : MapRecord). AreInBounds r.tokens) g.1 (All-from_recursion IsInBounds (composed a b).tokens all)

@@ -1,38 +1,34 @@
 -- The two groupings of a composition of three maps, and their refusals.
-use Rattle.std.proofs.Common.{◌≡◌, ◌≢◌, ◌↔◌, ℕ, ◌+◌, ◌≤◌, ◌<◌, Bool, true, false, cond, ◌&&◌, List, [], ◌∷◌, length, refl, sym, ap, ◌∙◌, arith, nat_lt, Option, Some, None, Result, Ok, Err}
+use Rattle.std.proofs.Common.{◌≡◌, ◌≢◌, ◌↔◌, ℕ, ◌+◌, ◌≤◌, ◌<◌, Bool, true, false, cond, ◌&&◌, List, [], ◌∷◌, length, refl, sym, ap, ◌∙◌, arith, nat_lt, Option, Some, None, option_map, Result, Ok, Err}
 use Rattle.std.proofs.lemmas.Bool.Decides.{nat_tests}
 use Rattle.std.specs.Option.{option_and_then}
 use Rattle.oxc_sourcemap_mappings.specs.declared.error.Error.{Error}
-use Rattle.oxc_sourcemap_mappings.specs.declared.error.Error.TheVariants.{SeveralSources, TooLarge}
+use Rattle.oxc_sourcemap_mappings.specs.declared.error.Error.TheVariants.{SeveralSources, LineOrder, TooLarge}
 use Rattle.oxc_sourcemap_mappings.specs.Canonical.{first_out_of_order}
 use Rattle.oxc_sourcemap_parts.specs.Record.{Text, MapRecord}
 use Rattle.oxc_sourcemap_parts.specs.Texts.{place_of}
 use Rattle.oxc_sourcemap_parts.specs.Sound.{IsSound}
 use Rattle.oxc_sourcemap_parts.specs.Sheet.{sheet_of}
-use Rattle.oxc_sourcemap_compose.specs.Composed.{Lead, leads, taken_name, taken_id, may_be_id, are_ids, composed_names, composed, if_in_order, composition}
+use Rattle.oxc_sourcemap_compose.specs.Composed.{Lead, leads, taken_name, taken_id, may_be_id, are_ids, composed_names, composed, unless, composition_fault, composition}
 use Rattle.oxc_sourcemap_parts.proofs.Order.{sorted_in_order}
 use Rattle.oxc_sourcemap_laws.specs.ComposeLaws.{then_with, with_then, grouped_left, grouped_right, IsSeveralSources}
 use Rattle.oxc_sourcemap_laws.proofs.Compositions.{place-below, records_associative, sound_composed}
 use Rattle.oxc_sourcemap_laws.proofs.ComposedNames.{names-most}
 
 -- ---- a composition, case by case
-abbrev composition_if : Bool → Option ℕ → Bool → MapRecord → MapRecord → Result MapRecord Error
-composition_if many order fit a b = cond many (Err (SeveralSources (length a.sources))) (if_in_order order (cond fit (Ok (composed a b)) (Err TooLarge)))
-
 abbrev is_many : MapRecord → Bool
 is_many a = nat_lt 1 (length a.sources)
 
 abbrev do_ids_fit : MapRecord → MapRecord → Bool
 do_ids_fit a b = are_ids a.names (composed_names a.names b.names (leads a b)) (leads a b)
 
-ok-if : (many : Bool) (order : Option ℕ) (fit : Bool) (a b r : MapRecord) → composition_if many order fit a b ≡ Ok r → r ≡ composed a b
-ok-if true order fit a b r e = absurd (cc (e))
-ok-if false (Some i) fit a b r e = absurd (cc (e))
-ok-if false None true a b r e = cc (e)
-ok-if false None false a b r e = absurd (cc (e))
+ok-if : (fault : Option Error) (fit : Bool) (a b r : MapRecord) → unless fault (cond fit (Ok (composed a b)) (Err TooLarge)) ≡ Ok r → r ≡ composed a b
+ok-if (Some f) fit a b r e = absurd (cc (e))
+ok-if None true a b r e = cc (e)
+ok-if None false a b r e = absurd (cc (e))
 
 is-composed : (a b r : MapRecord) → composition a b ≡ Ok r → r ≡ composed a b
-is-composed a b r e = ok-if (is_many a) (first_out_of_order b.tokens) (do_ids_fit a b) a b r e
+is-composed a b r e = ok-if (composition_fault a b) (do_ids_fit a b) a b r e
 
 several : (a b : MapRecord) → is_many a ≡ true → composition a b ≡ Err (SeveralSources (length a.sources))
 several a b e = rw e
@@ -141,7 +137,9 @@ past-ids first names (l ∷ ls) e =
       | false ↦ (λ q k. past-at (taken_id first names l) (length names) (λ i p. place-within names (taken_name first l) i p) q)
     ] refl e
 
-room-if : (many : Bool) (order : Option ℕ) (fit : Bool) (a b : MapRecord) → do_ids_fit a b ≡ fit → composition_if many order fit a b ≡ Err TooLarge → 4294967295 < length a.names + length b.names
+room-if : (many : Bool) (order : Option ℕ) (fit : Bool) (a b : MapRecord) → do_ids_fit a b ≡ fit
+    → unless (cond many (Some (SeveralSources (length a.sources))) (option_map LineOrder order)) (cond fit (Ok (composed a b)) (Err TooLarge)) ≡ Err TooLarge
+    → 4294967295 < length a.names + length b.names
 room-if true order fit a b i e = absurd (cc (e))
 room-if false (Some j) fit a b i e = absurd (cc (e))
 room-if false None true a b i e = absurd (cc (e))

@@ -1,9 +1,10 @@
 //! Composition of maps: a map from generated to intermediate code and one from intermediate to original code, made one
 //! map from generated to original code.
-ghost use Rattle.std.specs.Prelude.{◌≡◌, ◌≢◌, true, IfOk, IfErr, Ok, Err};
+ghost use Rattle.std.specs.Prelude.{◌≡◌, ◌≢◌, true, Some, IfOk, IfErr, Ok, Err};
+ghost use Rattle.oxc_sourcemap_mappings.specs.declared.error.Error.{Error};
 ghost use Rattle.oxc_sourcemap_mappings.specs.declared.error.Error.TheVariants.{OutOfMemory};
 ghost use Rattle.oxc_sourcemap_parts.specs.Sorted.{are_tokens_sorted};
-ghost use Rattle.oxc_sourcemap_compose.specs.Composed.{composition, SomeComposition, ColumnsGoOn};
+ghost use Rattle.oxc_sourcemap_compose.specs.Composed.{composition, composition_fault, SomeComposition, ColumnsGoOn};
 
 use crate::sourcemap::SourceMap;
 use oxc_sourcemap_compose::compose_parts;
@@ -30,6 +31,8 @@ impl<'a> SourceMap<'a> {
     /// - `LineOrder(i)` for the first token i of `input` whose line is smaller than that of the token in front;
     /// - `TooLarge` where a name taken from this map would have an id above 4294967294;
     /// - `OutOfMemory` where memory is refused.
+    ///
+    /// The first two are found before any memory is asked for, and told wherever they hold.
     #[tactic(auto, using(oxc_sourcemap_lookup::proofs::OwnTables::line_goes_on))]
     pub fn compose<'input>(
         self,
@@ -40,6 +43,7 @@ impl<'a> SourceMap<'a> {
         ensures refused { ColumnsGoOn input.entry.tokens → IfErr result (λ e. (e ≢ OutOfMemory) → composition self.entry input.entry ≡ Err e) }
         ensures any_map { IfOk result (λ map. SomeComposition self.entry input.entry (Ok map)) }
         ensures any_refused { IfErr result (λ e. (e ≢ OutOfMemory) → SomeComposition self.entry input.entry (Err e)) }
+        ensures fault { (e : Error) → composition_fault self.entry input.entry ≡ Some e → result ≡ Err e }
 
         // True of every list, and stated here for callers that need it.
         ensures sorted_goes_on { are_tokens_sorted input.entry.tokens ≡ true → ColumnsGoOn input.entry.tokens }

@@ -115,6 +115,7 @@ impl<'a> SourceMap<'a> {
             → option_map view_of result ≡ option_map (seen_in self.now) (clamped_pick token_line token_column self.now.tokens line col) }
         ensures traced { are_tokens_sorted self.now.tokens ≡ true → line_table self.now.tokens ≡ Ok (map (λ s. s.now) lookup_table.now)
             → option_map view_origin (option_map view_of result) ≡ clamped_trace (sheet_of self.now) line col }
+        ensures clamped { IsNone result → slice_of (map (λ s. s.now) lookup_table.now) line ≡ [] }
     {
         self.seen(self.lookup_token_approx(lookup_table, line, col))
     }

@@ -5,6 +5,7 @@ ghost use Rattle.std.specs.Borrow.{Lends, sem};
 ghost use Rattle.std.specs.Iterator.{IsFinite, Drains};
 ghost use Rattle.std.specs.List.{Contains};
 ghost use Rattle.oxc_sourcemap_mappings.specs.declared.error.Error.TheVariants.{OutOfMemory};
+ghost use Rattle.oxc_sourcemap_mappings.specs.declared.error.Error.{Error};
 ghost use Rattle.oxc_sourcemap_mappings.specs.Token.{AreInBounds};
 ghost use Rattle.oxc_sourcemap_json.specs.Json.{json_record};
 ghost use Rattle.oxc_sourcemap_parts.specs.Views.{record_of_parts, empty_record};
@@ -16,7 +17,7 @@ ghost use Rattle.oxc_sourcemap_json.specs.Encoded.{encoded};
 ghost use Rattle.oxc_sourcemap_json.specs.ReadMap.{read_map, read_sheet};
 ghost use Rattle.oxc_sourcemap_json.specs.JsonText.{map_text, map_url};
 ghost use Rattle.oxc_sourcemap_lookup.specs.Lookup.{at, clamped_at, pick, clamped_pick, no_column_goes_back, line_table, slice_of};
-ghost use Rattle.oxc_sourcemap_compose.specs.Composed.{composition, SomeComposition, ColumnsGoOn};
+ghost use Rattle.oxc_sourcemap_compose.specs.Composed.{composition, composition_fault, SomeComposition, ColumnsGoOn};
 ghost use Rattle.oxc_sourcemap_lookup.specs.Trace.{trace, clamped_trace};
 ghost use Rattle.oxc_sourcemap_map.specs.View.{view_of, seen_in, view_origin, content_at, source_and_content_at};
 ghost use Rattle.oxc_sourcemap_map.specs.contracts.owned_sourcemap.OwnedSourceMap.{the_row};
@@ -148,6 +149,7 @@ impl OwnedSourceMap {
         ensures refused { ColumnsGoOn input.tokens → IfErr result (λ e. (e ≢ OutOfMemory) → composition self input ≡ Err e) }
         ensures any_map { IfOk result (λ map. SomeComposition self input (Ok map)) }
         ensures any_refused { IfErr result (λ e. (e ≢ OutOfMemory) → SomeComposition self input (Err e)) }
+        ensures fault { (e : Error) → composition_fault self input ≡ Some e → result ≡ Err e }
 
         // True of every list, and stated here for callers that need it.
         ensures sorted_goes_on { are_tokens_sorted input.tokens ≡ true → ColumnsGoOn input.tokens }
@@ -398,6 +400,7 @@ impl OwnedSourceMap {
             → option_map view_of result ≡ option_map (seen_in self.now) (clamped_pick token_line token_column self.now.tokens line col) }
         ensures traced { are_tokens_sorted self.now.tokens ≡ true → line_table self.now.tokens ≡ Ok (map (λ s. s.now) lookup_table.now)
             → option_map view_origin (option_map view_of result) ≡ clamped_trace (sheet_of self.now) line col }
+        ensures clamped { IsNone result → slice_of (map (λ s. s.now) lookup_table.now) line ≡ [] }
     {
         self.inner
             .lookup_source_view_token_approx(lookup_table, line, col)

@@ -1,5 +1,5 @@
 -- What readings, rewritings, joins and compositions give, by what their parts give.
-use Rattle.std.proofs.Common.{◌≡◌, ◌≢◌, ℕ, suc, ◌≤◌, ◌<◌, Bool, true, false, cond, ◌&&◌, List, [], ◌∷◌, ◌++◌, map, length, refl, sym, ap, ◌∙◌, subst, arith, nat_le, nat_lt, Option, Some, None, Result, Ok, Err, inl, inr, ◌⊎◌}
+use Rattle.std.proofs.Common.{◌≡◌, ◌≢◌, ℕ, suc, ◌≤◌, ◌<◌, Bool, true, false, cond, ◌&&◌, List, [], ◌∷◌, ◌++◌, map, length, refl, sym, ap, ◌∙◌, subst, arith, nat_le, nat_lt, Option, Some, None, option_map, Result, Ok, Err, inl, inr, ◌⊎◌}
 use Rattle.std.specs.List.{flat_map, AllByRecursion}
 use Rattle.std.specs.Option.{IfSome}
 use Rattle.std.proofs.lemmas.Bool.{and_parts, and_left, and_right, false_from_ne_true, both_ways, cases_lt}
@@ -23,7 +23,7 @@ use Rattle.oxc_sourcemap_json.specs.ReadMap.{read_map}
 use Rattle.oxc_sourcemap_json.specs.MapLaws.{SoundIsWritten, SoundIsTooLarge, SoundReadsBack, SoundStaysSound, ReadIsInBounds, rewritten}
 use Rattle.oxc_sourcemap_join.specs.Joined.{is_same_token, without_repeat, shifted, added, added_all, nothing_joined, joined, IsWithinLimits}
 use Rattle.oxc_sourcemap_lookup.specs.Lookup.{last}
-use Rattle.oxc_sourcemap_compose.specs.Composed.{leads, composed_names, composed, are_ids, if_in_order, composition}
+use Rattle.oxc_sourcemap_compose.specs.Composed.{leads, composed_names, composed, are_ids, unless, composition}
 use Rattle.oxc_sourcemap_laws.specs.Squeezed.{squeezed_sheet, Alike, is_sorted_sheet}
 use Rattle.oxc_sourcemap_laws.proofs.AlikeSheets.{matches}
 use Rattle.oxc_sourcemap_laws.specs.JoinedSheets.{joined_sheets, lowered}
@@ -361,13 +361,13 @@ second_refuses a p q e g r = elim r [
   ]
 ]
 
-given : (several : Bool) (n : ℕ) (order : Option ℕ) (ids : Bool) (r m : MapRecord) → cond several (Err (SeveralSources n)) (if_in_order order (cond ids (Ok r) (Err TooLarge))) ≡ Ok m → (several ≡ false) × (r ≡ m)
+given : (several : Bool) (n : ℕ) (order : Option ℕ) (ids : Bool) (r m : MapRecord) → unless (cond several (Some (SeveralSources n)) (option_map LineOrder order)) (cond ids (Ok r) (Err TooLarge)) ≡ Ok m → (several ≡ false) × (r ≡ m)
 given true n order ids r m e = absurd (cc (e))
 given false n (Some i) ids r m e = absurd (cc (e))
 given false n None true r m e = (refl, cc (e))
 given false n None false r m e = absurd (cc (e))
 
-not-given : (several : Bool) (n : ℕ) (order : Option ℕ) (ids : Bool) (r : MapRecord) (e : Error) → order ≡ None → cond several (Err (SeveralSources n)) (if_in_order order (cond ids (Ok r) (Err TooLarge))) ≡ Err e
+not-given : (several : Bool) (n : ℕ) (order : Option ℕ) (ids : Bool) (r : MapRecord) (e : Error) → order ≡ None → unless (cond several (Some (SeveralSources n)) (option_map LineOrder order)) (cond ids (Ok r) (Err TooLarge)) ≡ Err e
     → ((several ≡ true) × (SeveralSources n ≡ e)) ⊎ ((several ≡ false) × (TooLarge ≡ e))
 not-given true n order ids r e o k = inl (refl, cc (k))
 not-given false n (Some i) ids r e o k = absurd (cc (o))

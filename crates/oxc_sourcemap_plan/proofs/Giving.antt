@@ -1,7 +1,7 @@
 -- What readings, rewritings, joins and compositions give, by what their parts give.
-use Rattle.std.proofs.Common.{◌≡◌, ◌≢◌, ℕ, suc, ◌≤◌, ◌<◌, Bool, true, false, cond, ◌&&◌, List, [], ◌∷◌, ◌++◌, map, length, refl, sym, ap, ◌∙◌, subst, arith, nat_le, nat_lt, Option, Some, None, option_map, Result, Ok, Err, inl, inr, ◌⊎◌}
-use Rattle.std.specs.List.{flat_map, AllByRecursion}
-use Rattle.std.specs.Option.{IfSome}
+use Rattle.std.proofs.Common.{is_some, ◌≡◌, ◌≢◌, ℕ, suc, ◌≤◌, ◌<◌, Bool, true, false, cond, ◌&&◌, List, [], ◌∷◌, ◌++◌, map, length, refl, sym, ap, ◌∙◌, subst, arith, nat_le, nat_lt, Option, Some, None, option_map, Result, Ok, Err, inl, inr, ◌⊎◌}
+use Rattle.std.specs.List.{flat_map, list_any, AllByRecursion}
+use Rattle.std.specs.Option.{IfSome, unwrap_or}
 use Rattle.std.proofs.lemmas.Bool.{and_parts, and_left, and_right, false_from_ne_true, both_ways, cases_lt}
 use Rattle.std.proofs.lemmas.Bool.Decides.{nat_tests}
 use Rattle.std.proofs.lemmas.List.{length-append, length-map}
@@ -17,11 +17,12 @@ use Rattle.oxc_sourcemap_parts.specs.Sorted.{are_tokens_sorted}
 use Rattle.oxc_sourcemap_parts.specs.Sound.{IsInRange, IsSound}
 use Rattle.oxc_sourcemap_parts.specs.Sheet.{Source, Entry, Sheet, sources_of, entry_of, sheet_of}
 use Rattle.oxc_sourcemap_json.specs.Decoded.{decoded}
-use Rattle.oxc_sourcemap_json.specs.Encoded.{encoded, encoded_record, encoded_unless}
+use Rattle.oxc_sourcemap_json.specs.Encoded.{encoded, encoded_record, encoded_unless, written_contents}
 use Rattle.oxc_sourcemap_mappings.specs.Chunks.{writing_fault}
 use Rattle.oxc_sourcemap_json.specs.ReadMap.{read_map}
 use Rattle.oxc_sourcemap_json.specs.MapLaws.{SoundIsWritten, SoundIsTooLarge, SoundReadsBack, SoundStaysSound, ReadIsInBounds, rewritten}
 use Rattle.oxc_sourcemap_join.specs.Joined.{is_same_token, without_repeat, shifted, added, added_all, nothing_joined, joined, IsWithinLimits}
+use Rattle.oxc_sourcemap_join.proofs.Fitted.{length-fitted}
 use Rattle.oxc_sourcemap_lookup.specs.Lookup.{last}
 use Rattle.oxc_sourcemap_compose.specs.Composed.{leads, composed_names, composed, are_ids, unless, composition}
 use Rattle.oxc_sourcemap_laws.specs.Squeezed.{squeezed_sheet, Alike, is_sorted_sheet}
@@ -34,7 +35,7 @@ use Rattle.oxc_sourcemap_plan.specs.declared.plan.PlanError.{PlanError}
 use Rattle.oxc_sourcemap_plan.specs.declared.plan.PlanError.TheVariants.{Map, Unsorted}
 use Rattle.oxc_sourcemap_plan.specs.Meaning.{read_meaning, onto_sheets, all_sheets, join_meaning, composition_meaning}
 use Rattle.oxc_sourcemap_plan.specs.Room.{are_counts_fitting, are_lines_fitting, is_fitting, is_join_fitting}
-use Rattle.oxc_sourcemap_plan.specs.Outcome.{Outcome, read_outcome, rewrite_outcome, meanings, names_of_all, are_all_roomy, join_outcome, composition_outcome}
+use Rattle.oxc_sourcemap_plan.specs.Outcome.{Outcome, read_outcome, rewrite_outcome, meanings, names_of_all, joined_source_count, are_all_roomy, join_outcome, composition_outcome}
 use Rattle.oxc_sourcemap_plan.specs.Evaluated.{is_among, are_among, Gives, RefusesFor, AllGive}
 use Rattle.oxc_sourcemap_plan.proofs.Known.{among-left, among-right, among-both, among-self, all-more, all-weaker}
 use Rattle.oxc_sourcemap_plan.proofs.Decoding.{decoded-bounds, sorted-order}
@@ -94,6 +95,7 @@ read_gives law text r e h s =
       in_bounds = law text r e;
       tokens = rw length-map (omega arith);
       names = omega arith;
+      contents = omega arith;
       known = among-self r.names;
       room = room;
       rewritten = λ k. absurd (both_ways false refl k);
@@ -119,6 +121,9 @@ written-is : (o : Option Error) (r : MapRecord) (j : JsonRecord) → encoded_unl
 written-is None r j e = cc (e)
 written-is (Some fault) r j e = absurd (cc (e))
 
+written-most : (cs : List (Option Text)) → length (unwrap_or (written_contents cs) []) ≤ length cs
+written-most cs = elim (list_any is_some cs) as (λ b. length (unwrap_or (cond b (Some cs) None) []) ≤ length cs) [ true ↦ omega arith | false ↦ omega arith ]
+
 pub rewrite_gives : ReadsAgain → SoundReadsBack → SoundStaysSound → (r m : MapRecord) (j : JsonRecord) → encoded r ≡ Ok j → decoded j ≡ Ok m → (o : Outcome) → Gives r o → Gives m (rewrite_outcome o)
 rewrite_gives law back stays r m j e d o g =
     let w : encoded_record r ≡ j = written-is (writing_fault r.tokens r.token_chunks) r j e in
@@ -127,6 +132,7 @@ rewrite_gives law back stays r m j e d o g =
     let d' : decoded (encoded_record r) ≡ Ok m = ap decoded w ∙ d in
     let is : rewritten r ≡ m = ok-same _ _ (sym b.is_read ∙ d') in
     let gt = g.tokens in let sc = st.count in
+    let gc = g.contents in let cs = written-most r.source_contents in
     subst (λ x. Gives x (rewrite_outcome o)) is (record {
       sheet = g.sheet;
       means = g.means;
@@ -134,6 +140,7 @@ rewrite_gives law back stays r m j e d o g =
       in_bounds = decoded-bounds law (encoded_record r) (rewritten r) b.is_read;
       tokens = subst (λ n. n ≤ length g.sheet.entries) (sym sc) gt;
       names = g.names;
+      contents = omega arith;
       known = g.known;
       room = g.room;
       rewritten = λ _. (refl, st.again);
@@ -250,6 +257,11 @@ alike-each [] (s ∷ ss) h = absurd h
 alike-each (m ∷ ms) [] h = absurd h
 alike-each (m ∷ ms) (s ∷ ss) h = ((h.0.0.alike, h.0.1), alike-each ms ss h.1)
 
+-- a join has one content for each source
+contents-added : (r : MapRecord) (ms : List (MapRecord × ℕ)) → length r.source_contents ≡ length r.sources → length (added_all r ms).source_contents ≡ length (added_all r ms).sources
+contents-added r [] e = e
+contents-added r (m ∷ ms) e = contents-added (added r m.0 m.1) ms (length-fitted (length (r.sources ++ m.0.sources)) (r.source_contents ++ m.0.source_contents))
+
 -- the laws of joins
 pub record JoinLaws : Type 0 where
   pub tests : AlikeTestAlike
@@ -280,6 +292,8 @@ module _ (laws : JoinLaws) (ms : List (MapRecord × ℕ)) (os : List (Outcome ×
         in_bounds = within.in_bounds;
         tokens = omega arith;
         names = subst (λ ns. length ns ≤ length (names_of_all os)) (sym (laws.names ms)) j.names;
+        contents = subst (λ q. length (joined ms).source_contents ≤ joined_source_count q) (sym j.mean)
+            (let one = contents-added nothing_joined ms refl in let ss = same-sources (joined ms) (joined_sheets j.sheets) (s.1 f).alike in omega arith);
         known = ap (are_among (names_of_all os)) (laws.names ms) ∙ j.known;
         room = λ r. (room-of ms os j r).0.entries_fit;
         rewritten = λ r. absurd (both_ways false refl r);
@@ -414,6 +428,7 @@ module _ (laws : ComposeLaws) (a b : MapRecord) (p q : Outcome) (g : Gives a p) 
         in_bounds = subst (λ (x : MapRecord). AreInBounds x.tokens) (sym c.1) (laws.bounds a b m g.in_bounds k.in_bounds e);
         tokens = rw (laws.tokens a b, length-map) g.tokens;
         names = omega arith;
+        contents = k.contents;
         known = ns.0 (is_among (p.names ++ q.names)) (among-left p.names q.names a.names g.known) (among-right p.names q.names b.names k.known);
         room = λ r. (fits-one c.0 r).entries_fit;
         rewritten = λ r. absurd (both_ways false refl r);

@@ -11,6 +11,7 @@ use Rattle.oxc_sourcemap_parts.specs.Record.{Text, MapRecord}
 use Rattle.oxc_sourcemap_parts.specs.Sheet.{Sheet, sheet_of}
 use Rattle.oxc_sourcemap_parts.specs.Sound.{IsSound}
 use Rattle.oxc_sourcemap_laws.specs.Squeezed.{Alike, IsSameButEntries}
+use Rattle.oxc_sourcemap_json.specs.Encoded.{encoded, encoded_record}
 use Rattle.oxc_sourcemap_json.specs.MapLaws.{rewritten, ComesBack}
 use Rattle.oxc_sourcemap_laws.specs.JoinLaws.{StandsFor, HaveSameTraces}
 use Rattle.oxc_sourcemap_plan.specs.declared.plan.PlanError.{PlanError}
@@ -39,6 +40,7 @@ pub record Gives (m : MapRecord) (o : Outcome) : Type 0 where
   pub in_bounds : AreInBounds m.tokens
   pub tokens : length m.tokens ≤ length sheet.entries
   pub names : length m.names ≤ length o.names
+  pub contents : length m.source_contents ≤ o.contents
   pub known : are_among o.names m.names ≡ true
   pub room : o.is_roomy ≡ true → length sheet.entries ≤ 4294967295
   pub rewritten : o.is_rewritten ≡ true → (m.token_chunks ≡ None) × ((rewritten m).tokens ≡ m.tokens)
@@ -51,15 +53,22 @@ RefusesFor e o = (e ≡ Map OutOfMemory) ⊎ ((o.meaning ≡ Err e) ⊎ ((e ≡ 
 abbrev pub AllGive : List (MapRecord × ℕ) → List (Outcome × ℕ) → Type 0
 AllGive ms os = AllZip (λ m o. Gives m.0 o.0 × (m.1 ≡ o.1)) ms os
 
--- A map is as the contract of `evaluate` says of a plan with this outcome, but for what that says of writing: this is cited
--- where the map's text stands.
+-- What is promised of the map that an evaluation answers, by the outcome of the plan.
 pub record IsEvaluated (m : MapRecord) (o : Outcome) : Type 0 where
+  -- the plan means a sheet, and the map is sound and means the same but for repeated entries
   pub sheet : Sheet
   pub means : o.meaning ≡ Ok sheet
   pub sound : IsSound m
   pub alike : Alike (sheet_of m) sheet
   pub traces : HaveSameTraces (sheet_of m) sheet
   pub metadata : IsSameButEntries (sheet_of m) sheet
-  pub names : are_among o.names m.names ≡ true
+  -- it has no more tokens than are meant, and no more names and contents than were read
+  pub tokens : length m.tokens ≤ length sheet.entries
+  pub names : length m.names ≤ length o.names
+  pub contents : length m.source_contents ≤ o.contents
+  pub known : are_among o.names m.names ≡ true
+  -- it is written where it has room, and comes back
   pub rewritten : o.is_rewritten ≡ true → IsReadBack m
+  pub room : o.is_roomy ≡ true → length m.tokens ≤ 4294967295
+  pub written : length m.tokens ≤ 4294967295 → encoded m ≡ Ok (encoded_record m)
   pub comes_back : ComesBack m

@@ -1,12 +1,15 @@
 -- What is said of a plan, by cases on it: what it means, the names of the texts read for it, and whether it is roomy.
-use Rattle.std.specs.Prelude.{ℕ, Bool, true, false, ◌&&◌, List, [], ◌++◌, map, Result, Ok, Err, if◌then◌else◌, nat_le}
+use Rattle.std.specs.Prelude.{ℕ, Bool, true, false, ◌&&◌, List, [], ◌++◌, length, map, Result, Ok, Err, if◌then◌else◌, nat_le}
 use Rattle.std.specs.List.{flat_map, list_all}
 use Rattle.oxc_sourcemap_mappings.specs.declared.error.Error.{Error}
 use Rattle.oxc_sourcemap_parts.specs.Record.{Text, MapRecord}
+use Rattle.oxc_sourcemap_parts.specs.Sheet.{Sheet}
 use Rattle.oxc_sourcemap_json.specs.ReadMap.{read_map}
+use Rattle.oxc_sourcemap_laws.specs.JoinedSheets.{joined_sheets}
 use Rattle.oxc_sourcemap_plan.specs.declared.plan.Plan.{Plan}
 use Rattle.oxc_sourcemap_plan.specs.declared.plan.Plan.TheOpen.{Plan-F}
 use Rattle.oxc_sourcemap_plan.specs.declared.plan.Plan.TheFolds.{fold-Plan}
+use Rattle.oxc_sourcemap_plan.specs.declared.plan.PlanError.{PlanError}
 use Rattle.oxc_sourcemap_plan.specs.declared.plan.PlanError.TheVariants.{TooDeep}
 use Rattle.oxc_sourcemap_plan.specs.Depth.{depth}
 use Rattle.oxc_sourcemap_plan.specs.Meaning.{Meaning, read_meaning, all_sheets, join_meaning, composition_meaning}
@@ -17,6 +20,8 @@ pub record Outcome : Type 0 where
   pub meaning : Meaning
   -- the names of all texts that are read
   pub names : List Text
+  -- how many contents a map lists at most
+  pub contents : ℕ
   -- at every part counts and lines are within the limits
   pub is_roomy : Bool
   -- the last thing done is to write and read again
@@ -27,10 +32,16 @@ abbrev pub names_of_read : Result MapRecord Error → List Text
 names_of_read (Err fault) = []
 names_of_read (Ok r) = r.names
 
+-- how many contents a text that is read lists
+abbrev pub contents_of_read : Result MapRecord Error → ℕ
+contents_of_read (Err fault) = 0
+contents_of_read (Ok r) = length r.source_contents
+
 abbrev pub read_outcome : Result MapRecord Error → Outcome
 read_outcome read = record {
   meaning = read_meaning read;
   names = names_of_read read;
+  contents = contents_of_read read;
   is_roomy = is_fitting (names_of_read read) (read_meaning read);
   is_rewritten = false;
 }
@@ -47,6 +58,11 @@ meanings parts = map (λ p. (p.0.meaning, p.1)) parts
 abbrev pub names_of_all : List (Outcome × ℕ) → List Text
 names_of_all parts = flat_map (λ p. p.0.names) parts
 
+-- how many sources a join of these sheets has
+abbrev pub joined_source_count : Result (List (Sheet × ℕ)) PlanError → ℕ
+joined_source_count (Err e) = 0
+joined_source_count (Ok sheets) = length (joined_sheets sheets).sources
+
 -- all parts of a join are roomy
 abbrev pub are_all_roomy : List (Outcome × ℕ) → Bool
 are_all_roomy parts = list_all (λ p. p.0.is_roomy) parts
@@ -55,6 +71,7 @@ abbrev pub join_outcome : List (Outcome × ℕ) → Outcome
 join_outcome parts = record {
   meaning = join_meaning (all_sheets (meanings parts));
   names = names_of_all parts;
+  contents = joined_source_count (all_sheets (meanings parts));
   is_roomy = are_all_roomy parts && is_join_fitting (names_of_all parts) (all_sheets (meanings parts));
   is_rewritten = false;
 }
@@ -63,6 +80,7 @@ abbrev pub composition_outcome : Outcome → Outcome → Outcome
 composition_outcome first second = record {
   meaning = composition_meaning first.meaning second.meaning;
   names = first.names ++ second.names;
+  contents = second.contents;
   is_roomy = (first.is_roomy && second.is_roomy) && is_fitting (first.names ++ second.names) (composition_meaning first.meaning second.meaning);
   is_rewritten = false;
 }
@@ -80,7 +98,7 @@ outcome_of = fold-Plan Outcome outcome_step
 
 -- what is refused before anything is read
 abbrev pub too_deep : Outcome
-too_deep = record { meaning = Err TooDeep; names = []; is_roomy = true; is_rewritten = false }
+too_deep = record { meaning = Err TooDeep; names = []; contents = 0; is_roomy = true; is_rewritten = false }
 
 -- the outcome of a plan, which is at most 64 deep
 abbrev pub outcome : Plan → Outcome
@@ -93,6 +111,11 @@ meaning plan = (outcome plan).meaning
 -- the names of all texts that are read for a plan
 abbrev pub names_read : Plan → List Text
 names_read plan = (outcome plan).names
+
+-- How many contents the map of a plan lists at most: as many as the text that is read; for a join, as many as it has sources;
+-- for a composition, as many as the map of its second part.
+abbrev pub contents_listed : Plan → ℕ
+contents_listed plan = (outcome plan).contents
 
 -- Whether at every part of a plan names, sources and entries number at most 4294967295, and no line of a join is above
 -- that. A join counts what all its parts have; a composition the names of both, the sources of the second and the entries

@@ -1,19 +1,12 @@
 //! Plans: readings, rewritings, joins and compositions of maps, and what their evaluation answers.
-ghost use Rattle.std.specs.Prelude.{◌≡◌, ◌≤◌, ◌↔◌, ◌⊎◌, ℕ, List, Some, None, Ok, Err, true, false, length, IsTrue, IfOk, IfErr};
-ghost use Rattle.std.specs.Result.{IsOkAnd};
+ghost use Rattle.std.specs.Prelude.{◌≡◌, ◌≤◌, ◌↔◌, ◌⊎◌, ℕ, List, Some, Ok, Err, true, false, IsTrue, IfOk, IfErr};
 ghost use Rattle.oxc_sourcemap_plan.specs.PlanMessages.{plan_error_text};
 ghost use Rattle.oxc_sourcemap_plan.specs.Depth.{depth};
-ghost use Rattle.oxc_sourcemap_plan.specs.Outcome.{Outcome, read_outcome, rewrite_outcome, join_outcome, composition_outcome, outcome_of, outcome, meaning, names_read, is_roomy, is_rewriting};
-ghost use Rattle.oxc_sourcemap_plan.specs.Evaluated.{are_among, IsReadBack, Gives, RefusesFor, AllGive};
+ghost use Rattle.oxc_sourcemap_plan.specs.Outcome.{Outcome, read_outcome, rewrite_outcome, join_outcome, composition_outcome, outcome_of, outcome, meaning, is_roomy};
+ghost use Rattle.oxc_sourcemap_plan.specs.Evaluated.{IsEvaluated, Gives, RefusesFor, AllGive};
 ghost use Rattle.oxc_sourcemap_mappings.specs.declared.error.Error.TheVariants.{OutOfMemory, TooLarge};
 ghost use Rattle.oxc_sourcemap_json.specs.ReadMap.{read_map};
 ghost use Rattle.oxc_sourcemap_parts.specs.Sorted.{are_tokens_sorted};
-ghost use Rattle.oxc_sourcemap_parts.specs.Sound.{IsSound};
-ghost use Rattle.oxc_sourcemap_parts.specs.Sheet.{sheet_of};
-ghost use Rattle.oxc_sourcemap_laws.specs.Squeezed.{Alike, IsSameButEntries};
-ghost use Rattle.oxc_sourcemap_laws.specs.JoinLaws.{HaveSameTraces};
-ghost use Rattle.oxc_sourcemap_json.specs.Encoded.{encoded, encoded_record};
-ghost use Rattle.oxc_sourcemap_json.specs.MapLaws.{ComesBack};
 ghost use Rattle.oxc_sourcemap_plan.specs.declared.plan.PlanError.TheVariants.{Map, Unsorted};
 
 use oxc_sourcemap_join::ConcatSourceMapBuilder;
@@ -207,11 +200,14 @@ fn evaluate_part(alloc: Global, plan: &Plan<'_>) -> Result<SourceMap<'static>, P
 /// `Unsorted` where the map of a text or of a join is not sorted, and `Map(SeveralSources(n))` where the first map of a
 /// composition has n sources and n is above 1. (docs/PROMISES.md.)
 ///
-/// Where a map is answered, the meaning is a sheet, and
+/// Where a map is answered, the meaning is a sheet, and (`IsEvaluated`)
 /// - the map is sound (`sound`), and its sheet alike to the meaning, that is equal but for entries that repeat the one in front
 ///   of them (`alike`); so its exact and clamped traces at every line and column are those of the meaning (`traces`), and
 ///   sources, contents, file, source root, debug id and ignore list are (`metadata`);
-/// - each of its names is a name of some text that was read (`names`);
+/// - it has at most as many tokens as the meaning has entries (`tokens`), and at most as many names as all texts that were
+///   read (`names`), each of which is a name of some such text (`known`);
+/// - it lists at most as many contents as the text that is read; for a join, as there are sources; for a composition, as the
+///   map of the second part (`contents`);
 /// - the map of a `Rewrite` has no chunks, and its text reads as its very tokens (`rewritten`);
 /// - `to_json` writes it, with the canonical text of its tokens as `mappings`, where it has at most 4294967295 tokens
 ///   (`written`), as it has where the plan is roomy (`room`);
@@ -224,15 +220,7 @@ fn evaluate_part(alloc: Global, plan: &Plan<'_>) -> Result<SourceMap<'static>, P
 ///   parts, the sources of the second and the tokens of the first;
 /// - `Map(OutOfMemory)` where memory is refused.
 pub fn evaluate(alloc: Global, plan: &Plan<'_>) -> Result<OwnedSourceMap, PlanError>
-    ensures sound { IfOk result (λ map. IsSound map) }
-    ensures alike { IfOk result (λ map. IsOkAnd (meaning plan.now) (λ sheet. Alike (sheet_of map) sheet)) }
-    ensures traces { IfOk result (λ map. IsOkAnd (meaning plan.now) (λ sheet. HaveSameTraces (sheet_of map) sheet)) }
-    ensures metadata { IfOk result (λ map. IsOkAnd (meaning plan.now) (λ sheet. IsSameButEntries (sheet_of map) sheet)) }
-    ensures names { IfOk result (λ map. are_among (names_read plan.now) map.names ≡ true) }
-    ensures rewritten { IfOk result (λ map. is_rewriting plan.now ≡ true → IsReadBack map) }
-    ensures written { IfOk result (λ map. length map.tokens ≤ 4294967295 → encoded map ≡ Ok (encoded_record map)) }
-    ensures room { IfOk result (λ map. is_roomy plan.now ≡ true → length map.tokens ≤ 4294967295) }
-    ensures comes_back { IfOk result (λ map. ComesBack map) }
+    ensures map { IfOk result (λ map. IsEvaluated map (outcome plan.now)) }
     ensures refused { IfErr result (λ e. (e ≡ Map OutOfMemory) ⊎ ((meaning plan.now ≡ Err e) ⊎ ((e ≡ Map TooLarge) × (is_roomy plan.now ≡ false)))) }
 {
     dropping_harmless();

@@ -1,37 +1,23 @@
 -- What a plan answers, and what it refuses.
-use Rattle.std.proofs.Common.{◌≡◌, ◌≢◌, ℕ, ◌≤◌, true, false, List, length, refl, sym, ap, ◌∙◌, subst, arith, Option, Some, None, Result, Ok, Err, inl, inr, ◌⊎◌}
-use Rattle.std.specs.Result.{IsOkAnd, IsErrOf, OnErr}
+use Rattle.std.proofs.Common.{◌≡◌, ◌≢◌, ℕ, false, List, length, sym, ap, ◌∙◌, subst, arith, Option, Some, None, Result, Ok, Err, inl, inr, ◌⊎◌}
+use Rattle.std.specs.Result.{IsErrOf, OnErr}
 use Rattle.std.specs.Option.{IfSome}
 use Rattle.std.proofs.lemmas.Bool.{cases_lt, false_from_ne_true}
 use Rattle.oxc_sourcemap.specs.Error.{Error}
 use Rattle.oxc_sourcemap.specs.Error.TheVariants.{TooLarge, OutOfMemory}
 use Rattle.oxc_sourcemap.specs.Record.{MapRecord}
-use Rattle.oxc_sourcemap.specs.Sound.{IsSound}
-use Rattle.oxc_sourcemap.specs.Sheet.{sheet_of}
-use Rattle.oxc_sourcemap.specs.Squeezed.{Alike, IsSameButEntries}
-use Rattle.oxc_sourcemap.specs.JoinLaws.{HaveSameTraces}
 use Rattle.oxc_sourcemap.specs.Shape.{◌>>=◌}
 use Rattle.oxc_sourcemap.specs.Encoded.{encoded, encoded_record}
 use Rattle.oxc_sourcemap.specs.JsonText.{json_text, map_text}
-use Rattle.oxc_sourcemap.specs.MapLaws.{ComesBack, SoundIsTooLarge}
+use Rattle.oxc_sourcemap.specs.MapLaws.{SoundIsTooLarge}
 use Rattle.oxc_sourcemap.specs.PlanError.{PlanError}
 use Rattle.oxc_sourcemap.specs.PlanError.TheVariants.{Map}
 use Rattle.smap_run.specs.declared.running.RunError.{RunError}
 use Rattle.smap_run.specs.declared.running.RunError.TheVariants.{Plan}
 use Rattle.smap_run.specs.Refusals.{out_of_memory}
-use Rattle.oxc_sourcemap.specs.Meaning.{Meaning}
 use Rattle.oxc_sourcemap.specs.Outcome.{Outcome}
-use Rattle.oxc_sourcemap.specs.Evaluated.{are_among, IsReadBack, IsEvaluated}
+use Rattle.oxc_sourcemap.specs.Evaluated.{IsEvaluated}
 use Rattle.smap_run.specs.Answer.{IsPlanAnswer, IsPlanRefusal}
-
-evaluated-by : (m : MapRecord) (o : Outcome) (q : Meaning) → o.meaning ≡ q → IsSound m → IsOkAnd q (λ sheet. Alike (sheet_of m) sheet) → IsOkAnd q (λ sheet. HaveSameTraces (sheet_of m) sheet) → IsOkAnd q (λ sheet. IsSameButEntries (sheet_of m) sheet)
-    → are_among o.names m.names ≡ true → (o.is_rewritten ≡ true → IsReadBack m) → ComesBack m → IsEvaluated m o
-evaluated-by m o (Ok s) e a b c d n r k = record { sheet = s; means = e; sound = a; alike = b; traces = c; metadata = d; names = n; rewritten = r; comes_back = k }
-evaluated-by m o (Err f) e a b c d n r k = absurd b
-
-pub evaluated_is : (m : MapRecord) (o : Outcome) → IsSound m → IsOkAnd o.meaning (λ sheet. Alike (sheet_of m) sheet) → IsOkAnd o.meaning (λ sheet. HaveSameTraces (sheet_of m) sheet) → IsOkAnd o.meaning (λ sheet. IsSameButEntries (sheet_of m) sheet)
-    → are_among o.names m.names ≡ true → (o.is_rewritten ≡ true → IsReadBack m) → ComesBack m → IsEvaluated m o
-evaluated_is m o a b c d n r k = evaluated-by m o o.meaning refl a b c d n r k
 
 pub words_refused : (r : Result Outcome RunError) (f e : RunError) → r ≡ Err f → e ≡ f → IsPlanRefusal r e
 words_refused r f e p q = subst (λ r. IsPlanRefusal r e) (sym p) q
@@ -51,13 +37,13 @@ same-error : {A : Type 0} (x y : Error) → ◌≡◌ {A = Result A Error} (Err 
 same-error x y e = cc (e)
 
 pub writing_refused : SoundIsTooLarge → (r : Result Outcome RunError) (o : Outcome) (m : MapRecord) (f : Error) (e : RunError) → r ≡ Ok o → e ≡ Plan (Map f) → (e ≢ out_of_memory) → (f ≢ OutOfMemory → map_text m ≡ Err f)
-    → IsSound m → (length m.tokens ≤ 4294967295 → encoded m ≡ Ok (encoded_record m)) → (o.is_roomy ≡ true → length m.tokens ≤ 4294967295) → IsPlanRefusal r e
-writing_refused law r o m f e k h n refused sound written room =
+    → IsEvaluated m o → IsPlanRefusal r e
+writing_refused law r o m f e k h n refused is =
     let told = refused (λ q. n (h ∙ ap (λ x. Plan (Map x)) q)) in
     subst (λ r. IsPlanRefusal r e) (sym k) (elim (cases_lt 4294967295 (length m.tokens)) [
-      | inl l ↦ (let s = same-error f TooLarge (sym told ∙ fault-of m TooLarge (law m sound l)) in
-          (Map f, h, inr (ap (λ x. Map x) s, false_from_ne_true o.is_roomy (λ t. (let most = room t in omega arith)))))
-      | inr l ↦ absurd (cc (sym told ∙ text-of m (written (omega arith))))
+      | inl l ↦ (let s = same-error f TooLarge (sym told ∙ fault-of m TooLarge (law m is.sound l)) in
+          (Map f, h, inr (ap (λ x. Map x) s, false_from_ne_true o.is_roomy (λ t. (let most = is.room t in omega arith)))))
+      | inr l ↦ absurd (cc (sym told ∙ text-of m (is.written (omega arith))))
     ])
 
 pub plan_answers : (r : Result Outcome RunError) (o : Outcome) (m : MapRecord) (out : List ℕ) → r ≡ Ok o → IsEvaluated m o → map_text m ≡ Ok out → IsPlanAnswer r out

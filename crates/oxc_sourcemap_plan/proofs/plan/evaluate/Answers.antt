@@ -1,8 +1,11 @@
 use Rattle.oxc_sourcemap_plan.specs.Depth.{depth}
 use Rattle.oxc_sourcemap_plan.specs.Outcome.{outcome_of}
-use Rattle.oxc_sourcemap_plan.proofs.Answering.{same_traces}
+use Rattle.oxc_sourcemap_plan.proofs.Answering.{evaluated}
 use Rattle.oxc_sourcemap_plan.proofs.plan.evaluate.Goals as goal
 
-pub returns-clause-traces : goal.returns-clause-traces
-returns-clause-traces c =
-    same_traces (depth c.args.plan.now) (outcome_of c.args.plan.now) c.in_ok-evaluate_part.field-0 c.new.result (c.is_within_depth.ensures.0 c.if-not-is_within_depth.false) c.new.ensures c.dropping_harmless.ensures.alike_traces c.in_ok-evaluate_part.ensures.map
+pub returns-clause-map : goal.returns-clause-map
+returns-clause-map c =
+    let plan = c.args.plan.now in
+    let law = c.canonical_unique.ensures in
+    evaluated c.dropping_harmless.ensures.alike_traces law.sound_is_written law.sound_reads_back (depth plan) (outcome_of plan) c.in_ok-evaluate_part.field-0 c.new.result
+    (c.is_within_depth.ensures.0 c.if-not-is_within_depth.false) c.new.ensures c.in_ok-evaluate_part.ensures.map

@@ -3,7 +3,7 @@ use Rattle.oxc_sourcemap.specs.Outcome.{outcome}
 use Rattle.smap_run.specs.PlanTexts.{texts_in}
 use Rattle.smap_run.specs.PlanWords.{plan_named}
 use Rattle.oxc_sourcemap_plan.proofs.Parts.{from_err}
-use Rattle.smap_run.proofs.PlanAnswers.{evaluated_is, words_refused, evaluation_refused, writing_refused, plan_answers}
+use Rattle.smap_run.proofs.PlanAnswers.{words_refused, evaluation_refused, writing_refused, plan_answers}
 use Rattle.smap_run.proofs.running.plan_text.Goals as goal
 
 pub returns-in_err-plan-clause-refused : goal.returns-in_err-plan-clause-refused
@@ -24,12 +24,11 @@ returns-in_err-to_json_string-clause-refused c =
     let named : plan_named (texts_in c.args.input.now) words ≡ Ok (outcome c.in_ok-plan.plan) = ap (λ ts. plan_named ts words) (sym (ap (map string_bytes) c.as_slice.ensures.value ∙ c.in_ok-texts.ensures)) ∙ c.in_ok-plan.ensures.plan in
     let call = c.in_ok-map.ensures in
     from_err c.from_residual-in_err-to_json_string.result _ _ c.from_residual-in_err-to_json_string.ensures.1 (λ e h n. writing_refused c.canonical_unique.ensures.sound_is_too_large (plan_named (texts_in c.args.input.now) words) (outcome c.in_ok-plan.plan) c.in_ok-map.map
-    c.in_err-to_json_string.field-0.0 e named h n c.in_err-to_json_string.ensures.refused call.sound call.written call.room)
+    c.in_err-to_json_string.field-0.0 e named h n c.in_err-to_json_string.ensures.refused call.map)
 
 pub returns-clause-text : goal.returns-clause-text
 returns-clause-text c =
     let words = map string_bytes c.args.words.now in
     let named : plan_named (texts_in c.args.input.now) words ≡ Ok (outcome c.in_ok-plan.plan) = ap (λ ts. plan_named ts words) (sym (ap (map string_bytes) c.as_slice.ensures.value ∙ c.in_ok-texts.ensures)) ∙ c.in_ok-plan.ensures.plan in
-    let call = c.in_ok-map.ensures in
     plan_answers (plan_named (texts_in c.args.input.now) words) (outcome c.in_ok-plan.plan) c.in_ok-map.map (string_bytes c.in_ok-to_json_string.field-0) named
-    (evaluated_is c.in_ok-map.map (outcome c.in_ok-plan.plan) call.sound call.alike call.traces call.metadata call.names call.rewritten call.comes_back) c.in_ok-to_json_string.ensures.text
+    c.in_ok-map.ensures.map c.in_ok-to_json_string.ensures.text

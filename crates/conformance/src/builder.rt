@@ -1,9 +1,11 @@
 //! Building maps call by call.
+use crate::helpers::{is_written_as, same};
 use oxc_sourcemap::{
-    Error, OwnedSourceMap, Result, SourceMap, SourceMapBuilder, Token, TokenChunk,
+    Error, OwnedSourceMap, Result, SourceMap, SourceMapBuilder, SourceMapParts, SourceViewToken,
+    Token, TokenChunk,
 };
 use std::alloc::Global;
-use std::test::Fail;
+use std::process::Abort;
 
 /// Names in the order in which they are added, and the id of each.
 const NAMES: &[(&str, u32)] = &[("foo", 0), ("bar", 1), ("foo", 0), ("bar", 1)];
@@ -18,59 +20,86 @@ const SOURCES: &[(bool, &str, &str, u32)] = &[
     (false, "a.js", "E", 0),
 ];
 
-#[test]
-fn names_have_one_id_each(rt: HostRuntime) -> std::result::Result<(), Fail> {
-    let mut builder = SourceMapBuilder::empty(rt.alloc());
+/// The JSON text of the map that was built.
+fn text_of(alloc: Global, builder: SourceMapBuilder<'static>) -> Result<String> {
+    builder.into_sourcemap()?.to_json_string(alloc)
+}
+
+/// The same, of the map as an owned one.
+fn owned_text_of(alloc: Global, builder: SourceMapBuilder<'static>) -> Result<String> {
+    builder.into_owned_sourcemap()?.to_json_string(alloc)
+}
+
+fn names_have_one_id_each(rt: &impl Abort, builder: &mut SourceMapBuilder<'_>) {
     for (name, id) in NAMES {
-        assert_eq!(rt; builder.add_name(name), Ok(*id));
+        same(rt, name, builder.add_name(name), Ok(*id));
     }
-    let map = builder.into_sourcemap()?;
-    assert_eq!(rt; map.get_names().len(), 2);
-    assert_eq!(rt; map.get_name(1), Some("bar"));
-    Ok(())
+}
+
+fn names_are_kept_once(rt: &impl Abort, map: &SourceMap<'_>) {
+    same(rt, "number of names", map.get_names().len(), 2);
+    same(rt, "name", map.get_name(1), Some("bar"));
 }
 
 #[test]
-fn sources_are_added_by_their_path_or_set(rt: HostRuntime) -> std::result::Result<(), Fail> {
+fn names_are_added(rt: HostRuntime) -> Result<()> {
     let mut builder = SourceMapBuilder::empty(rt.alloc());
+    names_have_one_id_each(&rt, &mut builder);
+    names_are_kept_once(&rt, &builder.into_sourcemap()?);
+    Ok(())
+}
+
+fn sources_are_added_by_their_path_or_set(rt: &impl Abort, builder: &mut SourceMapBuilder<'_>) {
     for (is_set, path, content, id) in SOURCES {
         let given = if *is_set {
             builder.set_source_and_content(path, content)
         } else {
             builder.add_source_and_content(path, content)
         };
-        assert_eq!(rt; given, Ok(*id));
+        same(rt, content, given, Ok(*id));
     }
-    let map = builder.into_owned_sourcemap()?;
-    assert_eq!(rt;
-        map.to_json_string(rt.alloc())?.as_str(),
-        r#"{"version":3,"names":[],"sources":["a.js","b.js","b.js"],"sourcesContent":["A","B","C"],"mappings":""}"#
+}
+
+#[test]
+fn sources_are_added(rt: HostRuntime) -> Result<()> {
+    let mut builder = SourceMapBuilder::empty(rt.alloc());
+    sources_are_added_by_their_path_or_set(&rt, &mut builder);
+    same(
+        &rt,
+        "text",
+        owned_text_of(rt.alloc(), builder)?.as_str(),
+        r#"{"version":3,"names":[],"sources":["a.js","b.js","b.js"],"sourcesContent":["A","B","C"],"mappings":""}"#,
     );
     Ok(())
 }
 
-/// A builder with unmapped tokens at these columns of line 0, and one chunk that ends at this index.
-fn with_columns(
-    alloc: Global,
-    columns: &[u32],
-    chunk_end: u32,
-) -> Result<SourceMapBuilder<'static>> {
-    let mut builder = SourceMapBuilder::empty(alloc);
-    for column in columns {
-        builder.add_token(0, *column, 0, 0, None, None)?;
-    }
+/// Adds unmapped tokens at the columns 0 and 1, and one chunk that ends at this index.
+fn add_columns(alloc: Global, builder: &mut SourceMapBuilder<'_>, chunk_end: u32) -> Result<()> {
+    builder.add_token(0, 0, 0, 0, None, None)?;
+    builder.add_token(0, 1, 0, 0, None, None)?;
     let chunk = TokenChunk::new(0, chunk_end, 0, 0, 0, 0, 0, 0);
     builder.set_token_chunks(vec![in alloc; chunk]?);
-    Ok(builder)
+    Ok(())
+}
+
+fn map_with_columns(alloc: Global, chunk_end: u32) -> Result<SourceMap<'static>> {
+    let mut builder = SourceMapBuilder::empty(alloc);
+    add_columns(alloc, &mut builder, chunk_end)?;
+    builder.into_sourcemap()
+}
+
+fn a_token_without_a_chunk_is_not_written(rt: &impl Abort, alloc: Global, map: &SourceMap<'_>) {
+    let second = Token::new(0, 1, 0, 0, None, None);
+    same(rt, "second", map.get_token(1), Some(second));
+    is_written_as(rt, alloc, map, Err(Error::BadChunks(1)));
 }
 
 #[test]
-fn chunks_are_looked_at_when_the_map_is_written(rt: HostRuntime) -> std::result::Result<(), Fail> {
-    let map = with_columns(rt.alloc(), &[0, 1], 1)?.into_sourcemap()?;
-    assert_eq!(rt; map.get_token(1), Some(Token::new(0, 1, 0, 0, None, None)));
-    assert_eq!(rt; map.to_json(rt.alloc()).err(), Some(Error::BadChunks(1)));
-    let map = with_columns(rt.alloc(), &[0, 1], 2)?.into_sourcemap()?;
-    assert_eq!(rt; map.to_json(rt.alloc())?.mappings.as_str(), "A,C");
+fn chunks_are_looked_at_when_the_map_is_written(rt: HostRuntime) -> Result<()> {
+    let short = map_with_columns(rt.alloc(), 1)?;
+    a_token_without_a_chunk_is_not_written(&rt, rt.alloc(), &short);
+    let whole = map_with_columns(rt.alloc(), 2)?;
+    is_written_as(&rt, rt.alloc(), &whole, Ok("A,C"));
     Ok(())
 }
 
@@ -84,90 +113,106 @@ fn bundle_map(alloc: Global) -> Result<String> {
     builder.into_sourcemap()?.to_json_string(alloc)
 }
 
-#[test]
-fn a_map_is_built_and_written(rt: HostRuntime) -> std::result::Result<(), Fail> {
-    assert_eq!(rt;
-        bundle_map(rt.alloc())?.as_str(),
-        r#"{"version":3,"file":"file","names":["x"],"sources":["baz.js"],"sourcesContent":[""],"mappings":"AAAAA"}"#
-    );
-    Ok(())
-}
-
-#[test]
-fn a_map_without_tokens_is_built_and_written(rt: HostRuntime) -> std::result::Result<(), Fail> {
-    let mut builder = SourceMapBuilder::empty(rt.alloc());
+/// The same without a token, of a source that is set.
+fn build_texts(builder: &mut SourceMapBuilder<'_>) -> Result<()> {
     builder.set_file("file");
     let _source = builder.set_source_and_content("baz.js", "")?;
     let _name = builder.add_name("x")?;
-    assert_eq!(rt;
-        builder
-            .into_sourcemap()?
-            .to_json_string(rt.alloc())?
-            .as_str(),
-        r#"{"version":3,"file":"file","names":["x"],"sources":["baz.js"],"sourcesContent":[""],"mappings":""}"#
-    );
     Ok(())
 }
 
 #[test]
-fn a_builder_without_anything_gives_an_empty_map(rt: HostRuntime) -> std::result::Result<(), Fail> {
-    let map = SourceMapBuilder::empty(rt.alloc()).into_owned_sourcemap()?;
-    let parts = map.into_parts();
-    assert!(rt; parts.token_chunks.is_none() && parts.file.is_none());
-    assert!(rt; parts.tokens.as_slice().is_empty());
+fn maps_are_built_and_written(rt: HostRuntime) -> Result<()> {
+    same(
+        &rt,
+        "bundle",
+        bundle_map(rt.alloc())?.as_str(),
+        r#"{"version":3,"file":"file","names":["x"],"sources":["baz.js"],"sourcesContent":[""],"mappings":"AAAAA"}"#,
+    );
+    let mut builder = SourceMapBuilder::empty(rt.alloc());
+    build_texts(&mut builder)?;
+    same(
+        &rt,
+        "texts",
+        text_of(rt.alloc(), builder)?.as_str(),
+        r#"{"version":3,"file":"file","names":["x"],"sources":["baz.js"],"sourcesContent":[""],"mappings":""}"#,
+    );
     Ok(())
 }
 
-/// A map of two tokens, built and written.
-fn two_tokens(alloc: Global) -> Result<String> {
-    let mut builder = SourceMapBuilder::empty(alloc);
+fn parts_are_empty(rt: &impl Abort, parts: &SourceMapParts<'_>) {
+    assert!(rt; parts.token_chunks.is_none() && parts.file.is_none());
+    assert!(rt; parts.tokens.is_empty());
+}
+
+#[test]
+fn a_builder_without_anything_gives_an_empty_map(rt: HostRuntime) -> Result<()> {
+    let map = SourceMapBuilder::empty(rt.alloc()).into_owned_sourcemap()?;
+    parts_are_empty(&rt, &map.into_parts());
+    Ok(())
+}
+
+/// Adds two tokens, of which the first has a name.
+fn build_two_tokens(builder: &mut SourceMapBuilder<'_>) -> Result<()> {
     let name = builder.add_name("n")?;
     let source = builder.add_source_and_content("s.js", "src")?;
     builder.add_token(0, 0, 0, 0, Some(source), Some(name))?;
-    builder.add_token(0, 4, 1, 5, Some(source), None)?;
-    builder.into_owned_sourcemap()?.to_json_string(alloc)
+    builder.add_token(0, 4, 1, 5, Some(source), None)
 }
 
-#[test]
-fn what_is_built_is_read_back_and_looked_up(rt: HostRuntime) -> std::result::Result<(), Fail> {
-    let text = two_tokens(rt.alloc())?;
-    let map = SourceMap::from_json_string(rt.alloc(), text.as_str())?;
-    assert_eq!(rt;
-        map.get_token(0),
-        Some(Token::new(0, 0, 0, 0, Some(0), Some(0)))
-    );
-    let table = map.generate_lookup_table(rt.alloc())?;
+fn both_tokens_are_found(rt: &impl Abort, alloc: Global, map: &SourceMap<'_>) -> Result<()> {
+    let first = Token::new(0, 0, 0, 0, Some(0), Some(0));
+    same(rt, "first", map.get_token(0), Some(first));
+    let table = map.generate_lookup_table(alloc)?;
     for (col, origin) in [
         (3, (Some("s.js"), 0, 0, Some("n"))),
         (4, (Some("s.js"), 1, 5, None)),
     ] {
         let Some(view) = map.lookup_source_view_token(table.as_slice(), 0, col) else {
-            return Ok(assert!(rt; false));
+            return Ok(assert!(rt; false, "a view"));
         };
-        assert_eq!(rt; view.to_tuple(), origin);
-        assert_eq!(rt; view.get_source_content(), Some("src"));
+        same(rt, "view", view.to_tuple(), origin);
+        same(rt, "content", view.get_source_content(), Some("src"));
     }
     Ok(())
 }
 
-/// A map with a file, a name, a source and its content, a token and a chunk, owned.
-fn owned(alloc: Global) -> Result<OwnedSourceMap> {
-    let mut builder = SourceMapBuilder::empty(alloc);
+#[test]
+fn what_is_built_is_read_back_and_looked_up(rt: HostRuntime) -> Result<()> {
+    let mut builder = SourceMapBuilder::empty(rt.alloc());
+    build_two_tokens(&mut builder)?;
+    let text = owned_text_of(rt.alloc(), builder)?;
+    let map = SourceMap::from_json_string(rt.alloc(), text.as_str())?;
+    both_tokens_are_found(&rt, rt.alloc(), &map)
+}
+
+/// Adds a file, a name, a source and its content, a token and a chunk.
+fn build_all(alloc: Global, builder: &mut SourceMapBuilder<'_>) -> Result<()> {
     builder.set_file("f.js");
     let name = builder.add_name("n")?;
     let source = builder.add_source_and_content("s.js", "src")?;
     builder.add_token(0, 0, 0, 0, Some(source), Some(name))?;
     builder.set_token_chunks(vec![in alloc; TokenChunk::new(0, 1, 0, 0, 0, 0, 0, 0)]?);
-    builder.into_owned_sourcemap()
+    Ok(())
+}
+
+fn all_is_there(rt: &impl Abort, map: &OwnedSourceMap) {
+    let texts = [
+        map.get_file(),
+        map.get_name(0),
+        map.get_source(0),
+        map.get_source_content(0),
+    ];
+    let wanted = [Some("f.js"), Some("n"), Some("s.js"), Some("src")];
+    same(rt, "texts", texts, wanted);
+    same(rt, "number of tokens", map.get_tokens().len(), 1);
+    assert!(rt; map.is_sound());
 }
 
 #[test]
-fn an_owned_map_has_what_was_built(rt: HostRuntime) -> std::result::Result<(), Fail> {
-    let map = owned(rt.alloc())?;
-    let texts = [map.get_file(), map.get_name(0), map.get_source(0)];
-    assert_eq!(rt; texts, [Some("f.js"), Some("n"), Some("s.js")]);
-    assert_eq!(rt; map.get_source_content(0), Some("src"));
-    assert_eq!(rt; map.get_tokens().len(), 1);
-    assert!(rt; map.is_sound());
+fn an_owned_map_has_what_was_built(rt: HostRuntime) -> Result<()> {
+    let mut builder = SourceMapBuilder::empty(rt.alloc());
+    build_all(rt.alloc(), &mut builder)?;
+    all_is_there(&rt, &builder.into_owned_sourcemap()?);
     Ok(())
 }

@@ -1,9 +1,8 @@
 //! Composition of maps, plain and owned.
-use crate::mappings::{Row, tokens_of};
-use oxc_sourcemap::{Error, OwnedSourceMap, SourceMap};
-use std::alloc::{AllocError, Global};
-use std::borrow::CowStr;
-use std::test::Fail;
+use crate::helpers::{Row, is_written_as, map_of, same, tokens_of};
+use oxc_sourcemap::{Error, OwnedSourceMap, Result, SourceMap};
+use std::alloc::Global;
+use std::process::Abort;
 
 /// Names, sources and tokens of a map.
 type Parts = (
@@ -44,7 +43,7 @@ const HALF_NAMED: Parts = (
 );
 
 /// Two maps, and what they compose to.
-const COMPOSITIONS: &[(Parts, Parts, Result<Parts, Error>)] = &[
+const COMPOSITIONS: &[(Parts, Parts, Result<Parts>)] = &[
     (
         (&[], &["m"], &[(0, 0, 0, 2, Some(0), None)]),
         (&[], &["o"], &[(0, 5, 2, 1, Some(0), None)]),
@@ -88,123 +87,153 @@ const COMPOSITIONS: &[(Parts, Parts, Result<Parts, Error>)] = &[
     ),
 ];
 
-/// Texts, lent.
-fn lent(alloc: Global, texts: &[&'static str]) -> Result<Vec<CowStr<'static>>, AllocError> {
-    let mut lent_ones = Vec::new(alloc);
-    for text in texts {
-        lent_ones.push(CowStr::Borrowed(*text))?;
-    }
-    Ok(lent_ones)
+fn map_of_parts(alloc: Global, parts: &Parts) -> Result<SourceMap<'static>> {
+    map_of(alloc, parts.0, parts.1, &[], parts.2)
 }
 
-/// A map of these names, sources and tokens.
-fn map_of(alloc: Global, parts: &Parts) -> Result<SourceMap<'static>, AllocError> {
-    Ok(SourceMap::new(
-        None,
-        lent(alloc, parts.0)?,
-        None,
-        lent(alloc, parts.1)?,
-        Vec::new(alloc),
-        tokens_of(alloc, parts.2)?.into_boxed_slice(),
-        None,
-    ))
+fn composed(alloc: Global, first: &Parts, second: &Parts) -> Result<SourceMap<'static>> {
+    let input = map_of_parts(alloc, second)?;
+    map_of_parts(alloc, first)?.compose(alloc, input)
 }
 
-/// Whether a map has these names, sources and tokens.
-fn is_of(alloc: Global, map: &SourceMap<'_>, parts: &Parts) -> Result<bool, AllocError> {
+fn owned_composed(alloc: Global, first: &Parts, second: &Parts) -> Result<OwnedSourceMap> {
+    let input = OwnedSourceMap::new(map_of_parts(alloc, second)?);
+    OwnedSourceMap::new(map_of_parts(alloc, first)?).compose(alloc, input)
+}
+
+/// Asserts that a map has these names, sources and tokens.
+fn is_of(rt: &impl Abort, alloc: Global, map: &SourceMap<'_>, parts: &Parts) -> Result<()> {
     let mut names = Vec::new(alloc);
     for name in map.get_names() {
         names.push(name)?;
     }
+    same(rt, "names", names.as_slice(), parts.0);
     let mut sources = Vec::new(alloc);
     for source in map.get_sources() {
         sources.push(source)?;
     }
+    same(rt, "sources", sources.as_slice(), parts.1);
     let mut tokens = Vec::new(alloc);
     for token in map.get_tokens() {
         tokens.push(token)?;
     }
-    Ok(
-        names.as_slice() == parts.0
-            && sources.as_slice() == parts.1
-            && tokens.as_slice() == tokens_of(alloc, parts.2)?.as_slice(),
-    )
+    same(
+        rt,
+        "tokens",
+        tokens.as_slice(),
+        tokens_of(alloc, parts.2)?.as_slice(),
+    );
+    Ok(())
+}
+
+/// Asserts that a composition gave this map or was refused so.
+fn is_as_wanted(
+    rt: &impl Abort,
+    alloc: Global,
+    composed: Result<&SourceMap<'_>>,
+    want: &Result<Parts>,
+) -> Result<()> {
+    match (composed, want) {
+        (Ok(map), Ok(parts)) => is_of(rt, alloc, map, parts),
+        (composed, want) => Ok(same(rt, "refusal", composed.err(), want.err())),
+    }
+}
+
+/// A composition that may be refused, borrowed.
+fn borrowed<'m>(composed: &'m Result<SourceMap<'static>>) -> Result<&'m SourceMap<'static>> {
+    match composed {
+        Ok(map) => Ok(map),
+        Err(fault) => Err(*fault),
+    }
+}
+
+/// The same of an owned map.
+fn inside(composed: &Result<OwnedSourceMap>) -> Result<&SourceMap<'static>> {
+    match composed {
+        Ok(map) => Ok(map.as_source_map()),
+        Err(fault) => Err(*fault),
+    }
 }
 
 #[test]
-fn maps_are_composed(rt: HostRuntime) -> Result<(), Fail> {
+fn maps_are_composed(rt: HostRuntime) -> Result<()> {
     for (first, second, want) in COMPOSITIONS {
-        let input = map_of(rt.alloc(), second)?;
-        let composed = map_of(rt.alloc(), first)?.compose(rt.alloc(), input);
-        match (composed, want) {
-            (Ok(map), Ok(parts)) => assert!(rt; is_of(rt.alloc(), &map, parts)?),
-            (Err(fault), Err(wanted)) => assert_eq!(rt; fault, *wanted),
-            _ => assert!(rt; false),
-        }
+        let plain = composed(rt.alloc(), first, second);
+        is_as_wanted(&rt, rt.alloc(), borrowed(&plain), want)?;
+        let owned = owned_composed(rt.alloc(), first, second);
+        is_as_wanted(&rt, rt.alloc(), inside(&owned), want)?;
     }
     Ok(())
 }
 
 #[test]
-fn a_composed_map_is_written(rt: HostRuntime) -> Result<(), Fail> {
-    let input = map_of(rt.alloc(), &HALF_NAMED)?;
-    let composed = map_of(rt.alloc(), &NAMED)?.compose(rt.alloc(), input)?;
-    let json = composed.to_json(rt.alloc())?;
-    assert_eq!(rt; json.mappings.as_str(), "AAIIA,GACCC");
+fn a_composed_map_is_written(rt: HostRuntime) -> Result<()> {
+    let map = composed(rt.alloc(), &NAMED, &HALF_NAMED)?;
+    is_written_as(&rt, rt.alloc(), &map, Ok("AAIIA,GACCC"));
     Ok(())
 }
 
+/// The first two maps are composed first.
+fn grouped_left(alloc: Global) -> Result<SourceMap<'static>> {
+    let last = map_of_parts(alloc, &THIRD)?;
+    composed(alloc, &FIRST, &SECOND)?.compose(alloc, last)
+}
+
+/// The last two maps are composed first.
+fn grouped_right(alloc: Global) -> Result<SourceMap<'static>> {
+    let last_two = composed(alloc, &SECOND, &THIRD)?;
+    map_of_parts(alloc, &FIRST)?.compose(alloc, last_two)
+}
+
+const GROUPED_LEFT: Parts = (
+    &["r", "p"],
+    &["o1", "o2"],
+    &[(0, 0, 7, 7, Some(1), Some(1))],
+);
+
+const GROUPED_RIGHT: Parts = (
+    &["r", "q", "p"],
+    &["o1", "o2"],
+    &[(0, 0, 7, 7, Some(1), Some(2))],
+);
+
 #[test]
-fn owned_maps_are_composed(rt: HostRuntime) -> Result<(), Fail> {
-    for (first, second, want) in COMPOSITIONS {
-        let input = OwnedSourceMap::new(map_of(rt.alloc(), second)?);
-        let composed = OwnedSourceMap::new(map_of(rt.alloc(), first)?).compose(rt.alloc(), input);
-        match (composed, want) {
-            (Ok(map), Ok(parts)) => assert!(rt; is_of(rt.alloc(), map.as_source_map(), parts)?),
-            (Err(fault), Err(wanted)) => assert_eq!(rt; fault, *wanted),
-            _ => assert!(rt; false),
-        }
-    }
-    Ok(())
+fn three_maps_are_composed_in_both_groupings(rt: HostRuntime) -> Result<()> {
+    is_of(&rt, rt.alloc(), &grouped_left(rt.alloc())?, &GROUPED_LEFT)?;
+    is_of(&rt, rt.alloc(), &grouped_right(rt.alloc())?, &GROUPED_RIGHT)
+}
+
+/// A map with a file and a debug id.
+fn named_map(
+    alloc: Global,
+    parts: &Parts,
+    file: &str,
+    debug_id: &str,
+) -> Result<SourceMap<'static>> {
+    let mut map = map_of_parts(alloc, parts)?;
+    map.set_file(alloc, file)?;
+    map.set_debug_id(alloc, debug_id)?;
+    Ok(map)
+}
+
+/// The composition of maps that both have a file and a debug id, and of which the second has an ignore list.
+fn named_composed(alloc: Global) -> Result<SourceMap<'static>> {
+    let ignored = vec![in alloc; 0]?;
+    let mut second = named_map(alloc, &SECOND, "m.js", "second")?;
+    second.set_ignore_list(ignored);
+    named_map(alloc, &FIRST, "out.js", "first")?.compose(alloc, second)
+}
+
+fn has_the_fields_of_both(rt: &impl Abort, alloc: Global, map: &SourceMap<'_>) {
+    same(rt, "file", map.get_file(), Some("out.js"));
+    same(rt, "debug id", map.get_debug_id(), Some("first"));
+    assert!(rt; map.get_ignore_list().is_some());
+    is_written_as(rt, alloc, map, Ok("AAAEC"));
 }
 
 #[test]
-fn three_maps_are_composed_in_both_groupings(rt: HostRuntime) -> Result<(), Fail> {
-    let left = map_of(rt.alloc(), &FIRST)?
-        .compose(rt.alloc(), map_of(rt.alloc(), &SECOND)?)?
-        .compose(rt.alloc(), map_of(rt.alloc(), &THIRD)?)?;
-    let wanted: Parts = (
-        &["r", "p"],
-        &["o1", "o2"],
-        &[(0, 0, 7, 7, Some(1), Some(1))],
-    );
-    assert!(rt; is_of(rt.alloc(), &left, &wanted)?);
-    let last_two = map_of(rt.alloc(), &SECOND)?.compose(rt.alloc(), map_of(rt.alloc(), &THIRD)?)?;
-    let right = map_of(rt.alloc(), &FIRST)?.compose(rt.alloc(), last_two)?;
-    let wanted: Parts = (
-        &["r", "q", "p"],
-        &["o1", "o2"],
-        &[(0, 0, 7, 7, Some(1), Some(2))],
-    );
-    assert!(rt; is_of(rt.alloc(), &right, &wanted)?);
-    Ok(())
-}
-
-#[test]
-fn fields_come_from_the_map_that_has_them(rt: HostRuntime) -> Result<(), Fail> {
-    let mut first = map_of(rt.alloc(), &FIRST)?;
-    first.set_file(rt.alloc(), "out.js")?;
-    first.set_debug_id(rt.alloc(), "first")?;
-    let mut second = map_of(rt.alloc(), &SECOND)?;
-    second.set_file(rt.alloc(), "m.js")?;
-    second.set_debug_id(rt.alloc(), "second")?;
-    second.set_ignore_list(vec![in rt.alloc(); 0]?);
-    let composed = first.compose(rt.alloc(), second)?;
-    assert_eq!(rt; composed.get_file(), Some("out.js"));
-    assert_eq!(rt; composed.get_debug_id(), Some("first"));
-    assert!(rt; composed.get_ignore_list().is_some());
-    let written = composed.to_json(rt.alloc())?;
-    assert_eq!(rt; written.mappings.as_str(), "AAAEC");
+fn fields_come_from_the_map_that_has_them(rt: HostRuntime) -> Result<()> {
+    has_the_fields_of_both(&rt, rt.alloc(), &named_composed(rt.alloc())?);
     Ok(())
 }
 
@@ -215,15 +244,15 @@ const BACK: Parts = (
     &[(0, 3, 1, 1, Some(0), None), (0, 2, 2, 2, Some(0), None)],
 );
 
-#[test]
-fn columns_that_go_back_lead_to_some_token_or_none(rt: HostRuntime) -> Result<(), Fail> {
-    let input = map_of(rt.alloc(), &BACK)?;
-    let composed = map_of(rt.alloc(), &FIRST)?.compose(rt.alloc(), input)?;
-    let Some(token) = composed.get_token(0) else {
-        return Ok(assert!(rt; false));
-    };
+fn leads_to_some_token_or_none(rt: &impl Abort, map: &SourceMap<'_>) {
+    let token = map.get_token(0).expect(rt, "a token");
     assert!(rt; token.get_dst_line() == 0 && token.get_dst_col() == 0);
     let (line, col) = (token.get_src_line(), token.get_src_col());
     assert!(rt; (line == 0 || line == 1 || line == 2) && col == line);
+}
+
+#[test]
+fn columns_that_go_back_lead_to_some_token_or_none(rt: HostRuntime) -> Result<()> {
+    leads_to_some_token_or_none(&rt, &composed(rt.alloc(), &FIRST, &BACK)?);
     Ok(())
 }

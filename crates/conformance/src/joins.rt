@@ -1,11 +1,11 @@
 //! Joins, and the pieces of chunks.
-use crate::mappings::{Row, chunks_of, tokens_of};
+use crate::helpers::{Row, chunks_of, map_of, same, tokens_of};
 use oxc_sourcemap::{
-    ConcatSourceMapBuilder, Error, Result, SourceMap, Token, TokenChunk, encode_chunk,
+    ConcatSourceMapBuilder, Error, Result, SourceMap, SourceMapParts, Token, TokenChunk,
+    encode_chunk,
 };
-use std::alloc::{AllocError, Global};
-use std::borrow::CowStr;
-use std::test::Fail;
+use std::alloc::Global;
+use std::process::Abort;
 
 /// A map of a join, and its offset.
 struct Part {
@@ -17,7 +17,14 @@ struct Part {
 }
 
 /// The maps of a join, the tokens and chunks of the joined map, and its JSON text.
-const JOINS: &[(&[Part], &[Row], &[[u32; 8]], &str)] = &[
+type Join = (
+    &'static [Part],
+    &'static [Row],
+    &'static [[u32; 8]],
+    &'static str,
+);
+
+const JOINS: &[Join] = &[
     (
         &[],
         &[],
@@ -330,60 +337,28 @@ const JOINS: &[(&[Part], &[Row], &[[u32; 8]], &str)] = &[
     ),
 ];
 
-/// Lent texts.
-fn lent(
-    alloc: Global,
-    texts: &[&'static str],
-) -> std::result::Result<Vec<CowStr<'static>>, AllocError> {
-    let mut listed = Vec::new(alloc);
-    for text in texts {
-        listed.push(CowStr::Borrowed(*text))?;
-    }
-    Ok(listed)
-}
-
-fn map_of(alloc: Global, part: &Part) -> std::result::Result<SourceMap<'static>, AllocError> {
-    let mut contents = Vec::new(alloc);
-    for content in part.contents {
-        match content {
-            Some(text) => contents.push(Some(CowStr::Borrowed(*text)))?,
-            None => contents.push(None)?,
-        }
-    }
-    Ok(SourceMap::new(
-        None,
-        lent(alloc, part.names)?,
-        None,
-        lent(alloc, part.sources)?,
-        contents,
-        tokens_of(alloc, part.rows)?.into_boxed_slice(),
-        None,
-    ))
-}
+/// Maps, each with its offset.
+type Maps = Vec<(SourceMap<'static>, u32)>;
 
 /// The maps of a join, each at its offset.
-fn maps_of(
-    alloc: Global,
-    parts: &[Part],
-) -> std::result::Result<Vec<(SourceMap<'static>, u32)>, AllocError> {
+fn maps_of(alloc: Global, parts: &[Part]) -> Result<Maps> {
     let mut maps = Vec::new(alloc);
     for part in parts {
-        maps.push((map_of(alloc, part)?, part.line_offset))?;
+        let map = map_of(alloc, part.names, part.sources, part.contents, part.rows)?;
+        maps.push((map, part.line_offset))?;
     }
     Ok(maps)
 }
 
 /// The joined map, of maps that are moved.
-fn moved(alloc: Global, parts: &[Part]) -> Result<SourceMap<'static>> {
-    let maps = maps_of(alloc, parts)?;
+fn moved(alloc: Global, maps: Maps) -> Result<SourceMap<'static>> {
     ConcatSourceMapBuilder::from_owned_sourcemaps(alloc, maps)?.into_sourcemap()
 }
 
 /// The JSON text of the joined map, of maps that are lent.
-fn lent_text(alloc: Global, parts: &[Part]) -> Result<String> {
-    let maps = maps_of(alloc, parts)?;
+fn lent_text(alloc: Global, maps: &[(SourceMap<'static>, u32)]) -> Result<String> {
     let mut lent_maps = Vec::new(alloc);
-    for (map, line_offset) in maps.as_slice() {
+    for (map, line_offset) in maps {
         lent_maps.push((map, *line_offset))?;
     }
     let builder = ConcatSourceMapBuilder::from_sourcemaps(alloc, lent_maps.as_slice())?;
@@ -391,10 +366,9 @@ fn lent_text(alloc: Global, parts: &[Part]) -> Result<String> {
 }
 
 /// The JSON text of the joined map, of maps that are lent one by one. One that is too large is passed over.
-fn added_text(alloc: Global, parts: &[Part]) -> Result<String> {
-    let maps = maps_of(alloc, parts)?;
+fn added_text(alloc: Global, maps: &[(SourceMap<'static>, u32)]) -> Result<String> {
     let mut builder = ConcatSourceMapBuilder::empty(alloc);
-    for (map, line_offset) in maps.as_slice() {
+    for (map, line_offset) in maps {
         match builder.add_sourcemap(map, *line_offset) {
             Ok(()) | Err(Error::TooLarge) => {}
             Err(fault) => return Err(fault),
@@ -404,9 +378,9 @@ fn added_text(alloc: Global, parts: &[Part]) -> Result<String> {
 }
 
 /// The same, of maps that are moved one by one.
-fn moved_text(alloc: Global, parts: &[Part]) -> Result<String> {
+fn moved_text(alloc: Global, maps: Maps) -> Result<String> {
     let mut builder = ConcatSourceMapBuilder::with_capacity(alloc, 1, 1, 1, 1)?;
-    for (map, line_offset) in maps_of(alloc, parts)? {
+    for (map, line_offset) in maps {
         match builder.add_sourcemap_owned(map, line_offset) {
             Ok(()) | Err(Error::TooLarge) => {}
             Err(fault) => return Err(fault),
@@ -415,19 +389,46 @@ fn moved_text(alloc: Global, parts: &[Part]) -> Result<String> {
     builder.into_owned_sourcemap()?.to_json_string(alloc)
 }
 
+fn has_tokens_and_chunks(
+    rt: &impl Abort,
+    alloc: Global,
+    found: &SourceMapParts<'_>,
+    join: &Join,
+) -> Result<()> {
+    let (_, rows, chunk_rows, text) = *join;
+    let tokens = tokens_of(alloc, rows)?;
+    same(rt, text, found.tokens.as_slice(), tokens.as_slice());
+    let chunks = chunks_of(alloc, &Some(chunk_rows))?;
+    same(rt, text, &found.token_chunks, &chunks);
+    Ok(())
+}
+
+fn moved_maps_are_joined(rt: &impl Abort, alloc: Global, join: &Join) -> Result<()> {
+    let joined = moved(alloc, maps_of(alloc, join.0)?)?;
+    same(rt, "moved", joined.to_json_string(alloc)?.as_str(), join.3);
+    has_tokens_and_chunks(rt, alloc, &joined.into_parts(), join)
+}
+
+fn maps_are_joined_one_by_one(
+    rt: &impl Abort,
+    alloc: Global,
+    parts: &[Part],
+    text: &str,
+) -> Result<()> {
+    let added = added_text(alloc, maps_of(alloc, parts)?.as_slice())?;
+    same(rt, "added", added.as_str(), text);
+    let moved = moved_text(alloc, maps_of(alloc, parts)?)?;
+    same(rt, "moved one by one", moved.as_str(), text);
+    Ok(())
+}
+
 #[test]
-fn maps_are_joined(rt: HostRuntime) -> std::result::Result<(), Fail> {
-    for (parts, rows, chunk_rows, text) in JOINS {
-        let joined = moved(rt.alloc(), parts)?;
-        assert_eq!(rt; joined.to_json_string(rt.alloc())?.as_str(), *text);
-        let found = joined.into_parts();
-        let tokens = tokens_of(rt.alloc(), rows)?;
-        assert_eq!(rt; found.tokens.as_slice(), tokens.as_slice(), "{text}");
-        let chunks = chunks_of(rt.alloc(), &Some(*chunk_rows))?;
-        assert_eq!(rt; found.token_chunks, chunks, "{text}");
-        assert_eq!(rt; lent_text(rt.alloc(), parts)?.as_str(), *text);
-        assert_eq!(rt; added_text(rt.alloc(), parts)?.as_str(), *text);
-        assert_eq!(rt; moved_text(rt.alloc(), parts)?.as_str(), *text);
+fn maps_are_joined(rt: HostRuntime) -> Result<()> {
+    for join in JOINS {
+        moved_maps_are_joined(&rt, rt.alloc(), join)?;
+        maps_are_joined_one_by_one(&rt, rt.alloc(), join.0, join.3)?;
+        let lent = lent_text(rt.alloc(), maps_of(rt.alloc(), join.0)?.as_slice())?;
+        same(&rt, "lent", lent.as_str(), join.3);
     }
     Ok(())
 }
@@ -465,94 +466,104 @@ const TOO_LARGE: &[(&[Part], &str)] = &[
     ),
 ];
 
+/// Lists of maps are refused, and give no map.
+fn lists_are_too_large(rt: &impl Abort, alloc: Global, parts: &[Part]) -> Result<()> {
+    let refused = moved(alloc, maps_of(alloc, parts)?).err();
+    same(rt, "moved", refused, Some(Error::TooLarge));
+    let refused = lent_text(alloc, maps_of(alloc, parts)?.as_slice()).err();
+    same(rt, "lent", refused, Some(Error::TooLarge));
+    Ok(())
+}
+
 #[test]
-fn joins_past_a_limit_are_refused(rt: HostRuntime) -> std::result::Result<(), Fail> {
+fn joins_past_a_limit_are_refused(rt: HostRuntime) -> Result<()> {
     for (parts, text) in TOO_LARGE {
-        assert_eq!(rt; moved(rt.alloc(), parts).err(), Some(Error::TooLarge));
-        assert_eq!(rt; lent_text(rt.alloc(), parts).err(), Some(Error::TooLarge));
-        assert_eq!(rt; added_text(rt.alloc(), parts)?.as_str(), *text);
-        assert_eq!(rt; moved_text(rt.alloc(), parts)?.as_str(), *text);
+        lists_are_too_large(&rt, rt.alloc(), parts)?;
+        maps_are_joined_one_by_one(&rt, rt.alloc(), parts, text)?;
     }
     Ok(())
 }
 
-/// A map without tokens, of so many names and sources.
-fn counted(
-    alloc: Global,
-    names: usize,
-    sources: usize,
-) -> std::result::Result<SourceMap<'static>, AllocError> {
-    let mut named = Vec::new(alloc);
-    for i in 0..names {
-        named.push(CowStr::Borrowed("name"))?;
+/// A text, so many times.
+fn repeated(alloc: Global, text: &'static str, times: usize) -> Result<Vec<&'static str>> {
+    let mut all = Vec::new(alloc);
+    for _ in 0..times {
+        all.push(text)?;
     }
-    let mut listed = Vec::new(alloc);
-    for i in 0..sources {
-        listed.push(CowStr::Borrowed("source"))?;
-    }
-    Ok(SourceMap::new(
-        None,
-        named,
-        None,
-        listed,
-        Vec::new(alloc),
-        Vec::new(alloc).into_boxed_slice(),
-        None,
-    ))
+    Ok(all)
+}
+
+/// A map without tokens, of 1000 names and 100 sources.
+fn large_map(alloc: Global) -> Result<SourceMap<'static>> {
+    let names = repeated(alloc, "name", 1000)?;
+    let sources = repeated(alloc, "source", 100)?;
+    map_of(alloc, names.as_slice(), sources.as_slice(), &[], &[])
+}
+
+/// Joins a map, ten lines down, behind a large one.
+fn join_behind<'m>(
+    builder: &mut ConcatSourceMapBuilder<'m>,
+    large: SourceMap<'static>,
+    map: &'m SourceMap<'_>,
+) -> Result<()> {
+    builder.add_sourcemap_owned(large, 7)?;
+    builder.add_sourcemap(map, 10)
+}
+
+fn tokens_are_moved(rt: &impl Abort, joined: &SourceMap<'_>) {
+    let tokens = [joined.get_token(0), joined.get_token(1)];
+    let wanted = [
+        Some(Token::new(11, 2, 3, 4, Some(105), Some(1006))),
+        Some(Token::new(12, 0, 0, 0, None, None)),
+    ];
+    same(rt, "tokens", tokens, wanted);
 }
 
 #[test]
-fn tokens_are_moved(rt: HostRuntime) -> std::result::Result<(), Fail> {
+fn tokens_behind_a_large_map_are_moved(rt: HostRuntime) -> Result<()> {
     let rows = [(1, 2, 3, 4, Some(5), Some(6)), (2, 0, 0, 0, None, None)];
-    let tokens = tokens_of(rt.alloc(), &rows)?;
-    let mut parts = counted(rt.alloc(), 0, 0)?.into_parts();
-    parts.tokens = tokens.into_boxed_slice();
-    let map = SourceMap::from_parts(parts);
+    let map = map_of(rt.alloc(), &[], &[], &[], rows.as_slice())?;
     let mut builder = ConcatSourceMapBuilder::empty(rt.alloc());
-    builder.add_sourcemap_owned(counted(rt.alloc(), 1000, 100)?, 7)?;
-    builder.add_sourcemap(&map, 10)?;
-    let joined = builder.into_sourcemap()?;
-    assert_eq!(rt;
-        joined.get_token(0),
-        Some(Token::new(11, 2, 3, 4, Some(105), Some(1006)))
-    );
-    assert_eq!(rt;
-        joined.get_token(1),
-        Some(Token::new(12, 0, 0, 0, None, None))
-    );
+    join_behind(&mut builder, large_map(rt.alloc())?, &map)?;
+    tokens_are_moved(&rt, &builder.into_sourcemap()?);
     Ok(())
 }
 
-const PIECES: &[([u32; 8], std::result::Result<&str, Error>)] = &[
+const PIECES: &[([u32; 8], Result<&str>)] = &[
     ([2, 3, 3, 1, 1, 1, 2, 1], Ok(",CCCCC")),
     ([2, 3, 0, 0, 0, 0, 0, 0], Ok(";;;EEEEG")),
     ([2, 3, 4, 0, 0, 0, 0, 0], Err(Error::LineOrder(2))),
     ([2, 4, 0, 0, 0, 0, 0, 0], Err(Error::BadChunks(0))),
 ];
 
+/// Nothing is added to the text where a piece is refused.
+fn a_piece_is_written(
+    rt: &impl Abort,
+    alloc: Global,
+    tokens: &[Token],
+    chunk: &TokenChunk,
+    want: Result<&str>,
+) -> Result<()> {
+    let mut out = String::from_str(alloc, "kept")?;
+    let written = encode_chunk(tokens, chunk, &mut out);
+    same(rt, "refusal", written.err(), want.err());
+    let added = out.as_str().strip_prefix("kept");
+    same(rt, "piece", added, Some(want.unwrap_or("")));
+    Ok(())
+}
+
 #[test]
-fn pieces_are_written_from_their_headers(rt: HostRuntime) -> std::result::Result<(), Fail> {
+fn pieces_are_written_from_their_headers(rt: HostRuntime) -> Result<()> {
     let rows = [
         (1, 1, 1, 1, Some(0), Some(0)),
         (3, 1, 1, 1, Some(1), Some(2)),
         (3, 2, 2, 2, Some(2), Some(3)),
     ];
-    let tokens = tokens_of(rt.alloc(), &rows)?;
+    let tokens = tokens_of(rt.alloc(), rows.as_slice())?;
     for (row, want) in PIECES {
-        let mut out = String::from_str(rt.alloc(), "kept")?;
         let [start, end, line, col, src_line, src_col, name, source] = *row;
         let chunk = TokenChunk::new(start, end, line, col, src_line, src_col, name, source);
-        let written = encode_chunk(tokens.as_slice(), &chunk, &mut out);
-        match want {
-            Ok(text) => {
-                assert_eq!(rt; written, Ok(()));
-                assert_eq!(rt; out.as_str().strip_prefix("kept"), Some(*text));
-            }
-            Err(fault) => {
-                assert_eq!(rt; written, Err(*fault));
-                assert_eq!(rt; out.as_str(), "kept");
-            }
-        }
+        a_piece_is_written(&rt, rt.alloc(), tokens.as_slice(), &chunk, *want)?;
     }
     Ok(())
 }

@@ -19,6 +19,8 @@ mod builder;
 #[cfg(test)]
 mod composition;
 #[cfg(test)]
+mod helpers;
+#[cfg(test)]
 mod joins;
 #[cfg(test)]
 mod lookups;

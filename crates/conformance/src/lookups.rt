@@ -1,8 +1,8 @@
 //! Lookup tables and lookups, on maps plain and owned.
-use crate::mappings::{Row, tokens_of};
-use oxc_sourcemap::{Error, OwnedSourceMap, SourceMap, SourceMapParts, Token};
+use crate::helpers::{Row, map_of, same, tokens_of};
+use oxc_sourcemap::{Error, OwnedSourceMap, Result, SourceMap, Token};
 use std::alloc::Global;
-use std::test::Fail;
+use std::process::Abort;
 
 /// Tokens of one source on several lines.
 const COOL: &[Row] = &[
@@ -38,7 +38,9 @@ const LINES: &[Row] = &[
 ];
 
 /// Tokens, a line and a column, and the index of the token found: exactly, and clamped.
-const LOOKUPS: &[(&[Row], u32, u32, Option<usize>, Option<usize>)] = &[
+type Lookup = (&'static [Row], u32, u32, Option<usize>, Option<usize>);
+
+const LOOKUPS: &[Lookup] = &[
     (COOL, 0, 3, Some(1), Some(1)),
     (COOL, 0, 1000, Some(8), Some(8)),
     (COOL, 1000, 0, None, None),
@@ -52,10 +54,8 @@ const LOOKUPS: &[(&[Row], u32, u32, Option<usize>, Option<usize>)] = &[
     (&[], 0, 0, None, None),
 ];
 
-fn map_of(alloc: Global, rows: &[Row]) -> oxc_sourcemap::Result<SourceMap<'static>> {
-    let mut parts = SourceMapParts::empty(alloc)?;
-    parts.tokens = tokens_of(alloc, rows)?.into_boxed_slice();
-    Ok(SourceMap::from_parts(parts))
+fn map_of_rows(alloc: Global, rows: &[Row]) -> Result<SourceMap<'static>> {
+    map_of(alloc, &[], &[], &[], rows)
 }
 
 fn token_at(rows: &[Row], index: Option<usize>) -> Option<Token> {
@@ -63,52 +63,74 @@ fn token_at(rows: &[Row], index: Option<usize>) -> Option<Token> {
     Some(Token::new(dst_line, dst_col, src_line, src_col, source_id, name_id))
 }
 
-#[test]
-fn tokens_are_looked_up(rt: HostRuntime) -> Result<(), Fail> {
-    for (rows, line, col, exact, clamped) in LOOKUPS {
-        let map = map_of(rt.alloc(), rows)?;
-        let table = map.generate_lookup_table(rt.alloc())?;
-        let table = table.as_slice();
-        assert_eq!(rt;
-            map.lookup_token(table, *line, *col),
-            token_at(rows, *exact)
-        );
-        assert_eq!(rt;
-            map.lookup_token_approx(table, *line, *col),
-            token_at(rows, *clamped)
-        );
-        let view = map.lookup_source_view_token(table, *line, *col);
-        assert_eq!(rt; view.is_some(), exact.is_some());
-        let view = map.lookup_source_view_token_approx(table, *line, *col);
-        assert_eq!(rt; view.is_some(), clamped.is_some());
-    }
+fn a_map_finds(rt: &impl Abort, alloc: Global, map: &SourceMap<'_>, lookup: &Lookup) -> Result<()> {
+    let (rows, line, col, exact, clamped) = *lookup;
+    let table = map.generate_lookup_table(alloc)?;
+    let table = table.as_slice();
+    same(
+        rt,
+        "exact",
+        map.lookup_token(table, line, col),
+        token_at(rows, exact),
+    );
+    let found = map.lookup_token_approx(table, line, col);
+    same(rt, "clamped", found, token_at(rows, clamped));
+    let view = map.lookup_source_view_token(table, line, col);
+    same(rt, "exact view", view.is_some(), exact.is_some());
+    let view = map.lookup_source_view_token_approx(table, line, col);
+    same(rt, "clamped view", view.is_some(), clamped.is_some());
+    Ok(())
+}
+
+fn an_owned_map_finds(
+    rt: &impl Abort,
+    alloc: Global,
+    map: &OwnedSourceMap,
+    lookup: &Lookup,
+) -> Result<()> {
+    let (rows, line, col, exact, clamped) = *lookup;
+    let table = map.generate_lookup_table(alloc)?;
+    let table = table.as_slice();
+    same(
+        rt,
+        "exact",
+        map.lookup_token(table, line, col),
+        token_at(rows, exact),
+    );
+    let found = map.lookup_token_approx(table, line, col);
+    same(rt, "clamped", found, token_at(rows, clamped));
+    let view = map.lookup_source_view_token(table, line, col);
+    same(rt, "exact view", view.is_some(), exact.is_some());
+    let view = map.lookup_source_view_token_approx(table, line, col);
+    same(rt, "clamped view", view.is_some(), clamped.is_some());
     Ok(())
 }
 
 #[test]
-fn owned_maps_look_up_the_same(rt: HostRuntime) -> Result<(), Fail> {
-    for (rows, line, col, exact, clamped) in LOOKUPS {
-        let map = OwnedSourceMap::new(map_of(rt.alloc(), rows)?);
-        let table = map.generate_lookup_table(rt.alloc())?;
-        let table = table.as_slice();
-        assert_eq!(rt;
-            map.lookup_token(table, *line, *col),
-            token_at(rows, *exact)
-        );
-        assert_eq!(rt;
-            map.lookup_token_approx(table, *line, *col),
-            token_at(rows, *clamped)
-        );
-        let view = map.lookup_source_view_token(table, *line, *col);
-        assert_eq!(rt; view.is_some(), exact.is_some());
-        let view = map.lookup_source_view_token_approx(table, *line, *col);
-        assert_eq!(rt; view.is_some(), clamped.is_some());
+fn tokens_are_looked_up(rt: HostRuntime) -> Result<()> {
+    for lookup in LOOKUPS {
+        let map = map_of_rows(rt.alloc(), lookup.0)?;
+        a_map_finds(&rt, rt.alloc(), &map, lookup)?;
+        an_owned_map_finds(&rt, rt.alloc(), &OwnedSourceMap::new(map), lookup)?;
     }
     Ok(())
 }
 
+/// Searches the tokens of one line.
+fn a_line_gives(rt: &impl Abort, line: &[Token], col: u32, wanted: Option<Token>) {
+    let mut steps = 77;
+    same(
+        rt,
+        "token",
+        SourceMap::search(line, col, &mut steps),
+        wanted,
+    );
+    assert!(rt; steps <= line.len() as u64);
+    same(rt, "no steps", steps == 0, line.is_empty());
+}
+
 #[test]
-fn lines_are_searched(rt: HostRuntime) -> Result<(), Fail> {
+fn lines_are_searched(rt: HostRuntime) -> Result<()> {
     for (rows, col, found) in [
         (COOL, 3, Some(1)),
         (COOL, 1000, Some(8)),
@@ -118,54 +140,56 @@ fn lines_are_searched(rt: HostRuntime) -> Result<(), Fail> {
         (&[], 0, None),
     ] {
         let line = tokens_of(rt.alloc(), rows)?;
-        let mut steps = 77;
-        assert_eq!(rt;
-            SourceMap::search(line.as_slice(), col, &mut steps),
-            token_at(rows, found)
-        );
-        assert!(rt; steps <= line.len() as u64);
-        assert_eq!(rt; steps == 0, line.is_empty());
+        a_line_gives(&rt, line.as_slice(), col, token_at(rows, found));
     }
     Ok(())
 }
 
-#[test]
-fn a_table_has_a_slice_for_each_line(rt: HostRuntime) -> Result<(), Fail> {
-    let map = map_of(rt.alloc(), LINES)?;
-    let table = map.generate_lookup_table(rt.alloc())?;
-    let table = table.as_slice();
-    assert_eq!(rt; table.len(), 4);
-    let lengths = [
-        table[0].len(),
-        table[1].len(),
-        table[2].len(),
-        table[3].len(),
-    ];
-    assert_eq!(rt; lengths, [0, 1, 0, 2]);
-    let empty = SourceMap::empty(rt.alloc())?;
-    assert!(rt; empty.generate_lookup_table(rt.alloc())?.is_empty());
+fn a_table_has_a_slice_for_each_line(
+    rt: &impl Abort,
+    alloc: Global,
+    map: &SourceMap<'_>,
+) -> Result<()> {
+    let table = map.generate_lookup_table(alloc)?;
+    let mut lengths = Vec::new(alloc);
+    for line in table.as_slice() {
+        lengths.push(line.len())?;
+    }
+    let wanted: [usize; 4] = [0, 1, 0, 2];
+    same(rt, "lengths", lengths.as_slice(), wanted.as_slice());
     Ok(())
 }
 
-#[test]
-fn a_table_asks_for_line_order(rt: HostRuntime) -> Result<(), Fail> {
-    let map = map_of(
-        rt.alloc(),
-        &[(1, 0, 0, 0, None, None), (0, 0, 0, 0, None, None)],
-    )?;
-    let table = map.generate_lookup_table(rt.alloc());
-    assert_eq!(rt; table.err(), Some(Error::LineOrder(1)));
-    Ok(())
-}
-
-#[test]
-fn a_lookup_reads_the_table_that_it_is_handed(rt: HostRuntime) -> Result<(), Fail> {
-    let other = map_of(rt.alloc(), EQUAL)?;
-    let table = other.generate_lookup_table(rt.alloc())?;
-    let empty = SourceMap::empty(rt.alloc())?;
+/// A lookup in an empty map, with the table of another one.
+fn the_table_that_it_is_handed_is_read(
+    rt: &impl Abort,
+    alloc: Global,
+    empty: &SourceMap<'_>,
+    other: &SourceMap<'_>,
+) -> Result<()> {
+    let table = empty.generate_lookup_table(alloc)?;
+    assert!(rt; table.is_empty());
+    let table = other.generate_lookup_table(alloc)?;
     let found = empty.lookup_token(table.as_slice(), 0, 7);
-    assert_eq!(rt; found, token_at(EQUAL, Some(1)));
+    same(rt, "found", found, token_at(EQUAL, Some(1)));
     Ok(())
+}
+
+fn a_table_asks_for_line_order(rt: &impl Abort, alloc: Global, map: &SourceMap<'_>) {
+    let fault = map.generate_lookup_table(alloc).err();
+    same(rt, "refusal", fault, Some(Error::LineOrder(1)));
+}
+
+/// Tokens whose lines go back.
+const BACK_A_LINE: &[Row] = &[(1, 0, 0, 0, None, None), (0, 0, 0, 0, None, None)];
+
+#[test]
+fn tables_are_made_and_read(rt: HostRuntime) -> Result<()> {
+    a_table_has_a_slice_for_each_line(&rt, rt.alloc(), &map_of_rows(rt.alloc(), LINES)?)?;
+    a_table_asks_for_line_order(&rt, rt.alloc(), &map_of_rows(rt.alloc(), BACK_A_LINE)?);
+    let empty = SourceMap::empty(rt.alloc())?;
+    let other = map_of_rows(rt.alloc(), EQUAL)?;
+    the_table_that_it_is_handed_is_read(&rt, rt.alloc(), &empty, &other)
 }
 
 /// The text of a map, its sources and names, and what lookups find: source, source line, source column and name.
@@ -181,40 +205,46 @@ const ORIGINS: &[(u32, Origin<'static>)] = &[
     (1000, (Some("coolstuff.js"), 2, 8, None)),
 ];
 
-#[test]
-fn views_are_looked_up(rt: HostRuntime) -> Result<(), Fail> {
-    let map = OwnedSourceMap::from_json_string(rt.alloc(), TEXT)?;
-    let table = map.generate_lookup_table(rt.alloc())?;
+fn origins_are_found(rt: &impl Abort, alloc: Global, map: &OwnedSourceMap) -> Result<()> {
+    let table = map.generate_lookup_table(alloc)?;
+    let table = table.as_slice();
     for (col, origin) in ORIGINS {
-        let Some(view) = map.lookup_source_view_token(table.as_slice(), 0, *col) else {
-            return Ok(assert!(rt; false));
+        let Some(view) = map.lookup_source_view_token(table, 0, *col) else {
+            return Ok(assert!(rt; false, "a view"));
         };
-        assert_eq!(rt; view.to_tuple(), *origin);
-        let Some(view) = map
-            .as_source_map()
-            .lookup_source_view_token_approx(table.as_slice(), 0, *col)
-        else {
-            return Ok(assert!(rt; false));
+        same(rt, "exact", view.to_tuple(), *origin);
+        let inside = map.as_source_map();
+        let Some(view) = inside.lookup_source_view_token_approx(table, 0, *col) else {
+            return Ok(assert!(rt; false, "a view"));
         };
-        assert_eq!(rt; view.to_tuple(), *origin);
+        same(rt, "clamped", view.to_tuple(), *origin);
     }
-    assert!(rt;
-        map.lookup_source_view_token(table.as_slice(), 1000, 0)
-            .is_none()
-    );
+    assert!(rt; map.lookup_source_view_token(table, 1000, 0).is_none());
     Ok(())
 }
 
 #[test]
-fn columns_that_go_back_give_some_token_or_none(rt: HostRuntime) -> Result<(), Fail> {
-    let rows = [(0, 3, 0, 0, None, None), (0, 2, 0, 0, None, None)];
-    let map = map_of(rt.alloc(), &rows)?;
-    let table = map.generate_lookup_table(rt.alloc())?;
+fn views_are_looked_up(rt: HostRuntime) -> Result<()> {
+    let map = OwnedSourceMap::from_json_string(rt.alloc(), TEXT)?;
+    origins_are_found(&rt, rt.alloc(), &map)
+}
+
+/// Tokens whose columns go back.
+const BACK_A_COLUMN: &[Row] = &[(0, 3, 0, 0, None, None), (0, 2, 0, 0, None, None)];
+
+fn some_token_or_none_is_found(rt: &impl Abort, alloc: Global, map: &SourceMap<'_>) -> Result<()> {
+    let table = map.generate_lookup_table(alloc)?;
     let found = map.lookup_token(table.as_slice(), 0, 2);
-    assert!(rt;
-        found.is_none() || found == token_at(&rows, Some(0)) || found == token_at(&rows, Some(1))
-    );
+    let is_first = found == token_at(BACK_A_COLUMN, Some(0));
+    let is_second = found == token_at(BACK_A_COLUMN, Some(1));
+    assert!(rt; found.is_none() || is_first || is_second);
     let view = map.lookup_source_view_token(table.as_slice(), 0, 2);
-    assert_eq!(rt; view.is_some(), found.is_some());
+    same(rt, "view", view.is_some(), found.is_some());
     Ok(())
+}
+
+#[test]
+fn columns_that_go_back_give_some_token_or_none(rt: HostRuntime) -> Result<()> {
+    let map = map_of_rows(rt.alloc(), BACK_A_COLUMN)?;
+    some_token_or_none_is_found(&rt, rt.alloc(), &map)
 }

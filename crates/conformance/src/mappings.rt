@@ -1,13 +1,15 @@
 //! Reading and writing the `mappings` text.
-use oxc_sourcemap::{Error, Token, TokenChunk, chunk_fault, decode_mappings, encode_mappings};
-use std::alloc::{AllocError, Global};
-use std::test::Fail;
+use crate::helpers::{Row, chunks_of, same, tokens_of};
+use oxc_sourcemap::{
+    Error, Result, Token, TokenChunk, chunk_fault, decode_mappings, encode_mappings,
+};
+use std::alloc::Global;
+use std::process::Abort;
 
-/// Generated line and column, source line and column, source id and name id.
-pub type Row = (u32, u32, u32, u32, Option<u32>, Option<u32>);
+/// A text, counts of names and sources, and what it reads as.
+type Reading = (&'static str, usize, usize, Result<&'static [Row]>);
 
-/// Texts, with counts of names and sources, and what they read as.
-const READINGS: &[(&str, usize, usize, Result<&[Row], Error>)] = &[
+const READINGS: &[Reading] = &[
     ("", 0, 0, Ok(&[])),
     (
         "AAAA,GAAIA,GAAI,EACR,IAAIA,GAAK,EAAG,CACVC,MAAM",
@@ -86,7 +88,7 @@ const READINGS: &[(&str, usize, usize, Result<&[Row], Error>)] = &[
 ];
 
 /// Lists of tokens, with chunks or none, and how they are written.
-pub const WRITINGS: &[(&[Row], Option<&[[u32; 8]]>, Result<&str, Error>)] = &[
+pub const WRITINGS: &[(&[Row], Option<&[[u32; 8]]>, Result<&str>)] = &[
     (&[], None, Ok("")),
     (
         &[
@@ -253,86 +255,69 @@ pub const WRITINGS: &[(&[Row], Option<&[[u32; 8]]>, Result<&str, Error>)] = &[
     (&[(0, 0, 3, 4, None, Some(7))], None, Ok("A")),
 ];
 
-pub fn tokens_of(alloc: Global, rows: &[Row]) -> Result<Vec<Token>, AllocError> {
-    let mut tokens = Vec::new(alloc);
-    for (dst_line, dst_col, src_line, src_col, source_id, name_id) in rows {
-        tokens.push(Token::new(
-            *dst_line, *dst_col, *src_line, *src_col, *source_id, *name_id,
-        ))?;
-    }
-    Ok(tokens)
-}
-
-/// Chunks, their numbers in the order of `TokenChunk::new`.
-pub fn chunks_of(
-    alloc: Global,
-    rows: &Option<&[[u32; 8]]>,
-) -> Result<Option<Vec<TokenChunk>>, AllocError> {
-    let Some(rows) = rows else {
-        return Ok(None);
-    };
-    let mut chunks = Vec::new(alloc);
-    for [
-        start,
-        end,
-        dst_line,
-        dst_col,
-        src_line,
-        src_col,
-        name_id,
-        source_id,
-    ] in *rows {
-        chunks.push(TokenChunk::new(
-            *start, *end, *dst_line, *dst_col, *src_line, *src_col, *name_id, *source_id,
-        ))?;
-    }
-    Ok(Some(chunks))
-}
-
-#[test]
-fn texts_read_as_their_tokens(rt: HostRuntime) -> Result<(), Fail> {
-    for (text, names, sources, want) in READINGS {
-        match (decode_mappings(rt.alloc(), text, *names, *sources), want) {
-            (Ok(tokens), Ok(rows)) => {
-                let wanted = tokens_of(rt.alloc(), rows)?;
-                assert_eq!(rt; tokens.as_slice(), wanted.as_slice(), "{text}");
-            }
-            (Err(fault), Err(wanted)) => assert_eq!(rt; fault, *wanted, "{text}"),
-            _ => assert!(rt; false, "{text}"),
+fn a_text_reads_as_its_tokens(rt: &impl Abort, alloc: Global, reading: &Reading) -> Result<()> {
+    let (text, names, sources, want) = *reading;
+    let read = decode_mappings(alloc, text, names, sources);
+    match (&read, want) {
+        (Ok(tokens), Ok(rows)) => {
+            let wanted = tokens_of(alloc, rows)?;
+            same(rt, text, tokens.as_slice(), wanted.as_slice());
         }
+        (read, want) => same(rt, text, read.as_ref().err(), want.as_ref().err()),
     }
     Ok(())
 }
 
 #[test]
-fn lists_are_written_as_their_text(rt: HostRuntime) -> Result<(), Fail> {
+fn texts_read_as_their_tokens(rt: HostRuntime) -> Result<()> {
+    for reading in READINGS {
+        a_text_reads_as_its_tokens(&rt, rt.alloc(), reading)?;
+    }
+    Ok(())
+}
+
+/// Nothing is added to the text where a list is refused.
+fn a_list_is_written_as_its_text(
+    rt: &impl Abort,
+    alloc: Global,
+    tokens: &[Token],
+    chunks: Option<&[TokenChunk]>,
+    want: Result<&str>,
+) -> Result<()> {
+    let mut out = String::from_str(alloc, "kept;")?;
+    let written = encode_mappings(tokens, chunks, &mut out);
+    same(rt, "refusal", written.err(), want.err());
+    let added = out.as_str().strip_prefix("kept;");
+    same(rt, "text", added, Some(want.unwrap_or("")));
+    Ok(())
+}
+
+fn a_chunk_that_does_not_fit_is_told(
+    rt: &impl Abort,
+    tokens: &[Token],
+    chunks: &[TokenChunk],
+    want: Result<&str>,
+) {
+    let told = match want {
+        Err(Error::BadChunks(k)) => Some(k),
+        _ => None,
+    };
+    same(rt, "chunk", chunk_fault(tokens, chunks), told);
+}
+
+#[test]
+fn lists_are_written_as_their_text(rt: HostRuntime) -> Result<()> {
     for (rows, chunks, want) in WRITINGS {
         let tokens = tokens_of(rt.alloc(), rows)?;
         let chunks = chunks_of(rt.alloc(), chunks)?;
         let lent = match &chunks {
-            Some(chunks) => Some(chunks.as_slice()),
+            Some(chunks) => {
+                a_chunk_that_does_not_fit_is_told(&rt, tokens.as_slice(), chunks.as_slice(), *want);
+                Some(chunks.as_slice())
+            }
             None => None,
         };
-        let mut out = String::from_str(rt.alloc(), "kept;")?;
-        let written = encode_mappings(tokens.as_slice(), lent, &mut out);
-        match want {
-            Ok(text) => {
-                assert_eq!(rt; written, Ok(()));
-                assert_eq!(rt; out.as_str().strip_prefix("kept;"), Some(*text));
-            }
-            Err(fault) => {
-                assert_eq!(rt; written, Err(*fault));
-                assert_eq!(rt; out.as_str(), "kept;");
-            }
-        }
-        if let Some(chunks) = lent {
-            let fault = chunk_fault(tokens.as_slice(), chunks);
-            let told = match want {
-                Err(Error::BadChunks(k)) => Some(*k),
-                _ => None,
-            };
-            assert_eq!(rt; fault, told);
-        }
+        a_list_is_written_as_its_text(&rt, rt.alloc(), tokens.as_slice(), lent, *want)?;
     }
     Ok(())
 }

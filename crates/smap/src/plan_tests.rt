@@ -1,9 +1,11 @@
 //! Worked examples of plans: by their words and texts, and as values.
-use crate::tests::{run_words, strings};
-use oxc_sourcemap::{Error, JsonFault, Plan, PlanError, Token, TokenChunk, evaluate};
+use crate::tests::{answers, answers_line, same, strings};
+use oxc_sourcemap::{
+    Error, JsonFault, Plan, PlanError, SourceMapParts, Token, TokenChunk, evaluate,
+};
 use smap_run::{RunError, read_plan, texts_in};
 use std::alloc::{AllocError, Global};
-use std::test::Fail;
+use std::process::Abort;
 
 /// The texts of two maps, behind each other.
 const JOINED: &str =
@@ -67,116 +69,150 @@ const PLANS: &[(&[&str], &str, Result<&str, RunError>)] = &[
     (&[], "{}", Err(RunError::Arguments)),
 ];
 
+/// The JSON text of the map of a plan.
+fn text_of(alloc: Global, plan: &Plan<'_>) -> Result<String, RunError> {
+    Ok(evaluate(alloc, plan)?.to_json_string(alloc)?)
+}
+
 /// The JSON text of the map of the plan that words name.
 fn evaluated(alloc: Global, words: &[String], input: &str) -> Result<String, RunError> {
     let texts = texts_in(alloc, input)?;
     let plan = read_plan(alloc, texts.as_slice(), words)?;
-    let map = evaluate(alloc, &plan)?;
-    Ok(map.to_json_string(alloc)?)
+    text_of(alloc, &plan)
 }
 
-#[test]
-fn plans_are_evaluated(rt: HostRuntime) -> Result<(), Fail> {
-    for (words, input, want) in PLANS {
-        let words = strings(rt.alloc(), words)?;
-        match (evaluated(rt.alloc(), words.as_slice(), input), want) {
-            (Ok(text), Ok(wanted)) => assert_eq!(rt; text.as_str(), *wanted),
-            (result, want) => assert_eq!(rt; result.err(), want.err(), "{input}"),
-        }
+/// Asserts that the plan that words name gives this JSON text, or is refused so.
+fn is_evaluated_to(
+    rt: &impl Abort,
+    alloc: Global,
+    words: &[&str],
+    input: &str,
+    want: Result<&str, RunError>,
+) -> Result<(), AllocError> {
+    let words = strings(alloc, words)?;
+    match &evaluated(alloc, words.as_slice(), input) {
+        Ok(text) => same(rt, input, Ok(text.as_str()), want),
+        Err(refusal) => same(rt, input, Err(*refusal), want),
     }
     Ok(())
 }
 
 #[test]
-fn plans_are_run(rt: HostRuntime) -> Result<(), Fail> {
+fn plans_are_evaluated(rt: HostRuntime) -> Result<(), AllocError> {
     for (words, input, want) in PLANS {
-        let mut all = Vec::new(rt.alloc());
-        all.push("plan")?;
-        all.extend_from_slice(words)?;
-        let mut written = Vec::new(rt.alloc());
-        let result = run_words(rt.alloc(), all.as_slice(), input.as_bytes(), &mut written);
-        assert_eq!(rt; result.err(), want.err(), "{input}");
-        if let Ok(text) = want {
-            assert_eq!(rt; written.pop(), Some(b'\n'));
-            assert_eq!(rt; written.as_slice(), text.as_bytes());
-        }
-        assert!(rt; want.is_ok() || written.is_empty());
+        is_evaluated_to(&rt, rt.alloc(), words, input, *want)?;
+    }
+    Ok(())
+}
+
+/// The words behind `plan`.
+fn is_run_to(
+    rt: &impl Abort,
+    alloc: Global,
+    words: &[&str],
+    input: &str,
+    want: Result<&str, RunError>,
+) -> Result<(), AllocError> {
+    let mut all = vec![in alloc; "plan"]?;
+    all.extend_from_slice(words)?;
+    match want {
+        Ok(text) => answers_line(rt, alloc, all.as_slice(), input, text),
+        Err(refusal) => answers(rt, alloc, all.as_slice(), input.as_bytes(), Err(refusal)),
     }
     Ok(())
 }
 
 #[test]
-fn a_plan_is_at_most_64_deep(rt: HostRuntime) -> Result<(), Fail> {
-    for (rewrites, want) in [
+fn plans_are_run(rt: HostRuntime) -> Result<(), AllocError> {
+    for (words, input, want) in PLANS {
+        is_run_to(&rt, rt.alloc(), words, input, *want)?;
+    }
+    Ok(())
+}
+
+/// The words of a plan of so many rewrites of a text that is not there.
+fn rewrites(alloc: Global, count: u32) -> Result<Vec<&'static str>, AllocError> {
+    let mut words = vec![in alloc; "plan"]?;
+    for _ in 0..count {
+        words.push("rewrite")?;
+    }
+    words.push("@9")?;
+    Ok(words)
+}
+
+#[test]
+fn a_plan_is_at_most_64_deep(rt: HostRuntime) -> Result<(), AllocError> {
+    for (count, refusal) in [
         (63, RunError::NoText(9)),
         (64, RunError::Plan(PlanError::TooDeep)),
     ] {
-        let mut words = Vec::new(rt.alloc());
-        words.push("plan")?;
-        for _ in 0..rewrites {
-            words.push("rewrite")?;
-        }
-        words.push("@9")?;
-        let mut written = Vec::new(rt.alloc());
-        let result = run_words(rt.alloc(), words.as_slice(), b"{}", &mut written);
-        assert_eq!(rt; result, Err(want));
-        assert!(rt; written.is_empty());
+        let words = rewrites(rt.alloc(), count)?;
+        answers(&rt, rt.alloc(), words.as_slice(), b"{}", Err(refusal));
     }
     Ok(())
 }
 
 #[test]
-fn the_input_of_a_plan_is_read_before_its_words(rt: HostRuntime) -> Result<(), Fail> {
-    let mut written = Vec::new(rt.alloc());
-    let result = run_words(rt.alloc(), &["plan", "part"], b"\xff", &mut written);
-    assert_eq!(rt; result, Err(RunError::Utf8));
-    assert!(rt; written.is_empty());
-    Ok(())
+fn the_input_of_a_plan_is_read_before_its_words(rt: HostRuntime) {
+    let words = ["plan", "part"];
+    answers(
+        &rt,
+        rt.alloc(),
+        words.as_slice(),
+        b"\xff",
+        Err(RunError::Utf8),
+    );
 }
 
 /// A map with a mapped token, joined on line 0, and one with an unmapped token, on line 1.
 fn mixed_join(alloc: Global) -> Result<Plan<'static>, AllocError> {
-    let mut parts = Vec::new(alloc);
-    parts.push((
-        Plan::Read(r#"{"version":3,"sources":["a.js"],"mappings":"AAKG"}"#),
-        0,
-    ))?;
-    parts.push((
-        Plan::Read(r#"{"version":3,"sources":[],"mappings":"A"}"#),
-        1,
-    ))?;
-    Ok(Plan::Join(parts))
+    let mapped = Plan::Read(r#"{"version":3,"sources":["a.js"],"mappings":"AAKG"}"#);
+    let unmapped = Plan::Read(r#"{"version":3,"sources":[],"mappings":"A"}"#);
+    Ok(Plan::Join(vec![in alloc; (mapped, 0), (unmapped, 1)]?))
 }
 
-#[test]
-fn joined_map_has_bare_unmapped_tokens_and_chunks(rt: HostRuntime) -> Result<(), Fail> {
-    let plan = mixed_join(rt.alloc())?;
-    let map = evaluate(rt.alloc(), &plan).expect(&rt, "joined");
-    let parts = map.into_parts();
+/// The parts of the map of a plan.
+fn parts_of(alloc: Global, plan: &Plan<'_>) -> Result<SourceMapParts<'static>, PlanError> {
+    Ok(evaluate(alloc, plan)?.into_parts())
+}
+
+fn has_bare_unmapped_tokens_and_chunks(rt: &impl Abort, parts: &SourceMapParts<'_>) {
     let tokens = [
         Token::new(0, 0, 5, 3, Some(0), None),
         Token::new(1, 0, 0, 0, None, None),
     ];
-    assert_eq!(rt; &parts.tokens[..], &tokens[..]);
-    let chunks = [
+    same(rt, "tokens", &parts.tokens[..], &tokens[..]);
+    let wanted = [
         TokenChunk::new(0, 1, 0, 0, 0, 0, 0, 0),
         TokenChunk::new(1, 2, 0, 0, 5, 3, 0, 0),
     ];
-    assert!(rt; parts.token_chunks.as_ref().map(|all| all.as_slice()) == Some(&chunks[..]));
-    Ok(())
+    match &parts.token_chunks {
+        Some(chunks) => same(rt, "chunks", chunks.as_slice(), &wanted[..]),
+        None => assert!(rt; false, "chunks"),
+    }
 }
 
 #[test]
-fn rewritten_map_has_the_tokens_of_its_text_and_no_chunks(rt: HostRuntime) -> Result<(), Fail> {
-    let plan = Plan::Rewrite(Box::new(rt.alloc(), mixed_join(rt.alloc())?)?);
-    let parts = evaluate(rt.alloc(), &plan)
-        .expect(&rt, "rewritten")
-        .into_parts();
+fn joined_map_has_bare_unmapped_tokens_and_chunks(rt: HostRuntime) -> Result<(), PlanError> {
+    let plan = mixed_join(rt.alloc())?;
+    has_bare_unmapped_tokens_and_chunks(&rt, &parts_of(rt.alloc(), &plan)?);
+    Ok(())
+}
+
+fn has_the_tokens_of_its_text_and_no_chunks(rt: &impl Abort, parts: &SourceMapParts<'_>) {
     let tokens = [
         Token::new(0, 0, 5, 3, Some(0), None),
         Token::new(1, 0, 5, 3, None, None),
     ];
-    assert_eq!(rt; &parts.tokens[..], &tokens[..]);
+    same(rt, "tokens", &parts.tokens[..], &tokens[..]);
     assert!(rt; parts.token_chunks.is_none());
+}
+
+#[test]
+fn rewritten_map_has_the_tokens_of_its_text_and_no_chunks(
+    rt: HostRuntime,
+) -> Result<(), PlanError> {
+    let plan = Plan::Rewrite(Box::new(rt.alloc(), mixed_join(rt.alloc())?)?);
+    has_the_tokens_of_its_text_and_no_chunks(&rt, &parts_of(rt.alloc(), &plan)?);
     Ok(())
 }

@@ -2,8 +2,10 @@
 use oxc_sourcemap::{Error, JsonFault, PlanError};
 use smap_run::{Command, Port, RunError, read_words, run};
 use std::alloc::{AllocError, Global};
+use std::fmt::Debug;
 use std::io;
 use std::io::{ErrorKind, Read, Write};
+use std::process::Abort;
 use std::test::Fail;
 
 /// Words behind the program's name, an input, and what is written or refused.
@@ -252,8 +254,22 @@ pub fn strings(alloc: Global, words: &[&str]) -> Result<Vec<String>, AllocError>
     Ok(all)
 }
 
+/// Runs the command on the input, and adds what it writes.
+fn run_command(
+    alloc: Global,
+    command: &Command,
+    input: &[u8],
+    written: &mut Vec<u8>,
+) -> Result<(), RunError> {
+    let mut reader = Port::new(input);
+    let mut writer = Port::new(Vec::new(alloc));
+    let result = run(alloc, command, &mut reader, &mut writer);
+    written.append(&mut writer.into_inner())?;
+    result
+}
+
 /// Reads the words, runs the command on the input, and adds what it writes.
-pub fn run_words(
+fn run_words(
     alloc: Global,
     words: &[&str],
     input: &[u8],
@@ -261,173 +277,185 @@ pub fn run_words(
 ) -> Result<(), RunError> {
     let words = strings(alloc, words)?;
     let command = read_words(alloc, words.as_slice())?;
-    let mut reader = Port::new(input);
-    let mut writer = Port::new(Vec::new(alloc));
-    let result = run(alloc, &command, &mut reader, &mut writer);
-    written.append(&mut writer.into_inner())?;
-    result
+    run_command(alloc, &command, input, written)
+}
+
+/// Asserts that two values are equal. Where they are not, the message tells `what` was looked at.
+pub fn same<T: Copy + Debug + PartialEq>(rt: &impl Abort, what: &str, found: T, wanted: T) {
+    assert_eq!(rt; found, wanted, "{what}");
+}
+
+/// Asserts what the words write, or that they are refused so and write nothing.
+pub fn answers(
+    rt: &impl Abort,
+    alloc: Global,
+    words: &[&str],
+    input: &[u8],
+    want: Result<&str, RunError>,
+) {
+    let mut written = Vec::new(alloc);
+    let result = run_words(alloc, words, input, &mut written);
+    same(rt, "refusal", result.err(), want.err());
+    same(
+        rt,
+        "written",
+        written.as_slice(),
+        want.unwrap_or("").as_bytes(),
+    );
+}
+
+/// Asserts that the words write this text and a line feed.
+pub fn answers_line(rt: &impl Abort, alloc: Global, words: &[&str], input: &str, text: &str) {
+    let mut written = Vec::new(alloc);
+    let result = run_words(alloc, words, input.as_bytes(), &mut written);
+    same(rt, input, result, Ok(()));
+    let line = written.as_slice().split_last();
+    same(rt, input, line, Some((&b'\n', text.as_bytes())));
 }
 
 #[test]
-fn commands_answer(rt: HostRuntime) -> Result<(), Fail> {
+fn commands_answer(rt: HostRuntime) {
     for (words, input, want) in RUNS {
-        let mut written = Vec::new(rt.alloc());
-        let result = run_words(rt.alloc(), words, input.as_bytes(), &mut written);
-        match want {
-            Ok(text) => {
-                assert_eq!(rt; result, Ok(()), "{input}");
-                assert_eq!(rt; written.as_slice(), text.as_bytes());
-            }
-            Err(refusal) => {
-                assert_eq!(rt; result, Err(*refusal), "{input}");
-                assert!(rt; written.is_empty());
-            }
-        }
+        answers(&rt, rt.alloc(), words, input.as_bytes(), *want);
     }
+}
+
+/// Asserts the text and the status of a refusal.
+fn is_told_as(
+    rt: &impl Abort,
+    alloc: Global,
+    refusal: RunError,
+    text: &str,
+    status: u8,
+) -> Result<(), Fail> {
+    same(rt, "text", format!(in alloc; "{refusal}")?.as_str(), text);
+    same(rt, text, refusal.status(), status);
     Ok(())
+}
+
+/// Asserts that a text is not normalised, for this reason.
+fn is_not_normalised(
+    rt: &impl Abort,
+    alloc: Global,
+    input: &str,
+    message: &str,
+) -> Result<(), Fail> {
+    let mut written = Vec::new(alloc);
+    let result = run_words(alloc, &["normalise"], input.as_bytes(), &mut written);
+    assert!(rt; written.is_empty());
+    let Err(refusal) = result else {
+        return Ok(assert!(rt; false, "{input}"));
+    };
+    is_told_as(rt, alloc, refusal, message, 1)
 }
 
 #[test]
 fn maps_are_normalised(rt: HostRuntime) -> Result<(), Fail> {
     for (input, want) in NORMALISED {
-        let mut written = Vec::new(rt.alloc());
-        let result = run_words(rt.alloc(), &["normalise"], input.as_bytes(), &mut written);
         match want {
             Ok(text) => {
-                assert_eq!(rt; result, Ok(()), "{input}");
-                assert_eq!(rt; written.pop(), Some(b'\n'));
-                assert_eq!(rt; written.as_slice(), text.as_bytes());
+                answers_line(&rt, rt.alloc(), &["normalise"], input, text);
                 // What is written is read, and written as the same text.
-                let mut again = Vec::new(rt.alloc());
-                let result = run_words(rt.alloc(), &["normalise"], text.as_bytes(), &mut again);
-                assert_eq!(rt; result, Ok(()), "{text}");
-                assert_eq!(rt; again.pop(), Some(b'\n'));
-                assert_eq!(rt; again.as_slice(), text.as_bytes());
+                answers_line(&rt, rt.alloc(), &["normalise"], text, text);
             }
-            Err(message) => {
-                let Err(refusal) = result else {
-                    assert!(rt; false, "{input}");
-                    return Ok(());
-                };
-                assert_eq!(rt; format!(in rt.alloc(); "{refusal}")?.as_str(), *message);
-                assert_eq!(rt; refusal.status(), 1);
-                assert!(rt; written.is_empty());
-            }
+            Err(message) => is_not_normalised(&rt, rt.alloc(), input, message)?,
         }
     }
     Ok(())
 }
 
 #[test]
-fn a_map_has_a_data_url(rt: HostRuntime) -> Result<(), Fail> {
+fn a_map_has_a_data_url(rt: HostRuntime) {
     for (text, url) in URLS {
-        let mut written = Vec::new(rt.alloc());
-        let result = run_words(rt.alloc(), &["url"], text.as_bytes(), &mut written);
-        assert_eq!(rt; result, Ok(()), "{text}");
-        assert_eq!(rt; written.as_slice(), url.as_bytes());
+        answers(&rt, rt.alloc(), &["url"], text.as_bytes(), Ok(*url));
     }
-    Ok(())
 }
 
 #[test]
-fn positions_are_traced(rt: HostRuntime) -> Result<(), Fail> {
+fn positions_are_traced(rt: HostRuntime) {
     for (words, text, want) in TRACES {
-        let mut written = Vec::new(rt.alloc());
-        let result = run_words(rt.alloc(), words, text.as_bytes(), &mut written);
-        let (wanted, line) = match want {
-            Ok(line) => (Ok(()), *line),
-            Err(refusal) => (Err(*refusal), ""),
-        };
-        assert_eq!(rt; result, wanted, "{text}");
-        assert_eq!(rt; written.as_slice(), line.as_bytes());
+        answers(&rt, rt.alloc(), words, text.as_bytes(), *want);
     }
-    Ok(())
 }
 
 #[test]
-fn input_is_utf8(rt: HostRuntime) -> Result<(), Fail> {
-    let mut written = Vec::new(rt.alloc());
-    let result = run_words(rt.alloc(), &["mappings", "0", "0"], b"A\xff", &mut written);
-    assert_eq!(rt; result, Err(RunError::Utf8));
-    assert!(rt; written.is_empty());
-    Ok(())
+fn input_is_utf8(rt: HostRuntime) {
+    let words = ["mappings", "0", "0"];
+    answers(
+        &rt,
+        rt.alloc(),
+        words.as_slice(),
+        b"A\xff",
+        Err(RunError::Utf8),
+    );
 }
 
 #[test]
 fn refusals_have_a_text_and_a_status(rt: HostRuntime) -> Result<(), Fail> {
     for (refusal, text, status) in REFUSALS {
-        assert_eq!(rt; format!(in rt.alloc(); "{refusal}")?.as_str(), *text);
-        assert_eq!(rt; refusal.status(), *status);
+        is_told_as(&rt, rt.alloc(), *refusal, text, *status)?;
     }
     Ok(())
 }
 
+/// The read behind the last byte, of number 5, is the last one.
+fn a_read_fails(rt: &impl Abort, alloc: Global, fails_at: u64) {
+    let mut reader = Port::new(FailingReader {
+        rest: b"gD,!C",
+        calls: 0,
+        fails_at,
+    });
+    let mut writer = Port::new(Vec::new(alloc));
+    let result = run(alloc, &Command::Mappings(0, 0), &mut reader, &mut writer);
+    let refusal = if fails_at < 6 {
+        Some(RunError::Read)
+    } else {
+        None
+    };
+    same(rt, "refusal", result.err(), refusal);
+    same(rt, "reader", reader.failed(), fails_at < 6);
+    same(rt, "writer", writer.failed(), false);
+    let wanted = if fails_at < 6 { "" } else { "gD,/C\n" };
+    let written = writer.into_inner();
+    same(rt, "written", written.as_slice(), wanted.as_bytes());
+}
+
 #[test]
 fn a_failed_read_is_told_and_nothing_is_written(rt: HostRuntime) {
-    let input = b"gD,!C";
     for fails_at in 0..7 {
-        let rest: &[u8] = input;
-        let mut reader = Port::new(FailingReader {
-            rest,
-            calls: 0,
-            fails_at,
-        });
-        let mut writer = Port::new(Vec::new(rt.alloc()));
-        let result = run(
-            rt.alloc(),
-            &Command::Mappings(0, 0),
-            &mut reader,
-            &mut writer,
-        );
-        // The read behind the last byte, of number 5, is the last one.
-        assert_eq!(rt;
-            result,
-            if fails_at < 6 {
-                Err(RunError::Read)
-            } else {
-                Ok(())
-            }
-        );
-        assert_eq!(rt; reader.failed(), fails_at < 6);
-        assert!(rt; !writer.failed());
-        let written = writer.into_inner();
-        let wanted: &[u8] = if fails_at < 6 { b"" } else { b"gD,/C\n" };
-        assert_eq!(rt; written.as_slice(), wanted);
+        a_read_fails(&rt, rt.alloc(), fails_at);
     }
+}
+
+/// Nothing is written behind the call that failed.
+fn a_write_fails(rt: &impl Abort, alloc: Global, fails_at: u64, takes_none: bool) {
+    let input: &[u8] = b"gD,!C";
+    let mut reader = Port::new(input);
+    let mut writer = Port::new(FailingWriter {
+        taken: Vec::new(alloc),
+        calls: 0,
+        fails_at,
+        takes_none,
+    });
+    let result = run(alloc, &Command::Mappings(0, 0), &mut reader, &mut writer);
+    let refusal = if fails_at < 6 {
+        Some(RunError::Write)
+    } else {
+        None
+    };
+    same(rt, "refusal", result.err(), refusal);
+    same(rt, "reader", reader.failed(), false);
+    same(rt, "writer", writer.failed(), fails_at < 6);
+    let taken = writer.into_inner().taken;
+    let wanted = b"gD,/C\n".get(..fails_at.min(6) as usize);
+    same(rt, "written", Some(taken.as_slice()), wanted);
 }
 
 #[test]
 fn a_failed_write_is_told_and_a_beginning_stands(rt: HostRuntime) {
-    let whole = b"gD,/C\n";
     for takes_none in [false, true] {
         for fails_at in 0..7 {
-            let input: &[u8] = b"gD,!C";
-            let mut reader = Port::new(input);
-            let mut writer = Port::new(FailingWriter {
-                taken: Vec::new(rt.alloc()),
-                calls: 0,
-                fails_at,
-                takes_none,
-            });
-            let result = run(
-                rt.alloc(),
-                &Command::Mappings(0, 0),
-                &mut reader,
-                &mut writer,
-            );
-            assert_eq!(rt;
-                result,
-                if fails_at < 6 {
-                    Err(RunError::Write)
-                } else {
-                    Ok(())
-                }
-            );
-            assert_eq!(rt; writer.failed(), fails_at < 6);
-            assert!(rt; !reader.failed());
-            // Nothing is written behind the call that failed.
-            let taken = writer.into_inner().taken;
-            assert_eq!(rt; taken.as_slice(), &whole[..fails_at as usize]);
+            a_write_fails(&rt, rt.alloc(), fails_at, takes_none);
         }
     }
 }
@@ -452,7 +480,7 @@ impl Write for FlushedWriter {
 #[test]
 fn a_flush_is_handed_on_and_sets_no_flag(rt: HostRuntime) {
     let mut writer = Port::new(FlushedWriter { flushes: 0 });
-    assert!(rt; writer.flush().is_err());
-    assert!(rt; !writer.failed());
-    assert_eq!(rt; writer.into_inner().flushes, 1);
+    same(&rt, "refused", writer.flush().is_err(), true);
+    same(&rt, "failed", writer.failed(), false);
+    same(&rt, "flushes", writer.into_inner().flushes, 1);
 }

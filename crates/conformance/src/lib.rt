@@ -2,14 +2,18 @@
 //! alone.
 #![tactic(auto)]
 
-ghost use Rattle.std.specs.Prelude.{◌≡◌, ◌≤◌, ℕ, length, IfOk, IfErr, OnOk, OnErr, Some};
+ghost use Rattle.std.specs.Prelude.{◌≡◌, ◌≤◌, ℕ, length, string_bytes, IfOk, IfErr, OnOk, OnErr, Ok, Some};
 ghost use Rattle.oxc_sourcemap.specs.Error.TheVariants.{OutOfMemory};
 ghost use Rattle.oxc_sourcemap.specs.Canonical.{bare};
 ghost use Rattle.oxc_sourcemap.specs.Sound.{IsSound};
 ghost use Rattle.oxc_sourcemap.specs.Sheet.{sheet_of};
+ghost use Rattle.oxc_sourcemap.specs.Record.{MapRecord};
+ghost use Rattle.oxc_sourcemap.specs.JsonText.{map_text};
+ghost use Rattle.oxc_sourcemap.specs.Outcome.{outcome};
+ghost use Rattle.oxc_sourcemap.specs.Evaluated.{IsEvaluated};
 
 use oxc_sourcemap::laws::canonical_unique;
-use oxc_sourcemap::{OwnedSourceMap, Result, SourceMap};
+use oxc_sourcemap::{OwnedSourceMap, Plan, PlanError, Result, SourceMap, evaluate};
 use std::alloc::Global;
 
 #[cfg(test)]
@@ -46,6 +50,14 @@ pub fn rewrite(alloc: Global, map: &SourceMap<'_>) -> Result<SourceMap<'static>>
     canonical_unique();
     let json = map.to_json(alloc)?;
     SourceMap::from_json(alloc, json)
+}
+
+/// The JSON text of the map of a plan. It is that of a map with all that `evaluate` promises of the plan's map.
+pub fn evaluated_text(alloc: Global, plan: &Plan<'_>) -> std::result::Result<String, PlanError>
+    ensures { IfOk result (λ text. (map : MapRecord) × IsEvaluated map (outcome plan.now) × (map_text map ≡ Ok (string_bytes text))) }
+{
+    let map = evaluate(alloc, plan)?;
+    Ok(map.to_json_string(alloc)?)
 }
 
 /// Sets the file of the map inside, through `as_source_map_mut`. The owned map then has it, and nothing else has changed.

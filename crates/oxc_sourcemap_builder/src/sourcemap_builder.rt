@@ -169,8 +169,8 @@ impl<'a> SourceMapBuilder<'a> {
         find_given(self.given.as_slice(), path)
     }
 
-    /// The id of a source by its path: the id that this call gave to the equal path, whose content stays; else that of a new
-    /// last source with this content. It does not see sources of `set_source_and_content`.
+    /// The id of the source with this path. Where this call has added the path before, that id, and the content given then
+    /// stays; else the source becomes the last one, with this content. Sources of `set_source_and_content` are not looked at.
     ///
     /// Refused as `TooLarge` where the new id would be 4294967295, then as `OutOfMemory` where memory is refused; the builder
     /// is then as it was.

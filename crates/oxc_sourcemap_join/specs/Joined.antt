@@ -63,8 +63,8 @@ added_tokens r m offset = seamed is_same_token r.tokens (map (shifted (length r.
 abbrev pub added_chunk : MapRecord → MapRecord → ℕ → TokenChunk
 added_chunk r m offset = chunk_from (state_at r.tokens (length r.tokens)) (length r.tokens) (length (added_tokens r m offset))
 
--- A join, and a map behind it. The join has one content for each source, a chunk for each map, and no file, source root,
--- ignore list or debug id.
+-- A join, and a map after it. The join has one content for each source and a chunk for each map. It has none of these: file,
+-- source root, debug id, ignore list.
 abbrev pub added : MapRecord → MapRecord → ℕ → MapRecord
 added r m offset = record {
   file = None;

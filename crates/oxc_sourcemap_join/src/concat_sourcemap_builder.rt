@@ -87,8 +87,7 @@ impl Shift {
         )
     }
 
-    /// How many of the tokens of a map are passed over in front: one where the first, moved, equals the last token so far in
-    /// all six fields.
+    /// How many of the first tokens of a map are left out: one if the first, moved, is the same as the last token so far.
     fn passed_over(&self, last_token: Option<Token>, tokens: &[Token]) -> usize
         requires { AreInBounds (all_shifted self.now tokens.now) }
         ensures kept { all_shifted self.now (drop result tokens.now) ≡ without_repeat is_same_token last_token (all_shifted self.now tokens.now) }
@@ -318,8 +317,8 @@ impl<'a> ConcatSourceMapBuilder<'a> {
 
     /// Adds a map behind the others, `line_offset` lines further down. Its names, sources and contents are lent, and one
     /// content stands for each source: missing ones are unknown, and further ones are left out. Its tokens are moved by
-    /// the offset, their ids by the numbers of names and sources so far; where the first then equals the last token so
-    /// far in all six fields, it is left out. One chunk is recorded, perhaps of no token, whose header is the state in front
+    /// the offset, their ids by the numbers of names and sources so far; the first is left out if it is then the same, in
+    /// all six fields, as the last token so far. One chunk is recorded, perhaps of no token, whose header is the state in front
     /// of it (docs/FORMAT.md, "Joins").
     ///
     /// Refused as `TooLarge` where there would be more than 4294967295 names, sources or tokens, a line above 4294967295 or an

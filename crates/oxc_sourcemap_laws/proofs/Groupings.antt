@@ -1,9 +1,9 @@
 -- The two groupings of a composition of three maps, and their refusals.
-use Rattle.std.proofs.Common.{◌≡◌, ◌≢◌, ◌↔◌, ℕ, ◌+◌, ◌≤◌, ◌<◌, Bool, true, false, cond, ◌&&◌, List, [], ◌∷◌, length, refl, sym, ap, ◌∙◌, arith, nat_lt, Option, Some, None, option_map, Result, Ok, Err}
+use Rattle.std.proofs.Common.{◌≡◌, ◌≢◌, ◌↔◌, ◌⊎◌, inl, inr, ℕ, ◌+◌, ◌≤◌, ◌<◌, Bool, true, false, cond, ◌&&◌, List, [], ◌∷◌, length, refl, sym, ap, ◌∙◌, arith, nat_lt, Option, Some, None, option_map, Result, Ok, Err}
 use Rattle.std.proofs.lemmas.Bool.Decides.{nat_tests}
 use Rattle.std.specs.Option.{option_and_then}
 use Rattle.oxc_sourcemap_mappings.specs.declared.error.Error.{Error}
-use Rattle.oxc_sourcemap_mappings.specs.declared.error.Error.TheVariants.{SeveralSources, LineOrder, TooLarge}
+use Rattle.oxc_sourcemap_mappings.specs.declared.error.Error.TheVariants.{VlqLeftover, VlqNoValues, VlqOverflow, BadJson, BadSegmentSize, BadSourceReference, BadNameReference, OutOfMemory, TooLarge, LineOrder, BadChunks, SeveralSources}
 use Rattle.oxc_sourcemap_mappings.specs.Canonical.{first_out_of_order}
 use Rattle.oxc_sourcemap_parts.specs.Record.{Text, MapRecord}
 use Rattle.oxc_sourcemap_parts.specs.Texts.{place_of}
@@ -11,7 +11,7 @@ use Rattle.oxc_sourcemap_parts.specs.Sound.{IsSound}
 use Rattle.oxc_sourcemap_parts.specs.Sheet.{sheet_of}
 use Rattle.oxc_sourcemap_compose.specs.Composed.{Lead, leads, taken_name, taken_id, may_be_id, are_ids, composed_names, composed, unless, composition_fault, composition}
 use Rattle.oxc_sourcemap_parts.proofs.Order.{sorted_in_order}
-use Rattle.oxc_sourcemap_laws.specs.ComposeLaws.{then_with, with_then, grouped_left, grouped_right, IsSeveralSources}
+use Rattle.oxc_sourcemap_laws.specs.ComposeLaws.{then_with, with_then, grouped_left, grouped_right, IsSeveralSources, TellsOf}
 use Rattle.oxc_sourcemap_laws.proofs.Compositions.{place-below, records_associative, sound_composed}
 use Rattle.oxc_sourcemap_laws.proofs.ComposedNames.{names-most}
 
@@ -119,6 +119,73 @@ module _ (a b c : MapRecord) (y : IsSound b) (z : IsSound c) (x : IsSound a) (n 
       let f : is_many b ≡ false = grind (arith, nat_tests, j) in
       let g = both-given e f in
       ((composed (composed a b) c, g.left), (composed a (composed b c), g.right))
+
+  -- ---- what one grouping says of the other
+  either-by : (p q : Bool) → is_many a ≡ p → is_many b ≡ q → BothRefused a b c ⊎ BothGiven a b c
+  either-by true q e f = inl (refused-first e)
+  either-by false true e f = inl (refused-second e f)
+  either-by false false e f = inr (both-given e f)
+
+  right-map : (m : MapRecord) → grouped_left a b c ≡ Ok m → (r : MapRecord) × (grouped_right a b c ≡ Ok r) × (sheet_of m ≡ sheet_of r)
+  right-map m e = elim (either-by (is_many a) (is_many b) refl refl) [
+    | inl r ↦ absurd (not-refused (grouped_left a b c) m e r.left)
+    | inr g ↦ (composed a (composed b c), g.right, groupings_agree a b c x y z m _ e g.right)
+  ]
+
+  left-map : (m : MapRecord) → grouped_right a b c ≡ Ok m → (r : MapRecord) × (grouped_left a b c ≡ Ok r) × (sheet_of m ≡ sheet_of r)
+  left-map m e = elim (either-by (is_many a) (is_many b) refl refl) [
+    | inl r ↦ absurd (not-refused (grouped_right a b c) m e r.right)
+    | inr g ↦ (composed (composed a b) c, g.left, sym (groupings_agree a b c x y z _ m g.left e))
+  ]
+
+too-large-or-not : (e : Error) → (e ≡ TooLarge) ⊎ (e ≢ TooLarge)
+too-large-or-not VlqLeftover = inr (λ q. cc (q))
+too-large-or-not VlqNoValues = inr (λ q. cc (q))
+too-large-or-not VlqOverflow = inr (λ q. cc (q))
+too-large-or-not (BadJson fault) = inr (λ q. cc (q))
+too-large-or-not (BadSegmentSize n) = inr (λ q. cc (q))
+too-large-or-not (BadSourceReference n) = inr (λ q. cc (q))
+too-large-or-not (BadNameReference n) = inr (λ q. cc (q))
+too-large-or-not OutOfMemory = inr (λ q. cc (q))
+too-large-or-not TooLarge = inl refl
+too-large-or-not (LineOrder i) = inr (λ q. cc (q))
+too-large-or-not (BadChunks k) = inr (λ q. cc (q))
+too-large-or-not (SeveralSources n) = inr (λ q. cc (q))
+
+is-too-large : (q : Result MapRecord Error) → (q ≡ Err TooLarge) ⊎ (q ≢ Err TooLarge)
+is-too-large (Ok r) = inr (λ e. cc (e))
+is-too-large (Err f) = elim (too-large-or-not f) [ inl e ↦ inl (ap (λ f. Err f) e) | inr n ↦ inr (λ e. n (cc (e))) ]
+
+ok-small : (q : Result MapRecord Error) (m : MapRecord) → q ≡ Ok m → q ≢ Err TooLarge
+ok-small q m e f = cc (e, f)
+
+several-small : (q : Result MapRecord Error) → IsSeveralSources q → q ≢ Err TooLarge
+several-small q s f = let e = s.1 in cc (e, f)
+
+module _ (a b c : MapRecord) (x : IsSound a) (y : IsSound b) (z : IsSound c) where
+  pub left_tells : TellsOf (grouped_left a b c) (grouped_right a b c)
+  left_tells = record {
+    of_map = λ m e. elim (is-too-large (grouped_right a b c)) [
+      | inl t ↦ inl t
+      | inr k ↦ inr (right-map a b c y z x (ok-small (grouped_left a b c) m e) k m e)
+    ];
+    of_several = λ s. elim (is-too-large (grouped_right a b c)) [
+      | inl t ↦ inl t
+      | inr k ↦ inr ((refused_alike a b c y z x (several-small (grouped_left a b c) s) k).0 s)
+    ];
+  }
+
+  pub right_tells : TellsOf (grouped_right a b c) (grouped_left a b c)
+  right_tells = record {
+    of_map = λ m e. elim (is-too-large (grouped_left a b c)) [
+      | inl t ↦ inl t
+      | inr k ↦ inr (left-map a b c y z x k (ok-small (grouped_right a b c) m e) m e)
+    ];
+    of_several = λ s. elim (is-too-large (grouped_left a b c)) [
+      | inl t ↦ inl t
+      | inr k ↦ inr ((refused_alike a b c y z x k (several-small (grouped_right a b c) s)).1 s)
+    ];
+  }
 
 -- ---- too many names
 past-at : (o : Option ℕ) (count : ℕ) → ((i : ℕ) → o ≡ Some i → i < count) → may_be_id o ≡ false → 4294967295 < count

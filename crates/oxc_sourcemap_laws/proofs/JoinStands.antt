@@ -80,7 +80,7 @@ names_joined ms = ap (λ (r : MapRecord). r.names) (joined-is ms) ∙ names-toge
 pub sorted-entries : (r : MapRecord) → is_sorted_sheet (sheet_of r) ≡ are_tokens_sorted r.tokens
 sorted-entries r = sorted-tokens (sources_of r.sources r.source_contents) r.names r.tokens
 
--- ---- records of sound maps with sheets alike to given ones
+-- ---- sound maps that stand for given sheets
 placed : (ms : List (MapRecord × ℕ)) (ss : List (Sheet × ℕ)) → AllStandFor ms ss → AreAllInRange ms
 placed [] ss h = tt
 placed (m ∷ ms) [] h = absurd h

@@ -193,3 +193,11 @@ groups (g ∷ gs) =
 
 pub joins_associative : (gs : List Group) → without_chunks (joined (groups_joined gs)) ≡ without_chunks (joined (maps_of gs))
 joins_associative gs = joined-is (groups_joined gs) ∙ groups gs ∙ sym (joined-is (maps_of gs))
+
+-- one map more
+added-last : (r : MapRecord) (ms : List (MapRecord × ℕ)) (m : MapRecord) (offset : ℕ) → added_all r (ms ++ (m, offset) ∷ []) ≡ added (added_all r ms) m offset
+added-last r [] m offset = refl
+added-last r (x ∷ ms) m offset = added-last (added r x.0 x.1) ms m offset
+
+pub one_more : (ms : List (MapRecord × ℕ)) (m : MapRecord) (offset : ℕ) → joined (ms ++ (m, offset) ∷ []) ≡ added (joined ms) m offset
+one_more ms m offset = added-last nothing_joined ms m offset

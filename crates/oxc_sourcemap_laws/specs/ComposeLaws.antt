@@ -1,5 +1,5 @@
 -- What composition keeps, and that it is associative.
-use Rattle.std.specs.Prelude.{◌≡◌, ◌≢◌, ◌↔◌, ℕ, ◌+◌, ◌<◌, ◌≤◌, Bool, true, length, Result, Ok, Err, IfSome}
+use Rattle.std.specs.Prelude.{◌≡◌, ◌≢◌, ◌↔◌, ◌⊎◌, ℕ, ◌+◌, ◌<◌, ◌≤◌, Bool, true, length, Result, Ok, Err, IfSome}
 use Rattle.std.specs.List.{AllByRecursion, list_all}
 use Rattle.oxc_sourcemap_mappings.specs.declared.error.Error.{Error}
 use Rattle.oxc_sourcemap_mappings.specs.declared.error.Error.TheVariants.{SeveralSources, TooLarge}
@@ -55,6 +55,10 @@ grouped_left a b c = then_with (composition a b) c
 abbrev pub grouped_right : MapRecord → MapRecord → MapRecord → Result MapRecord Error
 grouped_right a b c = with_then a (composition b c)
 
+-- For sound maps, and without regard to limits: the sheet of the composed map does not depend on the grouping.
+abbrev pub ComposedMapsAssociative : Type 0
+ComposedMapsAssociative = (a b c : MapRecord) → IsSound a → IsSound b → IsSound c → sheet_of (composed (composed a b) c) ≡ sheet_of (composed a (composed b c))
+
 -- The groupings of sound maps have equal sheets, where both give a map.
 abbrev pub CompositionAssociative : Type 0
 CompositionAssociative = (a b c : MapRecord) → IsSound a → IsSound b → IsSound c → (left right : MapRecord) → grouped_left a b c ≡ Ok left → grouped_right a b c ≡ Ok right → sheet_of left ≡ sheet_of right
@@ -63,12 +67,22 @@ CompositionAssociative = (a b c : MapRecord) → IsSound a → IsSound b → IsS
 abbrev pub IsSeveralSources : Result MapRecord Error → Type 0
 IsSeveralSources answer = (n : ℕ) × (answer ≡ Err (SeveralSources n))
 
--- Where no id is too large, one grouping of sound maps is refused for several sources exactly where the other is. Where the
--- first and the second map have at most one source, neither is refused.
+-- Unless an id is too large, the two groupings of sound maps are `SeveralSources` together or not at all. Neither is, where
+-- the first and the second map have at most one source.
 abbrev pub GroupingsRefused : Type 0
 GroupingsRefused = (a b c : MapRecord) → IsSound a → IsSound b → IsSound c → grouped_left a b c ≢ Err TooLarge → grouped_right a b c ≢ Err TooLarge
     → (IsSeveralSources (grouped_left a b c) ↔ IsSeveralSources (grouped_right a b c))
     × ((length a.sources ≤ 1) → (length b.sources ≤ 1) → ((left : MapRecord) × (grouped_left a b c ≡ Ok left)) × ((right : MapRecord) × (grouped_right a b c ≡ Ok right)))
+
+-- What one answer says of another. If it is a map, the other is a map with the same sheet, or `TooLarge`; if it is
+-- `SeveralSources`, the other is so, too, or `TooLarge`.
+pub record TellsOf (answer other : Result MapRecord Error) : Type 0 where
+  pub of_map : (m : MapRecord) → answer ≡ Ok m → (other ≡ Err TooLarge) ⊎ ((n : MapRecord) × (other ≡ Ok n) × (sheet_of m ≡ sheet_of n))
+  pub of_several : IsSeveralSources answer → (other ≡ Err TooLarge) ⊎ IsSeveralSources other
+
+-- So each grouping of sound maps tells of the other.
+abbrev pub GroupingsTell : Type 0
+GroupingsTell = (a b c : MapRecord) → IsSound a → IsSound b → IsSound c → TellsOf (grouped_left a b c) (grouped_right a b c) × TellsOf (grouped_right a b c) (grouped_left a b c)
 
 -- ---- names, tokens and ids
 -- The ids of a composed map are in range where those of the second map are.

@@ -1,5 +1,5 @@
 -- What joins and squeezing leave as it is.
-use Rattle.std.specs.Prelude.{◌≡◌, ℕ, ◌+◌, ◌≤◌, Bool, true, List, ◌∷◌, ◌++◌, map, length, Some, None}
+use Rattle.std.specs.Prelude.{◌≡◌, ℕ, ◌+◌, ◌≤◌, Bool, true, List, [], ◌∷◌, ◌++◌, map, length, Some, None}
 use Rattle.std.specs.List.{AllByRecursion, AllZip, flat_map}
 use Rattle.oxc_sourcemap_mappings.specs.declared.token.TokenChunk.{TokenChunk}
 use Rattle.oxc_sourcemap_mappings.specs.Chunks.{ChunksFit}
@@ -8,7 +8,7 @@ use Rattle.oxc_sourcemap_parts.specs.Sorted.{are_tokens_sorted}
 use Rattle.oxc_sourcemap_parts.specs.Sound.{IsInRange, AreIdsInRange, IsSound}
 use Rattle.oxc_sourcemap_parts.specs.Sheet.{Entry, Sheet, sheet_of}
 use Rattle.oxc_sourcemap_lookup.specs.Trace.{trace, clamped_trace}
-use Rattle.oxc_sourcemap_join.specs.Joined.{joined}
+use Rattle.oxc_sourcemap_join.specs.Joined.{added, joined}
 use Rattle.oxc_sourcemap_laws.specs.Squeezed.{squeezed_sheet, Alike, is_sorted_sheet}
 use Rattle.oxc_sourcemap_laws.specs.JoinedSheets.{joined_sheets}
 
@@ -91,6 +91,10 @@ pub record HasFittingChunks (ms : List (MapRecord × ℕ)) : Type 0 where
 -- So has every join, of whatever maps.
 abbrev pub JoinChunksFit : Type 0
 JoinChunksFit = (ms : List (MapRecord × ℕ)) → HasFittingChunks ms
+
+-- Joining one map more is adding it to the join of the others.
+abbrev pub JoinOneMore : Type 0
+JoinOneMore = (ms : List (MapRecord × ℕ)) (m : MapRecord) (offset : ℕ) → joined (ms ++ (m, offset) ∷ []) ≡ added (joined ms) m offset
 
 -- ---- groups
 -- maps at offsets, and the offset of them all

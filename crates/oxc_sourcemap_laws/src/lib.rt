@@ -6,8 +6,8 @@
 
 ghost use Rattle.oxc_sourcemap_mappings.specs.TextLaws.{CanonicalUnique, ReadsBack, ReadsAgain, InPieces};
 ghost use Rattle.oxc_sourcemap_json.specs.MapLaws.{SoundIsWritten, SoundIsTooLarge, SoundReadsBack, SoundStaysSound, ReadIsInBounds};
-ghost use Rattle.oxc_sourcemap_laws.specs.ComposeLaws.{SheetOfComposition, CompositionKeepsAlike, CompositionStandsFor, SheetsAssociative, CompositionAssociative, GroupingsRefused, CompositionInRange, CompositionNames, CompositionTokens, CompositionRoom, CompositionInBounds};
-ghost use Rattle.oxc_sourcemap_laws.specs.JoinLaws.{SqueezingHarmless, AlikeTracesSame, AlikeTestAlike, JoinKeepsAlike, SheetOfJoin, JoinStandsFor, JoinInRange, JoinNames, JoinTokens, JoinChunksFit, JoinsAssociative};
+ghost use Rattle.oxc_sourcemap_laws.specs.ComposeLaws.{SheetOfComposition, CompositionKeepsAlike, CompositionStandsFor, SheetsAssociative, ComposedMapsAssociative, CompositionAssociative, GroupingsRefused, GroupingsTell, CompositionInRange, CompositionNames, CompositionTokens, CompositionRoom, CompositionInBounds};
+ghost use Rattle.oxc_sourcemap_laws.specs.JoinLaws.{SqueezingHarmless, AlikeTracesSame, AlikeTestAlike, JoinKeepsAlike, SheetOfJoin, JoinStandsFor, JoinInRange, JoinNames, JoinTokens, JoinChunksFit, JoinsAssociative, JoinOneMore};
 
 /// The `mappings` text is unique, and reading undoes writing. A text leaves out the source position and the name of
 /// unmapped tokens; the list without them is the bare list.
@@ -63,10 +63,12 @@ pub fn dropping_harmless()
 /// - Maps may be joined in groups and the groups then joined: chunks aside, this is the join of them all, one behind the
 ///   other, with both offsets of each added (`associative`). Groups may be empty, or end up
 ///   empty because their first token is left out. Lines and ids are numbers without limit here.
+/// - Joining one map more is adding it to the join of the others (`one_more`), so a caller that adds maps in a loop joins them.
 /// - The chunks of every join, one for each map, fit its tokens (`chunks_fit`), so that the canonical text is the chunks'
 ///   pieces in order (see `in_pieces` of `canonical_unique`).
 pub fn joins_associative()
     ensures associative { JoinsAssociative }
+    ensures one_more { JoinOneMore }
     ensures chunks_fit { JoinChunksFit }
 {}
 
@@ -77,11 +79,13 @@ pub fn joins_associative()
 /// - Sheets that are alike stay alike when they are composed, on either side (`keeps_alike`). Where two maps are sound and
 ///   their sheets alike to given ones, the composed map is sound, with a sheet alike to the composition of the given
 ///   sheets (`stands_for`).
-/// - Composition of sheets is associative (`sheets`). So, for sound maps, `a.compose(b).compose(c)` and
-///   `a.compose(b.compose(c))` have equal sheets where both give a map (`associative`). Lists of names and ids may differ.
-/// - Where no id of a name is too large, one grouping is refused for several sources exactly where the other is; which
-///   number is told may differ. Where the first and the second map have at most one source, neither is refused
-///   (`refused`).
+/// - Composition of sheets is associative (`sheets`). So both groupings of three sound maps, the first two
+///   composed first or the last two, mean the same: as records, without regard to limits (`composed_maps`), and as answers,
+///   where both give a map (`associative`). Lists of names and ids may differ.
+/// - Unless an id of a name is too large, the groupings are `SeveralSources` together or not at all; which number is told
+///   may differ. Where the first and the second map have at most one source, neither is refused
+///   (`refused`). Each grouping tells of the other (`tell`): if one is a map, the other is a map that means the same, or
+///   `TooLarge`; if one is `SeveralSources`, the other is so, too, or `TooLarge`.
 /// - The ids of a composed map are in range where those of the second map are (`in_range`). Its names are names of the two
 ///   maps, and at most as many as they have together (`names`); it has as many tokens as the first map (`tokens`). An id is
 ///   too large only where the two maps have more than 4294967295 names (`room`). Its tokens are in bounds where those of the
@@ -91,8 +95,10 @@ pub fn composition_associative()
     ensures keeps_alike { CompositionKeepsAlike }
     ensures stands_for { CompositionStandsFor }
     ensures sheets { SheetsAssociative }
+    ensures composed_maps { ComposedMapsAssociative }
     ensures associative { CompositionAssociative }
     ensures refused { GroupingsRefused }
+    ensures tell { GroupingsTell }
     ensures in_range { CompositionInRange }
     ensures names { CompositionNames }
     ensures tokens { CompositionTokens }

@@ -70,8 +70,8 @@ fn compare_column(token: &Token, col: u32, steps: &mut u64) -> Ordering
     token.get_dst_col().cmp(&col)
 }
 
-/// The lookup on one line: of the tokens whose column is the greatest not past `col`, the first where that is `col`,
-/// else the last; None where there are none. Where the columns go back it answers some token of the line, or None.
+/// Looks up a column on one line. The answer is the first token at `col`; if none is there, the last token of the greatest
+/// column below `col`; if all are above, None. On a line whose columns go back, it is some token of the line, or None.
 ///
 /// `steps` is set to the number of columns that were compared with `col`, which is at most the number of tokens. No
 /// memory is taken.

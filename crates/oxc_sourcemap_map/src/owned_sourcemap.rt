@@ -337,9 +337,8 @@ impl OwnedSourceMap {
     /// end. The table is meant to be that of `generate_lookup_table`, but whichever is handed in is read, and nothing else,
     /// whatever line its tokens name.
     ///
-    /// Of the tokens on the line whose column is the greatest not past `col`, it is the first where that is `col`, else the
-    /// last; None where there are none. Where the columns of the line go back it is some token of the line, or None. No
-    /// memory is taken.
+    /// The answer is the first token at `col`; if none is there, the last token of the greatest column below `col`; if all
+    /// are above, None. On a line whose columns go back, it is some token of the line, or None. No memory is taken.
     pub fn lookup_token(&self, lookup_table: &[&[Token]], line: u32, col: u32) -> Option<Token>
         ensures found { let tokens = slice_of (map (λ s. s.now) lookup_table.now) line in
             no_column_goes_back token_column tokens ≡ true → result ≡ at token_column tokens col }

@@ -5,10 +5,11 @@ ghost use Rattle.oxc_sourcemap_map.specs.View.{view_of, seen_in, view_name, view
 use crate::sourcemap::SourceMap;
 use oxc_sourcemap_mappings::Token;
 
-/// A token, and the map that its ids are looked up in. The texts that it gives live as long as the borrow of the map
-/// (`'sm`); `'data` is the life of the texts that the map itself borrows.
+/// A token, and the map that its ids are looked up in. Strings that it returns borrow from the map, for `'sm`; `'data` is
+/// the lifetime of what the map itself borrows.
 ///
-/// An id that is missing or out of range names nothing. No call takes memory.
+/// An id that is missing or out of range names nothing, but that a content may be listed past the last source. No call takes
+/// memory.
 #[derive(Clone, Copy)]
 pub struct SourceViewToken<'sm, 'data> {
     token: Token,
@@ -81,7 +82,8 @@ impl<'sm, 'data> SourceViewToken<'sm, 'data> {
         sourcemap.get_source(self.get_source_id()?)
     }
 
-    /// The content of the source. None where the token has no source id, or the map no content for it.
+    /// The content that the map lists at the token's source id, also past the last source. None where the token has no source
+    /// id, or the map lists no content there.
     pub fn get_source_content(&self) -> Option<&'sm str>
         ensures { option_map (λ content. content.now) result ≡ view_content (view_of self.now) }
     {

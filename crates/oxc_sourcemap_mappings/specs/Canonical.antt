@@ -32,8 +32,8 @@ raw_delta a b = if nat_lt a b then 2 * (b - a) + 1 else 2 * (a - b)
 abbrev pub delta_text : ℕ → ℕ → List ℕ
 delta_text a b = vlq_text (raw_delta a b)
 
--- What parts a token from the state in front of it: on another line as many `;` as lines lie between, and on the same
--- line a `,`, which the first token of all goes without.
+-- What stands between a token and the state before it: on a later line one `;` for each line that it is further down, and
+-- on the same line a `,`, which the first token of the list goes without.
 unfoldable pub separator : Bool → State → TokenRecord → List ℕ
 separator is_first s t = if t.dst_line == s.dst_line then (if is_first then [] else 44 ∷ []) else replicate (t.dst_line - s.dst_line) 59
 

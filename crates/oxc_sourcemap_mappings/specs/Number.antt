@@ -1,7 +1,8 @@
 -- Digits, and the numbers that runs of digits spell (ECMA-426, "Base64 VLQ").
 --
--- The standard refuses a byte outside the base64 alphabet and a number past 32 bits. Here the byte is read as the digit
--- 63, and numbers go up to 63 bits; both as the Rust crate does.
+-- The standard refuses a byte outside the base64 alphabet and a number past 32 bits. Here such a byte is read as the digit
+-- 63, as the Rust crate does, and a run may have 13 digits: raw numbers have at most 63 bits, and numbers 62 and a sign.
+-- That limit is a choice of this library.
 use Rattle.std.specs.Prelude.{ℕ, ◌+◌, ◌-◌, ◌*◌, ◌/◌, ◌%◌, ◌^◌, Bool, false, ◌&&◌, List, [], ◌∷◌, length, slice_index, ℤ, pos, neg_ℤ, if◌then◌else◌, nat_lt, nat_le, ◌==◌}
 
 -- The value of a byte in the base64 alphabet, where `/` is 63, and 63 for every byte outside of it. (`,` and `;` never
@@ -31,8 +32,8 @@ raw_from exponent (d ∷ ds) = payload d * 32 ^ exponent + raw_from (exponent + 
 abbrev pub raw_number : List ℕ → ℕ
 raw_number run = raw_from 0 run
 
--- The number of a raw number: the half of it, rounded down, with its sign turned where the raw number is odd. Minus zero
--- is zero.
+-- The number of a raw number: the half of it, rounded down, and negative if the raw number is odd. There is one zero: the
+-- raw number 1 gives it, too.
 abbrev pub signed : ℕ → ℤ
 signed raw = if raw % 2 == 1 then neg_ℤ (pos (raw / 2)) else pos (raw / 2)
 

@@ -37,7 +37,8 @@ segments line = map segment (filter is_filled (slice_split is_comma line))
 abbrev pub lines : List ℕ → List (List Segment)
 lines text = map segments (slice_split is_semicolon text)
 
--- field k of a segment, from 0: generated column, source id, source line, source column, name id; 0 where it has no such field
+-- field k of a segment: 0 is the generated column, 1 the source id, 2 and 3 the source line and column, 4 the name id; the
+-- number 0 where the segment is shorter
 abbrev pub field : ℕ → Segment → ℤ
 field k s = get_or (map number s) k (pos 0)
 

@@ -402,9 +402,9 @@ fn fault_of_chunk(tokens: &[Token], chunk: &TokenChunk) -> Option<Error>
 /// text of the tokens.
 ///
 /// Refused in this order, with `out` as it was:
-/// - `BadChunks(0)`, where not start <= end <= the number of tokens;
-/// - `LineOrder(i)`, where i is the first token of the chunk whose generated line is smaller than that of the token in
-///   front, and for the token at `start` smaller than the header's;
+/// - `BadChunks(0)` if the chunk ends before it starts, or past the tokens;
+/// - `LineOrder(i)`, where i is the first token of the chunk whose generated line is smaller than the line before it: that of
+///   the previous token, and the header's for the token at `start`;
 /// - `OutOfMemory` where memory is refused.
 pub fn encode_chunk(tokens: &[Token], chunk: &TokenChunk, out: &mut String) -> Result<()>
     ensures text { OnOk result (string_bytes out.new ≡ string_bytes out.old ++ piece tokens.now chunk.now) }

@@ -32,10 +32,12 @@ pub enum Error {
     OutOfMemory,
     /// A line or a count is above 4294967295, or an id above 4294967294.
     TooLarge,
-    /// The first token, by its index, whose generated line is smaller than that of the token in front.
+    /// The first token, by its index, whose generated line is smaller than that of the token before it; for the first token
+    /// of a chunk that is written by itself (`encode_chunk`), smaller than the line in the chunk's header.
     LineOrder(usize),
-    /// The first chunk, by its index, that does not begin where its predecessor ended, ends before it starts or past the
-    /// tokens, or has a header other than the state there. The number of chunks where tokens are left over behind them.
+    /// The first chunk, by its index, that does not begin where the one before it ended, ends before it starts or past the
+    /// tokens, or has a header other than the state there. The number of chunks where tokens are left over after them. A
+    /// chunk that is written by itself (`encode_chunk`), and ends before it starts or past the tokens, is told as 0.
     BadChunks(usize),
     /// A map with this many sources, more than one, cannot transform another map.
     SeveralSources(usize),
@@ -57,14 +59,23 @@ pub enum JsonFault {
 pub enum Field {
     /// The value itself, which is not an object.
     Object,
+    /// `version`, a whole number of 0 to 4294967295.
     Version,
+    /// `file`, a string.
     File,
+    /// `mappings`, a string.
     Mappings,
+    /// `sourceRoot`, a string.
     SourceRoot,
+    /// `sources`, a list of strings.
     Sources,
+    /// `sourcesContent`, a list of strings and nulls.
     SourcesContent,
+    /// `names`, a list of strings.
     Names,
+    /// `debugId`, a string.
     DebugId,
+    /// `ignoreList`, a list of whole numbers of 0 to 4294967295.
     IgnoreList,
     /// `x_google_ignoreList`, which stands in for an `ignoreList` that is missing or null.
     GoogleIgnoreList,

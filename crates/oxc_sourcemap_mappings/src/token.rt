@@ -129,13 +129,21 @@ impl Token {
 /// the nearest mapped token there, and the nearest name id of a mapped token, or 0; this type does not check it.
 #[derive(Clone, Debug, Default, PartialEq, Eq, Drop)]
 pub struct TokenChunk {
+    /// The index of the chunk's first token.
     pub start: u32,
+    /// The index after its last token.
     pub end: u32,
+    /// The generated line of the token before `start`, or 0.
     pub prev_dst_line: u32,
+    /// The generated column of that token, or 0.
     pub prev_dst_col: u32,
+    /// The source line of the last mapped token before `start`, or 0.
     pub prev_src_line: u32,
+    /// The source column of that token, or 0.
     pub prev_src_col: u32,
+    /// The name id of the last mapped token before `start` that has one, or 0.
     pub prev_name_id: u32,
+    /// The source id of the last mapped token before `start`, or 0.
     pub prev_source_id: u32,
 }
 

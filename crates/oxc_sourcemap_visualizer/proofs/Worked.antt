@@ -11,8 +11,8 @@ use Rattle.oxc_sourcemap_visualizer.specs.TextLines.{lines_of}
 use Rattle.oxc_sourcemap_visualizer.specs.VisualText.{mapping_text, tokens_text, visual_text}
 use Rattle.oxc_sourcemap_visualizer.specs.Link.{visualization_link}
 
--- A code that is the content of `a.js` too, with these tokens: its visual text. The tokens are given as generated line and
--- column, source line and column, and source id.
+-- A code that is the content of `a.js` too, with these tokens: its visual text. A token is given by its
+-- generated position, its source position and its source id.
 abbrev token_at : ℕ → ℕ → ℕ → ℕ → Option ℕ → TokenRecord
 token_at dst_line dst_col src_line src_col source_id =
     record { dst_line = dst_line; dst_col = dst_col; src_line = src_line; src_col = src_col; source_id = source_id; name_id = None }

@@ -10,7 +10,7 @@ use std::io::{Read, Write};
 /// A reader or writer with a flag, which is set by the first call that fails: a read or write that the inner value
 /// refuses, or a write of some bytes of which it takes none.
 ///
-/// Each call goes to the inner value, and its answer comes back unchanged.
+/// A port hands each call on to its inner value, and returns what that returns.
 #[derive(Drop)]
 pub struct Port<T> {
     inner: T,

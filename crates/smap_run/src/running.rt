@@ -215,7 +215,7 @@ fn answer(alloc: Global, command: &Command, input: Vec<u8>) -> Result<String, Ru
 ///   canonical text of its tokens, where so many names and sources stand beside it.
 /// - `Normalise`: the input is the JSON text of a map; the answer is the JSON text that `SourceMap::to_json_string` gives.
 /// - `Plan(words)`: the input is the JSON texts of maps, parted by lines that are exactly `---`; the answer is the JSON text of
-///   a map that is as the contract of `evaluate` says of the plan that the words name.
+///   the map that `evaluate` answers for the plan that the words name.
 /// - `Trace(line, col)`: the input is the JSON text of a map; the answer is what `trace` says of this generated position.
 /// - `Url`: the input is the JSON text of a map; the answer is its data URL.
 ///

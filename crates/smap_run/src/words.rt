@@ -22,7 +22,7 @@ pub enum Command {
     Url,
 }
 
-/// The number of a word: one or more decimal digits without a sign, leading zeros allowed, of 0 to 4294967295.
+/// The number that an argument spells in decimal digits, if it is at most 4294967295. There is no sign; zeros may come first.
 pub fn read_number(word: &str) -> Option<u32>
     ensures { result ≡ number_of word.now }
 {
@@ -82,9 +82,8 @@ fn copied_words(alloc: Global, words: &[String]) -> Result<Vec<String>, AllocErr
     Ok(copies)
 }
 
-/// The command that some words say: `mappings NAMES SOURCES`, `normalise`, `plan WORDS..`, `trace LINE COL` or `url`. A number
-/// is one or more decimal digits without a sign, leading zeros allowed, of 0 to 4294967295. The words behind `plan` are kept
-/// as they are; `run` reads them.
+/// The command that some words say: `mappings NAMES SOURCES`, `normalise`, `plan WORDS..`, `trace LINE COL` or `url`. For numbers
+/// see `read_number`. The words after `plan` are kept as they are; `run` reads them.
 ///
 /// Refused as `Arguments` for all other words, and as `Plan(Map(OutOfMemory))` where memory is refused.
 pub fn read_words(alloc: Global, words: &[String]) -> Result<Command, RunError>

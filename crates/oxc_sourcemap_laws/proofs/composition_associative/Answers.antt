@@ -1,6 +1,6 @@
-use Rattle.oxc_sourcemap_laws.proofs.Compositions.{composed_alike, sheets_associative, sheet_composed, range_composed, count_composed, composition_stands}
+use Rattle.oxc_sourcemap_laws.proofs.Compositions.{composed_alike, sheets_associative, sheet_composed, range_composed, count_composed, composition_stands, records_associative}
 use Rattle.oxc_sourcemap_laws.proofs.ComposedNames.{names-most, names-tested}
-use Rattle.oxc_sourcemap_laws.proofs.Groupings.{groupings_agree, refused_alike, both_answer, room}
+use Rattle.oxc_sourcemap_laws.proofs.Groupings.{groupings_agree, refused_alike, both_answer, left_tells, right_tells, room}
 use Rattle.oxc_sourcemap_laws.proofs.ComposedBounds.{bounds_composed}
 use Rattle.oxc_sourcemap_laws.proofs.composition_associative.Goals as goal
 
@@ -16,11 +16,17 @@ returns-clause-stands_for c = composition_stands
 pub returns-clause-sheets : goal.returns-clause-sheets
 returns-clause-sheets c = sheets_associative
 
+pub returns-clause-composed_maps : goal.returns-clause-composed_maps
+returns-clause-composed_maps c = records_associative
+
 pub returns-clause-associative : goal.returns-clause-associative
 returns-clause-associative c = groupings_agree
 
 pub returns-clause-refused : goal.returns-clause-refused
 returns-clause-refused c = λ a b m x y z n k. (refused_alike a b m y z x n k, both_answer a b m y z x n k)
+
+pub returns-clause-tell : goal.returns-clause-tell
+returns-clause-tell c = λ a b m x y z. (left_tells a b m x y z, right_tells a b m x y z)
 
 pub returns-clause-in_range : goal.returns-clause-in_range
 returns-clause-in_range c = range_composed

@@ -1,8 +1,9 @@
 //! Reading a map from a JSON source map and from a JSON text.
-ghost use Rattle.std.specs.Prelude.{◌≡◌, ◌≢◌, IfOk, IfErr, Ok, Err};
+ghost use Rattle.std.specs.Prelude.{◌≡◌, ◌≢◌, Some, IfOk, IfErr, Ok, Err};
+ghost use Rattle.oxc_sourcemap_mappings.specs.declared.error.Error.{Error};
 ghost use Rattle.oxc_sourcemap_mappings.specs.declared.error.Error.TheVariants.{OutOfMemory};
 ghost use Rattle.oxc_sourcemap_json.specs.Json.{json_record};
-ghost use Rattle.oxc_sourcemap_json.specs.Decoded.{decoded};
+ghost use Rattle.oxc_sourcemap_json.specs.Decoded.{decoded, json_fault};
 ghost use Rattle.oxc_sourcemap_json.specs.ReadMap.{read_map};
 
 use oxc_sourcemap_json::JSONSourceMap;
@@ -22,6 +23,7 @@ use std::alloc::Global;
 pub fn decode(alloc: Global, json: JSONSourceMap) -> Result<SourceMap<'static>>
     ensures map { IfOk result (λ map. decoded (json_record json) ≡ Ok map) }
     ensures refused { IfErr result (λ e. (e ≢ OutOfMemory) → decoded (json_record json) ≡ Err e) }
+    ensures fault { (e : Error) → json_fault (json_record json) ≡ Some e → result ≡ Err e }
 {
     SourceMap::from_json(alloc, json)
 }

@@ -4,6 +4,7 @@ use Rattle.std.specs.List.{filter_map, list_all, Contains, AllByRecursion}
 use Rattle.std.specs.Option.{option_and_then, option_or}
 use Rattle.oxc_sourcemap_mappings.specs.declared.error.Error.{Error}
 use Rattle.oxc_sourcemap_mappings.specs.declared.error.Error.TheVariants.{SeveralSources, LineOrder, TooLarge}
+use Rattle.oxc_sourcemap_mappings.specs.Refusals.{unless}
 use Rattle.oxc_sourcemap_mappings.specs.Token.{TokenRecord, is_mapped}
 use Rattle.oxc_sourcemap_mappings.specs.Canonical.{first_out_of_order}
 use Rattle.oxc_sourcemap_parts.specs.Record.{Text, MapRecord}
@@ -99,10 +100,6 @@ abbrev pub composition_fault : MapRecord → MapRecord → Option Error
 composition_fault a b =
     if nat_lt 1 (length a.sources) then Some (SeveralSources (length a.sources))
     else option_map LineOrder (first_out_of_order b.tokens)
-
-abbrev pub unless : {A : Type 0} → Option Error → Result A Error → Result A Error
-unless None answer = answer
-unless (Some fault) answer = Err fault
 
 -- The map that these leads make; `TooLarge` where the id of a taken name would be above 4294967294.
 abbrev pub composition_by : List Lead → MapRecord → MapRecord → Result MapRecord Error

@@ -1,11 +1,13 @@
 -- A map that is read has its ids in range and no chunks, so it is sound exactly where it is sorted.
-use Rattle.std.proofs.Common.{◌≡◌, ◌↔◌, ℕ, ◌<◌, Bool, true, false, cond, nat_lt, List, [], ◌∷◌, length, get_or, drop, arith, refl, ap, sym, subst, ◌∙◌, inl, inr, Option, Some, None, Result, Ok, Err}
+use Rattle.std.proofs.Common.{◌≡◌, ◌↔◌, ℕ, ◌<◌, ◌==◌, Bool, true, false, cond, nat_lt, List, [], ◌∷◌, length, get_or, drop, arith, refl, ap, sym, subst, ◌∙◌, inl, inr, Option, Some, None, option_map, Result, Ok, Err}
 use Rattle.std.specs.List.{AllByRecursion}
 use Rattle.std.specs.Option.{IfSome, is_some, option_map_or}
 use Rattle.std.proofs.lemmas.Bool.{cases_lt}
 use Rattle.std.proofs.lemmas.Bool.Decides.{nat_tests}
 use Rattle.serde_json.specs.Read.{read}
 use Rattle.oxc_sourcemap_mappings.specs.declared.error.Error.{Error}
+use Rattle.oxc_sourcemap_mappings.specs.declared.error.Error.TheVariants.{BadSourceReference}
+use Rattle.oxc_sourcemap_mappings.specs.Refusals.{unless}
 use Rattle.oxc_sourcemap_mappings.specs.Token.{TokenRecord, AreInBounds, mapped_name, name_beside}
 use Rattle.oxc_sourcemap_json.specs.Json.{JsonRecord}
 use Rattle.oxc_sourcemap_json.specs.Shape.{◌>>=◌}
@@ -18,7 +20,7 @@ use Rattle.oxc_sourcemap_mappings.proofs.RoundTrip.{IsWithin, carrying}
 use Rattle.oxc_sourcemap_parts.specs.Record.{Text, MapRecord}
 use Rattle.oxc_sourcemap_parts.specs.Sorted.{are_tokens_sorted}
 use Rattle.oxc_sourcemap_parts.specs.Sound.{IsInRange, AreIdsInRange, IsSound}
-use Rattle.oxc_sourcemap_json.specs.Decoded.{first_not_below, ignore_list_fault, decoded_record, with_tokens, with_ignore_list, decoded}
+use Rattle.oxc_sourcemap_json.specs.Decoded.{first_not_below, ignore_list_fault, decoded_record, with_tokens, json_fault, decoded}
 use Rattle.oxc_sourcemap_json.specs.ReadMap.{json_fields, read_map}
 
 -- ---- ids
@@ -57,13 +59,17 @@ list-below count (Some ids) e = all-below count ids e
 
 -- ---- a map that is read
 
-of-version : (b : Bool) (x : Result MapRecord Error) (fault : Error) (r : MapRecord) → cond b x (Err fault) ≡ Ok r → x ≡ Ok r
-of-version true x fault r e = e
-of-version false x fault r e = cc
+of-fault : (o : Option Error) (x : Result MapRecord Error) (r : MapRecord) → unless o x ≡ Ok r → (o ≡ None) × (x ≡ Ok r)
+of-fault None x r e = (refl, e)
+of-fault (Some fault) x r e = cc
 
-of-list : (o : Option ℕ) (x : Result MapRecord Error) (r : MapRecord) → with_ignore_list o x ≡ Ok r → (o ≡ None) × (x ≡ Ok r)
-of-list None x r e = (refl, e)
-of-list (Some id) x r e = cc
+no-fault : (o : Option ℕ) → option_map BadSourceReference o ≡ None → o ≡ None
+no-fault None e = refl
+no-fault (Some id) e = cc
+
+list-fits : (b : Bool) (fault : Error) (o : Option ℕ) → cond b (option_map BadSourceReference o) (Some fault) ≡ None → o ≡ None
+list-fits true fault o e = no-fault o e
+list-fits false fault o e = cc
 
 record Tokens (j : JsonRecord) (x : Result (List TokenRecord) Error) (r : MapRecord) : Type 0 where
   tokens : List TokenRecord
@@ -91,9 +97,9 @@ only-order j ts h = (λ s. s.sorted, λ o. record { sorted = o; in_range = h; ch
 
 decoded-sound : (j : JsonRecord) (r : MapRecord) → decoded j ≡ Ok r → OnlyOrder r
 decoded-sound j r e =
-    let listed = of-list (ignore_list_fault j) _ r (of-version _ _ _ r e) in
-    let read = of-tokens j _ r listed.1 in
-    subst OnlyOrder read.is_map (only-order j read.tokens (ids-in-range j read.tokens listed.0 read.are_read))
+    let well = of-fault (json_fault j) _ r e in
+    let read = of-tokens j _ r well.1 in
+    subst OnlyOrder read.is_map (only-order j read.tokens (ids-in-range j read.tokens (list-fits (j.version == 3) _ (ignore_list_fault j) well.0) read.are_read))
 
 of-fields : (x : Result JsonRecord Error) (r : MapRecord) → (x >>= decoded) ≡ Ok r → OnlyOrder r
 of-fields (Ok j) r e = decoded-sound j r e
@@ -106,8 +112,8 @@ read_map_sound text r e = of-fields (json_fields (read text)) r e
 -- ---- bounds
 decoded-in-bounds : (j : JsonRecord) (r : MapRecord) → decoded j ≡ Ok r → AreInBounds r.tokens
 decoded-in-bounds j r e =
-    let listed = of-list (ignore_list_fault j) _ r (of-version _ _ _ r e) in
-    let found = of-tokens j _ r listed.1 in
+    let well = of-fault (json_fault j) _ r e in
+    let found = of-tokens j _ r well.1 in
     let reads = reads_of j.mappings (length j.names) (length j.sources) found.tokens found.are_read in
     subst (λ (m : MapRecord). AreInBounds m.tokens) found.is_map (bounds_within (length j.names) (length j.sources) found.tokens reads.within)
 

@@ -1,9 +1,10 @@
 -- The map that a JSON source map says, or why it says none.
-use Rattle.std.specs.Prelude.{ℕ, List, [], ◌∷◌, length, Option, Some, None, Result, Ok, Err, if◌then◌else◌, nat_lt, ◌==◌}
+use Rattle.std.specs.Prelude.{ℕ, List, [], ◌∷◌, length, Option, Some, None, option_map, Result, Ok, Err, if◌then◌else◌, nat_lt, ◌==◌}
 use Rattle.std.specs.Option.{option_map_or, unwrap_or}
 use Rattle.oxc_sourcemap_mappings.specs.declared.error.Error.{Error}
 use Rattle.oxc_sourcemap_mappings.specs.declared.error.Error.TheVariants.{BadJson, BadSourceReference}
 use Rattle.oxc_sourcemap_mappings.specs.declared.error.JsonFault.TheVariants.{Version}
+use Rattle.oxc_sourcemap_mappings.specs.Refusals.{unless}
 use Rattle.oxc_sourcemap_mappings.specs.Token.{TokenRecord}
 use Rattle.oxc_sourcemap_json.specs.Json.{JsonRecord}
 use Rattle.oxc_sourcemap_mappings.specs.Reading.{reading}
@@ -37,15 +38,12 @@ abbrev pub with_tokens : JsonRecord → Result (List TokenRecord) Error → Resu
 with_tokens j (Ok tokens) = Ok (decoded_record j tokens)
 with_tokens j (Err fault) = Err fault
 
--- the fault of the ignore list, else what comes behind it
-abbrev pub with_ignore_list : Option ℕ → Result MapRecord Error → Result MapRecord Error
-with_ignore_list None decoded = decoded
-with_ignore_list (Some id) decoded = Err (BadSourceReference id)
+-- What is wrong with a JSON source map besides its mappings: a version other than 3, or else an entry of the ignore list that
+-- is out of range.
+abbrev pub json_fault : JsonRecord → Option Error
+json_fault j =
+    if j.version == 3 then option_map BadSourceReference (ignore_list_fault j) else Some (BadJson (Version j.version))
 
--- The map of a JSON source map, or the first of: a version other than 3, an entry of the ignore list that is out of range,
--- the fault of the mappings.
+-- The map of a JSON source map, unless something is wrong with it, or with its mappings.
 abbrev pub decoded : JsonRecord → Result MapRecord Error
-decoded j =
-    if j.version == 3
-    then with_ignore_list (ignore_list_fault j) (with_tokens j (reading j.mappings (length j.names) (length j.sources)))
-    else Err (BadJson (Version j.version))
+decoded j = unless (json_fault j) (with_tokens j (reading j.mappings (length j.names) (length j.sources)))

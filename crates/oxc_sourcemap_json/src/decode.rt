@@ -1,10 +1,11 @@
 //! Reading the parts of a map from a JSON source map and from a JSON text.
-ghost use Rattle.std.specs.Prelude.{◌≡◌, ◌≢◌, ℕ, List, length, map, option_map, string_bytes, IfOk, IfErr, Ok, Err, []};
+ghost use Rattle.std.specs.Prelude.{◌≡◌, ◌≢◌, ℕ, List, length, map, option_map, string_bytes, IfOk, IfErr, Ok, Err, Some, []};
 ghost use Rattle.std.specs.Option.{unwrap_or};
+ghost use Rattle.oxc_sourcemap_mappings.specs.declared.error.Error.{Error};
 ghost use Rattle.oxc_sourcemap_mappings.specs.declared.error.Error.TheVariants.{OutOfMemory};
 ghost use Rattle.oxc_sourcemap_parts.specs.Views.{text_of, texts_of, contents_of, record_of_parts};
 ghost use Rattle.oxc_sourcemap_json.specs.Json.{json_record, json_contents};
-ghost use Rattle.oxc_sourcemap_json.specs.Decoded.{decoded, first_not_below};
+ghost use Rattle.oxc_sourcemap_json.specs.Decoded.{decoded, json_fault, first_not_below};
 ghost use Rattle.oxc_sourcemap_json.specs.ReadMap.{read_map};
 
 use crate::json_source_map::JSONSourceMap;
@@ -67,26 +68,35 @@ fn owned_contents(
     Ok(moved)
 }
 
-/// The parts of the map that a JSON source map says. Its texts are moved, and contents that are missing are the empty list; it has no
-/// chunks.
+/// What is wrong with a JSON source map besides its mappings, if anything is.
+fn json_fault(json: &JSONSourceMap) -> Option<Error>
+    ensures { result ≡ json_fault (json_record json.now) }
+{
+    if json.version != 3 {
+        return Some(Error::BadJson(JsonFault::Version(json.version)));
+    }
+    let list = json.ignore_list.as_ref()?;
+    let id = first_id_not_below(json.sources.len(), list.as_slice())?;
+    Some(Error::BadSourceReference(id))
+}
+
+/// The parts of the map that a JSON source map says. Its texts are moved, and contents that are missing are the empty list;
+/// it has no chunks.
 ///
 /// Refused in this order, and the value is then dropped:
 /// - `BadJson(Version(n))` for a version n other than 3;
 /// - `BadSourceReference(id)` for the first entry of the ignore list that is not below the number of sources;
 /// - what `decode_mappings` refuses, with the numbers of names and sources.
 ///
-/// `OutOfMemory` where memory is refused, which may be before a fault of the mappings is met.
+/// The first two are found before any memory is asked for, and told wherever they hold. `OutOfMemory` where memory is
+/// refused, which may be before a fault of the mappings is met.
 pub fn decode_parts(alloc: Global, json: JSONSourceMap) -> Result<SourceMapParts<'static>>
     ensures map { IfOk result (λ parts. decoded (json_record json) ≡ Ok (record_of_parts parts)) }
     ensures refused { IfErr result (λ e. (e ≢ OutOfMemory) → decoded (json_record json) ≡ Err e) }
+    ensures fault { (e : Error) → json_fault (json_record json) ≡ Some e → result ≡ Err e }
 {
-    if json.version != 3 {
-        return Err(Error::BadJson(JsonFault::Version(json.version)));
-    }
-    if let Some(list) = &json.ignore_list {
-        if let Some(id) = first_id_not_below(json.sources.len(), list.as_slice()) {
-            return Err(Error::BadSourceReference(id));
-        }
+    if let Some(fault) = json_fault(&json) {
+        return Err(fault);
     }
     let tokens = decode_mappings(
         alloc,

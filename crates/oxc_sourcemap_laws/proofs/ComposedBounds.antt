@@ -9,7 +9,8 @@ use Rattle.oxc_sourcemap_mappings.specs.declared.error.Error.{Error}
 use Rattle.oxc_sourcemap_mappings.specs.declared.error.Error.TheVariants.{TooLarge}
 use Rattle.oxc_sourcemap_mappings.specs.Token.{TokenRecord, IsInBounds, AreInBounds}
 use Rattle.oxc_sourcemap_parts.specs.Record.{Text, MapRecord}
-use Rattle.oxc_sourcemap_compose.specs.Composed.{lead_to, lead_into, line_of, found_on, leads, taken_id, composed_names, composed_token, composed, may_be_id, are_ids, unless, composition_fault, composition}
+use Rattle.oxc_sourcemap_mappings.specs.Refusals.{unless}
+use Rattle.oxc_sourcemap_compose.specs.Composed.{lead_to, lead_into, line_of, found_on, leads, taken_id, composed_names, composed_token, composed, may_be_id, are_ids, composition_fault, composition}
 use Rattle.oxc_sourcemap_compose.proofs.Leads.{found-all}
 
 small-id : (id taken : Option ℕ) → IfSome id (λ n. n < 4294967295) → may_be_id taken ≡ true → IfSome (option_or id taken) (λ n. n < 4294967295)

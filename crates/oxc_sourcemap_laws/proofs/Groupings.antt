@@ -9,7 +9,8 @@ use Rattle.oxc_sourcemap_parts.specs.Record.{Text, MapRecord}
 use Rattle.oxc_sourcemap_parts.specs.Texts.{place_of}
 use Rattle.oxc_sourcemap_parts.specs.Sound.{IsSound}
 use Rattle.oxc_sourcemap_parts.specs.Sheet.{sheet_of}
-use Rattle.oxc_sourcemap_compose.specs.Composed.{Lead, leads, taken_name, taken_id, may_be_id, are_ids, composed_names, composed, unless, composition_fault, composition}
+use Rattle.oxc_sourcemap_mappings.specs.Refusals.{unless}
+use Rattle.oxc_sourcemap_compose.specs.Composed.{Lead, leads, taken_name, taken_id, may_be_id, are_ids, composed_names, composed, composition_fault, composition}
 use Rattle.oxc_sourcemap_parts.proofs.Order.{sorted_in_order}
 use Rattle.oxc_sourcemap_laws.specs.ComposeLaws.{then_with, with_then, grouped_left, grouped_right, IsSeveralSources, TellsOf}
 use Rattle.oxc_sourcemap_laws.proofs.Compositions.{place-below, records_associative, sound_composed}

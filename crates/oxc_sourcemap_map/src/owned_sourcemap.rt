@@ -12,7 +12,7 @@ ghost use Rattle.oxc_sourcemap_parts.specs.Views.{record_of_parts, empty_record}
 ghost use Rattle.oxc_sourcemap_parts.specs.Sorted.{are_tokens_sorted, token_line, token_column};
 ghost use Rattle.oxc_sourcemap_parts.specs.Sound.{IsSound};
 ghost use Rattle.oxc_sourcemap_parts.specs.Sheet.{sheet_of};
-ghost use Rattle.oxc_sourcemap_json.specs.Decoded.{decoded};
+ghost use Rattle.oxc_sourcemap_json.specs.Decoded.{decoded, json_fault};
 ghost use Rattle.oxc_sourcemap_json.specs.Encoded.{encoded};
 ghost use Rattle.oxc_sourcemap_json.specs.ReadMap.{read_map, read_sheet};
 ghost use Rattle.oxc_sourcemap_json.specs.JsonText.{map_text, map_url};
@@ -101,6 +101,7 @@ impl OwnedSourceMap {
     pub fn from_json(alloc: Global, value: JSONSourceMap) -> Result<OwnedSourceMap>
         ensures map { IfOk result (λ map. decoded (json_record value) ≡ Ok map) }
         ensures refused { IfErr result (λ e. (e ≢ OutOfMemory) → decoded (json_record value) ≡ Err e) }
+        ensures fault { (e : Error) → json_fault (json_record value) ≡ Some e → result ≡ Err e }
     {
         Ok(OwnedSourceMap::new(SourceMap::from_json(alloc, value)?))
     }

@@ -2,6 +2,7 @@
 ghost use Rattle.std.specs.Prelude.{◌≡◌, ◌≢◌, ◌↔◌, ◌<◌, ℕ, List, map, option_map, slice_get, IsTrue, true, IfSome, string_bytes, IfOk, IfErr, Ok, Err, Some, None, OnOk, OnErr};
 ghost use Rattle.std.specs.Iterator.{IsFinite, Drains};
 ghost use Rattle.std.specs.Box.{boxed_slice_items};
+ghost use Rattle.oxc_sourcemap_mappings.specs.declared.error.Error.{Error};
 ghost use Rattle.oxc_sourcemap_mappings.specs.declared.error.Error.TheVariants.{OutOfMemory};
 ghost use Rattle.std.specs.List.{AllByRecursion};
 ghost use Rattle.oxc_sourcemap_mappings.specs.Chunks.{ChunksFit};
@@ -11,7 +12,7 @@ ghost use Rattle.oxc_sourcemap_json.specs.Json.{json_record};
 ghost use Rattle.oxc_sourcemap_parts.specs.Views.{text_of, texts_of, contents_of, chunks_of, ids_of, record_of_parts, empty_record};
 ghost use Rattle.oxc_sourcemap_parts.specs.Sorted.{are_tokens_sorted, may_precede, token_line, token_column};
 ghost use Rattle.oxc_sourcemap_parts.specs.Sound.{IsInRange, IsSound};
-ghost use Rattle.oxc_sourcemap_json.specs.Decoded.{decoded};
+ghost use Rattle.oxc_sourcemap_json.specs.Decoded.{decoded, json_fault};
 ghost use Rattle.oxc_sourcemap_json.specs.Encoded.{encoded};
 ghost use Rattle.oxc_sourcemap_parts.specs.Sheet.{sheet_of};
 ghost use Rattle.oxc_sourcemap_json.specs.ReadMap.{read_map, read_sheet};
@@ -101,6 +102,7 @@ impl<'a> SourceMap<'a> {
     pub fn from_json(alloc: Global, value: JSONSourceMap) -> Result<SourceMap<'static>>
         ensures map { IfOk result (λ map. decoded (json_record value) ≡ Ok map) }
         ensures refused { IfErr result (λ e. (e ≢ OutOfMemory) → decoded (json_record value) ≡ Err e) }
+        ensures fault { (e : Error) → json_fault (json_record value) ≡ Some e → result ≡ Err e }
     {
         Ok(SourceMap::from_parts(decode_parts(alloc, value)?))
     }

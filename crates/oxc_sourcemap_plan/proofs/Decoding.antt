@@ -5,6 +5,7 @@ use Rattle.std.proofs.lemmas.Bool.Decides.{nat_tests}
 use Rattle.oxc_sourcemap_mappings.specs.declared.error.Error.{Error}
 use Rattle.oxc_sourcemap_mappings.specs.declared.error.Error.TheVariants.{BadJson}
 use Rattle.oxc_sourcemap_mappings.specs.declared.error.JsonFault.TheVariants.{Version}
+use Rattle.oxc_sourcemap_mappings.specs.Refusals.{unless}
 use Rattle.oxc_sourcemap_mappings.specs.Token.{TokenRecord, AreInBounds}
 use Rattle.oxc_sourcemap_mappings.specs.TextLaws.{ReadsAgain}
 use Rattle.oxc_sourcemap_mappings.specs.Reading.{reading}
@@ -12,24 +13,19 @@ use Rattle.oxc_sourcemap_mappings.specs.Canonical.{first_out_of_order}
 use Rattle.oxc_sourcemap_json.specs.Json.{JsonRecord}
 use Rattle.oxc_sourcemap_parts.specs.Record.{MapRecord}
 use Rattle.oxc_sourcemap_parts.specs.Sorted.{are_tokens_sorted, may_precede, token_line, token_column}
-use Rattle.oxc_sourcemap_json.specs.Decoded.{decoded, decoded_record, with_tokens, with_ignore_list, ignore_list_fault}
+use Rattle.oxc_sourcemap_json.specs.Decoded.{decoded, decoded_record, with_tokens, json_fault}
 
 tokens-read : (j : JsonRecord) (q : Result (List TokenRecord) Error) (r : MapRecord) → with_tokens j q ≡ Ok r → q ≡ Ok r.tokens
 tokens-read j (Ok ts) r e = let s : decoded_record j ts ≡ r = cc (e) in ap (λ (m : MapRecord). Ok m.tokens) s
 tokens-read j (Err fault) r e = absurd (cc (e))
 
-listed : (o : Option ℕ) (q : Result MapRecord Error) (r : MapRecord) → with_ignore_list o q ≡ Ok r → q ≡ Ok r
-listed None q r e = e
-listed (Some i) q r e = absurd (cc (e))
+after-fault : (o : Option Error) (q : Result MapRecord Error) (r : MapRecord) → unless o q ≡ Ok r → q ≡ Ok r
+after-fault None q r e = e
+after-fault (Some fault) q r e = absurd (cc (e))
 
 -- the tokens of a map that was read are what its mappings text reads as
 pub decoded-reading : (j : JsonRecord) (r : MapRecord) → decoded j ≡ Ok r → reading j.mappings (length j.names) (length j.sources) ≡ Ok r.tokens
-decoded-reading j r e =
-    let tokens = reading j.mappings (length j.names) (length j.sources) in
-    elim (j.version == 3) as (λ (b : Bool). cond b (with_ignore_list (ignore_list_fault j) (with_tokens j tokens)) (Err (BadJson (Version j.version))) ≡ Ok r → tokens ≡ Ok r.tokens) [
-      | true ↦ (λ k. tokens-read j tokens r (listed (ignore_list_fault j) (with_tokens j tokens) r k))
-      | false ↦ (λ k. absurd (cc (k)))
-    ] e
+decoded-reading j r e = tokens-read j (reading j.mappings (length j.names) (length j.sources)) r (after-fault (json_fault j) _ r e)
 
 pub decoded-bounds : ReadsAgain → (j : JsonRecord) (r : MapRecord) → decoded j ≡ Ok r → AreInBounds r.tokens
 decoded-bounds law j r e = (law j.mappings (length j.names) (length j.sources) r.tokens (decoded-reading j r e)).0.in_bounds

@@ -24,7 +24,8 @@ use Rattle.oxc_sourcemap_json.specs.MapLaws.{SoundIsWritten, SoundIsTooLarge, So
 use Rattle.oxc_sourcemap_join.specs.Joined.{is_same_token, without_repeat, shifted, added, added_all, nothing_joined, joined, IsWithinLimits}
 use Rattle.oxc_sourcemap_join.proofs.Fitted.{length-fitted}
 use Rattle.oxc_sourcemap_lookup.specs.Lookup.{last}
-use Rattle.oxc_sourcemap_compose.specs.Composed.{leads, composed_names, composed, are_ids, unless, composition}
+use Rattle.oxc_sourcemap_mappings.specs.Refusals.{unless}
+use Rattle.oxc_sourcemap_compose.specs.Composed.{leads, composed_names, composed, are_ids, composition}
 use Rattle.oxc_sourcemap_laws.specs.Squeezed.{squeezed_sheet, Alike, is_sorted_sheet}
 use Rattle.oxc_sourcemap_laws.proofs.AlikeSheets.{matches}
 use Rattle.oxc_sourcemap_laws.specs.JoinedSheets.{joined_sheets, lowered}

@@ -45,7 +45,7 @@ pub if_err : {A E : Type 0} (P Q : E → Type 0) (r : Result A E) → ((e : E) �
 if_err P Q (Ok x) f h = h
 if_err P Q (Err e) f h = f e h
 
--- a refusal that is no other is want of memory
+-- a refusal that is no other is lack of memory
 pub only-memory : (e : Error) → ((e ≢ OutOfMemory) → ⊥) → e ≡ OutOfMemory
 only-memory VlqLeftover h = absurd (h (λ q. cc))
 only-memory VlqNoValues h = absurd (h (λ q. cc))

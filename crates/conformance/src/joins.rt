@@ -500,8 +500,8 @@ fn large_map(alloc: Global) -> Result<SourceMap<'static>> {
     map_of(alloc, names.as_slice(), sources.as_slice(), &[], &[])
 }
 
-/// Joins a map, ten lines down, behind a large one.
-fn join_behind<'m>(
+/// Joins a map, ten lines down, after a large one.
+fn join_after<'m>(
     builder: &mut ConcatSourceMapBuilder<'m>,
     large: SourceMap<'static>,
     map: &'m SourceMap<'_>,
@@ -520,11 +520,11 @@ fn tokens_are_moved(rt: &impl Abort, joined: &SourceMap<'_>) {
 }
 
 #[test]
-fn tokens_behind_a_large_map_are_moved(rt: HostRuntime) -> Result<()> {
+fn tokens_after_a_large_map_are_moved(rt: HostRuntime) -> Result<()> {
     let rows = [(1, 2, 3, 4, Some(5), Some(6)), (2, 0, 0, 0, None, None)];
     let map = map_of(rt.alloc(), &[], &[], &[], rows.as_slice())?;
     let mut builder = ConcatSourceMapBuilder::empty(rt.alloc());
-    join_behind(&mut builder, large_map(rt.alloc())?, &map)?;
+    join_after(&mut builder, large_map(rt.alloc())?, &map)?;
     tokens_are_moved(&rt, &builder.into_sourcemap()?);
     Ok(())
 }

@@ -4,9 +4,9 @@
 
 ghost use Rattle.std.specs.Prelude.{◌≡◌, ◌≤◌, ℕ, length, string_bytes, IfOk, IfErr, OnOk, OnErr, Ok, Some};
 ghost use Rattle.oxc_sourcemap.specs.Error.TheVariants.{OutOfMemory};
-ghost use Rattle.oxc_sourcemap.specs.Canonical.{bare};
+ghost use Rattle.oxc_sourcemap.specs.Canonical.{as_written};
 ghost use Rattle.oxc_sourcemap.specs.Sound.{IsSound};
-ghost use Rattle.oxc_sourcemap.specs.Sheet.{sheet_of};
+ghost use Rattle.oxc_sourcemap.specs.DecodedMap.{decoded_map_of};
 ghost use Rattle.oxc_sourcemap.specs.Record.{MapRecord};
 ghost use Rattle.oxc_sourcemap.specs.JsonText.{map_text};
 ghost use Rattle.oxc_sourcemap.specs.Outcome.{outcome};
@@ -42,9 +42,9 @@ mod visualizer;
 /// A map that is written as a JSON source map and read again. Where it is sound, it keeps its meaning, and nothing but want
 /// of memory and more than 4294967295 tokens is refused.
 pub fn rewrite(alloc: Global, map: &SourceMap<'_>) -> Result<SourceMap<'static>>
-    ensures sheet { IfOk result (λ back. IsSound map.now → sheet_of back ≡ sheet_of map.now) }
+    ensures decoded_map { IfOk result (λ back. IsSound map.now → decoded_map_of back ≡ decoded_map_of map.now) }
     ensures names { IfOk result (λ back. IsSound map.now → back.names ≡ map.now.names) }
-    ensures tokens { IfOk result (λ back. IsSound map.now → bare back.tokens ≡ bare map.now.tokens) }
+    ensures tokens { IfOk result (λ back. IsSound map.now → as_written back.tokens ≡ as_written map.now.tokens) }
     ensures only_memory { IfErr result (λ e. IsSound map.now → length map.now.tokens ≤ 4294967295 → e ≡ OutOfMemory) }
 {
     canonical_unique();

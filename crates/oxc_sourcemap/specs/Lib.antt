@@ -21,7 +21,7 @@ pub use Rattle.oxc_sourcemap_parts.specs.Record
 pub use Rattle.oxc_sourcemap_parts.specs.Views
 pub use Rattle.oxc_sourcemap_parts.specs.Sorted
 pub use Rattle.oxc_sourcemap_parts.specs.Sound
-pub use Rattle.oxc_sourcemap_parts.specs.Sheet
+pub use Rattle.oxc_sourcemap_parts.specs.DecodedMap
 pub use Rattle.oxc_sourcemap_parts.specs.Texts
 pub use Rattle.oxc_sourcemap_lookup.specs.Lookup
 pub use Rattle.oxc_sourcemap_lookup.specs.Trace
@@ -41,14 +41,14 @@ pub use Rattle.oxc_sourcemap_visualizer.specs.TextLines
 pub use Rattle.oxc_sourcemap_visualizer.specs.VisualText
 pub use Rattle.oxc_sourcemap_visualizer.specs.Link
 pub use Rattle.oxc_sourcemap_join.specs.Joined
-pub use Rattle.oxc_sourcemap_laws.specs.Squeezed
-pub use Rattle.oxc_sourcemap_laws.specs.JoinedSheets
+pub use Rattle.oxc_sourcemap_laws.specs.Repeats
+pub use Rattle.oxc_sourcemap_laws.specs.JoinedDecodedMaps
 pub use Rattle.oxc_sourcemap_laws.specs.JoinLaws
-pub use Rattle.oxc_sourcemap_laws.specs.ComposedSheets
+pub use Rattle.oxc_sourcemap_laws.specs.ComposedDecodedMaps
 pub use Rattle.oxc_sourcemap_laws.specs.ComposeLaws
 pub use Rattle.oxc_sourcemap_plan.specs.PlanMessages
 pub use Rattle.oxc_sourcemap_plan.specs.Depth
 pub use Rattle.oxc_sourcemap_plan.specs.Meaning
-pub use Rattle.oxc_sourcemap_plan.specs.Room
+pub use Rattle.oxc_sourcemap_plan.specs.Limits
 pub use Rattle.oxc_sourcemap_plan.specs.Outcome
 pub use Rattle.oxc_sourcemap_plan.specs.Evaluated

@@ -11,15 +11,15 @@ use oxc_sourcemap_map::SourceMap;
 use oxc_sourcemap_mappings::Result;
 use std::alloc::Global;
 
-/// The map that a JSON source map says. Its texts are moved, and contents that are missing are the empty list; it has no
+/// The map that a JSON source map says. Its strings are moved, and contents that are missing are the empty list; it has no
 /// chunks.
 ///
-/// Refused in this order, and the value is then dropped:
+/// Fails in this order, and the value is then dropped:
 /// - `BadJson(Version(n))` for a version n other than 3;
 /// - `BadSourceReference(id)` for the first entry of the ignore list that is not below the number of sources;
 /// - what `decode_mappings` refuses, with the numbers of names and sources.
 ///
-/// `OutOfMemory` where memory is refused, which may be before a fault of the mappings is met.
+/// `OutOfMemory` if memory is refused, which may be before a fault of the mappings is met.
 pub fn decode(alloc: Global, json: JSONSourceMap) -> Result<SourceMap<'static>>
     ensures map { IfOk result (λ map. decoded (json_record json) ≡ Ok map) }
     ensures refused { IfErr result (λ e. (e ≢ OutOfMemory) → decoded (json_record json) ≡ Err e) }
@@ -29,15 +29,15 @@ pub fn decode(alloc: Global, json: JSONSourceMap) -> Result<SourceMap<'static>>
 }
 
 /// The map that a JSON text says: `serde_json` reads the text, `JSONSourceMap::from_value` the value, and `decode` the
-/// fields. All its texts are owned.
+/// fields. All its strings are owned.
 ///
-/// Refused in this order:
+/// Fails in this order:
 /// - `BadJson(Reading)` where `serde_json` reads no value, as for a text that is not JSON, one with more than white
-///   space behind the value, and one that nests deeper than 127;
+///   space after the value, and one that nests deeper than 127;
 /// - what `JSONSourceMap::from_value` refuses;
 /// - what `decode` refuses.
 ///
-/// `OutOfMemory` where memory is refused, which may be before a fault is met.
+/// `OutOfMemory` if memory is refused, which may be before a fault is met.
 pub fn decode_from_string(alloc: Global, text: &str) -> Result<SourceMap<'static>>
     ensures map { IfOk result (λ map. read_map text.now ≡ Ok map) }
     ensures refused { IfErr result (λ e. (e ≢ OutOfMemory) → read_map text.now ≡ Err e) }

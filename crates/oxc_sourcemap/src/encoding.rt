@@ -14,8 +14,8 @@ use std::alloc::Global;
 /// The JSON source map of a map: copies of its fields, and its tokens in their canonical text. A list of contents without
 /// any content is left out; any other is written whole. Chunks change nothing but have to fit.
 ///
-/// Refused as `encode_mappings` refuses the tokens and chunks: `LineOrder(i)`, `BadChunks(k)`, `TooLarge`, in this order;
-/// and as `OutOfMemory` where memory is refused.
+/// Fails as `encode_mappings` does for the tokens and chunks: `LineOrder(i)`, `BadChunks(k)`, `TooLarge`, in this order;
+/// and with `OutOfMemory` if memory is refused.
 pub fn encode(alloc: Global, sourcemap: &SourceMap<'_>) -> Result<JSONSourceMap>
     ensures json { IfOk result (λ json. encoded sourcemap.now ≡ Ok (json_record json)) }
     ensures refused { IfErr result (λ e. (e ≢ OutOfMemory) → encoded sourcemap.now ≡ Err e) }
@@ -31,8 +31,8 @@ pub fn encode(alloc: Global, sourcemap: &SourceMap<'_>) -> Result<JSONSourceMap>
 /// are always there, `sourcesContent` where there is some content, and the others where the map has them. The `mappings`
 /// are the canonical text of the tokens. Chunks change nothing but have to fit.
 ///
-/// Refused as `encode` refuses: `LineOrder(i)`, `BadChunks(k)`, `TooLarge`, in this order, and `OutOfMemory` where memory
-/// is refused.
+/// Fails as `encode` does: `LineOrder(i)`, `BadChunks(k)`, `TooLarge`, in this order, and `OutOfMemory` if memory is
+/// refused.
 pub fn encode_to_string(alloc: Global, sourcemap: &SourceMap<'_>) -> Result<String>
     ensures text { IfOk result (λ text. map_text sourcemap.now ≡ Ok (string_bytes text)) }
     ensures refused { IfErr result (λ e. (e ≢ OutOfMemory) → map_text sourcemap.now ≡ Err e) }

@@ -6,9 +6,9 @@ ghost use Rattle.std.specs.Cmp.Lexicographic.{slice_cmp};
 ghost use Rattle.oxc_sourcemap_mappings.specs.declared.error.Error.TheVariants.{OutOfMemory, TooLarge};
 ghost use Rattle.oxc_sourcemap_mappings.specs.Token.{kept_id};
 ghost use Rattle.oxc_sourcemap_parts.specs.Views.{text_of, texts_of, contents_of};
-ghost use Rattle.oxc_sourcemap_parts.specs.Texts.{place_of};
+ghost use Rattle.oxc_sourcemap_parts.specs.Texts.{index_of};
 ghost use Rattle.oxc_sourcemap_builder.specs.Built.{nothing_built};
-ghost use Rattle.oxc_sourcemap_builder.specs.Building.{named, sourced, added};
+ghost use Rattle.oxc_sourcemap_builder.specs.Building.{with_name, with_another_source, with_path};
 
 use oxc_sourcemap_map::{OwnedSourceMap, SourceMap};
 use oxc_sourcemap_mappings::{Error, Result, Token, TokenChunk};
@@ -23,7 +23,7 @@ struct GivenId<'a> {
     id: u32,
 }
 
-/// Builds a map call by call. All texts are borrowed for `'a`.
+/// Builds a map call by call. All strings are borrowed for `'a`.
 ///
 /// Ids are counted from 0, in the order in which names and sources come. An add that is refused leaves the builder as it
 /// was, and a refused `into_` call drops it.
@@ -69,7 +69,7 @@ impl<'a> Model for SourceMapBuilder<'a> {
     ghost invariant = { λ b. length b.names.items ≤ 4294967295 };
 }
 
-/// The id of a new last item behind this many others.
+/// The id of a new last item after this many others.
 fn next_id(count: usize) -> Result<u32>
     ensures id { IfOk result (λ id. id ≡ count) }
     ensures too_large { IsErrOf result TooLarge ↔ (4294967295 ≤ count) }
@@ -83,7 +83,7 @@ fn next_id(count: usize) -> Result<u32>
 
 /// The index of the first text that is equal to this one.
 fn position_of(texts: &[&str], text: &str) -> Option<usize>
-    ensures place { result ≡ place_of text.now (map (λ text. text.now) texts.now) }
+    ensures index { result ≡ index_of text.now (map (λ text. text.now) texts.now) }
     ensures within { IfSome result (λ i. i < length texts.now) }
 {
     for (i, other) in texts.iter().enumerate() {
@@ -127,7 +127,7 @@ fn push_source<'a>(
 }
 
 impl<'a> SourceMapBuilder<'a> {
-    /// A builder without anything. It keeps the allocator, and takes no memory.
+    /// A builder with nothing in it. It keeps the allocator, and takes no memory.
     pub fn empty(alloc: Global) -> SourceMapBuilder<'a>
         ensures { result ≡ nothing_built }
     {
@@ -145,11 +145,11 @@ impl<'a> SourceMapBuilder<'a> {
 
     /// The id of a name: that of the equal name, else that of a new last one.
     ///
-    /// Refused as `TooLarge` where the new id would be 4294967295, then as `OutOfMemory` where memory is refused; the builder
+    /// Fails with `TooLarge` if the new id would be 4294967295, then with `OutOfMemory` if memory is refused; the builder
     /// is then as it was.
     pub fn add_name(&mut self, name: &'a str) -> Result<u32>
-        ensures added { IfOk result (λ id. (self.new, id) ≡ named self.old name.now) }
-        ensures too_large { IsErrOf result TooLarge ↔ (IsNone (place_of name.now self.old.map.names) × (4294967295 ≤ length self.old.map.names)) }
+        ensures with_path { IfOk result (λ id. (self.new, id) ≡ with_name self.old name.now) }
+        ensures too_large { IsErrOf result TooLarge ↔ (IsNone (index_of name.now self.old.map.names) × (4294967295 ≤ length self.old.map.names)) }
         ensures refused { IfErr result (λ e. (e ≡ OutOfMemory) ⊎ (e ≡ TooLarge)) }
         ensures unchanged { OnErr result (self.new ≡ self.old) }
     {
@@ -172,10 +172,10 @@ impl<'a> SourceMapBuilder<'a> {
     /// The id of the source with this path. Where this call has added the path before, that id, and the content given then
     /// stays; else the source becomes the last one, with this content. Sources of `set_source_and_content` are not looked at.
     ///
-    /// Refused as `TooLarge` where the new id would be 4294967295, then as `OutOfMemory` where memory is refused; the builder
+    /// Fails with `TooLarge` if the new id would be 4294967295, then with `OutOfMemory` if memory is refused; the builder
     /// is then as it was.
     pub fn add_source_and_content(&mut self, path: &'a str, content: &'a str) -> Result<u32>
-        ensures added { IfOk result (λ id. (self.new, id) ≡ added self.old path.now content.now) }
+        ensures with_path { IfOk result (λ id. (self.new, id) ≡ with_path self.old path.now content.now) }
         ensures too_large { IsErrOf result TooLarge ↔ (IsNone (fin.get self.old.given path.now) × (4294967295 ≤ length self.old.map.sources)) }
         ensures refused { IfErr result (λ e. (e ≡ OutOfMemory) ⊎ (e ≡ TooLarge)) }
         ensures unchanged { OnErr result (self.new ≡ self.old) }
@@ -194,10 +194,10 @@ impl<'a> SourceMapBuilder<'a> {
     /// The id of a new last source with this content, whether there is a source of this path or not. A later
     /// `add_source_and_content` does not see it.
     ///
-    /// Refused as `TooLarge` where the new id would be 4294967295, then as `OutOfMemory` where memory is refused; the builder
+    /// Fails with `TooLarge` if the new id would be 4294967295, then with `OutOfMemory` if memory is refused; the builder
     /// is then as it was.
     pub fn set_source_and_content(&mut self, path: &'a str, content: &'a str) -> Result<u32>
-        ensures added { IfOk result (λ id. (self.new, id) ≡ sourced self.old path.now content.now) }
+        ensures with_path { IfOk result (λ id. (self.new, id) ≡ with_another_source self.old path.now content.now) }
         ensures too_large { IsErrOf result TooLarge ↔ (4294967295 ≤ length self.old.map.sources) }
         ensures refused { IfErr result (λ e. (e ≡ OutOfMemory) ⊎ (e ≡ TooLarge)) }
         ensures unchanged { OnErr result (self.new ≡ self.old) }
@@ -207,8 +207,8 @@ impl<'a> SourceMapBuilder<'a> {
         Ok(last)
     }
 
-    /// Adds a token behind the others, as `Token::new` makes it. Nothing is checked. Refused for memory alone; the builder is
-    /// then as it was.
+    /// Adds a token after the others, as `Token::new` makes it. Nothing is checked. Fails only with `OutOfMemory`; the
+    /// builder is then as it was.
     pub fn add_token(
         &mut self,
         dst_line: u32,
@@ -218,7 +218,7 @@ impl<'a> SourceMapBuilder<'a> {
         src_id: Option<u32>,
         name_id: Option<u32>,
     ) -> Result<()>
-        ensures added { OnOk result (self.new ≡ record self.old {
+        ensures with_path { OnOk result (self.new ≡ record self.old {
           map = record self.old.map {
             tokens = self.old.map.tokens ++ record {
               dst_line = dst_line;
@@ -251,11 +251,11 @@ impl<'a> SourceMapBuilder<'a> {
         self.token_chunks = Some(token_chunks);
     }
 
-    /// The map that was built, without source root, ignore list and debug id. Its texts are borrowed. Refused for memory
-    /// alone; the builder is then dropped.
+    /// The map that was built, without source root, ignore list and debug id. Its strings are borrowed. Fails only with
+    /// `OutOfMemory`; the builder is then dropped.
     pub fn into_sourcemap(self) -> Result<SourceMap<'a>>
         ensures map { IfOk result (λ map. map ≡ self.entry.map) }
-        ensures bare { IfOk result (λ map. (map.source_root ≡ None) × (map.ignore_list ≡ None) × (map.debug_id ≡ None)) }
+        ensures as_written { IfOk result (λ map. (map.source_root ≡ None) × (map.ignore_list ≡ None) × (map.debug_id ≡ None)) }
         ensures refused { IfErr result (λ e. e ≡ OutOfMemory) }
     {
         Ok(SourceMap::new(
@@ -269,11 +269,11 @@ impl<'a> SourceMapBuilder<'a> {
         ))
     }
 
-    /// The map that was built, as `into_sourcemap` gives it, with copies of its texts. Refused for memory alone; the builder
-    /// is then dropped.
+    /// The map that was built, as `into_sourcemap` gives it, with copies of its strings. Fails only with `OutOfMemory`; the
+    /// builder is then dropped.
     pub fn into_owned_sourcemap(self) -> Result<OwnedSourceMap>
         ensures map { IfOk result (λ map. map ≡ self.entry.map) }
-        ensures bare { IfOk result (λ map. (map.source_root ≡ None) × (map.ignore_list ≡ None) × (map.debug_id ≡ None)) }
+        ensures as_written { IfOk result (λ map. (map.source_root ≡ None) × (map.ignore_list ≡ None) × (map.debug_id ≡ None)) }
         ensures refused { IfErr result (λ e. e ≡ OutOfMemory) }
     {
         let alloc = self.alloc;
@@ -281,7 +281,7 @@ impl<'a> SourceMapBuilder<'a> {
     }
 }
 
-/// A borrowed text that may be there.
+/// A borrowed string that may be there.
 fn lent<'a>(text: Option<&'a str>) -> Option<CowStr<'a>>
     ensures { text_of result ≡ option_map (λ text. text.now) text.entry }
 {
@@ -291,7 +291,7 @@ fn lent<'a>(text: Option<&'a str>) -> Option<CowStr<'a>>
     }
 }
 
-/// Borrowed texts.
+/// Borrowed strings.
 fn lent_texts<'a>(
     alloc: Global,
     texts: Vec<&'a str>,

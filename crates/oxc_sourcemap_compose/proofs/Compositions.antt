@@ -4,19 +4,19 @@ use Rattle.oxc_sourcemap_mappings.specs.declared.error.Error.{Error}
 use Rattle.oxc_sourcemap_mappings.specs.declared.error.Error.TheVariants.{TooLarge, OutOfMemory}
 use Rattle.oxc_sourcemap_mappings.specs.Token.{TokenRecord}
 use Rattle.oxc_sourcemap_parts.specs.Record.{Text, MapRecord}
-use Rattle.oxc_sourcemap_compose.specs.Composed.{Lead, lead_into, leads, composed_names, composed_token, composed_by, are_ids, composition_fault, composition_by, composition, AreLeads, SomeComposition, ColumnsGoOn}
-use Rattle.oxc_sourcemap_compose.proofs.Leads.{are_leads, leads-are}
+use Rattle.oxc_sourcemap_compose.specs.Composed.{Target, target_in, targets, composed_names, composed_token, composed_by, are_ids, composition_fault, composition_by, composition, AreTargets, SomeComposition, NoColumnGoesBack}
+use Rattle.oxc_sourcemap_compose.proofs.Targets.{are_targets, targets-are}
 
 module _ (a b : MapRecord) where
   -- the refusals
   pub at_fault : (e : Error) → composition_fault a b ≡ Some e → SomeComposition a b (Err e)
-  at_fault e f = (leads a b, are_leads b.tokens a.tokens, rw f)
+  at_fault e f = (targets a b, are_targets b.tokens a.tokens, rw f)
 
   module _ (f : composition_fault a b ≡ None) where
-    ids-by : (ls : List Lead) (t : Bool) → are_ids a.names (composed_names a.names b.names ls) ls ≡ t → composition_by ls a b ≡ cond t (Ok (composed_by ls a b)) (Err TooLarge)
+    ids-by : (ls : List Target) (t : Bool) → are_ids a.names (composed_names a.names b.names ls) ls ≡ t → composition_by ls a b ≡ cond t (Ok (composed_by ls a b)) (Err TooLarge)
     ids-by ls t i = rw (f, i)
 
-    pub too_large : (ls : List Lead) → AreLeads a.tokens b.tokens ls → are_ids a.names (composed_names a.names b.names ls) ls ≡ false → SomeComposition a b (Err TooLarge)
+    pub too_large : (ls : List Target) → AreTargets a.tokens b.tokens ls → are_ids a.names (composed_names a.names b.names ls) ls ≡ false → SomeComposition a b (Err TooLarge)
     too_large ls h i = (ls, h, ids-by ls false i)
 
     -- and the map
@@ -33,7 +33,7 @@ module _ (a b : MapRecord) where
       debug_id = debug_id;
     }
 
-    pub is_composed : (ls : List Lead) (file : Option Text) (names : List Text) (tokens : List TokenRecord) (debug_id : Option Text) → AreLeads a.tokens b.tokens ls
+    pub is_composed : (ls : List Target) (file : Option Text) (names : List Text) (tokens : List TokenRecord) (debug_id : Option Text) → AreTargets a.tokens b.tokens ls
         → file ≡ a.file → debug_id ≡ a.debug_id → names ≡ composed_names a.names b.names ls → tokens ≡ map (composed_token a.names names) ls → are_ids a.names names ls ≡ true
         → SomeComposition a b (Ok (made file names tokens debug_id))
     is_composed ls file names tokens debug_id h f d n t i = (
@@ -44,12 +44,12 @@ module _ (a b : MapRecord) where
     )
 
   -- where no columns go back, there is but one answer
-  pub exact : (answer : Result MapRecord Error) → ColumnsGoOn b.tokens → SomeComposition a b answer → composition a b ≡ answer
+  pub exact : (answer : Result MapRecord Error) → NoColumnGoesBack b.tokens → SomeComposition a b answer → composition a b ≡ answer
   exact answer g s =
-      let is : s.0 ≡ leads a b = leads-are b.tokens s.0 g s.1.1 ∙ ap (map (lead_into b.tokens)) s.1.0 in
+      let is : s.0 ≡ targets a b = targets-are b.tokens s.0 g s.1.1 ∙ ap (map (target_in b.tokens)) s.1.0 in
       sym (ap (λ ls. composition_by ls a b) is) ∙ s.2
 
-  pub exact_refusal : {X : Type 0} (r : Result X Error) → ColumnsGoOn b.tokens → IfErr r (λ e. (e ≢ OutOfMemory) → SomeComposition a b (Err e)) → IfErr r (λ e. (e ≢ OutOfMemory) → composition a b ≡ Err e)
+  pub exact_refusal : {X : Type 0} (r : Result X Error) → NoColumnGoesBack b.tokens → IfErr r (λ e. (e ≢ OutOfMemory) → SomeComposition a b (Err e)) → IfErr r (λ e. (e ≢ OutOfMemory) → composition a b ≡ Err e)
   exact_refusal (Ok x) g s = tt
   exact_refusal (Err e) g s = λ other. exact (Err e) g (s other)
 

@@ -1,4 +1,4 @@
-pub mod TakenNames
-pub mod Leads
+pub mod InheritedNames
+pub mod Targets
 pub mod Compositions
 mod Worked

@@ -8,19 +8,19 @@ use Rattle.oxc_sourcemap_mappings.specs.Refusals.{unless}
 use Rattle.oxc_sourcemap_mappings.specs.Token.{TokenRecord, is_mapped}
 use Rattle.oxc_sourcemap_mappings.specs.Canonical.{first_out_of_order}
 use Rattle.oxc_sourcemap_parts.specs.Record.{Text, MapRecord}
-use Rattle.oxc_sourcemap_parts.specs.Texts.{place_of, with_texts}
+use Rattle.oxc_sourcemap_parts.specs.Texts.{index_of, with_texts}
 use Rattle.oxc_sourcemap_parts.specs.Sorted.{token_line, token_column}
-use Rattle.oxc_sourcemap_parts.specs.Sheet.{name_of}
+use Rattle.oxc_sourcemap_parts.specs.DecodedMap.{name_of}
 use Rattle.oxc_sourcemap_lookup.specs.Lookup.{on_line, clamped_at, no_column_goes_back}
 
 -- A token of the first map, and the mapped token of the second one that it leads to. Where it leads to none, it becomes
 -- unmapped.
-pub record Lead : Type 0 where
+pub record Target : Type 0 where
   pub token : TokenRecord
   pub found : Option TokenRecord
 
-abbrev pub lead_to : TokenRecord → Option TokenRecord → Lead
-lead_to t found = record { token = t; found = found }
+abbrev pub target_of : TokenRecord → Option TokenRecord → Target
+target_of t found = record { token = t; found = found }
 
 -- the token, if it is mapped
 abbrev pub if_mapped : TokenRecord → Option TokenRecord
@@ -35,11 +35,11 @@ found_on line t = option_and_then (λ _. option_and_then if_mapped (clamped_at t
 abbrev pub line_of : List TokenRecord → TokenRecord → List TokenRecord
 line_of bs t = on_line token_line t.src_line bs
 
-abbrev pub lead_into : List TokenRecord → TokenRecord → Lead
-lead_into bs t = lead_to t (found_on (line_of bs t) t)
+abbrev pub target_in : List TokenRecord → TokenRecord → Target
+target_in bs t = target_of t (found_on (line_of bs t) t)
 
-abbrev pub leads : MapRecord → MapRecord → List Lead
-leads a b = map (lead_into b.tokens) a.tokens
+abbrev pub targets : MapRecord → MapRecord → List Target
+targets a b = map (target_in b.tokens) a.tokens
 
 -- The name that a token takes along to the one that it leads to: none where that has a name of its own.
 abbrev pub kept_name : List Text → TokenRecord → Option ℕ → Option Text
@@ -47,16 +47,16 @@ kept_name names t (Some id) = None
 kept_name names t None = name_of names t
 
 -- the name that is taken from the first map, whose names these are
-abbrev pub taken_name : List Text → Lead → Option Text
-taken_name names l = option_and_then (λ u. kept_name names l.token u.name_id) l.found
+abbrev pub inherited_name : List Text → Target → Option Text
+inherited_name names l = option_and_then (λ u. kept_name names l.token u.name_id) l.found
 
--- the names of the second map, and behind them those taken from the first that are new, in the order of the tokens
-abbrev pub composed_names : List Text → List Text → List Lead → List Text
-composed_names first second ls = with_texts second (filter_map (taken_name first) ls)
+-- the names of the second map, and after them those taken from the first that are new, in the order of the tokens
+abbrev pub composed_names : List Text → List Text → List Target → List Text
+composed_names first second ls = with_texts second (filter_map (inherited_name first) ls)
 
 -- the id of the name that is taken from the first map
-abbrev pub taken_id : List Text → List Text → Lead → Option ℕ
-taken_id first names l = option_and_then (λ name. place_of name names) (taken_name first l)
+abbrev pub inherited_id : List Text → List Text → Target → Option ℕ
+inherited_id first names l = option_and_then (λ name. index_of name names) (inherited_name first l)
 
 -- A token stays where it is in generated code. It has the source, the source position and the name of what it leads to; the
 -- last may be a name that it takes along.
@@ -65,11 +65,11 @@ token_through t name_id None =
     record { dst_line = t.dst_line; dst_col = t.dst_col; src_line = 0; src_col = 0; source_id = None; name_id = None }
 token_through t name_id (Some u) = record u { dst_line = t.dst_line; dst_col = t.dst_col; name_id = option_or u.name_id name_id }
 
-abbrev pub composed_token : List Text → List Text → Lead → TokenRecord
-composed_token first names l = token_through l.token (taken_id first names l) l.found
+abbrev pub composed_token : List Text → List Text → Target → TokenRecord
+composed_token first names l = token_through l.token (inherited_id first names l) l.found
 
 -- the map that these leads make
-abbrev pub composed_by : List Lead → MapRecord → MapRecord → MapRecord
+abbrev pub composed_by : List Target → MapRecord → MapRecord → MapRecord
 composed_by ls a b = record {
   file = a.file;
   names = composed_names a.names b.names ls;
@@ -84,7 +84,7 @@ composed_by ls a b = record {
 
 -- the composed record
 abbrev pub composed : MapRecord → MapRecord → MapRecord
-composed a b = composed_by (leads a b) a b
+composed a b = composed_by (targets a b) a b
 
 -- whether a token can have this id, or none
 abbrev pub may_be_id : Option ℕ → Bool
@@ -92,8 +92,8 @@ may_be_id None = true
 may_be_id (Some id) = nat_lt id 4294967295
 
 -- whether all names taken from the first map have such ids
-abbrev pub are_ids : List Text → List Text → List Lead → Bool
-are_ids first names ls = list_all (λ l. may_be_id (taken_id first names l)) ls
+abbrev pub are_ids : List Text → List Text → List Target → Bool
+are_ids first names ls = list_all (λ l. may_be_id (inherited_id first names l)) ls
 
 -- Why two maps are not composed: the first has several sources, or the tokens of the second go back in lines.
 abbrev pub composition_fault : MapRecord → MapRecord → Option Error
@@ -102,28 +102,28 @@ composition_fault a b =
     else option_map LineOrder (first_out_of_order b.tokens)
 
 -- The map that these leads make; `TooLarge` where the id of a taken name would be above 4294967294.
-abbrev pub composition_by : List Lead → MapRecord → MapRecord → Result MapRecord Error
+abbrev pub composition_by : List Target → MapRecord → MapRecord → Result MapRecord Error
 composition_by ls a b = unless (composition_fault a b)
     (if are_ids a.names (composed_names a.names b.names ls) ls then Ok (composed_by ls a b) else Err TooLarge)
 
 abbrev pub composition : MapRecord → MapRecord → Result MapRecord Error
-composition a b = composition_by (leads a b) a b
+composition a b = composition_by (targets a b) a b
 
 -- Columns may go back on the line that a token leads into. It is then open to which mapped token of the line it leads, if
 -- to any.
-pub record IsLead (line : List TokenRecord) (l : Lead) : Type 0 where
+pub record IsTarget (line : List TokenRecord) (l : Target) : Type 0 where
   pub among : IfSome l.found (λ u. Contains line u × (is_mapped u ≡ true))
   pub unmapped : is_mapped l.token ≡ false → l.found ≡ None
   pub found : no_column_goes_back token_column line ≡ true → l.found ≡ found_on line l.token
 
 -- leads of these tokens into those
-abbrev pub AreLeads : List TokenRecord → List TokenRecord → List Lead → Type 0
-AreLeads ts bs ls = (map (λ l. l.token) ls ≡ ts) × AllByRecursion (λ l. IsLead (line_of bs l.token) l) ls
+abbrev pub AreTargets : List TokenRecord → List TokenRecord → List Target → Type 0
+AreTargets ts bs ls = (map (λ l. l.token) ls ≡ ts) × AllByRecursion (λ l. IsTarget (line_of bs l.token) l) ls
 
 -- what some leads of the first map's tokens into the second map's make
 abbrev pub SomeComposition : MapRecord → MapRecord → Result MapRecord Error → Type 0
-SomeComposition a b answer = (ls : List Lead) × AreLeads a.tokens b.tokens ls × (composition_by ls a b ≡ answer)
+SomeComposition a b answer = (ls : List Target) × AreTargets a.tokens b.tokens ls × (composition_by ls a b ≡ answer)
 
 -- on no line do columns go back
-abbrev pub ColumnsGoOn : List TokenRecord → Type 0
-ColumnsGoOn tokens = (n : ℕ) → no_column_goes_back token_column (on_line token_line n tokens) ≡ true
+abbrev pub NoColumnGoesBack : List TokenRecord → Type 0
+NoColumnGoesBack tokens = (n : ℕ) → no_column_goes_back token_column (on_line token_line n tokens) ≡ true

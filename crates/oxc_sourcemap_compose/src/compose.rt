@@ -8,11 +8,11 @@ ghost use Rattle.oxc_sourcemap_mappings.specs.declared.error.Error.{Error};
 ghost use Rattle.oxc_sourcemap_mappings.specs.declared.error.Error.TheVariants.{OutOfMemory, TooLarge};
 ghost use Rattle.oxc_sourcemap_mappings.specs.Canonical.{IsInLineOrder};
 ghost use Rattle.oxc_sourcemap_parts.specs.Views.{texts_of, record_of_parts};
-ghost use Rattle.oxc_sourcemap_parts.specs.Texts.{place_of, with_text};
+ghost use Rattle.oxc_sourcemap_parts.specs.Texts.{index_of, with_text};
 ghost use Rattle.oxc_sourcemap_parts.specs.Sorted.{are_tokens_sorted};
 ghost use Rattle.oxc_sourcemap_lookup.specs.Lookup.{slice_of};
-ghost use Rattle.oxc_sourcemap_compose.specs.Composed.{Lead, lead_to, IsLead, AreLeads, taken_name, composed_names, composed_token, may_be_id, are_ids, composition_fault, composition, SomeComposition, ColumnsGoOn};
-ghost use Rattle.oxc_sourcemap_compose.specs.Taking.{with_taken, taken_place};
+ghost use Rattle.oxc_sourcemap_compose.specs.Composed.{Target, target_of, IsTarget, AreTargets, inherited_name, composed_names, composed_token, may_be_id, are_ids, composition_fault, composition, SomeComposition, NoColumnGoesBack};
+ghost use Rattle.oxc_sourcemap_compose.specs.InheritedNames.{with_inherited, inherited_index};
 
 use oxc_sourcemap_lookup::{search_clamped, slice_of, table_of};
 use oxc_sourcemap_mappings::{Error, Result, Token, line_order_fault};
@@ -23,7 +23,7 @@ use std::mem;
 
 /// The index of the first text that is equal to this one.
 fn position_of(texts: &[CowStr<'_>], text: &str) -> Option<usize>
-    ensures place { result ≡ place_of text.now (map cow_str_bytes texts.now) }
+    ensures index { result ≡ index_of text.now (map cow_str_bytes texts.now) }
     ensures within { IfSome result (λ i. i < length texts.now) }
 {
     for (i, other) in texts.iter().enumerate() {
@@ -37,10 +37,10 @@ fn position_of(texts: &[CowStr<'_>], text: &str) -> Option<usize>
 /// The id of a name: that of the equal one, else that of a copy as a new last one.
 fn id_of_name(alloc: Global, names: &mut Vec<CowStr<'_>>, name: &str) -> Result<u32>
     ensures names { IfOk result (λ id. texts_of names.new ≡ with_text (texts_of names.old) name.now) }
-    ensures id { IfOk result (λ id. place_of name.now (texts_of names.new) ≡ Some id) }
+    ensures id { IfOk result (λ id. index_of name.now (texts_of names.new) ≡ Some id) }
     ensures small { IfOk result (λ id. may_be_id (Some id) ≡ true) }
     ensures refused { IfErr result (λ e. (e ≢ OutOfMemory) → (e ≡ TooLarge)
-        × (may_be_id (place_of name.now (with_text (texts_of names.old) name.now)) ≡ false)) }
+        × (may_be_id (index_of name.now (with_text (texts_of names.old) name.now)) ≡ false)) }
 {
     let id = position_of(names.as_slice(), name).unwrap_or(names.len());
     if id >= 4294967295 {
@@ -60,19 +60,19 @@ fn name_at<'n>(names: &'n [CowStr<'_>], id: Option<u32>) -> Option<&'n str>
 }
 
 /// The id in `names` of the name that `first` has at this id; it may be a new last one.
-fn taken_id(
+fn inherited_id(
     alloc: Global,
     names: &mut Vec<CowStr<'_>>,
     first: &[CowStr<'_>],
     id: Option<u32>,
 ) -> Result<Option<u32>>
     ensures names { let name = option_and_then (slice_get (map cow_str_bytes first.now)) id in
-        IfOk result (λ id. texts_of names.new ≡ with_taken (texts_of names.old) name) }
+        IfOk result (λ id. texts_of names.new ≡ with_inherited (texts_of names.old) name) }
     ensures id { let name = option_and_then (slice_get (map cow_str_bytes first.now)) id in
-        IfOk result (λ id. (taken_place (texts_of names.new) name ≡ id) × (may_be_id id ≡ true)) }
+        IfOk result (λ id. (inherited_index (texts_of names.new) name ≡ id) × (may_be_id id ≡ true)) }
     ensures refused { let name = option_and_then (slice_get (map cow_str_bytes first.now)) id in
         IfErr result (λ e. (e ≢ OutOfMemory) → (e ≡ TooLarge)
-        × (may_be_id (taken_place (with_taken (texts_of names.old) name) name) ≡ false)) }
+        × (may_be_id (inherited_index (with_inherited (texts_of names.old) name) name) ≡ false)) }
 {
     match name_at(first, id) {
         Some(name) => Ok(Some(id_of_name(alloc, names, name)?)),
@@ -89,14 +89,14 @@ fn composed_token(
     token: &Token,
     found: Option<Token>,
 ) -> Result<Token>
-    ensures names { let name = taken_name (map cow_str_bytes first.now) (lead_to token.now found) in
-        IfOk result (λ _. texts_of names.new ≡ with_taken (texts_of names.old) name) }
-    ensures token { IfOk result (λ t. t ≡ composed_token (map cow_str_bytes first.now) (texts_of names.new) (lead_to token.now found)) }
-    ensures id { let name = taken_name (map cow_str_bytes first.now) (lead_to token.now found) in
-        IfOk result (λ _. may_be_id (taken_place (texts_of names.new) name) ≡ true) }
-    ensures refused { let name = taken_name (map cow_str_bytes first.now) (lead_to token.now found) in
+    ensures names { let name = inherited_name (map cow_str_bytes first.now) (target_of token.now found) in
+        IfOk result (λ _. texts_of names.new ≡ with_inherited (texts_of names.old) name) }
+    ensures token { IfOk result (λ t. t ≡ composed_token (map cow_str_bytes first.now) (texts_of names.new) (target_of token.now found)) }
+    ensures id { let name = inherited_name (map cow_str_bytes first.now) (target_of token.now found) in
+        IfOk result (λ _. may_be_id (inherited_index (texts_of names.new) name) ≡ true) }
+    ensures refused { let name = inherited_name (map cow_str_bytes first.now) (target_of token.now found) in
         IfErr result (λ e. (e ≢ OutOfMemory) → (e ≡ TooLarge)
-        × (may_be_id (taken_place (with_taken (texts_of names.old) name) name) ≡ false)) }
+        × (may_be_id (inherited_index (with_inherited (texts_of names.old) name) name) ≡ false)) }
 {
     let (line, col) = (token.get_dst_line(), token.get_dst_col());
     let Some(found) = found else {
@@ -104,7 +104,7 @@ fn composed_token(
     };
     let name_id = match found.get_name_id() {
         Some(id) => Some(id),
-        None => taken_id(alloc, names, first, token.get_name_id())?,
+        None => inherited_id(alloc, names, first, token.get_name_id())?,
     };
     Ok(Token::new(
         line,
@@ -117,8 +117,8 @@ fn composed_token(
 }
 
 /// The mapped token that a token leads to, by the clamped lookup of its source position in the second map's table.
-fn lead(table: &[&[Token]], token: &Token) -> Option<Token>
-    ensures { IsLead (slice_of (map (λ s. s.now) table.now) token.now.src_line) (lead_to token.now result) }
+fn target(table: &[&[Token]], token: &Token) -> Option<Token>
+    ensures { IsTarget (slice_of (map (λ s. s.now) table.now) token.now.src_line) (target_of token.now result) }
 {
     token.get_source_id()?;
     let line = slice_of(table, token.get_src_line());
@@ -128,7 +128,7 @@ fn lead(table: &[&[Token]], token: &Token) -> Option<Token>
 }
 
 /// The tokens of the composed map, for the tokens and names of the first map and the tokens of the second. `names` are the
-/// names of the second map; those taken from the first come behind them.
+/// names of the second map; those taken from the first come after them.
 fn composed_tokens(
     alloc: Global,
     names: &mut Vec<CowStr<'_>>,
@@ -138,18 +138,18 @@ fn composed_tokens(
 ) -> Result<Vec<Token>>
     requires { IsInLineOrder input.now }
     ensures composed { let olds = map cow_str_bytes first.now in
-        IfOk result (λ made. (ls : List Lead) × AreLeads tokens.now input.now ls
+        IfOk result (λ made. (ls : List Target) × AreTargets tokens.now input.now ls
         × (texts_of names.new ≡ composed_names olds (texts_of names.old) ls)
         × (made.items ≡ map (composed_token olds (texts_of names.new)) ls)
         × (are_ids olds (texts_of names.new) ls ≡ true)) }
     ensures refused { let olds = map cow_str_bytes first.now in
-        IfErr result (λ e. (e ≢ OutOfMemory) → (e ≡ TooLarge) × (ls : List Lead) × AreLeads tokens.now input.now ls
+        IfErr result (λ e. (e ≢ OutOfMemory) → (e ≡ TooLarge) × (ls : List Target) × AreTargets tokens.now input.now ls
         × (are_ids olds (composed_names olds (texts_of names.old) ls) ls ≡ false)) }
 {
     let table = table_of(alloc, input)?;
     let mut composed = Vec::with_capacity(alloc, tokens.len())?;
     for token in tokens {
-        let found = lead(table.as_slice(), token);
+        let found = target(table.as_slice(), token);
         composed.push(composed_token(alloc, names, first, token, found)?)?;
     }
     Ok(composed)
@@ -208,9 +208,9 @@ pub fn compose_parts<'input>(
     mut second: SourceMapParts<'input>,
 ) -> Result<SourceMapParts<'input>>
     ensures map { let a = record_of_parts first.entry in let b = record_of_parts second.entry in
-        ColumnsGoOn b.tokens → IfOk result (λ parts. composition a b ≡ Ok (record_of_parts parts)) }
+        NoColumnGoesBack b.tokens → IfOk result (λ parts. composition a b ≡ Ok (record_of_parts parts)) }
     ensures refused { let a = record_of_parts first.entry in let b = record_of_parts second.entry in
-        ColumnsGoOn b.tokens → IfErr result (λ e. (e ≢ OutOfMemory) → composition a b ≡ Err e) }
+        NoColumnGoesBack b.tokens → IfErr result (λ e. (e ≢ OutOfMemory) → composition a b ≡ Err e) }
     ensures any_map { IfOk result (λ parts. SomeComposition (record_of_parts first.entry) (record_of_parts second.entry) (Ok (record_of_parts parts))) }
     ensures any_refused { IfErr result (λ e. (e ≢ OutOfMemory) → SomeComposition (record_of_parts first.entry) (record_of_parts second.entry) (Err e)) }
     ensures fault { (e : Error) → composition_fault (record_of_parts first.entry) (record_of_parts second.entry) ≡ Some e → result ≡ Err e }

@@ -27,9 +27,9 @@ moved-in-bounds r m offset s n o l h w =
     repeat-in-bounds r.tokens (all_shifted s m.tokens)
     (rw (n, o, l) w.in_bounds) h
 
-after : {A : Type 0} (P : A → Type 0) (xs ys : List A) → AllByRecursion P (xs ++ ys) → AllByRecursion P ys
-after P [] ys h = h
-after P (x ∷ xs) ys h = after P xs ys h.1
+after-each : {A : Type 0} (P : A → Type 0) (xs ys : List A) → AllByRecursion P (xs ++ ys) → AllByRecursion P ys
+after-each P [] ys h = h
+after-each P (x ∷ xs) ys h = after-each P xs ys h.1
 
 module _ (r m : MapRecord) (offset : ℕ) (s : Shift) (passed : ℕ) (n : s.names ≡ length r.names) (o : s.sources ≡ length r.sources) (l : s.lines ≡ offset)
     (k : all_shifted s (drop passed m.tokens) ≡ without_repeat is_same_token (last r.tokens) (all_shifted s m.tokens)) where
@@ -63,13 +63,13 @@ module _ (r m : MapRecord) (offset : ℕ) (s : Shift) (passed : ℕ) (n : s.name
     };
   }
 
-behind : {A : Type 0} (P : A → Type 0) (xs ys : List A) → All P (xs ++ ys) → All P ys
-behind P xs ys h = All-from_recursion P ys (after P xs ys (recursion_from_All P (xs ++ ys) h))
+after : {A : Type 0} (P : A → Type 0) (xs ys : List A) → All P (xs ++ ys) → All P ys
+after P xs ys h = All-from_recursion P ys (after-each P xs ys (recursion_from_All P (xs ++ ys) h))
 
 -- the tokens that are kept, moved, are in bounds
 pub kept-are-in-bounds : (r m : MapRecord) (offset : ℕ) (a : Addition) → IsAddition r m offset a → AreInBounds (all_shifted a.shift (drop a.passed m.tokens))
 kept-are-in-bounds r m offset a h =
-    subst AreInBounds (sym h.kept) (behind IsInBounds r.tokens (without_repeat is_same_token (last r.tokens) (all_shifted a.shift m.tokens))
+    subst AreInBounds (sym h.kept) (after IsInBounds r.tokens (without_repeat is_same_token (last r.tokens) (all_shifted a.shift m.tokens))
     (rw (h.names, h.sources, h.lines) h.within.in_bounds))
 
 module _ (r m : MapRecord) (offset : ℕ) (a : Addition) (h : IsAddition r m offset a) (chunks : List TokenChunk) (has : r.token_chunks ≡ Some chunks)
@@ -101,16 +101,16 @@ module _ (r m : MapRecord) (offset : ℕ) (a : Addition) (h : IsAddition r m off
     fit = fit-added r m offset (subst (λ o. ChunksFit r.tokens (unwrap_or o [])) (sym has) f);
   })
 
--- all items behind some
-pub all-behind-some : {A : Type 0} (p : ℕ) (xs : List A) → take (length xs - p) (drop p xs) ≡ drop p xs
-all-behind-some p xs = take_all (length xs - p) (drop p xs) (omega (arith, length-drop p xs))
+-- all items after some
+pub all-after-some : {A : Type 0} (p : ℕ) (xs : List A) → take (length xs - p) (drop p xs) ≡ drop p xs
+all-after-some p xs = take_all (length xs - p) (drop p xs) (omega (arith, length-drop p xs))
 
 -- two lists end to end, each as said
 pub glued : {A : Type 0} {xs ys us vs : List A} → xs ≡ ys → us ≡ vs → xs ++ us ≡ ys ++ vs
 glued {xs = xs} {ys = ys} {us = us} {vs = vs} p q = ap (λ zs. zs ++ us) p ∙ ap (λ zs. ys ++ zs) q
 
 -- ---- many maps
--- what is in front of more adds is within limits where all is
+-- what is before more adds is within limits where all is
 pub front-within : (r : MapRecord) (ms : List (MapRecord × ℕ)) → IsWithinLimits (added_all r ms) → IsWithinLimits r
 front-within r ms w =
     let f = added_all-continues r ms in

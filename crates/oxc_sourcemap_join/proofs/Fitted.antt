@@ -12,12 +12,12 @@ pub fitted-exact : (contents : List (Option Text)) → fitted (length contents) 
 fitted-exact [] = refl
 fitted-exact (c ∷ cs) = ap (λ ds. c ∷ ds) (fitted-exact cs)
 
-fitted-behind : (cs ds : List (Option Text)) (n : ℕ) → fitted (length cs + n) (cs ++ ds) ≡ cs ++ fitted n ds
-fitted-behind [] ds n = ap (λ k. fitted k ds) (omega arith)
-fitted-behind (c ∷ cs) ds n =
+fitted-after : (cs ds : List (Option Text)) (n : ℕ) → fitted (length cs + n) (cs ++ ds) ≡ cs ++ fitted n ds
+fitted-after [] ds n = ap (λ k. fitted k ds) (omega arith)
+fitted-after (c ∷ cs) ds n =
     let e : length (c ∷ cs) + n ≡ suc (length cs + n) = omega arith in
-    ap (λ k. fitted k (c ∷ (cs ++ ds))) e ∙ ap (λ es. c ∷ es) (fitted-behind cs ds n)
+    ap (λ k. fitted k (c ∷ (cs ++ ds))) e ∙ ap (λ es. c ∷ es) (fitted-after cs ds n)
 
--- behind as many contents as there are sources, what is added is fitted by itself
+-- after as many contents as there are sources, what is added is fitted by itself
 pub fitted-more : {A : Type 0} (rs ms : List A) (rc mc : List (Option Text)) → length rs ≡ length rc → fitted (length rs + length ms) (rc ++ mc) ≡ rc ++ fitted (length ms) mc
-fitted-more rs ms rc mc e = ap (λ n. fitted (n + length ms) (rc ++ mc)) e ∙ fitted-behind rc mc (length ms)
+fitted-more rs ms rc mc e = ap (λ n. fitted (n + length ms) (rc ++ mc)) e ∙ fitted-after rc mc (length ms)

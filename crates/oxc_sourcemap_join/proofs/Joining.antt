@@ -5,7 +5,7 @@ use Rattle.std.specs.Option.{IfSome, unwrap_or}
 use Rattle.std.proofs.lemmas.List.{append-nil, length-append, take-append-le}
 use Rattle.oxc_sourcemap_mappings.specs.declared.token.TokenChunk.{TokenChunk}
 use Rattle.oxc_sourcemap_mappings.specs.Token.{TokenRecord}
-use Rattle.oxc_sourcemap_mappings.specs.State.{state_at, state_behind, initial}
+use Rattle.oxc_sourcemap_mappings.specs.State.{state_at, state_after, initial}
 use Rattle.oxc_sourcemap_mappings.specs.Chunks.{ChunksFitFrom, ChunksFit, chunk_from}
 use Rattle.oxc_sourcemap_parts.specs.Record.{MapRecord}
 use Rattle.oxc_sourcemap_lookup.specs.Lookup.{last}
@@ -13,7 +13,7 @@ use Rattle.oxc_sourcemap_join.specs.Joined.{shifted, is_same_token, without_repe
 
 -- the state at an index does not see what stands from there on
 state-front : (xs zs : List TokenRecord) (i : ℕ) → i ≤ length xs → state_at xs i ≡ state_at (xs ++ zs) i
-state-front xs zs i h = ap (λ ys. state_behind initial (reverse ys)) (sym (take-append-le i xs zs h))
+state-front xs zs i h = ap (λ ys. state_after initial (reverse ys)) (sym (take-append-le i xs zs h))
 
 fit-more : (xs zs : List TokenRecord) (index : ℕ) (cs : List TokenChunk) → ChunksFitFrom xs index cs → ChunksFitFrom (xs ++ zs) index (cs ++ chunk_from (state_at xs (length xs)) (length xs) (length (xs ++ zs)) ∷ [])
 fit-more xs zs index [] h =
@@ -26,7 +26,7 @@ fit-more xs zs index (c ∷ cs) h =
     let w = f.within in
     (record { starts = f.starts; ordered = o; within = omega arith; true_header = f.true_header ∙ state-front xs zs c.start (omega arith) }, fit-more xs zs c.end cs h.1)
 
--- where the chunks of a join fit, they do so behind one more map
+-- where the chunks of a join fit, they do so after one more map
 pub fit-added : (r m : MapRecord) (offset : ℕ) → ChunksFit r.tokens (unwrap_or r.token_chunks []) → ChunksFit (added r m offset).tokens (unwrap_or (added r m offset).token_chunks [])
 fit-added r m offset h = fit-more r.tokens (without_repeat is_same_token (last r.tokens) (map (shifted (length r.names) (length r.sources) offset) m.tokens)) 0 (unwrap_or r.token_chunks []) h
 
@@ -66,7 +66,7 @@ pub chunks_joined : (ms : List (MapRecord × ℕ)) → IfSome (joined ms).token_
 chunks_joined ms = let f = fitting_chunks ms in if-some (joined ms).tokens (joined ms).token_chunks f.chunks f.has f.fit
 
 -- ---- fronts
--- a list stands in front of another
+-- a list stands before another
 abbrev pub IsFront : {A : Type 0} → List A → List A → Type 0
 IsFront {A = A} xs ys = (zs : List A) × (ys ≡ xs ++ zs)
 
@@ -86,7 +86,7 @@ all-left P (x ∷ xs) ys h = (h.0, all-left P xs ys h.1)
 pub all-front : {A : Type 0} (P : A → Type 0) (xs ys : List A) → IsFront xs ys → AllByRecursion P ys → AllByRecursion P xs
 all-front P xs ys f h = all-left P xs f.0 (subst (AllByRecursion P) f.1 h)
 
--- what a join has, it still has in front behind further adds
+-- what a join has, it still has before after further adds
 pub record Continues (r s : MapRecord) : Type 0 where
   pub names : IsFront r.names s.names
   pub sources : IsFront r.sources s.sources

@@ -53,9 +53,9 @@ last-slice_get (x ∷ y ∷ xs) =
     last-slice_get (y ∷ xs) ∙ ap (slice_get (y ∷ xs)) e ∙ sym (ap (slice_get (x ∷ y ∷ xs)) f)
 
 -- ---- bounds
-all-behind : {A : Type 0} (P : A → Type 0) (xs ys : List A) → AllByRecursion P (xs ++ ys) → AllByRecursion P ys
-all-behind P [] ys h = h
-all-behind P (x ∷ xs) ys h = all-behind P xs ys h.1
+all-after : {A : Type 0} (P : A → Type 0) (xs ys : List A) → AllByRecursion P (xs ++ ys) → AllByRecursion P ys
+all-after P [] ys h = h
+all-after P (x ∷ xs) ys h = all-after P xs ys h.1
 
 last-holds : {A : Type 0} (P : A → Type 0) (xs : List A) → AllByRecursion P xs → IfSome (last xs) P
 last-holds P [] h = tt
@@ -71,11 +71,11 @@ with-repeat (Some x) (u ∷ us) h g =
       | false ↦ (λ e k. k)
     ] refl g
 
--- where what is kept behind some tokens is in bounds, so is what was left out
+-- where what is kept after some tokens is in bounds, so is what was left out
 pub repeat-in-bounds : (ts us : List TokenRecord) → AreInBounds (ts ++ without_repeat is_same_token (last ts) us) → AreInBounds ts → AreInBounds us
 repeat-in-bounds ts us g h =
     All-from_recursion IsInBounds us (with-repeat (last ts) us (last-holds IsInBounds ts (recursion_from_All IsInBounds ts h))
-    (all-behind IsInBounds ts (without_repeat is_same_token (last ts) us) (recursion_from_All IsInBounds (ts ++ without_repeat is_same_token (last ts) us) g)))
+    (all-after IsInBounds ts (without_repeat is_same_token (last ts) us) (recursion_from_All IsInBounds (ts ++ without_repeat is_same_token (last ts) us) g)))
 
 without-in-bounds : (o : Option TokenRecord) (us : List TokenRecord) → AllByRecursion IsInBounds us → AllByRecursion IsInBounds (without_repeat is_same_token o us)
 without-in-bounds None us h = h
@@ -87,7 +87,7 @@ without-in-bounds (Some x) (u ∷ us) h =
 pub kept-in-bounds : (o : Option TokenRecord) (us : List TokenRecord) → AreInBounds us → AreInBounds (without_repeat is_same_token o us)
 kept-in-bounds o us h = All-from_recursion IsInBounds _ (without-in-bounds o us (recursion_from_All IsInBounds us h))
 
--- a first token that is not the one in front is kept
+-- a first token that is not the one before is kept
 pub first-kept : (f : TokenRecord → TokenRecord) (x : TokenRecord) (ts : List TokenRecord) (t : TokenRecord) → slice_get ts 0 ≡ Some t → is_same_token x (f t) ≡ false
     → map f ts ≡ without_repeat is_same_token (Some x) (map f ts)
 first-kept f x [] t e h = refl

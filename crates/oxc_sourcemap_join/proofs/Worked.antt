@@ -2,7 +2,7 @@
 use Rattle.std.specs.Prelude.{◌≡◌, refl, ℕ, List, [], ◌∷◌, codes, Option, Some, None}
 use Rattle.oxc_sourcemap_mappings.specs.declared.token.TokenChunk.{TokenChunk}
 use Rattle.oxc_sourcemap_mappings.specs.Token.{TokenRecord}
-use Rattle.oxc_sourcemap_mappings.specs.Canonical.{canonical, text_behind, token_text, separator, vlq_text, digits, letter}
+use Rattle.oxc_sourcemap_mappings.specs.Canonical.{canonical, text_after, token_text, separator, vlq_text, digits, letter}
 use Rattle.oxc_sourcemap_parts.specs.Record.{MapRecord}
 use Rattle.oxc_sourcemap_parts.specs.Views.{empty_record}
 use Rattle.oxc_sourcemap_join.specs.Joined.{joined}
@@ -30,15 +30,15 @@ one_source_each = joined (
     ∷ []
     )
 
-joins-behind_a_map_without_tokens : one_source_each.tokens ≡ token 0 0 5 3 (Some 0) None ∷ token 1 2 1 1 (Some 2) None ∷ []
-joins-behind_a_map_without_tokens = refl
+joins-after_a_map_without_tokens : one_source_each.tokens ≡ token 0 0 5 3 (Some 0) None ∷ token 1 2 1 1 (Some 2) None ∷ []
+joins-after_a_map_without_tokens = refl
 
 joins-with_an_empty_chunk : one_source_each.token_chunks ≡ Some (chunk 0 1 0 0 0 0 0 0 ∷ chunk 1 1 0 0 5 3 0 0 ∷ chunk 1 2 0 0 5 3 0 0 ∷ [])
 joins-with_an_empty_chunk = refl
 
-writes-behind_a_map_without_tokens : canonical one_source_each.tokens ≡ codes "AAKG;EEJF"
-unfolding canonical text_behind token_text separator vlq_text digits letter
-writes-behind_a_map_without_tokens = refl
+writes-after_a_map_without_tokens : canonical one_source_each.tokens ≡ codes "AAKG;EEJF"
+unfolding canonical text_after token_text separator vlq_text digits letter
+writes-after_a_map_without_tokens = refl
 
 -- an unmapped token with a name, which the header does not count
 abbrev three_names : MapRecord
@@ -48,15 +48,15 @@ three_names = joined (
     ∷ []
     )
 
-joins-behind_an_unmapped_token_with_a_name : three_names.tokens ≡ token 0 0 0 0 (Some 0) (Some 0) ∷ token 0 1 0 0 None (Some 2) ∷ token 1 0 0 0 (Some 1) (Some 3) ∷ []
-joins-behind_an_unmapped_token_with_a_name = refl
+joins-after_an_unmapped_token_with_a_name : three_names.tokens ≡ token 0 0 0 0 (Some 0) (Some 0) ∷ token 0 1 0 0 None (Some 2) ∷ token 1 0 0 0 (Some 1) (Some 3) ∷ []
+joins-after_an_unmapped_token_with_a_name = refl
 
 joins-without_the_name_of_an_unmapped_token : three_names.token_chunks ≡ Some (chunk 0 2 0 0 0 0 0 0 ∷ chunk 2 3 0 1 0 0 0 0 ∷ [])
 joins-without_the_name_of_an_unmapped_token = refl
 
-writes-behind_an_unmapped_token_with_a_name : canonical three_names.tokens ≡ codes "AAAAA,C;ACAAG"
-unfolding canonical text_behind token_text separator vlq_text digits letter
-writes-behind_an_unmapped_token_with_a_name = refl
+writes-after_an_unmapped_token_with_a_name : canonical three_names.tokens ≡ codes "AAAAA,C;ACAAG"
+unfolding canonical text_after token_text separator vlq_text digits letter
+writes-after_an_unmapped_token_with_a_name = refl
 
 -- the second map's only token repeats the first map's
 abbrev unmapped_twice : MapRecord
@@ -69,7 +69,7 @@ joins-an_empty_chunk_where_all_repeats : unmapped_twice.token_chunks ≡ Some (c
 joins-an_empty_chunk_where_all_repeats = refl
 
 writes-once_what_repeats : canonical unmapped_twice.tokens ≡ codes "A"
-unfolding canonical text_behind token_text separator vlq_text digits letter
+unfolding canonical text_after token_text separator vlq_text digits letter
 writes-once_what_repeats = refl
 
 joins-contents_padded : (joined ((plain [] (codes "a.js" ∷ []) [], 0) ∷ (record (plain [] (codes "b.js" ∷ []) []) { source_contents = Some (codes "B") ∷ [] }, 1) ∷ [])).source_contents ≡ None ∷ Some (codes "B") ∷ []

@@ -19,7 +19,7 @@ fitted (suc n) (content ∷ contents) = content ∷ fitted n contents
 abbrev pub raised_id : ℕ → Option ℕ → Option ℕ
 raised_id number id = option_map (λ i. i + number) id
 
--- a token of a map whose names and sources stand behind so many others, this many lines further down
+-- a token of a map whose names and sources stand after so many others, this many lines further down
 abbrev pub shifted : ℕ → ℕ → ℕ → TokenRecord → TokenRecord
 shifted names sources offset t = record t {
   dst_line = t.dst_line + offset;
@@ -44,7 +44,7 @@ is_same_token a b =
     a.dst_line == b.dst_line && (a.dst_col == b.dst_col && (a.src_line == b.src_line
     && (a.src_col == b.src_col && (is_same_id a.source_id b.source_id && is_same_id a.name_id b.name_id))))
 
--- A list behind this item, where there is one: without its own first item where the two are the same. No other item is
+-- A list after this item, where there is one: without its own first item where the two are the same. No other item is
 -- left out.
 abbrev pub without_repeat : {A : Type 0} → (A → A → Bool) → Option A → List A → List A
 without_repeat same None items = items
@@ -55,11 +55,11 @@ without_repeat same (Some x) (item ∷ items) = if same x item then items else i
 abbrev pub seamed : {A : Type 0} → (A → A → Bool) → List A → List A → List A
 seamed same xs ys = xs ++ without_repeat same (last xs) ys
 
--- the tokens of a join, and behind them those of a map
+-- the tokens of a join, and after them those of a map
 abbrev pub added_tokens : MapRecord → MapRecord → ℕ → List TokenRecord
 added_tokens r m offset = seamed is_same_token r.tokens (map (shifted (length r.names) (length r.sources) offset) m.tokens)
 
--- the chunk of what is added: its header is the state behind all tokens so far
+-- the chunk of what is added: its header is the state after all tokens so far
 abbrev pub added_chunk : MapRecord → MapRecord → ℕ → TokenChunk
 added_chunk r m offset = chunk_from (state_at r.tokens (length r.tokens)) (length r.tokens) (length (added_tokens r m offset))
 
@@ -92,7 +92,7 @@ nothing_joined = record {
   debug_id = None;
 }
 
--- a join, and behind it these maps, each at its offset
+-- a join, and after it these maps, each at its offset
 abbrev pub added_all : MapRecord → List (MapRecord × ℕ) → MapRecord
 added_all r [] = r
 added_all r (m ∷ ms) = added_all (added r m.0 m.1) ms
@@ -101,7 +101,7 @@ added_all r (m ∷ ms) = added_all (added r m.0 m.1) ms
 abbrev pub joined : List (MapRecord × ℕ) → MapRecord
 joined maps = added_all nothing_joined maps
 
--- maps that a call is lent, each with its offset
+-- borrowed maps, each with its offset
 abbrev pub lent_maps : List (Bor MapRecord × ℕ) → List (MapRecord × ℕ)
 lent_maps maps = map (λ m. (m.0.now, m.1)) maps
 

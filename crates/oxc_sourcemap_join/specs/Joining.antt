@@ -23,7 +23,7 @@ pub record IsJoin (ns ss : List Text) (cs : List (Option Text)) (ts : List Token
 abbrev pub all_shifted : Shift → List TokenRecord → List TokenRecord
 all_shifted s tokens = map (shifted s.names s.sources s.lines) tokens
 
--- What is worked out for a map behind a join: how its tokens are moved, how many of them are passed over in front, and the
+-- What is worked out for a map after a join: how its tokens are moved, how many of them are passed over before, and the
 -- chunk of the others.
 pub record IsAddition (r m : MapRecord) (offset : ℕ) (a : Addition) : Type 0 where
   pub names : a.shift.names ≡ length r.names

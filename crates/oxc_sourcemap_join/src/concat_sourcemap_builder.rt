@@ -21,7 +21,7 @@ use std::marker::Model;
 /// The largest count of names, sources or tokens of a join.
 const MAX_COUNT: usize = 4294967295;
 
-/// How the tokens of a map are moved to their place in a join: the numbers of names and sources in front, and the lines.
+/// How the tokens of a map are moved to their place in a join: the numbers of names and sources before, and the lines.
 #[derive(Clone, Copy)]
 struct Shift {
     names: u32,
@@ -102,7 +102,7 @@ impl Shift {
     }
 }
 
-/// What is worked out before a map is added: how its tokens are moved, how many of them are passed over in front, and the
+/// What is worked out before a map is added: how its tokens are moved, how many of them are passed over before, and the
 /// chunk of the others.
 #[derive(Drop)]
 struct Addition {
@@ -113,7 +113,7 @@ struct Addition {
 
 // Each of these calls `push_` is made where there is room for what it adds.
 
-/// Adds names, lent.
+/// Adds names, borrowed.
 fn push_names<'a>(texts: &mut Vec<CowStr<'a>>, lent: Names<'a, '_>)
     requires { vec_len texts.old + length lent ≤ vec_capacity texts.old }
     ensures { texts_of texts.new ≡ texts_of texts.old ++ lent.entry }
@@ -124,7 +124,7 @@ fn push_names<'a>(texts: &mut Vec<CowStr<'a>>, lent: Names<'a, '_>)
     }
 }
 
-/// Adds sources, lent.
+/// Adds sources, borrowed.
 fn push_sources<'a>(texts: &mut Vec<CowStr<'a>>, lent: Sources<'a, '_>)
     requires { vec_len texts.old + length lent ≤ vec_capacity texts.old }
     ensures { texts_of texts.new ≡ texts_of texts.old ++ lent.entry }
@@ -146,7 +146,7 @@ fn push_unknown<'a>(contents: &mut Vec<Option<CowStr<'a>>>, count: usize)
     }
 }
 
-/// A content, lent; one that is missing is unknown.
+/// A content, borrowed; one that is missing is unknown.
 fn lent_content<'a>(content: Option<Option<&'a str>>) -> Option<CowStr<'a>>
     ensures { option_map cow_str_bytes result ≡ unwrap_or (option_map (option_map (λ text. text.now)) content.entry) None }
 {
@@ -156,7 +156,7 @@ fn lent_content<'a>(content: Option<Option<&'a str>>) -> Option<CowStr<'a>>
     }
 }
 
-/// Adds this many contents: these, lent, and padded with unknown ones or cut.
+/// Adds this many contents: these, borrowed, and padded with unknown ones or cut.
 fn push_lent_fitted<'a>(
     contents: &mut Vec<Option<CowStr<'a>>>,
     mut lent: Contents<'a, '_>,
@@ -199,8 +199,8 @@ fn push_moved(tokens: &mut Vec<Token>, shift: &Shift, added: &[Token])
     }
 }
 
-/// Joins maps into one, each some lines further down. The texts of a map that is lent are borrowed for `'a`, and those of a map
-/// that is taken are moved: a join copies no text.
+/// Joins maps into one, each some lines further down. The strings of a map that is borrowed are borrowed for `'a`, and
+/// those of a map that is taken are moved: a join copies no text.
 ///
 /// An add that is refused leaves the builder as it was. Line order is not asked here; `SourceMap::is_sorted` tells.
 #[derive(Drop)]
@@ -252,7 +252,7 @@ impl<'a> ConcatSourceMapBuilder<'a> {
     }
 
     /// A builder of the join of no maps, for which room for so many names, sources, tokens and chunks was asked. It keeps
-    /// the allocator. Refused for memory alone.
+    /// the allocator. Fails only with `OutOfMemory`.
     pub fn with_capacity(
         alloc: Global,
         names_len: usize,
@@ -315,14 +315,14 @@ impl<'a> ConcatSourceMapBuilder<'a> {
         })
     }
 
-    /// Adds a map behind the others, `line_offset` lines further down. Its names, sources and contents are lent, and one
-    /// content stands for each source: missing ones are unknown, and further ones are left out. Its tokens are moved by
-    /// the offset, their ids by the numbers of names and sources so far; the first is left out if it is then the same, in
-    /// all six fields, as the last token so far. One chunk is recorded, perhaps of no token, whose header is the state in front
+    /// Adds a map after the others, `line_offset` lines further down. Its names, sources and contents are borrowed, and one
+    /// content stands for each source: missing ones are unknown, and further ones are left out. Its tokens are moved by the
+    /// offset, their ids by the numbers of names and sources so far; the first is left out if it is then the same, in all
+    /// six fields, as the last token so far. One chunk is recorded, perhaps of no token, whose header is the state before
     /// of it (docs/FORMAT.md, "Joins").
     ///
-    /// Refused as `TooLarge` where there would be more than 4294967295 names, sources or tokens, a line above 4294967295 or an
-    /// id above 4294967294, then as `OutOfMemory` where memory is refused; the builder is then as it was.
+    /// Fails with `TooLarge` if there would be more than 4294967295 names, sources or tokens, a line above 4294967295 or an
+    /// id above 4294967294, then with `OutOfMemory` if memory is refused; the builder is then as it was.
     pub fn add_sourcemap(&mut self, sourcemap: &'a SourceMap<'_>, line_offset: u32) -> Result<()>
         ensures joined { OnOk result (self.new ≡ added self.old sourcemap.now line_offset) }
         ensures limits { OnOk result (IsWithinLimits (added self.old sourcemap.now line_offset)) }
@@ -353,8 +353,8 @@ impl<'a> ConcatSourceMapBuilder<'a> {
         Ok(())
     }
 
-    /// Adds a map behind the others as `add_sourcemap` does, with the same result, but moves its texts and drops the rest of it.
-    /// Refused as that is; the builder is then as it was, and the map is dropped.
+    /// Adds a map after the others as `add_sourcemap` does, with the same result, but moves its strings and drops the rest
+    /// of it. Fails as that does; the builder is then as it was, and the map is dropped.
     pub fn add_sourcemap_owned(&mut self, sourcemap: SourceMap<'a>, line_offset: u32) -> Result<()>
         ensures joined { OnOk result (self.new ≡ added self.old sourcemap.entry line_offset) }
         ensures limits { OnOk result (IsWithinLimits (added self.old sourcemap.entry line_offset)) }
@@ -388,10 +388,10 @@ impl<'a> ConcatSourceMapBuilder<'a> {
         Ok(())
     }
 
-    /// The builder of the join of these maps, each at its offset of lines: the adds of `add_sourcemap` in the order of the list.
-    /// Their texts are lent.
+    /// The builder of the join of these maps, each at its offset of lines: the adds of `add_sourcemap` in the order of the
+    /// list. Their strings are borrowed.
     ///
-    /// The first refusal of an add stands, and want of memory for what they all take comes before; the builder is then
+    /// The first error of an add stands, and lack of memory for what they all take comes before; the builder is then
     /// dropped.
     pub fn from_sourcemaps(
         alloc: Global,
@@ -409,8 +409,8 @@ impl<'a> ConcatSourceMapBuilder<'a> {
         Ok(builder)
     }
 
-    /// The builder of the join of these maps as `from_sourcemaps` makes it, but of maps whose texts are moved. Refused as that
-    /// is; the builder and all maps are then dropped.
+    /// The builder of the join of these maps as `from_sourcemaps` makes it, but of maps whose strings are moved. Fails as
+    /// that does; the builder and all maps are then dropped.
     pub fn from_owned_sourcemaps(
         alloc: Global,
         sourcemap_and_line_offsets: Vec<(SourceMap<'a>, u32)>,
@@ -427,8 +427,8 @@ impl<'a> ConcatSourceMapBuilder<'a> {
         Ok(builder)
     }
 
-    /// The joined map: with chunks, which fit, and without file, source root, ignore list and debug id. Lent texts stay
-    /// lent. Refused for memory alone; the builder is then dropped.
+    /// The joined map: with chunks, which fit, and without file, source root, ignore list and debug id. Borrowed strings
+    /// stay borrowed. Fails only with `OutOfMemory`; the builder is then dropped.
     pub fn into_sourcemap(self) -> Result<SourceMap<'a>>
         ensures map { IfOk result (λ map. map ≡ self.entry) }
         ensures fits { IfOk result (λ map. IfSome map.token_chunks (ChunksFit map.tokens)) }
@@ -446,8 +446,8 @@ impl<'a> ConcatSourceMapBuilder<'a> {
         ))
     }
 
-    /// The joined map as `into_sourcemap` gives it, with copies of lent texts; texts that were moved in are moved on. Refused
-    /// for memory alone; the builder is then dropped.
+    /// The joined map as `into_sourcemap` gives it, with copies of borrowed strings; strings that were moved in are moved
+    /// on. Fails only with `OutOfMemory`; the builder is then dropped.
     pub fn into_owned_sourcemap(self) -> Result<OwnedSourceMap>
         ensures map { IfOk result (λ map. map ≡ self.entry) }
         ensures fits { IfOk result (λ map. IfSome map.token_chunks (ChunksFit map.tokens)) }
@@ -495,7 +495,7 @@ impl Lengths {
     }
 }
 
-/// The lengths of maps that are lent.
+/// The lengths of maps that are borrowed.
 fn lent_lengths(maps: &[(&SourceMap<'_>, u32)]) -> Lengths {
     let mut lengths = Lengths::none();
     for (sourcemap, _) in maps {

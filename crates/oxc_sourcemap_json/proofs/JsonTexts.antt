@@ -1,4 +1,4 @@
--- Texts that are added one behind the other.
+-- Texts that are added one after the other.
 use Rattle.std.proofs.Common.{◌≡◌, ℕ, List, ◌++◌, ap, ◌∙◌, append_assoc, codes, decimal}
 use Rattle.oxc_sourcemap_json.specs.Json.{JsonRecord}
 use Rattle.oxc_sourcemap_json.specs.JsonString.{json_string}
@@ -42,7 +42,7 @@ json_text_in_parts j =
     (optional_field (codes "ignoreList") (json_list decimal) j.ignore_list)
     (tail_text j.mappings j.debug_id)
 
--- three parts of a map that are added one behind the other are its text
+-- three parts of a map that are added one after the other are its text
 pub object_added : (r : MapRecord) (mappings old t1 t2 t3 : List ℕ)
     → t1 ≡ old ++ head_text r.file r.source_root
     → t2 ≡ t1 ++ lists_text r.names r.sources (written_contents r.source_contents) r.ignore_list

@@ -13,11 +13,11 @@ use Rattle.oxc_sourcemap_mappings.specs.Canonical.{canonical, carried, carried_t
 use Rattle.oxc_sourcemap_mappings.specs.Chunks.{ChunksFit, first_misfit, writing_fault}
 use Rattle.oxc_sourcemap_mappings.specs.Encoding.{advanced}
 use Rattle.oxc_sourcemap_mappings.proofs.Chunks.{first_misfit-none}
-use Rattle.oxc_sourcemap_mappings.proofs.RoundTrip.{IsWithin, round_trip, carrying, carried-is, bare-of_carried}
+use Rattle.oxc_sourcemap_mappings.proofs.RoundTrip.{IsWithin, round_trip, carrying, carried-is, as_written-of_carried}
 use Rattle.oxc_sourcemap_parts.specs.Record.{Text, MapRecord}
 use Rattle.oxc_sourcemap_parts.specs.Sorted.{are_tokens_sorted, may_precede, token_line, token_column}
 use Rattle.oxc_sourcemap_parts.specs.Sound.{IsInRange, IsSound}
-use Rattle.oxc_sourcemap_parts.specs.Sheet.{Source, entry_of, sources_of, sheet_of}
+use Rattle.oxc_sourcemap_parts.specs.DecodedMap.{DecodedSource, mapping_of, sources_of, decoded_map_of}
 use Rattle.oxc_sourcemap_json.specs.Decoded.{first_not_below}
 use Rattle.oxc_sourcemap_json.specs.Encoded.{written_contents, encoded, encoded_record, encoded_unless}
 use Rattle.oxc_sourcemap_json.specs.MapLaws.{rewritten, ComesBack}
@@ -69,18 +69,18 @@ are-within names sources (t ∷ ts) r b = (
 
 -- ---- it means the same
 
-carried-entry : (sources : List Source) (names : List Text) (s : State) (t : TokenRecord) → entry_of sources names (carried_token s t) ≡ entry_of sources names t
+carried-entry : (sources : List DecodedSource) (names : List Text) (s : State) (t : TokenRecord) → mapping_of sources names (carried_token s t) ≡ mapping_of sources names t
 carried-entry sources names s t =
-    elim t.source_id as (λ o. t.source_id ≡ o → entry_of sources names (cond (is_some o) t (record t { src_line = s.src_line; src_col = s.src_col; name_id = None })) ≡ entry_of sources names t) [
+    elim t.source_id as (λ o. t.source_id ≡ o → mapping_of sources names (cond (is_some o) t (record t { src_line = s.src_line; src_col = s.src_col; name_id = None })) ≡ mapping_of sources names t) [
       | Some i ↦ (λ e. refl)
       | None ↦ (λ e. rw e)
     ] refl
 
-pub carried-entries : (sources : List Source) (names : List Text) (s : State) (ts : List TokenRecord) → map (entry_of sources names) (carrying s ts) ≡ map (entry_of sources names) ts
-carried-entries sources names s [] = refl
-carried-entries sources names s (t ∷ ts) =
-    ap (λ e. e ∷ map (entry_of sources names) (carrying (advanced s t) ts)) (carried-entry sources names s t)
-    ∙ ap (λ es. entry_of sources names t ∷ es) (carried-entries sources names (advanced s t) ts)
+pub carried-mappings : (sources : List DecodedSource) (names : List Text) (s : State) (ts : List TokenRecord) → map (mapping_of sources names) (carrying s ts) ≡ map (mapping_of sources names) ts
+carried-mappings sources names s [] = refl
+carried-mappings sources names s (t ∷ ts) =
+    ap (λ e. e ∷ map (mapping_of sources names) (carrying (advanced s t) ts)) (carried-entry sources names s t)
+    ∙ ap (λ es. mapping_of sources names t ∷ es) (carried-mappings sources names (advanced s t) ts)
 
 no-contents : (paths : List Text) (contents : List (Option Text)) → list_any is_some contents ≡ false → sources_of paths [] ≡ sources_of paths contents
 no-contents [] contents e = refl
@@ -95,11 +95,11 @@ same-sources paths contents =
       | false ↦ (λ e. no-contents paths contents e)
     ] refl
 
-pub same-sheet : (r : MapRecord) → sheet_of (rewritten r) ≡ sheet_of r
-same-sheet r =
-    let entries : map (entry_of (sources_of r.sources r.source_contents) r.names) (carried r.tokens) ≡ map (entry_of (sources_of r.sources r.source_contents) r.names) r.tokens =
-    ap (map (entry_of (sources_of r.sources r.source_contents) r.names)) (carried-is [] r.tokens) ∙ carried-entries (sources_of r.sources r.source_contents) r.names initial r.tokens in
-    rw (same-sources r.sources r.source_contents, entries)
+pub same-decoded_map : (r : MapRecord) → decoded_map_of (rewritten r) ≡ decoded_map_of r
+same-decoded_map r =
+    let mappings : map (mapping_of (sources_of r.sources r.source_contents) r.names) (carried r.tokens) ≡ map (mapping_of (sources_of r.sources r.source_contents) r.names) r.tokens =
+    ap (map (mapping_of (sources_of r.sources r.source_contents) r.names)) (carried-is [] r.tokens) ∙ carried-mappings (sources_of r.sources r.source_contents) r.names initial r.tokens in
+    rw (same-sources r.sources r.source_contents, mappings)
 
 pub is_written : (r : MapRecord) → IsSound r → length r.tokens ≤ 4294967295 → encoded r ≡ Ok (encoded_record r)
 is_written r s l = ap (λ o. encoded_unless o r) (no-fault r.tokens r.token_chunks (sorted-order r.tokens s.sorted) s.chunks l)
@@ -119,7 +119,7 @@ reads_back r s b =
     round_trip (length r.names) (length r.sources) r.tokens (are-within (length r.names) (length r.sources) r.tokens s.in_range.tokens (recursion_from_All IsInBounds r.tokens b)) order in
     record {
       is_read = rw (list-below (length r.sources) r.ignore_list s.in_range.ignore_list, read);
-      sheet = same-sheet r;
+      decoded_map = same-decoded_map r;
       names = refl;
-      tokens = bare-of_carried r.tokens;
+      tokens = as_written-of_carried r.tokens;
     }

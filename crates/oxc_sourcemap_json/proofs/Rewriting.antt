@@ -10,14 +10,14 @@ use Rattle.oxc_sourcemap_mappings.proofs.RoundTrip.{carrying, carried-is}
 use Rattle.oxc_sourcemap_parts.specs.Record.{Text, MapRecord}
 use Rattle.oxc_sourcemap_parts.specs.Sorted.{may_precede, is_sorted_by, are_tokens_sorted, token_line, token_column}
 use Rattle.oxc_sourcemap_parts.specs.Sound.{IsInRange, IsSound}
-use Rattle.oxc_sourcemap_parts.specs.Sheet.{Source, entry_of}
-use Rattle.oxc_sourcemap_parts.specs.Sheet.{entry_line, entry_column}
+use Rattle.oxc_sourcemap_parts.specs.DecodedMap.{DecodedSource, mapping_of}
+use Rattle.oxc_sourcemap_parts.specs.DecodedMap.{mapping_line, mapping_column}
 use Rattle.oxc_sourcemap_json.specs.MapLaws.{StaysSound}
-use Rattle.oxc_sourcemap_json.proofs.ReadsBack.{beside-in, carried-entries, same-sheet}
+use Rattle.oxc_sourcemap_json.proofs.ReadsBack.{beside-in, carried-mappings, same-decoded_map}
 use Rattle.oxc_sourcemap_json.proofs.ReadSound.{carried-name}
 
 -- tokens are sorted exactly where their entries are
-pub sorted-tokens : (ss : List Source) (ns : List Text) (ts : List TokenRecord) → is_sorted_by entry_line entry_column (map (entry_of ss ns) ts) ≡ are_tokens_sorted ts
+pub sorted-tokens : (ss : List DecodedSource) (ns : List Text) (ts : List TokenRecord) → is_sorted_by mapping_line mapping_column (map (mapping_of ss ns) ts) ≡ are_tokens_sorted ts
 sorted-tokens ss ns [] = refl
 sorted-tokens ss ns (t ∷ []) = refl
 sorted-tokens ss ns (t ∷ u ∷ ts) = ap (λ b. may_precede token_line token_column t u && b) (sorted-tokens ss ns (u ∷ ts))
@@ -61,7 +61,7 @@ carried-again ts = carried-is [] (carried ts) ∙ ap (carrying initial) (carried
 carried-sorted : (ts : List TokenRecord) → are_tokens_sorted (carried ts) ≡ are_tokens_sorted ts
 carried-sorted ts =
     ap are_tokens_sorted (carried-is [] ts) ∙ sym (sorted-tokens [] [] (carrying initial ts))
-    ∙ ap (is_sorted_by entry_line entry_column) (carried-entries [] [] initial ts) ∙ sorted-tokens [] [] ts
+    ∙ ap (is_sorted_by mapping_line mapping_column) (carried-mappings [] [] initial ts) ∙ sorted-tokens [] [] ts
 
 pub stays_sound : (r : MapRecord) → IsSound r → StaysSound r
 stays_sound r s = record {
@@ -73,7 +73,7 @@ stays_sound r s = record {
     };
     chunks = tt;
   };
-  sheet = same-sheet r;
+  decoded_map = same-decoded_map r;
   count = ap length (carried-is [] r.tokens) ∙ length-carrying initial r.tokens;
   again = carried-again r.tokens;
 }

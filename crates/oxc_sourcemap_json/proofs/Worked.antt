@@ -5,7 +5,7 @@ use Rattle.base64.specs.Rfc4648.{encode_symbols}
 use Rattle.oxc_sourcemap_mappings.specs.declared.error.Error.TheVariants.{BadJson, BadSourceReference}
 use Rattle.oxc_sourcemap_json.specs.JsonString.{json_string, escaped}
 use Rattle.oxc_sourcemap_json.specs.Json.{JsonRecord}
-use Rattle.oxc_sourcemap_mappings.specs.Reading.{reading, text_outcomes, line_outcomes}
+use Rattle.oxc_sourcemap_mappings.specs.Reading.{reading, text_results, line_results}
 use Rattle.oxc_sourcemap_parts.specs.Views.{empty_record}
 use Rattle.oxc_sourcemap_json.specs.Encoded.{record_with}
 use Rattle.oxc_sourcemap_json.specs.JsonText.{json_list, field_text, optional_field, json_text, data_url}
@@ -111,7 +111,7 @@ two_sources version ignore_list = record {
 }
 
 reads-an_ignore_list : decoded (two_sources 3 (Some (0 ∷ []))) ≡ Ok (record empty_record { sources = codes "a.js" ∷ codes "b.js" ∷ []; ignore_list = Some (0 ∷ []) })
-unfolding reading text_outcomes line_outcomes
+unfolding reading text_results line_results
 reads-an_ignore_list = refl
 
 reads-no_entry_past_the_sources : decoded (two_sources 3 (Some (1 ∷ 3 ∷ 4 ∷ []))) ≡ Err (BadSourceReference 3)

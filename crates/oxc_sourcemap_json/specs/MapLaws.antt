@@ -3,10 +3,10 @@ use Rattle.std.specs.Prelude.{◌≡◌, ◌<◌, ◌≤◌, [], length, None, O
 use Rattle.std.specs.Option.{unwrap_or}
 use Rattle.oxc_sourcemap_mappings.specs.declared.error.Error.TheVariants.{TooLarge}
 use Rattle.oxc_sourcemap_mappings.specs.Token.{AreInBounds}
-use Rattle.oxc_sourcemap_mappings.specs.Canonical.{bare, carried}
+use Rattle.oxc_sourcemap_mappings.specs.Canonical.{as_written, carried}
 use Rattle.oxc_sourcemap_parts.specs.Record.{Text, MapRecord}
 use Rattle.oxc_sourcemap_parts.specs.Sound.{IsSound}
-use Rattle.oxc_sourcemap_parts.specs.Sheet.{sheet_of}
+use Rattle.oxc_sourcemap_parts.specs.DecodedMap.{decoded_map_of}
 use Rattle.oxc_sourcemap_json.specs.Encoded.{encoded, encoded_record, written_contents}
 use Rattle.oxc_sourcemap_json.specs.Decoded.{decoded}
 use Rattle.oxc_sourcemap_json.specs.ReadMap.{read_map}
@@ -28,22 +28,22 @@ SoundIsWritten = (r : MapRecord) → IsSound r → length r.tokens ≤ 429496729
 abbrev pub SoundIsTooLarge : Type 0
 SoundIsTooLarge = (r : MapRecord) → IsSound r → 4294967295 < length r.tokens → encoded r ≡ Err TooLarge
 
--- What is written of a map is read as `rewritten` says, and that has the same sheet, the same names, and tokens that are
+-- What is written of a map is read as `rewritten` says, and that has the same decoded map, the same names, and tokens that are
 -- equal as far as texts tell.
 pub record ComesBack (r : MapRecord) : Type 0 where
   pub is_read : decoded (encoded_record r) ≡ Ok (rewritten r)
-  pub sheet : sheet_of (rewritten r) ≡ sheet_of r
+  pub decoded_map : decoded_map_of (rewritten r) ≡ decoded_map_of r
   pub names : (rewritten r).names ≡ r.names
-  pub tokens : bare (rewritten r).tokens ≡ bare r.tokens
+  pub tokens : as_written (rewritten r).tokens ≡ as_written r.tokens
 
 -- so it is for every sound map whose tokens are in bounds
 abbrev pub SoundReadsBack : Type 0
 SoundReadsBack = (r : MapRecord) → IsSound r → AreInBounds r.tokens → ComesBack r
 
--- What comes back of a map is sound, has the same sheet and as many tokens, and comes back a second time as it is.
+-- What comes back of a map is sound, has the same decoded map and as many tokens, and comes back a second time as it is.
 pub record StaysSound (r : MapRecord) : Type 0 where
   pub sound : IsSound (rewritten r)
-  pub sheet : sheet_of (rewritten r) ≡ sheet_of r
+  pub decoded_map : decoded_map_of (rewritten r) ≡ decoded_map_of r
   pub count : length (rewritten r).tokens ≡ length r.tokens
   pub again : (rewritten (rewritten r)).tokens ≡ (rewritten r).tokens
 

@@ -9,7 +9,7 @@ use Rattle.oxc_sourcemap_json.specs.Json.{JsonRecord}
 use Rattle.oxc_sourcemap_json.specs.Shape.{shape, ◌>>=◌}
 use Rattle.oxc_sourcemap_parts.specs.Record.{Text, MapRecord}
 use Rattle.oxc_sourcemap_json.specs.Decoded.{decoded}
-use Rattle.oxc_sourcemap_parts.specs.Sheet.{Sheet, sheet_of}
+use Rattle.oxc_sourcemap_parts.specs.DecodedMap.{DecodedMap, decoded_map_of}
 
 -- the fields of the value that was read, if one was
 abbrev pub json_fields : Option Data → Result JsonRecord Error
@@ -21,6 +21,6 @@ json_fields (Some d) = shape d
 unfoldable pub read_map : Text → Result MapRecord Error
 read_map text = json_fields (read text) >>= decoded
 
--- what a JSON text means: the sheet of its map, or its first refusal
-abbrev pub read_sheet : Text → Result Sheet Error
-read_sheet text = read_map text >>= (λ r. Ok (sheet_of r))
+-- what a JSON text means: the decoded map of its map, or its first refusal
+abbrev pub read_decoded_map : Text → Result DecodedMap Error
+read_decoded_map text = read_map text >>= (λ r. Ok (decoded_map_of r))

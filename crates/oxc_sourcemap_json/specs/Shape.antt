@@ -36,7 +36,7 @@ abbrev pub optional : {A : Type 0} → (Data → Result A Error) → Option Data
 optional read None = Ok None
 optional read (Some d) = read d >>= (λ x. Ok (Some x))
 
--- an item in front of the others, where both were read
+-- an item before the others, where both were read
 abbrev pub onto_read : {A : Type 0} → Option A → Option (List A) → Option (List A)
 onto_read None rest = None
 onto_read (Some x) None = None

@@ -122,7 +122,7 @@ pub fn decode_parts(alloc: Global, json: JSONSourceMap) -> Result<SourceMapParts
 ///
 /// Refused in this order:
 /// - `BadJson(Reading)` where `serde_json` reads no value, as for a text that is not JSON, one with more than white
-///   space behind the value, and one that nests deeper than 127;
+///   space after the value, and one that nests deeper than 127;
 /// - what `JSONSourceMap::from_value` refuses;
 /// - what `decode_parts` refuses.
 ///

@@ -8,13 +8,13 @@ use Rattle.std.proofs.lemmas.List.{length-append}
 use Rattle.std.proofs.lemmas.List.Folds.{list_all-append}
 use Rattle.oxc_sourcemap_mappings.specs.Token.{TokenRecord}
 use Rattle.oxc_sourcemap_parts.specs.Record.{Text, MapRecord}
-use Rattle.oxc_sourcemap_parts.specs.Texts.{place_of, with_text_at, with_text, with_texts}
-use Rattle.oxc_sourcemap_compose.specs.Composed.{Lead, kept_name, taken_name, leads, composed}
-use Rattle.oxc_sourcemap_compose.proofs.TakenNames.{place-last, place-front}
+use Rattle.oxc_sourcemap_parts.specs.Texts.{index_of, with_text_at, with_text, with_texts}
+use Rattle.oxc_sourcemap_compose.specs.Composed.{Target, kept_name, inherited_name, targets, composed}
+use Rattle.oxc_sourcemap_compose.proofs.InheritedNames.{index-last, index-front}
 
 -- a text that stands in a list
 abbrev IsOf : List Text → Text → Type 0
-IsOf names x = (i : ℕ) × (place_of x names ≡ Some i)
+IsOf names x = (i : ℕ) × (index_of x names ≡ Some i)
 
 found-at : (x : Text) (names : List Text) (k i : ℕ) → slice_get names i ≡ Some x → (j : ℕ) × (position_from (bytes_eq x) k names ≡ Some j)
 found-at x [] k i e = absurd (cc (e))
@@ -42,9 +42,9 @@ taken-are_of : (names : List Text) (o : Option Text) (rest : List Text) → ((x 
 taken-are_of names None rest h k = k
 taken-are_of names (Some x) rest h k = (h x refl, k)
 
-all-taken : (names : List Text) (ls : List Lead) → AllByRecursion (IsOf names) (filter_map (taken_name names) ls)
+all-taken : (names : List Text) (ls : List Target) → AllByRecursion (IsOf names) (filter_map (inherited_name names) ls)
 all-taken names [] = tt
-all-taken names (l ∷ ls) = taken-are_of names (taken_name names l) _ (λ x e. taken-of_found names l.token l.found x e) (all-taken names ls)
+all-taken names (l ∷ ls) = taken-are_of names (inherited_name names l) _ (λ x e. taken-of_found names l.token l.found x e) (all-taken names ls)
 
 -- how many of these texts are not among the names
 abbrev counted : Option ℕ → ℕ → ℕ
@@ -53,11 +53,11 @@ counted (Some i) n = n
 
 abbrev missing : List Text → List Text → ℕ
 missing names [] = 0
-missing names (o ∷ os) = counted (place_of o names) (missing names os)
+missing names (o ∷ os) = counted (index_of o names) (missing names os)
 
 missing-most : (names os : List Text) → missing names os ≤ length os
 missing-most names [] = omega arith
-missing-most names (o ∷ os) = let h = missing-most names os in elim (place_of o names) as (λ p. counted p (missing names os) ≤ length (o ∷ os)) [ None ↦ omega (arith, h) | Some i ↦ omega (arith, h) ]
+missing-most names (o ∷ os) = let h = missing-most names os in elim (index_of o names) as (λ p. counted p (missing names os) ≤ length (o ∷ os)) [ None ↦ omega (arith, h) | Some i ↦ omega (arith, h) ]
 
 counted-most : (p : Option ℕ) (n m : ℕ) → n ≤ m → counted p n ≤ suc m
 counted-most None n m h = omega (arith, h)
@@ -71,31 +71,31 @@ missing-less : (x : Text) (names os : List Text) → missing (names ++ x ∷ [])
 missing-less x names [] = omega arith
 missing-less x names (o ∷ os) =
     let h = missing-less x names os in
-    elim (place_of o names) as (λ p. place_of o names ≡ p → counted (place_of o (names ++ x ∷ [])) (missing (names ++ x ∷ []) os) ≤ counted p (missing names os)) [
-      | None ↦ (λ e. counted-most (place_of o (names ++ x ∷ [])) _ _ h)
-      | Some i ↦ (λ e. rw (place-front o i names (x ∷ []) e) h)
+    elim (index_of o names) as (λ p. index_of o names ≡ p → counted (index_of o (names ++ x ∷ [])) (missing (names ++ x ∷ []) os) ≤ counted p (missing names os)) [
+      | None ↦ (λ e. counted-most (index_of o (names ++ x ∷ [])) _ _ h)
+      | Some i ↦ (λ e. rw (index-front o i names (x ∷ []) e) h)
     ] refl
 
 -- one that was missing and now is there
-missing-here : (x : Text) (names os : List Text) (k j : ℕ) → place_of x names ≡ None → position_from (bytes_eq x) k os ≡ Some j → missing (names ++ x ∷ []) os < missing names os
+missing-here : (x : Text) (names os : List Text) (k j : ℕ) → index_of x names ≡ None → position_from (bytes_eq x) k os ≡ Some j → missing (names ++ x ∷ []) os < missing names os
 missing-here x names [] k j e f = absurd (cc (f))
 missing-here x names (o ∷ os) k j e f =
     elim (bytes_eq x o) as (λ b. bytes_eq x o ≡ b → cond b (Some k) (position_from (bytes_eq x) (k + 1) os) ≡ Some j → missing (names ++ x ∷ []) (o ∷ os) < missing names (o ∷ os)) [
       | true ↦ (λ q g.
           let same : x ≡ o = (bytes_decides x o).0 q in
           let less = missing-less x names os in
-          let gone : place_of o names ≡ None = ap (λ y. place_of y names) (sym same) ∙ e in
-          let here : place_of o (names ++ x ∷ []) ≡ Some (length names) = ap (λ y. place_of y (names ++ x ∷ [])) (sym same) ∙ place-last x names e in
+          let gone : index_of o names ≡ None = ap (λ y. index_of y names) (sym same) ∙ e in
+          let here : index_of o (names ++ x ∷ []) ≡ Some (length names) = ap (λ y. index_of y (names ++ x ∷ [])) (sym same) ∙ index-last x names e in
           rw (gone, here) (omega (arith, less)))
       | false ↦ (λ q g.
           let h = missing-here x names os (k + 1) j e g in
-          elim (place_of o names) as (λ p. place_of o names ≡ p → counted (place_of o (names ++ x ∷ [])) (missing (names ++ x ∷ []) os) < counted p (missing names os)) [
-            | None ↦ (λ p. counted-less (place_of o (names ++ x ∷ [])) (missing (names ++ x ∷ []) os) (missing names os) h)
-            | Some i ↦ (λ p. rw (place-front o i names (x ∷ []) p) h)
+          elim (index_of o names) as (λ p. index_of o names ≡ p → counted (index_of o (names ++ x ∷ [])) (missing (names ++ x ∷ []) os) < counted p (missing names os)) [
+            | None ↦ (λ p. counted-less (index_of o (names ++ x ∷ [])) (missing (names ++ x ∷ []) os) (missing names os) h)
+            | Some i ↦ (λ p. rw (index-front o i names (x ∷ []) p) h)
           ] refl)
     ] refl f
 
-grown-at : (p : Option ℕ) (names os : List Text) (x : Text) (xs : List Text) → place_of x names ≡ p → IsOf os x
+grown-at : (p : Option ℕ) (names os : List Text) (x : Text) (xs : List Text) → index_of x names ≡ p → IsOf os x
     → ((ns : List Text) → length (with_texts ns xs) + missing (with_texts ns xs) os ≤ length ns + missing ns os)
     → length (with_texts (with_text_at p names x) xs) + missing (with_texts (with_text_at p names x) xs) os ≤ length names + missing names os
 grown-at (Some i) names os x xs e h more = more names
@@ -107,12 +107,12 @@ grown-at None names os x xs e h more =
 
 grown : (names os xs : List Text) → AllByRecursion (IsOf os) xs → length (with_texts names xs) + missing (with_texts names xs) os ≤ length names + missing names os
 grown names os [] h = omega arith
-grown names os (x ∷ xs) h = grown-at (place_of x names) names os x xs refl h.0 (λ ns. grown ns os xs h.1)
+grown names os (x ∷ xs) h = grown-at (index_of x names) names os x xs refl h.0 (λ ns. grown ns os xs h.1)
 
 -- no more names than both maps have
 pub names-most : (a b : MapRecord) → length (composed a b).names ≤ length a.names + length b.names
 names-most a b =
-    let g = grown b.names a.names (filter_map (taken_name a.names) (leads a b)) (all-taken a.names (leads a b)) in
+    let g = grown b.names a.names (filter_map (inherited_name a.names) (targets a b)) (all-taken a.names (targets a b)) in
     let m = missing-most b.names a.names in
     omega (arith, g, m)
 
@@ -124,7 +124,7 @@ module _ (test : Text → Bool) where
 
   tested : (names xs : List Text) → list_all test names ≡ true → AllByRecursion (λ x. test x ≡ true) xs → list_all test (with_texts names xs) ≡ true
   tested names [] h k = h
-  tested names (x ∷ xs) h k = tested (with_text names x) xs (tested-at (place_of x names) names x h k.0) k.1
+  tested names (x ∷ xs) h k = tested (with_text names x) xs (tested-at (index_of x names) names x h k.0) k.1
 
   tested-of : (names : List Text) (x : Text) (k i : ℕ) → list_all test names ≡ true → position_from (bytes_eq x) k names ≡ Some i → test x ≡ true
   tested-of [] x k i h e = absurd (cc (e))
@@ -142,4 +142,4 @@ module _ (test : Text → Bool) where
   all-tested names (x ∷ xs) h k = (tested-of names x 0 k.0.0 h k.0.1, all-tested names xs h k.1)
 
   pub names-tested : (a b : MapRecord) → list_all test a.names ≡ true → list_all test b.names ≡ true → list_all test (composed a b).names ≡ true
-  names-tested a b h k = tested b.names (filter_map (taken_name a.names) (leads a b)) k (all-tested a.names _ h (all-taken a.names (leads a b)))
+  names-tested a b h k = tested b.names (filter_map (inherited_name a.names) (targets a b)) k (all-tested a.names _ h (all-taken a.names (targets a b)))

@@ -6,14 +6,14 @@ use Rattle.oxc_sourcemap_mappings.specs.declared.error.Error.{Error}
 use Rattle.oxc_sourcemap_mappings.specs.declared.error.Error.TheVariants.{VlqLeftover, VlqNoValues, VlqOverflow, BadJson, BadSegmentSize, BadSourceReference, BadNameReference, OutOfMemory, TooLarge, LineOrder, BadChunks, SeveralSources}
 use Rattle.oxc_sourcemap_mappings.specs.Canonical.{first_out_of_order}
 use Rattle.oxc_sourcemap_parts.specs.Record.{Text, MapRecord}
-use Rattle.oxc_sourcemap_parts.specs.Texts.{place_of}
+use Rattle.oxc_sourcemap_parts.specs.Texts.{index_of}
 use Rattle.oxc_sourcemap_parts.specs.Sound.{IsSound}
-use Rattle.oxc_sourcemap_parts.specs.Sheet.{sheet_of}
+use Rattle.oxc_sourcemap_parts.specs.DecodedMap.{decoded_map_of}
 use Rattle.oxc_sourcemap_mappings.specs.Refusals.{unless}
-use Rattle.oxc_sourcemap_compose.specs.Composed.{Lead, leads, taken_name, taken_id, may_be_id, are_ids, composed_names, composed, composition_fault, composition}
+use Rattle.oxc_sourcemap_compose.specs.Composed.{Target, targets, inherited_name, inherited_id, may_be_id, are_ids, composed_names, composed, composition_fault, composition}
 use Rattle.oxc_sourcemap_parts.proofs.Order.{sorted_in_order}
 use Rattle.oxc_sourcemap_laws.specs.ComposeLaws.{then_with, with_then, grouped_left, grouped_right, IsSeveralSources, TellsOf}
-use Rattle.oxc_sourcemap_laws.proofs.Compositions.{place-below, records_associative, sound_composed}
+use Rattle.oxc_sourcemap_laws.proofs.Compositions.{index-below, records_associative, sound_composed}
 use Rattle.oxc_sourcemap_laws.proofs.ComposedNames.{names-most}
 
 -- ---- a composition, case by case
@@ -21,7 +21,7 @@ abbrev is_many : MapRecord → Bool
 is_many a = nat_lt 1 (length a.sources)
 
 abbrev do_ids_fit : MapRecord → MapRecord → Bool
-do_ids_fit a b = are_ids a.names (composed_names a.names b.names (leads a b)) (leads a b)
+do_ids_fit a b = are_ids a.names (composed_names a.names b.names (targets a b)) (targets a b)
 
 ok-if : (fault : Option Error) (fit : Bool) (a b r : MapRecord) → unless fault (cond fit (Ok (composed a b)) (Err TooLarge)) ≡ Ok r → r ≡ composed a b
 ok-if (Some f) fit a b r e = absurd (cc (e))
@@ -54,9 +54,9 @@ right-is : (q : Result MapRecord Error) (a b c right : MapRecord) → compositio
 right-is (Ok bc) a b c right e f = is-composed a bc right f ∙ ap (composed a) (is-composed b c bc e)
 right-is (Err x) a b c right e f = absurd (cc (f))
 
-pub groupings_agree : (a b c : MapRecord) → IsSound a → IsSound b → IsSound c → (left right : MapRecord) → grouped_left a b c ≡ Ok left → grouped_right a b c ≡ Ok right → sheet_of left ≡ sheet_of right
+pub groupings_agree : (a b c : MapRecord) → IsSound a → IsSound b → IsSound c → (left right : MapRecord) → grouped_left a b c ≡ Ok left → grouped_right a b c ≡ Ok right → decoded_map_of left ≡ decoded_map_of right
 groupings_agree a b c x y z left right e f =
-    ap sheet_of (left-is (composition a b) a b c left refl e) ∙ records_associative a b c x y z ∙ sym (ap sheet_of (right-is (composition b c) a b c right refl f))
+    ap decoded_map_of (left-is (composition a b) a b c left refl e) ∙ records_associative a b c x y z ∙ sym (ap decoded_map_of (right-is (composition b c) a b c right refl f))
 
 -- what both groupings are
 record BothRefused (a b c : MapRecord) : Type 0 where
@@ -111,8 +111,8 @@ module _ (a b c : MapRecord) (y : IsSound b) (z : IsSound c) (x : IsSound a) (n 
   refused-by false true e f = refused-iff (refused-second e f)
   refused-by false false e f = given-iff (both-given e f)
 
-  pub refused_alike : IsSeveralSources (grouped_left a b c) ↔ IsSeveralSources (grouped_right a b c)
-  refused_alike = refused-by (is_many a) (is_many b) refl refl
+  pub refused_together : IsSeveralSources (grouped_left a b c) ↔ IsSeveralSources (grouped_right a b c)
+  refused_together = refused-by (is_many a) (is_many b) refl refl
 
   pub both_answer : length a.sources ≤ 1 → length b.sources ≤ 1 → ((left : MapRecord) × (grouped_left a b c ≡ Ok left)) × ((right : MapRecord) × (grouped_right a b c ≡ Ok right))
   both_answer h j =
@@ -127,13 +127,13 @@ module _ (a b c : MapRecord) (y : IsSound b) (z : IsSound c) (x : IsSound a) (n 
   either-by false true e f = inl (refused-second e f)
   either-by false false e f = inr (both-given e f)
 
-  right-map : (m : MapRecord) → grouped_left a b c ≡ Ok m → (r : MapRecord) × (grouped_right a b c ≡ Ok r) × (sheet_of m ≡ sheet_of r)
+  right-map : (m : MapRecord) → grouped_left a b c ≡ Ok m → (r : MapRecord) × (grouped_right a b c ≡ Ok r) × (decoded_map_of m ≡ decoded_map_of r)
   right-map m e = elim (either-by (is_many a) (is_many b) refl refl) [
     | inl r ↦ absurd (not-refused (grouped_left a b c) m e r.left)
     | inr g ↦ (composed a (composed b c), g.right, groupings_agree a b c x y z m _ e g.right)
   ]
 
-  left-map : (m : MapRecord) → grouped_right a b c ≡ Ok m → (r : MapRecord) × (grouped_left a b c ≡ Ok r) × (sheet_of m ≡ sheet_of r)
+  left-map : (m : MapRecord) → grouped_right a b c ≡ Ok m → (r : MapRecord) × (grouped_left a b c ≡ Ok r) × (decoded_map_of m ≡ decoded_map_of r)
   left-map m e = elim (either-by (is_many a) (is_many b) refl refl) [
     | inl r ↦ absurd (not-refused (grouped_right a b c) m e r.right)
     | inr g ↦ (composed (composed a b) c, g.left, sym (groupings_agree a b c x y z _ m g.left e))
@@ -172,7 +172,7 @@ module _ (a b c : MapRecord) (x : IsSound a) (y : IsSound b) (z : IsSound c) whe
     ];
     of_several = λ s. elim (is-too-large (grouped_right a b c)) [
       | inl t ↦ inl t
-      | inr k ↦ inr ((refused_alike a b c y z x (several-small (grouped_left a b c) s) k).0 s)
+      | inr k ↦ inr ((refused_together a b c y z x (several-small (grouped_left a b c) s) k).0 s)
     ];
   }
 
@@ -184,7 +184,7 @@ module _ (a b c : MapRecord) (x : IsSound a) (y : IsSound b) (z : IsSound c) whe
     ];
     of_several = λ s. elim (is-too-large (grouped_left a b c)) [
       | inl t ↦ inl t
-      | inr k ↦ inr ((refused_alike a b c y z x k (several-small (grouped_right a b c) s)).1 s)
+      | inr k ↦ inr ((refused_together a b c y z x k (several-small (grouped_right a b c) s)).1 s)
     ];
   }
 
@@ -193,16 +193,16 @@ past-at : (o : Option ℕ) (count : ℕ) → ((i : ℕ) → o ≡ Some i → i <
 past-at None count h e = absurd (cc (e))
 past-at (Some i) count h e = let l = h i refl in let g : 4294967295 ≤ i = grind (arith, nat_tests, e) in omega (arith, l, g)
 
-place-within : (names : List Text) (o : Option Text) (i : ℕ) → option_and_then (λ name. place_of name names) o ≡ Some i → i < length names
-place-within names None i e = absurd (cc (e))
-place-within names (Some x) i e = place-below x names i e
+index-within : (names : List Text) (o : Option Text) (i : ℕ) → option_and_then (λ name. index_of name names) o ≡ Some i → i < length names
+index-within names None i e = absurd (cc (e))
+index-within names (Some x) i e = index-below x names i e
 
-past-ids : (first names : List Text) (ls : List Lead) → are_ids first names ls ≡ false → 4294967295 < length names
+past-ids : (first names : List Text) (ls : List Target) → are_ids first names ls ≡ false → 4294967295 < length names
 past-ids first names [] e = absurd (cc (e))
 past-ids first names (l ∷ ls) e =
-    elim (may_be_id (taken_id first names l)) as (λ b. may_be_id (taken_id first names l) ≡ b → (b && are_ids first names ls) ≡ false → 4294967295 < length names) [
+    elim (may_be_id (inherited_id first names l)) as (λ b. may_be_id (inherited_id first names l) ≡ b → (b && are_ids first names ls) ≡ false → 4294967295 < length names) [
       | true ↦ (λ q k. past-ids first names ls k)
-      | false ↦ (λ q k. past-at (taken_id first names l) (length names) (λ i p. place-within names (taken_name first l) i p) q)
+      | false ↦ (λ q k. past-at (inherited_id first names l) (length names) (λ i p. index-within names (inherited_name first l) i p) q)
     ] refl e
 
 room-if : (many : Bool) (order : Option ℕ) (fit : Bool) (a b : MapRecord) → do_ids_fit a b ≡ fit
@@ -211,7 +211,7 @@ room-if : (many : Bool) (order : Option ℕ) (fit : Bool) (a b : MapRecord) → 
 room-if true order fit a b i e = absurd (cc (e))
 room-if false (Some j) fit a b i e = absurd (cc (e))
 room-if false None true a b i e = absurd (cc (e))
-room-if false None false a b i e = let p = past-ids a.names (composed a b).names (leads a b) i in let m = names-most a b in omega (arith, p, m)
+room-if false None false a b i e = let p = past-ids a.names (composed a b).names (targets a b) i in let m = names-most a b in omega (arith, p, m)
 
 pub room : (a b : MapRecord) → composition a b ≡ Err TooLarge → 4294967295 < length a.names + length b.names
 room a b e = room-if (is_many a) (first_out_of_order b.tokens) (do_ids_fit a b) a b refl e

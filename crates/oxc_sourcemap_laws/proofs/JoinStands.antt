@@ -6,18 +6,18 @@ use Rattle.std.proofs.lemmas.List.{length-append, length-map}
 use Rattle.oxc_sourcemap_parts.specs.Record.{MapRecord}
 use Rattle.oxc_sourcemap_parts.specs.Sorted.{are_tokens_sorted}
 use Rattle.oxc_sourcemap_parts.specs.Sound.{IsInRange, AreIdsInRange}
-use Rattle.oxc_sourcemap_parts.specs.Sheet.{Sheet, sources_of, sheet_of}
+use Rattle.oxc_sourcemap_parts.specs.DecodedMap.{DecodedMap, sources_of, decoded_map_of}
 use Rattle.oxc_sourcemap_join.specs.Joined.{is_same_token, joined}
 use Rattle.oxc_sourcemap_join.proofs.SameToken.{decides_token}
 use Rattle.oxc_sourcemap_json.proofs.Rewriting.{sorted-tokens}
 use Rattle.oxc_sourcemap_join.proofs.Joining.{chunks_joined}
-use Rattle.oxc_sourcemap_laws.specs.Squeezed.{Alike, is_sorted_sheet}
-use Rattle.oxc_sourcemap_laws.specs.JoinedSheets.{joined_sheets}
-use Rattle.oxc_sourcemap_laws.specs.JoinLaws.{AreAlike, AreAllInRange, sheets_of, StandsFor, AllStandFor}
+use Rattle.oxc_sourcemap_laws.specs.Repeats.{EqualUpToRepeats, is_sorted_decoded_map}
+use Rattle.oxc_sourcemap_laws.specs.JoinedDecodedMaps.{joined_decoded_maps}
+use Rattle.oxc_sourcemap_laws.specs.JoinLaws.{AreEqualUpToRepeats, AreAllInRange, decoded_maps_of, StandsFor, AllStandFor}
 use Rattle.oxc_sourcemap_laws.proofs.Seams.{seamed_all, length-seamed}
-use Rattle.oxc_sourcemap_laws.proofs.AlikeSheets.{joined_alike, sorted_sheet_alike}
-use Rattle.oxc_sourcemap_laws.proofs.Joins.{raised, behind, together, alone, all_together, joined-is}
-use Rattle.oxc_sourcemap_laws.proofs.JoinSheets.{metadata, sheet_joined}
+use Rattle.oxc_sourcemap_laws.proofs.UpToRepeats.{joined_up_to_repeats, sorted_decoded_map_up_to_repeats}
+use Rattle.oxc_sourcemap_laws.proofs.Joins.{raised, after, together, alone, all_together, joined-is}
+use Rattle.oxc_sourcemap_laws.proofs.JoinDecodedMaps.{metadata, decoded_map_joined}
 
 -- ---- soundness
 pub all_weaker : {A : Type 0} (P Q : A → Type 0) → ((x : A) → P x → Q x) → (xs : List A) → AllByRecursion P xs → AllByRecursion Q xs
@@ -41,7 +41,7 @@ range_together : (a b : MapRecord) → AllByRecursion (IsInRange (length a.names
 range_together a b h k =
     let en = length-append a.names b.names in
     let es = length-append a.sources b.sources in
-    seamed_all is_same_token decides_token _ a.tokens (map (behind (length a.names) (length a.sources)) b.tokens)
+    seamed_all is_same_token decides_token _ a.tokens (map (after (length a.names) (length a.sources)) b.tokens)
     (all_weaker _ _ (λ x i. record { source_id = below-more x.source_id (length a.sources) _ (omega arith) i.source_id; name_id = below-more x.name_id (length a.names) _ (omega arith) i.name_id }) a.tokens h)
     (all_map _ _ _ (λ x i. record { source_id = below-moved x.source_id (length b.sources) (length a.sources) _ (omega arith) i.source_id; name_id = below-moved x.name_id (length b.names) (length a.names) _ (omega arith) i.name_id }) b.tokens k)
 
@@ -60,9 +60,9 @@ count-together : (ms : List (MapRecord × ℕ)) → length (all_together ms).tok
 count-together [] = omega arith
 count-together (m ∷ ms) =
     let h = count-together ms in
-    let s = length-seamed is_same_token (map (raised m.1) m.0.tokens) (map (behind (length m.0.names) (length m.0.sources)) (all_together ms).tokens) in
+    let s = length-seamed is_same_token (map (raised m.1) m.0.tokens) (map (after (length m.0.names) (length m.0.sources)) (all_together ms).tokens) in
     let a = length-map m.0.tokens (raised m.1) in
-    let b = length-map (all_together ms).tokens (behind (length m.0.names) (length m.0.sources)) in
+    let b = length-map (all_together ms).tokens (after (length m.0.names) (length m.0.sources)) in
     let c = length-append m.0.tokens (flat_map (λ m. m.0.tokens) ms) in
     omega arith
 
@@ -77,26 +77,26 @@ pub names_joined : (ms : List (MapRecord × ℕ)) → (joined ms).names ≡ flat
 names_joined ms = ap (λ (r : MapRecord). r.names) (joined-is ms) ∙ names-together ms
 
 -- ---- order
-pub sorted-entries : (r : MapRecord) → is_sorted_sheet (sheet_of r) ≡ are_tokens_sorted r.tokens
-sorted-entries r = sorted-tokens (sources_of r.sources r.source_contents) r.names r.tokens
+pub sorted-mappings : (r : MapRecord) → is_sorted_decoded_map (decoded_map_of r) ≡ are_tokens_sorted r.tokens
+sorted-mappings r = sorted-tokens (sources_of r.sources r.source_contents) r.names r.tokens
 
--- ---- sound maps that stand for given sheets
-placed : (ms : List (MapRecord × ℕ)) (ss : List (Sheet × ℕ)) → AllStandFor ms ss → AreAllInRange ms
+-- ---- sound maps that stand for given decoded maps
+placed : (ms : List (MapRecord × ℕ)) (ss : List (DecodedMap × ℕ)) → AllStandFor ms ss → AreAllInRange ms
 placed [] ss h = tt
 placed (m ∷ ms) [] h = absurd h
 placed (m ∷ ms) (s ∷ ss) h = (h.0.0.sound.in_range.tokens, placed ms ss h.1)
 
-sheets_alike : (ms : List (MapRecord × ℕ)) (ss : List (Sheet × ℕ)) → AllStandFor ms ss → AreAlike (sheets_of ms) ss
-sheets_alike [] [] h = h
-sheets_alike [] (s ∷ ss) h = h
-sheets_alike (m ∷ ms) [] h = h
-sheets_alike (m ∷ ms) (s ∷ ss) h = ((h.0.0.alike, h.0.1), sheets_alike ms ss h.1)
+decoded_maps_up_to_repeats : (ms : List (MapRecord × ℕ)) (ss : List (DecodedMap × ℕ)) → AllStandFor ms ss → AreEqualUpToRepeats (decoded_maps_of ms) ss
+decoded_maps_up_to_repeats [] [] h = h
+decoded_maps_up_to_repeats [] (s ∷ ss) h = h
+decoded_maps_up_to_repeats (m ∷ ms) [] h = h
+decoded_maps_up_to_repeats (m ∷ ms) (s ∷ ss) h = ((h.0.0.up_to_repeats, h.0.1), decoded_maps_up_to_repeats ms ss h.1)
 
-join_alike : (ms : List (MapRecord × ℕ)) (ss : List (Sheet × ℕ)) → AllStandFor ms ss → Alike (sheet_of (joined ms)) (joined_sheets ss)
-join_alike ms ss h = sheet_joined ms (placed ms ss h) ∙ joined_alike (sheets_of ms) ss (sheets_alike ms ss h)
+join_up_to_repeats : (ms : List (MapRecord × ℕ)) (ss : List (DecodedMap × ℕ)) → AllStandFor ms ss → EqualUpToRepeats (decoded_map_of (joined ms)) (joined_decoded_maps ss)
+join_up_to_repeats ms ss h = decoded_map_joined ms (placed ms ss h) ∙ joined_up_to_repeats (decoded_maps_of ms) ss (decoded_maps_up_to_repeats ms ss h)
 
-pub join_sorted : (ms : List (MapRecord × ℕ)) (ss : List (Sheet × ℕ)) → AllStandFor ms ss → are_tokens_sorted (joined ms).tokens ≡ is_sorted_sheet (joined_sheets ss)
-join_sorted ms ss h = sym (sorted-entries (joined ms)) ∙ sorted_sheet_alike (sheet_of (joined ms)) (joined_sheets ss) (join_alike ms ss h)
+pub join_sorted : (ms : List (MapRecord × ℕ)) (ss : List (DecodedMap × ℕ)) → AllStandFor ms ss → are_tokens_sorted (joined ms).tokens ≡ is_sorted_decoded_map (joined_decoded_maps ss)
+join_sorted ms ss h = sym (sorted-mappings (joined ms)) ∙ sorted_decoded_map_up_to_repeats (decoded_map_of (joined ms)) (joined_decoded_maps ss) (join_up_to_repeats ms ss h)
 
-pub join_stands : (ms : List (MapRecord × ℕ)) (ss : List (Sheet × ℕ)) → AllStandFor ms ss → is_sorted_sheet (joined_sheets ss) ≡ true → StandsFor (joined ms) (joined_sheets ss)
-join_stands ms ss h e = record { sound = record { sorted = join_sorted ms ss h ∙ e; in_range = range_joined ms (placed ms ss h); chunks = chunks_joined ms }; alike = join_alike ms ss h }
+pub join_stands : (ms : List (MapRecord × ℕ)) (ss : List (DecodedMap × ℕ)) → AllStandFor ms ss → is_sorted_decoded_map (joined_decoded_maps ss) ≡ true → StandsFor (joined ms) (joined_decoded_maps ss)
+join_stands ms ss h e = record { sound = record { sorted = join_sorted ms ss h ∙ e; in_range = range_joined ms (placed ms ss h); chunks = chunks_joined ms }; up_to_repeats = join_up_to_repeats ms ss h }

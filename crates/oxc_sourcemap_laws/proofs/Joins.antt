@@ -1,4 +1,4 @@
--- Joins as a monoid, and their sheets.
+-- Joins as a monoid, and their decoded maps.
 use Rattle.std.proofs.Common.{◌≡◌, ℕ, ◌+◌, ◌==◌, List, [], ◌∷◌, ◌++◌, map, length, refl, sym, ap, ◌∙◌, append_assoc, arith, Option, Some, None}
 use Rattle.std.specs.List.{flat_map}
 use Rattle.std.specs.Option.{option_map}
@@ -22,19 +22,19 @@ record_by a x0 x1 x2 x3 x4 x5 x6 x7 x8 e0 e1 e2 e3 e4 e5 e6 e7 e8 = rw (← e0, 
 abbrev pub raised : ℕ → TokenRecord → TokenRecord
 raised offset m = record m { dst_line = m.dst_line + offset }
 
--- behind so many names and sources
-abbrev pub behind : ℕ → ℕ → TokenRecord → TokenRecord
-behind names sources m = record m { source_id = option_map (λ i. i + sources) m.source_id; name_id = option_map (λ i. i + names) m.name_id }
+-- after so many names and sources
+abbrev pub after : ℕ → ℕ → TokenRecord → TokenRecord
+after names sources m = record m { source_id = option_map (λ i. i + sources) m.source_id; name_id = option_map (λ i. i + names) m.name_id }
 
-shifted-is : (names sources offset : ℕ) (m : TokenRecord) → shifted names sources offset m ≡ behind names sources (raised offset m)
+shifted-is : (names sources offset : ℕ) (m : TokenRecord) → shifted names sources offset m ≡ after names sources (raised offset m)
 shifted-is names sources offset m = refl
 
 abbrev pub parts : List Text → List Text → List (Option Text) → List TokenRecord → MapRecord
 parts names sources source_contents tokens = record { file = None; source_root = None; debug_id = None; ignore_list = None; names = names; sources = sources; source_contents = source_contents; tokens = tokens; token_chunks = None }
 
--- one record behind another
+-- one record after another
 abbrev pub together : MapRecord → MapRecord → MapRecord
-together a b = parts (a.names ++ b.names) (a.sources ++ b.sources) (a.source_contents ++ b.source_contents) (seamed is_same_token a.tokens (map (behind (length a.names) (length a.sources)) b.tokens))
+together a b = parts (a.names ++ b.names) (a.sources ++ b.sources) (a.source_contents ++ b.source_contents) (seamed is_same_token a.tokens (map (after (length a.names) (length a.sources)) b.tokens))
 
 -- a map by itself, at an offset
 abbrev pub alone : MapRecord → ℕ → MapRecord
@@ -57,8 +57,8 @@ option-moved None (Some y) n = refl
 option-moved (Some x) None n = refl
 option-moved (Some x) (Some y) n = number-moved x y n
 
-same-behind : (names sources : ℕ) (a b : TokenRecord) → is_same_token (behind names sources a) (behind names sources b) ≡ is_same_token a b
-same-behind names sources a b = rw (option-moved a.source_id b.source_id sources, option-moved a.name_id b.name_id names)
+same-after : (names sources : ℕ) (a b : TokenRecord) → is_same_token (after names sources a) (after names sources b) ≡ is_same_token a b
+same-after names sources a b = rw (option-moved a.source_id b.source_id sources, option-moved a.name_id b.name_id names)
 
 same-raised : (offset : ℕ) (a b : TokenRecord) → is_same_token (raised offset a) (raised offset b) ≡ is_same_token a b
 same-raised offset a b = rw (number-moved a.dst_line b.dst_line offset)
@@ -71,11 +71,11 @@ option-zero : (a : Option ℕ) → option_map (λ i. i + 0) a ≡ a
 option-zero None = refl
 option-zero (Some i) = ap (λ j. Some j) (omega arith)
 
-behind-zero : (m : TokenRecord) → behind 0 0 m ≡ m
-behind-zero m = ap (λ o. record m { source_id = o; name_id = option_map (λ i. i + 0) m.name_id }) (option-zero m.source_id) ∙ ap (λ o. record m { name_id = o }) (option-zero m.name_id)
+after-zero : (m : TokenRecord) → after 0 0 m ≡ m
+after-zero m = ap (λ o. record m { source_id = o; name_id = option_map (λ i. i + 0) m.name_id }) (option-zero m.source_id) ∙ ap (λ o. record m { name_id = o }) (option-zero m.name_id)
 
-behind-twice : (n s n' s' n'' s'' : ℕ) → n + n' ≡ n'' → s + s' ≡ s'' → (m : TokenRecord) → behind n' s' (behind n s m) ≡ behind n'' s'' m
-behind-twice n s n' s' n'' s'' e f m =
+after-twice : (n s n' s' n'' s'' : ℕ) → n + n' ≡ n'' → s + s' ≡ s'' → (m : TokenRecord) → after n' s' (after n s m) ≡ after n'' s'' m
+after-twice n s n' s' n'' s'' e f m =
     ap (λ o. record m { source_id = o; name_id = option_map (λ i. i + n') (option_map (λ i. i + n) m.name_id) }) (option-twice m.source_id s s' s'' f)
     ∙ ap (λ o. record m { source_id = option_map (λ i. i + s'') m.source_id; name_id = o }) (option-twice m.name_id n n' n'' e)
 
@@ -100,16 +100,16 @@ together_assoc a b c =
     let n = length a.names in let s = length a.sources in
     let en : length b.names + n ≡ length (a.names ++ b.names) = simp length-append (omega arith) in
     let es : length b.sources + s ≡ length (a.sources ++ b.sources) = simp length-append (omega arith) in
-    let bs = map (behind n s) b.tokens in
-    let cs = map (behind (length b.names) (length b.sources)) c.tokens in
-    let e5 : seamed is_same_token (seamed is_same_token a.tokens bs) (map (behind (length (a.names ++ b.names)) (length (a.sources ++ b.sources))) c.tokens) ≡ seamed is_same_token a.tokens (map (behind n s) (seamed is_same_token b.tokens cs)) =
+    let bs = map (after n s) b.tokens in
+    let cs = map (after (length b.names) (length b.sources)) c.tokens in
+    let e5 : seamed is_same_token (seamed is_same_token a.tokens bs) (map (after (length (a.names ++ b.names)) (length (a.sources ++ b.sources))) c.tokens) ≡ seamed is_same_token a.tokens (map (after n s) (seamed is_same_token b.tokens cs)) =
     seamed_assoc is_same_token decides_token a.tokens bs _
-    ∙ ap (λ zs. seamed is_same_token a.tokens (seamed is_same_token bs zs)) (sym (map_twice _ _ _ (behind-twice (length b.names) (length b.sources) n s _ _ en es) c.tokens))
-    ∙ ap (seamed is_same_token a.tokens) (sym (seamed-map is_same_token is_same_token (behind n s) (same-behind n s) b.tokens cs)) in
+    ∙ ap (λ zs. seamed is_same_token a.tokens (seamed is_same_token bs zs)) (sym (map_twice _ _ _ (after-twice (length b.names) (length b.sources) n s _ _ en es) c.tokens))
+    ∙ ap (seamed is_same_token a.tokens) (sym (seamed-map is_same_token is_same_token (after n s) (same-after n s) b.tokens cs)) in
     record_by _ _ _ _ _ _ _ _ _ _ refl (append_assoc a.names b.names c.names) refl (append_assoc a.sources b.sources c.sources) (append_assoc a.source_contents b.source_contents c.source_contents) e5 refl refl refl
 
 pub nothing_together : (a : MapRecord) → together empty a ≡ parts a.names a.sources a.source_contents a.tokens
-nothing_together a = ap (parts a.names a.sources a.source_contents) (map_self _ behind-zero a.tokens)
+nothing_together a = ap (parts a.names a.sources a.source_contents) (map_self _ after-zero a.tokens)
 
 pub all_plain : (ms : List (MapRecord × ℕ)) → together empty (all_together ms) ≡ all_together ms
 all_plain [] = refl
@@ -141,7 +141,7 @@ exact_joined ms = exact_added_all nothing_joined ms (record { source_contents = 
 added-is : (r m : MapRecord) (offset : ℕ) → IsExact r → without_chunks (added r m offset) ≡ together r (alone m offset)
 added-is r m offset x =
     let e4 : fitted (length (r.sources ++ m.sources)) (r.source_contents ++ m.source_contents) ≡ r.source_contents ++ fitted (length m.sources) m.source_contents = ap (λ n. fitted n (r.source_contents ++ m.source_contents)) (length-append r.sources m.sources) ∙ fitted-more r.sources m.sources r.source_contents m.source_contents (sym x.source_contents) in
-    let e5 : added_tokens r m offset ≡ seamed is_same_token r.tokens (map (behind (length r.names) (length r.sources)) (map (raised offset) m.tokens)) = ap (seamed is_same_token r.tokens) (sym (map_twice _ _ _ (λ x. refl) m.tokens)) in
+    let e5 : added_tokens r m offset ≡ seamed is_same_token r.tokens (map (after (length r.names) (length r.sources)) (map (raised offset) m.tokens)) = ap (seamed is_same_token r.tokens) (sym (map_twice _ _ _ (λ x. refl) m.tokens)) in
     record_by _ _ _ _ _ _ _ _ _ _ refl refl refl refl e4 e5 refl refl refl
 
 pub added_all-is : (r : MapRecord) (ms : List (MapRecord × ℕ)) → IsExact r → without_chunks (added_all r ms) ≡ together r (all_together ms)
@@ -163,8 +163,8 @@ raise_together : (offset : ℕ) (a b : MapRecord) → together (raise_all offset
 raise_together offset a b =
     let n = length a.names in let s = length a.sources in
     ap (parts (a.names ++ b.names) (a.sources ++ b.sources) (a.source_contents ++ b.source_contents))
-    (ap (seamed is_same_token (map (raised offset) a.tokens)) (map_twice (raised offset) (behind n s) (λ x. raised offset (behind n s x)) (λ x. refl) b.tokens ∙ sym (map_twice (behind n s) (raised offset) (λ x. raised offset (behind n s x)) (λ x. refl) b.tokens))
-    ∙ sym (seamed-map is_same_token is_same_token (raised offset) (same-raised offset) a.tokens (map (behind n s) b.tokens)))
+    (ap (seamed is_same_token (map (raised offset) a.tokens)) (map_twice (raised offset) (after n s) (λ x. raised offset (after n s x)) (λ x. refl) b.tokens ∙ sym (map_twice (after n s) (raised offset) (λ x. raised offset (after n s x)) (λ x. refl) b.tokens))
+    ∙ sym (seamed-map is_same_token is_same_token (raised offset) (same-raised offset) a.tokens (map (after n s) b.tokens)))
 
 alone_raised : (offset : ℕ) (m : MapRecord) (o : ℕ) → alone m (o + offset) ≡ raise_all offset (alone m o)
 alone_raised offset m o = ap (parts m.names m.sources (fitted (length m.sources) m.source_contents)) (sym (map_twice (raised o) (raised offset) (raised (o + offset)) (raised-twice o offset) m.tokens))

@@ -1,9 +1,9 @@
-pub mod Squeezing
+pub mod DroppingRepeats
 pub mod Same
-pub mod AlikeSheets
+pub mod UpToRepeats
 pub mod Seams
 pub mod Joins
-pub mod JoinSheets
+pub mod JoinDecodedMaps
 pub mod JoinStands
 pub mod Compositions
 pub mod ComposedNames

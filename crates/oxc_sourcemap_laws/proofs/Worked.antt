@@ -3,12 +3,12 @@ use Rattle.std.specs.Prelude.{◌≡◌, refl, ℕ, true, false, List, [], ◌�
 use Rattle.oxc_sourcemap_mappings.specs.Token.{TokenRecord}
 use Rattle.oxc_sourcemap_parts.specs.Record.{Text, MapRecord}
 use Rattle.oxc_sourcemap_parts.specs.Views.{empty_record}
-use Rattle.oxc_sourcemap_parts.specs.Sheet.{Entry, sheet_of}
+use Rattle.oxc_sourcemap_parts.specs.DecodedMap.{DecodedMapping, decoded_map_of}
 use Rattle.oxc_sourcemap_lookup.specs.Trace.{trace}
 use Rattle.oxc_sourcemap_join.specs.Joined.{joined, shifted}
-use Rattle.oxc_sourcemap_laws.specs.Squeezed.{squeezed_sheet, Alike, is_sorted_sheet}
-use Rattle.oxc_sourcemap_laws.specs.JoinedSheets.{joined_sheets}
-use Rattle.oxc_sourcemap_laws.specs.JoinLaws.{sheets_of, Group, groups_joined, maps_of, without_chunks}
+use Rattle.oxc_sourcemap_laws.specs.Repeats.{decoded_map_without_repeats, EqualUpToRepeats, is_sorted_decoded_map}
+use Rattle.oxc_sourcemap_laws.specs.JoinedDecodedMaps.{joined_decoded_maps}
+use Rattle.oxc_sourcemap_laws.specs.JoinLaws.{decoded_maps_of, Group, groups_joined, maps_of, without_chunks}
 
 -- generated line and column, source line and column, source id, name id
 abbrev token : ℕ → ℕ → ℕ → ℕ → Option ℕ → Option ℕ → TokenRecord
@@ -20,33 +20,33 @@ abbrev plain : List Text → List TokenRecord → MapRecord
 plain sources tokens = record empty_record { sources = sources; tokens = tokens }
 
 -- an entry without origin
-abbrev unmapped : ℕ → ℕ → Entry
-unmapped dst_line dst_col = record { dst_line = dst_line; dst_col = dst_col; origin = None }
+abbrev unmapped : ℕ → ℕ → DecodedMapping
+unmapped dst_line dst_col = record { dst_line = dst_line; dst_col = dst_col; original = None }
 
 -- the second map begins, moved down, with the last token of the first
 abbrev a_seam : List (MapRecord × ℕ)
 a_seam = (plain [] (token 0 0 0 0 None None ∷ token 2 3 0 0 None None ∷ []), 0) ∷ (plain [] (token 0 3 0 0 None None ∷ token 1 9 0 0 None None ∷ []), 2) ∷ []
 
-joins-with_a_seam : (sheet_of (joined a_seam)).entries ≡ unmapped 0 0 ∷ unmapped 2 3 ∷ unmapped 3 9 ∷ []
+joins-with_a_seam : (decoded_map_of (joined a_seam)).mappings ≡ unmapped 0 0 ∷ unmapped 2 3 ∷ unmapped 3 9 ∷ []
 joins-with_a_seam = refl
 
-joins-sheets_without_a_seam : (joined_sheets (sheets_of a_seam)).entries ≡ unmapped 0 0 ∷ unmapped 2 3 ∷ unmapped 2 3 ∷ unmapped 3 9 ∷ []
-joins-sheets_without_a_seam = refl
+joins-decoded_maps_without_a_seam : (joined_decoded_maps (decoded_maps_of a_seam)).mappings ≡ unmapped 0 0 ∷ unmapped 2 3 ∷ unmapped 2 3 ∷ unmapped 3 9 ∷ []
+joins-decoded_maps_without_a_seam = refl
 
-joins-alike : Alike (sheet_of (joined a_seam)) (joined_sheets (sheets_of a_seam))
-joins-alike = refl
+joins-up_to_repeats : EqualUpToRepeats (decoded_map_of (joined a_seam)) (joined_decoded_maps (decoded_maps_of a_seam))
+joins-up_to_repeats = refl
 
-squeezes-what_repeats : (squeezed_sheet (joined_sheets (sheets_of a_seam))).entries ≡ unmapped 0 0 ∷ unmapped 2 3 ∷ unmapped 3 9 ∷ []
+squeezes-what_repeats : (decoded_map_without_repeats (joined_decoded_maps (decoded_maps_of a_seam))).mappings ≡ unmapped 0 0 ∷ unmapped 2 3 ∷ unmapped 3 9 ∷ []
 squeezes-what_repeats = refl
 
-traces-behind_what_repeats : trace (joined_sheets (sheets_of a_seam)) 2 5 ≡ Some None
-traces-behind_what_repeats = refl
+traces-after_what_repeats : trace (joined_decoded_maps (decoded_maps_of a_seam)) 2 5 ≡ Some None
+traces-after_what_repeats = refl
 
-joins-sorted : is_sorted_sheet (joined_sheets (sheets_of a_seam)) ≡ true
+joins-sorted : is_sorted_decoded_map (joined_decoded_maps (decoded_maps_of a_seam)) ≡ true
 joins-sorted = refl
 
--- a first line that joins the line of the map in front of it
-joins-not_sorted : is_sorted_sheet (joined_sheets (sheets_of ((plain [] (token 0 4 0 0 None None ∷ []), 0) ∷ (plain [] (token 0 0 0 0 None None ∷ []), 0) ∷ []))) ≡ false
+-- a first line that joins the line of the map before it
+joins-not_sorted : is_sorted_decoded_map (joined_decoded_maps (decoded_maps_of ((plain [] (token 0 4 0 0 None None ∷ []), 0) ∷ (plain [] (token 0 0 0 0 None None ∷ []), 0) ∷ []))) ≡ false
 joins-not_sorted = refl
 
 -- two groups; the only token of the second one's map is left out

@@ -6,13 +6,13 @@ use Rattle.oxc_sourcemap_mappings.specs.declared.error.Error.TheVariants.{Severa
 use Rattle.oxc_sourcemap_mappings.specs.Token.{AreInBounds}
 use Rattle.oxc_sourcemap_parts.specs.Record.{Text, MapRecord}
 use Rattle.oxc_sourcemap_parts.specs.Sound.{IsInRange, AreIdsInRange, IsSound}
-use Rattle.oxc_sourcemap_parts.specs.Sheet.{Sheet, sheet_of}
+use Rattle.oxc_sourcemap_parts.specs.DecodedMap.{DecodedMap, decoded_map_of}
 use Rattle.oxc_sourcemap_compose.specs.Composed.{composed, composition}
-use Rattle.oxc_sourcemap_laws.specs.Squeezed.{Alike}
-use Rattle.oxc_sourcemap_laws.specs.ComposedSheets.{composed_sheets}
+use Rattle.oxc_sourcemap_laws.specs.Repeats.{EqualUpToRepeats}
+use Rattle.oxc_sourcemap_laws.specs.ComposedDecodedMaps.{composed_decoded_maps}
 use Rattle.oxc_sourcemap_laws.specs.JoinLaws.{StandsFor}
 
--- ---- sheets
+-- ---- decoded maps
 -- the source ids of a map's tokens are in range
 abbrev pub AreSourceIdsInRange : MapRecord → Type 0
 AreSourceIdsInRange a = AllByRecursion (λ t. IfSome t.source_id (λ id. id < length a.sources)) a.tokens
@@ -21,22 +21,22 @@ AreSourceIdsInRange a = AllByRecursion (λ t. IfSome t.source_id (λ id. id < le
 abbrev pub AreTokensInRange : MapRecord → Type 0
 AreTokensInRange b = AllByRecursion (IsInRange (length b.names) (length b.sources)) b.tokens
 
--- Where the source ids of the first map and all ids of the second one's tokens are in range, the sheet of the composed
--- map is the composition of the sheets.
-abbrev pub SheetOfComposition : Type 0
-SheetOfComposition = (a b : MapRecord) → AreSourceIdsInRange a → AreTokensInRange b → sheet_of (composed a b) ≡ composed_sheets (sheet_of a) (sheet_of b)
+-- Where the source ids of the first map and all ids of the second one's tokens are in range, the decoded map of the composed
+-- map is the composition of the decoded maps.
+abbrev pub DecodedMapOfComposition : Type 0
+DecodedMapOfComposition = (a b : MapRecord) → AreSourceIdsInRange a → AreTokensInRange b → decoded_map_of (composed a b) ≡ composed_decoded_maps (decoded_map_of a) (decoded_map_of b)
 
--- Sheets that are alike stay alike when they are composed, on either side.
-abbrev pub CompositionKeepsAlike : Type 0
-CompositionKeepsAlike = (s s' t t' : Sheet) → Alike s s' → Alike t t' → Alike (composed_sheets s t) (composed_sheets s' t')
+-- Decoded maps that are equal up to repeats stay equal up to repeats when they are composed, on either side.
+abbrev pub CompositionKeepsEqualUpToRepeats : Type 0
+CompositionKeepsEqualUpToRepeats = (s s' t t' : DecodedMap) → EqualUpToRepeats s s' → EqualUpToRepeats t t' → EqualUpToRepeats (composed_decoded_maps s t) (composed_decoded_maps s' t')
 
--- The composition of maps that stand for sheets stands for the composition of these sheets.
+-- The composition of maps that stand for decoded maps stands for the composition of these decoded maps.
 abbrev pub CompositionStandsFor : Type 0
-CompositionStandsFor = (a b : MapRecord) (s t : Sheet) → StandsFor a s → StandsFor b t → StandsFor (composed a b) (composed_sheets s t)
+CompositionStandsFor = (a b : MapRecord) (s t : DecodedMap) → StandsFor a s → StandsFor b t → StandsFor (composed a b) (composed_decoded_maps s t)
 
--- Composition of sheets is associative.
-abbrev pub SheetsAssociative : Type 0
-SheetsAssociative = (s t u : Sheet) → composed_sheets (composed_sheets s t) u ≡ composed_sheets s (composed_sheets t u)
+-- Composition of decoded maps is associative.
+abbrev pub DecodedMapsAssociative : Type 0
+DecodedMapsAssociative = (s t u : DecodedMap) → composed_decoded_maps (composed_decoded_maps s t) u ≡ composed_decoded_maps s (composed_decoded_maps t u)
 
 -- ---- maps
 -- What is composed with a third map, and what a first map is composed with; a refusal stands.
@@ -55,29 +55,36 @@ grouped_left a b c = then_with (composition a b) c
 abbrev pub grouped_right : MapRecord → MapRecord → MapRecord → Result MapRecord Error
 grouped_right a b c = with_then a (composition b c)
 
--- For sound maps, and without regard to limits: the sheet of the composed map does not depend on the grouping.
+-- For sound maps, and without regard to limits: the decoded map of the composed map does not depend on the grouping.
 abbrev pub ComposedMapsAssociative : Type 0
-ComposedMapsAssociative = (a b c : MapRecord) → IsSound a → IsSound b → IsSound c → sheet_of (composed (composed a b) c) ≡ sheet_of (composed a (composed b c))
+ComposedMapsAssociative = (a b c : MapRecord) → IsSound a → IsSound b → IsSound c → decoded_map_of (composed (composed a b) c) ≡ decoded_map_of (composed a (composed b c))
 
--- The groupings of sound maps have equal sheets, where both give a map.
+-- The groupings of sound maps have equal decoded maps, where both give a map.
 abbrev pub CompositionAssociative : Type 0
-CompositionAssociative = (a b c : MapRecord) → IsSound a → IsSound b → IsSound c → (left right : MapRecord) → grouped_left a b c ≡ Ok left → grouped_right a b c ≡ Ok right → sheet_of left ≡ sheet_of right
+CompositionAssociative = (a b c : MapRecord) → IsSound a → IsSound b → IsSound c → (left right : MapRecord) → grouped_left a b c ≡ Ok left → grouped_right a b c ≡ Ok right → decoded_map_of left ≡ decoded_map_of right
 
 -- a refusal of a transformation map with several sources
 abbrev pub IsSeveralSources : Result MapRecord Error → Type 0
 IsSeveralSources answer = (n : ℕ) × (answer ≡ Err (SeveralSources n))
 
--- Unless an id is too large, the two groupings of sound maps are `SeveralSources` together or not at all. Neither is, where
--- the first and the second map have at most one source.
-abbrev pub GroupingsRefused : Type 0
-GroupingsRefused = (a b c : MapRecord) → IsSound a → IsSound b → IsSound c → grouped_left a b c ≢ Err TooLarge → grouped_right a b c ≢ Err TooLarge
-    → (IsSeveralSources (grouped_left a b c) ↔ IsSeveralSources (grouped_right a b c))
-    × ((length a.sources ≤ 1) → (length b.sources ≤ 1) → ((left : MapRecord) × (grouped_left a b c ≡ Ok left)) × ((right : MapRecord) × (grouped_right a b c ≡ Ok right)))
+-- Unless one of them is `TooLarge`, the two groupings of sound maps are `SeveralSources` together or not at all.
+abbrev pub GroupingsRefusedTogether : Type 0
+GroupingsRefusedTogether = (a b c : MapRecord) → IsSound a → IsSound b → IsSound c → grouped_left a b c ≢ Err TooLarge → grouped_right a b c ≢ Err TooLarge
+    → IsSeveralSources (grouped_left a b c) ↔ IsSeveralSources (grouped_right a b c)
 
--- What one answer says of another. If it is a map, the other is a map with the same sheet, or `TooLarge`; if it is
+-- an answer that is a map
+abbrev pub IsAnswered : Result MapRecord Error → Type 0
+IsAnswered answer = (m : MapRecord) × (answer ≡ Ok m)
+
+-- Unless one of them is `TooLarge`, both groupings are answered where the first and the second map have at most one source.
+abbrev pub GroupingsAnswered : Type 0
+GroupingsAnswered = (a b c : MapRecord) → IsSound a → IsSound b → IsSound c → grouped_left a b c ≢ Err TooLarge → grouped_right a b c ≢ Err TooLarge
+    → length a.sources ≤ 1 → length b.sources ≤ 1 → IsAnswered (grouped_left a b c) × IsAnswered (grouped_right a b c)
+
+-- What one answer says of another. If it is a map, the other is a map with the same decoded map, or `TooLarge`; if it is
 -- `SeveralSources`, the other is so, too, or `TooLarge`.
 pub record TellsOf (answer other : Result MapRecord Error) : Type 0 where
-  pub of_map : (m : MapRecord) → answer ≡ Ok m → (other ≡ Err TooLarge) ⊎ ((n : MapRecord) × (other ≡ Ok n) × (sheet_of m ≡ sheet_of n))
+  pub of_map : (m : MapRecord) → answer ≡ Ok m → (other ≡ Err TooLarge) ⊎ ((n : MapRecord) × (other ≡ Ok n) × (decoded_map_of m ≡ decoded_map_of n))
   pub of_several : IsSeveralSources answer → (other ≡ Err TooLarge) ⊎ IsSeveralSources other
 
 -- So each grouping of sound maps tells of the other.
@@ -100,8 +107,8 @@ CompositionNames = (a b : MapRecord) →
     × (length (composed a b).names ≤ length a.names + length b.names)
 
 -- Where an id is too large, the two maps have more names than there are ids.
-abbrev pub CompositionRoom : Type 0
-CompositionRoom = (a b : MapRecord) → composition a b ≡ Err TooLarge → 4294967295 < length a.names + length b.names
+abbrev pub CompositionTooLarge : Type 0
+CompositionTooLarge = (a b : MapRecord) → composition a b ≡ Err TooLarge → 4294967295 < length a.names + length b.names
 
 -- Where the tokens of both maps are in bounds, those of the composed map are, if there is one.
 abbrev pub CompositionInBounds : Type 0

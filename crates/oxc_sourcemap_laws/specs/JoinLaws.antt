@@ -1,4 +1,4 @@
--- What joins and squeezing leave as it is.
+-- What joins and dropping repeats leave as it is.
 use Rattle.std.specs.Prelude.{◌≡◌, ℕ, ◌+◌, ◌≤◌, Bool, true, List, [], ◌∷◌, ◌++◌, map, length, Some, None}
 use Rattle.std.specs.List.{AllByRecursion, AllZip, flat_map}
 use Rattle.oxc_sourcemap_mappings.specs.declared.token.TokenChunk.{TokenChunk}
@@ -6,68 +6,68 @@ use Rattle.oxc_sourcemap_mappings.specs.Chunks.{ChunksFit}
 use Rattle.oxc_sourcemap_parts.specs.Record.{MapRecord}
 use Rattle.oxc_sourcemap_parts.specs.Sorted.{are_tokens_sorted}
 use Rattle.oxc_sourcemap_parts.specs.Sound.{IsInRange, AreIdsInRange, IsSound}
-use Rattle.oxc_sourcemap_parts.specs.Sheet.{Entry, Sheet, sheet_of}
+use Rattle.oxc_sourcemap_parts.specs.DecodedMap.{DecodedMapping, DecodedMap, decoded_map_of}
 use Rattle.oxc_sourcemap_lookup.specs.Trace.{trace, clamped_trace}
 use Rattle.oxc_sourcemap_join.specs.Joined.{added, joined}
-use Rattle.oxc_sourcemap_laws.specs.Squeezed.{squeezed_sheet, Alike, is_sorted_sheet}
-use Rattle.oxc_sourcemap_laws.specs.JoinedSheets.{joined_sheets}
+use Rattle.oxc_sourcemap_laws.specs.Repeats.{decoded_map_without_repeats, EqualUpToRepeats, is_sorted_decoded_map}
+use Rattle.oxc_sourcemap_laws.specs.JoinedDecodedMaps.{joined_decoded_maps}
 
--- ---- squeezing
--- the two sheets have the same trace everywhere, exact and clamped
-abbrev pub HaveSameTraces : Sheet → Sheet → Type 0
+-- ---- dropping repeats
+-- the two decoded maps have the same trace everywhere, exact and clamped
+abbrev pub HaveSameTraces : DecodedMap → DecodedMap → Type 0
 HaveSameTraces s t = (line col : ℕ) → (trace s line col ≡ trace t line col) × (clamped_trace s line col ≡ clamped_trace t line col)
 
--- Squeezing changes no trace, and a sheet is sorted exactly where its squeezed one is.
-abbrev pub SqueezingHarmless : Type 0
-SqueezingHarmless = (s : Sheet) → HaveSameTraces (squeezed_sheet s) s × (is_sorted_sheet (squeezed_sheet s) ≡ is_sorted_sheet s)
+-- Dropping repeats changes no trace, and a decoded map is sorted exactly where its without repeats one is.
+abbrev pub RepeatsHarmless : Type 0
+RepeatsHarmless = (s : DecodedMap) → HaveSameTraces (decoded_map_without_repeats s) s × (is_sorted_decoded_map (decoded_map_without_repeats s) ≡ is_sorted_decoded_map s)
 
--- So sheets that are alike have the same traces.
-abbrev pub AlikeTracesSame : Type 0
-AlikeTracesSame = (s t : Sheet) → Alike s t → HaveSameTraces s t
+-- So decoded maps that are equal up to repeats have the same traces.
+abbrev pub TracesAgree : Type 0
+TracesAgree = (s t : DecodedMap) → EqualUpToRepeats s t → HaveSameTraces s t
 
 -- a test of lists of entries that does not tell an entry that stands twice in a row from one that stands there once
-abbrev pub IsBlindToRepeats : (List Entry → Bool) → Type 0
-IsBlindToRepeats test = (front : List Entry) (e : Entry) (behind : List Entry) → test (front ++ e ∷ e ∷ behind) ≡ test (front ++ e ∷ behind)
+abbrev pub IsBlindToRepeats : (List DecodedMapping → Bool) → Type 0
+IsBlindToRepeats test = (front : List DecodedMapping) (e : DecodedMapping) (after : List DecodedMapping) → test (front ++ e ∷ e ∷ after) ≡ test (front ++ e ∷ after)
 
--- Such a test has one answer for sheets that are alike.
-abbrev pub AlikeTestAlike : Type 0
-AlikeTestAlike = (test : List Entry → Bool) → IsBlindToRepeats test → (s t : Sheet) → Alike s t → test s.entries ≡ test t.entries
+-- Such a test has one answer for decoded maps that are equal up to repeats.
+abbrev pub TestsAgree : Type 0
+TestsAgree = (test : List DecodedMapping → Bool) → IsBlindToRepeats test → (s t : DecodedMap) → EqualUpToRepeats s t → test s.mappings ≡ test t.mappings
 
--- ---- joins of sheets
--- each sheet is alike to the other list's, and at the same offset
-abbrev pub AreAlike : List (Sheet × ℕ) → List (Sheet × ℕ) → Type 0
-AreAlike ss ts = AllZip (λ s t. Alike s.0 t.0 × (s.1 ≡ t.1)) ss ts
+-- ---- joins of decoded maps
+-- each decoded map is equal up to repeats to the other list's, and at the same offset
+abbrev pub AreEqualUpToRepeats : List (DecodedMap × ℕ) → List (DecodedMap × ℕ) → Type 0
+AreEqualUpToRepeats ss ts = AllZip (λ s t. EqualUpToRepeats s.0 t.0 × (s.1 ≡ t.1)) ss ts
 
--- Joins of sheets that are alike are alike.
-abbrev pub JoinKeepsAlike : Type 0
-JoinKeepsAlike = (ss ts : List (Sheet × ℕ)) → AreAlike ss ts → Alike (joined_sheets ss) (joined_sheets ts)
+-- Joins of decoded maps that are equal up to repeats are equal up to repeats.
+abbrev pub JoinKeepsEqualUpToRepeats : Type 0
+JoinKeepsEqualUpToRepeats = (ss ts : List (DecodedMap × ℕ)) → AreEqualUpToRepeats ss ts → EqualUpToRepeats (joined_decoded_maps ss) (joined_decoded_maps ts)
 
 -- ---- joins of maps
 -- the source ids and name ids of each map are in range
 abbrev pub AreAllInRange : List (MapRecord × ℕ) → Type 0
 AreAllInRange ms = AllByRecursion (λ m. AllByRecursion (IsInRange (length m.0.names) (length m.0.sources)) m.0.tokens) ms
 
--- the sheet of each map, at its offset
-abbrev pub sheets_of : List (MapRecord × ℕ) → List (Sheet × ℕ)
-sheets_of ms = map (λ m. (sheet_of m.0, m.1)) ms
+-- the decoded map of each map, at its offset
+abbrev pub decoded_maps_of : List (MapRecord × ℕ) → List (DecodedMap × ℕ)
+decoded_maps_of ms = map (λ m. (decoded_map_of m.0, m.1)) ms
 
--- Where ids are in range, the sheet of a join is alike to the join of the sheets.
-abbrev pub SheetOfJoin : Type 0
-SheetOfJoin = (ms : List (MapRecord × ℕ)) → AreAllInRange ms → Alike (sheet_of (joined ms)) (joined_sheets (sheets_of ms))
+-- Where ids are in range, the decoded map of a join is equal up to repeats to the join of the decoded maps.
+abbrev pub DecodedMapOfJoin : Type 0
+DecodedMapOfJoin = (ms : List (MapRecord × ℕ)) → AreAllInRange ms → EqualUpToRepeats (decoded_map_of (joined ms)) (joined_decoded_maps (decoded_maps_of ms))
 
--- a sound map whose sheet is alike to this one
-pub record StandsFor (r : MapRecord) (s : Sheet) : Type 0 where
+-- a sound map whose decoded map is equal up to repeats to this one
+pub record StandsFor (r : MapRecord) (s : DecodedMap) : Type 0 where
   pub sound : IsSound r
-  pub alike : Alike (sheet_of r) s
+  pub up_to_repeats : EqualUpToRepeats (decoded_map_of r) s
 
--- each map stands for the sheet in the other list, at the same offset
-abbrev pub AllStandFor : List (MapRecord × ℕ) → List (Sheet × ℕ) → Type 0
+-- each map stands for the decoded map in the other list, at the same offset
+abbrev pub AllStandFor : List (MapRecord × ℕ) → List (DecodedMap × ℕ) → Type 0
 AllStandFor ms ss = AllZip (λ m s. StandsFor m.0 s.0 × (m.1 ≡ s.1)) ms ss
 
--- A join of maps that stand for sheets is sorted exactly where the join of the sheets is, and then stands for it.
+-- A join of maps that stand for decoded maps is sorted exactly where the join of the decoded maps is, and then stands for it.
 abbrev pub JoinStandsFor : Type 0
-JoinStandsFor = (ms : List (MapRecord × ℕ)) (ss : List (Sheet × ℕ)) → AllStandFor ms ss
-    → (are_tokens_sorted (joined ms).tokens ≡ is_sorted_sheet (joined_sheets ss)) × (is_sorted_sheet (joined_sheets ss) ≡ true → StandsFor (joined ms) (joined_sheets ss))
+JoinStandsFor = (ms : List (MapRecord × ℕ)) (ss : List (DecodedMap × ℕ)) → AllStandFor ms ss
+    → (are_tokens_sorted (joined ms).tokens ≡ is_sorted_decoded_map (joined_decoded_maps ss)) × (is_sorted_decoded_map (joined_decoded_maps ss) ≡ true → StandsFor (joined ms) (joined_decoded_maps ss))
 
 -- The ids of a join are in range where those of its maps are, even where it is not sorted.
 abbrev pub JoinInRange : Type 0

@@ -1,5 +1,5 @@
-pub mod Squeezed
-pub mod JoinedSheets
+pub mod Repeats
+pub mod JoinedDecodedMaps
 pub mod JoinLaws
-pub mod ComposedSheets
+pub mod ComposedDecodedMaps
 pub mod ComposeLaws

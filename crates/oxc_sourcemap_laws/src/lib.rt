@@ -6,8 +6,8 @@
 
 ghost use Rattle.oxc_sourcemap_mappings.specs.TextLaws.{CanonicalUnique, ReadsBack, ReadsAgain, InPieces};
 ghost use Rattle.oxc_sourcemap_json.specs.MapLaws.{SoundIsWritten, SoundIsTooLarge, SoundReadsBack, SoundStaysSound, ReadIsInBounds};
-ghost use Rattle.oxc_sourcemap_laws.specs.ComposeLaws.{SheetOfComposition, CompositionKeepsAlike, CompositionStandsFor, SheetsAssociative, ComposedMapsAssociative, CompositionAssociative, GroupingsRefused, GroupingsTell, CompositionInRange, CompositionNames, CompositionTokens, CompositionRoom, CompositionInBounds};
-ghost use Rattle.oxc_sourcemap_laws.specs.JoinLaws.{SqueezingHarmless, AlikeTracesSame, AlikeTestAlike, JoinKeepsAlike, SheetOfJoin, JoinStandsFor, JoinInRange, JoinNames, JoinTokens, JoinChunksFit, JoinsAssociative, JoinOneMore};
+ghost use Rattle.oxc_sourcemap_laws.specs.ComposeLaws.{DecodedMapOfComposition, CompositionKeepsEqualUpToRepeats, CompositionStandsFor, DecodedMapsAssociative, ComposedMapsAssociative, CompositionAssociative, GroupingsRefusedTogether, GroupingsAnswered, GroupingsTell, CompositionInRange, CompositionNames, CompositionTokens, CompositionTooLarge, CompositionInBounds};
+ghost use Rattle.oxc_sourcemap_laws.specs.JoinLaws.{RepeatsHarmless, TracesAgree, TestsAgree, JoinKeepsEqualUpToRepeats, DecodedMapOfJoin, JoinStandsFor, JoinInRange, JoinNames, JoinTokens, JoinChunksFit, JoinsAssociative, JoinOneMore};
 
 /// The `mappings` text is unique, and reading undoes writing. A text leaves out the source position and the name of
 /// unmapped tokens; the list without them is the bare list.
@@ -18,7 +18,7 @@ ghost use Rattle.oxc_sourcemap_laws.specs.JoinLaws.{SqueezingHarmless, AlikeTrac
 /// - What a text reads as is in line order and in bounds, and written and read again it is the same (`reads_again`).
 /// - The pieces of fitting chunks, one after the other, are the text (`in_pieces`).
 /// - A sound map is written, up to 4294967295 tokens (`sound_is_written`); one of more is `TooLarge` (`sound_is_too_large`).
-///   What is written is read as a map with the same sheet (what a map means: its ids looked up), the same names and the
+///   What is written is read as a map with the same decoded map (what a map means: its ids looked up), the same names and the
 ///   same bare list (`sound_reads_back`). What comes back is sound, has as many tokens, and comes back a second time as it
 ///   is (`sound_stays_sound`).
 /// - The tokens of a map that a JSON text says are in bounds (`read_is_in_bounds`).
@@ -34,25 +34,25 @@ pub fn canonical_unique()
     ensures read_is_in_bounds { ReadIsInBounds }
 {}
 
-/// Leaving out what repeats the token in front of it is harmless. Squeezing leaves out of a sheet (what a map means: its
-/// ids looked up) each entry that equals the one in front of it; two sheets with one squeezed form are alike. A
+/// Leaving out what repeats the token before it is harmless. Dropping repeats leaves out of a decoded map (what a map means: its
+/// ids looked up) each entry that equals the one before it; two decoded maps with one without repeats form are equal up to repeats. A
 /// join is that of records: what a list of calls of `ConcatSourceMapBuilder` makes. It leaves out a map's first token where
 /// that equals the last token so far.
-/// - Squeezing changes no trace, exact or clamped, at any line and column, and a sheet is sorted exactly where its squeezed
-///   one is (`squeezing`). So sheets that are alike have the same traces (`alike_traces`), and one answer to every test of
-///   their entries that takes an entry that stands twice in a row as one (`alike_tests`).
-/// - Joins of sheets that are alike are alike (`joins_keep_alike`).
-/// - Where the ids of all maps are in range, the sheet of their join is alike to the join of their sheets
-///   (`sheet_of_join`), and the ids of the join are in range, sorted or not (`in_range`).
-/// - Where each map is sound and its sheet alike to a given one, the join is sorted exactly where the join of the given
-///   sheets is, and then sound, with a sheet alike to it (`stands_for`).
+/// - Dropping repeats changes no trace, exact or clamped, at any line and column, and a decoded map is sorted exactly where its without repeats
+///   one is (`repeats`). So decoded maps that are equal up to repeats have the same traces (`traces_agree`), and one answer to every test of
+///   their entries that takes an entry that stands twice in a row as one (`tests_agree`).
+/// - Joins of decoded maps that are equal up to repeats are equal up to repeats (`joins_up_to_repeats`).
+/// - Where the ids of all maps are in range, the decoded map of their join is equal up to repeats to the join of their decoded maps
+///   (`decoded_map_of_join`), and the ids of the join are in range, sorted or not (`in_range`).
+/// - Where each map is sound and its decoded map equal up to repeats to a given one, the join is sorted exactly where the join of the given
+///   decoded maps is, and then sound, with a decoded map equal up to repeats to it (`stands_for`).
 /// - The names of a join are those of its maps, in order (`names`), and it has no more tokens than they (`tokens`).
 pub fn dropping_harmless()
-    ensures squeezing { SqueezingHarmless }
-    ensures alike_traces { AlikeTracesSame }
-    ensures alike_tests { AlikeTestAlike }
-    ensures joins_keep_alike { JoinKeepsAlike }
-    ensures sheet_of_join { SheetOfJoin }
+    ensures repeats { RepeatsHarmless }
+    ensures traces_agree { TracesAgree }
+    ensures tests_agree { TestsAgree }
+    ensures joins_up_to_repeats { JoinKeepsEqualUpToRepeats }
+    ensures decoded_map_of_join { DecodedMapOfJoin }
     ensures in_range { JoinInRange }
     ensures stands_for { JoinStandsFor }
     ensures names { JoinNames }
@@ -60,7 +60,7 @@ pub fn dropping_harmless()
 {}
 
 /// Joins may be grouped. The maps are any maps, sound or not.
-/// - Maps may be joined in groups and the groups then joined: chunks aside, this is the join of them all, one behind the
+/// - Maps may be joined in groups and the groups then joined: chunks aside, this is the join of them all, one after the
 ///   other, with both offsets of each added (`associative`). Groups may be empty, or end up
 ///   empty because their first token is left out. Lines and ids are numbers without limit here.
 /// - Joining one map more is adding it to the join of the others (`one_more`), so a caller that adds maps in a loop joins them.
@@ -72,36 +72,37 @@ pub fn joins_associative()
     ensures chunks_fit { JoinChunksFit }
 {}
 
-/// Composition is associative. It is that of records, as `SourceMap::compose` makes it, and of sheets, where names and
+/// Composition is associative. It is that of records, as `SourceMap::compose` makes it, and of decoded maps, where names and
 /// sources stand for their ids.
-/// - Where the source ids of the first map and the ids of the second one's tokens are in range, the sheet of the composed
-///   map is the composition of the sheets (`sheet_of_composition`).
-/// - Sheets that are alike stay alike when they are composed, on either side (`keeps_alike`). Where two maps are sound and
-///   their sheets alike to given ones, the composed map is sound, with a sheet alike to the composition of the given
-///   sheets (`stands_for`).
-/// - Composition of sheets is associative (`sheets`). So both groupings of three sound maps, the first two
+/// - Where the source ids of the first map and the ids of the second one's tokens are in range, the decoded map of the composed
+///   map is the composition of the decoded maps (`decoded_map_of_composition`).
+/// - Decoded maps that are equal up to repeats stay equal up to repeats when they are composed, on either side (`keeps_up_to_repeats`). Where two maps are sound and
+///   their decoded maps equal up to repeats to given ones, the composed map is sound, with a decoded map equal up to repeats to the composition of the given
+///   decoded maps (`stands_for`).
+/// - Composition of decoded maps is associative (`decoded_maps`). So both groupings of three sound maps, the first two
 ///   composed first or the last two, mean the same: as records, without regard to limits (`composed_maps`), and as answers,
 ///   where both give a map (`associative`). Lists of names and ids may differ.
-/// - Unless an id of a name is too large, the groupings are `SeveralSources` together or not at all; which number is told
-///   may differ. Where the first and the second map have at most one source, neither is refused
-///   (`refused`). Each grouping tells of the other (`tell`): if one is a map, the other is a map that means the same, or
+/// - Unless an id of a name is too large, the groupings are `SeveralSources` together or not at all; which number is reported
+///   may differ (`refused`). Where the first and the second map have at most one source, both are answered (`answered`).
+///   Each grouping tells of the other (`tell`): if one is a map, the other is a map that means the same, or
 ///   `TooLarge`; if one is `SeveralSources`, the other is so, too, or `TooLarge`.
 /// - The ids of a composed map are in range where those of the second map are (`in_range`). Its names are names of the two
 ///   maps, and at most as many as they have together (`names`); it has as many tokens as the first map (`tokens`). An id is
-///   too large only where the two maps have more than 4294967295 names (`room`). Its tokens are in bounds where those of the
+///   too large only where the two maps have more than 4294967295 names (`too_large`). Its tokens are in bounds where those of the
 ///   two maps are (`in_bounds`).
 pub fn composition_associative()
-    ensures sheet_of_composition { SheetOfComposition }
-    ensures keeps_alike { CompositionKeepsAlike }
+    ensures decoded_map_of_composition { DecodedMapOfComposition }
+    ensures keeps_up_to_repeats { CompositionKeepsEqualUpToRepeats }
     ensures stands_for { CompositionStandsFor }
-    ensures sheets { SheetsAssociative }
+    ensures decoded_maps { DecodedMapsAssociative }
     ensures composed_maps { ComposedMapsAssociative }
     ensures associative { CompositionAssociative }
-    ensures refused { GroupingsRefused }
+    ensures refused { GroupingsRefusedTogether }
+    ensures answered { GroupingsAnswered }
     ensures tell { GroupingsTell }
     ensures in_range { CompositionInRange }
     ensures names { CompositionNames }
     ensures tokens { CompositionTokens }
-    ensures room { CompositionRoom }
+    ensures too_large { CompositionTooLarge }
     ensures in_bounds { CompositionInBounds }
 {}

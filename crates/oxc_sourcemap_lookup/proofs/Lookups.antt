@@ -14,7 +14,7 @@ abbrev pub walked : ℕ → Option TokenRecord → List TokenRecord → Option T
 walked col found [] = found
 walked col found (t ∷ ts) = match_ordering (nat_cmp t.dst_col col) (walked col (Some t) ts) (Some t) found
 
--- what stands behind x has no smaller column
+-- what stands after x has no smaller column
 abbrev AreNotBefore : {A : Type 0} → (A → ℕ) → A → List A → Type 0
 AreNotBefore column x ys = AllByRecursion (λ y. column x ≤ column y) ys
 
@@ -97,7 +97,7 @@ front_among column col x (y ∷ ys) h all =
 here_among : {A : Type 0} (column : A → ℕ) (col : ℕ) (x : A) (rest : List A) → column x ≡ col → greatest column rest ≤ col → at_among column col (x ∷ rest) ≡ Some x
 here_among column col x rest h le = grind (arith, h, le)
 
--- where columns go on: an item in front of the asked column gives way, one at it is the answer, and one past it ends the search
+-- where columns go on: an item before the asked column gives way, one at it is the answer, and one past it ends the search
 at-front : {A : Type 0} (column : A → ℕ) (col : ℕ) (x : A) (ys : List A) → column x < col → AreNotBefore column x ys → at column (x ∷ ys) col ≡ option_or (at column ys col) (Some x)
 at-front column col x ys h all =
     let passes : not_past column col (x ∷ ys) ≡ x ∷ not_past column col ys = grind (arith, h) in

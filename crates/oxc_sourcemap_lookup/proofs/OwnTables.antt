@@ -20,21 +20,21 @@ row-past f a zero i d h = grind (arith, h)
 row-past f a (suc n) zero d h = absurd (omega (arith, h))
 row-past f a (suc n) (suc i) d h = row-past f (a + 1) n i d (omega (arith, h))
 
--- nothing lies behind the last token's line
+-- nothing lies after the last token's line
 last-reached : (t : TokenRecord) (ts : List TokenRecord) → IsFrom t.dst_line ts → t.dst_line < lines_through (last_or (Some t) ts)
 last-reached t [] p = omega arith
 last-reached t (u ∷ us) p = omega (arith, p.0, last-reached u us p.1)
 
-on_line-behind : (n : ℕ) (t : TokenRecord) (ts : List TokenRecord) → IsFrom t.dst_line ts → lines_through (last_or (Some t) ts) ≤ n → on_line token_line n (t ∷ ts) ≡ []
-on_line-behind n t [] p h = grind (arith, h)
-on_line-behind n t (u ∷ us) p h =
+on_line-after : (n : ℕ) (t : TokenRecord) (ts : List TokenRecord) → IsFrom t.dst_line ts → lines_through (last_or (Some t) ts) ≤ n → on_line token_line n (t ∷ ts) ≡ []
+on_line-after n t [] p h = grind (arith, h)
+on_line-after n t (u ∷ us) p h =
     let reached = last-reached t (u ∷ us) p in
-    let rest = on_line-behind n u us p.1 h in
+    let rest = on_line-after n u us p.1 h in
     grind (arith, reached, h, rest)
 
-none-behind : (n : ℕ) (ts : List TokenRecord) → first_out_of_order ts ≡ None → lines_through (last ts) ≤ n → on_line token_line n ts ≡ []
-none-behind n [] p h = refl
-none-behind n (t ∷ ts) p h = on_line-behind n t ts (in_order-from_0 (t ∷ ts) p).1 h
+none-after : (n : ℕ) (ts : List TokenRecord) → first_out_of_order ts ≡ None → lines_through (last ts) ≤ n → on_line token_line n ts ≡ []
+none-after n [] p h = refl
+none-after n (t ∷ ts) p h = on_line-after n t ts (in_order-from_0 (t ∷ ts) p).1 h
 
 table-is-by : (o : Option ℕ) (tokens : List TokenRecord) (table : List (List TokenRecord)) → table_unless o tokens ≡ Ok table → (o ≡ None) × (tokens_by_line tokens ≡ table)
 table-is-by None tokens table h = (refl, cc (h))
@@ -44,7 +44,7 @@ row-by_line-of : (b : Bool) (n : ℕ) (tokens : List TokenRecord) → first_out_
 row-by_line-of true n tokens p e = row-of (λ n. on_line token_line n tokens) 0 (lines_through (last tokens)) n [] (grind (arith, e)) ∙ ap (λ i. on_line token_line i tokens) (omega arith)
 row-by_line-of false n tokens p e =
     let le : lines_through (last tokens) ≤ n = grind (arith, e) in
-    row-past (λ n. on_line token_line n tokens) 0 (lines_through (last tokens)) n [] le ∙ sym (none-behind n tokens p le)
+    row-past (λ n. on_line token_line n tokens) 0 (lines_through (last tokens)) n [] le ∙ sym (none-after n tokens p le)
 
 pub row-by_line : (n : ℕ) (tokens : List TokenRecord) → first_out_of_order tokens ≡ None → slice_of (tokens_by_line tokens) n ≡ on_line token_line n tokens
 row-by_line n tokens p = row-by_line-of (nat_lt n (lines_through (last tokens))) n tokens p refl

@@ -15,7 +15,7 @@ pub last_at : {A : Type 0} (xs : List A) → last xs ≡ slice_get xs (length xs
 last_at [] = refl
 last_at (x ∷ xs) = last_or-at x xs ∙ ap (slice_get (x ∷ xs)) (omega arith)
 
--- no token lies on a line before that of the token in front, nor before this one
+-- no token lies on a line before that of the token before, nor before this one
 abbrev pub IsFrom : ℕ → List TokenRecord → Type 0
 IsFrom from [] = Unit {0}
 IsFrom from (t ∷ ts) = (from ≤ t.dst_line) × IsFrom t.dst_line ts
@@ -59,7 +59,7 @@ left_at : (b : Bool) (line n : ℕ) (t : TokenRecord) (ts : List TokenRecord) �
 left_at true line n t ts e p more = rw (drop-one n (1 + n) t ts (omega arith)) more
 left_at false line n t ts e p more = (grind (arith, e, p.0), p.1)
 
--- what is left begins behind the line
+-- what is left begins after the line
 pub left : (line : ℕ) (ts : List TokenRecord) → IsFrom line ts → IsFrom (line + 1) (drop (prefix_len (λ t. t.dst_line == line) ts) ts)
 left line [] p = p
 left line (t ∷ ts) p = left_at (t.dst_line == line) line (prefix_len (λ t. t.dst_line == line) ts) t ts refl p (left line ts (IsFrom-le line t.dst_line ts p.0 p.1))

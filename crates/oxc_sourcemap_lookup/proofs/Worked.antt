@@ -5,7 +5,7 @@ use Rattle.oxc_sourcemap_mappings.specs.Token.{TokenRecord}
 use Rattle.oxc_sourcemap_parts.specs.Record.{MapRecord}
 use Rattle.oxc_sourcemap_parts.specs.Views.{empty_record}
 use Rattle.oxc_sourcemap_parts.specs.Sorted.{token_line, token_column}
-use Rattle.oxc_sourcemap_parts.specs.Sheet.{sheet_of}
+use Rattle.oxc_sourcemap_parts.specs.DecodedMap.{decoded_map_of}
 use Rattle.oxc_sourcemap_lookup.specs.Lookup.{pick, clamped_pick, line_table}
 use Rattle.oxc_sourcemap_lookup.specs.Trace.{trace}
 
@@ -14,7 +14,7 @@ abbrev token : ℕ → ℕ → ℕ → ℕ → Option ℕ → Option ℕ → Tok
 token dst_line dst_col src_line src_col source_id name_id =
     record { dst_line = dst_line; dst_col = dst_col; src_line = src_line; src_col = src_col; source_id = source_id; name_id = name_id }
 
--- one token in front of five at one column
+-- one token before five at one column
 abbrev five_equal : List TokenRecord
 five_equal =
     token 0 0 9 9 (Some 0) None
@@ -28,14 +28,14 @@ five_equal =
 looks_up-the_first_of_equal_columns : pick token_line token_column five_equal 0 7 ≡ Some (token 0 7 1 0 (Some 0) None)
 looks_up-the_first_of_equal_columns = refl
 
-looks_up-the_last_behind_equal_columns : pick token_line token_column five_equal 0 8 ≡ Some (token 0 7 5 0 (Some 0) None)
-looks_up-the_last_behind_equal_columns = refl
+looks_up-the_last_after_equal_columns : pick token_line token_column five_equal 0 8 ≡ Some (token 0 7 5 0 (Some 0) None)
+looks_up-the_last_after_equal_columns = refl
 
 looks_up-nothing_on_another_line : clamped_pick token_line token_column five_equal 1 8 ≡ None
 looks_up-nothing_on_another_line = refl
 
-looks_up-nothing_in_front : pick token_line token_column (token 0 5 0 0 None None ∷ []) 0 0 ≡ None
-looks_up-nothing_in_front = refl
+looks_up-nothing_before : pick token_line token_column (token 0 5 0 0 None None ∷ []) 0 0 ≡ None
+looks_up-nothing_before = refl
 
 looks_up-the_first_when_clamped : clamped_pick token_line token_column (token 0 5 0 0 None None ∷ []) 0 0 ≡ Some (token 0 5 0 0 None None)
 looks_up-the_first_when_clamped = refl
@@ -56,11 +56,11 @@ named = record empty_record {
   tokens = token 0 0 0 0 (Some 0) None ∷ token 0 3 0 4 (Some 0) (Some 0) ∷ token 0 9 0 0 None None ∷ [];
 }
 
-traces-a_name : trace (sheet_of named) 0 5 ≡ Some (Some (record { source = record { path = codes "coolstuff.js"; content = None }; src_line = 0; src_col = 4; name = Some (codes "x") }))
+traces-a_name : trace (decoded_map_of named) 0 5 ≡ Some (Some (record { source = record { path = codes "coolstuff.js"; content = None }; src_line = 0; src_col = 4; name = Some (codes "x") }))
 traces-a_name = refl
 
-traces-an_unmapped_token : trace (sheet_of named) 0 9 ≡ Some None
+traces-an_unmapped_token : trace (decoded_map_of named) 0 9 ≡ Some None
 traces-an_unmapped_token = refl
 
-traces-nothing : trace (sheet_of named) 1 0 ≡ None
+traces-nothing : trace (decoded_map_of named) 1 0 ≡ None
 traces-nothing = refl

@@ -53,7 +53,7 @@ pick line column items n col = at column (on_line line n items) col
 abbrev pub clamped_pick : {A : Type 0} → (A → ℕ) → (A → ℕ) → List A → ℕ → ℕ → Option A
 clamped_pick line column items n col = clamped_at column (on_line line n items) col
 
--- no item's column is smaller than that of the item in front of it
+-- no item's column is smaller than that of the item before it
 abbrev pub no_column_goes_back : {A : Type 0} → (A → ℕ) → List A → Bool
 no_column_goes_back column [] = true
 no_column_goes_back column (x ∷ []) = true
@@ -68,7 +68,7 @@ lines_through (Some t) = t.dst_line + 1
 abbrev pub tokens_by_line : List TokenRecord → List (List TokenRecord)
 tokens_by_line tokens = map (λ n. on_line token_line n tokens) (range_with_len 0 (lines_through (last tokens)))
 
--- the lookup table of a list of tokens, unless one lies on a line before that of the token in front
+-- the lookup table of a list of tokens, unless one lies on a line before that of the token before
 abbrev pub table_unless : Option ℕ → List TokenRecord → Result (List (List TokenRecord)) Error
 table_unless None tokens = Ok (tokens_by_line tokens)
 table_unless (Some i) tokens = Err (LineOrder i)

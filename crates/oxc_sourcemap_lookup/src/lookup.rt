@@ -106,7 +106,7 @@ pub fn search_clamped(line: &[Token], col: u32) -> Option<Token>
 /// The lookup table of tokens: for each generated line up to the last token's, the tokens on it, lent, in order. Without
 /// tokens it has no slices.
 ///
-/// Refused as `LineOrder(i)` for the first token whose line is smaller than that of the token in front, and as
+/// Refused as `LineOrder(i)` for the first token whose line is smaller than that of the token before, and as
 /// `OutOfMemory` where memory is refused.
 pub fn lookup_table(alloc: Global, tokens: &[Token]) -> Result<Vec<&[Token]>>
     ensures table { IfOk result (λ table. line_table tokens.now ≡ Ok (map (λ s. s.now) table.items)) }

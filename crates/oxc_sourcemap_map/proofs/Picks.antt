@@ -1,31 +1,31 @@
--- What a view of a token says, against the sheet of its map.
+-- What a view of a token says, against the decoded map of its map.
 use Rattle.std.proofs.Common.{◌≡◌, ℕ, List, [], ◌∷◌, refl, sym, ap, ◌∙◌, Option, Some, None, zero, suc, slice_get, MatchOption}
 use Rattle.std.specs.Option.{option_map, option_and_then}
 use Rattle.oxc_sourcemap_parts.specs.Record.{Text, MapRecord}
 use Rattle.oxc_sourcemap_parts.specs.Sorted.{token_line, token_column}
-use Rattle.oxc_sourcemap_parts.specs.Sheet.{Source, Origin, sheet_of, sources_of, origin_at, entry_of}
-use Rattle.oxc_sourcemap_map.specs.View.{ViewRecord, seen_in, view_source, view_name, view_origin}
+use Rattle.oxc_sourcemap_parts.specs.DecodedMap.{DecodedSource, OriginalPosition, decoded_map_of, sources_of, original_at, mapping_of}
+use Rattle.oxc_sourcemap_map.specs.View.{ViewRecord, seen_in, view_source, view_name, view_original}
 use Rattle.oxc_sourcemap_lookup.proofs.Picks.{pick-map, clamped_pick-map}
 use Rattle.oxc_sourcemap_lookup.specs.Lookup.{pick, clamped_pick}
 use Rattle.oxc_sourcemap_lookup.specs.Trace.{trace, clamped_trace}
-use Rattle.oxc_sourcemap_parts.specs.Sheet.{entry_line, entry_column}
+use Rattle.oxc_sourcemap_parts.specs.DecodedMap.{mapping_line, mapping_column}
 
 twice : {A B C : Type 0} (g : B → C) (f : A → B) (o : Option A) → option_map g (option_map f o) ≡ option_map (λ x. g (f x)) o
 twice g f None = refl
 twice g f (Some x) = refl
 
--- what a map's sheet says of a position is what its token found there points to
-pub traced : (r : MapRecord) (line col : ℕ) → option_map view_origin (option_map (seen_in r) (pick token_line token_column r.tokens line col)) ≡ trace (sheet_of r) line col
+-- what a map's decoded map says of a position is what its token found there points to
+pub traced : (r : MapRecord) (line col : ℕ) → option_map view_original (option_map (seen_in r) (pick token_line token_column r.tokens line col)) ≡ trace (decoded_map_of r) line col
 traced r line col =
-    let f = entry_of (sources_of r.sources r.source_contents) r.names in
-    twice view_origin (seen_in r) _
-    ∙ sym (ap (option_map (λ e. e.origin)) (pick-map f entry_line entry_column r.tokens line col) ∙ twice (λ e. e.origin) f _)
+    let f = mapping_of (sources_of r.sources r.source_contents) r.names in
+    twice view_original (seen_in r) _
+    ∙ sym (ap (option_map (λ e. e.original)) (pick-map f mapping_line mapping_column r.tokens line col) ∙ twice (λ e. e.original) f _)
 
-pub clamped_traced : (r : MapRecord) (line col : ℕ) → option_map view_origin (option_map (seen_in r) (clamped_pick token_line token_column r.tokens line col)) ≡ clamped_trace (sheet_of r) line col
+pub clamped_traced : (r : MapRecord) (line col : ℕ) → option_map view_original (option_map (seen_in r) (clamped_pick token_line token_column r.tokens line col)) ≡ clamped_trace (decoded_map_of r) line col
 clamped_traced r line col =
-    let f = entry_of (sources_of r.sources r.source_contents) r.names in
-    twice view_origin (seen_in r) _
-    ∙ sym (ap (option_map (λ e. e.origin)) (clamped_pick-map f entry_line entry_column r.tokens line col) ∙ twice (λ e. e.origin) f _)
+    let f = mapping_of (sources_of r.sources r.source_contents) r.names in
+    twice view_original (seen_in r) _
+    ∙ sym (ap (option_map (λ e. e.original)) (clamped_pick-map f mapping_line mapping_column r.tokens line col) ∙ twice (λ e. e.original) f _)
 
 -- the paths of sources are those listed
 source-path : (paths : List Text) (contents : List (Option Text)) (i : ℕ) → option_map (λ s. s.path) (slice_get (sources_of paths contents) i) ≡ slice_get paths i
@@ -36,27 +36,27 @@ source-path (path ∷ paths) (content ∷ contents) zero = refl
 source-path (path ∷ paths) (content ∷ contents) (suc i) = source-path paths contents i
 
 -- what a view's texts say is what its token points to
-abbrev SaysOrigin : ViewRecord → Option Text → Option Origin → Type 0
-SaysOrigin v source origin = MatchOption origin (source ≡ None) (λ o. (source ≡ Some o.source.path) × (v.token.src_line ≡ o.src_line) × (v.token.src_col ≡ o.src_col) × (view_name v ≡ o.name))
+abbrev SaysOrigin : ViewRecord → Option Text → Option OriginalPosition → Type 0
+SaysOrigin v source original = MatchOption original (source ≡ None) (λ o. (source ≡ Some o.source.path) × (v.token.src_line ≡ o.src_line) × (v.token.src_col ≡ o.src_col) × (view_name v ≡ o.name))
 
-says-by : (v : ViewRecord) (source : Option Source) (path : Option Text) → option_map (λ s. s.path) source ≡ path → SaysOrigin v path (option_map (origin_at v.map.names v.token) source)
+says-by : (v : ViewRecord) (source : Option DecodedSource) (path : Option Text) → option_map (λ s. s.path) source ≡ path → SaysOrigin v path (option_map (original_at v.map.names v.token) source)
 says-by v None path e = sym e
 says-by v (Some s) path e = (sym e, refl, refl, refl)
 
-says-id : (v : ViewRecord) (id : Option ℕ) → SaysOrigin v (option_and_then (slice_get v.map.sources) id) (option_map (origin_at v.map.names v.token) (option_and_then (slice_get (sources_of v.map.sources v.map.source_contents)) id))
+says-id : (v : ViewRecord) (id : Option ℕ) → SaysOrigin v (option_and_then (slice_get v.map.sources) id) (option_map (original_at v.map.names v.token) (option_and_then (slice_get (sources_of v.map.sources v.map.source_contents)) id))
 says-id v None = refl
 says-id v (Some i) = says-by v (slice_get (sources_of v.map.sources v.map.source_contents) i) (slice_get v.map.sources i) (source-path v.map.sources v.map.source_contents i)
 
-says_origin : (v : ViewRecord) → SaysOrigin v (view_source v) (view_origin v)
+says_origin : (v : ViewRecord) → SaysOrigin v (view_source v) (view_original v)
 says_origin v = says-id v v.token.source_id
 
-says-as : (v : ViewRecord) (source : Option Text) (line col : ℕ) (name : Option Text) (origin : Option Origin)
-    → source ≡ view_source v → line ≡ v.token.src_line → col ≡ v.token.src_col → name ≡ view_name v → SaysOrigin v (view_source v) origin
-    → MatchOption origin (source ≡ None) (λ o. (source ≡ Some o.source.path) × (line ≡ o.src_line) × (col ≡ o.src_col) × (name ≡ o.name))
+says-as : (v : ViewRecord) (source : Option Text) (line col : ℕ) (name : Option Text) (original : Option OriginalPosition)
+    → source ≡ view_source v → line ≡ v.token.src_line → col ≡ v.token.src_col → name ≡ view_name v → SaysOrigin v (view_source v) original
+    → MatchOption original (source ≡ None) (λ o. (source ≡ Some o.source.path) × (line ≡ o.src_line) × (col ≡ o.src_col) × (name ≡ o.name))
 says-as v source line col name None p q r s k = p ∙ k
 says-as v source line col name (Some o) p q r s k = (p ∙ k.0, q ∙ k.1, r ∙ k.2, s ∙ k.3)
 
 pub tuple_says : (v : ViewRecord) (source : Option Text) (line col : ℕ) (name : Option Text)
     → source ≡ view_source v → line ≡ v.token.src_line → col ≡ v.token.src_col → name ≡ view_name v
-    → MatchOption (view_origin v) (source ≡ None) (λ o. (source ≡ Some o.source.path) × (line ≡ o.src_line) × (col ≡ o.src_col) × (name ≡ o.name))
-tuple_says v source line col name p q r s = says-as v source line col name (view_origin v) p q r s (says_origin v)
+    → MatchOption (view_original v) (source ≡ None) (λ o. (source ≡ Some o.source.path) × (line ≡ o.src_line) × (col ≡ o.src_col) × (name ≡ o.name))
+tuple_says v source line col name p q r s = says-as v source line col name (view_original v) p q r s (says_origin v)

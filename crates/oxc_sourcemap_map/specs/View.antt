@@ -3,7 +3,7 @@ use Rattle.std.specs.Prelude.{ℕ, List, slice_get, Option}
 use Rattle.std.specs.Option.{option_and_then, option_zip}
 use Rattle.oxc_sourcemap_mappings.specs.Token.{TokenRecord}
 use Rattle.oxc_sourcemap_parts.specs.Record.{Text, MapRecord}
-use Rattle.oxc_sourcemap_parts.specs.Sheet.{Origin, sources_of, origin_of, name_of}
+use Rattle.oxc_sourcemap_parts.specs.DecodedMap.{OriginalPosition, sources_of, original_of, name_of}
 use Rattle.oxc_sourcemap_map.specs.declared.source_view_token.SourceViewToken.{SourceViewToken}
 
 -- a token of a map
@@ -41,5 +41,5 @@ abbrev pub view_source_and_content : ViewRecord → Option (Text × Text)
 view_source_and_content v = option_zip (view_source v) (view_content v)
 
 -- what its token points to there
-abbrev pub view_origin : ViewRecord → Option Origin
-view_origin v = origin_of (sources_of v.map.sources v.map.source_contents) v.map.names v.token
+abbrev pub view_original : ViewRecord → Option OriginalPosition
+view_original v = original_of (sources_of v.map.sources v.map.source_contents) v.map.names v.token

@@ -4,7 +4,7 @@ ghost use Rattle.std.specs.Prelude.{◌≡◌, ◌≢◌, true, Some, IfOk, IfEr
 ghost use Rattle.oxc_sourcemap_mappings.specs.declared.error.Error.{Error};
 ghost use Rattle.oxc_sourcemap_mappings.specs.declared.error.Error.TheVariants.{OutOfMemory};
 ghost use Rattle.oxc_sourcemap_parts.specs.Sorted.{are_tokens_sorted};
-ghost use Rattle.oxc_sourcemap_compose.specs.Composed.{composition, composition_fault, SomeComposition, ColumnsGoOn};
+ghost use Rattle.oxc_sourcemap_compose.specs.Composed.{composition, composition_fault, SomeComposition, NoColumnGoesBack};
 
 use crate::sourcemap::SourceMap;
 use oxc_sourcemap_compose::compose_parts;
@@ -23,30 +23,30 @@ impl<'a> SourceMap<'a> {
     ///   name of this map's token, if that has one in range.
     ///
     /// File and debug id are those of this map; source root, sources, contents and ignore list those of `input`. Names are
-    /// those of `input`, and behind them the ones taken from this map that are new. There are no chunks. Where columns go
+    /// those of `input`, and after them the ones taken from this map that are new. There are no chunks. Where columns go
     /// back on a line of `input`, it is open which token of that line is found, if any.
     ///
-    /// Refused in this order; both maps are then dropped:
+    /// Fails in this order; both maps are then dropped:
     /// - `SeveralSources(n)` where this map has n sources, and n is above 1;
-    /// - `LineOrder(i)` for the first token i of `input` whose line is smaller than that of the token in front;
+    /// - `LineOrder(i)` for the first token i of `input` whose line is smaller than that of the token before;
     /// - `TooLarge` where a name taken from this map would have an id above 4294967294;
-    /// - `OutOfMemory` where memory is refused.
+    /// - `OutOfMemory` if memory is refused.
     ///
-    /// The first two are found before any memory is asked for, and told wherever they hold.
+    /// The first two are found before any memory is asked for, and reported wherever they hold.
     #[tactic(auto, using(oxc_sourcemap_lookup::proofs::OwnTables::line_goes_on))]
     pub fn compose<'input>(
         self,
         alloc: Global,
         input: SourceMap<'input>,
     ) -> Result<SourceMap<'input>>
-        ensures map { ColumnsGoOn input.entry.tokens → IfOk result (λ map. composition self.entry input.entry ≡ Ok map) }
-        ensures refused { ColumnsGoOn input.entry.tokens → IfErr result (λ e. (e ≢ OutOfMemory) → composition self.entry input.entry ≡ Err e) }
+        ensures map { NoColumnGoesBack input.entry.tokens → IfOk result (λ map. composition self.entry input.entry ≡ Ok map) }
+        ensures refused { NoColumnGoesBack input.entry.tokens → IfErr result (λ e. (e ≢ OutOfMemory) → composition self.entry input.entry ≡ Err e) }
         ensures any_map { IfOk result (λ map. SomeComposition self.entry input.entry (Ok map)) }
         ensures any_refused { IfErr result (λ e. (e ≢ OutOfMemory) → SomeComposition self.entry input.entry (Err e)) }
         ensures fault { (e : Error) → composition_fault self.entry input.entry ≡ Some e → result ≡ Err e }
 
         // True of every list, and stated here for callers that need it.
-        ensures sorted_goes_on { are_tokens_sorted input.entry.tokens ≡ true → ColumnsGoOn input.entry.tokens }
+        ensures sorted_goes_on { are_tokens_sorted input.entry.tokens ≡ true → NoColumnGoesBack input.entry.tokens }
     {
         let parts = compose_parts(alloc, self.parts, input.parts)?;
         Ok(SourceMap::from_parts(parts))

@@ -3,10 +3,10 @@ ghost use Rattle.std.specs.Prelude.{◌≡◌, ◌≢◌, ℕ, ◌<◌, ◌≤�
 ghost use Rattle.std.specs.List.{Contains};
 ghost use Rattle.oxc_sourcemap_mappings.specs.declared.error.Error.TheVariants.{OutOfMemory};
 ghost use Rattle.oxc_sourcemap_parts.specs.Sorted.{are_tokens_sorted, token_line, token_column};
-ghost use Rattle.oxc_sourcemap_parts.specs.Sheet.{sheet_of};
+ghost use Rattle.oxc_sourcemap_parts.specs.DecodedMap.{decoded_map_of};
 ghost use Rattle.oxc_sourcemap_lookup.specs.Lookup.{at, clamped_at, pick, clamped_pick, no_column_goes_back, line_table, slice_of};
 ghost use Rattle.oxc_sourcemap_lookup.specs.Trace.{trace, clamped_trace};
-ghost use Rattle.oxc_sourcemap_map.specs.View.{view_of, seen_in, view_origin};
+ghost use Rattle.oxc_sourcemap_map.specs.View.{view_of, seen_in, view_original};
 
 use crate::source_view_token::SourceViewToken;
 use crate::sourcemap::SourceMap;
@@ -22,11 +22,11 @@ impl<'a> SourceMap<'a> {
         Some(SourceViewToken::new(token?, self))
     }
 
-    /// The lookup table: for each generated line up to the last token's, the tokens on it, lent from this map, in order.
-    /// Without tokens it has no slices.
+    /// The lookup table: for each generated line up to the last token's, the tokens on it, borrowed from this map, in
+    /// order. Without tokens it has no slices.
     ///
-    /// Refused as `LineOrder(i)` for the first token whose line is smaller than that of the token in front, and as
-    /// `OutOfMemory` where memory is refused; the table takes a slice for each line, with tokens or without.
+    /// Fails with `LineOrder(i)` for the first token whose line is smaller than that of the token before, and with
+    /// `OutOfMemory` if memory is refused; the table takes a slice for each line, with tokens or without.
     pub fn generate_lookup_table(&self, alloc: Global) -> Result<Vec<&[Token]>>
         ensures table { IfOk result (λ table. line_table self.now.tokens ≡ Ok (map (λ s. s.now) table.items)) }
         ensures refused { IfErr result (λ e. (e ≢ OutOfMemory) → line_table self.now.tokens ≡ Err e) }
@@ -77,12 +77,12 @@ impl<'a> SourceMap<'a> {
         ensures own_table { are_tokens_sorted self.now.tokens ≡ true → line_table self.now.tokens ≡ Ok (map (λ s. s.now) lookup_table.now)
             → option_map view_of result ≡ option_map (seen_in self.now) (pick token_line token_column self.now.tokens line col) }
         ensures traced { are_tokens_sorted self.now.tokens ≡ true → line_table self.now.tokens ≡ Ok (map (λ s. s.now) lookup_table.now)
-            → option_map view_origin (option_map view_of result) ≡ trace (sheet_of self.now) line col }
+            → option_map view_original (option_map view_of result) ≡ trace (decoded_map_of self.now) line col }
     {
         self.seen(self.lookup_token(lookup_table, line, col))
     }
 
-    /// As `lookup_token`, but in place of None the first token of the line: so a mapping stands in for what lies in front of
+    /// As `lookup_token`, but in place of None the first token of the line: so a mapping stands in for what lies before
     /// it, as composition wants it. It is None on a line without tokens and past the table's end alone. No memory is taken.
     pub fn lookup_token_approx(
         &self,
@@ -113,7 +113,7 @@ impl<'a> SourceMap<'a> {
         ensures own_table { are_tokens_sorted self.now.tokens ≡ true → line_table self.now.tokens ≡ Ok (map (λ s. s.now) lookup_table.now)
             → option_map view_of result ≡ option_map (seen_in self.now) (clamped_pick token_line token_column self.now.tokens line col) }
         ensures traced { are_tokens_sorted self.now.tokens ≡ true → line_table self.now.tokens ≡ Ok (map (λ s. s.now) lookup_table.now)
-            → option_map view_origin (option_map view_of result) ≡ clamped_trace (sheet_of self.now) line col }
+            → option_map view_original (option_map view_of result) ≡ clamped_trace (decoded_map_of self.now) line col }
         ensures clamped { IsNone result → slice_of (map (λ s. s.now) lookup_table.now) line ≡ [] }
     {
         self.seen(self.lookup_token_approx(lookup_table, line, col))

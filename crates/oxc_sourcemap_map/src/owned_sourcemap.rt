@@ -11,15 +11,15 @@ ghost use Rattle.oxc_sourcemap_json.specs.Json.{json_record};
 ghost use Rattle.oxc_sourcemap_parts.specs.Views.{record_of_parts, empty_record};
 ghost use Rattle.oxc_sourcemap_parts.specs.Sorted.{are_tokens_sorted, token_line, token_column};
 ghost use Rattle.oxc_sourcemap_parts.specs.Sound.{IsSound};
-ghost use Rattle.oxc_sourcemap_parts.specs.Sheet.{sheet_of};
+ghost use Rattle.oxc_sourcemap_parts.specs.DecodedMap.{decoded_map_of};
 ghost use Rattle.oxc_sourcemap_json.specs.Decoded.{decoded, json_fault};
 ghost use Rattle.oxc_sourcemap_json.specs.Encoded.{encoded};
-ghost use Rattle.oxc_sourcemap_json.specs.ReadMap.{read_map, read_sheet};
+ghost use Rattle.oxc_sourcemap_json.specs.ReadMap.{read_map, read_decoded_map};
 ghost use Rattle.oxc_sourcemap_json.specs.JsonText.{map_text, map_url};
 ghost use Rattle.oxc_sourcemap_lookup.specs.Lookup.{at, clamped_at, pick, clamped_pick, no_column_goes_back, line_table, slice_of};
-ghost use Rattle.oxc_sourcemap_compose.specs.Composed.{composition, composition_fault, SomeComposition, ColumnsGoOn};
+ghost use Rattle.oxc_sourcemap_compose.specs.Composed.{composition, composition_fault, SomeComposition, NoColumnGoesBack};
 ghost use Rattle.oxc_sourcemap_lookup.specs.Trace.{trace, clamped_trace};
-ghost use Rattle.oxc_sourcemap_map.specs.View.{view_of, seen_in, view_origin, content_at, source_and_content_at};
+ghost use Rattle.oxc_sourcemap_map.specs.View.{view_of, seen_in, view_original, content_at, source_and_content_at};
 ghost use Rattle.oxc_sourcemap_map.specs.contracts.owned_sourcemap.OwnedSourceMap.{the_row};
 ghost use Rattle.oxc_sourcemap_map.specs.contracts.sourcemap.SourceMap.{the_row as map_row};
 
@@ -59,7 +59,7 @@ impl OwnedSourceMap {
         OwnedSourceMap { inner }
     }
 
-    /// The map without anything. Refused for memory alone.
+    /// The map with nothing in it. Fails only with `OutOfMemory`.
     pub fn empty(alloc: Global) -> Result<OwnedSourceMap>
         ensures map { IfOk result (λ map. map ≡ empty_record) }
         ensures refused { IfErr result (λ e. e ≡ OutOfMemory) }
@@ -67,7 +67,7 @@ impl OwnedSourceMap {
         Ok(OwnedSourceMap::new(SourceMap::empty(alloc)?))
     }
 
-    /// A map equal to this one. Refused for memory alone.
+    /// A map equal to this one. Fails only with `OutOfMemory`.
     pub fn clone(&self, alloc: Global) -> Result<OwnedSourceMap>
         ensures map { IfOk result (λ map. map ≡ self.now) }
         ensures refused { IfErr result (λ e. e ≡ OutOfMemory) }
@@ -97,7 +97,7 @@ impl OwnedSourceMap {
         self.inner
     }
 
-    /// The map that a JSON source map says, and refused as `SourceMap::from_json` is.
+    /// The map that a JSON source map says; fails as `SourceMap::from_json` does.
     pub fn from_json(alloc: Global, value: JSONSourceMap) -> Result<OwnedSourceMap>
         ensures map { IfOk result (λ map. decoded (json_record value) ≡ Ok map) }
         ensures refused { IfErr result (λ e. (e ≢ OutOfMemory) → decoded (json_record value) ≡ Err e) }
@@ -106,17 +106,17 @@ impl OwnedSourceMap {
         Ok(OwnedSourceMap::new(SourceMap::from_json(alloc, value)?))
     }
 
-    /// The map that a JSON text says, and refused as `SourceMap::from_json_string` is.
+    /// The map that a JSON text says; fails as `SourceMap::from_json_string` does.
     pub fn from_json_string(alloc: Global, text: &str) -> Result<OwnedSourceMap>
         ensures map { IfOk result (λ map. read_map text.now ≡ Ok map) }
-        ensures sheet { IfOk result (λ map. read_sheet text.now ≡ Ok (sheet_of map)) }
+        ensures decoded_map { IfOk result (λ map. read_decoded_map text.now ≡ Ok (decoded_map_of map)) }
         ensures sound { IfOk result (λ map. IsSound map ↔ (are_tokens_sorted map.tokens ≡ true)) }
         ensures refused { IfErr result (λ e. (e ≢ OutOfMemory) → read_map text.now ≡ Err e) }
     {
         Ok(OwnedSourceMap::new(SourceMap::from_json_string(alloc, text)?))
     }
 
-    /// The JSON source map of this map, and refused as `SourceMap::to_json` is.
+    /// The JSON source map of this map; fails as `SourceMap::to_json` does.
     pub fn to_json(&self, alloc: Global) -> Result<JSONSourceMap>
         ensures json { IfOk result (λ json. encoded self.now ≡ Ok (json_record json)) }
         ensures refused { IfErr result (λ e. (e ≢ OutOfMemory) → encoded self.now ≡ Err e) }
@@ -127,7 +127,7 @@ impl OwnedSourceMap {
         self.inner.to_json(alloc)
     }
 
-    /// The JSON text of this map, and refused as `SourceMap::to_json_string` is.
+    /// The JSON text of this map; fails as `SourceMap::to_json_string` does.
     pub fn to_json_string(&self, alloc: Global) -> Result<String>
         ensures text { IfOk result (λ text. map_text self.now ≡ Ok (string_bytes text)) }
         ensures refused { IfErr result (λ e. (e ≢ OutOfMemory) → map_text self.now ≡ Err e) }
@@ -135,7 +135,7 @@ impl OwnedSourceMap {
         self.inner.to_json_string(alloc)
     }
 
-    /// The data URL of the JSON text of this map, and refused as `SourceMap::to_data_url` is.
+    /// The data URL of the JSON text of this map; fails as `SourceMap::to_data_url` does.
     pub fn to_data_url(&self, alloc: Global) -> Result<String>
         ensures url { IfOk result (λ url. map_url self.now ≡ Ok (string_bytes url)) }
         ensures refused { IfErr result (λ e. (e ≢ OutOfMemory) → map_url self.now ≡ Err e) }
@@ -144,16 +144,16 @@ impl OwnedSourceMap {
     }
 
     /// Composes two maps: this one from generated to intermediate code, and `input` from there to original code. It is as
-    /// `SourceMap::compose`, and refused as that is; both maps are then dropped.
+    /// `SourceMap::compose`; fails as that does; both maps are then dropped.
     pub fn compose(self, alloc: Global, input: OwnedSourceMap) -> Result<OwnedSourceMap>
-        ensures map { ColumnsGoOn input.tokens → IfOk result (λ map. composition self input ≡ Ok map) }
-        ensures refused { ColumnsGoOn input.tokens → IfErr result (λ e. (e ≢ OutOfMemory) → composition self input ≡ Err e) }
+        ensures map { NoColumnGoesBack input.tokens → IfOk result (λ map. composition self input ≡ Ok map) }
+        ensures refused { NoColumnGoesBack input.tokens → IfErr result (λ e. (e ≢ OutOfMemory) → composition self input ≡ Err e) }
         ensures any_map { IfOk result (λ map. SomeComposition self input (Ok map)) }
         ensures any_refused { IfErr result (λ e. (e ≢ OutOfMemory) → SomeComposition self input (Err e)) }
         ensures fault { (e : Error) → composition_fault self input ≡ Some e → result ≡ Err e }
 
         // True of every list, and stated here for callers that need it.
-        ensures sorted_goes_on { are_tokens_sorted input.tokens ≡ true → ColumnsGoOn input.tokens }
+        ensures sorted_goes_on { are_tokens_sorted input.tokens ≡ true → NoColumnGoesBack input.tokens }
     {
         Ok(OwnedSourceMap::new(self.inner.compose(alloc, input.inner)?))
     }
@@ -165,7 +165,8 @@ impl OwnedSourceMap {
         self.inner.get_file()
     }
 
-    /// Sets the name of the generated file to a copy of this text. Refused for memory alone; the map is then as it was.
+    /// Sets the name of the generated file to a copy of this string. Fails only with `OutOfMemory`; the map is then as it
+    /// was.
     pub fn set_file(&mut self, alloc: Global, file: &str) -> Result<()>
         ensures set { OnOk result (self.new ≡ record self.old { file = Some file.now }) }
         ensures refused { IfErr result (λ e. e ≡ OutOfMemory) }
@@ -174,7 +175,7 @@ impl OwnedSourceMap {
         self.inner.set_file(alloc, file)
     }
 
-    /// What stands in front of each source when it is looked up.
+    /// What stands before each source when it is looked up.
     pub fn get_source_root(&self) -> Option<&str>
         ensures { option_map (λ root. root.now) result ≡ self.now.source_root }
     {
@@ -202,7 +203,7 @@ impl OwnedSourceMap {
         self.inner.get_debug_id()
     }
 
-    /// Sets the debug id to a copy of this text. Refused for memory alone; the map is then as it was.
+    /// Sets the debug id to a copy of this string. Fails only with `OutOfMemory`; the map is then as it was.
     pub fn set_debug_id(&mut self, alloc: Global, debug_id: &str) -> Result<()>
         ensures set { OnOk result (self.new ≡ record self.old { debug_id = Some debug_id.now }) }
         ensures refused { IfErr result (λ e. e ≡ OutOfMemory) }
@@ -225,10 +226,10 @@ impl OwnedSourceMap {
         self.inner.get_sources()
     }
 
-    /// Sets the sources to copies of these texts. Tokens, contents and the ignore list stay as they are, so ids may then
+    /// Sets the sources to copies of these strings. Tokens, contents and the ignore list stay as they are, so ids may then
     /// be out of range.
     ///
-    /// The iterator must end. Refused for memory alone; the map is then as it was.
+    /// The iterator must end. Fails only with `OutOfMemory`; the map is then as it was.
     pub fn set_sources<S: AsStr, I: Iterator<Item = S>>(
         &mut self,
         alloc: Global,
@@ -252,8 +253,8 @@ impl OwnedSourceMap {
         self.inner.get_source_contents()
     }
 
-    /// Sets the contents of sources to copies of these texts, None where a content is not known. There may be fewer or more
-    /// than there are sources. Refused for memory alone; the map is then as it was.
+    /// Sets the contents of sources to copies of these strings, None where a content is not known. There may be fewer or
+    /// more than there are sources. Fails only with `OutOfMemory`; the map is then as it was.
     pub fn set_source_contents(
         &mut self,
         alloc: Global,
@@ -322,11 +323,11 @@ impl OwnedSourceMap {
         self.inner.get_source_view_tokens()
     }
 
-    /// The lookup table: for each generated line up to the last token's, the tokens on it, lent from this map, in order.
-    /// Without tokens it has no slices.
+    /// The lookup table: for each generated line up to the last token's, the tokens on it, borrowed from this map, in
+    /// order. Without tokens it has no slices.
     ///
-    /// Refused as `LineOrder(i)` for the first token whose line is smaller than that of the token in front, and as
-    /// `OutOfMemory` where memory is refused; the table takes a slice for each line, with tokens or without.
+    /// Fails with `LineOrder(i)` for the first token whose line is smaller than that of the token before, and with
+    /// `OutOfMemory` if memory is refused; the table takes a slice for each line, with tokens or without.
     pub fn generate_lookup_table(&self, alloc: Global) -> Result<Vec<&[Token]>>
         ensures table { IfOk result (λ table. line_table self.now.tokens ≡ Ok (map (λ s. s.now) table.items)) }
         ensures refused { IfErr result (λ e. (e ≢ OutOfMemory) → line_table self.now.tokens ≡ Err e) }
@@ -363,12 +364,12 @@ impl OwnedSourceMap {
         ensures own_table { are_tokens_sorted self.now.tokens ≡ true → line_table self.now.tokens ≡ Ok (map (λ s. s.now) lookup_table.now)
             → option_map view_of result ≡ option_map (seen_in self.now) (pick token_line token_column self.now.tokens line col) }
         ensures traced { are_tokens_sorted self.now.tokens ≡ true → line_table self.now.tokens ≡ Ok (map (λ s. s.now) lookup_table.now)
-            → option_map view_origin (option_map view_of result) ≡ trace (sheet_of self.now) line col }
+            → option_map view_original (option_map view_of result) ≡ trace (decoded_map_of self.now) line col }
     {
         self.inner.lookup_source_view_token(lookup_table, line, col)
     }
 
-    /// As `lookup_token`, but in place of None the first token of the line: so a mapping stands in for what lies in front of
+    /// As `lookup_token`, but in place of None the first token of the line: so a mapping stands in for what lies before
     /// it, as composition wants it. It is None on a line without tokens and past the table's end alone. No memory is taken.
     pub fn lookup_token_approx(
         &self,
@@ -399,7 +400,7 @@ impl OwnedSourceMap {
         ensures own_table { are_tokens_sorted self.now.tokens ≡ true → line_table self.now.tokens ≡ Ok (map (λ s. s.now) lookup_table.now)
             → option_map view_of result ≡ option_map (seen_in self.now) (clamped_pick token_line token_column self.now.tokens line col) }
         ensures traced { are_tokens_sorted self.now.tokens ≡ true → line_table self.now.tokens ≡ Ok (map (λ s. s.now) lookup_table.now)
-            → option_map view_origin (option_map view_of result) ≡ clamped_trace (sheet_of self.now) line col }
+            → option_map view_original (option_map view_of result) ≡ clamped_trace (decoded_map_of self.now) line col }
         ensures clamped { IsNone result → slice_of (map (λ s. s.now) lookup_table.now) line ≡ [] }
     {
         self.inner
@@ -440,7 +441,7 @@ impl From<OwnedSourceMap> for SourceMap<'static> {
 }
 
 impl<'a> SourceMap<'a> {
-    /// The same map, borrowing nothing, in a type without a lifetime: `into_owned`, and refused as that is.
+    /// The same map, borrowing nothing, in a type without a lifetime: `into_owned`; fails as that does.
     pub fn into_owned_sourcemap(self, alloc: Global) -> Result<OwnedSourceMap>
         ensures map { IfOk result (λ map. map ≡ self.entry) }
         ensures refused { IfErr result (λ e. e ≡ OutOfMemory) }

@@ -1,6 +1,6 @@
 //! A token together with its map. (In the Rust crate it stands in the module `token`.)
 ghost use Rattle.std.specs.Prelude.{◌≡◌, option_map, MatchOption, Some, None};
-ghost use Rattle.oxc_sourcemap_map.specs.View.{view_of, seen_in, view_name, view_source, view_content, view_source_and_content, view_origin};
+ghost use Rattle.oxc_sourcemap_map.specs.View.{view_of, seen_in, view_name, view_source, view_content, view_source_and_content, view_original};
 
 use crate::sourcemap::SourceMap;
 use oxc_sourcemap_mappings::Token;
@@ -106,10 +106,10 @@ impl<'sm, 'data> SourceViewToken<'sm, 'data> {
         ensures column { result.2 ≡ (view_of self.now).token.src_col }
         ensures name { option_map (λ name. name.now) result.3 ≡ view_name (view_of self.now) }
 
-        // The same, in the words of sheets: what the token points to, and no source where it points to nothing.
-        ensures origin { MatchOption (view_origin (view_of self.now)) (option_map (λ source. source.now) result.0 ≡ None) (λ origin.
-            (option_map (λ source. source.now) result.0 ≡ Some origin.source.path) × (result.1 ≡ origin.src_line) × (result.2 ≡ origin.src_col)
-            × (option_map (λ name. name.now) result.3 ≡ origin.name)) }
+        // The same, in the words of decoded maps: what the token points to, and no source where it points to nothing.
+        ensures original { MatchOption (view_original (view_of self.now)) (option_map (λ source. source.now) result.0 ≡ None) (λ original.
+            (option_map (λ source. source.now) result.0 ≡ Some original.source.path) × (result.1 ≡ original.src_line) × (result.2 ≡ original.src_col)
+            × (option_map (λ name. name.now) result.3 ≡ original.name)) }
     {
         (
             self.get_source(),

@@ -14,8 +14,8 @@ ghost use Rattle.oxc_sourcemap_parts.specs.Sorted.{are_tokens_sorted, may_preced
 ghost use Rattle.oxc_sourcemap_parts.specs.Sound.{IsInRange, IsSound};
 ghost use Rattle.oxc_sourcemap_json.specs.Decoded.{decoded, json_fault};
 ghost use Rattle.oxc_sourcemap_json.specs.Encoded.{encoded};
-ghost use Rattle.oxc_sourcemap_parts.specs.Sheet.{sheet_of};
-ghost use Rattle.oxc_sourcemap_json.specs.ReadMap.{read_map, read_sheet};
+ghost use Rattle.oxc_sourcemap_parts.specs.DecodedMap.{decoded_map_of};
+ghost use Rattle.oxc_sourcemap_json.specs.ReadMap.{read_map, read_decoded_map};
 ghost use Rattle.oxc_sourcemap_json.specs.JsonText.{map_text, map_url};
 ghost use Rattle.oxc_sourcemap_map.specs.View.{view_of, seen_in, content_at, source_and_content_at};
 
@@ -36,7 +36,7 @@ use std::boxed::BoxedSlice;
 use std::convert::AsStr;
 use std::marker::Model;
 
-/// A source map of version 3. Its texts are borrowed for `'a` or owned.
+/// A source map of version 3. Its strings are borrowed for `'a` or owned.
 ///
 /// `new` and `from_parts` ask nothing about the tokens: they may be out of order, refer to sources and names that are not
 /// there, and have chunks that do not fit. `is_sorted` and `is_sound` tell.
@@ -90,7 +90,7 @@ impl<'a> SourceMap<'a> {
         })
     }
 
-    /// The map without anything. Refused for memory alone.
+    /// The map with nothing in it. Fails only with `OutOfMemory`.
     pub fn empty(alloc: Global) -> Result<SourceMap<'a>>
         ensures map { IfOk result (λ map. map ≡ empty_record) }
         ensures refused { IfErr result (λ e. e ≡ OutOfMemory) }
@@ -98,7 +98,7 @@ impl<'a> SourceMap<'a> {
         Ok(SourceMap::from_parts(SourceMapParts::empty(alloc)?))
     }
 
-    /// The map that a JSON source map says, by `decode`. Refused as `decode` refuses; the value is then dropped.
+    /// The map that a JSON source map says, by `decode`. Fails as `decode` does; the value is then dropped.
     pub fn from_json(alloc: Global, value: JSONSourceMap) -> Result<SourceMap<'static>>
         ensures map { IfOk result (λ map. decoded (json_record value) ≡ Ok map) }
         ensures refused { IfErr result (λ e. (e ≢ OutOfMemory) → decoded (json_record value) ≡ Err e) }
@@ -107,21 +107,21 @@ impl<'a> SourceMap<'a> {
         Ok(SourceMap::from_parts(decode_parts(alloc, value)?))
     }
 
-    /// The map that a JSON text says, by `decode_from_string`, and refused as that refuses. All its texts are owned.
+    /// The map that a JSON text says, by `decode_from_string`; fails as that does. All its strings are owned.
     ///
     /// Its ids are in range and it has no chunks, so it is sound exactly where its tokens are sorted. A text may well
     /// list the columns of a line in another order; `is_sorted` tells.
     #[tactic(auto, using(oxc_sourcemap_json::proofs::ReadSound::read_map_sound))]
     pub fn from_json_string(alloc: Global, text: &str) -> Result<SourceMap<'static>>
         ensures map { IfOk result (λ map. read_map text.now ≡ Ok map) }
-        ensures sheet { IfOk result (λ map. read_sheet text.now ≡ Ok (sheet_of map)) }
+        ensures decoded_map { IfOk result (λ map. read_decoded_map text.now ≡ Ok (decoded_map_of map)) }
         ensures sound { IfOk result (λ map. IsSound map ↔ (are_tokens_sorted map.tokens ≡ true)) }
         ensures refused { IfErr result (λ e. (e ≢ OutOfMemory) → read_map text.now ≡ Err e) }
     {
         Ok(SourceMap::from_parts(decode_parts_from_string(alloc, text)?))
     }
 
-    /// The JSON source map of this map, by `encode`, and refused as `encode` refuses.
+    /// The JSON source map of this map, by `encode`; fails as `encode` does.
     pub fn to_json(&self, alloc: Global) -> Result<JSONSourceMap>
         ensures json { IfOk result (λ json. encoded self.now ≡ Ok (json_record json)) }
         ensures refused { IfErr result (λ e. (e ≢ OutOfMemory) → encoded self.now ≡ Err e) }
@@ -132,7 +132,7 @@ impl<'a> SourceMap<'a> {
         encode_parts(alloc, &self.parts)
     }
 
-    /// The JSON text of this map, by `encode_to_string`, and refused as that refuses.
+    /// The JSON text of this map, by `encode_to_string`; fails as that does.
     pub fn to_json_string(&self, alloc: Global) -> Result<String>
         ensures text { IfOk result (λ text. map_text self.now ≡ Ok (string_bytes text)) }
         ensures refused { IfErr result (λ e. (e ≢ OutOfMemory) → map_text self.now ≡ Err e) }
@@ -140,8 +140,8 @@ impl<'a> SourceMap<'a> {
         encode_parts_to_string(alloc, &self.parts)
     }
 
-    /// The data URL of the JSON text of this map (RFC 2397): `data:application/json;charset=utf-8;base64,` and the
-    /// text in padded base64 of the standard alphabet (RFC 4648). Refused as `to_json_string` refuses.
+    /// The data URL of the JSON text of this map (RFC 2397): `data:application/json;charset=utf-8;base64,` and the text in
+    /// padded base64 of the standard alphabet (RFC 4648). Fails as `to_json_string` does.
     pub fn to_data_url(&self, alloc: Global) -> Result<String>
         ensures url { IfOk result (λ url. map_url self.now ≡ Ok (string_bytes url)) }
         ensures refused { IfErr result (λ e. (e ≢ OutOfMemory) → map_url self.now ≡ Err e) }
@@ -149,7 +149,7 @@ impl<'a> SourceMap<'a> {
         encode_parts_to_data_url(alloc, &self.parts)
     }
 
-    /// A map equal to this one. A borrowed text stays borrowed. Refused for memory alone.
+    /// A map equal to this one. A borrowed string stays borrowed. Fails only with `OutOfMemory`.
     pub fn clone(&self, alloc: Global) -> Result<SourceMap<'a>>
         ensures map { IfOk result (λ map. map ≡ self.now) }
         ensures refused { IfErr result (λ e. e ≡ OutOfMemory) }
@@ -159,8 +159,8 @@ impl<'a> SourceMap<'a> {
         })
     }
 
-    /// The same map, borrowing nothing: owned texts are moved, borrowed ones copied. Refused for memory alone; the map is
-    /// then dropped.
+    /// The same map, borrowing nothing: owned strings are moved, borrowed ones copied. Fails only with `OutOfMemory`; the
+    /// map is then dropped.
     pub fn into_owned(self, alloc: Global) -> Result<SourceMap<'static>>
         ensures map { IfOk result (λ map. map ≡ self.entry) }
         ensures refused { IfErr result (λ e. e ≡ OutOfMemory) }
@@ -192,7 +192,8 @@ impl<'a> SourceMap<'a> {
         self.parts.file.as_deref()
     }
 
-    /// Sets the name of the generated file to a copy of this text. Refused for memory alone; the map is then as it was.
+    /// Sets the name of the generated file to a copy of this string. Fails only with `OutOfMemory`; the map is then as it
+    /// was.
     pub fn set_file(&mut self, alloc: Global, file: &str) -> Result<()>
         ensures set { OnOk result (self.new ≡ record self.old { file = Some file.now }) }
         ensures refused { IfErr result (λ e. e ≡ OutOfMemory) }
@@ -202,7 +203,7 @@ impl<'a> SourceMap<'a> {
         Ok(())
     }
 
-    /// What stands in front of each source when it is looked up.
+    /// What stands before each source when it is looked up.
     pub fn get_source_root(&self) -> Option<&str>
         ensures { option_map (λ root. root.now) result ≡ self.now.source_root }
     {
@@ -223,7 +224,7 @@ impl<'a> SourceMap<'a> {
         self.parts.ignore_list = Some(ignore_list);
     }
 
-    /// Sets the debug id to a copy of this text. Refused for memory alone; the map is then as it was.
+    /// Sets the debug id to a copy of this string. Fails only with `OutOfMemory`; the map is then as it was.
     pub fn set_debug_id(&mut self, alloc: Global, debug_id: &str) -> Result<()>
         ensures set { OnOk result (self.new ≡ record self.old { debug_id = Some debug_id.now }) }
         ensures refused { IfErr result (λ e. e ≡ OutOfMemory) }
@@ -247,10 +248,10 @@ impl<'a> SourceMap<'a> {
         names_in(self.parts.names.as_slice())
     }
 
-    /// Sets the sources to copies of these texts. Tokens, contents and the ignore list stay as they are, so ids may then
+    /// Sets the sources to copies of these strings. Tokens, contents and the ignore list stay as they are, so ids may then
     /// be out of range.
     ///
-    /// The iterator must end. Refused for memory alone; the map is then as it was.
+    /// The iterator must end. Fails only with `OutOfMemory`; the map is then as it was.
     pub fn set_sources<S: AsStr, I: Iterator<Item = S>>(
         &mut self,
         alloc: Global,
@@ -275,8 +276,8 @@ impl<'a> SourceMap<'a> {
         sources_in(self.parts.sources.as_slice())
     }
 
-    /// Sets the contents of sources to copies of these texts, None where a content is not known. There may be fewer or more
-    /// than there are sources. Refused for memory alone; the map is then as it was.
+    /// Sets the contents of sources to copies of these strings, None where a content is not known. There may be fewer or
+    /// more than there are sources. Fails only with `OutOfMemory`; the map is then as it was.
     pub fn set_source_contents(
         &mut self,
         alloc: Global,

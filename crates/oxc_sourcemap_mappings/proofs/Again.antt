@@ -9,7 +9,7 @@ use Rattle.oxc_sourcemap_mappings.specs.Token.{TokenRecord, IsInBounds, AreInBou
 use Rattle.oxc_sourcemap_mappings.specs.Parts.{Segment, lines, field}
 use Rattle.oxc_sourcemap_mappings.specs.Places.{Place}
 use Rattle.oxc_sourcemap_mappings.specs.Faults.{◌orelse◌, counts_of, range_fault, size_fault, place_fault, is_id_below}
-use Rattle.oxc_sourcemap_mappings.specs.Reading.{token_at, unless, outcome, gathered, onto, reading}
+use Rattle.oxc_sourcemap_mappings.specs.Reading.{token_at, token_unless, segment_result, gathered, onto, reading}
 use Rattle.oxc_sourcemap_mappings.specs.State.{State, initial}
 use Rattle.oxc_sourcemap_mappings.specs.Canonical.{carried_token, canonical, back_from}
 use Rattle.oxc_sourcemap_mappings.specs.Decoding.{moved, moved_by}
@@ -64,7 +64,7 @@ sizes n e =
       ]
     ]
 
--- a token that is read behind a state
+-- a token that is read after a state
 pub record Follows (names sources line : ℕ) (s : State) (t : TokenRecord) (p : Place) : Type 0 where
   pub line_is : t.dst_line ≡ line
   pub within : IsWithin names sources t
@@ -169,14 +169,14 @@ module _ (names sources line : ℕ) (s : State) (small : line < 4294967296) (h :
         ]
       ]
 
-ok-token : (o : Option Error) (t u : TokenRecord) → ◌≡◌ {A = Result TokenRecord Error} (unless o t) (Ok u) → (o ≡ None) × (t ≡ u)
+ok-token : (o : Option Error) (t u : TokenRecord) → ◌≡◌ {A = Result TokenRecord Error} (token_unless o t) (Ok u) → (o ≡ None) × (t ≡ u)
 ok-token None t u e = (refl, cc)
 ok-token (Some d) t u e = cc
 
 -- the same, of a segment
-pub outcome-follows : (names sources line column : ℕ) (s : State) (sg : Segment) (t : TokenRecord) → line < 4294967296 → IsBounded s
-    → outcome (counts_of names sources) line (pos s.source_id) sg (moved_by (standing column s) sg) ≡ Ok t → Follows names sources line s t (moved_by (standing column s) sg)
-outcome-follows names sources line column s sg t small h e =
+pub segment_result-follows : (names sources line column : ℕ) (s : State) (sg : Segment) (t : TokenRecord) → line < 4294967296 → IsBounded s
+    → segment_result (counts_of names sources) line (pos s.source_id) sg (moved_by (standing column s) sg) ≡ Ok t → Follows names sources line s t (moved_by (standing column s) sg)
+segment_result-follows names sources line column s sg t small h e =
     let k = ok-token _ _ t e in
     let f = orelse-none _ _ k.0 in
     subst (λ u. Follows names sources line s u (moved_by (standing column s) sg)) k.1 (follows names sources line s small h column (length sg) (λ i. field i sg) f.1)
@@ -219,7 +219,7 @@ follow_line names sources line [] column s ts rest small h l e k = k column s ts
 follow_line names sources line (sg ∷ more) column s ts rest small h l e k =
     let c = counts_of names sources in
     let d = head _ _ ts e in
-    let f : Follows names sources line s d.first (moved_by (standing column s) sg) = outcome-follows names sources line column s sg d.first small h d.first_is in
+    let f : Follows names sources line s d.first (moved_by (standing column s) sg) = segment_result-follows names sources line column s sg d.first small h d.first_is in
     let g : gathered (along c line (standing d.first.dst_col (advanced s d.first)) more ++ rest (moved_by_all (standing d.first.dst_col (advanced s d.first)) more)) ≡ Ok d.others =
     subst (λ q. gathered (along c line q more ++ rest (moved_by_all q more)) ≡ Ok d.others) f.place_is d.others_are in
     let w = f.line_is in

@@ -12,30 +12,30 @@ use Rattle.oxc_sourcemap_mappings.specs.declared.error.Error.TheVariants.{LineOr
 use Rattle.oxc_sourcemap_mappings.specs.declared.token.TokenChunk.{TokenChunk}
 use Rattle.oxc_sourcemap_mappings.specs.Token.{TokenRecord}
 use Rattle.oxc_sourcemap_mappings.specs.Faults.{◌orelse◌}
-use Rattle.oxc_sourcemap_mappings.specs.State.{State, initial, state_behind, state_at}
-use Rattle.oxc_sourcemap_mappings.specs.Canonical.{token_text, canonical, has_none_in_front, first_out_of_order, back_from}
+use Rattle.oxc_sourcemap_mappings.specs.State.{State, initial, state_after, state_at}
+use Rattle.oxc_sourcemap_mappings.specs.Canonical.{token_text, canonical, has_none_before, first_out_of_order, back_from}
 use Rattle.oxc_sourcemap_mappings.specs.Chunks.{header, chunk_tokens, piece, piece_fault, ChunkFits, ChunksFitFrom, ChunksFit, is_same_state, is_fitting_chunk, first_misfit_from, first_misfit, writing_fault, chunk_from}
 use Rattle.oxc_sourcemap_mappings.specs.Encoding.{advanced, advanced_all, text_from}
 use Rattle.oxc_sourcemap_mappings.proofs.Order.{back_from-all}
 use Rattle.oxc_sourcemap_mappings.proofs.Length.{in_order}
-use Rattle.oxc_sourcemap_mappings.proofs.Writing.{text_behind-is, canonical-is, and-false}
+use Rattle.oxc_sourcemap_mappings.proofs.Writing.{text_after-is, canonical-is, and-false}
 
 pub advanced_all-append : (s : State) (xs ys : List TokenRecord) → advanced_all s (xs ++ ys) ≡ advanced_all (advanced_all s xs) ys
 advanced_all-append s [] ys = refl
 advanced_all-append s (x ∷ xs) ys = advanced_all-append (advanced s x) xs ys
 
-behind-is : (h : State) (xs seen : List TokenRecord) → state_behind h (reverse_aux xs seen) ≡ advanced_all (state_behind h seen) xs
-behind-is h [] seen = refl
-behind-is h (x ∷ xs) seen = behind-is h xs (x ∷ seen)
+after-is : (h : State) (xs seen : List TokenRecord) → state_after h (reverse_aux xs seen) ≡ advanced_all (state_after h seen) xs
+after-is h [] seen = refl
+after-is h (x ∷ xs) seen = after-is h xs (x ∷ seen)
 
 pub state_at-is : (ts : List TokenRecord) (i : ℕ) → state_at ts i ≡ advanced_all initial (take i ts)
-state_at-is ts i = behind-is initial (take i ts) []
+state_at-is ts i = after-is initial (take i ts) []
 
 and-true : (b : Bool) → (b && true) ≡ b
 and-true true = refl
 and-true false = refl
 
-text_from-append : (f : Bool) (s : State) (xs ys : List TokenRecord) → text_from f s (xs ++ ys) ≡ text_from f s xs ++ text_from (f && has_none_in_front xs) (advanced_all s xs) ys
+text_from-append : (f : Bool) (s : State) (xs ys : List TokenRecord) → text_from f s (xs ++ ys) ≡ text_from f s xs ++ text_from (f && has_none_before xs) (advanced_all s xs) ys
 text_from-append f s [] ys = ap (λ b. text_from b s ys) (sym (and-true f))
 text_from-append f s (x ∷ xs) ys =
     ap (λ r. token_text f s x ++ r) (text_from-append false (advanced s x) xs ys)
@@ -44,14 +44,14 @@ text_from-append f s (x ∷ xs) ys =
 
 pub piece-is : (ts : List TokenRecord) (c : TokenChunk) → piece ts c ≡ text_from (c.start == 0) (header c) (take (c.end - c.start) (drop c.start ts))
 unfolding piece
-piece-is ts c = text_behind-is (c.start == 0) (header c) [] _ ∙ ap (λ b. text_from b (header c) (take (c.end - c.start) (drop c.start ts))) (and-true (c.start == 0))
+piece-is ts c = text_after-is (c.start == 0) (header c) [] _ ∙ ap (λ b. text_from b (header c) (take (c.end - c.start) (drop c.start ts))) (and-true (c.start == 0))
 
-has_none_in_front-length : (xs : List TokenRecord) → has_none_in_front xs ≡ (length xs == 0)
-has_none_in_front-length [] = refl
-has_none_in_front-length (x ∷ xs) = grind (arith, nat_tests)
+has_none_before-length : (xs : List TokenRecord) → has_none_before xs ≡ (length xs == 0)
+has_none_before-length [] = refl
+has_none_before-length (x ∷ xs) = grind (arith, nat_tests)
 
-flag : (end till : ℕ) (xs : List TokenRecord) → length xs ≡ till - end → end ≤ till → ((end == 0) && has_none_in_front xs) ≡ (till == 0)
-flag end till xs l h = rw (has_none_in_front-length xs, l) (grind (arith, nat_tests))
+flag : (end till : ℕ) (xs : List TokenRecord) → length xs ≡ till - end → end ≤ till → ((end == 0) && has_none_before xs) ≡ (till == 0)
+flag end till xs l h = rw (has_none_before-length xs, l) (grind (arith, nat_tests))
 
 pub take-split : (m n : ℕ) (ts : List TokenRecord) → m ≤ n → take n ts ≡ take m ts ++ take (n - m) (drop m ts)
 take-split m n ts h = let e : n ≡ m + (n - m) = omega arith in ap (λ k. take k ts) e ∙ take-add m (n - m) ts
@@ -199,11 +199,11 @@ pub chunk-in-order : (ts : List TokenRecord) (i : ℕ) (c : TokenChunk) → firs
     back_from c.prev_dst_line c.start (chunk_tokens ts c) ≡ None
 chunk-in-order ts i c h f =
     let whole : back_from 0 0 (take c.start ts ++ drop c.start ts) ≡ None = ap (back_from 0 0) (take-append-drop c.start ts) ∙ back_from-all ts ∙ h in
-    let behind = back_from-append 0 0 (take c.start ts) (drop c.start ts) initial refl whole in
+    let after = back_from-append 0 0 (take c.start ts) (drop c.start ts) initial refl whole in
     let line : (advanced_all initial (take c.start ts)).dst_line ≡ c.prev_dst_line = ap (λ s. s.dst_line) (sym (state_at-is ts c.start) ∙ sym f.true_header) in
     let part = back_from-append c.prev_dst_line c.start (chunk_tokens ts c) (drop (c.end - c.start) (drop c.start ts)) (header c) refl
     (ap (back_from c.prev_dst_line c.start) (take-append-drop (c.end - c.start) (drop c.start ts))
-    ∙ back-shift c.prev_dst_line (0 + length (take c.start ts)) c.start (drop c.start ts) (ap (λ l. back_from l (0 + length (take c.start ts)) (drop c.start ts)) (sym line) ∙ behind.1)) in
+    ∙ back-shift c.prev_dst_line (0 + length (take c.start ts)) c.start (drop c.start ts) (ap (λ l. back_from l (0 + length (take c.start ts)) (drop c.start ts)) (sym line) ∙ after.1)) in
     part.0
 
 pub fitting-is-written : (ts : List TokenRecord) (i : ℕ) (c : TokenChunk) → first_out_of_order ts ≡ None → ChunkFits ts i c → piece_fault ts c ≡ None
@@ -246,9 +246,9 @@ pub last-fits : (ts : List TokenRecord) (cs : List TokenChunk) (c : TokenChunk) 
 last-fits ts [] c h e = cc
 last-fits ts (x ∷ cs) c h e = last-fits-at ts 0 (length (x ∷ cs) - 1) (x ∷ cs) c h (omega arith) e
 
--- what stands behind the last chunk is what stands behind all tokens
-pub behind-last : (ts : List TokenRecord) (c : TokenChunk) → ChunkFits ts c.start c → c.end ≡ length ts → advanced_all (header c) (chunk_tokens ts c) ≡ state_at ts (length ts)
-behind-last ts c f e =
+-- what stands after the last chunk is what stands after all tokens
+pub after-last : (ts : List TokenRecord) (c : TokenChunk) → ChunkFits ts c.start c → c.end ≡ length ts → advanced_all (header c) (chunk_tokens ts c) ≡ state_at ts (length ts)
+after-last ts c f e =
     ap (λ s. advanced_all s (chunk_tokens ts c)) (f.true_header ∙ state_at-is ts c.start)
     ∙ sym (advanced_all-append initial (take c.start ts) (chunk_tokens ts c))
     ∙ ap (advanced_all initial) (sym (take-split c.start c.end ts f.ordered) ∙ ap (λ n. take n ts) e)

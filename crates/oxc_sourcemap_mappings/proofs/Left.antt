@@ -1,4 +1,4 @@
--- Reading from the front on: what is left of a text, behind a line and a place.
+-- Reading from the front on: what is left of a text, after a line and a place.
 use Rattle.std.proofs.Common.{◌≡◌, ℕ, ◌+◌, ◌<◌, true, false, cond, List, [], ◌∷◌, ◌++◌, length, map, drop, filter, ℤ, Option, Some, None, Result, Ok, Err, if◌then◌else◌, nat_lt, slice_get, arith, refl, sym, ap, ◌∙◌, append_assoc}
 use Rattle.std.specs.List.{slice_split, onto_first}
 use Rattle.std.proofs.lemmas.List.{append-nil}
@@ -11,15 +11,15 @@ use Rattle.oxc_sourcemap_mappings.specs.Parts.{Segment, segment, segments, lines
 use Rattle.oxc_sourcemap_mappings.specs.Places.{Place, place, field_sum}
 use Rattle.oxc_sourcemap_mappings.specs.Faults.{Counts, counts_of, digit_fault, place_fault}
 use Rattle.oxc_sourcemap_mappings.specs.Token.{TokenRecord}
-use Rattle.oxc_sourcemap_mappings.specs.Reading.{outcome, unless, token_at, line_outcomes, text_outcomes, passed, onto, gathered, reading}
+use Rattle.oxc_sourcemap_mappings.specs.Reading.{segment_result, token_unless, token_at, line_results, text_results, passed, onto, gathered, reading}
 use Rattle.oxc_sourcemap_mappings.specs.Decoding.{ends_segment, front_digits, front_segment, AreFieldsOf, value, moved, moved_by, at_line_start}
 
 -- ---- the outcomes of a text, the place carried along
 
--- those of a line, behind this place
+-- those of a line, after this place
 abbrev pub along : Counts → ℕ → Place → List Segment → List (Result TokenRecord Error)
 along c line p [] = []
-along c line p (s ∷ more) = outcome c line p.source_id s (moved_by p s) ∷ along c line (moved_by p s) more
+along c line p (s ∷ more) = segment_result c line p.source_id s (moved_by p s) ∷ along c line (moved_by p s) more
 
 abbrev pub moved_by_all : Place → List Segment → Place
 moved_by_all p [] = p
@@ -37,18 +37,18 @@ moved_by_all-place : (ss on_line in_text : List Segment) → moved_by_all (place
 moved_by_all-place [] on_line in_text = refl
 moved_by_all-place (s ∷ more) on_line in_text = moved_by_all-place more (s ∷ on_line) (s ∷ in_text)
 
-line_outcomes-is : (c : Counts) (line : ℕ) (ss on_line in_text : List Segment) → line_outcomes c line on_line in_text ss ≡ along c line (place on_line in_text) ss
-unfolding line_outcomes
-line_outcomes-is c line [] on_line in_text = refl
-line_outcomes-is c line (s ∷ more) on_line in_text =
-    ap (λ rest. outcome c line (field_sum has_source 1 in_text) s (place (s ∷ on_line) (s ∷ in_text)) ∷ rest) (line_outcomes-is c line more (s ∷ on_line) (s ∷ in_text))
+line_results-is : (c : Counts) (line : ℕ) (ss on_line in_text : List Segment) → line_results c line on_line in_text ss ≡ along c line (place on_line in_text) ss
+unfolding line_results
+line_results-is c line [] on_line in_text = refl
+line_results-is c line (s ∷ more) on_line in_text =
+    ap (λ rest. segment_result c line (field_sum has_source 1 in_text) s (place (s ∷ on_line) (s ∷ in_text)) ∷ rest) (line_results-is c line more (s ∷ on_line) (s ∷ in_text))
 
-text_outcomes-is : (c : Counts) (line : ℕ) (ls : List (List Segment)) (on_line in_text : List Segment) → text_outcomes c line in_text ls ≡ along_lines c line (place on_line in_text) ls
-unfolding text_outcomes
-text_outcomes-is c line [] on_line in_text = refl
-text_outcomes-is c line (l ∷ ls) on_line in_text =
-    let here : line_outcomes c line [] in_text l ≡ along c line (place [] in_text) l = line_outcomes-is c line l [] in_text in
-    let there : text_outcomes c (line + 1) (passed l in_text) ls ≡ along_lines c (line + 1) (moved_by_all (place [] in_text) l) ls = text_outcomes-is c (line + 1) ls (passed l []) (passed l in_text) ∙ ap (λ p. along_lines c (line + 1) p ls) (sym (moved_by_all-place l [] in_text)) in
+text_results-is : (c : Counts) (line : ℕ) (ls : List (List Segment)) (on_line in_text : List Segment) → text_results c line in_text ls ≡ along_lines c line (place on_line in_text) ls
+unfolding text_results
+text_results-is c line [] on_line in_text = refl
+text_results-is c line (l ∷ ls) on_line in_text =
+    let here : line_results c line [] in_text l ≡ along c line (place [] in_text) l = line_results-is c line l [] in_text in
+    let there : text_results c (line + 1) (passed l in_text) ls ≡ along_lines c (line + 1) (moved_by_all (place [] in_text) l) ls = text_results-is c (line + 1) ls (passed l []) (passed l in_text) ∙ ap (λ p. along_lines c (line + 1) p ls) (sym (moved_by_all-place l [] in_text)) in
     rw (here, there)
 
 -- ---- what is left, from anywhere in a line on
@@ -67,13 +67,13 @@ along_lines-parts c line p (l ∷ ls) h = let t : nat_lt line 4294967296 ≡ tru
 
 pub reading-lines : (text : List ℕ) (names sources : ℕ) → reading text names sources ≡ gathered (along_lines (counts_of names sources) 0 (place [] []) (lines text))
 unfolding reading
-reading-lines text names sources = ap gathered (text_outcomes-is (counts_of names sources) 0 (lines text) [] [])
+reading-lines text names sources = ap gathered (text_results-is (counts_of names sources) 0 (lines text) [] [])
 
 pub reading-is : (text : List ℕ) (names sources : ℕ) → reading text names sources ≡ gathered (left_outcomes (counts_of names sources) 0 (place [] []) text)
 reading-is text names sources =
     reading-lines text names sources ∙ ap gathered (along_lines-parts (counts_of names sources) 0 (place [] []) (slice_split is_semicolon text) (omega arith))
 
--- behind a `;`
+-- after a `;`
 pub left-semicolon : (c : Counts) (line : ℕ) (p : Place) (text : List ℕ) → line + 1 < 4294967296 → left_outcomes c line p (59 ∷ text) ≡ left_outcomes c (line + 1) (at_line_start p) text
 left-semicolon c line p text h = along_lines-parts c (line + 1) p (slice_split is_semicolon text) h
 
@@ -92,7 +92,7 @@ lines-too_large c line p (b ∷ bs) t =
 pub left-too_large : (c : Counts) (line : ℕ) (p : Place) (text : List ℕ) → line ≡ 4294967295 → left_outcomes c line p (59 ∷ text) ≡ Err TooLarge ∷ []
 left-too_large c line p text e = let t : nat_lt (line + 1) 4294967296 ≡ false = grind (arith, nat_tests) in lines-too_large c (line + 1) p text t
 
--- behind a `,`
+-- after a `,`
 parts-comma : (c : Counts) (line : ℕ) (p : Place) (parts : List (List ℕ)) → along_parts c line p (onto_first 44 parts) ≡ along_parts c line p parts
 parts-comma c line p [] = refl
 parts-comma c line p (l ∷ ls) = refl
@@ -106,9 +106,9 @@ abbrev front : List ℕ → List ℕ
 front [] = []
 front (b ∷ bs) = if ends_segment b then [] else b ∷ front bs
 
-abbrev behind_front : List ℕ → List ℕ
-behind_front [] = []
-behind_front (b ∷ bs) = if ends_segment b then b ∷ bs else behind_front bs
+abbrev after_front : List ℕ → List ℕ
+after_front [] = []
+after_front (b ∷ bs) = if ends_segment b then b ∷ bs else after_front bs
 
 front_digits-front : (text : List ℕ) → front_digits text ≡ map digit (front text)
 front_digits-front [] = refl
@@ -118,15 +118,15 @@ front_digits-front (b ∷ bs) =
       | false ↦ ap (λ ds. digit b ∷ ds) (front_digits-front bs)
     ]
 
-drop-front : (text : List ℕ) → drop (length (front_digits text)) text ≡ behind_front text
+drop-front : (text : List ℕ) → drop (length (front_digits text)) text ≡ after_front text
 drop-front [] = refl
 drop-front (b ∷ bs) =
-    elim (ends_segment b) as (λ v. drop (length (if v then [] else digit b ∷ front_digits bs)) (b ∷ bs) ≡ (if v then b ∷ bs else behind_front bs)) [
+    elim (ends_segment b) as (λ v. drop (length (if v then [] else digit b ∷ front_digits bs)) (b ∷ bs) ≡ (if v then b ∷ bs else after_front bs)) [
       | true ↦ refl
       | false ↦ drop-front bs
     ]
 
--- bytes put in front of the first part
+-- bytes put before the first part
 abbrev onto_all_first : List ℕ → List (List ℕ) → List (List ℕ)
 onto_all_first [] parts = parts
 onto_all_first (b ∷ bs) parts = onto_first b (onto_all_first bs parts)
@@ -139,10 +139,10 @@ onto_all_first-cons (b ∷ bs) part parts = ap (onto_first b) (onto_all_first-co
 inside : (b : ℕ) → ends_segment b ≡ false → (is_semicolon b ≡ false) × (is_comma b ≡ false)
 inside b e = (grind (arith, nat_tests), grind (arith, nat_tests))
 
-split-front : (text : List ℕ) → slice_split is_semicolon text ≡ onto_all_first (front text) (slice_split is_semicolon (behind_front text))
+split-front : (text : List ℕ) → slice_split is_semicolon text ≡ onto_all_first (front text) (slice_split is_semicolon (after_front text))
 split-front [] = refl
 split-front (b ∷ bs) =
-    elim (ends_segment b) as (λ v. ends_segment b ≡ v → slice_split is_semicolon (b ∷ bs) ≡ onto_all_first (if v then [] else b ∷ front bs) (slice_split is_semicolon (if v then b ∷ bs else behind_front bs))) [
+    elim (ends_segment b) as (λ v. ends_segment b ≡ v → slice_split is_semicolon (b ∷ bs) ≡ onto_all_first (if v then [] else b ∷ front bs) (slice_split is_semicolon (if v then b ∷ bs else after_front bs))) [
       | true ↦ (λ e. refl)
       | false ↦ (λ e. rw ((inside b e).0) (ap (onto_first b) (split-front bs)))
     ] refl
@@ -175,12 +175,12 @@ mark-cut b bs e =
       | false ↦ (λ s. onto_first-cut b (slice_split is_semicolon bs) (mark-comma b e s))
     ] refl
 
-behind_front-cut : (text : List ℕ) → IsCut (slice_split is_semicolon (behind_front text))
-behind_front-cut [] = tt
-behind_front-cut (b ∷ bs) =
-    elim (ends_segment b) as (λ v. ends_segment b ≡ v → IsCut (slice_split is_semicolon (if v then b ∷ bs else behind_front bs))) [
+after_front-cut : (text : List ℕ) → IsCut (slice_split is_semicolon (after_front text))
+after_front-cut [] = tt
+after_front-cut (b ∷ bs) =
+    elim (ends_segment b) as (λ v. ends_segment b ≡ v → IsCut (slice_split is_semicolon (if v then b ∷ bs else after_front bs))) [
       | true ↦ (λ e. mark-cut b bs e)
-      | false ↦ (λ e. behind_front-cut bs)
+      | false ↦ (λ e. after_front-cut bs)
     ] refl
 
 segments-front : (text l : List ℕ) (ls : List (List ℕ)) → is_filled (front text) ≡ true → IsCut (l ∷ ls) → segments (front text ++ l) ≡ segment (front text) ∷ segments l
@@ -196,7 +196,7 @@ segments-front text (b ∷ l) ls f h =
 
 parts-front : (c : Counts) (line : ℕ) (p : Place) (text : List ℕ) (parts : List (List ℕ)) → is_filled (front text) ≡ true → IsCut parts →
     along_parts c line p (onto_all_first (front text) parts)
-    ≡ outcome c line p.source_id (segment (front text)) (moved_by p (segment (front text))) ∷ along_parts c line (moved_by p (segment (front text))) parts
+    ≡ segment_result c line p.source_id (segment (front text)) (moved_by p (segment (front text))) ∷ along_parts c line (moved_by p (segment (front text))) parts
 parts-front c line p text [] f h = absurd h
 parts-front c line p text (l ∷ ls) f h =
     ap (along_parts c line p) (onto_all_first-cons (front text) l ls)
@@ -205,13 +205,13 @@ parts-front c line p text (l ∷ ls) f h =
 -- what a text gives whose first byte lies in a segment
 pub left-segment : (c : Counts) (line : ℕ) (p : Place) (text : List ℕ) → is_filled (front text) ≡ true →
     left_outcomes c line p text
-    ≡ outcome c line p.source_id (front_segment text) (moved_by p (front_segment text)) ∷ left_outcomes c line (moved_by p (front_segment text)) (drop (length (front_digits text)) text)
+    ≡ segment_result c line p.source_id (front_segment text) (moved_by p (front_segment text)) ∷ left_outcomes c line (moved_by p (front_segment text)) (drop (length (front_digits text)) text)
 left-segment c line p text f =
     ap (along_parts c line p) (split-front text)
-    ∙ parts-front c line p text (slice_split is_semicolon (behind_front text)) f (behind_front-cut text)
+    ∙ parts-front c line p text (slice_split is_semicolon (after_front text)) f (after_front-cut text)
     ∙ rw (drop-front text, front_digits-front text)
 
--- a byte in front lies in a segment
+-- a byte before lies in a segment
 pub front-filled : (text : List ℕ) (b : ℕ) → slice_get text 0 ≡ Some b → ends_segment b ≡ false → is_filled (front text) ≡ true
 front-filled [] b e h = cc
 front-filled (a ∷ text) b e h = let k : a ≡ b = cc in rw (k, h)
@@ -231,15 +231,15 @@ pub moved-moved_by : (p : Place) (s : Segment) (f : Fields) → AreFieldsOf s f 
 moved-moved_by p s f a =
     rw (a.count, a.values 0 (omega arith), a.values 1 (omega arith), a.values 2 (omega arith), a.values 3 (omega arith), a.values 4 (omega arith))
 
-pub outcome-clean : (c : Counts) (line : ℕ) (in_front : ℤ) (s : Segment) (p : Place) (o : Option Error) → digit_fault s ≡ None → place_fault c in_front (length s) p ≡ o → outcome c line in_front s p ≡ unless o (token_at line (length s) p)
-outcome-clean c line in_front s p o e h = rw (e, h)
+pub segment_result-clean : (c : Counts) (line : ℕ) (before : ℤ) (s : Segment) (p : Place) (o : Option Error) → digit_fault s ≡ None → place_fault c before (length s) p ≡ o → segment_result c line before s p ≡ token_unless o (token_at line (length s) p)
+segment_result-clean c line before s p o e h = rw (e, h)
 
-pub outcome-fault : (c : Counts) (line : ℕ) (in_front : ℤ) (s : Segment) (p : Place) (fault : Error) → digit_fault s ≡ Some fault → outcome c line in_front s p ≡ Err fault
-outcome-fault c line in_front s p fault h = rw h
+pub segment_result-fault : (c : Counts) (line : ℕ) (before : ℤ) (s : Segment) (p : Place) (fault : Error) → digit_fault s ≡ Some fault → segment_result c line before s p ≡ Err fault
+segment_result-fault c line before s p fault h = rw h
 
 -- ---- the tokens so far, and what is left
 
--- these tokens in front of a reading
+-- these tokens before a reading
 abbrev pub onto_all : List TokenRecord → Result (List TokenRecord) Error → Result (List TokenRecord) Error
 onto_all front (Ok ts) = Ok (front ++ ts)
 onto_all front (Err e) = Err e

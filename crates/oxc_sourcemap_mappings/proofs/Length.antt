@@ -91,7 +91,7 @@ length-token_text first s t h w l =
     let n = length-or (mapped_name t) (λ id. delta_text id s.name_id) 7 (name_beside-id t.source_id t.name_id w.name_id) (λ id k. length-delta_text id s.name_id k h.name_id) in
     simp length-append (omega arith)
 
--- a list in order behind a line
+-- a list in order after a line
 pub in_order : (b : Bool) (i : ℕ) (o : Option ℕ) → cond b (Some i) o ≡ None → (b ≡ false) × (o ≡ None)
 in_order true i o e = cc
 in_order false i o e = (refl, e)

@@ -10,9 +10,9 @@ use Rattle.oxc_sourcemap_mappings.specs.Token.{TokenRecord, IsInBounds, mapped_n
 use Rattle.oxc_sourcemap_mappings.specs.Parts.{Segment, segment, lines, is_filled}
 use Rattle.oxc_sourcemap_mappings.specs.Places.{Place, place}
 use Rattle.oxc_sourcemap_mappings.specs.Faults.{Counts, counts_of}
-use Rattle.oxc_sourcemap_mappings.specs.Reading.{outcome, gathered, onto, reading}
-use Rattle.oxc_sourcemap_mappings.specs.State.{State, initial, state_behind}
-use Rattle.oxc_sourcemap_mappings.specs.Canonical.{digits, vlq_text, letter, separator, token_text, canonical, bare, bare_token, carried, carried_token, carried_behind, first_out_of_order, back_from}
+use Rattle.oxc_sourcemap_mappings.specs.Reading.{segment_result, gathered, onto, reading}
+use Rattle.oxc_sourcemap_mappings.specs.State.{State, initial, state_after}
+use Rattle.oxc_sourcemap_mappings.specs.Canonical.{digits, vlq_text, letter, separator, token_text, canonical, as_written, token_as_written, carried, carried_token, carried_after, first_out_of_order, back_from}
 use Rattle.oxc_sourcemap_mappings.specs.TextLaws.{AreWrittenIdsBelow}
 use Rattle.oxc_sourcemap_mappings.specs.Decoding.{moved_by, at_line_start}
 use Rattle.oxc_sourcemap_mappings.specs.Encoding.{advanced, text_from}
@@ -22,7 +22,7 @@ use Rattle.oxc_sourcemap_mappings.proofs.Digits.{length-digits-pos}
 use Rattle.oxc_sourcemap_mappings.proofs.Left.{along, along_lines, moved_by_all, reading-lines}
 use Rattle.oxc_sourcemap_mappings.proofs.Writing.{canonical-is}
 use Rattle.oxc_sourcemap_mappings.proofs.Texts.{AreInside, Splits, splits-lines, splits-none, splits-comma, splits-lines-before, front-lines}
-use Rattle.oxc_sourcemap_mappings.proofs.Segments.{base, raws, spell_all, read_all, segment-vlq_text, inside-all, body, body-is, token_text-is, IsId, standing, moved_by-written, outcome-written, token-same}
+use Rattle.oxc_sourcemap_mappings.proofs.Segments.{base, raws, spell_all, read_all, segment-vlq_text, inside-all, body, body-is, token_text-is, IsId, standing, moved_by-written, segment_result-written, token-same}
 
 -- a token in bounds whose ids are below these counts, as far as they are written
 pub record IsWithin (names sources : ℕ) (t : TokenRecord) : Type 0 where
@@ -82,8 +82,8 @@ reads-more : (names sources : ℕ) (s : State) (t : TokenRecord) (ts : List Toke
     → ReadsAs (counts_of names sources) t.dst_line (standing (base s t) s) (seg s t ∷ here) below (carried_token s t ∷ ts)
 reads-more names sources s t ts here below h w r =
     let c = counts_of names sources in
-    let v : outcome c t.dst_line (pos s.source_id) (seg s t) (moved_by (standing (base s t) s) (seg s t)) ≡ Ok (carried_token s t) =
-    outcome-written t.source_id t.name_id c t.dst_line (pos s.source_id) s t h w.in_bounds w.in_bounds.source_id w.in_bounds.name_id (both-below t.source_id sources w.source_id w.in_bounds.source_id) (both-below (mapped_name t) names w.name_id (name_beside-id t.source_id t.name_id w.in_bounds.name_id))
+    let v : segment_result c t.dst_line (pos s.source_id) (seg s t) (moved_by (standing (base s t) s) (seg s t)) ≡ Ok (carried_token s t) =
+    segment_result-written t.source_id t.name_id c t.dst_line (pos s.source_id) s t h w.in_bounds w.in_bounds.source_id w.in_bounds.name_id (both-below t.source_id sources w.source_id w.in_bounds.source_id) (both-below (mapped_name t) names w.name_id (name_beside-id t.source_id t.name_id w.in_bounds.name_id))
     ∙ ap Ok (token-same t.source_id t.name_id s t refl refl) in
     let a : moved_by (standing (base s t) s) (seg s t) ≡ standing t.dst_col (advanced s t) = moved_by-written t.source_id t.name_id s t in
     record {
@@ -183,9 +183,9 @@ goes names sources s i (t ∷ ts) h w o =
       | inr m ↦ same names sources s t (carrying (advanced s t) ts) (text_from false (advanced s t) ts) h w.0 (omega arith) g
     ]
 
-pub carried-is : (seen ts : List TokenRecord) → carried_behind seen ts ≡ carrying (state_behind initial seen) ts
+pub carried-is : (seen ts : List TokenRecord) → carried_after seen ts ≡ carrying (state_after initial seen) ts
 carried-is seen [] = refl
-carried-is seen (t ∷ ts) = ap (λ us. carried_token (state_behind initial seen) t ∷ us) (carried-is (t ∷ seen) ts)
+carried-is seen (t ∷ ts) = ap (λ us. carried_token (state_after initial seen) t ∷ us) (carried-is (t ∷ seen) ts)
 
 finish : (names sources : ℕ) (text : List ℕ) (here : List Segment) (below : List (List Segment)) (ts : List TokenRecord) → canonical ts ≡ text → lines text ≡ here ∷ below → ReadsAs (counts_of names sources) 0 (standing 0 initial) here below (carrying initial ts) → reading (canonical ts) names sources ≡ Ok (carried ts)
 finish names sources text here below ts e l r =
@@ -219,47 +219,47 @@ within-words : (ts : List TokenRecord) → AllByRecursion IsInBounds ts → AllB
 within-words [] w = tt
 within-words (t ∷ ts) w = (record { in_bounds = w.0; source_id = w.0.source_id; name_id = name_beside-id t.source_id t.name_id w.0.name_id }, within-words ts w.1)
 
-bare-carried_token : (s : State) (t : TokenRecord) → bare_token (carried_token s t) ≡ bare_token t
-bare-carried_token s t =
-    elim t.source_id as (λ o. t.source_id ≡ o → bare_token (cond (is_some o) t (record t { src_line = s.src_line; src_col = s.src_col; name_id = None })) ≡ bare_token t) [
+as_written-carried_token : (s : State) (t : TokenRecord) → token_as_written (carried_token s t) ≡ token_as_written t
+as_written-carried_token s t =
+    elim t.source_id as (λ o. t.source_id ≡ o → token_as_written (cond (is_some o) t (record t { src_line = s.src_line; src_col = s.src_col; name_id = None })) ≡ token_as_written t) [
       | Some i ↦ (λ e. refl)
       | None ↦ (λ e. rw e)
     ] refl
 
-bare-carried : (s : State) (ts : List TokenRecord) → bare (carrying s ts) ≡ bare ts
-bare-carried s [] = refl
-bare-carried s (t ∷ ts) = ap (λ u. u ∷ bare (carrying (advanced s t) ts)) (bare-carried_token s t) ∙ ap (λ us. bare_token t ∷ us) (bare-carried (advanced s t) ts)
+as_written-carried : (s : State) (ts : List TokenRecord) → as_written (carrying s ts) ≡ as_written ts
+as_written-carried s [] = refl
+as_written-carried s (t ∷ ts) = ap (λ u. u ∷ as_written (carrying (advanced s t) ts)) (as_written-carried_token s t) ∙ ap (λ us. token_as_written t ∷ us) (as_written-carried (advanced s t) ts)
 
-pub bare-of_carried : (ts : List TokenRecord) → bare (carried ts) ≡ bare ts
-bare-of_carried ts = ap bare (carried-is [] ts) ∙ bare-carried initial ts
+pub as_written-of_carried : (ts : List TokenRecord) → as_written (carried ts) ≡ as_written ts
+as_written-of_carried ts = ap as_written (carried-is [] ts) ∙ as_written-carried initial ts
 
-pub bare-from_canonical : (a b : List TokenRecord) → AllByRecursion IsInBounds a → AllByRecursion IsInBounds b → first_out_of_order a ≡ None → first_out_of_order b ≡ None → canonical a ≡ canonical b → bare a ≡ bare b
-bare-from_canonical a b w v o p e =
+pub as_written-from_canonical : (a b : List TokenRecord) → AllByRecursion IsInBounds a → AllByRecursion IsInBounds b → first_out_of_order a ≡ None → first_out_of_order b ≡ None → canonical a ≡ canonical b → as_written a ≡ as_written b
+as_written-from_canonical a b w v o p e =
     let k : carried a ≡ carried b = same-ok (carried a) (carried b) (sym (round_trip 4294967295 4294967295 a (within-words a w) o) ∙ ap (λ x. reading x 4294967295 4294967295) e ∙ round_trip 4294967295 4294967295 b (within-words b v) p) in
-    sym (bare-of_carried a) ∙ ap bare k ∙ bare-of_carried b
+    sym (as_written-of_carried a) ∙ ap as_written k ∙ as_written-of_carried b
 
-token_text-bare : (first : Bool) (s : State) (t : TokenRecord) → token_text first s (bare_token t) ≡ token_text first s t
+token_text-as_written : (first : Bool) (s : State) (t : TokenRecord) → token_text first s (token_as_written t) ≡ token_text first s t
 unfolding token_text separator
-token_text-bare first s t =
+token_text-as_written first s t =
     elim t.source_id as (λ o. t.source_id ≡ o → token_text first s (cond (is_some o) t (record t { src_line = 0; src_col = 0; name_id = None })) ≡ token_text first s t) [
       | Some i ↦ (λ e. refl)
       | None ↦ (λ e. rw e)
     ] refl
 
-advanced-bare : (s : State) (t : TokenRecord) → advanced s (bare_token t) ≡ advanced s t
-advanced-bare s t =
+advanced-as_written : (s : State) (t : TokenRecord) → advanced s (token_as_written t) ≡ advanced s t
+advanced-as_written s t =
     elim t.source_id as (λ o. t.source_id ≡ o → advanced s (cond (is_some o) t (record t { src_line = 0; src_col = 0; name_id = None })) ≡ advanced s t) [
       | Some i ↦ (λ e. refl)
       | None ↦ (λ e. rw e)
     ] refl
 
-text_from-bare : (first : Bool) (s : State) (ts : List TokenRecord) → text_from first s (bare ts) ≡ text_from first s ts
-text_from-bare first s [] = refl
-text_from-bare first s (t ∷ ts) =
-    ap (λ xs. xs ++ text_from false (advanced s (bare_token t)) (bare ts)) (token_text-bare first s t)
-    ∙ ap (λ q. token_text first s t ++ text_from false q (bare ts)) (advanced-bare s t)
-    ∙ ap (λ xs. token_text first s t ++ xs) (text_from-bare false (advanced s t) ts)
+text_from-as_written : (first : Bool) (s : State) (ts : List TokenRecord) → text_from first s (as_written ts) ≡ text_from first s ts
+text_from-as_written first s [] = refl
+text_from-as_written first s (t ∷ ts) =
+    ap (λ xs. xs ++ text_from false (advanced s (token_as_written t)) (as_written ts)) (token_text-as_written first s t)
+    ∙ ap (λ q. token_text first s t ++ text_from false q (as_written ts)) (advanced-as_written s t)
+    ∙ ap (λ xs. token_text first s t ++ xs) (text_from-as_written false (advanced s t) ts)
 
-pub canonical-from_bare : (a b : List TokenRecord) → bare a ≡ bare b → canonical a ≡ canonical b
+pub canonical-from_bare : (a b : List TokenRecord) → as_written a ≡ as_written b → canonical a ≡ canonical b
 canonical-from_bare a b e =
-    canonical-is a ∙ sym (text_from-bare true initial a) ∙ ap (text_from true initial) e ∙ text_from-bare true initial b ∙ sym (canonical-is b)
+    canonical-is a ∙ sym (text_from-as_written true initial a) ∙ ap (text_from true initial) e ∙ text_from-as_written true initial b ∙ sym (canonical-is b)

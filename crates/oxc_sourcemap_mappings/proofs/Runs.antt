@@ -11,7 +11,7 @@ use Rattle.oxc_sourcemap_mappings.specs.Parts.{runs, field}
 use Rattle.oxc_sourcemap_mappings.specs.Faults.{digit_fault}
 use Rattle.oxc_sourcemap_mappings.specs.Decoding.{is_over}
 
--- the fault of these digits, where so many of an open run stand in front of them
+-- the fault of these digits, where so many of an open run stand before them
 abbrev pub faults_from : ℕ → List ℕ → Option Error
 faults_from exponent [] = if exponent == 0 then None else Some VlqLeftover
 faults_from exponent (d ∷ ds) =
@@ -19,7 +19,7 @@ faults_from exponent (d ∷ ds) =
     else if ends_run d then faults_from 0 ds
     else faults_from (exponent + 1) ds
 
--- the numbers of these digits, where an open run with this raw number and so many digits stands in front of them
+-- the numbers of these digits, where an open run with this raw number and so many digits stands before them
 abbrev pub numbers_from : ℕ → ℕ → List ℕ → List ℤ
 numbers_from n exponent [] = if exponent == 0 then [] else signed n ∷ []
 numbers_from n exponent (d ∷ ds) =
@@ -69,13 +69,13 @@ runs-filled (d ∷ ds) =
       | false ↦ onto_first-filled d (runs ds)
     ]
 
--- a run fits behind so many open digits
-abbrev fits_behind : ℕ → List ℕ → Bool
-fits_behind exponent run = nat_le (exponent + length run) 13 && nat_le (get_or run (12 - exponent) 0 % 32) 7
+-- a run fits after so many open digits
+abbrev fits_after : ℕ → List ℕ → Bool
+fits_after exponent run = nat_le (exponent + length run) 13 && nat_le (get_or run (12 - exponent) 0 % 32) 7
 
 abbrev lead_fault : ℕ → List (List ℕ) → Option Error
 lead_fault exponent [] = if exponent == 0 then None else Some VlqLeftover
-lead_fault exponent (run ∷ more) = if fits_behind exponent run then (if is_open run then Some VlqLeftover else digit_fault more) else Some VlqOverflow
+lead_fault exponent (run ∷ more) = if fits_after exponent run then (if is_open run then Some VlqLeftover else digit_fault more) else Some VlqOverflow
 
 lead_fault-none : (rs : List (List ℕ)) → lead_fault 0 rs ≡ digit_fault rs
 unfolding digit_fault
@@ -94,15 +94,15 @@ cond-not : (a : Bool) (x y : Option Error) → cond (not a) x y ≡ cond a y x
 cond-not true x y = refl
 cond-not false x y = refl
 
-fits_behind-past : (exponent : ℕ) (run : List ℕ) → 13 < exponent + length run → fits_behind exponent run ≡ false
-fits_behind-past exponent run h = grind (arith, nat_tests)
+fits_after-past : (exponent : ℕ) (run : List ℕ) → 13 < exponent + length run → fits_after exponent run ≡ false
+fits_after-past exponent run h = grind (arith, nat_tests)
 
-at_12 : (d : ℕ) (run : List ℕ) → fits_behind 12 (d ∷ run) ≡ (if is_over 12 d then false else fits_behind 13 run)
+at_12 : (d : ℕ) (run : List ℕ) → fits_after 12 (d ∷ run) ≡ (if is_over 12 d then false else fits_after 13 run)
 at_12 d [] = grind (arith, nat_tests)
-at_12 d (c ∷ run) = fits_behind-past 12 (d ∷ c ∷ run) (omega arith) ∙ sym (cond-same (is_over 12 d) _ (fits_behind-past 13 (c ∷ run) (omega arith)))
+at_12 d (c ∷ run) = fits_after-past 12 (d ∷ c ∷ run) (omega arith) ∙ sym (cond-same (is_over 12 d) _ (fits_after-past 13 (c ∷ run) (omega arith)))
 
-fits_behind-cons : (exponent d : ℕ) (run : List ℕ) → fits_behind exponent (d ∷ run) ≡ (if is_over exponent d then false else fits_behind (exponent + 1) run)
-fits_behind-cons exponent d run =
+fits_after-cons : (exponent d : ℕ) (run : List ℕ) → fits_after exponent (d ∷ run) ≡ (if is_over exponent d then false else fits_after (exponent + 1) run)
+fits_after-cons exponent d run =
     elim (cases_lt exponent 12) [
       | inl h ↦ (let e : 12 - exponent ≡ suc (12 - (exponent + 1)) = omega arith in
           let l : exponent + suc (length run) ≡ exponent + 1 + length run = omega arith in
@@ -110,29 +110,29 @@ fits_behind-cons exponent d run =
           let u : (exponent == 12) ≡ false = grind (arith, nat_tests) in
           rw (e, l, t, u))
       | inr h ↦ elim (cases_lt 12 exponent) [
-        | inl g ↦ (let t : nat_lt 12 exponent ≡ true = grind (arith, nat_tests) in rw t (fits_behind-past exponent (d ∷ run) (omega arith)))
+        | inl g ↦ (let t : nat_lt 12 exponent ≡ true = grind (arith, nat_tests) in rw t (fits_after-past exponent (d ∷ run) (omega arith)))
         | inr g ↦ (let e : exponent ≡ 12 = omega arith in rw e (at_12 d run))
       ]
     ]
 
-fits_behind-none : (exponent d : ℕ) → (if is_over exponent d then false else fits_behind (exponent + 1) []) ≡ not (is_over exponent d)
-fits_behind-none exponent d = grind (arith, nat_tests)
+fits_after-none : (exponent d : ℕ) → (if is_over exponent d then false else fits_after (exponent + 1) []) ≡ not (is_over exponent d)
+fits_after-none exponent d = grind (arith, nat_tests)
 
-fits_behind-one : (exponent d : ℕ) → fits_behind exponent (d ∷ []) ≡ not (is_over exponent d)
-fits_behind-one exponent d = fits_behind-cons exponent d [] ∙ fits_behind-none exponent d
+fits_after-one : (exponent d : ℕ) → fits_after exponent (d ∷ []) ≡ not (is_over exponent d)
+fits_after-one exponent d = fits_after-cons exponent d [] ∙ fits_after-none exponent d
 
 lead_fault-end : (exponent d : ℕ) (rs : List (List ℕ)) → ends_run d ≡ true → lead_fault exponent ((d ∷ []) ∷ rs) ≡ (if is_over exponent d then Some VlqOverflow else lead_fault 0 rs)
 lead_fault-end exponent d rs e =
     let o : nat_le 32 d ≡ false = grind (arith, nat_tests, e) in
-    rw (fits_behind-one exponent d, o, lead_fault-none rs) (cond-not (is_over exponent d) _ _)
+    rw (fits_after-one exponent d, o, lead_fault-none rs) (cond-not (is_over exponent d) _ _)
 
 lead_fault-onto : (exponent d : ℕ) (rs : List (List ℕ)) → AreFilled rs → ends_run d ≡ false → lead_fault exponent (onto_first d rs) ≡ (if is_over exponent d then Some VlqOverflow else lead_fault (exponent + 1) rs)
 lead_fault-onto exponent d [] f e =
     let o : nat_le 32 d ≡ true = grind (arith, nat_tests, e) in
     let z : (exponent + 1 == 0) ≡ false = grind (arith, nat_tests) in
-    rw (fits_behind-one exponent d, o, z) (cond-not (is_over exponent d) _ _)
+    rw (fits_after-one exponent d, o, z) (cond-not (is_over exponent d) _ _)
 lead_fault-onto exponent d ([] ∷ rs) f e = absurd f
-lead_fault-onto exponent d ((c ∷ run) ∷ rs) f e = rw (fits_behind-cons exponent d (c ∷ run)) (cond-cond (is_over exponent d) (fits_behind (exponent + 1) (c ∷ run)) _ _)
+lead_fault-onto exponent d ((c ∷ run) ∷ rs) f e = rw (fits_after-cons exponent d (c ∷ run)) (cond-cond (is_over exponent d) (fits_after (exponent + 1) (c ∷ run)) _ _)
 
 faults_from-is : (exponent : ℕ) (ds : List ℕ) → faults_from exponent ds ≡ lead_fault exponent (runs ds)
 faults_from-is exponent [] = refl

@@ -9,7 +9,7 @@ use Rattle.oxc_sourcemap_mappings.specs.Number.{digit, number}
 use Rattle.oxc_sourcemap_mappings.specs.Parts.{Segment, segment, runs}
 use Rattle.oxc_sourcemap_mappings.specs.Places.{Place}
 use Rattle.oxc_sourcemap_mappings.specs.Faults.{Counts, digit_fault, place_fault, range_fault}
-use Rattle.oxc_sourcemap_mappings.specs.Reading.{token_at, outcome}
+use Rattle.oxc_sourcemap_mappings.specs.Reading.{token_at, segment_result}
 use Rattle.oxc_sourcemap_mappings.specs.State.{State}
 use Rattle.oxc_sourcemap_mappings.specs.Canonical.{digits, vlq_text, raw_delta, delta_text, column_text, separator, token_text, carried_token}
 use Rattle.oxc_sourcemap_mappings.specs.Decoding.{moved_by}
@@ -46,7 +46,7 @@ pub inside-all : (ns : List ℕ) → AreInside (spell_all ns)
 inside-all [] = tt
 inside-all (n ∷ ns) = inside-append (vlq_text n) (spell_all ns) (inside-vlq_text n) (inside-all ns)
 
--- what a token with these ids adds behind its separator
+-- what a token with these ids adds after its separator
 abbrev pub body : Option ℕ → Option ℕ → State → TokenRecord → List ℕ
 body a b s t =
     column_text s t
@@ -109,12 +109,12 @@ range-none n h = let t : nat_le n 4294967295 ≡ true = grind (arith, nat_tests)
 below-true : (n k : ℕ) → n < k → nat_lt n k ≡ true
 below-true n k h = grind (arith, nat_tests)
 
-place_fault-none : (a b : Option ℕ) (c : Counts) (in_front : ℤ) (s : State) (t : TokenRecord) → IsInBounds t → IfSome a (λ i. i < c.sources) → IfSome (name_beside a b) (λ n. n < c.names) → place_fault c in_front (length (read_all (raws a b s t))) (standing t.dst_col (onward a b s t)) ≡ None
+place_fault-none : (a b : Option ℕ) (c : Counts) (before : ℤ) (s : State) (t : TokenRecord) → IsInBounds t → IfSome a (λ i. i < c.sources) → IfSome (name_beside a b) (λ n. n < c.names) → place_fault c before (length (read_all (raws a b s t))) (standing t.dst_col (onward a b s t)) ≡ None
 unfolding place_fault
-place_fault-none None b c in_front s t w hs hn = rw (range-none t.dst_col w.dst_col)
-place_fault-none (Some i) None c in_front s t w hs hn =
+place_fault-none None b c before s t w hs hn = rw (range-none t.dst_col w.dst_col)
+place_fault-none (Some i) None c before s t w hs hn =
     rw (range-none t.dst_col w.dst_col, below-true i c.sources hs, range-none t.src_line w.src_line, range-none t.src_col w.src_col)
-place_fault-none (Some i) (Some n) c in_front s t w hs hn =
+place_fault-none (Some i) (Some n) c before s t w hs hn =
     rw (range-none t.dst_col w.dst_col, below-true i c.sources hs, range-none t.src_line w.src_line, range-none t.src_col w.src_col, below-true n c.names hn)
 
 pub token-same : (a b : Option ℕ) (s : State) (t : TokenRecord) → t.source_id ≡ a → t.name_id ≡ b → token_at t.dst_line (length (read_all (raws a b s t))) (standing t.dst_col (onward a b s t)) ≡ carried_token s t
@@ -126,7 +126,7 @@ token-same (Some i) (Some n) s t e f =
     let r : Option ℕ → Option ℕ → TokenRecord = λ y z. record { dst_line = t.dst_line; dst_col = t.dst_col; src_line = t.src_line; src_col = t.src_col; source_id = y; name_id = z } in
     ap (λ y. r y (Some n)) (sym e) ∙ ap (r t.source_id) (sym f) ∙ rw e refl
 
-pub outcome-written : (a b : Option ℕ) (c : Counts) (line : ℕ) (in_front : ℤ) (s : State) (t : TokenRecord) → IsBounded s → IsInBounds t → IsId a → IsId b → IfSome a (λ i. i < c.sources) → IfSome (name_beside a b) (λ n. n < c.names) → outcome c line in_front (read_all (raws a b s t)) (moved_by (standing (base s t) s) (read_all (raws a b s t))) ≡ Ok (token_at line (length (read_all (raws a b s t))) (standing t.dst_col (onward a b s t)))
-outcome-written a b c line in_front s t h w x y hs hn =
-    ap (outcome c line in_front (read_all (raws a b s t))) (moved_by-written a b s t)
-    ∙ rw (faults-small (raws a b s t) (raws-small a b s t h w x y), place_fault-none a b c in_front s t w hs hn)
+pub segment_result-written : (a b : Option ℕ) (c : Counts) (line : ℕ) (before : ℤ) (s : State) (t : TokenRecord) → IsBounded s → IsInBounds t → IsId a → IsId b → IfSome a (λ i. i < c.sources) → IfSome (name_beside a b) (λ n. n < c.names) → segment_result c line before (read_all (raws a b s t)) (moved_by (standing (base s t) s) (read_all (raws a b s t))) ≡ Ok (token_at line (length (read_all (raws a b s t))) (standing t.dst_col (onward a b s t)))
+segment_result-written a b c line before s t h w x y hs hn =
+    ap (segment_result c line before (read_all (raws a b s t))) (moved_by-written a b s t)
+    ∙ rw (faults-small (raws a b s t) (raws-small a b s t h w x y), place_fault-none a b c before s t w hs hn)

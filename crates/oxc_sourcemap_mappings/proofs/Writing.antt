@@ -3,23 +3,23 @@ use Rattle.std.proofs.Common.{◌≡◌, ℕ, ◌<◌, ◌≤◌, Bool, true, fa
 use Rattle.std.specs.List.{AllByRecursion}
 use Rattle.std.proofs.lemmas.List.{append-nil, take_at, length-append, get_or_at, get_or_past}
 use Rattle.oxc_sourcemap_mappings.specs.Token.{TokenRecord}
-use Rattle.oxc_sourcemap_mappings.specs.State.{State, initial, state_behind}
-use Rattle.oxc_sourcemap_mappings.specs.Canonical.{token_text, text_behind, canonical, has_none_in_front, Extends}
+use Rattle.oxc_sourcemap_mappings.specs.State.{State, initial, state_after}
+use Rattle.oxc_sourcemap_mappings.specs.Canonical.{token_text, text_after, canonical, has_none_before, Extends}
 use Rattle.oxc_sourcemap_mappings.specs.Encoding.{text_from, advanced}
 
 pub and-false : (b : Bool) → (b && false) ≡ false
 and-false true = refl
 and-false false = refl
 
-pub text_behind-is : (first : Bool) (h : State) (seen ts : List TokenRecord) → text_behind first h seen ts ≡ text_from (first && has_none_in_front seen) (state_behind h seen) ts
-unfolding text_behind
-text_behind-is first h seen [] = refl
-text_behind-is first h seen (t ∷ ts) =
-    ap (λ xs. token_text (first && has_none_in_front seen) (state_behind h seen) t ++ xs) (text_behind-is first h (t ∷ seen) ts ∙ ap (λ b. text_from b (advanced (state_behind h seen) t) ts) (and-false first))
+pub text_after-is : (first : Bool) (h : State) (seen ts : List TokenRecord) → text_after first h seen ts ≡ text_from (first && has_none_before seen) (state_after h seen) ts
+unfolding text_after
+text_after-is first h seen [] = refl
+text_after-is first h seen (t ∷ ts) =
+    ap (λ xs. token_text (first && has_none_before seen) (state_after h seen) t ++ xs) (text_after-is first h (t ∷ seen) ts ∙ ap (λ b. text_from b (advanced (state_after h seen) t) ts) (and-false first))
 
 pub canonical-is : (ts : List TokenRecord) → canonical ts ≡ text_from true initial ts
 unfolding canonical
-canonical-is ts = text_behind-is true initial [] ts
+canonical-is ts = text_after-is true initial [] ts
 
 all-append : (xs ys : List ℕ) → AllByRecursion (λ b. b < 128) xs → AllByRecursion (λ b. b < 128) ys → AllByRecursion (λ b. b < 128) (xs ++ ys)
 all-append [] ys p q = q

@@ -3,7 +3,7 @@ use Rattle.std.specs.Prelude.{◌≡◌, ℕ, zero, suc, ◌+◌, ◌-◌, ◌*�
 use Rattle.std.specs.List.{AllByRecursion}
 use Rattle.std.specs.Option.{option_map, option_map_or}
 use Rattle.oxc_sourcemap_mappings.specs.Token.{TokenRecord, is_mapped, mapped_name}
-use Rattle.oxc_sourcemap_mappings.specs.State.{State, initial, state_behind}
+use Rattle.oxc_sourcemap_mappings.specs.State.{State, initial, state_after}
 
 -- the byte of a digit below 64 in the base64 alphabet
 unfoldable pub letter : ℕ → ℕ
@@ -54,33 +54,33 @@ name_text s t = option_map_or (λ id. delta_text id s.name_id) (mapped_name t) [
 unfoldable pub token_text : Bool → State → TokenRecord → List ℕ
 token_text is_first s t = separator is_first s t ++ column_text s t ++ source_text s t ++ name_text s t
 
--- no token stands in front
-abbrev pub has_none_in_front : List TokenRecord → Bool
-has_none_in_front [] = true
-has_none_in_front (t ∷ ts) = false
+-- no token stands before
+abbrev pub has_none_before : List TokenRecord → Bool
+has_none_before [] = true
+has_none_before (t ∷ ts) = false
 
--- The text of some tokens. In front of them stand `in_front`, the nearest first, and in front of these the state `s`.
+-- The text of some tokens. Before them stand `before`, the nearest first, and before these the state `s`.
 -- At the start of the whole list, the first of all is written without a `,`.
-unfoldable pub text_behind : Bool → State → List TokenRecord → List TokenRecord → List ℕ
-text_behind at_start s in_front [] = []
-text_behind at_start s in_front (t ∷ ts) =
-    token_text (at_start && has_none_in_front in_front) (state_behind s in_front) t ++ text_behind at_start s (t ∷ in_front) ts
+unfoldable pub text_after : Bool → State → List TokenRecord → List TokenRecord → List ℕ
+text_after at_start s before [] = []
+text_after at_start s before (t ∷ ts) =
+    token_text (at_start && has_none_before before) (state_after s before) t ++ text_after at_start s (t ∷ before) ts
 
 -- the canonical text of a list in line order
 unfoldable pub canonical : List TokenRecord → List ℕ
-canonical tokens = text_behind true initial [] tokens
+canonical tokens = text_after true initial [] tokens
 
 -- a text with some ASCII bytes more
 abbrev pub Extends : List ℕ → List ℕ → Type 0
 Extends old new = (more : List ℕ) × (new ≡ old ++ more) × AllByRecursion (λ b. b < 128) more
 
 -- a token as far as it is written: of an unmapped one, the generated position alone
-abbrev pub bare_token : TokenRecord → TokenRecord
-bare_token t = if is_mapped t then t else record t { src_line = 0; src_col = 0; name_id = None }
+abbrev pub token_as_written : TokenRecord → TokenRecord
+token_as_written t = if is_mapped t then t else record t { src_line = 0; src_col = 0; name_id = None }
 
 -- a list without what its text leaves out
-abbrev pub bare : List TokenRecord → List TokenRecord
-bare tokens = map bare_token tokens
+abbrev pub as_written : List TokenRecord → List TokenRecord
+as_written tokens = map token_as_written tokens
 
 -- the index of the first token whose generated line goes back
 abbrev pub first_out_of_order : List TokenRecord → Option ℕ
@@ -89,7 +89,7 @@ first_out_of_order (t ∷ []) = None
 first_out_of_order (t ∷ u ∷ ts) =
     if nat_lt u.dst_line t.dst_line then Some 1 else option_map (λ i. i + 1) (first_out_of_order (u ∷ ts))
 
--- The same for tokens that stand behind a token on this line, the first of them at index i.
+-- The same for tokens that stand after a token on this line, the first of them at index i.
 abbrev pub back_from : ℕ → ℕ → List TokenRecord → Option ℕ
 back_from line i [] = None
 back_from line i (t ∷ ts) = if nat_lt t.dst_line line then Some i else back_from t.dst_line (i + 1) ts
@@ -103,11 +103,11 @@ abbrev pub carried_token : State → TokenRecord → TokenRecord
 carried_token s t =
     if is_mapped t then t else record t { src_line = s.src_line; src_col = s.src_col; name_id = None }
 
--- tokens as they come back, behind these, the nearest first
-abbrev pub carried_behind : List TokenRecord → List TokenRecord → List TokenRecord
-carried_behind in_front [] = []
-carried_behind in_front (t ∷ ts) = carried_token (state_behind initial in_front) t ∷ carried_behind (t ∷ in_front) ts
+-- tokens as they come back, after these, the nearest first
+abbrev pub carried_after : List TokenRecord → List TokenRecord → List TokenRecord
+carried_after before [] = []
+carried_after before (t ∷ ts) = carried_token (state_after initial before) t ∷ carried_after (t ∷ before) ts
 
 -- a list as it comes back from its text
 abbrev pub carried : List TokenRecord → List TokenRecord
-carried tokens = carried_behind [] tokens
+carried tokens = carried_after [] tokens

@@ -1,4 +1,4 @@
--- Chunks: parts of a list of tokens, each written from a header of its own, which stands for all that lies in front.
+-- Chunks: parts of a list of tokens, each written from a header of its own, which stands for all that lies before.
 use Rattle.std.specs.Prelude.{◌≡◌, ℕ, ◌+◌, ◌-◌, ◌≤◌, Bool, ◌&&◌, List, [], ◌∷◌, length, Option, Some, None, if◌then◌else◌, nat_lt, nat_le, ◌==◌, take, drop}
 use Rattle.std.specs.Borrow.{Bor}
 use Rattle.std.specs.Option.{option_map, option_map_or}
@@ -8,7 +8,7 @@ use Rattle.oxc_sourcemap_mappings.specs.declared.token.TokenChunk.{TokenChunk}
 use Rattle.oxc_sourcemap_mappings.specs.Token.{TokenRecord}
 use Rattle.oxc_sourcemap_mappings.specs.Faults.{◌orelse◌}
 use Rattle.oxc_sourcemap_mappings.specs.State.{State, state_at}
-use Rattle.oxc_sourcemap_mappings.specs.Canonical.{text_behind, first_out_of_order, back_from}
+use Rattle.oxc_sourcemap_mappings.specs.Canonical.{text_after, first_out_of_order, back_from}
 
 -- the state that a chunk says it starts from
 abbrev pub header : TokenChunk → State
@@ -21,10 +21,10 @@ chunk_tokens tokens c = take (c.end - c.start) (drop c.start tokens)
 -- The text of the tokens of a chunk, written against its header even where that is not the state there. Only a chunk
 -- that starts at index 0 has the first token of all.
 unfoldable pub piece : List TokenRecord → TokenChunk → List ℕ
-piece tokens c = text_behind (c.start == 0) (header c) [] (chunk_tokens tokens c)
+piece tokens c = text_after (c.start == 0) (header c) [] (chunk_tokens tokens c)
 
--- Why a piece is not written: the chunk's range, else the first of its tokens on a line before that of the token in front
--- of it. In front of the first stands the header's line.
+-- Why a piece is not written: the chunk's range, else the first of its tokens on a line before that of the token before
+-- of it. Before the first stands the header's line.
 abbrev pub piece_fault : List TokenRecord → TokenChunk → Option Error
 piece_fault tokens c =
     if nat_le c.start c.end && nat_le c.end (length tokens)
@@ -56,7 +56,7 @@ abbrev pub ChunksFitFrom : List TokenRecord → ℕ → List TokenChunk → Type
 ChunksFitFrom tokens index [] = index ≡ length tokens
 ChunksFitFrom tokens index (c ∷ cs) = ChunkFits tokens index c × ChunksFitFrom tokens c.end cs
 
--- each chunk fits behind its predecessor, the first at index 0, and no token is left over
+-- each chunk fits after its predecessor, the first at index 0, and no token is left over
 abbrev pub ChunksFit : List TokenRecord → List TokenChunk → Type 0
 ChunksFit tokens chunks = ChunksFitFrom tokens 0 chunks
 

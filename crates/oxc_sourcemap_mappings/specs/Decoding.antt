@@ -12,12 +12,12 @@ use Rattle.oxc_sourcemap_mappings.specs.Faults.{digit_fault}
 abbrev pub ends_segment : ℕ → Bool
 ends_segment byte = is_semicolon byte || is_comma byte
 
--- the digits in front of the first `,` or `;`
+-- the digits before the first `,` or `;`
 abbrev pub front_digits : List ℕ → List ℕ
 front_digits [] = []
 front_digits (byte ∷ bytes) = if ends_segment byte then [] else digit byte ∷ front_digits bytes
 
--- the segment in front of the first `,` or `;`
+-- the segment before the first `,` or `;`
 abbrev pub front_segment : List ℕ → Segment
 front_segment text = runs (front_digits text)
 

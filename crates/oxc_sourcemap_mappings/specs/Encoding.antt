@@ -10,7 +10,7 @@ use Rattle.oxc_sourcemap_mappings.specs.Canonical.{token_text, Extends}
 abbrev pub state_of : Previous → State
 state_of p = record { dst_line = p.dst_line; dst_col = p.dst_col; source_id = p.source_id; src_line = p.src_line; src_col = p.src_col; name_id = p.name_id }
 
--- the state behind one more token
+-- the state after one more token
 abbrev pub advanced : State → TokenRecord → State
 advanced s t = record {
   dst_line = t.dst_line;
@@ -21,7 +21,7 @@ advanced s t = record {
   name_id = unwrap_or (mapped_name t) s.name_id;
 }
 
--- the state behind these tokens, in the order of the list
+-- the state after these tokens, in the order of the list
 abbrev pub advanced_all : State → List TokenRecord → State
 advanced_all s [] = s
 advanced_all s (t ∷ ts) = advanced_all (advanced s t) ts

@@ -55,8 +55,8 @@ low_bits z = nat_of (int_rem_euclid z (pos (2 ^ 32)))
 -- The fault of the source id, source line and source column. That of a source id tells the one that the sums have in
 -- front of the segment.
 abbrev pub source_fault : Counts → ℤ → Place → Option Error
-source_fault counts id_in_front p =
-    (if is_id_below p.source_id counts.sources then None else Some (BadSourceReference (nat_of id_in_front)))
+source_fault counts id_before p =
+    (if is_id_below p.source_id counts.sources then None else Some (BadSourceReference (nat_of id_before)))
     orelse range_fault p.src_line
     orelse range_fault p.src_col
 
@@ -64,15 +64,15 @@ source_fault counts id_in_front p =
 abbrev pub name_fault : Counts → Place → Option Error
 name_fault counts p = if is_id_below p.name_id counts.names then None else Some (BadNameReference (low_bits p.name_id))
 
--- The first fault of a segment of this size but for its digits. Given is also the source id that the sums have in front
+-- The first fault of a segment of this size but for its digits. Given is also the source id that the sums have before
 -- of it.
 unfoldable pub place_fault : Counts → ℤ → ℕ → Place → Option Error
-place_fault counts id_in_front size p =
+place_fault counts id_before size p =
     range_fault p.dst_col
     orelse size_fault size
-    orelse (if has_source size then source_fault counts id_in_front p else None)
+    orelse (if has_source size then source_fault counts id_before p else None)
     orelse (if has_name size then name_fault counts p else None)
 
 -- the first fault of a segment: of its digits, then of its place
 abbrev pub segment_fault : Counts → ℤ → Segment → Place → Option Error
-segment_fault counts id_in_front s p = digit_fault s orelse place_fault counts id_in_front (length s) p
+segment_fault counts id_before s p = digit_fault s orelse place_fault counts id_before (length s) p

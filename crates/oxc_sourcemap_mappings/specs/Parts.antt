@@ -16,7 +16,7 @@ Segment = List (List ℕ)
 abbrev pub segment : List ℕ → Segment
 segment bytes = runs (map digit bytes)
 
--- `;`, behind which the next generated line begins
+-- `;`, after which the next generated line begins
 abbrev pub is_semicolon : ℕ → Bool
 is_semicolon byte = byte == 59
 

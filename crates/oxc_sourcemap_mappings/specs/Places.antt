@@ -19,7 +19,7 @@ pub record Place : Type 0 where
   pub src_col : ℤ
   pub name_id : ℤ
 
--- The place of a segment, of two lists that both begin with it and go on with the segments in front of it, the
+-- The place of a segment, of two lists that both begin with it and go on with the segments before it, the
 -- nearest first: those of its line, and those of the whole text. (A sum does not mind the order.)
 abbrev pub place : List Segment → List Segment → Place
 place on_line in_text = record {

@@ -19,37 +19,37 @@ token_at line size p = record {
 }
 
 -- the token, where there is no fault
-abbrev pub unless : Option Error → TokenRecord → Result TokenRecord Error
-unless None token = Ok token
-unless (Some fault) token = Err fault
+abbrev pub token_unless : Option Error → TokenRecord → Result TokenRecord Error
+token_unless None token = Ok token
+token_unless (Some fault) token = Err fault
 
 -- what a segment gives at its place: its token, or its fault
-abbrev pub outcome : Counts → ℕ → ℤ → Segment → Place → Result TokenRecord Error
-outcome counts line id_in_front s p = unless (segment_fault counts id_in_front s p) (token_at line (length s) p)
+abbrev pub segment_result : Counts → ℕ → ℤ → Segment → Place → Result TokenRecord Error
+segment_result counts line id_before s p = token_unless (segment_fault counts id_before s p) (token_at line (length s) p)
 
--- What each segment of a line gives. In front of them stand these segments on the line, and these in the text, the
+-- What each segment of a line gives. Before them stand these segments on the line, and these in the text, the
 -- nearest first.
-unfoldable pub line_outcomes : Counts → ℕ → List Segment → List Segment → List Segment → List (Result TokenRecord Error)
-line_outcomes counts line on_line in_text [] = []
-line_outcomes counts line on_line in_text (s ∷ more) =
-    outcome counts line (field_sum has_source 1 in_text) s (place (s ∷ on_line) (s ∷ in_text))
-    ∷ line_outcomes counts line (s ∷ on_line) (s ∷ in_text) more
+unfoldable pub line_results : Counts → ℕ → List Segment → List Segment → List Segment → List (Result TokenRecord Error)
+line_results counts line on_line in_text [] = []
+line_results counts line on_line in_text (s ∷ more) =
+    segment_result counts line (field_sum has_source 1 in_text) s (place (s ∷ on_line) (s ∷ in_text))
+    ∷ line_results counts line (s ∷ on_line) (s ∷ in_text) more
 
--- what stands in front behind some more segments, the nearest first
+-- what stands before after some more segments, the nearest first
 abbrev pub passed : List Segment → List Segment → List Segment
-passed [] in_front = in_front
-passed (s ∷ more) in_front = passed more (s ∷ in_front)
+passed [] before = before
+passed (s ∷ more) before = passed more (s ∷ before)
 
 -- What each segment of some lines gives, the first of which has this number. The line that the 4294967296th `;` begins is
--- a fault, and nothing behind it is read.
-unfoldable pub text_outcomes : Counts → ℕ → List Segment → List (List Segment) → List (Result TokenRecord Error)
-text_outcomes counts line in_text [] = []
-text_outcomes counts line in_text (l ∷ ls) =
+-- a fault, and nothing after it is read.
+unfoldable pub text_results : Counts → ℕ → List Segment → List (List Segment) → List (Result TokenRecord Error)
+text_results counts line in_text [] = []
+text_results counts line in_text (l ∷ ls) =
     if nat_lt line 4294967296
-    then line_outcomes counts line [] in_text l ++ text_outcomes counts (line + 1) (passed l in_text) ls
+    then line_results counts line [] in_text l ++ text_results counts (line + 1) (passed l in_text) ls
     else Err TooLarge ∷ []
 
--- this token in front of a reading
+-- this token before a reading
 abbrev pub onto : TokenRecord → Result (List TokenRecord) Error → Result (List TokenRecord) Error
 onto token (Ok tokens) = Ok (token ∷ tokens)
 onto token (Err fault) = Err fault
@@ -62,4 +62,4 @@ gathered (Err fault ∷ more) = Err fault
 
 -- what a text reads as, where there are so many names and sources
 unfoldable pub reading : List ℕ → ℕ → ℕ → Result (List TokenRecord) Error
-reading text names sources = gathered (text_outcomes (counts_of names sources) 0 [] (lines text))
+reading text names sources = gathered (text_results (counts_of names sources) 0 [] (lines text))

@@ -11,6 +11,6 @@ abbrev pub unless : {A : Type 0} → Option Error → Result A Error → Result 
 unless None answer = answer
 unless (Some fault) answer = Err fault
 
--- Which refusal a failure of `serde_json` becomes: want of memory stays that, and every other cause is that no value is read
+-- Which refusal a failure of `serde_json` becomes: lack of memory stays that, and every other cause is that no value is read
 abbrev pub refusal_of_json : json.Error → Error → Type 0
 refusal_of_json cause e = (IsMemory cause → e ≡ OutOfMemory) × (¬ (IsMemory cause) → e ≡ BadJson Reading)

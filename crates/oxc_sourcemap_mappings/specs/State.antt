@@ -12,28 +12,28 @@ pub record State : Type 0 where
   pub src_col : ℕ
   pub name_id : ℕ
 
--- the state that no token stands in front of
+-- the state that no token stands before
 abbrev pub initial : State
 initial = record { dst_line = 0; dst_col = 0; source_id = 0; src_line = 0; src_col = 0; name_id = 0 }
 
--- The number of the nearest token that gives one, else the default. The tokens in front stand the nearest first.
+-- The number of the nearest token that gives one, else the default. The tokens before stand the nearest first.
 abbrev pub nearest : (TokenRecord → Option ℕ) → ℕ → List TokenRecord → ℕ
 nearest given default [] = default
-nearest given default (t ∷ in_front) = unwrap_or (given t) (nearest given default in_front)
+nearest given default (t ∷ before) = unwrap_or (given t) (nearest given default before)
 
--- The state behind some tokens, the nearest first, with this state in front of them all. Generated line and column come
+-- The state after some tokens, the nearest first, with this state before them all. Generated line and column come
 -- from the nearest token, source id, line and column from the nearest mapped one, and the name id from the nearest mapped
 -- one with a name.
-abbrev pub state_behind : State → List TokenRecord → State
-state_behind s in_front = record {
-  dst_line = nearest (λ t. Some t.dst_line) s.dst_line in_front;
-  dst_col = nearest (λ t. Some t.dst_col) s.dst_col in_front;
-  source_id = nearest (λ t. t.source_id) s.source_id in_front;
-  src_line = nearest (λ t. beside_source t.source_id t.src_line) s.src_line in_front;
-  src_col = nearest (λ t. beside_source t.source_id t.src_col) s.src_col in_front;
-  name_id = nearest mapped_name s.name_id in_front;
+abbrev pub state_after : State → List TokenRecord → State
+state_after s before = record {
+  dst_line = nearest (λ t. Some t.dst_line) s.dst_line before;
+  dst_col = nearest (λ t. Some t.dst_col) s.dst_col before;
+  source_id = nearest (λ t. t.source_id) s.source_id before;
+  src_line = nearest (λ t. beside_source t.source_id t.src_line) s.src_line before;
+  src_col = nearest (λ t. beside_source t.source_id t.src_col) s.src_col before;
+  name_id = nearest mapped_name s.name_id before;
 }
 
 -- the state at index i of a list
 abbrev pub state_at : List TokenRecord → ℕ → State
-state_at tokens i = state_behind initial (reverse (take i tokens))
+state_at tokens i = state_after initial (reverse (take i tokens))

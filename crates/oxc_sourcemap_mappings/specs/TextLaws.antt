@@ -4,7 +4,7 @@ use Rattle.std.specs.List.{AllByRecursion, flat_map}
 use Rattle.oxc_sourcemap_mappings.specs.declared.token.TokenChunk.{TokenChunk}
 use Rattle.oxc_sourcemap_mappings.specs.Token.{TokenRecord, AreInBounds, mapped_name}
 use Rattle.oxc_sourcemap_mappings.specs.Reading.{reading}
-use Rattle.oxc_sourcemap_mappings.specs.Canonical.{canonical, bare, carried, IsInLineOrder}
+use Rattle.oxc_sourcemap_mappings.specs.Canonical.{canonical, as_written, carried, IsInLineOrder}
 use Rattle.oxc_sourcemap_mappings.specs.Chunks.{piece, ChunksFit}
 
 -- a list in line order and in bounds
@@ -19,13 +19,13 @@ pub record AreWrittenIdsBelow (names sources : ℕ) (t : TokenRecord) : Type 0 w
 
 -- Two lists have one text exactly where they are equal as far as texts tell.
 abbrev pub CanonicalUnique : Type 0
-CanonicalUnique = (a b : List TokenRecord) → IsOrderedInBounds a → IsOrderedInBounds b → (canonical a ≡ canonical b) ↔ (bare a ≡ bare b)
+CanonicalUnique = (a b : List TokenRecord) → IsOrderedInBounds a → IsOrderedInBounds b → (canonical a ≡ canonical b) ↔ (as_written a ≡ as_written b)
 
 -- A written text reads, with counts above its ids, without fault, and as far as texts tell as the list that was written:
 -- an unmapped token comes back with the source position that the sums have there.
 abbrev pub ReadsBack : Type 0
 ReadsBack = (names sources : ℕ) (tokens : List TokenRecord) → IsOrderedInBounds tokens → AllByRecursion (AreWrittenIdsBelow names sources) tokens
-    → (reading (canonical tokens) names sources ≡ Ok (carried tokens)) × (bare (carried tokens) ≡ bare tokens)
+    → (reading (canonical tokens) names sources ≡ Ok (carried tokens)) × (as_written (carried tokens) ≡ as_written tokens)
 
 -- What a text reads as is in line order and in bounds, and written and read again it is the same.
 abbrev pub ReadsAgain : Type 0

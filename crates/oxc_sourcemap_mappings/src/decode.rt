@@ -5,7 +5,7 @@ ghost use Rattle.oxc_sourcemap_mappings.specs.declared.error.Error.TheVariants.{
 ghost use Rattle.oxc_sourcemap_mappings.specs.Number.{digit, payload, signed};
 ghost use Rattle.oxc_sourcemap_mappings.specs.Places.{place};
 ghost use Rattle.oxc_sourcemap_mappings.specs.Faults.{digit_fault, range_fault, is_id_below, low_bits, source_fault, place_fault, counts_of};
-ghost use Rattle.oxc_sourcemap_mappings.specs.Reading.{token_at, outcome, reading};
+ghost use Rattle.oxc_sourcemap_mappings.specs.Reading.{token_at, segment_result, reading};
 ghost use Rattle.oxc_sourcemap_mappings.specs.Decoding.{ends_segment, front_digits, front_segment, is_over, AreFieldsOf, AreSmall, value, place_of, source_moved, moved, moved_by};
 
 use crate::error::{Error, Result};
@@ -173,7 +173,7 @@ fn low_bits_of(id: u32, by: i64) -> u32
 }
 
 impl Sums {
-    /// The sums in front of the first segment.
+    /// The sums before the first segment.
     fn new() -> Self
         ensures { place_of result ≡ place [] [] }
     {
@@ -251,12 +251,12 @@ impl Sums {
         ensures place { OnOk result (place_of self.new ≡ moved_by (place_of self.old) (front_segment text.now)) }
         ensures token { let s = front_segment text.now in
             let place = moved_by (place_of self.old) s in
-            IfOk result (λ read. outcome (counts_of names sources) line (pos self.old.source_id) s place ≡ Ok read.0) }
+            IfOk result (λ read. segment_result (counts_of names sources) line (pos self.old.source_id) s place ≡ Ok read.0) }
         ensures len { IfOk result (λ read. read.1 ≡ length (front_digits text.now)) }
         ensures within { IfOk result (λ read. read.1 ≤ length text.now) }
         ensures fault { let s = front_segment text.now in
             let place = moved_by (place_of self.old) s in
-            IfErr result (λ e. outcome (counts_of names sources) line (pos self.old.source_id) s place ≡ Err e) }
+            IfErr result (λ e. segment_result (counts_of names sources) line (pos self.old.source_id) s place ≡ Err e) }
     {
         let fields = read_segment(text)?;
         let token = self.step(line, &fields, names, sources)?;
@@ -286,7 +286,7 @@ impl Sums {
     }
 }
 
-/// The line behind this one.
+/// The line after this one.
 fn next_line(line: u32) -> Result<u32>
     ensures line { IfOk result (λ next. next ≡ line + 1) }
     ensures last { IfErr result (λ e. (e ≡ TooLarge) × (line ≡ 4294967295)) }
@@ -306,7 +306,7 @@ fn next_line(line: u32) -> Result<u32>
 /// - its generated column: `BadSegmentSize(0)` if negative, `VlqOverflow` above 4294967295;
 /// - its number of fields, n: `BadSegmentSize(n)` unless 1, 4 or 5, with 4294967295 for more than that;
 /// - its source id, in 4 or 5 fields: `BadSourceReference` if negative or not below `sources`, with the source id of the
-///   last segment in front that has one, 0 if none has;
+///   last segment before that has one, 0 if none has;
 /// - its source line, then its source column: as the generated column;
 /// - its name id, in 5 fields: `BadNameReference` if negative or not below `names`, with the low 32 bits of it.
 pub fn decode_mappings(

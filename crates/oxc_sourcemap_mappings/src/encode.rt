@@ -12,7 +12,7 @@ use crate::error::{Error, Result};
 use crate::token::{Token, TokenChunk};
 use std::alloc::AllocError;
 
-/// What the next token is written against: the generated position in front, the source position of the nearest mapped
+/// What the next token is written against: the generated position before, the source position of the nearest mapped
 /// token there, and the nearest name id of a mapped token.
 #[derive(Clone, Copy, Drop)]
 struct Previous {
@@ -53,8 +53,8 @@ impl Previous {
         }
     }
 
-    /// What the token behind this one is written against.
-    fn behind(&self, token: &Token) -> Self
+    /// What the token after this one is written against.
+    fn after(&self, token: &Token) -> Self
         ensures { state_of result ≡ advanced (state_of self.now) token.now }
     {
         match token.get_source_id() {
@@ -75,13 +75,13 @@ impl Previous {
     }
 }
 
-/// What stands behind a state and these tokens.
-fn behind_all(previous: Previous, tokens: &[Token]) -> Previous
+/// What stands after a state and these tokens.
+fn after_all(previous: Previous, tokens: &[Token]) -> Previous
     ensures { state_of result ≡ advanced_all (state_of previous) tokens.now }
 {
     let mut reached = previous;
     for token in tokens {
-        reached = reached.behind(token);
+        reached = reached.after(token);
     }
     reached
 }
@@ -176,7 +176,7 @@ fn push_semicolons(out: &mut String, count: u32) -> std::result::Result<(), Allo
     Ok(())
 }
 
-/// Adds what parts a token from the one in front of it.
+/// Adds what parts a token from the one before it.
 #[tactic(auto, unfolding(crate::specs::Canonical::separator))]
 fn push_separator(
     out: &mut String,
@@ -268,7 +268,7 @@ fn push_token(
     Ok(())
 }
 
-/// Adds tokens in line order behind a state.
+/// Adds tokens in line order after a state.
 fn push_tokens(
     out: &mut String,
     at_start: bool,
@@ -283,30 +283,30 @@ fn push_tokens(
     let mut is_first = at_start;
     for token in tokens {
         push_token(out, is_first, &previous, token)?;
-        previous = previous.behind(token);
+        previous = previous.after(token);
         is_first = false;
     }
     Ok(())
 }
 
-/// The index of the first token whose generated line is smaller than that of the token in front. In front of the first
+/// The index of the first token whose generated line is smaller than that of the token before. Before the first
 /// stands `line`, and its own index is `first`.
 fn line_back_from(line: u32, first: usize, tokens: &[Token]) -> Option<usize>
     requires { first + length tokens.now < 2 ^ 64 }
     ensures place { result ≡ back_from line first tokens.now }
     ensures in_bounds { result ≡ None → AreInBounds tokens.now }
 {
-    let mut line_in_front = line;
+    let mut line_before = line;
     for (i, token) in tokens.iter().enumerate() {
-        if token.get_dst_line() < line_in_front {
+        if token.get_dst_line() < line_before {
             return Some(first + i);
         }
-        line_in_front = token.get_dst_line();
+        line_before = token.get_dst_line();
     }
     None
 }
 
-/// The index of the first token whose generated line is smaller than that of the token in front, which `LineOrder` tells;
+/// The index of the first token whose generated line is smaller than that of the token before, which `LineOrder` tells;
 /// None where there is none. It takes no memory.
 pub fn line_order_fault(tokens: &[Token]) -> Option<usize>
     ensures place { result ≡ first_out_of_order tokens.now }
@@ -315,9 +315,9 @@ pub fn line_order_fault(tokens: &[Token]) -> Option<usize>
     line_back_from(0, 0, tokens)
 }
 
-/// The index of the first chunk that does not fit the tokens; where there is none, but tokens are left over (behind the
+/// The index of the first chunk that does not fit the tokens; where there is none, but tokens are left over (after the
 /// last chunk, or without any chunk), the number of chunks; None where all chunks fit. A chunk fits if it begins where its predecessor ended (the
-/// first at 0), does not end before it starts nor behind the tokens, and its header tells the state there (docs/FORMAT.md,
+/// first at 0), does not end before it starts nor after the tokens, and its header tells the state there (docs/FORMAT.md,
 /// "Chunks"). It goes over the tokens once, takes no memory, and asks nothing of the tokens.
 pub fn chunk_fault(tokens: &[Token], chunks: &[TokenChunk]) -> Option<usize>
     ensures misfit { result ≡ first_misfit tokens.now chunks.now }
@@ -334,7 +334,7 @@ pub fn chunk_fault(tokens: &[Token], chunks: &[TokenChunk]) -> Option<usize>
         if !is_header_of(chunk, &previous) {
             return Some(k);
         }
-        previous = behind_all(previous, &tokens[start..end]);
+        previous = after_all(previous, &tokens[start..end]);
         done = end;
     }
     if done == tokens.len() {
@@ -353,25 +353,25 @@ fn tokens_of<'t>(tokens: &'t [Token], chunk: &TokenChunk) -> &'t [Token]
     &tokens[chunk.start as usize..chunk.end as usize]
 }
 
-/// What stands behind all of the tokens, by the last of these chunks, which fit them.
-fn behind_chunks(tokens: &[Token], chunks: &[TokenChunk]) -> Previous
+/// What stands after all of the tokens, by the last of these chunks, which fit them.
+fn after_chunks(tokens: &[Token], chunks: &[TokenChunk]) -> Previous
     requires { ChunksFit tokens.now chunks.now }
     ensures { state_of result ≡ state_at tokens.now (length tokens.now) }
 {
     match chunks.last() {
-        Some(chunk) => behind_all(Previous::header_of(chunk), tokens_of(tokens, chunk)),
+        Some(chunk) => after_all(Previous::header_of(chunk), tokens_of(tokens, chunk)),
         None => Previous::new(),
     }
 }
 
-/// The chunk behind these, which fit the tokens: it starts at the end of the tokens, with the state there for its header,
+/// The chunk after these, which fit the tokens: it starts at the end of the tokens, with the state there for its header,
 /// and ends at `end`. It goes over the tokens of the last chunk alone.
 pub fn next_chunk(tokens: &[Token], chunks: &[TokenChunk], end: u32) -> TokenChunk
     requires fits { ChunksFit tokens.now chunks.now }
     requires counted { length tokens.now ≤ 4294967295 }
     ensures { result ≡ chunk_from (state_at tokens.now (length tokens.now)) (length tokens.now) end }
 {
-    let reached = behind_chunks(tokens, chunks);
+    let reached = after_chunks(tokens, chunks);
     TokenChunk::new(
         tokens.len() as u32,
         end,
@@ -397,8 +397,8 @@ fn fault_of_chunk(tokens: &[Token], chunk: &TokenChunk) -> Option<Error>
 }
 
 /// Appends the piece of a chunk to `out`: the text of its tokens, written from the chunk's header as it is, also where
-/// that does not tell the state in front of the chunk (docs/FORMAT.md, "Chunks"). A chunk that starts at index 0 has the
-/// first token of all, which takes no `,` in front. The pieces of chunks that fit, one after the other, are the canonical
+/// that does not tell the state before the chunk (docs/FORMAT.md, "Chunks"). A chunk that starts at index 0 has the
+/// first token of all, which takes no `,` before. The pieces of chunks that fit, one after the other, are the canonical
 /// text of the tokens.
 ///
 /// Refused in this order, with `out` as it was:
@@ -482,10 +482,10 @@ fn push_in_chunks(out: &mut String, tokens: &[Token], chunks: Option<&[TokenChun
 /// for its form ECMA-426, "Mappings structure"). Columns may go back on a line. Of an unmapped token only the generated
 /// position goes into the text. Chunks change nothing in the text: they only have to fit the tokens.
 ///
-/// Each token takes at most 36 bytes, and each line in front of the last token's one more.
+/// Each token takes at most 36 bytes, and each line before the last token's one more.
 ///
 /// Refused in this order, with `out` as it was:
-/// - `LineOrder(i)`, where i is the first token whose generated line is smaller than that of the token in front;
+/// - `LineOrder(i)`, where i is the first token whose generated line is smaller than that of the token before;
 /// - `BadChunks(k)`, the `k` of `chunk_fault`, where there are chunks that do not fit;
 /// - `TooLarge` for more than 4294967295 tokens;
 /// - `OutOfMemory` where memory is refused.

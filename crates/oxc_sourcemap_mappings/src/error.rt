@@ -23,7 +23,7 @@ pub enum Error {
     /// A mappings segment has this many fields (4294967295 stands for more), and not 1, 4 or 5. With 0: a generated
     /// column, source line or source column is below 0.
     BadSegmentSize(u32),
-    /// A source id is out of range. In a mappings text this tells the source id of the last segment in front that has one,
+    /// A source id is out of range. In a mappings text this tells the source id of the last segment before that has one,
     /// 0 if none has; in an ignore list, the entry itself.
     BadSourceReference(u32),
     /// A name id is out of range. This tells its low 32 bits.
@@ -161,7 +161,7 @@ impl std::error::Error for Error {}
 impl From<serde_json::Error> for Error {
     ghost from_gives = { refusal_of_json };
 
-    /// Want of memory is `OutOfMemory`, and every other cause `BadJson(Reading)`.
+    /// Lack of memory is `OutOfMemory`, and every other cause `BadJson(Reading)`.
     fn from(cause: serde_json::Error) -> Error {
         if cause.is_memory() {
             Error::OutOfMemory

@@ -125,7 +125,7 @@ impl Token {
 }
 
 /// The tokens of a list from index `start` up to and without index `end`. The six `prev_` fields are what their deltas
-/// start from. They are meant to be the generated line and column in front of `start`, the source id, line and column of
+/// start from. They are meant to be the generated line and column before `start`, the source id, line and column of
 /// the nearest mapped token there, and the nearest name id of a mapped token, or 0; this type does not check it.
 #[derive(Clone, Debug, Default, PartialEq, Eq, Drop)]
 pub struct TokenChunk {

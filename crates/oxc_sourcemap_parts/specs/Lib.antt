@@ -2,5 +2,5 @@ pub mod Record
 pub mod Views
 pub mod Sorted
 pub mod Sound
-pub mod Sheet
+pub mod DecodedMap
 pub mod Texts

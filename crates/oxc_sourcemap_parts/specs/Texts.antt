@@ -5,8 +5,8 @@ use Rattle.std.specs.Str.{bytes_eq}
 use Rattle.oxc_sourcemap_parts.specs.Record.{Text}
 
 -- the index of the first text in a list that is equal to this one
-abbrev pub place_of : Text → List Text → Option ℕ
-place_of text texts = position_from (bytes_eq text) 0 texts
+abbrev pub index_of : Text → List Text → Option ℕ
+index_of text texts = position_from (bytes_eq text) 0 texts
 
 -- the list with this text: as it is where it has an equal one, else with this as a new last one
 abbrev pub with_text_at : Option ℕ → List Text → Text → List Text
@@ -14,7 +14,7 @@ with_text_at (Some i) texts text = texts
 with_text_at None texts text = texts ++ text ∷ []
 
 abbrev pub with_text : List Text → Text → List Text
-with_text texts text = with_text_at (place_of text texts) texts text
+with_text texts text = with_text_at (index_of text texts) texts text
 
 -- the list with these texts, one after the other
 abbrev pub with_texts : List Text → List Text → List Text

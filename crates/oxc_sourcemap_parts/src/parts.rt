@@ -19,7 +19,7 @@ pub struct SourceMapParts<'a> {
     pub file: Option<CowStr<'a>>,
     /// The names that tokens refer to by their index.
     pub names: Vec<CowStr<'a>>,
-    /// What stands in front of each source when it is looked up; nothing here joins them.
+    /// What stands before each source when it is looked up; nothing here joins them.
     pub source_root: Option<CowStr<'a>>,
     /// The sources that tokens refer to by their index.
     pub sources: Vec<CowStr<'a>>,

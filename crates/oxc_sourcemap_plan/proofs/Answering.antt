@@ -2,17 +2,18 @@
 use Rattle.std.proofs.Common.{◌≡◌, ℕ, ◌≤◌, true, cond, nat_le, Ok, sym, ap, ◌∙◌, subst, arith}
 use Rattle.std.proofs.lemmas.Bool.Decides.{nat_tests}
 use Rattle.oxc_sourcemap_parts.specs.Record.{MapRecord}
-use Rattle.oxc_sourcemap_parts.specs.Sheet.{sheet_of}
+use Rattle.oxc_sourcemap_parts.specs.DecodedMap.{decoded_map_of}
 use Rattle.oxc_sourcemap_json.specs.Encoded.{encoded_record}
 use Rattle.oxc_sourcemap_json.specs.MapLaws.{rewritten, SoundIsWritten, SoundReadsBack}
-use Rattle.oxc_sourcemap_laws.specs.JoinLaws.{AlikeTracesSame}
-use Rattle.oxc_sourcemap_laws.proofs.AlikeSheets.{matches}
+use Rattle.oxc_sourcemap_laws.specs.JoinLaws.{TracesAgree}
+use Rattle.oxc_sourcemap_laws.proofs.UpToRepeats.{matches}
 use Rattle.oxc_sourcemap_plan.specs.Outcome.{Outcome, too_deep}
-use Rattle.oxc_sourcemap_plan.specs.Evaluated.{Gives, IsReadBack, IsEvaluated}
+use Rattle.oxc_sourcemap_plan.specs.Evaluated.{IsReadBack, IsEvaluated}
+use Rattle.oxc_sourcemap_plan.specs.Realizes.{Realizes}
 use Rattle.oxc_sourcemap_plan.proofs.Decoding.{decoded-reading}
 
-module _ (traces : AlikeTracesSame) (written : SoundIsWritten) (back : SoundReadsBack) where
-  read_back : (m : MapRecord) (o : Outcome) → Gives m o → o.is_rewritten ≡ true → IsReadBack m
+module _ (traces : TracesAgree) (written : SoundIsWritten) (back : SoundReadsBack) where
+  read_back : (m : MapRecord) (o : Outcome) → Realizes m o → o.is_rewritten ≡ true → IsReadBack m
   read_back m o g e =
       let r = g.rewritten e in
       record {
@@ -20,26 +21,26 @@ module _ (traces : AlikeTracesSame) (written : SoundIsWritten) (back : SoundRead
         tokens = decoded-reading (encoded_record m) (rewritten m) (back m g.stands.sound g.in_bounds).is_read ∙ ap (λ ts. Ok ts) r.1;
       }
 
-  is_evaluated : (m : MapRecord) (o : Outcome) → Gives m o → IsEvaluated m o
+  is_evaluated : (m : MapRecord) (o : Outcome) → Realizes m o → IsEvaluated m o
   is_evaluated m o g = record {
-    sheet = g.sheet;
+    decoded_map = g.decoded_map;
     means = g.means;
     sound = g.stands.sound;
-    alike = g.stands.alike;
-    traces = traces (sheet_of m) g.sheet g.stands.alike;
-    metadata = (matches (sheet_of m) g.sheet g.stands.alike).rest;
+    up_to_repeats = g.stands.up_to_repeats;
+    traces = traces (decoded_map_of m) g.decoded_map g.stands.up_to_repeats;
+    metadata = (matches (decoded_map_of m) g.decoded_map g.stands.up_to_repeats).rest;
     tokens = g.tokens;
     names = g.names;
     contents = g.contents;
     known = g.known;
     rewritten = read_back m o g;
-    room = λ r. (let few = g.room r in let tokens = g.tokens in omega arith);
+    within_limits = λ r. (let few = g.within_limits r in let tokens = g.tokens in omega arith);
     written = written m g.stands.sound;
     comes_back = back m g.stands.sound g.in_bounds;
   }
 
   -- a plan that is not too deep
-  pub evaluated : (d : ℕ) (o : Outcome) (m n : MapRecord) → d ≤ 64 → n ≡ m → Gives m o → IsEvaluated n (cond (nat_le d 64) o too_deep)
+  pub evaluated : (d : ℕ) (o : Outcome) (m n : MapRecord) → d ≤ 64 → n ≡ m → Realizes m o → IsEvaluated n (cond (nat_le d 64) o too_deep)
   evaluated d o m n l is g =
       let t : nat_le d 64 ≡ true = grind (arith, nat_tests) in
       subst (λ b. IsEvaluated n (cond b o too_deep)) (sym t) (subst (λ x. IsEvaluated x o) (sym is) (is_evaluated m o g))

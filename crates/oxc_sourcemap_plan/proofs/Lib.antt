@@ -1,7 +1,7 @@
 pub mod Plans
-pub mod Known
+pub mod KnownNames
 pub mod Decoding
-pub mod Giving
+pub mod Realizing
 pub mod Parts
 pub mod Answering
 mod Worked

@@ -5,7 +5,7 @@ use Rattle.oxc_sourcemap_mappings.specs.declared.error.JsonFault.TheVariants.{Re
 use Rattle.oxc_sourcemap_mappings.specs.Token.{TokenRecord}
 use Rattle.oxc_sourcemap_parts.specs.Record.{Text, MapRecord}
 use Rattle.oxc_sourcemap_parts.specs.Views.{empty_record}
-use Rattle.oxc_sourcemap_parts.specs.Sheet.{Entry}
+use Rattle.oxc_sourcemap_parts.specs.DecodedMap.{DecodedMapping}
 use Rattle.oxc_sourcemap_plan.specs.declared.plan.PlanError.TheVariants.{Map, Unsorted}
 use Rattle.oxc_sourcemap_plan.specs.Meaning.{Meaning}
 use Rattle.oxc_sourcemap_plan.specs.Outcome.{Outcome, read_outcome, rewrite_outcome, join_outcome, composition_outcome}
@@ -24,16 +24,16 @@ abbrev of_map : MapRecord → Outcome
 of_map r = read_outcome (Ok r)
 
 -- an entry at a position, which points to this one of a source
-abbrev points : ℕ → ℕ → Text → ℕ → ℕ → Option Text → Entry
+abbrev points : ℕ → ℕ → Text → ℕ → ℕ → Option Text → DecodedMapping
 points line col path src_line src_col name =
-    record { dst_line = line; dst_col = col; origin = Some (record { source = record { path = path; content = None }; src_line = src_line; src_col = src_col; name = name }) }
+    record { dst_line = line; dst_col = col; original = Some (record { source = record { path = path; content = None }; src_line = src_line; src_col = src_col; name = name }) }
 
-abbrev unmapped : ℕ → ℕ → Entry
-unmapped line col = record { dst_line = line; dst_col = col; origin = None }
+abbrev unmapped : ℕ → ℕ → DecodedMapping
+unmapped line col = record { dst_line = line; dst_col = col; original = None }
 
 -- the entries of a meaning
-abbrev entries_of : Meaning → List Entry
-entries_of (Ok s) = s.entries
+abbrev entries_of : Meaning → List DecodedMapping
+entries_of (Ok s) = s.mappings
 entries_of (Err e) = []
 
 -- AAKG,I with a.js, and AAOC with b.js
@@ -58,7 +58,7 @@ rewrites-a-join : (rewrite_outcome (join_outcome ((of_map first_map, 0) ∷ (of_
     ≡ (join_outcome ((of_map first_map, 0) ∷ (of_map second_map, 1) ∷ [])).meaning
 rewrites-a-join = refl
 
--- the second map at a line in front of the first
+-- the second map at a line before the first
 joins-unsorted : (join_outcome ((of_map first_map, 1) ∷ (of_map second_map, 0) ∷ [])).meaning ≡ Err Unsorted
 joins-unsorted = refl
 
@@ -66,11 +66,11 @@ joins-unsorted = refl
 bad-part-first : (join_outcome ((of_map (plain [] [] (token 1 0 0 0 None None ∷ [])), 4294967295) ∷ (read_outcome (Err (BadJson Reading)), 0) ∷ [])).meaning ≡ Err (Map (BadJson Reading))
 bad-part-first = refl
 
-bad-part-counts-nothing : (join_outcome ((of_map (plain [] [] (token 1 0 0 0 None None ∷ [])), 4294967295) ∷ (read_outcome (Err (BadJson Reading)), 0) ∷ [])).is_roomy ≡ true
+bad-part-counts-nothing : (join_outcome ((of_map (plain [] [] (token 1 0 0 0 None None ∷ [])), 4294967295) ∷ (read_outcome (Err (BadJson Reading)), 0) ∷ [])).is_within_limits ≡ true
 bad-part-counts-nothing = refl
 
 -- without that text there is no room
-no-room : (join_outcome ((of_map (plain [] [] (token 1 0 0 0 None None ∷ [])), 4294967295) ∷ [])).is_roomy ≡ false
+no-room : (join_outcome ((of_map (plain [] [] (token 1 0 0 0 None None ∷ [])), 4294967295) ∷ [])).is_within_limits ≡ false
 no-room = refl
 
 -- compose @0 @1

@@ -1,6 +1,7 @@
 pub mod PlanMessages
 pub mod Depth
 pub mod Meaning
-pub mod Room
+pub mod Limits
 pub mod Outcome
 pub mod Evaluated
+pub mod Realizes

@@ -1,29 +1,29 @@
--- What is said of a plan, by cases on it: what it means, the names of the texts read for it, and whether it is roomy.
+-- What is said of a plan, by cases on it: what it means, the names of the texts read for it, and whether it is within the limits.
 use Rattle.std.specs.Prelude.{ℕ, Bool, true, false, ◌&&◌, List, [], ◌++◌, length, map, Result, Ok, Err, if◌then◌else◌, nat_le}
 use Rattle.std.specs.List.{flat_map, list_all}
 use Rattle.oxc_sourcemap_mappings.specs.declared.error.Error.{Error}
 use Rattle.oxc_sourcemap_parts.specs.Record.{Text, MapRecord}
-use Rattle.oxc_sourcemap_parts.specs.Sheet.{Sheet}
+use Rattle.oxc_sourcemap_parts.specs.DecodedMap.{DecodedMap}
 use Rattle.oxc_sourcemap_json.specs.ReadMap.{read_map}
-use Rattle.oxc_sourcemap_laws.specs.JoinedSheets.{joined_sheets}
+use Rattle.oxc_sourcemap_laws.specs.JoinedDecodedMaps.{joined_decoded_maps}
 use Rattle.oxc_sourcemap_plan.specs.declared.plan.Plan.{Plan}
 use Rattle.oxc_sourcemap_plan.specs.declared.plan.Plan.TheOpen.{Plan-F}
 use Rattle.oxc_sourcemap_plan.specs.declared.plan.Plan.TheFolds.{fold-Plan}
 use Rattle.oxc_sourcemap_plan.specs.declared.plan.PlanError.{PlanError}
 use Rattle.oxc_sourcemap_plan.specs.declared.plan.PlanError.TheVariants.{TooDeep}
 use Rattle.oxc_sourcemap_plan.specs.Depth.{depth}
-use Rattle.oxc_sourcemap_plan.specs.Meaning.{Meaning, read_meaning, all_sheets, join_meaning, composition_meaning}
-use Rattle.oxc_sourcemap_plan.specs.Room.{is_fitting, is_join_fitting}
+use Rattle.oxc_sourcemap_plan.specs.Meaning.{Meaning, read_meaning, all_decoded_maps, join_meaning, composition_meaning}
+use Rattle.oxc_sourcemap_plan.specs.Limits.{is_part_within_limits, is_join_within_limits}
 
 pub record Outcome : Type 0 where
-  -- a sheet or the first refusal
+  -- a decoded map or the first refusal
   pub meaning : Meaning
   -- the names of all texts that are read
   pub names : List Text
   -- how many contents a map lists at most
   pub contents : ℕ
   -- at every part counts and lines are within the limits
-  pub is_roomy : Bool
+  pub is_within_limits : Bool
   -- the last thing done is to write and read again
   pub is_rewritten : Bool
 
@@ -42,7 +42,7 @@ read_outcome read = record {
   meaning = read_meaning read;
   names = names_of_read read;
   contents = contents_of_read read;
-  is_roomy = is_fitting (names_of_read read) (read_meaning read);
+  is_within_limits = is_part_within_limits (names_of_read read) (read_meaning read);
   is_rewritten = false;
 }
 
@@ -58,21 +58,21 @@ meanings parts = map (λ p. (p.0.meaning, p.1)) parts
 abbrev pub names_of_all : List (Outcome × ℕ) → List Text
 names_of_all parts = flat_map (λ p. p.0.names) parts
 
--- how many sources a join of these sheets has
-abbrev pub joined_source_count : Result (List (Sheet × ℕ)) PlanError → ℕ
+-- how many sources a join of these decoded maps has
+abbrev pub joined_source_count : Result (List (DecodedMap × ℕ)) PlanError → ℕ
 joined_source_count (Err e) = 0
-joined_source_count (Ok sheets) = length (joined_sheets sheets).sources
+joined_source_count (Ok decoded_maps) = length (joined_decoded_maps decoded_maps).sources
 
--- all parts of a join are roomy
-abbrev pub are_all_roomy : List (Outcome × ℕ) → Bool
-are_all_roomy parts = list_all (λ p. p.0.is_roomy) parts
+-- all parts of a join are within the limits
+abbrev pub are_all_within_limits : List (Outcome × ℕ) → Bool
+are_all_within_limits parts = list_all (λ p. p.0.is_within_limits) parts
 
 abbrev pub join_outcome : List (Outcome × ℕ) → Outcome
 join_outcome parts = record {
-  meaning = join_meaning (all_sheets (meanings parts));
+  meaning = join_meaning (all_decoded_maps (meanings parts));
   names = names_of_all parts;
-  contents = joined_source_count (all_sheets (meanings parts));
-  is_roomy = are_all_roomy parts && is_join_fitting (names_of_all parts) (all_sheets (meanings parts));
+  contents = joined_source_count (all_decoded_maps (meanings parts));
+  is_within_limits = are_all_within_limits parts && is_join_within_limits (names_of_all parts) (all_decoded_maps (meanings parts));
   is_rewritten = false;
 }
 
@@ -81,7 +81,7 @@ composition_outcome first second = record {
   meaning = composition_meaning first.meaning second.meaning;
   names = first.names ++ second.names;
   contents = second.contents;
-  is_roomy = (first.is_roomy && second.is_roomy) && is_fitting (first.names ++ second.names) (composition_meaning first.meaning second.meaning);
+  is_within_limits = (first.is_within_limits && second.is_within_limits) && is_part_within_limits (first.names ++ second.names) (composition_meaning first.meaning second.meaning);
   is_rewritten = false;
 }
 
@@ -98,13 +98,13 @@ outcome_of = fold-Plan Outcome outcome_step
 
 -- what is refused before anything is read
 abbrev pub too_deep : Outcome
-too_deep = record { meaning = Err TooDeep; names = []; contents = 0; is_roomy = true; is_rewritten = false }
+too_deep = record { meaning = Err TooDeep; names = []; contents = 0; is_within_limits = true; is_rewritten = false }
 
 -- the outcome of a plan, which is at most 64 deep
 abbrev pub outcome : Plan → Outcome
 outcome plan = if nat_le (depth plan) 64 then outcome_of plan else too_deep
 
--- What a plan means: a sheet, or the first refusal.
+-- What a plan means: a decoded map, or the first refusal.
 abbrev pub meaning : Plan → Meaning
 meaning plan = (outcome plan).meaning
 
@@ -120,8 +120,8 @@ contents_listed plan = (outcome plan).contents
 -- Whether at every part of a plan names, sources and entries number at most 4294967295, and no line of a join is above
 -- that. A join counts what all its parts have; a composition the names of both, the sources of the second and the entries
 -- of the first. A part that is refused counts nothing; but a join of parts that are not counts also where it is not sorted.
-abbrev pub is_roomy : Plan → Bool
-is_roomy plan = (outcome plan).is_roomy
+abbrev pub is_within_limits : Plan → Bool
+is_within_limits plan = (outcome plan).is_within_limits
 
 -- whether the last thing that a plan does is to write and read again
 abbrev pub is_rewriting : Plan → Bool

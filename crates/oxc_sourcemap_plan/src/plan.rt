@@ -2,8 +2,9 @@
 ghost use Rattle.std.specs.Prelude.{◌≡◌, ◌≤◌, ◌↔◌, ◌⊎◌, ℕ, List, Some, Ok, Err, true, false, IsTrue, IfOk, IfErr};
 ghost use Rattle.oxc_sourcemap_plan.specs.PlanMessages.{plan_error_text};
 ghost use Rattle.oxc_sourcemap_plan.specs.Depth.{depth};
-ghost use Rattle.oxc_sourcemap_plan.specs.Outcome.{Outcome, read_outcome, rewrite_outcome, join_outcome, composition_outcome, outcome_of, outcome, meaning, is_roomy};
-ghost use Rattle.oxc_sourcemap_plan.specs.Evaluated.{IsEvaluated, Gives, RefusesFor, AllGive};
+ghost use Rattle.oxc_sourcemap_plan.specs.Outcome.{Outcome, read_outcome, rewrite_outcome, join_outcome, composition_outcome, outcome_of, outcome, meaning, is_within_limits};
+ghost use Rattle.oxc_sourcemap_plan.specs.Evaluated.{IsEvaluated};
+ghost use Rattle.oxc_sourcemap_plan.specs.Realizes.{Realizes, FailsAs, AllRealize};
 ghost use Rattle.oxc_sourcemap_mappings.specs.declared.error.Error.TheVariants.{OutOfMemory, TooLarge};
 ghost use Rattle.oxc_sourcemap_json.specs.ReadMap.{read_map};
 ghost use Rattle.oxc_sourcemap_parts.specs.Sorted.{are_tokens_sorted};
@@ -16,7 +17,7 @@ use oxc_sourcemap_mappings::Error;
 use std::alloc::{AllocError, AllocFailed, Global};
 use std::fmt;
 
-/// What is to be done with JSON texts of maps. The texts are lent for `'t`.
+/// What is to be done with maps, which are given as JSON texts borrowed for `'t`.
 #[derive(Drop)]
 pub enum Plan<'t> {
     /// Read a map from its JSON text.
@@ -30,7 +31,7 @@ pub enum Plan<'t> {
     Compose(Box<Plan<'t>>, Box<Plan<'t>>),
 }
 
-/// What the evaluation of a plan, and the trace of a position, refuse.
+/// Why a plan is not evaluated, or a position not traced.
 #[derive(Clone, Copy, Debug, PartialEq, Eq)]
 pub enum PlanError {
     /// A call on a map was refused.
@@ -117,8 +118,8 @@ fn sorted(map: SourceMap<'static>) -> Result<SourceMap<'static>, PlanError>
 
 /// The map that a JSON text says.
 fn read(alloc: Global, text: &str) -> Result<SourceMap<'static>, PlanError>
-    ensures map { IfOk result (λ map. Gives map (read_outcome (read_map text.now))) }
-    ensures refused { IfErr result (λ e. RefusesFor e (read_outcome (read_map text.now))) }
+    ensures map { IfOk result (λ map. Realizes map (read_outcome (read_map text.now))) }
+    ensures refused { IfErr result (λ e. FailsAs e (read_outcome (read_map text.now))) }
 {
     canonical_unique();
     sorted(SourceMap::from_json_string(alloc, text)?)
@@ -126,8 +127,8 @@ fn read(alloc: Global, text: &str) -> Result<SourceMap<'static>, PlanError>
 
 /// A map, written and read again.
 fn rewrite(alloc: Global, map: SourceMap<'static>) -> Result<SourceMap<'static>, PlanError>
-    ensures map { IfOk result (λ m. (o : Outcome) → Gives map.entry o → Gives m (rewrite_outcome o)) }
-    ensures refused { IfErr result (λ e. (o : Outcome) → Gives map.entry o → RefusesFor e (rewrite_outcome o)) }
+    ensures map { IfOk result (λ m. (o : Outcome) → Realizes map.entry o → Realizes m (rewrite_outcome o)) }
+    ensures refused { IfErr result (λ e. (o : Outcome) → Realizes map.entry o → FailsAs e (rewrite_outcome o)) }
 {
     canonical_unique();
     let json = map.to_json(alloc)?;
@@ -139,8 +140,8 @@ fn join(
     alloc: Global,
     maps: Vec<(SourceMap<'static>, u32)>,
 ) -> Result<SourceMap<'static>, PlanError>
-    ensures map { IfOk result (λ m. (os : List (Outcome × ℕ)) → AllGive maps.entry.items os → Gives m (join_outcome os)) }
-    ensures refused { IfErr result (λ e. (os : List (Outcome × ℕ)) → AllGive maps.entry.items os → RefusesFor e (join_outcome os)) }
+    ensures map { IfOk result (λ m. (os : List (Outcome × ℕ)) → AllRealize maps.entry.items os → Realizes m (join_outcome os)) }
+    ensures refused { IfErr result (λ e. (os : List (Outcome × ℕ)) → AllRealize maps.entry.items os → FailsAs e (join_outcome os)) }
 {
     dropping_harmless();
     let builder = ConcatSourceMapBuilder::from_owned_sourcemaps(alloc, maps)?;
@@ -153,8 +154,8 @@ fn compose(
     first: SourceMap<'static>,
     second: SourceMap<'static>,
 ) -> Result<SourceMap<'static>, PlanError>
-    ensures map { IfOk result (λ m. (p q : Outcome) → Gives first.entry p → Gives second.entry q → Gives m (composition_outcome p q)) }
-    ensures refused { IfErr result (λ e. (p q : Outcome) → Gives first.entry p → Gives second.entry q → RefusesFor e (composition_outcome p q)) }
+    ensures map { IfOk result (λ m. (p q : Outcome) → Realizes first.entry p → Realizes second.entry q → Realizes m (composition_outcome p q)) }
+    ensures refused { IfErr result (λ e. (p q : Outcome) → Realizes first.entry p → Realizes second.entry q → FailsAs e (composition_outcome p q)) }
 {
     composition_associative();
     Ok(first.compose(alloc, second)?)
@@ -162,8 +163,8 @@ fn compose(
 
 /// The map of a plan of any depth.
 fn evaluate_part(alloc: Global, plan: &Plan<'_>) -> Result<SourceMap<'static>, PlanError>
-    ensures map { IfOk result (λ map. Gives map (outcome_of plan.now)) }
-    ensures refused { IfErr result (λ e. RefusesFor e (outcome_of plan.now)) }
+    ensures map { IfOk result (λ map. Realizes map (outcome_of plan.now)) }
+    ensures refused { IfErr result (λ e. FailsAs e (outcome_of plan.now)) }
 {
     match plan {
         Plan::Read(text) => read(alloc, text),
@@ -187,41 +188,22 @@ fn evaluate_part(alloc: Global, plan: &Plan<'_>) -> Result<SourceMap<'static>, P
     }
 }
 
-/// The map of a plan.
+/// Evaluates a plan: reads, rewrites, joins and composes maps as it says, parts from left to right, all parts of a join before
+/// they are joined.
 ///
-/// - `Read`: the map of the JSON text, where its tokens are sorted.
-/// - `Rewrite`: the map of the part, written as a JSON source map and read again.
-/// - `Join`: the maps of the parts, joined at their offsets, where the tokens are then sorted.
-/// - `Compose`: the map of the first part, composed with that of the second.
+/// The map has at every generated position the exact and the clamped trace that the plan means, and its sources, contents and
+/// metadata; names may be in another order. `IsEvaluated` lists all that is promised of it, `outcome` what a plan means
+/// (docs/PROMISES.md, "Plans").
 ///
-/// Parts are evaluated from left to right, all parts of a join before they are joined. The meaning of a plan says the same of
-/// sheets (what maps mean: their ids looked up), or it is one refusal. A plan deeper than 64, where a text alone is 1 deep, is
-/// `TooDeep` before anything is read. Else the first refusal from left to right stands: `Map(e)` where a text says no map,
-/// `Unsorted` where the map of a text or of a join is not sorted, and `Map(SeveralSources(n))` where the first map of a
-/// composition has n sources and n is above 1. (docs/PROMISES.md.)
-///
-/// Where a map is answered, the meaning is a sheet, and (`IsEvaluated`)
-/// - the map is sound (`sound`), and its sheet alike to the meaning, that is equal but for entries that repeat the one in front
-///   of them (`alike`); so its exact and clamped traces at every line and column are those of the meaning (`traces`), and
-///   sources, contents, file, source root, debug id and ignore list are (`metadata`);
-/// - it has at most as many tokens as the meaning has entries (`tokens`), and at most as many names as all texts that were
-///   read (`names`), each of which is a name of some such text (`known`);
-/// - it lists at most as many contents as the text that is read; for a join, as there are sources; for a composition, as the
-///   map of the second part (`contents`);
-/// - the map of a `Rewrite` has no chunks, and its text reads as its very tokens (`rewritten`);
-/// - `to_json` writes it, with the canonical text of its tokens as `mappings`, where it has at most 4294967295 tokens
-///   (`written`), as it has where the plan is roomy (`room`);
-/// - `from_json` reads what is written as a map with the same sheet, the same names, and tokens that are equal but for the
-///   source positions and names of unmapped ones (`comes_back`).
-///
-/// Where a refusal is answered, it is the one that is meant, or one of these (`refused`):
-/// - `Map(TooLarge)` where the plan is not roomy: at some part of it are more than 4294967295 names, sources or tokens, or a
-///   join has a line above that. A join counts what all its parts have, repeated tokens too; a composition the names of both
-///   parts, the sources of the second and the tokens of the first;
-/// - `Map(OutOfMemory)` where memory is refused.
+/// Fails with
+/// - `TooDeep` if the plan is deeper than 64, where a text alone is 1 deep, before anything is read;
+/// - else the first of these, from left to right: `Map(e)` if a text says no map, `Unsorted` if the map of a text or of a join
+///   is not sorted, `Map(SeveralSources(n))` if the first map of a composition has n sources and n is above 1;
+/// - or instead `Map(TooLarge)` if some part of the plan has more than 4294967295 names, sources or tokens or a line above
+///   that (`is_within_limits`), and `Map(OutOfMemory)` if memory is refused.
 pub fn evaluate(alloc: Global, plan: &Plan<'_>) -> Result<OwnedSourceMap, PlanError>
     ensures map { IfOk result (λ map. IsEvaluated map (outcome plan.now)) }
-    ensures refused { IfErr result (λ e. (e ≡ Map OutOfMemory) ⊎ ((meaning plan.now ≡ Err e) ⊎ ((e ≡ Map TooLarge) × (is_roomy plan.now ≡ false)))) }
+    ensures refused { IfErr result (λ e. (e ≡ Map OutOfMemory) ⊎ ((meaning plan.now ≡ Err e) ⊎ ((e ≡ Map TooLarge) × (is_within_limits plan.now ≡ false)))) }
 {
     dropping_harmless();
     canonical_unique();

@@ -1,4 +1,4 @@
--- Texts that are appended one behind the other.
+-- Texts that are appended one after the other.
 use Rattle.std.proofs.Common.{◌≡◌, ℕ, List, ◌++◌, Option, Some, None, ap, ◌∙◌}
 use mathlib.Core.List.{append_assoc}
 use Rattle.std.specs.Fmt.{◌++?◌, AppendsText}

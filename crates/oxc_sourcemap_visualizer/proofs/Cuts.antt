@@ -1,4 +1,4 @@
--- Lines, cut one behind the other.
+-- Lines, cut one after the other.
 use Rattle.std.proofs.Common.{◌≡◌, ℕ, ◌+◌, ◌<◌, ◌≤◌, true, false, List, [], ◌∷◌, ◌++◌, length, take, drop, get_or, map, option_map, Option, Some, None, Vec, Global, refl, sym, ap, ◌∙◌, add-one, if◌then◌else◌}
 use Rattle.std.proofs.Math.Seq.{drop-cons}
 use Rattle.std.proofs.lemmas.List.{take_more, drop_all, take_all}
@@ -7,7 +7,7 @@ use mathlib.Core.List.{append_assoc}
 use Rattle.oxc_sourcemap_parts.specs.Record.{Text}
 use Rattle.oxc_sourcemap_visualizer.specs.TextLines.{units_of, ends_line, onto_first, lines_of, text_lines}
 
--- units in front of the first of some lines
+-- units before the first of some lines
 abbrev pub before_first : List ℕ → List (List ℕ) → List (List ℕ)
 before_first units [] = units ∷ []
 before_first units (line ∷ lines) = (units ++ line) ∷ lines
@@ -25,19 +25,19 @@ before-onto : (front : List ℕ) (unit : ℕ) (lines : List (List ℕ)) → befo
 before-onto front unit [] = refl
 before-onto front unit (line ∷ lines) = ap (λ l. l ∷ lines) (sym (append_assoc front (unit ∷ []) line))
 
-pub lines-end : (unit : ℕ) (behind : List ℕ) → ends_line unit behind ≡ true → lines_of (unit ∷ behind) ≡ (unit ∷ []) ∷ lines_of behind
+pub lines-end : (unit : ℕ) (after : List ℕ) → ends_line unit after ≡ true → lines_of (unit ∷ after) ≡ (unit ∷ []) ∷ lines_of after
 unfolding lines_of
-lines-end unit behind e = rw e
+lines-end unit after e = rw e
 
-pub lines-no_end : (unit : ℕ) (behind : List ℕ) → ends_line unit behind ≡ false → lines_of (unit ∷ behind) ≡ onto_first unit (lines_of behind)
+pub lines-no_end : (unit : ℕ) (after : List ℕ) → ends_line unit after ≡ false → lines_of (unit ∷ after) ≡ onto_first unit (lines_of after)
 unfolding lines_of
-lines-no_end unit behind e = rw e
+lines-no_end unit after e = rw e
 
 -- what is left from place i on begins with the unit there
 opened : (units : List ℕ) (i : ℕ) → i < length units → drop i units ≡ get_or units i 0 ∷ drop (i + 1) units
 opened units i h = rw (add-one, drop-cons units i 0 h)
 
--- what is known in front of place i: the line so far, in front of the first line of what is left
+-- what is known before place i: the line so far, before the first line of what is left
 pub cut-further : (units : List ℕ) (i : ℕ) → i < length units → ends_line (get_or units i 0) (drop (i + 1) units) ≡ false
     → before_first (take i units) (lines_of (drop i units)) ≡ before_first (take (i + 1) units) (lines_of (drop (i + 1) units))
 cut-further units i h e =

@@ -1,4 +1,4 @@
--- What tokens print, one behind the other.
+-- What tokens print, one after the other.
 use Rattle.std.proofs.Common.{◌≡◌, ℕ, suc, ◌+◌, ◌<◌, ◌≤◌, List, [], ◌∷◌, length, take, drop, reverse, get_or, refl, sym, add-one}
 use Rattle.std.specs.Fmt.{◌++?◌, AppendsText}
 use Rattle.std.specs.Option.{option_or}
@@ -6,9 +6,9 @@ use Rattle.std.proofs.Math.Seq.{drop-cons}
 use Rattle.std.proofs.lemmas.List.{take_more, drop_all, append-nil, reverse-append}
 use Rattle.oxc_sourcemap_mappings.specs.Token.{TokenRecord}
 use Rattle.oxc_sourcemap_parts.specs.Record.{Text, MapRecord}
-use Rattle.oxc_sourcemap_visualizer.specs.VisualText.{shown, shown_source, nearest_source, token_text, tokens_text}
+use Rattle.oxc_sourcemap_visualizer.specs.VisualText.{shown, shown_source, nearest_source, visual_token_text, tokens_text}
 
--- what stands in front of the next token: this one, and what stood in front of it
+-- what stands before the next token: this one, and what stood before it
 further-front : (ts : List TokenRecord) (i : ℕ) (t : TokenRecord) → i < length ts → reverse (take (i + 1) ts) ≡ get_or ts i t ∷ reverse (take i ts)
 further-front ts i t h = rw (take_more ts i t h, reverse-append (take i ts) (get_or ts i t ∷ []))
 
@@ -16,15 +16,15 @@ pub further-source : (r : MapRecord) (ts : List TokenRecord) (i : ℕ) (t : Toke
     → nearest_source r (reverse (take (i + 1) ts)) ≡ option_or (shown_source r (get_or ts i t)) (nearest_source r (reverse (take i ts)))
 further-source r ts i t h = rw (further-front ts i t h)
 
-tokens-step : (code : List (List ℕ)) (r : MapRecord) (front behind : List TokenRecord) (t : TokenRecord)
-    → tokens_text code r front (t ∷ behind) ≡ (token_text code (nearest_source r front) t behind t.source_id (shown r t) ++? tokens_text code r (t ∷ front) behind)
+tokens-step : (code : List (List ℕ)) (r : MapRecord) (front after : List TokenRecord) (t : TokenRecord)
+    → tokens_text code r front (t ∷ after) ≡ (visual_token_text code (nearest_source r front) t after t.source_id (shown r t) ++? tokens_text code r (t ∷ front) after)
 unfolding tokens_text
-tokens-step code r front behind t = refl
+tokens-step code r front after t = refl
 
 -- what is left at index i: what its token prints, and what is left at the next index
 pub further-text : (code : List (List ℕ)) (r : MapRecord) (ts : List TokenRecord) (i : ℕ) (t : TokenRecord) → i < length ts
     → tokens_text code r (reverse (take i ts)) (drop i ts)
-    ≡ (token_text code (nearest_source r (reverse (take i ts))) (get_or ts i t) (drop (i + 1) ts) (get_or ts i t).source_id (shown r (get_or ts i t))
+    ≡ (visual_token_text code (nearest_source r (reverse (take i ts))) (get_or ts i t) (drop (i + 1) ts) (get_or ts i t).source_id (shown r (get_or ts i t))
     ++? tokens_text code r (reverse (take (i + 1) ts)) (drop (i + 1) ts))
 further-text code r ts i t h = rw (further-front ts i t h, add-one, drop-cons ts i t h) (tokens-step code r (reverse (take i ts)) (drop (suc i) ts) (get_or ts i t))
 

@@ -45,10 +45,10 @@ unfolding visual_text tokens_text mapping_text lines_of chars utf16_chars encode
 says-nothing-past-ascii = refl
 
 -- its `x` alone is ASCII, and stands at column 2
-shows-behind-a-pair : text_of_copy (240 ∷ 159 ∷ 152 ∷ 128 ∷ 120 ∷ []) (240 ∷ 159 ∷ 152 ∷ 128 ∷ 120 ∷ []) (token_at 0 2 0 2 (Some 0) ∷ [])
+shows-after-a-pair : text_of_copy (240 ∷ 159 ∷ 152 ∷ 128 ∷ 120 ∷ []) (240 ∷ 159 ∷ 152 ∷ 128 ∷ 120 ∷ []) (token_at 0 2 0 2 (Some 0) ∷ [])
     ≡ Some (codes "- a.js\n(0:2) \"x\" --> (0:2) \"x\"\n")
 unfolding visual_text tokens_text mapping_text lines_of chars utf16_chars encode digits debug_escape
-shows-behind-a-pair = refl
+shows-after-a-pair = refl
 
 links-of-one-letter : visualization_link (codes "a") (codes "{\"version\":3,\"names\":[],\"sources\":[],\"mappings\":\"\"}")
     ≡ codes "https://evanw.github.io/source-map-visualization/#MQBhNTEAeyJ2ZXJzaW9uIjozLCJuYW1lcyI6W10sInNvdXJjZXMiOltdLCJtYXBwaW5ncyI6IiJ9"

@@ -7,7 +7,7 @@ use Rattle.oxc_sourcemap_json.specs.Shape.{◌>>=◌}
 use Rattle.oxc_sourcemap_parts.specs.Record.{Text, MapRecord}
 use Rattle.oxc_sourcemap_json.specs.JsonText.{map_text}
 
--- a text behind its number of bytes in decimal and a zero byte
+-- a text after its number of bytes in decimal and a zero byte
 abbrev pub counted : Text → Text
 counted text = decimal (length text) ++ 0 ∷ text
 

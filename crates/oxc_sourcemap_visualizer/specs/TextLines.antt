@@ -14,19 +14,19 @@ abbrev pub begins_with_line_feed : List ℕ → Bool
 begins_with_line_feed [] = false
 begins_with_line_feed (unit ∷ units) = unit == 10
 
--- A line ends behind a line feed, U+2028 and U+2029, and behind a carriage return that no line feed follows.
+-- A line ends after a line feed, U+2028 and U+2029, and after a carriage return that no line feed follows.
 abbrev pub ends_line : ℕ → List ℕ → Bool
-ends_line unit behind = unit == 10 || unit == 0x2028 || unit == 0x2029 || (unit == 13 && not (begins_with_line_feed behind))
+ends_line unit after = unit == 10 || unit == 0x2028 || unit == 0x2029 || (unit == 13 && not (begins_with_line_feed after))
 
--- a unit in front of the first of some lines
+-- a unit before the first of some lines
 abbrev pub onto_first : ℕ → List (List ℕ) → List (List ℕ)
 onto_first unit [] = (unit ∷ []) ∷ []
 onto_first unit (line ∷ lines) = (unit ∷ line) ∷ lines
 
--- the lines of these units, cut behind each line end; behind the last cut stands one more line, which may be empty
+-- the lines of these units, cut after each line end; after the last cut stands one more line, which may be empty
 unfoldable pub lines_of : List ℕ → List (List ℕ)
 lines_of [] = [] ∷ []
-lines_of (unit ∷ behind) = if ends_line unit behind then (unit ∷ []) ∷ lines_of behind else onto_first unit (lines_of behind)
+lines_of (unit ∷ after) = if ends_line unit after then (unit ∷ []) ∷ lines_of after else onto_first unit (lines_of after)
 
 -- the lines of a text
 abbrev pub text_lines : Text → List (List ℕ)

@@ -15,7 +15,7 @@ pub record CodeAndMap : Type 0 where
   pub code : Text
   pub map : MapRecord
 
--- a position lies in front of the end of its line; a line that is not there has no columns
+-- a position lies before the end of its line; a line that is not there has no columns
 abbrev pub is_within : List (List ℕ) → ℕ → ℕ → Bool
 is_within lines line col = nat_lt col (length (line_at lines line))
 
@@ -31,8 +31,8 @@ is_on_source_line id line t = option_map_or (λ n. n == id) t.source_id false &&
 -- The source column at which a token's part ends. Of the tokens that follow it without a break on its source and source line
 -- it is the column of the first whose column is greater, else the line's length.
 abbrev pub src_end : ℕ → ℕ → TokenRecord → List TokenRecord → ℕ
-src_end len id t behind =
-    option_map_or (λ u. u.src_col) (find (λ u. nat_lt t.src_col u.src_col) (take_while (is_on_source_line id t.src_line) behind)) len
+src_end len id t after =
+    option_map_or (λ u. u.src_col) (find (λ u. nat_lt t.src_col u.src_col) (take_while (is_on_source_line id t.src_line) after)) len
 
 -- the part of a line between two columns, whichever is the smaller, cut to the line's length
 abbrev pub between : List ℕ → ℕ → ℕ → List ℕ
@@ -66,13 +66,13 @@ parts_text t src dst =
     Some (position_text t.src_line t.src_col ++ codes " ") ++? (part_text src
     ++? (Some (codes " --> " ++ (position_text t.dst_line t.dst_col ++ codes " ")) ++? (part_text dst ++? Some (codes "\n"))))
 
--- the line of a token with this source id: the lines of its source's content, those of the code, and the tokens behind it
+-- the line of a token with this source id: the lines of its source's content, those of the code, and the tokens after it
 unfoldable pub mapping_text : List (List ℕ) → List (List ℕ) → ℕ → TokenRecord → List TokenRecord → Option Text
-mapping_text src dst id t behind =
+mapping_text src dst id t after =
     let src_line = line_at src t.src_line in
     let dst_line = line_at dst t.dst_line in
     if is_within src t.src_line t.src_col && is_within dst t.dst_line t.dst_col
-    then parts_text t (between src_line t.src_col (src_end (length src_line) id t behind)) (between dst_line t.dst_col (dst_end (length dst_line) t behind))
+    then parts_text t (between src_line t.src_col (src_end (length src_line) id t after)) (between dst_line t.dst_col (dst_end (length dst_line) t after))
     else Some (invalid_text (is_within src t.src_line t.src_col) (is_within dst t.dst_line t.dst_col) t)
 
 -- what a token points to, where it prints: its source and that source's content, where it has both
@@ -83,27 +83,27 @@ shown r t = option_and_then (source_and_content_at r) t.source_id
 abbrev pub shown_source : MapRecord → TokenRecord → Option Text
 shown_source r t = option_map (λ s. s.0) (shown r t)
 
--- the source of the nearest token in front that prints; the tokens in front stand the nearest first
+-- the source of the nearest token before that prints; the tokens before stand the nearest first
 abbrev pub nearest_source : MapRecord → List TokenRecord → Option Text
 nearest_source r [] = None
-nearest_source r (t ∷ in_front) = option_or (shown_source r t) (nearest_source r in_front)
+nearest_source r (t ∷ before) = option_or (shown_source r t) (nearest_source r before)
 
--- The line of a source: it is printed where the source is another than that of the nearest token in front that prints, or
+-- The line of a source: it is printed where the source is another than that of the nearest token before that prints, or
 -- there is none.
 abbrev pub heading : Option Text → Text → Text
 heading None source = codes "- " ++ (source ++ codes "\n")
 heading (Some last) source = if bytes_eq last source then [] else codes "- " ++ (source ++ codes "\n")
 
 -- what a token prints: nothing, or its source's line and its own
-abbrev pub token_text : List (List ℕ) → Option Text → TokenRecord → List TokenRecord → Option ℕ → Option (Text × Text) → Option Text
-token_text code last t behind (Some id) (Some s) = Some (heading last s.0) ++? mapping_text (text_lines s.1) code id t behind
-token_text code last t behind id s = Some []
+abbrev pub visual_token_text : List (List ℕ) → Option Text → TokenRecord → List TokenRecord → Option ℕ → Option (Text × Text) → Option Text
+visual_token_text code last t after (Some id) (Some s) = Some (heading last s.0) ++? mapping_text (text_lines s.1) code id t after
+visual_token_text code last t after id s = Some []
 
--- what some tokens print, behind these in front of them, the nearest first
+-- what some tokens print, after these before them, the nearest first
 unfoldable pub tokens_text : List (List ℕ) → MapRecord → List TokenRecord → List TokenRecord → Option Text
-tokens_text code r in_front [] = Some []
-tokens_text code r in_front (t ∷ behind) =
-    token_text code (nearest_source r in_front) t behind t.source_id (shown r t) ++? tokens_text code r (t ∷ in_front) behind
+tokens_text code r before [] = Some []
+tokens_text code r before (t ∷ after) =
+    visual_token_text code (nearest_source r before) t after t.source_id (shown r t) ++? tokens_text code r (t ∷ before) after
 
 -- the visual text where there are contents, and where there are none
 abbrev pub text_with : List (Option Text) → Option Text → Option Text

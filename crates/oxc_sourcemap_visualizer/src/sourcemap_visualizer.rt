@@ -1,4 +1,4 @@
-//! A map beside its texts, for people who test source maps.
+//! A map shown beside its generated code and sources, for people who test source maps.
 ghost use Rattle.std.specs.Prelude.{◌≡◌, ◌≢◌, ◌++◌, ℕ, List, [], map, option_map, string_bytes, codes, Some, None, IfOk, IfErr, IfSome, OnOk, Ok, Err};
 ghost use Rattle.std.specs.Fmt.{AppendsText};
 ghost use Rattle.std.specs.Option.{option_or};
@@ -6,7 +6,7 @@ ghost use Rattle.oxc_sourcemap_mappings.specs.declared.error.Error.TheVariants.{
 ghost use Rattle.oxc_sourcemap_parts.specs.Record.{Text};
 ghost use Rattle.oxc_sourcemap_visualizer.specs.Link.{counted, map_link};
 ghost use Rattle.oxc_sourcemap_visualizer.specs.TextLines.{units_of, lines_of, text_lines};
-ghost use Rattle.oxc_sourcemap_visualizer.specs.VisualText.{is_within, dst_end, src_end, is_on_source_line, between, part_text, position_text, mark, heading, invalid_text, parts_text, mapping_text, shown, shown_source, token_text, tokens_text, visual_text};
+ghost use Rattle.oxc_sourcemap_visualizer.specs.VisualText.{is_within, dst_end, src_end, is_on_source_line, between, part_text, position_text, mark, heading, invalid_text, parts_text, mapping_text, shown, shown_source, visual_token_text, tokens_text, visual_text};
 
 use crate::text_lines::{Lines, utf16_units};
 use base64::engine::general_purpose::STANDARD;
@@ -41,11 +41,11 @@ impl<'a, 'sm> SourcemapVisualizer<'a, 'sm> {
     }
 
     /// The link to a page that draws the code and its map: `https://evanw.github.io/source-map-visualization/#`, and in
-    /// padded base64 of the standard alphabet the code and then the map's JSON text, each behind its length in bytes, which
+    /// padded base64 of the standard alphabet the code and then the map's JSON text, each after its length in bytes, which
     /// is written in decimal and ended by a zero byte.
     ///
-    /// Refused as `SourceMap::to_json_string` refuses: `LineOrder(i)`, `BadChunks(k)`, `TooLarge`, in this order, and
-    /// `OutOfMemory` where memory is refused.
+    /// Fails as `SourceMap::to_json_string` does: `LineOrder(i)`, `BadChunks(k)`, `TooLarge`, in this order, and
+    /// `OutOfMemory` if memory is refused.
     #[tactic(auto, unfolding(crate::specs::Link::map_link))]
     pub fn get_url(&self, alloc: Global) -> Result<String>
         ensures url { IfOk result (λ url. map_link self.now.code self.now.map ≡ Ok (string_bytes url)) }
@@ -67,9 +67,9 @@ impl<'a, 'sm> SourcemapVisualizer<'a, 'sm> {
     /// 0, columns in UTF-16 units.
     ///
     /// Where all parts of lines that it prints are ASCII, it is exactly that text; past ASCII, which characters the debug
-    /// form of a text escapes is the library's choice. Refused for memory alone.
+    /// form of a text escapes is the library's choice. Fails only with `OutOfMemory`.
     ///
-    /// The code and each content are cut into lines once. A token costs its own parts, and a walk over the tokens behind it
+    /// The code and each content are cut into lines once. A token costs its own parts, and a walk over the tokens after it
     /// that lie on its source line and not at a greater source column: it is long only where many tokens in a row point to
     /// one source line and their columns do not grow.
     #[tactic(auto, unfolding(crate::specs::VisualText::visual_text))]
@@ -143,7 +143,7 @@ fn content_units(
     Ok(units)
 }
 
-/// Whether a position lies in front of the end of its line.
+/// Whether a position lies before the end of its line.
 fn is_within(lines: &Lines<'_>, line: u32, col: u32) -> bool
     ensures { result ≡ is_within lines.now line col }
 {
@@ -151,10 +151,10 @@ fn is_within(lines: &Lines<'_>, line: u32, col: u32) -> bool
 }
 
 /// The generated column at which the part of a token ends.
-fn dst_end(token: &Token, behind: &[Token], len: usize) -> usize
-    ensures { result ≡ dst_end len token.now behind.now }
+fn dst_end(token: &Token, after: &[Token], len: usize) -> usize
+    ensures { result ≡ dst_end len token.now after.now }
 {
-    match behind.first() {
+    match after.first() {
         Some(next) if next.get_dst_line() == token.get_dst_line() => next.get_dst_col() as usize,
         _ => len,
     }
@@ -167,12 +167,12 @@ fn is_on_source_line(token: &Token, id: u32, line: u32) -> bool
     token.get_source_id() == Some(id) && token.get_src_line() == line
 }
 
-/// The source column at which the part of a token ends. It looks at the tokens behind as long as they are on the same
+/// The source column at which the part of a token ends. It looks at the tokens after as long as they are on the same
 /// source line and not at a greater column.
-fn src_end(id: u32, token: &Token, behind: &[Token], len: usize) -> usize
-    ensures { result ≡ src_end len id token.now behind.now }
+fn src_end(id: u32, token: &Token, after: &[Token], len: usize) -> usize
+    ensures { result ≡ src_end len id token.now after.now }
 {
-    for other in behind {
+    for other in after {
         if !is_on_source_line(other, id, token.get_src_line()) {
             return len;
         }
@@ -267,10 +267,10 @@ fn push_mapping(
     dst: &Lines<'_>,
     id: u32,
     token: &Token,
-    behind: &[Token],
+    after: &[Token],
     out: &mut String,
 ) -> Result<()>
-    ensures text { OnOk result (AppendsText (string_bytes out.old) (string_bytes out.new) (mapping_text src.now dst.now id token.now behind.now)) }
+    ensures text { OnOk result (AppendsText (string_bytes out.old) (string_bytes out.new) (mapping_text src.now dst.now id token.now after.now)) }
     ensures refused { IfErr result (λ e. e ≡ OutOfMemory) }
 {
     let (src_col, dst_col) = (token.get_src_col(), token.get_dst_col());
@@ -281,8 +281,8 @@ fn push_mapping(
     }
     let src_line = src.line(token.get_src_line());
     let dst_line = dst.line(token.get_dst_line());
-    let src_end = src_end(id, token, behind, src_line.len());
-    let dst_end = dst_end(token, behind, dst_line.len());
+    let src_end = src_end(id, token, after, src_line.len());
+    let dst_end = dst_end(token, after, dst_line.len());
     push_parts(
         alloc,
         token,
@@ -344,17 +344,17 @@ impl<'s, 'u, 'sm> Printer<'s, 'u, 'sm> {
         Some((id, source, lines))
     }
 
-    /// Appends what a token prints behind the source that was printed last, and answers the one that is then the last.
+    /// Appends what a token prints after the source that was printed last, and answers the one that is then the last.
     fn push_token(
         &self,
         last: Option<&'s str>,
         token: &Token,
-        behind: &[Token],
+        after: &[Token],
         out: &mut String,
     ) -> Result<Option<&'s str>>
         requires { self.now.sources.items ≡ map (option_map text_lines) self.now.sourcemap.now.source_contents }
         ensures text { OnOk result (AppendsText (string_bytes out.old) (string_bytes out.new)
-            (token_text self.now.code (option_map (λ text. text.now) last.entry) token.now behind.now token.now.source_id (shown self.now.sourcemap.now token.now))) }
+            (visual_token_text self.now.code (option_map (λ text. text.now) last.entry) token.now after.now token.now.source_id (shown self.now.sourcemap.now token.now))) }
         ensures last { IfOk result (λ source. option_map (λ text. text.now) source ≡ option_or (shown_source self.now.sourcemap.now token.now) (option_map (λ text. text.now) last.entry)) }
         ensures refused { IfErr result (λ e. e ≡ OutOfMemory) }
     {
@@ -362,7 +362,7 @@ impl<'s, 'u, 'sm> Printer<'s, 'u, 'sm> {
             return Ok(last);
         };
         push_heading(last, source, out)?;
-        push_mapping(self.alloc, lines, &self.code, id, token, behind, out)?;
+        push_mapping(self.alloc, lines, &self.code, id, token, after, out)?;
         Ok(Some(source))
     }
 

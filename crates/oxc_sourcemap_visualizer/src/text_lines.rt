@@ -32,7 +32,7 @@ impl<'u> Model for Lines<'u> {
 }
 
 impl<'u> Lines<'u> {
-    /// Cuts a text, given by its UTF-16 units, behind each line end. No unit is copied.
+    /// Cuts a text, given by its UTF-16 units, after each line end. No unit is copied.
     pub(crate) fn cut(alloc: Global, units: &'u [u16]) -> Result<Lines<'u>, AllocError>
         ensures { IfOk result (λ lines. lines ≡ lines_of units.now) }
     {
@@ -58,7 +58,7 @@ impl<'u> Lines<'u> {
     }
 }
 
-/// Whether a line ends behind the unit at this index.
+/// Whether a line ends after the unit at this index.
 fn is_line_end(units: &[u16], i: usize) -> bool
     requires { i < length units.now }
     ensures { result ≡ ends_line (slice_index units.now i) (drop (i + 1) units.now) }

@@ -2,11 +2,11 @@
 //!
 //!     smap mappings NAMES SOURCES < mappings.txt
 //!     smap normalise < bundle.js.map
-//!     smap plan WORDS.. < bundles.txt
+//!     smap plan PLAN.. < bundles.txt
 //!     smap trace LINE COL < bundle.js.map
 //!     smap url < bundle.js.map
 //!
-//! A refusal goes to standard error, behind `smap: `; the status is then 2 for bad words and 1 for all else.
+//! An error is printed on standard error after `smap: `, and the status is then 2 for bad arguments and 1 for all else.
 #![tactic(auto)]
 
 #[cfg(test)]
@@ -20,22 +20,22 @@ use std::env;
 use std::io::ErrorKind;
 use std::process::ExitCode;
 
-/// The words behind the program's name. Words that are not UTF-8 are bad arguments.
-fn words_of(rt: &HostRuntime) -> Result<Vec<String>, RunError> {
+/// The arguments of the program, without its name. Fails with `Arguments` if one is not UTF-8.
+fn arguments_of(rt: &HostRuntime) -> Result<Vec<String>, RunError> {
     let args = match env::args(rt) {
         Ok(args) => args,
         Err(error) if error.kind() == ErrorKind::OutOfMemory => return Err(AllocError.into()),
         Err(_) => return Err(RunError::Arguments),
     };
-    let mut words = Vec::new(rt.alloc());
-    for word in args.skip(1) {
-        words.push(word)?;
+    let mut arguments = Vec::new(rt.alloc());
+    for argument in args.skip(1) {
+        arguments.push(argument)?;
     }
-    Ok(words)
+    Ok(arguments)
 }
 
 fn smap(rt: &HostRuntime) -> Result<(), RunError> {
-    let command = read_words(rt.alloc(), words_of(rt)?.as_slice())?;
+    let command = read_words(rt.alloc(), arguments_of(rt)?.as_slice())?;
     let mut reader = Port::new(rt.stdin());
     let mut writer = Port::new(rt.stdout());
     run(rt.alloc(), &command, &mut reader, &mut writer)

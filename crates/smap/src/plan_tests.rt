@@ -3,11 +3,11 @@ use crate::tests::{answers, answers_line, same, strings};
 use oxc_sourcemap::{
     Error, JsonFault, Plan, PlanError, SourceMapParts, Token, TokenChunk, evaluate,
 };
-use smap_run::{RunError, read_plan, texts_in};
+use smap_run::{RunError, inputs_of, read_plan};
 use std::alloc::{AllocError, Global};
 use std::process::Abort;
 
-/// The texts of two maps, behind each other.
+/// The texts of two maps, after each other.
 const JOINED: &str =
     "{\"version\":3,\"sources\":[\"a.js\"],\"mappings\":\"AAKG,I\"}\n---\n{\"version\":3,\"sources\":[\"b.js\"],\"mappings\":\"AAOC\"}";
 /// The map of their join, the second one line down.
@@ -76,7 +76,7 @@ fn text_of(alloc: Global, plan: &Plan<'_>) -> Result<String, RunError> {
 
 /// The JSON text of the map of the plan that words name.
 fn evaluated(alloc: Global, words: &[String], input: &str) -> Result<String, RunError> {
-    let texts = texts_in(alloc, input)?;
+    let texts = inputs_of(alloc, input)?;
     let plan = read_plan(alloc, texts.as_slice(), words)?;
     text_of(alloc, &plan)
 }
@@ -105,7 +105,7 @@ fn plans_are_evaluated(rt: HostRuntime) -> Result<(), AllocError> {
     Ok(())
 }
 
-/// The words behind `plan`.
+/// The words after `plan`.
 fn is_run_to(
     rt: &impl Abort,
     alloc: Global,

@@ -8,7 +8,7 @@ use std::io::{ErrorKind, Read, Write};
 use std::process::Abort;
 use std::test::Fail;
 
-/// Words behind the program's name, an input, and what is written or refused.
+/// Words after the program's name, an input, and what is written or refused.
 const RUNS: &[(&[&str], &str, Result<&str, RunError>)] = &[
     (&["mappings", "0", "0"], "gD,!C", Ok("gD,/C\n")),
     (&["mappings", "0", "0"], "gD,!C\n", Ok("gD,/C\n")),
@@ -127,7 +127,7 @@ const URLS: &[(&str, &str)] = &[
     ),
 ];
 
-/// The words behind `trace`, the JSON text of a map, and what is written or refused.
+/// The words after `trace`, the JSON text of a map, and what is written or refused.
 const TRACES: &[(&[&str], &str, Result<&str, RunError>)] = &[
     (
         &["trace", "0", "3"],
@@ -398,7 +398,7 @@ fn refusals_have_a_text_and_a_status(rt: HostRuntime) -> Result<(), Fail> {
     Ok(())
 }
 
-/// The read behind the last byte, of number 5, is the last one.
+/// The read after the last byte, of number 5, is the last one.
 fn a_read_fails(rt: &impl Abort, alloc: Global, fails_at: u64) {
     let mut reader = Port::new(FailingReader {
         rest: b"gD,!C",
@@ -427,7 +427,7 @@ fn a_failed_read_is_told_and_nothing_is_written(rt: HostRuntime) {
     }
 }
 
-/// Nothing is written behind the call that failed.
+/// Nothing is written after the call that failed.
 fn a_write_fails(rt: &impl Abort, alloc: Global, fails_at: u64, takes_none: bool) {
     let input: &[u8] = b"gD,!C";
     let mut reader = Port::new(input);

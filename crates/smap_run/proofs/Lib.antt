@@ -1,6 +1,6 @@
 pub mod Texts
 pub mod Maps
-pub mod PlanTexts
-pub mod PlanWords
+pub mod PlanInputs
+pub mod PlanArguments
 pub mod PlanAnswers
 mod Worked

@@ -22,7 +22,7 @@ use Rattle.smap_run.specs.Answer.{IsPlanAnswer, IsPlanRefusal}
 pub words_refused : (r : Result Outcome RunError) (f e : RunError) → r ≡ Err f → e ≡ f → IsPlanRefusal r e
 words_refused r f e p q = subst (λ r. IsPlanRefusal r e) (sym p) q
 
-pub evaluation_refused : (r : Result Outcome RunError) (o : Outcome) (p : PlanError) (e : RunError) → r ≡ Ok o → e ≡ Plan p → (e ≢ out_of_memory) → (p ≡ Map OutOfMemory) ⊎ ((o.meaning ≡ Err p) ⊎ ((p ≡ Map TooLarge) × (o.is_roomy ≡ false))) → IsPlanRefusal r e
+pub evaluation_refused : (r : Result Outcome RunError) (o : Outcome) (p : PlanError) (e : RunError) → r ≡ Ok o → e ≡ Plan p → (e ≢ out_of_memory) → (p ≡ Map OutOfMemory) ⊎ ((o.meaning ≡ Err p) ⊎ ((p ≡ Map TooLarge) × (o.is_within_limits ≡ false))) → IsPlanRefusal r e
 evaluation_refused r o p e k h n c = subst (λ r. IsPlanRefusal r e) (sym k) (elim c [ inl m ↦ absurd (n (h ∙ ap (λ x. Plan x) m)) | inr t ↦ (p, h, t) ])
 
 text-of : (m : MapRecord) → encoded m ≡ Ok (encoded_record m) → map_text m ≡ Ok (json_text (encoded_record m))
@@ -42,7 +42,7 @@ writing_refused law r o m f e k h n refused is =
     let told = refused (λ q. n (h ∙ ap (λ x. Plan (Map x)) q)) in
     subst (λ r. IsPlanRefusal r e) (sym k) (elim (cases_lt 4294967295 (length m.tokens)) [
       | inl l ↦ (let s = same-error f TooLarge (sym told ∙ fault-of m TooLarge (law m is.sound l)) in
-          (Map f, h, inr (ap (λ x. Map x) s, false_from_ne_true o.is_roomy (λ t. (let most = is.room t in omega arith)))))
+          (Map f, h, inr (ap (λ x. Map x) s, false_from_ne_true o.is_within_limits (λ t. (let most = is.within_limits t in omega arith)))))
       | inr l ↦ absurd (cc (sym told ∙ text-of m (is.written (omega arith))))
     ])
 

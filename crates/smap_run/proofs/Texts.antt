@@ -1,4 +1,4 @@
--- The line feed at the end of a text, and the numbers of words.
+-- The line feed at the end of a text, and the numbers of arguments.
 use Rattle.std.proofs.Common.{◌≡◌, ◌≢◌, ℕ, ◌+◌, ◌-◌, ◌^◌, ◌<◌, Bool, true, false, ◌&&◌, cond, nat_lt, ◌==◌, List, [], ◌∷◌, ◌++◌, length, take, get_or, Option, Some, None, Result, Ok, Err, arith, refl, sym, ap, ◌∙◌}
 use Rattle.std.specs.Borrow.{Bor}
 use Rattle.std.specs.Option.{unwrap_or, MatchOption}
@@ -11,7 +11,7 @@ use Rattle.std.proofs.lemmas.Str.Parse.{without_leading_plus_none}
 use Rattle.std.proofs.lemmas.Bool.Decides.{nat_tests}
 use Rattle.std.proofs.lemmas.List.{take_at, get_or_at, length-append}
 use Rattle.smap_run.specs.Answer.{without_line_feed}
-use Rattle.smap_run.specs.Words.{is_decimal_digit, is_numeral, number_of}
+use Rattle.smap_run.specs.Arguments.{is_decimal_digit, is_numeral, number_of}
 
 strip_last-push : (xs : List ℕ) → strip_last 10 (xs ++ 10 ∷ []) ≡ xs
 strip_last-push xs =
@@ -53,11 +53,11 @@ all-digits (b ∷ bs) h =
       | false ↦ (λ t g. cc)
     ] refl h
 
-numeral-test : (word : List ℕ) → IsNumeral 10 word → is_numeral word ≡ true
+numeral-test : (argument : List ℕ) → IsNumeral 10 argument → is_numeral argument ≡ true
 numeral-test [] h = absurd (omega arith)
 numeral-test (b ∷ bs) h = digits-all (b ∷ bs) h.1
 
-test-numeral : (word : List ℕ) → is_numeral word ≡ true → IsNumeral 10 word
+test-numeral : (argument : List ℕ) → is_numeral argument ≡ true → IsNumeral 10 argument
 test-numeral [] h = cc
 test-numeral (b ∷ bs) h = (omega arith, all-digits (b ∷ bs) h)
 
@@ -65,22 +65,22 @@ both-true : (a b : Bool) → (a && b) ≡ true → (a ≡ true) × (b ≡ true)
 both-true true b e = (refl, e)
 both-true false b e = cc
 
--- a word with a sign in front is no number
-pub number_of-plus : (word : List ℕ) → get_or word 0 0 ≡ 43 → number_of word ≡ None
+-- an argument with a sign before is no number
+pub number_of-plus : (argument : List ℕ) → get_or argument 0 0 ≡ 43 → number_of argument ≡ None
 number_of-plus [] e = refl
 number_of-plus (b ∷ bs) e = rw e refl
 
--- what `parse` answers to a word without a sign
-pub number_of-parse : {E : Type 0} (word : List ℕ) (r : Result ℕ E) → get_or word 0 0 ≢ 43 → OkIff r (IsNumeral 10 (without_leading_plus word) × (digits_value 10 (without_leading_plus word) < 2 ^ 32)) (digits_value 10 (without_leading_plus word)) → result_ok r ≡ number_of word
-number_of-parse word (Ok x) n h =
-    let plain = without_leading_plus_none word n in
-    let k : (IsNumeral 10 word × (digits_value 10 word < 2 ^ 32)) × (x ≡ digits_value 10 word) = rw plain at h in
-    let t : nat_lt (digits_value 10 word) 4294967296 ≡ true = grind (arith, nat_tests, k.0.1) in
-    rw (numeral-test word k.0.0, t) (ap Some k.1)
-number_of-parse word (Err e) n h =
-    let plain = without_leading_plus_none word n in
-    let k : IsNumeral 10 word × (digits_value 10 word < 2 ^ 32) → ⊥ = rw plain at h in
-    elim (is_numeral word && nat_lt (digits_value 10 word) 4294967296) as (λ v. (is_numeral word && nat_lt (digits_value 10 word) 4294967296) ≡ v → None ≡ cond v (Some (digits_value 10 word)) None) [
-      | true ↦ (λ t. let b = both-true (is_numeral word) _ t in absurd (k (test-numeral word b.0, grind (arith, nat_tests, b.1))))
+-- what `parse` answers to an argument without a sign
+pub number_of-parse : {E : Type 0} (argument : List ℕ) (r : Result ℕ E) → get_or argument 0 0 ≢ 43 → OkIff r (IsNumeral 10 (without_leading_plus argument) × (digits_value 10 (without_leading_plus argument) < 2 ^ 32)) (digits_value 10 (without_leading_plus argument)) → result_ok r ≡ number_of argument
+number_of-parse argument (Ok x) n h =
+    let plain = without_leading_plus_none argument n in
+    let k : (IsNumeral 10 argument × (digits_value 10 argument < 2 ^ 32)) × (x ≡ digits_value 10 argument) = rw plain at h in
+    let t : nat_lt (digits_value 10 argument) 4294967296 ≡ true = grind (arith, nat_tests, k.0.1) in
+    rw (numeral-test argument k.0.0, t) (ap Some k.1)
+number_of-parse argument (Err e) n h =
+    let plain = without_leading_plus_none argument n in
+    let k : IsNumeral 10 argument × (digits_value 10 argument < 2 ^ 32) → ⊥ = rw plain at h in
+    elim (is_numeral argument && nat_lt (digits_value 10 argument) 4294967296) as (λ v. (is_numeral argument && nat_lt (digits_value 10 argument) 4294967296) ≡ v → None ≡ cond v (Some (digits_value 10 argument)) None) [
+      | true ↦ (λ t. let b = both-true (is_numeral argument) _ t in absurd (k (test-numeral argument b.0, grind (arith, nat_tests, b.1))))
       | false ↦ (λ t. refl)
     ] refl

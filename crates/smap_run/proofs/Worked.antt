@@ -1,43 +1,43 @@
--- Worked examples of what plans mean, and of their words and texts, computed by the definitions themselves.
+-- Worked examples of what plans mean, and of their arguments and texts, computed by the definitions themselves.
 use Rattle.std.specs.Prelude.{◌≡◌, refl, ℕ, zero, suc, length, List, [], ◌∷◌, codes, Some, None, Err}
 use Rattle.oxc_sourcemap.specs.Record.{Text}
 use Rattle.oxc_sourcemap.specs.PlanError.TheVariants.{TooDeep}
 use Rattle.smap_run.specs.declared.running.RunError.TheVariants.{Plan, Arguments, NoText}
-use Rattle.smap_run.specs.Words.{number_of}
-use Rattle.smap_run.specs.PlanTexts.{texts_in}
-use Rattle.smap_run.specs.PlanWords.{plan_named}
+use Rattle.smap_run.specs.Arguments.{number_of}
+use Rattle.smap_run.specs.PlanInputs.{inputs_of}
+use Rattle.smap_run.specs.PlanArguments.{parsed_plan}
 
--- so many times `rewrite`, in front of these words
+-- so many times `rewrite`, before these arguments
 abbrev rewrites : ℕ → List Text → List Text
-rewrites zero words = words
-rewrites (suc n) words = codes "rewrite" ∷ rewrites n words
+rewrites zero arguments = arguments
+rewrites (suc n) arguments = codes "rewrite" ∷ rewrites n arguments
 
 abbrev one_text : List Text
 one_text = codes "{}" ∷ []
 
--- a part that begins at depth 65 is too deep, whatever its word
-too-deep : plan_named one_text (rewrites 64 (codes "@9" ∷ [])) ≡ Err (Plan TooDeep)
+-- a part that begins at depth 65 is too deep, whatever its argument
+too-deep : parsed_plan one_text (rewrites 64 (codes "@9" ∷ [])) ≡ Err (Plan TooDeep)
 too-deep = refl
 
-too-deep-bad-word : plan_named one_text (rewrites 63 (codes "join" ∷ codes "1" ∷ codes "part" ∷ [])) ≡ Err (Plan TooDeep)
-too-deep-bad-word = refl
+too-deep-bad-argument : parsed_plan one_text (rewrites 63 (codes "join" ∷ codes "1" ∷ codes "part" ∷ [])) ≡ Err (Plan TooDeep)
+too-deep-bad-argument = refl
 
 -- one that begins at depth 64 is not
-no-text : plan_named one_text (rewrites 63 (codes "@9" ∷ [])) ≡ Err (NoText 9)
+no-text : parsed_plan one_text (rewrites 63 (codes "@9" ∷ [])) ≡ Err (NoText 9)
 no-text = refl
 
--- a missing word is bad arguments at any depth
-no-word : plan_named one_text [] ≡ Err Arguments
-no-word = refl
+-- a missing argument is bad arguments at any depth
+no-argument : parsed_plan one_text [] ≡ Err Arguments
+no-argument = refl
 
-no-word-at-65 : plan_named one_text (rewrites 64 []) ≡ Err Arguments
-no-word-at-65 = refl
+no-argument-at-65 : parsed_plan one_text (rewrites 64 []) ≡ Err Arguments
+no-argument-at-65 = refl
 
--- a missing text is met before a word that is left over
-no-text-first : plan_named one_text (codes "@1" ∷ codes "@0" ∷ []) ≡ Err (NoText 1)
+-- a missing text is met before an argument that is left over
+no-text-first : parsed_plan one_text (codes "@1" ∷ codes "@0" ∷ []) ≡ Err (NoText 1)
 no-text-first = refl
 
-left-over : plan_named one_text (codes "join" ∷ codes "0" ∷ codes "0" ∷ []) ≡ Err Arguments
+left-over : parsed_plan one_text (codes "join" ∷ codes "0" ∷ codes "0" ∷ []) ≡ Err Arguments
 left-over = refl
 
 -- numbers have no sign, and are at most 4294967295
@@ -57,17 +57,17 @@ no-digits : number_of [] ≡ None
 no-digits = refl
 
 -- texts are parted by lines of three dashes alone
-empty-input : texts_in [] ≡ [] ∷ []
+empty-input : inputs_of [] ≡ [] ∷ []
 empty-input = refl
 
-only-dashes : texts_in (codes "---") ≡ [] ∷ [] ∷ []
+only-dashes : inputs_of (codes "---") ≡ [] ∷ [] ∷ []
 only-dashes = refl
 
-dashes-last : texts_in (codes "a\n---\n") ≡ codes "a" ∷ [] ∷ []
+dashes-last : inputs_of (codes "a\n---\n") ≡ codes "a" ∷ [] ∷ []
 dashes-last = refl
 
-line-feed-kept : texts_in (codes "a\n\n---\nb\n") ≡ codes "a\n" ∷ codes "b\n" ∷ []
+line-feed-kept : inputs_of (codes "a\n\n---\nb\n") ≡ codes "a\n" ∷ codes "b\n" ∷ []
 line-feed-kept = refl
 
-carriage-return : length (texts_in (codes "a\r\n---\r\nb")) ≡ 1
+carriage-return : length (inputs_of (codes "a\r\n---\r\nb")) ≡ 1
 carriage-return = refl

@@ -20,8 +20,8 @@ use Rattle.smap_run.specs.Traced.{traced}
 use Rattle.smap_run.specs.Request.{Request, Mappings, Normalise, Plan as PlanOf, Trace, Url}
 use Rattle.oxc_sourcemap.specs.Outcome.{Outcome}
 use Rattle.oxc_sourcemap.specs.Evaluated.{IsEvaluated}
-use Rattle.smap_run.specs.PlanTexts.{texts_in}
-use Rattle.smap_run.specs.PlanWords.{plan_named}
+use Rattle.smap_run.specs.PlanInputs.{inputs_of}
+use Rattle.smap_run.specs.PlanArguments.{parsed_plan}
 
 -- a text without the line feed at its end, if it has one
 abbrev pub without_line_feed : List ℕ → List ℕ
@@ -55,23 +55,23 @@ abbrev pub of_plan : Result (List ℕ) PlanError → Result (List ℕ) RunError
 of_plan (Ok text) = Ok text
 of_plan (Err refusal) = Err (Plan refusal)
 
--- What a plan that words name answers: the JSON text of a map that is as its outcome says.
+-- What a plan that arguments name answers: the JSON text of a map that is as its outcome says.
 abbrev pub IsPlanAnswer : Result Outcome RunError → List ℕ → Type 0
 IsPlanAnswer (Err fault) out = ⊥
 IsPlanAnswer (Ok o) out = (m : MapRecord) × IsEvaluated m o × (map_text m ≡ Ok out)
 
--- What it refuses: the first fault of its words, what the plan means, or `TooLarge` where it is not roomy.
+-- What it refuses: the first fault of its arguments, what the plan means, or `TooLarge` where it is not within the limits.
 abbrev pub IsPlanRefusal : Result Outcome RunError → RunError → Type 0
 IsPlanRefusal (Err fault) e = e ≡ fault
-IsPlanRefusal (Ok o) e = (p : PlanError) × (e ≡ Plan p) × ((o.meaning ≡ Err p) ⊎ ((p ≡ Map TooLarge) × (o.is_roomy ≡ false)))
+IsPlanRefusal (Ok o) e = (p : PlanError) × (e ≡ Plan p) × ((o.meaning ≡ Err p) ⊎ ((p ≡ Map TooLarge) × (o.is_within_limits ≡ false)))
 
--- What a command answers to a text. One line feed is written behind it.
+-- What a command answers to a text. One line feed is written after it.
 abbrev pub IsAnswer : Request → List ℕ → List ℕ → Type 0
 IsAnswer (Mappings names sources) text out = mappings_answer (reading (without_line_feed text) names sources) ≡ Ok out
 IsAnswer Normalise text out = of_map (normalised text) ≡ Ok out
 IsAnswer Url text out = of_map (normalised_url text) ≡ Ok out
 IsAnswer (Trace line col) text out = of_plan (traced text line col) ≡ Ok out
-IsAnswer (PlanOf words) text out = IsPlanAnswer (plan_named (texts_in text) words) out
+IsAnswer (PlanOf arguments) text out = IsPlanAnswer (parsed_plan (inputs_of text) arguments) out
 
 -- what it refuses of a text
 abbrev pub IsRefusal : Request → List ℕ → RunError → Type 0
@@ -79,7 +79,7 @@ IsRefusal (Mappings names sources) text e = mappings_answer (reading (without_li
 IsRefusal Normalise text e = of_map (normalised text) ≡ Err e
 IsRefusal Url text e = of_map (normalised_url text) ≡ Err e
 IsRefusal (Trace line col) text e = of_plan (traced text line col) ≡ Err e
-IsRefusal (PlanOf words) text e = IsPlanRefusal (plan_named (texts_in text) words) e
+IsRefusal (PlanOf arguments) text e = IsPlanRefusal (parsed_plan (inputs_of text) arguments) e
 
 -- known bytes grow by a beginning of these, perhaps by none of them
 abbrev pub AppendsBeginning : Option (List ℕ) → Option (List ℕ) → List ℕ → Type 0

@@ -1,4 +1,4 @@
--- The flag of a port behind a call.
+-- The flag of a port after a call.
 use Rattle.std.specs.Prelude.{ℕ, ◌&&◌, ◌||◌, Bool, true, not, nat_eq, Result, Ok, Err}
 
 -- a failed read sets it, and nothing else does

@@ -1,8 +1,8 @@
-pub mod Words
+pub mod Arguments
 pub mod Request
 pub mod Flags
-pub mod PlanTexts
-pub mod PlanWords
+pub mod PlanInputs
+pub mod PlanArguments
 pub mod Traced
 pub mod Refusals
 pub mod Answer

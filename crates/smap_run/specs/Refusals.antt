@@ -14,7 +14,7 @@ run_error_text Utf8 = codes "input is not UTF-8"
 run_error_text Arguments = codes "bad arguments"
 run_error_text (NoText k) = codes "no text " ++ decimal k
 
--- bad words end with 2, and all else that is refused with 1
+-- bad arguments end with 2, and all else that is refused with 1
 abbrev pub status_of : RunError → ℕ
 status_of (Plan error) = 1
 status_of Read = 1
@@ -23,7 +23,7 @@ status_of Utf8 = 1
 status_of Arguments = 2
 status_of (NoText k) = 1
 
--- want of memory
+-- lack of memory
 abbrev pub out_of_memory : RunError
 out_of_memory = Plan (Map OutOfMemory)
 

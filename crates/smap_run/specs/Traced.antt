@@ -3,7 +3,7 @@ use Rattle.std.specs.Prelude.{ℕ, [], ◌++◌, codes, decimal, Option, Some, N
 use Rattle.oxc_sourcemap.specs.Error.{Error}
 use Rattle.oxc_sourcemap.specs.Record.{Text, MapRecord}
 use Rattle.oxc_sourcemap.specs.Sorted.{are_tokens_sorted}
-use Rattle.oxc_sourcemap.specs.Sheet.{Origin, sheet_of}
+use Rattle.oxc_sourcemap.specs.DecodedMap.{OriginalPosition, decoded_map_of}
 use Rattle.oxc_sourcemap.specs.Trace.{trace}
 use Rattle.oxc_sourcemap.specs.JsonString.{json_string}
 use Rattle.oxc_sourcemap.specs.ReadMap.{read_map}
@@ -20,18 +20,18 @@ name_part None = []
 name_part (Some name) = codes " " ++ json_string name
 
 -- a source, a source line and column, and a name
-abbrev pub origin_text : Text → ℕ → ℕ → Option Text → Text
-origin_text source line col name = json_string source ++ (number_part line ++ (number_part col ++ name_part name))
+abbrev pub original_text : Text → ℕ → ℕ → Option Text → Text
+original_text source line col name = json_string source ++ (number_part line ++ (number_part col ++ name_part name))
 
 -- where there is no token, where the token is unmapped, and where it points to a source
-abbrev pub trace_text : Option (Option Origin) → Text
+abbrev pub trace_text : Option (Option OriginalPosition) → Text
 trace_text None = codes "nothing"
 trace_text (Some None) = codes "unmapped"
-trace_text (Some (Some o)) = origin_text o.source.path o.src_line o.src_col o.name
+trace_text (Some (Some o)) = original_text o.source.path o.src_line o.src_col o.name
 
--- the trace of a map's sheet, where the map is sorted
+-- the trace of a map's decoded map, where the map is sorted
 abbrev pub traced_of : Result MapRecord Error → ℕ → ℕ → Result Text PlanError
-traced_of (Ok r) line col = if are_tokens_sorted r.tokens then Ok (trace_text (trace (sheet_of r) line col)) else Err Unsorted
+traced_of (Ok r) line col = if are_tokens_sorted r.tokens then Ok (trace_text (trace (decoded_map_of r) line col)) else Err Unsorted
 traced_of (Err fault) line col = Err (Map fault)
 
 abbrev pub traced : Text → ℕ → ℕ → Result Text PlanError

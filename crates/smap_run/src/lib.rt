@@ -1,15 +1,15 @@
-//! What the program `smap` does, as a library: the commands that its words say, and running them over a reader and a
+//! What the program `smap` does, as a library: the commands that its arguments say, and running them over a reader and a
 //! writer.
 #![tactic(auto)]
 
-mod plan_words;
+mod arguments;
+mod plan_arguments;
 mod port;
 mod running;
 mod tracing;
-mod words;
 
-pub use plan_words::{read_plan, texts_in};
+pub use arguments::{Command, read_number, read_words};
+pub use plan_arguments::{inputs_of, read_plan};
 pub use port::Port;
 pub use running::{RunError, run};
 pub use tracing::trace;
-pub use words::{Command, read_number, read_words};

@@ -7,14 +7,14 @@ ghost use Rattle.smap_run.specs.Refusals.{run_error_text, status_of, out_of_memo
 ghost use Rattle.smap_run.specs.Answer.{without_line_feed, mappings_answer, normalised, normalised_url, of_map, IsPlanAnswer, IsPlanRefusal, IsAnswer, Refuses, AppendsBeginning};
 ghost use Rattle.oxc_sourcemap.specs.Error.TheVariants.{OutOfMemory};
 ghost use Rattle.oxc_sourcemap.specs.Reading.{reading};
-ghost use Rattle.smap_run.specs.PlanTexts.{texts_in};
-ghost use Rattle.smap_run.specs.PlanWords.{plan_named};
+ghost use Rattle.smap_run.specs.PlanInputs.{inputs_of};
+ghost use Rattle.smap_run.specs.PlanArguments.{parsed_plan};
 ghost use Rattle.smap_run.specs.Request.{request_of};
 
-use crate::plan_words::{read_plan, texts_in};
+use crate::arguments::Command;
+use crate::plan_arguments::{inputs_of, read_plan};
 use crate::port::Port;
 use crate::tracing::trace;
-use crate::words::Command;
 use oxc_sourcemap::laws::canonical_unique;
 use oxc_sourcemap::{Error, PlanError, SourceMap, decode_mappings, encode_mappings, evaluate};
 use std::alloc::{AllocError, AllocFailed, Global};
@@ -24,7 +24,7 @@ use std::io::{Read, Write};
 /// What the program refuses.
 #[derive(Clone, Copy, Debug, PartialEq, Eq)]
 pub enum RunError {
-    /// The evaluation of a plan, or a call on a map or a mappings text, was refused; want of memory, too.
+    /// The evaluation of a plan, or a call on a map or a mappings text, was refused; lack of memory, too.
     Plan(PlanError),
     /// A read failed.
     Read,
@@ -32,14 +32,14 @@ pub enum RunError {
     Write,
     /// The input is not UTF-8.
     Utf8,
-    /// The words say no command, or no plan.
+    /// The arguments say no command, or no plan.
     Arguments,
-    /// The words of a plan name a text that the input has not.
+    /// The arguments of a plan name a text that the input has not.
     NoText(u32),
 }
 
 impl RunError {
-    /// The status that the program ends with: 2 for bad words, else 1.
+    /// The status that the program ends with: 2 for bad arguments, else 1.
     pub fn status(&self) -> u8
         ensures { result ≡ status_of self.now }
     {
@@ -171,15 +171,15 @@ fn data_url(alloc: Global, text: &str) -> Result<String, Error>
     Ok(map.to_data_url(alloc)?)
 }
 
-/// The JSON text of the map of the plan that words name, over the texts of an input.
-fn plan_text(alloc: Global, input: &str, words: &[String]) -> Result<String, RunError>
-    ensures text { IfOk result (λ out. IsPlanAnswer (plan_named (texts_in input.now) (map string_bytes words.now)) (string_bytes out)) }
-    ensures refused { IfErr result (λ e. (e ≢ out_of_memory) → IsPlanRefusal (plan_named (texts_in input.now) (map string_bytes words.now)) e) }
+/// The JSON text of the map of the plan that these arguments say, over the maps of an input.
+fn plan_text(alloc: Global, input: &str, arguments: &[String]) -> Result<String, RunError>
+    ensures text { IfOk result (λ out. IsPlanAnswer (parsed_plan (inputs_of input.now) (map string_bytes arguments.now)) (string_bytes out)) }
+    ensures refused { IfErr result (λ e. (e ≢ out_of_memory) → IsPlanRefusal (parsed_plan (inputs_of input.now) (map string_bytes arguments.now)) e) }
     ensures causes { IfErr result (λ e. is_of_port e ≡ false) }
 {
     canonical_unique();
-    let texts = texts_in(alloc, input)?;
-    let plan = read_plan(alloc, texts.as_slice(), words)?;
+    let inputs = inputs_of(alloc, input)?;
+    let plan = read_plan(alloc, inputs.as_slice(), arguments)?;
     let map = evaluate(alloc, &plan)?;
     Ok(map.to_json_string(alloc)?)
 }
@@ -203,31 +203,31 @@ fn answer(alloc: Global, command: &Command, input: Vec<u8>) -> Result<String, Ru
             )
         }
         Command::Normalise => Ok(normalise(alloc, text.as_str())?),
-        Command::Plan(words) => plan_text(alloc, text.as_str(), words.as_slice()),
+        Command::Plan(arguments) => plan_text(alloc, text.as_str(), arguments.as_slice()),
         Command::Trace(line, col) => Ok(trace(alloc, text.as_str(), *line, *col)?),
         Command::Url => Ok(data_url(alloc, text.as_str())?),
     }
 }
 
-/// Reads the whole input, and writes what the command answers to it and one line feed.
+/// Reads the whole input, and writes the answer of the command and one line feed.
 ///
-/// - `Mappings(names, sources)`: the input is a mappings text, with one line feed at its end or none; the answer is the
-///   canonical text of its tokens, where so many names and sources stand beside it.
-/// - `Normalise`: the input is the JSON text of a map; the answer is the JSON text that `SourceMap::to_json_string` gives.
-/// - `Plan(words)`: the input is the JSON texts of maps, parted by lines that are exactly `---`; the answer is the JSON text of
-///   the map that `evaluate` answers for the plan that the words name.
-/// - `Trace(line, col)`: the input is the JSON text of a map; the answer is what `trace` says of this generated position.
-/// - `Url`: the input is the JSON text of a map; the answer is its data URL.
+/// | Command | Input | Answer |
+/// |---|---|---|
+/// | `Mappings(names, sources)` | a `mappings` text, with one line feed at its end or none | the canonical text of its tokens |
+/// | `Normalise` | the JSON text of a map | its JSON text as `SourceMap::to_json_string` writes it |
+/// | `Plan(arguments)` | JSON texts of maps, separated by lines that are exactly `---` | the JSON text of the map of the plan |
+/// | `Trace(line, col)` | the JSON text of a map | what `trace` says of the generated position |
+/// | `Url` | the JSON text of a map | its data URL |
 ///
-/// Refused as `Read` where a read fails, then as `Utf8` where the input is not UTF-8, then as the text is refused:
-/// - for a plan, the first fault of its words (`Arguments`, `NoText`, `Plan(TooDeep)`: see `read_plan`), and then what
-///   `evaluate` refuses, as `Plan(e)`;
-/// - else as `Plan(Map(e))` where a call on the text is refused, and as `Plan(Unsorted)` where a map that is to be traced is not
-///   sorted.
+/// Fails in this order:
+/// - `Read` if a read fails, and `Utf8` if the input is not UTF-8;
+/// - for a plan, the first fault of its arguments (see `read_plan`), then `Plan(e)` if `evaluate` fails with `e`;
+/// - for other commands, `Plan(Map(e))` if a call on the text fails with `e`, and `Plan(Unsorted)` if the map to be traced is
+///   not sorted;
+/// - `Write` if a write fails or takes none of some bytes; a beginning of the answer and its line feed is then written, and
+///   nothing at all before any other error.
 ///
-/// Refused as `Write` where a write fails or takes none of some bytes, and as `Plan(Map(OutOfMemory))` where memory is refused
-/// (also for an input of more than 9223372036854775807 bytes). Nothing is written but where the answer stands, and a fault of
-/// writing leaves a beginning of it and its line feed.
+/// Also `Plan(Map(OutOfMemory))` if memory is refused, or the input has more than 9223372036854775807 bytes.
 pub fn run<R: Read, W: Write>(
     alloc: Global,
     command: &Command,

@@ -1,9 +1,9 @@
 //! What a map says of a generated position, as a line of text.
 ghost use Rattle.std.specs.Prelude.{◌≡◌, ◌≢◌, ◌++◌, option_map, string_bytes, Some, IfOk, IfErr, OnOk, Ok, Err};
 ghost use Rattle.oxc_sourcemap.specs.Error.TheVariants.{OutOfMemory};
-ghost use Rattle.oxc_sourcemap.specs.View.{view_of, view_origin};
+ghost use Rattle.oxc_sourcemap.specs.View.{view_of, view_original};
 ghost use Rattle.oxc_sourcemap.specs.PlanError.TheVariants.{Map};
-ghost use Rattle.smap_run.specs.Traced.{number_part, name_part, origin_text, trace_text, traced};
+ghost use Rattle.smap_run.specs.Traced.{number_part, name_part, original_text, trace_text, traced};
 
 use oxc_sourcemap::{Error, PlanError, SourceMap, SourceViewToken, push_json_string};
 use std::alloc::Global;
@@ -31,14 +31,14 @@ fn push_name(name: Option<&str>, out: &mut String) -> Result<(), Error>
 }
 
 /// The text of a source, a source line and column, and a name.
-fn origin_text(
+fn original_text(
     alloc: Global,
     source: &str,
     line: u32,
     col: u32,
     name: Option<&str>,
 ) -> Result<String, Error>
-    ensures text { IfOk result (λ out. string_bytes out ≡ origin_text source.now line col (option_map (λ text. text.now) name.entry)) }
+    ensures text { IfOk result (λ out. string_bytes out ≡ original_text source.now line col (option_map (λ text. text.now) name.entry)) }
     ensures refused { IfErr result (λ e. e ≡ OutOfMemory) }
 {
     let mut out = String::new(alloc);
@@ -51,12 +51,12 @@ fn origin_text(
 
 /// The text of a token that was found.
 fn token_text(alloc: Global, view: &SourceViewToken<'_, '_>) -> Result<String, Error>
-    ensures text { IfOk result (λ out. string_bytes out ≡ trace_text (Some (view_origin (view_of view.now)))) }
+    ensures text { IfOk result (λ out. string_bytes out ≡ trace_text (Some (view_original (view_of view.now)))) }
     ensures refused { IfErr result (λ e. e ≡ OutOfMemory) }
 {
     let (source, line, col, name) = view.to_tuple();
     match source {
-        Some(source) => origin_text(alloc, source, line, col, name),
+        Some(source) => original_text(alloc, source, line, col, name),
         None => Ok(String::from_str(alloc, "unmapped")?),
     }
 }
@@ -65,8 +65,8 @@ fn token_text(alloc: Global, view: &SourceViewToken<'_, '_>) -> Result<String, E
 /// an unmapped one, and else its source as a JSON string, `:`, the source line, `:`, the source column, and where it has a
 /// name a space and that as a JSON string. All numbers count from 0.
 ///
-/// Refused as `Map(e)` where `SourceMap::from_json_string` refuses the text, then as `Unsorted` where the tokens are not
-/// sorted, and as `Map(OutOfMemory)` where memory is refused.
+/// Fails with `Map(e)` if `SourceMap::from_json_string` refuses the text, then with `Unsorted` if the tokens are not
+/// sorted, and with `Map(OutOfMemory)` if memory is refused.
 pub fn trace(alloc: Global, text: &str, line: u32, col: u32) -> Result<String, PlanError>
     ensures text { IfOk result (λ out. traced text.now line col ≡ Ok (string_bytes out)) }
     ensures refused { IfErr result (λ e. (e ≢ Map OutOfMemory) → traced text.now line col ≡ Err e) }

@@ -6,7 +6,7 @@ use smap_run::{Port, RunError, read_words, run};
 use std::alloc::{AllocError, Global};
 use std::process::ExitCode;
 
-/// The words behind the program's name, and an input.
+/// The words after the program's name, and an input.
 const RUNS: &[(&[&str], &str)] = &[
     (&["mappings", "1", "1"], "AAAA,GAAIA;EACA\n"),
     (

@@ -1,6 +1,6 @@
 use Rattle.oxc_sourcemap_mappings.proofs.Chunks.{pieces-is}
 use Rattle.oxc_sourcemap_mappings.proofs.Order.{back_from-all}
-use Rattle.oxc_sourcemap_mappings.proofs.RoundTrip.{are-within, round_trip, bare-of_carried, bare-from_canonical, canonical-from_bare}
+use Rattle.oxc_sourcemap_mappings.proofs.RoundTrip.{are-within, round_trip, as_written-of_carried, as_written-from_canonical, canonical-from_bare}
 use Rattle.oxc_sourcemap_mappings.proofs.Again.{reads_of, read_again, bounds_within}
 use Rattle.std.proofs.Common.{◌∙◌, sym}
 use Rattle.std.proofs.lemmas.List.Elements.{recursion_from_All}
@@ -11,10 +11,10 @@ use Rattle.oxc_sourcemap_json.proofs.Rewriting.{stays_sound}
 use Rattle.oxc_sourcemap_laws.proofs.canonical_unique.Goals as goal
 
 pub returns-clause-unique : goal.returns-clause-unique
-returns-clause-unique c = λ a b p q. (bare-from_canonical a b (recursion_from_All IsInBounds a p.in_bounds) (recursion_from_All IsInBounds b q.in_bounds) p.in_order q.in_order, canonical-from_bare a b)
+returns-clause-unique c = λ a b p q. (as_written-from_canonical a b (recursion_from_All IsInBounds a p.in_bounds) (recursion_from_All IsInBounds b q.in_bounds) p.in_order q.in_order, canonical-from_bare a b)
 
 pub returns-clause-reads_back : goal.returns-clause-reads_back
-returns-clause-reads_back c = λ names sources tokens p w. (round_trip names sources tokens (are-within names sources tokens (recursion_from_All IsInBounds tokens p.in_bounds) w) p.in_order, bare-of_carried tokens)
+returns-clause-reads_back c = λ names sources tokens p w. (round_trip names sources tokens (are-within names sources tokens (recursion_from_All IsInBounds tokens p.in_bounds) w) p.in_order, as_written-of_carried tokens)
 
 pub returns-clause-reads_again : goal.returns-clause-reads_again
 returns-clause-reads_again c = λ text names sources tokens e.

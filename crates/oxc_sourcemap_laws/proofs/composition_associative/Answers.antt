@@ -1,20 +1,20 @@
-use Rattle.oxc_sourcemap_laws.proofs.Compositions.{composed_alike, sheets_associative, sheet_composed, range_composed, count_composed, composition_stands, records_associative}
+use Rattle.oxc_sourcemap_laws.proofs.Compositions.{composed_up_to_repeats, decoded_maps_associative, decoded_map_composed, range_composed, count_composed, composition_stands, records_associative}
 use Rattle.oxc_sourcemap_laws.proofs.ComposedNames.{names-most, names-tested}
-use Rattle.oxc_sourcemap_laws.proofs.Groupings.{groupings_agree, refused_alike, both_answer, left_tells, right_tells, room}
+use Rattle.oxc_sourcemap_laws.proofs.Groupings.{groupings_agree, refused_together, both_answer, left_tells, right_tells, room}
 use Rattle.oxc_sourcemap_laws.proofs.ComposedBounds.{bounds_composed}
 use Rattle.oxc_sourcemap_laws.proofs.composition_associative.Goals as goal
 
-pub returns-clause-sheet_of_composition : goal.returns-clause-sheet_of_composition
-returns-clause-sheet_of_composition c = sheet_composed
+pub returns-clause-decoded_map_of_composition : goal.returns-clause-decoded_map_of_composition
+returns-clause-decoded_map_of_composition c = decoded_map_composed
 
-pub returns-clause-keeps_alike : goal.returns-clause-keeps_alike
-returns-clause-keeps_alike c = composed_alike
+pub returns-clause-keeps_up_to_repeats : goal.returns-clause-keeps_up_to_repeats
+returns-clause-keeps_up_to_repeats c = composed_up_to_repeats
 
 pub returns-clause-stands_for : goal.returns-clause-stands_for
 returns-clause-stands_for c = composition_stands
 
-pub returns-clause-sheets : goal.returns-clause-sheets
-returns-clause-sheets c = sheets_associative
+pub returns-clause-decoded_maps : goal.returns-clause-decoded_maps
+returns-clause-decoded_maps c = decoded_maps_associative
 
 pub returns-clause-composed_maps : goal.returns-clause-composed_maps
 returns-clause-composed_maps c = records_associative
@@ -23,7 +23,10 @@ pub returns-clause-associative : goal.returns-clause-associative
 returns-clause-associative c = groupings_agree
 
 pub returns-clause-refused : goal.returns-clause-refused
-returns-clause-refused c = λ a b m x y z n k. (refused_alike a b m y z x n k, both_answer a b m y z x n k)
+returns-clause-refused c = λ a b m x y z n k. refused_together a b m y z x n k
+
+pub returns-clause-answered : goal.returns-clause-answered
+returns-clause-answered c = λ a b m x y z n k. both_answer a b m y z x n k
 
 pub returns-clause-tell : goal.returns-clause-tell
 returns-clause-tell c = λ a b m x y z. (left_tells a b m x y z, right_tells a b m x y z)
@@ -37,8 +40,8 @@ returns-clause-names c = λ a b. (λ test h k. names-tested test a b h k, names-
 pub returns-clause-tokens : goal.returns-clause-tokens
 returns-clause-tokens c = count_composed
 
-pub returns-clause-room : goal.returns-clause-room
-returns-clause-room c = room
+pub returns-clause-too_large : goal.returns-clause-too_large
+returns-clause-too_large c = room
 
 pub returns-clause-in_bounds : goal.returns-clause-in_bounds
 returns-clause-in_bounds c = bounds_composed

@@ -1,25 +1,25 @@
-use Rattle.oxc_sourcemap_laws.specs.Squeezed.{is_same_entry, squeezed_sheet}
-use Rattle.oxc_sourcemap_laws.proofs.Squeezing.{alike_by}
+use Rattle.oxc_sourcemap_laws.specs.Repeats.{is_same_mapping, decoded_map_without_repeats}
+use Rattle.oxc_sourcemap_laws.proofs.DroppingRepeats.{up_to_repeats_by}
 use Rattle.oxc_sourcemap_laws.proofs.Same.{decides_entry}
-use Rattle.oxc_sourcemap_laws.proofs.AlikeSheets.{matches, squeezed_is_alike, trace_alike, clamped_trace_alike, sorted_sheet_alike, joined_alike}
-use Rattle.oxc_sourcemap_laws.proofs.JoinSheets.{sheet_joined}
+use Rattle.oxc_sourcemap_laws.proofs.UpToRepeats.{matches, without_repeats_is_up_to_repeats, trace_up_to_repeats, clamped_trace_up_to_repeats, sorted_decoded_map_up_to_repeats, joined_up_to_repeats}
+use Rattle.oxc_sourcemap_laws.proofs.JoinDecodedMaps.{decoded_map_joined}
 use Rattle.oxc_sourcemap_laws.proofs.JoinStands.{range_joined, count_joined, names_joined, join_sorted, join_stands}
 use Rattle.oxc_sourcemap_laws.proofs.dropping_harmless.Goals as goal
 
-pub returns-clause-squeezing : goal.returns-clause-squeezing
-returns-clause-squeezing c = λ s. let e = squeezed_is_alike s in (λ line col. (trace_alike (squeezed_sheet s) s e line col, clamped_trace_alike (squeezed_sheet s) s e line col), sorted_sheet_alike (squeezed_sheet s) s e)
+pub returns-clause-repeats : goal.returns-clause-repeats
+returns-clause-repeats c = λ s. let e = without_repeats_is_up_to_repeats s in (λ line col. (trace_up_to_repeats (decoded_map_without_repeats s) s e line col, clamped_trace_up_to_repeats (decoded_map_without_repeats s) s e line col), sorted_decoded_map_up_to_repeats (decoded_map_without_repeats s) s e)
 
-pub returns-clause-alike_traces : goal.returns-clause-alike_traces
-returns-clause-alike_traces c = λ s t e line col. (trace_alike s t e line col, clamped_trace_alike s t e line col)
+pub returns-clause-traces_agree : goal.returns-clause-traces_agree
+returns-clause-traces_agree c = λ s t e line col. (trace_up_to_repeats s t e line col, clamped_trace_up_to_repeats s t e line col)
 
-pub returns-clause-alike_tests : goal.returns-clause-alike_tests
-returns-clause-alike_tests c = λ test blind s t e. alike_by is_same_entry decides_entry test blind s.entries t.entries (matches s t e).entries
+pub returns-clause-tests_agree : goal.returns-clause-tests_agree
+returns-clause-tests_agree c = λ test blind s t e. up_to_repeats_by is_same_mapping decides_entry test blind s.mappings t.mappings (matches s t e).mappings
 
-pub returns-clause-joins_keep_alike : goal.returns-clause-joins_keep_alike
-returns-clause-joins_keep_alike c = joined_alike
+pub returns-clause-joins_up_to_repeats : goal.returns-clause-joins_up_to_repeats
+returns-clause-joins_up_to_repeats c = joined_up_to_repeats
 
-pub returns-clause-sheet_of_join : goal.returns-clause-sheet_of_join
-returns-clause-sheet_of_join c = sheet_joined
+pub returns-clause-decoded_map_of_join : goal.returns-clause-decoded_map_of_join
+returns-clause-decoded_map_of_join c = decoded_map_joined
 
 pub returns-clause-in_range : goal.returns-clause-in_range
 returns-clause-in_range c = range_joined

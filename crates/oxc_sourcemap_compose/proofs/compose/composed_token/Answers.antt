@@ -1,9 +1,9 @@
 use Rattle.std.proofs.Common.{◌≡◌, arith, map, sym, ◌∙◌, ap, None, slice_get}
 use Rattle.std.specs.Option.{option_and_then}
 use Rattle.std.specs.Cow.{cow_str_bytes}
-use Rattle.oxc_sourcemap_parts.specs.Sheet.{name_of}
-use Rattle.oxc_sourcemap_compose.specs.Taking.{taken_place}
-use Rattle.oxc_sourcemap_compose.proofs.TakenNames.{small-kept, id-kept, token-to, token-to_nameless}
+use Rattle.oxc_sourcemap_parts.specs.DecodedMap.{name_of}
+use Rattle.oxc_sourcemap_compose.specs.InheritedNames.{inherited_index}
+use Rattle.oxc_sourcemap_compose.proofs.InheritedNames.{small-kept, id-kept, token-to, token-to_nameless}
 use Rattle.oxc_sourcemap_compose.proofs.compose.composed_token.Goals as goal
 use Rattle.oxc_sourcemap_compose.proofs.compose.composed_token.Goals.{in-Some-get_name_id, in-None+in_ok-name_id-in-None}
 
@@ -20,9 +20,9 @@ returns-clause-token c =
       | in-None+in_ok-name_id-in-None w ↦ (
           let none : c.in-Some.found.name_id ≡ None = grind (arith) in
           let to = token-to_nameless first names c.args.token.now c.in-Some.found c.args.found c.in-Some.is none in
-          let taken : taken_place names (name_of first c.args.token.now) ≡ w.in_ok-name_id-in-None.name_id =
-          ap (λ v. taken_place (map cow_str_bytes v.items) (name_of first c.args.token.now)) w.names-is
-          ∙ sym (ap (λ id. taken_place (map cow_str_bytes w.taken_id.new.names.items) (option_and_then (slice_get first) id)) w.get_name_id-in-None.ensures.value)
+          let taken : inherited_index names (name_of first c.args.token.now) ≡ w.in_ok-name_id-in-None.name_id =
+          ap (λ v. inherited_index (map cow_str_bytes v.items) (name_of first c.args.token.now)) w.names-is
+          ∙ sym (ap (λ id. inherited_index (map cow_str_bytes w.inherited_id.new.names.items) (option_and_then (slice_get first) id)) w.get_name_id-in-None.ensures.value)
           ∙ w.in_ok-name_id-in-None.ensures.id.0 in
           let kept = id-kept w.in_ok-name_id-in-None.name_id w.in_ok-name_id-in-None.ensures.id.1 in
           grind (arith, to, source, taken, kept))

@@ -2,9 +2,9 @@ use Rattle.std.proofs.Common.{◌≡◌, arith, map, take, drop, ◌+◌, ◌++�
 use Rattle.std.proofs.lemmas.Grind.{common_steps}
 use Rattle.std.proofs.lemmas.Result.{err_from_is_err_and}
 use Rattle.oxc_sourcemap_lookup.specs.Lookup.{slice_of}
-use Rattle.oxc_sourcemap_compose.specs.Composed.{IsLead, AreLeads, line_of, lead_to}
+use Rattle.oxc_sourcemap_compose.specs.Composed.{IsTarget, AreTargets, line_of, target_of}
 use Rattle.oxc_sourcemap_lookup.proofs.OwnTables.{row-by_line}
-use Rattle.oxc_sourcemap_compose.proofs.Leads.{made-none, made-more, past-all}
+use Rattle.oxc_sourcemap_compose.proofs.Targets.{made-none, made-more, past-all}
 use Rattle.oxc_sourcemap_compose.proofs.compose.composed_tokens.Goals as goal
 
 pub loop-token-init : goal.loop-token-init
@@ -12,9 +12,9 @@ loop-token-init c = rw c.in_ok-composed.ensures.items (made-none _ _ _)
 
 pub loop-token-preserved : goal.loop-token-preserved
 loop-token-preserved c =
-    let l = lead_to c.token-item.result c.lead-found.result in
+    let l = target_of c.token-item.result c.target-found.result in
     let row = ap (λ t. slice_of t l.token.src_line) (ap (map (λ s. s.now)) c.as_slice.ensures.value ∙ c.in_ok-table.ensures) ∙ row-by_line l.token.src_line c.args.input.now c.requires in
-    let is : IsLead (line_of c.args.input.now l.token) l = subst (λ line. IsLead line l) row c.lead-found.ensures in
+    let is : IsTarget (line_of c.args.input.now l.token) l = subst (λ line. IsTarget line l) row c.target-found.ensures in
     let more : take (c.loop-token.token-index + 1) c.args.tokens.now ≡ take c.loop-token.token-index c.args.tokens.now ++ c.token-item.result ∷ [] = grind (arith, common_steps) in
     made-more _ _ _ _ _ _ _ _ _ l c.loop-token.invariant more is c.in_ok-composed_token.ensures.names
     (c.in_ok-push.ensures.items ∙ ap (λ t. c.loop-token.composed.items ++ t ∷ []) c.in_ok-composed_token.ensures.token)
@@ -22,9 +22,9 @@ loop-token-preserved c =
 
 pub returns-in_err-composed_token-clause-refused : goal.returns-in_err-composed_token-clause-refused
 returns-in_err-composed_token-clause-refused c =
-    let l = lead_to c.token-item.result c.lead-found.result in
+    let l = target_of c.token-item.result c.target-found.result in
     let row = ap (λ t. slice_of t l.token.src_line) (ap (map (λ s. s.now)) c.as_slice.ensures.value ∙ c.in_ok-table.ensures) ∙ row-by_line l.token.src_line c.args.input.now c.requires in
-    let is : IsLead (line_of c.args.input.now l.token) l = subst (λ line. IsLead line l) row c.lead-found.ensures in
+    let is : IsTarget (line_of c.args.input.now l.token) l = subst (λ line. IsTarget line l) row c.target-found.ensures in
     let all : take c.loop-token.token-index c.args.tokens.now ++ c.token-item.result ∷ drop (c.loop-token.token-index + 1) c.args.tokens.now ≡ c.args.tokens.now = grind (arith, common_steps) in
     let p = err_from_is_err_and c.from_residual-in_err-composed_token.result c.from_residual-in_err-composed_token.ensures.1 in
     rw (p.1, p.2) (λ other.
@@ -36,4 +36,4 @@ pub returns-clause-composed : goal.returns-clause-composed
 returns-clause-composed c =
     let m = c.loop-token.invariant in
     let all : take c.loop-token.token-index c.args.tokens.now ≡ c.args.tokens.now = grind (arith, common_steps) in
-    (m.ls, subst (λ ts. AreLeads ts c.args.input.now m.ls) all m.leads, m.names, m.tokens, m.ids)
+    (m.ls, subst (λ ts. AreTargets ts c.args.input.now m.ls) all m.targets, m.names, m.tokens, m.ids)

@@ -1,6 +1,6 @@
 use Rattle.std.proofs.Common.{map, take}
 use Rattle.std.specs.Cow.{cow_str_bytes}
-use Rattle.oxc_sourcemap_compose.proofs.Leads.{Made}
+use Rattle.oxc_sourcemap_compose.proofs.Targets.{Made}
 use Rattle.oxc_sourcemap_compose.proofs.compose.composed_tokens.Given as goal
 
 abbrev pub invariant-loop-token : goal.invariant-loop-token

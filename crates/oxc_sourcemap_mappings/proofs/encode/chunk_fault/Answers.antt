@@ -15,7 +15,7 @@ returns-then-not-is_header_of-clause-misfit c =
 
 pub loop-k-preserved : goal.loop-k-preserved
 loop-k-preserved c = record {
-  state_is = c.behind_all-previous.ensures ∙ further c.args.tokens.now (state_of c.loop-k.previous) c.loop-k.done (get_or c.args.chunks.now c.loop-k.k none).start (get_or c.args.chunks.now c.loop-k.k none).end c.if-start-done.false c.if-start-end.false c.loop-k.invariant.state_is;
+  state_is = c.after_all-previous.ensures ∙ further c.args.tokens.now (state_of c.loop-k.previous) c.loop-k.done (get_or c.args.chunks.now c.loop-k.k none).start (get_or c.args.chunks.now c.loop-k.k none).end c.if-start-done.false c.if-start-end.false c.loop-k.invariant.state_is;
   within = c.if-end-tokens.false;
   rest = sym (first_misfit-step c.args.tokens.now c.loop-k.done c.args.chunks.now c.loop-k.k none c.loop-k-test.true (state_of c.loop-k.previous) c.if-start-done.false c.if-start-end.false c.if-end-tokens.false c.loop-k.invariant.state_is (sym c.is_header_of.ensures ∙ c.if-not-is_header_of.false)) ∙ c.loop-k.invariant.rest;
 }

@@ -5,6 +5,6 @@ use Rattle.oxc_sourcemap_mappings.proofs.encode.line_back_from.Given as goal
 
 abbrev pub invariant-loop-i : goal.invariant-loop-i
 invariant-loop-i l = record {
-  place : back_from l.line_in_front (l.first + l.i) (drop l.i l.tokens) ≡ back_from l.line l.first l.tokens;
+  place : back_from l.line_before (l.first + l.i) (drop l.i l.tokens) ≡ back_from l.line l.first l.tokens;
   in_bounds : AreInBounds (take l.i l.tokens);
 }

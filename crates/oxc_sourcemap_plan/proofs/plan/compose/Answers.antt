@@ -1,21 +1,21 @@
 use Rattle.std.proofs.Common.{subst, sym}
 use Rattle.oxc_sourcemap_plan.specs.Outcome.{composition_outcome}
-use Rattle.oxc_sourcemap_plan.specs.Evaluated.{RefusesFor}
-use Rattle.oxc_sourcemap_plan.proofs.Giving.{compose_laws, compose_gives, compose_refused, unless_memory}
+use Rattle.oxc_sourcemap_plan.specs.Realizes.{FailsAs}
+use Rattle.oxc_sourcemap_plan.proofs.Realizing.{compose_laws, compose_gives, compose_refused, unless_memory}
 use Rattle.oxc_sourcemap_plan.proofs.Parts.{from_err}
 use Rattle.oxc_sourcemap_plan.proofs.plan.compose.Goals as goal
 
 pub returns-in_err-compose-clause-refused : goal.returns-in_err-compose-clause-refused
 returns-in_err-compose-clause-refused c =
     let law = c.composition_associative.ensures in
-    let laws = compose_laws law.stands_for law.names law.tokens law.room law.in_bounds in
+    let laws = compose_laws law.stands_for law.names law.tokens law.too_large law.in_bounds in
     let call = c.in_err-compose.ensures in
-    from_err c.from_residual.result _ _ c.from_residual.ensures.1 (λ e h p q g k. subst (λ x. RefusesFor x (composition_outcome p q)) (sym h)
+    from_err c.from_residual.result _ _ c.from_residual.ensures.1 (λ e h p q g k. subst (λ x. FailsAs x (composition_outcome p q)) (sym h)
     (unless_memory c.in_err-compose.field-0.0 (composition_outcome p q) (λ n. compose_refused laws c.args.first c.args.second p q g k c.in_err-compose.field-0.0 (call.refused (call.sorted_goes_on k.stands.sound.sorted) n))))
 
 pub returns-clause-map : goal.returns-clause-map
 returns-clause-map c = λ p q g k.
     let law = c.composition_associative.ensures in
-    let laws = compose_laws law.stands_for law.names law.tokens law.room law.in_bounds in
+    let laws = compose_laws law.stands_for law.names law.tokens law.too_large law.in_bounds in
     let call = c.in_ok-compose.ensures in
     compose_gives laws c.args.first c.args.second p q g k c.in_ok-compose.field-0 (call.map (call.sorted_goes_on k.stands.sound.sorted))

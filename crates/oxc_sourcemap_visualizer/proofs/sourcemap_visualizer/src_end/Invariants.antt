@@ -3,4 +3,4 @@ use Rattle.oxc_sourcemap_visualizer.specs.VisualText.{src_end}
 use Rattle.oxc_sourcemap_visualizer.proofs.sourcemap_visualizer.src_end.Given as goal
 
 abbrev pub invariant-loop-other : goal.invariant-loop-other
-invariant-loop-other l = src_end l.len l.id l.token (drop l.other-index l.behind) ≡ src_end l.len l.id l.token l.behind
+invariant-loop-other l = src_end l.len l.id l.token (drop l.other-index l.after) ≡ src_end l.len l.id l.token l.after

@@ -1,8 +1,8 @@
 use Rattle.std.proofs.Common.{◌≡◌, rules, map, string_bytes, subst, sym, inr, IsUtf8}
 use Rattle.std.proofs.lemmas.Result.{IfOk-weaker, IfErr-weaker}
 use Rattle.smap_run.specs.Request.{request_of}
-use Rattle.smap_run.specs.PlanTexts.{texts_in}
-use Rattle.smap_run.specs.PlanWords.{plan_named}
+use Rattle.smap_run.specs.PlanInputs.{inputs_of}
+use Rattle.smap_run.specs.PlanArguments.{parsed_plan}
 use Rattle.smap_run.specs.Answer.{IsPlanAnswer, IsPlanRefusal, IsAnswer, IsRefusal}
 use Rattle.smap_run.proofs.running.answer.Goals as goal
 
@@ -13,8 +13,8 @@ returns-in-Plan-clause-text c =
     IfOk-weaker c.plan_text.result _ _ (λ out h. (
       u,
       subst (λ command. IsAnswer (request_of command) c.args.input.items (string_bytes out)) (sym c.in-Plan.is)
-          (subst (λ text. IsPlanAnswer (plan_named (texts_in text) (map string_bytes c.in-Plan.words.items)) (string_bytes out)) s
-          (subst (λ ws. IsPlanAnswer (plan_named (texts_in c.as_str-in-Plan.result.now) (map string_bytes ws)) (string_bytes out)) c.as_slice.ensures.value h)),
+          (subst (λ text. IsPlanAnswer (parsed_plan (inputs_of text) (map string_bytes c.in-Plan.arguments.items)) (string_bytes out)) s
+          (subst (λ ws. IsPlanAnswer (parsed_plan (inputs_of c.as_str-in-Plan.result.now) (map string_bytes ws)) (string_bytes out)) c.as_slice.ensures.value h)),
     )) c.plan_text.ensures.text
 
 pub returns-in-Plan-clause-refused : goal.returns-in-Plan-clause-refused
@@ -24,6 +24,6 @@ returns-in-Plan-clause-refused c =
     IfErr-weaker c.plan_text.result _ _ (λ e h n. inr (
       u,
       subst (λ command. IsRefusal (request_of command) c.args.input.items e) (sym c.in-Plan.is)
-          (subst (λ text. IsPlanRefusal (plan_named (texts_in text) (map string_bytes c.in-Plan.words.items)) e) s
-          (subst (λ ws. IsPlanRefusal (plan_named (texts_in c.as_str-in-Plan.result.now) (map string_bytes ws)) e) c.as_slice.ensures.value (h n))),
+          (subst (λ text. IsPlanRefusal (parsed_plan (inputs_of text) (map string_bytes c.in-Plan.arguments.items)) e) s
+          (subst (λ ws. IsPlanRefusal (parsed_plan (inputs_of c.as_str-in-Plan.result.now) (map string_bytes ws)) e) c.as_slice.ensures.value (h n))),
     )) c.plan_text.ensures.refused

@@ -8,7 +8,7 @@ use Rattle.oxc_sourcemap_join.specs.Joined.{fitted}
 use Rattle.oxc_sourcemap_join.specs.Joining.{all_shifted}
 use Rattle.oxc_sourcemap_parts.specs.Views.{texts_of, contents_of}
 use Rattle.oxc_sourcemap_join.proofs.Moving.{length-mapped}
-use Rattle.oxc_sourcemap_join.proofs.Adding.{kept-are-in-bounds, added-is, join-is, all-behind-some, glued}
+use Rattle.oxc_sourcemap_join.proofs.Adding.{kept-are-in-bounds, added-is, join-is, all-after-some, glued}
 use Rattle.oxc_sourcemap_join.proofs.concat_sourcemap_builder.ConcatSourceMapBuilder.add_sourcemap_owned.Goals as goal
 use Rattle.oxc_sourcemap_join.proofs.concat_sourcemap_builder.ConcatSourceMapBuilder.add_sourcemap_owned.Goals.{After-drop-names-2}
 
@@ -16,7 +16,7 @@ pub push_moved-requires-clause-in_bounds : goal.push_moved-requires-clause-in_bo
 push_moved-requires-clause-in_bounds c =
     let a = c.in-Some.addition in
     let tokens : c.as_slice.result.now ≡ c.args.sourcemap.tokens = c.as_slice.ensures.value ∙ ap (λ x. x.tokens) c.into_parts-names.ensures in
-    let kept = all-behind-some a.passed c.as_slice.result.now ∙ ap (drop a.passed) tokens in
+    let kept = all-after-some a.passed c.as_slice.result.now ∙ ap (drop a.passed) tokens in
     subst AreInBounds (ap (all_shifted a.shift) (sym kept)) (kept-are-in-bounds c.args.self.now c.args.sourcemap c.args.line_offset a c.in-Some.ensures.fits)
 
 -- what the builder's lists become
@@ -38,7 +38,7 @@ module _ (c : After-drop-names-2) where
 
   tokens : c.push_moved.new.tokens.items ≡ c.args.self.now.tokens ++ all_shifted c.in-Some.addition.shift (drop c.in-Some.addition.passed c.args.sourcemap.tokens)
   tokens = c.push_moved.ensures ∙ glued (c.reserve-4.ensures.items ∙ ap (λ x. x.tokens) c.self.view_is)
-      (ap (all_shifted c.in-Some.addition.shift) (all-behind-some c.in-Some.addition.passed c.as_slice.result.now
+      (ap (all_shifted c.in-Some.addition.shift) (all-after-some c.in-Some.addition.passed c.as_slice.result.now
       ∙ ap (drop c.in-Some.addition.passed) (c.as_slice.ensures.value ∙ ap (λ x. x.tokens) c.into_parts-names.ensures)))
 
   chunks : c.push-pushed.new.self.items ≡ c.self.inside.token_chunks.items ++ c.in-Some.addition.chunk ∷ []

@@ -2,7 +2,7 @@ use Rattle.std.proofs.Common.{◌≡◌, ◌+◌, ◌-◌, string_bytes, length,
 use Rattle.std.specs.Fmt.{AppendsText}
 use Rattle.std.proofs.lemmas.List.{take_all, length-drop}
 use Rattle.std.proofs.lemmas.Grind.{common_steps}
-use Rattle.oxc_sourcemap_visualizer.specs.VisualText.{shown, nearest_source, token_text}
+use Rattle.oxc_sourcemap_visualizer.specs.VisualText.{shown, nearest_source, visual_token_text}
 use Rattle.oxc_sourcemap_visualizer.proofs.Appends.{appends_then}
 use Rattle.oxc_sourcemap_visualizer.proofs.Printing.{further-source, further-text, text-end}
 use Rattle.oxc_sourcemap_visualizer.proofs.sourcemap_visualizer.Printer.push_tokens.Goals as goal
@@ -21,7 +21,7 @@ loop-i-preserved c =
       last = grind (arith, common_steps, source);
       text = λ later more.
           let here : AppendsText (string_bytes c.loop-i.out) (string_bytes c.push_token.new.out)
-          (token_text code (nearest_source r (reverse (take i ts))) (get_or ts i t) (drop (i + 1) ts) (get_or ts i t).source_id (shown r (get_or ts i t))) = rw (← c.index-tokens-i.is, ← c.loop-i.invariant.last, ← rest) c.in_ok-last.ensures.text in
+          (visual_token_text code (nearest_source r (reverse (take i ts))) (get_or ts i t) (drop (i + 1) ts) (get_or ts i t).source_id (shown r (get_or ts i t))) = rw (← c.index-tokens-i.is, ← c.loop-i.invariant.last, ← rest) c.in_ok-last.ensures.text in
           c.loop-i.invariant.text later (rw told (appends_then (string_bytes c.loop-i.out) (string_bytes c.push_token.new.out) later _ _ here more));
     }
 

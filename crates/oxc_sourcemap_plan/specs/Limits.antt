@@ -1,0 +1,26 @@
+-- Whether counts and lines stay within the limits of a map.
+use Rattle.std.specs.Prelude.{ℕ, Bool, true, ◌&&◌, List, length, Result, Ok, Err, nat_le}
+use Rattle.std.specs.List.{list_all}
+use Rattle.oxc_sourcemap_parts.specs.Record.{Text}
+use Rattle.oxc_sourcemap_parts.specs.DecodedMap.{DecodedMapping, DecodedMap}
+use Rattle.oxc_sourcemap_laws.specs.JoinedDecodedMaps.{joined_decoded_maps}
+use Rattle.oxc_sourcemap_plan.specs.declared.plan.PlanError.{PlanError}
+use Rattle.oxc_sourcemap_plan.specs.Meaning.{Meaning}
+
+-- names, sources and entries number at most 4294967295
+abbrev pub are_counts_within_limits : List Text → DecodedMap → Bool
+are_counts_within_limits names s = nat_le (length names) 4294967295 && (nat_le (length s.sources) 4294967295 && nat_le (length s.mappings) 4294967295)
+
+-- no entry's line is above 4294967295
+abbrev pub are_lines_within_limits : List DecodedMapping → Bool
+are_lines_within_limits mappings = list_all (λ e. nat_le e.dst_line 4294967295) mappings
+
+-- a part with these names and this meaning; what is refused counts nothing
+abbrev pub is_part_within_limits : List Text → Meaning → Bool
+is_part_within_limits names (Err e) = true
+is_part_within_limits names (Ok s) = are_counts_within_limits names s
+
+-- a join with these names, of these decoded maps; it counts also where it is not sorted
+abbrev pub is_join_within_limits : List Text → Result (List (DecodedMap × ℕ)) PlanError → Bool
+is_join_within_limits names (Err e) = true
+is_join_within_limits names (Ok decoded_maps) = are_counts_within_limits names (joined_decoded_maps decoded_maps) && are_lines_within_limits (joined_decoded_maps decoded_maps).mappings

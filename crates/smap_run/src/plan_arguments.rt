@@ -1,0 +1,156 @@
+//! The arguments of a plan, and its inputs.
+ghost use Rattle.std.specs.Prelude.{◌≡◌, ◌≢◌, ◌≤◌, ℕ, false, map, string_bytes, Ok, Err, option_map, slice_get, IfOk, IfErr, OnOk};
+ghost use Rattle.smap_run.specs.Refusals.{out_of_memory, is_of_port};
+ghost use Rattle.oxc_sourcemap.specs.Depth.{depth};
+ghost use Rattle.oxc_sourcemap.specs.Outcome.{outcome_of, outcome};
+ghost use Rattle.smap_run.specs.PlanInputs.{with_line, inputs_of};
+ghost use Rattle.smap_run.specs.PlanArguments.{parsed_number, parsed_input, parsed_part, parsed_plan};
+
+use crate::arguments::read_number;
+use crate::running::RunError;
+use oxc_sourcemap::{Plan, PlanError};
+use std::alloc::{AllocError, Global};
+
+/// Appends a line, after a line feed unless it is the first.
+fn push_line(text: &mut String, is_first: bool, line: &str) -> Result<(), AllocError>
+    ensures { OnOk result (string_bytes text.new ≡ with_line (string_bytes text.old) is_first line.now) }
+{
+    if !is_first {
+        text.push('\n')?;
+    }
+    text.push_str(line)
+}
+
+/// The texts of an input, separated by lines that are exactly `---`.
+pub fn inputs_of(alloc: Global, input: &str) -> Result<Vec<String>, AllocError>
+    ensures { IfOk result (λ inputs. map string_bytes inputs.items ≡ inputs_of input.now) }
+{
+    let mut inputs = Vec::new(alloc);
+    let mut text = String::new(alloc);
+    let mut is_first = true;
+    for line in input.split('\n') {
+        if line == "---" {
+            inputs.push(text)?;
+            text = String::new(alloc);
+            is_first = true;
+        } else {
+            push_line(&mut text, is_first, line)?;
+            is_first = false;
+        }
+    }
+    inputs.push(text)?;
+    Ok(inputs)
+}
+
+/// The number that the first argument says, and the arguments after it.
+fn take_number<'w>(arguments: &'w [String]) -> Result<(u32, &'w [String]), RunError>
+    ensures number { IfOk result (λ r. parsed_number (map string_bytes arguments.now) ≡ Ok (r.0, map string_bytes r.1.now)) }
+    ensures refused { IfErr result (λ e. parsed_number (map string_bytes arguments.now) ≡ Err e) }
+    ensures causes { IfErr result (λ e. is_of_port e ≡ false) }
+{
+    let Some((argument, others)) = arguments.split_first() else {
+        return Err(RunError::Arguments);
+    };
+    match read_number(argument.as_str()) {
+        Some(number) => Ok((number, others)),
+        None => Err(RunError::Arguments),
+    }
+}
+
+/// The input with this number, from 0.
+fn input_at<'t>(inputs: &'t [String], number: u32) -> Option<&'t str>
+    ensures { option_map (λ text. text.now) result ≡ slice_get (map string_bytes inputs.now) number }
+{
+    Some(inputs.get(number as usize)?.as_str())
+}
+
+/// The part that an argument `@K` says: read input K.
+fn read_input<'t>(inputs: &'t [String], argument: &str) -> Result<Plan<'t>, RunError>
+    ensures part { IfOk result (λ plan. parsed_input (map string_bytes inputs.now) argument.now ≡ Ok (outcome_of plan)) }
+    ensures depth { IfOk result (λ plan. depth plan ≡ 1) }
+    ensures refused { IfErr result (λ e. parsed_input (map string_bytes inputs.now) argument.now ≡ Err e) }
+    ensures causes { IfErr result (λ e. is_of_port e ≡ false) }
+{
+    let Some(digits) = argument.strip_prefix('@') else {
+        return Err(RunError::Arguments);
+    };
+    let Some(number) = read_number(digits) else {
+        return Err(RunError::Arguments);
+    };
+    match input_at(inputs, number) {
+        Some(text) => Ok(Plan::Read(text)),
+        None => Err(RunError::NoText(number)),
+    }
+}
+
+/// The part that the arguments begin with, at most `room` levels deep, and the arguments after it.
+fn read_part<'t, 'w>(
+    alloc: Global,
+    inputs: &'t [String],
+    arguments: &'w [String],
+    room: u32,
+) -> Result<(Plan<'t>, &'w [String]), RunError>
+    ensures part { IfOk result (λ r. parsed_part (map string_bytes inputs.now) room (map string_bytes arguments.now) ≡ Ok (outcome_of r.0, map string_bytes r.1.now)) }
+    ensures depth { IfOk result (λ r. depth r.0 ≤ room) }
+    ensures refused { IfErr result (λ e. (e ≢ out_of_memory) → parsed_part (map string_bytes inputs.now) room (map string_bytes arguments.now) ≡ Err e) }
+    ensures causes { IfErr result (λ e. is_of_port e ≡ false) }
+{
+    let Some((argument, others)) = arguments.split_first() else {
+        return Err(RunError::Arguments);
+    };
+    if room == 0 {
+        return Err(RunError::Plan(PlanError::TooDeep));
+    }
+    match argument.as_str() {
+        "rewrite" => {
+            let (part, rest) = read_part(alloc, inputs, others, room - 1)?;
+            Ok((Plan::Rewrite(Box::new(alloc, part)?), rest))
+        }
+        "join" => {
+            let (count, after) = take_number(others)?;
+            let mut parts = Vec::new(alloc);
+            let mut rest = after;
+            for i in 0..count {
+                let (part, left) = read_part(alloc, inputs, rest, room - 1)?;
+                let (offset, left) = take_number(left)?;
+                parts.push((part, offset))?;
+                rest = left;
+            }
+            Ok((Plan::Join(parts), rest))
+        }
+        "compose" => {
+            let (first, middle) = read_part(alloc, inputs, others, room - 1)?;
+            let (second, rest) = read_part(alloc, inputs, middle, room - 1)?;
+            Ok((
+                Plan::Compose(Box::new(alloc, first)?, Box::new(alloc, second)?),
+                rest,
+            ))
+        }
+        text => Ok((read_input(inputs, text)?, others)),
+    }
+}
+
+/// The plan that arguments say, over these inputs: `@K` for input K (from 0), `rewrite P`, `join N` followed by N times
+/// `P OFFSET`, or `compose P P`, each number as `read_number` reads it.
+///
+/// Arguments are read from left to right, and the first fault stands:
+/// - `Plan(TooDeep)` for an argument where a part at depth 65 would begin;
+/// - `NoText(K)` for `@K` if there is no such input;
+/// - `Arguments` for any other argument that is bad, missing or left over.
+///
+/// Also `Plan(Map(OutOfMemory))` if memory is refused.
+pub fn read_plan<'t>(
+    alloc: Global,
+    inputs: &'t [String],
+    arguments: &[String],
+) -> Result<Plan<'t>, RunError>
+    ensures plan { IfOk result (λ plan. parsed_plan (map string_bytes inputs.now) (map string_bytes arguments.now) ≡ Ok (outcome plan)) }
+    ensures refused { IfErr result (λ e. (e ≢ out_of_memory) → parsed_plan (map string_bytes inputs.now) (map string_bytes arguments.now) ≡ Err e) }
+    ensures causes { IfErr result (λ e. is_of_port e ≡ false) }
+{
+    let (plan, rest) = read_part(alloc, inputs, arguments, 64)?;
+    match rest {
+        [] => Ok(plan),
+        _ => Err(RunError::Arguments),
+    }
+}

@@ -57,7 +57,7 @@ pub fn chunks_of(alloc: Global, rows: &Option<&[[u32; 8]]>) -> Result<Option<Vec
     Ok(Some(chunks))
 }
 
-/// Texts, lent.
+/// Texts, borrowed.
 fn lent(alloc: Global, texts: &[&'static str]) -> Result<Vec<CowStr<'static>>> {
     let mut all = Vec::new(alloc);
     for text in texts {
@@ -66,7 +66,7 @@ fn lent(alloc: Global, texts: &[&'static str]) -> Result<Vec<CowStr<'static>>> {
     Ok(all)
 }
 
-/// Contents, lent.
+/// Contents, borrowed.
 fn lent_contents(
     alloc: Global,
     contents: &[Option<&'static str>],

@@ -355,7 +355,7 @@ fn moved(alloc: Global, maps: Maps) -> Result<SourceMap<'static>> {
     ConcatSourceMapBuilder::from_owned_sourcemaps(alloc, maps)?.into_sourcemap()
 }
 
-/// The JSON text of the joined map, of maps that are lent.
+/// The JSON text of the joined map, of maps that are borrowed.
 fn lent_text(alloc: Global, maps: &[(SourceMap<'static>, u32)]) -> Result<String> {
     let mut lent_maps = Vec::new(alloc);
     for (map, line_offset) in maps {
@@ -365,7 +365,7 @@ fn lent_text(alloc: Global, maps: &[(SourceMap<'static>, u32)]) -> Result<String
     builder.into_owned_sourcemap()?.to_json_string(alloc)
 }
 
-/// The JSON text of the joined map, of maps that are lent one by one. One that is too large is passed over.
+/// The JSON text of the joined map, of maps that are borrowed one by one. One that is too large is passed over.
 fn added_text(alloc: Global, maps: &[(SourceMap<'static>, u32)]) -> Result<String> {
     let mut builder = ConcatSourceMapBuilder::empty(alloc);
     for (map, line_offset) in maps {

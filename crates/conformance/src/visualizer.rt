@@ -1,4 +1,4 @@
-//! A map beside its texts: the visual text, and the link to the page that draws it.
+//! A map beside its strings: the visual text, and the link to the page that draws it.
 use crate::helpers::{Row, map_of, same};
 use oxc_sourcemap::{Error, Result, SourceMap, SourcemapVisualizer};
 use std::alloc::Global;

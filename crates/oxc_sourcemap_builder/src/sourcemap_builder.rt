@@ -148,7 +148,7 @@ impl<'a> SourceMapBuilder<'a> {
     /// Fails with `TooLarge` if the new id would be 4294967295, then with `OutOfMemory` if memory is refused; the builder
     /// is then as it was.
     pub fn add_name(&mut self, name: &'a str) -> Result<u32>
-        ensures with_path { IfOk result (λ id. (self.new, id) ≡ with_name self.old name.now) }
+        ensures added { IfOk result (λ id. (self.new, id) ≡ with_name self.old name.now) }
         ensures too_large { IsErrOf result TooLarge ↔ (IsNone (index_of name.now self.old.map.names) × (4294967295 ≤ length self.old.map.names)) }
         ensures refused { IfErr result (λ e. (e ≡ OutOfMemory) ⊎ (e ≡ TooLarge)) }
         ensures unchanged { OnErr result (self.new ≡ self.old) }
@@ -175,7 +175,7 @@ impl<'a> SourceMapBuilder<'a> {
     /// Fails with `TooLarge` if the new id would be 4294967295, then with `OutOfMemory` if memory is refused; the builder
     /// is then as it was.
     pub fn add_source_and_content(&mut self, path: &'a str, content: &'a str) -> Result<u32>
-        ensures with_path { IfOk result (λ id. (self.new, id) ≡ with_path self.old path.now content.now) }
+        ensures added { IfOk result (λ id. (self.new, id) ≡ with_path self.old path.now content.now) }
         ensures too_large { IsErrOf result TooLarge ↔ (IsNone (fin.get self.old.given path.now) × (4294967295 ≤ length self.old.map.sources)) }
         ensures refused { IfErr result (λ e. (e ≡ OutOfMemory) ⊎ (e ≡ TooLarge)) }
         ensures unchanged { OnErr result (self.new ≡ self.old) }
@@ -197,7 +197,7 @@ impl<'a> SourceMapBuilder<'a> {
     /// Fails with `TooLarge` if the new id would be 4294967295, then with `OutOfMemory` if memory is refused; the builder
     /// is then as it was.
     pub fn set_source_and_content(&mut self, path: &'a str, content: &'a str) -> Result<u32>
-        ensures with_path { IfOk result (λ id. (self.new, id) ≡ with_another_source self.old path.now content.now) }
+        ensures added { IfOk result (λ id. (self.new, id) ≡ with_another_source self.old path.now content.now) }
         ensures too_large { IsErrOf result TooLarge ↔ (4294967295 ≤ length self.old.map.sources) }
         ensures refused { IfErr result (λ e. (e ≡ OutOfMemory) ⊎ (e ≡ TooLarge)) }
         ensures unchanged { OnErr result (self.new ≡ self.old) }
@@ -218,7 +218,7 @@ impl<'a> SourceMapBuilder<'a> {
         src_id: Option<u32>,
         name_id: Option<u32>,
     ) -> Result<()>
-        ensures with_path { OnOk result (self.new ≡ record self.old {
+        ensures added { OnOk result (self.new ≡ record self.old {
           map = record self.old.map {
             tokens = self.old.map.tokens ++ record {
               dst_line = dst_line;
@@ -255,7 +255,7 @@ impl<'a> SourceMapBuilder<'a> {
     /// `OutOfMemory`; the builder is then dropped.
     pub fn into_sourcemap(self) -> Result<SourceMap<'a>>
         ensures map { IfOk result (λ map. map ≡ self.entry.map) }
-        ensures as_written { IfOk result (λ map. (map.source_root ≡ None) × (map.ignore_list ≡ None) × (map.debug_id ≡ None)) }
+        ensures nothing_else { IfOk result (λ map. (map.source_root ≡ None) × (map.ignore_list ≡ None) × (map.debug_id ≡ None)) }
         ensures refused { IfErr result (λ e. e ≡ OutOfMemory) }
     {
         Ok(SourceMap::new(
@@ -273,7 +273,7 @@ impl<'a> SourceMapBuilder<'a> {
     /// builder is then dropped.
     pub fn into_owned_sourcemap(self) -> Result<OwnedSourceMap>
         ensures map { IfOk result (λ map. map ≡ self.entry.map) }
-        ensures as_written { IfOk result (λ map. (map.source_root ≡ None) × (map.ignore_list ≡ None) × (map.debug_id ≡ None)) }
+        ensures nothing_else { IfOk result (λ map. (map.source_root ≡ None) × (map.ignore_list ≡ None) × (map.debug_id ≡ None)) }
         ensures refused { IfErr result (λ e. e ≡ OutOfMemory) }
     {
         let alloc = self.alloc;

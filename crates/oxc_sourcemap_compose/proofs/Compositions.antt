@@ -1,4 +1,4 @@
--- From leads to the composed map.
+-- From targets to the composed map.
 use Rattle.std.proofs.Common.{◌≡◌, sym, ap, subst, ◌∙◌, Bool, true, false, cond, List, map, Option, Some, None, Result, Ok, Err, ◌≢◌, IfErr}
 use Rattle.oxc_sourcemap_mappings.specs.declared.error.Error.{Error}
 use Rattle.oxc_sourcemap_mappings.specs.declared.error.Error.TheVariants.{TooLarge, OutOfMemory}

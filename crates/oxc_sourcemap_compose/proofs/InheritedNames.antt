@@ -85,7 +85,7 @@ pub placed-taken : (names : List Text) (o : Option Text) → IsPlaced (with_inhe
 placed-taken names None = tt
 placed-taken names (Some x) = (unwrap_or (index_of x names) (length names), index-with x names)
 
--- the names with those that these leads take, from the first lead on
+-- the names with those that these targets take, from the first target on
 names-cons-of : (o : Option Text) (first names : List Text) (l : Target) (ls : List Target) → inherited_name first l ≡ o → composed_names first names (l ∷ ls) ≡ composed_names first (with_inherited names o) ls
 names-cons-of None first names l ls e = rw e
 names-cons-of (Some x) first names l ls e = rw e

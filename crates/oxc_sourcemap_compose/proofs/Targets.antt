@@ -76,7 +76,7 @@ unmapped-none : (id : Option ℕ) (o : Option TokenRecord) → is_some id ≡ fa
 unmapped-none None o h = refl
 unmapped-none (Some id) o h = cc (h)
 
--- what a token leads to by the clamped lookup is a lead
+-- what a token leads to by the clamped lookup is a target
 pub is_target : (bs : List TokenRecord) (t : TokenRecord) → IsTarget (line_of bs t) (target_in bs t)
 is_target bs t =
     let line = line_of bs t in
@@ -111,7 +111,7 @@ made-none olds old bs = record { ls = []; targets = (refl, tt); names = refl; to
 names-last : (olds old : List Text) (ls : List Target) (l : Target) → composed_names olds old (ls ++ l ∷ []) ≡ with_inherited (composed_names olds old ls) (inherited_name olds l)
 names-last olds old ls l = names-append olds old ls (l ∷ []) ∙ names-cons olds (composed_names olds old ls) l []
 
--- the taken names, as texts that come in
+-- the inherited names, as texts that come in
 abbrev taken_texts : Option Text → List Text
 taken_texts None = []
 taken_texts (Some x) = x ∷ []

@@ -46,15 +46,15 @@ abbrev pub kept_name : List Text → TokenRecord → Option ℕ → Option Text
 kept_name names t (Some id) = None
 kept_name names t None = name_of names t
 
--- the name that is taken from the first map, whose names these are
+-- the name that is inherited from the first map, whose names these are
 abbrev pub inherited_name : List Text → Target → Option Text
 inherited_name names l = option_and_then (λ u. kept_name names l.token u.name_id) l.found
 
--- the names of the second map, and after them those taken from the first that are new, in the order of the tokens
+-- the names of the second map, and after them those inherited from the first that are new, in the order of the tokens
 abbrev pub composed_names : List Text → List Text → List Target → List Text
 composed_names first second ls = with_texts second (filter_map (inherited_name first) ls)
 
--- the id of the name that is taken from the first map
+-- the id of the name that is inherited from the first map
 abbrev pub inherited_id : List Text → List Text → Target → Option ℕ
 inherited_id first names l = option_and_then (λ name. index_of name names) (inherited_name first l)
 
@@ -68,7 +68,7 @@ token_through t name_id (Some u) = record u { dst_line = t.dst_line; dst_col = t
 abbrev pub composed_token : List Text → List Text → Target → TokenRecord
 composed_token first names l = token_through l.token (inherited_id first names l) l.found
 
--- the map that these leads make
+-- the map that these targets make
 abbrev pub composed_by : List Target → MapRecord → MapRecord → MapRecord
 composed_by ls a b = record {
   file = a.file;
@@ -91,7 +91,7 @@ abbrev pub may_be_id : Option ℕ → Bool
 may_be_id None = true
 may_be_id (Some id) = nat_lt id 4294967295
 
--- whether all names taken from the first map have such ids
+-- whether all names inherited from the first map have such ids
 abbrev pub are_ids : List Text → List Text → List Target → Bool
 are_ids first names ls = list_all (λ l. may_be_id (inherited_id first names l)) ls
 
@@ -101,7 +101,7 @@ composition_fault a b =
     if nat_lt 1 (length a.sources) then Some (SeveralSources (length a.sources))
     else option_map LineOrder (first_out_of_order b.tokens)
 
--- The map that these leads make; `TooLarge` where the id of a taken name would be above 4294967294.
+-- The map that these targets make; `TooLarge` where the id of an inherited name would be above 4294967294.
 abbrev pub composition_by : List Target → MapRecord → MapRecord → Result MapRecord Error
 composition_by ls a b = unless (composition_fault a b)
     (if are_ids a.names (composed_names a.names b.names ls) ls then Ok (composed_by ls a b) else Err TooLarge)
@@ -116,11 +116,11 @@ pub record IsTarget (line : List TokenRecord) (l : Target) : Type 0 where
   pub unmapped : is_mapped l.token ≡ false → l.found ≡ None
   pub found : no_column_goes_back token_column line ≡ true → l.found ≡ found_on line l.token
 
--- leads of these tokens into those
+-- targets of these tokens into those
 abbrev pub AreTargets : List TokenRecord → List TokenRecord → List Target → Type 0
 AreTargets ts bs ls = (map (λ l. l.token) ls ≡ ts) × AllByRecursion (λ l. IsTarget (line_of bs l.token) l) ls
 
--- what some leads of the first map's tokens into the second map's make
+-- what some targets of the first map's tokens into the second map's make
 abbrev pub SomeComposition : MapRecord → MapRecord → Result MapRecord Error → Type 0
 SomeComposition a b answer = (ls : List Target) × AreTargets a.tokens b.tokens ls × (composition_by ls a b ≡ answer)
 

@@ -1,4 +1,4 @@
--- A name that may be taken from the first of two maps, into the names of the composed one.
+-- A name that may be inherited from the first of two maps, into the names of the composed one.
 use Rattle.std.specs.Prelude.{ℕ, List, Option, Some, None}
 use Rattle.std.specs.Option.{option_and_then}
 use Rattle.oxc_sourcemap_parts.specs.Record.{Text}

@@ -200,8 +200,8 @@ fn compose_into(
 /// The composition of the maps of two lists of parts: of the first map, from generated to intermediate code, and the
 /// second, from there to original code. (docs/FORMAT.md, "Composition".)
 ///
-/// Refused in this order; both are then dropped: `SeveralSources(n)`, `LineOrder(i)` for the tokens of the second map,
-/// `TooLarge`, and `OutOfMemory` where memory is refused. The first two are told wherever they hold.
+/// Fails in this order; both are then dropped: `SeveralSources(n)`, `LineOrder(i)` for the tokens of the second map,
+/// `TooLarge`, and `OutOfMemory` if memory is refused. The first two are reported wherever they hold.
 pub fn compose_parts<'input>(
     alloc: Global,
     mut first: SourceMapParts<'_>,

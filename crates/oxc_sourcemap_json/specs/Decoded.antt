@@ -15,7 +15,7 @@ abbrev pub first_not_below : ℕ → List ℕ → Option ℕ
 first_not_below count [] = None
 first_not_below count (id ∷ ids) = if nat_lt id count then first_not_below count ids else Some id
 
--- the entry of the ignore list that is told as out of range
+-- the entry of the ignore list that is reported as out of range
 abbrev pub ignore_list_fault : JsonRecord → Option ℕ
 ignore_list_fault j = option_map_or (first_not_below (length j.sources)) j.ignore_list None
 

@@ -27,7 +27,7 @@ fn first_id_not_below(count: usize, ids: &[u32]) -> Option<u32>
     None
 }
 
-/// A text that may be there, moved.
+/// An optional string, moved.
 fn owned(text: Option<String>) -> Option<CowStr<'static>>
     ensures { text_of result ≡ option_map string_bytes text }
 {
@@ -37,7 +37,7 @@ fn owned(text: Option<String>) -> Option<CowStr<'static>>
     }
 }
 
-/// Texts, moved.
+/// Strings, moved.
 fn owned_texts(
     alloc: Global,
     texts: Vec<String>,
@@ -51,7 +51,7 @@ fn owned_texts(
     Ok(moved)
 }
 
-/// Contents, moved; missing ones are the empty list.
+/// Contents, moved, or the empty list.
 fn owned_contents(
     alloc: Global,
     contents: Option<Vec<Option<String>>>,
@@ -80,15 +80,15 @@ fn json_fault(json: &JSONSourceMap) -> Option<Error>
     Some(Error::BadSourceReference(id))
 }
 
-/// The parts of the map that a JSON source map says. Its texts are moved, and contents that are missing are the empty list;
-/// it has no chunks.
+/// The parts of the map that a JSON source map says. Its strings are moved, and contents that are missing are the empty
+/// list; it has no chunks.
 ///
-/// Refused in this order, and the value is then dropped:
+/// Fails in this order, and the value is then dropped:
 /// - `BadJson(Version(n))` for a version n other than 3;
 /// - `BadSourceReference(id)` for the first entry of the ignore list that is not below the number of sources;
 /// - what `decode_mappings` refuses, with the numbers of names and sources.
 ///
-/// The first two are found before any memory is asked for, and told wherever they hold. `OutOfMemory` where memory is
+/// The first two are found before any memory is asked for, and reported wherever they hold. `OutOfMemory` if memory is
 /// refused, which may be before a fault of the mappings is met.
 pub fn decode_parts(alloc: Global, json: JSONSourceMap) -> Result<SourceMapParts<'static>>
     ensures map { IfOk result (λ parts. decoded (json_record json) ≡ Ok (record_of_parts parts)) }
@@ -118,15 +118,15 @@ pub fn decode_parts(alloc: Global, json: JSONSourceMap) -> Result<SourceMapParts
 }
 
 /// The parts of the map that a JSON text says: `serde_json` reads the text, `JSONSourceMap::from_value` the value, and
-/// `decode_parts` the fields. All its texts are owned.
+/// `decode_parts` the fields. All its strings are owned.
 ///
-/// Refused in this order:
+/// Fails in this order:
 /// - `BadJson(Reading)` where `serde_json` reads no value, as for a text that is not JSON, one with more than white
 ///   space after the value, and one that nests deeper than 127;
 /// - what `JSONSourceMap::from_value` refuses;
 /// - what `decode_parts` refuses.
 ///
-/// `OutOfMemory` where memory is refused, which may be before a fault is met.
+/// `OutOfMemory` if memory is refused, which may be before a fault is met.
 #[tactic(auto, unfolding(crate::specs::ReadMap::read_map))]
 pub fn decode_parts_from_string(alloc: Global, text: &str) -> Result<SourceMapParts<'static>>
     ensures map { IfOk result (λ parts. read_map text.now ≡ Ok (record_of_parts parts)) }

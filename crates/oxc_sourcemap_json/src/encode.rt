@@ -85,7 +85,7 @@ fn copied_ids(
 
 /// The canonical text of the tokens of a map. Chunks change nothing but have to fit.
 ///
-/// Refused as `encode_mappings` refuses the tokens and chunks.
+/// Fails as `encode_mappings` does for the tokens and chunks.
 pub(crate) fn mappings_of(alloc: Global, parts: &SourceMapParts<'_>) -> Result<String>
     ensures text { let r = record_of_parts parts.now in IfOk result (λ text. string_bytes text ≡ canonical r.tokens) }
     ensures clean { let r = record_of_parts parts.now in OnOk result (writing_fault r.tokens r.token_chunks ≡ None) }
@@ -104,8 +104,8 @@ pub(crate) fn mappings_of(alloc: Global, parts: &SourceMapParts<'_>) -> Result<S
 /// The JSON source map of a map: copies of its fields, and its tokens in their canonical text. A list of contents without
 /// any content is left out; any other is written whole. Chunks change nothing but have to fit.
 ///
-/// Refused as `encode_mappings` refuses the tokens and chunks: `LineOrder(i)`, `BadChunks(k)`, `TooLarge`, in this order;
-/// and as `OutOfMemory` where memory is refused.
+/// Fails as `encode_mappings` does for the tokens and chunks: `LineOrder(i)`, `BadChunks(k)`, `TooLarge`, in this order;
+/// and with `OutOfMemory` if memory is refused.
 pub fn encode_parts(alloc: Global, parts: &SourceMapParts<'_>) -> Result<JSONSourceMap>
     ensures json { IfOk result (λ json. encoded (record_of_parts parts.now) ≡ Ok (json_record json)) }
     ensures refused { IfErr result (λ e. (e ≢ OutOfMemory) → encoded (record_of_parts parts.now) ≡ Err e) }

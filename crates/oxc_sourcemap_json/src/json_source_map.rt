@@ -9,7 +9,7 @@ pub struct JSONSourceMap {
     pub file: Option<String>,
     /// The mappings text.
     pub mappings: String,
-    /// What stands before each source when it is looked up; nothing here joins them.
+    /// The prefix of every source, for whoever resolves them; sources are kept without it.
     pub source_root: Option<String>,
     /// The sources that the mappings refer to by their index.
     pub sources: Vec<String>,

@@ -239,8 +239,8 @@ fn push_object(
 /// `mappings` are always there, `sourcesContent` where there is some content, and the others where the map has them. The
 /// `mappings` are the canonical text of the tokens. Chunks change nothing but have to fit.
 ///
-/// Refused as `encode_parts` refuses: `LineOrder(i)`, `BadChunks(k)`, `TooLarge`, in this order, and `OutOfMemory` where
-/// memory is refused.
+/// Fails as `encode_parts` does: `LineOrder(i)`, `BadChunks(k)`, `TooLarge`, in this order, and `OutOfMemory` if memory is
+/// refused.
 #[tactic(auto, unfolding(crate::specs::JsonText::map_text))]
 pub fn encode_parts_to_string(alloc: Global, parts: &SourceMapParts<'_>) -> Result<String>
     ensures text { IfOk result (λ text. map_text (record_of_parts parts.now) ≡ Ok (string_bytes text)) }
@@ -253,7 +253,7 @@ pub fn encode_parts_to_string(alloc: Global, parts: &SourceMapParts<'_>) -> Resu
 }
 
 /// The data URL of the JSON text of a map (RFC 2397): `data:application/json;charset=utf-8;base64,` and the text in padded
-/// base64 of the standard alphabet (RFC 4648). Refused as `encode_parts_to_string` refuses.
+/// base64 of the standard alphabet (RFC 4648). Fails as `encode_parts_to_string` does.
 #[tactic(auto, unfolding(crate::specs::JsonText::map_url))]
 pub fn encode_parts_to_data_url(alloc: Global, parts: &SourceMapParts<'_>) -> Result<String>
     ensures url { IfOk result (λ url. map_url (record_of_parts parts.now) ≡ Ok (string_bytes url)) }

@@ -185,7 +185,7 @@ impl JSONSourceMap {
     /// The fields of a JSON value (docs/FORMAT.md, "The shape of a JSON value"; ECMA-426, "Source map format"). Keys that are not listed
     /// here are passed over.
     ///
-    /// Refused as `BadJson`, for the first of these in this order, and as `OutOfMemory` where memory is refused:
+    /// Fails with `BadJson` for the first of these in this order, and with `OutOfMemory` if memory is refused:
     /// - `Shape(Object)` unless the value is an object;
     /// - `version`, which has to be 3: `Version(n)` for another whole number n of 0 to 4294967295, `Shape(Version)` for all
     ///   other values, and where it is missing;

@@ -57,7 +57,7 @@ pub map_within : {A B : Type 0} (P : A → Type 0) (f g : A → B) → ((x : A) 
 map_within P f g h [] a = refl
 map_within P f g h (x ∷ xs) a = ap (λ y. y ∷ map f xs) (h x a.0) ∙ ap (λ ys. g x ∷ ys) (map_within P f g h xs a.1)
 
--- ---- entries of the two sides of a join
+-- ---- mappings of the two sides of a join
 entry-is : (ss : List DecodedSource) (ns : List Text) (m : TokenRecord) (q : Option DecodedSource) (n : Option Text) → option_and_then (slice_get ss) m.source_id ≡ q → name_of ns m ≡ n
     → mapping_of ss ns m ≡ record { dst_line = m.dst_line; dst_col = m.dst_col; original = option_map (λ s. record { source = s; src_line = m.src_line; src_col = m.src_col; name = n }) q }
 entry-is ss ns m q n e f = rw (← e, ← f)

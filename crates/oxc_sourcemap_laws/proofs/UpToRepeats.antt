@@ -11,7 +11,7 @@ use Rattle.oxc_sourcemap_laws.specs.JoinLaws.{AreEqualUpToRepeats}
 use Rattle.oxc_sourcemap_laws.proofs.DroppingRepeats.{unseen, up_to_repeats_by, blind_map, blind_without_repeats, without_repeats_append, pick_up_to_repeats, clamped_pick_up_to_repeats, sorted_up_to_repeats}
 use Rattle.oxc_sourcemap_laws.proofs.Same.{decides_entry}
 
--- equal up to repeats decoded maps agree in all but their entries, and in their without repeats entries
+-- equal up to repeats decoded maps agree in all but their mappings, and in their without repeats mappings
 pub record Matches (s t : DecodedMap) : Type 0 where
   pub rest : EqualButForMappings s t
   pub mappings : without_repeats is_same_mapping s.mappings ≡ without_repeats is_same_mapping t.mappings

@@ -19,7 +19,7 @@ token dst_line dst_col src_line src_col source_id name_id =
 abbrev plain : List Text → List TokenRecord → MapRecord
 plain sources tokens = record empty_record { sources = sources; tokens = tokens }
 
--- an entry without origin
+-- a mapping without original position
 abbrev unmapped : ℕ → ℕ → DecodedMapping
 unmapped dst_line dst_col = record { dst_line = dst_line; dst_col = dst_col; original = None }
 

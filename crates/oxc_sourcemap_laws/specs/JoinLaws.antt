@@ -17,7 +17,7 @@ use Rattle.oxc_sourcemap_laws.specs.JoinedDecodedMaps.{joined_decoded_maps}
 abbrev pub HaveSameTraces : DecodedMap → DecodedMap → Type 0
 HaveSameTraces s t = (line col : ℕ) → (trace s line col ≡ trace t line col) × (clamped_trace s line col ≡ clamped_trace t line col)
 
--- Dropping repeats changes no trace, and a decoded map is sorted exactly where its without repeats one is.
+-- Dropping repeats changes no trace, and a decoded map is sorted exactly where is the one without repeats.
 abbrev pub RepeatsHarmless : Type 0
 RepeatsHarmless = (s : DecodedMap) → HaveSameTraces (decoded_map_without_repeats s) s × (is_sorted_decoded_map (decoded_map_without_repeats s) ≡ is_sorted_decoded_map s)
 
@@ -25,7 +25,7 @@ RepeatsHarmless = (s : DecodedMap) → HaveSameTraces (decoded_map_without_repea
 abbrev pub TracesAgree : Type 0
 TracesAgree = (s t : DecodedMap) → EqualUpToRepeats s t → HaveSameTraces s t
 
--- a test of lists of entries that does not tell an entry that stands twice in a row from one that stands there once
+-- a test of lists of mappings that does not tell a mapping that stands twice in a row from one that stands there once
 abbrev pub IsBlindToRepeats : (List DecodedMapping → Bool) → Type 0
 IsBlindToRepeats test = (front : List DecodedMapping) (e : DecodedMapping) (after : List DecodedMapping) → test (front ++ e ∷ e ∷ after) ≡ test (front ++ e ∷ after)
 

@@ -103,11 +103,11 @@ pub fn search_clamped(line: &[Token], col: u32) -> Option<Token>
     search(line, col, &mut 0).or(line.first().copied())
 }
 
-/// The lookup table of tokens: for each generated line up to the last token's, the tokens on it, lent, in order. Without
-/// tokens it has no slices.
+/// The lookup table of tokens: for each generated line up to the last token's, the tokens on it, borrowed, in order.
+/// Without tokens it has no slices.
 ///
-/// Refused as `LineOrder(i)` for the first token whose line is smaller than that of the token before, and as
-/// `OutOfMemory` where memory is refused.
+/// Fails with `LineOrder(i)` for the first token whose line is smaller than that of the token before, and with
+/// `OutOfMemory` if memory is refused.
 pub fn lookup_table(alloc: Global, tokens: &[Token]) -> Result<Vec<&[Token]>>
     ensures table { IfOk result (λ table. line_table tokens.now ≡ Ok (map (λ s. s.now) table.items)) }
     ensures refused { IfErr result (λ e. (e ≢ OutOfMemory) → line_table tokens.now ≡ Err e) }

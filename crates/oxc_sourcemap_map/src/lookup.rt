@@ -82,8 +82,8 @@ impl<'a> SourceMap<'a> {
         self.seen(self.lookup_token(lookup_table, line, col))
     }
 
-    /// As `lookup_token`, but in place of None the first token of the line: so a mapping stands in for what lies before
-    /// it, as composition wants it. It is None on a line without tokens and past the table's end alone. No memory is taken.
+    /// As `lookup_token`, but a position before the first token of its line is looked up as that token; composition looks
+    /// positions up this way. None only if the line has no tokens. Takes no memory.
     pub fn lookup_token_approx(
         &self,
         lookup_table: &[&[Token]],

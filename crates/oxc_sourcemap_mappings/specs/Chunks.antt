@@ -87,6 +87,6 @@ writing_fault tokens chunks =
     orelse option_map_or (λ cs. option_map (λ k. BadChunks k) (first_misfit tokens cs)) chunks None
     orelse (if nat_lt 4294967295 (length tokens) then Some TooLarge else None)
 
--- the chunks that a call is lent
+-- borrowed chunks
 abbrev pub lent_chunks : Option (Bor (List TokenChunk)) → Option (List TokenChunk)
 lent_chunks chunks = option_map (λ cs. cs.now) chunks

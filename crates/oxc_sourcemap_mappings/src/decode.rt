@@ -186,7 +186,7 @@ impl Sums {
         }
     }
 
-    /// Moves the source position. After an `Err` it stands somewhere.
+    /// Adds the fields of a segment to the source id, line and column. After an `Err` some of them are changed.
     fn move_source(&mut self, fields: &Fields, names: usize, sources: usize) -> Result<()>
         requires small { AreSmall fields.now }
         ensures place { OnOk result (place_of self.new ≡ source_moved (place_of self.old) (value fields.now)) }
@@ -299,8 +299,8 @@ fn next_line(line: u32) -> Result<u32>
 /// 4294967295. Empty segments are passed over. One field makes an unmapped token, which carries the source line and
 /// column reached so far. A byte outside the base64 alphabet counts as the digit 63.
 ///
-/// Answers `OutOfMemory` where memory is refused, else the fault that stands first in the text: of a segment, as below,
-/// or `TooLarge` at the `;` that begins line 4294967296. A segment is checked for, one after the other:
+/// Answers `OutOfMemory` if memory is refused, else the fault that stands first in the text: of a segment, as below, or
+/// `TooLarge` at the `;` that begins line 4294967296. A segment is checked for, one after the other:
 /// - its numbers, up to the first bad one: `VlqOverflow` for a 14th digit or a 13th whose payload is above 7, else
 ///   `VlqLeftover` where the last digit asks for another;
 /// - its generated column: `BadSegmentSize(0)` if negative, `VlqOverflow` above 4294967295;

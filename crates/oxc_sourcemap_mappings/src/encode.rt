@@ -75,7 +75,7 @@ impl Previous {
     }
 }
 
-/// What stands after a state and these tokens.
+/// The state after these tokens, from this state before them.
 fn after_all(previous: Previous, tokens: &[Token]) -> Previous
     ensures { state_of result ≡ advanced_all (state_of previous) tokens.now }
 {
@@ -401,11 +401,11 @@ fn fault_of_chunk(tokens: &[Token], chunk: &TokenChunk) -> Option<Error>
 /// first token of all, which takes no `,` before. The pieces of chunks that fit, one after the other, are the canonical
 /// text of the tokens.
 ///
-/// Refused in this order, with `out` as it was:
+/// Fails in this order, with `out` as it was:
 /// - `BadChunks(0)` if the chunk ends before it starts, or past the tokens;
 /// - `LineOrder(i)`, where i is the first token of the chunk whose generated line is smaller than the line before it: that of
 ///   the previous token, and the header's for the token at `start`;
-/// - `OutOfMemory` where memory is refused.
+/// - `OutOfMemory` if memory is refused.
 pub fn encode_chunk(tokens: &[Token], chunk: &TokenChunk, out: &mut String) -> Result<()>
     ensures text { OnOk result (string_bytes out.new ≡ string_bytes out.old ++ piece tokens.now chunk.now) }
     ensures clean { OnOk result (piece_fault tokens.now chunk.now ≡ None) }
@@ -484,11 +484,11 @@ fn push_in_chunks(out: &mut String, tokens: &[Token], chunks: Option<&[TokenChun
 ///
 /// Each token takes at most 36 bytes, and each line before the last token's one more.
 ///
-/// Refused in this order, with `out` as it was:
+/// Fails in this order, with `out` as it was:
 /// - `LineOrder(i)`, where i is the first token whose generated line is smaller than that of the token before;
 /// - `BadChunks(k)`, the `k` of `chunk_fault`, where there are chunks that do not fit;
 /// - `TooLarge` for more than 4294967295 tokens;
-/// - `OutOfMemory` where memory is refused.
+/// - `OutOfMemory` if memory is refused.
 pub fn encode_mappings(
     tokens: &[Token],
     chunks: Option<&[TokenChunk]>,

@@ -11,7 +11,7 @@ use std::fmt;
 /// the texts that `Display` prints.)
 #[derive(Clone, Copy, Debug, PartialEq, Eq)]
 pub enum Error {
-    /// The last digit of a number in a mappings text asks for another, and none follows.
+    /// A number in a `mappings` text ends in a digit with the continuation bit.
     VlqLeftover,
     /// A mappings segment without a number. Decoding leaves empty segments out, so it never answers this.
     VlqNoValues,
@@ -37,7 +37,7 @@ pub enum Error {
     LineOrder(usize),
     /// The first chunk, by its index, that does not begin where the one before it ended, ends before it starts or past the
     /// tokens, or has a header other than the state there. The number of chunks where tokens are left over after them. A
-    /// chunk that is written by itself (`encode_chunk`), and ends before it starts or past the tokens, is told as 0.
+    /// chunk that is written by itself (`encode_chunk`), and ends before it starts or past the tokens, is reported as 0.
     BadChunks(usize),
     /// A map with this many sources, more than one, cannot transform another map.
     SeveralSources(usize),

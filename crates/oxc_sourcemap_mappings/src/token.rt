@@ -7,11 +7,11 @@ use std::marker::Model;
 /// Stands for a missing source or name id.
 const INVALID_ID: u32 = 4294967295;
 
-/// One mapping: a generated position, and the source position and name that it stands for. Lines and columns count
-/// from 0, columns in UTF-16 code units; nothing here looks at a text.
+/// One mapping: a generated position, and the source position and name it maps to. Lines and columns count from 0, columns
+/// in UTF-16 code units.
 ///
-/// A token without a source id is unmapped: its source position and its name say nothing. All six fields count for
-/// `==`, those of an unmapped token, too.
+/// A token without a source id is unmapped, and its source position and name have no meaning; `==` compares all six fields
+/// all the same.
 #[derive(Clone, Copy, Debug, PartialEq, Eq)]
 pub struct Token {
     dst_line: u32,

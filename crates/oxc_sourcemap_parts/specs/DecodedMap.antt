@@ -9,7 +9,7 @@ pub record DecodedSource : Type 0 where
   pub path : Text
   pub content : Option Text
 
--- what a mapped entry points to
+-- what a mapped mapping points to
 pub record OriginalPosition : Type 0 where
   pub source : DecodedSource
   pub src_line : ℕ
@@ -22,7 +22,7 @@ pub record DecodedMapping : Type 0 where
   pub dst_col : ℕ
   pub original : Option OriginalPosition
 
--- the generated line and column of an entry
+-- the generated line and column of a mapping
 abbrev pub mapping_line : DecodedMapping → ℕ
 mapping_line e = e.dst_line
 

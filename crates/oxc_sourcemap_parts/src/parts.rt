@@ -19,7 +19,7 @@ pub struct SourceMapParts<'a> {
     pub file: Option<CowStr<'a>>,
     /// The names that tokens refer to by their index.
     pub names: Vec<CowStr<'a>>,
-    /// What stands before each source when it is looked up; nothing here joins them.
+    /// The prefix of every source, for whoever resolves them; sources are kept without it.
     pub source_root: Option<CowStr<'a>>,
     /// The sources that tokens refer to by their index.
     pub sources: Vec<CowStr<'a>>,
@@ -36,7 +36,7 @@ pub struct SourceMapParts<'a> {
 }
 
 impl<'a> SourceMapParts<'a> {
-    /// The parts of a map without anything. Refused for memory alone.
+    /// The parts of a map with nothing in it. Fails only with `OutOfMemory`.
     pub fn empty(alloc: Global) -> Result<SourceMapParts<'a>>
         ensures parts { IfOk result (λ parts. record_of_parts parts ≡ empty_record) }
         ensures refused { IfErr result (λ e. e ≡ OutOfMemory) }
@@ -54,7 +54,7 @@ impl<'a> SourceMapParts<'a> {
         })
     }
 
-    /// Parts equal to these. A borrowed text stays borrowed. Refused for memory alone.
+    /// Parts equal to these. A borrowed string stays borrowed. Fails only with `OutOfMemory`.
     pub fn clone(&self, alloc: Global) -> Result<SourceMapParts<'a>>
         ensures parts { IfOk result (λ parts. record_of_parts parts ≡ record_of_parts self.now) }
         ensures refused { IfErr result (λ e. e ≡ OutOfMemory) }
@@ -73,8 +73,8 @@ impl<'a> SourceMapParts<'a> {
     }
 }
 
-/// The same parts, borrowing nothing: owned texts are moved, borrowed ones copied. Refused for memory alone; the parts are
-/// then dropped.
+/// The same parts, borrowing nothing: owned strings are moved, borrowed ones copied. Fails only with `OutOfMemory`; the
+/// parts are then dropped.
 pub fn owned_parts(alloc: Global, parts: SourceMapParts<'_>) -> Result<SourceMapParts<'static>>
     ensures parts { IfOk result (λ owned. record_of_parts owned ≡ record_of_parts parts.entry) }
     ensures refused { IfErr result (λ e. e ≡ OutOfMemory) }

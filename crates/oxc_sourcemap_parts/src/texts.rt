@@ -1,4 +1,4 @@
-//! Texts of a map: lent, copied, cloned, and detached from what they borrow.
+//! Texts of a map: borrowed, copied, cloned, and detached from what they borrow.
 ghost use Rattle.std.specs.Prelude.{◌≡◌, List, map, option_map, IfOk};
 ghost use Rattle.std.specs.Iterator.{IsFinite, Drains};
 ghost use Rattle.std.specs.Cow.{cow_str_bytes};
@@ -26,7 +26,7 @@ pub fn stored_contents<'a>(
     Ok(copies)
 }
 
-/// A clone of a text that may be there. A borrowed text stays borrowed.
+/// A clone of a text that may be there. A borrowed string stays borrowed.
 pub fn cloned_text<'a>(
     text: &Option<CowStr<'a>>,
 ) -> std::result::Result<Option<CowStr<'a>>, AllocError>

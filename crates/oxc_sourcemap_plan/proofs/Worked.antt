@@ -23,7 +23,7 @@ plain names sources tokens = record empty_record { names = names; sources = sour
 abbrev of_map : MapRecord → Outcome
 of_map r = read_outcome (Ok r)
 
--- an entry at a position, which points to this one of a source
+-- a mapping at a position, which points to this one of a source
 abbrev points : ℕ → ℕ → Text → ℕ → ℕ → Option Text → DecodedMapping
 points line col path src_line src_col name =
     record { dst_line = line; dst_col = col; original = Some (record { source = record { path = path; content = None }; src_line = src_line; src_col = src_col; name = name }) }
@@ -31,7 +31,7 @@ points line col path src_line src_col name =
 abbrev unmapped : ℕ → ℕ → DecodedMapping
 unmapped line col = record { dst_line = line; dst_col = col; original = None }
 
--- the entries of a meaning
+-- the mappings of a meaning
 abbrev entries_of : Meaning → List DecodedMapping
 entries_of (Ok s) = s.mappings
 entries_of (Err e) = []

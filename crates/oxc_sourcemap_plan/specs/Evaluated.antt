@@ -28,7 +28,7 @@ pub record IsReadBack (m : MapRecord) : Type 0 where
 
 -- What is promised of the map that an evaluation answers, by the outcome of the plan.
 pub record IsEvaluated (m : MapRecord) (o : Outcome) : Type 0 where
-  -- the plan means a decoded map, and the map is sound and means the same but for repeated entries
+  -- the plan means a decoded map, and the map is sound and means the same but for repeated mappings
   pub decoded_map : DecodedMap
   pub means : o.meaning ≡ Ok decoded_map
   pub sound : IsSound m

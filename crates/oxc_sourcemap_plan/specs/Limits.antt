@@ -7,11 +7,11 @@ use Rattle.oxc_sourcemap_laws.specs.JoinedDecodedMaps.{joined_decoded_maps}
 use Rattle.oxc_sourcemap_plan.specs.declared.plan.PlanError.{PlanError}
 use Rattle.oxc_sourcemap_plan.specs.Meaning.{Meaning}
 
--- names, sources and entries number at most 4294967295
+-- names, sources and mappings number at most 4294967295
 abbrev pub are_counts_within_limits : List Text → DecodedMap → Bool
 are_counts_within_limits names s = nat_le (length names) 4294967295 && (nat_le (length s.sources) 4294967295 && nat_le (length s.mappings) 4294967295)
 
--- no entry's line is above 4294967295
+-- no mapping's line is above 4294967295
 abbrev pub are_lines_within_limits : List DecodedMapping → Bool
 are_lines_within_limits mappings = list_all (λ e. nat_le e.dst_line 4294967295) mappings
 

@@ -117,8 +117,8 @@ names_read plan = (outcome plan).names
 abbrev pub contents_listed : Plan → ℕ
 contents_listed plan = (outcome plan).contents
 
--- Whether at every part of a plan names, sources and entries number at most 4294967295, and no line of a join is above
--- that. A join counts what all its parts have; a composition the names of both, the sources of the second and the entries
+-- Whether at every part of a plan names, sources and mappings number at most 4294967295, and no line of a join is above
+-- that. A join counts what all its parts have; a composition the names of both, the sources of the second and the mappings
 -- of the first. A part that is refused counts nothing; but a join of parts that are not counts also where it is not sorted.
 abbrev pub is_within_limits : Plan → Bool
 is_within_limits plan = (outcome plan).is_within_limits

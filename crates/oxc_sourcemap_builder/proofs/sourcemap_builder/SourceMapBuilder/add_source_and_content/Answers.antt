@@ -4,8 +4,8 @@ use Rattle.std.specs.FinMap as fin
 use Rattle.oxc_sourcemap_builder.proofs.GivenIds.{given_more}
 use Rattle.oxc_sourcemap_builder.proofs.sourcemap_builder.SourceMapBuilder.add_source_and_content.Goals as goal
 
-pub returns-clause-with_path : goal.returns-clause-with_path
-returns-clause-with_path c =
+pub returns-clause-added : goal.returns-clause-added
+returns-clause-added c =
     let pushed = rw c.unwrap.ensures at c.push-pushed.ensures.items in
     let none : fin.get c.args.self.now.given c.args.path.now ≡ None = grind (arith, common_steps, c.given_id.ensures) in
     let more = given_more (map (λ e. (e.path.now, e.id)) c.self.inside.given.items) c.args.path.now c.in_ok-id.id (ap (λ b. fin.get b.given c.args.path.now) c.self.view_is ∙ none) in

@@ -143,7 +143,7 @@ impl<'a> SourceMapBuilder<'a> {
         }
     }
 
-    /// The id of a name: that of the equal name, else that of a new last one.
+    /// Adds a name and returns its id. A name that was added before keeps its id.
     ///
     /// Fails with `TooLarge` if the new id would be 4294967295, then with `OutOfMemory` if memory is refused; the builder
     /// is then as it was.
@@ -169,8 +169,8 @@ impl<'a> SourceMapBuilder<'a> {
         find_given(self.given.as_slice(), path)
     }
 
-    /// The id of the source with this path. Where this call has added the path before, that id, and the content given then
-    /// stays; else the source becomes the last one, with this content. Sources of `set_source_and_content` are not looked at.
+    /// Adds a source with its content and returns its id. A path that this call has added before keeps its id and its first
+    /// content; sources of `set_source_and_content` do not count.
     ///
     /// Fails with `TooLarge` if the new id would be 4294967295, then with `OutOfMemory` if memory is refused; the builder
     /// is then as it was.
@@ -191,8 +191,8 @@ impl<'a> SourceMapBuilder<'a> {
         Ok(id)
     }
 
-    /// The id of a new last source with this content, whether there is a source of this path or not. A later
-    /// `add_source_and_content` does not see it.
+    /// Appends a source with its content, even if there is one of this path, and returns the new id. It replaces nothing,
+    /// and `add_source_and_content` does not find it.
     ///
     /// Fails with `TooLarge` if the new id would be 4294967295, then with `OutOfMemory` if memory is refused; the builder
     /// is then as it was.
@@ -207,8 +207,10 @@ impl<'a> SourceMapBuilder<'a> {
         Ok(last)
     }
 
-    /// Adds a token after the others, as `Token::new` makes it. Nothing is checked. Fails only with `OutOfMemory`; the
-    /// builder is then as it was.
+    /// Appends a token, as `Token::new` makes it. Nothing is checked: add tokens in the order of their generated positions,
+    /// since a map whose lines decrease is not written (`LineOrder`), and lookups expect sorted columns.
+    ///
+    /// Fails only with `OutOfMemory`; the builder is then as it was.
     pub fn add_token(
         &mut self,
         dst_line: u32,

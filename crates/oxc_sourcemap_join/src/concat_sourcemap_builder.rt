@@ -199,10 +199,11 @@ fn push_moved(tokens: &mut Vec<Token>, shift: &Shift, added: &[Token])
     }
 }
 
-/// Joins maps into one, each some lines further down. The strings of a map that is borrowed are borrowed for `'a`, and
-/// those of a map that is taken are moved: a join copies no text.
+/// Joins maps into one, each at a line of the joined code. The strings of borrowed maps are borrowed for `'a`, those of
+/// owned maps are moved: no string is copied.
 ///
-/// An add that is refused leaves the builder as it was. Line order is not asked here; `SourceMap::is_sorted` tells.
+/// An add that fails leaves the builder as it was. Whether the result is sorted is not checked here; `SourceMap::is_sorted`
+/// does.
 #[derive(Drop)]
 pub struct ConcatSourceMapBuilder<'a> {
     alloc: Global,
@@ -251,8 +252,8 @@ impl<'a> ConcatSourceMapBuilder<'a> {
         }
     }
 
-    /// A builder of the join of no maps, for which room for so many names, sources, tokens and chunks was asked. It keeps
-    /// the allocator. Fails only with `OutOfMemory`.
+    /// A builder of the join of no maps, with room for this many names, sources, tokens and chunks. Fails only with
+    /// `OutOfMemory`.
     pub fn with_capacity(
         alloc: Global,
         names_len: usize,
@@ -388,10 +389,10 @@ impl<'a> ConcatSourceMapBuilder<'a> {
         Ok(())
     }
 
-    /// The builder of the join of these maps, each at its offset of lines: the adds of `add_sourcemap` in the order of the
-    /// list. Their strings are borrowed.
+    /// A builder of the join of these maps, each with its line offset, added in order as `add_sourcemap` does. Their
+    /// strings are borrowed.
     ///
-    /// The first error of an add stands, and lack of memory for what they all take comes before; the builder is then
+    /// Room is taken first for all of them (`OutOfMemory`); then the first error of an add is returned. The builder is then
     /// dropped.
     pub fn from_sourcemaps(
         alloc: Global,

@@ -17,7 +17,7 @@ use Rattle.oxc_sourcemap_laws.specs.JoinedDecodedMaps.{joined_decoded_maps}
 abbrev pub HaveSameTraces : DecodedMap → DecodedMap → Type 0
 HaveSameTraces s t = (line col : ℕ) → (trace s line col ≡ trace t line col) × (clamped_trace s line col ≡ clamped_trace t line col)
 
--- Dropping repeats changes no trace, and a decoded map is sorted exactly where is the one without repeats.
+-- Dropping repeats changes no trace, and a decoded map is sorted exactly if it is sorted without its repeats.
 abbrev pub RepeatsHarmless : Type 0
 RepeatsHarmless = (s : DecodedMap) → HaveSameTraces (decoded_map_without_repeats s) s × (is_sorted_decoded_map (decoded_map_without_repeats s) ≡ is_sorted_decoded_map s)
 

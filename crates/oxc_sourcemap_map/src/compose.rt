@@ -12,27 +12,27 @@ use oxc_sourcemap_mappings::Result;
 use std::alloc::Global;
 
 impl<'a> SourceMap<'a> {
-    /// Composes two maps: this one from generated to intermediate code, and `input` from there to original code. The
-    /// answer leads from generated to original code. (docs/FORMAT.md, "Composition".)
+    /// Composes this map, from generated to intermediate code, with `input`, from there to original code, into one map from
+    /// generated to original code (docs/FORMAT.md, "Composition").
     ///
-    /// Each token of this map gives one at the same generated position, in the same order. Its source position is looked
-    /// up in `input` by the clamped lookup (`lookup_token_approx`):
-    /// - Where it is unmapped, or nothing or an unmapped token is found, it becomes unmapped, at source position
-    ///   0:0 and without name.
-    /// - Else it has the source id and the source position of the token found, and its name id; where that has none, the
-    ///   name of this map's token, if that has one in range.
+    /// Each token of this map gives one at the same generated position, in the same order. Its source position is looked up
+    /// in `input` by the clamped lookup (`lookup_token_approx`):
+    /// - If the token of this map or the token found is unmapped, or none is found, the result is unmapped, with source
+    ///   position 0:0 and no name.
+    /// - Else the result has the source id, source position and name of the token found; if that has no name, the name of
+    ///   the token of this map, if it has one in range.
     ///
     /// File and debug id are those of this map; source root, sources, contents and ignore list those of `input`. Names are
-    /// those of `input`, and after them the ones taken from this map that are new. There are no chunks. Where columns go
-    /// back on a line of `input`, it is open which token of that line is found, if any.
+    /// those of `input`, followed by the new ones from this map. There are no chunks. If columns decrease on a line of
+    /// `input`, any token of that line may be found, or none.
     ///
     /// Fails in this order; both maps are then dropped:
-    /// - `SeveralSources(n)` where this map has n sources, and n is above 1;
-    /// - `LineOrder(i)` for the first token i of `input` whose line is smaller than that of the token before;
-    /// - `TooLarge` where a name taken from this map would have an id above 4294967294;
+    /// - `SeveralSources(n)` if this map has n sources, and n is above 1;
+    /// - `LineOrder(i)` for the first token i of `input` whose line is smaller than that of the token before it;
+    /// - `TooLarge` if a name from this map would have an id above 4294967294;
     /// - `OutOfMemory` if memory is refused.
     ///
-    /// The first two are found before any memory is asked for, and reported wherever they hold.
+    /// The first two are found before any memory is requested, so they are reported wherever they hold.
     #[tactic(auto, using(oxc_sourcemap_lookup::proofs::OwnTables::line_goes_on))]
     pub fn compose<'input>(
         self,

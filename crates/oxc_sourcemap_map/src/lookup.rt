@@ -48,12 +48,11 @@ impl<'a> SourceMap<'a> {
         search(line, col, steps)
     }
 
-    /// The token at a generated position, by `search` in the slice that the table has for the line; None past the table's
-    /// end. The table is meant to be that of `generate_lookup_table`, but whichever is handed in is read, and nothing else,
-    /// whatever line its tokens name.
+    /// The token at a generated position, or None if the position is before the first token of its line or the table has no
+    /// such line. The rule is that of `search`.
     ///
-    /// The answer is the first token at `col`; if none is there, the last token of the greatest column below `col`; if all
-    /// are above, None. On a line whose columns go back, it is some token of the line, or None. No memory is taken.
+    /// Pass the table that `generate_lookup_table` makes of this map: only the table is read, so the table of another map
+    /// gives tokens of that map. Takes no memory.
     pub fn lookup_token(&self, lookup_table: &[&[Token]], line: u32, col: u32) -> Option<Token>
         ensures found { let tokens = slice_of (map (λ s. s.now) lookup_table.now) line in
             no_column_goes_back token_column tokens ≡ true → result ≡ at token_column tokens col }
@@ -82,8 +81,8 @@ impl<'a> SourceMap<'a> {
         self.seen(self.lookup_token(lookup_table, line, col))
     }
 
-    /// As `lookup_token`, but a position before the first token of its line is looked up as that token; composition looks
-    /// positions up this way. None only if the line has no tokens. Takes no memory.
+    /// As `lookup_token`, but a position before the first token of its line gives that token (the *clamped* lookup, by
+    /// which maps are composed). None only if the line has no tokens. Takes no memory.
     pub fn lookup_token_approx(
         &self,
         lookup_table: &[&[Token]],

@@ -38,8 +38,8 @@ use std::marker::Model;
 
 /// A source map of version 3. Its strings are borrowed for `'a` or owned.
 ///
-/// `new` and `from_parts` ask nothing about the tokens: they may be out of order, refer to sources and names that are not
-/// there, and have chunks that do not fit. `is_sorted` and `is_sound` tell.
+/// `new` and `from_parts` do not validate: tokens may be out of order, refer to sources and names that are not there, and
+/// have chunks that do not fit. `is_sorted` and `is_sound` check that.
 #[derive(Drop)]
 pub struct SourceMap<'a> {
     pub(crate) parts: SourceMapParts<'a>,
@@ -98,7 +98,7 @@ impl<'a> SourceMap<'a> {
         Ok(SourceMap::from_parts(SourceMapParts::empty(alloc)?))
     }
 
-    /// The map that a JSON source map says, by `decode`. Fails as `decode` does; the value is then dropped.
+    /// Makes a map of a `JSONSourceMap`, as `decode` does, and fails as that does; the value is then dropped.
     pub fn from_json(alloc: Global, value: JSONSourceMap) -> Result<SourceMap<'static>>
         ensures map { IfOk result (λ map. decoded (json_record value) ≡ Ok map) }
         ensures refused { IfErr result (λ e. (e ≢ OutOfMemory) → decoded (json_record value) ≡ Err e) }
@@ -107,10 +107,10 @@ impl<'a> SourceMap<'a> {
         Ok(SourceMap::from_parts(decode_parts(alloc, value)?))
     }
 
-    /// The map that a JSON text says, by `decode_from_string`; fails as that does. All its strings are owned.
+    /// Reads a map from its JSON text, as `decode_from_string` does, and fails as that does. All its strings are owned.
     ///
-    /// Its ids are in range and it has no chunks, so it is sound exactly where its tokens are sorted. A text may well
-    /// list the columns of a line in another order; `is_sorted` tells.
+    /// Its ids are in range and it has no chunks, so it is sound exactly if it is sorted. A text may list the columns of a
+    /// line in any order; `is_sorted` checks that.
     #[tactic(auto, using(oxc_sourcemap_json::proofs::ReadSound::read_map_sound))]
     pub fn from_json_string(alloc: Global, text: &str) -> Result<SourceMap<'static>>
         ensures map { IfOk result (λ map. read_map text.now ≡ Ok map) }
@@ -121,7 +121,7 @@ impl<'a> SourceMap<'a> {
         Ok(SourceMap::from_parts(decode_parts_from_string(alloc, text)?))
     }
 
-    /// The JSON source map of this map, by `encode`; fails as `encode` does.
+    /// Makes a `JSONSourceMap` of this map, as `encode` does, and fails as that does.
     pub fn to_json(&self, alloc: Global) -> Result<JSONSourceMap>
         ensures json { IfOk result (λ json. encoded self.now ≡ Ok (json_record json)) }
         ensures refused { IfErr result (λ e. (e ≢ OutOfMemory) → encoded self.now ≡ Err e) }
@@ -132,7 +132,7 @@ impl<'a> SourceMap<'a> {
         encode_parts(alloc, &self.parts)
     }
 
-    /// The JSON text of this map, by `encode_to_string`; fails as that does.
+    /// Writes the JSON text of this map, as `encode_to_string` does, and fails as that does.
     pub fn to_json_string(&self, alloc: Global) -> Result<String>
         ensures text { IfOk result (λ text. map_text self.now ≡ Ok (string_bytes text)) }
         ensures refused { IfErr result (λ e. (e ≢ OutOfMemory) → map_text self.now ≡ Err e) }
@@ -140,8 +140,8 @@ impl<'a> SourceMap<'a> {
         encode_parts_to_string(alloc, &self.parts)
     }
 
-    /// The data URL of the JSON text of this map (RFC 2397): `data:application/json;charset=utf-8;base64,` and the text in
-    /// padded base64 of the standard alphabet (RFC 4648). Fails as `to_json_string` does.
+    /// Writes the data URL (RFC 2397) of the JSON text of this map: `data:application/json;charset=utf-8;base64,` and the
+    /// text in padded base64 (RFC 4648). Fails as `to_json_string` does.
     pub fn to_data_url(&self, alloc: Global) -> Result<String>
         ensures url { IfOk result (λ url. map_url self.now ≡ Ok (string_bytes url)) }
         ensures refused { IfErr result (λ e. (e ≢ OutOfMemory) → map_url self.now ≡ Err e) }
@@ -203,14 +203,14 @@ impl<'a> SourceMap<'a> {
         Ok(())
     }
 
-    /// What stands before each source when it is looked up.
+    /// The source root, which consumers prepend to each source. `get_source` and `get_sources` return sources without it.
     pub fn get_source_root(&self) -> Option<&str>
         ensures { option_map (λ root. root.now) result ≡ self.now.source_root }
     {
         self.parts.source_root.as_deref()
     }
 
-    /// The indices of sources that debuggers may pass over.
+    /// The indices of third-party sources, which debuggers may skip.
     pub fn get_ignore_list(&self) -> Option<&[u32]>
         ensures { option_map (λ list. list.now) result ≡ self.now.ignore_list }
     {

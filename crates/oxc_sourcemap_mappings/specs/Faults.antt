@@ -64,8 +64,7 @@ source_fault counts id_before p =
 abbrev pub name_fault : Counts → Place → Option Error
 name_fault counts p = if is_id_below p.name_id counts.names then None else Some (BadNameReference (low_bits p.name_id))
 
--- The first fault of a segment of this size but for its digits. Given is also the source id that the sums have before
--- of it.
+-- The first fault of a segment of this size but for its digits; `id_before` is the source id before this segment.
 unfoldable pub place_fault : Counts → ℤ → ℕ → Place → Option Error
 place_fault counts id_before size p =
     range_fault p.dst_col

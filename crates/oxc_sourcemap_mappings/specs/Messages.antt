@@ -33,7 +33,7 @@ json_fault_text Reading = codes "the text is not JSON"
 json_fault_text (Shape field) = shape_text (key_of field)
 json_fault_text (Version n) = codes "unsupported source map version: " ++ decimal n
 
--- what a call refuses
+-- the message of an error
 abbrev pub error_text : Error → List ℕ
 error_text VlqLeftover = codes "VLQ string was malformed and data was left over"
 error_text VlqNoValues = codes "VLQ string was empty and no values could be decoded"

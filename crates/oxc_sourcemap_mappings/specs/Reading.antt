@@ -7,7 +7,7 @@ use Rattle.oxc_sourcemap_mappings.specs.Places.{Place, place, field_sum}
 use Rattle.oxc_sourcemap_mappings.specs.Faults.{Counts, counts_of, nat_of, segment_fault}
 use Rattle.oxc_sourcemap_mappings.specs.Token.{TokenRecord}
 
--- The token of a segment of this size. Only one of four or five fields gives a source, and only one of five a name.
+-- The token of a segment of this size. A segment of four or five fields gives a source, one of five a name.
 abbrev pub token_at : ℕ → ℕ → Place → TokenRecord
 token_at line size p = record {
   dst_line = line;

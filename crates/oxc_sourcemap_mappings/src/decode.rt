@@ -294,21 +294,22 @@ fn next_line(line: u32) -> Result<u32>
     line.checked_add(1).ok_or(Error::TooLarge)
 }
 
-/// Reads a `mappings` text into tokens, in text order (docs/FORMAT.md, "Reading"; ECMA-426, "Mappings structure").
-/// `names` and `sources` are the lengths of the lists that its ids refer to; more than 4294967295 are taken as
-/// 4294967295. Empty segments are passed over. One field makes an unmapped token, which carries the source line and
-/// column reached so far. A byte outside the base64 alphabet counts as the digit 63.
+/// Reads a `mappings` text into tokens, in the order of the text (docs/FORMAT.md, "Reading"; ECMA-426, "Mappings
+/// structure"). `names` and `sources` are the lengths of the lists that its ids refer to; more than 4294967295 are taken as
+/// 4294967295.
 ///
-/// Answers `OutOfMemory` if memory is refused, else the fault that stands first in the text: of a segment, as below, or
-/// `TooLarge` at the `;` that begins line 4294967296. A segment is checked for, one after the other:
-/// - its numbers, up to the first bad one: `VlqOverflow` for a 14th digit or a 13th whose payload is above 7, else
-///   `VlqLeftover` where the last digit asks for another;
-/// - its generated column: `BadSegmentSize(0)` if negative, `VlqOverflow` above 4294967295;
-/// - its number of fields, n: `BadSegmentSize(n)` unless 1, 4 or 5, with 4294967295 for more than that;
-/// - its source id, in 4 or 5 fields: `BadSourceReference` if negative or not below `sources`, with the source id of the
-///   last segment before that has one, 0 if none has;
-/// - its source line, then its source column: as the generated column;
-/// - its name id, in 5 fields: `BadNameReference` if negative or not below `names`, with the low 32 bits of it.
+/// Empty segments are skipped. A segment of one field is an unmapped token, with the source line and column reached so far.
+/// A byte outside the base64 alphabet is a digit of value 63.
+///
+/// Fails with the first error in the text, or, if memory is refused, with `OutOfMemory`. Line 4294967296 is `TooLarge` at
+/// the `;` that begins it. In a segment these are checked in this order:
+/// - each number: `VlqOverflow` for a 14th digit or a 13th with a payload above 7, `VlqLeftover` if the last digit has the
+///   continuation bit;
+/// - the generated column: `BadSegmentSize(0)` if negative, `VlqOverflow` above 4294967295;
+/// - n, the number of fields: `BadSegmentSize(n)` unless 1, 4 or 5;
+/// - the source id: `BadSourceReference`, with the source id before, if negative or not below `sources`;
+/// - the source line, then the source column: as the generated column;
+/// - the name id: `BadNameReference`, with its low 32 bits, if negative or not below `names`.
 pub fn decode_mappings(
     alloc: Global,
     text: &str,

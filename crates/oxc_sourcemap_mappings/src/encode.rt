@@ -315,10 +315,11 @@ pub fn line_order_fault(tokens: &[Token]) -> Option<usize>
     line_back_from(0, 0, tokens)
 }
 
-/// The index of the first chunk that does not fit the tokens; where there is none, but tokens are left over (after the
-/// last chunk, or without any chunk), the number of chunks; None where all chunks fit. A chunk fits if it begins where its predecessor ended (the
-/// first at 0), does not end before it starts nor after the tokens, and its header tells the state there (docs/FORMAT.md,
-/// "Chunks"). It goes over the tokens once, takes no memory, and asks nothing of the tokens.
+/// Checks that chunks fit the tokens: None if they do, else the index of the first chunk that does not, or the number of
+/// chunks if only tokens are left over.
+///
+/// A chunk fits if it begins where the one before it ends (the first at 0), ends neither before it starts nor past the
+/// tokens, and its header is the state there (docs/FORMAT.md, "Chunks"). The tokens may be in any order. Takes no memory.
 pub fn chunk_fault(tokens: &[Token], chunks: &[TokenChunk]) -> Option<usize>
     ensures misfit { result ≡ first_misfit tokens.now chunks.now }
     ensures fits { IsNone result ↔ ChunksFit tokens.now chunks.now }
@@ -396,15 +397,14 @@ fn fault_of_chunk(tokens: &[Token], chunk: &TokenChunk) -> Option<Error>
     Some(Error::LineOrder(i))
 }
 
-/// Appends the piece of a chunk to `out`: the text of its tokens, written from the chunk's header as it is, also where
-/// that does not tell the state before the chunk (docs/FORMAT.md, "Chunks"). A chunk that starts at index 0 has the
-/// first token of all, which takes no `,` before. The pieces of chunks that fit, one after the other, are the canonical
-/// text of the tokens.
+/// Appends the part of the `mappings` text that the tokens of one chunk make (docs/FORMAT.md, "Chunks"). Deltas start from
+/// the header of the chunk, which is taken as it is, right or wrong. No `,` comes before the token at index 0. The parts of
+/// chunks that fit, one after the other, are the canonical text.
 ///
 /// Fails in this order, with `out` as it was:
 /// - `BadChunks(0)` if the chunk ends before it starts, or past the tokens;
-/// - `LineOrder(i)`, where i is the first token of the chunk whose generated line is smaller than the line before it: that of
-///   the previous token, and the header's for the token at `start`;
+/// - `LineOrder(i)` for the first token i of the chunk whose generated line is smaller than that of the token before it,
+///   or, at `start`, than that of the header;
 /// - `OutOfMemory` if memory is refused.
 pub fn encode_chunk(tokens: &[Token], chunk: &TokenChunk, out: &mut String) -> Result<()>
     ensures text { OnOk result (string_bytes out.new ≡ string_bytes out.old ++ piece tokens.now chunk.now) }
@@ -478,15 +478,15 @@ fn push_in_chunks(out: &mut String, tokens: &[Token], chunks: Option<&[TokenChun
     }
 }
 
-/// Appends the canonical text of the tokens to `out`: the one `mappings` text of this list (docs/FORMAT.md, "Writing";
-/// for its form ECMA-426, "Mappings structure"). Columns may go back on a line. Of an unmapped token only the generated
-/// position goes into the text. Chunks change nothing in the text: they only have to fit the tokens.
+/// Appends the canonical `mappings` text of the tokens to `out` (docs/FORMAT.md, "Writing"; ECMA-426, "Mappings
+/// structure"): at most 36 bytes for each token, and one for each line before the last.
 ///
-/// Each token takes at most 36 bytes, and each line before the last token's one more.
+/// Columns may decrease on a line. An unmapped token is written without its source position and name. Chunks do not change
+/// the text; they only have to fit, so pass None if you have none.
 ///
 /// Fails in this order, with `out` as it was:
-/// - `LineOrder(i)`, where i is the first token whose generated line is smaller than that of the token before;
-/// - `BadChunks(k)`, the `k` of `chunk_fault`, where there are chunks that do not fit;
+/// - `LineOrder(i)` for the first token i whose generated line is smaller than that of the token before it;
+/// - `BadChunks(k)` if chunks do not fit; k is that of `chunk_fault`;
 /// - `TooLarge` for more than 4294967295 tokens;
 /// - `OutOfMemory` if memory is refused.
 pub fn encode_mappings(

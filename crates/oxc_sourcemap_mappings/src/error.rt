@@ -1,4 +1,4 @@
-//! What is refused, and the text that says so.
+//! Errors and their messages.
 ghost use Rattle.std.specs.Prelude.{◌≡◌, Some, option_map};
 ghost use Rattle.oxc_sourcemap_mappings.specs.Messages.{key_of, json_fault_text, error_text};
 ghost use Rattle.oxc_sourcemap_mappings.specs.Refusals.{refusal_of_json};
@@ -7,43 +7,43 @@ ghost use Rattle.oxc_sourcemap_mappings.specs.declared.error.Error.TheVariants.{
 use std::alloc::{AllocError, AllocFailed};
 use std::fmt;
 
-/// What a call of this library refuses. Lines, columns, ids and indices count from 0. (docs/FORMAT.md, "Refusals", has
-/// the texts that `Display` prints.)
+/// The error of a call of this library. Lines, columns, ids and indices count from 0. (docs/FORMAT.md, "Refusals", has the
+/// messages that `Display` prints.)
 #[derive(Clone, Copy, Debug, PartialEq, Eq)]
 pub enum Error {
     /// A number in a `mappings` text ends in a digit with the continuation bit.
     VlqLeftover,
-    /// A mappings segment without a number. Decoding leaves empty segments out, so it never answers this.
+    /// A segment of a `mappings` text without a number. Decoding skips empty segments, so it never returns this.
     VlqNoValues,
-    /// A number in a mappings text has more than 13 digits, or a 13th whose payload is above 7. Or a generated column,
-    /// source line or source column passes 4294967295.
+    /// A number in a `mappings` text has more than 13 digits, or a 13th whose payload is above 7; or a generated column,
+    /// source line or source column is above 4294967295.
     VlqOverflow,
-    /// No JSON value is read from the text, or the value is no source map.
+    /// The JSON text has no value, or the value is not a source map.
     BadJson(JsonFault),
-    /// A mappings segment has this many fields (4294967295 stands for more), and not 1, 4 or 5. With 0: a generated
-    /// column, source line or source column is below 0.
+    /// A segment of a `mappings` text has this many fields (4294967295 stands for more), and not 1, 4 or 5. With 0, a
+    /// generated column, source line or source column is negative, which the Rust crate reports so, too.
     BadSegmentSize(u32),
-    /// A source id is out of range. In a mappings text this tells the source id of the last segment before that has one,
-    /// 0 if none has; in an ignore list, the entry itself.
+    /// A source id is out of range. In a `mappings` text this is the source id before the bad delta, 0 at first, as in the
+    /// Rust crate; in an ignore list, the entry itself.
     BadSourceReference(u32),
-    /// A name id is out of range. This tells its low 32 bits.
+    /// A name id is out of range. These are its low 32 bits.
     BadNameReference(u32),
     /// Memory was refused.
     OutOfMemory,
     /// A line or a count is above 4294967295, or an id above 4294967294.
     TooLarge,
-    /// The first token, by its index, whose generated line is smaller than that of the token before it; for the first token
-    /// of a chunk that is written by itself (`encode_chunk`), smaller than the line in the chunk's header.
+    /// The index of the first token whose generated line is smaller than that of the token before it; for the first token
+    /// of a chunk that is written by itself (`encode_chunk`), smaller than the line in the header of the chunk.
     LineOrder(usize),
-    /// The first chunk, by its index, that does not begin where the one before it ended, ends before it starts or past the
-    /// tokens, or has a header other than the state there. The number of chunks where tokens are left over after them. A
-    /// chunk that is written by itself (`encode_chunk`), and ends before it starts or past the tokens, is reported as 0.
+    /// The index of the first chunk that does not begin where the chunk before it ends, ends before it starts or past the
+    /// tokens, or has a header other than the state there; if all chunks fit but tokens remain, the number of chunks.
+    /// `encode_chunk` reports its chunk as 0.
     BadChunks(usize),
-    /// A map with this many sources, more than one, cannot transform another map.
+    /// `compose` was called on a map with this many sources; at most one is allowed.
     SeveralSources(usize),
 }
 
-/// Why a text or a JSON value is not a source map of version 3.
+/// Why a JSON text or a JSON value is not a source map of version 3.
 #[derive(Clone, Copy, Debug, PartialEq, Eq)]
 pub enum JsonFault {
     /// `serde_json` reads no value from the text.
@@ -54,7 +54,7 @@ pub enum JsonFault {
     Version(u32),
 }
 
-/// What of a JSON value is missing or has the wrong type: the value itself, or one of its fields.
+/// The part of a JSON value that is missing or has the wrong type: the value itself, or one of its fields.
 #[derive(Clone, Copy, Debug, PartialEq, Eq)]
 pub enum Field {
     /// The value itself, which is not an object.
@@ -81,7 +81,7 @@ pub enum Field {
     GoogleIgnoreList,
 }
 
-/// The result of a call that may be refused.
+/// A `Result` with the `Error` of this library.
 pub type Result<T> = std::result::Result<T, Error>;
 
 impl Field {

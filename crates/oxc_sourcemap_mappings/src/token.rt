@@ -39,7 +39,8 @@ impl Model for Token {
 }
 
 impl Token {
-    /// The token of these numbers. Nothing is checked. An id of 4294967295 means none.
+    /// A token of these fields: `dst_` is the generated position, `src_` the source position. An id of 4294967295 is none.
+    /// Nothing is checked.
     pub fn new(
         dst_line: u32,
         dst_col: u32,
@@ -98,8 +99,7 @@ impl Token {
         self.src_col
     }
 
-    /// The name id, which is never 4294967295. None where the token has no name; that of an unmapped token is answered as it
-    /// stands.
+    /// The name id, or None if the token has no name. An unmapped token may have one, without meaning.
     pub fn get_name_id(&self) -> Option<u32>
         ensures value { result ≡ self.now.name_id }
         ensures small { IfSome result (λ id. id < 4294967295) }
@@ -111,7 +111,7 @@ impl Token {
         }
     }
 
-    /// The source id, which is never 4294967295. None where the token is unmapped.
+    /// The source id, or None if the token is unmapped.
     pub fn get_source_id(&self) -> Option<u32>
         ensures value { result ≡ self.now.source_id }
         ensures small { IfSome result (λ id. id < 4294967295) }
@@ -124,9 +124,12 @@ impl Token {
     }
 }
 
-/// The tokens of a list from index `start` up to and without index `end`. The six `prev_` fields are what their deltas
-/// start from. They are meant to be the generated line and column before `start`, the source id, line and column of
-/// the nearest mapped token there, and the nearest name id of a mapped token, or 0; this type does not check it.
+/// A part of a list of tokens, from index `start` up to but not including `end`, and the numbers that its deltas start
+/// from, so that it can be written by itself (`encode_chunk`).
+///
+/// These numbers, the `prev_` fields, should be the generated line and column of the token before `start`, the source id,
+/// line and column of the last mapped token before it, and the last name id of a mapped token before it, each 0 if there is
+/// none. Nothing here checks that; `chunk_fault` does.
 #[derive(Clone, Debug, Default, PartialEq, Eq, Drop)]
 pub struct TokenChunk {
     /// The index of the chunk's first token.
@@ -148,7 +151,7 @@ pub struct TokenChunk {
 }
 
 impl TokenChunk {
-    /// The chunk of these numbers. Nothing is checked.
+    /// A chunk of these fields. Nothing is checked.
     pub fn new(
         start: u32,
         end: u32,

@@ -1,4 +1,4 @@
--- What a map means: texts in place of ids.
+-- What a map means: texts in place of ids (the Decoded Source Map Record of ECMA-426).
 use Rattle.std.specs.Prelude.{ℕ, List, [], ◌∷◌, map, slice_get, Option, None}
 use Rattle.std.specs.Option.{option_map, option_and_then}
 use Rattle.oxc_sourcemap_mappings.specs.Token.{TokenRecord}
@@ -61,7 +61,7 @@ original_of sources names t = option_map (original_at names t) (option_and_then 
 abbrev pub mapping_of : List DecodedSource → List Text → TokenRecord → DecodedMapping
 mapping_of sources names t = record { dst_line = t.dst_line; dst_col = t.dst_col; original = original_of sources names t }
 
--- the decoded map of a record whose ids are in range
+-- the decoded map of a record; an id out of range counts as none
 abbrev pub decoded_map_of : MapRecord → DecodedMap
 decoded_map_of r = record {
   file = r.file;

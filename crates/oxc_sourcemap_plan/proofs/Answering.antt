@@ -29,6 +29,7 @@ module _ (traces : TracesAgree) (written : SoundIsWritten) (back : SoundReadsBac
     up_to_repeats = g.stands.up_to_repeats;
     traces = traces (decoded_map_of m) g.decoded_map g.stands.up_to_repeats;
     metadata = (matches (decoded_map_of m) g.decoded_map g.stands.up_to_repeats).rest;
+    map_record = g.map_record;
     tokens = g.tokens;
     names = g.names;
     contents = g.contents;

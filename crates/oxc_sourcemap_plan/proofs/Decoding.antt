@@ -1,10 +1,8 @@
 -- What is read, from the map that comes of it.
-use Rattle.std.proofs.Common.{◌≡◌, ℕ, Bool, true, false, cond, ◌==◌, nat_lt, List, [], ◌∷◌, length, refl, ap, arith, Option, Some, None, Result, Ok, Err}
+use Rattle.std.proofs.Common.{◌≡◌, ℕ, Bool, true, false, nat_lt, List, [], ◌∷◌, length, refl, ap, arith, Option, Some, None, Result, Ok, Err}
 use Rattle.std.proofs.lemmas.Bool.{and_parts}
 use Rattle.std.proofs.lemmas.Bool.Decides.{nat_tests}
 use Rattle.oxc_sourcemap_mappings.specs.declared.error.Error.{Error}
-use Rattle.oxc_sourcemap_mappings.specs.declared.error.Error.TheVariants.{BadJson}
-use Rattle.oxc_sourcemap_mappings.specs.declared.error.JsonFault.TheVariants.{Version}
 use Rattle.oxc_sourcemap_mappings.specs.Refusals.{unless}
 use Rattle.oxc_sourcemap_mappings.specs.Token.{TokenRecord, AreInBounds}
 use Rattle.oxc_sourcemap_mappings.specs.TextLaws.{ReadsAgain}

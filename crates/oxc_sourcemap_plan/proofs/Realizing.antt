@@ -1,7 +1,7 @@
 -- What readings, rewritings, joins and compositions give, by what their parts give.
 use Rattle.std.proofs.Common.{is_some, ◌≡◌, ◌≢◌, ℕ, suc, ◌≤◌, ◌<◌, Bool, true, false, cond, ◌&&◌, List, [], ◌∷◌, ◌++◌, map, length, refl, sym, ap, ◌∙◌, subst, arith, nat_le, nat_lt, Option, Some, None, option_map, Result, Ok, Err, inl, inr, ◌⊎◌}
 use Rattle.std.specs.List.{flat_map, list_any, AllByRecursion}
-use Rattle.std.specs.Option.{IfSome, unwrap_or}
+use Rattle.std.specs.Option.{IfSome, option_map, option_and_then, unwrap_or}
 use Rattle.std.proofs.lemmas.Bool.{and_parts, and_left, and_right, false_from_ne_true, both_ways, cases_lt}
 use Rattle.std.proofs.lemmas.Bool.Decides.{nat_tests}
 use Rattle.std.proofs.lemmas.List.{length-append, length-map}
@@ -36,7 +36,7 @@ use Rattle.oxc_sourcemap_plan.specs.declared.plan.PlanError.{PlanError}
 use Rattle.oxc_sourcemap_plan.specs.declared.plan.PlanError.TheVariants.{Map, Unsorted}
 use Rattle.oxc_sourcemap_plan.specs.Meaning.{read_meaning, onto_decoded_maps, all_decoded_maps, join_meaning, composition_meaning}
 use Rattle.oxc_sourcemap_plan.specs.Limits.{are_counts_within_limits, are_lines_within_limits, is_part_within_limits, is_join_within_limits}
-use Rattle.oxc_sourcemap_plan.specs.Outcome.{Outcome, read_outcome, rewrite_outcome, meanings, names_of_all, joined_source_count, are_all_within_limits, join_outcome, composition_outcome}
+use Rattle.oxc_sourcemap_plan.specs.Outcome.{Outcome, read_outcome, rewrite_outcome, meanings, names_of_all, all_records, joined_source_count, are_all_within_limits, join_outcome, composition_outcome}
 use Rattle.oxc_sourcemap_plan.specs.Evaluated.{is_among, are_among}
 use Rattle.oxc_sourcemap_plan.specs.Realizes.{Realizes, FailsAs, AllRealize}
 use Rattle.oxc_sourcemap_plan.proofs.KnownNames.{among-left, among-right, among-both, among-self, all-more, all-weaker}
@@ -95,6 +95,7 @@ read_gives law text r e h s =
       means = means;
       stands = record { sound = h; up_to_repeats = refl };
       in_bounds = law text r e;
+      map_record = refl;
       tokens = rw length-map (omega arith);
       names = omega arith;
       contents = omega arith;
@@ -140,6 +141,7 @@ rewrite_gives law back stays r m j e d o g =
       means = g.means;
       stands = record { sound = st.sound; up_to_repeats = ap decoded_map_without_repeats st.decoded_map ∙ g.stands.up_to_repeats };
       in_bounds = decoded-bounds law (encoded_record r) (rewritten r) b.is_read;
+      map_record = ap (option_map rewritten) g.map_record;
       tokens = subst (λ n. n ≤ length g.decoded_map.mappings) (sym sc) gt;
       names = g.names;
       contents = omega arith;
@@ -264,6 +266,16 @@ contents-added : (r : MapRecord) (ms : List (MapRecord × ℕ)) → length r.sou
 contents-added r [] e = e
 contents-added r (m ∷ ms) e = contents-added (added r m.0 m.1) ms (length-fitted (length (r.sources ++ m.0.sources)) (r.source_contents ++ m.0.source_contents))
 
+-- the maps of parts that all give maps
+records-of : (ms : List (MapRecord × ℕ)) (os : List (Outcome × ℕ)) → AllRealize ms os → all_records os ≡ Some ms
+records-of [] [] h = refl
+records-of [] (o ∷ os) h = absurd h
+records-of (m ∷ ms) [] h = absurd h
+records-of (m ∷ ms) (o ∷ os) h =
+    ap (option_and_then (λ r. option_map (λ rs. (r, o.1) ∷ rs) (all_records os))) h.0.0.map_record
+    ∙ ap (option_map (λ rs. (m.0, o.1) ∷ rs)) (records-of ms os h.1)
+    ∙ ap (λ n. Some ((m.0, n) ∷ ms)) (sym h.0.1)
+
 -- the laws of joins
 pub record JoinLaws : Type 0 where
   pub tests : TestsAgree
@@ -292,6 +304,7 @@ module _ (laws : JoinLaws) (ms : List (MapRecord × ℕ)) (os : List (Outcome ×
         means = means-of ∙ ap (λ b. cond b (Ok (joined_decoded_maps j.decoded_maps)) (Err Unsorted)) f;
         stands = s.1 f;
         in_bounds = within.in_bounds;
+        map_record = ap (option_map joined) (records-of ms os h);
         tokens = omega arith;
         names = subst (λ ns. length ns ≤ length (names_of_all os)) (sym (laws.names ms)) j.names;
         contents = subst (λ q. length (joined ms).source_contents ≤ joined_source_count q) (sym j.mean)
@@ -428,6 +441,7 @@ module _ (laws : ComposeLaws) (a b : MapRecord) (p q : Outcome) (g : Realizes a 
         means = mean-one c.0;
         stands = laws.stands a b g.decoded_map k.decoded_map g.stands k.stands;
         in_bounds = subst (λ (x : MapRecord). AreInBounds x.tokens) (sym c.1) (laws.bounds a b m g.in_bounds k.in_bounds e);
+        map_record = ap (option_and_then (λ r. option_map (composed r) q.map_record)) g.map_record ∙ ap (option_map (composed a)) k.map_record;
         tokens = rw (laws.tokens a b, length-map) g.tokens;
         names = omega arith;
         contents = k.contents;

@@ -1,5 +1,5 @@
 -- What is promised of the map that the evaluation of a plan answers.
-use Rattle.std.specs.Prelude.{◌≡◌, ℕ, ◌≤◌, Bool, true, List, length, Ok, None}
+use Rattle.std.specs.Prelude.{◌≡◌, ℕ, ◌≤◌, Bool, true, List, length, Ok, Err, Some, None, false, ◌⊎◌}
 use Rattle.std.specs.List.{list_all, list_any}
 use Rattle.std.specs.Str.{bytes_eq}
 use Rattle.oxc_sourcemap_mappings.specs.Reading.{reading}
@@ -11,6 +11,9 @@ use Rattle.oxc_sourcemap_laws.specs.Repeats.{EqualUpToRepeats, EqualButForMappin
 use Rattle.oxc_sourcemap_json.specs.Encoded.{encoded, encoded_record}
 use Rattle.oxc_sourcemap_json.specs.MapLaws.{rewritten, ComesBack}
 use Rattle.oxc_sourcemap_laws.specs.JoinLaws.{HaveSameTraces}
+use Rattle.oxc_sourcemap_plan.specs.declared.plan.PlanError.{PlanError}
+use Rattle.oxc_sourcemap_plan.specs.declared.plan.PlanError.TheVariants.{Map}
+use Rattle.oxc_sourcemap_mappings.specs.declared.error.Error.TheVariants.{TooLarge}
 use Rattle.oxc_sourcemap_plan.specs.Outcome.{Outcome}
 
 -- whether a name is one of these
@@ -26,8 +29,14 @@ pub record IsReadBack (m : MapRecord) : Type 0 where
   pub chunks : m.token_chunks ≡ None
   pub tokens : reading (canonical m.tokens) (length m.names) (length m.sources) ≡ Ok m.tokens
 
--- What is promised of the map that an evaluation answers, by the outcome of the plan.
+-- An error of an evaluation other than `OutOfMemory`: the one that is meant, or `TooLarge` if a part is not within the limits.
+abbrev pub IsFailure : Outcome → PlanError → Type 0
+IsFailure o e = (o.meaning ≡ Err e) ⊎ ((e ≡ Map TooLarge) × (o.is_within_limits ≡ false))
+
+-- What is promised of the map that an evaluation returns, by the outcome of the plan.
 pub record IsEvaluated (m : MapRecord) (o : Outcome) : Type 0 where
+  -- it is the very map that reading, rewriting, joining and composing make
+  pub map_record : o.map_record ≡ Some m
   -- the plan means a decoded map, and the map is sound and means the same but for repeated mappings
   pub decoded_map : DecodedMap
   pub means : o.meaning ≡ Ok decoded_map
@@ -35,13 +44,16 @@ pub record IsEvaluated (m : MapRecord) (o : Outcome) : Type 0 where
   pub up_to_repeats : EqualUpToRepeats (decoded_map_of m) decoded_map
   pub traces : HaveSameTraces (decoded_map_of m) decoded_map
   pub metadata : EqualButForMappings (decoded_map_of m) decoded_map
-  -- it has no more tokens than are meant, and no more names and contents than were read
+  -- no more tokens than mappings are meant, no more names than the texts have, and no more contents than `o` says
   pub tokens : length m.tokens ≤ length decoded_map.mappings
   pub names : length m.names ≤ length o.names
   pub contents : length m.source_contents ≤ o.contents
+  -- each name is one of the texts
   pub known : are_among o.names m.names ≡ true
-  -- it is written where it has room, and comes back
+  -- after a rewriting, its text reads as its very tokens
   pub rewritten : o.is_rewritten ≡ true → IsReadBack m
+  -- it is not too large to be written if all parts are within the limits
   pub within_limits : o.is_within_limits ≡ true → length m.tokens ≤ 4294967295
+  -- it is written then, and comes back
   pub written : length m.tokens ≤ 4294967295 → encoded m ≡ Ok (encoded_record m)
   pub comes_back : ComesBack m

@@ -1,10 +1,14 @@
--- What is said of a plan, by cases on it: what it means, the names of the texts read for it, and whether it is within the limits.
-use Rattle.std.specs.Prelude.{ℕ, Bool, true, false, ◌&&◌, List, [], ◌++◌, length, map, Result, Ok, Err, if◌then◌else◌, nat_le}
+-- What is said of a plan, by cases on it: what it means, the map itself, and whether it is within the limits.
+use Rattle.std.specs.Prelude.{ℕ, Bool, true, false, ◌&&◌, List, [], ◌∷◌, ◌++◌, length, map, Option, Some, None, Result, Ok, Err, if◌then◌else◌, nat_le}
 use Rattle.std.specs.List.{flat_map, list_all}
+use Rattle.std.specs.Option.{option_map, option_and_then}
 use Rattle.oxc_sourcemap_mappings.specs.declared.error.Error.{Error}
 use Rattle.oxc_sourcemap_parts.specs.Record.{Text, MapRecord}
 use Rattle.oxc_sourcemap_parts.specs.DecodedMap.{DecodedMap}
 use Rattle.oxc_sourcemap_json.specs.ReadMap.{read_map}
+use Rattle.oxc_sourcemap_json.specs.MapLaws.{rewritten}
+use Rattle.oxc_sourcemap_compose.specs.Composed.{composed}
+use Rattle.oxc_sourcemap_join.specs.Joined.{joined}
 use Rattle.oxc_sourcemap_laws.specs.JoinedDecodedMaps.{joined_decoded_maps}
 use Rattle.oxc_sourcemap_plan.specs.declared.plan.Plan.{Plan}
 use Rattle.oxc_sourcemap_plan.specs.declared.plan.Plan.TheOpen.{Plan-F}
@@ -16,16 +20,26 @@ use Rattle.oxc_sourcemap_plan.specs.Meaning.{Meaning, read_meaning, all_decoded_
 use Rattle.oxc_sourcemap_plan.specs.Limits.{is_part_within_limits, is_join_within_limits}
 
 pub record Outcome : Type 0 where
-  -- a decoded map or the first refusal
+  -- a decoded map, or the first error
   pub meaning : Meaning
+  -- the map in every field, errors of its parts and limits aside
+  pub map_record : Option MapRecord
   -- the names of all texts that are read
   pub names : List Text
-  -- how many contents a map lists at most
+  -- how many contents the map lists at most: as many as the text that is read, as a join has sources, as the second part of a
+  -- composition
   pub contents : ℕ
-  -- at every part counts and lines are within the limits
+  -- At every part names, sources and mappings number at most 4294967295, and no line of a join is above that. A join counts
+  -- what all its parts have; a composition the names of both, the sources of the second and the mappings of the first. A part
+  -- that means an error counts nothing; but a join whose parts mean none counts, sorted or not.
   pub is_within_limits : Bool
   -- the last thing done is to write and read again
   pub is_rewritten : Bool
+
+-- the map that is read
+abbrev pub record_read : Result MapRecord Error → Option MapRecord
+record_read (Err fault) = None
+record_read (Ok r) = Some r
 
 -- the names of a text that is read
 abbrev pub names_of_read : Result MapRecord Error → List Text
@@ -40,19 +54,25 @@ contents_of_read (Ok r) = length r.source_contents
 abbrev pub read_outcome : Result MapRecord Error → Outcome
 read_outcome read = record {
   meaning = read_meaning read;
+  map_record = record_read read;
   names = names_of_read read;
   contents = contents_of_read read;
   is_within_limits = is_part_within_limits (names_of_read read) (read_meaning read);
   is_rewritten = false;
 }
 
--- a rewriting is as its part
+-- a rewriting means what its part means
 abbrev pub rewrite_outcome : Outcome → Outcome
-rewrite_outcome part = record part { is_rewritten = true }
+rewrite_outcome part = record part { map_record = option_map rewritten part.map_record; is_rewritten = true }
 
 -- what the parts of a join mean, each at its offset
 abbrev pub meanings : List (Outcome × ℕ) → List (Meaning × ℕ)
 meanings parts = map (λ p. (p.0.meaning, p.1)) parts
+
+-- the maps of all parts of a join, each at its offset
+abbrev pub all_records : List (Outcome × ℕ) → Option (List (MapRecord × ℕ))
+all_records [] = Some []
+all_records (p ∷ parts) = option_and_then (λ m. option_map (λ ms. (m, p.1) ∷ ms) (all_records parts)) p.0.map_record
 
 -- the names of all parts of a join, in order
 abbrev pub names_of_all : List (Outcome × ℕ) → List Text
@@ -70,6 +90,7 @@ are_all_within_limits parts = list_all (λ p. p.0.is_within_limits) parts
 abbrev pub join_outcome : List (Outcome × ℕ) → Outcome
 join_outcome parts = record {
   meaning = join_meaning (all_decoded_maps (meanings parts));
+  map_record = option_map joined (all_records parts);
   names = names_of_all parts;
   contents = joined_source_count (all_decoded_maps (meanings parts));
   is_within_limits = are_all_within_limits parts && is_join_within_limits (names_of_all parts) (all_decoded_maps (meanings parts));
@@ -79,6 +100,7 @@ join_outcome parts = record {
 abbrev pub composition_outcome : Outcome → Outcome → Outcome
 composition_outcome first second = record {
   meaning = composition_meaning first.meaning second.meaning;
+  map_record = option_and_then (λ a. option_map (composed a) second.map_record) first.map_record;
   names = first.names ++ second.names;
   contents = second.contents;
   is_within_limits = (first.is_within_limits && second.is_within_limits) && is_part_within_limits (first.names ++ second.names) (composition_meaning first.meaning second.meaning);
@@ -98,31 +120,16 @@ outcome_of = fold-Plan Outcome outcome_step
 
 -- what is refused before anything is read
 abbrev pub too_deep : Outcome
-too_deep = record { meaning = Err TooDeep; names = []; contents = 0; is_within_limits = true; is_rewritten = false }
+too_deep = record { meaning = Err TooDeep; map_record = None; names = []; contents = 0; is_within_limits = true; is_rewritten = false }
 
 -- the outcome of a plan, which is at most 64 deep
 abbrev pub outcome : Plan → Outcome
 outcome plan = if nat_le (depth plan) 64 then outcome_of plan else too_deep
 
--- What a plan means: a decoded map, or the first refusal.
+-- what a plan means: a decoded map, or the first error
 abbrev pub meaning : Plan → Meaning
 meaning plan = (outcome plan).meaning
 
--- the names of all texts that are read for a plan
-abbrev pub names_read : Plan → List Text
-names_read plan = (outcome plan).names
-
--- How many contents the map of a plan lists at most: as many as the text that is read; for a join, as many as it has sources;
--- for a composition, as many as the map of its second part.
-abbrev pub contents_listed : Plan → ℕ
-contents_listed plan = (outcome plan).contents
-
--- Whether at every part of a plan names, sources and mappings number at most 4294967295, and no line of a join is above
--- that. A join counts what all its parts have; a composition the names of both, the sources of the second and the mappings
--- of the first. A part that is refused counts nothing; but a join of parts that are not counts also where it is not sorted.
+-- whether a plan is within the limits
 abbrev pub is_within_limits : Plan → Bool
 is_within_limits plan = (outcome plan).is_within_limits
-
--- whether the last thing that a plan does is to write and read again
-abbrev pub is_rewriting : Plan → Bool
-is_rewriting plan = (outcome plan).is_rewritten

@@ -1,7 +1,7 @@
 -- How the answers of the private steps of an evaluation stand to the outcomes of parts. No public contract cites this.
-use Rattle.std.specs.Prelude.{◌≡◌, ℕ, ◌≤◌, true, false, List, length, Ok, Err, None, ◌⊎◌}
+use Rattle.std.specs.Prelude.{◌≡◌, ℕ, ◌≤◌, true, List, length, Ok, Some, None, ◌⊎◌}
 use Rattle.std.specs.List.{AllZip}
-use Rattle.oxc_sourcemap_mappings.specs.declared.error.Error.TheVariants.{TooLarge, OutOfMemory}
+use Rattle.oxc_sourcemap_mappings.specs.declared.error.Error.TheVariants.{OutOfMemory}
 use Rattle.oxc_sourcemap_mappings.specs.Token.{AreInBounds}
 use Rattle.oxc_sourcemap_parts.specs.Record.{MapRecord}
 use Rattle.oxc_sourcemap_parts.specs.DecodedMap.{DecodedMap}
@@ -10,7 +10,7 @@ use Rattle.oxc_sourcemap_laws.specs.JoinLaws.{StandsFor}
 use Rattle.oxc_sourcemap_plan.specs.declared.plan.PlanError.{PlanError}
 use Rattle.oxc_sourcemap_plan.specs.declared.plan.PlanError.TheVariants.{Map}
 use Rattle.oxc_sourcemap_plan.specs.Outcome.{Outcome}
-use Rattle.oxc_sourcemap_plan.specs.Evaluated.{are_among}
+use Rattle.oxc_sourcemap_plan.specs.Evaluated.{are_among, IsFailure}
 
 -- A map is as an outcome says, seen from inside the evaluation: it stands for the decoded map that is meant, with no more tokens
 -- and names than are counted.
@@ -19,6 +19,7 @@ pub record Realizes (m : MapRecord) (o : Outcome) : Type 0 where
   pub means : o.meaning ≡ Ok decoded_map
   pub stands : StandsFor m decoded_map
   pub in_bounds : AreInBounds m.tokens
+  pub map_record : o.map_record ≡ Some m
   pub tokens : length m.tokens ≤ length decoded_map.mappings
   pub names : length m.names ≤ length o.names
   pub contents : length m.source_contents ≤ o.contents
@@ -28,7 +29,7 @@ pub record Realizes (m : MapRecord) (o : Outcome) : Type 0 where
 
 -- A refusal is the one that is meant, or lack of memory, or `TooLarge` where there is no room.
 abbrev pub FailsAs : PlanError → Outcome → Type 0
-FailsAs e o = (e ≡ Map OutOfMemory) ⊎ ((o.meaning ≡ Err e) ⊎ ((e ≡ Map TooLarge) × (o.is_within_limits ≡ false)))
+FailsAs e o = (e ≡ Map OutOfMemory) ⊎ IsFailure o e
 
 -- each map is as the outcome in the other list says, at the same offset
 abbrev pub AllRealize : List (MapRecord × ℕ) → List (Outcome × ℕ) → Type 0

@@ -1,11 +1,11 @@
 //! Plans: readings, rewritings, joins and compositions of maps, and what their evaluation answers.
-ghost use Rattle.std.specs.Prelude.{◌≡◌, ◌≤◌, ◌↔◌, ◌⊎◌, ℕ, List, Some, Ok, Err, true, false, IsTrue, IfOk, IfErr};
+ghost use Rattle.std.specs.Prelude.{◌≡◌, ◌≤◌, ◌↔◌, ◌⊎◌, ℕ, List, Some, true, false, IsTrue, IfOk, IfErr};
 ghost use Rattle.oxc_sourcemap_plan.specs.PlanMessages.{plan_error_text};
 ghost use Rattle.oxc_sourcemap_plan.specs.Depth.{depth};
-ghost use Rattle.oxc_sourcemap_plan.specs.Outcome.{Outcome, read_outcome, rewrite_outcome, join_outcome, composition_outcome, outcome_of, outcome, meaning, is_within_limits};
-ghost use Rattle.oxc_sourcemap_plan.specs.Evaluated.{IsEvaluated};
+ghost use Rattle.oxc_sourcemap_plan.specs.Outcome.{Outcome, read_outcome, rewrite_outcome, join_outcome, composition_outcome, outcome_of, outcome};
+ghost use Rattle.oxc_sourcemap_plan.specs.Evaluated.{IsEvaluated, IsFailure};
 ghost use Rattle.oxc_sourcemap_plan.specs.Realizes.{Realizes, FailsAs, AllRealize};
-ghost use Rattle.oxc_sourcemap_mappings.specs.declared.error.Error.TheVariants.{OutOfMemory, TooLarge};
+ghost use Rattle.oxc_sourcemap_mappings.specs.declared.error.Error.TheVariants.{OutOfMemory};
 ghost use Rattle.oxc_sourcemap_json.specs.ReadMap.{read_map};
 ghost use Rattle.oxc_sourcemap_parts.specs.Sorted.{are_tokens_sorted};
 ghost use Rattle.oxc_sourcemap_plan.specs.declared.plan.PlanError.TheVariants.{Map, Unsorted};
@@ -17,14 +17,14 @@ use oxc_sourcemap_mappings::Error;
 use std::alloc::{AllocError, AllocFailed, Global};
 use std::fmt;
 
-/// What is to be done with maps, which are given as JSON texts borrowed for `'t`.
+/// What to do with maps, which are given as JSON texts borrowed for `'t`.
 #[derive(Drop)]
 pub enum Plan<'t> {
     /// Read a map from its JSON text.
     Read(&'t str),
     /// Write the map of a part, and read it again.
     Rewrite(Box<Plan<'t>>),
-    /// Join the maps of parts, each so many lines further down.
+    /// Join the maps of parts, each at the line of the joined code where its line 0 goes.
     Join(Vec<(Plan<'t>, u32)>),
     /// Compose the map of the first part, from generated to intermediate code, with that of the second, from there to
     /// original code.
@@ -191,19 +191,20 @@ fn evaluate_part(alloc: Global, plan: &Plan<'_>) -> Result<SourceMap<'static>, P
 /// Evaluates a plan: reads, rewrites, joins and composes maps as it says, parts from left to right, all parts of a join before
 /// they are joined.
 ///
-/// The map has at every generated position the exact and the clamped trace that the plan means, and its sources, contents and
-/// metadata; names may be in another order. `IsEvaluated` lists all that is promised of it, `outcome` what a plan means
-/// (docs/PROMISES.md, "Plans").
+/// The map is the one that the definitions of these steps make. At every generated position it has the exact and the clamped
+/// trace that the plan means, and its sources, contents and metadata. `IsEvaluated` lists all that is promised of it,
+/// `outcome` what a plan means (docs/PROMISES.md, "Plans").
 ///
 /// Fails with
 /// - `TooDeep` if the plan is deeper than 64, where a text alone is 1 deep, before anything is read;
 /// - else the first of these, from left to right: `Map(e)` if a text says no map, `Unsorted` if the map of a text or of a join
 ///   is not sorted, `Map(SeveralSources(n))` if the first map of a composition has n sources and n is above 1;
-/// - or instead `Map(TooLarge)` if some part of the plan has more than 4294967295 names, sources or tokens or a line above
-///   that (`is_within_limits`), and `Map(OutOfMemory)` if memory is refused.
+/// - or instead `Map(TooLarge)` if at some part the names of the texts read for it, its sources or its mappings (repeated ones
+///   included) number more than 4294967295, or a joined line is above that (`is_within_limits`), and `Map(OutOfMemory)` if
+///   memory is refused.
 pub fn evaluate(alloc: Global, plan: &Plan<'_>) -> Result<OwnedSourceMap, PlanError>
     ensures map { IfOk result (λ map. IsEvaluated map (outcome plan.now)) }
-    ensures refused { IfErr result (λ e. (e ≡ Map OutOfMemory) ⊎ ((meaning plan.now ≡ Err e) ⊎ ((e ≡ Map TooLarge) × (is_within_limits plan.now ≡ false)))) }
+    ensures refused { IfErr result (λ e. (e ≡ Map OutOfMemory) ⊎ IsFailure (outcome plan.now) e) }
 {
     dropping_harmless();
     canonical_unique();

@@ -19,7 +19,7 @@ use Rattle.smap_run.specs.declared.running.RunError.TheVariants.{Plan, Utf8}
 use Rattle.smap_run.specs.Traced.{traced}
 use Rattle.smap_run.specs.Request.{Request, Mappings, Normalise, Plan as PlanOf, Trace, Url}
 use Rattle.oxc_sourcemap.specs.Outcome.{Outcome}
-use Rattle.oxc_sourcemap.specs.Evaluated.{IsEvaluated}
+use Rattle.oxc_sourcemap.specs.Evaluated.{IsEvaluated, IsFailure}
 use Rattle.smap_run.specs.PlanInputs.{inputs_of}
 use Rattle.smap_run.specs.PlanArguments.{parsed_plan}
 
@@ -63,7 +63,7 @@ IsPlanAnswer (Ok o) out = (m : MapRecord) × IsEvaluated m o × (map_text m ≡ 
 -- What it refuses: the first fault of its arguments, what the plan means, or `TooLarge` where it is not within the limits.
 abbrev pub IsPlanRefusal : Result Outcome RunError → RunError → Type 0
 IsPlanRefusal (Err fault) e = e ≡ fault
-IsPlanRefusal (Ok o) e = (p : PlanError) × (e ≡ Plan p) × ((o.meaning ≡ Err p) ⊎ ((p ≡ Map TooLarge) × (o.is_within_limits ≡ false)))
+IsPlanRefusal (Ok o) e = (p : PlanError) × (e ≡ Plan p) × IsFailure o p
 
 -- What a command answers to a text. One line feed is written after it.
 abbrev pub IsAnswer : Request → List ℕ → List ℕ → Type 0

@@ -116,8 +116,8 @@ fn tokens_are_looked_up(rt: HostRuntime) -> Result<()> {
     Ok(())
 }
 
-/// Searches the tokens of one line.
-fn a_line_gives(rt: &impl Abort, line: &[Token], col: u32, wanted: Option<Token>) {
+/// Searches the tokens of one line, with at most this many comparisons.
+fn a_line_gives(rt: &impl Abort, line: &[Token], col: u32, wanted: Option<Token>, most: u64) {
     let mut steps = 77;
     same(
         rt,
@@ -125,22 +125,73 @@ fn a_line_gives(rt: &impl Abort, line: &[Token], col: u32, wanted: Option<Token>
         SourceMap::search(line, col, &mut steps),
         wanted,
     );
-    assert!(rt; steps <= line.len() as u64);
+    assert!(rt; steps <= most);
     same(rt, "no steps", steps == 0, line.is_empty());
 }
 
 #[test]
 fn lines_are_searched(rt: HostRuntime) -> Result<()> {
-    for (rows, col, found) in [
-        (COOL, 3, Some(1)),
-        (COOL, 1000, Some(8)),
-        (EQUAL, 7, Some(1)),
-        (EQUAL, 8, Some(5)),
-        (FIVE, 0, None),
-        (&[], 0, None),
+    for (rows, col, found, most) in [
+        (COOL, 3, Some(1), 5),
+        (COOL, 1000, Some(8), 5),
+        (EQUAL, 7, Some(1), 4),
+        (EQUAL, 8, Some(5), 4),
+        (FIVE, 0, None, 2),
+        (&[], 0, None, 0),
     ] {
         let line = tokens_of(rt.alloc(), rows)?;
-        a_line_gives(&rt, line.as_slice(), col, token_at(rows, found));
+        a_line_gives(
+            &rt,
+            line.as_slice(),
+            col,
+            token_at(rows, found),
+            most,
+        );
+    }
+    Ok(())
+}
+
+#[test]
+fn many_equal_columns_are_searched(rt: HostRuntime) -> Result<()> {
+    let mut line = Vec::new(rt.alloc());
+    for src_line in 0..65536 {
+        line.push(Token::new(0, 7, src_line, 0, Some(0), None))?;
+    }
+    let [first, last] = [0, 65535].map(|src_line| Token::new(0, 7, src_line, 0, Some(0), None));
+    a_line_gives(&rt, line.as_slice(), 7, Some(first), 18);
+    a_line_gives(&rt, line.as_slice(), 8, Some(last), 18);
+    Ok(())
+}
+
+/// A map whose one line has a token at each column below this one.
+fn map_of_columns(alloc: Global, columns: u32) -> Result<SourceMap<'static>> {
+    let mut tokens = Vec::with_capacity(alloc, columns as usize)?;
+    for col in 0..columns {
+        tokens.push(Token::new(0, col, 0, col, None, None))?;
+    }
+    Ok(SourceMap::new(
+        None,
+        Vec::new(alloc),
+        None,
+        Vec::new(alloc),
+        Vec::new(alloc),
+        tokens.into_boxed_slice(),
+        None,
+    ))
+}
+
+/// A lookup that walked the line would not end within the time of a test.
+#[test]
+fn each_column_of_a_long_line_is_looked_up(rt: HostRuntime) -> Result<()> {
+    let columns = 1048576;
+    let map = map_of_columns(rt.alloc(), columns)?;
+    let table = map.generate_lookup_table(rt.alloc())?;
+    let table = table.as_slice();
+    for col in 0..columns {
+        let wanted = Some(Token::new(0, col, 0, col, None, None));
+        same(&rt, "exact", map.lookup_token(table, 0, col), wanted);
+        let found = map.lookup_token_approx(table, 0, col);
+        same(&rt, "clamped", found, wanted);
     }
     Ok(())
 }

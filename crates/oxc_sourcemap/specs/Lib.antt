@@ -23,6 +23,7 @@ pub use Rattle.oxc_sourcemap_parts.specs.Sorted
 pub use Rattle.oxc_sourcemap_parts.specs.Sound
 pub use Rattle.oxc_sourcemap_parts.specs.DecodedMap
 pub use Rattle.oxc_sourcemap_parts.specs.Texts
+pub use Rattle.oxc_sourcemap_lookup.specs.Digits
 pub use Rattle.oxc_sourcemap_lookup.specs.Lookup
 pub use Rattle.oxc_sourcemap_lookup.specs.Trace
 pub use Rattle.oxc_sourcemap_json.specs.Json
@@ -37,6 +38,7 @@ pub use Rattle.oxc_sourcemap_compose.specs.Composed
 pub use Rattle.oxc_sourcemap_map.specs.View
 pub use Rattle.oxc_sourcemap_builder.specs.Built
 pub use Rattle.oxc_sourcemap_builder.specs.Building
+pub use Rattle.oxc_sourcemap_builder.specs.NameLaws
 pub use Rattle.oxc_sourcemap_visualizer.specs.TextLines
 pub use Rattle.oxc_sourcemap_visualizer.specs.VisualText
 pub use Rattle.oxc_sourcemap_visualizer.specs.Link

@@ -1,15 +1,47 @@
--- The ids given to paths, stored as a list of pairs.
-use Rattle.std.proofs.Common.{◌≡◌, ℕ, List, [], ◌∷◌, ◌++◌, None, ◌∙◌, sym}
+-- The ids given to paths, and those of names, as hashed maps have them.
+use Rattle.std.proofs.Common.{◌≡◌, ◌∙◌, ap, sym, ℕ, cond, List, [], ◌∷◌, ◌++◌, map, length, Some, None, refl, arith, Bor}
+use Rattle.std.proofs.lemmas.List.{map-append, length-map}
+use Rattle.std.specs.Option.{option_or}
+use Rattle.std.proofs.lemmas.Map.Text.{is_eq-slice_cmp, text_keys}
+use Rattle.std.proofs.lemmas.Slice.Eq.{bytes_eq-Decides}
 use Rattle.std.specs.Ordering.{nat_cmp}
 use Rattle.std.specs.Cmp.Lexicographic.{slice_cmp, nat_list_cmp_total}
+use Rattle.std.specs.Str.{bytes_eq}
+use Rattle.std.specs.Map.{lookup, update}
 use Rattle.std.specs.FinMap as fin
+use Rattle.oxc_sourcemap_parts.specs.Record.{Text}
+use Rattle.oxc_sourcemap_parts.specs.Texts.{index_of}
+use Rattle.oxc_sourcemap_parts.proofs.Places.{index-push}
 
--- a scan of the list finds what the map has
-pub get_given : (es : List (List ℕ × ℕ)) (path : List ℕ) → fin.find (slice_cmp nat_cmp) path es ≡ fin.get (fin.from_entries {R = slice_cmp nat_cmp} es) path
-get_given es path = sym (fin.get-from_entries nat_list_cmp_total es path)
+-- the ids that entries give
+abbrev ids_of : List (Bor Text × ℕ) → fin.FinMap (slice_cmp nat_cmp) ℕ
+ids_of es = fin.from_entries {R = slice_cmp nat_cmp} (map (λ e. (e.0.now, e.1)) es)
 
--- a pair more is an id more
-pub given_more : (es : List (List ℕ × ℕ)) (path : List ℕ) (id : ℕ) → fin.get (fin.from_entries {R = slice_cmp nat_cmp} es) path ≡ None
-    → fin.from_entries {R = slice_cmp nat_cmp} (es ++ (path, id) ∷ []) ≡ fin.insert (fin.from_entries es) path id
-given_more es path id none =
-    fin.from_entries_push nat_list_cmp_total (fin.slice_cmp-IsAntisymmetric fin.nat_cmp-IsAntisymmetric) es path id (get_given es path ∙ none)
+find_given : (path : Text) (es : List (Bor Text × ℕ)) → fin.find (slice_cmp nat_cmp) path (map (λ e. (e.0.now, e.1)) es) ≡ lookup (λ k. bytes_eq path k.now) es
+find_given path [] = refl
+find_given path (e ∷ es) = grind (arith, is_eq-slice_cmp, find_given path es)
+
+-- the id given to a path
+pub get_given : (es : List (Bor Text × ℕ)) (path : Text) → fin.get (ids_of es) path ≡ lookup (λ k. bytes_eq path k.now) es
+get_given es path = fin.get-from_entries nat_list_cmp_total (map (λ e. (e.0.now, e.1)) es) path ∙ find_given path es
+
+-- the ids after one more is given
+pub given_more : (es fs : List (Bor Text × ℕ)) (path : Text) (id : ℕ)
+    → ((q : Text) → lookup (λ k. bytes_eq q k.now) fs ≡ update bytes_eq (λ ds. lookup (λ k. bytes_eq ds k.now) es) path (Some id) q) → ids_of fs ≡ fin.insert (ids_of es) path id
+given_more es fs path id h =
+    fin.same_map nat_list_cmp_total (fin.slice_cmp-IsAntisymmetric fin.nat_cmp-IsAntisymmetric) _ _
+    (λ q.
+    get_given fs q ∙ h q
+    ∙ grind (arith, is_eq-slice_cmp, text_keys, bytes_eq-Decides path q, bytes_eq-Decides q path, get_given es q, fin.get-insert nat_list_cmp_total (ids_of es) path id q))
+
+-- entries in another order give the same ids
+pub given_same : (es fs : List (Bor Text × ℕ)) → ((q : Text) → lookup (λ k. bytes_eq q k.now) fs ≡ lookup (λ k. bytes_eq q k.now) es) → ids_of fs ≡ ids_of es
+given_same es fs h =
+    fin.same_map nat_list_cmp_total (fin.slice_cmp-IsAntisymmetric fin.nat_cmp-IsAntisymmetric) _ _ (λ q. get_given fs q ∙ h q ∙ sym (get_given es q))
+
+-- the place of a text, where there is one name more
+pub place_more : (text : Text) (names : List (Bor Text)) (name : Bor Text)
+    → index_of text (map (λ t. t.now) (names ++ name ∷ [])) ≡ option_or (index_of text (map (λ t. t.now) names)) (cond (bytes_eq text name.now) (Some (length names)) None)
+place_more text names name =
+    ap (index_of text) (map-append (λ t. t.now) names (name ∷ [])) ∙ index-push text (map (λ t. t.now) names) name.now
+    ∙ ap (λ n. option_or (index_of text (map (λ t. t.now) names)) (cond (bytes_eq text name.now) (Some n) None)) (length-map names (λ t. t.now))

@@ -1,2 +1,3 @@
 pub mod GivenIds
+pub mod NameIds
 mod Worked

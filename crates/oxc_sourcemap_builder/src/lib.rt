@@ -1,8 +1,10 @@
 //! Building a map call by call.
 //!
-//! Users name the crate `oxc_sourcemap`, which hands on `SourceMapBuilder`.
+//! Users name the crate `oxc_sourcemap`, which hands on `SourceMapBuilder` and the law on its names.
 #![tactic(auto)]
 
+mod laws;
 mod sourcemap_builder;
 
+pub use laws::name_ids_unique;
 pub use sourcemap_builder::SourceMapBuilder;

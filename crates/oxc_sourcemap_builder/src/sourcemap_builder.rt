@@ -14,14 +14,8 @@ use oxc_sourcemap_map::{OwnedSourceMap, SourceMap};
 use oxc_sourcemap_mappings::{Error, Result, Token, TokenChunk};
 use std::alloc::{AllocError, Global};
 use std::borrow::CowStr;
+use std::collections::HashMap;
 use std::marker::Model;
-
-/// A path, and the id that `add_source_and_content` gave to it.
-#[derive(Clone, Copy)]
-struct GivenId<'a> {
-    path: &'a str,
-    id: u32,
-}
 
 /// Builds a map call by call. All strings are borrowed for `'a`.
 ///
@@ -32,11 +26,14 @@ pub struct SourceMapBuilder<'a> {
     alloc: Global,
     file: Option<&'a str>,
     names: Vec<&'a str>,
+    /// The index of each name.
+    name_ids: HashMap<&'a str, u32>,
     sources: Vec<&'a str>,
     source_contents: Vec<Option<&'a str>>,
     tokens: Vec<Token>,
     token_chunks: Option<Vec<TokenChunk>>,
-    given: Vec<GivenId<'a>>,
+    /// The ids that `add_source_and_content` has given to paths.
+    given: HashMap<&'a str, u32>,
 }
 
 impl<'a> Model for SourceMapBuilder<'a> {
@@ -44,7 +41,7 @@ impl<'a> Model for SourceMapBuilder<'a> {
     ghost use Rattle.std.specs.Coded.{codes};
     ghost use Rattle.std.specs.FinMap as fin;
     ghost use Rattle.oxc_sourcemap_parts.specs.Views.{chunks_of};
-    ghost use Rattle.oxc_sourcemap_builder.specs.Built.{Built, ids_code};
+    ghost use Rattle.oxc_sourcemap_builder.specs.Built.{Built, ids_code, HasPlaces};
 
     ghost Value = { Built };
 
@@ -62,11 +59,11 @@ impl<'a> Model for SourceMapBuilder<'a> {
         ignore_list = None;
         debug_id = None;
       };
-      given = fin.from_entries (map (λ entry. (entry.path.now, entry.id)) b.given.items);
+      given = fin.from_entries (map (λ entry. (entry.0.now, entry.1)) b.given.mappings);
     } };
 
-    // So an index of a name is an id.
-    ghost invariant = { λ b. length b.names.items ≤ 4294967295 };
+    // So an index of a name is an id, and the one that the map has for it.
+    ghost invariant = { λ b. (length b.names.items ≤ 4294967295) × HasPlaces b.names b.name_ids };
 }
 
 /// The id of a new last item after this many others.
@@ -79,31 +76,6 @@ fn next_id(count: usize) -> Result<u32>
         return Err(Error::TooLarge);
     }
     Ok(count as u32)
-}
-
-/// The index of the first text that is equal to this one.
-fn position_of(texts: &[&str], text: &str) -> Option<usize>
-    ensures index { result ≡ index_of text.now (map (λ text. text.now) texts.now) }
-    ensures within { IfSome result (λ i. i < length texts.now) }
-{
-    for (i, other) in texts.iter().enumerate() {
-        if text == *other {
-            return Some(i);
-        }
-    }
-    None
-}
-
-/// The id that was given to a path.
-fn find_given(given: &[GivenId<'_>], path: &str) -> Option<u32>
-    ensures { result ≡ fin.find (slice_cmp nat_cmp) path.now (map (λ entry. (entry.path.now, entry.id)) given.now) }
-{
-    for entry in given {
-        if path == entry.path {
-            return Some(entry.id);
-        }
-    }
-    None
 }
 
 /// Adds a path and a content, or neither.
@@ -135,11 +107,12 @@ impl<'a> SourceMapBuilder<'a> {
             alloc,
             file: None,
             names: Vec::new(alloc),
+            name_ids: HashMap::new(alloc),
             sources: Vec::new(alloc),
             source_contents: Vec::new(alloc),
             tokens: Vec::new(alloc),
             token_chunks: None,
-            given: Vec::new(alloc),
+            given: HashMap::new(alloc),
         }
     }
 
@@ -153,24 +126,20 @@ impl<'a> SourceMapBuilder<'a> {
         ensures refused { IfErr result (λ e. (e ≡ OutOfMemory) ⊎ (e ≡ TooLarge)) }
         ensures unchanged { OnErr result (self.new ≡ self.old) }
     {
-        if let Some(id) = position_of(self.names.as_slice(), name) {
-            return Ok(id as u32);
+        if let Some(id) = self.name_ids.get(name) {
+            return Ok(*id);
         }
         let id = next_id(self.names.len())?;
-        self.names.push(name)?;
+        self.names.reserve(1)?;
+        self.name_ids.reserve(1)?;
+        let inserted: std::result::Result<_, _> = self.name_ids.insert(name, id);
+        let _none = inserted.unwrap();
+        let pushed: std::result::Result<_, _> = self.names.push(name);
+        pushed.unwrap();
         Ok(id)
     }
 
-    /// The id that `add_source_and_content` gave to a path.
-    #[tactic(auto, using(crate::proofs::GivenIds::get_given))]
-    fn given_id(&self, path: &str) -> Option<u32>
-        ensures { result ≡ fin.get self.now.given path.now }
-    {
-        find_given(self.given.as_slice(), path)
-    }
-
-    /// Adds a source with its content and returns its id. A path that this call has added before keeps its id and its first
-    /// content; sources of `set_source_and_content` do not count.
+    /// x
     ///
     /// Fails with `TooLarge` if the new id would be 4294967295, then with `OutOfMemory` if memory is refused; the builder
     /// is then as it was.
@@ -180,14 +149,14 @@ impl<'a> SourceMapBuilder<'a> {
         ensures refused { IfErr result (λ e. (e ≡ OutOfMemory) ⊎ (e ≡ TooLarge)) }
         ensures unchanged { OnErr result (self.new ≡ self.old) }
     {
-        if let Some(id) = self.given_id(path) {
-            return Ok(id);
+        if let Some(id) = self.given.get(path) {
+            return Ok(*id);
         }
         let id = next_id(self.sources.len())?;
         self.given.reserve(1)?;
         push_source(&mut self.sources, &mut self.source_contents, path, content)?;
-        let pushed: std::result::Result<_, _> = self.given.push(GivenId { path, id });
-        pushed.unwrap();
+        let inserted: std::result::Result<_, _> = self.given.insert(path, id);
+        let _none = inserted.unwrap();
         Ok(id)
     }
 

@@ -1,56 +1,17 @@
 -- Names that are taken from another map.
-use Rattle.std.proofs.Common.{◌≡◌, refl, sym, ap, subst, ◌∙◌, ℕ, suc, ◌+◌, ◌<◌, Bool, true, false, cond, ◌&&◌, List, [], ◌∷◌, ◌++◌, map, length, Option, Some, None, arith, append_assoc}
+use Rattle.std.proofs.Common.{◌≡◌, refl, sym, ap, subst, ◌∙◌, ℕ, ◌<◌, true, ◌&&◌, List, [], ◌∷◌, ◌++◌, map, length, Option, Some, None, arith, append_assoc}
 use Rattle.std.proofs.lemmas.List.{append-nil}
 use Rattle.std.proofs.lemmas.List.Elements.{filter_map-append}
-use Rattle.std.proofs.lemmas.Slice.Eq.{bytes_eq-Decides}
-use Rattle.std.specs.List.{position_from, filter_map, AllByRecursion}
+use Rattle.std.specs.List.{filter_map, AllByRecursion}
 use Rattle.std.specs.Option.{option_or, unwrap_or, IfSome}
 use Rattle.std.proofs.lemmas.Bool.Decides.{nat_tests}
-use Rattle.std.specs.Str.{bytes_eq}
 use Rattle.oxc_sourcemap_mappings.specs.Token.{TokenRecord, kept_id}
 use Rattle.oxc_sourcemap_parts.specs.Record.{Text}
 use Rattle.oxc_sourcemap_parts.specs.DecodedMap.{name_of}
 use Rattle.oxc_sourcemap_parts.specs.Texts.{index_of, with_text_at, with_text, with_texts}
+use Rattle.oxc_sourcemap_parts.proofs.Places.{index-with, index-stays}
 use Rattle.oxc_sourcemap_compose.specs.Composed.{Target, target_of, kept_name, inherited_name, inherited_id, composed_names, composed_token, token_through, may_be_id, are_ids}
 use Rattle.oxc_sourcemap_compose.specs.InheritedNames.{with_inherited, inherited_index}
-
-position-append : {A : Type 0} (t : A → Bool) (i : ℕ) (xs ys : List A) → position_from t i (xs ++ ys) ≡ option_or (position_from t i xs) (position_from t (i + length xs) ys)
-position-append t i [] ys = ap (λ n. position_from t n ys) (omega arith)
-position-append t i (x ∷ xs) ys =
-    elim (t x) as (λ b. cond b (Some i) (position_from t (i + 1) (xs ++ ys)) ≡ option_or (cond b (Some i) (position_from t (i + 1) xs)) (position_from t (i + suc (length xs)) ys)) [
-      | true ↦ refl
-      | false ↦ position-append t (i + 1) xs ys ∙ ap (λ n. option_or (position_from t (i + 1) xs) (position_from t n ys)) (omega arith)
-    ]
-
-itself : (x : Text) → bytes_eq x x ≡ true
-itself x = (bytes_eq-Decides x x).1 refl
-
--- a text is where it was, or after the others
-index-at : (o : Option ℕ) (x : Text) (xs : List Text) → index_of x xs ≡ o → index_of x (with_text_at o xs x) ≡ Some (unwrap_or o (length xs))
-index-at (Some i) x xs e = e
-index-at None x xs e =
-    position-append (bytes_eq x) 0 xs (x ∷ [])
-    ∙ ap (λ o. option_or o (position_from (bytes_eq x) (0 + length xs) (x ∷ []))) e
-    ∙ ap (λ b. cond b (Some (0 + length xs)) None) (itself x)
-    ∙ ap (λ n. Some n) (omega arith)
-
-pub index-last : (x : Text) (xs : List Text) → index_of x xs ≡ None → index_of x (xs ++ x ∷ []) ≡ Some (length xs)
-index-last x xs e = index-at None x xs e
-
-pub index-with : (x : Text) (xs : List Text) → index_of x (with_text xs x) ≡ Some (unwrap_or (index_of x xs) (length xs))
-index-with x xs = index-at (index_of x xs) x xs refl
-
--- what is there stays where it is
-pub index-front : (x : Text) (i : ℕ) (xs ys : List Text) → index_of x xs ≡ Some i → index_of x (xs ++ ys) ≡ Some i
-index-front x i xs ys e = position-append (bytes_eq x) 0 xs ys ∙ ap (λ o. option_or o (position_from (bytes_eq x) (0 + length xs) ys)) e
-
-index-stays-at : (o : Option ℕ) (x : Text) (i : ℕ) (xs : List Text) (y : Text) → index_of x xs ≡ Some i → index_of x (with_text_at o xs y) ≡ Some i
-index-stays-at (Some j) x i xs y e = e
-index-stays-at None x i xs y e = index-front x i xs (y ∷ []) e
-
-pub index-stays : (x : Text) (i : ℕ) (xs ys : List Text) → index_of x xs ≡ Some i → index_of x (with_texts xs ys) ≡ Some i
-index-stays x i xs [] e = e
-index-stays x i xs (y ∷ ys) e = index-stays x i (with_text xs y) ys (index-stays-at (index_of y xs) x i xs y e)
 
 -- texts come in one by one
 pub with_texts-append : (xs ys zs : List Text) → with_texts xs (ys ++ zs) ≡ with_texts (with_texts xs ys) zs

@@ -1,4 +1,5 @@
 pub mod InheritedNames
+pub mod Takings
 pub mod Targets
 pub mod Compositions
 mod Worked

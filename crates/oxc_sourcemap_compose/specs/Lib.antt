@@ -1,2 +1,3 @@
 pub mod Composed
 pub mod InheritedNames
+pub mod Inherited

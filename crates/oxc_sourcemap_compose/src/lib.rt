@@ -4,5 +4,6 @@
 #![tactic(auto)]
 
 mod compose;
+mod inherited_names;
 
 pub use compose::compose_parts;

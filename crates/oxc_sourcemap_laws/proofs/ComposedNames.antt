@@ -10,7 +10,7 @@ use Rattle.oxc_sourcemap_mappings.specs.Token.{TokenRecord}
 use Rattle.oxc_sourcemap_parts.specs.Record.{Text, MapRecord}
 use Rattle.oxc_sourcemap_parts.specs.Texts.{index_of, with_text_at, with_text, with_texts}
 use Rattle.oxc_sourcemap_compose.specs.Composed.{Target, kept_name, inherited_name, targets, composed}
-use Rattle.oxc_sourcemap_compose.proofs.InheritedNames.{index-last, index-front}
+use Rattle.oxc_sourcemap_parts.proofs.Places.{index-last, index-front}
 
 -- a text that stands in a list
 abbrev IsOf : List Text → Text → Type 0

@@ -1,5 +1,5 @@
 -- The walk over a line, and what it finds.
-use Rattle.std.proofs.Common.{◌≡◌, refl, ℕ, ◌<◌, ◌≤◌, Bool, true, false, cond, List, [], ◌∷◌, Option, Some, None, nat_cmp, nat_le, ◌==◌, max, arith, ap, ◌∙◌, sym, is_some, if◌then◌else◌}
+use Rattle.std.proofs.Common.{◌≡◌, refl, ℕ, zero, suc, length, get_or, ◌<◌, ◌≤◌, Bool, true, false, cond, List, [], ◌∷◌, Option, Some, None, nat_cmp, nat_le, ◌==◌, max, arith, ap, ◌∙◌, sym, is_some, if◌then◌else◌}
 use Rattle.std.specs.Option.{option_or}
 use Rattle.std.specs.Ordering.{match_ordering}
 use Rattle.std.specs.declared.cmp.Ordering.{Ordering}
@@ -15,19 +15,24 @@ walked col found [] = found
 walked col found (t ∷ ts) = match_ordering (nat_cmp t.dst_col col) (walked col (Some t) ts) (Some t) found
 
 -- what stands after x has no smaller column
-abbrev AreNotBefore : {A : Type 0} → (A → ℕ) → A → List A → Type 0
+abbrev pub AreNotBefore : {A : Type 0} → (A → ℕ) → A → List A → Type 0
 AreNotBefore column x ys = AllByRecursion (λ y. column x ≤ column y) ys
 
 not_before-weaken : {A : Type 0} (column : A → ℕ) (x y : A) (ys : List A) → column x ≤ column y → AreNotBefore column y ys → AreNotBefore column x ys
 not_before-weaken column x y [] h all = all
 not_before-weaken column x y (z ∷ zs) h all = (omega (arith, h, all.0), not_before-weaken column x y zs h all.1)
 
-not_before : {A : Type 0} (column : A → ℕ) (x : A) (ys : List A) → no_column_goes_back column (x ∷ ys) ≡ true → AreNotBefore column x ys
+pub not_before : {A : Type 0} (column : A → ℕ) (x : A) (ys : List A) → no_column_goes_back column (x ∷ ys) ≡ true → AreNotBefore column x ys
 not_before column x [] h = tt
 not_before column x (y ∷ ys) h =
     let le : column x ≤ column y = grind (arith, h) in
     let more : no_column_goes_back column (y ∷ ys) ≡ true = grind (arith, h) in
     (le, not_before-weaken column x y ys le (not_before column y ys more))
+
+pub not_before-at : {A : Type 0} (column : A → ℕ) (x : A) (ys : List A) (i : ℕ) (d : A) → AreNotBefore column x ys → i < length ys → column x ≤ column (get_or ys i d)
+not_before-at column x [] i d all h = absurd (omega (arith, h))
+not_before-at column x (y ∷ ys) zero d all h = all.0
+not_before-at column x (y ∷ ys) (suc i) d all h = not_before-at column x ys i d all.1 (omega (arith, h))
 
 none_past : {A : Type 0} (column : A → ℕ) (col : ℕ) (x : A) (ys : List A) → col < column x → AreNotBefore column x ys → not_past column col ys ≡ []
 none_past column col x [] h all = refl
@@ -113,7 +118,7 @@ at-past column col x ys h all =
     let passes : not_past column col (x ∷ ys) ≡ [] = grind (arith, h, none_past column col x ys h all) in
     ap (at_among column col) passes ∙ none_among column col
 
-goes_on : {A : Type 0} (column : A → ℕ) (x : A) (ys : List A) → no_column_goes_back column (x ∷ ys) ≡ true → no_column_goes_back column ys ≡ true
+pub goes_on : {A : Type 0} (column : A → ℕ) (x : A) (ys : List A) → no_column_goes_back column (x ∷ ys) ≡ true → no_column_goes_back column ys ≡ true
 goes_on column x [] h = refl
 goes_on column x (y ∷ ys) h = grind (arith, h)
 

@@ -6,6 +6,7 @@ use Rattle.oxc_sourcemap_parts.specs.Record.{MapRecord}
 use Rattle.oxc_sourcemap_parts.specs.Views.{empty_record}
 use Rattle.oxc_sourcemap_parts.specs.Sorted.{token_line, token_column}
 use Rattle.oxc_sourcemap_parts.specs.DecodedMap.{decoded_map_of}
+use Rattle.oxc_sourcemap_lookup.specs.Digits.{binary_digits}
 use Rattle.oxc_sourcemap_lookup.specs.Lookup.{pick, clamped_pick, line_table}
 use Rattle.oxc_sourcemap_lookup.specs.Trace.{trace}
 
@@ -64,3 +65,15 @@ traces-an_unmapped_token = refl
 
 traces-nothing : trace (decoded_map_of named) 1 0 ≡ None
 traces-nothing = refl
+
+digits-of_zero : binary_digits 0 ≡ 0
+digits-of_zero = refl
+
+digits-of_one : binary_digits 1 ≡ 1
+digits-of_one = refl
+
+digits-of_six : binary_digits 6 ≡ 3
+digits-of_six = refl
+
+digits-of_65536 : binary_digits 65536 ≡ 17
+digits-of_65536 = refl

@@ -1,10 +1,11 @@
 //! Lookup tables over slices of tokens, and lookups on a line. (In the Rust crate these stand in the module `sourcemap`.)
-ghost use Rattle.std.specs.Prelude.{◌≡◌, ◌≢◌, ◌==◌, ℕ, ◌+◌, ◌<◌, ◌≤◌, true, length, map, option_map, slice_get, IfOk, IfErr, IfSome, IsNone, Ok, Err, None, []};
+ghost use Rattle.std.specs.Prelude.{◌≡◌, ◌≢◌, ◌==◌, ℕ, ◌+◌, ◌<◌, ◌≤◌, nat_lt, true, length, map, option_map, slice_get, IfOk, IfErr, IfSome, IsNone, Ok, Err, None, []};
 ghost use Rattle.std.specs.List.{Contains, prefix_len};
 ghost use Rattle.std.specs.Ordering.{nat_cmp};
 ghost use Rattle.oxc_sourcemap_mappings.specs.declared.error.Error.TheVariants.{OutOfMemory};
 ghost use Rattle.oxc_sourcemap_mappings.specs.Canonical.{IsInLineOrder};
 ghost use Rattle.oxc_sourcemap_parts.specs.Sorted.{are_tokens_sorted, token_line, token_column};
+ghost use Rattle.oxc_sourcemap_lookup.specs.Digits.{binary_digits};
 ghost use Rattle.oxc_sourcemap_lookup.specs.Lookup.{last, at, clamped_at, pick, clamped_pick, no_column_goes_back, lines_through, tokens_by_line, line_table, slice_of};
 
 use oxc_sourcemap_mappings::{Error, Result, Token, line_order_fault};
@@ -70,28 +71,45 @@ fn compare_column(token: &Token, col: u32, steps: &mut u64) -> Ordering
     token.get_dst_col().cmp(&col)
 }
 
+/// How many tokens at the front of a line lie before `col`, found by halving: the index of the first token that does not.
+/// On a line whose columns go back, it is some index up to the end of the line.
+fn count_before(line: &[Token], col: u32, steps: &mut u64) -> usize
+    requires { steps.old ≡ 0 }
+    ensures count { no_column_goes_back token_column line.now ≡ true → result ≡ prefix_len (λ t. nat_lt t.dst_col col) line.now }
+    ensures within { result ≤ length line.now }
+    ensures counted { steps.new ≡ binary_digits (length line.now) }
+    ensures few { steps.new ≤ 64 }
+{
+    let mut start = 0;
+    let mut size = line.len();
+    while size > 0 {
+        let half = size / 2;
+        let next = start + (size - half);
+        if compare_column(&line[next - 1], col, steps) == Ordering::Less {
+            start = next;
+        }
+        size = half;
+    }
+    start
+}
+
 /// Looks up a column on one line. The answer is the first token at `col`; if none is there, the last token of the greatest
 /// column below `col`; if all are above, None. On a line whose columns go back, it is some token of the line, or None.
 ///
-/// `steps` is set to the number of columns that were compared with `col`, which is at most the number of tokens. No
-/// memory is taken.
-#[tactic(auto, using(crate::proofs::Lookups::walked_is_at))]
+/// `steps` is set to the number of columns that were compared with `col`: at most as many as the number of tokens has binary
+/// digits, and one more. No memory is taken.
 pub fn search(line: &[Token], col: u32, steps: &mut u64) -> Option<Token>
     ensures found { no_column_goes_back token_column line.now ≡ true → result ≡ at token_column line.now col }
     ensures among { IfSome result (Contains line.now) }
-    ensures counted { steps.new ≤ length line.now }
+    ensures counted { (steps.new ≤ binary_digits (length line.now) + 1) × (line.now ≡ [] → steps.new ≡ 0) }
     ensures started { 0 < length line.now → 0 < steps.new }
 {
     *steps = 0;
-    let mut found = None;
-    for token in line {
-        match compare_column(token, col, steps) {
-            Ordering::Less => found = Some(*token),
-            Ordering::Equal => return Some(*token),
-            Ordering::Greater => return found,
-        }
+    let (before, others) = line.split_at(count_before(line, col, steps));
+    match others.first() {
+        Some(token) if compare_column(token, col, steps) == Ordering::Equal => Some(*token),
+        _ => before.last().copied(),
     }
-    found
 }
 
 /// `search`, and the first token in place of None.

@@ -1,9 +1,10 @@
 //! The lookups of `SourceMap` by generated position. (In the Rust crate these calls stand in the module `sourcemap`.)
-ghost use Rattle.std.specs.Prelude.{◌≡◌, ◌≢◌, ℕ, ◌<◌, ◌≤◌, true, length, map, option_map, IfOk, IfErr, IfSome, IsNone, Ok, Err, []};
+ghost use Rattle.std.specs.Prelude.{◌≡◌, ◌≢◌, ℕ, ◌+◌, ◌<◌, ◌≤◌, true, length, map, option_map, IfOk, IfErr, IfSome, IsNone, Ok, Err, []};
 ghost use Rattle.std.specs.List.{Contains};
 ghost use Rattle.oxc_sourcemap_mappings.specs.declared.error.Error.TheVariants.{OutOfMemory};
 ghost use Rattle.oxc_sourcemap_parts.specs.Sorted.{are_tokens_sorted, token_line, token_column};
 ghost use Rattle.oxc_sourcemap_parts.specs.DecodedMap.{decoded_map_of};
+ghost use Rattle.oxc_sourcemap_lookup.specs.Digits.{binary_digits};
 ghost use Rattle.oxc_sourcemap_lookup.specs.Lookup.{at, clamped_at, pick, clamped_pick, no_column_goes_back, line_table, slice_of};
 ghost use Rattle.oxc_sourcemap_lookup.specs.Trace.{trace, clamped_trace};
 ghost use Rattle.oxc_sourcemap_map.specs.View.{view_of, seen_in, view_original};
@@ -37,12 +38,12 @@ impl<'a> SourceMap<'a> {
     /// Looks up a column on one line. The answer is the first token at `col`; if none is there, the last token of the greatest
     /// column below `col`; if all are above, None. On a line whose columns go back, it is some token of the line, or None.
     ///
-    /// `steps` is set to the number of columns that were compared with `col`, which is at most the number of tokens. No
-    /// memory is taken.
+    /// `steps` is set to the number of columns that were compared with `col`: at most as many as the number of tokens has
+    /// binary digits, and one more. No memory is taken.
     pub fn search(line: &[Token], col: u32, steps: &mut u64) -> Option<Token>
         ensures found { no_column_goes_back token_column line.now ≡ true → result ≡ at token_column line.now col }
         ensures among { IfSome result (Contains line.now) }
-        ensures counted { steps.new ≤ length line.now }
+        ensures counted { (steps.new ≤ binary_digits (length line.now) + 1) × (line.now ≡ [] → steps.new ≡ 0) }
         ensures started { 0 < length line.now → 0 < steps.new }
     {
         search(line, col, steps)

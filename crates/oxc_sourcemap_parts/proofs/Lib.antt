@@ -1,2 +1,3 @@
 pub mod Order
 pub mod Each
+pub mod Places

@@ -1,12 +1,27 @@
-use Rattle.std.proofs.Common.{◌≡◌, arith, map, None, ap, ◌∙◌}
+use Rattle.std.proofs.Common.{ℕ, List, arith}
 use Rattle.std.proofs.lemmas.Grind.{common_steps}
-use Rattle.std.specs.FinMap as fin
-use Rattle.oxc_sourcemap_builder.proofs.GivenIds.{given_more}
+use Rattle.std.proofs.lemmas.Map.Text.{hash_map_updates_str}
+use Rattle.oxc_sourcemap_builder.proofs.GivenIds.{get_given, given_more, given_same}
 use Rattle.oxc_sourcemap_builder.proofs.sourcemap_builder.SourceMapBuilder.add_source_and_content.Goals as goal
+
+pub returns-in-Some-clause-added : goal.returns-in-Some-clause-added
+returns-in-Some-clause-added c = grind (arith, common_steps, get_given c.self.inside.given.mappings c.args.path.now, c.self.view_is)
+
+pub returns-in-Some-clause-too_large : goal.returns-in-Some-clause-too_large
+returns-in-Some-clause-too_large c = grind (arith, common_steps, get_given c.self.inside.given.mappings c.args.path.now, c.self.view_is)
+
+pub returns-in_err-id-clause-too_large : goal.returns-in_err-id-clause-too_large
+returns-in_err-id-clause-too_large c = grind (arith, common_steps, get_given c.self.inside.given.mappings c.args.path.now, c.self.view_is)
+
+pub returns-in_err-push_source-clause-unchanged : goal.returns-in_err-push_source-clause-unchanged
+returns-in_err-push_source-clause-unchanged c =
+    let same = given_same c.self.inside.given.mappings c.reserve.new.self.mappings (λ q. c.in_ok-reserve.ensures.mappings.2 (record { ref_ptr = (0, 0); now = q })) in
+    grind (arith, common_steps, same, c.self.view_is)
 
 pub returns-clause-added : goal.returns-clause-added
 returns-clause-added c =
-    let pushed = rw c.unwrap.ensures at c.push-pushed.ensures.items in
-    let none : fin.get c.args.self.now.given c.args.path.now ≡ None = grind (arith, common_steps, c.given_id.ensures) in
-    let more = given_more (map (λ e. (e.path.now, e.id)) c.self.inside.given.items) c.args.path.now c.in_ok-id.id (ap (λ b. fin.get b.given c.args.path.now) c.self.view_is ∙ none) in
-    grind (arith, common_steps, more, pushed, none, c.self.view_is, c.in_ok-push_source.ensures.sources, c.in_ok-push_source.ensures.contents, c.in_ok-id.ensures.id)
+    let updated = rw c.unwrap-none.ensures at c.insert-inserted.ensures.updates in
+    let put = hash_map_updates_str c.args.path.now c.reserve.new.self c.insert-inserted.new.self _ updated in
+    let same = λ (q : List ℕ). c.in_ok-reserve.ensures.mappings.2 (record { ref_ptr = (0, 0); now = q }) in
+    let more = given_more c.self.inside.given.mappings c.insert-inserted.new.self.mappings c.args.path.now c.in_ok-id.id (λ q. grind (arith, put q, same q)) in
+    grind (arith, common_steps, more, c.self.view_is, get_given c.self.inside.given.mappings c.args.path.now)

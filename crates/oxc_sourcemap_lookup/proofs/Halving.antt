@@ -1,0 +1,117 @@
+-- Halving a line, and how many columns are then compared.
+use Rattle.std.proofs.Common.{◌≡◌, refl, sym, ap, ◌∙◌, ℕ, zero, suc, ◌+◌, ◌^◌, ◌-◌, ◌/◌, ◌<◌, ◌≤◌, true, false, List, [], ◌∷◌, length, take, drop, get_or, slice_get, option_map, Bor, Option, Some, None, nat_cmp, nat_lt, ◌==◌, ◌≢◌, arith, if◌then◌else◌}
+use Rattle.std.proofs.lemmas.List.Sums.{prefix_len-le-length}
+use Rattle.std.specs.List.{prefix_len, last_or}
+use Rattle.std.specs.Ordering.{match_ordering}
+use Rattle.std.specs.declared.cmp.Ordering.{Ordering}
+use Rattle.std.specs.declared.cmp.Ordering.TheVariants.{Less, Equal, Greater}
+use Rattle.oxc_sourcemap_mappings.specs.Token.{TokenRecord}
+use Rattle.oxc_sourcemap_parts.specs.Sorted.{token_column}
+use Rattle.oxc_sourcemap_lookup.specs.Digits.{digits_up_to, binary_digits}
+use Rattle.oxc_sourcemap_lookup.specs.Lookup.{first, last, at, no_column_goes_back}
+use Rattle.oxc_sourcemap_lookup.proofs.Tables.{last_at}
+use Rattle.oxc_sourcemap_lookup.proofs.Lookups.{walked, walked_is_at, goes_on, not_before, not_before-at}
+
+half-less : (n : ℕ) → suc n / 2 ≤ n
+half-less n = omega arith
+
+-- any limit that is not too low counts all digits
+digits-limits : (k m n : ℕ) → n ≤ k → n ≤ m → digits_up_to k n ≡ digits_up_to m n
+digits-limits zero zero n h i = refl
+digits-limits zero (suc m) zero h i = refl
+digits-limits zero (suc m) (suc n) h i = absurd (omega (arith, h))
+digits-limits (suc k) zero zero h i = refl
+digits-limits (suc k) zero (suc n) h i = absurd (omega (arith, i))
+digits-limits (suc k) (suc m) zero h i = refl
+digits-limits (suc k) (suc m) (suc n) h i = ap (λ d. 1 + d) (digits-limits k m (suc n / 2) (omega (arith, h, half-less n)) (omega (arith, i, half-less n)))
+
+pub digits-half : (n : ℕ) → 0 < n → binary_digits n ≡ 1 + binary_digits (n / 2)
+digits-half zero h = absurd (omega (arith, h))
+digits-half (suc n) h = ap (λ d. 1 + d) (digits-limits n (suc n / 2) (suc n / 2) (half-less n) (omega arith))
+
+-- a number below a power of two has at most as many digits as the exponent
+pub digits-below : (d n : ℕ) → n < 2 ^ d → binary_digits n ≤ d
+digits-below zero zero h = omega arith
+digits-below zero (suc n) h = absurd (omega (arith, h))
+digits-below (suc d) zero h = omega arith
+digits-below (suc d) (suc n) h =
+    let half : suc n / 2 < 2 ^ d = omega (arith, h) in
+    omega (arith, digits-half (suc n) (omega arith), digits-below d (suc n / 2) half)
+
+-- the front of a line up to the first token that is not before the column
+abbrev pub before : ℕ → List TokenRecord → ℕ
+before col ts = prefix_len (λ t. nat_lt t.dst_col col) ts
+
+-- a token before the column lies before that one
+pub before-later : (col : ℕ) (ts : List TokenRecord) (m : ℕ) (d : TokenRecord) → no_column_goes_back token_column ts ≡ true → m < length ts → (get_or ts m d).dst_col < col → m < before col ts
+before-later col [] m d g h lt = absurd (omega (arith, h))
+before-later col (t ∷ ts) zero d g h lt = grind (arith, lt)
+before-later col (t ∷ ts) (suc m) d g h lt =
+    let more = before-later col ts m d (goes_on token_column t ts g) (omega (arith, h)) lt in
+    let first : t.dst_col < col = omega (arith, not_before-at token_column t ts m d (not_before token_column t ts g) (omega (arith, h)), lt) in
+    grind (arith, more, first)
+
+-- one that is not does not
+pub before-earlier : (col : ℕ) (ts : List TokenRecord) (m : ℕ) (d : TokenRecord) → m < length ts → col ≤ (get_or ts m d).dst_col → before col ts ≤ m
+before-earlier col [] m d h le = absurd (omega (arith, h))
+before-earlier col (t ∷ ts) zero d h le = grind (arith, le)
+before-earlier col (t ∷ ts) (suc m) d h le = grind (arith, before-earlier col ts m d (omega (arith, h)) le)
+
+pub before-all : (col : ℕ) (ts : List TokenRecord) → before col ts ≤ length ts
+before-all col ts = prefix_len-le-length (λ t. nat_lt t.dst_col col) ts
+
+-- of the first token that is not before the column and the last one that is: the former where it is at the column
+abbrev pub nearer : ℕ → Option TokenRecord → Option TokenRecord → Option TokenRecord
+nearer col None last = last
+nearer col (Some t) last = if t.dst_col == col then Some t else last
+
+-- the two, where the line is cut at an index
+abbrev pub nearer_at : ℕ → Option TokenRecord → List TokenRecord → ℕ → Option TokenRecord
+nearer_at col found ts n = nearer col (first (drop n ts)) (last_or found (take n ts))
+
+walked-by : (o : Ordering) (col : ℕ) (found : Option TokenRecord) (t : TokenRecord) (ts : List TokenRecord) → nat_cmp t.dst_col col ≡ o
+    → walked col (Some t) ts ≡ nearer_at col (Some t) ts (before col ts)
+    → match_ordering o (walked col (Some t) ts) (Some t) found ≡ nearer_at col found (t ∷ ts) (before col (t ∷ ts))
+walked-by Less col found t ts e more =
+    let lt : nat_lt t.dst_col col ≡ true = grind (arith, e) in
+    let n : before col (t ∷ ts) ≡ suc (before col ts) = rw lt (omega arith) in
+    more ∙ sym (ap (nearer_at col found (t ∷ ts)) n)
+walked-by Equal col found t ts e more =
+    let lt : nat_lt t.dst_col col ≡ false = grind (arith, e) in
+    let n : before col (t ∷ ts) ≡ 0 = rw lt in
+    let same : (t.dst_col == col) ≡ true = grind (arith, e) in
+    sym (ap (nearer_at col found (t ∷ ts)) n ∙ rw same)
+walked-by Greater col found t ts e more =
+    let lt : nat_lt t.dst_col col ≡ false = grind (arith, e) in
+    let n : before col (t ∷ ts) ≡ 0 = rw lt in
+    let same : (t.dst_col == col) ≡ false = grind (arith, e) in
+    sym (ap (nearer_at col found (t ∷ ts)) n ∙ rw same)
+
+walked-nearer : (col : ℕ) (found : Option TokenRecord) (ts : List TokenRecord) → walked col found ts ≡ nearer_at col found ts (before col ts)
+walked-nearer col found [] = refl
+walked-nearer col found (t ∷ ts) = walked-by (nat_cmp t.dst_col col) col found t ts refl (walked-nearer col (Some t) ts)
+
+-- so the lookup answers one of these two
+pub at-nearer : (col : ℕ) (ts : List TokenRecord) (n : ℕ) → no_column_goes_back token_column ts ≡ true → n ≡ before col ts → at token_column ts col ≡ nearer_at col None ts n
+at-nearer col ts n g e = sym (walked_is_at col ts g) ∙ walked-nearer col None ts ∙ sym (ap (nearer_at col None ts) e)
+
+-- the first token of what is left, at the column or not
+pub here : (col : ℕ) (t : TokenRecord) (o last : Option TokenRecord) → o ≡ Some t → t.dst_col ≡ col → nearer col o last ≡ Some t
+here col t o last e h = ap (λ p. nearer col p last) e ∙ grind (arith, h)
+
+pub past : (col : ℕ) (t : TokenRecord) (o last : Option TokenRecord) → o ≡ Some t → t.dst_col ≢ col → nearer col o last ≡ last
+past col t o last e h = ap (λ p. nearer col p last) e ∙ grind (arith, h)
+
+pub none_left : (col : ℕ) (o last : Option TokenRecord) → o ≡ None → nearer col o last ≡ last
+none_left col o last e = ap (λ p. nearer col p last) e
+
+first-get : (ts : List TokenRecord) → slice_get ts 0 ≡ first ts
+first-get [] = refl
+first-get (t ∷ ts) = refl
+
+-- what `first` and `last` read of the two parts of a line
+pub read-first : (o : Option (Bor TokenRecord)) (left ts : List TokenRecord) (n : ℕ) → option_map (λ x. x.now) o ≡ slice_get left 0 → left ≡ drop n ts → first (drop n ts) ≡ option_map (λ x. x.now) o
+read-first o left ts n e d = sym (e ∙ first-get left ∙ ap first d)
+
+pub read-last : (o : Option (Bor TokenRecord)) (front ts : List TokenRecord) (n : ℕ) → option_map (λ x. x.now) o ≡ slice_get front (length front - 1) → front ≡ take n ts → last (take n ts) ≡ option_map (λ x. x.now) o
+read-last o front ts n e d = sym (e ∙ sym (last_at front) ∙ ap last d)

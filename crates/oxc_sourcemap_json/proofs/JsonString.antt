@@ -1,59 +1,82 @@
 -- The steps of writing a JSON string.
-use Rattle.std.proofs.Common.{◌≡◌, ℕ, suc, ◌<◌, ◌≤◌, ◌≢◌, List, [], ◌∷◌, ◌++◌, length, get_or, flat_map, encode_utf8, encode_utf8_all, inl, inr, arith, refl, sym, ap, ap₂, ◌∙◌, append_assoc, append-nil}
+use Rattle.std.proofs.Common.{◌≡◌, ℕ, ◌+◌, subst, Some, None, IfSome, slice_get, suc, ◌<◌, ◌≢◌, Bool, true, false, cond, not, List, [], ◌∷◌, ◌++◌, length, take, drop, flat_map, inl, inr, arith, refl, sym, ap, ap₂, ◌∙◌, append_assoc, append-nil}
 use Rattle.std.proofs.lemmas.Bool.{cases_lt}
 use Rattle.std.proofs.lemmas.Bool.Decides.{nat_tests}
+use Rattle.std.proofs.lemmas.List.Sums.{prefix_len_stops, prefix_len-le-length}
 use Rattle.std.proofs.lemmas.Grind.{flat_map-append}
-use Rattle.std.proofs.lemmas.Str.{encode_ascii, encodes-append, inside_one}
-use Rattle.oxc_sourcemap_json.specs.JsonString.{escaped, hex_escape, json_string, Opened}
+use Rattle.std.proofs.lemmas.List.{take-append-drop}
+use Rattle.std.proofs.lemmas.Str.{IsCharBoundary-before_ascii, IsCharBoundary-after_ascii, IsCharBoundary-end}
+use Rattle.std.specs.Str.{IsUtf8, IsCharBoundary}
+use Rattle.std.specs.List.{prefix_len}
+use Rattle.oxc_sourcemap_json.specs.JsonString.{escaped, hex_escape, Opened}
+use Rattle.oxc_sourcemap_json.specs.Plain.{needs_escape, is_plain}
 
--- ---- bytes that need no escape
-escaped-plain : (b : ℕ) → b ≢ 34 → b ≢ 92 → 32 ≤ b → escaped b ≡ b ∷ []
+-- ---- a byte
+escaped-plain : (b : ℕ) → needs_escape b ≡ false → escaped b ≡ b ∷ []
 unfolding escaped
-escaped-plain b quote slash low = grind (arith, nat_tests)
+escaped-plain b plain = grind (arith, nat_tests, plain)
 
-escaped-high : (bs : List ℕ) → ((k : ℕ) → k < length bs → 128 ≤ get_or bs k 0) → flat_map escaped bs ≡ bs
-escaped-high [] h = refl
-escaped-high (b ∷ bs) h =
-    let high : 128 ≤ b = h 0 (omega arith) in
-    ap₂ (λ (xs ys : List ℕ). xs ++ ys) (escaped-plain b (λ e. omega arith) (λ e. omega arith) (omega arith)) (escaped-high bs (λ k below. h (suc k) (omega arith)))
+pub escaped-control : (b : ℕ) → needs_escape b ≡ true → b ≢ 34 → b ≢ 92 → b ≢ 8 → b ≢ 9 → b ≢ 10 → b ≢ 12 → b ≢ 13 → escaped b ≡ hex_escape b
+unfolding escaped
+escaped-control b some b34 b92 b8 b9 b10 b12 b13 = grind (arith, nat_tests, some)
 
--- the bytes of a character above the ASCII ones
-high-bytes : (c : ℕ) → 128 ≤ c → (k : ℕ) → k < length (encode_utf8 c) → 128 ≤ get_or (encode_utf8 c) k 0
-high-bytes c big k below = elim (cases_lt (get_or (encode_utf8 c) k 0) 128) [
-  | inl low ↦ absurd (omega (arith, inside_one c [] (encode_utf8 c) k (sym (append-nil _)) below low))
-  | inr high ↦ high
+-- ---- a run
+run_more : (b n : ℕ) (bs : List ℕ) (escapes : Bool) → needs_escape b ≡ escapes → flat_map escaped (take n bs) ≡ take n bs
+    → flat_map escaped (take (cond (not escapes) (1 + n) 0) (b ∷ bs)) ≡ take (cond (not escapes) (1 + n) 0) (b ∷ bs)
+run_more b n bs true e later = refl
+run_more b n bs false e later =
+    let up : 1 + n ≡ suc n = omega arith in
+    rw up (ap₂ (λ (xs ys : List ℕ). xs ++ ys) (escaped-plain b e) later)
+
+-- a run that needs no escape is its own text
+pub run_plain : (bs : List ℕ) → flat_map escaped (take (prefix_len is_plain bs) bs) ≡ take (prefix_len is_plain bs) bs
+run_plain [] = refl
+run_plain (b ∷ bs) = run_more b (prefix_len is_plain bs) bs (needs_escape b) refl (run_plain bs)
+
+-- the byte after a run needs an escape
+stop_at : (b : ℕ) (bs : List ℕ) (n : ℕ) (escapes : Bool) → needs_escape b ≡ escapes → IfSome (slice_get (drop n bs) 0) (λ x. needs_escape x ≡ true)
+    → IfSome (slice_get (drop (cond (not escapes) (1 + n) 0) (b ∷ bs)) 0) (λ x. needs_escape x ≡ true)
+stop_at b bs n true e later = e
+stop_at b bs n false e later = let up : 1 + n ≡ suc n = omega arith in rw up later
+
+pub run_stop : (bs : List ℕ) → IfSome (slice_get (drop (prefix_len is_plain bs) bs) 0) (λ x. needs_escape x ≡ true)
+run_stop [] = tt
+run_stop (b ∷ bs) = stop_at b bs (prefix_len is_plain bs) (needs_escape b) refl (run_stop bs)
+
+pub escape_ascii : (b : ℕ) → needs_escape b ≡ true → b < 128
+escape_ascii b some = grind (arith, nat_tests, some)
+
+-- a text may be cut at the end of a run, and after the byte there
+pub run_boundary : (bs : List ℕ) → IsCharBoundary bs (prefix_len is_plain bs)
+run_boundary bs = elim (cases_lt (prefix_len is_plain bs) (length bs)) [
+  | inl l ↦
+      let stops = prefix_len_stops is_plain bs 0 l in
+      IsCharBoundary-before_ascii bs (prefix_len is_plain bs) l (grind (arith, nat_tests, stops))
+  | inr g ↦ subst (IsCharBoundary bs) (omega (arith, prefix_len-le-length is_plain bs)) (IsCharBoundary-end bs)
 ]
 
-pub escaped-char : (c : ℕ) → c ≢ 34 → c ≢ 92 → 32 ≤ c → flat_map escaped (encode_utf8 c) ≡ encode_utf8 c
-escaped-char c quote slash low = elim (cases_lt c 128) [
-  | inl small ↦ rw (encode_ascii c small, escaped-plain c quote slash low) refl
-  | inr big ↦ escaped-high (encode_utf8 c) (high-bytes c big)
-]
+pub escape_boundary : (bs : List ℕ) → IsUtf8 bs → 0 < length bs → IfSome (slice_get bs 0) (λ b. needs_escape b ≡ true) → IsCharBoundary bs 1
+escape_boundary [] utf8 l some = absurd (omega arith)
+escape_boundary (b ∷ bs) utf8 l some = IsCharBoundary-after_ascii (b ∷ bs) 0 utf8 l (escape_ascii b some)
 
--- ---- characters with an escape
-pub escaped-short : (c b letter : ℕ) → c ≡ b → b < 128 → escaped b ≡ 92 ∷ letter ∷ [] → flat_map escaped (encode_utf8 c) ≡ 92 ∷ letter ∷ []
-escaped-short c b letter same small e =
-    ap (λ n. flat_map escaped (encode_utf8 n)) same ∙ ap (flat_map escaped) (encode_ascii b small) ∙ ap (λ bs. bs ++ []) e
+-- ---- what a step adds
+pub run_added : (out rest run after new : List ℕ) → run ≡ take (prefix_len is_plain rest) rest → after ≡ drop (prefix_len is_plain rest) rest → new ≡ out ++ run
+    → new ++ flat_map escaped after ≡ out ++ flat_map escaped rest
+run_added out rest run after new r b n =
+    let front = prefix_len is_plain rest in
+    ap (λ t. t ++ flat_map escaped after) n ∙ append_assoc out run (flat_map escaped after)
+    ∙ ap (λ t. out ++ t) (ap₂ (λ (xs ys : List ℕ). xs ++ flat_map escaped ys) (r ∙ sym (run_plain rest)) b
+    ∙ sym (flat_map-append escaped (take front rest) (drop front rest)) ∙ ap (flat_map escaped) (take-append-drop front rest))
 
-escaped-low : (b : ℕ) → b < 32 → b ≢ 8 → b ≢ 9 → b ≢ 10 → b ≢ 12 → b ≢ 13 → escaped b ≡ hex_escape b
-unfolding escaped
-escaped-low b low b8 b9 b10 b12 b13 = grind (arith, nat_tests)
+pub escape_added : (old after new : List ℕ) (b : ℕ) → slice_get after 0 ≡ Some b → new ≡ old ++ escaped b → new ++ flat_map escaped (drop 1 after) ≡ old ++ flat_map escaped after
+escape_added old [] new b e n = cc
+escape_added old (x ∷ after) new b e n =
+    let same : b ≡ x = cc in
+    ap (λ t. t ++ flat_map escaped after) (n ∙ ap (λ y. old ++ escaped y) same) ∙ append_assoc old (escaped x) (flat_map escaped after)
 
-pub escaped-control : (c : ℕ) → c < 32 → c ≢ 8 → c ≢ 9 → c ≢ 10 → c ≢ 12 → c ≢ 13 → flat_map escaped (encode_utf8 c) ≡ hex_escape c
-escaped-control c low c8 c9 c10 c12 c13 = rw (encode_ascii c (omega arith), escaped-low c low c8 c9 c10 c12 c13) refl
-
--- ---- the whole text
-pub quoted-more : (base old new cs : List ℕ) (c : ℕ) → old ≡ base ++ 34 ∷ flat_map escaped (encode_utf8_all cs) → new ≡ old ++ flat_map escaped (encode_utf8 c) → new ≡ base ++ 34 ∷ flat_map escaped (encode_utf8_all (cs ++ c ∷ []))
-quoted-more base old new cs c o n =
-    n ∙ ap (λ bs. bs ++ flat_map escaped (encode_utf8 c)) o ∙ append_assoc base (34 ∷ flat_map escaped (encode_utf8_all cs)) (flat_map escaped (encode_utf8 c))
-    ∙ ap (λ bs. base ++ 34 ∷ bs) (sym (flat_map-append escaped (encode_utf8_all cs) (encode_utf8 c))
-    ∙ ap (flat_map escaped) (sym (encodes-append cs (c ∷ []) ∙ ap (λ bs. encode_utf8_all cs ++ bs) (append-nil (encode_utf8 c)))))
-
-pub quoted-end : (base old new text cs : List ℕ) → old ≡ base ++ 34 ∷ flat_map escaped (encode_utf8_all cs) → encode_utf8_all cs ≡ text → new ≡ old ++ 34 ∷ [] → new ≡ base ++ json_string text
-unfolding json_string
-quoted-end base old new text cs o same n =
-    n ∙ ap (λ bs. bs ++ 34 ∷ []) o ∙ append_assoc base (34 ∷ flat_map escaped (encode_utf8_all cs)) (34 ∷ [])
-    ∙ ap (λ (bs : List ℕ). base ++ json_string bs) same
+pub nothing_left : (bs out : List ℕ) → slice_get bs 0 ≡ None → out ++ flat_map escaped bs ≡ out
+nothing_left [] out e = append-nil out
+nothing_left (b ∷ bs) out e = cc
 
 -- ---- what stays opened
 pub opened-more : (base old x new : List ℕ) → Opened base old → new ≡ old ++ x → Opened base new

@@ -1,11 +1,14 @@
 -- Texts that are added one after the other.
-use Rattle.std.proofs.Common.{◌≡◌, ℕ, List, ◌++◌, ap, ◌∙◌, append_assoc, codes, decimal}
+use Rattle.std.proofs.Common.{◌≡◌, ℕ, List, [], ◌∷◌, ◌++◌, sym, ap, ◌∙◌, append_assoc, codes, decimal}
+use Rattle.oxc_sourcemap_mappings.specs.Token.{TokenRecord}
+use Rattle.oxc_sourcemap_mappings.specs.Canonical.{canonical}
 use Rattle.oxc_sourcemap_json.specs.Json.{JsonRecord}
 use Rattle.oxc_sourcemap_json.specs.JsonString.{json_string}
 use Rattle.oxc_sourcemap_parts.specs.Record.{MapRecord}
 use Rattle.oxc_sourcemap_json.specs.Encoded.{written_contents, record_with}
 use Rattle.oxc_sourcemap_json.specs.JsonText.{json_list, content_text, field_text, optional_field, json_text}
 use Rattle.oxc_sourcemap_json.specs.JsonParts.{head_text, lists_text, tail_text}
+use Rattle.oxc_sourcemap_json.proofs.CanonicalPlain.{canonical_plain}
 
 pub three_added : (old a b c t1 t2 t3 : List ℕ) → t1 ≡ old ++ a → t2 ≡ t1 ++ b → t3 ≡ t2 ++ c → t3 ≡ old ++ (a ++ (b ++ c))
 three_added old a b c t1 t2 t3 p1 p2 p3 =
@@ -51,3 +54,14 @@ pub object_added : (r : MapRecord) (mappings old t1 t2 t3 : List ℕ)
 object_added r mappings old t1 t2 t3 p1 p2 p3 =
     three_added old _ _ _ t1 t2 t3 p1 p2 p3
     ∙ ap (λ t. old ++ t) (json_text_in_parts (record_with r mappings))
+
+-- the field with a canonical text, in which no byte needs an escape
+pub mappings_added : (ts : List TokenRecord) (old t1 t2 t3 : List ℕ)
+    → t1 ≡ old ++ codes ",\"mappings\":\""
+    → t2 ≡ t1 ++ canonical ts
+    → t3 ≡ t2 ++ 34 ∷ []
+    → t3 ≡ old ++ field_text (codes "mappings") (json_string (canonical ts))
+unfolding field_text json_string
+mappings_added ts old t1 t2 t3 p1 p2 p3 =
+    three_added old _ _ _ t1 t2 t3 p1 p2 p3
+    ∙ ap (λ bs. old ++ (codes ",\"mappings\":\"" ++ (bs ++ 34 ∷ []))) (sym (canonical_plain ts))

@@ -1,4 +1,6 @@
+pub mod Plain
 pub mod JsonString
+pub mod CanonicalPlain
 pub mod ReadsBack
 pub mod ReadSound
 pub mod Rewriting

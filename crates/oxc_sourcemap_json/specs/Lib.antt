@@ -1,9 +1,11 @@
 pub mod Json
 pub mod Shape
 pub mod JsonString
+pub mod Plain
 pub mod Decoded
 pub mod Encoded
 pub mod ReadMap
 pub mod JsonText
+pub mod Room
 pub mod JsonParts
 pub mod MapLaws

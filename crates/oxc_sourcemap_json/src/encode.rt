@@ -6,13 +6,13 @@ ghost use Rattle.std.specs.Option.{is_some};
 ghost use Rattle.oxc_sourcemap_mappings.specs.declared.error.Error.TheVariants.{OutOfMemory};
 ghost use Rattle.oxc_sourcemap_mappings.specs.Token.{AreInBounds};
 ghost use Rattle.oxc_sourcemap_mappings.specs.Canonical.{canonical};
-ghost use Rattle.oxc_sourcemap_mappings.specs.Chunks.{writing_fault};
+ghost use Rattle.oxc_sourcemap_mappings.specs.Chunks.{lent_chunks, writing_fault};
 ghost use Rattle.oxc_sourcemap_parts.specs.Views.{text_of, ids_of, record_of_parts};
 ghost use Rattle.oxc_sourcemap_json.specs.Json.{json_record, json_contents};
 ghost use Rattle.oxc_sourcemap_json.specs.Encoded.{encoded, written_contents};
 
 use crate::json_source_map::JSONSourceMap;
-use oxc_sourcemap_mappings::{Result, encode_mappings};
+use oxc_sourcemap_mappings::{Result, TokenChunk, encode_mappings};
 use oxc_sourcemap_parts::SourceMapParts;
 use std::alloc::{AllocError, Global};
 use std::borrow::CowStr;
@@ -83,21 +83,27 @@ fn copied_ids(
     }
 }
 
+/// The chunks of a map, borrowed.
+pub(crate) fn chunks_of<'p>(parts: &'p SourceMapParts<'_>) -> Option<&'p [TokenChunk]>
+    ensures { lent_chunks result ≡ (record_of_parts parts.now).token_chunks }
+{
+    match &parts.token_chunks {
+        Some(chunks) => Some(chunks.as_slice()),
+        None => None,
+    }
+}
+
 /// The canonical text of the tokens of a map. Chunks change nothing but have to fit.
 ///
 /// Fails as `encode_mappings` does for the tokens and chunks.
-pub(crate) fn mappings_of(alloc: Global, parts: &SourceMapParts<'_>) -> Result<String>
+fn mappings_of(alloc: Global, parts: &SourceMapParts<'_>) -> Result<String>
     ensures text { let r = record_of_parts parts.now in IfOk result (λ text. string_bytes text ≡ canonical r.tokens) }
     ensures clean { let r = record_of_parts parts.now in OnOk result (writing_fault r.tokens r.token_chunks ≡ None) }
     ensures refused { let r = record_of_parts parts.now in IfErr result (λ e. (e ≢ OutOfMemory) → writing_fault r.tokens r.token_chunks ≡ Some e) }
     ensures in_bounds { OnOk result (AreInBounds (record_of_parts parts.now).tokens) }
 {
     let mut mappings = String::new(alloc);
-    let chunks = match &parts.token_chunks {
-        Some(chunks) => Some(chunks.as_slice()),
-        None => None,
-    };
-    encode_mappings(parts.tokens.as_slice(), chunks, &mut mappings)?;
+    encode_mappings(parts.tokens.as_slice(), chunks_of(parts), &mut mappings)?;
     Ok(mappings)
 }
 

@@ -1,17 +1,20 @@
 //! The JSON text of a map, written field by field, and its data URL.
-ghost use Rattle.std.specs.Prelude.{◌≡◌, ◌≢◌, ◌++◌, map, option_map, string_bytes, codes, decimal, IfOk, IfErr, OnOk, Ok, Err};
+ghost use Rattle.std.specs.Prelude.{◌≡◌, ◌≢◌, ◌++◌, map, option_map, string_bytes, codes, decimal, IfOk, IfErr, OnOk, Ok, Err, Some, None};
 ghost use Rattle.std.specs.Cow.{cow_str_bytes};
 ghost use Rattle.oxc_sourcemap_mappings.specs.declared.error.Error.TheVariants.{OutOfMemory};
+ghost use Rattle.oxc_sourcemap_mappings.specs.Canonical.{canonical};
+ghost use Rattle.oxc_sourcemap_mappings.specs.Chunks.{writing_fault};
 ghost use Rattle.oxc_sourcemap_json.specs.JsonString.{json_string};
 ghost use Rattle.oxc_sourcemap_parts.specs.Views.{text_of, ids_of, record_of_parts};
-ghost use Rattle.oxc_sourcemap_json.specs.Encoded.{written_contents, record_with};
+ghost use Rattle.oxc_sourcemap_json.specs.Encoded.{written_contents, encoded_record};
 ghost use Rattle.oxc_sourcemap_json.specs.JsonText.{json_list, content_text, field_text, optional_field, json_text, map_text, map_url};
 ghost use Rattle.oxc_sourcemap_json.specs.JsonParts.{head_text, lists_text, tail_text};
 
-use crate::encode::{has_content, mappings_of};
+use crate::encode::{chunks_of, has_content};
 use crate::json_string::push_json_string;
+use crate::room::text_room;
 use base64::engine::general_purpose::STANDARD;
-use oxc_sourcemap_mappings::Result;
+use oxc_sourcemap_mappings::{Result, encode_mappings};
 use oxc_sourcemap_parts::SourceMapParts;
 use std::alloc::Global;
 use std::borrow::CowStr;
@@ -153,14 +156,17 @@ fn push_texts_field(key: &str, texts: &[CowStr<'_>], out: &mut String) -> Result
     push_texts(texts, out)
 }
 
-/// Appends a field with a text.
-#[tactic(auto, unfolding(crate::specs::JsonText::field_text))]
-fn push_text_field(key: &str, text: &str, out: &mut String) -> Result<()>
-    ensures text { OnOk result (string_bytes out.new ≡ string_bytes out.old ++ field_text key.now (json_string text.now)) }
-    ensures refused { IfErr result (λ e. e ≡ OutOfMemory) }
+/// Appends the field with the mappings: the canonical text of the tokens, in which no byte needs an escape.
+#[tactic(auto, unfolding(crate::specs::JsonText::field_text, crate::specs::JsonString::json_string))]
+fn push_mappings(parts: &SourceMapParts<'_>, out: &mut String) -> Result<()>
+    ensures text { let r = record_of_parts parts.now in OnOk result (string_bytes out.new ≡ string_bytes out.old ++ field_text (codes "mappings") (json_string (canonical r.tokens))) }
+    ensures clean { let r = record_of_parts parts.now in OnOk result (writing_fault r.tokens r.token_chunks ≡ None) }
+    ensures refused { let r = record_of_parts parts.now in IfErr result (λ e. (e ≢ OutOfMemory) → writing_fault r.tokens r.token_chunks ≡ Some e) }
 {
-    push_key(key, out)?;
-    push_json_string(text, out)
+    out.push_str(",\"mappings\":\"")?;
+    encode_mappings(parts.tokens.as_slice(), chunks_of(parts), out)?;
+    out.push('"')?;
+    Ok(())
 }
 
 /// Appends the beginning of the object, up to the root of sources.
@@ -201,25 +207,22 @@ fn push_lists(
 
 /// Appends the mappings, the debug id, and the end of the object.
 #[tactic(auto, unfolding(crate::specs::JsonParts::tail_text))]
-fn push_tail(mappings: &str, debug_id: &Option<CowStr<'_>>, out: &mut String) -> Result<()>
-    ensures text { OnOk result (string_bytes out.new ≡ string_bytes out.old ++ tail_text mappings.now (text_of debug_id.now)) }
-    ensures refused { IfErr result (λ e. e ≡ OutOfMemory) }
+fn push_tail(parts: &SourceMapParts<'_>, out: &mut String) -> Result<()>
+    ensures text { let r = record_of_parts parts.now in OnOk result (string_bytes out.new ≡ string_bytes out.old ++ tail_text (canonical r.tokens) r.debug_id) }
+    ensures clean { let r = record_of_parts parts.now in OnOk result (writing_fault r.tokens r.token_chunks ≡ None) }
+    ensures refused { let r = record_of_parts parts.now in IfErr result (λ e. (e ≢ OutOfMemory) → writing_fault r.tokens r.token_chunks ≡ Some e) }
 {
-    push_text_field("mappings", mappings, out)?;
-    push_optional_text("debugId", debug_id, out)?;
+    push_mappings(parts, out)?;
+    push_optional_text("debugId", &parts.debug_id, out)?;
     out.push('}')?;
     Ok(())
 }
 
-/// Appends the fields of a map as a JSON object, with this mappings text.
-fn push_object(
-    alloc: Global,
-    parts: &SourceMapParts<'_>,
-    mappings: &str,
-    out: &mut String,
-) -> Result<()>
-    ensures text { OnOk result (string_bytes out.new ≡ string_bytes out.old ++ json_text (record_with (record_of_parts parts.now) mappings.now)) }
-    ensures refused { IfErr result (λ e. e ≡ OutOfMemory) }
+/// Appends the fields of a map as a JSON object.
+fn push_object(alloc: Global, parts: &SourceMapParts<'_>, out: &mut String) -> Result<()>
+    ensures text { OnOk result (string_bytes out.new ≡ string_bytes out.old ++ json_text (encoded_record (record_of_parts parts.now))) }
+    ensures clean { let r = record_of_parts parts.now in OnOk result (writing_fault r.tokens r.token_chunks ≡ None) }
+    ensures refused { let r = record_of_parts parts.now in IfErr result (λ e. (e ≢ OutOfMemory) → writing_fault r.tokens r.token_chunks ≡ Some e) }
 {
     push_head(&parts.file, &parts.source_root, out)?;
     push_lists(
@@ -230,7 +233,7 @@ fn push_object(
         &parts.ignore_list,
         out,
     )?;
-    push_tail(mappings, &parts.debug_id, out)?;
+    push_tail(parts, out)?;
     Ok(())
 }
 
@@ -246,9 +249,8 @@ pub fn encode_parts_to_string(alloc: Global, parts: &SourceMapParts<'_>) -> Resu
     ensures text { IfOk result (λ text. map_text (record_of_parts parts.now) ≡ Ok (string_bytes text)) }
     ensures refused { IfErr result (λ e. (e ≢ OutOfMemory) → map_text (record_of_parts parts.now) ≡ Err e) }
 {
-    let mappings = mappings_of(alloc, parts)?;
-    let mut out = String::new(alloc);
-    push_object(alloc, parts, mappings.as_str(), &mut out)?;
+    let mut out = String::with_capacity(alloc, text_room(parts))?;
+    push_object(alloc, parts, &mut out)?;
     Ok(out)
 }
 

@@ -10,6 +10,7 @@ mod encode;
 mod json_source_map;
 mod json_string;
 mod json_text;
+mod room;
 mod shape;
 
 pub use decode::{decode_parts, decode_parts_from_string};

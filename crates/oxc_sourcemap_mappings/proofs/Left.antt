@@ -1,5 +1,5 @@
 -- Reading from the front on: what is left of a text, after a line and a place.
-use Rattle.std.proofs.Common.{◌≡◌, ℕ, ◌+◌, ◌<◌, true, false, cond, List, [], ◌∷◌, ◌++◌, length, map, drop, filter, ℤ, Option, Some, None, Result, Ok, Err, if◌then◌else◌, nat_lt, slice_get, arith, refl, sym, ap, ◌∙◌, append_assoc}
+use Rattle.std.proofs.Common.{◌≡◌, ℕ, ◌+◌, ◌<◌, true, false, cond, List, [], ◌∷◌, ◌++◌, length, map, drop, filter, ℤ, Option, Some, None, Result, Ok, Err, if◌then◌else◌, nat_lt, slice_get, arith, refl, sym, ap, ◌∙◌, append_assoc, ◌⊎◌, inl, inr}
 use Rattle.std.specs.List.{slice_split, onto_first}
 use Rattle.std.proofs.lemmas.List.{append-nil}
 use Rattle.std.proofs.lemmas.Bool.Decides.{nat_tests}
@@ -99,6 +99,11 @@ parts-comma c line p (l ∷ ls) = refl
 
 pub left-comma : (c : Counts) (line : ℕ) (p : Place) (text : List ℕ) → left_outcomes c line p (44 ∷ text) ≡ left_outcomes c line p text
 left-comma c line p text = parts-comma c line p (slice_split is_semicolon text)
+
+-- after a `,`, if one stands there
+pub left-after : (c : Counts) (line : ℕ) (p : Place) (text rest : List ℕ) → (text ≡ rest) ⊎ (text ≡ 44 ∷ rest) → left_outcomes c line p text ≡ left_outcomes c line p rest
+left-after c line p text rest (inl e) = ap (left_outcomes c line p) e
+left-after c line p text rest (inr e) = ap (left_outcomes c line p) e ∙ left-comma c line p rest
 
 -- ---- the segment at the front
 

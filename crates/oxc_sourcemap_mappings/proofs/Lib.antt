@@ -1,6 +1,9 @@
 pub mod Powers
 pub mod Runs
+pub mod Table
+pub mod Usual
 pub mod Left
+pub mod Room
 pub mod Order
 pub mod Vlq
 pub mod Writing

@@ -1,9 +1,9 @@
 -- How the steps of the decoder are seen, against the sums of `Places` and the faults of `Faults`. No public contract
 -- speaks of these.
-use Rattle.std.specs.Prelude.{◌≡◌, ℕ, ◌<◌, ◌^◌, Bool, ◌||◌, ◌&&◌, List, [], ◌∷◌, length, get_or, ℤ, pos, ◌+ℤ◌, nat_abs, None, if◌then◌else◌, nat_lt, ◌==◌}
+use Rattle.std.specs.Prelude.{◌≡◌, ℕ, ◌+◌, ◌<◌, ◌^◌, Bool, true, false, ◌||◌, ◌&&◌, List, [], ◌∷◌, length, drop, get_or, ℤ, pos, ◌+ℤ◌, nat_abs, None, if◌then◌else◌, nat_lt, ◌==◌}
 use Rattle.oxc_sourcemap_mappings.specs.declared.decode.Fields.{Fields}
 use Rattle.oxc_sourcemap_mappings.specs.declared.decode.Sums.{Sums}
-use Rattle.oxc_sourcemap_mappings.specs.Number.{digit, payload}
+use Rattle.oxc_sourcemap_mappings.specs.Number.{digit, payload, number, is_fitting, is_open}
 use Rattle.oxc_sourcemap_mappings.specs.Parts.{Segment, runs, field, has_source, has_name, is_semicolon, is_comma}
 use Rattle.oxc_sourcemap_mappings.specs.Places.{Place}
 use Rattle.oxc_sourcemap_mappings.specs.Faults.{digit_fault}
@@ -20,6 +20,21 @@ front_digits (byte ∷ bytes) = if ends_segment byte then [] else digit byte ∷
 -- the segment before the first `,` or `;`
 abbrev pub front_segment : List ℕ → Segment
 front_segment text = runs (front_digits text)
+
+-- how many `,` and `;` a text has
+abbrev pub marks : List ℕ → ℕ
+marks [] = 0
+marks (byte ∷ bytes) = (if ends_segment byte then 1 else 0) + marks bytes
+
+-- A number of so many digits stands at this place of a text: its run, which has no fault, and then the rest of the segment
+pub record IsNumberAt (text : List ℕ) (at : ℕ) (n : ℤ) (len : ℕ) : Type 0 where
+  pub run : List ℕ
+  pub front : front_segment (drop at text) ≡ run ∷ front_segment (drop (at + len) text)
+  pub digits : length (front_digits (drop at text)) ≡ len + length (front_digits (drop (at + len) text))
+  pub number : number run ≡ n
+  pub fits : is_fitting run ≡ true
+  pub closed : is_open run ≡ false
+  pub small : nat_abs n < 2 ^ 62
 
 -- a digit at this exponent, counted from 0, makes a run that does not fit
 abbrev pub is_over : ℕ → ℕ → Bool

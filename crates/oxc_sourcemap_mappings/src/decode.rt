@@ -1,12 +1,12 @@
 //! Reading the `mappings` text.
 ghost use Rattle.std.specs.Box.{boxed_slice_items};
-ghost use Rattle.std.specs.Prelude.{◌≡◌, ◌≢◌, ℕ, ◌+◌, ◌*◌, ◌%◌, ◌^◌, ◌<◌, ◌≤◌, length, List, ◌∷◌, [], drop, ℤ, pos, nat_abs, ◌+ℤ◌, set, true, false, min, is_some, IfSome, IfNone, OnOk, IfOk, IfErr, Option, Some, None, Result, Ok, Err};
+ghost use Rattle.std.specs.Prelude.{◌≡◌, ◌≢◌, ◌⊎◌, ℕ, ◌+◌, ◌*◌, ◌%◌, ◌^◌, ◌<◌, ◌≤◌, length, List, ◌∷◌, [], drop, ℤ, pos, nat_abs, ◌+ℤ◌, set, true, false, min, is_some, IfSome, IfNone, OnOk, IfOk, IfErr, Option, Some, None, Result, Ok, Err};
 ghost use Rattle.oxc_sourcemap_mappings.specs.declared.error.Error.TheVariants.{OutOfMemory, TooLarge};
 ghost use Rattle.oxc_sourcemap_mappings.specs.Number.{digit, payload, signed};
 ghost use Rattle.oxc_sourcemap_mappings.specs.Places.{place};
 ghost use Rattle.oxc_sourcemap_mappings.specs.Faults.{digit_fault, range_fault, is_id_below, low_bits, source_fault, place_fault, counts_of};
 ghost use Rattle.oxc_sourcemap_mappings.specs.Reading.{token_at, segment_result, reading};
-ghost use Rattle.oxc_sourcemap_mappings.specs.Decoding.{ends_segment, front_digits, front_segment, is_over, AreFieldsOf, AreSmall, value, place_of, source_moved, moved, moved_by};
+ghost use Rattle.oxc_sourcemap_mappings.specs.Decoding.{ends_segment, front_digits, front_segment, is_over, IsNumberAt, marks, AreFieldsOf, AreSmall, value, place_of, source_moved, moved, moved_by};
 
 use crate::error::{Error, Result};
 use crate::token::Token;
@@ -34,33 +34,43 @@ struct Sums {
     name_id: u32,
 }
 
-#[tactic(auto, unfolding(crate::specs::Number::digit))]
-fn digit_of(byte: u8) -> u8
-    ensures value { result ≡ digit byte }
-    ensures below { result < 64 }
+/// The digit of each byte, and 128 for `,` and `;`.
+static DIGITS: [u8; 256] = [
+    63, 63, 63, 63, 63, 63, 63, 63, 63, 63, 63, 63, 63, 63, 63, 63, 63, 63, 63, 63, 63, 63, 63, 63,
+    63, 63, 63, 63, 63, 63, 63, 63, 63, 63, 63, 63, 63, 63, 63, 63, 63, 63, 63, 62, 128, 63, 63,
+    63, 52, 53, 54, 55, 56, 57, 58, 59, 60, 61, 63, 128, 63, 63, 63, 63, 63, 0, 1, 2, 3, 4, 5, 6,
+    7, 8, 9, 10, 11, 12, 13, 14, 15, 16, 17, 18, 19, 20, 21, 22, 23, 24, 25, 63, 63, 63, 63, 63,
+    63, 26, 27, 28, 29, 30, 31, 32, 33, 34, 35, 36, 37, 38, 39, 40, 41, 42, 43, 44, 45, 46, 47, 48,
+    49, 50, 51, 63, 63, 63, 63, 63, 63, 63, 63, 63, 63, 63, 63, 63, 63, 63, 63, 63, 63, 63, 63, 63,
+    63, 63, 63, 63, 63, 63, 63, 63, 63, 63, 63, 63, 63, 63, 63, 63, 63, 63, 63, 63, 63, 63, 63, 63,
+    63, 63, 63, 63, 63, 63, 63, 63, 63, 63, 63, 63, 63, 63, 63, 63, 63, 63, 63, 63, 63, 63, 63, 63,
+    63, 63, 63, 63, 63, 63, 63, 63, 63, 63, 63, 63, 63, 63, 63, 63, 63, 63, 63, 63, 63, 63, 63, 63,
+    63, 63, 63, 63, 63, 63, 63, 63, 63, 63, 63, 63, 63, 63, 63, 63, 63, 63, 63, 63, 63, 63, 63, 63,
+    63, 63, 63, 63, 63, 63, 63, 63, 63, 63, 63, 63, 63, 63, 63, 63,
+];
+
+/// The digit of a byte, and 128 for `,` and `;`, which end a segment.
+#[inline(always)]
+fn mapping_of(byte: u8) -> u8
+    ensures digit { result < 64 → (ends_segment byte ≡ false) × (result ≡ digit byte) }
+    ensures mark { 64 ≤ result → ends_segment byte ≡ true }
 {
-    match byte {
-        b'A'..=b'Z' => byte - b'A',
-        b'a'..=b'z' => byte - b'a' + 26,
-        b'0'..=b'9' => byte - b'0' + 52,
-        b'+' => 62,
-        _ => 63,
-    }
+    DIGITS[byte as usize]
 }
 
 /// The digit at this place of a text, None at a `,`, a `;` and the end.
+#[inline(always)]
 fn digit_at(text: &[u8], at: usize) -> Option<u8>
     ensures end { IfNone result (front_digits (drop at text.now) ≡ []) }
     ensures digit { IfSome result (λ d. front_digits (drop at text.now) ≡ d ∷ front_digits (drop (at + 1) text.now)) }
     ensures within { IfSome result (λ d. at < length text.now) }
 {
-    match *text.get(at)? {
-        b',' | b';' => None,
-        byte => Some(digit_of(byte)),
-    }
+    let entry = mapping_of(*text.get(at)?);
+    if entry < 64 { Some(entry) } else { None }
 }
 
 /// The number of a raw number: its half, negative where it is odd.
+#[inline(always)]
 fn signed_of(raw: u64) -> i64
     requires { raw < 2 ^ 63 }
     ensures value { result ≡ signed raw }
@@ -85,7 +95,7 @@ fn raised(raw: u64, exponent: u32, digit: u8) -> u64
     ensures below { result < 32 ^ (exponent + 1) }
     ensures fits { result < 2 ^ 63 }
 {
-    raw + u64::from(digit % 32) * 32u64.pow(exponent)
+    raw + (u64::from(digit % 32) << (5 * exponent))
 }
 
 /// Keeps a field, where it is one of the first five.
@@ -97,8 +107,74 @@ fn keep(values: &mut [i64; 5], k: usize, number: i64)
     }
 }
 
+/// The number at this place of a text and how many digits it has. None where it has more than three, and where none stands
+/// there.
+#[inline(always)]
+fn number_at(text: &[u8], at: usize) -> Option<(i64, usize)>
+    requires { at + 3 ≤ length text.now }
+    ensures number { IfSome result (λ read. IsNumberAt text.now at read.0 read.1) }
+    ensures len { IfSome result (λ read. read.1 ≤ 3) }
+{
+    let first = mapping_of(text[at]);
+    if first < 32 {
+        return Some((signed_of(u64::from(first)), 1));
+    }
+    if first >= 64 {
+        return None;
+    }
+    let second = mapping_of(text[at + 1]);
+    if second < 32 {
+        let raw = u64::from(first % 32) + u64::from(second) * 32;
+        return Some((signed_of(raw), 2));
+    }
+    if second >= 64 {
+        return None;
+    }
+    let third = mapping_of(text[at + 2]);
+    if third >= 32 {
+        return None;
+    }
+    let raw = u64::from(first % 32) + u64::from(second % 32) * 32 + u64::from(third) * 1024;
+    Some((signed_of(raw), 3))
+}
+
+/// The fields of the segment at the front of a text, where it has four or five, each of one to three digits. It is read at
+/// once, without a loop; None for every other segment.
+#[inline(always)]
+fn usual_segment(text: &[u8]) -> Option<Fields>
+    requires { 16 ≤ length text.now }
+    ensures fields { IfSome result (λ fields. AreFieldsOf (front_segment text.now) fields) }
+    ensures len { IfSome result (λ fields. fields.len ≡ length (front_digits text.now)) }
+    ensures within { IfSome result (λ fields. fields.len ≤ length text.now) }
+    ensures small { IfSome result AreSmall }
+{
+    let (dst_col, a) = number_at(text, 0)?;
+    let (source_id, b) = number_at(text, a)?;
+    let (src_line, c) = number_at(text, a + b)?;
+    let (src_col, d) = number_at(text, a + b + c)?;
+    let len = a + b + c + d;
+    if mapping_of(text[len]) >= 64 {
+        let values = [dst_col, source_id, src_line, src_col, 0];
+        return Some(Fields {
+            values,
+            count: 4,
+            len,
+        });
+    }
+    let (name_id, e) = number_at(text, len)?;
+    if mapping_of(text[len + e]) < 64 {
+        return None;
+    }
+    let values = [dst_col, source_id, src_line, src_col, name_id];
+    Some(Fields {
+        values,
+        count: 5,
+        len: len + e,
+    })
+}
+
 /// The fields of the segment at the front of a text, digit by digit, or the fault of its digits.
-fn read_segment(text: &[u8]) -> Result<Fields>
+fn any_segment(text: &[u8]) -> Result<Fields>
     ensures fields { IfOk result (λ fields. AreFieldsOf (front_segment text.now) fields) }
     ensures len { IfOk result (λ fields. fields.len ≡ length (front_digits text.now)) }
     ensures within { IfOk result (λ fields. fields.len ≤ length text.now) }
@@ -132,7 +208,25 @@ fn read_segment(text: &[u8]) -> Result<Fields>
     Ok(Fields { values, count, len })
 }
 
+/// The fields of the segment at the front of a text, or the fault of its digits.
+#[inline(always)]
+fn read_segment(text: &[u8]) -> Result<Fields>
+    ensures fields { IfOk result (λ fields. AreFieldsOf (front_segment text.now) fields) }
+    ensures len { IfOk result (λ fields. fields.len ≡ length (front_digits text.now)) }
+    ensures within { IfOk result (λ fields. fields.len ≤ length text.now) }
+    ensures small { IfOk result AreSmall }
+    ensures fault { IfErr result (λ e. digit_fault (front_segment text.now) ≡ Some e) }
+{
+    if text.len() >= 16 {
+        if let Some(fields) = usual_segment(text) {
+            return Ok(fields);
+        }
+    }
+    any_segment(text)
+}
+
 /// A line or column moved by a field, where it stays within 0 to 4294967295.
+#[inline(always)]
 fn moved_within(sum: u32, by: i64) -> Result<u32>
     requires { nat_abs by < 2 ^ 62 }
     ensures value { IfOk result (λ n. pos n ≡ pos sum +ℤ by) }
@@ -150,6 +244,7 @@ fn moved_within(sum: u32, by: i64) -> Result<u32>
 }
 
 /// An id moved by a field, where it stays below the count.
+#[inline(always)]
 fn moved_below(id: u32, by: i64, count: usize) -> Option<u32>
     requires { nat_abs by < 2 ^ 62 }
     ensures value { IfSome result (λ n. pos n ≡ pos id +ℤ by) }
@@ -186,7 +281,8 @@ impl Sums {
         }
     }
 
-    /// Adds the fields of a segment to the source id, line and column. After an `Err` some of them are changed.
+    /// Moves the source position. After an `Err` it stands somewhere.
+    #[inline(always)]
     fn move_source(&mut self, fields: &Fields, names: usize, sources: usize) -> Result<()>
         requires small { AreSmall fields.now }
         ensures place { OnOk result (place_of self.new ≡ source_moved (place_of self.old) (value fields.now)) }
@@ -207,6 +303,7 @@ impl Sums {
 
     /// The token of a segment, and the sums moved by it. After an `Err` they stand somewhere.
     #[tactic(auto, unfolding(crate::specs::Faults::place_fault))]
+    #[inline(always)]
     fn step(&mut self, line: u32, fields: &Fields, names: usize, sources: usize) -> Result<Token>
         requires small { AreSmall fields.now }
         ensures place { let place = moved (place_of self.old) fields.now.count (value fields.now) in
@@ -241,6 +338,7 @@ impl Sums {
 
     /// The token of the segment at the front of a text and the number of its bytes, and the sums moved by it. After an
     /// `Err` they stand somewhere.
+    #[inline(always)]
     fn read_token(
         &mut self,
         line: u32,
@@ -263,6 +361,7 @@ impl Sums {
         Ok((token, fields.len))
     }
 
+    #[inline(always)]
     fn token(&self, line: u32, source_id: Option<u32>, name_id: Option<u32>) -> Token
         requires source { IfSome source_id (λ n. n < 4294967295) }
         requires name { IfSome name_id (λ n. n < 4294967295) }
@@ -294,9 +393,50 @@ fn next_line(line: u32) -> Result<u32>
     line.checked_add(1).ok_or(Error::TooLarge)
 }
 
-/// Reads a `mappings` text into tokens, in the order of the text (docs/FORMAT.md, "Reading"; ECMA-426, "Mappings
-/// structure"). `names` and `sources` are the lengths of the lists that its ids refer to; more than 4294967295 are taken as
-/// 4294967295.
+/// How many `,` and `;` there are in at most 255 bytes. Counted in eight bits, which lets the compiler look at many bytes at
+/// once.
+fn marks_in_block(block: &[u8]) -> u8
+    requires { length block.now ≤ 255 }
+    ensures { result ≡ marks block.now }
+{
+    let mut count: u8 = 0;
+    for byte in block {
+        if *byte == b',' || *byte == b';' {
+            count += 1;
+        }
+    }
+    count
+}
+
+/// How many `,` and `;` a text has.
+fn marks_in(text: &[u8]) -> usize
+    ensures { result ≡ marks text.now }
+{
+    let mut count: usize = 0;
+    let mut rest = text;
+    while rest.len() > 128 {
+        let (block, more) = rest.split_at(128);
+        count += usize::from(marks_in_block(block));
+        rest = more;
+    }
+    count + usize::from(marks_in_block(rest))
+}
+
+/// The text after a `,`, where it begins with one.
+#[inline(always)]
+fn after_comma(text: &[u8]) -> &[u8]
+    ensures { (text.now ≡ result.now) ⊎ (text.now ≡ 44 ∷ result.now) }
+{
+    match text.first() {
+        Some(b',') => &text[1..],
+        _ => text,
+    }
+}
+
+/// Reads a `mappings` text into tokens, in text order (docs/FORMAT.md, "Reading"; ECMA-426, "Mappings structure").
+/// `names` and `sources` are the lengths of the lists that its ids refer to; more than 4294967295 are taken as
+/// 4294967295. Empty segments are passed over. One field makes an unmapped token, which carries the source line and
+/// column reached so far. A byte outside the base64 alphabet counts as the digit 63.
 ///
 /// Empty segments are skipped. A segment of one field is an unmapped token, with the source line and column reached so far.
 /// A byte outside the base64 alphabet is a digit of value 63.
@@ -319,10 +459,10 @@ pub fn decode_mappings(
     ensures tokens { IfOk result (λ tokens. reading text.now names sources ≡ Ok (boxed_slice_items tokens)) }
     ensures fault { IfErr result (λ e. (e ≢ OutOfMemory) → reading text.now names sources ≡ Err e) }
 {
-    let mut tokens = Vec::new(alloc);
+    let mut rest = text.as_bytes();
+    let mut tokens = Vec::with_capacity(alloc, marks_in(rest) + 1)?;
     let mut sums = Sums::new();
     let mut line = 0;
-    let mut rest = text.as_bytes();
     while let Some(byte) = rest.first() {
         match *byte {
             b';' => {
@@ -333,8 +473,8 @@ pub fn decode_mappings(
             b',' => rest = &rest[1..],
             _ => {
                 let (token, len) = sums.read_token(line, rest, names, sources)?;
-                tokens.push(token)?;
-                rest = &rest[len..];
+                tokens.push_reserved(token);
+                rest = after_comma(&rest[len..]);
             }
         }
     }

@@ -5,21 +5,34 @@ use Rattle.std.proofs.lemmas.Bool.Decides.{nat_tests}
 use Rattle.oxc_sourcemap_mappings.specs.Faults.{counts_of}
 use Rattle.oxc_sourcemap_mappings.specs.Reading.{gathered}
 use Rattle.oxc_sourcemap_mappings.specs.Decoding.{place_of, ends_segment}
-use Rattle.oxc_sourcemap_mappings.proofs.Left.{onto_all, onto_all-none, onto_all-token, onto_all-fault, left_outcomes, left-too_large, left-segment, front-byte, front-filled, reading-is}
+use Rattle.oxc_sourcemap_mappings.proofs.Left.{onto_all, onto_all-none, onto_all-token, onto_all-fault, left_outcomes, left-after, left-too_large, left-segment, front-byte, front-filled, reading-is}
+use Rattle.oxc_sourcemap_mappings.proofs.Room.{marks-le, most-all, most-token, most-after}
 use Rattle.oxc_sourcemap_mappings.proofs.decode.decode_mappings.Goals as goal
 
+pub overflow_add-marks_in : goal.overflow_add-marks_in
+overflow_add-marks_in c = omega (arith, marks-le c.as_bytes-rest.result.now, c.marks_in.ensures)
+
 pub loop-byte-init : goal.loop-byte-init
-loop-byte-init c =
-    rw (c.new-tokens.ensures.items, c.new-sums.ensures, c.as_bytes-rest.ensures.value)
-    (onto_all-none _ ∙ sym (reading-is c.args.text.now c.args.names c.args.sources))
+loop-byte-init c = record {
+  reading = rw (c.in_ok-tokens.ensures.items, c.new-sums.ensures, c.as_bytes-rest.ensures.value)
+      (onto_all-none _ ∙ sym (reading-is c.args.text.now c.args.names c.args.sources));
+  room = omega (arith, c.in_ok-tokens.ensures.len, c.in_ok-tokens.ensures.capacity, c.marks_in.ensures, most-all c.as_bytes-rest.result.now);
+}
+
+pub push_reserved-requires : goal.push_reserved-requires
+push_reserved-requires c =
+    let rest = c.loop-byte.rest.now in
+    let g : slice_get rest 0 ≡ Some c.in-Some.byte.now = sym c.in-Some.ensures.value in
+    let m : ends_segment c.in-Some.byte.now ≡ false = grind (arith, nat_tests) in
+    omega (arith, c.loop-byte.invariant.room, most-token rest c.in-Some.byte.now g m)
 
 pub returns-in_err-line-in-59-clause-fault : goal.returns-in_err-line-in-59-clause-fault
 returns-in_err-line-in-59-clause-fault c =
     let rest = c.loop-byte.rest.now in
     let counts = counts_of c.args.names c.args.sources in
-    let p = err_from_is_err_and c.from_residual.result c.from_residual.ensures.1 in
+    let p = err_from_is_err_and c.from_residual-in_err-line-in-59.result c.from_residual-in_err-line-in-59.ensures.1 in
     let g : slice_get rest 0 ≡ Some 59 = sym c.in-Some.ensures.value ∙ ap Some c.in-59.is in
-    rw (p.1, p.2) (λ _. sym c.loop-byte.invariant
+    rw (p.1, p.2) (λ _. sym c.loop-byte.invariant.reading
     ∙ ap (λ text. onto_all c.loop-byte.tokens.items (gathered (left_outcomes counts c.loop-byte.line (place_of c.loop-byte.sums) text))) (front-byte rest 59 g)
     ∙ ap (λ os. onto_all c.loop-byte.tokens.items (gathered os)) (left-too_large counts c.loop-byte.line (place_of c.loop-byte.sums) (drop 1 rest) c.in_err-line-in-59.ensures.last.1)
     ∙ ap Err (sym c.in_err-line-in-59.ensures.last.0))
@@ -33,7 +46,7 @@ returns-in_err-token-in_default-byte-clause-fault c =
     let p = err_from_is_err_and c.from_residual-in_err-token-in_default-byte.result c.from_residual-in_err-token-in_default-byte.ensures.1 in
     let g : slice_get rest 0 ≡ Some c.in-Some.byte.now = sym c.in-Some.ensures.value in
     let m : ends_segment c.in-Some.byte.now ≡ false = grind (arith, nat_tests) in
-    rw (p.1, p.2) (λ _. sym c.loop-byte.invariant
+    rw (p.1, p.2) (λ _. sym c.loop-byte.invariant.reading
     ∙ ap (λ os. onto_all c.loop-byte.tokens.items (gathered os)) (left-segment counts c.loop-byte.line place rest (front-filled rest c.in-Some.byte.now g m))
     ∙ onto_all-fault c.loop-byte.tokens.items _ _ _ c.in_err-token-in_default-byte.ensures.fault)
 
@@ -45,7 +58,11 @@ loop-byte-preserved c =
     let read = c.in_ok-token-in_default-byte in
     let g : slice_get rest 0 ≡ Some c.in-Some.byte.now = sym c.in-Some.ensures.value in
     let m : ends_segment c.in-Some.byte.now ≡ false = grind (arith, nat_tests) in
-    rw (take_rest rest read.len, read.ensures.len, read.ensures.place, c.in_ok-push-in_default-byte.ensures.items)
-    (sym (ap (λ os. onto_all c.loop-byte.tokens.items (gathered os)) (left-segment counts c.loop-byte.line place rest (front-filled rest c.in-Some.byte.now g m))
-    ∙ onto_all-token c.loop-byte.tokens.items read.token _ _ read.ensures.token)
-    ∙ c.loop-byte.invariant)
+    let left = c.after_comma-rest.ensures in
+    record {
+      reading = rw (c.push_reserved.ensures.items, sym (left-after counts c.loop-byte.line (place_of c.read_token.new.self) _ _ left), take_rest rest read.len, read.ensures.len, read.ensures.place)
+          (sym (ap (λ os. onto_all c.loop-byte.tokens.items (gathered os)) (left-segment counts c.loop-byte.line place rest (front-filled rest c.in-Some.byte.now g m))
+          ∙ onto_all-token c.loop-byte.tokens.items read.token _ _ read.ensures.token)
+          ∙ c.loop-byte.invariant.reading);
+      room = omega (arith, c.loop-byte.invariant.room, c.push_reserved.ensures.len, c.push_reserved.ensures.capacity, most-token rest c.in-Some.byte.now g m, most-after _ _ rest (take_rest rest read.len ∙ ap (λ k. drop k rest) read.ensures.len) left);
+    }

@@ -3,8 +3,8 @@ use Rattle.std.proofs.lemmas.Int.{to_z-of_z}
 use Rattle.oxc_sourcemap_mappings.specs.Number.{signed}
 use Rattle.oxc_sourcemap_mappings.specs.Decoding.{front_digits, is_over}
 use Rattle.oxc_sourcemap_mappings.proofs.Runs.{faults_from, numbers_from, faults_from-all, faults-over, faults-end, faults-on, faults-none, numbers-end, numbers-on, drop-is_cons, not-over, finished-clean, finished-count, finished-values, keep-done, keep-zero, keep-small}
-use Rattle.oxc_sourcemap_mappings.proofs.decode.read_segment.Goals as goal
-use Rattle.oxc_sourcemap_mappings.proofs.decode.read_segment.Goals.{then-digit-lt32, else-digit-lt32}
+use Rattle.oxc_sourcemap_mappings.proofs.decode.any_segment.Goals as goal
+use Rattle.oxc_sourcemap_mappings.proofs.decode.any_segment.Goals.{then-digit-lt32, else-digit-lt32}
 
 pub returns-then-is_too_far-clause-fault : goal.returns-then-is_too_far-clause-fault
 returns-then-is_too_far-clause-fault c =

@@ -1,7 +1,7 @@
 use Rattle.std.proofs.Common.{◌≡◌, ℕ, ◌+◌, ◌-◌, ◌^◌, ◌<◌, ◌≤◌, length, get_or, drop, pos, nat_abs}
 use Rattle.oxc_sourcemap_mappings.specs.Decoding.{front_digits}
 use Rattle.oxc_sourcemap_mappings.proofs.Runs.{faults_from, numbers_from}
-use Rattle.oxc_sourcemap_mappings.proofs.decode.read_segment.Given as goal
+use Rattle.oxc_sourcemap_mappings.proofs.decode.any_segment.Given as goal
 
 -- what the digits that are left say after those that were read is what all digits of the segment say
 abbrev pub invariant-loop-digit : goal.invariant-loop-digit

@@ -140,13 +140,7 @@ fn lines_are_searched(rt: HostRuntime) -> Result<()> {
         (&[], 0, None, 0),
     ] {
         let line = tokens_of(rt.alloc(), rows)?;
-        a_line_gives(
-            &rt,
-            line.as_slice(),
-            col,
-            token_at(rows, found),
-            most,
-        );
+        a_line_gives(&rt, line.as_slice(), col, token_at(rows, found), most);
     }
     Ok(())
 }

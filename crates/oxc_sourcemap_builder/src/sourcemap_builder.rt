@@ -139,7 +139,8 @@ impl<'a> SourceMapBuilder<'a> {
         Ok(id)
     }
 
-    /// x
+    /// Adds a source with its content and returns its id. A path that this call has added before keeps its id and its first
+    /// content; sources of `set_source_and_content` do not count.
     ///
     /// Fails with `TooLarge` if the new id would be 4294967295, then with `OutOfMemory` if memory is refused; the builder
     /// is then as it was.

@@ -281,7 +281,7 @@ impl Sums {
         }
     }
 
-    /// Moves the source position. After an `Err` it stands somewhere.
+    /// Adds the fields of a segment to the source id, line and column. After an `Err` some of them are changed.
     #[inline(always)]
     fn move_source(&mut self, fields: &Fields, names: usize, sources: usize) -> Result<()>
         requires small { AreSmall fields.now }
@@ -433,10 +433,9 @@ fn after_comma(text: &[u8]) -> &[u8]
     }
 }
 
-/// Reads a `mappings` text into tokens, in text order (docs/FORMAT.md, "Reading"; ECMA-426, "Mappings structure").
-/// `names` and `sources` are the lengths of the lists that its ids refer to; more than 4294967295 are taken as
-/// 4294967295. Empty segments are passed over. One field makes an unmapped token, which carries the source line and
-/// column reached so far. A byte outside the base64 alphabet counts as the digit 63.
+/// Reads a `mappings` text into tokens, in the order of the text (docs/FORMAT.md, "Reading"; ECMA-426, "Mappings
+/// structure"). `names` and `sources` are the lengths of the lists that its ids refer to; more than 4294967295 are taken as
+/// 4294967295.
 ///
 /// Empty segments are skipped. A segment of one field is an unmapped token, with the source line and column reached so far.
 /// A byte outside the base64 alphabet is a digit of value 63.

@@ -59,7 +59,7 @@ impl<'a> Model for SourceMapBuilder<'a> {
         ignore_list = None;
         debug_id = None;
       };
-      given = fin.from_entries (map (λ entry. (entry.0.now, entry.1)) b.given.mappings);
+      given = fin.from_entries (map (λ entry. (entry.0.now, entry.1)) b.given.entries);
     } };
 
     // So an index of a name is an id, and the one that the map has for it.

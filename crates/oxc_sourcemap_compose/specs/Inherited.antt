@@ -18,8 +18,8 @@ HasPlaces texts places = (text : Text) → hash.get_by (λ key. bytes_eq text ke
 
 -- the map of places is filled, or there are no taken names
 pub record HasNames (second : List Text) (taken : InheritedNames) : Type 0 where
-  pub places : 0 < length taken.places.mappings → HasPlaces (names_with second taken) taken.places
-  pub none : length taken.places.mappings ≡ 0 → taken.names.items ≡ []
+  pub places : 0 < length taken.places.entries → HasPlaces (names_with second taken) taken.places
+  pub none : length taken.places.entries ≡ 0 → taken.names.items ≡ []
 
 -- and each id that a name of the first map has got is that of the name
 pub record IsTaking (first second : List Text) (taken : InheritedNames) : Type 0 where

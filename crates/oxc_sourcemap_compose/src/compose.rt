@@ -13,7 +13,7 @@ ghost use Rattle.oxc_sourcemap_compose.specs.Composed.{Target, target_of, IsTarg
 ghost use Rattle.oxc_sourcemap_compose.specs.InheritedNames.{with_inherited, inherited_index};
 ghost use Rattle.oxc_sourcemap_compose.specs.Inherited.{names_with, IsTaking};
 
-use crate::inherited_names::{TakenNames, copied_names, no_names, take_id};
+use crate::inherited_names::{InheritedNames, copied_names, no_names, take_id};
 use oxc_sourcemap_lookup::{search_clamped, slice_of, table_of};
 use oxc_sourcemap_mappings::{Error, Result, Token, line_order_fault};
 use oxc_sourcemap_parts::{SourceMapParts, detached_text};
@@ -23,7 +23,7 @@ use std::borrow::CowStr;
 /// The token of the composed map for a token of the first one, and for what that leads to. It may take a name of the first
 /// map along.
 fn composed_token<'n>(
-    taken: &mut TakenNames<'n>,
+    taken: &mut InheritedNames<'n>,
     first: &'n [CowStr<'_>],
     second: &'n [CowStr<'_>],
     token: &Token,

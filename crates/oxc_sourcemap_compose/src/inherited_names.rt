@@ -16,7 +16,7 @@ use std::collections::HashMap;
 
 /// The names taken from the first map so far, and what is known of names. Texts are borrowed from both maps.
 #[derive(Drop)]
-pub(crate) struct TakenNames<'n> {
+pub(crate) struct InheritedNames<'n> {
     /// The taken names that the second map does not have, in the order in which they were taken.
     names: Vec<&'n str>,
     /// The index of each name of the second map, and after these of each of `names`. Empty until a name is taken.
@@ -30,12 +30,12 @@ pub(crate) fn no_names<'n>(
     alloc: Global,
     first: &[CowStr<'_>],
     second: &[CowStr<'_>],
-) -> std::result::Result<TakenNames<'n>, AllocError>
+) -> std::result::Result<InheritedNames<'n>, AllocError>
     ensures { IfOk result (λ taken. IsTaking (map cow_str_bytes first.now) (map cow_str_bytes second.now) taken × (names_with (map cow_str_bytes second.now) taken ≡ map cow_str_bytes second.now)) }
 {
     let mut ids = Vec::with_capacity(alloc, first.len())?;
     ids.resize(first.len(), None)?;
-    Ok(TakenNames {
+    Ok(InheritedNames {
         names: Vec::new(alloc),
         places: HashMap::new(alloc),
         ids,
@@ -47,7 +47,7 @@ fn fill_places<'n>(
     places: &mut HashMap<&'n str, usize>,
     names: &'n [CowStr<'_>],
 ) -> std::result::Result<(), AllocError>
-    requires { places.old.mappings ≡ [] }
+    requires { places.old.entries ≡ [] }
     ensures { OnOk result (HasPlaces (map cow_str_bytes names.now) places.new) }
 {
     places.reserve(names.len())?;
@@ -59,7 +59,7 @@ fn fill_places<'n>(
 
 /// Fills the map of places, unless it is filled.
 fn fill<'n>(
-    taken: &mut TakenNames<'n>,
+    taken: &mut InheritedNames<'n>,
     second: &'n [CowStr<'_>],
 ) -> std::result::Result<(), AllocError>
     requires { HasNames (map cow_str_bytes second.now) taken.old }
@@ -85,7 +85,11 @@ fn id_at(index: usize) -> Result<u32>
 }
 
 /// The id of a name: that of the equal one, else that of a new last one.
-fn take_name<'n>(taken: &mut TakenNames<'n>, second: &'n [CowStr<'_>], name: &'n str) -> Result<u32>
+fn take_name<'n>(
+    taken: &mut InheritedNames<'n>,
+    second: &'n [CowStr<'_>],
+    name: &'n str,
+) -> Result<u32>
     requires { HasNames (map cow_str_bytes second.now) taken.old }
     ensures names { let second = map cow_str_bytes second.now in
         OnOk result (names_with second taken.new ≡ with_text (names_with second taken.old) name.now) }
@@ -108,7 +112,7 @@ fn take_name<'n>(taken: &mut TakenNames<'n>, second: &'n [CowStr<'_>], name: &'n
 
 /// The id in the composed map of the name that the first map has at this id; it may be a new last one.
 pub(crate) fn take_id<'n>(
-    taken: &mut TakenNames<'n>,
+    taken: &mut InheritedNames<'n>,
     first: &'n [CowStr<'_>],
     second: &'n [CowStr<'_>],
     id: Option<u32>,
@@ -142,11 +146,11 @@ pub(crate) fn take_id<'n>(
 /// Copies of the names that were taken.
 pub(crate) fn copied_names<'a>(
     alloc: Global,
-    taken: TakenNames<'_>,
+    taken: InheritedNames<'_>,
 ) -> std::result::Result<Vec<CowStr<'a>>, AllocError>
     ensures { IfOk result (λ copies. texts_of copies ≡ map (λ name. name.now) taken.entry.names.items) }
 {
-    let TakenNames { names, .. } = taken;
+    let InheritedNames { names, .. } = taken;
     let mut copies = Vec::with_capacity(alloc, names.len())?;
     for name in names {
         copies.push(CowStr::Owned(String::from_str(alloc, name)?))?;

@@ -35,12 +35,12 @@ most-comma text rest (inl e) = rw e (omega arith)
 most-comma text rest (inr e) = rw e (omega (arith, most-all rest))
 
 -- after the segment at the front
-pub most-after : (text : List ℕ) → most_tokens (drop (length (front_digits text)) text) ≤ marks text
-most-after [] = omega arith
-most-after (b ∷ bs) =
+pub most-left : (text : List ℕ) → most_tokens (drop (length (front_digits text)) text) ≤ marks text
+most-left [] = omega arith
+most-left (b ∷ bs) =
     elim (ends_segment b) as (λ v. most_tokens (drop (length (if v then [] else digit b ∷ front_digits bs)) (b ∷ bs)) ≤ (if v then 1 else 0) + marks bs) [
       | true ↦ omega arith
-      | false ↦ omega (arith, most-after bs)
+      | false ↦ omega (arith, most-left bs)
     ]
 
 -- where a segment stands at the front
@@ -49,4 +49,4 @@ most-token [] b e h = cc
 most-token (a ∷ text) b e h = let k : a ≡ b = cc in rw (k, h) (omega arith)
 
 pub most-after : (slice rest text : List ℕ) → slice ≡ drop (length (front_digits text)) text → (slice ≡ rest) ⊎ (slice ≡ 44 ∷ rest) → most_tokens rest ≤ marks text
-most-after slice rest text e left = omega (arith, most-comma slice rest left, ap most_tokens e, most-after text)
+most-after slice rest text e left = omega (arith, most-comma slice rest left, ap most_tokens e, most-left text)

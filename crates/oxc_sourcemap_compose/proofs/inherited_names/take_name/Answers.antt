@@ -61,5 +61,5 @@ returns-clause-kept c =
           hash_map_updates_str c.args.name.now c.fill.new.taken.places c.insert.new.self _ c.in_ok-insert.ensures.updates text
           ∙ ap (cond (bytes_eq c.args.name.now text) (Some c.saturating_add-index.result)) (c.in_ok-fill.ensures.places text)
           ∙ put_place text c.args.name.now old c.saturating_add-index.result none index ∙ sym (ap (index_of text) more);
-      none = λ h. absurd (omega (arith, h, not_empty _ c.insert.new.self.mappings _ c.in_ok-insert.ensures.updates.1));
+      none = λ h. absurd (omega (arith, h, not_empty _ c.insert.new.self.entries _ c.in_ok-insert.ensures.updates.1));
     }

@@ -12,6 +12,6 @@ invariant_of-self-2 c =
       (λ text.
           let put = hash_map_updates_str c.args.name.now c.reserve-2.new.self c.insert-inserted.new.self _ updated text in
           let index = place_more text c.reserve.new.self.items c.args.name in
-          let same = c.in_ok-reserve-2.ensures.mappings.2 (record { ref_ptr = (0, 0); now = text }) in
+          let same = c.in_ok-reserve-2.ensures.entries.2 (record { ref_ptr = (0, 0); now = text }) in
           grind (arith, text_keys, put, pushed, index, same, c.in_ok-reserve.ensures.items, c.self.invariant.1 text, c.self.invariant.1 c.args.name.now)),
     )

@@ -484,6 +484,57 @@ fn joins_past_a_limit_are_refused(rt: HostRuntime) -> Result<()> {
     Ok(())
 }
 
+/// The sources and the ignore list of a map.
+type Ignoring = (&'static [&'static str], Option<&'static [u32]>);
+
+/// Maps with and without ignore lists, and the JSON text of their join. A map that is too large is passed over.
+const IGNORE_LISTS: &[(&[Ignoring], &str)] = &[
+    (
+        &[(&["a.js"], Some(&[0])), (&["b.js", "c.js"], Some(&[1]))],
+        r#"{"version":3,"names":[],"sources":["a.js","b.js","c.js"],"ignoreList":[0,2],"mappings":""}"#,
+    ),
+    (
+        &[(&["a.js"], None), (&["b.js"], None)],
+        r#"{"version":3,"names":[],"sources":["a.js","b.js"],"mappings":""}"#,
+    ),
+    (
+        &[(&["a.js"], Some(&[])), (&["b.js"], None)],
+        r#"{"version":3,"names":[],"sources":["a.js","b.js"],"ignoreList":[],"mappings":""}"#,
+    ),
+    (
+        &[(&["a.js"], None), (&["b.js"], Some(&[0, 0]))],
+        r#"{"version":3,"names":[],"sources":["a.js","b.js"],"ignoreList":[1,1],"mappings":""}"#,
+    ),
+    (
+        &[(&["a.js"], Some(&[0])), (&["b.js"], Some(&[4294967294]))],
+        r#"{"version":3,"names":[],"sources":["a.js"],"ignoreList":[0],"mappings":""}"#,
+    ),
+];
+
+/// The maps with these sources and ignore lists, each at offset 0.
+fn ignoring_maps(alloc: Global, parts: &[Ignoring]) -> Result<Maps> {
+    let mut maps = Vec::new(alloc);
+    for (sources, ignored) in parts {
+        let mut map = map_of(alloc, &[], *sources, &[], &[])?;
+        if let Some(ids) = ignored {
+            map.set_ignore_list(ids.to_vec(alloc)?);
+        }
+        maps.push((map, 0))?;
+    }
+    Ok(maps)
+}
+
+#[test]
+fn ignore_lists_are_joined(rt: HostRuntime) -> Result<()> {
+    for (parts, text) in IGNORE_LISTS {
+        let added = added_text(rt.alloc(), ignoring_maps(rt.alloc(), *parts)?.as_slice())?;
+        same(&rt, "added", added.as_str(), text);
+        let moved = moved_text(rt.alloc(), ignoring_maps(rt.alloc(), *parts)?)?;
+        same(&rt, "moved one by one", moved.as_str(), text);
+    }
+    Ok(())
+}
+
 /// A text, so many times.
 fn repeated(alloc: Global, text: &'static str, times: usize) -> Result<Vec<&'static str>> {
     let mut all = Vec::new(alloc);

@@ -12,13 +12,14 @@ use Rattle.oxc_sourcemap_mappings.specs.State.{state_at}
 use Rattle.oxc_sourcemap_mappings.specs.Chunks.{chunk_from, ChunksFit}
 use Rattle.oxc_sourcemap_parts.specs.Record.{Text, MapRecord}
 use Rattle.oxc_sourcemap_lookup.specs.Lookup.{last}
-use Rattle.oxc_sourcemap_join.specs.Joined.{fitted, shifted, is_same_token, without_repeat, added, added_tokens, added_chunk, nothing_joined, added_all, IsWithinLimits}
+use Rattle.oxc_sourcemap_join.specs.Joined.{fitted, shifted, is_same_token, without_repeat, raised_ignore_list, appended_ignore_lists, added, added_tokens, added_chunk, added_ignore_list, nothing_joined, added_all, AreEntriesInBounds, IsWithinLimits}
 use Rattle.oxc_sourcemap_join.specs.Joining.{IsJoin, all_shifted, IsAddition}
 use Rattle.oxc_sourcemap_join.specs.declared.concat_sourcemap_builder.Shift.{Shift}
 use Rattle.oxc_sourcemap_join.specs.declared.concat_sourcemap_builder.Addition.{Addition}
 use Rattle.oxc_sourcemap_join.proofs.Fitted.{length-fitted, fitted-more}
 use Rattle.oxc_sourcemap_join.proofs.Joining.{fit-added, added_all-continues, length-front, all-front}
 use Rattle.oxc_sourcemap_join.proofs.Moving.{repeat-in-bounds, kept-in-bounds, length-mapped}
+use Rattle.oxc_sourcemap_join.proofs.IgnoreLists.{appended-in-bounds, front-in-bounds}
 
 -- where a join is within limits, all tokens of the map, moved, are in bounds
 pub moved-in-bounds : (r m : MapRecord) (offset : ℕ) (s : Shift) → s.names ≡ length r.names → s.sources ≡ length r.sources → s.lines ≡ offset
@@ -42,12 +43,12 @@ module _ (r m : MapRecord) (offset : ℕ) (s : Shift) (passed : ℕ) (n : s.name
       ap length added-tokens ∙ length-append r.tokens (all_shifted s (drop passed m.tokens))
       ∙ ap (λ i. length r.tokens + i) (length-mapped (shifted s.names s.sources s.lines) (drop passed m.tokens) ∙ length-drop passed m.tokens)
 
-  pub addition-is : (chunk : TokenChunk) → AreInBounds r.tokens
+  pub addition-is : (chunk : TokenChunk) → AreInBounds r.tokens → AreEntriesInBounds r.ignore_list → AreEntriesInBounds (raised_ignore_list s.sources m.ignore_list)
       → length r.names + length m.names ≤ 4294967295 → length r.sources + length m.sources ≤ 4294967295
       → AreInBounds (all_shifted s m.tokens) → passed ≤ length m.tokens → length r.tokens + (length m.tokens - passed) ≤ 4294967295
       → chunk ≡ chunk_from (state_at r.tokens (length r.tokens)) (length r.tokens) (length r.tokens + (length m.tokens - passed))
       → IsAddition r m offset (record { shift = s; passed = passed; chunk = chunk })
-  addition-is chunk b nn ss ib p tt c = record {
+  addition-is chunk b e f nn ss ib p tt c = record {
     names = n;
     sources = o;
     lines = l;
@@ -60,6 +61,7 @@ module _ (r m : MapRecord) (offset : ℕ) (s : Shift) (passed : ℕ) (n : s.name
       tokens = omega (arith, added-count p);
       in_bounds = subst AreInBounds (sym added-tokens) (All-append IsInBounds r.tokens (all_shifted s (drop passed m.tokens)) b
           (subst AreInBounds (sym k) (kept-in-bounds (last r.tokens) (all_shifted s m.tokens) ib)));
+      ignore_list = appended-in-bounds r.ignore_list _ e (subst (λ i. AreEntriesInBounds (raised_ignore_list i m.ignore_list)) o f);
     };
   }
 
@@ -74,9 +76,10 @@ kept-are-in-bounds r m offset a h =
 
 module _ (r m : MapRecord) (offset : ℕ) (a : Addition) (h : IsAddition r m offset a) (chunks : List TokenChunk) (has : r.token_chunks ≡ Some chunks)
     (each : length r.sources ≡ length r.source_contents)
-    (ns ss : List Text) (cs : List (Option Text)) (ts : List TokenRecord) (ks : List TokenChunk)
+    (ns ss : List Text) (cs : List (Option Text)) (ts : List TokenRecord) (ks : List TokenChunk) (is : Option (List ℕ))
     (en : ns ≡ r.names ++ m.names) (es : ss ≡ r.sources ++ m.sources) (ec : cs ≡ r.source_contents ++ fitted (length m.sources) m.source_contents)
-    (et : ts ≡ r.tokens ++ all_shifted a.shift (drop a.passed m.tokens)) (ek : ks ≡ chunks ++ a.chunk ∷ []) where
+    (et : ts ≡ r.tokens ++ all_shifted a.shift (drop a.passed m.tokens)) (ek : ks ≡ chunks ++ a.chunk ∷ [])
+    (ei : is ≡ appended_ignore_lists r.ignore_list (raised_ignore_list a.shift.sources m.ignore_list)) where
   contents-is : cs ≡ fitted (length (r.sources ++ m.sources)) (r.source_contents ++ m.source_contents)
   contents-is = ec ∙ sym (ap (λ n. fitted n (r.source_contents ++ m.source_contents)) (length-append r.sources m.sources) ∙ fitted-more r.sources m.sources r.source_contents m.source_contents each)
 
@@ -86,19 +89,23 @@ module _ (r m : MapRecord) (offset : ℕ) (a : Addition) (h : IsAddition r m off
   chunks-is : ks ≡ unwrap_or r.token_chunks [] ++ added_chunk r m offset ∷ []
   chunks-is = ek ∙ ap (λ k. chunks ++ k ∷ []) h.chunk ∙ ap (λ o. unwrap_or o [] ++ added_chunk r m offset ∷ []) (sym has)
 
+  entries-is : is ≡ added_ignore_list r m
+  entries-is = ei ∙ ap (λ n. appended_ignore_lists r.ignore_list (raised_ignore_list n m.ignore_list)) h.sources
+
   -- what the lists of a join become is the join with one map more
-  pub added-is : record { file = None; names = ns; source_root = None; sources = ss; source_contents = cs; tokens = ts; token_chunks = Some ks; ignore_list = None; debug_id = None } ≡ added r m offset
-  added-is = rw (en, es, contents-is, tokens-is, chunks-is) refl
+  pub added-is : record { file = None; names = ns; source_root = None; sources = ss; source_contents = cs; tokens = ts; token_chunks = Some ks; ignore_list = is; debug_id = None } ≡ added r m offset
+  added-is = rw (en, es, contents-is, tokens-is, chunks-is, entries-is) refl
 
   -- and they are those of a join in the making
-  pub join-is : ChunksFit r.tokens chunks → IsJoin ns ss cs ts ks
-  join-is f = rw (en, es, contents-is, tokens-is, chunks-is) (record {
+  pub join-is : ChunksFit r.tokens chunks → IsJoin ns ss cs ts ks is
+  join-is f = rw (en, es, contents-is, tokens-is, chunks-is, entries-is) (record {
     names = h.within.names;
     sources = h.within.sources;
     contents = sym (length-fitted (length (r.sources ++ m.sources)) (r.source_contents ++ m.source_contents));
     tokens = h.within.tokens;
     in_bounds = h.within.in_bounds;
     fit = fit-added r m offset (subst (λ o. ChunksFit r.tokens (unwrap_or o [])) (sym has) f);
+    entries = h.within.ignore_list;
   })
 
 -- all items after some
@@ -119,10 +126,11 @@ front-within r ms w =
       sources = omega (arith, w.sources, length-front r.sources (added_all r ms).sources f.sources);
       tokens = omega (arith, w.tokens, length-front r.tokens (added_all r ms).tokens f.tokens);
       in_bounds = All-from_recursion IsInBounds r.tokens (all-front IsInBounds r.tokens (added_all r ms).tokens f.tokens (recursion_from_All IsInBounds (added_all r ms).tokens w.in_bounds));
+      ignore_list = front-in-bounds r ms w.ignore_list;
     }
 
 pub nothing-within : IsWithinLimits nothing_joined
-nothing-within = record { names = omega arith; sources = omega arith; tokens = omega arith; in_bounds = All-from_recursion IsInBounds [] tt }
+nothing-within = record { names = omega arith; sources = omega arith; tokens = omega arith; in_bounds = All-from_recursion IsInBounds [] tt; ignore_list = tt }
 
 -- a refusal of an add, as the refusal of all adds
 pub refusal-of-all : (r m : MapRecord) (offset : ℕ) (ms rest : List (MapRecord × ℕ)) (all : MapRecord) → added_all r ms ≡ all → ms ≡ (m, offset) ∷ rest → (e : Error)

@@ -2,5 +2,6 @@ pub mod Fitted
 pub mod SameToken
 pub mod Joining
 pub mod Moving
+pub mod IgnoreLists
 pub mod Adding
 mod Worked

@@ -77,3 +77,23 @@ joins-contents_padded = refl
 
 joins-contents_cut : (joined ((record (plain [] (codes "a.js" ∷ []) []) { source_contents = Some (codes "A") ∷ Some (codes "EXTRA") ∷ [] }, 0) ∷ (record (plain [] (codes "b.js" ∷ []) []) { source_contents = Some (codes "B") ∷ [] }, 1) ∷ [])).source_contents ≡ Some (codes "A") ∷ Some (codes "B") ∷ []
 joins-contents_cut = refl
+
+-- a map of these sources, with this ignore list
+abbrev ignoring : List (List ℕ) → Option (List ℕ) → MapRecord
+ignoring sources list = record (plain [] sources []) { ignore_list = list }
+
+joins-ignore_lists_raised : (joined ((ignoring (codes "a.js" ∷ []) (Some (0 ∷ [])), 0) ∷ (ignoring (codes "b.js" ∷ codes "c.js" ∷ []) (Some (1 ∷ [])), 1) ∷ [])).ignore_list ≡ Some (0 ∷ 2 ∷ [])
+joins-ignore_lists_raised = refl
+
+joins-without_an_ignore_list : (joined ((ignoring (codes "a.js" ∷ []) None, 0) ∷ (ignoring (codes "b.js" ∷ []) None, 1) ∷ [])).ignore_list ≡ None
+joins-without_an_ignore_list = refl
+
+joins-an_empty_ignore_list : (joined ((ignoring (codes "a.js" ∷ []) (Some []), 0) ∷ (ignoring (codes "b.js" ∷ []) None, 1) ∷ [])).ignore_list ≡ Some []
+joins-an_empty_ignore_list = refl
+
+joins-entries_that_repeat : (joined ((ignoring (codes "a.js" ∷ []) None, 0) ∷ (ignoring (codes "b.js" ∷ []) (Some (0 ∷ 0 ∷ [])), 1) ∷ [])).ignore_list ≡ Some (1 ∷ 1 ∷ [])
+joins-entries_that_repeat = refl
+
+-- an entry past the last id; such a join is not within limits
+joins-an_entry_past_the_limit : (joined ((ignoring (codes "a.js" ∷ []) None, 0) ∷ (ignoring [] (Some (4294967294 ∷ [])), 1) ∷ [])).ignore_list ≡ Some (4294967295 ∷ [])
+joins-an_entry_past_the_limit = refl

@@ -1,7 +1,8 @@
 -- Joins: several maps as one, each some lines further down, its ids raised to where its names and sources are listed.
-use Rattle.std.specs.Prelude.{ℕ, zero, suc, ◌+◌, Bool, true, false, ◌&&◌, ◌≤◌, List, [], ◌∷◌, ◌++◌, map, length, Option, Some, None, if◌then◌else◌, ◌==◌}
+use Rattle.std.specs.Prelude.{ℕ, zero, suc, ◌+◌, Bool, true, false, ◌&&◌, ◌≤◌, ◌<◌, List, [], ◌∷◌, ◌++◌, map, length, Option, Some, None, if◌then◌else◌, ◌==◌}
 use Rattle.std.specs.Borrow.{Bor}
-use Rattle.std.specs.Option.{option_map, unwrap_or}
+use Rattle.std.specs.List.{All}
+use Rattle.std.specs.Option.{IfSome, option_map, unwrap_or}
 use Rattle.oxc_sourcemap_mappings.specs.declared.token.TokenChunk.{TokenChunk}
 use Rattle.oxc_sourcemap_mappings.specs.Token.{TokenRecord, AreInBounds}
 use Rattle.oxc_sourcemap_mappings.specs.State.{state_at}
@@ -63,8 +64,22 @@ added_tokens r m offset = seamed is_same_token r.tokens (map (shifted (length r.
 abbrev pub added_chunk : MapRecord → MapRecord → ℕ → TokenChunk
 added_chunk r m offset = chunk_from (state_at r.tokens (length r.tokens)) (length r.tokens) (length (added_tokens r m offset))
 
+-- an ignore list with each entry raised by a number; none stays none
+abbrev pub raised_ignore_list : ℕ → Option (List ℕ) → Option (List ℕ)
+raised_ignore_list number list = option_map (λ ids. map (λ id. id + number) ids) list
+
+-- Two ignore lists, one after the other, as one. None where neither is there; an empty one is there.
+abbrev pub appended_ignore_lists : Option (List ℕ) → Option (List ℕ) → Option (List ℕ)
+appended_ignore_lists list None = list
+appended_ignore_lists None (Some ids) = Some ids
+appended_ignore_lists (Some front) (Some ids) = Some (front ++ ids)
+
+-- the ignore list of a join, and after it that of a map, whose entries name the same sources as before
+abbrev pub added_ignore_list : MapRecord → MapRecord → Option (List ℕ)
+added_ignore_list r m = appended_ignore_lists r.ignore_list (raised_ignore_list (length r.sources) m.ignore_list)
+
 -- A join, and a map after it. The join has one content for each source and a chunk for each map. It has none of these: file,
--- source root, debug id, ignore list.
+-- source root, debug id.
 abbrev pub added : MapRecord → MapRecord → ℕ → MapRecord
 added r m offset = record {
   file = None;
@@ -74,7 +89,7 @@ added r m offset = record {
   source_contents = fitted (length (r.sources ++ m.sources)) (r.source_contents ++ m.source_contents);
   tokens = added_tokens r m offset;
   token_chunks = Some (unwrap_or r.token_chunks [] ++ added_chunk r m offset ∷ []);
-  ignore_list = None;
+  ignore_list = added_ignore_list r m;
   debug_id = None;
 }
 
@@ -105,9 +120,14 @@ joined maps = added_all nothing_joined maps
 abbrev pub lent_maps : List (Bor MapRecord × ℕ) → List (MapRecord × ℕ)
 lent_maps maps = map (λ m. (m.0.now, m.1)) maps
 
--- A map within limits: at most 4294967295 names, sources and tokens, and all tokens in bounds.
+-- each entry of an ignore list that may be there is 0 to 4294967294
+abbrev pub AreEntriesInBounds : Option (List ℕ) → Type 0
+AreEntriesInBounds list = IfSome list (All (λ id. id < 4294967295))
+
+-- A map within limits: at most 4294967295 names, sources and tokens, and all tokens and entries of the ignore list in bounds.
 pub record IsWithinLimits (r : MapRecord) : Type 0 where
   pub names : length r.names ≤ 4294967295
   pub sources : length r.sources ≤ 4294967295
   pub tokens : length r.tokens ≤ 4294967295
   pub in_bounds : AreInBounds r.tokens
+  pub ignore_list : AreEntriesInBounds r.ignore_list

@@ -5,19 +5,20 @@ use Rattle.oxc_sourcemap_mappings.specs.declared.token.TokenChunk.{TokenChunk}
 use Rattle.oxc_sourcemap_mappings.specs.Chunks.{ChunksFit}
 use Rattle.oxc_sourcemap_parts.specs.Record.{Text, MapRecord}
 use Rattle.oxc_sourcemap_lookup.specs.Lookup.{last}
-use Rattle.oxc_sourcemap_join.specs.Joined.{shifted, is_same_token, without_repeat, added_chunk, added, IsWithinLimits}
+use Rattle.oxc_sourcemap_join.specs.Joined.{shifted, is_same_token, without_repeat, added_chunk, added, AreEntriesInBounds, IsWithinLimits}
 use Rattle.oxc_sourcemap_join.specs.declared.concat_sourcemap_builder.Shift.{Shift}
 use Rattle.oxc_sourcemap_join.specs.declared.concat_sourcemap_builder.Addition.{Addition}
 
--- What a join in the making consists of: counts within limits, tokens in bounds, a content for each source, and chunks that
--- fit.
-pub record IsJoin (ns ss : List Text) (cs : List (Option Text)) (ts : List TokenRecord) (chunks : List TokenChunk) : Type 0 where
+-- What a join in the making consists of: counts within limits, tokens and entries of the ignore list in bounds, a content
+-- for each source, and chunks that fit.
+pub record IsJoin (ns ss : List Text) (cs : List (Option Text)) (ts : List TokenRecord) (chunks : List TokenChunk) (ignore_list : Option (List ℕ)) : Type 0 where
   pub names : length ns ≤ 4294967295
   pub sources : length ss ≤ 4294967295
   pub contents : length ss ≡ length cs
   pub tokens : length ts ≤ 4294967295
   pub in_bounds : AreInBounds ts
   pub fit : ChunksFit ts chunks
+  pub entries : AreEntriesInBounds ignore_list
 
 -- tokens, moved
 abbrev pub all_shifted : Shift → List TokenRecord → List TokenRecord

@@ -1,14 +1,15 @@
 //! Joining maps into one.
-ghost use Rattle.std.specs.Prelude.{◌≡◌, ◌↔◌, ◌≤◌, ◌<◌, ◌+◌, ◌++◌, ◌⊎◌, ℕ, [], option_map, length, replicate, drop, Some, None, IsTrue, IfSome, IfOk, IfErr, IsErrOf, OnOk, OnErr, vec_len};
+ghost use Rattle.std.specs.Prelude.{◌≡◌, ◌↔◌, ◌≤◌, ◌<◌, ◌+◌, ◌++◌, ◌⊎◌, ℕ, [], map, option_map, length, replicate, drop, Some, None, IsTrue, IfSome, IfOk, IfErr, IsErrOf, OnOk, OnErr, vec_len};
+ghost use Rattle.std.specs.List.{All};
 ghost use Rattle.std.specs.Vec.{vec_capacity};
 ghost use Rattle.std.specs.Cow.{cow_str_bytes};
 ghost use Rattle.std.specs.Option.{unwrap_or};
 ghost use Rattle.oxc_sourcemap_mappings.specs.declared.error.Error.TheVariants.{OutOfMemory, TooLarge};
 ghost use Rattle.oxc_sourcemap_mappings.specs.Token.{IsInBounds, AreInBounds};
 ghost use Rattle.oxc_sourcemap_mappings.specs.Chunks.{ChunksFit};
-ghost use Rattle.oxc_sourcemap_parts.specs.Views.{texts_of, contents_of};
+ghost use Rattle.oxc_sourcemap_parts.specs.Views.{texts_of, contents_of, ids_of};
 ghost use Rattle.oxc_sourcemap_lookup.specs.Lookup.{last};
-ghost use Rattle.oxc_sourcemap_join.specs.Joined.{fitted, raised_id, shifted, is_same_token, without_repeat, added, nothing_joined, joined, lent_maps, IsWithinLimits};
+ghost use Rattle.oxc_sourcemap_join.specs.Joined.{fitted, raised_id, shifted, is_same_token, without_repeat, raised_ignore_list, appended_ignore_lists, added, nothing_joined, joined, lent_maps, AreEntriesInBounds, IsWithinLimits};
 ghost use Rattle.oxc_sourcemap_join.specs.Joining.{all_shifted, IsAddition};
 
 use oxc_sourcemap_map::{OwnedSourceMap, SourceMap};
@@ -50,6 +51,18 @@ fn raised(id: Option<u32>, number: u32) -> Option<u32>
     }
 }
 
+/// Whether all of these entries of an ignore list, raised by a number, are at most 4294967294.
+fn are_raisable(ids: &[u32], number: u32) -> bool
+    ensures { IsTrue result ↔ All (λ id. id < 4294967295) (map (λ id. id + number) ids.now) }
+{
+    for id in ids {
+        if !is_id_raisable(Some(*id), number) {
+            return false;
+        }
+    }
+    true
+}
+
 impl Shift {
     /// Whether the moved token is in bounds.
     fn fits(&self, token: &Token) -> bool
@@ -70,6 +83,16 @@ impl Shift {
             }
         }
         true
+    }
+
+    /// Whether all entries of an ignore list, raised by the number of sources before, are at most 4294967294.
+    fn fits_ignore_list(&self, list: Option<&[u32]>) -> bool
+        ensures { IsTrue result ↔ AreEntriesInBounds (raised_ignore_list self.now.sources (option_map (λ ids. ids.now) list.entry)) }
+    {
+        match list {
+            Some(ids) => are_raisable(ids, self.sources),
+            None => true,
+        }
     }
 
     /// The moved token.
@@ -99,6 +122,35 @@ impl Shift {
             }
         }
         0
+    }
+
+    /// Adds the ignore list of a map, if it has one, with its entries raised by the number of sources before. Fails only for
+    /// memory; the list is then as it was.
+    fn add_ignore_list(
+        &self,
+        alloc: Global,
+        list: &mut Option<Vec<u32>>,
+        added: Option<&[u32]>,
+    ) -> std::result::Result<(), AllocError>
+        requires { AreEntriesInBounds (raised_ignore_list self.now.sources (option_map (λ ids. ids.now) added)) }
+        ensures added { OnOk result (ids_of list.new ≡ appended_ignore_lists (ids_of list.old) (raised_ignore_list self.now.sources (option_map (λ ids. ids.now) added.entry))) }
+        ensures unchanged { OnErr result (ids_of list.new ≡ ids_of list.old) }
+    {
+        let Some(added) = added else {
+            return Ok(());
+        };
+        match list {
+            Some(ids) => {
+                ids.reserve(added.len())?;
+                push_raised(ids, added, self.sources);
+            }
+            None => {
+                let mut ids = Vec::with_capacity(alloc, added.len())?;
+                push_raised(&mut ids, added, self.sources);
+                *list = Some(ids);
+            }
+        }
+        Ok(())
     }
 }
 
@@ -199,6 +251,18 @@ fn push_moved(tokens: &mut Vec<Token>, shift: &Shift, added: &[Token])
     }
 }
 
+/// Adds entries of an ignore list, raised by a number.
+fn push_raised(list: &mut Vec<u32>, added: &[u32], number: u32)
+    requires room { vec_len list.old + length added.now ≤ vec_capacity list.old }
+    requires in_bounds { All (λ id. id < 4294967295) (map (λ id. id + number) added.now) }
+    ensures { list.new.items ≡ list.old.items ++ map (λ id. id + number) added.now }
+{
+    for id in added {
+        let pushed: std::result::Result<_, _> = list.push(*id + number);
+        pushed.unwrap();
+    }
+}
+
 /// Joins maps into one, each at a line of the joined code. The strings of borrowed maps are borrowed for `'a`, those of
 /// owned maps are moved: no string is copied.
 ///
@@ -212,12 +276,13 @@ pub struct ConcatSourceMapBuilder<'a> {
     source_contents: Vec<Option<CowStr<'a>>>,
     tokens: Vec<Token>,
     token_chunks: Vec<TokenChunk>,
+    ignore_list: Option<Vec<u32>>,
 }
 
 impl<'a> Model for ConcatSourceMapBuilder<'a> {
     ghost use Rattle.std.specs.Prelude.{Some, None};
     ghost use Rattle.oxc_sourcemap_parts.specs.Record.{MapRecord};
-    ghost use Rattle.oxc_sourcemap_parts.specs.Views.{texts_of, contents_of};
+    ghost use Rattle.oxc_sourcemap_parts.specs.Views.{texts_of, contents_of, ids_of};
     ghost use Rattle.oxc_sourcemap_join.specs.Joining.{IsJoin};
 
     ghost Value = { MapRecord };
@@ -230,11 +295,11 @@ impl<'a> Model for ConcatSourceMapBuilder<'a> {
       source_contents = contents_of b.source_contents;
       tokens = b.tokens.items;
       token_chunks = Some b.token_chunks.items;
-      ignore_list = None;
+      ignore_list = ids_of b.ignore_list;
       debug_id = None;
     } };
 
-    ghost invariant = { λ b. IsJoin (texts_of b.names) (texts_of b.sources) (contents_of b.source_contents) b.tokens.items b.token_chunks.items };
+    ghost invariant = { λ b. IsJoin (texts_of b.names) (texts_of b.sources) (contents_of b.source_contents) b.tokens.items b.token_chunks.items (ids_of b.ignore_list) };
 }
 
 impl<'a> ConcatSourceMapBuilder<'a> {
@@ -249,6 +314,7 @@ impl<'a> ConcatSourceMapBuilder<'a> {
             source_contents: Vec::new(alloc),
             tokens: Vec::new(alloc),
             token_chunks: Vec::new(alloc),
+            ignore_list: None,
         }
     }
 
@@ -271,6 +337,7 @@ impl<'a> ConcatSourceMapBuilder<'a> {
             source_contents: Vec::with_capacity(alloc, sources_len)?,
             tokens: Vec::with_capacity(alloc, tokens_len)?,
             token_chunks: Vec::with_capacity(alloc, token_chunks_len)?,
+            ignore_list: None,
         })
     }
 
@@ -298,6 +365,9 @@ impl<'a> ConcatSourceMapBuilder<'a> {
         {
             return None;
         }
+        if !shift.fits_ignore_list(sourcemap.get_ignore_list()) {
+            return None;
+        }
         let passed = shift.passed_over(self.last_token(), tokens);
         let kept = tokens.len() - passed;
         if kept > MAX_COUNT - self.tokens.len() {
@@ -320,10 +390,12 @@ impl<'a> ConcatSourceMapBuilder<'a> {
     /// content stands for each source: missing ones are unknown, and further ones are left out. Its tokens are moved by the
     /// offset, their ids by the numbers of names and sources so far; the first is left out if it is then the same, in all
     /// six fields, as the last token so far. One chunk is recorded, perhaps of no token, whose header is the state before
-    /// of it (docs/FORMAT.md, "Joins").
+    /// of it (docs/FORMAT.md, "Joins"). If it has an ignore list, its entries are added to the ignore list of the join, raised
+    /// by the number of sources so far; an empty list counts as a list.
     ///
-    /// Fails with `TooLarge` if there would be more than 4294967295 names, sources or tokens, a line above 4294967295 or an
-    /// id above 4294967294, then with `OutOfMemory` if memory is refused; the builder is then as it was.
+    /// Fails with `TooLarge` if there would be more than 4294967295 names, sources or tokens, a line above 4294967295, or an
+    /// id or an entry of the ignore list above 4294967294, then with `OutOfMemory` if memory is refused; the builder is then
+    /// as it was.
     pub fn add_sourcemap(&mut self, sourcemap: &'a SourceMap<'_>, line_offset: u32) -> Result<()>
         ensures joined { OnOk result (self.new ≡ added self.old sourcemap.now line_offset) }
         ensures limits { OnOk result (IsWithinLimits (added self.old sourcemap.now line_offset)) }
@@ -341,6 +413,9 @@ impl<'a> ConcatSourceMapBuilder<'a> {
         self.source_contents.reserve(source_count)?;
         self.tokens.reserve(kept.len())?;
         self.token_chunks.reserve(1)?;
+        let shift = addition.shift;
+        let ignored = sourcemap.get_ignore_list();
+        shift.add_ignore_list(self.alloc, &mut self.ignore_list, ignored)?;
         push_names(&mut self.names, sourcemap.get_names());
         push_sources(&mut self.sources, sourcemap.get_sources());
         push_lent_fitted(
@@ -371,6 +446,7 @@ impl<'a> ConcatSourceMapBuilder<'a> {
             mut sources,
             source_contents,
             tokens,
+            ignore_list,
             ..
         } = sourcemap.into_parts();
         let kept = &tokens.as_slice()[addition.passed..];
@@ -380,6 +456,9 @@ impl<'a> ConcatSourceMapBuilder<'a> {
         self.source_contents.reserve(count)?;
         self.tokens.reserve(kept.len())?;
         self.token_chunks.reserve(1)?;
+        let shift = addition.shift;
+        let list = ignore_list.as_deref();
+        shift.add_ignore_list(self.alloc, &mut self.ignore_list, list)?;
         self.names.append(&mut names).unwrap();
         self.sources.append(&mut sources).unwrap();
         push_fitted(&mut self.source_contents, source_contents, count);
@@ -428,23 +507,25 @@ impl<'a> ConcatSourceMapBuilder<'a> {
         Ok(builder)
     }
 
-    /// The joined map: with chunks, which fit, and without file, source root, ignore list and debug id. Borrowed strings
-    /// stay borrowed. Fails only with `OutOfMemory`; the builder is then dropped.
+    /// The joined map: with chunks, which fit, with an ignore list if one of its maps has one, and without file, source root
+    /// and debug id. Borrowed strings stay borrowed. Fails only with `OutOfMemory`; the builder is then dropped.
     pub fn into_sourcemap(self) -> Result<SourceMap<'a>>
         ensures map { IfOk result (λ map. map ≡ self.entry) }
         ensures fits { IfOk result (λ map. IfSome map.token_chunks (ChunksFit map.tokens)) }
         ensures limits { IfOk result IsWithinLimits }
         ensures refused { IfErr result (λ e. e ≡ OutOfMemory) }
     {
-        Ok(SourceMap::new(
-            None,
-            self.names,
-            None,
-            self.sources,
-            self.source_contents,
-            self.tokens.into_boxed_slice(),
-            Some(self.token_chunks),
-        ))
+        Ok(SourceMap::from_parts(SourceMapParts {
+            file: None,
+            names: self.names,
+            source_root: None,
+            sources: self.sources,
+            source_contents: self.source_contents,
+            tokens: self.tokens.into_boxed_slice(),
+            token_chunks: Some(self.token_chunks),
+            ignore_list: self.ignore_list,
+            debug_id: None,
+        }))
     }
 
     /// The joined map as `into_sourcemap` gives it, with copies of borrowed strings; strings that were moved in are moved

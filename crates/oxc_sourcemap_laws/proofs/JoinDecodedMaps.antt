@@ -7,11 +7,11 @@ use Rattle.oxc_sourcemap_mappings.specs.Token.{TokenRecord}
 use Rattle.oxc_sourcemap_parts.specs.Record.{Text, MapRecord}
 use Rattle.oxc_sourcemap_parts.specs.Sound.{IsInRange}
 use Rattle.oxc_sourcemap_parts.specs.DecodedMap.{DecodedSource, sources_of, name_of, mapping_of, decoded_map_of}
-use Rattle.oxc_sourcemap_join.specs.Joined.{fitted, is_same_token, seamed, joined}
+use Rattle.oxc_sourcemap_join.specs.Joined.{fitted, is_same_token, seamed, raised_ignore_list, appended_ignore_lists, joined}
 use Rattle.oxc_sourcemap_join.proofs.SameToken.{decides_token}
 use Rattle.oxc_sourcemap_join.proofs.Fitted.{length-fitted}
 use Rattle.oxc_sourcemap_laws.specs.Repeats.{without_repeats, is_same_mapping, EqualUpToRepeats}
-use Rattle.oxc_sourcemap_laws.specs.JoinedDecodedMaps.{lowered, joined_decoded_maps}
+use Rattle.oxc_sourcemap_laws.specs.JoinedDecodedMaps.{lowered, joined_ignore_lists, joined_decoded_maps}
 use Rattle.oxc_sourcemap_laws.specs.JoinLaws.{AreAllInRange, decoded_maps_of}
 use Rattle.oxc_sourcemap_laws.proofs.DroppingRepeats.{blind_map, without_repeats_append}
 use Rattle.oxc_sourcemap_laws.proofs.Seams.{unseamed}
@@ -108,13 +108,19 @@ all_entries (m ∷ ms) h =
     together_entries m.0 m.1 (all_together ms) h.0
     ∙ without_repeats_append is_same_mapping decides_entry (map (lowered m.1) (decoded_map_of m.0).mappings) (map (lowered m.1) (decoded_map_of m.0).mappings) _ _ refl (all_entries ms h.1)
 
-pub metadata : (ms : List (MapRecord × ℕ)) → ((all_together ms).file ≡ None) × ((all_together ms).source_root ≡ None) × ((all_together ms).debug_id ≡ None) × ((all_together ms).ignore_list ≡ None)
-metadata [] = (refl, refl, refl, refl)
-metadata (m ∷ ms) = (refl, refl, refl, refl)
+pub metadata : (ms : List (MapRecord × ℕ)) → ((all_together ms).file ≡ None) × ((all_together ms).source_root ≡ None) × ((all_together ms).debug_id ≡ None)
+metadata [] = (refl, refl, refl)
+metadata (m ∷ ms) = (refl, refl, refl)
+
+all_ignore_lists : (ms : List (MapRecord × ℕ)) → (all_together ms).ignore_list ≡ joined_ignore_lists (decoded_maps_of ms)
+all_ignore_lists [] = refl
+all_ignore_lists (m ∷ ms) =
+    ap (λ l. appended_ignore_lists m.0.ignore_list (raised_ignore_list (length m.0.sources) l)) (all_ignore_lists ms)
+    ∙ ap (λ n. appended_ignore_lists m.0.ignore_list (raised_ignore_list n (joined_ignore_lists (decoded_maps_of ms)))) (sym (length-sources_of m.0.sources m.0.source_contents))
 
 -- the decoded map of a join is equal up to repeats to the join of the decoded maps, where ids are in range
 pub decoded_map_joined : (ms : List (MapRecord × ℕ)) → AreAllInRange ms → EqualUpToRepeats (decoded_map_of (joined ms)) (joined_decoded_maps (decoded_maps_of ms))
 decoded_map_joined ms h =
     let d = metadata ms in
     subst (λ r. EqualUpToRepeats (decoded_map_of r) (joined_decoded_maps (decoded_maps_of ms))) (sym (joined-is ms))
-    (up_to_repeats _ _ (record { rest = record { file = d.0; source_root = d.1; debug_id = d.2; ignore_list = d.3; sources = all_sources ms }; mappings = all_entries ms h }))
+    (up_to_repeats _ _ (record { rest = record { file = d.0; source_root = d.1; debug_id = d.2; ignore_list = all_ignore_lists ms; sources = all_sources ms }; mappings = all_entries ms h }))

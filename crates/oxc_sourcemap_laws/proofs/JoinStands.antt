@@ -5,19 +5,19 @@ use Rattle.std.specs.Option.{option_map, IfSome}
 use Rattle.std.proofs.lemmas.List.{length-append, length-map}
 use Rattle.oxc_sourcemap_parts.specs.Record.{MapRecord}
 use Rattle.oxc_sourcemap_parts.specs.Sorted.{are_tokens_sorted}
-use Rattle.oxc_sourcemap_parts.specs.Sound.{IsInRange, AreIdsInRange}
+use Rattle.oxc_sourcemap_parts.specs.Sound.{IsInRange}
 use Rattle.oxc_sourcemap_parts.specs.DecodedMap.{DecodedMap, sources_of, decoded_map_of}
-use Rattle.oxc_sourcemap_join.specs.Joined.{is_same_token, joined}
+use Rattle.oxc_sourcemap_join.specs.Joined.{is_same_token, raised_ignore_list, appended_ignore_lists, joined}
 use Rattle.oxc_sourcemap_join.proofs.SameToken.{decides_token}
 use Rattle.oxc_sourcemap_json.proofs.Rewriting.{sorted-tokens}
 use Rattle.oxc_sourcemap_join.proofs.Joining.{chunks_joined}
 use Rattle.oxc_sourcemap_laws.specs.Repeats.{EqualUpToRepeats, is_sorted_decoded_map}
 use Rattle.oxc_sourcemap_laws.specs.JoinedDecodedMaps.{joined_decoded_maps}
-use Rattle.oxc_sourcemap_laws.specs.JoinLaws.{AreEqualUpToRepeats, AreAllInRange, decoded_maps_of, StandsFor, AllStandFor}
+use Rattle.oxc_sourcemap_laws.specs.JoinLaws.{AreEqualUpToRepeats, AreAllInRange, AreIgnoreListsInRange, decoded_maps_of, StandsFor, AllStandFor}
 use Rattle.oxc_sourcemap_laws.proofs.Seams.{seamed_all, length-seamed}
 use Rattle.oxc_sourcemap_laws.proofs.UpToRepeats.{joined_up_to_repeats, sorted_decoded_map_up_to_repeats}
 use Rattle.oxc_sourcemap_laws.proofs.Joins.{raised, after, together, alone, all_together, joined-is}
-use Rattle.oxc_sourcemap_laws.proofs.JoinDecodedMaps.{metadata, decoded_map_joined}
+use Rattle.oxc_sourcemap_laws.proofs.JoinDecodedMaps.{decoded_map_joined}
 
 -- ---- soundness
 pub all_weaker : {A : Type 0} (P Q : A → Type 0) → ((x : A) → P x → Q x) → (xs : List A) → AllByRecursion P xs → AllByRecursion Q xs
@@ -49,11 +49,28 @@ range_all : (ms : List (MapRecord × ℕ)) → AreAllInRange ms → AllByRecursi
 range_all [] h = tt
 range_all (m ∷ ms) h = range_together (alone m.0 m.1) (all_together ms) (all_map _ _ (raised m.1) (λ x i. record { source_id = i.source_id; name_id = i.name_id }) m.0.tokens h.0) (range_all ms h.1)
 
-pub range_joined : (ms : List (MapRecord × ℕ)) → AreAllInRange ms → AreIdsInRange (joined ms)
-range_joined ms h =
-    let k : AreIdsInRange (all_together ms) = record { tokens = range_all ms h; ignore_list = subst (λ o. IfSome o (AllByRecursion (λ i. i < length (all_together ms).sources))) (sym (metadata ms).3) tt } in
-    let l = subst AreIdsInRange (sym (joined-is ms)) k in
-    record { tokens = l.tokens; ignore_list = l.ignore_list }
+pub range_joined : (ms : List (MapRecord × ℕ)) → AreAllInRange ms → AllByRecursion (IsInRange (length (joined ms).names) (length (joined ms).sources)) (joined ms).tokens
+range_joined ms h = subst (λ (r : MapRecord). AllByRecursion (IsInRange (length r.names) (length r.sources)) r.tokens) (sym (joined-is ms)) (range_all ms h)
+
+-- the entries of two lists, of maps with so many sources
+all_append : {A : Type 0} (P : A → Type 0) (xs ys : List A) → AllByRecursion P xs → AllByRecursion P ys → AllByRecursion P (xs ++ ys)
+all_append P [] ys h k = k
+all_append P (x ∷ xs) ys h k = (h.0, all_append P xs ys h.1 k)
+
+entries_together : (a b : Option (List ℕ)) (m n k : ℕ) → m + n ≡ k → IfSome a (AllByRecursion (λ i. i < m)) → IfSome b (AllByRecursion (λ i. i < n))
+    → IfSome (appended_ignore_lists a (raised_ignore_list m b)) (AllByRecursion (λ i. i < k))
+entries_together None None m n k e h q = tt
+entries_together (Some xs) None m n k e h q = all_weaker _ _ (λ i l. omega arith) xs h
+entries_together None (Some ys) m n k e h q = all_map _ _ (λ i. i + m) (λ i l. omega arith) ys q
+entries_together (Some xs) (Some ys) m n k e h q = all_append _ xs (map (λ i. i + m) ys) (all_weaker _ _ (λ i l. omega arith) xs h) (all_map _ _ (λ i. i + m) (λ i l. omega arith) ys q)
+
+entries_all : (ms : List (MapRecord × ℕ)) → AreIgnoreListsInRange ms → IfSome (all_together ms).ignore_list (AllByRecursion (λ i. i < length (all_together ms).sources))
+entries_all [] h = tt
+entries_all (m ∷ ms) h =
+    entries_together m.0.ignore_list (all_together ms).ignore_list (length m.0.sources) (length (all_together ms).sources) _ (sym (length-append m.0.sources (all_together ms).sources)) h.0 (entries_all ms h.1)
+
+pub entries_joined : (ms : List (MapRecord × ℕ)) → AreIgnoreListsInRange ms → IfSome (joined ms).ignore_list (AllByRecursion (λ i. i < length (joined ms).sources))
+entries_joined ms h = subst (λ (r : MapRecord). IfSome r.ignore_list (AllByRecursion (λ i. i < length r.sources))) (sym (joined-is ms)) (entries_all ms h)
 
 -- ---- how much a join has
 count-together : (ms : List (MapRecord × ℕ)) → length (all_together ms).tokens ≤ length (flat_map (λ m. m.0.tokens) ms)
@@ -86,6 +103,11 @@ placed [] ss h = tt
 placed (m ∷ ms) [] h = absurd h
 placed (m ∷ ms) (s ∷ ss) h = (h.0.0.sound.in_range.tokens, placed ms ss h.1)
 
+entries_placed : (ms : List (MapRecord × ℕ)) (ss : List (DecodedMap × ℕ)) → AllStandFor ms ss → AreIgnoreListsInRange ms
+entries_placed [] ss h = tt
+entries_placed (m ∷ ms) [] h = absurd h
+entries_placed (m ∷ ms) (s ∷ ss) h = (h.0.0.sound.in_range.ignore_list, entries_placed ms ss h.1)
+
 decoded_maps_up_to_repeats : (ms : List (MapRecord × ℕ)) (ss : List (DecodedMap × ℕ)) → AllStandFor ms ss → AreEqualUpToRepeats (decoded_maps_of ms) ss
 decoded_maps_up_to_repeats [] [] h = h
 decoded_maps_up_to_repeats [] (s ∷ ss) h = h
@@ -99,4 +121,4 @@ pub join_sorted : (ms : List (MapRecord × ℕ)) (ss : List (DecodedMap × ℕ))
 join_sorted ms ss h = sym (sorted-mappings (joined ms)) ∙ sorted_decoded_map_up_to_repeats (decoded_map_of (joined ms)) (joined_decoded_maps ss) (join_up_to_repeats ms ss h)
 
 pub join_stands : (ms : List (MapRecord × ℕ)) (ss : List (DecodedMap × ℕ)) → AllStandFor ms ss → is_sorted_decoded_map (joined_decoded_maps ss) ≡ true → StandsFor (joined ms) (joined_decoded_maps ss)
-join_stands ms ss h e = record { sound = record { sorted = join_sorted ms ss h ∙ e; in_range = range_joined ms (placed ms ss h); chunks = chunks_joined ms }; up_to_repeats = join_up_to_repeats ms ss h }
+join_stands ms ss h e = record { sound = record { sorted = join_sorted ms ss h ∙ e; in_range = record { tokens = range_joined ms (placed ms ss h); ignore_list = entries_joined ms (entries_placed ms ss h) }; chunks = chunks_joined ms }; up_to_repeats = join_up_to_repeats ms ss h }

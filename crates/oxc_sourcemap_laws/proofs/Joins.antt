@@ -3,11 +3,11 @@ use Rattle.std.proofs.Common.{◌≡◌, ℕ, ◌+◌, ◌==◌, List, [], ◌�
 use Rattle.std.specs.List.{flat_map}
 use Rattle.std.specs.Option.{option_map}
 use Rattle.std.proofs.lemmas.Bool.Decides.{nat_tests}
-use Rattle.std.proofs.lemmas.List.{append-nil, length-append}
+use Rattle.std.proofs.lemmas.List.{append-nil, length-append, map-append}
 use Rattle.oxc_sourcemap_mappings.specs.declared.token.TokenChunk.{TokenChunk}
 use Rattle.oxc_sourcemap_mappings.specs.Token.{TokenRecord}
 use Rattle.oxc_sourcemap_parts.specs.Record.{Text, MapRecord}
-use Rattle.oxc_sourcemap_join.specs.Joined.{fitted, shifted, is_same_id, is_same_token, seamed, added_tokens, added, nothing_joined, added_all, joined}
+use Rattle.oxc_sourcemap_join.specs.Joined.{fitted, shifted, is_same_id, is_same_token, seamed, raised_ignore_list, appended_ignore_lists, added_tokens, added_ignore_list, added, nothing_joined, added_all, joined}
 use Rattle.oxc_sourcemap_join.proofs.SameToken.{decides_token}
 use Rattle.oxc_sourcemap_join.proofs.Fitted.{length-fitted, fitted-exact, fitted-more}
 use Rattle.oxc_sourcemap_laws.specs.JoinLaws.{Group, groups_joined, maps_of, without_chunks}
@@ -29,19 +29,19 @@ after names sources m = record m { source_id = option_map (λ i. i + sources) m.
 shifted-is : (names sources offset : ℕ) (m : TokenRecord) → shifted names sources offset m ≡ after names sources (raised offset m)
 shifted-is names sources offset m = refl
 
-abbrev pub parts : List Text → List Text → List (Option Text) → List TokenRecord → MapRecord
-parts names sources source_contents tokens = record { file = None; source_root = None; debug_id = None; ignore_list = None; names = names; sources = sources; source_contents = source_contents; tokens = tokens; token_chunks = None }
+abbrev pub parts : Option (List ℕ) → List Text → List Text → List (Option Text) → List TokenRecord → MapRecord
+parts ignore_list names sources source_contents tokens = record { file = None; source_root = None; debug_id = None; ignore_list = ignore_list; names = names; sources = sources; source_contents = source_contents; tokens = tokens; token_chunks = None }
 
 -- one record after another
 abbrev pub together : MapRecord → MapRecord → MapRecord
-together a b = parts (a.names ++ b.names) (a.sources ++ b.sources) (a.source_contents ++ b.source_contents) (seamed is_same_token a.tokens (map (after (length a.names) (length a.sources)) b.tokens))
+together a b = parts (added_ignore_list a b) (a.names ++ b.names) (a.sources ++ b.sources) (a.source_contents ++ b.source_contents) (seamed is_same_token a.tokens (map (after (length a.names) (length a.sources)) b.tokens))
 
 -- a map by itself, at an offset
 abbrev pub alone : MapRecord → ℕ → MapRecord
-alone m offset = parts m.names m.sources (fitted (length m.sources) m.source_contents) (map (raised offset) m.tokens)
+alone m offset = parts m.ignore_list m.names m.sources (fitted (length m.sources) m.source_contents) (map (raised offset) m.tokens)
 
 abbrev pub empty : MapRecord
-empty = parts [] [] [] []
+empty = parts None [] [] [] []
 
 abbrev pub all_together : List (MapRecord × ℕ) → MapRecord
 all_together [] = empty
@@ -94,6 +94,38 @@ map_self : {A : Type 0} (f : A → A) → ((x : A) → f x ≡ x) → (xs : List
 map_self f e [] = refl
 map_self f e (x ∷ xs) = ap (λ y. y ∷ map f xs) (e x) ∙ ap (λ ys. x ∷ ys) (map_self f e xs)
 
+-- ---- ignore lists
+appended-assoc : (a b c : Option (List ℕ)) → appended_ignore_lists (appended_ignore_lists a b) c ≡ appended_ignore_lists a (appended_ignore_lists b c)
+appended-assoc a b None = refl
+appended-assoc a None (Some zs) = refl
+appended-assoc None (Some ys) (Some zs) = refl
+appended-assoc (Some xs) (Some ys) (Some zs) = ap (λ us. Some us) (append_assoc xs ys zs)
+
+appended-nothing : (a : Option (List ℕ)) → appended_ignore_lists None a ≡ a
+appended-nothing None = refl
+appended-nothing (Some xs) = refl
+
+raised-appended : (n : ℕ) (a b : Option (List ℕ)) → raised_ignore_list n (appended_ignore_lists a b) ≡ appended_ignore_lists (raised_ignore_list n a) (raised_ignore_list n b)
+raised-appended n a None = refl
+raised-appended n None (Some ys) = refl
+raised-appended n (Some xs) (Some ys) = ap (λ us. Some us) (map-append (λ i. i + n) xs ys)
+
+list-twice : (a : Option (List ℕ)) (m n k : ℕ) → m + n ≡ k → raised_ignore_list n (raised_ignore_list m a) ≡ raised_ignore_list k a
+list-twice None m n k e = refl
+list-twice (Some xs) m n k e = ap (λ us. Some us) (map_twice (λ i. i + m) (λ i. i + n) (λ i. i + k) (λ i. omega arith) xs)
+
+list-zero : (a : Option (List ℕ)) → raised_ignore_list 0 a ≡ a
+list-zero None = refl
+list-zero (Some xs) = ap (λ us. Some us) (map_self (λ i. i + 0) (λ i. omega arith) xs)
+
+-- three lists, with so many sources in the first map, so many in the second, and so many in both
+lists-assoc : (a b c : Option (List ℕ)) (n m k : ℕ) → m + n ≡ k
+    → appended_ignore_lists (appended_ignore_lists a (raised_ignore_list n b)) (raised_ignore_list k c) ≡ appended_ignore_lists a (raised_ignore_list n (appended_ignore_lists b (raised_ignore_list m c)))
+lists-assoc a b c n m k e =
+    appended-assoc a (raised_ignore_list n b) (raised_ignore_list k c)
+    ∙ ap (λ l. appended_ignore_lists a (appended_ignore_lists (raised_ignore_list n b) l)) (sym (list-twice c m n k e))
+    ∙ ap (appended_ignore_lists a) (sym (raised-appended n b (raised_ignore_list m c)))
+
 -- ---- the monoid
 pub together_assoc : (a b c : MapRecord) → together (together a b) c ≡ together a (together b c)
 together_assoc a b c =
@@ -106,10 +138,12 @@ together_assoc a b c =
     seamed_assoc is_same_token decides_token a.tokens bs _
     ∙ ap (λ zs. seamed is_same_token a.tokens (seamed is_same_token bs zs)) (sym (map_twice _ _ _ (after-twice (length b.names) (length b.sources) n s _ _ en es) c.tokens))
     ∙ ap (seamed is_same_token a.tokens) (sym (seamed-map is_same_token is_same_token (after n s) (same-after n s) b.tokens cs)) in
-    record_by _ _ _ _ _ _ _ _ _ _ refl (append_assoc a.names b.names c.names) refl (append_assoc a.sources b.sources c.sources) (append_assoc a.source_contents b.source_contents c.source_contents) e5 refl refl refl
+    record_by _ _ _ _ _ _ _ _ _ _ refl (append_assoc a.names b.names c.names) refl (append_assoc a.sources b.sources c.sources) (append_assoc a.source_contents b.source_contents c.source_contents) e5 refl (lists-assoc a.ignore_list b.ignore_list c.ignore_list s (length b.sources) _ es) refl
 
-pub nothing_together : (a : MapRecord) → together empty a ≡ parts a.names a.sources a.source_contents a.tokens
-nothing_together a = ap (parts a.names a.sources a.source_contents) (map_self _ after-zero a.tokens)
+pub nothing_together : (a : MapRecord) → together empty a ≡ parts a.ignore_list a.names a.sources a.source_contents a.tokens
+nothing_together a =
+    ap (parts (added_ignore_list empty a) a.names a.sources a.source_contents) (map_self _ after-zero a.tokens)
+    ∙ ap (λ l. parts l a.names a.sources a.source_contents a.tokens) (appended-nothing (raised_ignore_list 0 a.ignore_list) ∙ list-zero a.ignore_list)
 
 pub all_plain : (ms : List (MapRecord × ℕ)) → together empty (all_together ms) ≡ all_together ms
 all_plain [] = refl
@@ -120,23 +154,22 @@ all_append [] ns = sym (all_plain ns)
 all_append (m ∷ ms) ns = ap (together (alone m.0 m.1)) (all_append ms ns) ∙ sym (together_assoc (alone m.0 m.1) (all_together ms) (all_together ns))
 
 -- ---- contents
--- a record without metadata, with one content for each source
+-- a record without metadata, but for an ignore list, with one content for each source
 pub record IsExact (r : MapRecord) : Type 0 where
   pub source_contents : length r.source_contents ≡ length r.sources
   pub file : r.file ≡ None
   pub source_root : r.source_root ≡ None
   pub debug_id : r.debug_id ≡ None
-  pub ignore_list : r.ignore_list ≡ None
 
 pub exact_added : (r m : MapRecord) (offset : ℕ) → IsExact (added r m offset)
-exact_added r m offset = record { source_contents = length-fitted (length (r.sources ++ m.sources)) (r.source_contents ++ m.source_contents); file = refl; source_root = refl; debug_id = refl; ignore_list = refl }
+exact_added r m offset = record { source_contents = length-fitted (length (r.sources ++ m.sources)) (r.source_contents ++ m.source_contents); file = refl; source_root = refl; debug_id = refl }
 
 pub exact_added_all : (r : MapRecord) (ms : List (MapRecord × ℕ)) → IsExact r → IsExact (added_all r ms)
 exact_added_all r [] x = x
 exact_added_all r (m ∷ ms) x = exact_added_all (added r m.0 m.1) ms (exact_added r m.0 m.1)
 
 pub exact_joined : (ms : List (MapRecord × ℕ)) → IsExact (joined ms)
-exact_joined ms = exact_added_all nothing_joined ms (record { source_contents = refl; file = refl; source_root = refl; debug_id = refl; ignore_list = refl })
+exact_joined ms = exact_added_all nothing_joined ms (record { source_contents = refl; file = refl; source_root = refl; debug_id = refl })
 
 added-is : (r m : MapRecord) (offset : ℕ) → IsExact r → without_chunks (added r m offset) ≡ together r (alone m offset)
 added-is r m offset x =
@@ -145,7 +178,7 @@ added-is r m offset x =
     record_by _ _ _ _ _ _ _ _ _ _ refl refl refl refl e4 e5 refl refl refl
 
 pub added_all-is : (r : MapRecord) (ms : List (MapRecord × ℕ)) → IsExact r → without_chunks (added_all r ms) ≡ together r (all_together ms)
-added_all-is r [] x = record_by _ _ _ _ _ _ _ _ _ _ x.file (sym (append-nil r.names)) x.source_root (sym (append-nil r.sources)) (sym (append-nil r.source_contents)) (sym (seamed_nil is_same_token decides_token r.tokens)) refl x.ignore_list x.debug_id
+added_all-is r [] x = record_by _ _ _ _ _ _ _ _ _ _ x.file (sym (append-nil r.names)) x.source_root (sym (append-nil r.sources)) (sym (append-nil r.source_contents)) (sym (seamed_nil is_same_token decides_token r.tokens)) refl refl x.debug_id
 added_all-is r (m ∷ ms) x =
     added_all-is (added r m.0 m.1) ms (exact_added r m.0 m.1)
     ∙ ap (λ q. together q (all_together ms)) (added-is r m.0 m.1 x)
@@ -153,7 +186,7 @@ added_all-is r (m ∷ ms) x =
 
 -- a join, in all but its chunks
 pub joined-is : (ms : List (MapRecord × ℕ)) → without_chunks (joined ms) ≡ all_together ms
-joined-is ms = added_all-is nothing_joined ms (record { source_contents = refl; file = refl; source_root = refl; debug_id = refl; ignore_list = refl }) ∙ all_plain ms
+joined-is ms = added_all-is nothing_joined ms (record { source_contents = refl; file = refl; source_root = refl; debug_id = refl }) ∙ all_plain ms
 
 -- ---- groups
 abbrev pub raise_all : ℕ → MapRecord → MapRecord
@@ -162,12 +195,12 @@ raise_all offset r = record r { tokens = map (raised offset) r.tokens }
 raise_together : (offset : ℕ) (a b : MapRecord) → together (raise_all offset a) (raise_all offset b) ≡ raise_all offset (together a b)
 raise_together offset a b =
     let n = length a.names in let s = length a.sources in
-    ap (parts (a.names ++ b.names) (a.sources ++ b.sources) (a.source_contents ++ b.source_contents))
+    ap (parts (added_ignore_list a b) (a.names ++ b.names) (a.sources ++ b.sources) (a.source_contents ++ b.source_contents))
     (ap (seamed is_same_token (map (raised offset) a.tokens)) (map_twice (raised offset) (after n s) (λ x. raised offset (after n s x)) (λ x. refl) b.tokens ∙ sym (map_twice (after n s) (raised offset) (λ x. raised offset (after n s x)) (λ x. refl) b.tokens))
     ∙ sym (seamed-map is_same_token is_same_token (raised offset) (same-raised offset) a.tokens (map (after n s) b.tokens)))
 
 alone_raised : (offset : ℕ) (m : MapRecord) (o : ℕ) → alone m (o + offset) ≡ raise_all offset (alone m o)
-alone_raised offset m o = ap (parts m.names m.sources (fitted (length m.sources) m.source_contents)) (sym (map_twice (raised o) (raised offset) (raised (o + offset)) (raised-twice o offset) m.tokens))
+alone_raised offset m o = ap (parts m.ignore_list m.names m.sources (fitted (length m.sources) m.source_contents)) (sym (map_twice (raised o) (raised offset) (raised (o + offset)) (raised-twice o offset) m.tokens))
 
 pub raised_group : (offset : ℕ) (ms : List (MapRecord × ℕ)) → all_together (map (λ m. (m.0, m.1 + offset)) ms) ≡ raise_all offset (all_together ms)
 raised_group offset [] = refl
@@ -180,7 +213,7 @@ alone_joined : (ms : List (MapRecord × ℕ)) (offset : ℕ) → alone (joined m
 alone_joined ms offset =
     let r = joined ms in
     let x = exact_joined ms in
-    record_by _ _ _ _ _ _ _ _ _ _ (sym x.file) refl (sym x.source_root) refl (ap (λ n. fitted n r.source_contents) (sym x.source_contents) ∙ fitted-exact r.source_contents) refl refl (sym x.ignore_list) (sym x.debug_id)
+    record_by _ _ _ _ _ _ _ _ _ _ (sym x.file) refl (sym x.source_root) refl (ap (λ n. fitted n r.source_contents) (sym x.source_contents) ∙ fitted-exact r.source_contents) refl refl refl (sym x.debug_id)
 
 pub groups : (gs : List Group) → all_together (groups_joined gs) ≡ all_together (maps_of gs)
 groups [] = refl

@@ -1,12 +1,13 @@
 -- Decoded maps that are equal up to repeats.
-use Rattle.std.proofs.Common.{◌≡◌, ℕ, List, [], ◌∷◌, ◌++◌, map, refl, ap, ◌∙◌, Option}
+use Rattle.std.proofs.Common.{◌≡◌, ℕ, List, [], ◌∷◌, ◌++◌, map, length, refl, ap, ◌∙◌, Option}
 use Rattle.std.specs.List.{flat_map}
 use Rattle.std.specs.Option.{option_map}
 use Rattle.oxc_sourcemap_parts.specs.DecodedMap.{DecodedSource, DecodedMapping, DecodedMap}
 use Rattle.oxc_sourcemap_lookup.specs.Trace.{trace, clamped_trace}
 use Rattle.oxc_sourcemap_parts.specs.DecodedMap.{mapping_line, mapping_column}
 use Rattle.oxc_sourcemap_laws.specs.Repeats.{without_repeats, is_same_mapping, decoded_map_without_repeats, EqualUpToRepeats, EqualButForMappings, is_sorted_decoded_map}
-use Rattle.oxc_sourcemap_laws.specs.JoinedDecodedMaps.{lowered, joined_decoded_maps}
+use Rattle.oxc_sourcemap_join.specs.Joined.{raised_ignore_list, appended_ignore_lists}
+use Rattle.oxc_sourcemap_laws.specs.JoinedDecodedMaps.{lowered, joined_ignore_lists, joined_decoded_maps}
 use Rattle.oxc_sourcemap_laws.specs.JoinLaws.{AreEqualUpToRepeats}
 use Rattle.oxc_sourcemap_laws.proofs.DroppingRepeats.{unseen, up_to_repeats_by, blind_map, blind_without_repeats, without_repeats_append, pick_up_to_repeats, clamped_pick_up_to_repeats, sorted_up_to_repeats}
 use Rattle.oxc_sourcemap_laws.proofs.Same.{decides_entry}
@@ -60,6 +61,16 @@ joined_sources [] (t ∷ ts) h = absurd h
 joined_sources (s ∷ ss) [] h = absurd h
 joined_sources (s ∷ ss) (t ∷ ts) h = ap (λ x. x ++ flat_map (λ s. s.0.sources) ss) (matches s.0 t.0 h.0.0).rest.sources ∙ ap (λ x. t.0.sources ++ x) (joined_sources ss ts h.1)
 
+pub joined_lists : (ss ts : List (DecodedMap × ℕ)) → AreEqualUpToRepeats ss ts → joined_ignore_lists ss ≡ joined_ignore_lists ts
+joined_lists [] [] h = refl
+joined_lists [] (t ∷ ts) h = absurd h
+joined_lists (s ∷ ss) [] h = absurd h
+joined_lists (s ∷ ss) (t ∷ ts) h =
+    let same = (matches s.0 t.0 h.0.0).rest in
+    ap (λ l. appended_ignore_lists l (raised_ignore_list (length s.0.sources) (joined_ignore_lists ss))) same.ignore_list
+    ∙ ap (λ qs. appended_ignore_lists t.0.ignore_list (raised_ignore_list (length qs) (joined_ignore_lists ss))) same.sources
+    ∙ ap (λ l. appended_ignore_lists t.0.ignore_list (raised_ignore_list (length t.0.sources) l)) (joined_lists ss ts h.1)
+
 pub joined_entries : (ss ts : List (DecodedMap × ℕ)) → AreEqualUpToRepeats ss ts → without_repeats is_same_mapping (joined_decoded_maps ss).mappings ≡ without_repeats is_same_mapping (joined_decoded_maps ts).mappings
 joined_entries [] [] h = refl
 joined_entries [] (t ∷ ts) h = absurd h
@@ -70,4 +81,4 @@ joined_entries (s ∷ ss) (t ∷ ts) h =
     (joined_entries ss ts h.1)
 
 pub joined_up_to_repeats : (ss ts : List (DecodedMap × ℕ)) → AreEqualUpToRepeats ss ts → EqualUpToRepeats (joined_decoded_maps ss) (joined_decoded_maps ts)
-joined_up_to_repeats ss ts h = up_to_repeats _ _ (record { rest = record { file = refl; source_root = refl; debug_id = refl; ignore_list = refl; sources = joined_sources ss ts h }; mappings = joined_entries ss ts h })
+joined_up_to_repeats ss ts h = up_to_repeats _ _ (record { rest = record { file = refl; source_root = refl; debug_id = refl; ignore_list = joined_lists ss ts h; sources = joined_sources ss ts h }; mappings = joined_entries ss ts h })

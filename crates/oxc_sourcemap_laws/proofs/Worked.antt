@@ -66,3 +66,17 @@ groups-have_a_chunk_each = refl
 -- Ids are numbers without limit: one that does not fit in a token any more is still an id, and not none.
 shifts-the_last_id : shifted 0 1 0 (token 0 0 0 0 (Some 4294967294) None) ≡ token 0 0 0 0 (Some 4294967295) None
 shifts-the_last_id = refl
+
+-- a map of one source, with this ignore list
+abbrev ignoring : Option (List ℕ) → MapRecord
+ignoring list = record (plain ((0 ∷ []) ∷ []) []) { ignore_list = list }
+
+-- the first map and the third have one entry each
+abbrev some_ignored : List (MapRecord × ℕ)
+some_ignored = (ignoring (Some (0 ∷ [])), 0) ∷ (ignoring None, 1) ∷ (ignoring (Some (0 ∷ [])), 2) ∷ []
+
+joins-ignore_lists_of_decoded_maps : (joined_decoded_maps (decoded_maps_of some_ignored)).ignore_list ≡ Some (0 ∷ 2 ∷ [])
+joins-ignore_lists_of_decoded_maps = refl
+
+groups-with_ignore_lists : (joined (groups_joined ((some_ignored, 0) ∷ (some_ignored, 3) ∷ []))).ignore_list ≡ Some (0 ∷ 2 ∷ 3 ∷ 5 ∷ [])
+groups-with_ignore_lists = refl

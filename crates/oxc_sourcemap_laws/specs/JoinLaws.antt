@@ -1,11 +1,11 @@
 -- What joins and dropping repeats leave as it is.
-use Rattle.std.specs.Prelude.{◌≡◌, ℕ, ◌+◌, ◌≤◌, Bool, true, List, [], ◌∷◌, ◌++◌, map, length, Some, None}
+use Rattle.std.specs.Prelude.{◌≡◌, ℕ, ◌+◌, ◌<◌, ◌≤◌, Bool, true, List, [], ◌∷◌, ◌++◌, map, length, Some, None, IfSome}
 use Rattle.std.specs.List.{AllByRecursion, AllZip, flat_map}
 use Rattle.oxc_sourcemap_mappings.specs.declared.token.TokenChunk.{TokenChunk}
 use Rattle.oxc_sourcemap_mappings.specs.Chunks.{ChunksFit}
 use Rattle.oxc_sourcemap_parts.specs.Record.{MapRecord}
 use Rattle.oxc_sourcemap_parts.specs.Sorted.{are_tokens_sorted}
-use Rattle.oxc_sourcemap_parts.specs.Sound.{IsInRange, AreIdsInRange, IsSound}
+use Rattle.oxc_sourcemap_parts.specs.Sound.{IsInRange, IsSound}
 use Rattle.oxc_sourcemap_parts.specs.DecodedMap.{DecodedMapping, DecodedMap, decoded_map_of}
 use Rattle.oxc_sourcemap_lookup.specs.Trace.{trace, clamped_trace}
 use Rattle.oxc_sourcemap_join.specs.Joined.{added, joined}
@@ -69,9 +69,16 @@ abbrev pub JoinStandsFor : Type 0
 JoinStandsFor = (ms : List (MapRecord × ℕ)) (ss : List (DecodedMap × ℕ)) → AllStandFor ms ss
     → (are_tokens_sorted (joined ms).tokens ≡ is_sorted_decoded_map (joined_decoded_maps ss)) × (is_sorted_decoded_map (joined_decoded_maps ss) ≡ true → StandsFor (joined ms) (joined_decoded_maps ss))
 
--- The ids of a join are in range where those of its maps are, even where it is not sorted.
+-- the entries of the ignore list of each map are in range
+abbrev pub AreIgnoreListsInRange : List (MapRecord × ℕ) → Type 0
+AreIgnoreListsInRange ms = AllByRecursion (λ m. IfSome m.0.ignore_list (AllByRecursion (λ id. id < length m.0.sources))) ms
+
+-- The ids of a join are in range where those of its maps are, even where it is not sorted: the ids of its tokens, and the
+-- entries of its ignore list.
 abbrev pub JoinInRange : Type 0
-JoinInRange = (ms : List (MapRecord × ℕ)) → AreAllInRange ms → AreIdsInRange (joined ms)
+JoinInRange = (ms : List (MapRecord × ℕ)) →
+    (AreAllInRange ms → AllByRecursion (IsInRange (length (joined ms).names) (length (joined ms).sources)) (joined ms).tokens)
+    × (AreIgnoreListsInRange ms → IfSome (joined ms).ignore_list (AllByRecursion (λ id. id < length (joined ms).sources)))
 
 -- The names of a join are those of its maps, in order.
 abbrev pub JoinNames : Type 0

@@ -43,7 +43,8 @@ pub fn canonical_unique()
 ///   (`traces_agree`), and the same result of every test of mappings that does not see repeats (`tests_agree`).
 /// - Joins of decoded maps that are equal up to repeats are equal up to repeats (`joins_up_to_repeats`).
 /// - If the ids of all maps are in range, the decoded map of their join equals, up to repeats, the join of their decoded
-///   maps (`decoded_map_of_join`), and the ids of the join are in range, sorted or not (`in_range`).
+///   maps (`decoded_map_of_join`), and the ids of the join are in range, sorted or not, with its ignore list if those of
+///   the maps are (`in_range`).
 /// - If each map is sound and its decoded map equal up to repeats to a given one, the join is sorted exactly if the join of
 ///   the given ones is, and then it is sound and equal to that up to repeats (`stands_for`).
 /// - The names of a join are those of its maps, in order (`names`), and it has no more tokens than they have (`tokens`).

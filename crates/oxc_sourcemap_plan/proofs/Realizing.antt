@@ -21,7 +21,7 @@ use Rattle.oxc_sourcemap_json.specs.Encoded.{encoded, encoded_record, encoded_un
 use Rattle.oxc_sourcemap_mappings.specs.Chunks.{writing_fault}
 use Rattle.oxc_sourcemap_json.specs.ReadMap.{read_map}
 use Rattle.oxc_sourcemap_json.specs.MapLaws.{SoundIsWritten, SoundIsTooLarge, SoundReadsBack, SoundStaysSound, ReadIsInBounds, rewritten}
-use Rattle.oxc_sourcemap_join.specs.Joined.{is_same_token, without_repeat, shifted, added, added_all, nothing_joined, joined, IsWithinLimits}
+use Rattle.oxc_sourcemap_join.specs.Joined.{is_same_token, without_repeat, shifted, added, added_all, nothing_joined, joined, AreEntriesInBounds, IsWithinLimits}
 use Rattle.oxc_sourcemap_join.proofs.Fitted.{length-fitted}
 use Rattle.oxc_sourcemap_lookup.specs.Lookup.{last}
 use Rattle.oxc_sourcemap_mappings.specs.Refusals.{unless}
@@ -30,7 +30,7 @@ use Rattle.oxc_sourcemap_laws.specs.Repeats.{decoded_map_without_repeats, EqualU
 use Rattle.oxc_sourcemap_laws.proofs.UpToRepeats.{matches}
 use Rattle.oxc_sourcemap_laws.specs.JoinedDecodedMaps.{joined_decoded_maps, lowered}
 use Rattle.oxc_sourcemap_laws.specs.ComposedDecodedMaps.{composed_decoded_maps}
-use Rattle.oxc_sourcemap_laws.specs.JoinLaws.{TestsAgree, DecodedMapOfJoin, JoinKeepsEqualUpToRepeats, JoinStandsFor, JoinInRange, JoinNames, JoinTokens, AreAllInRange, AreEqualUpToRepeats, decoded_maps_of, AllStandFor}
+use Rattle.oxc_sourcemap_laws.specs.JoinLaws.{TestsAgree, DecodedMapOfJoin, JoinKeepsEqualUpToRepeats, JoinStandsFor, JoinInRange, JoinNames, JoinTokens, AreAllInRange, AreIgnoreListsInRange, AreEqualUpToRepeats, decoded_maps_of, AllStandFor}
 use Rattle.oxc_sourcemap_laws.specs.ComposeLaws.{CompositionStandsFor, CompositionNames, CompositionTokens, CompositionTooLarge, CompositionInBounds}
 use Rattle.oxc_sourcemap_plan.specs.declared.plan.PlanError.{PlanError}
 use Rattle.oxc_sourcemap_plan.specs.declared.plan.PlanError.TheVariants.{Map, Unsorted}
@@ -198,13 +198,14 @@ record Joint (ms : List (MapRecord × ℕ)) (os : List (Outcome × ℕ)) : Type 
   mean : all_decoded_maps (meanings os) ≡ Ok decoded_maps
   stand : AllStandFor ms decoded_maps
   in_range : AreAllInRange ms
+  lists_in_range : AreIgnoreListsInRange ms
   stay : AllByRecursion (λ m. AllByRecursion Stays m.0.tokens) ms
   tokens : length (flat_map (λ m. m.0.tokens) ms) ≤ length (joined_decoded_maps decoded_maps).mappings
   names : length (flat_map (λ m. m.0.names) ms) ≤ length (names_of_all os)
   known : are_among (names_of_all os) (flat_map (λ m. m.0.names) ms) ≡ true
 
 joint : (ms : List (MapRecord × ℕ)) (os : List (Outcome × ℕ)) → AllRealize ms os → Joint ms os
-joint [] [] h = record { decoded_maps = []; mean = refl; stand = h; in_range = tt; stay = tt; tokens = omega arith; names = omega arith; known = refl }
+joint [] [] h = record { decoded_maps = []; mean = refl; stand = h; in_range = tt; lists_in_range = tt; stay = tt; tokens = omega arith; names = omega arith; known = refl }
 joint [] (o ∷ os) h = absurd h
 joint (m ∷ ms) [] h = absurd h
 joint (m ∷ ms) (o ∷ os) h =
@@ -221,6 +222,7 @@ joint (m ∷ ms) (o ∷ os) h =
       mean = ap (λ q. onto_decoded_maps q o.1 (all_decoded_maps (meanings os))) g.means ∙ ap (onto_decoded_maps (Ok g.decoded_map) o.1) j.mean;
       stand = ((g.stands, h.0.1), j.stand);
       in_range = (g.stands.sound.in_range.tokens, j.in_range);
+      lists_in_range = (g.stands.sound.in_range.ignore_list, j.lists_in_range);
       stay = (all-weaker IsInBounds Stays stays-of m.0.tokens (recursion_from_All IsInBounds m.0.tokens g.in_bounds), j.stay);
       tokens = omega arith;
       names = omega arith;
@@ -253,6 +255,10 @@ in-bounds names sources ss ns (t ∷ ts) a b e h k =
       record { dst_line = omega arith; dst_col = k.0.dst_col; src_line = k.0.src_line; src_col = k.0.src_col; source_id = id-below t.source_id sources b h.0.source_id; name_id = id-below t.name_id names a h.0.name_id },
       in-bounds names sources ss ns ts a b p.1 h.1 k.1,
     )
+
+entries-below : (list : Option (List ℕ)) (n : ℕ) → n ≤ 4294967295 → IfSome list (AllByRecursion (λ id. id < n)) → AreEntriesInBounds list
+entries-below None n l h = tt
+entries-below (Some ids) n l h = All-from_recursion (λ id. id < 4294967295) ids (all-weaker (λ id. id < n) (λ id. id < 4294967295) (λ id b. omega arith) ids h)
 
 -- the decoded map of a join of maps that stand for decoded maps
 up_to_repeats-each : (ms : List (MapRecord × ℕ)) (ss : List (DecodedMap × ℕ)) → AllStandFor ms ss → AreEqualUpToRepeats (decoded_maps_of ms) ss
@@ -330,7 +336,7 @@ module _ (laws : JoinLaws) (ms : List (MapRecord × ℕ)) (os : List (Outcome ×
       let sources = same-sources (joined ms) s al in
       let names = ap length (laws.names ms) in
       let lines : are_lines_within_limits (decoded_map_of (joined ms)).mappings ≡ true = laws.tests are_lines_within_limits blind-lines (decoded_map_of (joined ms)) s al ∙ room.1 in
-      let r = laws.range ms j.in_range in
+      let r = (laws.range ms).0 j.in_range in
       let stay = stays-added nothing_joined ms tt j.stay in
       let jt = j.tokens in let jn = j.names in let pt = laws.tokens ms in
       let fn = room.0.names_fit in let fs = room.0.sources_fit in let fe = room.0.entries_fit in
@@ -341,7 +347,8 @@ module _ (laws : JoinLaws) (ms : List (MapRecord × ℕ)) (os : List (Outcome ×
         sources = bs;
         tokens = omega arith;
         in_bounds = All-from_recursion IsInBounds (joined ms).tokens
-            (in-bounds (length (joined ms).names) (length (joined ms).sources) (sources_of (joined ms).sources (joined ms).source_contents) (joined ms).names (joined ms).tokens bn bs lines r.tokens stay);
+            (in-bounds (length (joined ms).names) (length (joined ms).sources) (sources_of (joined ms).sources (joined ms).source_contents) (joined ms).names (joined ms).tokens bn bs lines r stay);
+        ignore_list = entries-below (joined ms).ignore_list (length (joined ms).sources) bs ((laws.range ms).1 j.lists_in_range);
       }
 
   pub join_refused : (e : Error) → (e ≡ OutOfMemory) ⊎ ((e ≡ TooLarge) × (IsWithinLimits (joined ms) → ⊥)) → FailsAs (Map e) (join_outcome os)

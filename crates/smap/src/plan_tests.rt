@@ -34,6 +34,13 @@ const PLANS: &[(&[&str], &str, Result<&str, RunError>)] = &[
         Ok(JOIN),
     ),
     (
+        &["join", "2", "@0", "0", "@1", "1"],
+        "{\"version\":3,\"sources\":[\"a.js\"],\"mappings\":\"AAAA\",\"ignoreList\":[0]}\n---\n{\"version\":3,\"sources\":[\"b.js\",\"c.js\"],\"mappings\":\"ACAA\",\"ignoreList\":[1]}",
+        Ok(
+            r#"{"version":3,"names":[],"sources":["a.js","b.js","c.js"],"ignoreList":[0,2],"mappings":"AAAA;AEAA"}"#,
+        ),
+    ),
+    (
         &["join", "0"],
         "",
         Ok(r#"{"version":3,"names":[],"sources":[],"mappings":""}"#),

@@ -3,7 +3,7 @@ use Rattle.oxc_sourcemap_laws.proofs.DroppingRepeats.{up_to_repeats_by}
 use Rattle.oxc_sourcemap_laws.proofs.Same.{decides_entry}
 use Rattle.oxc_sourcemap_laws.proofs.UpToRepeats.{matches, without_repeats_is_up_to_repeats, trace_up_to_repeats, clamped_trace_up_to_repeats, sorted_decoded_map_up_to_repeats, joined_up_to_repeats}
 use Rattle.oxc_sourcemap_laws.proofs.JoinDecodedMaps.{decoded_map_joined}
-use Rattle.oxc_sourcemap_laws.proofs.JoinStands.{range_joined, count_joined, names_joined, join_sorted, join_stands}
+use Rattle.oxc_sourcemap_laws.proofs.JoinStands.{range_joined, entries_joined, count_joined, names_joined, join_sorted, join_stands}
 use Rattle.oxc_sourcemap_laws.proofs.dropping_harmless.Goals as goal
 
 pub returns-clause-repeats : goal.returns-clause-repeats
@@ -22,7 +22,7 @@ pub returns-clause-decoded_map_of_join : goal.returns-clause-decoded_map_of_join
 returns-clause-decoded_map_of_join c = decoded_map_joined
 
 pub returns-clause-in_range : goal.returns-clause-in_range
-returns-clause-in_range c = range_joined
+returns-clause-in_range c = λ ms. (range_joined ms, entries_joined ms)
 
 pub returns-clause-stands_for : goal.returns-clause-stands_for
 returns-clause-stands_for c = λ ms ss h. (join_sorted ms ss h, join_stands ms ss h)

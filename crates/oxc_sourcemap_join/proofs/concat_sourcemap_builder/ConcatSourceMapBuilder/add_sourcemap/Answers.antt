@@ -3,9 +3,10 @@ use Rattle.std.specs.Option.{option_map}
 use Rattle.std.specs.Cow.{cow_str_bytes}
 use Rattle.oxc_sourcemap_mappings.specs.Token.{AreInBounds}
 use Rattle.oxc_sourcemap_mappings.specs.Chunks.{ChunksFit}
-use Rattle.oxc_sourcemap_join.specs.Joined.{fitted}
+use Rattle.oxc_sourcemap_join.specs.Joined.{fitted, raised_ignore_list, appended_ignore_lists, AreEntriesInBounds}
 use Rattle.oxc_sourcemap_join.specs.Joining.{all_shifted}
-use Rattle.oxc_sourcemap_parts.specs.Views.{texts_of, contents_of}
+use Rattle.oxc_sourcemap_parts.specs.Views.{texts_of, contents_of, ids_of}
+use Rattle.oxc_sourcemap_join.proofs.IgnoreLists.{addition-in-bounds}
 use Rattle.oxc_sourcemap_join.proofs.Adding.{kept-are-in-bounds, added-is, join-is, all-after-some, glued}
 use Rattle.oxc_sourcemap_join.proofs.concat_sourcemap_builder.ConcatSourceMapBuilder.add_sourcemap.Goals as goal
 use Rattle.oxc_sourcemap_join.proofs.concat_sourcemap_builder.ConcatSourceMapBuilder.add_sourcemap.Goals.{After-unwrap}
@@ -16,6 +17,12 @@ push_moved-requires-clause-in_bounds c =
     let tokens : c.as_slice.result.now ≡ c.args.sourcemap.now.tokens = c.as_slice.ensures ∙ c.get_tokens.ensures in
     let kept = all-after-some a.passed c.as_slice.result.now ∙ ap (drop a.passed) tokens in
     subst AreInBounds (ap (all_shifted a.shift) (sym kept)) (kept-are-in-bounds c.args.self.now c.args.sourcemap.now c.args.line_offset a c.in-Some.ensures.fits)
+
+pub add_ignore_list-requires : goal.add_ignore_list-requires
+add_ignore_list-requires c =
+    let a = c.in-Some.addition in
+    let list = c.get_ignore_list-ignored.ensures in
+    subst AreEntriesInBounds (ap (raised_ignore_list a.shift.sources) (sym (list))) (addition-in-bounds c.args.self.now c.args.sourcemap.now c.args.line_offset a c.in-Some.ensures.fits)
 
 -- what the builder's lists become
 module _ (c : After-unwrap) where
@@ -40,6 +47,10 @@ module _ (c : After-unwrap) where
   chunks : c.push-pushed.new.self.items ≡ c.self.inside.token_chunks.items ++ c.in-Some.addition.chunk ∷ []
   chunks = (rw c.unwrap.ensures at c.push-pushed.ensures.items) ∙ ap (λ ks. ks ++ c.in-Some.addition.chunk ∷ []) c.reserve-5.ensures.items
 
+  entries : ids_of c.add_ignore_list.new.list ≡ appended_ignore_lists c.args.self.now.ignore_list (raised_ignore_list c.in-Some.addition.shift.sources c.args.sourcemap.now.ignore_list)
+  entries = c.in_ok-add_ignore_list.ensures.added ∙ ap (λ o. appended_ignore_lists o (raised_ignore_list c.in-Some.addition.shift.sources (option_map (λ ids. ids.now) c.get_ignore_list-ignored.result))) (ap (λ x. x.ignore_list) c.self.view_is)
+      ∙ ap (λ o. appended_ignore_lists c.args.self.now.ignore_list (raised_ignore_list c.in-Some.addition.shift.sources o)) (c.get_ignore_list-ignored.ensures)
+
   has : c.args.self.now.token_chunks ≡ Some c.self.inside.token_chunks.items
   has = sym (ap (λ x. x.token_chunks) c.self.view_is)
 
@@ -52,9 +63,9 @@ module _ (c : After-unwrap) where
 pub invariant_of-self-2 : goal.invariant_of-self-2
 invariant_of-self-2 c =
     join-is c.args.self.now c.args.sourcemap.now c.args.line_offset c.in-Some.addition c.in-Some.ensures.fits c.self.inside.token_chunks.items (has c) (each c)
-    _ _ _ _ _ (names c) (sources c) (contents c) (tokens c) (chunks c) (fit c)
+    _ _ _ _ _ _ (names c) (sources c) (contents c) (tokens c) (chunks c) (entries c) (fit c)
 
 pub returns-clause-joined : goal.returns-clause-joined
 returns-clause-joined c =
     added-is c.args.self.now c.args.sourcemap.now c.args.line_offset c.in-Some.addition c.in-Some.ensures.fits c.self.inside.token_chunks.items (has c) (each c)
-    _ _ _ _ _ (names c) (sources c) (contents c) (tokens c) (chunks c)
+    _ _ _ _ _ _ (names c) (sources c) (contents c) (tokens c) (chunks c) (entries c)

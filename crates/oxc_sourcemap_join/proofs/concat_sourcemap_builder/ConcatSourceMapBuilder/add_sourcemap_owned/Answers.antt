@@ -4,10 +4,11 @@ use Rattle.std.specs.Cow.{cow_str_bytes}
 use Rattle.std.proofs.lemmas.List.{map-append}
 use Rattle.oxc_sourcemap_mappings.specs.Token.{AreInBounds}
 use Rattle.oxc_sourcemap_mappings.specs.Chunks.{ChunksFit}
-use Rattle.oxc_sourcemap_join.specs.Joined.{fitted}
+use Rattle.oxc_sourcemap_join.specs.Joined.{fitted, raised_ignore_list, appended_ignore_lists, AreEntriesInBounds}
 use Rattle.oxc_sourcemap_join.specs.Joining.{all_shifted}
-use Rattle.oxc_sourcemap_parts.specs.Views.{texts_of, contents_of}
+use Rattle.oxc_sourcemap_parts.specs.Views.{texts_of, contents_of, ids_of}
 use Rattle.oxc_sourcemap_join.proofs.Moving.{length-mapped}
+use Rattle.oxc_sourcemap_join.proofs.IgnoreLists.{addition-in-bounds}
 use Rattle.oxc_sourcemap_join.proofs.Adding.{kept-are-in-bounds, added-is, join-is, all-after-some, glued}
 use Rattle.oxc_sourcemap_join.proofs.concat_sourcemap_builder.ConcatSourceMapBuilder.add_sourcemap_owned.Goals as goal
 use Rattle.oxc_sourcemap_join.proofs.concat_sourcemap_builder.ConcatSourceMapBuilder.add_sourcemap_owned.Goals.{After-drop-names-2}
@@ -18,6 +19,12 @@ push_moved-requires-clause-in_bounds c =
     let tokens : c.as_slice.result.now ≡ c.args.sourcemap.tokens = c.as_slice.ensures.value ∙ ap (λ x. x.tokens) c.into_parts-names.ensures in
     let kept = all-after-some a.passed c.as_slice.result.now ∙ ap (drop a.passed) tokens in
     subst AreInBounds (ap (all_shifted a.shift) (sym kept)) (kept-are-in-bounds c.args.self.now c.args.sourcemap c.args.line_offset a c.in-Some.ensures.fits)
+
+pub add_ignore_list-requires : goal.add_ignore_list-requires
+add_ignore_list-requires c =
+    let a = c.in-Some.addition in
+    let list = c.as_deref-list.ensures.value ∙ ap (λ x. x.ignore_list) c.into_parts-names.ensures in
+    subst AreEntriesInBounds (ap (raised_ignore_list a.shift.sources) (sym (list))) (addition-in-bounds c.args.self.now c.args.sourcemap c.args.line_offset a c.in-Some.ensures.fits)
 
 -- what the builder's lists become
 module _ (c : After-drop-names-2) where
@@ -44,6 +51,10 @@ module _ (c : After-drop-names-2) where
   chunks : c.push-pushed.new.self.items ≡ c.self.inside.token_chunks.items ++ c.in-Some.addition.chunk ∷ []
   chunks = (rw c.unwrap-3.ensures at c.push-pushed.ensures.items) ∙ ap (λ ks. ks ++ c.in-Some.addition.chunk ∷ []) c.reserve-5.ensures.items
 
+  entries : ids_of c.add_ignore_list.new.list ≡ appended_ignore_lists c.args.self.now.ignore_list (raised_ignore_list c.in-Some.addition.shift.sources c.args.sourcemap.ignore_list)
+  entries = c.in_ok-add_ignore_list.ensures.added ∙ ap (λ o. appended_ignore_lists o (raised_ignore_list c.in-Some.addition.shift.sources (option_map (λ ids. ids.now) c.as_deref-list.result))) (ap (λ x. x.ignore_list) c.self.view_is)
+      ∙ ap (λ o. appended_ignore_lists c.args.self.now.ignore_list (raised_ignore_list c.in-Some.addition.shift.sources o)) (c.as_deref-list.ensures.value ∙ ap (λ x. x.ignore_list) c.into_parts-names.ensures)
+
   has : c.args.self.now.token_chunks ≡ Some c.self.inside.token_chunks.items
   has = sym (ap (λ x. x.token_chunks) c.self.view_is)
 
@@ -56,9 +67,9 @@ module _ (c : After-drop-names-2) where
 pub invariant_of-self-2 : goal.invariant_of-self-2
 invariant_of-self-2 c =
     join-is c.args.self.now c.args.sourcemap c.args.line_offset c.in-Some.addition c.in-Some.ensures.fits c.self.inside.token_chunks.items (has c) (each c)
-    _ _ _ _ _ (names c) (sources c) (contents c) (tokens c) (chunks c) (fit c)
+    _ _ _ _ _ _ (names c) (sources c) (contents c) (tokens c) (chunks c) (entries c) (fit c)
 
 pub returns-clause-joined : goal.returns-clause-joined
 returns-clause-joined c =
     added-is c.args.self.now c.args.sourcemap c.args.line_offset c.in-Some.addition c.in-Some.ensures.fits c.self.inside.token_chunks.items (has c) (each c)
-    _ _ _ _ _ (names c) (sources c) (contents c) (tokens c) (chunks c)
+    _ _ _ _ _ _ (names c) (sources c) (contents c) (tokens c) (chunks c) (entries c)

@@ -5,10 +5,11 @@ use Rattle.oxc_sourcemap_mappings.specs.Token.{AreInBounds}
 use Rattle.oxc_sourcemap_mappings.specs.State.{state_at}
 use Rattle.oxc_sourcemap_mappings.specs.Chunks.{chunk_from}
 use Rattle.oxc_sourcemap_lookup.specs.Lookup.{last}
-use Rattle.oxc_sourcemap_join.specs.Joined.{is_same_token, without_repeat}
+use Rattle.oxc_sourcemap_join.specs.Joined.{is_same_token, without_repeat, raised_ignore_list, AreEntriesInBounds}
 use Rattle.oxc_sourcemap_join.specs.Joining.{all_shifted}
 use Rattle.oxc_sourcemap_join.specs.declared.concat_sourcemap_builder.Shift.{Shift}
 use Rattle.oxc_sourcemap_join.proofs.Moving.{length-mapped}
+use Rattle.oxc_sourcemap_join.proofs.IgnoreLists.{raised-in-bounds}
 use Rattle.oxc_sourcemap_join.proofs.Adding.{moved-in-bounds, addition-is}
 use Rattle.oxc_sourcemap_join.proofs.concat_sourcemap_builder.ConcatSourceMapBuilder.addition.Goals as goal
 use Rattle.oxc_sourcemap_join.proofs.concat_sourcemap_builder.ConcatSourceMapBuilder.addition.Goals.{then-len-via-then-len, then-len-via-else-len+then-len-2, then-len-via-else-len+else-len-2+then-not-fits_all}
@@ -51,6 +52,17 @@ returns-then-len-clause-too_large c = λ e w.
           absurd cc)
     ]
 
+pub returns-then-not-fits_ignore_list-clause-too_large : goal.returns-then-not-fits_ignore_list-clause-too_large
+returns-then-not-fits_ignore_list-clause-too_large c = λ e w.
+    let r = c.args.self.now in
+    let m = c.args.sourcemap.now in
+    let sources : c.len-2.result ≡ length r.sources = omega (arith, ap (λ x. length x.sources) c.self.view_is, length-mapped cow_str_bytes c.self.inside.sources.items, c.len-2.ensures) in
+    let list = ap (raised_ignore_list c.len-2.result) (sym c.get_ignore_list.ensures) in
+    let raised = subst (λ n. AreEntriesInBounds (raised_ignore_list n m.ignore_list)) (sym sources) (raised-in-bounds r m c.args.line_offset w) in
+    let fits : c.fits_ignore_list.result ≡ true = c.fits_ignore_list.ensures.1 (subst AreEntriesInBounds list raised) in
+    let not : c.fits_ignore_list.result ≡ false = c.if-not-fits_ignore_list.true in
+    absurd cc
+
 pub returns-clause-fits : goal.returns-clause-fits
 returns-clause-fits c =
     let r = c.args.self.now in
@@ -68,6 +80,8 @@ returns-clause-fits c =
     omega (arith, c.len-6.ensures, ap length tokens, ap length so_far, c.as_slice.ensures.len) in
     addition-is r m c.args.line_offset shift c.passed_over-passed.result names sources refl kept c.next_chunk-chunk.result
     (subst AreInBounds (ap (λ x. x.tokens) c.self.view_is) c.self.invariant.in_bounds)
+    (subst AreEntriesInBounds (ap (λ x. x.ignore_list) c.self.view_is) c.self.invariant.entries)
+    (subst AreEntriesInBounds (ap (raised_ignore_list c.len-2.result) c.get_ignore_list.ensures) (c.fits_ignore_list.ensures.0 c.if-not-fits_ignore_list.false))
     (omega (
       arith,
       c.if-len.false,

@@ -151,17 +151,22 @@ fn many_equal_columns_are_searched(rt: HostRuntime) -> Result<()> {
     for src_line in 0..65536 {
         line.push(Token::new(0, 7, src_line, 0, Some(0), None))?;
     }
-    let [first, last] = [0, 65535].map(|src_line| Token::new(0, 7, src_line, 0, Some(0), None));
+    let first = Token::new(0, 7, 0, 0, Some(0), None);
+    let last = Token::new(0, 7, 65535, 0, Some(0), None);
     a_line_gives(&rt, line.as_slice(), 7, Some(first), 18);
     a_line_gives(&rt, line.as_slice(), 8, Some(last), 18);
     Ok(())
+}
+
+fn token_of_column(col: u32) -> Token {
+    Token::new(0, col, 0, col, None, None)
 }
 
 /// A map whose one line has a token at each column below this one.
 fn map_of_columns(alloc: Global, columns: u32) -> Result<SourceMap<'static>> {
     let mut tokens = Vec::with_capacity(alloc, columns as usize)?;
     for col in 0..columns {
-        tokens.push(Token::new(0, col, 0, col, None, None))?;
+        tokens.push(token_of_column(col))?;
     }
     Ok(SourceMap::new(
         None,
@@ -182,10 +187,10 @@ fn each_column_of_a_long_line_is_looked_up(rt: HostRuntime) -> Result<()> {
     let table = map.generate_lookup_table(rt.alloc())?;
     let table = table.as_slice();
     for col in 0..columns {
-        let wanted = Some(Token::new(0, col, 0, col, None, None));
-        same(&rt, "exact", map.lookup_token(table, 0, col), wanted);
+        let found = map.lookup_token(table, 0, col);
+        same(&rt, "exact", found, Some(token_of_column(col)));
         let found = map.lookup_token_approx(table, 0, col);
-        same(&rt, "clamped", found, wanted);
+        same(&rt, "clamped", found, Some(token_of_column(col)));
     }
     Ok(())
 }

@@ -127,9 +127,9 @@ impl Token {
 /// A part of a list of tokens, from index `start` up to but not including `end`, and the numbers that its deltas start
 /// from, so that it can be written by itself (`encode_chunk`).
 ///
-/// These numbers, the `prev_` fields, should be the generated line and column of the token before `start`, the source id,
-/// line and column of the last mapped token before it, and the last name id of a mapped token before it, each 0 if there is
-/// none. Nothing here checks that; `chunk_fault` does.
+/// These numbers, the `prev_` fields, should be the generated position of the token before `start`, the source id and
+/// source position of the last token before it that is mapped, and the name id of the last one that has a name, each 0 if
+/// there is none. Nothing here checks that; `chunk_fault` does.
 #[derive(Clone, Debug, Default, PartialEq, Eq, Drop)]
 pub struct TokenChunk {
     /// The index of the chunk's first token.

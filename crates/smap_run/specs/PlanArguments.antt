@@ -1,4 +1,4 @@
--- The plan that arguments say, by its outcome. They are read from left to right, and the first fault stands.
+-- The plan that arguments say, by its outcome. They are read from the left, up to the first fault.
 use Rattle.std.specs.Prelude.{ℕ, zero, suc, List, [], ◌∷◌, codes, slice_get, Option, Some, None, Result, Ok, Err, if◌then◌else◌, ◌==◌}
 use Rattle.std.specs.Str.{bytes_eq}
 use Rattle.oxc_sourcemap.specs.Record.{Text}

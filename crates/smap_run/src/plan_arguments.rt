@@ -133,7 +133,7 @@ fn read_part<'t, 'w>(
 /// The plan that arguments say, over these inputs: `@K` for input K (from 0), `rewrite P`, `join N` followed by N times
 /// `P OFFSET`, or `compose P P`, each number as `read_number` reads it.
 ///
-/// Arguments are read from left to right, and the first fault stands:
+/// Arguments are read from the left, and the error is that of the first fault:
 /// - `Plan(TooDeep)` for an argument where a part at depth 65 would begin;
 /// - `NoText(K)` for `@K` if there is no such input;
 /// - `Arguments` for any other argument that is bad, missing or left over.

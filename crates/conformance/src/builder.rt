@@ -64,13 +64,12 @@ fn sources_are_added_by_their_path_or_set(rt: &impl Abort, builder: &mut SourceM
 fn sources_are_added(rt: HostRuntime) -> Result<()> {
     let mut builder = SourceMapBuilder::empty(rt.alloc());
     sources_are_added_by_their_path_or_set(&rt, &mut builder);
-    same(
+    is_read_back(
         &rt,
-        "text",
+        rt.alloc(),
         owned_text_of(rt.alloc(), builder)?.as_str(),
         r#"{"version":3,"names":[],"sources":["a.js","b.js","b.js"],"sourcesContent":["A","B","C"],"mappings":""}"#,
-    );
-    Ok(())
+    )
 }
 
 /// Adds unmapped tokens at the columns 0 and 1, and one chunk that ends at this index.
@@ -103,6 +102,14 @@ fn chunks_are_looked_at_when_the_map_is_written(rt: HostRuntime) -> Result<()> {
     Ok(())
 }
 
+/// Asserts the JSON text of what was built, and that it is read back as a map with that text.
+fn is_read_back(rt: &impl Abort, alloc: Global, text: &str, wanted: &str) -> Result<()> {
+    same(rt, "text", text, wanted);
+    let back = SourceMap::from_json_string(alloc, text)?.to_json_string(alloc)?;
+    same(rt, "read back", back.as_str(), wanted);
+    Ok(())
+}
+
 /// The example of the README.
 fn bundle_map(alloc: Global) -> Result<String> {
     let mut builder = SourceMapBuilder::empty(alloc);
@@ -123,21 +130,20 @@ fn build_texts(builder: &mut SourceMapBuilder<'_>) -> Result<()> {
 
 #[test]
 fn maps_are_built_and_written(rt: HostRuntime) -> Result<()> {
-    same(
+    is_read_back(
         &rt,
-        "bundle",
+        rt.alloc(),
         bundle_map(rt.alloc())?.as_str(),
         r#"{"version":3,"file":"file","names":["x"],"sources":["baz.js"],"sourcesContent":[""],"mappings":"AAAAA"}"#,
-    );
+    )?;
     let mut builder = SourceMapBuilder::empty(rt.alloc());
     build_texts(&mut builder)?;
-    same(
+    is_read_back(
         &rt,
-        "texts",
+        rt.alloc(),
         text_of(rt.alloc(), builder)?.as_str(),
         r#"{"version":3,"file":"file","names":["x"],"sources":["baz.js"],"sourcesContent":[""],"mappings":""}"#,
-    );
-    Ok(())
+    )
 }
 
 fn parts_are_empty(rt: &impl Abort, parts: &SourceMapParts<'_>) {

@@ -1,5 +1,6 @@
 //! Composition of maps, plain and owned.
-use crate::helpers::{Row, is_written_as, map_of, same, tokens_of};
+use crate::helpers::{is_written_as, same};
+use crate::rows::{Row, map_of, tokens_of};
 use oxc_sourcemap::{Error, OwnedSourceMap, Result, SourceMap};
 use std::alloc::Global;
 use std::process::Abort;

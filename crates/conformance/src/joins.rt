@@ -1,5 +1,6 @@
 //! Joins, and the pieces of chunks.
-use crate::helpers::{Row, chunks_of, map_of, same, tokens_of};
+use crate::helpers::same;
+use crate::rows::{Row, chunks_of, map_of, tokens_of};
 use oxc_sourcemap::{
     ConcatSourceMapBuilder, Error, Result, SourceMap, SourceMapParts, Token, TokenChunk,
     encode_chunk,
@@ -429,6 +430,78 @@ fn maps_are_joined(rt: HostRuntime) -> Result<()> {
         maps_are_joined_one_by_one(&rt, rt.alloc(), join.0, join.3)?;
         let lent = lent_text(rt.alloc(), maps_of(rt.alloc(), join.0)?.as_slice())?;
         same(&rt, "lent", lent.as_str(), join.3);
+    }
+    Ok(())
+}
+
+/// Two maps, the column of the joined line 0 where the second one begins, and the JSON text of the join.
+const SIDE_BY_SIDE: &[(&str, &str, u32, Result<&str>)] = &[
+    (
+        r#"{"version":3,"sources":["a.js"],"mappings":"AAAA,IAAI"}"#,
+        r#"{"version":3,"sources":["b.js"],"mappings":"AAAA;AACA"}"#,
+        10,
+        Ok(
+            r#"{"version":3,"names":[],"sources":["a.js","b.js"],"mappings":"AAAA,IAAI,MCAJ;AACA"}"#,
+        ),
+    ),
+    (
+        r#"{"version":3,"sources":["a.js"],"mappings":"AAAA,IAAI"}"#,
+        r#"{"version":3,"sources":["b.js"],"mappings":"AAAA;AACA"}"#,
+        4,
+        Ok(
+            r#"{"version":3,"names":[],"sources":["a.js","b.js"],"mappings":"AAAA,IAAI,ACAJ;AACA"}"#,
+        ),
+    ),
+    (
+        r#"{"version":3,"sources":["a.js"],"mappings":"AAAA,IAAI"}"#,
+        r#"{"version":3,"sources":["b.js"],"mappings":"C"}"#,
+        4294967295,
+        Err(Error::TooLarge),
+    ),
+];
+
+/// The JSON text of the join of two borrowed maps, the second one at a column of line 0.
+fn lent_side_by_side<'a>(
+    alloc: Global,
+    left: &'a SourceMap<'static>,
+    right: &'a SourceMap<'static>,
+    column: u32,
+) -> Result<String> {
+    let mut builder = ConcatSourceMapBuilder::empty(alloc);
+    builder.add_sourcemap(left, 0)?;
+    builder.add_sourcemap_at(right, 0, column)?;
+    builder.into_sourcemap()?.to_json_string(alloc)
+}
+
+/// The same, of maps that are moved.
+fn moved_side_by_side(
+    alloc: Global,
+    left: SourceMap<'static>,
+    right: SourceMap<'static>,
+    column: u32,
+) -> Result<String> {
+    let mut builder: ConcatSourceMapBuilder<'static> = ConcatSourceMapBuilder::empty(alloc);
+    builder.add_sourcemap_owned_at(left, 0, 0)?;
+    builder.add_sourcemap_owned_at(right, 0, column)?;
+    builder.into_owned_sourcemap()?.to_json_string(alloc)
+}
+
+fn is_text(rt: &impl Abort, what: &str, found: &Result<String>, want: Result<&str>) {
+    match found {
+        Ok(text) => same(rt, what, Ok(text.as_str()), want),
+        Err(fault) => same(rt, what, Err(*fault), want),
+    }
+}
+
+#[test]
+fn maps_are_joined_side_by_side(rt: HostRuntime) -> Result<()> {
+    for (left, right, column, want) in SIDE_BY_SIDE {
+        let left = SourceMap::from_json_string(rt.alloc(), left)?;
+        let right = SourceMap::from_json_string(rt.alloc(), right)?;
+        let lent = lent_side_by_side(rt.alloc(), &left, &right, *column);
+        is_text(&rt, "lent", &lent, *want);
+        let moved = moved_side_by_side(rt.alloc(), left, right, *column);
+        is_text(&rt, "moved", &moved, *want);
     }
     Ok(())
 }

@@ -1,5 +1,6 @@
 //! A map beside its strings: the visual text, and the link to the page that draws it.
-use crate::helpers::{Row, map_of, same};
+use crate::helpers::same;
+use crate::rows::{Row, map_of};
 use oxc_sourcemap::{Error, Result, SourceMap, SourcemapVisualizer};
 use std::alloc::Global;
 use std::process::Abort;
@@ -27,6 +28,12 @@ const TEXTS: &[(&str, &[Row], &str)] = &[
         "é\u{2028}😀",
         &[(0, 0, 0, 0, Some(0), None), (1, 0, 1, 0, Some(0), None)],
         "- a.js\n(0:0) \"é\\u{2028}\" --> (0:0) \"é\\u{2028}\"\n(1:0) \"😀\" --> (1:0) \"😀\"\n",
+    ),
+    // So does U+2029.
+    (
+        "a\u{2029}b",
+        &[(0, 0, 0, 0, Some(0), None), (1, 0, 1, 0, Some(0), None)],
+        "- a.js\n(0:0) \"a\\u{2029}\" --> (0:0) \"a\\u{2029}\"\n(1:0) \"b\" --> (1:0) \"b\"\n",
     ),
     // A carriage return alone ends a line, and is left out; the last line is empty.
     (

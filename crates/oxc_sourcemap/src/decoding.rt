@@ -11,15 +11,15 @@ use oxc_sourcemap_map::SourceMap;
 use oxc_sourcemap_mappings::Result;
 use std::alloc::Global;
 
-/// The map that a JSON source map says. Its strings are moved, and contents that are missing are the empty list; it has no
-/// chunks.
+/// Makes the map of a JSON source map. Its strings are moved; if it has no list of contents, the map's is empty. The map has
+/// no chunks.
 ///
 /// Fails in this order, and the value is then dropped:
 /// - `BadJson(Version(n))` for a version n other than 3;
 /// - `BadSourceReference(id)` for the first entry of the ignore list that is not below the number of sources;
-/// - what `decode_mappings` refuses, with the numbers of names and sources.
+/// - the errors of `decode_mappings`, with the numbers of names and sources.
 ///
-/// `OutOfMemory` if memory is refused, which may be before a fault of the mappings is met.
+/// Also `OutOfMemory` if memory is refused, which may be before an error of the mappings is found.
 pub fn decode(alloc: Global, json: JSONSourceMap) -> Result<SourceMap<'static>>
     ensures map { IfOk result (λ map. decoded (json_record json) ≡ Ok map) }
     ensures refused { IfErr result (λ e. (e ≢ OutOfMemory) → decoded (json_record json) ≡ Err e) }
@@ -28,16 +28,16 @@ pub fn decode(alloc: Global, json: JSONSourceMap) -> Result<SourceMap<'static>>
     SourceMap::from_json(alloc, json)
 }
 
-/// The map that a JSON text says: `serde_json` reads the text, `JSONSourceMap::from_value` the value, and `decode` the
-/// fields. All its strings are owned.
+/// Reads the map of a JSON text: `serde_json` reads the text, `JSONSourceMap::from_value` the value, and `decode` the
+/// fields. All strings of the map are owned.
 ///
 /// Fails in this order:
-/// - `BadJson(Reading)` where `serde_json` reads no value, as for a text that is not JSON, one with more than white
-///   space after the value, and one that nests deeper than 127;
-/// - what `JSONSourceMap::from_value` refuses;
-/// - what `decode` refuses.
+/// - `BadJson(Reading)` if `serde_json` reads no value, as for a text that is not JSON, one with more than white space
+///   after the value, or one that nests deeper than 127;
+/// - the errors of `JSONSourceMap::from_value`;
+/// - the errors of `decode`.
 ///
-/// `OutOfMemory` if memory is refused, which may be before a fault is met.
+/// Also `OutOfMemory` if memory is refused, which may be before another error is found.
 pub fn decode_from_string(alloc: Global, text: &str) -> Result<SourceMap<'static>>
     ensures map { IfOk result (λ map. read_map text.now ≡ Ok map) }
     ensures refused { IfErr result (λ e. (e ≢ OutOfMemory) → read_map text.now ≡ Err e) }

@@ -11,8 +11,8 @@ use oxc_sourcemap_map::SourceMap;
 use oxc_sourcemap_mappings::Result;
 use std::alloc::Global;
 
-/// The JSON source map of a map: copies of its fields, and its tokens in their canonical text. A list of contents without
-/// any content is left out; any other is written whole. Chunks change nothing but have to fit.
+/// Makes the JSON source map of a map: copies of its fields, and the canonical text of its tokens. A list of contents without
+/// any content is left out; any other is written whole. Chunks change nothing, but have to fit.
 ///
 /// Fails as `encode_mappings` does for the tokens and chunks: `LineOrder(i)`, `BadChunks(k)`, `TooLarge`, in this order;
 /// and with `OutOfMemory` if memory is refused.
@@ -26,10 +26,10 @@ pub fn encode(alloc: Global, sourcemap: &SourceMap<'_>) -> Result<JSONSourceMap>
     sourcemap.to_json(alloc)
 }
 
-/// The JSON text of a map, without spaces and in the order `version`, `file`, `sourceRoot`, `names`, `sources`,
-/// `sourcesContent`, `ignoreList`, `mappings`, `debugId`: what `encode` gives, as text. `names`, `sources` and `mappings`
-/// are always there, `sourcesContent` where there is some content, and the others where the map has them. The `mappings`
-/// are the canonical text of the tokens. Chunks change nothing but have to fit.
+/// Writes the JSON text of a map, without spaces and in the order `version`, `file`, `sourceRoot`, `names`, `sources`,
+/// `sourcesContent`, `ignoreList`, `mappings`, `debugId`. `names`, `sources` and `mappings` are always there,
+/// `sourcesContent` if there is some content, and the others if the map has them. The `mappings` are the canonical text of
+/// the tokens. Chunks change nothing, but have to fit.
 ///
 /// Fails as `encode` does: `LineOrder(i)`, `BadChunks(k)`, `TooLarge`, in this order, and `OutOfMemory` if memory is
 /// refused.

@@ -32,4 +32,5 @@ after_calls b (call ∷ calls) = after_calls (after_call b call) calls
 -- Two names that are added to a builder, with any calls between, get the same id exactly where they are equal.
 abbrev pub EqualIdsForEqualNames : Type 0
 EqualIdsForEqualNames =
-    (b : Built) (name other : Text) (calls : List Call) → ((with_name b name).1 ≡ (with_name (after_calls (with_name b name).0 calls) other).1) ↔ (name ≡ other)
+    (b : Built) (name other : Text) (calls : List Call)
+    → ((with_name b name).1 ≡ (with_name (after_calls (with_name b name).0 calls) other).1) ↔ (name ≡ other)

@@ -1,6 +1,6 @@
 //! Building a map call by call.
 //!
-//! Users name the crate `oxc_sourcemap`, which hands on `SourceMapBuilder` and the law on its names.
+//! Users name the crate `oxc_sourcemap`, which re-exports `SourceMapBuilder` and the law on its names.
 #![tactic(auto)]
 
 mod laws;

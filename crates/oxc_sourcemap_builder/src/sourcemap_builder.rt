@@ -19,8 +19,8 @@ use std::marker::Model;
 
 /// Builds a map call by call. All strings are borrowed for `'a`.
 ///
-/// Ids are counted from 0, in the order in which names and sources come. An add that is refused leaves the builder as it
-/// was, and a refused `into_` call drops it.
+/// Ids are counted from 0, in the order in which names and sources come. Lines and columns count from 0; columns are in
+/// UTF-16 code units. An add that fails leaves the builder unchanged, and an `into_` call that fails drops it.
 #[derive(Drop)]
 pub struct SourceMapBuilder<'a> {
     alloc: Global,
@@ -86,7 +86,8 @@ fn push_source<'a>(
     content: &'a str,
 ) -> std::result::Result<(), AllocError>
     ensures sources { OnOk result (map (λ text. text.now) sources.new.items ≡ map (λ text. text.now) sources.old.items ++ path.now ∷ []) }
-    ensures contents { OnOk result (map (option_map (λ text. text.now)) contents.new.items ≡ map (option_map (λ text. text.now)) contents.old.items ++ Some content.now ∷ []) }
+    ensures contents { OnOk result (map (option_map (λ text. text.now)) contents.new.items
+        ≡ map (option_map (λ text. text.now)) contents.old.items ++ Some content.now ∷ []) }
     ensures unchanged { OnErr result ((sources.new.items ≡ sources.old.items) × (contents.new.items ≡ contents.old.items)) }
 {
     sources.reserve(1)?;
@@ -122,7 +123,8 @@ impl<'a> SourceMapBuilder<'a> {
     /// is then as it was.
     pub fn add_name(&mut self, name: &'a str) -> Result<u32>
         ensures added { IfOk result (λ id. (self.new, id) ≡ with_name self.old name.now) }
-        ensures too_large { IsErrOf result TooLarge ↔ (IsNone (index_of name.now self.old.map.names) × (4294967295 ≤ length self.old.map.names)) }
+        ensures too_large { IsErrOf result TooLarge
+            ↔ (IsNone (index_of name.now self.old.map.names) × (4294967295 ≤ length self.old.map.names)) }
         ensures refused { IfErr result (λ e. (e ≡ OutOfMemory) ⊎ (e ≡ TooLarge)) }
         ensures unchanged { OnErr result (self.new ≡ self.old) }
     {
@@ -140,13 +142,14 @@ impl<'a> SourceMapBuilder<'a> {
     }
 
     /// Adds a source with its content and returns its id. A path that this call has added before keeps its id and its first
-    /// content; sources of `set_source_and_content` do not count.
+    /// content; sources added by `set_source_and_content` are ignored.
     ///
     /// Fails with `TooLarge` if the new id would be 4294967295, then with `OutOfMemory` if memory is refused; the builder
     /// is then as it was.
     pub fn add_source_and_content(&mut self, path: &'a str, content: &'a str) -> Result<u32>
         ensures added { IfOk result (λ id. (self.new, id) ≡ with_path self.old path.now content.now) }
-        ensures too_large { IsErrOf result TooLarge ↔ (IsNone (fin.get self.old.given path.now) × (4294967295 ≤ length self.old.map.sources)) }
+        ensures too_large { IsErrOf result TooLarge
+            ↔ (IsNone (fin.get self.old.given path.now) × (4294967295 ≤ length self.old.map.sources)) }
         ensures refused { IfErr result (λ e. (e ≡ OutOfMemory) ⊎ (e ≡ TooLarge)) }
         ensures unchanged { OnErr result (self.new ≡ self.old) }
     {
@@ -177,8 +180,9 @@ impl<'a> SourceMapBuilder<'a> {
         Ok(last)
     }
 
-    /// Appends a token, as `Token::new` makes it. Nothing is checked: add tokens in the order of their generated positions,
-    /// since a map whose lines decrease is not written (`LineOrder`), and lookups expect sorted columns.
+    /// Appends a token, as `Token::new` makes it: unmapped if `src_id` is None, without a name if `name_id` is None. Nothing
+    /// is checked, ids neither. Add tokens in the order of their generated positions, since writing a map whose lines
+    /// decrease fails with `LineOrder`, and lookups expect sorted columns.
     ///
     /// Fails only with `OutOfMemory`; the builder is then as it was.
     pub fn add_token(
@@ -209,14 +213,14 @@ impl<'a> SourceMapBuilder<'a> {
         Ok(())
     }
 
-    /// Sets the name of the generated file. It cannot be refused.
+    /// Sets the name of the generated file. Cannot fail.
     pub fn set_file(&mut self, file: &'a str)
         ensures { self.new ≡ record self.old { map = record self.old.map { file = Some file.now } } }
     {
         self.file = Some(file);
     }
 
-    /// Sets the chunks in which the tokens are written. Nothing is checked, and it cannot be refused.
+    /// Sets the chunks in which the tokens are written. Nothing is checked, and it cannot fail.
     pub fn set_token_chunks(&mut self, token_chunks: Vec<TokenChunk>)
         ensures { self.new ≡ record self.old { map = record self.old.map { token_chunks = Some token_chunks.items } } }
     {

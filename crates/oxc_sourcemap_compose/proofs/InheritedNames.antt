@@ -1,4 +1,4 @@
--- Names that are taken from another map.
+-- Names that are inherited from another map.
 use Rattle.std.proofs.Common.{◌≡◌, refl, sym, ap, subst, ◌∙◌, ℕ, ◌<◌, true, ◌&&◌, List, [], ◌∷◌, ◌++◌, map, length, Option, Some, None, arith, append_assoc}
 use Rattle.std.proofs.lemmas.List.{append-nil}
 use Rattle.std.proofs.lemmas.List.Elements.{filter_map-append}
@@ -28,25 +28,25 @@ pub with_texts-front : (xs ys : List Text) → (zs : List Text) × (with_texts x
 with_texts-front xs [] = ([], sym (append-nil xs))
 with_texts-front xs (y ∷ ys) = with_texts-front-at (index_of y xs) xs y ys (λ xs. with_texts-front xs ys)
 
--- a name that is taken has a place among these
+-- a name that is inherited has a place among these
 abbrev pub IsPlaced : List Text → Option Text → Type 0
 IsPlaced names None = Unit {0}
 IsPlaced names (Some x) = (i : ℕ) × (index_of x names ≡ Some i)
 
 -- so its place stays as it is
-pub taken-stays : (names more : List Text) (o : Option Text) → IsPlaced names o → inherited_index (with_texts names more) o ≡ inherited_index names o
-taken-stays names more None p = refl
-taken-stays names more (Some x) p = index-stays x p.0 names more p.1 ∙ sym p.1
+pub inherited-stays : (names more : List Text) (o : Option Text) → IsPlaced names o → inherited_index (with_texts names more) o ≡ inherited_index names o
+inherited-stays names more None p = refl
+inherited-stays names more (Some x) p = index-stays x p.0 names more p.1 ∙ sym p.1
 
 placed-more : (names more : List Text) (o : Option Text) → IsPlaced names o → IsPlaced (with_texts names more) o
 placed-more names more None p = tt
 placed-more names more (Some x) p = (p.0, index-stays x p.0 names more p.1)
 
-pub placed-taken : (names : List Text) (o : Option Text) → IsPlaced (with_inherited names o) o
-placed-taken names None = tt
-placed-taken names (Some x) = (unwrap_or (index_of x names) (length names), index-with x names)
+pub placed-inherited : (names : List Text) (o : Option Text) → IsPlaced (with_inherited names o) o
+placed-inherited names None = tt
+placed-inherited names (Some x) = (unwrap_or (index_of x names) (length names), index-with x names)
 
--- the names with those that these targets take, from the first target on
+-- the names with those that these targets inherit, from the first target on
 names-cons-of : (o : Option Text) (first names : List Text) (l : Target) (ls : List Target) → inherited_name first l ≡ o → composed_names first names (l ∷ ls) ≡ composed_names first (with_inherited names o) ls
 names-cons-of None first names l ls e = rw e
 names-cons-of (Some x) first names l ls e = rw e
@@ -57,27 +57,27 @@ names-cons first names l ls = names-cons-of (inherited_name first l) first names
 pub names-append : (first names : List Text) (ls ms : List Target) → composed_names first names (ls ++ ms) ≡ composed_names first (composed_names first names ls) ms
 names-append first names ls ms = ap (with_texts names) (filter_map-append (inherited_name first) ls ms) ∙ with_texts-append names (filter_map (inherited_name first) ls) (filter_map (inherited_name first) ms)
 
--- each name that is taken has a place in the end
+-- each name that is inherited has a place in the end
 pub all-placed : (first names : List Text) (ls : List Target) → AllByRecursion (λ l. IsPlaced (composed_names first names ls) (inherited_name first l)) ls
 all-placed first names [] = tt
 all-placed first names (l ∷ ls) =
     let o = inherited_name first l in
     let e = names-cons first names l ls in
     subst (λ ns. AllByRecursion (λ (l : Target). IsPlaced ns (inherited_name first l)) (l ∷ ls)) (sym e)
-    (placed-more (with_inherited names o) (filter_map (inherited_name first) ls) o (placed-taken names o), all-placed first (with_inherited names o) ls)
+    (placed-more (with_inherited names o) (filter_map (inherited_name first) ls) o (placed-inherited names o), all-placed first (with_inherited names o) ls)
 
 -- with more names, ids and tokens stay as they are
 module _ (first names more : List Text) where
   pub tokens-stay : (ls : List Target) → AllByRecursion (λ l. IsPlaced names (inherited_name first l)) ls → map (composed_token first (with_texts names more)) ls ≡ map (composed_token first names) ls
   tokens-stay [] p = refl
   tokens-stay (l ∷ ls) p =
-      ap (λ id. token_through l.token id l.found ∷ map (composed_token first (with_texts names more)) ls) (taken-stays names more (inherited_name first l) p.0)
+      ap (λ id. token_through l.token id l.found ∷ map (composed_token first (with_texts names more)) ls) (inherited-stays names more (inherited_name first l) p.0)
       ∙ ap (λ ts. composed_token first names l ∷ ts) (tokens-stay ls p.1)
 
   pub ids-stay : (ls : List Target) → AllByRecursion (λ l. IsPlaced names (inherited_name first l)) ls → are_ids first (with_texts names more) ls ≡ are_ids first names ls
   ids-stay [] p = refl
   ids-stay (l ∷ ls) p =
-      ap (λ id. may_be_id id && are_ids first (with_texts names more) ls) (taken-stays names more (inherited_name first l) p.0)
+      ap (λ id. may_be_id id && are_ids first (with_texts names more) ls) (inherited-stays names more (inherited_name first l) p.0)
       ∙ ap (λ b. may_be_id (inherited_id first names l) && b) (ids-stay ls p.1)
 
 -- a token keeps such ids

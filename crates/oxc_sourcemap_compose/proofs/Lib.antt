@@ -1,5 +1,5 @@
 pub mod InheritedNames
-pub mod Takings
+pub mod KeptNames
 pub mod Targets
 pub mod Compositions
 mod Worked

@@ -11,8 +11,8 @@ use Rattle.oxc_sourcemap_parts.specs.Sorted.{token_line, token_column}
 use Rattle.oxc_sourcemap_lookup.specs.Lookup.{first, last, greatest, not_past, in_column, at, clamped_at, clamped_pick, on_line, no_column_goes_back}
 use Rattle.oxc_sourcemap_parts.specs.Texts.{with_texts}
 use Rattle.oxc_sourcemap_compose.specs.InheritedNames.{with_inherited, inherited_index}
-use Rattle.oxc_sourcemap_compose.specs.Composed.{Target, target_of, if_mapped, found_on, line_of, target_in, inherited_name, inherited_id, composed_names, composed_token, may_be_id, are_ids, IsTarget, AreTargets}
-use Rattle.oxc_sourcemap_compose.proofs.InheritedNames.{IsPlaced, taken-stays, placed-taken, names-cons, names-append, all-placed, tokens-stay, ids-stay}
+use Rattle.oxc_sourcemap_compose.specs.Composed.{Target, target_of, if_mapped, found_on, line_of, target_in, inherited_name, inherited_id, composed_names, composed_token, may_be_id, are_ids, MayFind, IsTarget, AreTargets}
+use Rattle.oxc_sourcemap_compose.proofs.InheritedNames.{IsPlaced, inherited-stays, placed-inherited, names-cons, names-append, all-placed, tokens-stay, ids-stay}
 
 -- what is looked up is of the list
 module _ {A : Type 0} (P : A → Type 0) where
@@ -76,14 +76,31 @@ unmapped-none : (id : Option ℕ) (o : Option TokenRecord) → is_some id ≡ fa
 unmapped-none None o h = refl
 unmapped-none (Some id) o h = cc (h)
 
+mapped-same : (id : Option ℕ) (o : Option TokenRecord) → is_some id ≡ true → option_and_then (λ _. o) id ≡ o
+mapped-same None o h = cc (h)
+mapped-same (Some id) o h = refl
+
+clamped-none : (o : Option TokenRecord) (line : List TokenRecord) → option_or o (first line) ≡ None → line ≡ []
+clamped-none (Some t) line e = cc (e)
+clamped-none None [] e = refl
+clamped-none None (t ∷ line) e = cc (e)
+
+-- what the clamped lookup finds it may find
+may_find : (line : List TokenRecord) (col : ℕ) → MayFind line col (clamped_at token_column line col)
+may_find line col = record {
+  exact = λ _. refl;
+  among = clamped_at-all (Contains line) token_column line col (recursion_from_All _ line (All-contains_itself line));
+  nothing = clamped-none (at token_column line col) line;
+}
+
 -- what a token leads to by the clamped lookup is a target
 pub is_target : (bs : List TokenRecord) (t : TokenRecord) → IsTarget (line_of bs t) (target_in bs t)
 is_target bs t =
     let line = line_of bs t in
+    let found = clamped_at token_column line t.src_col in
     record {
-      among = found-all-of (Contains line) t.source_id (clamped_at token_column line t.src_col) (clamped_at-all (Contains line) token_column line t.src_col (recursion_from_All _ line (All-contains_itself line)));
-      unmapped = unmapped-none t.source_id (option_and_then if_mapped (clamped_at token_column line t.src_col));
-      found = λ _. refl;
+      unmapped = unmapped-none t.source_id (option_and_then if_mapped found);
+      mapped = λ m. (found, may_find line t.src_col, mapped-same t.source_id (option_and_then if_mapped found) m);
     }
 
 pub are_targets : (bs ts : List TokenRecord) → AreTargets ts bs (map (target_in bs) ts)
@@ -112,11 +129,11 @@ names-last : (olds old : List Text) (ls : List Target) (l : Target) → composed
 names-last olds old ls l = names-append olds old ls (l ∷ []) ∙ names-cons olds (composed_names olds old ls) l []
 
 -- the inherited names, as texts that come in
-abbrev taken_texts : Option Text → List Text
-taken_texts None = []
-taken_texts (Some x) = x ∷ []
+abbrev inherited_texts : Option Text → List Text
+inherited_texts None = []
+inherited_texts (Some x) = x ∷ []
 
-with_inherited-texts : (names : List Text) (o : Option Text) → with_inherited names o ≡ with_texts names (taken_texts o)
+with_inherited-texts : (names : List Text) (o : Option Text) → with_inherited names o ≡ with_texts names (inherited_texts o)
 with_inherited-texts names None = refl
 with_inherited-texts names (Some x) = refl
 
@@ -133,9 +150,9 @@ pub made-more : (olds old : List Text) (ts us bs : List TokenRecord) (now next :
 made-more olds old ts us bs now next made mores l m u h n t i =
     let o = inherited_name olds l in
     let placed = placed-ls olds old now m.ls m.names in
-    let e : next ≡ with_texts now (taken_texts o) = n ∙ with_inherited-texts now o in
-    let stay : map (composed_token olds next) m.ls ≡ map (composed_token olds now) m.ls = ap (λ ns. map (composed_token olds ns) m.ls) e ∙ tokens-stay olds now (taken_texts o) m.ls placed in
-    let ids : are_ids olds next m.ls ≡ true = ap (λ ns. are_ids olds ns m.ls) e ∙ ids-stay olds now (taken_texts o) m.ls placed ∙ m.ids in
+    let e : next ≡ with_texts now (inherited_texts o) = n ∙ with_inherited-texts now o in
+    let stay : map (composed_token olds next) m.ls ≡ map (composed_token olds now) m.ls = ap (λ ns. map (composed_token olds ns) m.ls) e ∙ tokens-stay olds now (inherited_texts o) m.ls placed in
+    let ids : are_ids olds next m.ls ≡ true = ap (λ ns. are_ids olds ns m.ls) e ∙ ids-stay olds now (inherited_texts o) m.ls placed ∙ m.ids in
     record {
       ls = m.ls ++ l ∷ [];
       targets = subst (λ xs. AreTargets xs bs (m.ls ++ l ∷ [])) (sym u) (targets-append ts (l.token ∷ []) bs m.ls (l ∷ []) m.targets (refl, (h, tt)));
@@ -146,7 +163,7 @@ made-more olds old ts us bs now next made mores l m u h n t i =
 
 -- one name is past the ids, whatever comes after it
 past-stays : (names more : List Text) (o : Option Text) → IsPlaced names o → may_be_id (inherited_index names o) ≡ false → may_be_id (inherited_index (with_texts names more) o) ≡ false
-past-stays names more o p h = ap may_be_id (taken-stays names more o p) ∙ h
+past-stays names more o p h = ap may_be_id (inherited-stays names more o p) ∙ h
 
 and-false : (a b c : Bool) → b ≡ false → (a && (b && c)) ≡ false
 and-false true b c e = rw e
@@ -162,16 +179,24 @@ past-all olds old ts bs now made l more all m u h p =
     let end : composed_names olds old ls ≡ with_texts (with_inherited now o) (filter_map (inherited_name olds) rest) =
     names-append olds old m.ls (l ∷ rest) ∙ names-cons olds (composed_names olds old m.ls) l rest ∙ ap (λ ns. with_texts (with_inherited ns o) (filter_map (inherited_name olds) rest)) (sym m.names) in
     let names = composed_names olds old ls in
-    let past : may_be_id (inherited_id olds names l) ≡ false = ap (λ ns. may_be_id (inherited_index ns o)) end ∙ past-stays (with_inherited now o) (filter_map (inherited_name olds) rest) o (placed-taken now o) p in
+    let past : may_be_id (inherited_id olds names l) ≡ false = ap (λ ns. may_be_id (inherited_index ns o)) end ∙ past-stays (with_inherited now o) (filter_map (inherited_name olds) rest) o (placed-inherited now o) p in
     let targets : AreTargets (l.token ∷ more) bs (l ∷ rest) = (let r = are_targets bs more in (ap (λ us. l.token ∷ us) r.0, (h, r.1))) in (
       ls,
       subst (λ xs. AreTargets xs bs ls) u (targets-append ts (l.token ∷ more) bs m.ls (l ∷ rest) m.targets targets),
       list_all-append (λ l. may_be_id (inherited_id olds names l)) m.ls (l ∷ rest) ∙ and-false (are_ids olds names m.ls) (may_be_id (inherited_id olds names l)) (are_ids olds names rest) past,
     )
 
--- where columns go on, a lead is the one of the clamped lookup
+-- where columns go on, a target is the one of the clamped lookup
+found-is : (line : List TokenRecord) (l : Target) → IsTarget line l → no_column_goes_back token_column line ≡ true → l.found ≡ found_on line l.token
+found-is line l h g =
+    let here = option_and_then if_mapped (clamped_at token_column line l.token.src_col) in
+    elim (is_mapped l.token) as (λ b. is_mapped l.token ≡ b → l.found ≡ found_on line l.token) [
+      | true ↦ (λ m. let may = h.mapped m in may.2 ∙ ap (option_and_then if_mapped) (may.1.exact g) ∙ sym (mapped-same l.token.source_id here m))
+      | false ↦ (λ m. h.unmapped m ∙ sym (unmapped-none l.token.source_id here m))
+    ] refl
+
 target-is : (bs : List TokenRecord) (l : Target) → IsTarget (line_of bs l.token) l → no_column_goes_back token_column (line_of bs l.token) ≡ true → l ≡ target_in bs l.token
-target-is bs l h g = ap (target_of l.token) (h.found g)
+target-is bs l h g = ap (target_of l.token) (found-is (line_of bs l.token) l h g)
 
 pub targets-are : (bs : List TokenRecord) (ls : List Target) → ((n : ℕ) → no_column_goes_back token_column (on_line token_line n bs) ≡ true) → AllByRecursion (λ l. IsTarget (line_of bs l.token) l) ls → ls ≡ map (target_in bs) (map (λ l. l.token) ls)
 targets-are bs [] g h = refl

@@ -1,5 +1,5 @@
 -- Composition: a map from generated to intermediate code, and one from intermediate to original code, made one map.
-use Rattle.std.specs.Prelude.{◌≡◌, ℕ, Bool, true, false, List, map, length, Option, Some, None, option_map, Result, Ok, Err, IfSome, if◌then◌else◌, nat_lt}
+use Rattle.std.specs.Prelude.{◌≡◌, ℕ, Bool, true, false, List, [], map, length, Option, Some, None, option_map, Result, Ok, Err, IfSome, if◌then◌else◌, nat_lt}
 use Rattle.std.specs.List.{filter_map, list_all, Contains, AllByRecursion}
 use Rattle.std.specs.Option.{option_and_then, option_or}
 use Rattle.oxc_sourcemap_mappings.specs.declared.error.Error.{Error}
@@ -106,15 +106,23 @@ abbrev pub composition_by : List Target → MapRecord → MapRecord → Result M
 composition_by ls a b = unless (composition_fault a b)
     (if are_ids a.names (composed_names a.names b.names ls) ls then Ok (composed_by ls a b) else Err TooLarge)
 
+-- The composition of two maps: the composed map, or the first error.
 abbrev pub composition : MapRecord → MapRecord → Result MapRecord Error
 composition a b = composition_by (targets a b) a b
 
--- Columns may go back on the line that a token leads into. It is then open to which mapped token of the line it leads, if
--- to any.
+-- What the clamped lookup of a column may find on a line: exactly the token of `clamped_at` if no column goes back. If one
+-- does, it is open which token of the line. It finds nothing only on an empty line.
+pub record MayFind (line : List TokenRecord) (col : ℕ) (found : Option TokenRecord) : Type 0 where
+  pub exact : no_column_goes_back token_column line ≡ true → found ≡ clamped_at token_column line col
+  pub among : IfSome found (Contains line)
+  pub nothing : found ≡ None → line ≡ []
+
+-- Where a token may lead, if this is the line of its source position in the second map. An unmapped token leads nowhere. A
+-- mapped one leads to what the clamped lookup of its source column may find there, if that is mapped, else nowhere.
 pub record IsTarget (line : List TokenRecord) (l : Target) : Type 0 where
-  pub among : IfSome l.found (λ u. Contains line u × (is_mapped u ≡ true))
   pub unmapped : is_mapped l.token ≡ false → l.found ≡ None
-  pub found : no_column_goes_back token_column line ≡ true → l.found ≡ found_on line l.token
+  pub mapped : is_mapped l.token ≡ true
+      → (found : Option TokenRecord) × MayFind line l.token.src_col found × (l.found ≡ option_and_then if_mapped found)
 
 -- targets of these tokens into those
 abbrev pub AreTargets : List TokenRecord → List TokenRecord → List Target → Type 0

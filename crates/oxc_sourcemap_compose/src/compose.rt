@@ -5,41 +5,40 @@ ghost use Rattle.std.specs.Box.{boxed_slice_items};
 ghost use Rattle.std.specs.Cow.{cow_str_bytes};
 ghost use Rattle.oxc_sourcemap_mappings.specs.declared.error.Error.{Error};
 ghost use Rattle.oxc_sourcemap_mappings.specs.declared.error.Error.TheVariants.{OutOfMemory, TooLarge};
-ghost use Rattle.oxc_sourcemap_mappings.specs.Canonical.{IsInLineOrder};
 ghost use Rattle.oxc_sourcemap_parts.specs.Views.{texts_of, record_of_parts};
 ghost use Rattle.oxc_sourcemap_parts.specs.Sorted.{are_tokens_sorted};
-ghost use Rattle.oxc_sourcemap_lookup.specs.Lookup.{slice_of};
-ghost use Rattle.oxc_sourcemap_compose.specs.Composed.{Target, target_of, IsTarget, AreTargets, inherited_name, composed_names, composed_token, may_be_id, are_ids, composition_fault, composition, SomeComposition, NoColumnGoesBack};
+ghost use Rattle.oxc_sourcemap_lookup.specs.LineSpans.{IsIndexOf};
+ghost use Rattle.oxc_sourcemap_compose.specs.Composed.{Target, target_of, line_of, IsTarget, AreTargets, inherited_name, composed_names, composed_token, may_be_id, are_ids, composition_fault, composition, SomeComposition, NoColumnGoesBack};
 ghost use Rattle.oxc_sourcemap_compose.specs.InheritedNames.{with_inherited, inherited_index};
-ghost use Rattle.oxc_sourcemap_compose.specs.Inherited.{names_with, IsTaking};
+ghost use Rattle.oxc_sourcemap_compose.specs.Inherited.{names_with, IsInheriting};
 
-use crate::inherited_names::{InheritedNames, copied_names, no_names, take_id};
-use oxc_sourcemap_lookup::{search_clamped, slice_of, table_of};
-use oxc_sourcemap_mappings::{Error, Result, Token, line_order_fault};
+use crate::inherited_names::{InheritedNames, copied_names, inherit_id, no_names};
+use oxc_sourcemap_lookup::{LineIndex, search_clamped};
+use oxc_sourcemap_mappings::{Error, Result, Token};
 use oxc_sourcemap_parts::{SourceMapParts, detached_text};
 use std::alloc::Global;
 use std::borrow::CowStr;
 
-/// The token of the composed map for a token of the first one, and for what that leads to. It may take a name of the first
-/// map along.
+/// The token of the composed map for a token of the first one, and for what that leads to. It may inherit a name of the
+/// first map.
 fn composed_token<'n>(
-    taken: &mut InheritedNames<'n>,
+    inherited: &mut InheritedNames<'n>,
     first: &'n [CowStr<'_>],
     second: &'n [CowStr<'_>],
     token: &Token,
     found: Option<Token>,
 ) -> Result<Token>
-    requires { IsTaking (map cow_str_bytes first.now) (map cow_str_bytes second.now) taken.old }
+    requires { IsInheriting (map cow_str_bytes first.now) (map cow_str_bytes second.now) inherited.old }
     ensures names { let name = inherited_name (map cow_str_bytes first.now) (target_of token.now found) in
         let second = map cow_str_bytes second.now in
-        OnOk result (names_with second taken.new ≡ with_inherited (names_with second taken.old) name) }
-    ensures token { IfOk result (λ t. t ≡ composed_token (map cow_str_bytes first.now) (names_with (map cow_str_bytes second.now) taken.new) (target_of token.now found)) }
+        OnOk result (names_with second inherited.new ≡ with_inherited (names_with second inherited.old) name) }
+    ensures token { IfOk result (λ t. t ≡ composed_token (map cow_str_bytes first.now) (names_with (map cow_str_bytes second.now) inherited.new) (target_of token.now found)) }
     ensures id { let name = inherited_name (map cow_str_bytes first.now) (target_of token.now found) in
-        OnOk result (may_be_id (inherited_index (names_with (map cow_str_bytes second.now) taken.new) name) ≡ true) }
-    ensures kept { OnOk result (IsTaking (map cow_str_bytes first.now) (map cow_str_bytes second.now) taken.new) }
+        OnOk result (may_be_id (inherited_index (names_with (map cow_str_bytes second.now) inherited.new) name) ≡ true) }
+    ensures kept { OnOk result (IsInheriting (map cow_str_bytes first.now) (map cow_str_bytes second.now) inherited.new) }
     ensures refused { let name = inherited_name (map cow_str_bytes first.now) (target_of token.now found) in
         IfErr result (λ e. (e ≢ OutOfMemory) → (e ≡ TooLarge)
-        × (may_be_id (inherited_index (with_inherited (names_with (map cow_str_bytes second.now) taken.old) name) name) ≡ false)) }
+        × (may_be_id (inherited_index (with_inherited (names_with (map cow_str_bytes second.now) inherited.old) name) name) ≡ false)) }
 {
     let (line, col) = (token.get_dst_line(), token.get_dst_col());
     let Some(found) = found else {
@@ -47,7 +46,7 @@ fn composed_token<'n>(
     };
     let name_id = match found.get_name_id() {
         Some(id) => Some(id),
-        None => take_id(taken, first, second, token.get_name_id())?,
+        None => inherit_id(inherited, first, second, token.get_name_id())?,
     };
     Ok(Token::new(
         line,
@@ -59,12 +58,14 @@ fn composed_token<'n>(
     ))
 }
 
-/// The mapped token that a token leads to, by the clamped lookup of its source position in the second map's table.
-fn target(table: &[&[Token]], token: &Token) -> Option<Token>
-    ensures { IsTarget (slice_of (map (λ s. s.now) table.now) token.now.src_line) (target_of token.now result) }
+/// The mapped token that a token leads to, by the clamped lookup of its source position among the tokens of the second map.
+/// Its line is looked for first at `near`, which becomes the place where it was found.
+fn target(index: &LineIndex, input: &[Token], token: &Token, near: &mut usize) -> Option<Token>
+    requires { IsIndexOf input.now index.now }
+    ensures { IsTarget (line_of input.now token.now) (target_of token.now result) }
 {
     token.get_source_id()?;
-    let line = slice_of(table, token.get_src_line());
+    let line = index.tokens_near(input, token.get_src_line(), near);
     let found = search_clamped(line, token.get_src_col())?;
     found.get_source_id()?;
     Some(found)
@@ -78,8 +79,9 @@ fn composed_tokens<'a>(
     tokens: &[Token],
     second: &[CowStr<'_>],
     input: &[Token],
+    index: &LineIndex,
 ) -> Result<(Vec<Token>, Vec<CowStr<'a>>)>
-    requires { IsInLineOrder input.now }
+    requires { IsIndexOf input.now index.now }
     ensures composed { let olds = map cow_str_bytes first.now in let names = map cow_str_bytes second.now in
         IfOk result (λ made. (ls : List Target) × AreTargets tokens.now input.now ls
         × (names ++ texts_of made.1 ≡ composed_names olds names ls)
@@ -89,31 +91,35 @@ fn composed_tokens<'a>(
         IfErr result (λ e. (e ≢ OutOfMemory) → (e ≡ TooLarge) × (ls : List Target) × AreTargets tokens.now input.now ls
         × (are_ids olds (composed_names olds names ls) ls ≡ false)) }
 {
-    let table = table_of(alloc, input)?;
-    let mut taken = no_names(alloc, first, second)?;
+    let mut inherited = no_names(alloc, first, second)?;
     let mut composed = Vec::with_capacity(alloc, tokens.len())?;
+    let mut near = 0;
     for token in tokens {
-        let found = target(table.as_slice(), token);
-        composed.push(composed_token(&mut taken, first, second, token, found)?)?;
+        let found = target(index, input, token, &mut near);
+        composed.push(composed_token(&mut inherited, first, second, token, found)?)?;
     }
-    let names = copied_names(alloc, taken)?;
+    let names = copied_names(alloc, inherited)?;
     Ok((composed, names))
 }
 
-/// Why two maps are not composed, if they are not: the first has several sources, or the tokens of the second go back in
-/// lines.
-fn composition_fault(first: &SourceMapParts<'_>, second: &SourceMapParts<'_>) -> Option<Error>
-    ensures fault { result ≡ composition_fault (record_of_parts first.now) (record_of_parts second.now) }
-    ensures in_order { result ≡ None → IsInLineOrder (boxed_slice_items second.now.tokens) }
+/// The index of the second map's lines. It fails if the first map has several sources, or the tokens of the second go back
+/// in lines.
+fn input_index(
+    alloc: Global,
+    first: &SourceMapParts<'_>,
+    second: &SourceMapParts<'_>,
+) -> Result<LineIndex>
+    ensures index { IfOk result (λ index. (composition_fault (record_of_parts first.now) (record_of_parts second.now) ≡ None) × IsIndexOf (boxed_slice_items second.now.tokens) index) }
+    ensures refused { IfErr result (λ e. (e ≢ OutOfMemory) → composition_fault (record_of_parts first.now) (record_of_parts second.now) ≡ Some e) }
+    ensures fault { (e : Error) → composition_fault (record_of_parts first.now) (record_of_parts second.now) ≡ Some e → result ≡ Err e }
 {
     if first.sources.len() > 1 {
-        return Some(Error::SeveralSources(first.sources.len()));
+        return Err(Error::SeveralSources(first.sources.len()));
     }
-    let i = line_order_fault(second.tokens.as_slice())?;
-    Some(Error::LineOrder(i))
+    LineIndex::new(alloc, second.tokens.as_slice())
 }
 
-/// Makes the second map the composition of the two. Texts of the first that it takes are moved.
+/// Makes the second map the composition of the two. Texts of the first that it keeps are moved.
 fn compose_into(
     alloc: Global,
     first: &mut SourceMapParts<'_>,
@@ -123,15 +129,14 @@ fn compose_into(
     ensures refused { IfErr result (λ e. (e ≢ OutOfMemory) → SomeComposition (record_of_parts first.old) (record_of_parts second.old) (Err e)) }
     ensures fault { (e : Error) → composition_fault (record_of_parts first.old) (record_of_parts second.old) ≡ Some e → result ≡ Err e }
 {
-    if let Some(fault) = composition_fault(first, second) {
-        return Err(fault);
-    }
+    let index = input_index(alloc, first, second)?;
     let (tokens, mut names) = composed_tokens(
         alloc,
         first.names.as_slice(),
         first.tokens.as_slice(),
         second.names.as_slice(),
         second.tokens.as_slice(),
+        &index,
     )?;
     second.names.append(&mut names)?;
     second.file = detached_text(alloc, first.file.take())?;

@@ -1,4 +1,4 @@
-//! The names that composition takes from the first map. Their ids are found by hashing.
+//! The names that a composed map inherits from the first map. Their ids are found by hashing.
 ghost use Rattle.std.specs.Prelude.{◌≡◌, ◌≢◌, ◌<◌, ◌≤◌, ◌⊎◌, ℕ, [], length, map, option_map, slice_get, IfOk, OnOk, IfErr, Some, None, true, false};
 ghost use Rattle.std.specs.Cow.{cow_str_bytes};
 ghost use Rattle.std.specs.Option.{option_and_then};
@@ -7,19 +7,19 @@ ghost use Rattle.oxc_sourcemap_parts.specs.Views.{texts_of};
 ghost use Rattle.oxc_sourcemap_parts.specs.Texts.{index_of, with_text};
 ghost use Rattle.oxc_sourcemap_compose.specs.Composed.{may_be_id};
 ghost use Rattle.oxc_sourcemap_compose.specs.InheritedNames.{with_inherited, inherited_index};
-ghost use Rattle.oxc_sourcemap_compose.specs.Inherited.{names_with, HasPlaces, HasNames, IsTaking};
+ghost use Rattle.oxc_sourcemap_compose.specs.Inherited.{names_with, HasPlaces, HasNames, IsInheriting};
 
 use oxc_sourcemap_mappings::{Error, Result};
 use std::alloc::{AllocError, Global};
 use std::borrow::CowStr;
 use std::collections::HashMap;
 
-/// The names taken from the first map so far, and what is known of names. Texts are borrowed from both maps.
+/// The names inherited from the first map so far, and what is known of names. Texts are borrowed from both maps.
 #[derive(Drop)]
 pub(crate) struct InheritedNames<'n> {
-    /// The taken names that the second map does not have, in the order in which they were taken.
+    /// The inherited names that the second map does not have, in the order in which they were inherited.
     names: Vec<&'n str>,
-    /// The index of each name of the second map, and after these of each of `names`. Empty until a name is taken.
+    /// The index of each name of the second map, and after these of each of `names`. Empty until a name is inherited.
     places: HashMap<&'n str, usize>,
     /// The id that each name of the first map has got.
     ids: Vec<Option<u32>>,
@@ -31,7 +31,7 @@ pub(crate) fn no_names<'n>(
     first: &[CowStr<'_>],
     second: &[CowStr<'_>],
 ) -> std::result::Result<InheritedNames<'n>, AllocError>
-    ensures { IfOk result (λ taken. IsTaking (map cow_str_bytes first.now) (map cow_str_bytes second.now) taken × (names_with (map cow_str_bytes second.now) taken ≡ map cow_str_bytes second.now)) }
+    ensures { IfOk result (λ inherited. IsInheriting (map cow_str_bytes first.now) (map cow_str_bytes second.now) inherited × (names_with (map cow_str_bytes second.now) inherited ≡ map cow_str_bytes second.now)) }
 {
     let mut ids = Vec::with_capacity(alloc, first.len())?;
     ids.resize(first.len(), None)?;
@@ -59,16 +59,16 @@ fn fill_places<'n>(
 
 /// Fills the map of places, unless it is filled.
 fn fill<'n>(
-    taken: &mut InheritedNames<'n>,
+    inherited: &mut InheritedNames<'n>,
     second: &'n [CowStr<'_>],
 ) -> std::result::Result<(), AllocError>
-    requires { HasNames (map cow_str_bytes second.now) taken.old }
-    ensures places { OnOk result (HasPlaces (names_with (map cow_str_bytes second.now) taken.new) taken.new.places) }
-    ensures names { taken.new.names.items ≡ taken.old.names.items }
-    ensures ids { taken.new.ids.items ≡ taken.old.ids.items }
+    requires { HasNames (map cow_str_bytes second.now) inherited.old }
+    ensures places { OnOk result (HasPlaces (names_with (map cow_str_bytes second.now) inherited.new) inherited.new.places) }
+    ensures names { inherited.new.names.items ≡ inherited.old.names.items }
+    ensures ids { inherited.new.ids.items ≡ inherited.old.ids.items }
 {
-    if taken.places.is_empty() {
-        fill_places(&mut taken.places, second)?;
+    if inherited.places.is_empty() {
+        fill_places(&mut inherited.places, second)?;
     }
     Ok(())
 }
@@ -85,48 +85,48 @@ fn id_at(index: usize) -> Result<u32>
 }
 
 /// The id of a name: that of the equal one, else that of a new last one.
-fn take_name<'n>(
-    taken: &mut InheritedNames<'n>,
+fn inherit_name<'n>(
+    inherited: &mut InheritedNames<'n>,
     second: &'n [CowStr<'_>],
     name: &'n str,
 ) -> Result<u32>
-    requires { HasNames (map cow_str_bytes second.now) taken.old }
+    requires { HasNames (map cow_str_bytes second.now) inherited.old }
     ensures names { let second = map cow_str_bytes second.now in
-        OnOk result (names_with second taken.new ≡ with_text (names_with second taken.old) name.now) }
-    ensures id { IfOk result (λ id. (index_of name.now (names_with (map cow_str_bytes second.now) taken.new) ≡ Some id) × (id < 4294967295)) }
-    ensures kept { OnOk result (HasNames (map cow_str_bytes second.now) taken.new) }
-    ensures ids { taken.new.ids.items ≡ taken.old.ids.items }
+        OnOk result (names_with second inherited.new ≡ with_text (names_with second inherited.old) name.now) }
+    ensures id { IfOk result (λ id. (index_of name.now (names_with (map cow_str_bytes second.now) inherited.new) ≡ Some id) × (id < 4294967295)) }
+    ensures kept { OnOk result (HasNames (map cow_str_bytes second.now) inherited.new) }
+    ensures ids { inherited.new.ids.items ≡ inherited.old.ids.items }
     ensures refused { IfErr result (λ e. (e ≢ OutOfMemory) → (e ≡ TooLarge)
-        × (may_be_id (index_of name.now (with_text (names_with (map cow_str_bytes second.now) taken.old) name.now)) ≡ false)) }
+        × (may_be_id (index_of name.now (with_text (names_with (map cow_str_bytes second.now) inherited.old) name.now)) ≡ false)) }
 {
-    fill(taken, second)?;
-    if let Some(index) = taken.places.get(name) {
+    fill(inherited, second)?;
+    if let Some(index) = inherited.places.get(name) {
         return id_at(*index);
     }
-    let index = second.len().saturating_add(taken.names.len());
+    let index = second.len().saturating_add(inherited.names.len());
     let id = id_at(index)?;
-    taken.names.push(name)?;
-    taken.places.insert(name, index)?;
+    inherited.names.push(name)?;
+    inherited.places.insert(name, index)?;
     Ok(id)
 }
 
 /// The id in the composed map of the name that the first map has at this id; it may be a new last one.
-pub(crate) fn take_id<'n>(
-    taken: &mut InheritedNames<'n>,
+pub(crate) fn inherit_id<'n>(
+    inherited: &mut InheritedNames<'n>,
     first: &'n [CowStr<'_>],
     second: &'n [CowStr<'_>],
     id: Option<u32>,
 ) -> Result<Option<u32>>
-    requires { IsTaking (map cow_str_bytes first.now) (map cow_str_bytes second.now) taken.old }
+    requires { IsInheriting (map cow_str_bytes first.now) (map cow_str_bytes second.now) inherited.old }
     ensures names { let name = option_and_then (slice_get (map cow_str_bytes first.now)) id in
         let second = map cow_str_bytes second.now in
-        OnOk result (names_with second taken.new ≡ with_inherited (names_with second taken.old) name) }
+        OnOk result (names_with second inherited.new ≡ with_inherited (names_with second inherited.old) name) }
     ensures id { let name = option_and_then (slice_get (map cow_str_bytes first.now)) id in
-        IfOk result (λ id. (inherited_index (names_with (map cow_str_bytes second.now) taken.new) name ≡ id) × (may_be_id id ≡ true)) }
-    ensures kept { OnOk result (IsTaking (map cow_str_bytes first.now) (map cow_str_bytes second.now) taken.new) }
+        IfOk result (λ id. (inherited_index (names_with (map cow_str_bytes second.now) inherited.new) name ≡ id) × (may_be_id id ≡ true)) }
+    ensures kept { OnOk result (IsInheriting (map cow_str_bytes first.now) (map cow_str_bytes second.now) inherited.new) }
     ensures refused { let name = option_and_then (slice_get (map cow_str_bytes first.now)) id in
         IfErr result (λ e. (e ≢ OutOfMemory) → (e ≡ TooLarge)
-        × (may_be_id (inherited_index (with_inherited (names_with (map cow_str_bytes second.now) taken.old) name) name) ≡ false)) }
+        × (may_be_id (inherited_index (with_inherited (names_with (map cow_str_bytes second.now) inherited.old) name) name) ≡ false)) }
 {
     let Some(id) = id else {
         return Ok(None);
@@ -135,22 +135,22 @@ pub(crate) fn take_id<'n>(
     if i >= first.len() {
         return Ok(None);
     }
-    if let Some(known) = taken.ids[i] {
+    if let Some(known) = inherited.ids[i] {
         return Ok(Some(known));
     }
-    let id = take_name(taken, second, first[i].as_str())?;
-    taken.ids[i] = Some(id);
+    let id = inherit_name(inherited, second, first[i].as_str())?;
+    inherited.ids[i] = Some(id);
     Ok(Some(id))
 }
 
-/// Copies of the names that were taken.
+/// Copies of the names that were inherited.
 pub(crate) fn copied_names<'a>(
     alloc: Global,
-    taken: InheritedNames<'_>,
+    inherited: InheritedNames<'_>,
 ) -> std::result::Result<Vec<CowStr<'a>>, AllocError>
-    ensures { IfOk result (λ copies. texts_of copies ≡ map (λ name. name.now) taken.entry.names.items) }
+    ensures { IfOk result (λ copies. texts_of copies ≡ map (λ name. name.now) inherited.entry.names.items) }
 {
-    let InheritedNames { names, .. } = taken;
+    let InheritedNames { names, .. } = inherited;
     let mut copies = Vec::with_capacity(alloc, names.len())?;
     for name in names {
         copies.push(CowStr::Owned(String::from_str(alloc, name)?))?;

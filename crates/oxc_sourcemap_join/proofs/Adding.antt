@@ -1,5 +1,5 @@
 -- What an add works out is right.
-use Rattle.std.proofs.Common.{◌≡◌, ℕ, ◌+◌, ◌-◌, ◌≤◌, List, [], ◌∷◌, ◌++◌, length, take, drop, refl, sym, ap, ◌∙◌, subst, arith, Option, Some, None, Result, Ok, Err, IsErrAnd, IfErr, ◌⊎◌, inl, inr}
+use Rattle.std.proofs.Common.{◌≡◌, ℕ, ◌+◌, ◌-◌, ◌≤◌, List, [], ◌∷◌, ◌++◌, map, length, take, drop, refl, sym, ap, ◌∙◌, subst, arith, Option, Some, None, Result, Ok, Err, IsErrAnd, IfErr, ◌⊎◌, inl, inr}
 use Rattle.oxc_sourcemap_mappings.specs.declared.error.Error.{Error}
 use Rattle.oxc_sourcemap_mappings.specs.declared.error.Error.TheVariants.{OutOfMemory, TooLarge}
 use Rattle.std.specs.List.{AllByRecursion, All}
@@ -12,8 +12,8 @@ use Rattle.oxc_sourcemap_mappings.specs.State.{state_at}
 use Rattle.oxc_sourcemap_mappings.specs.Chunks.{chunk_from, ChunksFit}
 use Rattle.oxc_sourcemap_parts.specs.Record.{Text, MapRecord}
 use Rattle.oxc_sourcemap_lookup.specs.Lookup.{last}
-use Rattle.oxc_sourcemap_join.specs.Joined.{fitted, shifted, is_same_token, without_repeat, raised_ignore_list, appended_ignore_lists, added, added_tokens, added_chunk, added_ignore_list, nothing_joined, added_all, AreEntriesInBounds, IsWithinLimits}
-use Rattle.oxc_sourcemap_join.specs.Joining.{IsJoin, all_shifted, IsAddition}
+use Rattle.oxc_sourcemap_join.specs.Joined.{Offset, fitted, shifted, is_same_token, without_repeat, raised_ignore_list, appended_ignore_lists, added, added_tokens, added_chunk, added_ignore_list, nothing_joined, added_all, AreEntriesInBounds, IsWithinLimits}
+use Rattle.oxc_sourcemap_join.specs.Joining.{IsJoin, offset_of, all_shifted, IsAddition}
 use Rattle.oxc_sourcemap_join.specs.declared.concat_sourcemap_builder.Shift.{Shift}
 use Rattle.oxc_sourcemap_join.specs.declared.concat_sourcemap_builder.Addition.{Addition}
 use Rattle.oxc_sourcemap_join.proofs.Fitted.{length-fitted, fitted-more}
@@ -21,27 +21,34 @@ use Rattle.oxc_sourcemap_join.proofs.Joining.{fit-added, added_all-continues, le
 use Rattle.oxc_sourcemap_join.proofs.Moving.{repeat-in-bounds, kept-in-bounds, length-mapped}
 use Rattle.oxc_sourcemap_join.proofs.IgnoreLists.{appended-in-bounds, front-in-bounds}
 
+-- tokens, moved, by what the join has and the offset
+shifted-by : (r : MapRecord) (offset : Offset) (s : Shift) → s.names ≡ length r.names → s.sources ≡ length r.sources → offset_of s ≡ offset → (ts : List TokenRecord)
+    → all_shifted s ts ≡ map (shifted (length r.names) (length r.sources) offset) ts
+shifted-by r offset s n o l ts =
+    ap (λ k. map (shifted k s.sources (offset_of s)) ts) n ∙ ap (λ k. map (shifted (length r.names) k (offset_of s)) ts) o
+    ∙ ap (λ k. map (shifted (length r.names) (length r.sources) k) ts) l
+
 -- where a join is within limits, all tokens of the map, moved, are in bounds
-pub moved-in-bounds : (r m : MapRecord) (offset : ℕ) (s : Shift) → s.names ≡ length r.names → s.sources ≡ length r.sources → s.lines ≡ offset
+pub moved-in-bounds : (r m : MapRecord) (offset : Offset) (s : Shift) → s.names ≡ length r.names → s.sources ≡ length r.sources → offset_of s ≡ offset
     → AreInBounds r.tokens → IsWithinLimits (added r m offset) → AreInBounds (all_shifted s m.tokens)
 moved-in-bounds r m offset s n o l h w =
     repeat-in-bounds r.tokens (all_shifted s m.tokens)
-    (rw (n, o, l) w.in_bounds) h
+    (subst (λ us. AreInBounds (r.tokens ++ without_repeat is_same_token (last r.tokens) us)) (sym (shifted-by r offset s n o l m.tokens)) w.in_bounds) h
 
 after-each : {A : Type 0} (P : A → Type 0) (xs ys : List A) → AllByRecursion P (xs ++ ys) → AllByRecursion P ys
 after-each P [] ys h = h
 after-each P (x ∷ xs) ys h = after-each P xs ys h.1
 
-module _ (r m : MapRecord) (offset : ℕ) (s : Shift) (passed : ℕ) (n : s.names ≡ length r.names) (o : s.sources ≡ length r.sources) (l : s.lines ≡ offset)
+module _ (r m : MapRecord) (offset : Offset) (s : Shift) (passed : ℕ) (n : s.names ≡ length r.names) (o : s.sources ≡ length r.sources) (l : offset_of s ≡ offset)
     (k : all_shifted s (drop passed m.tokens) ≡ without_repeat is_same_token (last r.tokens) (all_shifted s m.tokens)) where
   -- the tokens of the join, by what is kept
   pub added-tokens : added_tokens r m offset ≡ r.tokens ++ all_shifted s (drop passed m.tokens)
-  added-tokens = rw k (rw (n, o, l) refl)
+  added-tokens = ap (λ us. r.tokens ++ without_repeat is_same_token (last r.tokens) us) (sym (shifted-by r offset s n o l m.tokens)) ∙ ap (λ us. r.tokens ++ us) (sym k)
 
   pub added-count : passed ≤ length m.tokens → length (added_tokens r m offset) ≡ length r.tokens + (length m.tokens - passed)
   added-count p =
       ap length added-tokens ∙ length-append r.tokens (all_shifted s (drop passed m.tokens))
-      ∙ ap (λ i. length r.tokens + i) (length-mapped (shifted s.names s.sources s.lines) (drop passed m.tokens) ∙ length-drop passed m.tokens)
+      ∙ ap (λ i. length r.tokens + i) (length-mapped (shifted s.names s.sources (offset_of s)) (drop passed m.tokens) ∙ length-drop passed m.tokens)
 
   pub addition-is : (chunk : TokenChunk) → AreInBounds r.tokens → AreEntriesInBounds r.ignore_list → AreEntriesInBounds (raised_ignore_list s.sources m.ignore_list)
       → length r.names + length m.names ≤ 4294967295 → length r.sources + length m.sources ≤ 4294967295
@@ -51,7 +58,7 @@ module _ (r m : MapRecord) (offset : ℕ) (s : Shift) (passed : ℕ) (n : s.name
   addition-is chunk b e f nn ss ib p tt c = record {
     names = n;
     sources = o;
-    lines = l;
+    offset = l;
     passed = p;
     kept = k;
     chunk = c ∙ ap (chunk_from (state_at r.tokens (length r.tokens)) (length r.tokens)) (sym (added-count p));
@@ -69,12 +76,12 @@ after : {A : Type 0} (P : A → Type 0) (xs ys : List A) → All P (xs ++ ys) �
 after P xs ys h = All-from_recursion P ys (after-each P xs ys (recursion_from_All P (xs ++ ys) h))
 
 -- the tokens that are kept, moved, are in bounds
-pub kept-are-in-bounds : (r m : MapRecord) (offset : ℕ) (a : Addition) → IsAddition r m offset a → AreInBounds (all_shifted a.shift (drop a.passed m.tokens))
+pub kept-are-in-bounds : (r m : MapRecord) (offset : Offset) (a : Addition) → IsAddition r m offset a → AreInBounds (all_shifted a.shift (drop a.passed m.tokens))
 kept-are-in-bounds r m offset a h =
     subst AreInBounds (sym h.kept) (after IsInBounds r.tokens (without_repeat is_same_token (last r.tokens) (all_shifted a.shift m.tokens))
-    (rw (h.names, h.sources, h.lines) h.within.in_bounds))
+    (subst (λ us. AreInBounds (r.tokens ++ without_repeat is_same_token (last r.tokens) us)) (sym (shifted-by r offset a.shift h.names h.sources h.offset m.tokens)) h.within.in_bounds))
 
-module _ (r m : MapRecord) (offset : ℕ) (a : Addition) (h : IsAddition r m offset a) (chunks : List TokenChunk) (has : r.token_chunks ≡ Some chunks)
+module _ (r m : MapRecord) (offset : Offset) (a : Addition) (h : IsAddition r m offset a) (chunks : List TokenChunk) (has : r.token_chunks ≡ Some chunks)
     (each : length r.sources ≡ length r.source_contents)
     (ns ss : List Text) (cs : List (Option Text)) (ts : List TokenRecord) (ks : List TokenChunk) (is : Option (List ℕ))
     (en : ns ≡ r.names ++ m.names) (es : ss ≡ r.sources ++ m.sources) (ec : cs ≡ r.source_contents ++ fitted (length m.sources) m.source_contents)
@@ -84,7 +91,7 @@ module _ (r m : MapRecord) (offset : ℕ) (a : Addition) (h : IsAddition r m off
   contents-is = ec ∙ sym (ap (λ n. fitted n (r.source_contents ++ m.source_contents)) (length-append r.sources m.sources) ∙ fitted-more r.sources m.sources r.source_contents m.source_contents each)
 
   tokens-is : ts ≡ added_tokens r m offset
-  tokens-is = et ∙ sym (added-tokens r m offset a.shift a.passed h.names h.sources h.lines h.kept)
+  tokens-is = et ∙ sym (added-tokens r m offset a.shift a.passed h.names h.sources h.offset h.kept)
 
   chunks-is : ks ≡ unwrap_or r.token_chunks [] ++ added_chunk r m offset ∷ []
   chunks-is = ek ∙ ap (λ k. chunks ++ k ∷ []) h.chunk ∙ ap (λ o. unwrap_or o [] ++ added_chunk r m offset ∷ []) (sym has)
@@ -118,7 +125,7 @@ glued {xs = xs} {ys = ys} {us = us} {vs = vs} p q = ap (λ zs. zs ++ us) p ∙ a
 
 -- ---- many maps
 -- what is before more adds is within limits where all is
-pub front-within : (r : MapRecord) (ms : List (MapRecord × ℕ)) → IsWithinLimits (added_all r ms) → IsWithinLimits r
+pub front-within : (r : MapRecord) (ms : List (MapRecord × Offset)) → IsWithinLimits (added_all r ms) → IsWithinLimits r
 front-within r ms w =
     let f = added_all-continues r ms in
     record {
@@ -133,7 +140,7 @@ pub nothing-within : IsWithinLimits nothing_joined
 nothing-within = record { names = omega arith; sources = omega arith; tokens = omega arith; in_bounds = All-from_recursion IsInBounds [] tt; ignore_list = tt }
 
 -- a refusal of an add, as the refusal of all adds
-pub refusal-of-all : (r m : MapRecord) (offset : ℕ) (ms rest : List (MapRecord × ℕ)) (all : MapRecord) → added_all r ms ≡ all → ms ≡ (m, offset) ∷ rest → (e : Error)
+pub refusal-of-all : (r m : MapRecord) (offset : Offset) (ms rest : List (MapRecord × Offset)) (all : MapRecord) → added_all r ms ≡ all → ms ≡ (m, offset) ∷ rest → (e : Error)
     → (e ≡ OutOfMemory) ⊎ (e ≡ TooLarge) → (e ≡ TooLarge → ¬ (IsWithinLimits (added r m offset))) → (e ≡ OutOfMemory) ⊎ ((e ≡ TooLarge) × ¬ (IsWithinLimits all))
 refusal-of-all r m offset ms rest all p q e (inl o) h = inl o
 refusal-of-all r m offset ms rest all p q e (inr l) h =

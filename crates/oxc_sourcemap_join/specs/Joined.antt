@@ -1,4 +1,4 @@
--- Joins: several maps as one, each some lines further down, its ids raised to where its names and sources are listed.
+-- Joins: several maps as one, each at its offset, its ids raised to where its names and sources are listed.
 use Rattle.std.specs.Prelude.{ℕ, zero, suc, ◌+◌, Bool, true, false, ◌&&◌, ◌≤◌, ◌<◌, List, [], ◌∷◌, ◌++◌, map, length, Option, Some, None, if◌then◌else◌, ◌==◌}
 use Rattle.std.specs.Borrow.{Bor}
 use Rattle.std.specs.List.{All}
@@ -20,10 +20,32 @@ fitted (suc n) (content ∷ contents) = content ∷ fitted n contents
 abbrev pub raised_id : ℕ → Option ℕ → Option ℕ
 raised_id number id = option_map (λ i. i + number) id
 
--- a token of a map whose names and sources stand after so many others, this many lines further down
-abbrev pub shifted : ℕ → ℕ → ℕ → TokenRecord → TokenRecord
+-- where the code of a map begins in the code of a join
+pub record Offset : Type 0 where
+  pub line : ℕ
+  pub column : ℕ
+
+-- At the beginning of a line: joins at lines alone are joins at these offsets.
+abbrev pub at_line : ℕ → Offset
+at_line line = record { line = line; column = 0 }
+
+-- items, each at the beginning of a line
+abbrev pub at_lines : {A : Type 0} → List (A × ℕ) → List (A × Offset)
+at_lines items = map (λ i. (i.0, at_line i.1)) items
+
+-- items, each at a line and a column
+abbrev pub at_positions : {A : Type 0} → List (A × ℕ × ℕ) → List (A × Offset)
+at_positions items = map (λ i. (i.0, record { line = i.1; column = i.2 })) items
+
+-- The generated column of a place on this line, at an offset: line 0 begins at the offset's column, all others at column 0.
+abbrev pub shifted_column : Offset → ℕ → ℕ → ℕ
+shifted_column offset line column = if line == 0 then column + offset.column else column
+
+-- a token of a map whose names and sources stand after so many others, at its offset
+abbrev pub shifted : ℕ → ℕ → Offset → TokenRecord → TokenRecord
 shifted names sources offset t = record t {
-  dst_line = t.dst_line + offset;
+  dst_line = t.dst_line + offset.line;
+  dst_col = shifted_column offset t.dst_line t.dst_col;
   source_id = raised_id sources t.source_id;
   name_id = raised_id names t.name_id;
 }
@@ -57,11 +79,11 @@ abbrev pub seamed : {A : Type 0} → (A → A → Bool) → List A → List A �
 seamed same xs ys = xs ++ without_repeat same (last xs) ys
 
 -- the tokens of a join, and after them those of a map
-abbrev pub added_tokens : MapRecord → MapRecord → ℕ → List TokenRecord
+abbrev pub added_tokens : MapRecord → MapRecord → Offset → List TokenRecord
 added_tokens r m offset = seamed is_same_token r.tokens (map (shifted (length r.names) (length r.sources) offset) m.tokens)
 
 -- the chunk of what is added: its header is the state after all tokens so far
-abbrev pub added_chunk : MapRecord → MapRecord → ℕ → TokenChunk
+abbrev pub added_chunk : MapRecord → MapRecord → Offset → TokenChunk
 added_chunk r m offset = chunk_from (state_at r.tokens (length r.tokens)) (length r.tokens) (length (added_tokens r m offset))
 
 -- an ignore list with each entry raised by a number; none stays none
@@ -80,7 +102,7 @@ added_ignore_list r m = appended_ignore_lists r.ignore_list (raised_ignore_list 
 
 -- A join, and a map after it. The join has one content for each source and a chunk for each map. It has none of these: file,
 -- source root, debug id.
-abbrev pub added : MapRecord → MapRecord → ℕ → MapRecord
+abbrev pub added : MapRecord → MapRecord → Offset → MapRecord
 added r m offset = record {
   file = None;
   names = r.names ++ m.names;
@@ -108,17 +130,17 @@ nothing_joined = record {
 }
 
 -- a join, and after it these maps, each at its offset
-abbrev pub added_all : MapRecord → List (MapRecord × ℕ) → MapRecord
+abbrev pub added_all : MapRecord → List (MapRecord × Offset) → MapRecord
 added_all r [] = r
 added_all r (m ∷ ms) = added_all (added r m.0 m.1) ms
 
 -- the join of these maps, each at its offset
-abbrev pub joined : List (MapRecord × ℕ) → MapRecord
+abbrev pub joined : List (MapRecord × Offset) → MapRecord
 joined maps = added_all nothing_joined maps
 
--- borrowed maps, each with its offset
-abbrev pub lent_maps : List (Bor MapRecord × ℕ) → List (MapRecord × ℕ)
-lent_maps maps = map (λ m. (m.0.now, m.1)) maps
+-- borrowed maps, each at the beginning of a line
+abbrev pub lent_maps : List (Bor MapRecord × ℕ) → List (MapRecord × Offset)
+lent_maps maps = map (λ m. (m.0.now, at_line m.1)) maps
 
 -- each entry of an ignore list that may be there is 0 to 4294967294
 abbrev pub AreEntriesInBounds : Option (List ℕ) → Type 0

@@ -9,8 +9,8 @@ ghost use Rattle.oxc_sourcemap_mappings.specs.Token.{IsInBounds, AreInBounds};
 ghost use Rattle.oxc_sourcemap_mappings.specs.Chunks.{ChunksFit};
 ghost use Rattle.oxc_sourcemap_parts.specs.Views.{texts_of, contents_of, ids_of};
 ghost use Rattle.oxc_sourcemap_lookup.specs.Lookup.{last};
-ghost use Rattle.oxc_sourcemap_join.specs.Joined.{fitted, raised_id, shifted, is_same_token, without_repeat, raised_ignore_list, appended_ignore_lists, added, nothing_joined, joined, lent_maps, AreEntriesInBounds, IsWithinLimits};
-ghost use Rattle.oxc_sourcemap_join.specs.Joining.{all_shifted, IsAddition};
+ghost use Rattle.oxc_sourcemap_join.specs.Joined.{at_line, at_lines, fitted, raised_id, shifted_column, shifted, is_same_token, without_repeat, raised_ignore_list, appended_ignore_lists, added, nothing_joined, joined, lent_maps, AreEntriesInBounds, IsWithinLimits};
+ghost use Rattle.oxc_sourcemap_join.specs.Joining.{offset_of, all_shifted, IsAddition};
 
 use oxc_sourcemap_map::{OwnedSourceMap, SourceMap};
 use oxc_sourcemap_mappings::{Error, Result, Token, TokenChunk, next_chunk};
@@ -22,12 +22,14 @@ use std::marker::Model;
 /// The largest count of names, sources or tokens of a join.
 const MAX_COUNT: usize = 4294967295;
 
-/// How the tokens of a map are moved to their place in a join: the numbers of names and sources before, and the lines.
+/// How the tokens of a map are moved to their place in a join: the numbers of names and sources before, the lines, and the
+/// columns of its line 0.
 #[derive(Clone, Copy)]
 struct Shift {
     names: u32,
     sources: u32,
     lines: u32,
+    columns: u32,
 }
 
 /// Whether an id raised by a number is at most 4294967294; none is.
@@ -64,11 +66,24 @@ fn are_raisable(ids: &[u32], number: u32) -> bool
 }
 
 impl Shift {
+    /// The generated column of the moved token.
+    fn column(&self, token: &Token) -> u64
+        ensures { result ≡ shifted_column (offset_of self.now) token.now.dst_line token.now.dst_col }
+    {
+        let column = u64::from(token.get_dst_col());
+        if token.get_dst_line() == 0 {
+            column + u64::from(self.columns)
+        } else {
+            column
+        }
+    }
+
     /// Whether the moved token is in bounds.
     fn fits(&self, token: &Token) -> bool
-        ensures { IsTrue result ↔ IsInBounds (shifted self.now.names self.now.sources self.now.lines token.now) }
+        ensures { IsTrue result ↔ IsInBounds (shifted self.now.names self.now.sources (offset_of self.now) token.now) }
     {
         u64::from(token.get_dst_line()) + u64::from(self.lines) < 4294967296
+            && self.column(token) < 4294967296
             && is_id_raisable(token.get_source_id(), self.sources)
             && is_id_raisable(token.get_name_id(), self.names)
     }
@@ -97,12 +112,12 @@ impl Shift {
 
     /// The moved token.
     fn moved(&self, token: &Token) -> Token
-        requires { IsInBounds (shifted self.now.names self.now.sources self.now.lines token.now) }
-        ensures { result ≡ shifted self.now.names self.now.sources self.now.lines token.now }
+        requires { IsInBounds (shifted self.now.names self.now.sources (offset_of self.now) token.now) }
+        ensures { result ≡ shifted self.now.names self.now.sources (offset_of self.now) token.now }
     {
         Token::new(
             token.get_dst_line() + self.lines,
-            token.get_dst_col(),
+            self.column(token) as u32,
             token.get_src_line(),
             token.get_src_col(),
             raised(token.get_source_id(), self.sources),
@@ -263,8 +278,8 @@ fn push_raised(list: &mut Vec<u32>, added: &[u32], number: u32)
     }
 }
 
-/// Joins maps into one, each at a line of the joined code. The strings of borrowed maps are borrowed for `'a`, those of
-/// owned maps are moved: no string is copied.
+/// Joins maps into one, each at a line and a column of the joined code. The strings of borrowed maps are borrowed for `'a`,
+/// those of owned maps are moved: adding a map copies no string.
 ///
 /// An add that fails leaves the builder as it was. Whether the result is sorted is not checked here; `SourceMap::is_sorted`
 /// does.
@@ -349,14 +364,15 @@ impl<'a> ConcatSourceMapBuilder<'a> {
     }
 
     /// What an add of this map takes, None where it would pass a limit.
-    fn addition(&self, sourcemap: &SourceMap<'_>, line_offset: u32) -> Option<Addition>
-        ensures fits { IfSome result (λ a. IsAddition self.now sourcemap.now line_offset a) }
-        ensures too_large { result ≡ None → ¬ (IsWithinLimits (added self.now sourcemap.now line_offset)) }
+    fn addition(&self, sourcemap: &SourceMap<'_>, line: u32, column: u32) -> Option<Addition>
+        ensures fits { IfSome result (λ a. IsAddition self.now sourcemap.now (record { line = line; column = column }) a) }
+        ensures too_large { result ≡ None → ¬ (IsWithinLimits (added self.now sourcemap.now (record { line = line; column = column }))) }
     {
         let shift = Shift {
             names: self.names.len() as u32,
             sources: self.sources.len() as u32,
-            lines: line_offset,
+            lines: line,
+            columns: column,
         };
         let tokens = sourcemap.get_tokens().as_slice();
         if sourcemap.get_names().len() > MAX_COUNT - self.names.len()
@@ -386,24 +402,45 @@ impl<'a> ConcatSourceMapBuilder<'a> {
         })
     }
 
-    /// Adds a map after the others, `line_offset` lines further down. Its names, sources and contents are borrowed, and one
-    /// content stands for each source: missing ones are unknown, and further ones are left out. Its tokens are moved by the
-    /// offset, their ids by the numbers of names and sources so far; the first is left out if it is then the same, in all
-    /// six fields, as the last token so far. One chunk is recorded, perhaps of no token, whose header is the state before
-    /// of it (docs/FORMAT.md, "Joins"). If it has an ignore list, its entries are added to the ignore list of the join, raised
-    /// by the number of sources so far; an empty list counts as a list.
-    ///
-    /// Fails with `TooLarge` if there would be more than 4294967295 names, sources or tokens, a line above 4294967295, or an
-    /// id or an entry of the ignore list above 4294967294, then with `OutOfMemory` if memory is refused; the builder is then
-    /// as it was.
+    /// Appends a map whose code begins at line `line_offset` (from 0) and column 0 of the joined code, as `add_sourcemap_at`
+    /// does, and fails as that does.
     pub fn add_sourcemap(&mut self, sourcemap: &'a SourceMap<'_>, line_offset: u32) -> Result<()>
-        ensures joined { OnOk result (self.new ≡ added self.old sourcemap.now line_offset) }
-        ensures limits { OnOk result (IsWithinLimits (added self.old sourcemap.now line_offset)) }
-        ensures too_large { IsErrOf result TooLarge ↔ ¬ (IsWithinLimits (added self.old sourcemap.now line_offset)) }
+        ensures joined { OnOk result (self.new ≡ added self.old sourcemap.now (at_line line_offset)) }
+        ensures limits { OnOk result (IsWithinLimits (added self.old sourcemap.now (at_line line_offset))) }
+        ensures too_large { IsErrOf result TooLarge ↔ ¬ (IsWithinLimits (added self.old sourcemap.now (at_line line_offset))) }
         ensures refused { IfErr result (λ e. (e ≡ OutOfMemory) ⊎ (e ≡ TooLarge)) }
         ensures unchanged { OnErr result (self.new ≡ self.old) }
     {
-        let Some(addition) = self.addition(sourcemap, line_offset) else {
+        self.add_sourcemap_at(sourcemap, line_offset, 0)
+    }
+
+    /// Appends a map whose code begins at this line and column of the joined code (docs/FORMAT.md, "Joins"). Lines and columns
+    /// count from 0; columns are in UTF-16 code units.
+    ///
+    /// - Its names, sources and contents are borrowed. Each source gets one content: missing ones become None, surplus ones
+    ///   are dropped. Its file, debug id and source root are dropped; the source root is not prepended to its sources.
+    /// - Its tokens are shifted by the line, and those on its line 0 by the column too; their ids by the numbers of names and
+    ///   sources so far. The first token is left out if it is then the same, in all six fields, as the last token so far.
+    /// - Records one chunk, possibly empty, whose header is the state before it.
+    /// - If it has an ignore list, the entries are appended to the ignore list of the join, increased by the number of sources
+    ///   so far; an empty list counts as a list.
+    ///
+    /// Fails with `TooLarge` if there would be more than 4294967295 names, sources or tokens, a line or a column above
+    /// 4294967295, or an id or an entry of the ignore list above 4294967294, then with `OutOfMemory` if memory is refused;
+    /// the builder is then as it was.
+    pub fn add_sourcemap_at(
+        &mut self,
+        sourcemap: &'a SourceMap<'_>,
+        line: u32,
+        column: u32,
+    ) -> Result<()>
+        ensures joined { OnOk result (self.new ≡ added self.old sourcemap.now (record { line = line; column = column })) }
+        ensures limits { OnOk result (IsWithinLimits (added self.old sourcemap.now (record { line = line; column = column }))) }
+        ensures too_large { IsErrOf result TooLarge ↔ ¬ (IsWithinLimits (added self.old sourcemap.now (record { line = line; column = column }))) }
+        ensures refused { IfErr result (λ e. (e ≡ OutOfMemory) ⊎ (e ≡ TooLarge)) }
+        ensures unchanged { OnErr result (self.new ≡ self.old) }
+    {
+        let Some(addition) = self.addition(sourcemap, line, column) else {
             return Err(Error::TooLarge);
         };
         let kept = &sourcemap.get_tokens().as_slice()[addition.passed..];
@@ -432,13 +469,30 @@ impl<'a> ConcatSourceMapBuilder<'a> {
     /// Adds a map after the others as `add_sourcemap` does, with the same result, but moves its strings and drops the rest
     /// of it. Fails as that does; the builder is then as it was, and the map is dropped.
     pub fn add_sourcemap_owned(&mut self, sourcemap: SourceMap<'a>, line_offset: u32) -> Result<()>
-        ensures joined { OnOk result (self.new ≡ added self.old sourcemap.entry line_offset) }
-        ensures limits { OnOk result (IsWithinLimits (added self.old sourcemap.entry line_offset)) }
-        ensures too_large { IsErrOf result TooLarge ↔ ¬ (IsWithinLimits (added self.old sourcemap.entry line_offset)) }
+        ensures joined { OnOk result (self.new ≡ added self.old sourcemap.entry (at_line line_offset)) }
+        ensures limits { OnOk result (IsWithinLimits (added self.old sourcemap.entry (at_line line_offset))) }
+        ensures too_large { IsErrOf result TooLarge ↔ ¬ (IsWithinLimits (added self.old sourcemap.entry (at_line line_offset))) }
         ensures refused { IfErr result (λ e. (e ≡ OutOfMemory) ⊎ (e ≡ TooLarge)) }
         ensures unchanged { OnErr result (self.new ≡ self.old) }
     {
-        let Some(addition) = self.addition(&sourcemap, line_offset) else {
+        self.add_sourcemap_owned_at(sourcemap, line_offset, 0)
+    }
+
+    /// Adds a map after the others as `add_sourcemap_at` does, with the same result, but moves its strings and drops the rest
+    /// of it. Fails as that does; the builder is then as it was, and the map is dropped.
+    pub fn add_sourcemap_owned_at(
+        &mut self,
+        sourcemap: SourceMap<'a>,
+        line: u32,
+        column: u32,
+    ) -> Result<()>
+        ensures joined { OnOk result (self.new ≡ added self.old sourcemap.entry (record { line = line; column = column })) }
+        ensures limits { OnOk result (IsWithinLimits (added self.old sourcemap.entry (record { line = line; column = column }))) }
+        ensures too_large { IsErrOf result TooLarge ↔ ¬ (IsWithinLimits (added self.old sourcemap.entry (record { line = line; column = column }))) }
+        ensures refused { IfErr result (λ e. (e ≡ OutOfMemory) ⊎ (e ≡ TooLarge)) }
+        ensures unchanged { OnErr result (self.new ≡ self.old) }
+    {
+        let Some(addition) = self.addition(&sourcemap, line, column) else {
             return Err(Error::TooLarge);
         };
         let SourceMapParts {
@@ -495,9 +549,9 @@ impl<'a> ConcatSourceMapBuilder<'a> {
         alloc: Global,
         sourcemap_and_line_offsets: Vec<(SourceMap<'a>, u32)>,
     ) -> Result<ConcatSourceMapBuilder<'a>>
-        ensures joined { IfOk result (λ builder. builder ≡ joined sourcemap_and_line_offsets.entry.items) }
+        ensures joined { IfOk result (λ builder. builder ≡ joined (at_lines sourcemap_and_line_offsets.entry.items)) }
         ensures limits { IfOk result IsWithinLimits }
-        ensures refused { IfErr result (λ e. (e ≡ OutOfMemory) ⊎ ((e ≡ TooLarge) × ¬ (IsWithinLimits (joined sourcemap_and_line_offsets.entry.items)))) }
+        ensures refused { IfErr result (λ e. (e ≡ OutOfMemory) ⊎ ((e ≡ TooLarge) × ¬ (IsWithinLimits (joined (at_lines sourcemap_and_line_offsets.entry.items))))) }
     {
         let lengths = owned_lengths(sourcemap_and_line_offsets.as_slice());
         let mut builder = lengths.builder(alloc, sourcemap_and_line_offsets.len())?;
@@ -528,8 +582,8 @@ impl<'a> ConcatSourceMapBuilder<'a> {
         }))
     }
 
-    /// The joined map as `into_sourcemap` gives it, with copies of borrowed strings; strings that were moved in are moved
-    /// on. Fails only with `OutOfMemory`; the builder is then dropped.
+    /// The joined map as `into_sourcemap` returns it, with copies of borrowed strings; owned strings are moved, not copied.
+    /// Fails only with `OutOfMemory`; the builder is then dropped.
     pub fn into_owned_sourcemap(self) -> Result<OwnedSourceMap>
         ensures map { IfOk result (λ map. map ≡ self.entry) }
         ensures fits { IfOk result (λ map. IfSome map.token_chunks (ChunksFit map.tokens)) }

@@ -1,4 +1,4 @@
-//! Joins: maps as one, each some lines further down.
+//! Joins: maps as one, each at its line and column.
 //!
 //! This crate stands below `oxc_sourcemap`, which users name, and which hands all public items of this one on.
 #![tactic(auto)]

@@ -61,12 +61,12 @@ stays-token is_first s t =
     (stays-optional _ (stays-source s t) t.source_id))
     (stays-optional _ (λ id. stays-delta id s.name_id) (mapped_name t))
 
-stays-after : (at_start : Bool) (s : State) (before ts : List TokenRecord) → Stays (text_after at_start s before ts)
+stays-after : (before ts : List TokenRecord) → Stays (text_after before ts)
 unfolding text_after
-stays-after at_start s before [] = refl
-stays-after at_start s before (t ∷ ts) =
-    stays-append (token_text (at_start && has_none_before before) (state_after s before) t) _ (stays-token _ _ t) (stays-after at_start s (t ∷ before) ts)
+stays-after before [] = refl
+stays-after before (t ∷ ts) =
+    stays-append (token_text (has_none_before before) (state_after initial before) t) _ (stays-token _ _ t) (stays-after (t ∷ before) ts)
 
 pub canonical_plain : (ts : List TokenRecord) → flat_map escaped (canonical ts) ≡ canonical ts
 unfolding canonical
-canonical_plain ts = stays-after true initial [] ts
+canonical_plain ts = stays-after [] ts

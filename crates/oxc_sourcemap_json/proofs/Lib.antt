@@ -6,4 +6,5 @@ pub mod ReadSound
 pub mod Rewriting
 pub mod Separated
 pub mod JsonTexts
+pub mod Moving
 mod Worked

@@ -19,7 +19,8 @@ use Rattle.oxc_sourcemap_parts.specs.Sorted.{are_tokens_sorted, may_precede, tok
 use Rattle.oxc_sourcemap_parts.specs.Sound.{IsInRange, IsSound}
 use Rattle.oxc_sourcemap_parts.specs.DecodedMap.{DecodedSource, mapping_of, sources_of, decoded_map_of}
 use Rattle.oxc_sourcemap_json.specs.Decoded.{first_not_below}
-use Rattle.oxc_sourcemap_json.specs.Encoded.{written_contents, encoded, encoded_record, encoded_unless}
+use Rattle.oxc_sourcemap_mappings.specs.Refusals.{unless}
+use Rattle.oxc_sourcemap_json.specs.Encoded.{written_contents, encoded, encoded_record}
 use Rattle.oxc_sourcemap_json.specs.MapLaws.{rewritten, ComesBack}
 
 both-true : (a b : Bool) → (a && b) ≡ true → (a ≡ true) × (b ≡ true)
@@ -102,7 +103,7 @@ same-decoded_map r =
     rw (same-sources r.sources r.source_contents, mappings)
 
 pub is_written : (r : MapRecord) → IsSound r → length r.tokens ≤ 4294967295 → encoded r ≡ Ok (encoded_record r)
-is_written r s l = ap (λ o. encoded_unless o r) (no-fault r.tokens r.token_chunks (sorted-order r.tokens s.sorted) s.chunks l)
+is_written r s l = ap (λ o. unless o (Ok (encoded_record r))) (no-fault r.tokens r.token_chunks (sorted-order r.tokens s.sorted) s.chunks l)
 
 no-other-fault : (ts : List TokenRecord) (chunks : Option (List TokenChunk)) → first_out_of_order ts ≡ None → IfSome chunks (ChunksFit ts) → 4294967295 < length ts → writing_fault ts chunks ≡ Some TooLarge
 no-other-fault ts chunks o f l =
@@ -110,7 +111,7 @@ no-other-fault ts chunks o f l =
     rw (o, no-misfit ts chunks f, t)
 
 pub is_too_large : (r : MapRecord) → IsSound r → 4294967295 < length r.tokens → encoded r ≡ Err TooLarge
-is_too_large r s l = ap (λ o. encoded_unless o r) (no-other-fault r.tokens r.token_chunks (sorted-order r.tokens s.sorted) s.chunks l)
+is_too_large r s l = ap (λ o. unless o (Ok (encoded_record r))) (no-other-fault r.tokens r.token_chunks (sorted-order r.tokens s.sorted) s.chunks l)
 
 pub reads_back : (r : MapRecord) → IsSound r → AreInBounds r.tokens → ComesBack r
 reads_back r s b =

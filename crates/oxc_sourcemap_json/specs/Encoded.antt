@@ -1,8 +1,9 @@
 -- The JSON source map of a map, or why it has none.
-use Rattle.std.specs.Prelude.{List, Option, Some, None, Result, Ok, Err, if◌then◌else◌}
+use Rattle.std.specs.Prelude.{List, Option, Some, None, Result, Ok, if◌then◌else◌}
 use Rattle.std.specs.List.{list_any}
 use Rattle.std.specs.Option.{is_some}
 use Rattle.oxc_sourcemap_mappings.specs.declared.error.Error.{Error}
+use Rattle.oxc_sourcemap_mappings.specs.Refusals.{unless}
 use Rattle.oxc_sourcemap_json.specs.Json.{JsonRecord}
 use Rattle.oxc_sourcemap_mappings.specs.Canonical.{canonical}
 use Rattle.oxc_sourcemap_mappings.specs.Chunks.{writing_fault}
@@ -30,11 +31,6 @@ record_with r mappings = record {
 abbrev pub encoded_record : MapRecord → JsonRecord
 encoded_record r = record_with r (canonical r.tokens)
 
--- what is written, unless there is a fault
-abbrev pub encoded_unless : Option Error → MapRecord → Result JsonRecord Error
-encoded_unless None r = Ok (encoded_record r)
-encoded_unless (Some fault) r = Err fault
-
 -- the JSON source map of a map, or the fault of its tokens and chunks
 abbrev pub encoded : MapRecord → Result JsonRecord Error
-encoded r = encoded_unless (writing_fault r.tokens r.token_chunks) r
+encoded r = unless (writing_fault r.tokens r.token_chunks) (Ok (encoded_record r))

@@ -28,8 +28,8 @@ SoundIsWritten = (r : MapRecord) → IsSound r → length r.tokens ≤ 429496729
 abbrev pub SoundIsTooLarge : Type 0
 SoundIsTooLarge = (r : MapRecord) → IsSound r → 4294967295 < length r.tokens → encoded r ≡ Err TooLarge
 
--- What is written of a map is read as `rewritten` says, and that has the same decoded map, the same names, and tokens that are
--- equal as far as texts tell.
+-- The JSON source map that is written of a map is read as `rewritten` says, and that has the same decoded map, the same
+-- names, and tokens that are equal as written.
 pub record ComesBack (r : MapRecord) : Type 0 where
   pub is_read : decoded (encoded_record r) ≡ Ok (rewritten r)
   pub decoded_map : decoded_map_of (rewritten r) ≡ decoded_map_of r
@@ -40,7 +40,8 @@ pub record ComesBack (r : MapRecord) : Type 0 where
 abbrev pub SoundReadsBack : Type 0
 SoundReadsBack = (r : MapRecord) → IsSound r → AreInBounds r.tokens → ComesBack r
 
--- What comes back of a map is sound, has the same decoded map and as many tokens, and comes back a second time as it is.
+-- What comes back of a map is sound, has the same decoded map and as many tokens, and comes back a second time with the same
+-- tokens.
 pub record StaysSound (r : MapRecord) : Type 0 where
   pub sound : IsSound (rewritten r)
   pub decoded_map : decoded_map_of (rewritten r) ≡ decoded_map_of r

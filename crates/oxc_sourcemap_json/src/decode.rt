@@ -9,6 +9,7 @@ ghost use Rattle.oxc_sourcemap_json.specs.Decoded.{decoded, json_fault, first_no
 ghost use Rattle.oxc_sourcemap_json.specs.ReadMap.{read_map};
 
 use crate::json_source_map::JSONSourceMap;
+use crate::moved::json_of;
 use oxc_sourcemap_mappings::{Error, JsonFault, Result, decode_mappings};
 use oxc_sourcemap_parts::SourceMapParts;
 use serde_json::Value;
@@ -133,6 +134,6 @@ pub fn decode_parts_from_string(alloc: Global, text: &str) -> Result<SourceMapPa
     ensures refused { IfErr result (λ e. (e ≢ OutOfMemory) → read_map text.now ≡ Err e) }
 {
     let value = Value::from_str(alloc, text)?;
-    let json = JSONSourceMap::from_value(alloc, &value)?;
+    let json = json_of(alloc, value)?;
     decode_parts(alloc, json)
 }

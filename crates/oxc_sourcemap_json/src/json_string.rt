@@ -134,11 +134,11 @@ fn push_quoted(out: &mut String, text: &str) -> std::result::Result<(), AllocErr
     Ok(())
 }
 
-/// Appends a text as a JSON string (RFC 8259, section 7): in quotes, with `\"`, `\\`, `\b`, `\t`, `\n`, `\f` and `\r` for the
-/// characters that have such an escape, and `\u00` with two lower-case hexadecimal digits for every other character below
-/// U+0020. All other characters stand there as they are.
+/// Appends a string to `out` as a JSON string (RFC 8259, section 7): in quotes, with `\"`, `\\`, `\b`, `\t`, `\n`, `\f` and
+/// `\r` for the characters that have such an escape, and `\u00` with two lower-case hexadecimal digits for every other
+/// character below U+0020. All other characters are written as they are.
 ///
-/// Where memory is refused, `out` is as it was.
+/// Fails only with `OutOfMemory`; `out` is then as it was.
 pub fn push_json_string(text: &str, out: &mut String) -> Result<()>
     ensures text { OnOk result (string_bytes out.new ≡ string_bytes out.old ++ json_string text.now) }
     ensures only_memory { IfErr result (λ e. e ≡ OutOfMemory) }

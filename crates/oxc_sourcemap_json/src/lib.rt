@@ -1,7 +1,7 @@
 //! Source maps as JSON (ECMA-426, "Source map format"): the shape of a source map as a JSON value, the parts of a map read
 //! from it and written to it, JSON strings, the JSON text and the data URL.
 //!
-//! The calls of `SourceMap` that read and write stand on this crate. Users name the crate `oxc_sourcemap`, which hands on
+//! The calls of `SourceMap` that read and write stand on this crate. Users name the crate `oxc_sourcemap`, which re-exports
 //! what is meant for them: `JSONSourceMap` and `push_json_string`.
 #![tactic(auto)]
 
@@ -10,6 +10,7 @@ mod encode;
 mod json_source_map;
 mod json_string;
 mod json_text;
+mod moved;
 mod room;
 mod shape;
 

@@ -13,11 +13,11 @@ use serde_json::Value;
 use std::alloc::Global;
 
 /// A member that is there and is not null.
-fn present_member<'v>(value: &'v Value, key: &str) -> Option<&'v Value>
-    ensures { option_map (λ member. view member.now) result ≡ present (get key.now (view value.now)) }
+fn present(member: Option<&Value>) -> Option<&Value>
+    ensures { option_map (λ value. view value.now) result ≡ present (option_map (λ value. view value.now) member.entry) }
 {
-    let member = value.get(key)?;
-    if member.is_null() { None } else { Some(member) }
+    let value = member?;
+    if value.is_null() { None } else { Some(value) }
 }
 
 /// A text.
@@ -100,10 +100,10 @@ fn read_contents(alloc: Global, member: &Value, field: Field) -> Result<Vec<Opti
 }
 
 /// The version, which must be 3.
-fn read_version(value: &Value) -> Result<u32>
-    ensures { result ≡ required VersionField version_in (get (codes "version") (view value.now)) }
+pub(crate) fn read_version(member: Option<&Value>) -> Result<u32>
+    ensures { result ≡ required VersionField version_in (option_map (λ value. view value.now) member.entry) }
 {
-    let Some(version) = value.get("version").and_then(read_id) else {
+    let Some(version) = member.and_then(read_id) else {
         return Err(Error::BadJson(JsonFault::Shape(Field::Version)));
     };
     if version != 3 {
@@ -117,7 +117,7 @@ fn optional_text(alloc: Global, value: &Value, key: &str, field: Field) -> Resul
     ensures text { IfOk result (λ text. optional (text_in field) (present (get key.now (view value.now))) ≡ Ok (option_map string_bytes text)) }
     ensures refused { IfErr result (λ e. (e ≢ OutOfMemory) → optional (text_in field) (present (get key.now (view value.now))) ≡ Err e) }
 {
-    let Some(member) = present_member(value, key) else {
+    let Some(member) = present(value.get(key)) else {
         return Ok(None);
     };
     Ok(Some(read_text(alloc, member, field)?))
@@ -150,7 +150,7 @@ fn read_sources_content(alloc: Global, value: &Value) -> Result<Option<Vec<Optio
     ensures contents { IfOk result (λ contents. optional (contents_in SourcesContent) (present (get (codes "sourcesContent") (view value.now))) ≡ Ok (json_contents contents)) }
     ensures refused { IfErr result (λ e. (e ≢ OutOfMemory) → optional (contents_in SourcesContent) (present (get (codes "sourcesContent") (view value.now))) ≡ Err e) }
 {
-    let Some(member) = present_member(value, "sourcesContent") else {
+    let Some(member) = present(value.get("sourcesContent")) else {
         return Ok(None);
     };
     Ok(Some(read_contents(alloc, member, Field::SourcesContent)?))
@@ -168,36 +168,52 @@ fn read_names(alloc: Global, value: &Value) -> Result<Vec<String>>
 }
 
 /// The ignore list: where it is missing or null, the one of the older key, which may be missing or null, too.
+pub(crate) fn read_either_list(
+    alloc: Global,
+    member: Option<&Value>,
+    older: Option<&Value>,
+) -> Result<Option<Vec<u32>>>
+    ensures ids { IfOk result (λ ids. ignore_list_of (present (option_map (λ value. view value.now) member.entry)) (present (option_map (λ value. view value.now) older.entry)) ≡ Ok (option_map (λ list. list.items) ids)) }
+    ensures refused { IfErr result (λ e. (e ≢ OutOfMemory) → ignore_list_of (present (option_map (λ value. view value.now) member.entry)) (present (option_map (λ value. view value.now) older.entry)) ≡ Err e) }
+{
+    if let Some(list) = present(member) {
+        return Ok(Some(read_ids(alloc, list, Field::IgnoreList)?));
+    }
+    let Some(list) = present(older) else {
+        return Ok(None);
+    };
+    Ok(Some(read_ids(alloc, list, Field::GoogleIgnoreList)?))
+}
+
+/// The ignore list of a value.
 fn read_ignore_list(alloc: Global, value: &Value) -> Result<Option<Vec<u32>>>
     ensures ids { IfOk result (λ ids. ignore_list_of (present (get (codes "ignoreList") (view value.now))) (present (get (codes "x_google_ignoreList") (view value.now))) ≡ Ok (option_map (λ list. list.items) ids)) }
     ensures refused { IfErr result (λ e. (e ≢ OutOfMemory) → ignore_list_of (present (get (codes "ignoreList") (view value.now))) (present (get (codes "x_google_ignoreList") (view value.now))) ≡ Err e) }
 {
-    if let Some(member) = present_member(value, "ignoreList") {
-        return Ok(Some(read_ids(alloc, member, Field::IgnoreList)?));
-    }
-    let Some(member) = present_member(value, "x_google_ignoreList") else {
-        return Ok(None);
-    };
-    Ok(Some(read_ids(alloc, member, Field::GoogleIgnoreList)?))
+    read_either_list(
+        alloc,
+        value.get("ignoreList"),
+        value.get("x_google_ignoreList"),
+    )
 }
 
 impl JSONSourceMap {
-    /// The fields of a JSON value (docs/FORMAT.md, "The shape of a JSON value"; ECMA-426, "Source map format"). Keys that are not listed
-    /// here are passed over.
+    /// The fields of a JSON value (docs/FORMAT.md, "The shape of a JSON value"; ECMA-426, "Source map format"). Keys that
+    /// are not listed here are passed over.
     ///
     /// Fails with `BadJson` for the first of these in this order, and with `OutOfMemory` if memory is refused:
     /// - `Shape(Object)` unless the value is an object;
-    /// - `version`, which has to be 3: `Version(n)` for another whole number n of 0 to 4294967295, `Shape(Version)` for all
-    ///   other values, and where it is missing;
-    /// - `file`: `Shape(File)` unless a text, missing or null;
-    /// - `mappings`: `Shape(Mappings)` unless a text;
-    /// - `sourceRoot`: `Shape(SourceRoot)` unless a text, missing or null;
-    /// - `sources`: `Shape(Sources)` unless a list of texts;
-    /// - `sourcesContent`: `Shape(SourcesContent)` unless a list of texts and nulls, missing or null;
-    /// - `names`: `Shape(Names)` unless a list of texts, or missing;
-    /// - `debugId`: `Shape(DebugId)` unless a text, missing or null;
-    /// - `ignoreList`: `Shape(IgnoreList)` unless a list of whole numbers of 0 to 4294967295, missing or null; where it is
-    ///   missing or null, `x_google_ignoreList` in its place, with `Shape(GoogleIgnoreList)`.
+    /// - `version`, which has to be 3: `Version(n)` for another whole number n of 0 to 4294967295, `Shape(Version)` for any
+    ///   other value, and if it is missing;
+    /// - `file`: `Shape(File)` unless it is a string, null or missing;
+    /// - `mappings`: `Shape(Mappings)` unless it is a string;
+    /// - `sourceRoot`: `Shape(SourceRoot)` unless it is a string, null or missing;
+    /// - `sources`: `Shape(Sources)` unless it is a list of strings;
+    /// - `sourcesContent`: `Shape(SourcesContent)` unless it is a list of strings and nulls, null or missing;
+    /// - `names`: `Shape(Names)` unless it is a list of strings, or missing;
+    /// - `debugId`: `Shape(DebugId)` unless it is a string, null or missing;
+    /// - `ignoreList`: `Shape(IgnoreList)` unless it is a list of whole numbers of 0 to 4294967295, null or missing; if it is
+    ///   null or missing, `x_google_ignoreList` in its place, with `Shape(GoogleIgnoreList)`.
     #[tactic(auto, unfolding(crate::specs::Shape::shape))]
     pub fn from_value(alloc: Global, value: &Value) -> Result<JSONSourceMap>
         ensures json { IfOk result (λ json. shape (view value.now) ≡ Ok (json_record json)) }
@@ -206,7 +222,7 @@ impl JSONSourceMap {
         if !value.is_object() {
             return Err(Error::BadJson(JsonFault::Shape(Field::Object)));
         }
-        let version = read_version(value)?;
+        let version = read_version(value.get("version"))?;
         let file = optional_text(alloc, value, "file", Field::File)?;
         let mappings = read_mappings(alloc, value)?;
         let source_root = optional_text(alloc, value, "sourceRoot", Field::SourceRoot)?;

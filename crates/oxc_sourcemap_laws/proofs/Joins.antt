@@ -1,5 +1,5 @@
 -- Joins as a monoid, and their decoded maps.
-use Rattle.std.proofs.Common.{◌≡◌, ℕ, ◌+◌, ◌==◌, List, [], ◌∷◌, ◌++◌, map, length, refl, sym, ap, ◌∙◌, append_assoc, arith, Option, Some, None}
+use Rattle.std.proofs.Common.{◌≡◌, ℕ, ◌+◌, ◌==◌, true, false, cond, List, [], ◌∷◌, ◌++◌, map, length, refl, sym, ap, ◌∙◌, append_assoc, arith, Option, Some, None}
 use Rattle.std.specs.List.{flat_map}
 use Rattle.std.specs.Option.{option_map}
 use Rattle.std.proofs.lemmas.Bool.Decides.{nat_tests}
@@ -7,7 +7,7 @@ use Rattle.std.proofs.lemmas.List.{append-nil, length-append, map-append}
 use Rattle.oxc_sourcemap_mappings.specs.declared.token.TokenChunk.{TokenChunk}
 use Rattle.oxc_sourcemap_mappings.specs.Token.{TokenRecord}
 use Rattle.oxc_sourcemap_parts.specs.Record.{Text, MapRecord}
-use Rattle.oxc_sourcemap_join.specs.Joined.{fitted, shifted, is_same_id, is_same_token, seamed, raised_ignore_list, appended_ignore_lists, added_tokens, added_ignore_list, added, nothing_joined, added_all, joined}
+use Rattle.oxc_sourcemap_join.specs.Joined.{Offset, at_line, at_lines, shifted_column, fitted, shifted, is_same_id, is_same_token, seamed, raised_ignore_list, appended_ignore_lists, added_tokens, added_ignore_list, added, nothing_joined, added_all, joined}
 use Rattle.oxc_sourcemap_join.proofs.SameToken.{decides_token}
 use Rattle.oxc_sourcemap_join.proofs.Fitted.{length-fitted, fitted-exact, fitted-more}
 use Rattle.oxc_sourcemap_laws.specs.JoinLaws.{Group, groups_joined, maps_of, without_chunks}
@@ -18,15 +18,15 @@ pub record_by : (a : MapRecord) (x0 : Option Text) (x1 : List Text) (x2 : Option
     → a ≡ record { file = x0; names = x1; source_root = x2; sources = x3; source_contents = x4; tokens = x5; token_chunks = x6; ignore_list = x7; debug_id = x8 }
 record_by a x0 x1 x2 x3 x4 x5 x6 x7 x8 e0 e1 e2 e3 e4 e5 e6 e7 e8 = rw (← e0, ← e1, ← e2, ← e3, ← e4, ← e5, ← e6, ← e7, ← e8)
 
--- on a later line
-abbrev pub raised : ℕ → TokenRecord → TokenRecord
-raised offset m = record m { dst_line = m.dst_line + offset }
+-- at an offset
+abbrev pub raised : Offset → TokenRecord → TokenRecord
+raised offset m = record m { dst_line = m.dst_line + offset.line; dst_col = shifted_column offset m.dst_line m.dst_col }
 
 -- after so many names and sources
 abbrev pub after : ℕ → ℕ → TokenRecord → TokenRecord
 after names sources m = record m { source_id = option_map (λ i. i + sources) m.source_id; name_id = option_map (λ i. i + names) m.name_id }
 
-shifted-is : (names sources offset : ℕ) (m : TokenRecord) → shifted names sources offset m ≡ after names sources (raised offset m)
+shifted-is : (names sources : ℕ) (offset : Offset) (m : TokenRecord) → shifted names sources offset m ≡ after names sources (raised offset m)
 shifted-is names sources offset m = refl
 
 abbrev pub parts : Option (List ℕ) → List Text → List Text → List (Option Text) → List TokenRecord → MapRecord
@@ -37,13 +37,13 @@ abbrev pub together : MapRecord → MapRecord → MapRecord
 together a b = parts (added_ignore_list a b) (a.names ++ b.names) (a.sources ++ b.sources) (a.source_contents ++ b.source_contents) (seamed is_same_token a.tokens (map (after (length a.names) (length a.sources)) b.tokens))
 
 -- a map by itself, at an offset
-abbrev pub alone : MapRecord → ℕ → MapRecord
+abbrev pub alone : MapRecord → Offset → MapRecord
 alone m offset = parts m.ignore_list m.names m.sources (fitted (length m.sources) m.source_contents) (map (raised offset) m.tokens)
 
 abbrev pub empty : MapRecord
 empty = parts None [] [] [] []
 
-abbrev pub all_together : List (MapRecord × ℕ) → MapRecord
+abbrev pub all_together : List (MapRecord × Offset) → MapRecord
 all_together [] = empty
 all_together (m ∷ ms) = together (alone m.0 m.1) (all_together ms)
 
@@ -60,8 +60,12 @@ option-moved (Some x) (Some y) n = number-moved x y n
 same-after : (names sources : ℕ) (a b : TokenRecord) → is_same_token (after names sources a) (after names sources b) ≡ is_same_token a b
 same-after names sources a b = rw (option-moved a.source_id b.source_id sources, option-moved a.name_id b.name_id names)
 
-same-raised : (offset : ℕ) (a b : TokenRecord) → is_same_token (raised offset a) (raised offset b) ≡ is_same_token a b
-same-raised offset a b = rw (number-moved a.dst_line b.dst_line offset)
+-- at the beginning of a line no column is moved
+column-kept : (n line column : ℕ) → shifted_column (at_line n) line column ≡ column
+column-kept n line column = elim (line == 0) as (λ b. cond b (column + 0) column ≡ column) [ true ↦ omega arith | false ↦ refl ]
+
+same-raised : (n : ℕ) (a b : TokenRecord) → is_same_token (raised (at_line n) a) (raised (at_line n) b) ≡ is_same_token a b
+same-raised n a b = rw (number-moved a.dst_line b.dst_line n, column-kept n a.dst_line a.dst_col, column-kept n b.dst_line b.dst_col)
 
 option-twice : (a : Option ℕ) (m n k : ℕ) → m + n ≡ k → option_map (λ i. i + n) (option_map (λ i. i + m) a) ≡ option_map (λ i. i + k) a
 option-twice None m n k e = refl
@@ -79,8 +83,12 @@ after-twice n s n' s' n'' s'' e f m =
     ap (λ o. record m { source_id = o; name_id = option_map (λ i. i + n') (option_map (λ i. i + n) m.name_id) }) (option-twice m.source_id s s' s'' f)
     ∙ ap (λ o. record m { source_id = option_map (λ i. i + s'') m.source_id; name_id = o }) (option-twice m.name_id n n' n'' e)
 
-raised-twice : (a b : ℕ) (m : TokenRecord) → raised b (raised a m) ≡ raised (a + b) m
-raised-twice a b m = let e : m.dst_line + a + b ≡ m.dst_line + (a + b) = omega arith in ap (λ l. record m { dst_line = l }) e
+raised-twice : (a b : ℕ) (m : TokenRecord) → raised (at_line b) (raised (at_line a) m) ≡ raised (at_line (a + b)) m
+raised-twice a b m =
+    let e : m.dst_line + a + b ≡ m.dst_line + (a + b) = omega arith in
+    let first = shifted_column (at_line a) m.dst_line m.dst_col in
+    ap (λ l. record m { dst_line = l; dst_col = shifted_column (at_line b) (m.dst_line + a) first }) e
+    ∙ ap (λ c. record m { dst_line = m.dst_line + (a + b); dst_col = c }) (column-kept b (m.dst_line + a) first ∙ column-kept a m.dst_line m.dst_col ∙ sym (column-kept (a + b) m.dst_line m.dst_col))
 
 pub map_same : {A B : Type 0} (f g : A → B) → ((x : A) → f x ≡ g x) → (xs : List A) → map f xs ≡ map g xs
 map_same f g h [] = refl
@@ -145,11 +153,11 @@ nothing_together a =
     ap (parts (added_ignore_list empty a) a.names a.sources a.source_contents) (map_self _ after-zero a.tokens)
     ∙ ap (λ l. parts l a.names a.sources a.source_contents a.tokens) (appended-nothing (raised_ignore_list 0 a.ignore_list) ∙ list-zero a.ignore_list)
 
-pub all_plain : (ms : List (MapRecord × ℕ)) → together empty (all_together ms) ≡ all_together ms
+pub all_plain : (ms : List (MapRecord × Offset)) → together empty (all_together ms) ≡ all_together ms
 all_plain [] = refl
 all_plain (m ∷ ms) = nothing_together (all_together (m ∷ ms))
 
-pub all_append : (ms ns : List (MapRecord × ℕ)) → all_together (ms ++ ns) ≡ together (all_together ms) (all_together ns)
+pub all_append : (ms ns : List (MapRecord × Offset)) → all_together (ms ++ ns) ≡ together (all_together ms) (all_together ns)
 all_append [] ns = sym (all_plain ns)
 all_append (m ∷ ms) ns = ap (together (alone m.0 m.1)) (all_append ms ns) ∙ sym (together_assoc (alone m.0 m.1) (all_together ms) (all_together ns))
 
@@ -161,23 +169,23 @@ pub record IsExact (r : MapRecord) : Type 0 where
   pub source_root : r.source_root ≡ None
   pub debug_id : r.debug_id ≡ None
 
-pub exact_added : (r m : MapRecord) (offset : ℕ) → IsExact (added r m offset)
+pub exact_added : (r m : MapRecord) (offset : Offset) → IsExact (added r m offset)
 exact_added r m offset = record { source_contents = length-fitted (length (r.sources ++ m.sources)) (r.source_contents ++ m.source_contents); file = refl; source_root = refl; debug_id = refl }
 
-pub exact_added_all : (r : MapRecord) (ms : List (MapRecord × ℕ)) → IsExact r → IsExact (added_all r ms)
+pub exact_added_all : (r : MapRecord) (ms : List (MapRecord × Offset)) → IsExact r → IsExact (added_all r ms)
 exact_added_all r [] x = x
 exact_added_all r (m ∷ ms) x = exact_added_all (added r m.0 m.1) ms (exact_added r m.0 m.1)
 
-pub exact_joined : (ms : List (MapRecord × ℕ)) → IsExact (joined ms)
+pub exact_joined : (ms : List (MapRecord × Offset)) → IsExact (joined ms)
 exact_joined ms = exact_added_all nothing_joined ms (record { source_contents = refl; file = refl; source_root = refl; debug_id = refl })
 
-added-is : (r m : MapRecord) (offset : ℕ) → IsExact r → without_chunks (added r m offset) ≡ together r (alone m offset)
+added-is : (r m : MapRecord) (offset : Offset) → IsExact r → without_chunks (added r m offset) ≡ together r (alone m offset)
 added-is r m offset x =
     let e4 : fitted (length (r.sources ++ m.sources)) (r.source_contents ++ m.source_contents) ≡ r.source_contents ++ fitted (length m.sources) m.source_contents = ap (λ n. fitted n (r.source_contents ++ m.source_contents)) (length-append r.sources m.sources) ∙ fitted-more r.sources m.sources r.source_contents m.source_contents (sym x.source_contents) in
     let e5 : added_tokens r m offset ≡ seamed is_same_token r.tokens (map (after (length r.names) (length r.sources)) (map (raised offset) m.tokens)) = ap (seamed is_same_token r.tokens) (sym (map_twice _ _ _ (λ x. refl) m.tokens)) in
     record_by _ _ _ _ _ _ _ _ _ _ refl refl refl refl e4 e5 refl refl refl
 
-pub added_all-is : (r : MapRecord) (ms : List (MapRecord × ℕ)) → IsExact r → without_chunks (added_all r ms) ≡ together r (all_together ms)
+pub added_all-is : (r : MapRecord) (ms : List (MapRecord × Offset)) → IsExact r → without_chunks (added_all r ms) ≡ together r (all_together ms)
 added_all-is r [] x = record_by _ _ _ _ _ _ _ _ _ _ x.file (sym (append-nil r.names)) x.source_root (sym (append-nil r.sources)) (sym (append-nil r.source_contents)) (sym (seamed_nil is_same_token decides_token r.tokens)) refl refl x.debug_id
 added_all-is r (m ∷ ms) x =
     added_all-is (added r m.0 m.1) ms (exact_added r m.0 m.1)
@@ -185,31 +193,32 @@ added_all-is r (m ∷ ms) x =
     ∙ together_assoc r (alone m.0 m.1) (all_together ms)
 
 -- a join, in all but its chunks
-pub joined-is : (ms : List (MapRecord × ℕ)) → without_chunks (joined ms) ≡ all_together ms
+pub joined-is : (ms : List (MapRecord × Offset)) → without_chunks (joined ms) ≡ all_together ms
 joined-is ms = added_all-is nothing_joined ms (record { source_contents = refl; file = refl; source_root = refl; debug_id = refl }) ∙ all_plain ms
 
 -- ---- groups
-abbrev pub raise_all : ℕ → MapRecord → MapRecord
+abbrev pub raise_all : Offset → MapRecord → MapRecord
 raise_all offset r = record r { tokens = map (raised offset) r.tokens }
 
-raise_together : (offset : ℕ) (a b : MapRecord) → together (raise_all offset a) (raise_all offset b) ≡ raise_all offset (together a b)
-raise_together offset a b =
+raise_together : (number : ℕ) (a b : MapRecord) → together (raise_all (at_line number) a) (raise_all (at_line number) b) ≡ raise_all (at_line number) (together a b)
+raise_together number a b =
+    let offset = at_line number in
     let n = length a.names in let s = length a.sources in
     ap (parts (added_ignore_list a b) (a.names ++ b.names) (a.sources ++ b.sources) (a.source_contents ++ b.source_contents))
     (ap (seamed is_same_token (map (raised offset) a.tokens)) (map_twice (raised offset) (after n s) (λ x. raised offset (after n s x)) (λ x. refl) b.tokens ∙ sym (map_twice (after n s) (raised offset) (λ x. raised offset (after n s x)) (λ x. refl) b.tokens))
-    ∙ sym (seamed-map is_same_token is_same_token (raised offset) (same-raised offset) a.tokens (map (after n s) b.tokens)))
+    ∙ sym (seamed-map is_same_token is_same_token (raised offset) (same-raised number) a.tokens (map (after n s) b.tokens)))
 
-alone_raised : (offset : ℕ) (m : MapRecord) (o : ℕ) → alone m (o + offset) ≡ raise_all offset (alone m o)
-alone_raised offset m o = ap (parts m.ignore_list m.names m.sources (fitted (length m.sources) m.source_contents)) (sym (map_twice (raised o) (raised offset) (raised (o + offset)) (raised-twice o offset) m.tokens))
+alone_raised : (offset : ℕ) (m : MapRecord) (o : ℕ) → alone m (at_line (o + offset)) ≡ raise_all (at_line offset) (alone m (at_line o))
+alone_raised offset m o = ap (parts m.ignore_list m.names m.sources (fitted (length m.sources) m.source_contents)) (sym (map_twice (raised (at_line o)) (raised (at_line offset)) (raised (at_line (o + offset))) (raised-twice o offset) m.tokens))
 
-pub raised_group : (offset : ℕ) (ms : List (MapRecord × ℕ)) → all_together (map (λ m. (m.0, m.1 + offset)) ms) ≡ raise_all offset (all_together ms)
+pub raised_group : (offset : ℕ) (ms : List (MapRecord × ℕ)) → all_together (map (λ m. (m.0, at_line (m.1 + offset))) ms) ≡ raise_all (at_line offset) (all_together (at_lines ms))
 raised_group offset [] = refl
 raised_group offset (m ∷ ms) =
-    ap (λ r. together r (all_together (map (λ m. (m.0, m.1 + offset)) ms))) (alone_raised offset m.0 m.1)
-    ∙ ap (together (raise_all offset (alone m.0 m.1))) (raised_group offset ms)
-    ∙ raise_together offset (alone m.0 m.1) (all_together ms)
+    ap (λ r. together r (all_together (map (λ m. (m.0, at_line (m.1 + offset))) ms))) (alone_raised offset m.0 m.1)
+    ∙ ap (together (raise_all (at_line offset) (alone m.0 (at_line m.1)))) (raised_group offset ms)
+    ∙ raise_together offset (alone m.0 (at_line m.1)) (all_together (at_lines ms))
 
-alone_joined : (ms : List (MapRecord × ℕ)) (offset : ℕ) → alone (joined ms) offset ≡ raise_all offset (without_chunks (joined ms))
+alone_joined : (ms : List (MapRecord × Offset)) (offset : Offset) → alone (joined ms) offset ≡ raise_all offset (without_chunks (joined ms))
 alone_joined ms offset =
     let r = joined ms in
     let x = exact_joined ms in
@@ -218,19 +227,18 @@ alone_joined ms offset =
 pub groups : (gs : List Group) → all_together (groups_joined gs) ≡ all_together (maps_of gs)
 groups [] = refl
 groups (g ∷ gs) =
-    let rest = all_together (map (λ g. (joined g.0, g.1)) gs) in
-    let here : alone (joined g.0) g.1 ≡ all_together (map (λ m. (m.0, m.1 + g.1)) g.0) = alone_joined g.0 g.1 ∙ ap (raise_all g.1) (joined-is g.0) ∙ sym (raised_group g.1 g.0) in
-    ap (λ r. together r rest) here
-    ∙ ap (together (all_together (map (λ m. (m.0, m.1 + g.1)) g.0))) (groups gs)
-    ∙ sym (all_append (map (λ m. (m.0, m.1 + g.1)) g.0) (flat_map (λ g. map (λ m. (m.0, m.1 + g.1)) g.0) gs))
+    let here : alone (joined (at_lines g.0)) (at_line g.1) ≡ all_together (map (λ m. (m.0, at_line (m.1 + g.1))) g.0) = alone_joined (at_lines g.0) (at_line g.1) ∙ ap (raise_all (at_line g.1)) (joined-is (at_lines g.0)) ∙ sym (raised_group g.1 g.0) in
+    ap (λ r. together r (all_together (groups_joined gs))) here
+    ∙ ap (together (all_together (map (λ m. (m.0, at_line (m.1 + g.1))) g.0))) (groups gs)
+    ∙ sym (all_append (map (λ m. (m.0, at_line (m.1 + g.1))) g.0) (maps_of gs))
 
 pub joins_associative : (gs : List Group) → without_chunks (joined (groups_joined gs)) ≡ without_chunks (joined (maps_of gs))
 joins_associative gs = joined-is (groups_joined gs) ∙ groups gs ∙ sym (joined-is (maps_of gs))
 
 -- one map more
-added-last : (r : MapRecord) (ms : List (MapRecord × ℕ)) (m : MapRecord) (offset : ℕ) → added_all r (ms ++ (m, offset) ∷ []) ≡ added (added_all r ms) m offset
+added-last : (r : MapRecord) (ms : List (MapRecord × Offset)) (m : MapRecord) (offset : Offset) → added_all r (ms ++ (m, offset) ∷ []) ≡ added (added_all r ms) m offset
 added-last r [] m offset = refl
 added-last r (x ∷ ms) m offset = added-last (added r x.0 x.1) ms m offset
 
-pub one_more : (ms : List (MapRecord × ℕ)) (m : MapRecord) (offset : ℕ) → joined (ms ++ (m, offset) ∷ []) ≡ added (joined ms) m offset
+pub one_more : (ms : List (MapRecord × Offset)) (m : MapRecord) (offset : Offset) → joined (ms ++ (m, offset) ∷ []) ≡ added (joined ms) m offset
 one_more ms m offset = added-last nothing_joined ms m offset

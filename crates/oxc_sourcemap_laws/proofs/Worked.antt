@@ -5,7 +5,7 @@ use Rattle.oxc_sourcemap_parts.specs.Record.{Text, MapRecord}
 use Rattle.oxc_sourcemap_parts.specs.Views.{empty_record}
 use Rattle.oxc_sourcemap_parts.specs.DecodedMap.{DecodedMapping, decoded_map_of}
 use Rattle.oxc_sourcemap_lookup.specs.Trace.{trace}
-use Rattle.oxc_sourcemap_join.specs.Joined.{joined, shifted}
+use Rattle.oxc_sourcemap_join.specs.Joined.{Offset, at_line, at_lines, joined, shifted}
 use Rattle.oxc_sourcemap_laws.specs.Repeats.{decoded_map_without_repeats, EqualUpToRepeats, is_sorted_decoded_map}
 use Rattle.oxc_sourcemap_laws.specs.JoinedDecodedMaps.{joined_decoded_maps}
 use Rattle.oxc_sourcemap_laws.specs.JoinLaws.{decoded_maps_of, Group, groups_joined, maps_of, without_chunks}
@@ -27,26 +27,26 @@ unmapped dst_line dst_col = record { dst_line = dst_line; dst_col = dst_col; ori
 abbrev a_seam : List (MapRecord × ℕ)
 a_seam = (plain [] (token 0 0 0 0 None None ∷ token 2 3 0 0 None None ∷ []), 0) ∷ (plain [] (token 0 3 0 0 None None ∷ token 1 9 0 0 None None ∷ []), 2) ∷ []
 
-joins-with_a_seam : (decoded_map_of (joined a_seam)).mappings ≡ unmapped 0 0 ∷ unmapped 2 3 ∷ unmapped 3 9 ∷ []
+joins-with_a_seam : (decoded_map_of (joined (at_lines a_seam))).mappings ≡ unmapped 0 0 ∷ unmapped 2 3 ∷ unmapped 3 9 ∷ []
 joins-with_a_seam = refl
 
-joins-decoded_maps_without_a_seam : (joined_decoded_maps (decoded_maps_of a_seam)).mappings ≡ unmapped 0 0 ∷ unmapped 2 3 ∷ unmapped 2 3 ∷ unmapped 3 9 ∷ []
+joins-decoded_maps_without_a_seam : (joined_decoded_maps (decoded_maps_of (at_lines a_seam))).mappings ≡ unmapped 0 0 ∷ unmapped 2 3 ∷ unmapped 2 3 ∷ unmapped 3 9 ∷ []
 joins-decoded_maps_without_a_seam = refl
 
-joins-up_to_repeats : EqualUpToRepeats (decoded_map_of (joined a_seam)) (joined_decoded_maps (decoded_maps_of a_seam))
+joins-up_to_repeats : EqualUpToRepeats (decoded_map_of (joined (at_lines a_seam))) (joined_decoded_maps (decoded_maps_of (at_lines a_seam)))
 joins-up_to_repeats = refl
 
-squeezes-what_repeats : (decoded_map_without_repeats (joined_decoded_maps (decoded_maps_of a_seam))).mappings ≡ unmapped 0 0 ∷ unmapped 2 3 ∷ unmapped 3 9 ∷ []
+squeezes-what_repeats : (decoded_map_without_repeats (joined_decoded_maps (decoded_maps_of (at_lines a_seam)))).mappings ≡ unmapped 0 0 ∷ unmapped 2 3 ∷ unmapped 3 9 ∷ []
 squeezes-what_repeats = refl
 
-traces-after_what_repeats : trace (joined_decoded_maps (decoded_maps_of a_seam)) 2 5 ≡ Some None
+traces-after_what_repeats : trace (joined_decoded_maps (decoded_maps_of (at_lines a_seam))) 2 5 ≡ Some None
 traces-after_what_repeats = refl
 
-joins-sorted : is_sorted_decoded_map (joined_decoded_maps (decoded_maps_of a_seam)) ≡ true
+joins-sorted : is_sorted_decoded_map (joined_decoded_maps (decoded_maps_of (at_lines a_seam))) ≡ true
 joins-sorted = refl
 
 -- a first line that joins the line of the map before it
-joins-not_sorted : is_sorted_decoded_map (joined_decoded_maps (decoded_maps_of ((plain [] (token 0 4 0 0 None None ∷ []), 0) ∷ (plain [] (token 0 0 0 0 None None ∷ []), 0) ∷ []))) ≡ false
+joins-not_sorted : is_sorted_decoded_map (joined_decoded_maps (decoded_maps_of (at_lines ((plain [] (token 0 4 0 0 None None ∷ []), 0) ∷ (plain [] (token 0 0 0 0 None None ∷ []), 0) ∷ [])))) ≡ false
 joins-not_sorted = refl
 
 -- two groups; the only token of the second one's map is left out
@@ -64,7 +64,7 @@ groups-have_a_chunk_each : (joined (groups_joined two_groups)).token_chunks ≡ 
 groups-have_a_chunk_each = refl
 
 -- Ids are numbers without limit: one that does not fit in a token any more is still an id, and not none.
-shifts-the_last_id : shifted 0 1 0 (token 0 0 0 0 (Some 4294967294) None) ≡ token 0 0 0 0 (Some 4294967295) None
+shifts-the_last_id : shifted 0 1 (at_line 0) (token 0 0 0 0 (Some 4294967294) None) ≡ token 0 0 0 0 (Some 4294967295) None
 shifts-the_last_id = refl
 
 -- a map of one source, with this ignore list
@@ -75,8 +75,22 @@ ignoring list = record (plain ((0 ∷ []) ∷ []) []) { ignore_list = list }
 abbrev some_ignored : List (MapRecord × ℕ)
 some_ignored = (ignoring (Some (0 ∷ [])), 0) ∷ (ignoring None, 1) ∷ (ignoring (Some (0 ∷ [])), 2) ∷ []
 
-joins-ignore_lists_of_decoded_maps : (joined_decoded_maps (decoded_maps_of some_ignored)).ignore_list ≡ Some (0 ∷ 2 ∷ [])
+joins-ignore_lists_of_decoded_maps : (joined_decoded_maps (decoded_maps_of (at_lines some_ignored))).ignore_list ≡ Some (0 ∷ 2 ∷ [])
 joins-ignore_lists_of_decoded_maps = refl
 
 groups-with_ignore_lists : (joined (groups_joined ((some_ignored, 0) ∷ (some_ignored, 3) ∷ []))).ignore_list ≡ Some (0 ∷ 2 ∷ 3 ∷ 5 ∷ [])
 groups-with_ignore_lists = refl
+
+-- ---- at a line and a column
+-- the second map begins where the first one ends, and its line 1 at column 0
+abbrev side_by_side : List (MapRecord × Offset)
+side_by_side = (plain [] (token 0 4 0 0 None None ∷ []), at_line 0) ∷ (plain [] (token 0 0 0 0 None None ∷ token 0 3 0 0 None None ∷ token 1 2 0 0 None None ∷ []), record { line = 0; column = 4 }) ∷ []
+
+joins-side_by_side : (joined side_by_side).tokens ≡ token 0 4 0 0 None None ∷ token 0 7 0 0 None None ∷ token 1 2 0 0 None None ∷ []
+joins-side_by_side = refl
+
+joins-decoded_maps_side_by_side : (joined_decoded_maps (decoded_maps_of side_by_side)).mappings ≡ unmapped 0 4 ∷ unmapped 0 4 ∷ unmapped 0 7 ∷ unmapped 1 2 ∷ []
+joins-decoded_maps_side_by_side = refl
+
+joins-side_by_side_sorted : is_sorted_decoded_map (joined_decoded_maps (decoded_maps_of side_by_side)) ≡ true
+joins-side_by_side_sorted = refl

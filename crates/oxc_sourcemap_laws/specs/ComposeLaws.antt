@@ -24,19 +24,23 @@ AreTokensInRange b = AllByRecursion (IsInRange (length b.names) (length b.source
 -- Where the source ids of the first map and all ids of the second one's tokens are in range, the decoded map of the composed
 -- map is the composition of the decoded maps.
 abbrev pub DecodedMapOfComposition : Type 0
-DecodedMapOfComposition = (a b : MapRecord) → AreSourceIdsInRange a → AreTokensInRange b → decoded_map_of (composed a b) ≡ composed_decoded_maps (decoded_map_of a) (decoded_map_of b)
+DecodedMapOfComposition = (a b : MapRecord) → AreSourceIdsInRange a → AreTokensInRange b
+    → decoded_map_of (composed a b) ≡ composed_decoded_maps (decoded_map_of a) (decoded_map_of b)
 
 -- Decoded maps that are equal up to repeats stay equal up to repeats when they are composed, on either side.
 abbrev pub CompositionKeepsEqualUpToRepeats : Type 0
-CompositionKeepsEqualUpToRepeats = (s s' t t' : DecodedMap) → EqualUpToRepeats s s' → EqualUpToRepeats t t' → EqualUpToRepeats (composed_decoded_maps s t) (composed_decoded_maps s' t')
+CompositionKeepsEqualUpToRepeats = (s s' t t' : DecodedMap) → EqualUpToRepeats s s' → EqualUpToRepeats t t'
+    → EqualUpToRepeats (composed_decoded_maps s t) (composed_decoded_maps s' t')
 
 -- The composition of maps that stand for decoded maps stands for the composition of these decoded maps.
 abbrev pub CompositionStandsFor : Type 0
-CompositionStandsFor = (a b : MapRecord) (s t : DecodedMap) → StandsFor a s → StandsFor b t → StandsFor (composed a b) (composed_decoded_maps s t)
+CompositionStandsFor = (a b : MapRecord) (s t : DecodedMap) → StandsFor a s → StandsFor b t
+    → StandsFor (composed a b) (composed_decoded_maps s t)
 
 -- Composition of decoded maps is associative.
 abbrev pub DecodedMapsAssociative : Type 0
-DecodedMapsAssociative = (s t u : DecodedMap) → composed_decoded_maps (composed_decoded_maps s t) u ≡ composed_decoded_maps s (composed_decoded_maps t u)
+DecodedMapsAssociative = (s t u : DecodedMap)
+    → composed_decoded_maps (composed_decoded_maps s t) u ≡ composed_decoded_maps s (composed_decoded_maps t u)
 
 -- ---- maps
 -- What is composed with a third map, and what a first map is composed with; a refusal stands.
@@ -57,11 +61,14 @@ grouped_right a b c = with_then a (composition b c)
 
 -- For sound maps, and without regard to limits: the decoded map of the composed map does not depend on the grouping.
 abbrev pub ComposedMapsAssociative : Type 0
-ComposedMapsAssociative = (a b c : MapRecord) → IsSound a → IsSound b → IsSound c → decoded_map_of (composed (composed a b) c) ≡ decoded_map_of (composed a (composed b c))
+ComposedMapsAssociative = (a b c : MapRecord) → IsSound a → IsSound b → IsSound c
+    → decoded_map_of (composed (composed a b) c) ≡ decoded_map_of (composed a (composed b c))
 
 -- The groupings of sound maps have equal decoded maps, where both give a map.
 abbrev pub CompositionAssociative : Type 0
-CompositionAssociative = (a b c : MapRecord) → IsSound a → IsSound b → IsSound c → (left right : MapRecord) → grouped_left a b c ≡ Ok left → grouped_right a b c ≡ Ok right → decoded_map_of left ≡ decoded_map_of right
+CompositionAssociative = (a b c : MapRecord) → IsSound a → IsSound b → IsSound c
+    → (left right : MapRecord) → grouped_left a b c ≡ Ok left → grouped_right a b c ≡ Ok right
+    → decoded_map_of left ≡ decoded_map_of right
 
 -- a refusal of a transformation map with several sources
 abbrev pub IsSeveralSources : Result MapRecord Error → Type 0
@@ -69,7 +76,8 @@ IsSeveralSources answer = (n : ℕ) × (answer ≡ Err (SeveralSources n))
 
 -- Unless one of them is `TooLarge`, the two groupings of sound maps are `SeveralSources` together or not at all.
 abbrev pub GroupingsRefusedTogether : Type 0
-GroupingsRefusedTogether = (a b c : MapRecord) → IsSound a → IsSound b → IsSound c → grouped_left a b c ≢ Err TooLarge → grouped_right a b c ≢ Err TooLarge
+GroupingsRefusedTogether = (a b c : MapRecord) → IsSound a → IsSound b → IsSound c
+    → grouped_left a b c ≢ Err TooLarge → grouped_right a b c ≢ Err TooLarge
     → IsSeveralSources (grouped_left a b c) ↔ IsSeveralSources (grouped_right a b c)
 
 -- an answer that is a map
@@ -78,18 +86,21 @@ IsAnswered answer = (m : MapRecord) × (answer ≡ Ok m)
 
 -- Unless one of them is `TooLarge`, both groupings are answered where the first and the second map have at most one source.
 abbrev pub GroupingsAnswered : Type 0
-GroupingsAnswered = (a b c : MapRecord) → IsSound a → IsSound b → IsSound c → grouped_left a b c ≢ Err TooLarge → grouped_right a b c ≢ Err TooLarge
+GroupingsAnswered = (a b c : MapRecord) → IsSound a → IsSound b → IsSound c
+    → grouped_left a b c ≢ Err TooLarge → grouped_right a b c ≢ Err TooLarge
     → length a.sources ≤ 1 → length b.sources ≤ 1 → IsAnswered (grouped_left a b c) × IsAnswered (grouped_right a b c)
 
 -- What one answer says of another. If it is a map, the other is a map with the same decoded map, or `TooLarge`; if it is
 -- `SeveralSources`, the other is so, too, or `TooLarge`.
 pub record TellsOf (answer other : Result MapRecord Error) : Type 0 where
-  pub of_map : (m : MapRecord) → answer ≡ Ok m → (other ≡ Err TooLarge) ⊎ ((n : MapRecord) × (other ≡ Ok n) × (decoded_map_of m ≡ decoded_map_of n))
+  pub of_map : (m : MapRecord) → answer ≡ Ok m
+      → (other ≡ Err TooLarge) ⊎ ((n : MapRecord) × (other ≡ Ok n) × (decoded_map_of m ≡ decoded_map_of n))
   pub of_several : IsSeveralSources answer → (other ≡ Err TooLarge) ⊎ IsSeveralSources other
 
 -- So each grouping of sound maps tells of the other.
 abbrev pub GroupingsTell : Type 0
-GroupingsTell = (a b c : MapRecord) → IsSound a → IsSound b → IsSound c → TellsOf (grouped_left a b c) (grouped_right a b c) × TellsOf (grouped_right a b c) (grouped_left a b c)
+GroupingsTell = (a b c : MapRecord) → IsSound a → IsSound b → IsSound c
+    → TellsOf (grouped_left a b c) (grouped_right a b c) × TellsOf (grouped_right a b c) (grouped_left a b c)
 
 -- ---- names, tokens and ids
 -- The ids of a composed map are in range where those of the second map are.
@@ -112,4 +123,5 @@ CompositionTooLarge = (a b : MapRecord) → composition a b ≡ Err TooLarge →
 
 -- Where the tokens of both maps are in bounds, those of the composed map are, if there is one.
 abbrev pub CompositionInBounds : Type 0
-CompositionInBounds = (a b m : MapRecord) → AreInBounds a.tokens → AreInBounds b.tokens → composition a b ≡ Ok m → AreInBounds m.tokens
+CompositionInBounds = (a b m : MapRecord) → AreInBounds a.tokens → AreInBounds b.tokens
+    → composition a b ≡ Ok m → AreInBounds m.tokens

@@ -20,7 +20,7 @@ ghost use Rattle.oxc_sourcemap_laws.specs.JoinLaws.{RepeatsHarmless, TracesAgree
 /// - A sound map of at most 4294967295 tokens is written (`sound_is_written`), one of more is `TooLarge`
 ///   (`sound_is_too_large`). What is written is read as a map with the same decoded map (its ids looked up), the same
 ///   names, and tokens equal as written (`sound_reads_back`). It is sound, has as many tokens, and comes back a second time
-///   unchanged (`sound_stays_sound`).
+///   with the same tokens (`sound_stays_sound`).
 /// - The tokens of a map that was read from a JSON text are in bounds (`read_is_in_bounds`).
 pub fn canonical_unique()
     ensures unique { CanonicalUnique }
@@ -61,8 +61,8 @@ pub fn dropping_harmless()
 {}
 
 /// Joins may be grouped, for any maps, sound or not.
-/// - Joining maps in groups and then the groups is joining all maps, each at the sum of its offsets, apart from the chunks
-///   (`associative`). Groups may be empty. Lines and ids are unlimited numbers here.
+/// - Joining maps in groups and then the groups is joining all maps, each at the sum of its lines, apart from the chunks
+///   (`associative`). All are joined at column 0. Groups may be empty. Lines and ids are unlimited numbers here.
 /// - Joining one map more is adding it to the join of the others (`one_more`), so a caller that adds maps in a loop joins
 ///   them.
 /// - A join has one chunk for each map, and they fit its tokens (`chunks_fit`), so its canonical text is the parts of its

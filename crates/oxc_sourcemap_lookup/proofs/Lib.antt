@@ -1,5 +1,6 @@
 pub mod Lookups
 pub mod Tables
+pub mod LineSpans
 pub mod Halving
 pub mod OwnTables
 pub mod Picks

@@ -1,11 +1,13 @@
 -- The rows of a map's own lookup table.
-use Rattle.std.proofs.Common.{◌≡◌, ℕ, zero, suc, ◌+◌, ◌≤◌, ◌<◌, ◌==◌, nat_lt, List, [], ◌∷◌, map, slice_get, refl, arith, Bool, true, false, cond, ap, ◌∙◌, sym, Option, Some, None, Ok}
+use Rattle.std.proofs.Common.{◌≡◌, ℕ, zero, suc, ◌+◌, ◌≤◌, ◌<◌, ◌==◌, nat_lt, List, [], ◌∷◌, map, slice_get, refl, arith, Bool, true, false, cond, ap, ◌∙◌, sym, Option, Some, None, option_map, Ok}
 use Rattle.std.specs.List.{last_or, range_with_len, AllByRecursion}
 use Rattle.std.specs.Option.{unwrap_or}
+use Rattle.oxc_sourcemap_mappings.specs.declared.error.Error.TheVariants.{LineOrder}
+use Rattle.oxc_sourcemap_mappings.specs.Refusals.{unless}
 use Rattle.oxc_sourcemap_mappings.specs.Token.{TokenRecord}
 use Rattle.oxc_sourcemap_mappings.specs.Canonical.{first_out_of_order}
 use Rattle.oxc_sourcemap_parts.specs.Sorted.{token_line, token_column, may_precede, are_tokens_sorted}
-use Rattle.oxc_sourcemap_lookup.specs.Lookup.{last, on_line, lines_through, tokens_by_line, line_table, table_unless, slice_of, no_column_goes_back}
+use Rattle.oxc_sourcemap_lookup.specs.Lookup.{last, on_line, lines_through, tokens_by_line, line_table, slice_of, no_column_goes_back}
 use Rattle.oxc_sourcemap_parts.proofs.Order.{sorted-head}
 use Rattle.oxc_sourcemap_lookup.proofs.Tables.{IsFrom, in_order-from_0}
 
@@ -36,7 +38,16 @@ none-after : (n : ℕ) (ts : List TokenRecord) → first_out_of_order ts ≡ Non
 none-after n [] p h = refl
 none-after n (t ∷ ts) p h = on_line-after n t ts (in_order-from_0 (t ∷ ts) p).1 h
 
-table-is-by : (o : Option ℕ) (tokens : List TokenRecord) (table : List (List TokenRecord)) → table_unless o tokens ≡ Ok table → (o ≡ None) × (tokens_by_line tokens ≡ table)
+-- so where the lines up to the last token's are cut off, nothing is left
+pub none-left : (line : ℕ) (rest tokens : List TokenRecord) → first_out_of_order tokens ≡ None → lines_through (last tokens) ≤ line → IsFrom line rest
+    → ((n : ℕ) → line ≤ n → on_line token_line n rest ≡ on_line token_line n tokens) → rest ≡ []
+none-left line [] tokens order h p same = refl
+none-left line (t ∷ ts) tokens order h p same =
+    let here : on_line token_line t.dst_line (t ∷ ts) ≡ t ∷ on_line token_line t.dst_line ts = grind (arith) in
+    let none = none-after t.dst_line tokens order (omega (arith, h, p.0)) in
+    absurd (cc (here, same t.dst_line p.0, none))
+
+table-is-by : (o : Option ℕ) (tokens : List TokenRecord) (table : List (List TokenRecord)) → unless (option_map LineOrder o) (Ok (tokens_by_line tokens)) ≡ Ok table → (o ≡ None) × (tokens_by_line tokens ≡ table)
 table-is-by None tokens table h = (refl, cc (h))
 table-is-by (Some i) tokens table h = absurd (cc (h))
 

@@ -1,6 +1,7 @@
 -- Cutting the front line off a list in line order.
-use Rattle.std.proofs.Common.{◌≡◌, ℕ, suc, zero, ◌+◌, ◌-◌, ◌≤◌, ◌<◌, List, [], ◌∷◌, ◌++◌, map, take, drop, length, slice_get, ◌==◌, refl, arith, Bool, true, false, cond, ap, ◌∙◌, Some, None}
+use Rattle.std.proofs.Common.{◌≡◌, ℕ, suc, zero, ◌+◌, ◌-◌, ◌≤◌, ◌<◌, List, [], ◌∷◌, ◌++◌, map, take, drop, length, slice_get, nat_lt, ◌==◌, refl, arith, Bool, true, false, cond, ap, ◌∙◌, Some, None}
 use Rattle.std.specs.List.{prefix_len, last_or, range_with_len}
+use Rattle.std.specs.Option.{option_map_or}
 use Rattle.oxc_sourcemap_mappings.specs.Token.{TokenRecord}
 use Rattle.oxc_sourcemap_mappings.specs.Canonical.{first_out_of_order}
 use Rattle.oxc_sourcemap_parts.specs.Sorted.{token_line}
@@ -30,6 +31,18 @@ in_order-from t (u ∷ us) h =
 pub in_order-from_0 : (ts : List TokenRecord) → first_out_of_order ts ≡ None → IsFrom 0 ts
 in_order-from_0 [] h = tt
 in_order-from_0 (t ∷ ts) h = (omega arith, in_order-from t ts h)
+
+pub from-in_order : (from : ℕ) (ts : List TokenRecord) → IsFrom from ts → first_out_of_order ts ≡ None
+from-in_order from [] p = refl
+from-in_order from (t ∷ []) p = refl
+from-in_order from (t ∷ u ∷ us) p = grind (arith, p.1.0, from-in_order t.dst_line (u ∷ us) p.1)
+
+-- so the first one does not lie before that line
+pub not_begins_before : (line : ℕ) (ts : List TokenRecord) → IsFrom line ts → option_map_or (λ t. nat_lt t.dst_line line) (slice_get ts 0) false ≡ true → ⊥
+not_begins_before line [] p e = cc (e)
+not_begins_before line (t ∷ ts) p e =
+    let before : t.dst_line < line = grind (arith, e) in
+    omega (arith, p.0, before)
 
 take-one : {X : Type 0} (n m : ℕ) (x : X) (xs : List X) → m ≡ suc n → take m (x ∷ xs) ≡ x ∷ take n xs
 take-one n m x xs e = rw e refl
@@ -63,6 +76,17 @@ left_at false line n t ts e p more = (grind (arith, e, p.0), p.1)
 pub left : (line : ℕ) (ts : List TokenRecord) → IsFrom line ts → IsFrom (line + 1) (drop (prefix_len (λ t. t.dst_line == line) ts) ts)
 left line [] p = p
 left line (t ∷ ts) p = left_at (t.dst_line == line) line (prefix_len (λ t. t.dst_line == line) ts) t ts refl p (left line ts (IsFrom-le line t.dst_line ts p.0 p.1))
+
+-- what begins on the line is in order if what is left is
+joined_at : (b : Bool) (line n : ℕ) (t : TokenRecord) (ts : List TokenRecord) → (t.dst_line == line) ≡ b → (IsFrom (line + 1) (drop n ts) → IsFrom line ts) → IsFrom (line + 1) (drop (cond b (1 + n) 0) (t ∷ ts)) → IsFrom line (t ∷ ts)
+joined_at true line n t ts e more p =
+    let same : t.dst_line ≡ line = grind (arith, e) in
+    (omega (arith, same), IsFrom-le t.dst_line line ts (omega (arith, same)) (more (rw (drop-one n (1 + n) t ts (omega arith)) at p)))
+joined_at false line n t ts e more p = (omega (arith, p.0), p.1)
+
+pub joined : (line : ℕ) (ts : List TokenRecord) → IsFrom (line + 1) (drop (prefix_len (λ t. t.dst_line == line) ts) ts) → IsFrom line ts
+joined line [] p = tt
+joined line (t ∷ ts) p = joined_at (t.dst_line == line) line (prefix_len (λ t. t.dst_line == line) ts) t ts refl (joined line ts) p
 
 -- and has all tokens of other lines
 pub others : (n line : ℕ) (ts : List TokenRecord) → line < n → on_line token_line n (drop (prefix_len (λ t. t.dst_line == line) ts) ts) ≡ on_line token_line n ts

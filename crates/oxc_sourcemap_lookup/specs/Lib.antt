@@ -1,3 +1,4 @@
 pub mod Digits
 pub mod Lookup
+pub mod LineSpans
 pub mod Trace

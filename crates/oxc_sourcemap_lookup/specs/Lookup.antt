@@ -1,9 +1,11 @@
 -- Looking up by generated position, in any list of items that have a line and a column.
-use Rattle.std.specs.Prelude.{ℕ, ◌+◌, Bool, true, ◌&&◌, List, [], ◌∷◌, map, filter, max, Option, Some, None, Result, Ok, Err, if◌then◌else◌, nat_le, ◌==◌, slice_get}
+use Rattle.std.specs.Prelude.{ℕ, ◌+◌, Bool, true, ◌&&◌, List, [], ◌∷◌, map, filter, max, slice_get}
+use Rattle.std.specs.Prelude.{Option, Some, None, option_map, Result, Ok, if◌then◌else◌, nat_le, ◌==◌}
 use Rattle.std.specs.List.{last_or, range_with_len}
 use Rattle.std.specs.Option.{unwrap_or, option_or}
 use Rattle.oxc_sourcemap_mappings.specs.declared.error.Error.{Error}
 use Rattle.oxc_sourcemap_mappings.specs.declared.error.Error.TheVariants.{LineOrder}
+use Rattle.oxc_sourcemap_mappings.specs.Refusals.{unless}
 use Rattle.oxc_sourcemap_mappings.specs.Token.{TokenRecord}
 use Rattle.oxc_sourcemap_mappings.specs.Canonical.{first_out_of_order}
 use Rattle.oxc_sourcemap_parts.specs.Sorted.{token_line}
@@ -68,13 +70,13 @@ lines_through (Some t) = t.dst_line + 1
 abbrev pub tokens_by_line : List TokenRecord → List (List TokenRecord)
 tokens_by_line tokens = map (λ n. on_line token_line n tokens) (range_with_len 0 (lines_through (last tokens)))
 
--- the lookup table of a list of tokens, unless one lies on a line before that of the token before
-abbrev pub table_unless : Option ℕ → List TokenRecord → Result (List (List TokenRecord)) Error
-table_unless None tokens = Ok (tokens_by_line tokens)
-table_unless (Some i) tokens = Err (LineOrder i)
+-- Why a list of tokens has no lookup table: one of them lies on a line before that of the token before.
+abbrev pub table_fault : List TokenRecord → Option Error
+table_fault tokens = option_map LineOrder (first_out_of_order tokens)
 
+-- the lookup table of a list of tokens
 abbrev pub line_table : List TokenRecord → Result (List (List TokenRecord)) Error
-line_table tokens = table_unless (first_out_of_order tokens) tokens
+line_table tokens = unless (table_fault tokens) (Ok (tokens_by_line tokens))
 
 -- the tokens that a table has for a line: none past its end
 abbrev pub slice_of : List (List TokenRecord) → ℕ → List TokenRecord

@@ -4,6 +4,8 @@
 //! The lookups of `SourceMap` and composition stand on this crate. Users name the crate `oxc_sourcemap`.
 #![tactic(auto)]
 
+mod line_index;
 mod lookup;
 
-pub use lookup::{lookup_table, search, search_clamped, slice_of, table_of};
+pub use line_index::LineIndex;
+pub use lookup::{lookup_table, search, search_clamped, slice_of};

@@ -1,19 +1,23 @@
 //! Lookup tables over slices of tokens, and lookups on a line. (In the Rust crate these stand in the module `sourcemap`.)
-ghost use Rattle.std.specs.Prelude.{◌≡◌, ◌≢◌, ◌==◌, ℕ, ◌+◌, ◌<◌, ◌≤◌, nat_lt, true, length, map, option_map, slice_get, IfOk, IfErr, IfSome, IsNone, Ok, Err, None, []};
+ghost use Rattle.std.specs.Prelude.{◌≡◌, ◌≢◌, ◌↔◌, ◌==◌, ℕ, ◌+◌, ◌<◌, ◌≤◌, nat_lt, true, false, IsTrue, length, take, map, option_map, slice_get};
+ghost use Rattle.std.specs.Prelude.{IfOk, IfErr, IfSome, IsNone, Ok, Err, Some, None, []};
+ghost use Rattle.std.specs.Option.{option_map_or};
 ghost use Rattle.std.specs.List.{Contains, prefix_len};
 ghost use Rattle.std.specs.Ordering.{nat_cmp};
+ghost use Rattle.oxc_sourcemap_mappings.specs.declared.error.Error.{Error};
 ghost use Rattle.oxc_sourcemap_mappings.specs.declared.error.Error.TheVariants.{OutOfMemory};
 ghost use Rattle.oxc_sourcemap_mappings.specs.Canonical.{IsInLineOrder};
 ghost use Rattle.oxc_sourcemap_parts.specs.Sorted.{are_tokens_sorted, token_line, token_column};
 ghost use Rattle.oxc_sourcemap_lookup.specs.Digits.{binary_digits};
-ghost use Rattle.oxc_sourcemap_lookup.specs.Lookup.{last, at, clamped_at, pick, clamped_pick, no_column_goes_back, lines_through, tokens_by_line, line_table, slice_of};
+ghost use Rattle.oxc_sourcemap_lookup.specs.Lookup.{last, at, clamped_at, pick, clamped_pick, no_column_goes_back};
+ghost use Rattle.oxc_sourcemap_lookup.specs.Lookup.{lines_through, tokens_by_line, table_fault, line_table, slice_of};
 
 use oxc_sourcemap_mappings::{Error, Result, Token, line_order_fault};
 use std::alloc::{AllocError, Global};
 use std::cmp::Ordering;
 
 /// How many lines there are up to that of the last token.
-fn line_count(tokens: &[Token]) -> u64
+pub(crate) fn line_count(tokens: &[Token]) -> u64
     ensures { result ≡ lines_through (last tokens.now) }
 {
     match tokens.last() {
@@ -22,33 +26,76 @@ fn line_count(tokens: &[Token]) -> u64
     }
 }
 
-/// How many tokens at the front lie on a line.
-fn line_length(tokens: &[Token], line: u64) -> usize
-    ensures { result ≡ prefix_len (λ t. t.dst_line == line) tokens.now }
+/// Whether a token lies on a line.
+fn is_on(token: &Token, line: u64) -> bool
+    ensures { result ≡ (token.now.dst_line == line) }
 {
-    tokens
-        .iter()
-        .take_while(|token| u64::from(token.get_dst_line()) == line)
-        .count()
+    u64::from(token.get_dst_line()) == line
 }
 
-/// The tokens of each line, for tokens in line order.
-pub fn table_of<'s>(
+/// Whether the first four tokens lie on a line: all are compared, without a branch.
+fn are_four_on(tokens: &[Token], line: u64) -> bool
+    requires { 4 ≤ length tokens.now }
+    ensures { IsTrue result ↔ (prefix_len (λ t. t.dst_line == line) (take 4 tokens.now) ≡ 4) }
+{
+    is_on(&tokens[0], line)
+        & is_on(&tokens[1], line)
+        & is_on(&tokens[2], line)
+        & is_on(&tokens[3], line)
+}
+
+/// How many tokens at the front lie on a line, one by one.
+fn count_on(tokens: &[Token], line: u64) -> usize
+    ensures { result ≡ prefix_len (λ t. t.dst_line == line) tokens.now }
+{
+    tokens.iter().take_while(|token| is_on(token, line)).count()
+}
+
+/// How many tokens at the front lie on a line, four by four and then one by one.
+pub(crate) fn line_length(tokens: &[Token], line: u64) -> usize
+    ensures { result ≡ prefix_len (λ t. t.dst_line == line) tokens.now }
+{
+    let mut rest = tokens;
+    while rest.len() >= 4 && are_four_on(rest, line) {
+        rest = &rest[4..];
+    }
+    tokens.len() - rest.len() + count_on(rest, line)
+}
+
+/// Whether the first token lies on a line before this one.
+fn begins_before(tokens: &[Token], line: u64) -> bool
+    ensures { result ≡ option_map_or (λ t. nat_lt t.dst_line line) (slice_get tokens.now 0) false }
+{
+    match tokens.first() {
+        Some(token) => u64::from(token.get_dst_line()) < line,
+        None => false,
+    }
+}
+
+/// The tokens of each line; None if the tokens are not in line order.
+fn cut_by_line<'s>(
     alloc: Global,
     tokens: &'s [Token],
-) -> std::result::Result<Vec<&'s [Token]>, AllocError>
-    requires { IsInLineOrder tokens.now }
-    ensures { IfOk result (λ table. map (λ s. s.now) table.items ≡ tokens_by_line tokens.now) }
+) -> std::result::Result<Option<Vec<&'s [Token]>>, AllocError>
+    ensures cut { IfOk result (λ cut. IfSome cut (λ table. IsInLineOrder tokens.now × (map (λ s. s.now) table.items ≡ tokens_by_line tokens.now))) }
+    ensures out_of_order { IfOk result (λ cut. IsNone cut → IsInLineOrder tokens.now → ⊥) }
 {
     let lines = line_count(tokens);
     let mut table = Vec::with_capacity(alloc, lines as usize)?;
     let mut rest = tokens;
     for line in 0..lines {
+        if begins_before(rest, line) {
+            return Ok(None);
+        }
         let (on_line, others) = rest.split_at(line_length(rest, line));
         table.push(on_line)?;
         rest = others;
     }
-    Ok(table)
+    if rest.is_empty() {
+        Ok(Some(table))
+    } else {
+        Ok(None)
+    }
 }
 
 /// The tokens that a table has for a line: none past its end.
@@ -125,13 +172,17 @@ pub fn search_clamped(line: &[Token], col: u32) -> Option<Token>
 /// Without tokens it has no slices.
 ///
 /// Fails with `LineOrder(i)` for the first token whose line is smaller than that of the token before, and with
-/// `OutOfMemory` if memory is refused.
+/// `OutOfMemory` if memory is refused. The first is reported wherever it holds.
 pub fn lookup_table(alloc: Global, tokens: &[Token]) -> Result<Vec<&[Token]>>
     ensures table { IfOk result (λ table. line_table tokens.now ≡ Ok (map (λ s. s.now) table.items)) }
     ensures refused { IfErr result (λ e. (e ≢ OutOfMemory) → line_table tokens.now ≡ Err e) }
+    ensures fault { (e : Error) → table_fault tokens.now ≡ Some e → result ≡ Err e }
 {
-    if let Some(i) = line_order_fault(tokens) {
-        return Err(Error::LineOrder(i));
+    if let Ok(Some(table)) = cut_by_line(alloc, tokens) {
+        return Ok(table);
     }
-    Ok(table_of(alloc, tokens)?)
+    match line_order_fault(tokens) {
+        Some(i) => Err(Error::LineOrder(i)),
+        None => Err(Error::OutOfMemory),
+    }
 }

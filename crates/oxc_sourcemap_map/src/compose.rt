@@ -24,7 +24,7 @@ impl<'a> SourceMap<'a> {
     ///
     /// File and debug id are those of this map; source root, sources, contents and ignore list those of `input`. Names are
     /// those of `input`, followed by the new ones from this map. There are no chunks. If columns decrease on a line of
-    /// `input`, any token of that line may be found, or none.
+    /// `input`, it is left open which token of that line is found.
     ///
     /// Fails in this order; both maps are then dropped:
     /// - `SeveralSources(n)` if this map has n sources, and n is above 1;
@@ -32,7 +32,7 @@ impl<'a> SourceMap<'a> {
     /// - `TooLarge` if a name from this map would have an id above 4294967294;
     /// - `OutOfMemory` if memory is refused.
     ///
-    /// The first two are found before any memory is requested, so they are reported wherever they hold.
+    /// The first two are reported wherever they hold, even if memory is refused.
     #[tactic(auto, using(oxc_sourcemap_lookup::proofs::OwnTables::line_goes_on))]
     pub fn compose<'input>(
         self,

@@ -1,5 +1,5 @@
 //! `SourceMap`, borrowing or owned: its fields, views of its tokens, and its calls that read, write, look up and compose,
-//! which hand on to the crates below.
+//! which call the crates below.
 //!
 //! Joins of maps stand on this crate, in `oxc_sourcemap_join`. Users name the crate `oxc_sourcemap`.
 #![tactic(auto)]

@@ -1,11 +1,13 @@
 //! The lookups of `SourceMap` by generated position. (In the Rust crate these calls stand in the module `sourcemap`.)
-ghost use Rattle.std.specs.Prelude.{◌≡◌, ◌≢◌, ℕ, ◌+◌, ◌<◌, ◌≤◌, true, length, map, option_map, IfOk, IfErr, IfSome, IsNone, Ok, Err, []};
+ghost use Rattle.std.specs.Prelude.{◌≡◌, ◌≢◌, ℕ, ◌+◌, ◌<◌, ◌≤◌, true, length, map, option_map, IfOk, IfErr, IfSome, IsNone, Ok, Err, Some, []};
 ghost use Rattle.std.specs.List.{Contains};
+ghost use Rattle.oxc_sourcemap_mappings.specs.declared.error.Error.{Error};
 ghost use Rattle.oxc_sourcemap_mappings.specs.declared.error.Error.TheVariants.{OutOfMemory};
 ghost use Rattle.oxc_sourcemap_parts.specs.Sorted.{are_tokens_sorted, token_line, token_column};
 ghost use Rattle.oxc_sourcemap_parts.specs.DecodedMap.{decoded_map_of};
 ghost use Rattle.oxc_sourcemap_lookup.specs.Digits.{binary_digits};
-ghost use Rattle.oxc_sourcemap_lookup.specs.Lookup.{at, clamped_at, pick, clamped_pick, no_column_goes_back, line_table, slice_of};
+ghost use Rattle.oxc_sourcemap_lookup.specs.Lookup.{at, clamped_at, pick, clamped_pick, no_column_goes_back};
+ghost use Rattle.oxc_sourcemap_lookup.specs.Lookup.{table_fault, line_table, slice_of};
 ghost use Rattle.oxc_sourcemap_lookup.specs.Trace.{trace, clamped_trace};
 ghost use Rattle.oxc_sourcemap_map.specs.View.{view_of, seen_in, view_original};
 
@@ -27,10 +29,12 @@ impl<'a> SourceMap<'a> {
     /// order. Without tokens it has no slices.
     ///
     /// Fails with `LineOrder(i)` for the first token whose line is smaller than that of the token before, and with
-    /// `OutOfMemory` if memory is refused; the table takes a slice for each line, with tokens or without.
+    /// `OutOfMemory` if memory is refused; the table takes a slice for each line, with tokens or without. The first is
+    /// reported wherever it holds.
     pub fn generate_lookup_table(&self, alloc: Global) -> Result<Vec<&[Token]>>
         ensures table { IfOk result (λ table. line_table self.now.tokens ≡ Ok (map (λ s. s.now) table.items)) }
         ensures refused { IfErr result (λ e. (e ≢ OutOfMemory) → line_table self.now.tokens ≡ Err e) }
+        ensures fault { (e : Error) → table_fault self.now.tokens ≡ Some e → result ≡ Err e }
     {
         lookup_table(alloc, self.parts.tokens.as_slice())
     }
@@ -39,7 +43,7 @@ impl<'a> SourceMap<'a> {
     /// column below `col`; if all are above, None. On a line whose columns go back, it is some token of the line, or None.
     ///
     /// `steps` is set to the number of columns that were compared with `col`: at most as many as the number of tokens has
-    /// binary digits, and one more. No memory is taken.
+    /// binary digits, and one more. Takes no memory.
     pub fn search(line: &[Token], col: u32, steps: &mut u64) -> Option<Token>
         ensures found { no_column_goes_back token_column line.now ≡ true → result ≡ at token_column line.now col }
         ensures among { IfSome result (Contains line.now) }
@@ -49,8 +53,8 @@ impl<'a> SourceMap<'a> {
         search(line, col, steps)
     }
 
-    /// The token at a generated position, or None if the position is before the first token of its line or the table has no
-    /// such line. The rule is that of `search`.
+    /// The token at a generated position (line and column from 0, the column in UTF-16 code units); None if the table has no
+    /// tokens on the line, or the position is before the first of them. The rule is that of `search`.
     ///
     /// Pass the table that `generate_lookup_table` makes of this map: only the table is read, so the table of another map
     /// gives tokens of that map. Takes no memory.
@@ -64,7 +68,7 @@ impl<'a> SourceMap<'a> {
         search(slice_of(lookup_table, line), col, &mut 0)
     }
 
-    /// The token of `lookup_token`, as a view of this map. No memory is taken.
+    /// The token of `lookup_token`, as a view of this map. Takes no memory.
     pub fn lookup_source_view_token(
         &self,
         lookup_table: &[&[Token]],
@@ -72,8 +76,10 @@ impl<'a> SourceMap<'a> {
         col: u32,
     ) -> Option<SourceViewToken<'_, 'a>>
         ensures found { let tokens = slice_of (map (λ s. s.now) lookup_table.now) line in
-            no_column_goes_back token_column tokens ≡ true → option_map view_of result ≡ option_map (seen_in self.now) (at token_column tokens col) }
-        ensures among { IfSome result (λ view. ((view_of view).map ≡ self.now) × Contains (slice_of (map (λ s. s.now) lookup_table.now) line) (view_of view).token) }
+            no_column_goes_back token_column tokens ≡ true
+            → option_map view_of result ≡ option_map (seen_in self.now) (at token_column tokens col) }
+        ensures among { let tokens = slice_of (map (λ s. s.now) lookup_table.now) line in
+            IfSome result (λ view. ((view_of view).map ≡ self.now) × Contains tokens (view_of view).token) }
         ensures own_table { are_tokens_sorted self.now.tokens ≡ true → line_table self.now.tokens ≡ Ok (map (λ s. s.now) lookup_table.now)
             → option_map view_of result ≡ option_map (seen_in self.now) (pick token_line token_column self.now.tokens line col) }
         ensures traced { are_tokens_sorted self.now.tokens ≡ true → line_table self.now.tokens ≡ Ok (map (λ s. s.now) lookup_table.now)
@@ -100,7 +106,7 @@ impl<'a> SourceMap<'a> {
         search_clamped(slice_of(lookup_table, line), col)
     }
 
-    /// The token of `lookup_token_approx`, as a view of this map. No memory is taken.
+    /// The token of `lookup_token_approx`, as a view of this map. Takes no memory.
     pub fn lookup_source_view_token_approx(
         &self,
         lookup_table: &[&[Token]],
@@ -108,8 +114,10 @@ impl<'a> SourceMap<'a> {
         col: u32,
     ) -> Option<SourceViewToken<'_, 'a>>
         ensures found { let tokens = slice_of (map (λ s. s.now) lookup_table.now) line in
-            no_column_goes_back token_column tokens ≡ true → option_map view_of result ≡ option_map (seen_in self.now) (clamped_at token_column tokens col) }
-        ensures among { IfSome result (λ view. ((view_of view).map ≡ self.now) × Contains (slice_of (map (λ s. s.now) lookup_table.now) line) (view_of view).token) }
+            no_column_goes_back token_column tokens ≡ true
+            → option_map view_of result ≡ option_map (seen_in self.now) (clamped_at token_column tokens col) }
+        ensures among { let tokens = slice_of (map (λ s. s.now) lookup_table.now) line in
+            IfSome result (λ view. ((view_of view).map ≡ self.now) × Contains tokens (view_of view).token) }
         ensures own_table { are_tokens_sorted self.now.tokens ≡ true → line_table self.now.tokens ≡ Ok (map (λ s. s.now) lookup_table.now)
             → option_map view_of result ≡ option_map (seen_in self.now) (clamped_pick token_line token_column self.now.tokens line col) }
         ensures traced { are_tokens_sorted self.now.tokens ≡ true → line_table self.now.tokens ≡ Ok (map (λ s. s.now) lookup_table.now)

@@ -16,7 +16,8 @@ ghost use Rattle.oxc_sourcemap_json.specs.Decoded.{decoded, json_fault};
 ghost use Rattle.oxc_sourcemap_json.specs.Encoded.{encoded};
 ghost use Rattle.oxc_sourcemap_json.specs.ReadMap.{read_map, read_decoded_map};
 ghost use Rattle.oxc_sourcemap_json.specs.JsonText.{map_text, map_url};
-ghost use Rattle.oxc_sourcemap_lookup.specs.Lookup.{at, clamped_at, pick, clamped_pick, no_column_goes_back, line_table, slice_of};
+ghost use Rattle.oxc_sourcemap_lookup.specs.Lookup.{at, clamped_at, pick, clamped_pick, no_column_goes_back};
+ghost use Rattle.oxc_sourcemap_lookup.specs.Lookup.{table_fault, line_table, slice_of};
 ghost use Rattle.oxc_sourcemap_compose.specs.Composed.{composition, composition_fault, SomeComposition, NoColumnGoesBack};
 ghost use Rattle.oxc_sourcemap_lookup.specs.Trace.{trace, clamped_trace};
 ghost use Rattle.oxc_sourcemap_map.specs.View.{view_of, seen_in, view_original, content_at, source_and_content_at};
@@ -36,8 +37,8 @@ use std::ops::{Deref, DerefMut};
 
 /// A map that borrows nothing, in a type without a lifetime: a `SourceMap<'static>`, for fields that keep a map.
 ///
-/// It has the calls of the map that it wraps, with the same answers and refusals; of those that are not listed here, the
-/// ones that only look at the map, as `is_sound`, are reached through `Deref`.
+/// Its calls return what those of `SourceMap` return, and fail as those do. Calls that are not listed here, such as
+/// `is_sound`, are reached through `Deref`.
 #[derive(Drop)]
 pub struct OwnedSourceMap {
     inner: SourceMap<'static>,
@@ -52,7 +53,7 @@ impl Model for OwnedSourceMap {
 }
 
 impl OwnedSourceMap {
-    /// This map, wrapped. No memory is taken.
+    /// Wraps a map. Takes no memory.
     pub fn new(inner: SourceMap<'static>) -> OwnedSourceMap
         ensures { result ≡ inner.entry }
     {
@@ -82,7 +83,7 @@ impl OwnedSourceMap {
         &self.inner
     }
 
-    /// The wrapped map, to be changed: what is written to it is what this map then holds.
+    /// The wrapped map, for changes: what is written to it is what this map then holds.
     pub fn as_source_map_mut(&mut self) -> &mut SourceMap<'static>
         ensures* writes_back { sem 𝓛 (Lends the_row (map_row (record { mir = static; lft = [] })) self.entry result (λ w. w)) }
         ensures value { result.now ≡ self.old }
@@ -90,14 +91,14 @@ impl OwnedSourceMap {
         &mut self.inner
     }
 
-    /// The wrapped map, moved out. No memory is taken.
+    /// The wrapped map, moved out. Takes no memory.
     pub fn into_inner(self) -> SourceMap<'static>
         ensures { result ≡ self }
     {
         self.inner
     }
 
-    /// The map that a JSON source map says; fails as `SourceMap::from_json` does.
+    /// Makes a map of a `JSONSourceMap`, as `SourceMap::from_json` does, and fails as that does.
     pub fn from_json(alloc: Global, value: JSONSourceMap) -> Result<OwnedSourceMap>
         ensures map { IfOk result (λ map. decoded (json_record value) ≡ Ok map) }
         ensures refused { IfErr result (λ e. (e ≢ OutOfMemory) → decoded (json_record value) ≡ Err e) }
@@ -106,7 +107,7 @@ impl OwnedSourceMap {
         Ok(OwnedSourceMap::new(SourceMap::from_json(alloc, value)?))
     }
 
-    /// The map that a JSON text says; fails as `SourceMap::from_json_string` does.
+    /// Reads a map from its JSON text, as `SourceMap::from_json_string` does, and fails as that does.
     pub fn from_json_string(alloc: Global, text: &str) -> Result<OwnedSourceMap>
         ensures map { IfOk result (λ map. read_map text.now ≡ Ok map) }
         ensures decoded_map { IfOk result (λ map. read_decoded_map text.now ≡ Ok (decoded_map_of map)) }
@@ -116,7 +117,7 @@ impl OwnedSourceMap {
         Ok(OwnedSourceMap::new(SourceMap::from_json_string(alloc, text)?))
     }
 
-    /// The JSON source map of this map; fails as `SourceMap::to_json` does.
+    /// Makes a `JSONSourceMap` of this map, as `SourceMap::to_json` does, and fails as that does.
     pub fn to_json(&self, alloc: Global) -> Result<JSONSourceMap>
         ensures json { IfOk result (λ json. encoded self.now ≡ Ok (json_record json)) }
         ensures refused { IfErr result (λ e. (e ≢ OutOfMemory) → encoded self.now ≡ Err e) }
@@ -127,7 +128,7 @@ impl OwnedSourceMap {
         self.inner.to_json(alloc)
     }
 
-    /// The JSON text of this map; fails as `SourceMap::to_json_string` does.
+    /// Writes the JSON text of this map, as `SourceMap::to_json_string` does, and fails as that does.
     pub fn to_json_string(&self, alloc: Global) -> Result<String>
         ensures text { IfOk result (λ text. map_text self.now ≡ Ok (string_bytes text)) }
         ensures refused { IfErr result (λ e. (e ≢ OutOfMemory) → map_text self.now ≡ Err e) }
@@ -135,7 +136,7 @@ impl OwnedSourceMap {
         self.inner.to_json_string(alloc)
     }
 
-    /// The data URL of the JSON text of this map; fails as `SourceMap::to_data_url` does.
+    /// Writes the data URL of the JSON text of this map, as `SourceMap::to_data_url` does, and fails as that does.
     pub fn to_data_url(&self, alloc: Global) -> Result<String>
         ensures url { IfOk result (λ url. map_url self.now ≡ Ok (string_bytes url)) }
         ensures refused { IfErr result (λ e. (e ≢ OutOfMemory) → map_url self.now ≡ Err e) }
@@ -143,8 +144,8 @@ impl OwnedSourceMap {
         self.inner.to_data_url(alloc)
     }
 
-    /// Composes two maps: this one from generated to intermediate code, and `input` from there to original code. It is as
-    /// `SourceMap::compose`; fails as that does; both maps are then dropped.
+    /// Composes this map, from generated to intermediate code, with `input`, from there to original code, as
+    /// `SourceMap::compose` does, and fails as that does; both maps are then dropped.
     pub fn compose(self, alloc: Global, input: OwnedSourceMap) -> Result<OwnedSourceMap>
         ensures map { NoColumnGoesBack input.tokens → IfOk result (λ map. composition self input ≡ Ok map) }
         ensures refused { NoColumnGoesBack input.tokens → IfErr result (λ e. (e ≢ OutOfMemory) → composition self input ≡ Err e) }
@@ -175,21 +176,21 @@ impl OwnedSourceMap {
         self.inner.set_file(alloc, file)
     }
 
-    /// What stands before each source when it is looked up.
+    /// The source root, which consumers prepend to each source. `get_source` and `get_sources` return sources without it.
     pub fn get_source_root(&self) -> Option<&str>
         ensures { option_map (λ root. root.now) result ≡ self.now.source_root }
     {
         self.inner.get_source_root()
     }
 
-    /// The indices of sources that debuggers may pass over.
+    /// The indices of third-party sources, which debuggers may skip.
     pub fn get_ignore_list(&self) -> Option<&[u32]>
         ensures { option_map (λ list. list.now) result ≡ self.now.ignore_list }
     {
         self.inner.get_ignore_list()
     }
 
-    /// Sets the ignore list. Nothing is checked, and no memory is taken.
+    /// Sets the ignore list. Nothing is checked, and it takes no memory.
     pub fn set_ignore_list(&mut self, ignore_list: Vec<u32>)
         ensures { self.new ≡ record self.old { ignore_list = Some ignore_list.items } }
     {
@@ -239,63 +240,65 @@ impl OwnedSourceMap {
         S: Drop,
         requires can { I.can_next sources }
         requires ends { IsFinite (I.remaining sources) }
-        ensures set { OnOk result ((items : List S) × Drains I.next_gives sources items × (self.new ≡ record self.old { sources = map S.text items })) }
+        ensures set { OnOk result ((items : List S) × Drains I.next_gives sources items
+            × (self.new ≡ record self.old { sources = map S.text items })) }
         ensures refused { IfErr result (λ e. e ≡ OutOfMemory) }
         ensures unchanged { OnErr result (self.new ≡ self.old) }
     {
         self.inner.set_sources(alloc, sources)
     }
 
-    /// The contents of sources, in order of the sources' ids, None where a content is not known.
+    /// The contents of sources, in order of the sources' ids, None if a content is not known.
     pub fn get_source_contents(&self) -> Contents<'_, 'static>
         ensures { result ≡ self.now.source_contents }
     {
         self.inner.get_source_contents()
     }
 
-    /// Sets the contents of sources to copies of these strings, None where a content is not known. There may be fewer or
+    /// Sets the contents of sources to copies of these strings, None if a content is not known. There may be fewer or
     /// more than there are sources. Fails only with `OutOfMemory`; the map is then as it was.
     pub fn set_source_contents(
         &mut self,
         alloc: Global,
         source_contents: Vec<Option<&str>>,
     ) -> Result<()>
-        ensures set { OnOk result (self.new ≡ record self.old { source_contents = map (option_map (λ content. content.now)) source_contents.entry.items }) }
+        ensures set { let contents = map (option_map (λ content. content.now)) source_contents.entry.items in
+            OnOk result (self.new ≡ record self.old { source_contents = contents }) }
         ensures refused { IfErr result (λ e. e ≡ OutOfMemory) }
         ensures unchanged { OnErr result (self.new ≡ self.old) }
     {
         self.inner.set_source_contents(alloc, source_contents)
     }
 
-    /// The name with this id. None where there is none.
+    /// The name with this id. None if there is none.
     pub fn get_name(&self, id: u32) -> Option<&str>
         ensures { option_map (λ name. name.now) result ≡ slice_get self.now.names id }
     {
         self.inner.get_name(id)
     }
 
-    /// The source with this id. None where there is none.
+    /// The source with this id. None if there is none.
     pub fn get_source(&self, id: u32) -> Option<&str>
         ensures { option_map (λ source. source.now) result ≡ slice_get self.now.sources id }
     {
         self.inner.get_source(id)
     }
 
-    /// The content listed for the source with this id. None where none is listed, or it is not known.
+    /// The content listed for the source with this id. None if none is listed, or it is not known.
     pub fn get_source_content(&self, id: u32) -> Option<&str>
         ensures { option_map (λ content. content.now) result ≡ content_at self.now.source_contents id }
     {
         self.inner.get_source_content(id)
     }
 
-    /// The source with this id, and its content. None unless both are there.
+    /// The source with this id, and its content. None unless both exist.
     pub fn get_source_and_content(&self, id: u32) -> Option<(&str, &str)>
         ensures { option_map (λ texts. (texts.0.now, texts.1.now)) result ≡ source_and_content_at self.now id }
     {
         self.inner.get_source_and_content(id)
     }
 
-    /// The token at an index. None where there is none.
+    /// The token at an index. None if there is none.
     pub fn get_token(&self, index: u32) -> Option<Token>
         ensures { result ≡ slice_get self.now.tokens index }
     {
@@ -309,7 +312,7 @@ impl OwnedSourceMap {
         self.inner.get_tokens()
     }
 
-    /// The token at an index, as a view of this map. None where there is none.
+    /// The token at an index, as a view of this map. None if there is none.
     pub fn get_source_view_token(&self, index: u32) -> Option<SourceViewToken<'_, 'static>>
         ensures { option_map view_of result ≡ option_map (seen_in self.now) (slice_get self.now.tokens index) }
     {
@@ -327,20 +330,21 @@ impl OwnedSourceMap {
     /// order. Without tokens it has no slices.
     ///
     /// Fails with `LineOrder(i)` for the first token whose line is smaller than that of the token before, and with
-    /// `OutOfMemory` if memory is refused; the table takes a slice for each line, with tokens or without.
+    /// `OutOfMemory` if memory is refused; the table takes a slice for each line, with tokens or without. The first is
+    /// reported wherever it holds.
     pub fn generate_lookup_table(&self, alloc: Global) -> Result<Vec<&[Token]>>
         ensures table { IfOk result (λ table. line_table self.now.tokens ≡ Ok (map (λ s. s.now) table.items)) }
         ensures refused { IfErr result (λ e. (e ≢ OutOfMemory) → line_table self.now.tokens ≡ Err e) }
+        ensures fault { (e : Error) → table_fault self.now.tokens ≡ Some e → result ≡ Err e }
     {
         self.inner.generate_lookup_table(alloc)
     }
 
-    /// The token at a generated position, by `search` in the slice that the table has for the line; None past the table's
-    /// end. The table is meant to be that of `generate_lookup_table`, but whichever is handed in is read, and nothing else,
-    /// whatever line its tokens name.
+    /// The token at a generated position, or None if the position is before the first token of its line or the table has no
+    /// such line. The rule is that of `SourceMap::search`.
     ///
-    /// The answer is the first token at `col`; if none is there, the last token of the greatest column below `col`; if all
-    /// are above, None. On a line whose columns go back, it is some token of the line, or None. No memory is taken.
+    /// Pass the table that `generate_lookup_table` makes of this map: only the table is read, so the table of another map
+    /// gives tokens of that map. Takes no memory.
     pub fn lookup_token(&self, lookup_table: &[&[Token]], line: u32, col: u32) -> Option<Token>
         ensures found { let tokens = slice_of (map (λ s. s.now) lookup_table.now) line in
             no_column_goes_back token_column tokens ≡ true → result ≡ at token_column tokens col }
@@ -351,7 +355,7 @@ impl OwnedSourceMap {
         self.inner.lookup_token(lookup_table, line, col)
     }
 
-    /// The token of `lookup_token`, as a view of this map. No memory is taken.
+    /// The token of `lookup_token`, as a view of this map. Takes no memory.
     pub fn lookup_source_view_token(
         &self,
         lookup_table: &[&[Token]],
@@ -359,8 +363,10 @@ impl OwnedSourceMap {
         col: u32,
     ) -> Option<SourceViewToken<'_, 'static>>
         ensures found { let tokens = slice_of (map (λ s. s.now) lookup_table.now) line in
-            no_column_goes_back token_column tokens ≡ true → option_map view_of result ≡ option_map (seen_in self.now) (at token_column tokens col) }
-        ensures among { IfSome result (λ view. ((view_of view).map ≡ self.now) × Contains (slice_of (map (λ s. s.now) lookup_table.now) line) (view_of view).token) }
+            no_column_goes_back token_column tokens ≡ true
+            → option_map view_of result ≡ option_map (seen_in self.now) (at token_column tokens col) }
+        ensures among { let tokens = slice_of (map (λ s. s.now) lookup_table.now) line in
+            IfSome result (λ view. ((view_of view).map ≡ self.now) × Contains tokens (view_of view).token) }
         ensures own_table { are_tokens_sorted self.now.tokens ≡ true → line_table self.now.tokens ≡ Ok (map (λ s. s.now) lookup_table.now)
             → option_map view_of result ≡ option_map (seen_in self.now) (pick token_line token_column self.now.tokens line col) }
         ensures traced { are_tokens_sorted self.now.tokens ≡ true → line_table self.now.tokens ≡ Ok (map (λ s. s.now) lookup_table.now)
@@ -369,8 +375,8 @@ impl OwnedSourceMap {
         self.inner.lookup_source_view_token(lookup_table, line, col)
     }
 
-    /// As `lookup_token`, but in place of None the first token of the line: so a mapping stands in for what lies before
-    /// it, as composition wants it. It is None on a line without tokens and past the table's end alone. No memory is taken.
+    /// As `lookup_token`, but a position before the first token of its line gives that token (the *clamped* lookup, by
+    /// which maps are composed). None only if the line has no tokens. Takes no memory.
     pub fn lookup_token_approx(
         &self,
         lookup_table: &[&[Token]],
@@ -387,7 +393,7 @@ impl OwnedSourceMap {
         self.inner.lookup_token_approx(lookup_table, line, col)
     }
 
-    /// The token of `lookup_token_approx`, as a view of this map. No memory is taken.
+    /// The token of `lookup_token_approx`, as a view of this map. Takes no memory.
     pub fn lookup_source_view_token_approx(
         &self,
         lookup_table: &[&[Token]],
@@ -395,8 +401,10 @@ impl OwnedSourceMap {
         col: u32,
     ) -> Option<SourceViewToken<'_, 'static>>
         ensures found { let tokens = slice_of (map (λ s. s.now) lookup_table.now) line in
-            no_column_goes_back token_column tokens ≡ true → option_map view_of result ≡ option_map (seen_in self.now) (clamped_at token_column tokens col) }
-        ensures among { IfSome result (λ view. ((view_of view).map ≡ self.now) × Contains (slice_of (map (λ s. s.now) lookup_table.now) line) (view_of view).token) }
+            no_column_goes_back token_column tokens ≡ true
+            → option_map view_of result ≡ option_map (seen_in self.now) (clamped_at token_column tokens col) }
+        ensures among { let tokens = slice_of (map (λ s. s.now) lookup_table.now) line in
+            IfSome result (λ view. ((view_of view).map ≡ self.now) × Contains tokens (view_of view).token) }
         ensures own_table { are_tokens_sorted self.now.tokens ≡ true → line_table self.now.tokens ≡ Ok (map (λ s. s.now) lookup_table.now)
             → option_map view_of result ≡ option_map (seen_in self.now) (clamped_pick token_line token_column self.now.tokens line col) }
         ensures traced { are_tokens_sorted self.now.tokens ≡ true → line_table self.now.tokens ≡ Ok (map (λ s. s.now) lookup_table.now)
@@ -407,14 +415,14 @@ impl OwnedSourceMap {
             .lookup_source_view_token_approx(lookup_table, line, col)
     }
 
-    /// The parts of this map, unchanged. No memory is taken.
+    /// The parts of this map, unchanged. Takes no memory.
     pub fn into_parts(self) -> SourceMapParts<'static>
         ensures { record_of_parts result ≡ self }
     {
         self.inner.into_parts()
     }
 
-    /// The map of these parts, unchanged. Nothing is checked, and no memory is taken.
+    /// The map of these parts, unchanged. Nothing is checked, and it takes no memory.
     pub fn from_parts(parts: SourceMapParts<'static>) -> OwnedSourceMap
         ensures { result ≡ record_of_parts parts.entry }
     {

@@ -8,8 +8,8 @@ use oxc_sourcemap_mappings::Token;
 /// A token, and the map that its ids are looked up in. Strings that it returns borrow from the map, for `'sm`; `'data` is
 /// the lifetime of what the map itself borrows.
 ///
-/// An id that is missing or out of range names nothing, but that a content may be listed past the last source. No call takes
-/// memory.
+/// An id that is missing or out of range names nothing, except that a content may be listed past the last source. Lines and
+/// columns count from 0; columns are in UTF-16 code units. No call takes memory.
 #[derive(Clone, Copy)]
 pub struct SourceViewToken<'sm, 'data> {
     token: Token,
@@ -17,7 +17,7 @@ pub struct SourceViewToken<'sm, 'data> {
 }
 
 impl<'sm, 'data> SourceViewToken<'sm, 'data> {
-    /// The token, seen in this map. Nothing is checked: it may be a token of another map.
+    /// A view of a token in a map. Nothing is checked: it may be a token of another map.
     pub fn new(token: Token, sourcemap: &'sm SourceMap<'data>) -> SourceViewToken<'sm, 'data>
         ensures { view_of result ≡ seen_in sourcemap.now token }
     {
@@ -52,21 +52,21 @@ impl<'sm, 'data> SourceViewToken<'sm, 'data> {
         self.token.get_src_col()
     }
 
-    /// The name id, in range or not. None where the token has no name.
+    /// The name id, in range or not. None if the token has no name.
     pub fn get_name_id(&self) -> Option<u32>
         ensures { result ≡ (view_of self.now).token.name_id }
     {
         self.token.get_name_id()
     }
 
-    /// The source id, in range or not. None where the token is unmapped.
+    /// The source id, in range or not. None if the token is unmapped.
     pub fn get_source_id(&self) -> Option<u32>
         ensures { result ≡ (view_of self.now).token.source_id }
     {
         self.token.get_source_id()
     }
 
-    /// The name. None where the token has no name id, or the map no such name.
+    /// The name. None if the token has no name id, or the map no such name.
     pub fn get_name(&self) -> Option<&'sm str>
         ensures { option_map (λ name. name.now) result ≡ view_name (view_of self.now) }
     {
@@ -74,7 +74,7 @@ impl<'sm, 'data> SourceViewToken<'sm, 'data> {
         sourcemap.get_name(self.get_name_id()?)
     }
 
-    /// The source. None where the token has no source id, or the map no such source.
+    /// The source. None if the token has no source id, or the map no such source.
     pub fn get_source(&self) -> Option<&'sm str>
         ensures { option_map (λ source. source.now) result ≡ view_source (view_of self.now) }
     {
@@ -82,7 +82,7 @@ impl<'sm, 'data> SourceViewToken<'sm, 'data> {
         sourcemap.get_source(self.get_source_id()?)
     }
 
-    /// The content that the map lists at the token's source id, also past the last source. None where the token has no source
+    /// The content that the map lists at the token's source id, also past the last source. None if the token has no source
     /// id, or the map lists no content there.
     pub fn get_source_content(&self) -> Option<&'sm str>
         ensures { option_map (λ content. content.now) result ≡ view_content (view_of self.now) }
@@ -91,7 +91,7 @@ impl<'sm, 'data> SourceViewToken<'sm, 'data> {
         sourcemap.get_source_content(self.get_source_id()?)
     }
 
-    /// The source and its content. None unless both are there.
+    /// The source and its content. None unless both exist.
     pub fn get_source_and_content(&self) -> Option<(&'sm str, &'sm str)>
         ensures { option_map (λ texts. (texts.0.now, texts.1.now)) result ≡ view_source_and_content (view_of self.now) }
     {

@@ -55,7 +55,8 @@ impl<'a> Model for SourceMap<'a> {
 }
 
 impl<'a> SourceMap<'a> {
-    /// The map of these fields, without ignore list and debug id. Nothing is checked, and no memory is taken.
+    /// The map of these fields, without ignore list and debug id. Contents are listed by source id, None if one is not known;
+    /// `token_chunks` is None unless you have chunks. Nothing is checked, and it takes no memory.
     pub fn new(
         file: Option<CowStr<'a>>,
         names: Vec<CowStr<'a>>,
@@ -107,7 +108,11 @@ impl<'a> SourceMap<'a> {
         Ok(SourceMap::from_parts(decode_parts(alloc, value)?))
     }
 
-    /// Reads a map from its JSON text, as `decode_from_string` does, and fails as that does. All its strings are owned.
+    /// Reads a map from its JSON text, as `decode_from_string` does. All its strings are owned.
+    ///
+    /// Fails with the first of these, in the order that `decode_from_string` documents: `BadJson` for the text and its fields,
+    /// `BadSourceReference` for the ignore list, then `VlqOverflow`, `VlqLeftover`, `BadSegmentSize`, `BadSourceReference`,
+    /// `BadNameReference` or `TooLarge` for the mappings; or with `OutOfMemory` if memory is refused.
     ///
     /// Its ids are in range and it has no chunks, so it is sound exactly if it is sorted. A text may list the columns of a
     /// line in any order; `is_sorted` checks that.
@@ -132,7 +137,8 @@ impl<'a> SourceMap<'a> {
         encode_parts(alloc, &self.parts)
     }
 
-    /// Writes the JSON text of this map, as `encode_to_string` does, and fails as that does.
+    /// Writes the JSON text of this map, as `encode_to_string` does. Fails as `encode_mappings` does, in this order: with
+    /// `LineOrder`, `BadChunks`, `TooLarge`, or with `OutOfMemory` if memory is refused.
     pub fn to_json_string(&self, alloc: Global) -> Result<String>
         ensures text { IfOk result (λ text. map_text self.now ≡ Ok (string_bytes text)) }
         ensures refused { IfErr result (λ e. (e ≢ OutOfMemory) → map_text self.now ≡ Err e) }
@@ -170,7 +176,7 @@ impl<'a> SourceMap<'a> {
         })
     }
 
-    /// The parts of this map, unchanged. No memory is taken.
+    /// The parts of this map, unchanged. Takes no memory.
     pub fn into_parts(self) -> SourceMapParts<'a>
         ensures { record_of_parts result ≡ self.entry }
     {
@@ -178,7 +184,7 @@ impl<'a> SourceMap<'a> {
         parts
     }
 
-    /// The map of these parts, unchanged. Nothing is checked, and no memory is taken.
+    /// The map of these parts, unchanged. Nothing is checked, and it takes no memory.
     pub fn from_parts(parts: SourceMapParts<'a>) -> SourceMap<'a>
         ensures { result ≡ record_of_parts parts.entry }
     {
@@ -217,7 +223,7 @@ impl<'a> SourceMap<'a> {
         self.parts.ignore_list.as_deref()
     }
 
-    /// Sets the ignore list. Nothing is checked, and no memory is taken.
+    /// Sets the ignore list. Nothing is checked, and it takes no memory.
     pub fn set_ignore_list(&mut self, ignore_list: Vec<u32>)
         ensures { self.new ≡ record self.old { ignore_list = Some ignore_list.items } }
     {
@@ -261,7 +267,8 @@ impl<'a> SourceMap<'a> {
         S: Drop,
         requires can { I.can_next sources }
         requires ends { IsFinite (I.remaining sources) }
-        ensures set { OnOk result ((items : List S) × Drains I.next_gives sources items × (self.new ≡ record self.old { sources = map S.text items })) }
+        ensures set { OnOk result ((items : List S) × Drains I.next_gives sources items
+            × (self.new ≡ record self.old { sources = map S.text items })) }
         ensures refused { IfErr result (λ e. e ≡ OutOfMemory) }
         ensures unchanged { OnErr result (self.new ≡ self.old) }
     {
@@ -276,14 +283,15 @@ impl<'a> SourceMap<'a> {
         sources_in(self.parts.sources.as_slice())
     }
 
-    /// Sets the contents of sources to copies of these strings, None where a content is not known. There may be fewer or
+    /// Sets the contents of sources to copies of these strings, None if a content is not known. There may be fewer or
     /// more than there are sources. Fails only with `OutOfMemory`; the map is then as it was.
     pub fn set_source_contents(
         &mut self,
         alloc: Global,
         source_contents: Vec<Option<&str>>,
     ) -> Result<()>
-        ensures set { OnOk result (self.new ≡ record self.old { source_contents = map (option_map (λ content. content.now)) source_contents.entry.items }) }
+        ensures set { let contents = map (option_map (λ content. content.now)) source_contents.entry.items in
+            OnOk result (self.new ≡ record self.old { source_contents = contents }) }
         ensures refused { IfErr result (λ e. e ≡ OutOfMemory) }
         ensures unchanged { OnErr result (self.new ≡ self.old) }
     {
@@ -291,21 +299,21 @@ impl<'a> SourceMap<'a> {
         Ok(())
     }
 
-    /// The contents of sources, in order of the sources' ids, None where a content is not known.
+    /// The contents of sources, in order of the sources' ids, None if a content is not known.
     pub fn get_source_contents(&self) -> Contents<'_, 'a>
         ensures { result ≡ self.now.source_contents }
     {
         contents_in(self.parts.source_contents.as_slice())
     }
 
-    /// The token at an index. None where there is none.
+    /// The token at an index. None if there is none.
     pub fn get_token(&self, index: u32) -> Option<Token>
         ensures { result ≡ slice_get self.now.tokens index }
     {
         self.parts.tokens.as_slice().get(index as usize).copied()
     }
 
-    /// The token at an index, as a view of this map. None where there is none.
+    /// The token at an index, as a view of this map. None if there is none.
     pub fn get_source_view_token(&self, index: u32) -> Option<SourceViewToken<'_, 'a>>
         ensures { option_map view_of result ≡ option_map (seen_in self.now) (slice_get self.now.tokens index) }
     {
@@ -326,36 +334,36 @@ impl<'a> SourceMap<'a> {
         ViewTokens::new(self)
     }
 
-    /// The name with this id. None where there is none.
+    /// The name with this id. None if there is none.
     pub fn get_name(&self, id: u32) -> Option<&str>
         ensures { option_map (λ name. name.now) result ≡ slice_get self.now.names id }
     {
         Some(self.parts.names.get(id as usize)?.as_str())
     }
 
-    /// The source with this id. None where there is none.
+    /// The source with this id. None if there is none.
     pub fn get_source(&self, id: u32) -> Option<&str>
         ensures { option_map (λ source. source.now) result ≡ slice_get self.now.sources id }
     {
         Some(self.parts.sources.get(id as usize)?.as_str())
     }
 
-    /// The content listed for the source with this id. None where none is listed, or it is not known.
+    /// The content listed for the source with this id. None if none is listed, or it is not known.
     pub fn get_source_content(&self, id: u32) -> Option<&str>
         ensures { option_map (λ content. content.now) result ≡ content_at self.now.source_contents id }
     {
         self.parts.source_contents.get(id as usize)?.as_deref()
     }
 
-    /// The source with this id, and its content. None unless both are there.
+    /// The source with this id, and its content. None unless both exist.
     pub fn get_source_and_content(&self, id: u32) -> Option<(&str, &str)>
         ensures { option_map (λ texts. (texts.0.now, texts.1.now)) result ≡ source_and_content_at self.now id }
     {
         Some((self.get_source(id)?, self.get_source_content(id)?))
     }
 
-    /// Whether the tokens are sorted by generated line, then by generated column. Equal positions may follow one another. No
-    /// memory is taken.
+    /// Whether the tokens are sorted by generated line, then by generated column. Equal positions may follow one another. Takes
+    /// no memory.
     pub fn is_sorted(&self) -> bool
         ensures sorted { result ≡ are_tokens_sorted self.now.tokens }
         ensures in_line_order { IsTrue result → IsInLineOrder self.now.tokens }
@@ -364,7 +372,7 @@ impl<'a> SourceMap<'a> {
     }
 
     /// Whether the map is sound: its tokens are sorted, its ids and its ignore list refer to what is there, and its chunks
-    /// are absent or fit (`chunk_fault`). A name id counts also where its token is unmapped. No memory is taken.
+    /// are absent or fit (`chunk_fault`). Name ids of unmapped tokens have to be in range, too. Takes no memory.
     pub fn is_sound(&self) -> bool
         ensures { IsTrue result ↔ IsSound self.now }
     {

@@ -9,7 +9,8 @@ use Rattle.oxc_sourcemap_mappings.specs.Token.{TokenRecord, IsInBounds, AreInBou
 use Rattle.oxc_sourcemap_mappings.specs.Parts.{Segment, lines, field}
 use Rattle.oxc_sourcemap_mappings.specs.Places.{Place}
 use Rattle.oxc_sourcemap_mappings.specs.Faults.{◌orelse◌, counts_of, range_fault, size_fault, place_fault, is_id_below}
-use Rattle.oxc_sourcemap_mappings.specs.Reading.{token_at, token_unless, segment_result, gathered, onto, reading}
+use Rattle.oxc_sourcemap_mappings.specs.Refusals.{unless}
+use Rattle.oxc_sourcemap_mappings.specs.Reading.{token_at, segment_result, gathered, onto, reading}
 use Rattle.oxc_sourcemap_mappings.specs.State.{State, initial}
 use Rattle.oxc_sourcemap_mappings.specs.Canonical.{carried_token, canonical, back_from}
 use Rattle.oxc_sourcemap_mappings.specs.Decoding.{moved, moved_by}
@@ -80,7 +81,7 @@ place4 z a l k s = record { dst_col = z; source_id = a; src_line = l; src_col = 
 abbrev place5 : ℤ → ℤ → ℤ → ℤ → ℤ → Place
 place5 z a l k m = record { dst_col = z; source_id = a; src_line = l; src_col = k; name_id = m }
 
-module _ (names sources line : ℕ) (s : State) (small : line < 4294967296) (h : IsBounded s) where
+module _ (names sources line : ℕ) (s : State) (small : line < 4294967296) (h : IsBounded s) (reached : Place) where
   follows1 : (v : ℕ) → v < 4294967296 → Follows names sources line s (token_at line 1 (place1 (pos v) s)) (place1 (pos v) s)
   follows1 v l = record {
     line_is = refl;
@@ -117,7 +118,7 @@ module _ (names sources line : ℕ) (s : State) (small : line < 4294967296) (h :
     place_is = refl;
   }
 
-  reads1 : (z : ℤ) → place_fault (counts_of names sources) (pos s.source_id) 1 (place1 z s) ≡ None → Follows names sources line s (token_at line 1 (place1 z s)) (place1 z s)
+  reads1 : (z : ℤ) → place_fault (counts_of names sources) reached 1 (place1 z s) ≡ None → Follows names sources line s (token_at line 1 (place1 z s)) (place1 z s)
   unfolding place_fault
   reads1 z e =
       let r = in_range z (orelse-none _ _ (orelse-none _ _ (orelse-none _ _ e).0).0).0 in
@@ -129,7 +130,7 @@ module _ (names sources line : ℕ) (s : State) (small : line < 4294967296) (h :
   from5 : (z a l k m : ℤ) (z' a' l' k' m' : ℕ) → z ≡ pos z' → a ≡ pos a' → l ≡ pos l' → k ≡ pos k' → m ≡ pos m' → z' < 4294967296 → a' < min sources 4294967295 → l' < 4294967296 → k' < 4294967296 → m' < min names 4294967295 → Follows names sources line s (token_at line 5 (place5 z a l k m)) (place5 z a l k m)
   from5 z a l k m z' a' l' k' m' e1 e2 e3 e4 e5 b1 b2 b3 b4 b5 = rw (e1, e2, e3, e4, e5) (follows5 z' a' l' k' m' b1 b2 b3 b4 b5)
 
-  reads4 : (z a l k : ℤ) → place_fault (counts_of names sources) (pos s.source_id) 4 (place4 z a l k s) ≡ None → Follows names sources line s (token_at line 4 (place4 z a l k s)) (place4 z a l k s)
+  reads4 : (z a l k : ℤ) → place_fault (counts_of names sources) reached 4 (place4 z a l k s) ≡ None → Follows names sources line s (token_at line 4 (place4 z a l k s)) (place4 z a l k s)
   unfolding place_fault
   reads4 z a l k e =
       let front = orelse-none _ _ (orelse-none _ _ e).0 in
@@ -141,7 +142,7 @@ module _ (names sources line : ℕ) (s : State) (small : line < 4294967296) (h :
       let v = in_range k src.1 in
       from4 z a l k r.value q.value u.value v.value r.is q.is u.is v.is r.small q.small u.small v.small
 
-  reads5 : (z a l k m : ℤ) → place_fault (counts_of names sources) (pos s.source_id) 5 (place5 z a l k m) ≡ None → Follows names sources line s (token_at line 5 (place5 z a l k m)) (place5 z a l k m)
+  reads5 : (z a l k m : ℤ) → place_fault (counts_of names sources) reached 5 (place5 z a l k m) ≡ None → Follows names sources line s (token_at line 5 (place5 z a l k m)) (place5 z a l k m)
   unfolding place_fault
   reads5 z a l k m e =
       let whole = orelse-none _ _ e in
@@ -155,31 +156,31 @@ module _ (names sources line : ℕ) (s : State) (small : line < 4294967296) (h :
       let n = in_count m (min names 4294967295) _ whole.1 in
       from5 z a l k m r.value q.value u.value v.value n.value r.is q.is u.is v.is n.is r.small q.small u.small v.small n.small
 
-  size-none : (n : ℕ) (z : ℤ) (p : Place) → place_fault (counts_of names sources) z n p ≡ None → size_fault n ≡ None
+  size-none : (n : ℕ) (p : Place) → place_fault (counts_of names sources) reached n p ≡ None → size_fault n ≡ None
   unfolding place_fault
-  size-none n z p e = (orelse-none _ _ (orelse-none _ _ (orelse-none _ _ e).0).0).1
+  size-none n p e = (orelse-none _ _ (orelse-none _ _ (orelse-none _ _ e).0).0).1
 
-  pub follows : (column n : ℕ) (f : ℕ → ℤ) → place_fault (counts_of names sources) (pos s.source_id) n (moved (standing column s) n f) ≡ None → Follows names sources line s (token_at line n (moved (standing column s) n f)) (moved (standing column s) n f)
+  pub follows : (column n : ℕ) (f : ℕ → ℤ) → place_fault (counts_of names sources) reached n (moved (standing column s) n f) ≡ None → Follows names sources line s (token_at line n (moved (standing column s) n f)) (moved (standing column s) n f)
   follows column n f e =
-      elim (sizes n (size-none n _ _ e)) [
-        | inl a ↦ subst (λ k. place_fault (counts_of names sources) (pos s.source_id) k (moved (standing column s) k f) ≡ None → Follows names sources line s (token_at line k (moved (standing column s) k f)) (moved (standing column s) k f)) (sym a) (reads1 _) e
+      elim (sizes n (size-none n _ e)) [
+        | inl a ↦ subst (λ k. place_fault (counts_of names sources) reached k (moved (standing column s) k f) ≡ None → Follows names sources line s (token_at line k (moved (standing column s) k f)) (moved (standing column s) k f)) (sym a) (reads1 _) e
         | inr b ↦ elim b [
-          | inl a ↦ subst (λ k. place_fault (counts_of names sources) (pos s.source_id) k (moved (standing column s) k f) ≡ None → Follows names sources line s (token_at line k (moved (standing column s) k f)) (moved (standing column s) k f)) (sym a) (reads4 _ _ _ _) e
-          | inr a ↦ subst (λ k. place_fault (counts_of names sources) (pos s.source_id) k (moved (standing column s) k f) ≡ None → Follows names sources line s (token_at line k (moved (standing column s) k f)) (moved (standing column s) k f)) (sym a) (reads5 _ _ _ _ _) e
+          | inl a ↦ subst (λ k. place_fault (counts_of names sources) reached k (moved (standing column s) k f) ≡ None → Follows names sources line s (token_at line k (moved (standing column s) k f)) (moved (standing column s) k f)) (sym a) (reads4 _ _ _ _) e
+          | inr a ↦ subst (λ k. place_fault (counts_of names sources) reached k (moved (standing column s) k f) ≡ None → Follows names sources line s (token_at line k (moved (standing column s) k f)) (moved (standing column s) k f)) (sym a) (reads5 _ _ _ _ _) e
         ]
       ]
 
-ok-token : (o : Option Error) (t u : TokenRecord) → ◌≡◌ {A = Result TokenRecord Error} (token_unless o t) (Ok u) → (o ≡ None) × (t ≡ u)
+ok-token : (o : Option Error) (t u : TokenRecord) → ◌≡◌ {A = Result TokenRecord Error} (unless o (Ok t)) (Ok u) → (o ≡ None) × (t ≡ u)
 ok-token None t u e = (refl, cc)
 ok-token (Some d) t u e = cc
 
 -- the same, of a segment
 pub segment_result-follows : (names sources line column : ℕ) (s : State) (sg : Segment) (t : TokenRecord) → line < 4294967296 → IsBounded s
-    → segment_result (counts_of names sources) line (pos s.source_id) sg (moved_by (standing column s) sg) ≡ Ok t → Follows names sources line s t (moved_by (standing column s) sg)
+    → segment_result (counts_of names sources) line (standing column s) sg (moved_by (standing column s) sg) ≡ Ok t → Follows names sources line s t (moved_by (standing column s) sg)
 segment_result-follows names sources line column s sg t small h e =
     let k = ok-token _ _ t e in
     let f = orelse-none _ _ k.0 in
-    subst (λ u. Follows names sources line s u (moved_by (standing column s) sg)) k.1 (follows names sources line s small h column (length sg) (λ i. field i sg) f.1)
+    subst (λ u. Follows names sources line s u (moved_by (standing column s) sg)) k.1 (follows names sources line s small h (standing column s) column (length sg) (λ i. field i sg) f.1)
 
 -- ---- whole lists
 pub record Reads (names sources : ℕ) (s : State) (ts : List TokenRecord) : Type 0 where

@@ -1,12 +1,12 @@
 -- Chunks that fit, and lists that are written.
-use Rattle.std.proofs.Common.{◌≡◌, ℕ, zero, suc, ◌+◌, ◌-◌, ◌<◌, ◌≤◌, Bool, true, false, cond, ◌&&◌, ◌==◌, List, [], ◌∷◌, ◌++◌, length, get_or, if◌then◌else◌, take, drop, arith, refl, sym, ap, ◌∙◌, append_assoc, subst, slice_get, nat_lt, nat_le, Option, Some, None, ◌↔◌}
+use Rattle.std.proofs.Common.{◌≡◌, ℕ, zero, suc, ◌+◌, ◌-◌, ◌<◌, ◌≤◌, Bool, true, false, cond, ◌&&◌, ◌==◌, List, [], ◌∷◌, ◌++◌, length, get_or, if◌then◌else◌, take, drop, arith, refl, sym, ap, ◌∙◌, append_assoc, subst, slice_get, nat_lt, nat_le, Option, Some, None, ◌↔◌, Result, Ok, Err, OnOk}
 use Rattle.std.specs.List.{flat_map, AllByRecursion}
 use Rattle.std.specs.Option.{option_map, IsNone, is_some}
 use mathlib.Core.List.{reverse_aux}
 use Rattle.std.proofs.Math.Seq.{take-add}
 use Rattle.std.proofs.lemmas.Bool.{eqb-true as eqb-eq, leb-true, eq-eqb, le-leb}
 use Rattle.std.proofs.lemmas.Bool.Decides.{nat_tests}
-use Rattle.std.proofs.lemmas.List.{take-append-drop, drop_all, length-take, length-drop, drop-drop, drop_more}
+use Rattle.std.proofs.lemmas.List.{append-nil, take_all, take-append-drop, drop_all, length-take, length-drop, drop-drop, drop_more}
 use Rattle.oxc_sourcemap_mappings.specs.declared.error.Error.{Error}
 use Rattle.oxc_sourcemap_mappings.specs.declared.error.Error.TheVariants.{LineOrder, BadChunks}
 use Rattle.oxc_sourcemap_mappings.specs.declared.token.TokenChunk.{TokenChunk}
@@ -14,11 +14,11 @@ use Rattle.oxc_sourcemap_mappings.specs.Token.{TokenRecord}
 use Rattle.oxc_sourcemap_mappings.specs.Faults.{◌orelse◌}
 use Rattle.oxc_sourcemap_mappings.specs.State.{State, initial, state_after, state_at}
 use Rattle.oxc_sourcemap_mappings.specs.Canonical.{token_text, canonical, has_none_before, first_out_of_order, back_from}
-use Rattle.oxc_sourcemap_mappings.specs.Chunks.{header, chunk_tokens, piece, piece_fault, ChunkFits, ChunksFitFrom, ChunksFit, is_same_state, is_fitting_chunk, first_misfit_from, first_misfit, writing_fault, chunk_from}
+use Rattle.oxc_sourcemap_mappings.specs.Chunks.{header, chunk_tokens, piece, piece_after, piece_fault, ChunkFits, ChunksFitFrom, ChunksFit, is_same_state, is_fitting_chunk, first_misfit_from, first_misfit, writing_fault, chunk_from}
 use Rattle.oxc_sourcemap_mappings.specs.Encoding.{advanced, advanced_all, text_from}
 use Rattle.oxc_sourcemap_mappings.proofs.Order.{back_from-all}
 use Rattle.oxc_sourcemap_mappings.proofs.Length.{in_order}
-use Rattle.oxc_sourcemap_mappings.proofs.Writing.{text_after-is, canonical-is, and-false}
+use Rattle.oxc_sourcemap_mappings.proofs.Writing.{canonical-is}
 
 pub advanced_all-append : (s : State) (xs ys : List TokenRecord) → advanced_all s (xs ++ ys) ≡ advanced_all (advanced_all s xs) ys
 advanced_all-append s [] ys = refl
@@ -35,6 +35,10 @@ and-true : (b : Bool) → (b && true) ≡ b
 and-true true = refl
 and-true false = refl
 
+and-false : (b : Bool) → (b && false) ≡ false
+and-false true = refl
+and-false false = refl
+
 text_from-append : (f : Bool) (s : State) (xs ys : List TokenRecord) → text_from f s (xs ++ ys) ≡ text_from f s xs ++ text_from (f && has_none_before xs) (advanced_all s xs) ys
 text_from-append f s [] ys = ap (λ b. text_from b s ys) (sym (and-true f))
 text_from-append f s (x ∷ xs) ys =
@@ -42,9 +46,16 @@ text_from-append f s (x ∷ xs) ys =
     ∙ sym (append_assoc (token_text f s x) (text_from false (advanced s x) xs) (text_from false (advanced_all (advanced s x) xs) ys))
     ∙ ap (λ b. (token_text f s x ++ text_from false (advanced s x) xs) ++ text_from b (advanced_all (advanced s x) xs) ys) (sym (and-false f))
 
+piece_after-is : (c : TokenChunk) (seen ts : List TokenRecord) → piece_after c seen ts ≡ text_from (c.start == 0 && has_none_before seen) (state_after (header c) seen) ts
+unfolding piece_after
+piece_after-is c seen [] = refl
+piece_after-is c seen (t ∷ ts) =
+    ap (λ xs. token_text (c.start == 0 && has_none_before seen) (state_after (header c) seen) t ++ xs)
+    (piece_after-is c (t ∷ seen) ts ∙ ap (λ b. text_from b (advanced (state_after (header c) seen) t) ts) (and-false (c.start == 0)))
+
 pub piece-is : (ts : List TokenRecord) (c : TokenChunk) → piece ts c ≡ text_from (c.start == 0) (header c) (take (c.end - c.start) (drop c.start ts))
 unfolding piece
-piece-is ts c = text_after-is (c.start == 0) (header c) [] _ ∙ ap (λ b. text_from b (header c) (take (c.end - c.start) (drop c.start ts))) (and-true (c.start == 0))
+piece-is ts c = piece_after-is c [] _ ∙ ap (λ b. text_from b (header c) (take (c.end - c.start) (drop c.start ts))) (and-true (c.start == 0))
 
 has_none_before-length : (xs : List TokenRecord) → has_none_before xs ≡ (length xs == 0)
 has_none_before-length [] = refl
@@ -258,6 +269,10 @@ orelse-none : (a b : Option Error) → (a orelse b) ≡ None → (a ≡ None) ×
 orelse-none None b e = (refl, e)
 orelse-none (Some x) b e = cc
 
+orelse-left : (a : Option Error) → ((a orelse None) orelse None) ≡ a
+orelse-left None = refl
+orelse-left (Some x) = refl
+
 no-misfit : (o : Option ℕ) → option_map (λ k. BadChunks k) o ≡ None → o ≡ None
 no-misfit None e = refl
 no-misfit (Some k) e = cc
@@ -275,9 +290,20 @@ all-written ts cs e = fitting-are-written ts 0 cs (writing-order ts (Some cs) e)
 pub all-pieces : (ts : List TokenRecord) (cs : List TokenChunk) → writing_fault ts (Some cs) ≡ None → flat_map (piece ts) cs ≡ canonical ts
 all-pieces ts cs e = pieces-is ts cs (writing-fits ts cs e)
 
--- tokens that are written in one chunk
-pub whole-written : (ts : List TokenRecord) → writing_fault ts None ≡ None → piece_fault ts (chunk_from initial 0 (length ts)) ≡ None
-whole-written ts e = fitting-is-written ts 0 _ (writing-order ts None e) (whole-fits ts).0
+-- the one chunk of all tokens
+module _ (ts : List TokenRecord) (w : TokenChunk) (e : w ≡ chunk_from initial 0 (length ts)) where
+  pub whole-tokens : chunk_tokens ts w ≡ ts
+  whole-tokens = ap (chunk_tokens ts) e ∙ take_all (length ts - 0) ts (omega arith)
 
-pub whole-piece : (ts : List TokenRecord) → flat_map (piece ts) (chunk_from initial 0 (length ts) ∷ []) ≡ canonical ts
-whole-piece ts = pieces-is ts (chunk_from initial 0 (length ts) ∷ []) (whole-fits ts)
+  pub whole-piece : piece ts w ≡ canonical ts
+  whole-piece = ap (piece ts) e ∙ sym (append-nil (piece ts (chunk_from initial 0 (length ts)))) ∙ pieces-is ts (chunk_from initial 0 (length ts) ∷ []) (whole-fits ts)
+
+  pub whole-fault : length ts ≤ 4294967295 → piece_fault ts w ≡ writing_fault ts None
+  whole-fault h =
+      let small : nat_lt 4294967295 (length ts) ≡ false = grind (arith, nat_tests) in
+      let order : back_from 0 0 (take (length ts - 0) ts) ≡ first_out_of_order ts = ap (back_from 0 0) (take_all (length ts - 0) ts (omega arith)) ∙ back_from-all ts in
+      ap (piece_fault ts) e ∙ rw (le-leb 0 (length ts) (omega arith), le-leb (length ts) (length ts) (omega arith), order, small) (sym (orelse-left (option_map (λ i. LineOrder i) (first_out_of_order ts))))
+
+pub on_ok-order : {A E : Type 0} (r : Result A E) (ts : List TokenRecord) (chunks : Option (List TokenChunk)) → OnOk r (writing_fault ts chunks ≡ None) → OnOk r (first_out_of_order ts ≡ None)
+on_ok-order (Ok x) ts chunks h = writing-order ts chunks h
+on_ok-order (Err e) ts chunks h = tt

@@ -1,17 +1,19 @@
 -- Reading from the front on: what is left of a text, after a line and a place.
-use Rattle.std.proofs.Common.{◌≡◌, ℕ, ◌+◌, ◌<◌, true, false, cond, List, [], ◌∷◌, ◌++◌, length, map, drop, filter, ℤ, Option, Some, None, Result, Ok, Err, if◌then◌else◌, nat_lt, slice_get, arith, refl, sym, ap, ◌∙◌, append_assoc, ◌⊎◌, inl, inr}
+use Rattle.std.proofs.Common.{◌≡◌, ℕ, ◌+◌, ◌<◌, Bool, true, false, cond, List, [], ◌∷◌, ◌++◌, length, map, drop, filter, ℤ, ◌+ℤ◌, Option, Some, None, Result, Ok, Err, if◌then◌else◌, nat_lt, slice_get, arith, refl, sym, ap, ◌∙◌, append_assoc, ◌⊎◌, inl, inr}
 use Rattle.std.specs.List.{slice_split, onto_first}
 use Rattle.std.proofs.lemmas.List.{append-nil}
+use Rattle.std.proofs.Math.IntN.{+ℤ_assoc, +ℤ_comm}
 use Rattle.std.proofs.lemmas.Bool.Decides.{nat_tests}
 use Rattle.oxc_sourcemap_mappings.specs.declared.error.Error.{Error}
 use Rattle.oxc_sourcemap_mappings.specs.declared.error.Error.TheVariants.{TooLarge}
 use Rattle.oxc_sourcemap_mappings.specs.declared.decode.Fields.{Fields}
 use Rattle.oxc_sourcemap_mappings.specs.Number.{digit}
-use Rattle.oxc_sourcemap_mappings.specs.Parts.{Segment, segment, segments, lines, is_filled, is_semicolon, is_comma, has_source}
-use Rattle.oxc_sourcemap_mappings.specs.Places.{Place, place, field_sum}
+use Rattle.oxc_sourcemap_mappings.specs.Parts.{Segment, segment, segments, lines, field, is_filled, is_semicolon, is_comma, has_source, has_name}
+use Rattle.oxc_sourcemap_mappings.specs.Places.{Before, nothing_before, past_segment, past_line, Place, place, field_sum, of_any_size}
+use Rattle.oxc_sourcemap_mappings.specs.Refusals.{unless}
 use Rattle.oxc_sourcemap_mappings.specs.Faults.{Counts, counts_of, digit_fault, place_fault}
 use Rattle.oxc_sourcemap_mappings.specs.Token.{TokenRecord}
-use Rattle.oxc_sourcemap_mappings.specs.Reading.{segment_result, token_unless, token_at, line_results, text_results, passed, onto, gathered, reading}
+use Rattle.oxc_sourcemap_mappings.specs.Reading.{segment_result, token_at, line_results, text_results, onto, gathered, reading}
 use Rattle.oxc_sourcemap_mappings.specs.Decoding.{ends_segment, front_digits, front_segment, AreFieldsOf, value, moved, moved_by, at_line_start}
 
 -- ---- the outcomes of a text, the place carried along
@@ -19,7 +21,7 @@ use Rattle.oxc_sourcemap_mappings.specs.Decoding.{ends_segment, front_digits, fr
 -- those of a line, after this place
 abbrev pub along : Counts → ℕ → Place → List Segment → List (Result TokenRecord Error)
 along c line p [] = []
-along c line p (s ∷ more) = segment_result c line p.source_id s (moved_by p s) ∷ along c line (moved_by p s) more
+along c line p (s ∷ more) = segment_result c line p s (moved_by p s) ∷ along c line (moved_by p s) more
 
 abbrev pub moved_by_all : Place → List Segment → Place
 moved_by_all p [] = p
@@ -33,22 +35,52 @@ along_lines c line p (l ∷ ls) =
     then along c line (at_line_start p) l ++ along_lines c (line + 1) (moved_by_all (at_line_start p) l) ls
     else Err TooLarge ∷ []
 
-moved_by_all-place : (ss on_line in_text : List Segment) → moved_by_all (place on_line in_text) ss ≡ place (passed ss on_line) (passed ss in_text)
-moved_by_all-place [] on_line in_text = refl
-moved_by_all-place (s ∷ more) on_line in_text = moved_by_all-place more (s ∷ on_line) (s ∷ in_text)
+-- a sum with one segment more
+sum-swap : (a b c : ℤ) → (a +ℤ b) +ℤ c ≡ (a +ℤ c) +ℤ b
+sum-swap a b c = +ℤ_assoc a b c ∙ ap (λ z. a +ℤ z) (+ℤ_comm b c) ∙ sym (+ℤ_assoc a c b)
 
-line_results-is : (c : Counts) (line : ℕ) (ss on_line in_text : List Segment) → line_results c line on_line in_text ss ≡ along c line (place on_line in_text) ss
+step-swap : (x y : Bool) (a b c : ℤ) → cond x (cond y (a +ℤ b) a +ℤ c) (cond y (a +ℤ b) a) ≡ cond y (cond x (a +ℤ c) a +ℤ b) (cond x (a +ℤ c) a)
+step-swap true true a b c = sum-swap a b c
+step-swap true false a b c = refl
+step-swap false true a b c = refl
+step-swap false false a b c = refl
+
+sum-last : (test : ℕ → Bool) (k : ℕ) (ss : List Segment) (s : Segment) → field_sum test k (ss ++ s ∷ []) ≡ cond (test (length s)) (field_sum test k ss +ℤ field k s) (field_sum test k ss)
+sum-last test k [] s = refl
+sum-last test k (x ∷ ss) s =
+    ap (λ n. cond (test (length x)) (n +ℤ field k x) n) (sum-last test k ss s)
+    ∙ step-swap (test (length x)) (test (length s)) (field_sum test k ss) (field k s) (field k x)
+
+place-past : (b : Before) (s : Segment) → place (past_segment b s) ≡ moved_by (place b) s
+place-past b s =
+    rw (sum-last of_any_size 0 b.on_line s, sum-last has_source 1 b.in_text s, sum-last has_source 2 b.in_text s, sum-last has_source 3 b.in_text s, sum-last has_name 4 b.in_text s)
+
+-- some segments more
+abbrev past_all : Before → List Segment → Before
+past_all b ss = record { on_line = b.on_line ++ ss; in_text = b.in_text ++ ss }
+
+moved_by_all-place : (ss : List Segment) (b : Before) → moved_by_all (place b) ss ≡ place (past_all b ss)
+moved_by_all-place [] b = rw (append-nil b.on_line, append-nil b.in_text)
+moved_by_all-place (s ∷ more) b =
+    ap (λ p. moved_by_all p more) (sym (place-past b s)) ∙ moved_by_all-place more (past_segment b s)
+    ∙ rw (append_assoc b.on_line (s ∷ []) more, append_assoc b.in_text (s ∷ []) more)
+
+line_results-is : (c : Counts) (line : ℕ) (ss : List Segment) (b : Before) → line_results c line b ss ≡ along c line (place b) ss
 unfolding line_results
-line_results-is c line [] on_line in_text = refl
-line_results-is c line (s ∷ more) on_line in_text =
-    ap (λ rest. segment_result c line (field_sum has_source 1 in_text) s (place (s ∷ on_line) (s ∷ in_text)) ∷ rest) (line_results-is c line more (s ∷ on_line) (s ∷ in_text))
+line_results-is c line [] b = refl
+line_results-is c line (s ∷ more) b =
+    ap (λ rest. segment_result c line (place b) s (place (past_segment b s)) ∷ rest) (line_results-is c line more (past_segment b s))
+    ∙ ap (λ p. segment_result c line (place b) s p ∷ along c line p more) (place-past b s)
 
-text_results-is : (c : Counts) (line : ℕ) (ls : List (List Segment)) (on_line in_text : List Segment) → text_results c line in_text ls ≡ along_lines c line (place on_line in_text) ls
+text_results-is : (c : Counts) (line : ℕ) (ls : List (List Segment)) (b : Before) (p : Place) → at_line_start p ≡ place b → text_results c line b ls ≡ along_lines c line p ls
 unfolding text_results
-text_results-is c line [] on_line in_text = refl
-text_results-is c line (l ∷ ls) on_line in_text =
-    let here : line_results c line [] in_text l ≡ along c line (place [] in_text) l = line_results-is c line l [] in_text in
-    let there : text_results c (line + 1) (passed l in_text) ls ≡ along_lines c (line + 1) (moved_by_all (place [] in_text) l) ls = text_results-is c (line + 1) ls (passed l []) (passed l in_text) ∙ ap (λ p. along_lines c (line + 1) p ls) (sym (moved_by_all-place l [] in_text)) in
+text_results-is c line [] b p e = refl
+text_results-is c line (l ∷ ls) b p e =
+    let here : line_results c line b l ≡ along c line (at_line_start p) l = line_results-is c line l b ∙ ap (λ q. along c line q l) (sym e) in
+    let reached : at_line_start (moved_by_all (at_line_start p) l) ≡ place (past_line b l) =
+    ap (λ q. at_line_start (moved_by_all q l)) e ∙ ap at_line_start (moved_by_all-place l b) in
+    let there : text_results c (line + 1) (past_line b l) ls ≡ along_lines c (line + 1) (moved_by_all (at_line_start p) l) ls =
+    text_results-is c (line + 1) ls (past_line b l) (moved_by_all (at_line_start p) l) reached in
     rw (here, there)
 
 -- ---- what is left, from anywhere in a line on
@@ -65,13 +97,13 @@ along_lines-parts : (c : Counts) (line : ℕ) (p : Place) (parts : List (List �
 along_lines-parts c line p [] h = refl
 along_lines-parts c line p (l ∷ ls) h = let t : nat_lt line 4294967296 ≡ true = grind (arith, nat_tests) in rw t
 
-pub reading-lines : (text : List ℕ) (names sources : ℕ) → reading text names sources ≡ gathered (along_lines (counts_of names sources) 0 (place [] []) (lines text))
+pub reading-lines : (text : List ℕ) (names sources : ℕ) → reading text names sources ≡ gathered (along_lines (counts_of names sources) 0 (place nothing_before) (lines text))
 unfolding reading
-reading-lines text names sources = ap gathered (text_results-is (counts_of names sources) 0 (lines text) [] [])
+reading-lines text names sources = ap gathered (text_results-is (counts_of names sources) 0 (lines text) nothing_before (place nothing_before) refl)
 
-pub reading-is : (text : List ℕ) (names sources : ℕ) → reading text names sources ≡ gathered (left_outcomes (counts_of names sources) 0 (place [] []) text)
+pub reading-is : (text : List ℕ) (names sources : ℕ) → reading text names sources ≡ gathered (left_outcomes (counts_of names sources) 0 (place nothing_before) text)
 reading-is text names sources =
-    reading-lines text names sources ∙ ap gathered (along_lines-parts (counts_of names sources) 0 (place [] []) (slice_split is_semicolon text) (omega arith))
+    reading-lines text names sources ∙ ap gathered (along_lines-parts (counts_of names sources) 0 (place nothing_before) (slice_split is_semicolon text) (omega arith))
 
 -- after a `;`
 pub left-semicolon : (c : Counts) (line : ℕ) (p : Place) (text : List ℕ) → line + 1 < 4294967296 → left_outcomes c line p (59 ∷ text) ≡ left_outcomes c (line + 1) (at_line_start p) text
@@ -201,7 +233,7 @@ segments-front text (b ∷ l) ls f h =
 
 parts-front : (c : Counts) (line : ℕ) (p : Place) (text : List ℕ) (parts : List (List ℕ)) → is_filled (front text) ≡ true → IsCut parts →
     along_parts c line p (onto_all_first (front text) parts)
-    ≡ segment_result c line p.source_id (segment (front text)) (moved_by p (segment (front text))) ∷ along_parts c line (moved_by p (segment (front text))) parts
+    ≡ segment_result c line p (segment (front text)) (moved_by p (segment (front text))) ∷ along_parts c line (moved_by p (segment (front text))) parts
 parts-front c line p text [] f h = absurd h
 parts-front c line p text (l ∷ ls) f h =
     ap (along_parts c line p) (onto_all_first-cons (front text) l ls)
@@ -210,7 +242,7 @@ parts-front c line p text (l ∷ ls) f h =
 -- what a text gives whose first byte lies in a segment
 pub left-segment : (c : Counts) (line : ℕ) (p : Place) (text : List ℕ) → is_filled (front text) ≡ true →
     left_outcomes c line p text
-    ≡ segment_result c line p.source_id (front_segment text) (moved_by p (front_segment text)) ∷ left_outcomes c line (moved_by p (front_segment text)) (drop (length (front_digits text)) text)
+    ≡ segment_result c line p (front_segment text) (moved_by p (front_segment text)) ∷ left_outcomes c line (moved_by p (front_segment text)) (drop (length (front_digits text)) text)
 left-segment c line p text f =
     ap (along_parts c line p) (split-front text)
     ∙ parts-front c line p text (slice_split is_semicolon (after_front text)) f (after_front-cut text)
@@ -236,10 +268,10 @@ pub moved-moved_by : (p : Place) (s : Segment) (f : Fields) → AreFieldsOf s f 
 moved-moved_by p s f a =
     rw (a.count, a.values 0 (omega arith), a.values 1 (omega arith), a.values 2 (omega arith), a.values 3 (omega arith), a.values 4 (omega arith))
 
-pub segment_result-clean : (c : Counts) (line : ℕ) (before : ℤ) (s : Segment) (p : Place) (o : Option Error) → digit_fault s ≡ None → place_fault c before (length s) p ≡ o → segment_result c line before s p ≡ token_unless o (token_at line (length s) p)
+pub segment_result-clean : (c : Counts) (line : ℕ) (before : Place) (s : Segment) (p : Place) (o : Option Error) → digit_fault s ≡ None → place_fault c before (length s) p ≡ o → segment_result c line before s p ≡ unless o (Ok (token_at line (length s) p))
 segment_result-clean c line before s p o e h = rw (e, h)
 
-pub segment_result-fault : (c : Counts) (line : ℕ) (before : ℤ) (s : Segment) (p : Place) (fault : Error) → digit_fault s ≡ Some fault → segment_result c line before s p ≡ Err fault
+pub segment_result-fault : (c : Counts) (line : ℕ) (before : Place) (s : Segment) (p : Place) (fault : Error) → digit_fault s ≡ Some fault → segment_result c line before s p ≡ Err fault
 segment_result-fault c line before s p fault h = rw h
 
 -- ---- the tokens so far, and what is left

@@ -1,5 +1,5 @@
 -- How long the text of a list is.
-use Rattle.std.proofs.Common.{◌≡◌, ℕ, zero, suc, ◌+◌, ◌-◌, ◌*◌, ◌/◌, ◌^◌, ◌<◌, ◌≤◌, Bool, true, false, cond, ◌==◌, nat_lt, List, [], ◌∷◌, ◌++◌, length, replicate, arith, refl, ap, ◌∙◌, lit<, lit≤, Option, Some, None, inl, inr}
+use Rattle.std.proofs.Common.{◌≡◌, ℕ, zero, suc, ◌+◌, ◌-◌, ◌*◌, ◌/◌, ◌^◌, ◌<◌, ◌≤◌, Bool, true, false, cond, ◌==◌, nat_lt, List, [], ◌∷◌, ◌++◌, length, replicate, arith, refl, ap, ◌∙◌, lit<, lit≤, Option, Some, None, inl, inr, Result, Ok, Err, OnOk}
 use Rattle.std.specs.List.{AllByRecursion}
 use Rattle.std.proofs.Math.Nat.{pow-suc}
 use Rattle.std.proofs.lemmas.Bool.{cases_lt}
@@ -25,7 +25,7 @@ length-digits (suc k) (suc f) n h =
           rw (digits_large f n l) (omega (arith, length-digits k f (n / 32) (omega arith))))
     ]
 
-length-vlq_text : (n : ℕ) → n < 34359738368 → length (vlq_text n) ≤ 7
+pub length-vlq_text : (n : ℕ) → n < 34359738368 → length (vlq_text n) ≤ 7
 unfolding vlq_text
 length-vlq_text n h = rw (length-map (digits n n) letter) (length-digits 6 n n h)
 
@@ -109,3 +109,7 @@ pub length-canonical : (ts : List TokenRecord) → AreInBounds ts → first_out_
 length-canonical ts w o =
     let h : IsBounded initial = record { dst_line = lit< tt; dst_col = lit< tt; source_id = lit< tt; src_line = lit< tt; src_col = lit< tt; name_id = lit< tt } in
     omega (arith, ap length (canonical-is ts), length-text_from true initial 0 ts h (recursion_from_All IsInBounds ts w) (back_from-all ts ∙ o))
+
+pub canonical-bounded : {A E : Type 0} (r : Result A E) (ts : List TokenRecord) (old new : List ℕ) → OnOk r (new ≡ old ++ canonical ts) → OnOk r (first_out_of_order ts ≡ None) → OnOk r (AreInBounds ts) → OnOk r (length new ≤ length old + (36 * length ts + last_line 0 ts))
+canonical-bounded (Ok x) ts old new text order bounds = omega (arith, ap length text, length-append old (canonical ts), length-canonical ts bounds order)
+canonical-bounded (Err e) ts old new text order bounds = tt

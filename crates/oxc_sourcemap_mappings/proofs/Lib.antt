@@ -6,6 +6,8 @@ pub mod Left
 pub mod Room
 pub mod Order
 pub mod Vlq
+pub mod Letters
+pub mod Placing
 pub mod Writing
 pub mod Length
 pub mod Chunks

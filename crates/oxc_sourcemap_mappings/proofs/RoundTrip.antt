@@ -8,7 +8,7 @@ use Rattle.std.specs.Option.{IfSome, is_some}
 use Rattle.oxc_sourcemap_mappings.specs.declared.error.Error.{Error}
 use Rattle.oxc_sourcemap_mappings.specs.Token.{TokenRecord, IsInBounds, mapped_name}
 use Rattle.oxc_sourcemap_mappings.specs.Parts.{Segment, segment, lines, is_filled}
-use Rattle.oxc_sourcemap_mappings.specs.Places.{Place, place}
+use Rattle.oxc_sourcemap_mappings.specs.Places.{nothing_before, Place, place}
 use Rattle.oxc_sourcemap_mappings.specs.Faults.{Counts, counts_of}
 use Rattle.oxc_sourcemap_mappings.specs.Reading.{segment_result, gathered, onto, reading}
 use Rattle.oxc_sourcemap_mappings.specs.State.{State, initial, state_after}
@@ -82,8 +82,8 @@ reads-more : (names sources : ℕ) (s : State) (t : TokenRecord) (ts : List Toke
     → ReadsAs (counts_of names sources) t.dst_line (standing (base s t) s) (seg s t ∷ here) below (carried_token s t ∷ ts)
 reads-more names sources s t ts here below h w r =
     let c = counts_of names sources in
-    let v : segment_result c t.dst_line (pos s.source_id) (seg s t) (moved_by (standing (base s t) s) (seg s t)) ≡ Ok (carried_token s t) =
-    segment_result-written t.source_id t.name_id c t.dst_line (pos s.source_id) s t h w.in_bounds w.in_bounds.source_id w.in_bounds.name_id (both-below t.source_id sources w.source_id w.in_bounds.source_id) (both-below (mapped_name t) names w.name_id (name_beside-id t.source_id t.name_id w.in_bounds.name_id))
+    let v : segment_result c t.dst_line (standing (base s t) s) (seg s t) (moved_by (standing (base s t) s) (seg s t)) ≡ Ok (carried_token s t) =
+    segment_result-written t.source_id t.name_id c t.dst_line (standing (base s t) s) s t h w.in_bounds w.in_bounds.source_id w.in_bounds.name_id (both-below t.source_id sources w.source_id w.in_bounds.source_id) (both-below (mapped_name t) names w.name_id (name_beside-id t.source_id t.name_id w.in_bounds.name_id))
     ∙ ap Ok (token-same t.source_id t.name_id s t refl refl) in
     let a : moved_by (standing (base s t) s) (seg s t) ≡ standing t.dst_col (advanced s t) = moved_by-written t.source_id t.name_id s t in
     record {
@@ -189,7 +189,7 @@ carried-is seen (t ∷ ts) = ap (λ us. carried_token (state_after initial seen)
 
 finish : (names sources : ℕ) (text : List ℕ) (here : List Segment) (below : List (List Segment)) (ts : List TokenRecord) → canonical ts ≡ text → lines text ≡ here ∷ below → ReadsAs (counts_of names sources) 0 (standing 0 initial) here below (carrying initial ts) → reading (canonical ts) names sources ≡ Ok (carried ts)
 finish names sources text here below ts e l r =
-    ap (λ x. reading x names sources) e ∙ reading-lines text names sources ∙ ap (λ ls. gathered (along_lines (counts_of names sources) 0 (place [] []) ls)) l ∙ r.read ∙ ap Ok (sym (carried-is [] ts))
+    ap (λ x. reading x names sources) e ∙ reading-lines text names sources ∙ ap (λ ls. gathered (along_lines (counts_of names sources) 0 (place nothing_before) ls)) l ∙ r.read ∙ ap Ok (sym (carried-is [] ts))
 
 pub IsBounded-initial : IsBounded initial
 IsBounded-initial = record { dst_line = lit< tt; dst_col = lit< tt; source_id = lit< tt; src_line = lit< tt; src_col = lit< tt; name_id = lit< tt }

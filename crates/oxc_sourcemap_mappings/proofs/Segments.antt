@@ -109,7 +109,7 @@ range-none n h = let t : nat_le n 4294967295 ≡ true = grind (arith, nat_tests)
 below-true : (n k : ℕ) → n < k → nat_lt n k ≡ true
 below-true n k h = grind (arith, nat_tests)
 
-place_fault-none : (a b : Option ℕ) (c : Counts) (before : ℤ) (s : State) (t : TokenRecord) → IsInBounds t → IfSome a (λ i. i < c.sources) → IfSome (name_beside a b) (λ n. n < c.names) → place_fault c before (length (read_all (raws a b s t))) (standing t.dst_col (onward a b s t)) ≡ None
+place_fault-none : (a b : Option ℕ) (c : Counts) (before : Place) (s : State) (t : TokenRecord) → IsInBounds t → IfSome a (λ i. i < c.sources) → IfSome (name_beside a b) (λ n. n < c.names) → place_fault c before (length (read_all (raws a b s t))) (standing t.dst_col (onward a b s t)) ≡ None
 unfolding place_fault
 place_fault-none None b c before s t w hs hn = rw (range-none t.dst_col w.dst_col)
 place_fault-none (Some i) None c before s t w hs hn =
@@ -126,7 +126,7 @@ token-same (Some i) (Some n) s t e f =
     let r : Option ℕ → Option ℕ → TokenRecord = λ y z. record { dst_line = t.dst_line; dst_col = t.dst_col; src_line = t.src_line; src_col = t.src_col; source_id = y; name_id = z } in
     ap (λ y. r y (Some n)) (sym e) ∙ ap (r t.source_id) (sym f) ∙ rw e refl
 
-pub segment_result-written : (a b : Option ℕ) (c : Counts) (line : ℕ) (before : ℤ) (s : State) (t : TokenRecord) → IsBounded s → IsInBounds t → IsId a → IsId b → IfSome a (λ i. i < c.sources) → IfSome (name_beside a b) (λ n. n < c.names) → segment_result c line before (read_all (raws a b s t)) (moved_by (standing (base s t) s) (read_all (raws a b s t))) ≡ Ok (token_at line (length (read_all (raws a b s t))) (standing t.dst_col (onward a b s t)))
+pub segment_result-written : (a b : Option ℕ) (c : Counts) (line : ℕ) (before : Place) (s : State) (t : TokenRecord) → IsBounded s → IsInBounds t → IsId a → IsId b → IfSome a (λ i. i < c.sources) → IfSome (name_beside a b) (λ n. n < c.names) → segment_result c line before (read_all (raws a b s t)) (moved_by (standing (base s t) s) (read_all (raws a b s t))) ≡ Ok (token_at line (length (read_all (raws a b s t))) (standing t.dst_col (onward a b s t)))
 segment_result-written a b c line before s t h w x y hs hn =
     ap (segment_result c line before (read_all (raws a b s t))) (moved_by-written a b s t)
     ∙ rw (faults-small (raws a b s t) (raws-small a b s t h w x y), place_fault-none a b c before s t w hs hn)

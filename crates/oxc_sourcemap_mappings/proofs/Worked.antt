@@ -8,7 +8,7 @@ use Rattle.oxc_sourcemap_mappings.specs.Faults.{digit_fault, place_fault}
 use Rattle.oxc_sourcemap_mappings.specs.Token.{TokenRecord}
 use Rattle.oxc_sourcemap_mappings.specs.Reading.{reading, text_results, line_results}
 use Rattle.oxc_sourcemap_mappings.specs.Canonical.{canonical, text_after, token_text, separator, delta_text, vlq_text, digits, letter}
-use Rattle.oxc_sourcemap_mappings.specs.Chunks.{piece, writing_fault}
+use Rattle.oxc_sourcemap_mappings.specs.Chunks.{piece, piece_after, writing_fault}
 
 -- generated line and column, source line and column, source id, name id
 abbrev token : ℕ → ℕ → ℕ → ℕ → Option ℕ → Option ℕ → TokenRecord
@@ -152,7 +152,7 @@ fits-three_chunks : writing_fault (token 1 1 1 1 (Some 0) (Some 0) ∷ token 3 1
 fits-three_chunks = refl
 
 pieces-three_chunks : flat_map (piece (token 1 1 1 1 (Some 0) (Some 0) ∷ token 3 1 1 1 (Some 1) (Some 2) ∷ token 3 2 2 2 (Some 2) (Some 3) ∷ [])) (chunk 0 1 0 0 0 0 0 0 ∷ chunk 1 2 1 1 1 1 0 0 ∷ chunk 2 3 3 1 1 1 2 1 ∷ []) ≡ (codes ";CACCA;;CCAAE,CCCCC")
-unfolding piece text_after token_text separator vlq_text digits letter
+unfolding piece piece_after token_text separator vlq_text digits letter
 pieces-three_chunks = refl
 
 writes-unmapped_token_before : canonical (token 0 0 5 3 (Some 0) None ∷ token 0 4 0 0 None None ∷ token 1 0 7 1 (Some 1) None ∷ []) ≡ (codes "AAKG,I;ACEF")
@@ -163,7 +163,7 @@ fits-unmapped_token_before : writing_fault (token 0 0 5 3 (Some 0) None ∷ toke
 fits-unmapped_token_before = refl
 
 pieces-unmapped_token_before : flat_map (piece (token 0 0 5 3 (Some 0) None ∷ token 0 4 0 0 None None ∷ token 1 0 7 1 (Some 1) None ∷ [])) (chunk 0 2 0 0 0 0 0 0 ∷ chunk 2 3 0 4 5 3 0 0 ∷ []) ≡ (codes "AAKG,I;ACEF")
-unfolding piece text_after token_text separator vlq_text digits letter
+unfolding piece piece_after token_text separator vlq_text digits letter
 pieces-unmapped_token_before = refl
 
 writes-unmapped_tokens : canonical (token 0 0 0 0 None None ∷ token 2 3 0 0 None None ∷ token 3 9 0 0 None None ∷ []) ≡ (codes "A;;G;S")
@@ -174,7 +174,7 @@ fits-unmapped_tokens : writing_fault (token 0 0 0 0 None None ∷ token 2 3 0 0 
 fits-unmapped_tokens = refl
 
 pieces-unmapped_tokens : flat_map (piece (token 0 0 0 0 None None ∷ token 2 3 0 0 None None ∷ token 3 9 0 0 None None ∷ [])) (chunk 0 2 0 0 0 0 0 0 ∷ chunk 2 3 2 3 0 0 0 0 ∷ []) ≡ (codes "A;;G;S")
-unfolding piece text_after token_text separator vlq_text digits letter
+unfolding piece piece_after token_text separator vlq_text digits letter
 pieces-unmapped_tokens = refl
 
 writes-empty_chunks : canonical ([]) ≡ (codes "")
@@ -185,7 +185,7 @@ fits-empty_chunks : writing_fault ([]) (Some (chunk 0 0 0 0 0 0 0 0 ∷ chunk 0 
 fits-empty_chunks = refl
 
 pieces-empty_chunks : flat_map (piece ([])) (chunk 0 0 0 0 0 0 0 0 ∷ chunk 0 0 0 0 0 0 0 0 ∷ []) ≡ (codes "")
-unfolding piece text_after token_text separator vlq_text digits letter
+unfolding piece piece_after token_text separator vlq_text digits letter
 pieces-empty_chunks = refl
 
 writes-empty_chunk_between : canonical (token 0 0 5 3 (Some 0) None ∷ token 1 2 1 1 (Some 2) None ∷ []) ≡ (codes "AAKG;EEJF")
@@ -196,7 +196,7 @@ fits-empty_chunk_between : writing_fault (token 0 0 5 3 (Some 0) None ∷ token 
 fits-empty_chunk_between = refl
 
 pieces-empty_chunk_between : flat_map (piece (token 0 0 5 3 (Some 0) None ∷ token 1 2 1 1 (Some 2) None ∷ [])) (chunk 0 1 0 0 0 0 0 0 ∷ chunk 1 1 0 0 5 3 0 0 ∷ chunk 1 2 0 0 5 3 0 0 ∷ []) ≡ (codes "AAKG;EEJF")
-unfolding piece text_after token_text separator vlq_text digits letter
+unfolding piece piece_after token_text separator vlq_text digits letter
 pieces-empty_chunk_between = refl
 
 writes-name_of_unmapped_token : canonical (token 0 0 0 0 (Some 0) (Some 0) ∷ token 0 1 0 0 None (Some 2) ∷ token 1 0 0 0 (Some 1) (Some 3) ∷ []) ≡ (codes "AAAAA,C;ACAAG")
@@ -207,7 +207,7 @@ fits-name_of_unmapped_token : writing_fault (token 0 0 0 0 (Some 0) (Some 0) ∷
 fits-name_of_unmapped_token = refl
 
 pieces-name_of_unmapped_token : flat_map (piece (token 0 0 0 0 (Some 0) (Some 0) ∷ token 0 1 0 0 None (Some 2) ∷ token 1 0 0 0 (Some 1) (Some 3) ∷ [])) (chunk 0 2 0 0 0 0 0 0 ∷ chunk 2 3 0 1 0 0 0 0 ∷ []) ≡ (codes "AAAAA,C;ACAAG")
-unfolding piece text_after token_text separator vlq_text digits letter
+unfolding piece piece_after token_text separator vlq_text digits letter
 pieces-name_of_unmapped_token = refl
 
 writes-empty_chunk_at_the_end : canonical (token 0 0 0 0 None None ∷ []) ≡ (codes "A")
@@ -218,15 +218,15 @@ fits-empty_chunk_at_the_end : writing_fault (token 0 0 0 0 None None ∷ []) (So
 fits-empty_chunk_at_the_end = refl
 
 pieces-empty_chunk_at_the_end : flat_map (piece (token 0 0 0 0 None None ∷ [])) (chunk 0 1 0 0 0 0 0 0 ∷ chunk 1 1 0 0 0 0 0 0 ∷ []) ≡ (codes "A")
-unfolding piece text_after token_text separator vlq_text digits letter
+unfolding piece piece_after token_text separator vlq_text digits letter
 pieces-empty_chunk_at_the_end = refl
 
 piece-true_header : piece (token 1 1 1 1 (Some 0) (Some 0) ∷ token 3 1 1 1 (Some 1) (Some 2) ∷ token 3 2 2 2 (Some 2) (Some 3) ∷ []) (chunk 2 3 3 1 1 1 2 1) ≡ (codes ",CCCCC")
-unfolding piece text_after token_text separator vlq_text digits letter
+unfolding piece piece_after token_text separator vlq_text digits letter
 piece-true_header = refl
 
 piece-false_header : piece (token 1 1 1 1 (Some 0) (Some 0) ∷ token 3 1 1 1 (Some 1) (Some 2) ∷ token 3 2 2 2 (Some 2) (Some 3) ∷ []) (chunk 2 3 0 0 0 0 0 0) ≡ (codes ";;;EEEEG")
-unfolding piece text_after token_text separator vlq_text digits letter
+unfolding piece piece_after token_text separator vlq_text digits letter
 piece-false_header = refl
 
 refuses-chunks_end_too_soon : writing_fault (token 0 0 0 0 None None ∷ token 0 1 0 0 None None ∷ []) (Some (chunk 0 1 0 0 0 0 0 0 ∷ [])) ≡ Some (BadChunks 1)

@@ -1,5 +1,5 @@
 -- The text of a list with the state carried along, and what is cut off again.
-use Rattle.std.proofs.Common.{◌≡◌, ℕ, ◌<◌, ◌≤◌, Bool, true, false, ◌&&◌, List, [], ◌∷◌, ◌++◌, length, take, get_or, slice_index, arith, refl, sym, ap, ◌∙◌, lit<, append_assoc}
+use Rattle.std.proofs.Common.{◌≡◌, ℕ, ◌<◌, ◌≤◌, true, List, [], ◌∷◌, ◌++◌, length, take, get_or, slice_index, arith, refl, sym, ap, ◌∙◌, lit<, append_assoc}
 use Rattle.std.specs.List.{AllByRecursion}
 use Rattle.std.proofs.lemmas.List.{append-nil, take_at, length-append, get_or_at, get_or_past}
 use Rattle.oxc_sourcemap_mappings.specs.Token.{TokenRecord}
@@ -7,19 +7,14 @@ use Rattle.oxc_sourcemap_mappings.specs.State.{State, initial, state_after}
 use Rattle.oxc_sourcemap_mappings.specs.Canonical.{token_text, text_after, canonical, has_none_before, Extends}
 use Rattle.oxc_sourcemap_mappings.specs.Encoding.{text_from, advanced}
 
-pub and-false : (b : Bool) → (b && false) ≡ false
-and-false true = refl
-and-false false = refl
-
-pub text_after-is : (first : Bool) (h : State) (seen ts : List TokenRecord) → text_after first h seen ts ≡ text_from (first && has_none_before seen) (state_after h seen) ts
+text_after-is : (seen ts : List TokenRecord) → text_after seen ts ≡ text_from (has_none_before seen) (state_after initial seen) ts
 unfolding text_after
-text_after-is first h seen [] = refl
-text_after-is first h seen (t ∷ ts) =
-    ap (λ xs. token_text (first && has_none_before seen) (state_after h seen) t ++ xs) (text_after-is first h (t ∷ seen) ts ∙ ap (λ b. text_from b (advanced (state_after h seen) t) ts) (and-false first))
+text_after-is seen [] = refl
+text_after-is seen (t ∷ ts) = ap (λ xs. token_text (has_none_before seen) (state_after initial seen) t ++ xs) (text_after-is (t ∷ seen) ts)
 
 pub canonical-is : (ts : List TokenRecord) → canonical ts ≡ text_from true initial ts
 unfolding canonical
-canonical-is ts = text_after-is true initial [] ts
+canonical-is ts = text_after-is [] ts
 
 all-append : (xs ys : List ℕ) → AllByRecursion (λ b. b < 128) xs → AllByRecursion (λ b. b < 128) ys → AllByRecursion (λ b. b < 128) (xs ++ ys)
 all-append [] ys p q = q

@@ -1,5 +1,5 @@
 -- The one canonical text of a list of tokens (for its form, ECMA-426, "Mappings structure").
-use Rattle.std.specs.Prelude.{◌≡◌, ℕ, zero, suc, ◌+◌, ◌-◌, ◌*◌, ◌/◌, ◌%◌, ◌<◌, Bool, true, false, ◌&&◌, List, [], ◌∷◌, ◌++◌, map, replicate, Option, Some, None, if◌then◌else◌, nat_lt, ◌==◌}
+use Rattle.std.specs.Prelude.{◌≡◌, ℕ, zero, suc, ◌+◌, ◌-◌, ◌*◌, ◌/◌, ◌%◌, ◌<◌, Bool, true, false, List, [], ◌∷◌, ◌++◌, map, replicate, Option, Some, None, if◌then◌else◌, nat_lt, ◌==◌}
 use Rattle.std.specs.List.{AllByRecursion}
 use Rattle.std.specs.Option.{option_map, option_map_or}
 use Rattle.oxc_sourcemap_mappings.specs.Token.{TokenRecord, is_mapped, mapped_name}
@@ -59,16 +59,15 @@ abbrev pub has_none_before : List TokenRecord → Bool
 has_none_before [] = true
 has_none_before (t ∷ ts) = false
 
--- The text of some tokens. Before them stand `before`, the nearest first, and before these the state `s`.
--- At the start of the whole list, the first of all is written without a `,`.
-unfoldable pub text_after : Bool → State → List TokenRecord → List TokenRecord → List ℕ
-text_after at_start s before [] = []
-text_after at_start s before (t ∷ ts) =
-    token_text (at_start && has_none_before before) (state_after s before) t ++ text_after at_start s (t ∷ before) ts
+-- The text of these tokens, after the tokens before them, the nearest first. Each token is written relative to the state
+-- there, and the first of all without a `,`.
+unfoldable pub text_after : List TokenRecord → List TokenRecord → List ℕ
+text_after before [] = []
+text_after before (t ∷ ts) = token_text (has_none_before before) (state_after initial before) t ++ text_after (t ∷ before) ts
 
 -- the canonical text of a list in line order
 unfoldable pub canonical : List TokenRecord → List ℕ
-canonical tokens = text_after true initial [] tokens
+canonical tokens = text_after [] tokens
 
 -- a text with some ASCII bytes more
 abbrev pub Extends : List ℕ → List ℕ → Type 0

@@ -1,5 +1,5 @@
 -- Chunks: parts of a list of tokens, each written from a header of its own, which stands for all that lies before.
-use Rattle.std.specs.Prelude.{◌≡◌, ℕ, ◌+◌, ◌-◌, ◌≤◌, Bool, ◌&&◌, List, [], ◌∷◌, length, Option, Some, None, if◌then◌else◌, nat_lt, nat_le, ◌==◌, take, drop}
+use Rattle.std.specs.Prelude.{◌≡◌, ℕ, ◌+◌, ◌-◌, ◌≤◌, Bool, ◌&&◌, List, [], ◌∷◌, ◌++◌, length, Option, Some, None, if◌then◌else◌, nat_lt, nat_le, ◌==◌, take, drop}
 use Rattle.std.specs.Borrow.{Bor}
 use Rattle.std.specs.Option.{option_map, option_map_or}
 use Rattle.oxc_sourcemap_mappings.specs.declared.error.Error.{Error}
@@ -7,24 +7,37 @@ use Rattle.oxc_sourcemap_mappings.specs.declared.error.Error.TheVariants.{LineOr
 use Rattle.oxc_sourcemap_mappings.specs.declared.token.TokenChunk.{TokenChunk}
 use Rattle.oxc_sourcemap_mappings.specs.Token.{TokenRecord}
 use Rattle.oxc_sourcemap_mappings.specs.Faults.{◌orelse◌}
-use Rattle.oxc_sourcemap_mappings.specs.State.{State, state_at}
-use Rattle.oxc_sourcemap_mappings.specs.Canonical.{text_after, first_out_of_order, back_from}
+use Rattle.oxc_sourcemap_mappings.specs.State.{State, state_after, state_at}
+use Rattle.oxc_sourcemap_mappings.specs.Canonical.{token_text, has_none_before, first_out_of_order, back_from}
 
 -- the state that a chunk says it starts from
 abbrev pub header : TokenChunk → State
-header c = record { dst_line = c.prev_dst_line; dst_col = c.prev_dst_col; source_id = c.prev_source_id; src_line = c.prev_src_line; src_col = c.prev_src_col; name_id = c.prev_name_id }
+header c = record {
+  dst_line = c.prev_dst_line;
+  dst_col = c.prev_dst_col;
+  source_id = c.prev_source_id;
+  src_line = c.prev_src_line;
+  src_col = c.prev_src_col;
+  name_id = c.prev_name_id;
+}
 
 -- the tokens of a chunk
 abbrev pub chunk_tokens : List TokenRecord → TokenChunk → List TokenRecord
 chunk_tokens tokens c = take (c.end - c.start) (drop c.start tokens)
 
--- The text of the tokens of a chunk, written against its header even where that is not the state there. Only a chunk
--- that starts at index 0 has the first token of all.
-unfoldable pub piece : List TokenRecord → TokenChunk → List ℕ
-piece tokens c = text_after (c.start == 0) (header c) [] (chunk_tokens tokens c)
+-- The text of these tokens of a chunk, after the tokens of the chunk before them, the nearest first. Its header stands for
+-- all that lies before the chunk. Only a chunk that starts at index 0 has the first token of all.
+unfoldable pub piece_after : TokenChunk → List TokenRecord → List TokenRecord → List ℕ
+piece_after c before [] = []
+piece_after c before (t ∷ ts) =
+    token_text (c.start == 0 && has_none_before before) (state_after (header c) before) t ++ piece_after c (t ∷ before) ts
 
--- Why a piece is not written: the chunk's range, else the first of its tokens on a line before that of the token before
--- of it. Before the first stands the header's line.
+-- the text of the tokens of a chunk, written from its header even if that is not the state there
+unfoldable pub piece : List TokenRecord → TokenChunk → List ℕ
+piece tokens c = piece_after c [] (chunk_tokens tokens c)
+
+-- Why a piece is not written: the chunk's range, else the first of its tokens on a line before that of the token before it.
+-- For the first token, that is the line of the header.
 abbrev pub piece_fault : List TokenRecord → TokenChunk → Option Error
 piece_fault tokens c =
     if nat_le c.start c.end && nat_le c.end (length tokens)
@@ -87,6 +100,6 @@ writing_fault tokens chunks =
     orelse option_map_or (λ cs. option_map (λ k. BadChunks k) (first_misfit tokens cs)) chunks None
     orelse (if nat_lt 4294967295 (length tokens) then Some TooLarge else None)
 
--- borrowed chunks
+-- the chunks behind a borrow
 abbrev pub lent_chunks : Option (Bor (List TokenChunk)) → Option (List TokenChunk)
 lent_chunks chunks = option_map (λ cs. cs.now) chunks

@@ -1,8 +1,10 @@
 -- What may be wrong with a segment, in the order in which it is asked.
-use Rattle.std.specs.Prelude.{ℕ, ◌^◌, Bool, false, ◌||◌, [], ◌∷◌, length, ℤ, pos, negsuc, min, Option, Some, None, if◌then◌else◌, nat_lt, nat_le, ◌==◌}
+use Rattle.std.specs.Prelude.{ℕ, ◌^◌, Bool, false, ◌||◌, [], ◌∷◌, length, ℤ, pos, negsuc, min}
+use Rattle.std.specs.Prelude.{Option, Some, None, if◌then◌else◌, nat_lt, nat_le, ◌==◌}
 use Rattle.std.specs.Int.{int_rem_euclid}
 use Rattle.oxc_sourcemap_mappings.specs.declared.error.Error.{Error}
-use Rattle.oxc_sourcemap_mappings.specs.declared.error.Error.TheVariants.{VlqLeftover, VlqOverflow, BadSegmentSize, BadSourceReference, BadNameReference}
+use Rattle.oxc_sourcemap_mappings.specs.declared.error.Error.TheVariants.{VlqLeftover, VlqOverflow}
+use Rattle.oxc_sourcemap_mappings.specs.declared.error.Error.TheVariants.{BadSegmentSize, BadSourceReference, BadNameReference}
 use Rattle.oxc_sourcemap_mappings.specs.Number.{is_fitting, is_open}
 use Rattle.oxc_sourcemap_mappings.specs.Parts.{Segment, has_source, has_name}
 use Rattle.oxc_sourcemap_mappings.specs.Places.{Place}
@@ -52,26 +54,28 @@ nat_of (negsuc n) = 0
 abbrev pub low_bits : ℤ → ℕ
 low_bits z = nat_of (int_rem_euclid z (pos (2 ^ 32)))
 
--- The fault of the source id, source line and source column. That of a source id tells the one that the sums have in
--- front of the segment.
-abbrev pub source_fault : Counts → ℤ → Place → Option Error
-source_fault counts id_before p =
-    (if is_id_below p.source_id counts.sources then None else Some (BadSourceReference (nat_of id_before)))
-    orelse range_fault p.src_line
-    orelse range_fault p.src_col
+-- Below, `reached` is the place that the segments before this one reach, and `here` is its own.
+
+-- The fault of the source id, source line and source column. The error of a bad source id holds the source id before it.
+abbrev pub source_fault : Counts → Place → Place → Option Error
+source_fault counts reached here =
+    (if is_id_below here.source_id counts.sources then None else Some (BadSourceReference (nat_of reached.source_id)))
+    orelse range_fault here.src_line
+    orelse range_fault here.src_col
 
 -- the fault of the name id
 abbrev pub name_fault : Counts → Place → Option Error
-name_fault counts p = if is_id_below p.name_id counts.names then None else Some (BadNameReference (low_bits p.name_id))
+name_fault counts here =
+    if is_id_below here.name_id counts.names then None else Some (BadNameReference (low_bits here.name_id))
 
--- The first fault of a segment of this size but for its digits; `id_before` is the source id before this segment.
-unfoldable pub place_fault : Counts → ℤ → ℕ → Place → Option Error
-place_fault counts id_before size p =
-    range_fault p.dst_col
+-- the first fault of a segment of this size, its digits aside: column, number of fields, source, name
+unfoldable pub place_fault : Counts → Place → ℕ → Place → Option Error
+place_fault counts reached size here =
+    range_fault here.dst_col
     orelse size_fault size
-    orelse (if has_source size then source_fault counts id_before p else None)
-    orelse (if has_name size then name_fault counts p else None)
+    orelse (if has_source size then source_fault counts reached here else None)
+    orelse (if has_name size then name_fault counts here else None)
 
 -- the first fault of a segment: of its digits, then of its place
-abbrev pub segment_fault : Counts → ℤ → Segment → Place → Option Error
-segment_fault counts id_before s p = digit_fault s orelse place_fault counts id_before (length s) p
+abbrev pub segment_fault : Counts → Place → Segment → Place → Option Error
+segment_fault counts reached s here = digit_fault s orelse place_fault counts reached (length s) here

@@ -12,7 +12,7 @@ pub record State : Type 0 where
   pub src_col : ℕ
   pub name_id : ℕ
 
--- the state that no token stands before
+-- the state before the first token
 abbrev pub initial : State
 initial = record { dst_line = 0; dst_col = 0; source_id = 0; src_line = 0; src_col = 0; name_id = 0 }
 

@@ -17,14 +17,16 @@ pub record AreWrittenIdsBelow (names sources : ℕ) (t : TokenRecord) : Type 0 w
   pub source_id : IfSome t.source_id (λ id. id < sources)
   pub name_id : IfSome (mapped_name t) (λ id. id < names)
 
--- Two lists have one text exactly where they are equal as far as texts tell.
+-- Two lists have the same text exactly if they are equal as written.
 abbrev pub CanonicalUnique : Type 0
-CanonicalUnique = (a b : List TokenRecord) → IsOrderedInBounds a → IsOrderedInBounds b → (canonical a ≡ canonical b) ↔ (as_written a ≡ as_written b)
+CanonicalUnique = (a b : List TokenRecord) → IsOrderedInBounds a → IsOrderedInBounds b
+    → (canonical a ≡ canonical b) ↔ (as_written a ≡ as_written b)
 
--- A written text reads, with counts above its ids, without fault, and as far as texts tell as the list that was written:
--- an unmapped token comes back with the source position that the sums have there.
+-- A written text reads, with counts above its ids, without fault, and as a list that is equal as written: an unmapped token
+-- comes back with the source position that the sums have there.
 abbrev pub ReadsBack : Type 0
-ReadsBack = (names sources : ℕ) (tokens : List TokenRecord) → IsOrderedInBounds tokens → AllByRecursion (AreWrittenIdsBelow names sources) tokens
+ReadsBack = (names sources : ℕ) (tokens : List TokenRecord)
+    → IsOrderedInBounds tokens → AllByRecursion (AreWrittenIdsBelow names sources) tokens
     → (reading (canonical tokens) names sources ≡ Ok (carried tokens)) × (as_written (carried tokens) ≡ as_written tokens)
 
 -- What a text reads as is in line order and in bounds, and written and read again it is the same.
@@ -34,4 +36,5 @@ ReadsAgain = (text : List ℕ) (names sources : ℕ) (tokens : List TokenRecord)
 
 -- Whatever chunks fit a list, their pieces in order are its text.
 abbrev pub InPieces : Type 0
-InPieces = (tokens : List TokenRecord) (chunks : List TokenChunk) → ChunksFit tokens chunks → flat_map (piece tokens) chunks ≡ canonical tokens
+InPieces = (tokens : List TokenRecord) (chunks : List TokenChunk) → ChunksFit tokens chunks
+    → flat_map (piece tokens) chunks ≡ canonical tokens

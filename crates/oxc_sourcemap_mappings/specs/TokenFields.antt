@@ -17,7 +17,14 @@ pub record FieldsFit (a : Inside) : Type 0 where
 
 -- what the stored fields say
 abbrev pub record_of : Inside → TokenRecord
-record_of a = record { dst_line = a.dst_line; dst_col = a.dst_col; src_line = a.src_line; src_col = a.src_col; source_id = id_of a.source_id; name_id = id_of a.name_id }
+record_of a = record {
+  dst_line = a.dst_line;
+  dst_col = a.dst_col;
+  src_line = a.src_line;
+  src_col = a.src_col;
+  source_id = id_of a.source_id;
+  name_id = id_of a.name_id;
+}
 
 -- A number that says an id. No two ids have the same one, so that equal fields say equal records.
 abbrev pub number_of : Option ℕ → ℕ
@@ -26,7 +33,14 @@ number_of (Some n) = if nat_lt n 4294967295 then n else n + 1
 
 -- the stored fields of a record
 abbrev pub fields_of : TokenRecord → Inside
-fields_of t = record { dst_line = t.dst_line; dst_col = t.dst_col; src_line = t.src_line; src_col = t.src_col; source_id = number_of t.source_id; name_id = number_of t.name_id }
+fields_of t = record {
+  dst_line = t.dst_line;
+  dst_col = t.dst_col;
+  src_line = t.src_line;
+  src_col = t.src_col;
+  source_id = number_of t.source_id;
+  name_id = number_of t.name_id;
+}
 
 number_of-id_of : (n : ℕ) → n < 4294967296 → number_of (id_of n) ≡ n
 number_of-id_of n h =

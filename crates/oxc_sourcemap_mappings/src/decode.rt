@@ -1,12 +1,15 @@
 //! Reading the `mappings` text.
 ghost use Rattle.std.specs.Box.{boxed_slice_items};
-ghost use Rattle.std.specs.Prelude.{◌≡◌, ◌≢◌, ◌⊎◌, ℕ, ◌+◌, ◌*◌, ◌%◌, ◌^◌, ◌<◌, ◌≤◌, length, List, ◌∷◌, [], drop, ℤ, pos, nat_abs, ◌+ℤ◌, set, true, false, min, is_some, IfSome, IfNone, OnOk, IfOk, IfErr, Option, Some, None, Result, Ok, Err};
+ghost use Rattle.std.specs.Prelude.{◌≡◌, ◌≢◌, ◌⊎◌, ℕ, ◌+◌, ◌*◌, ◌%◌, ◌^◌, ◌<◌, ◌≤◌, length, List, ◌∷◌, [], drop, ℤ, pos, nat_abs, ◌+ℤ◌};
+ghost use Rattle.std.specs.Prelude.{set, true, false, min, is_some, IfSome, IfNone, OnOk, IfOk, IfErr, Option, Some, None, Result, Ok, Err};
 ghost use Rattle.oxc_sourcemap_mappings.specs.declared.error.Error.TheVariants.{OutOfMemory, TooLarge};
 ghost use Rattle.oxc_sourcemap_mappings.specs.Number.{digit, payload, signed};
-ghost use Rattle.oxc_sourcemap_mappings.specs.Places.{place};
-ghost use Rattle.oxc_sourcemap_mappings.specs.Faults.{digit_fault, range_fault, is_id_below, low_bits, source_fault, place_fault, counts_of};
+ghost use Rattle.oxc_sourcemap_mappings.specs.Places.{nothing_before, place};
+ghost use Rattle.oxc_sourcemap_mappings.specs.Faults.{digit_fault, range_fault, is_id_below, low_bits};
+ghost use Rattle.oxc_sourcemap_mappings.specs.Faults.{source_fault, place_fault, counts_of};
 ghost use Rattle.oxc_sourcemap_mappings.specs.Reading.{token_at, segment_result, reading};
-ghost use Rattle.oxc_sourcemap_mappings.specs.Decoding.{ends_segment, front_digits, front_segment, is_over, IsNumberAt, marks, AreFieldsOf, AreSmall, value, place_of, source_moved, moved, moved_by};
+ghost use Rattle.oxc_sourcemap_mappings.specs.Decoding.{ends_segment, front_digits, front_segment, is_over, IsNumberAt, marks};
+ghost use Rattle.oxc_sourcemap_mappings.specs.Decoding.{AreFieldsOf, AreSmall, value, place_of, source_moved, moved, moved_by};
 
 use crate::error::{Error, Result};
 use crate::token::Token;
@@ -270,7 +273,7 @@ fn low_bits_of(id: u32, by: i64) -> u32
 impl Sums {
     /// The sums before the first segment.
     fn new() -> Self
-        ensures { place_of result ≡ place [] [] }
+        ensures { place_of result ≡ place nothing_before }
     {
         Self {
             dst_col: 0,
@@ -281,16 +284,16 @@ impl Sums {
         }
     }
 
-    /// Adds the fields of a segment to the source id, line and column. After an `Err` some of them are changed.
+    /// Adds the fields of a segment to the source id, line and column. After an `Err` some of them are moved.
     #[inline(always)]
     fn move_source(&mut self, fields: &Fields, names: usize, sources: usize) -> Result<()>
         requires small { AreSmall fields.now }
         ensures place { OnOk result (place_of self.new ≡ source_moved (place_of self.old) (value fields.now)) }
         ensures id { OnOk result (self.new.source_id < 4294967295) }
-        ensures clean { let place = source_moved (place_of self.old) (value fields.now) in
-            OnOk result (source_fault (counts_of names sources) (pos self.old.source_id) place ≡ None) }
-        ensures fault { let place = source_moved (place_of self.old) (value fields.now) in
-            IfErr result (λ e. source_fault (counts_of names sources) (pos self.old.source_id) place ≡ Some e) }
+        ensures clean { let here = source_moved (place_of self.old) (value fields.now) in
+            OnOk result (source_fault (counts_of names sources) (place_of self.old) here ≡ None) }
+        ensures fault { let here = source_moved (place_of self.old) (value fields.now) in
+            IfErr result (λ e. source_fault (counts_of names sources) (place_of self.old) here ≡ Some e) }
     {
         let Some(source_id) = moved_below(self.source_id, fields.values[1], sources) else {
             return Err(Error::BadSourceReference(self.source_id));
@@ -301,20 +304,20 @@ impl Sums {
         Ok(())
     }
 
-    /// The token of a segment, and the sums moved by it. After an `Err` they stand somewhere.
+    /// The token of a segment, and the sums moved by it. After an `Err` some of them are moved.
     #[tactic(auto, unfolding(crate::specs::Faults::place_fault))]
     #[inline(always)]
     fn step(&mut self, line: u32, fields: &Fields, names: usize, sources: usize) -> Result<Token>
         requires small { AreSmall fields.now }
-        ensures place { let place = moved (place_of self.old) fields.now.count (value fields.now) in
-            OnOk result (place_of self.new ≡ place) }
+        ensures place { let here = moved (place_of self.old) fields.now.count (value fields.now) in
+            OnOk result (place_of self.new ≡ here) }
         ensures token { IfOk result (λ t. t ≡ token_at line fields.now.count (place_of self.new)) }
-        ensures clean { let place = moved (place_of self.old) fields.now.count (value fields.now) in
+        ensures clean { let here = moved (place_of self.old) fields.now.count (value fields.now) in
             let counts = counts_of names sources in
-            OnOk result (place_fault counts (pos self.old.source_id) fields.now.count place ≡ None) }
-        ensures fault { let place = moved (place_of self.old) fields.now.count (value fields.now) in
+            OnOk result (place_fault counts (place_of self.old) fields.now.count here ≡ None) }
+        ensures fault { let here = moved (place_of self.old) fields.now.count (value fields.now) in
             let counts = counts_of names sources in
-            IfErr result (λ e. place_fault counts (pos self.old.source_id) fields.now.count place ≡ Some e) }
+            IfErr result (λ e. place_fault counts (place_of self.old) fields.now.count here ≡ Some e) }
     {
         self.dst_col = moved_within(self.dst_col, fields.values[0])?;
         match fields.count {
@@ -337,7 +340,7 @@ impl Sums {
     }
 
     /// The token of the segment at the front of a text and the number of its bytes, and the sums moved by it. After an
-    /// `Err` they stand somewhere.
+    /// `Err` some of them are moved.
     #[inline(always)]
     fn read_token(
         &mut self,
@@ -348,13 +351,13 @@ impl Sums {
     ) -> Result<(Token, usize)>
         ensures place { OnOk result (place_of self.new ≡ moved_by (place_of self.old) (front_segment text.now)) }
         ensures token { let s = front_segment text.now in
-            let place = moved_by (place_of self.old) s in
-            IfOk result (λ read. segment_result (counts_of names sources) line (pos self.old.source_id) s place ≡ Ok read.0) }
+            let here = moved_by (place_of self.old) s in
+            IfOk result (λ read. segment_result (counts_of names sources) line (place_of self.old) s here ≡ Ok read.0) }
         ensures len { IfOk result (λ read. read.1 ≡ length (front_digits text.now)) }
         ensures within { IfOk result (λ read. read.1 ≤ length text.now) }
         ensures fault { let s = front_segment text.now in
-            let place = moved_by (place_of self.old) s in
-            IfErr result (λ e. segment_result (counts_of names sources) line (pos self.old.source_id) s place ≡ Err e) }
+            let here = moved_by (place_of self.old) s in
+            IfErr result (λ e. segment_result (counts_of names sources) line (place_of self.old) s here ≡ Err e) }
     {
         let fields = read_segment(text)?;
         let token = self.step(line, &fields, names, sources)?;

@@ -1,11 +1,12 @@
 //! Writing the `mappings` text.
-ghost use Rattle.std.specs.Prelude.{◌≡◌, ◌≢◌, ◌↔◌, ℕ, ◌+◌, ◌-◌, ◌*◌, ◌/◌, ◌%◌, ◌^◌, ◌<◌, ◌≤◌, ◌++◌, List, ◌∷◌, [], length, replicate, string_bytes, OnOk, OnErr, IfErr, IfOk, Option, Some, None, IsNone, if◌then◌else◌, nat_lt, drop, take, flat_map, encode_utf8};
+ghost use Rattle.std.specs.Prelude.{◌≡◌, ◌≢◌, ◌↔◌, ℕ, ◌+◌, ◌-◌, ◌*◌, ◌/◌, ◌%◌, ◌^◌, ◌<◌, ◌≤◌, ◌++◌, ◌==◌, List, ◌∷◌, [], length, min, replicate, string_bytes, OnOk, OnErr, IfErr, IfOk, IsTrue, Option, Some, None, IsNone, Err, if◌then◌else◌, nat_lt, nat_le, drop, take, flat_map, encode_utf8};
+ghost use Rattle.oxc_sourcemap_mappings.specs.declared.error.Error.{Error};
 ghost use Rattle.oxc_sourcemap_mappings.specs.declared.error.Error.TheVariants.{OutOfMemory};
 ghost use Rattle.oxc_sourcemap_mappings.specs.Token.{AreInBounds, last_line};
 ghost use Rattle.oxc_sourcemap_mappings.specs.State.{initial, state_at};
-ghost use Rattle.oxc_sourcemap_mappings.specs.Canonical.{letter, vlq_text, raw_delta, delta_text, separator, column_text, source_text, name_text, token_text, canonical, first_out_of_order, back_from, Extends};
+ghost use Rattle.oxc_sourcemap_mappings.specs.Canonical.{letter, vlq_text, raw_delta, delta_text, canonical, first_out_of_order, back_from, Extends};
 ghost use Rattle.oxc_sourcemap_mappings.specs.Chunks.{header, chunk_tokens, piece, piece_fault, chunk_from, is_same_state, first_misfit, ChunksFit, writing_fault, lent_chunks};
-ghost use Rattle.oxc_sourcemap_mappings.specs.Encoding.{state_of, advanced, advanced_all, text_from, OnlyAdds};
+ghost use Rattle.oxc_sourcemap_mappings.specs.Encoding.{state_of, advanced, advanced_all, text_from, OnlyAdds, line_marks, marks_of, column_from, fields_text, raw_at, first_letter, second_letter, rank_of, offset_of, deltas_text, AreSingle};
 ghost use Rattle.std.specs.List.{AllByRecursion};
 
 use crate::error::{Error, Result};
@@ -98,71 +99,315 @@ fn is_header_of(chunk: &TokenChunk, previous: &Previous) -> bool
         && chunk.prev_name_id == previous.name_id
 }
 
-/// The character of a digit in the base64 alphabet.
-#[tactic(auto, unfolding(crate::specs::Canonical::letter))]
-fn letter_of(digit: u8) -> char
+/// How many bytes of the text are gathered before they are appended to it.
+const BLOCK: usize = 1024;
+
+/// The characters of the digits in the base64 alphabet.
+static LETTERS: [u8; 64] = *b"ABCDEFGHIJKLMNOPQRSTUVWXYZabcdefghijklmnopqrstuvwxyz0123456789+/";
+
+/// The character of a digit.
+#[inline(always)]
+fn letter_of(digit: u8) -> u8
     requires { digit < 64 }
-    ensures value { result ≡ letter digit }
-    ensures ascii { result < 128 }
+    ensures { result ≡ letter digit }
 {
-    match digit {
-        0..=25 => (digit + b'A') as char,
-        26..=51 => (digit - 26 + b'a') as char,
-        52..=61 => (digit - 52 + b'0') as char,
-        62 => '+',
-        _ => '/',
+    LETTERS[digit as usize]
+}
+
+/// The first characters of the deltas from -127 to 127.
+static NEAR_FIRST: [u8; 255] = *b"\
+    /97531zxvtrpnljh/97531zxvtrpnljh/97531zxvtrpnljh/97531zxvtrpnljh\
+    /97531zxvtrpnljh/97531zxvtrpnljh/97531zxvtrpnljhfdbZXVTRPNLJHFDA\
+    CEGIKMOQSUWYacegikmoqsuwy02468+gikmoqsuwy02468+gikmoqsuwy02468+g\
+    ikmoqsuwy02468+gikmoqsuwy02468+gikmoqsuwy02468+gikmoqsuwy02468+";
+
+/// Their second characters. That of a delta of one character has no meaning.
+static NEAR_SECOND: [u8; 255] = *b"\
+    HHHHHHHHHHHHHHHHGGGGGGGGGGGGGGGGFFFFFFFFFFFFFFFFEEEEEEEEEEEEEEEE\
+    DDDDDDDDDDDDDDDDCCCCCCCCCCCCCCCCBBBBBBBBBBBBBBBBAAAAAAAAAAAAAAAA\
+    AAAAAAAAAAAAAAABBBBBBBBBBBBBBBBCCCCCCCCCCCCCCCCDDDDDDDDDDDDDDDDE\
+    EEEEEEEEEEEEEEEFFFFFFFFFFFFFFFFGGGGGGGGGGGGGGGGHHHHHHHHHHHHHHHH";
+
+/// The first character of the delta that lies so far above -127.
+#[inline(always)]
+fn first_of(rank: u64) -> u8
+    requires { rank < 255 }
+    ensures { result ≡ first_letter rank }
+{
+    NEAR_FIRST[rank as usize]
+}
+
+/// The second character of that delta, if it has two.
+fn second_of(rank: u64) -> u8
+    requires { rank < 255 }
+    ensures { result ≡ second_letter rank }
+{
+    NEAR_SECOND[rank as usize]
+}
+
+/// Whether it has two.
+fn has_second(rank: u64) -> bool
+    requires { rank < 255 }
+    ensures { result ≡ nat_le 32 (raw_at rank) }
+{
+    rank < 112 || rank > 142
+}
+
+// A call `place_` writes into `buf` from index `at` on, and answers the index after what it wrote. What stands from there
+// on has no meaning.
+
+/// Places the delta that lies so far above -127.
+#[inline(always)]
+fn place_near(buf: &mut [u8], at: usize, rank: u64) -> usize
+    requires room { at + 2 ≤ length buf.old }
+    requires near { rank < 255 }
+    ensures bytes { take result buf.new ≡ take at buf.old ++ vlq_text (raw_at rank) }
+    ensures kept { take at buf.new ≡ take at buf.old }
+    ensures within { result ≤ at + 2 }
+{
+    buf[at] = first_of(rank);
+    buf[at + 1] = second_of(rank);
+    at + 1 + usize::from(has_second(rank))
+}
+
+/// Places a raw number, lowest digit first.
+fn place_digits(buf: &mut [u8], at: usize, raw: u64) -> usize
+    requires room { at + 7 ≤ length buf.old }
+    requires small { raw < 2 ^ 33 }
+    ensures bytes { take result buf.new ≡ take at buf.old ++ vlq_text raw }
+    ensures kept { take at buf.new ≡ take at buf.old }
+    ensures within { result ≤ at + 7 }
+{
+    let mut rest = raw;
+    let mut end = at;
+    while rest >= 32 {
+        buf[end] = letter_of((rest % 32) as u8 + 32);
+        rest /= 32;
+        end += 1;
     }
+    buf[end] = letter_of(rest as u8);
+    end + 1
+}
+
+/// The raw number of the delta `to - from`.
+fn raw_of(to: u32, from: u32) -> u64
+    ensures value { result ≡ raw_delta to from }
+    ensures small { result < 2 ^ 33 }
+{
+    u64::from(to.abs_diff(from)) * 2 + u64::from(to < from)
+}
+
+/// The delta `to - from`.
+#[derive(Clone, Copy, Drop)]
+struct Delta {
+    to: u32,
+    from: u32,
+}
+
+impl Delta {
+    fn new(to: u32, from: u32) -> Self
+        ensures { result ≡ record { to = to; from = from } }
+    {
+        Self { to, from }
+    }
+
+    /// How far it lies above -127: below 255 for those up to 127, and for no others.
+    #[inline(always)]
+    fn rank(self) -> u64
+        ensures value { result ≡ rank_of self }
+        ensures near { result < 255 → raw_delta self.to self.from ≡ raw_at result }
+    {
+        (u64::from(self.to) + 127).wrapping_sub(u64::from(self.from))
+    }
+
+    /// How far it lies above -15: below 31 for those up to 15, which are single digits.
+    #[inline(always)]
+    fn offset(self) -> u64
+        ensures value { result ≡ offset_of self }
+        ensures single { result < 31 → raw_delta self.to self.from ≡ raw_at (result + 112) }
+    {
+        (u64::from(self.to) + 15).wrapping_sub(u64::from(self.from))
+    }
+
+    /// Its character, where it is a single digit.
+    #[inline(always)]
+    fn letter(self) -> u8
+        requires { offset_of self < 31 }
+        ensures value { result ≡ letter (raw_delta self.to self.from) }
+        ensures single { raw_delta self.to self.from < 32 }
+    {
+        first_of(self.offset() + 112)
+    }
+
+    /// Places it.
+    #[inline(always)]
+    fn place(self, buf: &mut [u8], at: usize) -> usize
+        requires room { at + 7 ≤ length buf.old }
+        ensures bytes { take result buf.new ≡ take at buf.old ++ delta_text self.to self.from }
+        ensures kept { take at buf.new ≡ take at buf.old }
+        ensures within { result ≤ at + 7 }
+    {
+        let rank = self.rank();
+        if rank < 255 {
+            place_near(buf, at, rank)
+        } else {
+            place_digits(buf, at, raw_of(self.to, self.from))
+        }
+    }
+}
+
+/// The deltas of a mapped token. That of the name is read only where there is one.
+#[derive(Drop)]
+struct Deltas {
+    dst_col: Delta,
+    source_id: Delta,
+    src_line: Delta,
+    src_col: Delta,
+    name_id: Delta,
+    has_name: bool,
+}
+
+impl Deltas {
+    /// Whether each is a single digit.
+    fn are_single(&self) -> bool
+        ensures { IsTrue result ↔ AreSingle self.now }
+    {
+        let source = self.source_id.offset().max(self.src_line.offset());
+        let columns = self.dst_col.offset().max(self.src_col.offset());
+        source.max(columns).max(self.name_id.offset()) < 31
+    }
+
+    /// Places four or five single digits at once.
+    fn place_single(&self, buf: &mut [u8], at: usize) -> usize
+        requires room { at + 35 ≤ length buf.old }
+        requires single { AreSingle self.now }
+        ensures bytes { take result buf.new ≡ take at buf.old ++ deltas_text self.now }
+        ensures within { result ≤ at + 35 }
+    {
+        let letters = [
+            self.dst_col.letter(),
+            self.source_id.letter(),
+            self.src_line.letter(),
+            self.src_col.letter(),
+            self.name_id.letter(),
+        ];
+        buf[at..at + 5].copy_from_slice(&letters);
+        at + 4 + usize::from(self.has_name)
+    }
+
+    /// Places them one after the other.
+    fn place_each(&self, buf: &mut [u8], at: usize) -> usize
+        requires room { at + 35 ≤ length buf.old }
+        ensures bytes { take result buf.new ≡ take at buf.old ++ deltas_text self.now }
+        ensures within { result ≤ at + 35 }
+    {
+        let at = self.dst_col.place(buf, at);
+        let at = self.source_id.place(buf, at);
+        let at = self.src_line.place(buf, at);
+        let at = self.src_col.place(buf, at);
+        let end = self.name_id.place(buf, at);
+        if self.has_name { end } else { at }
+    }
+}
+
+/// Places the fields of a token, whose generated column is written from `column`.
+fn place_fields(buf: &mut [u8], at: usize, column: u32, previous: &Previous, token: &Token) -> usize
+    requires room { at + 35 ≤ length buf.old }
+    ensures bytes { take result buf.new ≡ take at buf.old ++ fields_text column (state_of previous.now) token.now }
+    ensures within { result ≤ at + 35 }
+{
+    let dst_col = Delta::new(token.get_dst_col(), column);
+    let Some(source_id) = token.get_source_id() else {
+        return dst_col.place(buf, at);
+    };
+    let name_id = token.get_name_id();
+    let deltas = Deltas {
+        dst_col,
+        source_id: Delta::new(source_id, previous.source_id),
+        src_line: Delta::new(token.get_src_line(), previous.src_line),
+        src_col: Delta::new(token.get_src_col(), previous.src_col),
+        name_id: Delta::new(name_id.unwrap_or(previous.name_id), previous.name_id),
+        has_name: name_id.is_some(),
+    };
+    if deltas.are_single() {
+        deltas.place_single(buf, at)
+    } else {
+        deltas.place_each(buf, at)
+    }
+}
+
+/// The mark of a token so many lines below the one before it, and then `;`.
+fn marks_for(lines: u32) -> [u8; 8]
+    ensures { result ≡ marks_of lines }
+{
+    if lines == 0 {
+        *b",;;;;;;;"
+    } else {
+        *b";;;;;;;;"
+    }
+}
+
+/// How many of them part the two tokens.
+fn marks_len(is_first: bool, lines: u32) -> usize
+    ensures { result ≡ (if lines == 0 then (if is_first then 0 else 1) else lines) }
+{
+    if lines == 0 {
+        usize::from(!is_first)
+    } else {
+        lines as usize
+    }
+}
+
+/// Places what parts a token from the one before it, which lies so many lines further up.
+fn place_separator(buf: &mut [u8], at: usize, is_first: bool, lines: u32) -> usize
+    requires room { at + 8 ≤ length buf.old }
+    requires few { lines ≤ 8 }
+    ensures bytes { take result buf.new ≡ take at buf.old ++ line_marks is_first lines }
+    ensures within { result ≤ at + 8 }
+{
+    buf[at..at + 8].copy_from_slice(&marks_for(lines));
+    at + marks_len(is_first, lines)
+}
+
+/// Places a token that lies so many lines below the one before it, where all but so many lines are marked already.
+fn place_token(
+    buf: &mut [u8],
+    at: usize,
+    is_first: bool,
+    lines: u32,
+    previous: &Previous,
+    token: &Token,
+) -> usize
+    requires room { at + 43 ≤ length buf.old }
+    requires few { lines ≤ 8 }
+    requires same_line { (lines ≡ 0) ↔ (token.now.dst_line ≡ previous.now.dst_line) }
+    ensures bytes { let s = state_of previous.now in
+        take result buf.new ≡ take at buf.old ++ (line_marks is_first lines ++ fields_text (column_from s token.now) s token.now) }
+    ensures within { result ≤ at + 43 }
+{
+    let start = place_separator(buf, at, is_first, lines);
+    let column = if lines == 0 { previous.dst_col } else { 0 };
+    place_fields(buf, start, column, previous, token)
 }
 
 // After an `Err` of a call `push_`, a beginning of what it adds may stand in `out`, and nothing else has changed.
 
+/// Adds ASCII characters.
+fn push_bytes(out: &mut String, bytes: &[u8]) -> std::result::Result<(), AllocError>
+    requires { AllByRecursion (λ b. b < 128) bytes.now }
+    ensures ok { OnOk result (string_bytes out.new ≡ string_bytes out.old ++ bytes.now) }
+    ensures adds { OnlyAdds (string_bytes out.old) (string_bytes out.new) }
+{
+    out.push_str(std::str::from_utf8(bytes).unwrap())
+}
+
+/// Adds an ASCII character.
 fn push_ascii(out: &mut String, mark: char) -> std::result::Result<(), AllocError>
     requires { mark < 128 }
     ensures ok { OnOk result (string_bytes out.new ≡ string_bytes out.old ++ mark ∷ []) }
     ensures adds { OnlyAdds (string_bytes out.old) (string_bytes out.new) }
 {
     out.push(mark)
-}
-
-fn push_digit(out: &mut String, digit: u8) -> std::result::Result<(), AllocError>
-    requires { digit < 64 }
-    ensures ok { OnOk result (string_bytes out.new ≡ string_bytes out.old ++ letter digit ∷ []) }
-    ensures adds { OnlyAdds (string_bytes out.old) (string_bytes out.new) }
-{
-    push_ascii(out, letter_of(digit))
-}
-
-/// Adds a raw number, lowest digit first.
-fn push_vlq(out: &mut String, raw: u64) -> std::result::Result<(), AllocError>
-    ensures ok { OnOk result (string_bytes out.new ≡ string_bytes out.old ++ vlq_text raw) }
-    ensures adds { OnlyAdds (string_bytes out.old) (string_bytes out.new) }
-{
-    let mut rest = raw;
-    while rest >= 32 {
-        push_digit(out, (rest % 32) as u8 + 32)?;
-        rest /= 32;
-    }
-    push_digit(out, rest as u8)?;
-    Ok(())
-}
-
-/// The raw number of the delta `to - from`.
-fn raw_of(to: u32, from: u32) -> u64
-    ensures { result ≡ raw_delta to from }
-{
-    if to < from {
-        u64::from(from - to) * 2 + 1
-    } else {
-        u64::from(to - from) * 2
-    }
-}
-
-/// Adds the delta `to - from`.
-fn push_delta(out: &mut String, to: u32, from: u32) -> std::result::Result<(), AllocError>
-    ensures ok { OnOk result (string_bytes out.new ≡ string_bytes out.old ++ delta_text to from) }
-    ensures adds { OnlyAdds (string_bytes out.old) (string_bytes out.new) }
-{
-    push_vlq(out, raw_of(to, from))
 }
 
 /// Adds this many `;`.
@@ -176,96 +421,47 @@ fn push_semicolons(out: &mut String, count: u32) -> std::result::Result<(), Allo
     Ok(())
 }
 
-/// Adds what parts a token from the one before it.
-#[tactic(auto, unfolding(crate::specs::Canonical::separator))]
-fn push_separator(
+/// Adds the characters that are gathered, and of so many `;` all but 8. How many of these are left.
+#[cold]
+fn push_gathered(
     out: &mut String,
-    is_first: bool,
-    previous: &Previous,
-    token: &Token,
-) -> std::result::Result<(), AllocError>
-    requires { previous.now.dst_line ≤ token.now.dst_line }
-    ensures ok { OnOk result (string_bytes out.new ≡ string_bytes out.old ++ separator is_first (state_of previous.now) token.now) }
+    gathered: &[u8],
+    lines: u32,
+) -> std::result::Result<u32, AllocError>
+    requires { AllByRecursion (λ b. b < 128) gathered.now }
+    ensures ok { IfOk result (λ left. string_bytes out.new ≡ (string_bytes out.old ++ gathered.now) ++ replicate (lines - left) 59) }
+    ensures left { IfOk result (λ left. left ≡ min lines 8) }
     ensures adds { OnlyAdds (string_bytes out.old) (string_bytes out.new) }
 {
-    if token.get_dst_line() == previous.dst_line {
-        if !is_first {
-            push_ascii(out, ',')?;
-        }
-    } else {
-        push_semicolons(out, token.get_dst_line() - previous.dst_line)?;
+    push_bytes(out, gathered)?;
+    let left = lines.min(8);
+    push_semicolons(out, lines - left)?;
+    Ok(left)
+}
+
+/// Makes room in the buffer, the first `len` bytes of which are gathered, for a token so many lines further down. How many
+/// are gathered then, and how many of the lines are not yet marked.
+fn make_room(
+    out: &mut String,
+    buf: &[u8],
+    len: usize,
+    lines: u32,
+) -> std::result::Result<(usize, u32), AllocError>
+    requires within { len ≤ length buf.now }
+    requires plain { AllByRecursion (λ b. b < 128) (take len buf.now) }
+    ensures ok { IfOk result (λ r. string_bytes out.new ++ take r.0 buf.now ≡ (string_bytes out.old ++ take len buf.now) ++ replicate (lines - r.1) 59) }
+    ensures plain { IfOk result (λ r. AllByRecursion (λ b. b < 128) (take r.0 buf.now)) }
+    ensures room { IfOk result (λ r. r.0 ≤ 981) }
+    ensures few { IfOk result (λ r. r.1 ≤ 8) }
+    ensures fewer { IfOk result (λ r. r.1 ≤ lines) }
+    ensures same_line { IfOk result (λ r. r.1 ≡ 0 → lines ≡ 0) }
+    ensures adds { OnlyAdds (string_bytes out.old) (string_bytes out.new) }
+{
+    if len <= BLOCK - 43 && lines <= 8 {
+        return Ok((len, lines));
     }
-    Ok(())
-}
-
-/// Adds the generated column of a token.
-fn push_column(
-    out: &mut String,
-    previous: &Previous,
-    token: &Token,
-) -> std::result::Result<(), AllocError>
-    ensures ok { OnOk result (string_bytes out.new ≡ string_bytes out.old ++ column_text (state_of previous.now) token.now) }
-    ensures adds { OnlyAdds (string_bytes out.old) (string_bytes out.new) }
-{
-    let from = if token.get_dst_line() == previous.dst_line {
-        previous.dst_col
-    } else {
-        0
-    };
-    push_delta(out, token.get_dst_col(), from)
-}
-
-/// Adds the source position of a token, where it is mapped.
-fn push_source(
-    out: &mut String,
-    previous: &Previous,
-    token: &Token,
-) -> std::result::Result<(), AllocError>
-    ensures ok { OnOk result (string_bytes out.new ≡ string_bytes out.old ++ source_text (state_of previous.now) token.now) }
-    ensures adds { OnlyAdds (string_bytes out.old) (string_bytes out.new) }
-{
-    if let Some(source_id) = token.get_source_id() {
-        push_delta(out, source_id, previous.source_id)?;
-        push_delta(out, token.get_src_line(), previous.src_line)?;
-        push_delta(out, token.get_src_col(), previous.src_col)?;
-    }
-    Ok(())
-}
-
-/// Adds the name of a token, where it is mapped and has one.
-fn push_name(
-    out: &mut String,
-    previous: &Previous,
-    token: &Token,
-) -> std::result::Result<(), AllocError>
-    ensures ok { OnOk result (string_bytes out.new ≡ string_bytes out.old ++ name_text (state_of previous.now) token.now) }
-    ensures adds { OnlyAdds (string_bytes out.old) (string_bytes out.new) }
-{
-    if token.get_source_id().is_some() {
-        if let Some(name_id) = token.get_name_id() {
-            push_delta(out, name_id, previous.name_id)?;
-        }
-    }
-    Ok(())
-}
-
-/// Adds a token.
-#[tactic(auto, unfolding(crate::specs::Canonical::token_text))]
-fn push_token(
-    out: &mut String,
-    is_first: bool,
-    previous: &Previous,
-    token: &Token,
-) -> std::result::Result<(), AllocError>
-    requires { previous.now.dst_line ≤ token.now.dst_line }
-    ensures ok { OnOk result (string_bytes out.new ≡ string_bytes out.old ++ token_text is_first (state_of previous.now) token.now) }
-    ensures adds { OnlyAdds (string_bytes out.old) (string_bytes out.new) }
-{
-    push_separator(out, is_first, previous, token)?;
-    push_column(out, previous, token)?;
-    push_source(out, previous, token)?;
-    push_name(out, previous, token)?;
-    Ok(())
+    let left = push_gathered(out, &buf[..len], lines)?;
+    Ok((0, left))
 }
 
 /// Adds tokens in line order after a state.
@@ -279,14 +475,19 @@ fn push_tokens(
     ensures ok { OnOk result (string_bytes out.new ≡ string_bytes out.old ++ text_from at_start (state_of header) tokens.now) }
     ensures adds { OnlyAdds (string_bytes out.old) (string_bytes out.new) }
 {
+    out.reserve(tokens.len().saturating_mul(6))?;
+    let mut buf = [0u8; BLOCK];
+    let mut len: usize = 0;
     let mut previous = header;
     let mut is_first = at_start;
     for token in tokens {
-        push_token(out, is_first, &previous, token)?;
+        let lines = token.get_dst_line() - previous.dst_line;
+        let (at, left) = make_room(out, &buf, len, lines)?;
+        len = place_token(&mut buf, at, is_first, left, &previous, token);
         previous = previous.after(token);
         is_first = false;
     }
-    Ok(())
+    push_bytes(out, &buf[..len])
 }
 
 /// The index of the first token whose generated line is smaller than that of the token before. Before the first
@@ -387,7 +588,8 @@ pub fn next_chunk(tokens: &[Token], chunks: &[TokenChunk], end: u32) -> TokenChu
 
 /// Why a chunk is not written.
 fn fault_of_chunk(tokens: &[Token], chunk: &TokenChunk) -> Option<Error>
-    ensures { result ≡ piece_fault tokens.now chunk.now }
+    ensures fault { result ≡ piece_fault tokens.now chunk.now }
+    ensures in_bounds { result ≡ None → AreInBounds (chunk_tokens tokens.now chunk.now) }
 {
     if chunk.start > chunk.end || chunk.end as usize > tokens.len() {
         return Some(Error::BadChunks(0));
@@ -410,7 +612,11 @@ pub fn encode_chunk(tokens: &[Token], chunk: &TokenChunk, out: &mut String) -> R
     ensures text { OnOk result (string_bytes out.new ≡ string_bytes out.old ++ piece tokens.now chunk.now) }
     ensures clean { OnOk result (piece_fault tokens.now chunk.now ≡ None) }
     ensures fault { IfErr result (λ e. (e ≢ OutOfMemory) → piece_fault tokens.now chunk.now ≡ Some e) }
+    ensures reported { (e : Error) → piece_fault tokens.now chunk.now ≡ Some e → result ≡ Err e }
     ensures unchanged { OnErr result (string_bytes out.new ≡ string_bytes out.old) }
+
+    // True of every list of tokens, and stated here for callers that need it.
+    ensures in_bounds { OnOk result (AreInBounds (chunk_tokens tokens.now chunk.now)) }
 
     // What is added is ASCII. True of every piece, and stated here for callers that cut it off again.
     ensures ascii { Extends (string_bytes out.old) (string_bytes out.new) }
@@ -443,17 +649,15 @@ fn push_chunks(out: &mut String, tokens: &[Token], chunks: &[TokenChunk]) -> Res
 }
 
 /// Why tokens with these chunks are not written.
-fn fault_of(tokens: &[Token], chunks: Option<&[TokenChunk]>) -> Option<Error>
-    ensures fault { result ≡ writing_fault tokens.now (lent_chunks chunks.entry) }
+fn fault_of(tokens: &[Token], chunks: &[TokenChunk]) -> Option<Error>
+    ensures fault { result ≡ writing_fault tokens.now (Some chunks.now) }
     ensures in_bounds { result ≡ None → AreInBounds tokens.now }
 {
     if let Some(i) = line_order_fault(tokens) {
         return Some(Error::LineOrder(i));
     }
-    if let Some(chunks) = chunks {
-        if let Some(k) = chunk_fault(tokens, chunks) {
-            return Some(Error::BadChunks(k));
-        }
+    if let Some(k) = chunk_fault(tokens, chunks) {
+        return Some(Error::BadChunks(k));
     }
     if tokens.len() > 4294967295 {
         return Some(Error::TooLarge);
@@ -461,21 +665,53 @@ fn fault_of(tokens: &[Token], chunks: Option<&[TokenChunk]>) -> Option<Error>
     None
 }
 
-/// Adds the text of tokens that are written: in these chunks, or in one of them all. After an `Err` a beginning of it may
-/// stand in `out`.
-fn push_in_chunks(out: &mut String, tokens: &[Token], chunks: Option<&[TokenChunk]>) -> Result<()>
-    requires { writing_fault tokens.now (lent_chunks chunks) ≡ None }
-    ensures ok { OnOk result (string_bytes out.new ≡ string_bytes out.old ++ canonical tokens.now) }
-    ensures memory { IfErr result (λ e. e ≡ OutOfMemory) }
-    ensures adds { OnlyAdds (string_bytes out.old) (string_bytes out.new) }
+/// Appends the text of tokens in these chunks.
+fn encode_chunks(tokens: &[Token], chunks: &[TokenChunk], out: &mut String) -> Result<()>
+    ensures text { OnOk result (string_bytes out.new ≡ string_bytes out.old ++ canonical tokens.now) }
+    ensures clean { OnOk result (writing_fault tokens.now (Some chunks.now) ≡ None) }
+    ensures fault { IfErr result (λ e. (e ≢ OutOfMemory) → writing_fault tokens.now (Some chunks.now) ≡ Some e) }
+    ensures reported { (e : Error) → writing_fault tokens.now (Some chunks.now) ≡ Some e → result ≡ Err e }
+    ensures in_bounds { OnOk result (AreInBounds tokens.now) }
+    ensures unchanged { OnErr result (string_bytes out.new ≡ string_bytes out.old) }
 {
-    match chunks {
-        Some(chunks) => push_chunks(out, tokens, chunks),
-        None => {
-            let whole = next_chunk(&[], &[], tokens.len() as u32);
-            push_chunks(out, tokens, &[whole])
+    if let Some(fault) = fault_of(tokens, chunks) {
+        return Err(fault);
+    }
+    let start = out.len();
+    match push_chunks(out, tokens, chunks) {
+        Ok(()) => Ok(()),
+        Err(refused) => {
+            out.truncate(start);
+            Err(refused)
         }
     }
+}
+
+/// Why more tokens than can be counted are not written.
+fn fault_of_long(tokens: &[Token]) -> Error
+    requires { 4294967295 < length tokens.now }
+    ensures { writing_fault tokens.now None ≡ Some result }
+{
+    match line_order_fault(tokens) {
+        Some(i) => Error::LineOrder(i),
+        None => Error::TooLarge,
+    }
+}
+
+/// Appends the text of tokens without chunks, in one chunk of them all: their line order is tested there.
+fn encode_whole(tokens: &[Token], out: &mut String) -> Result<()>
+    ensures text { OnOk result (string_bytes out.new ≡ string_bytes out.old ++ canonical tokens.now) }
+    ensures clean { OnOk result (writing_fault tokens.now None ≡ None) }
+    ensures fault { IfErr result (λ e. (e ≢ OutOfMemory) → writing_fault tokens.now None ≡ Some e) }
+    ensures reported { (e : Error) → writing_fault tokens.now None ≡ Some e → result ≡ Err e }
+    ensures in_bounds { OnOk result (AreInBounds tokens.now) }
+    ensures unchanged { OnErr result (string_bytes out.new ≡ string_bytes out.old) }
+{
+    if tokens.len() >= 4294967296 {
+        return Err(fault_of_long(tokens));
+    }
+    let whole = next_chunk(&[], &[], tokens.len() as u32);
+    encode_chunk(tokens, &whole, out)
 }
 
 /// Appends the canonical `mappings` text of the tokens to `out` (docs/FORMAT.md, "Writing"; ECMA-426, "Mappings
@@ -497,6 +733,7 @@ pub fn encode_mappings(
     ensures text { OnOk result (string_bytes out.new ≡ string_bytes out.old ++ canonical tokens.now) }
     ensures clean { OnOk result (writing_fault tokens.now (lent_chunks chunks.entry) ≡ None) }
     ensures fault { IfErr result (λ e. (e ≢ OutOfMemory) → writing_fault tokens.now (lent_chunks chunks.entry) ≡ Some e) }
+    ensures reported { (e : Error) → writing_fault tokens.now (lent_chunks chunks.entry) ≡ Some e → result ≡ Err e }
 
     // True of every list of tokens, and stated here for callers that need it.
     ensures in_bounds { OnOk result (AreInBounds tokens.now) }
@@ -504,15 +741,8 @@ pub fn encode_mappings(
         OnOk result (length (string_bytes out.new) ≤ length (string_bytes out.old) + most) }
     ensures unchanged { OnErr result (string_bytes out.new ≡ string_bytes out.old) }
 {
-    if let Some(fault) = fault_of(tokens, chunks) {
-        return Err(fault);
-    }
-    let start = out.len();
-    match push_in_chunks(out, tokens, chunks) {
-        Ok(()) => Ok(()),
-        Err(refused) => {
-            out.truncate(start);
-            Err(refused)
-        }
+    match chunks {
+        Some(chunks) => encode_chunks(tokens, chunks, out),
+        None => encode_whole(tokens, out),
     }
 }

@@ -7,7 +7,7 @@ ghost use Rattle.oxc_sourcemap_mappings.specs.declared.error.Error.TheVariants.{
 use std::alloc::{AllocError, AllocFailed};
 use std::fmt;
 
-/// The error of a call of this library. Lines, columns, ids and indices count from 0. (docs/FORMAT.md, "Refusals", has the
+/// The error of a call of this library. Lines, columns, ids and indices count from 0. (docs/FORMAT.md, "Error messages", has the
 /// messages that `Display` prints.)
 #[derive(Clone, Copy, Debug, PartialEq, Eq)]
 pub enum Error {
@@ -28,9 +28,9 @@ pub enum Error {
     BadSourceReference(u32),
     /// A name id is out of range. These are its low 32 bits.
     BadNameReference(u32),
-    /// Memory was refused.
+    /// An allocation failed.
     OutOfMemory,
-    /// A line or a count is above 4294967295, or an id above 4294967294.
+    /// A line, a column of a join or a count is above 4294967295, or an id above 4294967294.
     TooLarge,
     /// The index of the first token whose generated line is smaller than that of the token before it; for the first token
     /// of a chunk that is written by itself (`encode_chunk`), smaller than the line in the header of the chunk.

@@ -1,8 +1,8 @@
 //! The `mappings` text of a source map of version 3 (ECMA-426, "Mappings structure"): read into tokens, and written from
 //! them, with the tokens, chunks and refusals that it speaks of.
 //!
-//! This is the lowest crate of the port of `oxc_sourcemap`. Users name the crate `oxc_sourcemap`, which hands on what is
-//! meant for them.
+//! This is the lowest crate of the port of `oxc_sourcemap`. Users name the crate `oxc_sourcemap`, which re-exports what
+//! is meant for them.
 #![tactic(auto)]
 
 mod decode;

@@ -1,4 +1,5 @@
--- What a map means: texts in place of ids (the Decoded Source Map Record of ECMA-426).
+-- What a map means: strings in place of ids, after the Decoded Source Map Record of ECMA-426. Unlike there, sources are as
+-- listed and not resolved, the ignore list is one of indices, and a name belongs to an original position.
 use Rattle.std.specs.Prelude.{ℕ, List, [], ◌∷◌, map, slice_get, Option, None}
 use Rattle.std.specs.Option.{option_map, option_and_then}
 use Rattle.oxc_sourcemap_mappings.specs.Token.{TokenRecord}
@@ -29,7 +30,7 @@ mapping_line e = e.dst_line
 abbrev pub mapping_column : DecodedMapping → ℕ
 mapping_column e = e.dst_col
 
--- the decoded map of a map
+-- what a map means
 pub record DecodedMap : Type 0 where
   pub file : Option Text
   pub source_root : Option Text

@@ -3,11 +3,11 @@ use Rattle.std.specs.Prelude.{ℕ, List, Option}
 use Rattle.oxc_sourcemap_mappings.specs.declared.token.TokenChunk.{TokenChunk}
 use Rattle.oxc_sourcemap_mappings.specs.Token.{TokenRecord}
 
--- a text, as its bytes
+-- a string, as its bytes
 abbrev pub Text : Type 0
 Text = List ℕ
 
--- A map: its nine fields, as texts, lists and options.
+-- A map: its nine fields, as strings, lists and options.
 pub record MapRecord : Type 0 where
   pub file : Option Text
   pub names : List Text

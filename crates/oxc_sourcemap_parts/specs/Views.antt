@@ -1,4 +1,4 @@
--- How stored texts, lists and parts are seen.
+-- How stored strings, lists and parts are seen.
 use Rattle.std.specs.Prelude.{ℕ, List, [], Option, None, map, option_map, Vec}
 use Rattle.std.specs.declared.alloc.Global.{Global}
 use Rattle.std.specs.declared.borrow.CowStr.{CowStr}
@@ -8,7 +8,7 @@ use Rattle.oxc_sourcemap_mappings.specs.declared.token.TokenChunk.{TokenChunk}
 use Rattle.oxc_sourcemap_parts.specs.Record.{MapRecord, Text}
 use Rattle.oxc_sourcemap_parts.specs.declared.parts.SourceMapParts.{SourceMapParts}
 
--- texts that may be there
+-- a string, if there is one
 abbrev pub text_of : Option (CowStr Global) → Option Text
 text_of text = option_map cow_str_bytes text
 
@@ -20,11 +20,11 @@ texts_of texts = map cow_str_bytes texts.items
 abbrev pub contents_of : Vec (Option (CowStr Global)) Global → List (Option Text)
 contents_of contents = map (option_map cow_str_bytes) contents.items
 
--- chunks that may be there
+-- chunks, if there are any
 abbrev pub chunks_of : Option (Vec TokenChunk Global) → Option (List TokenChunk)
 chunks_of chunks = option_map (λ v. v.items) chunks
 
--- an ignore list that may be there
+-- an ignore list, if there is one
 abbrev pub ids_of : Option (Vec ℕ Global) → Option (List ℕ)
 ids_of list = option_map (λ v. v.items) list
 
@@ -42,7 +42,7 @@ record_of_parts p = record {
   debug_id = text_of p.debug_id;
 }
 
--- a map without anything
+-- a map with nothing in it
 abbrev pub empty_record : MapRecord
 empty_record = record {
   file = None;

@@ -2,7 +2,7 @@
 //! are sorted and sound.
 //!
 //! `SourceMap` is made of these parts. The crates that read, write and compose maps speak of parts, since they stand below
-//! it. Users name the crate `oxc_sourcemap`, which hands on what is meant for them: `SourceMapParts` and the iterators.
+//! it. Users name the crate `oxc_sourcemap`, which re-exports what is meant for them: `SourceMapParts` and the iterators.
 #![tactic(auto)]
 
 mod iterators;

@@ -1,4 +1,4 @@
-//! Texts of a map: borrowed, copied, cloned, and detached from what they borrow.
+//! The strings of a map: copied, cloned, and detached from what they borrow.
 ghost use Rattle.std.specs.Prelude.{◌≡◌, List, map, option_map, IfOk};
 ghost use Rattle.std.specs.Iterator.{IsFinite, Drains};
 ghost use Rattle.std.specs.Cow.{cow_str_bytes};
@@ -26,7 +26,7 @@ pub fn stored_contents<'a>(
     Ok(copies)
 }
 
-/// A clone of a text that may be there. A borrowed string stays borrowed.
+/// A clone of a string, if there is one. A borrowed string stays borrowed.
 pub fn cloned_text<'a>(
     text: &Option<CowStr<'a>>,
 ) -> std::result::Result<Option<CowStr<'a>>, AllocError>
@@ -38,7 +38,7 @@ pub fn cloned_text<'a>(
     }
 }
 
-/// Clones of texts.
+/// Clones of strings.
 pub fn cloned_texts<'a>(
     alloc: Global,
     texts: &[CowStr<'a>],
@@ -66,7 +66,7 @@ pub fn cloned_contents<'a>(
     Ok(clones)
 }
 
-/// A clone of chunks that may be there.
+/// A clone of chunks, if there are any.
 pub fn cloned_chunks(
     alloc: Global,
     chunks: &Option<Vec<TokenChunk>>,
@@ -79,7 +79,7 @@ pub fn cloned_chunks(
     }
 }
 
-/// A clone of an ignore list that may be there.
+/// A clone of an ignore list, if there is one.
 pub fn cloned_ids(
     alloc: Global,
     list: &Option<Vec<u32>>,
@@ -92,7 +92,7 @@ pub fn cloned_ids(
     }
 }
 
-/// A text that borrows nothing: an owned one is moved, a borrowed one copied.
+/// The same string, borrowing nothing: an owned one is moved, a borrowed one copied.
 pub fn detached_text(
     alloc: Global,
     text: Option<CowStr<'_>>,
@@ -105,7 +105,7 @@ pub fn detached_text(
     }
 }
 
-/// Texts that borrow nothing.
+/// The same strings, borrowing nothing.
 pub fn detached_texts(
     alloc: Global,
     texts: Vec<CowStr<'_>>,
@@ -119,7 +119,7 @@ pub fn detached_texts(
     Ok(detached)
 }
 
-/// Contents that borrow nothing.
+/// The same contents, borrowing nothing.
 pub fn detached_contents(
     alloc: Global,
     contents: Vec<Option<CowStr<'_>>>,
@@ -133,7 +133,7 @@ pub fn detached_contents(
     Ok(detached)
 }
 
-/// Copies of the texts that an iterator gives.
+/// Copies of the strings of an iterator.
 pub fn stored_texts<'a, S: AsStr, I: Iterator<Item = S>>(
     alloc: Global,
     texts: I,

@@ -1,8 +1,9 @@
 -- The parts of a join, as far as they have come.
-use Rattle.std.proofs.Common.{◌≡◌, ℕ, ◌+◌, ◌<◌, List, [], ◌∷◌, ◌++◌, length, take, drop, get_or, refl, sym, ap, ◌∙◌, subst, Result, Ok, Err}
+use Rattle.std.proofs.Common.{◌≡◌, ℕ, ◌+◌, ◌<◌, List, [], ◌∷◌, ◌++◌, map, length, take, drop, get_or, refl, sym, ap, ◌∙◌, subst, Result, Ok, Err}
 use Rattle.std.specs.Result.{IfErr, IsErrAnd}
 use Rattle.std.proofs.lemmas.List.{take_more, drop_more, take-append-drop, map-append}
 use Rattle.oxc_sourcemap_parts.specs.Record.{MapRecord}
+use Rattle.oxc_sourcemap_join.specs.Joined.{Offset, at_line}
 use Rattle.oxc_sourcemap_plan.specs.declared.plan.Plan.{Plan}
 use Rattle.oxc_sourcemap_plan.specs.declared.plan.PlanError.{PlanError}
 use Rattle.oxc_sourcemap_plan.specs.Outcome.{outcome_of, join_outcome}
@@ -16,16 +17,34 @@ from_err (Ok x) P Q h f = tt
 from_err (Err e) P Q h f = f e h
 
 -- one part more
-one_more : (ms : List (MapRecord × ℕ)) (ps : List (Plan × ℕ)) (m : MapRecord) (p : Plan × ℕ) → AllRealize ms (outcomes ps) → Realizes m (outcome_of p.0) → AllRealize (ms ++ (m, p.1) ∷ []) (outcomes (ps ++ p ∷ []))
-one_more [] [] m p h g = ((g, refl), tt)
-one_more [] (q ∷ ps) m p h g = absurd h
-one_more (n ∷ ms) [] m p h g = absurd h
-one_more (n ∷ ms) (q ∷ ps) m p h g = (h.0, one_more ms ps m p h.1 g)
+one_more : (ms : List (MapRecord × Offset)) (ps : List (Plan × Offset)) (m : MapRecord × Offset) (p : Plan × Offset) → AllRealize ms (outcomes ps) → Realizes m.0 (outcome_of p.0) → m.1 ≡ p.1 → AllRealize (ms ++ m ∷ []) (outcomes (ps ++ p ∷ []))
+one_more [] [] m p h g e = ((g, e), tt)
+one_more [] (q ∷ ps) m p h g e = absurd h
+one_more (n ∷ ms) [] m p h g e = absurd h
+one_more (n ∷ ms) (q ∷ ps) m p h g e = (h.0, one_more ms ps m p h.1 g e)
 
-pub more_given : (ms : List (MapRecord × ℕ)) (ps : List (Plan × ℕ)) (i : ℕ) (m : MapRecord) (p : Plan × ℕ) → i < length ps → p ≡ get_or ps i p → AllRealize ms (outcomes (take i ps)) → Realizes m (outcome_of p.0) → AllRealize (ms ++ (m, p.1) ∷ []) (outcomes (take (i + 1) ps))
-more_given ms ps i m p l e h g = subst (λ qs. AllRealize (ms ++ (m, p.1) ∷ []) (outcomes qs)) (ap (λ q. take i ps ++ q ∷ []) e ∙ sym (take_more ps i p l)) (one_more ms (take i ps) m p h g)
+-- maps and parts as they are stored, and the offset of each
+module _ {A B : Type 0} (map_at : B → MapRecord × Offset) (part_at : A → Plan × Offset) where
+  pub more_given : (ms : List B) (ps : List A) (i : ℕ) (m : B) (p : A) → i < length ps → p ≡ get_or ps i p → AllRealize (map map_at ms) (outcomes (map part_at (take i ps)))
+      → Realizes (map_at m).0 (outcome_of (part_at p).0) → (map_at m).1 ≡ (part_at p).1 → AllRealize (map map_at (ms ++ m ∷ [])) (outcomes (map part_at (take (i + 1) ps)))
+  more_given ms ps i m p l e h g o =
+      let next : take (i + 1) ps ≡ take i ps ++ p ∷ [] = take_more ps i p l ∙ ap (λ q. take i ps ++ q ∷ []) (sym e) in
+      let parts : map part_at (take (i + 1) ps) ≡ map part_at (take i ps) ++ part_at p ∷ [] = ap (map part_at) next ∙ map-append part_at (take i ps) (p ∷ []) in
+      subst (λ xs. AllRealize xs (outcomes (map part_at (take (i + 1) ps)))) (sym (map-append map_at ms (m ∷ [])))
+      (subst (λ qs. AllRealize (map map_at ms ++ map_at m ∷ []) (outcomes qs)) (sym parts) (one_more (map map_at ms) (map part_at (take i ps)) (map_at m) (part_at p) h g o))
 
-pub part_refused : (ms : List (MapRecord × ℕ)) (ps : List (Plan × ℕ)) (i : ℕ) (p : Plan × ℕ) (e : PlanError) → i < length ps → p ≡ get_or ps i p → AllRealize ms (outcomes (take i ps)) → FailsAs e (outcome_of p.0) → FailsAs e (join_outcome (outcomes ps))
-part_refused ms ps i p e l q h r =
-    let s : ps ≡ take i ps ++ p ∷ drop (i + 1) ps = sym (take-append-drop i ps) ∙ ap (λ xs. take i ps ++ xs) (drop_more ps i p l ∙ ap (λ x. x ∷ drop (i + 1) ps) (sym q)) in
-    part_refuses ms (outcomes (take i ps)) (outcomes (drop (i + 1) ps)) (outcome_of p.0) p.1 e h r (outcomes ps) (ap outcomes s ∙ map-append (λ (p : Plan × ℕ). (outcome_of p.0, p.1)) (take i ps) (p ∷ drop (i + 1) ps))
+  pub part_refused : (ms : List B) (ps : List A) (i : ℕ) (p : A) (e : PlanError) → i < length ps → p ≡ get_or ps i p → AllRealize (map map_at ms) (outcomes (map part_at (take i ps)))
+      → FailsAs e (outcome_of (part_at p).0) → FailsAs e (join_outcome (outcomes (map part_at ps)))
+  part_refused ms ps i p e l q h r =
+      let s : ps ≡ take i ps ++ p ∷ drop (i + 1) ps = sym (take-append-drop i ps) ∙ ap (λ xs. take i ps ++ xs) (drop_more ps i p l ∙ ap (λ x. x ∷ drop (i + 1) ps) (sym q)) in
+      let t : map part_at ps ≡ map part_at (take i ps) ++ part_at p ∷ map part_at (drop (i + 1) ps) = ap (map part_at) s ∙ map-append part_at (take i ps) (p ∷ drop (i + 1) ps) in
+      part_refuses (map map_at ms) (outcomes (map part_at (take i ps))) (outcomes (map part_at (drop (i + 1) ps))) (outcome_of (part_at p).0) (part_at p).1 e h r (outcomes (map part_at ps))
+      (ap outcomes t ∙ map-append (λ (p : Plan × Offset). (outcome_of p.0, p.1)) (map part_at (take i ps)) (part_at p ∷ map part_at (drop (i + 1) ps)))
+
+-- parts of a join at lines
+abbrev pub at_its_line : {A : Type 0} → A × ℕ → A × Offset
+at_its_line item = (item.0, at_line item.1)
+
+-- parts of a join at lines and columns
+abbrev pub at_its_position : {A : Type 0} → A × ℕ × ℕ → A × Offset
+at_its_position item = (item.0, record { line = item.1; column = item.2 })

@@ -1,26 +1,62 @@
 -- Depth and outcome of plans, by cases.
-use Rattle.std.proofs.Common.{◌≡◌, ℕ, List, map, ◌+◌, Vec, Box, ap, sym, ◌∙◌}
+use Rattle.std.proofs.Common.{◌≡◌, ℕ, List, [], ◌∷◌, ◌++◌, map, ◌+◌, Vec, Box, refl, ap, sym, ◌∙◌}
 use Rattle.std.specs.declared.alloc.Global.{Global}
 use Rattle.std.specs.Borrow.{Bor}
 use Rattle.oxc_sourcemap_json.specs.ReadMap.{read_map}
+use Rattle.oxc_sourcemap_join.specs.Joined.{Offset, at_line, at_lines, at_positions}
 use Rattle.oxc_sourcemap_plan.specs.declared.plan.Plan.{Plan}
-use Rattle.oxc_sourcemap_plan.specs.declared.plan.Plan.TheVariants.{Read, rolls-Read, Rewrite, rolls-Rewrite, Join, rolls-Join, Compose, rolls-Compose}
+use Rattle.oxc_sourcemap_plan.specs.declared.plan.Plan.TheVariants.{Read, rolls-Read, Rewrite, rolls-Rewrite, Join, rolls-Join, JoinAt, rolls-JoinAt, Compose, rolls-Compose}
 use Rattle.oxc_sourcemap_plan.specs.declared.plan.Plan.TheOpen.{Plan-F}
 use Rattle.oxc_sourcemap_plan.specs.declared.plan.Plan.TheFolds.{fold-roll-Plan}
 use Rattle.oxc_sourcemap_plan.specs.Depth.{depth, depth_step, deepest}
 use Rattle.oxc_sourcemap_plan.specs.Outcome.{Outcome, outcome_of, outcome_step, read_outcome, rewrite_outcome, join_outcome, composition_outcome}
 
-pub depth_join : (parts : Vec (Plan × ℕ) Global) → depth (Join parts) ≡ deepest (map (λ p. (depth p.0, p.1)) parts.items) + 1
-depth_join parts = ap depth (sym (rolls-Join parts)) ∙ fold-roll-Plan ℕ depth_step (Plan-F.Join parts)
+firsts : {A B C : Type 0} (f : A → C) (parts : List (A × B)) → map (λ (p : C × B). p.0) (map (λ (p : A × B). (f p.0, p.1)) parts) ≡ map (λ p. f p.0) parts
+firsts f [] = refl
+firsts f (p ∷ parts) = ap (λ xs. f p.0 ∷ xs) (firsts f parts)
 
-abbrev pub outcomes : List (Plan × ℕ) → List (Outcome × ℕ)
+firsts-of-three : {A B C : Type 0} (f : A → C) (parts : List (A × B × B)) → map (λ (p : C × B × B). p.0) (map (λ (p : A × B × B). (f p.0, p.1, p.2)) parts) ≡ map (λ p. f p.0) parts
+firsts-of-three f [] = refl
+firsts-of-three f (p ∷ parts) = ap (λ xs. f p.0 ∷ xs) (firsts-of-three f parts)
+
+pub depth_join : (parts : Vec (Plan × ℕ) Global) → depth (Join parts) ≡ deepest (map (λ p. depth p.0) parts.items) + 1
+depth_join parts = ap depth (sym (rolls-Join parts)) ∙ fold-roll-Plan ℕ depth_step (Plan-F.Join parts) ∙ ap (λ ds. deepest ds + 1) (firsts depth parts.items)
+
+pub depth_join_at : (parts : Vec (Plan × ℕ × ℕ) Global) → depth (JoinAt parts) ≡ deepest (map (λ p. depth p.0) parts.items) + 1
+depth_join_at parts = ap depth (sym (rolls-JoinAt parts)) ∙ fold-roll-Plan ℕ depth_step (Plan-F.JoinAt parts) ∙ ap (λ ds. deepest ds + 1) (firsts-of-three depth parts.items)
+
+-- the outcomes of the parts of a join, each at its offset
+abbrev pub outcomes : List (Plan × Offset) → List (Outcome × Offset)
 outcomes parts = map (λ p. (outcome_of p.0, p.1)) parts
 
-pub outcome_join : (parts : Vec (Plan × ℕ) Global) → outcome_of (Join parts) ≡ join_outcome (outcomes parts.items)
-outcome_join parts = ap outcome_of (sym (rolls-Join parts)) ∙ fold-roll-Plan Outcome outcome_step (Plan-F.Join parts)
+outcomes-at_lines : (parts : List (Plan × ℕ)) → at_lines (map (λ p. (outcome_of p.0, p.1)) parts) ≡ outcomes (at_lines parts)
+outcomes-at_lines [] = refl
+outcomes-at_lines (p ∷ parts) = ap (λ xs. (outcome_of p.0, at_line p.1) ∷ xs) (outcomes-at_lines parts)
 
-pub outcome_parts : (plan : Plan) (parts : Vec (Plan × ℕ) Global) (items : List (Plan × ℕ)) → plan ≡ Join parts → items ≡ parts.items → outcome_of plan ≡ join_outcome (outcomes items)
-outcome_parts plan parts items e f = ap outcome_of e ∙ outcome_join parts ∙ ap (λ xs. join_outcome (outcomes xs)) (sym f)
+-- one part more
+pub outcomes-lines-pushed : (parts : List (Plan × ℕ)) (p : Plan × ℕ) → outcomes (at_lines (parts ++ p ∷ [])) ≡ outcomes (at_lines parts) ++ (outcome_of p.0, at_line p.1) ∷ []
+outcomes-lines-pushed [] p = refl
+outcomes-lines-pushed (q ∷ parts) p = ap (λ xs. (outcome_of q.0, at_line q.1) ∷ xs) (outcomes-lines-pushed parts p)
+
+pub outcomes-positions-pushed : (parts : List (Plan × ℕ × ℕ)) (p : Plan × ℕ × ℕ) → outcomes (at_positions (parts ++ p ∷ [])) ≡ outcomes (at_positions parts) ++ (outcome_of p.0, record { line = p.1; column = p.2 }) ∷ []
+outcomes-positions-pushed [] p = refl
+outcomes-positions-pushed (q ∷ parts) p = ap (λ xs. (outcome_of q.0, record { line = q.1; column = q.2 }) ∷ xs) (outcomes-positions-pushed parts p)
+
+outcomes-at_positions : (parts : List (Plan × ℕ × ℕ)) → at_positions (map (λ p. (outcome_of p.0, p.1, p.2)) parts) ≡ outcomes (at_positions parts)
+outcomes-at_positions [] = refl
+outcomes-at_positions (p ∷ parts) = ap (λ xs. (outcome_of p.0, record { line = p.1; column = p.2 }) ∷ xs) (outcomes-at_positions parts)
+
+pub outcome_join : (parts : Vec (Plan × ℕ) Global) → outcome_of (Join parts) ≡ join_outcome (outcomes (at_lines parts.items))
+outcome_join parts = ap outcome_of (sym (rolls-Join parts)) ∙ fold-roll-Plan Outcome outcome_step (Plan-F.Join parts) ∙ ap join_outcome (outcomes-at_lines parts.items)
+
+pub outcome_join_at : (parts : Vec (Plan × ℕ × ℕ) Global) → outcome_of (JoinAt parts) ≡ join_outcome (outcomes (at_positions parts.items))
+outcome_join_at parts = ap outcome_of (sym (rolls-JoinAt parts)) ∙ fold-roll-Plan Outcome outcome_step (Plan-F.JoinAt parts) ∙ ap join_outcome (outcomes-at_positions parts.items)
+
+pub outcome_parts : (plan : Plan) (parts : Vec (Plan × ℕ) Global) (items : List (Plan × ℕ)) → plan ≡ Join parts → items ≡ parts.items → outcome_of plan ≡ join_outcome (outcomes (at_lines items))
+outcome_parts plan parts items e f = ap outcome_of e ∙ outcome_join parts ∙ ap (λ xs. join_outcome (outcomes (at_lines xs))) (sym f)
+
+pub outcome_parts_at : (plan : Plan) (parts : Vec (Plan × ℕ × ℕ) Global) (items : List (Plan × ℕ × ℕ)) → plan ≡ JoinAt parts → items ≡ parts.items → outcome_of plan ≡ join_outcome (outcomes (at_positions items))
+outcome_parts_at plan parts items e f = ap outcome_of e ∙ outcome_join_at parts ∙ ap (λ xs. join_outcome (outcomes (at_positions xs))) (sym f)
 
 pub outcome_compose : (p q : Box Plan Global) → outcome_of (Compose p q) ≡ composition_outcome (outcome_of p.value) (outcome_of q.value)
 outcome_compose p q = ap outcome_of (sym (rolls-Compose p q)) ∙ fold-roll-Plan Outcome outcome_step (Plan-F.Compose p q)

@@ -17,11 +17,11 @@ use Rattle.oxc_sourcemap_parts.specs.Sorted.{are_tokens_sorted}
 use Rattle.oxc_sourcemap_parts.specs.Sound.{IsInRange, IsSound}
 use Rattle.oxc_sourcemap_parts.specs.DecodedMap.{DecodedSource, DecodedMapping, DecodedMap, sources_of, mapping_of, decoded_map_of}
 use Rattle.oxc_sourcemap_json.specs.Decoded.{decoded}
-use Rattle.oxc_sourcemap_json.specs.Encoded.{encoded, encoded_record, encoded_unless, written_contents}
+use Rattle.oxc_sourcemap_json.specs.Encoded.{encoded, encoded_record, written_contents}
 use Rattle.oxc_sourcemap_mappings.specs.Chunks.{writing_fault}
 use Rattle.oxc_sourcemap_json.specs.ReadMap.{read_map}
 use Rattle.oxc_sourcemap_json.specs.MapLaws.{SoundIsWritten, SoundIsTooLarge, SoundReadsBack, SoundStaysSound, ReadIsInBounds, rewritten}
-use Rattle.oxc_sourcemap_join.specs.Joined.{is_same_token, without_repeat, shifted, added, added_all, nothing_joined, joined, AreEntriesInBounds, IsWithinLimits}
+use Rattle.oxc_sourcemap_join.specs.Joined.{Offset, is_same_token, without_repeat, shifted, added, added_all, nothing_joined, joined, AreEntriesInBounds, IsWithinLimits}
 use Rattle.oxc_sourcemap_join.proofs.Fitted.{length-fitted}
 use Rattle.oxc_sourcemap_lookup.specs.Lookup.{last}
 use Rattle.oxc_sourcemap_mappings.specs.Refusals.{unless}
@@ -35,7 +35,7 @@ use Rattle.oxc_sourcemap_laws.specs.ComposeLaws.{CompositionStandsFor, Compositi
 use Rattle.oxc_sourcemap_plan.specs.declared.plan.PlanError.{PlanError}
 use Rattle.oxc_sourcemap_plan.specs.declared.plan.PlanError.TheVariants.{Map, Unsorted}
 use Rattle.oxc_sourcemap_plan.specs.Meaning.{read_meaning, onto_decoded_maps, all_decoded_maps, join_meaning, composition_meaning}
-use Rattle.oxc_sourcemap_plan.specs.Limits.{are_counts_within_limits, are_lines_within_limits, is_part_within_limits, is_join_within_limits}
+use Rattle.oxc_sourcemap_plan.specs.Limits.{are_counts_within_limits, is_position_within_limits, are_positions_within_limits, is_part_within_limits, is_join_within_limits}
 use Rattle.oxc_sourcemap_plan.specs.Outcome.{Outcome, read_outcome, rewrite_outcome, meanings, names_of_all, all_records, joined_source_count, are_all_within_limits, join_outcome, composition_outcome}
 use Rattle.oxc_sourcemap_plan.specs.Evaluated.{is_among, are_among}
 use Rattle.oxc_sourcemap_plan.specs.Realizes.{Realizes, FailsAs, AllRealize}
@@ -120,7 +120,7 @@ err-same x y e = cc (e)
 no-ok-err : {A B : Type 0} (x : A) (y : Error) → ◌≡◌ {A = Result A Error} (Ok x) (Err y) → B
 no-ok-err x y e = absurd (cc (e))
 
-written-is : (o : Option Error) (r : MapRecord) (j : JsonRecord) → encoded_unless o r ≡ Ok j → encoded_record r ≡ j
+written-is : (o : Option Error) (r : MapRecord) (j : JsonRecord) → unless o (Ok (encoded_record r)) ≡ Ok j → encoded_record r ≡ j
 written-is None r j e = cc (e)
 written-is (Some fault) r j e = absurd (cc (e))
 
@@ -166,26 +166,25 @@ reading_refused back r j e w d o g =
 -- ---- a join
 -- what a move in a join leaves of a token in bounds
 record Stays (t : TokenRecord) : Type 0 where
-  dst_col : t.dst_col < 4294967296
   src_line : t.src_line < 4294967296
   src_col : t.src_col < 4294967296
 
 stays-of : (t : TokenRecord) → IsInBounds t → Stays t
-stays-of t b = record { dst_col = b.dst_col; src_line = b.src_line; src_col = b.src_col }
+stays-of t b = record { src_line = b.src_line; src_col = b.src_col }
 
-stays-shifted : (names sources offset : ℕ) (ts : List TokenRecord) → AllByRecursion Stays ts → AllByRecursion Stays (map (shifted names sources offset) ts)
+stays-shifted : (names sources : ℕ) (offset : Offset) (ts : List TokenRecord) → AllByRecursion Stays ts → AllByRecursion Stays (map (shifted names sources offset) ts)
 stays-shifted names sources offset [] h = tt
-stays-shifted names sources offset (t ∷ ts) h = (record { dst_col = h.0.dst_col; src_line = h.0.src_line; src_col = h.0.src_col }, stays-shifted names sources offset ts h.1)
+stays-shifted names sources offset (t ∷ ts) h = (record { src_line = h.0.src_line; src_col = h.0.src_col }, stays-shifted names sources offset ts h.1)
 
 stays-without : (o : Option TokenRecord) (ts : List TokenRecord) → AllByRecursion Stays ts → AllByRecursion Stays (without_repeat is_same_token o ts)
 stays-without None ts h = h
 stays-without (Some x) [] h = tt
 stays-without (Some x) (t ∷ ts) h = elim (is_same_token x t) as (λ b. AllByRecursion Stays (cond b ts (t ∷ ts))) [ true ↦ h.1 | false ↦ h ]
 
-AllStay : List (MapRecord × ℕ) → Type 0
+AllStay : List (MapRecord × Offset) → Type 0
 AllStay ms = AllByRecursion (λ m. AllByRecursion Stays m.0.tokens) ms
 
-stays-added : (r : MapRecord) (ms : List (MapRecord × ℕ)) → AllByRecursion Stays r.tokens → AllByRecursion (λ m. AllByRecursion Stays m.0.tokens) ms → AllByRecursion Stays (added_all r ms).tokens
+stays-added : (r : MapRecord) (ms : List (MapRecord × Offset)) → AllByRecursion Stays r.tokens → AllByRecursion (λ m. AllByRecursion Stays m.0.tokens) ms → AllByRecursion Stays (added_all r ms).tokens
 stays-added r [] h k = h
 stays-added r (m ∷ ms) h k =
     stays-added (added r m.0 m.1) ms
@@ -193,8 +192,8 @@ stays-added r (m ∷ ms) h k =
     k.1
 
 -- the decoded maps of parts that all give maps
-record Joint (ms : List (MapRecord × ℕ)) (os : List (Outcome × ℕ)) : Type 0 where
-  decoded_maps : List (DecodedMap × ℕ)
+record Joint (ms : List (MapRecord × Offset)) (os : List (Outcome × Offset)) : Type 0 where
+  decoded_maps : List (DecodedMap × Offset)
   mean : all_decoded_maps (meanings os) ≡ Ok decoded_maps
   stand : AllStandFor ms decoded_maps
   in_range : AreAllInRange ms
@@ -204,7 +203,7 @@ record Joint (ms : List (MapRecord × ℕ)) (os : List (Outcome × ℕ)) : Type 
   names : length (flat_map (λ m. m.0.names) ms) ≤ length (names_of_all os)
   known : are_among (names_of_all os) (flat_map (λ m. m.0.names) ms) ≡ true
 
-joint : (ms : List (MapRecord × ℕ)) (os : List (Outcome × ℕ)) → AllRealize ms os → Joint ms os
+joint : (ms : List (MapRecord × Offset)) (os : List (Outcome × Offset)) → AllRealize ms os → Joint ms os
 joint [] [] h = record { decoded_maps = []; mean = refl; stand = h; in_range = tt; lists_in_range = tt; stay = tt; tokens = omega arith; names = omega arith; known = refl }
 joint [] (o ∷ os) h = absurd h
 joint (m ∷ ms) [] h = absurd h
@@ -229,30 +228,32 @@ joint (m ∷ ms) (o ∷ os) h =
       known = among-both (o.0.names ++ names_of_all os) m.0.names (flat_map (λ m. m.0.names) ms) (among-left o.0.names (names_of_all os) m.0.names g.known) (among-right o.0.names (names_of_all os) (flat_map (λ m. m.0.names) ms) j.known);
     }
 
-join-fits : (r : Bool) (names : List Text) (s : DecodedMap) → (r && (are_counts_within_limits names s && are_lines_within_limits s.mappings)) ≡ true → CountsFit names s × (are_lines_within_limits s.mappings ≡ true)
+join-fits : (r : Bool) (names : List Text) (s : DecodedMap) → (r && (are_counts_within_limits names s && are_positions_within_limits s.mappings)) ≡ true → CountsFit names s × (are_positions_within_limits s.mappings ≡ true)
 join-fits r names s e =
-    let p = and_parts r (are_counts_within_limits names s && are_lines_within_limits s.mappings) e in
-    let q = and_parts (are_counts_within_limits names s) (are_lines_within_limits s.mappings) p.1 in
+    let p = and_parts r (are_counts_within_limits names s && are_positions_within_limits s.mappings) e in
+    let q = and_parts (are_counts_within_limits names s) (are_positions_within_limits s.mappings) p.1 in
     (counts-fit names s q.0, q.1)
 
 -- that joins are within the limits, by the decoded maps of their parts
-room-of : (ms : List (MapRecord × ℕ)) (os : List (Outcome × ℕ)) (j : Joint ms os) → (join_outcome os).is_within_limits ≡ true → CountsFit (names_of_all os) (joined_decoded_maps j.decoded_maps) × (are_lines_within_limits (joined_decoded_maps j.decoded_maps).mappings ≡ true)
+room-of : (ms : List (MapRecord × Offset)) (os : List (Outcome × Offset)) (j : Joint ms os) → (join_outcome os).is_within_limits ≡ true → CountsFit (names_of_all os) (joined_decoded_maps j.decoded_maps) × (are_positions_within_limits (joined_decoded_maps j.decoded_maps).mappings ≡ true)
 room-of ms os j e = join-fits (are_all_within_limits os) (names_of_all os) (joined_decoded_maps j.decoded_maps) (ap (λ q. are_all_within_limits os && is_join_within_limits (names_of_all os) q) (sym j.mean) ∙ e)
 
-blind-lines : (front : List DecodedMapping) (e : DecodedMapping) (after : List DecodedMapping) → are_lines_within_limits (front ++ e ∷ e ∷ after) ≡ are_lines_within_limits (front ++ e ∷ after)
-blind-lines [] e xs = elim (nat_le e.dst_line 4294967295) as (λ b. (b && (b && are_lines_within_limits xs)) ≡ (b && are_lines_within_limits xs)) [ true ↦ refl | false ↦ refl ]
-blind-lines (p ∷ ps) e xs = ap (λ b. nat_le p.dst_line 4294967295 && b) (blind-lines ps e xs)
+blind-positions : (front : List DecodedMapping) (e : DecodedMapping) (after : List DecodedMapping) → are_positions_within_limits (front ++ e ∷ e ∷ after) ≡ are_positions_within_limits (front ++ e ∷ after)
+blind-positions [] e xs = elim (is_position_within_limits e) as (λ b. (b && (b && are_positions_within_limits xs)) ≡ (b && are_positions_within_limits xs)) [ true ↦ refl | false ↦ refl ]
+blind-positions (p ∷ ps) e xs = ap (λ b. is_position_within_limits p && b) (blind-positions ps e xs)
 
 id-below : (o : Option ℕ) (n : ℕ) → n ≤ 4294967295 → IfSome o (λ i. i < n) → IfSome o (λ i. i < 4294967295)
 id-below None n l h = tt
 id-below (Some i) n l h = omega arith
 
-in-bounds : (names sources : ℕ) (ss : List DecodedSource) (ns : List Text) (ts : List TokenRecord) → names ≤ 4294967295 → sources ≤ 4294967295 → are_lines_within_limits (map (mapping_of ss ns) ts) ≡ true → AllByRecursion (IsInRange names sources) ts → AllByRecursion Stays ts → AllByRecursion IsInBounds ts
+in-bounds : (names sources : ℕ) (ss : List DecodedSource) (ns : List Text) (ts : List TokenRecord) → names ≤ 4294967295 → sources ≤ 4294967295 → are_positions_within_limits (map (mapping_of ss ns) ts) ≡ true → AllByRecursion (IsInRange names sources) ts → AllByRecursion Stays ts → AllByRecursion IsInBounds ts
 in-bounds names sources ss ns [] a b e h k = tt
 in-bounds names sources ss ns (t ∷ ts) a b e h k =
-    let p = and_parts (nat_le t.dst_line 4294967295) (are_lines_within_limits (map (mapping_of ss ns) ts)) e in
-    let l = at_most t.dst_line p.0 in (
-      record { dst_line = omega arith; dst_col = k.0.dst_col; src_line = k.0.src_line; src_col = k.0.src_col; source_id = id-below t.source_id sources b h.0.source_id; name_id = id-below t.name_id names a h.0.name_id },
+    let p = and_parts (is_position_within_limits (mapping_of ss ns t)) (are_positions_within_limits (map (mapping_of ss ns) ts)) e in
+    let q = and_parts (nat_le t.dst_line 4294967295) (nat_le t.dst_col 4294967295) p.0 in
+    let l = at_most t.dst_line q.0 in
+    let c = at_most t.dst_col q.1 in (
+      record { dst_line = omega arith; dst_col = omega arith; src_line = k.0.src_line; src_col = k.0.src_col; source_id = id-below t.source_id sources b h.0.source_id; name_id = id-below t.name_id names a h.0.name_id },
       in-bounds names sources ss ns ts a b p.1 h.1 k.1,
     )
 
@@ -261,19 +262,19 @@ entries-below None n l h = tt
 entries-below (Some ids) n l h = All-from_recursion (λ id. id < 4294967295) ids (all-weaker (λ id. id < n) (λ id. id < 4294967295) (λ id b. omega arith) ids h)
 
 -- the decoded map of a join of maps that stand for decoded maps
-up_to_repeats-each : (ms : List (MapRecord × ℕ)) (ss : List (DecodedMap × ℕ)) → AllStandFor ms ss → AreEqualUpToRepeats (decoded_maps_of ms) ss
+up_to_repeats-each : (ms : List (MapRecord × Offset)) (ss : List (DecodedMap × Offset)) → AllStandFor ms ss → AreEqualUpToRepeats (decoded_maps_of ms) ss
 up_to_repeats-each [] [] h = h
 up_to_repeats-each [] (s ∷ ss) h = absurd h
 up_to_repeats-each (m ∷ ms) [] h = absurd h
 up_to_repeats-each (m ∷ ms) (s ∷ ss) h = ((h.0.0.up_to_repeats, h.0.1), up_to_repeats-each ms ss h.1)
 
 -- a join has one content for each source
-contents-added : (r : MapRecord) (ms : List (MapRecord × ℕ)) → length r.source_contents ≡ length r.sources → length (added_all r ms).source_contents ≡ length (added_all r ms).sources
+contents-added : (r : MapRecord) (ms : List (MapRecord × Offset)) → length r.source_contents ≡ length r.sources → length (added_all r ms).source_contents ≡ length (added_all r ms).sources
 contents-added r [] e = e
 contents-added r (m ∷ ms) e = contents-added (added r m.0 m.1) ms (length-fitted (length (r.sources ++ m.0.sources)) (r.source_contents ++ m.0.source_contents))
 
 -- the maps of parts that all give maps
-records-of : (ms : List (MapRecord × ℕ)) (os : List (Outcome × ℕ)) → AllRealize ms os → all_records os ≡ Some ms
+records-of : (ms : List (MapRecord × Offset)) (os : List (Outcome × Offset)) → AllRealize ms os → all_records os ≡ Some ms
 records-of [] [] h = refl
 records-of [] (o ∷ os) h = absurd h
 records-of (m ∷ ms) [] h = absurd h
@@ -295,7 +296,7 @@ pub record JoinLaws : Type 0 where
 pub join_laws : TestsAgree → JoinKeepsEqualUpToRepeats → DecodedMapOfJoin → JoinInRange → JoinStandsFor → JoinNames → JoinTokens → JoinLaws
 join_laws a b c d e f g = record { tests = a; keeps = b; decoded_map = c; range = d; stands = e; names = f; tokens = g }
 
-module _ (laws : JoinLaws) (ms : List (MapRecord × ℕ)) (os : List (Outcome × ℕ)) (h : AllRealize ms os) where
+module _ (laws : JoinLaws) (ms : List (MapRecord × Offset)) (os : List (Outcome × Offset)) (h : AllRealize ms os) where
   means-of : (join_outcome os).meaning ≡ join_meaning (Ok (joint ms os h).decoded_maps)
   means-of = ap join_meaning (joint ms os h).mean
 
@@ -335,7 +336,7 @@ module _ (laws : JoinLaws) (ms : List (MapRecord × ℕ)) (os : List (Outcome ×
       let al : EqualUpToRepeats (decoded_map_of (joined ms)) s = laws.decoded_map ms j.in_range ∙ laws.keeps (decoded_maps_of ms) j.decoded_maps (up_to_repeats-each ms j.decoded_maps j.stand) in
       let sources = same-sources (joined ms) s al in
       let names = ap length (laws.names ms) in
-      let lines : are_lines_within_limits (decoded_map_of (joined ms)).mappings ≡ true = laws.tests are_lines_within_limits blind-lines (decoded_map_of (joined ms)) s al ∙ room.1 in
+      let positions : are_positions_within_limits (decoded_map_of (joined ms)).mappings ≡ true = laws.tests are_positions_within_limits blind-positions (decoded_map_of (joined ms)) s al ∙ room.1 in
       let r = (laws.range ms).0 j.in_range in
       let stay = stays-added nothing_joined ms tt j.stay in
       let jt = j.tokens in let jn = j.names in let pt = laws.tokens ms in
@@ -347,7 +348,7 @@ module _ (laws : JoinLaws) (ms : List (MapRecord × ℕ)) (os : List (Outcome ×
         sources = bs;
         tokens = omega arith;
         in_bounds = All-from_recursion IsInBounds (joined ms).tokens
-            (in-bounds (length (joined ms).names) (length (joined ms).sources) (sources_of (joined ms).sources (joined ms).source_contents) (joined ms).names (joined ms).tokens bn bs lines r stay);
+            (in-bounds (length (joined ms).names) (length (joined ms).sources) (sources_of (joined ms).sources (joined ms).source_contents) (joined ms).names (joined ms).tokens bn bs positions r stay);
         ignore_list = entries-below (joined ms).ignore_list (length (joined ms).sources) bs ((laws.range ms).1 j.lists_in_range);
       }
 
@@ -358,19 +359,19 @@ module _ (laws : JoinLaws) (ms : List (MapRecord × ℕ)) (os : List (Outcome ×
   ]
 
 -- ---- a part of a join that is refused
-decoded_maps-refused : (ms : List (MapRecord × ℕ)) (os ps : List (Outcome × ℕ)) (o : Outcome) (n : ℕ) (e : PlanError) → AllRealize ms os → o.meaning ≡ Err e → all_decoded_maps (meanings (os ++ (o, n) ∷ ps)) ≡ Err e
+decoded_maps-refused : (ms : List (MapRecord × Offset)) (os ps : List (Outcome × Offset)) (o : Outcome) (n : Offset) (e : PlanError) → AllRealize ms os → o.meaning ≡ Err e → all_decoded_maps (meanings (os ++ (o, n) ∷ ps)) ≡ Err e
 decoded_maps-refused [] [] ps o n e h q = ap (λ r. onto_decoded_maps r n (all_decoded_maps (meanings ps))) q
 decoded_maps-refused [] (p ∷ os) ps o n e h q = absurd h
 decoded_maps-refused (m ∷ ms) [] ps o n e h q = absurd h
 decoded_maps-refused (m ∷ ms) (p ∷ os) ps o n e h q = ap (λ r. onto_decoded_maps r p.1 (all_decoded_maps (meanings (os ++ (o, n) ∷ ps)))) h.0.0.means ∙ ap (onto_decoded_maps (Ok h.0.0.decoded_map) p.1) (decoded_maps-refused ms os ps o n e h.1 q)
 
-no-room-part : (os ps : List (Outcome × ℕ)) (o : Outcome) (n : ℕ) → o.is_within_limits ≡ false → are_all_within_limits (os ++ (o, n) ∷ ps) ≡ false
+no-room-part : (os ps : List (Outcome × Offset)) (o : Outcome) (n : Offset) → o.is_within_limits ≡ false → are_all_within_limits (os ++ (o, n) ∷ ps) ≡ false
 no-room-part [] ps o n q = and_left _ _ q
 no-room-part (p ∷ os) ps o n q = and_right _ _ (no-room-part os ps o n q)
 
-pub part_refuses : (ms : List (MapRecord × ℕ)) (os ps : List (Outcome × ℕ)) (o : Outcome) (n : ℕ) (e : PlanError) → AllRealize ms os → FailsAs e o → (all : List (Outcome × ℕ)) → all ≡ os ++ (o, n) ∷ ps → FailsAs e (join_outcome all)
+pub part_refuses : (ms : List (MapRecord × Offset)) (os ps : List (Outcome × Offset)) (o : Outcome) (n : Offset) (e : PlanError) → AllRealize ms os → FailsAs e o → (all : List (Outcome × Offset)) → all ≡ os ++ (o, n) ∷ ps → FailsAs e (join_outcome all)
 part_refuses ms os ps o n e h r all q =
-    subst (λ (xs : List (Outcome × ℕ)). FailsAs e (join_outcome xs)) (sym q) (elim r [
+    subst (λ (xs : List (Outcome × Offset)). FailsAs e (join_outcome xs)) (sym q) (elim r [
       | inl m ↦ inl m
       | inr t ↦ elim t [
         | inl k ↦ inr (inl (ap join_meaning (decoded_maps-refused ms os ps o n e h k)))

@@ -7,6 +7,7 @@ use Rattle.oxc_sourcemap_parts.specs.Record.{Text, MapRecord}
 use Rattle.oxc_sourcemap_parts.specs.Views.{empty_record}
 use Rattle.oxc_sourcemap_parts.specs.DecodedMap.{DecodedMapping}
 use Rattle.oxc_sourcemap_plan.specs.declared.plan.PlanError.TheVariants.{Map, Unsorted}
+use Rattle.oxc_sourcemap_join.specs.Joined.{Offset, at_lines}
 use Rattle.oxc_sourcemap_plan.specs.Meaning.{Meaning}
 use Rattle.oxc_sourcemap_plan.specs.Outcome.{Outcome, read_outcome, rewrite_outcome, join_outcome, composition_outcome}
 
@@ -43,35 +44,57 @@ first_map = plain [] (codes "a.js" ∷ []) (token 0 0 5 3 (Some 0) None ∷ toke
 abbrev second_map : MapRecord
 second_map = plain [] (codes "b.js" ∷ []) (token 0 0 7 1 (Some 0) None ∷ [])
 
+-- the outcome of a join of parts that each begin a line
+abbrev lines_outcome : List (Outcome × ℕ) → Outcome
+lines_outcome parts = join_outcome (at_lines parts)
+
 -- join 2 @0 0 @1 1
-joins-two : entries_of (join_outcome ((of_map first_map, 0) ∷ (of_map second_map, 1) ∷ [])).meaning
+joins-two : entries_of (lines_outcome ((of_map first_map, 0) ∷ (of_map second_map, 1) ∷ [])).meaning
     ≡ points 0 0 (codes "a.js") 5 3 None ∷ unmapped 0 4 ∷ points 1 0 (codes "b.js") 7 1 None ∷ []
 joins-two = refl
 
 -- join 2 @0 0 join 1 @1 1 0
-joins-grouped : (join_outcome ((of_map first_map, 0) ∷ (join_outcome ((of_map second_map, 1) ∷ []), 0) ∷ [])).meaning
-    ≡ (join_outcome ((of_map first_map, 0) ∷ (of_map second_map, 1) ∷ [])).meaning
+joins-grouped : (lines_outcome ((of_map first_map, 0) ∷ (lines_outcome ((of_map second_map, 1) ∷ []), 0) ∷ [])).meaning
+    ≡ (lines_outcome ((of_map first_map, 0) ∷ (of_map second_map, 1) ∷ [])).meaning
 joins-grouped = refl
 
 -- rewrite join 2 @0 0 @1 1
-rewrites-a-join : (rewrite_outcome (join_outcome ((of_map first_map, 0) ∷ (of_map second_map, 1) ∷ []))).meaning
-    ≡ (join_outcome ((of_map first_map, 0) ∷ (of_map second_map, 1) ∷ [])).meaning
+rewrites-a-join : (rewrite_outcome (lines_outcome ((of_map first_map, 0) ∷ (of_map second_map, 1) ∷ []))).meaning
+    ≡ (lines_outcome ((of_map first_map, 0) ∷ (of_map second_map, 1) ∷ [])).meaning
 rewrites-a-join = refl
 
 -- the second map at a line before the first
-joins-unsorted : (join_outcome ((of_map first_map, 1) ∷ (of_map second_map, 0) ∷ [])).meaning ≡ Err Unsorted
+joins-unsorted : (lines_outcome ((of_map first_map, 1) ∷ (of_map second_map, 0) ∷ [])).meaning ≡ Err Unsorted
 joins-unsorted = refl
 
 -- a map on line 1 at the last line, and a text that is no JSON: the text's fault, and nothing is counted
-bad-part-first : (join_outcome ((of_map (plain [] [] (token 1 0 0 0 None None ∷ [])), 4294967295) ∷ (read_outcome (Err (BadJson Reading)), 0) ∷ [])).meaning ≡ Err (Map (BadJson Reading))
+bad-part-first : (lines_outcome ((of_map (plain [] [] (token 1 0 0 0 None None ∷ [])), 4294967295) ∷ (read_outcome (Err (BadJson Reading)), 0) ∷ [])).meaning ≡ Err (Map (BadJson Reading))
 bad-part-first = refl
 
-bad-part-counts-nothing : (join_outcome ((of_map (plain [] [] (token 1 0 0 0 None None ∷ [])), 4294967295) ∷ (read_outcome (Err (BadJson Reading)), 0) ∷ [])).is_within_limits ≡ true
+bad-part-counts-nothing : (lines_outcome ((of_map (plain [] [] (token 1 0 0 0 None None ∷ [])), 4294967295) ∷ (read_outcome (Err (BadJson Reading)), 0) ∷ [])).is_within_limits ≡ true
 bad-part-counts-nothing = refl
 
 -- without that text there is no room
-no-room : (join_outcome ((of_map (plain [] [] (token 1 0 0 0 None None ∷ [])), 4294967295) ∷ [])).is_within_limits ≡ false
+no-room : (lines_outcome ((of_map (plain [] [] (token 1 0 0 0 None None ∷ [])), 4294967295) ∷ [])).is_within_limits ≡ false
 no-room = refl
+
+-- joinat 2 @0 0 0 @1 0 10, of a map at columns 0 and 4, and one of two lines
+abbrev side_by_side : ℕ → Outcome
+side_by_side column = join_outcome (
+    (of_map (plain [] (codes "a.js" ∷ []) (token 0 0 0 0 (Some 0) None ∷ token 0 4 0 4 (Some 0) None ∷ [])), record { line = 0; column = 0 })
+    ∷ (of_map (plain [] (codes "b.js" ∷ []) (token 0 0 0 0 (Some 0) None ∷ token 1 0 1 0 (Some 0) None ∷ [])), record { line = 0; column = column })
+    ∷ [])
+
+joins-at-a-column : entries_of (side_by_side 10).meaning
+    ≡ points 0 0 (codes "a.js") 0 0 None ∷ points 0 4 (codes "a.js") 0 4 None ∷ points 0 10 (codes "b.js") 0 0 None ∷ points 1 0 (codes "b.js") 1 0 None ∷ []
+joins-at-a-column = refl
+
+joins-at-a-column-unsorted : (side_by_side 3).meaning ≡ Err Unsorted
+joins-at-a-column-unsorted = refl
+
+-- a column past the last one
+no-room-for-a-column : (join_outcome ((of_map (plain [] [] (token 0 1 0 0 None None ∷ [])), record { line = 0; column = 4294967295 }) ∷ [])).is_within_limits ≡ false
+no-room-for-a-column = refl
 
 -- compose @0 @1
 composes : entries_of (composition_outcome

@@ -48,7 +48,7 @@ pub record IsEvaluated (m : MapRecord) (o : Outcome) : Type 0 where
   pub tokens : length m.tokens ≤ length decoded_map.mappings
   pub names : length m.names ≤ length o.names
   pub contents : length m.source_contents ≤ o.contents
-  -- each name is one of the texts
+  -- each name is a name of one of the texts
   pub known : are_among o.names m.names ≡ true
   -- after a rewriting, its text reads as its very tokens
   pub rewritten : o.is_rewritten ≡ true → IsReadBack m

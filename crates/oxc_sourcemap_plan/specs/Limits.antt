@@ -1,8 +1,9 @@
--- Whether counts and lines stay within the limits of a map.
+-- Whether counts, lines and columns stay within the limits of a map.
 use Rattle.std.specs.Prelude.{ℕ, Bool, true, ◌&&◌, List, length, Result, Ok, Err, nat_le}
 use Rattle.std.specs.List.{list_all}
 use Rattle.oxc_sourcemap_parts.specs.Record.{Text}
 use Rattle.oxc_sourcemap_parts.specs.DecodedMap.{DecodedMapping, DecodedMap}
+use Rattle.oxc_sourcemap_join.specs.Joined.{Offset}
 use Rattle.oxc_sourcemap_laws.specs.JoinedDecodedMaps.{joined_decoded_maps}
 use Rattle.oxc_sourcemap_plan.specs.declared.plan.PlanError.{PlanError}
 use Rattle.oxc_sourcemap_plan.specs.Meaning.{Meaning}
@@ -11,9 +12,13 @@ use Rattle.oxc_sourcemap_plan.specs.Meaning.{Meaning}
 abbrev pub are_counts_within_limits : List Text → DecodedMap → Bool
 are_counts_within_limits names s = nat_le (length names) 4294967295 && (nat_le (length s.sources) 4294967295 && nat_le (length s.mappings) 4294967295)
 
--- no mapping's line is above 4294967295
-abbrev pub are_lines_within_limits : List DecodedMapping → Bool
-are_lines_within_limits mappings = list_all (λ e. nat_le e.dst_line 4294967295) mappings
+-- a mapping's line and column are at most 4294967295
+abbrev pub is_position_within_limits : DecodedMapping → Bool
+is_position_within_limits e = nat_le e.dst_line 4294967295 && nat_le e.dst_col 4294967295
+
+-- those of all mappings are
+abbrev pub are_positions_within_limits : List DecodedMapping → Bool
+are_positions_within_limits mappings = list_all is_position_within_limits mappings
 
 -- a part with these names and this meaning; what is refused counts nothing
 abbrev pub is_part_within_limits : List Text → Meaning → Bool
@@ -21,6 +26,7 @@ is_part_within_limits names (Err e) = true
 is_part_within_limits names (Ok s) = are_counts_within_limits names s
 
 -- a join with these names, of these decoded maps; it counts also where it is not sorted
-abbrev pub is_join_within_limits : List Text → Result (List (DecodedMap × ℕ)) PlanError → Bool
+abbrev pub is_join_within_limits : List Text → Result (List (DecodedMap × Offset)) PlanError → Bool
 is_join_within_limits names (Err e) = true
-is_join_within_limits names (Ok decoded_maps) = are_counts_within_limits names (joined_decoded_maps decoded_maps) && are_lines_within_limits (joined_decoded_maps decoded_maps).mappings
+is_join_within_limits names (Ok decoded_maps) =
+    are_counts_within_limits names (joined_decoded_maps decoded_maps) && are_positions_within_limits (joined_decoded_maps decoded_maps).mappings

@@ -1,10 +1,11 @@
 -- What plans mean: a decoded map, or one refusal. Here by what their parts mean; `Outcome` has the cases.
-use Rattle.std.specs.Prelude.{ℕ, List, [], ◌∷◌, length, Result, Ok, Err, if◌then◌else◌, nat_lt}
+use Rattle.std.specs.Prelude.{List, [], ◌∷◌, length, Result, Ok, Err, if◌then◌else◌, nat_lt}
 use Rattle.oxc_sourcemap_mappings.specs.declared.error.Error.{Error}
 use Rattle.oxc_sourcemap_mappings.specs.declared.error.Error.TheVariants.{SeveralSources}
 use Rattle.oxc_sourcemap_parts.specs.Record.{MapRecord}
 use Rattle.oxc_sourcemap_parts.specs.Sorted.{are_tokens_sorted}
 use Rattle.oxc_sourcemap_parts.specs.DecodedMap.{DecodedMap, decoded_map_of}
+use Rattle.oxc_sourcemap_join.specs.Joined.{Offset}
 use Rattle.oxc_sourcemap_laws.specs.Repeats.{is_sorted_decoded_map}
 use Rattle.oxc_sourcemap_laws.specs.JoinedDecodedMaps.{joined_decoded_maps}
 use Rattle.oxc_sourcemap_laws.specs.ComposedDecodedMaps.{composed_decoded_maps}
@@ -20,20 +21,22 @@ read_meaning (Err fault) = Err (Map fault)
 read_meaning (Ok r) = if are_tokens_sorted r.tokens then Ok (decoded_map_of r) else Err Unsorted
 
 -- a decoded map at its offset, before others; the first refusal stands
-abbrev pub onto_decoded_maps : Meaning → ℕ → Result (List (DecodedMap × ℕ)) PlanError → Result (List (DecodedMap × ℕ)) PlanError
+abbrev pub onto_decoded_maps : Meaning → Offset → Result (List (DecodedMap × Offset)) PlanError
+    → Result (List (DecodedMap × Offset)) PlanError
 onto_decoded_maps (Err e) offset others = Err e
 onto_decoded_maps (Ok s) offset (Err e) = Err e
 onto_decoded_maps (Ok s) offset (Ok others) = Ok ((s, offset) ∷ others)
 
 -- the decoded maps of all parts of a join, each at its offset, or the first refusal of a part
-abbrev pub all_decoded_maps : List (Meaning × ℕ) → Result (List (DecodedMap × ℕ)) PlanError
+abbrev pub all_decoded_maps : List (Meaning × Offset) → Result (List (DecodedMap × Offset)) PlanError
 all_decoded_maps [] = Ok []
 all_decoded_maps (part ∷ parts) = onto_decoded_maps part.0 part.1 (all_decoded_maps parts)
 
 -- A join of parts: the join of their decoded maps, where that is sorted.
-abbrev pub join_meaning : Result (List (DecodedMap × ℕ)) PlanError → Meaning
+abbrev pub join_meaning : Result (List (DecodedMap × Offset)) PlanError → Meaning
 join_meaning (Err e) = Err e
-join_meaning (Ok decoded_maps) = if is_sorted_decoded_map (joined_decoded_maps decoded_maps) then Ok (joined_decoded_maps decoded_maps) else Err Unsorted
+join_meaning (Ok decoded_maps) =
+    if is_sorted_decoded_map (joined_decoded_maps decoded_maps) then Ok (joined_decoded_maps decoded_maps) else Err Unsorted
 
 -- A composition of two parts: the composition of their decoded maps, where the first has at most one source.
 abbrev pub composition_meaning : Meaning → Meaning → Meaning

@@ -8,7 +8,7 @@ use Rattle.oxc_sourcemap_parts.specs.DecodedMap.{DecodedMap}
 use Rattle.oxc_sourcemap_json.specs.ReadMap.{read_map}
 use Rattle.oxc_sourcemap_json.specs.MapLaws.{rewritten}
 use Rattle.oxc_sourcemap_compose.specs.Composed.{composed}
-use Rattle.oxc_sourcemap_join.specs.Joined.{joined}
+use Rattle.oxc_sourcemap_join.specs.Joined.{Offset, at_lines, at_positions, joined}
 use Rattle.oxc_sourcemap_laws.specs.JoinedDecodedMaps.{joined_decoded_maps}
 use Rattle.oxc_sourcemap_plan.specs.declared.plan.Plan.{Plan}
 use Rattle.oxc_sourcemap_plan.specs.declared.plan.Plan.TheOpen.{Plan-F}
@@ -22,16 +22,16 @@ use Rattle.oxc_sourcemap_plan.specs.Limits.{is_part_within_limits, is_join_withi
 pub record Outcome : Type 0 where
   -- a decoded map, or the first error
   pub meaning : Meaning
-  -- the map in every field, errors of its parts and limits aside
+  -- the map that the steps make, sorted or not and within the limits or not; none if a text says no map
   pub map_record : Option MapRecord
   -- the names of all texts that are read
   pub names : List Text
   -- how many contents the map lists at most: as many as the text that is read, as a join has sources, as the second part of a
   -- composition
   pub contents : ℕ
-  -- At every part names, sources and mappings number at most 4294967295, and no line of a join is above that. A join counts
-  -- what all its parts have; a composition the names of both, the sources of the second and the mappings of the first. A part
-  -- that means an error counts nothing; but a join whose parts mean none counts, sorted or not.
+  -- At every part names, sources and mappings number at most 4294967295, and no line or column of a join is above that.
+  -- A join counts what all its parts have; a composition the names of both, the sources of the second and the mappings
+  -- of the first. A part that means an error counts nothing; but a join whose parts mean none counts, sorted or not.
   pub is_within_limits : Bool
   -- the last thing done is to write and read again
   pub is_rewritten : Bool
@@ -66,28 +66,28 @@ abbrev pub rewrite_outcome : Outcome → Outcome
 rewrite_outcome part = record part { map_record = option_map rewritten part.map_record; is_rewritten = true }
 
 -- what the parts of a join mean, each at its offset
-abbrev pub meanings : List (Outcome × ℕ) → List (Meaning × ℕ)
+abbrev pub meanings : List (Outcome × Offset) → List (Meaning × Offset)
 meanings parts = map (λ p. (p.0.meaning, p.1)) parts
 
 -- the maps of all parts of a join, each at its offset
-abbrev pub all_records : List (Outcome × ℕ) → Option (List (MapRecord × ℕ))
+abbrev pub all_records : List (Outcome × Offset) → Option (List (MapRecord × Offset))
 all_records [] = Some []
 all_records (p ∷ parts) = option_and_then (λ m. option_map (λ ms. (m, p.1) ∷ ms) (all_records parts)) p.0.map_record
 
 -- the names of all parts of a join, in order
-abbrev pub names_of_all : List (Outcome × ℕ) → List Text
+abbrev pub names_of_all : List (Outcome × Offset) → List Text
 names_of_all parts = flat_map (λ p. p.0.names) parts
 
 -- how many sources a join of these decoded maps has
-abbrev pub joined_source_count : Result (List (DecodedMap × ℕ)) PlanError → ℕ
+abbrev pub joined_source_count : Result (List (DecodedMap × Offset)) PlanError → ℕ
 joined_source_count (Err e) = 0
 joined_source_count (Ok decoded_maps) = length (joined_decoded_maps decoded_maps).sources
 
 -- all parts of a join are within the limits
-abbrev pub are_all_within_limits : List (Outcome × ℕ) → Bool
+abbrev pub are_all_within_limits : List (Outcome × Offset) → Bool
 are_all_within_limits parts = list_all (λ p. p.0.is_within_limits) parts
 
-abbrev pub join_outcome : List (Outcome × ℕ) → Outcome
+abbrev pub join_outcome : List (Outcome × Offset) → Outcome
 join_outcome parts = record {
   meaning = join_meaning (all_decoded_maps (meanings parts));
   map_record = option_map joined (all_records parts);
@@ -103,7 +103,8 @@ composition_outcome first second = record {
   map_record = option_and_then (λ a. option_map (composed a) second.map_record) first.map_record;
   names = first.names ++ second.names;
   contents = second.contents;
-  is_within_limits = (first.is_within_limits && second.is_within_limits) && is_part_within_limits (first.names ++ second.names) (composition_meaning first.meaning second.meaning);
+  is_within_limits = (first.is_within_limits && second.is_within_limits)
+      && is_part_within_limits (first.names ++ second.names) (composition_meaning first.meaning second.meaning);
   is_rewritten = false;
 }
 
@@ -111,7 +112,8 @@ composition_outcome first second = record {
 abbrev pub outcome_step : Plan-F Outcome → Outcome
 outcome_step (Plan-F.Read text) = read_outcome (read_map text.now)
 outcome_step (Plan-F.Rewrite part) = rewrite_outcome part.value
-outcome_step (Plan-F.Join parts) = join_outcome parts.items
+outcome_step (Plan-F.Join parts) = join_outcome (at_lines parts.items)
+outcome_step (Plan-F.JoinAt parts) = join_outcome (at_positions parts.items)
 outcome_step (Plan-F.Compose first second) = composition_outcome first.value second.value
 
 -- the outcome of a plan of any depth
@@ -126,7 +128,7 @@ too_deep = record { meaning = Err TooDeep; map_record = None; names = []; conten
 abbrev pub outcome : Plan → Outcome
 outcome plan = if nat_le (depth plan) 64 then outcome_of plan else too_deep
 
--- what a plan means: a decoded map, or the first error
+-- what a plan means: a decoded map, or the first error, or `TooDeep` if it is deeper than 64
 abbrev pub meaning : Plan → Meaning
 meaning plan = (outcome plan).meaning
 

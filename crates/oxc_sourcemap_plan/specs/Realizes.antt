@@ -6,6 +6,7 @@ use Rattle.oxc_sourcemap_mappings.specs.Token.{AreInBounds}
 use Rattle.oxc_sourcemap_parts.specs.Record.{MapRecord}
 use Rattle.oxc_sourcemap_parts.specs.DecodedMap.{DecodedMap}
 use Rattle.oxc_sourcemap_json.specs.MapLaws.{rewritten}
+use Rattle.oxc_sourcemap_join.specs.Joined.{Offset}
 use Rattle.oxc_sourcemap_laws.specs.JoinLaws.{StandsFor}
 use Rattle.oxc_sourcemap_plan.specs.declared.plan.PlanError.{PlanError}
 use Rattle.oxc_sourcemap_plan.specs.declared.plan.PlanError.TheVariants.{Map}
@@ -27,10 +28,10 @@ pub record Realizes (m : MapRecord) (o : Outcome) : Type 0 where
   pub within_limits : o.is_within_limits ≡ true → length decoded_map.mappings ≤ 4294967295
   pub rewritten : o.is_rewritten ≡ true → (m.token_chunks ≡ None) × ((rewritten m).tokens ≡ m.tokens)
 
--- A refusal is the one that is meant, or lack of memory, or `TooLarge` where there is no room.
+-- An error is the one that is meant, or lack of memory, or `TooLarge` if the plan is not within the limits.
 abbrev pub FailsAs : PlanError → Outcome → Type 0
 FailsAs e o = (e ≡ Map OutOfMemory) ⊎ IsFailure o e
 
 -- each map is as the outcome in the other list says, at the same offset
-abbrev pub AllRealize : List (MapRecord × ℕ) → List (Outcome × ℕ) → Type 0
+abbrev pub AllRealize : List (MapRecord × Offset) → List (Outcome × Offset) → Type 0
 AllRealize ms os = AllZip (λ m o. Realizes m.0 o.0 × (m.1 ≡ o.1)) ms os

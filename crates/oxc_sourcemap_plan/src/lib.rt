@@ -1,7 +1,7 @@
 //! Plans: pipelines of reading, rewriting, joining and composing maps, and `evaluate`, which is proved to answer what a
 //! plan means.
 //!
-//! Users name the crate `oxc_sourcemap`, which hands on `Plan`, `PlanError` and `evaluate`.
+//! Users name the crate `oxc_sourcemap`, which re-exports `Plan`, `PlanError` and `evaluate`.
 #![tactic(auto)]
 
 mod plan;

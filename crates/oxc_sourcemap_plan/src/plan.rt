@@ -1,11 +1,12 @@
-//! Plans: readings, rewritings, joins and compositions of maps, and what their evaluation answers.
+//! Plans: readings, rewritings, joins and compositions of maps, and their evaluation.
 ghost use Rattle.std.specs.Prelude.{◌≡◌, ◌≤◌, ◌↔◌, ◌⊎◌, ℕ, List, Some, true, false, IsTrue, IfOk, IfErr};
 ghost use Rattle.oxc_sourcemap_plan.specs.PlanMessages.{plan_error_text};
 ghost use Rattle.oxc_sourcemap_plan.specs.Depth.{depth};
 ghost use Rattle.oxc_sourcemap_plan.specs.Outcome.{Outcome, read_outcome, rewrite_outcome, join_outcome, composition_outcome, outcome_of, outcome};
+ghost use Rattle.oxc_sourcemap_join.specs.Joined.{Offset, at_lines, at_positions, joined, IsWithinLimits};
 ghost use Rattle.oxc_sourcemap_plan.specs.Evaluated.{IsEvaluated, IsFailure};
 ghost use Rattle.oxc_sourcemap_plan.specs.Realizes.{Realizes, FailsAs, AllRealize};
-ghost use Rattle.oxc_sourcemap_mappings.specs.declared.error.Error.TheVariants.{OutOfMemory};
+ghost use Rattle.oxc_sourcemap_mappings.specs.declared.error.Error.TheVariants.{OutOfMemory, TooLarge};
 ghost use Rattle.oxc_sourcemap_json.specs.ReadMap.{read_map};
 ghost use Rattle.oxc_sourcemap_parts.specs.Sorted.{are_tokens_sorted};
 ghost use Rattle.oxc_sourcemap_plan.specs.declared.plan.PlanError.TheVariants.{Map, Unsorted};
@@ -17,15 +18,18 @@ use oxc_sourcemap_mappings::Error;
 use std::alloc::{AllocError, AllocFailed, Global};
 use std::fmt;
 
-/// What to do with maps, which are given as JSON texts borrowed for `'t`.
+/// What to do with maps, which are given as JSON texts borrowed for `'t`. Lines and columns count from 0; columns are in
+/// UTF-16 code units.
 #[derive(Drop)]
 pub enum Plan<'t> {
     /// Read a map from its JSON text.
     Read(&'t str),
-    /// Write the map of a part, and read it again.
+    /// Write the map of a part as a JSON source map, and read it again.
     Rewrite(Box<Plan<'t>>),
     /// Join the maps of parts, each at the line of the joined code where its line 0 goes.
     Join(Vec<(Plan<'t>, u32)>),
+    /// Join the maps of parts, each at the line and the column of the joined code where its code begins.
+    JoinAt(Vec<(Plan<'t>, u32, u32)>),
     /// Compose the map of the first part, from generated to intermediate code, with that of the second, from there to
     /// original code.
     Compose(Box<Plan<'t>>, Box<Plan<'t>>),
@@ -34,7 +38,7 @@ pub enum Plan<'t> {
 /// Why a plan is not evaluated, or a position not traced.
 #[derive(Clone, Copy, Debug, PartialEq, Eq)]
 pub enum PlanError {
-    /// A call on a map was refused.
+    /// An operation on a map failed with this error.
     Map(Error),
     /// The tokens of a map are not sorted by generated line and column.
     Unsorted,
@@ -98,6 +102,14 @@ fn is_within_depth(plan: &Plan<'_>, room: u32) -> bool
             }
             true
         }
+        Plan::JoinAt(parts) => {
+            for (piece, _, _) in parts {
+                if !is_within_depth(piece, room - 1) {
+                    return false;
+                }
+            }
+            true
+        }
         Plan::Compose(first, second) => {
             is_within_depth(first, room - 1) && is_within_depth(second, room - 1)
         }
@@ -140,11 +152,40 @@ fn join(
     alloc: Global,
     maps: Vec<(SourceMap<'static>, u32)>,
 ) -> Result<SourceMap<'static>, PlanError>
-    ensures map { IfOk result (λ m. (os : List (Outcome × ℕ)) → AllRealize maps.entry.items os → Realizes m (join_outcome os)) }
-    ensures refused { IfErr result (λ e. (os : List (Outcome × ℕ)) → AllRealize maps.entry.items os → FailsAs e (join_outcome os)) }
+    ensures map { IfOk result (λ m. (os : List (Outcome × Offset)) → AllRealize (at_lines maps.entry.items) os → Realizes m (join_outcome os)) }
+    ensures refused { IfErr result (λ e. (os : List (Outcome × Offset)) → AllRealize (at_lines maps.entry.items) os → FailsAs e (join_outcome os)) }
 {
     dropping_harmless();
     let builder = ConcatSourceMapBuilder::from_owned_sourcemaps(alloc, maps)?;
+    sorted(builder.into_sourcemap()?)
+}
+
+/// A builder of the join of maps, each at its line and column.
+fn builder_at(
+    alloc: Global,
+    maps: Vec<(SourceMap<'static>, u32, u32)>,
+) -> oxc_sourcemap_mappings::Result<ConcatSourceMapBuilder<'static>>
+    ensures joined { IfOk result (λ builder. builder ≡ joined (at_positions maps.entry.items)) }
+    ensures limits { IfOk result IsWithinLimits }
+    ensures refused { IfErr result (λ e. (e ≡ OutOfMemory) ⊎ ((e ≡ TooLarge) × ¬ (IsWithinLimits (joined (at_positions maps.entry.items))))) }
+{
+    let mut builder = ConcatSourceMapBuilder::empty(alloc);
+    for (map, line, column) in maps {
+        builder.add_sourcemap_owned_at(map, line, column)?;
+    }
+    Ok(builder)
+}
+
+/// The join of maps, each at its line and column.
+fn join_at(
+    alloc: Global,
+    maps: Vec<(SourceMap<'static>, u32, u32)>,
+) -> Result<SourceMap<'static>, PlanError>
+    ensures map { IfOk result (λ m. (os : List (Outcome × Offset)) → AllRealize (at_positions maps.entry.items) os → Realizes m (join_outcome os)) }
+    ensures refused { IfErr result (λ e. (os : List (Outcome × Offset)) → AllRealize (at_positions maps.entry.items) os → FailsAs e (join_outcome os)) }
+{
+    dropping_harmless();
+    let builder = builder_at(alloc, maps)?;
     sorted(builder.into_sourcemap()?)
 }
 
@@ -180,6 +221,14 @@ fn evaluate_part(alloc: Global, plan: &Plan<'_>) -> Result<SourceMap<'static>, P
             }
             join(alloc, maps)
         }
+        Plan::JoinAt(parts) => {
+            let mut maps = Vec::new(alloc);
+            for (piece, line, column) in parts {
+                let map = evaluate_part(alloc, piece)?;
+                maps.push((map, *line, *column))?;
+            }
+            join_at(alloc, maps)
+        }
         Plan::Compose(first, second) => {
             let left = evaluate_part(alloc, first)?;
             let right = evaluate_part(alloc, second)?;
@@ -197,11 +246,12 @@ fn evaluate_part(alloc: Global, plan: &Plan<'_>) -> Result<SourceMap<'static>, P
 ///
 /// Fails with
 /// - `TooDeep` if the plan is deeper than 64, where a text alone is 1 deep, before anything is read;
-/// - else the first of these, from left to right: `Map(e)` if a text says no map, `Unsorted` if the map of a text or of a join
-///   is not sorted, `Map(SeveralSources(n))` if the first map of a composition has n sources and n is above 1;
-/// - or instead `Map(TooLarge)` if at some part the names of the texts read for it, its sources or its mappings (repeated ones
-///   included) number more than 4294967295, or a joined line is above that (`is_within_limits`), and `Map(OutOfMemory)` if
-///   memory is refused.
+/// - else the first of these, from left to right: `Map(e)` if a text cannot be read as a source map, with the error `e` of
+///   `SourceMap::from_json_string`; `Unsorted` if the map of a text or of a join is not sorted; `Map(SeveralSources(n))` if
+///   the first map of a composition has n sources and n is above 1;
+/// - it may fail instead with `Map(TooLarge)` if some part has more than 4294967295 names (of all texts read for it), sources or mappings
+///   (repeated ones included), each counted by itself, or a joined line or column above that (`is_within_limits`), and
+///   `Map(OutOfMemory)` if memory is refused.
 pub fn evaluate(alloc: Global, plan: &Plan<'_>) -> Result<OwnedSourceMap, PlanError>
     ensures map { IfOk result (λ map. IsEvaluated map (outcome plan.now)) }
     ensures refused { IfErr result (λ e. (e ≡ Map OutOfMemory) ⊎ IsFailure (outcome plan.now) e) }

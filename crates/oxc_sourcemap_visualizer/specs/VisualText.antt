@@ -1,5 +1,6 @@
 -- The visual text of a code and its map (docs/FORMAT.md, "The visual text").
-use Rattle.std.specs.Prelude.{ℕ, Bool, false, not, ◌&&◌, List, [], ◌∷◌, ◌++◌, codes, decimal, length, take, drop, filter, min, max, Option, Some, None, if◌then◌else◌, nat_lt, ◌==◌}
+use Rattle.std.specs.Prelude.{ℕ, Bool, false, not, ◌&&◌, List, [], ◌∷◌, ◌++◌, codes, decimal, length, take, drop, filter, min, max}
+use Rattle.std.specs.Prelude.{Option, Some, None, if◌then◌else◌, nat_lt, ◌==◌}
 use Rattle.std.specs.Fmt.{◌++?◌, debug_str}
 use Rattle.std.specs.List.{find, take_while}
 use Rattle.std.specs.Option.{option_map, option_map_or, option_and_then, option_or}
@@ -58,7 +59,8 @@ mark is_valid = if is_valid then [] else codes " [invalid]"
 -- a token that points to or from a position that is not there
 abbrev pub invalid_text : Bool → Bool → TokenRecord → Text
 invalid_text is_src_valid is_dst_valid t =
-    position_text t.src_line t.src_col ++ (mark is_src_valid ++ (codes " --> " ++ (position_text t.dst_line t.dst_col ++ (mark is_dst_valid ++ codes "\n"))))
+    position_text t.src_line t.src_col ++ (mark is_src_valid
+    ++ (codes " --> " ++ (position_text t.dst_line t.dst_col ++ (mark is_dst_valid ++ codes "\n"))))
 
 -- a token with the parts of its source line and of its generated line
 abbrev pub parts_text : TokenRecord → List ℕ → List ℕ → Option Text
@@ -72,7 +74,9 @@ mapping_text src dst id t after =
     let src_line = line_at src t.src_line in
     let dst_line = line_at dst t.dst_line in
     if is_within src t.src_line t.src_col && is_within dst t.dst_line t.dst_col
-    then parts_text t (between src_line t.src_col (src_end (length src_line) id t after)) (between dst_line t.dst_col (dst_end (length dst_line) t after))
+    then parts_text t
+    (between src_line t.src_col (src_end (length src_line) id t after))
+    (between dst_line t.dst_col (dst_end (length dst_line) t after))
     else Some (invalid_text (is_within src t.src_line t.src_col) (is_within dst t.dst_line t.dst_col) t)
 
 -- what a token points to, where it prints: its source and that source's content, where it has both

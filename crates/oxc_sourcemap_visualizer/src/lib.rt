@@ -1,6 +1,6 @@
 //! What a map says of its generated code, as text for people, and as a link that shows it.
 //!
-//! Users name the crate `oxc_sourcemap`, which hands on `SourcemapVisualizer`.
+//! Users name the crate `oxc_sourcemap`, which re-exports `SourcemapVisualizer`.
 #![tactic(auto)]
 
 mod sourcemap_visualizer;

@@ -13,6 +13,11 @@ const JOINED: &str =
 /// The map of their join, the second one line down.
 const JOIN: &str = r#"{"version":3,"names":[],"sources":["a.js","b.js"],"mappings":"AAKG,I;ACEF"}"#;
 
+/// The texts of two maps, after each other. The first one's tokens are at columns 0 and 4 of line 0, the second one's at
+/// column 0 of lines 0 and 1.
+const SIDE_BY_SIDE: &str =
+    "{\"version\":3,\"sources\":[\"a.js\"],\"mappings\":\"AAAA,IAAI\"}\n---\n{\"version\":3,\"sources\":[\"b.js\"],\"mappings\":\"AAAA;AACA\"}";
+
 const UNSORTED: &str = r#"{"version":3,"sources":[],"mappings":"G,D"}"#;
 
 /// The words of a plan, its input, and the JSON text or the refusal that are answered.
@@ -39,6 +44,28 @@ const PLANS: &[(&[&str], &str, Result<&str, RunError>)] = &[
         Ok(
             r#"{"version":3,"names":[],"sources":["a.js","b.js","c.js"],"ignoreList":[0,2],"mappings":"AAAA;AEAA"}"#,
         ),
+    ),
+    (
+        &["joinat", "2", "@0", "0", "0", "@1", "0", "10"],
+        SIDE_BY_SIDE,
+        Ok(
+            r#"{"version":3,"names":[],"sources":["a.js","b.js"],"mappings":"AAAA,IAAI,MCAJ;AACA"}"#,
+        ),
+    ),
+    (
+        &["joinat", "2", "@0", "0", "0", "@1", "0", "3"],
+        SIDE_BY_SIDE,
+        Err(RunError::Plan(PlanError::Unsorted)),
+    ),
+    (
+        &["joinat", "1", "@0", "0", "4294967295"],
+        r#"{"version":3,"sources":[],"mappings":"C"}"#,
+        Err(RunError::Plan(PlanError::Map(Error::TooLarge))),
+    ),
+    (
+        &["joinat", "1", "@0", "0"],
+        SIDE_BY_SIDE,
+        Err(RunError::Arguments),
     ),
     (
         &["join", "0"],

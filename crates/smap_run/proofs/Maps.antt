@@ -1,15 +1,20 @@
--- What the commands on maps refuse, by the map that was read.
-use Rattle.std.proofs.Common.{◌≡◌, ◌≢◌, ℕ, List, Option, Some, None, Result, Ok, Err, ap, sym, subst, ◌∙◌}
+-- What the commands on maps refuse and find, by the map that was read.
+use Rattle.std.proofs.Common.{◌≡◌, ◌≢◌, ℕ, List, Option, Some, None, Result, Ok, Err, true, option_map, ap, sym, subst, ◌∙◌}
 use Rattle.std.specs.Result.{IfErr, IsErrAnd}
 use Rattle.oxc_sourcemap.specs.Error.{Error}
-use Rattle.oxc_sourcemap.specs.Error.TheVariants.{OutOfMemory}
+use Rattle.oxc_sourcemap.specs.Error.TheVariants.{LineOrder, OutOfMemory}
 use Rattle.oxc_sourcemap.specs.Record.{MapRecord}
 use Rattle.oxc_sourcemap.specs.Shape.{◌>>=◌}
 use Rattle.oxc_sourcemap.specs.ReadMap.{read_map}
 use Rattle.oxc_sourcemap.specs.JsonText.{map_text, map_url}
 use Rattle.oxc_sourcemap.specs.Token.{TokenRecord}
 use Rattle.oxc_sourcemap.specs.Canonical.{first_out_of_order}
-use Rattle.oxc_sourcemap.specs.Lookup.{line_table, table_unless}
+use Rattle.oxc_sourcemap.specs.Lookup.{pick}
+use Rattle.oxc_sourcemap.specs.Sorted.{token_line, token_column, are_tokens_sorted}
+use Rattle.oxc_sourcemap.specs.DecodedMap.{decoded_map_of}
+use Rattle.oxc_sourcemap.specs.Trace.{trace}
+use Rattle.oxc_sourcemap.specs.View.{seen_in, view_original}
+use Rattle.oxc_sourcemap_map.proofs.Picks.{traced}
 use Rattle.oxc_sourcemap.specs.PlanError.TheVariants.{Map}
 use Rattle.smap_run.specs.Answer.{normalised, normalised_url}
 
@@ -24,10 +29,16 @@ pub carried_error : {T E : Type 0} (result : Result T E) (fault : E) (P : E → 
 carried_error (Ok x) fault P same p = tt
 carried_error (Err e) fault P same p = subst P (sym same) p
 
--- tokens in line order have a lookup table
-table_stands : (order : Option ℕ) (tokens : List TokenRecord) (fault : Error) → order ≡ None → table_unless order tokens ≡ Err fault → ⊥
-table_stands None tokens fault p e = cc (e)
-table_stands (Some i) tokens fault p e = cc (p)
+-- tokens in line order have an index of their lines
+order_stands : (order : Option ℕ) (fault : Error) → order ≡ None → option_map LineOrder order ≡ Some fault → ⊥
+order_stands None fault p e = cc (e)
+order_stands (Some i) fault p e = cc (p)
 
-pub table_refused : (tokens : List TokenRecord) (fault : Error) {A : Type 0} → first_out_of_order tokens ≡ None → (fault ≢ OutOfMemory → line_table tokens ≡ Err fault) → Map fault ≢ Map OutOfMemory → A
-table_refused tokens fault order refused n = absurd (table_stands (first_out_of_order tokens) tokens fault order (refused (λ e. n (ap Map e))))
+pub index_refused : (tokens : List TokenRecord) (fault : Error) → first_out_of_order tokens ≡ None → (fault ≢ OutOfMemory → option_map LineOrder (first_out_of_order tokens) ≡ Some fault) → fault ≢ OutOfMemory → ⊥
+index_refused tokens fault order refused other = order_stands (first_out_of_order tokens) fault order (refused other)
+
+-- what is traced by a map's own token
+pub traced_token : (r : MapRecord) (tokens : List TokenRecord) (line col : ℕ) (found : Option TokenRecord) → tokens ≡ r.tokens → are_tokens_sorted r.tokens ≡ true
+    → (are_tokens_sorted tokens ≡ true → found ≡ pick token_line token_column tokens line col) → option_map view_original (option_map (seen_in r) found) ≡ trace (decoded_map_of r) line col
+traced_token r tokens line col found e sorted is =
+    ap (λ o. option_map view_original (option_map (seen_in r) o)) (is (ap are_tokens_sorted e ∙ sorted) ∙ ap (λ ts. pick token_line token_column ts line col) e) ∙ traced r line col

@@ -1,18 +1,20 @@
 -- What arguments say, step by step.
-use Rattle.std.proofs.Common.{◌≡◌, ◌≢◌, ℕ, zero, suc, ◌+◌, ◌-◌, ◌<◌, String, string_bytes, length, length, true, false, cond, ◌==◌, List, [], ◌∷◌, ◌++◌, map, codes, refl, sym, ap, ◌∙◌, arith, Some, None, Ok, Err, bytes_eq}
+use Rattle.std.proofs.Common.{◌≡◌, ◌≢◌, ℕ, zero, suc, ◌+◌, ◌-◌, ◌<◌, ◌≤◌, String, string_bytes, length, length, true, false, cond, ◌==◌, List, [], ◌∷◌, ◌++◌, map, codes, refl, sym, ap, ◌∙◌, arith, Some, None, Ok, Err, bytes_eq}
 use Rattle.oxc_sourcemap.specs.Record.{Text}
 use Rattle.std.specs.declared.alloc.Global.{Global}
 use Rattle.std.specs.Cmp.Lexicographic.{bytes_decides}
 use Rattle.std.proofs.lemmas.Bool.{false_from_ne_true}
-use Rattle.std.proofs.lemmas.List.{append_assoc}
+use Rattle.std.proofs.lemmas.List.{append_assoc, append-nil}
 use Rattle.std.specs.List.{slice_get}
 use Rattle.std.proofs.lemmas.Bool.Decides.{nat_tests}
 use Rattle.oxc_sourcemap.specs.ReadMap.{read_map}
 use Rattle.smap_run.specs.Arguments.{number_of}
 use Rattle.oxc_sourcemap.specs.Depth.{deepest}
+use Rattle.oxc_sourcemap.specs.Joined.{Offset}
+use Rattle.smap_run.specs.declared.running.RunError.{RunError}
 use Rattle.smap_run.specs.declared.running.RunError.TheVariants.{Arguments, NoText}
 use Rattle.oxc_sourcemap.specs.Outcome.{Outcome, read_outcome, rewrite_outcome, join_outcome, composition_outcome}
-use Rattle.smap_run.specs.PlanArguments.{Parsed, whole, then_parsed, parsed_number, read_or_fault, read_of_number, parsed_input, with_rest, parsed_parts, parsed_by, parsed_part}
+use Rattle.smap_run.specs.PlanArguments.{Parsed, whole, then_parsed, parsed_number, parsed_line, parsed_position, read_or_fault, read_of_number, parsed_input, with_rest, parsed_parts, parsed_join, parsed_by, parsed_part}
 
 pub part-named : (inputs : List Text) (room : ℕ) (argument : Text) (arguments : List Text) → room ≢ 0 → parsed_part inputs room (argument ∷ arguments) ≡ parsed_by inputs (parsed_part inputs (room - 1)) argument arguments
 part-named inputs zero argument arguments n = absurd (n refl)
@@ -46,28 +48,73 @@ module _ (inputs : List Text) (part : List Text → Parsed Outcome) (argument : 
   pub named-rewrite : argument ≡ codes "rewrite" → parsed_by inputs part argument arguments ≡ then_parsed (part arguments) (λ o left. Ok (rewrite_outcome o, left))
   named-rewrite e = ap (λ w. parsed_by inputs part w arguments) e
 
-  pub named-join : argument ≡ codes "join" → parsed_by inputs part argument arguments ≡ then_parsed (parsed_number arguments) (λ n after. then_parsed (parsed_parts part n after) (λ parts left. Ok (join_outcome parts, left)))
+  pub named-join : argument ≡ codes "join" → parsed_by inputs part argument arguments ≡ parsed_join part parsed_line arguments
   named-join e = ap (λ w. parsed_by inputs part w arguments) e
+
+  pub named-join_at : argument ≡ codes "joinat" → parsed_by inputs part argument arguments ≡ parsed_join part parsed_position arguments
+  named-join_at e = ap (λ w. parsed_by inputs part w arguments) e
 
   pub named-compose : argument ≡ codes "compose" → parsed_by inputs part argument arguments ≡ then_parsed (part arguments) (λ first after. then_parsed (part after) (λ second left. Ok (composition_outcome first second, left)))
   named-compose e = ap (λ w. parsed_by inputs part w arguments) e
 
-  pub named-text : (argument ≡ codes "rewrite" → ⊥) → (argument ≡ codes "join" → ⊥) → (argument ≡ codes "compose" → ⊥) → parsed_by inputs part argument arguments ≡ with_rest (parsed_input inputs argument) arguments
-  named-text a b c = rw (differ argument (codes "rewrite") a, differ argument (codes "join") b, differ argument (codes "compose") c) refl
+  pub named-text : (argument ≡ codes "rewrite" → ⊥) → (argument ≡ codes "join" → ⊥) → (argument ≡ codes "joinat" → ⊥) → (argument ≡ codes "compose" → ⊥) → parsed_by inputs part argument arguments ≡ with_rest (parsed_input inputs argument) arguments
+  named-text a b c d = rw (differ argument (codes "rewrite") a, differ argument (codes "join") b, differ argument (codes "joinat") c, differ argument (codes "compose") d) refl
 
 -- ---- parts of a join, as far as they have come
-pub parts-next : (part : List Text → Parsed Outcome) (count i : ℕ) (arguments : List Text) → i < count → parsed_parts part (count - i) arguments ≡ parsed_parts part (suc (count - (i + 1))) arguments
-parts-next part count i arguments l = let e : count - i ≡ suc (count - (i + 1)) = omega arith in ap (λ n. parsed_parts part n arguments) e
+module _ (part : List Text → Parsed Outcome) (offset : List Text → Parsed Offset) where
+  -- what is left of the parts, after some
+  abbrev pub left_after : List (Outcome × Offset) → ℕ → List Text → Parsed (List (Outcome × Offset))
+  left_after done n arguments = then_parsed (parsed_parts part offset n arguments) (λ others rest. Ok (done ++ others, rest))
 
-pub parts-pushed : (done : List (Outcome × ℕ)) (p : Outcome × ℕ) (others : Parsed (List (Outcome × ℕ)))
-    → then_parsed (then_parsed others (λ os rest. Ok (p ∷ os, rest))) (λ os rest. Ok (done ++ os, rest)) ≡ then_parsed others (λ os rest. Ok ((done ++ p ∷ []) ++ os, rest))
-parts-pushed done p (Ok r) = ap (λ os. Ok (os, r.1)) (sym (append_assoc done (p ∷ []) r.0))
-parts-pushed done p (Err e) = refl
+  next-part : (count i : ℕ) (arguments : List Text) → i < count → parsed_parts part offset (count - i) arguments ≡ parsed_parts part offset (suc (count - (i + 1))) arguments
+  next-part count i arguments l = let e : count - i ≡ suc (count - (i + 1)) = omega arith in ap (λ n. parsed_parts part offset n arguments) e
 
-pub deepest-pushed : (parts : List (ℕ × ℕ)) (p : ℕ × ℕ) (room : ℕ) → deepest parts < room → p.0 < room → deepest (parts ++ p ∷ []) < room
+  pushed : (done : List (Outcome × Offset)) (p : Outcome × Offset) (others : Parsed (List (Outcome × Offset)))
+      → then_parsed (then_parsed others (λ os rest. Ok (p ∷ os, rest))) (λ os rest. Ok (done ++ os, rest)) ≡ then_parsed others (λ os rest. Ok ((done ++ p ∷ []) ++ os, rest))
+  pushed done p (Ok r) = ap (λ os. Ok (os, r.1)) (sym (append_assoc done (p ∷ []) r.0))
+  pushed done p (Err e) = refl
+
+  after-part : (done : List (Outcome × Offset)) (count i : ℕ) (arguments : List Text) → i < count → (read : Parsed Outcome) → part arguments ≡ read
+      → left_after done (count - i) arguments ≡ then_parsed (then_parsed read (λ o after. then_parsed (offset after) (λ place left. then_parsed (parsed_parts part offset (count - (i + 1)) left) (λ others rest. Ok ((o, place) ∷ others, rest))))) (λ others rest. Ok (done ++ others, rest))
+  after-part done count i arguments l read e =
+      ap (λ r. then_parsed r (λ others rest. Ok (done ++ others, rest)))
+      (next-part count i arguments l ∙ ap (λ r. then_parsed r (λ o after. then_parsed (offset after) (λ place left. then_parsed (parsed_parts part offset (count - (i + 1)) left) (λ others rest. Ok ((o, place) ∷ others, rest))))) e)
+
+  -- a part that is refused
+  pub part-refused : (done : List (Outcome × Offset)) (count i : ℕ) (arguments : List Text) (e : RunError) → i < count → part arguments ≡ Err e → left_after done (count - i) arguments ≡ Err e
+  part-refused done count i arguments e l h = after-part done count i arguments l (Err e) h
+
+  -- an offset that is refused
+  pub offset-refused : (done : List (Outcome × Offset)) (count i : ℕ) (arguments after : List Text) (o : Outcome) (e : RunError) → i < count → part arguments ≡ Ok (o, after) → offset after ≡ Err e → left_after done (count - i) arguments ≡ Err e
+  offset-refused done count i arguments after o e l h k =
+      after-part done count i arguments l (Ok (o, after)) h
+      ∙ ap (λ r. then_parsed (then_parsed r (λ place left. then_parsed (parsed_parts part offset (count - (i + 1)) left) (λ others rest. Ok ((o, place) ∷ others, rest)))) (λ others rest. Ok (done ++ others, rest))) k
+
+  -- one part more
+  pub part-more : (done : List (Outcome × Offset)) (count i : ℕ) (arguments after left : List Text) (o : Outcome) (place : Offset) → i < count → part arguments ≡ Ok (o, after) → offset after ≡ Ok (place, left)
+      → left_after done (count - i) arguments ≡ left_after (done ++ (o, place) ∷ []) (count - (i + 1)) left
+  part-more done count i arguments after left o place l h k =
+      after-part done count i arguments l (Ok (o, after)) h
+      ∙ ap (λ r. then_parsed (then_parsed r (λ place left. then_parsed (parsed_parts part offset (count - (i + 1)) left) (λ others rest. Ok ((o, place) ∷ others, rest)))) (λ others rest. Ok (done ++ others, rest))) k
+      ∙ pushed done (o, place) (parsed_parts part offset (count - (i + 1)) left)
+
+  -- all parts
+  pub parts-end : (done : List (Outcome × Offset)) (count i : ℕ) (arguments : List Text) → count ≤ i → left_after done (count - i) arguments ≡ Ok (done, arguments)
+  parts-end done count i arguments l =
+      let none : count - i ≡ 0 = omega arith in
+      ap (λ k. left_after done k arguments) none ∙ ap (λ os. Ok (os, arguments)) (append-nil done)
+
+  -- a join, from its parts
+  pub join-of-parts : (arguments after : List Text) (n : ℕ) (read : Parsed (List (Outcome × Offset))) → parsed_number arguments ≡ Ok (n, after) → parsed_parts part offset n after ≡ read
+      → parsed_join part offset arguments ≡ then_parsed read (λ parts left. Ok (join_outcome parts, left))
+  join-of-parts arguments after n read e f =
+      ap (λ r. then_parsed r (λ n after. then_parsed (parsed_parts part offset n after) (λ parts left. Ok (join_outcome parts, left)))) e
+      ∙ ap (λ r. then_parsed r (λ parts left. Ok (join_outcome parts, left))) f
+
+pub deepest-pushed : (parts : List ℕ) (p room : ℕ) → deepest parts ≤ room → p ≤ room → deepest (parts ++ p ∷ []) ≤ room
 deepest-pushed [] p room h k = omega arith
 deepest-pushed (q ∷ parts) p room h k =
-    let below : deepest parts < room = omega arith in
+    let below : deepest parts ≤ room = omega arith in
     let i = deepest-pushed parts p room below k in
     omega (arith, i, h)
 

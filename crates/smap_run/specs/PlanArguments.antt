@@ -3,6 +3,7 @@ use Rattle.std.specs.Prelude.{ℕ, zero, suc, List, [], ◌∷◌, codes, slice_
 use Rattle.std.specs.Str.{bytes_eq}
 use Rattle.oxc_sourcemap.specs.Record.{Text}
 use Rattle.oxc_sourcemap.specs.ReadMap.{read_map}
+use Rattle.oxc_sourcemap.specs.Joined.{Offset, at_line}
 use Rattle.oxc_sourcemap.specs.PlanError.TheVariants.{TooDeep}
 use Rattle.smap_run.specs.declared.running.RunError.{RunError}
 use Rattle.smap_run.specs.declared.running.RunError.TheVariants.{Plan, Arguments, NoText}
@@ -46,21 +47,33 @@ abbrev pub with_rest : Result Outcome RunError → List Text → Parsed Outcome
 with_rest (Ok o) arguments = Ok (o, arguments)
 with_rest (Err fault) arguments = Err fault
 
--- so many parts, each with an offset after it
-abbrev pub parsed_parts : (List Text → Parsed Outcome) → ℕ → List Text → Parsed (List (Outcome × ℕ))
-parsed_parts part zero arguments = Ok ([], arguments)
-parsed_parts part (suc n) arguments =
-    then_parsed (part arguments) (λ o after. then_parsed (parsed_number after) (λ offset left.
-    then_parsed (parsed_parts part n left) (λ others rest. Ok ((o, offset) ∷ others, rest))))
+-- where a part of a join begins: a line
+abbrev pub parsed_line : List Text → Parsed Offset
+parsed_line arguments = then_parsed (parsed_number arguments) (λ line left. Ok (at_line line, left))
+
+-- where a part of a join begins: a line and a column
+abbrev pub parsed_position : List Text → Parsed Offset
+parsed_position arguments =
+    then_parsed (parsed_number arguments) (λ line after. then_parsed (parsed_number after) (λ column left.
+    Ok (record { line = line; column = column }, left)))
+
+-- so many parts, each with its offset after it
+abbrev pub parsed_parts : (List Text → Parsed Outcome) → (List Text → Parsed Offset) → ℕ → List Text
+    → Parsed (List (Outcome × Offset))
+parsed_parts part offset zero arguments = Ok ([], arguments)
+parsed_parts part offset (suc n) arguments =
+    then_parsed (part arguments) (λ o after. then_parsed (offset after) (λ place left.
+    then_parsed (parsed_parts part offset n left) (λ others rest. Ok ((o, place) ∷ others, rest))))
 
 -- `rewrite P`, after its first argument
 abbrev pub parsed_rewrite : (List Text → Parsed Outcome) → List Text → Parsed Outcome
 parsed_rewrite part rest = then_parsed (part rest) (λ o left. Ok (rewrite_outcome o, left))
 
--- `join N`, and N times `P OFFSET`
-abbrev pub parsed_join : (List Text → Parsed Outcome) → List Text → Parsed Outcome
-parsed_join part rest =
-    then_parsed (parsed_number rest) (λ n after. then_parsed (parsed_parts part n after) (λ parts left. Ok (join_outcome parts, left)))
+-- N, and N times a part with its offset: the rest of `join` and of `joinat`
+abbrev pub parsed_join : (List Text → Parsed Outcome) → (List Text → Parsed Offset) → List Text → Parsed Outcome
+parsed_join part offset rest =
+    then_parsed (parsed_number rest) (λ n after. then_parsed (parsed_parts part offset n after) (λ parts left.
+    Ok (join_outcome parts, left)))
 
 -- `compose P P`
 abbrev pub parsed_composition : (List Text → Parsed Outcome) → List Text → Parsed Outcome
@@ -71,7 +84,8 @@ parsed_composition part rest =
 abbrev pub parsed_by : List Text → (List Text → Parsed Outcome) → Text → List Text → Parsed Outcome
 parsed_by inputs part argument rest =
     if bytes_eq argument (codes "rewrite") then parsed_rewrite part rest
-    else if bytes_eq argument (codes "join") then parsed_join part rest
+    else if bytes_eq argument (codes "join") then parsed_join part parsed_line rest
+    else if bytes_eq argument (codes "joinat") then parsed_join part parsed_position rest
     else if bytes_eq argument (codes "compose") then parsed_composition part rest
     else with_rest (parsed_input inputs argument) rest
 

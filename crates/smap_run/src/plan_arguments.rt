@@ -1,10 +1,10 @@
 //! The arguments of a plan, and its inputs.
-ghost use Rattle.std.specs.Prelude.{◌≡◌, ◌≢◌, ◌≤◌, ℕ, false, map, string_bytes, Ok, Err, option_map, slice_get, IfOk, IfErr, OnOk};
+ghost use Rattle.std.specs.Prelude.{◌≡◌, ◌≢◌, ◌≤◌, ◌+◌, ℕ, false, map, string_bytes, Ok, Err, option_map, slice_get, IfOk, IfErr, OnOk};
 ghost use Rattle.smap_run.specs.Refusals.{out_of_memory, is_of_port};
 ghost use Rattle.oxc_sourcemap.specs.Depth.{depth};
 ghost use Rattle.oxc_sourcemap.specs.Outcome.{outcome_of, outcome};
 ghost use Rattle.smap_run.specs.PlanInputs.{with_line, inputs_of};
-ghost use Rattle.smap_run.specs.PlanArguments.{parsed_number, parsed_input, parsed_part, parsed_plan};
+ghost use Rattle.smap_run.specs.PlanArguments.{parsed_number, parsed_line, parsed_position, parsed_input, parsed_join, parsed_part, parsed_plan};
 
 use crate::arguments::read_number;
 use crate::running::RunError;
@@ -57,6 +57,17 @@ fn take_number<'w>(arguments: &'w [String]) -> Result<(u32, &'w [String]), RunEr
     }
 }
 
+/// The line and the column that the first two arguments say, and the arguments after them.
+fn take_position<'w>(arguments: &'w [String]) -> Result<(u32, u32, &'w [String]), RunError>
+    ensures position { IfOk result (λ r. parsed_position (map string_bytes arguments.now) ≡ Ok (record { line = r.0; column = r.1 }, map string_bytes r.2.now)) }
+    ensures refused { IfErr result (λ e. parsed_position (map string_bytes arguments.now) ≡ Err e) }
+    ensures causes { IfErr result (λ e. is_of_port e ≡ false) }
+{
+    let (line, after) = take_number(arguments)?;
+    let (column, rest) = take_number(after)?;
+    Ok((line, column, rest))
+}
+
 /// The input with this number, from 0.
 fn input_at<'t>(inputs: &'t [String], number: u32) -> Option<&'t str>
     ensures { option_map (λ text. text.now) result ≡ slice_get (map string_bytes inputs.now) number }
@@ -84,6 +95,7 @@ fn read_input<'t>(inputs: &'t [String], argument: &str) -> Result<Plan<'t>, RunE
 }
 
 /// The part that the arguments begin with, at most `room` levels deep, and the arguments after it.
+#[cycle(part)]
 fn read_part<'t, 'w>(
     alloc: Global,
     inputs: &'t [String],
@@ -106,18 +118,8 @@ fn read_part<'t, 'w>(
             let (part, rest) = read_part(alloc, inputs, others, room - 1)?;
             Ok((Plan::Rewrite(Box::new(alloc, part)?), rest))
         }
-        "join" => {
-            let (count, after) = take_number(others)?;
-            let mut parts = Vec::new(alloc);
-            let mut rest = after;
-            for i in 0..count {
-                let (part, left) = read_part(alloc, inputs, rest, room - 1)?;
-                let (offset, left) = take_number(left)?;
-                parts.push((part, offset))?;
-                rest = left;
-            }
-            Ok((Plan::Join(parts), rest))
-        }
+        "join" => read_join(alloc, inputs, others, room - 1),
+        "joinat" => read_join_at(alloc, inputs, others, room - 1),
         "compose" => {
             let (first, middle) = read_part(alloc, inputs, others, room - 1)?;
             let (second, rest) = read_part(alloc, inputs, middle, room - 1)?;
@@ -130,8 +132,59 @@ fn read_part<'t, 'w>(
     }
 }
 
+/// The join that arguments say after `join`: a number, and as many parts, at most `room` levels deep, each with its line.
+#[cycle(part)]
+fn read_join<'t, 'w>(
+    alloc: Global,
+    inputs: &'t [String],
+    arguments: &'w [String],
+    room: u32,
+) -> Result<(Plan<'t>, &'w [String]), RunError>
+    ensures part { IfOk result (λ r. parsed_join (parsed_part (map string_bytes inputs.now) room) parsed_line (map string_bytes arguments.now) ≡ Ok (outcome_of r.0, map string_bytes r.1.now)) }
+    ensures depth { IfOk result (λ r. depth r.0 ≤ room + 1) }
+    ensures refused { IfErr result (λ e. (e ≢ out_of_memory) → parsed_join (parsed_part (map string_bytes inputs.now) room) parsed_line (map string_bytes arguments.now) ≡ Err e) }
+    ensures causes { IfErr result (λ e. is_of_port e ≡ false) }
+{
+    let (count, after) = take_number(arguments)?;
+    let mut parts = Vec::new(alloc);
+    let mut rest = after;
+    for i in 0..count {
+        let (part, left) = read_part(alloc, inputs, rest, room)?;
+        let (line, left) = take_number(left)?;
+        parts.push((part, line))?;
+        rest = left;
+    }
+    Ok((Plan::Join(parts), rest))
+}
+
+/// The join that arguments say after `joinat`: a number, and as many parts, at most `room` levels deep, each with its line
+/// and its column.
+#[cycle(part)]
+fn read_join_at<'t, 'w>(
+    alloc: Global,
+    inputs: &'t [String],
+    arguments: &'w [String],
+    room: u32,
+) -> Result<(Plan<'t>, &'w [String]), RunError>
+    ensures part { IfOk result (λ r. parsed_join (parsed_part (map string_bytes inputs.now) room) parsed_position (map string_bytes arguments.now) ≡ Ok (outcome_of r.0, map string_bytes r.1.now)) }
+    ensures depth { IfOk result (λ r. depth r.0 ≤ room + 1) }
+    ensures refused { IfErr result (λ e. (e ≢ out_of_memory) → parsed_join (parsed_part (map string_bytes inputs.now) room) parsed_position (map string_bytes arguments.now) ≡ Err e) }
+    ensures causes { IfErr result (λ e. is_of_port e ≡ false) }
+{
+    let (count, after) = take_number(arguments)?;
+    let mut parts = Vec::new(alloc);
+    let mut rest = after;
+    for i in 0..count {
+        let (part, left) = read_part(alloc, inputs, rest, room)?;
+        let (line, column, left) = take_position(left)?;
+        parts.push((part, line, column))?;
+        rest = left;
+    }
+    Ok((Plan::JoinAt(parts), rest))
+}
+
 /// The plan that arguments say, over these inputs: `@K` for input K (from 0), `rewrite P`, `join N` followed by N times
-/// `P OFFSET`, or `compose P P`, each number as `read_number` reads it.
+/// `P LINE`, `joinat N` followed by N times `P LINE COLUMN`, or `compose P P`, each number as `read_number` reads it.
 ///
 /// Arguments are read from the left, and the error is that of the first fault:
 /// - `Plan(TooDeep)` for an argument where a part at depth 65 would begin;

@@ -7,10 +7,10 @@ ghost use Rattle.smap_run.specs.Flags.{read_flag, write_flag};
 use std::io;
 use std::io::{Read, Write};
 
-/// A reader or writer with a flag, which is set by the first call that fails: a read or write that the inner value
-/// refuses, or a write of some bytes of which it takes none.
+/// A reader or writer with a flag, which is set by the first call that fails: a read or write of the inner value that fails,
+/// or a write of some bytes that takes none.
 ///
-/// A port hands each call on to its inner value, and returns what that returns.
+/// A port passes each call on to its inner value, and returns what that returns.
 #[derive(Drop)]
 pub struct Port<T> {
     inner: T,

@@ -21,10 +21,10 @@ use std::alloc::{AllocError, AllocFailed, Global};
 use std::fmt;
 use std::io::{Read, Write};
 
-/// What the program refuses.
+/// Why a command fails.
 #[derive(Clone, Copy, Debug, PartialEq, Eq)]
 pub enum RunError {
-    /// The evaluation of a plan, or a call on a map or a mappings text, was refused; lack of memory, too.
+    /// The evaluation of a plan, or a call on a map or a `mappings` text, failed, or memory was refused.
     Plan(PlanError),
     /// A read failed.
     Read,
@@ -34,7 +34,7 @@ pub enum RunError {
     Utf8,
     /// The arguments say no command, or no plan.
     Arguments,
-    /// The arguments of a plan name a text that the input has not.
+    /// The arguments of a plan name a text that the input does not have.
     NoText(u32),
 }
 
@@ -234,10 +234,15 @@ pub fn run<R: Read, W: Write>(
     reader: &mut Port<R>,
     writer: &mut Port<W>,
 ) -> Result<(), RunError>
-    ensures written { OnOk result (IfSome (R.remaining reader.old.inner) (λ input. (out : List ℕ) × IsUtf8 input × IsAnswer (request_of command.now) input out × Appends (W.contents writer.old.inner) (W.contents writer.new.inner) (out ++ 10 ∷ []))) }
-    ensures refused { IfErr result (λ e. (e ≢ out_of_memory) → (e ≢ RunError.Read) → (e ≢ RunError.Write) → IfSome (R.remaining reader.old.inner) (λ input. Refuses (request_of command.now) input e)) }
+    ensures written { OnOk result (IfSome (R.remaining reader.old.inner) (λ input.
+        (out : List ℕ) × IsUtf8 input × IsAnswer (request_of command.now) input out
+        × Appends (W.contents writer.old.inner) (W.contents writer.new.inner) (out ++ 10 ∷ []))) }
+    ensures refused { IfErr result (λ e. (e ≢ out_of_memory) → (e ≢ RunError.Read) → (e ≢ RunError.Write)
+        → IfSome (R.remaining reader.old.inner) (λ input. Refuses (request_of command.now) input e)) }
     ensures nothing_written { IfErr result (λ e. (e ≢ RunError.Write) → Keeps (W.contents writer.old.inner) (W.contents writer.new.inner)) }
-    ensures begun { IsErrOf result RunError.Write → IfSome (R.remaining reader.old.inner) (λ input. (out : List ℕ) × IsUtf8 input × IsAnswer (request_of command.now) input out × AppendsBeginning (W.contents writer.old.inner) (W.contents writer.new.inner) (out ++ 10 ∷ [])) }
+    ensures begun { IsErrOf result RunError.Write → IfSome (R.remaining reader.old.inner) (λ input.
+        (out : List ℕ) × IsUtf8 input × IsAnswer (request_of command.now) input out
+        × AppendsBeginning (W.contents writer.old.inner) (W.contents writer.new.inner) (out ++ 10 ∷ [])) }
     ensures read { reader.old.failed ≡ false → IsErrOf result RunError.Read ↔ (reader.new.failed ≡ true) }
     ensures write { writer.old.failed ≡ false → IsErrOf result RunError.Write ↔ (writer.new.failed ≡ true) }
 {

@@ -1,11 +1,16 @@
 //! What a map says of a generated position, as a line of text.
-ghost use Rattle.std.specs.Prelude.{◌≡◌, ◌≢◌, ◌++◌, option_map, string_bytes, Some, IfOk, IfErr, OnOk, Ok, Err};
+ghost use Rattle.std.specs.Prelude.{◌≡◌, ◌≢◌, ◌++◌, true, option_map, string_bytes, Some, IfOk, IfErr, OnOk, Ok, Err};
 ghost use Rattle.oxc_sourcemap.specs.Error.TheVariants.{OutOfMemory};
-ghost use Rattle.oxc_sourcemap.specs.View.{view_of, view_original};
+ghost use Rattle.oxc_sourcemap.specs.Canonical.{IsInLineOrder};
+ghost use Rattle.oxc_sourcemap.specs.Sorted.{are_tokens_sorted};
+ghost use Rattle.oxc_sourcemap.specs.DecodedMap.{decoded_map_of};
+ghost use Rattle.oxc_sourcemap.specs.Trace.{trace};
+ghost use Rattle.oxc_sourcemap.specs.View.{view_of, seen_in, view_original};
 ghost use Rattle.oxc_sourcemap.specs.PlanError.TheVariants.{Map};
 ghost use Rattle.smap_run.specs.Traced.{number_part, name_part, original_text, trace_text, traced};
 
-use oxc_sourcemap::{Error, PlanError, SourceMap, SourceViewToken, push_json_string};
+use oxc_sourcemap::{Error, PlanError, SourceMap, SourceViewToken, Token, push_json_string};
+use oxc_sourcemap_lookup::LineIndex;
 use std::alloc::Global;
 
 /// Appends a colon and a number.
@@ -61,12 +66,25 @@ fn token_text(alloc: Global, view: &SourceViewToken<'_, '_>) -> Result<String, E
     }
 }
 
-/// What the map that a JSON text says has at a generated line and column: `nothing` where there is no token, `unmapped` for
-/// an unmapped one, and else its source as a JSON string, `:`, the source line, `:`, the source column, and where it has a
-/// name a space and that as a JSON string. All numbers count from 0.
+/// The token at a generated position of a sorted map. It is found by an index of the lines that have tokens, so the memory
+/// that this takes does not depend on line numbers.
+fn token_at(alloc: Global, map: &SourceMap<'_>, line: u32, col: u32) -> Result<Option<Token>, Error>
+    requires sorted { are_tokens_sorted map.now.tokens ≡ true }
+    requires in_line_order { IsInLineOrder map.now.tokens }
+    ensures found { IfOk result (λ token. option_map view_original (option_map (seen_in map.now) token) ≡ trace (decoded_map_of map.now) line col) }
+    ensures refused { IfErr result (λ e. (e ≢ OutOfMemory) → ⊥) }
+{
+    let tokens = map.get_tokens().as_slice();
+    let index = LineIndex::new(alloc, tokens)?;
+    Ok(index.lookup(tokens, line, col))
+}
+
+/// Looks up a generated line and column in the map of a JSON text, and says what is there: `nothing` if no token is found,
+/// `unmapped` if the token has no source; else its source as a JSON string, `:`, the source line, `:`, the source column,
+/// and, if it has a name, a space and the name as a JSON string. Lines and columns count from 0.
 ///
-/// Fails with `Map(e)` if `SourceMap::from_json_string` refuses the text, then with `Unsorted` if the tokens are not
-/// sorted, and with `Map(OutOfMemory)` if memory is refused.
+/// Fails with `Map(e)` if `SourceMap::from_json_string` fails with `e`, then with `Unsorted` if the tokens are not sorted,
+/// and with `Map(OutOfMemory)` if memory is refused.
 pub fn trace(alloc: Global, text: &str, line: u32, col: u32) -> Result<String, PlanError>
     ensures text { IfOk result (λ out. traced text.now line col ≡ Ok (string_bytes out)) }
     ensures refused { IfErr result (λ e. (e ≢ Map OutOfMemory) → traced text.now line col ≡ Err e) }
@@ -75,9 +93,8 @@ pub fn trace(alloc: Global, text: &str, line: u32, col: u32) -> Result<String, P
     if !map.is_sorted() {
         return Err(PlanError::Unsorted);
     }
-    let table = map.generate_lookup_table(alloc)?;
-    match map.lookup_source_view_token(table.as_slice(), line, col) {
-        Some(view) => Ok(token_text(alloc, &view)?),
+    match token_at(alloc, &map, line, col)? {
+        Some(token) => Ok(token_text(alloc, &SourceViewToken::new(token, &map))?),
         None => Ok(String::from_str(alloc, "nothing")?),
     }
 }

@@ -8,16 +8,19 @@ use Rattle.oxc_sourcemap_compose.specs.Composed.{composition_fault, composed_tok
 use Rattle.oxc_sourcemap_compose.proofs.Compositions.{at_fault, too_large, is_composed}
 use Rattle.oxc_sourcemap_compose.proofs.compose.compose_into.Goals as goal
 
-pub returns-in-Some-clause-refused : goal.returns-in-Some-clause-refused
-returns-in-Some-clause-refused c = λ other.
-    at_fault (record_of_parts c.args.first.now) (record_of_parts c.args.second.now) c.in-Some.fault (sym c.composition_fault.ensures.fault ∙ c.in-Some.is)
+pub returns-in_err-index-clause-refused : goal.returns-in_err-index-clause-refused
+returns-in_err-index-clause-refused c =
+    let a = record_of_parts c.args.first.now in
+    let b = record_of_parts c.args.second.now in
+    let p = err_from_is_err_and c.from_residual.result c.from_residual.ensures.1 in
+    rw (p.1, p.2) (λ other. at_fault a b _ (c.in_err-index.ensures.refused other))
 
 pub returns-in_err-tokens-clause-refused : goal.returns-in_err-tokens-clause-refused
 returns-in_err-tokens-clause-refused c =
     let a = record_of_parts c.args.first.now in
     let b = record_of_parts c.args.second.now in
-    let well : composition_fault a b ≡ None = sym c.composition_fault.ensures.fault ∙ c.in_default.is in
-    let p = err_from_is_err_and c.from_residual.result c.from_residual.ensures.1 in
+    let well : composition_fault a b ≡ None = c.in_ok-index.ensures.index.0 in
+    let p = err_from_is_err_and c.from_residual-in_err-tokens.result c.from_residual-in_err-tokens.ensures.1 in
     rw (p.1, p.2) (λ other.
     let r = rw (c.as_slice.ensures.value, c.as_slice-2.ensures.value, c.as_slice-3.ensures.value, c.as_slice-4.ensures.value) at c.in_err-tokens.ensures.refused other in
     rw r.0 (too_large a b well r.1 r.2 r.3))
@@ -26,7 +29,7 @@ pub returns-clause-made : goal.returns-clause-made
 returns-clause-made c =
     let a = record_of_parts c.args.first.now in
     let b = record_of_parts c.args.second.now in
-    let well : composition_fault a b ≡ None = sym c.composition_fault.ensures.fault ∙ c.in_default.is in
+    let well : composition_fault a b ≡ None = c.in_ok-index.ensures.index.0 in
     let r = rw (c.as_slice.ensures.value, c.as_slice-2.ensures.value, c.as_slice-3.ensures.value, c.as_slice-4.ensures.value) at c.in_ok-tokens.ensures.composed in
     let names : map cow_str_bytes c.append.new.self.items ≡ texts_of c.args.second.now.names ++ texts_of c.in_ok-tokens.names =
     ap (map cow_str_bytes) c.in_ok-append.ensures.items ∙ map-append cow_str_bytes c.args.second.now.names.items c.in_ok-tokens.names.items in

@@ -1,11 +1,11 @@
 use Rattle.std.proofs.Common.{map, take}
 use Rattle.std.specs.Cow.{cow_str_bytes}
-use Rattle.oxc_sourcemap_compose.specs.Inherited.{names_with, IsTaking}
+use Rattle.oxc_sourcemap_compose.specs.Inherited.{names_with, IsInheriting}
 use Rattle.oxc_sourcemap_compose.proofs.Targets.{Made}
 use Rattle.oxc_sourcemap_compose.proofs.compose.composed_tokens.Given as goal
 
 abbrev pub invariant-loop-token : goal.invariant-loop-token
 invariant-loop-token l = record {
-  made : Made (map cow_str_bytes l.first) (map cow_str_bytes l.second) (take l.token-index l.tokens) l.input (names_with (map cow_str_bytes l.second) l.taken) l.composed.items;
-  kept : IsTaking (map cow_str_bytes l.first) (map cow_str_bytes l.second) l.taken;
+  made : Made (map cow_str_bytes l.first) (map cow_str_bytes l.second) (take l.token-index l.tokens) l.input (names_with (map cow_str_bytes l.second) l.inherited) l.composed.items;
+  kept : IsInheriting (map cow_str_bytes l.first) (map cow_str_bytes l.second) l.inherited;
 }

@@ -1,7 +1,7 @@
 use Rattle.std.proofs.Common.{arith}
 use Rattle.std.proofs.lemmas.Map.Text.{text_keys}
 use Rattle.std.specs.Cow.{cow_str_bytes}
-use Rattle.oxc_sourcemap_compose.proofs.Takings.{place_step}
+use Rattle.oxc_sourcemap_compose.proofs.KeptNames.{place_step}
 use Rattle.oxc_sourcemap_compose.proofs.inherited_names.fill_places.Goals as goal
 
 pub loop-i-preserved : goal.loop-i-preserved

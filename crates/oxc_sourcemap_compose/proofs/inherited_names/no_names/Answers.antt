@@ -1,7 +1,7 @@
 use Rattle.std.proofs.Common.{◌∙◌, sym, arith, length, None}
 use Rattle.std.proofs.lemmas.Grind.{common_steps}
 use Rattle.std.proofs.lemmas.List.{length-map}
-use Rattle.oxc_sourcemap_compose.proofs.Takings.{resized, all_up_to_repeats}
+use Rattle.oxc_sourcemap_compose.proofs.KeptNames.{resized, all_up_to_repeats}
 use Rattle.oxc_sourcemap_compose.proofs.inherited_names.no_names.Goals as goal
 
 pub returns : goal.returns

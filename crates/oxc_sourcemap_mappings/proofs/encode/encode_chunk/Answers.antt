@@ -10,13 +10,13 @@ pub push_tokens-requires : goal.push_tokens-requires
 push_tokens-requires c =
     ap (λ s. back_from s.dst_line 0 c.tokens_of.result.now) c.header_of-header.ensures
     ∙ ap (back_from c.args.chunk.now.prev_dst_line 0) c.tokens_of.ensures
-    ∙ written-in-order c.args.tokens.now c.args.chunk.now (sym c.fault_of_chunk.ensures ∙ c.in_default.is)
+    ∙ written-in-order c.args.tokens.now c.args.chunk.now (sym c.fault_of_chunk.ensures.fault ∙ c.in_default.is)
 
 pub tokens_of-requires-clause-ordered : goal.tokens_of-requires-clause-ordered
-tokens_of-requires-clause-ordered c = (written-in-range c.args.tokens.now c.args.chunk.now (sym c.fault_of_chunk.ensures ∙ c.in_default.is)).0
+tokens_of-requires-clause-ordered c = (written-in-range c.args.tokens.now c.args.chunk.now (sym c.fault_of_chunk.ensures.fault ∙ c.in_default.is)).0
 
 pub tokens_of-requires-clause-within : goal.tokens_of-requires-clause-within
-tokens_of-requires-clause-within c = (written-in-range c.args.tokens.now c.args.chunk.now (sym c.fault_of_chunk.ensures ∙ c.in_default.is)).1
+tokens_of-requires-clause-within c = (written-in-range c.args.tokens.now c.args.chunk.now (sym c.fault_of_chunk.ensures.fault ∙ c.in_default.is)).1
 
 pub truncate-requires : goal.truncate-requires
 truncate-requires c = λ h. cut-place (string_bytes c.args.out.now) _ _ (c.push_tokens.ensures.adds (string_bytes c.args.out.now) (extends-none _)) (c.len-kept.ensures ∙ search rules)

@@ -1,0 +1,6 @@
+pub mod Back
+pub mod Errors
+pub mod Building
+pub mod Naming
+pub mod Joining
+pub mod Composing

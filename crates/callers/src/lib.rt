@@ -1,0 +1,260 @@
+//! Callers of the library. Each is proved from the contracts of the public calls and the laws alone, and stands in
+//! docs/CALLING.md.
+#![tactic(auto)]
+
+ghost use Rattle.std.specs.Prelude.{◌≡◌, ◌≢◌, ◌≤◌, ◌+◌, ◌⊎◌, ◌↔◌, ◌∷◌, [], ℕ, length, take, option_map, string_bytes, false, IfOk, IfErr, OnOk, OnErr, Ok, Err, Some, None};
+ghost use Rattle.oxc_sourcemap.specs.Error.TheVariants.{OutOfMemory, TooLarge};
+ghost use Rattle.oxc_sourcemap.specs.PlanError.TheVariants.{Map, Unsorted};
+ghost use Rattle.oxc_sourcemap.specs.Canonical.{as_written};
+ghost use Rattle.oxc_sourcemap.specs.Sorted.{are_tokens_sorted};
+ghost use Rattle.oxc_sourcemap.specs.Sound.{IsSound};
+ghost use Rattle.oxc_sourcemap.specs.DecodedMap.{decoded_map_of};
+ghost use Rattle.oxc_sourcemap.specs.Record.{MapRecord};
+ghost use Rattle.oxc_sourcemap.specs.ReadMap.{read_map};
+ghost use Rattle.oxc_sourcemap.specs.JsonText.{map_text};
+ghost use Rattle.oxc_sourcemap.specs.Trace.{trace};
+ghost use Rattle.oxc_sourcemap.specs.View.{view_of, view_original};
+ghost use Rattle.oxc_sourcemap.specs.Joined.{joined, lent_maps, IsWithinLimits};
+ghost use Rattle.oxc_sourcemap.specs.JoinLaws.{without_chunks};
+ghost use Rattle.oxc_sourcemap.specs.ComposeLaws.{grouped_left, grouped_right, IsSeveralSources};
+ghost use Rattle.oxc_sourcemap.specs.Meaning.{read_meaning};
+ghost use Rattle.oxc_sourcemap.specs.Outcome.{outcome, read_outcome, composition_outcome};
+ghost use Rattle.oxc_sourcemap.specs.Evaluated.{IsEvaluated};
+
+use oxc_sourcemap::laws::{
+    canonical_unique, composition_associative, joins_associative, name_ids_unique,
+};
+use oxc_sourcemap::{
+    ConcatSourceMapBuilder, OwnedSourceMap, Plan, PlanError, Result, SourceMap, SourceMapBuilder,
+    SourceViewToken, evaluate,
+};
+use std::alloc::Global;
+
+/// Reads a map from its JSON text. Its decoded map is the one that the text means.
+///
+/// Fails with `Map(e)` if the text says no map, then with `Unsorted` if the map is not sorted, and with `Map(OutOfMemory)` if
+/// memory is refused.
+pub fn read_sorted(alloc: Global, text: &str) -> std::result::Result<SourceMap<'static>, PlanError>
+    ensures meaning { IfOk result (λ map. read_meaning (read_map text.now) ≡ Ok (decoded_map_of map)) }
+    ensures sound { IfOk result IsSound }
+    ensures refused { IfErr result (λ e. (e ≢ Map OutOfMemory) → read_meaning (read_map text.now) ≡ Err e) }
+{
+    let map = SourceMap::from_json_string(alloc, text)?;
+    if !map.is_sorted() {
+        return Err(PlanError::Unsorted);
+    }
+    Ok(map)
+}
+
+/// Writes a map as a JSON source map, and reads it again. A sound map keeps its decoded map, its names, and its tokens as
+/// written; if it has at most 4294967295 tokens, this fails only with `OutOfMemory`.
+pub fn rewrite(alloc: Global, map: &SourceMap<'_>) -> Result<SourceMap<'static>>
+    ensures decoded_map { IfOk result (λ back. IsSound map.now → decoded_map_of back ≡ decoded_map_of map.now) }
+    ensures names { IfOk result (λ back. IsSound map.now → back.names ≡ map.now.names) }
+    ensures tokens { IfOk result (λ back. IsSound map.now → as_written back.tokens ≡ as_written map.now.tokens) }
+    ensures only_memory { IfErr result (λ e. IsSound map.now → length map.now.tokens ≤ 4294967295 → e ≡ OutOfMemory) }
+{
+    canonical_unique();
+    let json = map.to_json(alloc)?;
+    SourceMap::from_json(alloc, json)
+}
+
+/// Looks up a generated position. What the view points to is the trace of the map at this position.
+///
+/// Fails with `Unsorted` if the map is not sorted, and else only with `Map(OutOfMemory)`.
+pub fn look_up<'m, 'data>(
+    alloc: Global,
+    map: &'m SourceMap<'data>,
+    line: u32,
+    col: u32,
+) -> std::result::Result<Option<SourceViewToken<'m, 'data>>, PlanError>
+    ensures traced { IfOk result (λ view. option_map view_original (option_map view_of view) ≡ trace (decoded_map_of map.now) line col) }
+    ensures refused { IfErr result (λ e. (e ≢ Map OutOfMemory) → (e ≡ Unsorted) × (are_tokens_sorted map.now.tokens ≡ false)) }
+{
+    if !map.is_sorted() {
+        return Err(PlanError::Unsorted);
+    }
+    let table = map.generate_lookup_table(alloc)?;
+    Ok(map.lookup_source_view_token(table.as_slice(), line, col))
+}
+
+/// Builds a map of one source with its content, one name, and one token at the beginning of the generated code.
+pub fn one_token<'a>(
+    alloc: Global,
+    path: &'a str,
+    content: &'a str,
+    name: &'a str,
+    line: u32,
+    col: u32,
+) -> Result<SourceMap<'a>>
+    ensures map { IfOk result (λ map. map ≡ record {
+      file = None;
+      names = name.now ∷ [];
+      source_root = None;
+      sources = path.now ∷ [];
+      source_contents = Some content.now ∷ [];
+      tokens = record { dst_line = 0; dst_col = 0; src_line = line; src_col = col; source_id = Some 0; name_id = Some 0 } ∷ [];
+      token_chunks = None;
+      ignore_list = None;
+      debug_id = None;
+    }) }
+    ensures refused { IfErr result (λ e. e ≡ OutOfMemory) }
+{
+    let mut builder = SourceMapBuilder::empty(alloc);
+    let source_id = builder.add_source_and_content(path, content)?;
+    let name_id = builder.add_name(name)?;
+    builder.add_token(0, 0, line, col, Some(source_id), Some(name_id))?;
+    builder.into_sourcemap()
+}
+
+/// Adds two names to a builder. Their ids are equal exactly if the names are.
+pub fn add_two_names<'a>(
+    builder: &mut SourceMapBuilder<'a>,
+    name: &'a str,
+    other: &'a str,
+) -> Result<(u32, u32)>
+    ensures { IfOk result (λ ids. (ids.0 ≡ ids.1) ↔ (name.now ≡ other.now)) }
+{
+    name_ids_unique();
+    let name_id = builder.add_name(name)?;
+    let other_id = builder.add_name(other)?;
+    Ok((name_id, other_id))
+}
+
+/// Joins maps one by one, each at the line of the joined code where it begins. The map is the join of them all.
+///
+/// Fails with `TooLarge` if the join of the first of them, up to one that is added, exceeds a limit, and else only with
+/// `OutOfMemory`.
+pub fn join_one_by_one<'a>(
+    alloc: Global,
+    maps: &[(&'a SourceMap<'_>, u32)],
+) -> Result<SourceMap<'a>>
+    ensures map { IfOk result (λ map. map ≡ joined (lent_maps maps.now)) }
+    ensures refused { IfErr result (λ e. (e ≢ OutOfMemory) → (e ≡ TooLarge) × ((n : ℕ) × ¬ (IsWithinLimits (joined (lent_maps (take n maps.now)))))) }
+{
+    joins_associative();
+    let mut builder = ConcatSourceMapBuilder::empty(alloc);
+    for (sourcemap, line_offset) in maps {
+        builder.add_sourcemap(sourcemap, *line_offset)?;
+    }
+    builder.into_sourcemap()
+}
+
+/// Joins the same maps in two groups: the first half, the second half, and then these two. But for its chunks the map is the
+/// join of them all, so it means the same. Fails only with `TooLarge` and `OutOfMemory`.
+pub fn join_halves<'a>(alloc: Global, maps: &[(&'a SourceMap<'_>, u32)]) -> Result<SourceMap<'a>>
+    ensures map { IfOk result (λ map. without_chunks map ≡ without_chunks (joined (lent_maps maps.now))) }
+    ensures decoded_map { IfOk result (λ map. decoded_map_of map ≡ decoded_map_of (joined (lent_maps maps.now))) }
+    ensures refused { IfErr result (λ e. (e ≡ OutOfMemory) ⊎ (e ≡ TooLarge)) }
+{
+    joins_associative();
+    let (front, back) = maps.split_at(maps.len() / 2);
+    let first = join_one_by_one(alloc, front)?;
+    let second = join_one_by_one(alloc, back)?;
+    let mut builder = ConcatSourceMapBuilder::empty(alloc);
+    builder.add_sourcemap_owned(first, 0)?;
+    builder.add_sourcemap_owned(second, 0)?;
+    builder.into_sourcemap()
+}
+
+/// Composes three maps from the left: the first two, and the result with the third.
+pub fn compose_left<'c>(
+    alloc: Global,
+    first: &SourceMap<'_>,
+    second: &SourceMap<'_>,
+    third: &SourceMap<'c>,
+) -> Result<SourceMap<'c>>
+    ensures map { IfOk result (λ map. IsSound second.now → IsSound third.now → grouped_left first.now second.now third.now ≡ Ok map) }
+    ensures refused { IfErr result (λ e. IsSound second.now → IsSound third.now → (e ≢ OutOfMemory) → grouped_left first.now second.now third.now ≡ Err e) }
+{
+    let earlier = first.clone(alloc)?.compose(alloc, second.clone(alloc)?)?;
+    let composed = earlier.compose(alloc, third.clone(alloc)?)?;
+    Ok(composed)
+}
+
+/// Composes three maps from the right: the last two, and the first with the result.
+pub fn compose_right<'c>(
+    alloc: Global,
+    first: &SourceMap<'_>,
+    second: &SourceMap<'_>,
+    third: &SourceMap<'c>,
+) -> Result<SourceMap<'c>>
+    ensures map { IfOk result (λ map. IsSound second.now → IsSound third.now → grouped_right first.now second.now third.now ≡ Ok map) }
+    ensures refused { IfErr result (λ e. IsSound second.now → IsSound third.now → (e ≢ OutOfMemory) → grouped_right first.now second.now third.now ≡ Err e) }
+{
+    composition_associative();
+    let later = second.clone(alloc)?.compose(alloc, third.clone(alloc)?)?;
+    let composed = first.clone(alloc)?.compose(alloc, later)?;
+    Ok(composed)
+}
+
+/// Composes three sound maps in both orders. Both maps have the same decoded map.
+///
+/// If the error is neither `TooLarge` nor `OutOfMemory`, both orders are refused because a map has several sources, or the
+/// other is `TooLarge`. If the first two maps have at most one source each, and the three at most 4294967295 names, this fails
+/// only with `OutOfMemory`.
+pub fn compose_both_ways<'c>(
+    alloc: Global,
+    first: &SourceMap<'_>,
+    second: &SourceMap<'_>,
+    third: &SourceMap<'c>,
+) -> Result<(SourceMap<'c>, SourceMap<'c>)>
+    ensures same_meaning { IfOk result (λ maps. IsSound first.now → IsSound second.now → IsSound third.now
+        → decoded_map_of maps.0 ≡ decoded_map_of maps.1) }
+    ensures refused { IfErr result (λ e. IsSound first.now → IsSound second.now → IsSound third.now → (e ≢ OutOfMemory) → (e ≢ TooLarge)
+        → IsSeveralSources (grouped_left first.now second.now third.now)
+        × (IsSeveralSources (grouped_right first.now second.now third.now) ⊎ (grouped_right first.now second.now third.now ≡ Err TooLarge))) }
+    ensures only_memory { IfErr result (λ e. IsSound first.now → IsSound second.now → IsSound third.now
+        → length first.now.sources ≤ 1 → length second.now.sources ≤ 1
+        → length first.now.names + length second.now.names + length third.now.names ≤ 4294967295 → e ≡ OutOfMemory) }
+{
+    composition_associative();
+    let left = compose_left(alloc, first, second, third)?;
+    let right = compose_right(alloc, first, second, third)?;
+    Ok((left, right))
+}
+
+/// The map of code that was compiled and then minified, from the JSON texts of the two maps: a plan that composes them.
+/// It has all that `evaluate` promises of that plan.
+pub fn minified_map(
+    alloc: Global,
+    minified: &str,
+    compiled: &str,
+) -> std::result::Result<OwnedSourceMap, PlanError>
+    ensures map { IfOk result (λ map. IsEvaluated map (composition_outcome (read_outcome (read_map minified.now)) (read_outcome (read_map compiled.now)))) }
+{
+    let first = Box::new(alloc, Plan::Read(minified))?;
+    let second = Box::new(alloc, Plan::Read(compiled))?;
+    evaluate(alloc, &Plan::Compose(first, second))
+}
+
+/// Evaluates a plan, and writes the JSON text of its map. It is that of a map with all that `evaluate` promises.
+pub fn evaluated_text(alloc: Global, plan: &Plan<'_>) -> std::result::Result<String, PlanError>
+    ensures { IfOk result (λ text. (map : MapRecord) × IsEvaluated map (outcome plan.now) × (map_text map ≡ Ok (string_bytes text))) }
+{
+    let map = evaluate(alloc, plan)?;
+    Ok(map.to_json_string(alloc)?)
+}
+
+/// Sets the file of the map inside, through `as_source_map_mut`. The owned map then has it, and nothing else has changed.
+pub fn rename(alloc: Global, map: &mut OwnedSourceMap, file: &str) -> Result<()>
+    ensures kept { OnOk result (map.new ≡ record map.old { file = Some file.now }) }
+    ensures unchanged { OnErr result (map.new ≡ map.old) }
+{
+    map.as_source_map_mut().set_file(alloc, file)
+}
+
+/// Sets the ignore list of the map inside, through `DerefMut`. The owned map then has it, and nothing else has changed.
+pub fn ignore(map: &mut OwnedSourceMap, ignore_list: Vec<u32>)
+    ensures { map.new ≡ record map.old { ignore_list = Some ignore_list.items } }
+{
+    let inside: &mut SourceMap<'static> = &mut *map;
+    inside.set_ignore_list(ignore_list);
+}
+
+/// The number of names, by going over them.
+pub fn name_count(map: &OwnedSourceMap) -> usize
+    ensures { result ≡ length map.now.names }
+{
+    map.get_names().count()
+}

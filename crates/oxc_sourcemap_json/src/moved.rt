@@ -1,0 +1,245 @@
+//! The shape of a source map as an owned JSON value: strings are moved, and never copied.
+ghost use Rattle.std.specs.Prelude.{◌≡◌, ◌≢◌, ℕ, List, map, option_map, string_bytes, codes, false, IfOk, IfErr, Ok, Err, Some, None};
+ghost use Rattle.std.specs.Str.{bytes_eq};
+ghost use Rattle.serde_json.specs.View.{view, members_view};
+ghost use Rattle.serde_json.specs.Find.{get_member};
+ghost use Rattle.oxc_sourcemap_mappings.specs.declared.error.Error.TheVariants.{OutOfMemory};
+ghost use Rattle.oxc_sourcemap_mappings.specs.declared.error.Field.TheVariants.{Mappings, Sources, SourcesContent};
+ghost use Rattle.oxc_sourcemap_json.specs.Json.{json_record, json_contents};
+ghost use Rattle.oxc_sourcemap_json.specs.Shape.{present, optional, required, text_in, texts_in, as_content, contents_in, names_of, shape};
+
+use crate::json_source_map::JSONSourceMap;
+use crate::shape::{read_either_list, read_version};
+use oxc_sourcemap_mappings::{Error, Field, JsonFault, Result};
+use serde_json::{Map, Value};
+use std::alloc::Global;
+
+/// A member, moved out of an object. The other members stay.
+fn take(object: &mut Map<String, Value>, key: &str) -> Option<Value>
+    ensures member { option_map view result ≡ get_member key.now (members_view object.old.entries) }
+    ensures others { (other : List ℕ) → bytes_eq other key.now ≡ false → get_member other (members_view object.new.entries) ≡ get_member other (members_view object.old.entries) }
+{
+    object.remove(key)
+}
+
+/// The members of a source map.
+#[derive(Drop)]
+struct Members {
+    version: Option<Value>,
+    file: Option<Value>,
+    mappings: Option<Value>,
+    source_root: Option<Value>,
+    sources: Option<Value>,
+    sources_content: Option<Value>,
+    names: Option<Value>,
+    debug_id: Option<Value>,
+    ignore_list: Option<Value>,
+    older_ignore_list: Option<Value>,
+}
+
+/// The members of a source map, moved out of an object. All others are dropped.
+fn members_of(mut object: Map<String, Value>) -> Members
+    ensures version { option_map view result.version ≡ get_member (codes "version") (members_view object.entries) }
+    ensures file { option_map view result.file ≡ get_member (codes "file") (members_view object.entries) }
+    ensures mappings { option_map view result.mappings ≡ get_member (codes "mappings") (members_view object.entries) }
+    ensures source_root { option_map view result.source_root ≡ get_member (codes "sourceRoot") (members_view object.entries) }
+    ensures sources { option_map view result.sources ≡ get_member (codes "sources") (members_view object.entries) }
+    ensures sources_content { option_map view result.sources_content ≡ get_member (codes "sourcesContent") (members_view object.entries) }
+    ensures names { option_map view result.names ≡ get_member (codes "names") (members_view object.entries) }
+    ensures debug_id { option_map view result.debug_id ≡ get_member (codes "debugId") (members_view object.entries) }
+    ensures ignore_list { option_map view result.ignore_list ≡ get_member (codes "ignoreList") (members_view object.entries) }
+    ensures older_ignore_list { option_map view result.older_ignore_list ≡ get_member (codes "x_google_ignoreList") (members_view object.entries) }
+{
+    let version = take(&mut object, "version");
+    let file = take(&mut object, "file");
+    let mappings = take(&mut object, "mappings");
+    let source_root = take(&mut object, "sourceRoot");
+    let sources = take(&mut object, "sources");
+    let sources_content = take(&mut object, "sourcesContent");
+    let names = take(&mut object, "names");
+    let debug_id = take(&mut object, "debugId");
+    let ignore_list = take(&mut object, "ignoreList");
+    let older_ignore_list = take(&mut object, "x_google_ignoreList");
+    Members {
+        version,
+        file,
+        mappings,
+        source_root,
+        sources,
+        sources_content,
+        names,
+        debug_id,
+        ignore_list,
+        older_ignore_list,
+    }
+}
+
+/// A member that may be there, borrowed.
+fn borrowed(member: &Option<Value>) -> Option<&Value>
+    ensures { option_map (λ value. view value.now) result ≡ option_map view member.now }
+{
+    match member {
+        Some(value) => Some(value),
+        None => None,
+    }
+}
+
+/// A member that is there and is not null.
+fn present(member: Option<Value>) -> Option<Value>
+    ensures { option_map view result ≡ present (option_map view member) }
+{
+    match member {
+        None | Some(Value::Null) => None,
+        Some(value) => Some(value),
+    }
+}
+
+/// A text.
+fn moved_text(member: Value, field: Field) -> Result<String>
+    ensures text { IfOk result (λ text. text_in field (view member) ≡ Ok (string_bytes text)) }
+    ensures refused { IfErr result (λ e. text_in field (view member) ≡ Err e) }
+{
+    match member {
+        Value::String(text) => Ok(text),
+        _ => Err(Error::BadJson(JsonFault::Shape(field))),
+    }
+}
+
+/// A list of texts.
+fn moved_texts(alloc: Global, member: Value, field: Field) -> Result<Vec<String>>
+    ensures texts { IfOk result (λ texts. texts_in field (view member) ≡ Ok (map string_bytes texts.items)) }
+    ensures refused { IfErr result (λ e. (e ≢ OutOfMemory) → texts_in field (view member) ≡ Err e) }
+{
+    let Value::Array(items) = member else {
+        return Err(Error::BadJson(JsonFault::Shape(field)));
+    };
+    let mut texts = Vec::with_capacity(alloc, items.len())?;
+    for item in items {
+        texts.push(moved_text(item, field)?)?;
+    }
+    Ok(texts)
+}
+
+/// A content: a text, or null where it is not known.
+fn moved_content(item: Value) -> Option<Option<String>>
+    ensures { option_map (option_map string_bytes) result ≡ as_content (view item) }
+{
+    match item {
+        Value::Null => Some(None),
+        Value::String(text) => Some(Some(text)),
+        _ => None,
+    }
+}
+
+/// A list of texts and nulls.
+fn moved_contents(alloc: Global, member: Value, field: Field) -> Result<Vec<Option<String>>>
+    ensures contents { IfOk result (λ contents. contents_in field (view member) ≡ Ok (map (option_map string_bytes) contents.items)) }
+    ensures refused { IfErr result (λ e. (e ≢ OutOfMemory) → contents_in field (view member) ≡ Err e) }
+{
+    let Value::Array(items) = member else {
+        return Err(Error::BadJson(JsonFault::Shape(field)));
+    };
+    let mut contents = Vec::with_capacity(alloc, items.len())?;
+    for item in items {
+        let Some(content) = moved_content(item) else {
+            return Err(Error::BadJson(JsonFault::Shape(field)));
+        };
+        contents.push(content)?;
+    }
+    Ok(contents)
+}
+
+/// A text that may be missing or null.
+fn optional_text(member: Option<Value>, field: Field) -> Result<Option<String>>
+    ensures text { IfOk result (λ text. optional (text_in field) (present (option_map view member)) ≡ Ok (option_map string_bytes text)) }
+    ensures refused { IfErr result (λ e. optional (text_in field) (present (option_map view member)) ≡ Err e) }
+{
+    match present(member) {
+        Some(value) => Ok(Some(moved_text(value, field)?)),
+        None => Ok(None),
+    }
+}
+
+/// The mappings, which must be there.
+fn moved_mappings(member: Option<Value>) -> Result<String>
+    ensures text { IfOk result (λ text. required Mappings (text_in Mappings) (option_map view member) ≡ Ok (string_bytes text)) }
+    ensures refused { IfErr result (λ e. required Mappings (text_in Mappings) (option_map view member) ≡ Err e) }
+{
+    match member {
+        Some(value) => moved_text(value, Field::Mappings),
+        None => Err(Error::BadJson(JsonFault::Shape(Field::Mappings))),
+    }
+}
+
+/// The sources, which must be there.
+fn moved_sources(alloc: Global, member: Option<Value>) -> Result<Vec<String>>
+    ensures texts { IfOk result (λ texts. required Sources (texts_in Sources) (option_map view member) ≡ Ok (map string_bytes texts.items)) }
+    ensures refused { IfErr result (λ e. (e ≢ OutOfMemory) → required Sources (texts_in Sources) (option_map view member) ≡ Err e) }
+{
+    match member {
+        Some(value) => moved_texts(alloc, value, Field::Sources),
+        None => Err(Error::BadJson(JsonFault::Shape(Field::Sources))),
+    }
+}
+
+/// The contents of sources, which may be missing or null.
+fn moved_sources_content(
+    alloc: Global,
+    member: Option<Value>,
+) -> Result<Option<Vec<Option<String>>>>
+    ensures contents { IfOk result (λ contents. optional (contents_in SourcesContent) (present (option_map view member)) ≡ Ok (json_contents contents)) }
+    ensures refused { IfErr result (λ e. (e ≢ OutOfMemory) → optional (contents_in SourcesContent) (present (option_map view member)) ≡ Err e) }
+{
+    match present(member) {
+        Some(value) => Ok(Some(moved_contents(alloc, value, Field::SourcesContent)?)),
+        None => Ok(None),
+    }
+}
+
+/// The names, which may be missing but not null.
+fn moved_names(alloc: Global, member: Option<Value>) -> Result<Vec<String>>
+    ensures texts { IfOk result (λ texts. names_of (option_map view member) ≡ Ok (map string_bytes texts.items)) }
+    ensures refused { IfErr result (λ e. (e ≢ OutOfMemory) → names_of (option_map view member) ≡ Err e) }
+{
+    match member {
+        Some(value) => moved_texts(alloc, value, Field::Names),
+        None => Ok(Vec::new(alloc)),
+    }
+}
+
+/// The fields of an owned JSON value: what `JSONSourceMap::from_value` makes of it, but its strings are moved. The rest of
+/// the value is dropped. Fails as that call does.
+#[tactic(auto, unfolding(crate::specs::Shape::shape))]
+pub(crate) fn json_of(alloc: Global, value: Value) -> Result<JSONSourceMap>
+    ensures json { IfOk result (λ json. shape (view value) ≡ Ok (json_record json)) }
+    ensures refused { IfErr result (λ e. (e ≢ OutOfMemory) → shape (view value) ≡ Err e) }
+{
+    let Value::Object(object) = value else {
+        return Err(Error::BadJson(JsonFault::Shape(Field::Object)));
+    };
+    let mut members = members_of(object);
+    let version = read_version(borrowed(&members.version))?;
+    let file = optional_text(members.file.take(), Field::File)?;
+    let mappings = moved_mappings(members.mappings.take())?;
+    let source_root = optional_text(members.source_root.take(), Field::SourceRoot)?;
+    let sources = moved_sources(alloc, members.sources.take())?;
+    let sources_content = moved_sources_content(alloc, members.sources_content.take())?;
+    let names = moved_names(alloc, members.names.take())?;
+    let debug_id = optional_text(members.debug_id.take(), Field::DebugId)?;
+    let ignore_list = read_either_list(
+        alloc,
+        borrowed(&members.ignore_list),
+        borrowed(&members.older_ignore_list),
+    )?;
+    Ok(JSONSourceMap {
+        version,
+        file,
+        mappings,
+        source_root,
+        sources,
+        sources_content,
+        names,
+        debug_id,
+        ignore_list,
+    })
+}

@@ -1,0 +1,155 @@
+"""Source maps in plain Python, written after docs/FORMAT.md and apart from the library, for compare_maps.py.
+
+A map is the value that json.loads gives; its tokens are tuples (line, column, source, source line, source column, name),
+with None for a source or a name that is missing. Only valid maps are read.
+"""
+import base64, json
+from bisect import bisect_left
+
+ALPHABET = "ABCDEFGHIJKLMNOPQRSTUVWXYZabcdefghijklmnopqrstuvwxyz0123456789+/"
+VALUES = {ord(letter): value for value, letter in enumerate(ALPHABET)}
+
+
+def fields_of(segment):
+    fields, number, shift = [], 0, 0
+    for byte in segment:
+        value = VALUES[byte]
+        number += (value & 31) << shift
+        shift += 5
+        if value < 32:
+            fields.append(-(number >> 1) if number & 1 else number >> 1)
+            number = shift = 0
+    return fields
+
+
+def decode(mappings):
+    tokens, source, source_line, source_column, name = [], 0, 0, 0, 0
+    for line, text in enumerate(mappings.encode().split(b";")):
+        column = 0
+        for segment in filter(None, text.split(b",")):
+            fields = fields_of(segment)
+            column += fields[0]
+            if len(fields) == 1:
+                tokens.append((line, column, None, source_line, source_column, None))
+                continue
+            source, source_line, source_column = source + fields[1], source_line + fields[2], source_column + fields[3]
+            if len(fields) == 5:
+                name += fields[4]
+            tokens.append((line, column, source, source_line, source_column, name if len(fields) == 5 else None))
+    return tokens
+
+
+def number_text(number):
+    number, text = (-number << 1 | 1) if number < 0 else number << 1, ""
+    while True:
+        number, value = number >> 5, number & 31
+        text += ALPHABET[value | 32 if number else value]
+        if not number:
+            return text
+
+
+def encode(tokens):
+    pieces, at_line, at_column, at_source, at_name = [], 0, 0, (0, 0, 0), 0
+    for line, column, source, source_line, source_column, name in tokens:
+        pieces.append(";" * (line - at_line) if line > at_line else "," if pieces else "")
+        at_line, at_column = line, at_column if line == at_line else 0
+        numbers = [column - at_column]
+        at_column = column
+        if source is not None:
+            place = (source, source_line, source_column)
+            numbers += [new - old for new, old in zip(place, at_source)]
+            at_source = place
+            if name is not None:
+                numbers.append(name - at_name)
+                at_name = name
+        pieces.append("".join(map(number_text, numbers)))
+    return "".join(pieces)
+
+
+def to_text(value, tokens):
+    """The JSON text of a map that has these tokens: its known keys in order, and nothing for what is null."""
+    contents = value.get("sourcesContent") or []
+    ignored = value.get("ignoreList")
+    ignored = value.get("x_google_ignoreList") if ignored is None else ignored
+    members = {"version": 3, "file": value.get("file"), "sourceRoot": value.get("sourceRoot"), "names": value.get("names", []),
+               "sources": value["sources"], "sourcesContent": contents if any(text is not None for text in contents) else None,
+               "ignoreList": ignored, "mappings": encode(tokens), "debugId": value.get("debugId")}
+    known = {key: member for key, member in members.items() if member is not None}
+    return json.dumps(known, ensure_ascii=False, separators=(",", ":"))
+
+
+def to_url(text):
+    return "data:application/json;charset=utf-8;base64," + base64.b64encode(text.encode()).decode()
+
+
+class Table:
+    """Looks positions up in tokens that are sorted by line and column."""
+
+    def __init__(self, tokens):
+        self.tokens, self.keys = tokens, [token[:2] for token in tokens]
+
+    def find(self, line, column, clamped=False):
+        """The first token at the column, or the last before it; clamped, else the first token of the line."""
+        at = bisect_left(self.keys, (line, column))
+        if at < len(self.keys) and self.keys[at] == (line, column):
+            return self.tokens[at]
+        if at > 0 and self.keys[at - 1][0] == line:
+            return self.tokens[at - 1]
+        if clamped and at < len(self.keys) and self.keys[at][0] == line:
+            return self.tokens[at]
+        return None
+
+
+def trace_text(value, token):
+    """What `smap trace` prints of a token."""
+    if token is None:
+        return "nothing"
+    _, _, source, line, column, name = token
+    if source is None:
+        return "unmapped"
+    text = f"{json.dumps(value['sources'][source], ensure_ascii=False)}:{line}:{column}"
+    return text if name is None else f"{text} {json.dumps(value['names'][name], ensure_ascii=False)}"
+
+
+def compose(value, tokens, under, under_tokens):
+    """A map composed with the map `under`, of the step before it."""
+    table, names = Table(under_tokens), list(under.get("names", []))
+    ids = {}
+    for id, name in enumerate(names):
+        ids.setdefault(name, id)
+    composed = []
+    for line, column, source, source_line, source_column, name in tokens:
+        target = None if source is None else table.find(source_line, source_column, clamped=True)
+        if target is None or target[2] is None:
+            composed.append((line, column, None, 0, 0, None))
+            continue
+        id = target[5]
+        if id is None and name is not None:
+            text = value["names"][name]
+            id = ids.setdefault(text, len(names))
+            if id == len(names):
+                names.append(text)
+        composed.append((line, column, *target[2:5], id))
+    from_above = {key: value.get(key) for key in ("file", "debugId")}
+    from_under = {key: under.get(key) for key in ("sourceRoot", "sources", "sourcesContent", "ignoreList", "x_google_ignoreList")}
+    return {**from_above, **from_under, "names": names}, composed
+
+
+def join(parts):
+    """Joins maps: a list of (value, tokens, line offset)."""
+    joined = {"names": [], "sources": [], "sourcesContent": [], "ignoreList": None}
+    tokens = []
+    for value, part, offset in parts:
+        names, sources = len(joined["names"]), len(joined["sources"])
+        shifted = [(line + offset, column, None if source is None else source + sources, source_line, source_column,
+                    None if name is None else name + names) for line, column, source, source_line, source_column, name in part]
+        tokens += shifted[1:] if shifted and tokens and shifted[0] == tokens[-1] else shifted
+        contents = (value.get("sourcesContent") or [])[:len(value["sources"])]
+        joined["names"] += value.get("names", [])
+        joined["sources"] += value["sources"]
+        joined["sourcesContent"] += contents + [None] * (len(value["sources"]) - len(contents))
+        ignored = value.get("ignoreList")
+        ignored = value.get("x_google_ignoreList") if ignored is None else ignored
+        if ignored is not None:
+            joined["ignoreList"] = (joined["ignoreList"] or []) + [source + sources for source in ignored]
+    return joined, tokens

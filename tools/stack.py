@@ -34,6 +34,8 @@ def cases():
     yield "lists, 127 deep", ["normalise"], lists
     yield "objects, 127 deep", ["normalise"], objects
     yield "objects, 127 deep, in joins, 64 deep", nested(["join", 1], 63, [0]), objects
+    yield "objects, 127 deep, in compositions on the left, 64 deep", nested(["compose"], 63, ["@0"]), objects
+    yield "objects, 127 deep, in compositions on the right, 64 deep", nested(["compose", "@0"], 63, []), objects
 
 
 def answers(program, words, given, kilobytes):

@@ -1,20 +1,32 @@
 -- The parts of a join, as far as they have come.
-use Rattle.std.proofs.Common.{◌≡◌, ℕ, ◌+◌, ◌<◌, List, [], ◌∷◌, ◌++◌, map, length, take, drop, get_or, refl, sym, ap, ◌∙◌, subst, Result, Ok, Err}
+use Rattle.std.proofs.Common.{◌≡◌, ℕ, ◌+◌, ◌<◌, ◌≤◌, List, [], ◌∷◌, ◌++◌, map, length, take, drop, get_or, sym, ap, ◌∙◌, subst, arith, Result, Ok, Err}
 use Rattle.std.specs.Result.{IfErr, IsErrAnd}
 use Rattle.std.proofs.lemmas.List.{take_more, drop_more, take-append-drop, map-append}
 use Rattle.oxc_sourcemap_parts.specs.Record.{MapRecord}
 use Rattle.oxc_sourcemap_join.specs.Joined.{Offset, at_line}
 use Rattle.oxc_sourcemap_plan.specs.declared.plan.Plan.{Plan}
 use Rattle.oxc_sourcemap_plan.specs.declared.plan.PlanError.{PlanError}
-use Rattle.oxc_sourcemap_plan.specs.Outcome.{outcome_of, join_outcome}
+use Rattle.oxc_sourcemap_plan.specs.Depth.{deepest}
+use Rattle.oxc_sourcemap_plan.specs.Outcome.{outcome_of, outcomes, join_outcome}
 use Rattle.oxc_sourcemap_plan.specs.Realizes.{Realizes, FailsAs, AllRealize}
-use Rattle.oxc_sourcemap_plan.proofs.Plans.{outcomes}
 use Rattle.oxc_sourcemap_plan.proofs.Realizing.{part_refuses}
 
 -- what a `?` hands on
 pub from_err : {X E : Type 0} (r : Result X E) (P Q : E → Type 0) → IsErrAnd r P → ((e : E) → P e → Q e) → IfErr r Q
 from_err (Ok x) P Q h f = tt
 from_err (Err e) P Q h f = f e h
+
+-- the list in two halves around its item i
+around : {A : Type 0} (ps : List A) (i : ℕ) (p : A) → i < length ps → p ≡ get_or ps i p → ps ≡ take i ps ++ p ∷ drop (i + 1) ps
+around ps i p l q = sym (take-append-drop i ps) ∙ ap (λ xs. take i ps ++ xs) (drop_more ps i p l ∙ ap (λ x. x ∷ drop (i + 1) ps) (sym q))
+
+below_deepest : {A : Type 0} (f : A → ℕ) (xs ys : List A) (p : A) → f p ≤ deepest (map f (xs ++ p ∷ ys))
+below_deepest f [] ys p = grind (arith)
+below_deepest f (x ∷ xs) ys p = grind (arith, below_deepest f xs ys p)
+
+-- no part of a join is deeper than the deepest
+pub part_below_deepest : {A : Type 0} (f : A → ℕ) (ps : List A) (i : ℕ) (p : A) → i < length ps → p ≡ get_or ps i p → f p ≤ deepest (map f ps)
+part_below_deepest f ps i p l q = subst (λ xs. f p ≤ deepest (map f xs)) (sym (around ps i p l q)) (below_deepest f (take i ps) (drop (i + 1) ps) p)
 
 -- one part more
 one_more : (ms : List (MapRecord × Offset)) (ps : List (Plan × Offset)) (m : MapRecord × Offset) (p : Plan × Offset) → AllRealize ms (outcomes ps) → Realizes m.0 (outcome_of p.0) → m.1 ≡ p.1 → AllRealize (ms ++ m ∷ []) (outcomes (ps ++ p ∷ []))
@@ -36,8 +48,7 @@ module _ {A B : Type 0} (map_at : B → MapRecord × Offset) (part_at : A → Pl
   pub part_refused : (ms : List B) (ps : List A) (i : ℕ) (p : A) (e : PlanError) → i < length ps → p ≡ get_or ps i p → AllRealize (map map_at ms) (outcomes (map part_at (take i ps)))
       → FailsAs e (outcome_of (part_at p).0) → FailsAs e (join_outcome (outcomes (map part_at ps)))
   part_refused ms ps i p e l q h r =
-      let s : ps ≡ take i ps ++ p ∷ drop (i + 1) ps = sym (take-append-drop i ps) ∙ ap (λ xs. take i ps ++ xs) (drop_more ps i p l ∙ ap (λ x. x ∷ drop (i + 1) ps) (sym q)) in
-      let t : map part_at ps ≡ map part_at (take i ps) ++ part_at p ∷ map part_at (drop (i + 1) ps) = ap (map part_at) s ∙ map-append part_at (take i ps) (p ∷ drop (i + 1) ps) in
+      let t : map part_at ps ≡ map part_at (take i ps) ++ part_at p ∷ map part_at (drop (i + 1) ps) = ap (map part_at) (around ps i p l q) ∙ map-append part_at (take i ps) (p ∷ drop (i + 1) ps) in
       part_refuses (map map_at ms) (outcomes (map part_at (take i ps))) (outcomes (map part_at (drop (i + 1) ps))) (outcome_of (part_at p).0) (part_at p).1 e h r (outcomes (map part_at ps))
       (ap outcomes t ∙ map-append (λ (p : Plan × Offset). (outcome_of p.0, p.1)) (map part_at (take i ps)) (part_at p ∷ map part_at (drop (i + 1) ps)))
 

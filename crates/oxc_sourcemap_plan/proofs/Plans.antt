@@ -3,13 +3,13 @@ use Rattle.std.proofs.Common.{◌≡◌, ℕ, List, [], ◌∷◌, ◌++◌, map
 use Rattle.std.specs.declared.alloc.Global.{Global}
 use Rattle.std.specs.Borrow.{Bor}
 use Rattle.oxc_sourcemap_json.specs.ReadMap.{read_map}
-use Rattle.oxc_sourcemap_join.specs.Joined.{Offset, at_line, at_lines, at_positions}
+use Rattle.oxc_sourcemap_join.specs.Joined.{at_line, at_lines, at_positions}
 use Rattle.oxc_sourcemap_plan.specs.declared.plan.Plan.{Plan}
 use Rattle.oxc_sourcemap_plan.specs.declared.plan.Plan.TheVariants.{Read, rolls-Read, Rewrite, rolls-Rewrite, Join, rolls-Join, JoinAt, rolls-JoinAt, Compose, rolls-Compose}
 use Rattle.oxc_sourcemap_plan.specs.declared.plan.Plan.TheOpen.{Plan-F}
 use Rattle.oxc_sourcemap_plan.specs.declared.plan.Plan.TheFolds.{fold-roll-Plan}
 use Rattle.oxc_sourcemap_plan.specs.Depth.{depth, depth_step, deepest}
-use Rattle.oxc_sourcemap_plan.specs.Outcome.{Outcome, outcome_of, outcome_step, read_outcome, rewrite_outcome, join_outcome, composition_outcome}
+use Rattle.oxc_sourcemap_plan.specs.Outcome.{Outcome, outcome_of, outcomes, outcome_step, read_outcome, rewrite_outcome, join_outcome, composition_outcome}
 
 firsts : {A B C : Type 0} (f : A → C) (parts : List (A × B)) → map (λ (p : C × B). p.0) (map (λ (p : A × B). (f p.0, p.1)) parts) ≡ map (λ p. f p.0) parts
 firsts f [] = refl
@@ -24,10 +24,6 @@ depth_join parts = ap depth (sym (rolls-Join parts)) ∙ fold-roll-Plan ℕ dept
 
 pub depth_join_at : (parts : Vec (Plan × ℕ × ℕ) Global) → depth (JoinAt parts) ≡ deepest (map (λ p. depth p.0) parts.items) + 1
 depth_join_at parts = ap depth (sym (rolls-JoinAt parts)) ∙ fold-roll-Plan ℕ depth_step (Plan-F.JoinAt parts) ∙ ap (λ ds. deepest ds + 1) (firsts-of-three depth parts.items)
-
--- the outcomes of the parts of a join, each at its offset
-abbrev pub outcomes : List (Plan × Offset) → List (Outcome × Offset)
-outcomes parts = map (λ p. (outcome_of p.0, p.1)) parts
 
 outcomes-at_lines : (parts : List (Plan × ℕ)) → at_lines (map (λ p. (outcome_of p.0, p.1)) parts) ≡ outcomes (at_lines parts)
 outcomes-at_lines [] = refl

@@ -1,5 +1,5 @@
 -- What is promised of the map that the evaluation of a plan answers.
-use Rattle.std.specs.Prelude.{◌≡◌, ℕ, ◌≤◌, Bool, true, List, length, Ok, Err, Some, None, false, ◌⊎◌}
+use Rattle.std.specs.Prelude.{◌≡◌, ◌≤◌, Bool, true, List, length, Ok, Err, Some, None, false, ◌⊎◌}
 use Rattle.std.specs.List.{list_all, list_any}
 use Rattle.std.specs.Str.{bytes_eq}
 use Rattle.oxc_sourcemap_mappings.specs.Reading.{reading}
@@ -9,7 +9,7 @@ use Rattle.oxc_sourcemap_parts.specs.DecodedMap.{DecodedMap, decoded_map_of}
 use Rattle.oxc_sourcemap_parts.specs.Sound.{IsSound}
 use Rattle.oxc_sourcemap_laws.specs.Repeats.{EqualUpToRepeats, EqualButForMappings}
 use Rattle.oxc_sourcemap_json.specs.Encoded.{encoded, encoded_record}
-use Rattle.oxc_sourcemap_json.specs.MapLaws.{rewritten, ComesBack}
+use Rattle.oxc_sourcemap_json.specs.MapLaws.{ComesBack}
 use Rattle.oxc_sourcemap_laws.specs.JoinLaws.{HaveSameTraces}
 use Rattle.oxc_sourcemap_plan.specs.declared.plan.PlanError.{PlanError}
 use Rattle.oxc_sourcemap_plan.specs.declared.plan.PlanError.TheVariants.{Map}

@@ -1,5 +1,5 @@
 -- Whether counts, lines and columns stay within the limits of a map.
-use Rattle.std.specs.Prelude.{ℕ, Bool, true, ◌&&◌, List, length, Result, Ok, Err, nat_le}
+use Rattle.std.specs.Prelude.{Bool, true, ◌&&◌, List, length, Result, Ok, Err, nat_le}
 use Rattle.std.specs.List.{list_all}
 use Rattle.oxc_sourcemap_parts.specs.Record.{Text}
 use Rattle.oxc_sourcemap_parts.specs.DecodedMap.{DecodedMapping, DecodedMap}

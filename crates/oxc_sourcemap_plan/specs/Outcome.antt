@@ -120,6 +120,10 @@ outcome_step (Plan-F.Compose first second) = composition_outcome first.value sec
 abbrev pub outcome_of : Plan → Outcome
 outcome_of = fold-Plan Outcome outcome_step
 
+-- the outcomes of the parts of a join, each at its offset
+abbrev pub outcomes : List (Plan × Offset) → List (Outcome × Offset)
+outcomes parts = map (λ p. (outcome_of p.0, p.1)) parts
+
 -- what is refused before anything is read
 abbrev pub too_deep : Outcome
 too_deep = record { meaning = Err TooDeep; map_record = None; names = []; contents = 0; is_within_limits = true; is_rewritten = false }

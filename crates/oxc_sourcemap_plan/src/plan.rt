@@ -2,7 +2,7 @@
 ghost use Rattle.std.specs.Prelude.{◌≡◌, ◌≤◌, ◌↔◌, ◌⊎◌, ℕ, List, Some, true, false, IsTrue, IfOk, IfErr};
 ghost use Rattle.oxc_sourcemap_plan.specs.PlanMessages.{plan_error_text};
 ghost use Rattle.oxc_sourcemap_plan.specs.Depth.{depth};
-ghost use Rattle.oxc_sourcemap_plan.specs.Outcome.{Outcome, read_outcome, rewrite_outcome, join_outcome, composition_outcome, outcome_of, outcome};
+ghost use Rattle.oxc_sourcemap_plan.specs.Outcome.{Outcome, read_outcome, rewrite_outcome, join_outcome, composition_outcome, outcome_of, outcomes, outcome};
 ghost use Rattle.oxc_sourcemap_join.specs.Joined.{Offset, at_lines, at_positions, joined, IsWithinLimits};
 ghost use Rattle.oxc_sourcemap_plan.specs.Evaluated.{IsEvaluated, IsFailure};
 ghost use Rattle.oxc_sourcemap_plan.specs.Realizes.{Realizes, FailsAs, AllRealize};
@@ -129,6 +129,7 @@ fn sorted(map: SourceMap<'static>) -> Result<SourceMap<'static>, PlanError>
 }
 
 /// The map that a JSON text says.
+#[inline(never)]
 fn read(alloc: Global, text: &str) -> Result<SourceMap<'static>, PlanError>
     ensures map { IfOk result (λ map. Realizes map (read_outcome (read_map text.now))) }
     ensures refused { IfErr result (λ e. FailsAs e (read_outcome (read_map text.now))) }
@@ -138,6 +139,7 @@ fn read(alloc: Global, text: &str) -> Result<SourceMap<'static>, PlanError>
 }
 
 /// A map, written and read again.
+#[inline(never)]
 fn rewrite(alloc: Global, map: SourceMap<'static>) -> Result<SourceMap<'static>, PlanError>
     ensures map { IfOk result (λ m. (o : Outcome) → Realizes map.entry o → Realizes m (rewrite_outcome o)) }
     ensures refused { IfErr result (λ e. (o : Outcome) → Realizes map.entry o → FailsAs e (rewrite_outcome o)) }
@@ -148,6 +150,7 @@ fn rewrite(alloc: Global, map: SourceMap<'static>) -> Result<SourceMap<'static>,
 }
 
 /// The join of maps, each at its offset of lines.
+#[inline(never)]
 fn join(
     alloc: Global,
     maps: Vec<(SourceMap<'static>, u32)>,
@@ -177,6 +180,7 @@ fn builder_at(
 }
 
 /// The join of maps, each at its line and column.
+#[inline(never)]
 fn join_at(
     alloc: Global,
     maps: Vec<(SourceMap<'static>, u32, u32)>,
@@ -190,6 +194,7 @@ fn join_at(
 }
 
 /// The composition of two maps.
+#[inline(never)]
 fn compose(
     alloc: Global,
     first: SourceMap<'static>,
@@ -203,38 +208,82 @@ fn compose(
 }
 
 /// The map of a plan of any depth.
+///
+/// The stack has a frame of each level of a plan. So that these are small, each kind of part has a function of its own, and
+/// what they call is not inlined.
+#[cycle(evaluation)]
 fn evaluate_part(alloc: Global, plan: &Plan<'_>) -> Result<SourceMap<'static>, PlanError>
     ensures map { IfOk result (λ map. Realizes map (outcome_of plan.now)) }
     ensures refused { IfErr result (λ e. FailsAs e (outcome_of plan.now)) }
 {
     match plan {
         Plan::Read(text) => read(alloc, text),
-        Plan::Rewrite(part) => {
-            let map = evaluate_part(alloc, part)?;
-            rewrite(alloc, map)
-        }
-        Plan::Join(parts) => {
-            let mut maps = Vec::new(alloc);
-            for (part, offset) in parts {
-                let map = evaluate_part(alloc, part)?;
-                maps.push((map, *offset))?;
-            }
-            join(alloc, maps)
-        }
-        Plan::JoinAt(parts) => {
-            let mut maps = Vec::new(alloc);
-            for (piece, line, column) in parts {
-                let map = evaluate_part(alloc, piece)?;
-                maps.push((map, *line, *column))?;
-            }
-            join_at(alloc, maps)
-        }
-        Plan::Compose(first, second) => {
-            let left = evaluate_part(alloc, first)?;
-            let right = evaluate_part(alloc, second)?;
-            compose(alloc, left, right)
-        }
+        Plan::Rewrite(part) => evaluate_rewrite(alloc, part),
+        Plan::Join(parts) => evaluate_join(alloc, parts.as_slice()),
+        Plan::JoinAt(parts) => evaluate_join_at(alloc, parts.as_slice()),
+        Plan::Compose(first, second) => evaluate_composition(alloc, first, second),
     }
+}
+
+/// The map of a part, written and read again.
+#[cycle(evaluation)]
+#[inline(never)]
+fn evaluate_rewrite(alloc: Global, part: &Plan<'_>) -> Result<SourceMap<'static>, PlanError>
+    ensures map { IfOk result (λ map. Realizes map (rewrite_outcome (outcome_of part.now))) }
+    ensures refused { IfErr result (λ e. FailsAs e (rewrite_outcome (outcome_of part.now))) }
+{
+    rewrite(alloc, evaluate_part(alloc, part)?)
+}
+
+/// The join of the maps of parts, each at its line.
+#[cycle(evaluation)]
+#[inline(never)]
+fn evaluate_join(alloc: Global, parts: &[(Plan<'_>, u32)]) -> Result<SourceMap<'static>, PlanError>
+    ensures map { IfOk result (λ map. Realizes map (join_outcome (outcomes (at_lines parts.now)))) }
+    ensures refused { IfErr result (λ e. FailsAs e (join_outcome (outcomes (at_lines parts.now)))) }
+{
+    let mut maps = Vec::new(alloc);
+    for (part, offset) in parts {
+        let map = evaluate_part(alloc, part)?;
+        maps.push((map, *offset))?;
+    }
+    join(alloc, maps)
+}
+
+/// The join of the maps of parts, each at its line and column.
+#[cycle(evaluation)]
+#[inline(never)]
+fn evaluate_join_at(
+    alloc: Global,
+    parts: &[(Plan<'_>, u32, u32)],
+) -> Result<SourceMap<'static>, PlanError>
+    ensures map { IfOk result (λ map. Realizes map (join_outcome (outcomes (at_positions parts.now)))) }
+    ensures refused { IfErr result (λ e. FailsAs e (join_outcome (outcomes (at_positions parts.now)))) }
+{
+    let mut maps = Vec::new(alloc);
+    for (part, line, column) in parts {
+        let map = evaluate_part(alloc, part)?;
+        maps.push((map, *line, *column))?;
+    }
+    join_at(alloc, maps)
+}
+
+/// The composition of the maps of two parts.
+#[cycle(evaluation)]
+#[inline(never)]
+fn evaluate_composition(
+    alloc: Global,
+    first: &Plan<'_>,
+    second: &Plan<'_>,
+) -> Result<SourceMap<'static>, PlanError>
+    ensures map { IfOk result (λ map. Realizes map (composition_outcome (outcome_of first.now) (outcome_of second.now))) }
+    ensures refused { IfErr result (λ e. FailsAs e (composition_outcome (outcome_of first.now) (outcome_of second.now))) }
+{
+    compose(
+        alloc,
+        evaluate_part(alloc, first)?,
+        evaluate_part(alloc, second)?,
+    )
 }
 
 /// Evaluates a plan: reads, rewrites, joins and composes maps as it says, parts from left to right, all parts of a join before

@@ -99,7 +99,8 @@ impl<T: Drop> From<AllocFailed<T>> for RunError {
     }
 }
 
-/// Reads up to the end, by a loop over `read`.
+/// Reads up to the end, by a loop over `read`. It is not inlined, so that its buffer does not stay on the stack.
+#[inline(never)]
 fn read_all<R: Read>(alloc: Global, reader: &mut Port<R>) -> Result<Vec<u8>, RunError>
     ensures bytes { IfOk result (λ input. IfSome (R.remaining reader.old.inner) (λ all. input.items ≡ all)) }
     ensures flag { reader.old.failed ≡ false → IsErrOf result RunError.Read ↔ (reader.new.failed ≡ true) }

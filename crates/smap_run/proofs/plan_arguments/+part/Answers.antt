@@ -4,10 +4,10 @@ use Rattle.std.proofs.lemmas.Result.{IfOk-weaker, IfErr-weaker}
 use Rattle.oxc_sourcemap.specs.Plan.{Plan}
 use Rattle.oxc_sourcemap.specs.Joined.{at_line, at_lines, at_positions}
 use Rattle.oxc_sourcemap.specs.Depth.{depth, deepest}
-use Rattle.oxc_sourcemap.specs.Outcome.{outcome_of, rewrite_outcome, composition_outcome}
+use Rattle.oxc_sourcemap.specs.Outcome.{outcome_of, outcomes, rewrite_outcome, composition_outcome}
 use Rattle.smap_run.specs.PlanArguments.{then_parsed, parsed_line, parsed_position, parsed_part, with_rest}
 use Rattle.oxc_sourcemap_plan.proofs.Parts.{from_err}
-use Rattle.oxc_sourcemap_plan.proofs.Plans.{outcomes, outcomes-lines-pushed, outcomes-positions-pushed, depth_join, depth_join_at, outcome_rewrite, outcome_join, outcome_join_at, outcome_compose}
+use Rattle.oxc_sourcemap_plan.proofs.Plans.{outcomes-lines-pushed, outcomes-positions-pushed, depth_join, depth_join_at, outcome_rewrite, outcome_join, outcome_join_at, outcome_compose}
 use Rattle.smap_run.proofs.PlanArguments.{named-start, named-rewrite, named-join, named-join_at, named-compose, named-text, left_after, part-refused, offset-refused, part-more, parts-end, join-of-parts, deepest-pushed}
 use Rattle.smap_run.proofs.plan_arguments.+part.Goals as goal
 

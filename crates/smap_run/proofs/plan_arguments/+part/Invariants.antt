@@ -2,7 +2,7 @@ use Rattle.std.proofs.Common.{◌≡◌, ◌≤◌, ◌-◌, ◌+◌, map, strin
 use Rattle.oxc_sourcemap.specs.Depth.{depth, deepest}
 use Rattle.oxc_sourcemap.specs.Joined.{at_lines, at_positions}
 use Rattle.smap_run.specs.PlanArguments.{parsed_line, parsed_position, parsed_parts, parsed_part}
-use Rattle.oxc_sourcemap_plan.proofs.Plans.{outcomes}
+use Rattle.oxc_sourcemap.specs.Outcome.{outcomes}
 use Rattle.smap_run.proofs.PlanArguments.{left_after}
 use Rattle.smap_run.proofs.plan_arguments.+part.Given as goal
 

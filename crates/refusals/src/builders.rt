@@ -1,0 +1,97 @@
+//! Calls of `SourceMapBuilder`. After a refused call the builder goes on as if the call had not been made.
+use crate::made::map_ended;
+use crate::marks::{Ended, answer, call, failed, passed_if};
+use crate::owned::owned_ended;
+use oxc_sourcemap::{Result, SourceMapBuilder};
+
+/// A call that adds to a builder.
+#[derive(Clone, Copy)]
+pub(crate) enum Add {
+    Name,
+    Source,
+    OtherSource,
+    Token,
+}
+
+fn make_add(rt: &HostRuntime, add: Add, builder: &mut SourceMapBuilder<'static>) -> Result<()> {
+    call(rt);
+    let added = match add {
+        Add::Name => builder.add_name("k"),
+        Add::Source => builder.add_source_and_content("b.js", "B"),
+        Add::OtherSource => builder.set_source_and_content("b.js", "B"),
+        Add::Token => match builder.add_token(0, 2, 0, 0, None, None) {
+            Ok(()) => Ok(0),
+            Err(error) => Err(error),
+        },
+    };
+    answer(rt);
+    match added {
+        Ok(_) => Ok(()),
+        Err(error) => Err(error),
+    }
+}
+
+/// Adds a source, a name and a token.
+fn go_on(builder: &mut SourceMapBuilder<'static>) -> Result<()> {
+    let source = builder.add_source_and_content("b.js", "C")?;
+    let name = builder.add_name("m")?;
+    builder.add_token(0, 4, 1, 0, Some(source), Some(name))
+}
+
+/// The text of what is built where no call is made before.
+const UNMET: &str =
+    r#"{"version":3,"file":"f.js","names":["m"],"sources":["b.js"],"sourcesContent":["C"],"mappings":"IACAA"}"#;
+
+/// The same where the call is made.
+fn wanted(add: Add) -> &'static str {
+    match add {
+        Add::Name =>
+            r#"{"version":3,"file":"f.js","names":["k","m"],"sources":["b.js"],"sourcesContent":["C"],"mappings":"IACAC"}"#,
+        Add::Source =>
+            r#"{"version":3,"file":"f.js","names":["m"],"sources":["b.js"],"sourcesContent":["B"],"mappings":"IACAA"}"#,
+        Add::OtherSource =>
+            r#"{"version":3,"file":"f.js","names":["m"],"sources":["b.js","b.js"],"sourcesContent":["B","C"],"mappings":"ICCAA"}"#,
+        Add::Token =>
+            r#"{"version":3,"file":"f.js","names":["m"],"sources":["b.js"],"sourcesContent":["C"],"mappings":"E,EACAA"}"#,
+    }
+}
+
+/// Adds to a builder.
+pub(crate) fn add_to_builder(rt: &HostRuntime, kind: Add) -> Result<Ended> {
+    let mut builder = SourceMapBuilder::empty(rt.alloc());
+    builder.set_file("f.js");
+    let added = make_add(rt, kind, &mut builder);
+    go_on(&mut builder)?;
+    let text = builder.into_sourcemap()?.to_json_string(rt.alloc())?;
+    Ok(match added {
+        Ok(()) => passed_if(text.as_str() == wanted(kind)),
+        Err(error) if text.as_str() == UNMET => failed(error),
+        Err(_) => Ended::Wrong,
+    })
+}
+
+/// A builder of a map with a source, a name and a token.
+fn built(rt: &HostRuntime) -> Result<SourceMapBuilder<'static>> {
+    let mut builder: SourceMapBuilder<'static> = SourceMapBuilder::empty(rt.alloc());
+    builder.set_file("f.js");
+    go_on(&mut builder)?;
+    Ok(builder)
+}
+
+/// Makes the map of what is built.
+pub(crate) fn finish_builder(rt: &HostRuntime) -> Result<Ended> {
+    let builder = built(rt)?;
+    call(rt);
+    let made = builder.into_sourcemap();
+    answer(rt);
+    map_ended(rt, &made, UNMET)
+}
+
+/// Makes the owned map of what is built.
+pub(crate) fn finish_builder_owned(rt: &HostRuntime) -> Result<Ended> {
+    let builder = built(rt)?;
+    call(rt);
+    let made = builder.into_owned_sourcemap();
+    answer(rt);
+    owned_ended(rt, &made, UNMET)
+}

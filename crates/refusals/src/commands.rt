@@ -1,0 +1,125 @@
+//! Calls of the program's library.
+use crate::marks::{Ended, answer, call, failed, passed_if, plan_failed, run_failed};
+use oxc_sourcemap::Error;
+use smap_run::{Command, Port, RunError, inputs_of, read_plan, read_words, run, trace};
+
+/// What the program is asked to do.
+#[derive(Clone, Copy)]
+pub(crate) enum Order {
+    Mappings,
+    Normalise,
+    Url,
+    Trace,
+    Plan,
+}
+
+/// The text of a map.
+const INPUT: &str = r#"{"version":3,"names":["x"],"sources":["a.js"],"mappings":"AAAA,GAAIA"}"#;
+
+/// Copies of words.
+fn copied(rt: &HostRuntime, words: &[&str]) -> Result<Vec<String>, RunError> {
+    let mut copies = Vec::new(rt.alloc());
+    for word in words {
+        copies.push(String::from_str(rt.alloc(), word)?)?;
+    }
+    Ok(copies)
+}
+
+/// The words of a plan that joins the map with itself.
+const PLAN: &[&str] = &["join", "2", "@0", "0", "rewrite", "@0", "1"];
+
+/// The command, its input, and what it writes.
+fn ordered(
+    rt: &HostRuntime,
+    order: Order,
+) -> Result<(Command, &'static str, &'static str), RunError> {
+    Ok(match order {
+        Order::Mappings => (Command::Mappings(1, 1), "AAAA,GAAIA", "AAAA,GAAIA\n"),
+        Order::Normalise => (
+            Command::Normalise,
+            INPUT,
+            "{\"version\":3,\"names\":[\"x\"],\"sources\":[\"a.js\"],\"mappings\":\"AAAA,GAAIA\"}\n",
+        ),
+        Order::Url => (
+            Command::Url,
+            INPUT,
+            "data:application/json;charset=utf-8;base64,eyJ2ZXJzaW9uIjozLCJuYW1lcyI6WyJ4Il0sInNvdXJjZXMiOlsiYS5qcyJdLCJtYXBwaW5ncyI6IkFBQUEsR0FBSUEifQ==\n",
+        ),
+        Order::Trace => (Command::Trace(0, 3), INPUT, "\"a.js\":0:4 \"x\"\n"),
+        Order::Plan => (
+            Command::Plan(copied(rt, PLAN)?),
+            INPUT,
+            "{\"version\":3,\"names\":[\"x\",\"x\"],\"sources\":[\"a.js\",\"a.js\"],\"mappings\":\"AAAA,GAAIA;ACAJ,GAAIC\"}\n",
+        ),
+    })
+}
+
+/// Runs a command, with a writer that has room for its answer.
+pub(crate) fn run_command(rt: &HostRuntime, order: Order) -> Result<Ended, RunError> {
+    let (command, input, wanted) = ordered(rt, order)?;
+    let mut reader = Port::new(input.as_bytes());
+    let mut writer = Port::new(Vec::with_capacity(rt.alloc(), 4096)?);
+    call(rt);
+    let ran = run(rt.alloc(), &command, &mut reader, &mut writer);
+    answer(rt);
+    let has_failed = reader.failed() || writer.failed();
+    let written = writer.into_inner();
+    Ok(run_ended(ran, has_failed, written.as_slice(), wanted))
+}
+
+/// How a command ended. Nothing is written where it is refused.
+fn run_ended(ran: Result<(), RunError>, has_failed: bool, written: &[u8], wanted: &str) -> Ended {
+    match ran {
+        Ok(()) => passed_if(!has_failed && written == wanted.as_bytes()),
+        Err(error) if !has_failed && written.is_empty() => run_failed(error),
+        Err(_) => Ended::Wrong,
+    }
+}
+
+/// Reads the words of a plan.
+pub(crate) fn read_arguments(rt: &HostRuntime) -> Result<Ended, RunError> {
+    let words = copied(rt, &["plan", "join", "1", "@0", "0"])?;
+    call(rt);
+    let read = read_words(rt.alloc(), words.as_slice());
+    answer(rt);
+    Ok(match read {
+        Ok(Command::Plan(words)) => passed_if(words.len() == 4),
+        Ok(_) => Ended::Wrong,
+        Err(error) => run_failed(error),
+    })
+}
+
+/// Splits an input.
+pub(crate) fn split_input(rt: &HostRuntime) -> Result<Ended, RunError> {
+    call(rt);
+    let read = inputs_of(rt.alloc(), "a\nb\n---\nc");
+    answer(rt);
+    Ok(match read {
+        Ok(inputs) => passed_if(inputs.len() == 2),
+        Err(error) => failed(Error::from(error)),
+    })
+}
+
+/// Reads the plan that words name.
+pub(crate) fn read_arguments_of_plan(rt: &HostRuntime) -> Result<Ended, RunError> {
+    let words = copied(rt, PLAN)?;
+    let inputs = copied(rt, &[INPUT])?;
+    call(rt);
+    let read = read_plan(rt.alloc(), inputs.as_slice(), words.as_slice());
+    answer(rt);
+    Ok(match read {
+        Ok(_) => Ended::Passed,
+        Err(error) => run_failed(error),
+    })
+}
+
+/// Looks a position up.
+pub(crate) fn trace_position(rt: &HostRuntime) -> Result<Ended, RunError> {
+    call(rt);
+    let traced = trace(rt.alloc(), INPUT, 0, 3);
+    answer(rt);
+    Ok(match traced {
+        Ok(line) => passed_if(line.as_str() == "\"a.js\":0:4 \"x\""),
+        Err(error) => plan_failed(error),
+    })
+}

@@ -1,0 +1,119 @@
+//! Faults that are found before any memory is taken. They are told also where each request would be refused.
+use crate::fixtures::{full_map, lent_map};
+use crate::marks::{Ended, answer, call, passed_if};
+use oxc_sourcemap::{
+    ConcatSourceMapBuilder, Error, JSONSourceMap, JsonFault, Result, SourceMap, SourceMapParts,
+    Token, TokenChunk, encode_chunk, encode_mappings,
+};
+use std::alloc::Global;
+
+/// Lines and columns of two tokens whose lines go back.
+const BACK: &[(u32, u32)] = &[(1, 0), (0, 0)];
+
+/// Unmapped tokens at these lines and columns.
+fn tokens_at(alloc: Global, positions: &[(u32, u32)]) -> Result<Vec<Token>> {
+    let mut tokens = Vec::new(alloc);
+    for (line, column) in positions {
+        tokens.push(Token::new(*line, *column, 0, 0, None, None))?;
+    }
+    Ok(tokens)
+}
+
+/// A map of these tokens.
+fn map_at(alloc: Global, positions: &[(u32, u32)]) -> Result<SourceMap<'static>> {
+    let tokens = tokens_at(alloc, positions)?;
+    let mut parts = SourceMapParts::empty(alloc)?;
+    parts.tokens = tokens.into_boxed_slice();
+    Ok(SourceMap::from_parts(parts))
+}
+
+/// Writes tokens whose lines go back, and chunks that do not fit.
+pub(crate) fn write_faulty(rt: &HostRuntime) -> Result<Ended> {
+    let tokens = tokens_at(rt.alloc(), BACK)?;
+    let mut out = String::new(rt.alloc());
+    Ok(passed_if(are_refused(rt, tokens.as_slice(), &mut out) && out.is_empty()))
+}
+
+fn are_refused(rt: &HostRuntime, tokens: &[Token], out: &mut String) -> bool {
+    let whole = TokenChunk::new(0, 2, 0, 0, 0, 0, 0, 0);
+    let long = [TokenChunk::new(0, 3, 0, 0, 0, 0, 0, 0)];
+    call(rt);
+    let refusals = [
+        encode_mappings(tokens, None, out),
+        encode_chunk(tokens, &whole, out),
+        encode_mappings(&tokens[..tokens.len().min(1)], Some(long.as_slice()), out),
+        encode_chunk(tokens, &long[0], out),
+    ];
+    answer(rt);
+    refusals
+        == [
+            Err(Error::LineOrder(1)),
+            Err(Error::LineOrder(1)),
+            Err(Error::BadChunks(0)),
+            Err(Error::BadChunks(0)),
+        ]
+}
+
+/// Makes the table of a map whose lines go back.
+pub(crate) fn make_faulty_table(rt: &HostRuntime) -> Result<Ended> {
+    let map = map_at(rt.alloc(), BACK)?;
+    call(rt);
+    let made = map.generate_lookup_table(rt.alloc());
+    answer(rt);
+    Ok(passed_if(made.err() == Some(Error::LineOrder(1))))
+}
+
+/// Reads a JSON source map whose version is wrong, or whose ignore list is out of range.
+pub(crate) fn read_faulty(rt: &HostRuntime, version: u32, fault: Error) -> Result<Ended> {
+    let json = faulty_json(rt.alloc(), version)?;
+    call(rt);
+    let read = SourceMap::from_json(rt.alloc(), json);
+    answer(rt);
+    Ok(passed_if(read.err() == Some(fault)))
+}
+
+fn faulty_json(alloc: Global, version: u32) -> Result<JSONSourceMap> {
+    let mut json = full_map(alloc)?.to_json(alloc)?;
+    json.version = version;
+    json.ignore_list = Some(vec![in alloc; 2u32]?);
+    Ok(json)
+}
+
+/// The wrong version of that JSON source map.
+pub(crate) const VERSION: Error = Error::BadJson(JsonFault::Version(4));
+
+/// The id in its ignore list that is out of range.
+pub(crate) const IGNORED: Error = Error::BadSourceReference(2);
+
+/// Composes a map of two sources, and a map with one whose lines go back.
+pub(crate) fn compose_faulty(rt: &HostRuntime, has_several: bool) -> Result<Ended> {
+    let map = if has_several {
+        full_map(rt.alloc())?
+    } else {
+        lent_map(rt.alloc())?
+    };
+    let input = map_at(rt.alloc(), BACK)?;
+    call(rt);
+    let made = map.compose(rt.alloc(), input);
+    answer(rt);
+    let fault = if has_several {
+        Error::SeveralSources(2)
+    } else {
+        Error::LineOrder(1)
+    };
+    Ok(passed_if(made.err() == Some(fault)))
+}
+
+/// Joins a map whose token would lie past the last line, lent and moved.
+pub(crate) fn join_faulty(rt: &HostRuntime) -> Result<Ended> {
+    let lent = map_at(rt.alloc(), &[(4294967295, 0)])?;
+    let moved = map_at(rt.alloc(), &[(0, 4294967295)])?;
+    let mut builder = ConcatSourceMapBuilder::empty(rt.alloc());
+    call(rt);
+    let refusals = [
+        builder.add_sourcemap(&lent, 1),
+        builder.add_sourcemap_owned_at(moved, 0, 1),
+    ];
+    answer(rt);
+    Ok(passed_if(refusals == [Err(Error::TooLarge); 2]))
+}

@@ -1,0 +1,52 @@
+//! Maps that calls are made on.
+use oxc_sourcemap::{OwnedSourceMap, Result, SourceMap, SourceMapParts, Token};
+use std::alloc::Global;
+use std::borrow::CowStr;
+
+/// A map with every field.
+pub(crate) const TEXT: &str =
+    r#"{"version":3,"file":"out.js","sourceRoot":"root","names":["n0","n1"],"sources":["a.js","b.js"],"sourcesContent":["A",null],"ignoreList":[1],"mappings":"AAAAA,CCACC,C","debugId":"dbg"}"#;
+
+/// A map whose token has no name.
+pub(crate) const INPUT_TEXT: &str =
+    r#"{"version":3,"sourceRoot":"root","names":["n0","n1"],"sources":["a.js","b.js"],"sourcesContent":["A",null],"ignoreList":[1],"mappings":"AAAA"}"#;
+
+/// A map of that text.
+pub(crate) fn full_map(alloc: Global) -> Result<SourceMap<'static>> {
+    SourceMap::from_json_string(alloc, TEXT)
+}
+
+/// The same, owned.
+pub(crate) fn full_owned_map(alloc: Global) -> Result<OwnedSourceMap> {
+    OwnedSourceMap::from_json_string(alloc, TEXT)
+}
+
+/// The JSON text of a map of one source, name and content, and of one token with them.
+pub(crate) const LENT_TEXT: &str =
+    r#"{"version":3,"file":"f.js","names":["n"],"sources":["a.js"],"sourcesContent":["A"],"mappings":"AAAAA"}"#;
+
+/// The parts of that map, all texts of which are borrowed.
+pub(crate) fn lent_parts(alloc: Global) -> Result<SourceMapParts<'static>> {
+    let names = vec![in alloc; CowStr::Borrowed("n")]?;
+    let sources = vec![in alloc; CowStr::Borrowed("a.js")]?;
+    let contents = vec![in alloc; Some(CowStr::Borrowed("A"))]?;
+    let tokens = vec![in alloc; Token::new(0, 0, 0, 0, Some(0), Some(0))]?;
+    let mut parts = SourceMapParts::empty(alloc)?;
+    parts.file = Some(CowStr::Borrowed("f.js"));
+    parts.names = names;
+    parts.sources = sources;
+    parts.source_contents = contents;
+    parts.tokens = tokens.into_boxed_slice();
+    Ok(parts)
+}
+
+/// A map of these parts.
+pub(crate) fn lent_map(alloc: Global) -> Result<SourceMap<'static>> {
+    Ok(SourceMap::from_parts(lent_parts(alloc)?))
+}
+
+/// Whether a map has this JSON text.
+pub(crate) fn has_text(alloc: Global, map: &SourceMap<'_>, wanted: &str) -> Result<bool> {
+    let text = map.to_json_string(alloc)?;
+    Ok(text.as_str() == wanted)
+}

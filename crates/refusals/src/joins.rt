@@ -1,0 +1,138 @@
+//! Calls of `ConcatSourceMapBuilder`. After a refused call the builder goes on as if the call had not been made.
+use crate::fixtures::{full_map, lent_map};
+use crate::made::map_ended;
+use crate::marks::{Ended, answer, call, failed, passed_if};
+use crate::owned::owned_ended;
+use oxc_sourcemap::{ConcatSourceMapBuilder, Result, SourceMap};
+
+/// A call that adds a map to a join.
+#[derive(Clone, Copy)]
+pub(crate) enum Join {
+    Lent,
+    LentAt,
+    Moved,
+    MovedAt,
+}
+
+fn make_join<'m>(
+    rt: &HostRuntime,
+    join: Join,
+    builder: &mut ConcatSourceMapBuilder<'m>,
+    lent: &'m SourceMap<'static>,
+    moved: SourceMap<'static>,
+) -> Result<()> {
+    call(rt);
+    let added = match join {
+        Join::Lent => builder.add_sourcemap(lent, 0),
+        Join::LentAt => builder.add_sourcemap_at(lent, 0, 1),
+        Join::Moved => builder.add_sourcemap_owned(moved, 0),
+        Join::MovedAt => builder.add_sourcemap_owned_at(moved, 0, 1),
+    };
+    answer(rt);
+    added
+}
+
+/// The text of the join of one map on line 1.
+const UNMET: &str =
+    r#"{"version":3,"names":["n"],"sources":["a.js"],"sourcesContent":["A"],"mappings":";AAAAA"}"#;
+
+/// The text of the join with the map with every field before.
+fn wanted(join: Join) -> &'static str {
+    match join {
+        Join::Lent | Join::Moved =>
+            r#"{"version":3,"names":["n0","n1","n"],"sources":["a.js","b.js","a.js"],"sourcesContent":["A",null,"A"],"ignoreList":[1],"mappings":"AAAAA,CCACC,C;ACADC"}"#,
+        Join::LentAt | Join::MovedAt =>
+            r#"{"version":3,"names":["n0","n1","n"],"sources":["a.js","b.js","a.js"],"sourcesContent":["A",null,"A"],"ignoreList":[1],"mappings":"CAAAA,CCACC,C;ACADC"}"#,
+    }
+}
+
+/// Adds a map to a join.
+pub(crate) fn add_to_join(rt: &HostRuntime, kind: Join) -> Result<Ended> {
+    let lent = full_map(rt.alloc())?;
+    let moved = full_map(rt.alloc())?;
+    let mut builder = ConcatSourceMapBuilder::empty(rt.alloc());
+    let added = make_join(rt, kind, &mut builder, &lent, moved);
+    builder.add_sourcemap_owned(lent_map(rt.alloc())?, 1)?;
+    let text = builder.into_sourcemap()?.to_json_string(rt.alloc())?;
+    Ok(match added {
+        Ok(()) => passed_if(text.as_str() == wanted(kind)),
+        Err(error) if text.as_str() == UNMET => failed(error),
+        Err(_) => Ended::Wrong,
+    })
+}
+
+/// The text of the join of that map twice, on the lines 0 and 1.
+const TWICE: &str =
+    r#"{"version":3,"names":["n","n"],"sources":["a.js","a.js"],"sourcesContent":["A","A"],"mappings":"AAAAA;ACAAC"}"#;
+
+/// How a call ended that gives a builder.
+fn joined_ended(
+    rt: &HostRuntime,
+    made: Result<ConcatSourceMapBuilder<'_>>,
+    wanted: &str,
+) -> Result<Ended> {
+    match made {
+        Ok(builder) => {
+            let text = builder.into_sourcemap()?.to_json_string(rt.alloc())?;
+            Ok(passed_if(text.as_str() == wanted))
+        }
+        Err(error) => Ok(failed(error)),
+    }
+}
+
+/// Takes room for a join.
+pub(crate) fn take_room(rt: &HostRuntime) -> Result<Ended> {
+    call(rt);
+    let made = ConcatSourceMapBuilder::with_capacity(rt.alloc(), 1, 2, 3, 4);
+    answer(rt);
+    joined_ended(
+        rt,
+        made,
+        r#"{"version":3,"names":[],"sources":[],"mappings":""}"#,
+    )
+}
+
+/// Joins maps that are lent.
+pub(crate) fn join_lent(rt: &HostRuntime) -> Result<Ended> {
+    let map = lent_map(rt.alloc())?;
+    let maps = [(&map, 0), (&map, 1)];
+    call(rt);
+    let made = ConcatSourceMapBuilder::from_sourcemaps(rt.alloc(), maps.as_slice());
+    answer(rt);
+    joined_ended(rt, made, TWICE)
+}
+
+/// Joins maps that are moved.
+pub(crate) fn join_moved(rt: &HostRuntime) -> Result<Ended> {
+    let maps = vec![in rt.alloc(); (lent_map(rt.alloc())?, 0), (lent_map(rt.alloc())?, 1)]?;
+    call(rt);
+    let made = ConcatSourceMapBuilder::from_owned_sourcemaps(rt.alloc(), maps);
+    answer(rt);
+    joined_ended(rt, made, TWICE)
+}
+
+/// A join of one map on line 1.
+fn joined(rt: &HostRuntime) -> Result<ConcatSourceMapBuilder<'static>> {
+    let map = lent_map(rt.alloc())?;
+    let mut builder: ConcatSourceMapBuilder<'static> = ConcatSourceMapBuilder::empty(rt.alloc());
+    builder.add_sourcemap_owned(map, 1)?;
+    Ok(builder)
+}
+
+/// Makes the map of a join.
+pub(crate) fn finish_join(rt: &HostRuntime) -> Result<Ended> {
+    let builder = joined(rt)?;
+    call(rt);
+    let made = builder.into_sourcemap();
+    answer(rt);
+    map_ended(rt, &made, UNMET)
+}
+
+/// Makes the owned map of a join.
+pub(crate) fn finish_join_owned(rt: &HostRuntime) -> Result<Ended> {
+    let builder = joined(rt)?;
+    call(rt);
+    let made = builder.into_owned_sourcemap();
+    answer(rt);
+    owned_ended(rt, &made, UNMET)
+}

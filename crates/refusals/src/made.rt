@@ -1,0 +1,133 @@
+//! Calls that make a map or a JSON source map.
+use crate::fixtures::{
+    INPUT_TEXT, LENT_TEXT, TEXT, full_map, full_owned_map, has_text, lent_map, lent_parts,
+};
+use crate::marks::{Ended, answer, call, failed, passed_if};
+use oxc_sourcemap::{
+    JSONSourceMap, OwnedSourceMap, Result, SourceMap, decode, decode_from_string, encode,
+};
+use serde_json::Value;
+
+/// A call that makes a map.
+#[derive(Clone, Copy)]
+pub(crate) enum Make {
+    DecodeFromString,
+    FromJsonString,
+    Clone,
+}
+
+fn made(rt: &HostRuntime, make: Make, map: &SourceMap<'static>) -> Result<SourceMap<'static>> {
+    let alloc = rt.alloc();
+    call(rt);
+    let made = match make {
+        Make::DecodeFromString => decode_from_string(alloc, TEXT),
+        Make::FromJsonString => SourceMap::from_json_string(alloc, TEXT),
+        Make::Clone => map.clone(alloc),
+    };
+    answer(rt);
+    made
+}
+
+/// How a call ended that has to make the map of a text.
+pub(crate) fn map_ended(
+    rt: &HostRuntime,
+    made: &Result<SourceMap<'_>>,
+    wanted: &str,
+) -> Result<Ended> {
+    Ok(match made {
+        Ok(map) => passed_if(has_text(rt.alloc(), map, wanted)?),
+        Err(error) => failed(*error),
+    })
+}
+
+/// Makes a call that makes a map. The map that a clone is made of stays as it is.
+pub(crate) fn make_map(rt: &HostRuntime, make: Make) -> Result<Ended> {
+    let map = full_map(rt.alloc())?;
+    let made = made(rt, make, &map);
+    map_ended(rt, &made, TEXT)
+}
+
+/// Clones parts, all texts of which are borrowed.
+pub(crate) fn clone_parts(rt: &HostRuntime) -> Result<Ended> {
+    let parts = lent_parts(rt.alloc())?;
+    call(rt);
+    let made = parts.clone(rt.alloc());
+    answer(rt);
+    match made {
+        Ok(parts) => map_ended(rt, &Ok(SourceMap::from_parts(parts)), LENT_TEXT),
+        Err(error) => Ok(failed(error)),
+    }
+}
+
+/// Reads a JSON source map, by the method or by the free function.
+pub(crate) fn read_json(rt: &HostRuntime, is_free: bool) -> Result<Ended> {
+    let json = full_map(rt.alloc())?.to_json(rt.alloc())?;
+    call(rt);
+    let made = if is_free {
+        decode(rt.alloc(), json)
+    } else {
+        SourceMap::from_json(rt.alloc(), json)
+    };
+    answer(rt);
+    map_ended(rt, &made, TEXT)
+}
+
+/// Copies the texts that a map borrows.
+pub(crate) fn own_texts(rt: &HostRuntime) -> Result<Ended> {
+    let map = lent_map(rt.alloc())?;
+    call(rt);
+    let made = map.into_owned(rt.alloc());
+    answer(rt);
+    map_ended(rt, &made, LENT_TEXT)
+}
+
+/// Composes two maps, the first of which gives the token its name.
+pub(crate) fn compose(rt: &HostRuntime) -> Result<Ended> {
+    let map = lent_map(rt.alloc())?;
+    let input = SourceMap::from_json_string(rt.alloc(), INPUT_TEXT)?;
+    call(rt);
+    let made = map.compose(rt.alloc(), input);
+    answer(rt);
+    map_ended(rt, &made, COMPOSED)
+}
+
+/// What they compose to.
+pub(crate) const COMPOSED: &str =
+    r#"{"version":3,"file":"f.js","sourceRoot":"root","names":["n0","n1","n"],"sources":["a.js","b.js"],"sourcesContent":["A",null],"ignoreList":[1],"mappings":"AAAAE"}"#;
+
+/// A call that makes a JSON source map.
+#[derive(Clone, Copy)]
+pub(crate) enum MakeJson {
+    FromValue,
+    Encode,
+    ToJson,
+    OwnedToJson,
+}
+
+fn made_json(
+    rt: &HostRuntime,
+    make: MakeJson,
+    map: &OwnedSourceMap,
+    value: &Value,
+) -> Result<JSONSourceMap> {
+    let alloc = rt.alloc();
+    call(rt);
+    let made = match make {
+        MakeJson::FromValue => JSONSourceMap::from_value(alloc, value),
+        MakeJson::Encode => encode(alloc, map.as_source_map()),
+        MakeJson::ToJson => map.as_source_map().to_json(alloc),
+        MakeJson::OwnedToJson => map.to_json(alloc),
+    };
+    answer(rt);
+    made
+}
+
+/// Makes a call that makes a JSON source map.
+pub(crate) fn make_json(rt: &HostRuntime, make: MakeJson) -> Result<Ended> {
+    let map = full_owned_map(rt.alloc())?;
+    let value = Value::from_str(rt.alloc(), TEXT)?;
+    match made_json(rt, make, &map, &value) {
+        Ok(json) => map_ended(rt, &SourceMap::from_json(rt.alloc(), json), TEXT),
+        Err(error) => Ok(failed(error)),
+    }
+}

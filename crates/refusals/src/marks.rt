@@ -1,0 +1,58 @@
+//! Marks around a call, and how it ended.
+use oxc_sourcemap::{Error, PlanError};
+use smap_run::RunError;
+
+/// How a call ended.
+#[derive(Clone, Copy, PartialEq, Eq)]
+pub(crate) enum Ended {
+    /// It gave what it has to give.
+    Passed,
+    /// It was refused memory, and what it was lent is as it was.
+    Refused,
+    /// Neither.
+    Wrong,
+}
+
+/// Tells that a call begins. From here on requests for memory may be refused.
+pub(crate) fn call(rt: &HostRuntime) {
+    let _ = eprintln!(rt; "call");
+}
+
+/// Tells that the call has ended.
+pub(crate) fn answer(rt: &HostRuntime) {
+    let _ = eprintln!(rt; "answer");
+}
+
+/// Whether a call gave what it has to.
+pub(crate) fn passed_if(is_right: bool) -> Ended {
+    if is_right {
+        Ended::Passed
+    } else {
+        Ended::Wrong
+    }
+}
+
+/// How a call ended that failed, where what it was lent is as it was.
+pub(crate) fn failed(error: Error) -> Ended {
+    if error == Error::OutOfMemory {
+        Ended::Refused
+    } else {
+        Ended::Wrong
+    }
+}
+
+/// The same of `evaluate`.
+pub(crate) fn plan_failed(error: PlanError) -> Ended {
+    match error {
+        PlanError::Map(error) => failed(error),
+        _ => Ended::Wrong,
+    }
+}
+
+/// The same of `run` and `read_words`.
+pub(crate) fn run_failed(error: RunError) -> Ended {
+    match error {
+        RunError::Plan(error) => plan_failed(error),
+        _ => Ended::Wrong,
+    }
+}

@@ -1,0 +1,87 @@
+//! Calls that make an owned map.
+use crate::fixtures::{INPUT_TEXT, LENT_TEXT, TEXT, full_map, full_owned_map, has_text, lent_map};
+use crate::made::COMPOSED;
+use crate::marks::{Ended, answer, call, failed, passed_if, plan_failed};
+use oxc_sourcemap::{OwnedSourceMap, Plan, Result, evaluate};
+
+/// How a call ended that has to make the owned map of a text.
+pub(crate) fn owned_ended(
+    rt: &HostRuntime,
+    made: &Result<OwnedSourceMap>,
+    wanted: &str,
+) -> Result<Ended> {
+    Ok(match made {
+        Ok(map) => passed_if(has_text(rt.alloc(), map.as_source_map(), wanted)?),
+        Err(error) => failed(*error),
+    })
+}
+
+/// Reads the JSON text of an owned map.
+pub(crate) fn read_owned_text(rt: &HostRuntime) -> Result<Ended> {
+    call(rt);
+    let made = OwnedSourceMap::from_json_string(rt.alloc(), TEXT);
+    answer(rt);
+    owned_ended(rt, &made, TEXT)
+}
+
+/// Reads the JSON source map of an owned map.
+pub(crate) fn read_owned_json(rt: &HostRuntime) -> Result<Ended> {
+    let json = full_map(rt.alloc())?.to_json(rt.alloc())?;
+    call(rt);
+    let made = OwnedSourceMap::from_json(rt.alloc(), json);
+    answer(rt);
+    owned_ended(rt, &made, TEXT)
+}
+
+/// Clones an owned map.
+pub(crate) fn clone_owned(rt: &HostRuntime) -> Result<Ended> {
+    let map = full_owned_map(rt.alloc())?;
+    call(rt);
+    let made = map.clone(rt.alloc());
+    answer(rt);
+    owned_ended(rt, &made, TEXT)
+}
+
+/// Copies the texts that a map borrows, and wraps it.
+pub(crate) fn own(rt: &HostRuntime) -> Result<Ended> {
+    let map = lent_map(rt.alloc())?;
+    call(rt);
+    let made = map.into_owned_sourcemap(rt.alloc());
+    answer(rt);
+    owned_ended(rt, &made, LENT_TEXT)
+}
+
+/// Composes two owned maps.
+pub(crate) fn compose_owned(rt: &HostRuntime) -> Result<Ended> {
+    let map = OwnedSourceMap::new(lent_map(rt.alloc())?);
+    let input = OwnedSourceMap::from_json_string(rt.alloc(), INPUT_TEXT)?;
+    call(rt);
+    let made = map.compose(rt.alloc(), input);
+    answer(rt);
+    owned_ended(rt, &made, COMPOSED)
+}
+
+/// A plan with each kind of step: the first two maps are joined, each on a line, and composed with the last one.
+fn plan(rt: &HostRuntime) -> Result<Plan<'static>> {
+    let alloc = rt.alloc();
+    let first = Plan::Rewrite(Box::new(alloc, Plan::Read(LENT_TEXT))?);
+    let empty = Plan::JoinAt(Vec::new(alloc));
+    let joined = Plan::Join(vec![in alloc; (first, 0), (empty, 1)]?);
+    let read = Plan::Read(INPUT_TEXT);
+    Ok(Plan::Compose(Box::new(alloc, joined)?, Box::new(alloc, read)?))
+}
+
+const EVALUATED: &str =
+    r#"{"version":3,"sourceRoot":"root","names":["n0","n1","n"],"sources":["a.js","b.js"],"sourcesContent":["A",null],"ignoreList":[1],"mappings":"AAAAE"}"#;
+
+/// Evaluates that plan.
+pub(crate) fn evaluate_plan(rt: &HostRuntime) -> Result<Ended> {
+    let plan = plan(rt)?;
+    call(rt);
+    let made = evaluate(rt.alloc(), &plan);
+    answer(rt);
+    match made {
+        Ok(map) => owned_ended(rt, &Ok(map), EVALUATED),
+        Err(error) => Ok(plan_failed(error)),
+    }
+}

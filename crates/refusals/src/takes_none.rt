@@ -1,0 +1,151 @@
+//! Calls that take no memory. They pass also where each request would be refused.
+use crate::fixtures::{full_map, full_owned_map, lent_parts};
+use crate::marks::{Ended, answer, call, passed_if};
+use oxc_sourcemap::{
+    ConcatSourceMapBuilder, Error, OwnedSourceMap, Result, SourceMap, SourceMapBuilder,
+    SourceMapParts, SourcemapVisualizer, Token, TokenChunk, chunk_fault,
+};
+use smap_run::{Port, RunError};
+use std::alloc::AllocError;
+
+/// The getters of a map.
+pub(crate) fn get_fields(rt: &HostRuntime) -> Result<Ended> {
+    let map = full_map(rt.alloc())?;
+    Ok(passed_if(are_got(rt, &map)))
+}
+
+fn are_got(rt: &HostRuntime, map: &SourceMap<'_>) -> bool {
+    call(rt);
+    let is_file = map.get_file() == Some("out.js") && map.get_source_root() == Some("root");
+    let is_id = map.get_debug_id() == Some("dbg") && map.get_name(1) == Some("n1");
+    let is_source = map.get_source(1) == Some("b.js") && map.get_source_content(0) == Some("A");
+    let is_missing = map.get_name(2).is_none() && map.get_source_content(1).is_none();
+    let is_pair = map.get_source_and_content(0) == Some(("a.js", "A"));
+    let is_ignored = map.get_ignore_list() == Some([1u32].as_slice());
+    answer(rt);
+    is_file && is_id && is_source && is_missing && is_pair && is_ignored
+}
+
+/// The getters of an owned map.
+pub(crate) fn get_owned_fields(rt: &HostRuntime) -> Result<Ended> {
+    let map = full_owned_map(rt.alloc())?;
+    Ok(passed_if(are_got_of_owned(rt, &map)))
+}
+
+fn are_got_of_owned(rt: &HostRuntime, map: &OwnedSourceMap) -> bool {
+    call(rt);
+    let is_file = map.get_file() == Some("out.js") && map.get_source_root() == Some("root");
+    let is_id = map.get_debug_id() == Some("dbg") && map.get_name(1) == Some("n1");
+    let is_source = map.get_source(1) == Some("b.js") && map.get_source_content(0) == Some("A");
+    let is_missing = map.get_name(2).is_none() && map.get_source_content(1).is_none();
+    let is_pair = map.get_source_and_content(0) == Some(("a.js", "A"));
+    let is_ignored = map.get_ignore_list() == Some([1u32].as_slice());
+    answer(rt);
+    is_file && is_id && is_source && is_missing && is_pair && is_ignored
+}
+
+/// The iterators of a map, and whether it is sorted and sound.
+pub(crate) fn walk(rt: &HostRuntime) -> Result<Ended> {
+    let map = full_map(rt.alloc())?;
+    call(rt);
+    let ends = (map.get_names().count(), map.get_sources().count());
+    let last = map.get_tokens().last();
+    let content = map.get_source_contents().next();
+    let view = map.get_source_view_tokens().next();
+    let is_well = map.is_sorted() && map.is_sound();
+    answer(rt);
+    let name = match view {
+        Some(view) => view.get_name(),
+        None => None,
+    };
+    let is_seen = name == Some("n0") && content == Some(Some("A"));
+    let wanted = Some(Token::new(0, 2, 0, 1, None, None));
+    Ok(passed_if(ends == (2, 2) && last == wanted && is_seen && is_well))
+}
+
+/// Lookups in a table, and the search on a line.
+pub(crate) fn look_up(rt: &HostRuntime) -> Result<Ended> {
+    let map = full_owned_map(rt.alloc())?;
+    let table = map.generate_lookup_table(rt.alloc())?;
+    let table = table.as_slice();
+    Ok(passed_if(finds(rt, &map, table)))
+}
+
+fn finds(rt: &HostRuntime, map: &OwnedSourceMap, table: &[&[Token]]) -> bool {
+    let mut steps = 0;
+    let line = map.get_tokens().as_slice();
+    call(rt);
+    let found = [
+        map.lookup_token(table, 0, 1),
+        map.lookup_token_approx(table, 0, 1),
+        map.as_source_map().lookup_token(table, 0, 1),
+        map.as_source_map().lookup_token_approx(table, 0, 1),
+        SourceMap::search(line, 1, &mut steps),
+        map.get_token(1),
+    ];
+    let original = match map.lookup_source_view_token(table, 0, 1) {
+        Some(view) => Some(view.to_tuple()),
+        None => None,
+    };
+    let is_seen = map.lookup_source_view_token_approx(table, 0, 1).is_some()
+        && map
+            .as_source_map()
+            .lookup_source_view_token(table, 0, 1)
+            .is_some()
+        && map
+            .as_source_map()
+            .lookup_source_view_token_approx(table, 0, 1)
+            .is_some();
+    answer(rt);
+    let token = Some(Token::new(0, 1, 0, 1, Some(1), Some(1)));
+    let wanted = Some((Some("b.js"), 0, 1, Some("n1")));
+    found == [token; 6] && original == wanted && is_seen
+}
+
+/// Wraps the parts of a map and unwraps them, in each way.
+pub(crate) fn wrap(rt: &HostRuntime) -> Result<Ended> {
+    let parts = lent_parts(rt.alloc())?;
+    call(rt);
+    let map = SourceMap::from(parts);
+    let owned = OwnedSourceMap::from_parts(SourceMap::from_parts(map.into_parts()).into_parts());
+    let map = SourceMap::from(OwnedSourceMap::from(owned.into_inner()));
+    let mut owned = OwnedSourceMap::new(map);
+    owned
+        .as_source_map_mut()
+        .set_ignore_list(Vec::new(rt.alloc()));
+    owned.set_ignore_list(Vec::new(rt.alloc()));
+    answer(rt);
+    Ok(passed_if(owned.get_file() == Some("f.js")))
+}
+
+/// Maps and builders with nothing in them.
+pub(crate) fn make_empty(rt: &HostRuntime) -> Result<Ended> {
+    call(rt);
+    let parts = SourceMapParts::empty(rt.alloc())?;
+    let map = SourceMap::empty(rt.alloc())?;
+    let owned = OwnedSourceMap::empty(rt.alloc())?;
+    let mut builder = SourceMapBuilder::empty(rt.alloc());
+    builder.set_file("f.js");
+    builder.set_token_chunks(Vec::new(rt.alloc()));
+    let built = builder.into_sourcemap()?;
+    let joined = ConcatSourceMapBuilder::empty(rt.alloc()).into_sourcemap()?;
+    answer(rt);
+    let is_empty = parts.tokens.is_empty() && map.is_sound() && owned.is_sound();
+    Ok(passed_if(is_empty && built.get_file() == Some("f.js") && joined.is_sound()))
+}
+
+/// Chunks, visualizers, ports and errors.
+pub(crate) fn make_values(rt: &HostRuntime) -> Result<Ended> {
+    let map = full_map(rt.alloc())?;
+    let text: &[u8] = b"text";
+    call(rt);
+    let chunks = [TokenChunk::new(0, 3, 0, 0, 0, 0, 0, 0)];
+    let fault = chunk_fault(map.get_tokens().as_slice(), chunks.as_slice());
+    let _shown = SourcemapVisualizer::new("ab", &map);
+    let port = Port::new(text);
+    let is_unset = !port.failed();
+    let left = port.into_inner();
+    let status = RunError::from(Error::from(AllocError)).status();
+    answer(rt);
+    Ok(passed_if(fault.is_none() && is_unset && left.len() == 4 && status == 1))
+}

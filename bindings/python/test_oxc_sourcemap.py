@@ -1,0 +1,113 @@
+"""Tests of the Python binding, over maps that are written here and over a map file: OXC_SOURCEMAP_MAP names one."""
+
+import base64
+import json
+import os
+import unittest
+
+from oxc_sourcemap import UNMAPPED, SourceMap, SourceMapError
+
+MAP = {
+    "version": 3,
+    "file": "out.js",
+    "sourceRoot": "src/",
+    "names": ["hi", "größe"],
+    "sources": ["a.ts", "b.ts"],
+    "sourcesContent": ["let hi;", None],
+    "ignoreList": [1],
+    "mappings": "AAAA,GAASA,K;CCCTC",
+    "debugId": "d-1",
+}
+TEXT = json.dumps(MAP)
+
+
+class Reading(unittest.TestCase):
+    def test_fields(self):
+        with SourceMap.from_json(TEXT) as map:
+            self.assertEqual(map.counts(), (4, 2, 2, 2, 1))
+            self.assertEqual((map.file, map.source_root, map.debug_id), ("out.js", "src/", "d-1"))
+            self.assertEqual((map.names, map.sources), (MAP["names"], MAP["sources"]))
+            self.assertEqual((map.source_contents, map.ignore_list), (MAP["sourcesContent"], [1]))
+            self.assertIsNone(map.get_name(2))
+            self.assertTrue(map.is_sorted())
+
+    def test_refusals(self):
+        for text, code, message in (
+            (b"\xff", 101, "Byte 0 is not UTF-8"),
+            ("{", 4, "JSON parsing error: the text is not JSON"),
+            ('{"version":2}', 6, "JSON parsing error: unsupported source map version: 2"),
+            ('{"version":3,"sources":[],"mappings":"AA"}', 7, "Mapping segment had an unsupported size of 2"),
+            ('{"version":3,"sources":[],"mappings":"AAAA"}', 8, "Reference to non-existing source at position 0"),
+        ):
+            with self.assertRaises(SourceMapError) as caught:
+                SourceMap.from_json(text)
+            self.assertEqual((caught.exception.code, str(caught.exception)), (code, message))
+
+
+class Lookups(unittest.TestCase):
+    def test_trace(self):
+        with SourceMap.from_json(TEXT) as map:
+            self.assertEqual(map.trace(0, 4), ("a.ts", 0, 9, "hi", 0))
+            self.assertIs(map.trace(0, 9), UNMAPPED)
+            self.assertIsNone(map.trace(1, 0))
+            self.assertEqual(map.trace(1, 0, clamped=True), ("b.ts", 1, 0, "größe", 1))
+            self.assertIsNone(map.trace(7, 0))
+            with self.assertRaises(OverflowError):
+                map.trace(1 << 32, 0)
+
+    def test_every_token_is_found(self):
+        with SourceMap.from_json(TEXT) as map:
+            for token in map.tokens():
+                found = map.trace(token.dst_line, token.dst_col)
+                self.assertEqual(bool(found), token.source_id is not None)
+
+
+class Making(unittest.TestCase):
+    def test_written_and_read(self):
+        with SourceMap.from_json(TEXT) as map:
+            text = map.to_json()
+            self.assertEqual(json.loads(text), MAP)
+            head, _, data = map.to_data_url().partition(",")
+            self.assertEqual(head, "data:application/json;charset=utf-8;base64")
+            self.assertEqual(base64.b64decode(data).decode(), text)
+
+    def test_join_and_compose(self):
+        outer = SourceMap.from_json('{"version":3,"sources":["a.js"],"mappings":"AACA"}')
+        inner = SourceMap.from_json('{"version":3,"sources":["a.ts"],"mappings":";AAEA"}')
+        with outer.compose(inner) as map:
+            self.assertEqual(map.trace(0, 0), ("a.ts", 2, 0, None, 0))
+        with self.assertRaises(SourceMapError) as caught:
+            outer.trace(0, 0)
+        self.assertEqual(str(caught.exception), "The handle is empty")
+        parts = [(SourceMap.from_json(TEXT), 3, 5), (SourceMap.from_json(TEXT), 9, 0)]
+        with SourceMap.join(parts) as map:
+            self.assertEqual(map.trace(3, 9), ("a.ts", 0, 9, "hi", 0))
+            self.assertEqual(map.trace(9, 4), ("a.ts", 0, 9, "hi", 2))
+            self.assertEqual(map.ignore_list, [1, 3])
+
+    def test_plans(self):
+        with SourceMap.evaluate(["join", "2", "@0", "0", "rewrite", "@1", "4"], [TEXT, TEXT]) as map:
+            self.assertEqual(map.sources, ["a.ts", "b.ts", "a.ts", "b.ts"])
+        for words, code in ((["@7"], 18), (["join"], 17), (["compose", "@0", "@0"], 14)):
+            with self.assertRaises(SourceMapError) as caught:
+                SourceMap.evaluate(words, [TEXT])
+            self.assertEqual(caught.exception.code, code)
+
+
+@unittest.skipUnless("OXC_SOURCEMAP_MAP" in os.environ, "OXC_SOURCEMAP_MAP names no map")
+class Real(unittest.TestCase):
+    def test_map_file(self):
+        with open(os.environ["OXC_SOURCEMAP_MAP"], "rb") as file:
+            text = file.read()
+        said = json.loads(text)
+        if "sections" in said:
+            self.skipTest("a map with sections")
+        with SourceMap.from_json(text) as map:
+            self.assertEqual((map.sources, map.names), (said["sources"], said.get("names", [])))
+            with SourceMap.from_json(map.to_json()) as again:
+                self.assertEqual(again.to_json(), map.to_json())
+                self.assertEqual(list(again.tokens()), list(map.tokens()))
+
+
+if __name__ == "__main__":
+    unittest.main()

@@ -1,0 +1,6 @@
+pub mod Values
+pub mod Traces
+pub mod Composing
+pub mod Planned
+pub mod Joining
+pub mod ReadBack

@@ -1,0 +1,139 @@
+-- What calls answer: a code, and a fault that tells more.
+use Rattle.std.specs.Prelude.{◌≡◌, ◌≢◌, ℕ, List, ◌⊎◌, Option, Some, None, Result, Ok, Err, MatchOption, MatchResult, IsUtf8, slice_get, length, take, drop, ◌++◌, Bool, true, false}
+use Rattle.std.specs.Option.{option_and_then}
+use Rattle.std.specs.Str.Lossy.{utf8_valid_len}
+use Rattle.oxc_sourcemap.specs.Error.{Error}
+use Rattle.oxc_sourcemap.specs.Error.TheVariants.{TooLarge}
+use Rattle.oxc_sourcemap.specs.PlanError.TheVariants.{Map}
+use Rattle.oxc_sourcemap.specs.Record.{Text, MapRecord}
+use Rattle.oxc_sourcemap.specs.ReadMap.{read_map}
+use Rattle.oxc_sourcemap.specs.Token.{TokenRecord}
+use Rattle.oxc_sourcemap.specs.Sorted.{are_tokens_sorted, token_line, token_column}
+use Rattle.oxc_sourcemap.specs.Lookup.{pick, clamped_pick}
+use Rattle.oxc_sourcemap.specs.DecodedMap.{OriginalPosition, decoded_map_of}
+use Rattle.oxc_sourcemap.specs.Trace.{trace, clamped_trace}
+use Rattle.oxc_sourcemap.specs.Composed.{SomeComposition}
+use Rattle.oxc_sourcemap.specs.View.{content_at}
+use Rattle.oxc_sourcemap_c.specs.declared.refusal.Refusal.{Refusal}
+use Rattle.oxc_sourcemap_c.specs.declared.refusal.Refusal.TheVariants.{Plan, EmptyHandle, NotUtf8, NoEntry}
+use Rattle.oxc_sourcemap_c.specs.declared.fault.Fault.{Fault}
+use Rattle.oxc_sourcemap_c.specs.declared.held.Held.{Held}
+use Rattle.oxc_sourcemap_c.specs.declared.text.Text.{Text as LentText}
+use Rattle.oxc_sourcemap_c.specs.declared.text.Place.{Place}
+use Rattle.oxc_sourcemap_c.specs.declared.asked.Asked.{Asked}
+use Rattle.oxc_sourcemap_c.specs.declared.asked.Asked.TheVariants.{Name, Source, SourceContent, File, SourceRoot, DebugId}
+use Rattle.oxc_sourcemap_c.specs.Refusals.{out_of_memory}
+use Rattle.oxc_sourcemap_c.specs.Codes.{fault_of, code_of, no_fault}
+use Rattle.oxc_sourcemap_c.specs.Holding.{held_map, held_text, HoldsMap}
+use Rattle.oxc_sourcemap_c.specs.Indexed.{IsOutOfOrder}
+use Rattle.oxc_sourcemap_c.specs.Places.{IsPlace, HasIds}
+
+-- A call is refused: its code and its fault are those of one refusal, which is lack of memory or one of these.
+abbrev pub IsRefusedAs : ℕ → Fault → (Refusal → Type 0) → Type 0
+IsRefusedAs code f These = (r : Refusal) × (f ≡ fault_of r) × (code ≡ code_of r) × (r ≢ out_of_memory → These r)
+
+-- The same of a call that takes no memory.
+abbrev pub IsRefused : ℕ → Fault → (Refusal → Type 0) → Type 0
+IsRefused code f These = (r : Refusal) × (f ≡ fault_of r) × (code ≡ code_of r) × These r
+
+-- an error of a call on a map
+abbrev pub of_map : Error → Refusal
+of_map e = Plan (Map e)
+
+-- why bytes are not read: they are not UTF-8, or their text says no map
+abbrev pub IsReadRefusal : List ℕ → Refusal → Type 0
+IsReadRefusal bytes r =
+    (¬ (IsUtf8 bytes) × (r ≡ NotUtf8 (utf8_valid_len bytes))) ⊎ (IsUtf8 bytes × (e : Error) × (read_map bytes ≡ Err e) × (r ≡ of_map e))
+
+-- why what two handles hold is not composed: one holds no map, or the maps have no composition
+abbrev pub IsCompositionRefusal : Option MapRecord → Option MapRecord → Refusal → Type 0
+IsCompositionRefusal (Some a) (Some b) r = (e : Error) × SomeComposition a b (Err e) × (r ≡ of_map e)
+IsCompositionRefusal (Some a) None r = r ≡ EmptyHandle
+IsCompositionRefusal None b r = r ≡ EmptyHandle
+
+-- the text of a map that is asked for
+abbrev pub text_at : MapRecord → Asked → Option Text
+text_at m (Name id) = slice_get m.names id
+text_at m (Source id) = slice_get m.sources id
+text_at m (SourceContent id) = content_at m.source_contents id
+text_at m File = m.file
+text_at m SourceRoot = m.source_root
+text_at m DebugId = m.debug_id
+
+-- What a lookup in what a handle holds answers: the code of what is missing, or 0 and what is found.
+abbrev pub Found : {B : Type 0} → ℕ → Option Held → (MapRecord → Option B) → (B → Type 0) → Type 0
+Found code held ask That =
+    MatchOption (held_map held) (code ≡ code_of EmptyHandle) (λ m. MatchOption (ask m) (code ≡ code_of NoEntry) (λ found. (code ≡ 0) × That found))
+
+-- The same of a result: `EmptyHandle`, `NoEntry`, or what is found.
+abbrev pub IsFound : {A B : Type 0} → Result A Refusal → Option Held → (MapRecord → Option B) → (A → B → Type 0) → Type 0
+IsFound answer held ask Is =
+    MatchOption (held_map held) (answer ≡ Err EmptyHandle)
+    (λ m. MatchOption (ask m) (answer ≡ Err NoEntry) (λ found. MatchResult answer (λ x. Is x found) (λ _. ⊥)))
+
+-- a text that is lent has the length of this one
+abbrev pub HasLength : LentText → Text → Type 0
+HasLength lent text = lent.len ≡ length text
+
+-- an entry of a map's ignore list
+abbrev pub ignored_at : MapRecord → ℕ → Option ℕ
+ignored_at m i = option_and_then (λ ids. slice_get ids i) m.ignore_list
+
+-- What a handle's map is written as, where this is how maps are written: `EmptyHandle` if it has none, an error of writing, or
+-- lack of memory.
+abbrev pub IsWrittenAs : {S : Type 0} → (S → Text) → Result S Refusal → Option Held → (MapRecord → Result Text Error) → Type 0
+IsWrittenAs bytes answer held write =
+    MatchOption (held_map held) (answer ≡ Err EmptyHandle) (λ m. MatchResult answer (λ text. write m ≡ Ok (bytes text))
+    (λ r. r ≢ out_of_memory → (e : Error) × (write m ≡ Err e) × (r ≡ of_map e)))
+
+-- A place is what was traced, where the tokens of the map are sorted, and the token that was found has its ids.
+pub record IsTrace (m : MapRecord) (found : Option TokenRecord) (traced : Option (Option OriginalPosition)) (p : Place) : Type 0 where
+  pub place : are_tokens_sorted m.tokens ≡ true → IsPlace p traced
+  pub ids : are_tokens_sorted m.tokens ≡ true → HasIds p found
+
+-- a map is not traced if its tokens are not in line order
+abbrev pub IsUntraced : MapRecord → Refusal → Type 0
+IsUntraced m r = (e : Error) × IsOutOfOrder m.tokens e × (r ≡ of_map e)
+
+-- What a handle's map says of a generated position, or why it says nothing.
+abbrev pub IsTraced : Result Place Refusal → Option Held → ℕ → ℕ → Type 0
+IsTraced answer held line col =
+    MatchOption (held_map held) (answer ≡ Err EmptyHandle) (λ m. MatchResult answer
+    (IsTrace m (pick token_line token_column m.tokens line col) (trace (decoded_map_of m) line col)) (IsUntraced m))
+
+-- the same, clamped
+abbrev pub IsTracedClamped : Result Place Refusal → Option Held → ℕ → ℕ → Type 0
+IsTracedClamped answer held line col =
+    MatchOption (held_map held) (answer ≡ Err EmptyHandle) (λ m. MatchResult answer
+    (IsTrace m (clamped_pick token_line token_column m.tokens line col) (clamped_trace (decoded_map_of m) line col)) (IsUntraced m))
+
+-- why what a handle holds is not traced
+abbrev pub IsTraceRefusal : Option MapRecord → Refusal → Type 0
+IsTraceRefusal None r = r ≡ EmptyHandle
+IsTraceRefusal (Some m) r = IsUntraced m r
+
+-- why what a handle holds is not written
+abbrev pub IsWritingRefusal : (MapRecord → Result Text Error) → Option MapRecord → Refusal → Type 0
+IsWritingRefusal write None r = r ≡ EmptyHandle
+IsWritingRefusal write (Some m) r = (e : Error) × (write m ≡ Err e) × (r ≡ of_map e)
+
+-- a handle holds the text that another handle's map is written as
+abbrev pub HoldsWritten : (MapRecord → Result Text Error) → Option Held → Option Held → Type 0
+HoldsWritten write map text = HoldsMap map (λ m. MatchOption (held_text text) ⊥ (λ t. write m ≡ Ok t))
+
+-- 1 for true and 0 for false
+abbrev pub flag_of : Bool → ℕ
+flag_of true = 1
+flag_of false = 0
+
+-- a buffer, with as much of a text at its beginning as there is room for
+abbrev pub overwritten : Text → Text → Text
+overwritten text old = take (length old) text ++ drop (length text) old
+
+-- the length of a message, with the message in the buffer; or 0 for want of memory, and the buffer as it was
+abbrev pub IsMessage : Text → Text → Text → ℕ → Type 0
+IsMessage text old new n = ((n ≡ length text) × (new ≡ overwritten text old)) ⊎ ((n ≡ 0) × (new ≡ old))
+
+-- what a call answers that lends the text in a handle
+abbrev pub HoldsText : ℕ → Option Held → LentText → Type 0
+HoldsText code held lent = MatchOption (held_text held) (code ≡ code_of EmptyHandle) (λ text. (code ≡ 0) × HasLength lent text)

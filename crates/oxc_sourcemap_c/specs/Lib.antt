@@ -1,0 +1,9 @@
+pub mod Refusals
+pub mod Codes
+pub mod Handles
+pub mod Holding
+pub mod Indexed
+pub mod Places
+pub mod Answers
+pub mod Plans
+pub mod Joins

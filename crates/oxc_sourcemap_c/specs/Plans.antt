@@ -1,0 +1,40 @@
+-- Plans: words separated by single spaces, over texts that lines of exactly `---` part.
+use Rattle.std.specs.Prelude.{◌≡◌, ◌==◌, ◌⊎◌, ℕ, List, Result, Ok, Err, IsUtf8}
+use Rattle.std.specs.List.{slice_split}
+use Rattle.std.specs.Str.Lossy.{utf8_valid_len}
+use Rattle.oxc_sourcemap.specs.Record.{Text, MapRecord}
+use Rattle.oxc_sourcemap.specs.PlanError.{PlanError}
+use Rattle.oxc_sourcemap.specs.Outcome.{Outcome}
+use Rattle.oxc_sourcemap.specs.Evaluated.{IsEvaluated, IsFailure}
+use Rattle.smap_run.specs.declared.running.RunError.{RunError}
+use Rattle.smap_run.specs.PlanInputs.{inputs_of}
+use Rattle.smap_run.specs.PlanArguments.{parsed_plan}
+use Rattle.oxc_sourcemap_c.specs.declared.refusal.Refusal.{Refusal}
+use Rattle.oxc_sourcemap_c.specs.declared.refusal.Refusal.TheVariants.{Plan, NotUtf8}
+use Rattle.oxc_sourcemap_c.specs.Refusals.{refusal_of_run}
+
+-- the words of a plan: what stands between spaces
+abbrev pub words_of : Text → List Text
+words_of text = slice_split (λ b. b == 32) text
+
+-- the outcome of the plan that words say over texts, or why they say none
+abbrev pub plan_of : Text → Text → Result Outcome RunError
+plan_of words texts = parsed_plan (inputs_of texts) (words_of words)
+
+-- the map of a plan is as its outcome says
+abbrev pub IsPlanMap : Result Outcome RunError → MapRecord → Type 0
+IsPlanMap (Err e) m = ⊥
+IsPlanMap (Ok o) m = IsEvaluated m o
+
+-- why a plan is not evaluated: the first fault of its words, or of its evaluation
+abbrev pub IsPlanFailure : Result Outcome RunError → Refusal → Type 0
+IsPlanFailure (Err e) r = r ≡ refusal_of_run e
+IsPlanFailure (Ok o) r = (p : PlanError) × IsFailure o p × (r ≡ Plan p)
+
+-- bytes are not UTF-8, and the refusal says where
+abbrev pub IsNotText : List ℕ → Refusal → Type 0
+IsNotText bytes r = ¬ (IsUtf8 bytes) × (r ≡ NotUtf8 (utf8_valid_len bytes))
+
+-- why words and texts give no map
+abbrev pub IsPlanRefusal : List ℕ → List ℕ → Refusal → Type 0
+IsPlanRefusal words texts r = IsNotText words r ⊎ (IsNotText texts r ⊎ (IsUtf8 words × IsUtf8 texts × IsPlanFailure (plan_of words texts) r))

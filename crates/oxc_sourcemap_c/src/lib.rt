@@ -1,0 +1,336 @@
+//! The library for C: opaque handles, numbers, and texts as pointers with lengths (`include/oxc_sourcemap.h`).
+//!
+//! A call returns 0, or the code of a refusal (`fault_of`). Handles that a call does not take are as they were after each
+//! refusal.
+#![tactic(auto)]
+
+ghost use Rattle.std.specs.Prelude.{◌≡◌, ◌≢◌, None, Some, Ok, MatchOption, IsUtf8, slice_get};
+ghost use Rattle.std.specs.List.{All};
+ghost use Rattle.oxc_sourcemap.specs.ReadMap.{read_map};
+ghost use Rattle.oxc_sourcemap.specs.JsonText.{map_text, map_url};
+ghost use Rattle.oxc_sourcemap.specs.Composed.{composition, SomeComposition, NoColumnGoesBack};
+ghost use Rattle.oxc_sourcemap.specs.Sorted.{are_tokens_sorted, token_line, token_column};
+ghost use Rattle.oxc_sourcemap.specs.Lookup.{pick, clamped_pick};
+ghost use Rattle.oxc_sourcemap.specs.DecodedMap.{decoded_map_of};
+ghost use Rattle.oxc_sourcemap.specs.Trace.{trace, clamped_trace};
+ghost use Rattle.oxc_sourcemap.specs.View.{content_at};
+ghost use Rattle.oxc_sourcemap_c.specs.declared.refusal.Refusal.{Refusal};
+ghost use Rattle.oxc_sourcemap_c.specs.Refusals.{refusal_text};
+ghost use Rattle.oxc_sourcemap_c.specs.Codes.{fault_of, refusal_of, IsSmall};
+ghost use Rattle.oxc_sourcemap_c.specs.Holding.{held_map, held_text, HoldsMap};
+ghost use Rattle.oxc_sourcemap_c.specs.Places.{counts_of, numbers_of};
+ghost use Rattle.oxc_sourcemap_c.specs.Joins.{all_held, IsJoinOf, IsJoinRefusal};
+ghost use Rattle.oxc_sourcemap_c.specs.Plans.{plan_of, IsPlanMap, IsPlanRefusal};
+ghost use Rattle.oxc_sourcemap_c.specs.Answers.{IsRefusedAs, IsReadRefusal, IsCompositionRefusal, IsWritingRefusal, HoldsWritten, Found, HasLength, HoldsText, ignored_at, flag_of, IsTrace, IsTraceRefusal, IsRefused, IsMessage};
+
+mod asked;
+mod fault;
+mod handle;
+mod held;
+mod joins;
+mod lookups;
+mod loose;
+mod messages;
+mod operations;
+mod plans;
+mod refusal;
+mod text;
+
+use asked::Asked;
+use fault::Fault;
+use handle::Handle;
+use joins::join;
+use lookups::{
+    answered, counts, data_url, ignored, is_sorted, json, placed, text_of_map, token, traced,
+    traced_clamped, written_text,
+};
+use operations::{compose, put_map, put_text, read};
+use std::alloc::Global;
+use text::{Counts, Place, Position, Text, TokenNumbers};
+
+/// Puts the map of a JSON text into a handle.
+#[unsafe(no_mangle)]
+pub extern "C" fn smap_from_json_string(
+    alloc: Global,
+    json: &[u8],
+    map: &mut Handle,
+    fault: &mut Fault,
+) -> u32
+    ensures map { result ≡ 0 → HoldsMap map.new.held (λ m. read_map json.now ≡ Ok m) }
+    ensures refused { result ≢ 0 → (map.new.held ≡ map.old.held) × IsRefusedAs result fault.new (IsReadRefusal json.now) }
+{
+    put_map(alloc, read(alloc, json), map, fault)
+}
+
+/// Composes the maps in two handles, which are then empty, into a third.
+#[unsafe(no_mangle)]
+pub extern "C" fn smap_compose(
+    alloc: Global,
+    first: &mut Handle,
+    input: &mut Handle,
+    map: &mut Handle,
+    fault: &mut Fault,
+) -> u32
+    ensures emptied { (first.new.held ≡ None) × (input.new.held ≡ None) }
+    ensures any_map { result ≡ 0 → HoldsMap map.new.held (λ m. HoldsMap first.old.held (λ a. HoldsMap input.old.held (λ b. SomeComposition a b (Ok m)))) }
+    ensures map { result ≡ 0 → HoldsMap map.new.held (λ m. HoldsMap first.old.held (λ a. HoldsMap input.old.held (λ b. NoColumnGoesBack b.tokens → composition a b ≡ Ok m))) }
+    ensures refused { result ≢ 0 → (map.new.held ≡ map.old.held)
+        × IsRefusedAs result fault.new (IsCompositionRefusal (held_map first.old.held) (held_map input.old.held)) }
+{
+    let composed = compose(alloc, first, input);
+    put_map(alloc, composed, map, fault)
+}
+
+/// Joins the maps in these handles, which are then empty, each at its line and column, into another.
+#[unsafe(no_mangle)]
+pub extern "C" fn smap_join(
+    alloc: Global,
+    maps: &mut [Handle],
+    offsets: &[Position],
+    map: &mut Handle,
+    fault: &mut Fault,
+) -> u32
+    ensures emptied { All (λ h. h.held ≡ None) maps.new }
+    ensures map { result ≡ 0 → HoldsMap map.new.held (IsJoinOf (all_held maps.old) offsets.now) }
+    ensures refused { result ≢ 0 → (map.new.held ≡ map.old.held) × IsRefusedAs result fault.new (IsJoinRefusal (all_held maps.old) offsets.now) }
+{
+    let joined = join(alloc, maps, offsets);
+    put_map(alloc, joined, map, fault)
+}
+
+/// Puts the map of the plan that words say over texts into a handle.
+#[unsafe(no_mangle)]
+pub extern "C" fn smap_evaluate(
+    alloc: Global,
+    words: &[u8],
+    texts: &[u8],
+    map: &mut Handle,
+    fault: &mut Fault,
+) -> u32
+    ensures map { result ≡ 0 → HoldsMap map.new.held (IsPlanMap (plan_of words.now texts.now)) }
+    ensures refused { result ≢ 0 → (map.new.held ≡ map.old.held) × IsRefusedAs result fault.new (IsPlanRefusal words.now texts.now) }
+{
+    put_map(
+        alloc,
+        plans::evaluate_bytes(alloc, words, texts),
+        map,
+        fault,
+    )
+}
+
+/// Puts the JSON text of the map in a handle into another.
+#[unsafe(no_mangle)]
+pub extern "C" fn smap_to_json_string(
+    alloc: Global,
+    map: &mut Handle,
+    string: &mut Handle,
+    fault: &mut Fault,
+) -> u32
+    ensures kept { map.new.held ≡ map.old.held }
+    ensures text { result ≡ 0 → HoldsWritten map_text map.old.held string.new.held }
+    ensures refused { result ≢ 0 → (string.new.held ≡ string.old.held) × IsRefusedAs result fault.new (IsWritingRefusal map_text (held_map map.old.held)) }
+{
+    let written = json(alloc, map);
+    put_text(alloc, written, string, fault)
+}
+
+/// Puts the data URL of the map in a handle into another.
+#[unsafe(no_mangle)]
+pub extern "C" fn smap_to_data_url(
+    alloc: Global,
+    map: &mut Handle,
+    string: &mut Handle,
+    fault: &mut Fault,
+) -> u32
+    ensures kept { map.new.held ≡ map.old.held }
+    ensures text { result ≡ 0 → HoldsWritten map_url map.old.held string.new.held }
+    ensures refused { result ≢ 0 → (string.new.held ≡ string.old.held) × IsRefusedAs result fault.new (IsWritingRefusal map_url (held_map map.old.held)) }
+{
+    let written = data_url(alloc, map);
+    put_text(alloc, written, string, fault)
+}
+
+/// Lends the text in a handle.
+#[unsafe(no_mangle)]
+pub extern "C" fn smap_get_text(alloc: Global, string: &mut Handle, text: &mut Text) -> u32
+    ensures found { HoldsText result string.old.held text.new }
+    ensures kept { string.new.held ≡ string.old.held }
+    ensures unchanged { result ≢ 0 → text.new ≡ text.old }
+{
+    answered(written_text(alloc, string), text)
+}
+
+/// Frees the map in a handle, which is then empty.
+#[unsafe(no_mangle)]
+pub extern "C" fn smap_free_map(alloc: Global, map: &mut Handle)
+    ensures { map.new.held ≡ None }
+{
+    drop(map.take(alloc));
+}
+
+/// Frees the text in a handle, which is then empty.
+#[unsafe(no_mangle)]
+pub extern "C" fn smap_free_string(alloc: Global, string: &mut Handle)
+    ensures { string.new.held ≡ None }
+{
+    drop(string.take(alloc));
+}
+
+/// How many tokens, names, sources, contents and ignored sources the map in a handle has.
+#[unsafe(no_mangle)]
+pub extern "C" fn smap_get_counts(alloc: Global, map: &mut Handle, out: &mut Counts) -> u32
+    ensures found { Found result map.old.held (λ m. Some (counts_of m)) (λ counts. out.new ≡ counts) }
+    ensures kept { map.new.held ≡ map.old.held }
+    ensures unchanged { result ≢ 0 → out.new ≡ out.old }
+{
+    answered(counts(alloc, map), out)
+}
+
+/// Whether the tokens of the map in a handle are sorted: 1 or 0.
+#[unsafe(no_mangle)]
+pub extern "C" fn smap_is_sorted(alloc: Global, map: &mut Handle, out: &mut u32) -> u32
+    ensures found { Found result map.old.held (λ m. Some (flag_of (are_tokens_sorted m.tokens))) (λ is. out.new ≡ is) }
+    ensures kept { map.new.held ≡ map.old.held }
+    ensures unchanged { result ≢ 0 → out.new ≡ out.old }
+{
+    answered(is_sorted(alloc, map), out)
+}
+
+/// Lends the name with this id.
+#[unsafe(no_mangle)]
+pub extern "C" fn smap_get_name(alloc: Global, map: &mut Handle, id: u32, text: &mut Text) -> u32
+    ensures found { Found result map.old.held (λ m. slice_get m.names id) (HasLength text.new) }
+    ensures kept { map.new.held ≡ map.old.held }
+    ensures unchanged { result ≢ 0 → text.new ≡ text.old }
+{
+    answered(text_of_map(alloc, map, Asked::Name(id)), text)
+}
+
+/// Lends the source with this id.
+#[unsafe(no_mangle)]
+pub extern "C" fn smap_get_source(alloc: Global, map: &mut Handle, id: u32, text: &mut Text) -> u32
+    ensures found { Found result map.old.held (λ m. slice_get m.sources id) (HasLength text.new) }
+    ensures kept { map.new.held ≡ map.old.held }
+    ensures unchanged { result ≢ 0 → text.new ≡ text.old }
+{
+    answered(text_of_map(alloc, map, Asked::Source(id)), text)
+}
+
+/// Lends the content listed for the source with this id.
+#[unsafe(no_mangle)]
+pub extern "C" fn smap_get_source_content(
+    alloc: Global,
+    map: &mut Handle,
+    id: u32,
+    text: &mut Text,
+) -> u32
+    ensures found { Found result map.old.held (λ m. content_at m.source_contents id) (HasLength text.new) }
+    ensures kept { map.new.held ≡ map.old.held }
+    ensures unchanged { result ≢ 0 → text.new ≡ text.old }
+{
+    answered(text_of_map(alloc, map, Asked::SourceContent(id)), text)
+}
+
+/// Lends the name of the generated file.
+#[unsafe(no_mangle)]
+pub extern "C" fn smap_get_file(alloc: Global, map: &mut Handle, text: &mut Text) -> u32
+    ensures found { Found result map.old.held (λ m. m.file) (HasLength text.new) }
+    ensures kept { map.new.held ≡ map.old.held }
+    ensures unchanged { result ≢ 0 → text.new ≡ text.old }
+{
+    answered(text_of_map(alloc, map, Asked::File), text)
+}
+
+/// Lends the source root.
+#[unsafe(no_mangle)]
+pub extern "C" fn smap_get_source_root(alloc: Global, map: &mut Handle, text: &mut Text) -> u32
+    ensures found { Found result map.old.held (λ m. m.source_root) (HasLength text.new) }
+    ensures kept { map.new.held ≡ map.old.held }
+    ensures unchanged { result ≢ 0 → text.new ≡ text.old }
+{
+    answered(text_of_map(alloc, map, Asked::SourceRoot), text)
+}
+
+/// Lends the debug id.
+#[unsafe(no_mangle)]
+pub extern "C" fn smap_get_debug_id(alloc: Global, map: &mut Handle, text: &mut Text) -> u32
+    ensures found { Found result map.old.held (λ m. m.debug_id) (HasLength text.new) }
+    ensures kept { map.new.held ≡ map.old.held }
+    ensures unchanged { result ≢ 0 → text.new ≡ text.old }
+{
+    answered(text_of_map(alloc, map, Asked::DebugId), text)
+}
+
+/// An entry of the ignore list of the map in a handle.
+#[unsafe(no_mangle)]
+pub extern "C" fn smap_get_ignored(
+    alloc: Global,
+    map: &mut Handle,
+    index: usize,
+    out: &mut u32,
+) -> u32
+    ensures found { Found result map.old.held (λ m. ignored_at m index) (λ id. out.new ≡ id) }
+    ensures kept { map.new.held ≡ map.old.held }
+    ensures unchanged { result ≢ 0 → out.new ≡ out.old }
+{
+    answered(ignored(alloc, map, index), out)
+}
+
+/// The numbers of a token of the map in a handle.
+#[unsafe(no_mangle)]
+pub extern "C" fn smap_get_token(
+    alloc: Global,
+    map: &mut Handle,
+    index: u32,
+    out: &mut TokenNumbers,
+) -> u32
+    ensures found { Found result map.old.held (λ m. slice_get m.tokens index) (λ token. out.new ≡ numbers_of token) }
+    ensures kept { map.new.held ≡ map.old.held }
+    ensures unchanged { result ≢ 0 → out.new ≡ out.old }
+{
+    answered(token(alloc, map, index), out)
+}
+
+/// What the map in a handle says of a generated line and column.
+#[unsafe(no_mangle)]
+pub extern "C" fn smap_trace(
+    alloc: Global,
+    map: &mut Handle,
+    line: u32,
+    column: u32,
+    place: &mut Place,
+    fault: &mut Fault,
+) -> u32
+    ensures traced { result ≡ 0 → HoldsMap map.old.held (λ m. IsTrace m (pick token_line token_column m.tokens line column) (trace (decoded_map_of m) line column) place.new) }
+    ensures kept { map.new.held ≡ map.old.held }
+    ensures refused { result ≢ 0 → (place.new ≡ place.old) × IsRefused result fault.new (IsTraceRefusal (held_map map.old.held)) }
+{
+    placed(traced(alloc, map, line, column), place, fault)
+}
+
+/// The same, where the first token of a line stands in for none.
+#[unsafe(no_mangle)]
+pub extern "C" fn smap_trace_clamped(
+    alloc: Global,
+    map: &mut Handle,
+    line: u32,
+    column: u32,
+    place: &mut Place,
+    fault: &mut Fault,
+) -> u32
+    ensures traced { result ≡ 0 → HoldsMap map.old.held (λ m. IsTrace m (clamped_pick token_line token_column m.tokens line column) (clamped_trace (decoded_map_of m) line column) place.new) }
+    ensures kept { map.new.held ≡ map.old.held }
+    ensures refused { result ≢ 0 → (place.new ≡ place.old) × IsRefused result fault.new (IsTraceRefusal (held_map map.old.held)) }
+{
+    placed(traced_clamped(alloc, map, line, column), place, fault)
+}
+
+/// Writes as much of the message of a fault as there is room for, and returns the length of the whole; 0 for want of memory,
+/// and for a fault that is none.
+#[unsafe(no_mangle)]
+pub extern "C" fn smap_message(alloc: Global, fault: &Fault, out: &mut [u8]) -> usize
+    ensures message { (r : Refusal) → IsSmall r → fault.now ≡ fault_of r → IsMessage (refusal_text r) out.old out.new result }
+    ensures cases { MatchOption (refusal_of fault.now) ((result ≡ 0) × (out.new ≡ out.old)) (λ r. IsMessage (refusal_text r) out.old out.new result) }
+{
+    messages::write_message(alloc, fault, out)
+}

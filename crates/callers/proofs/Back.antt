@@ -2,7 +2,7 @@
 use Rattle.std.proofs.Common.{◌≡◌, ◌≢◌, refl, sym, ap, ◌∙◌, Option, Some, None, Result, Ok, Err}
 use Rattle.std.specs.Result.{IfOk, IfErr}
 use Rattle.oxc_sourcemap.specs.Error.{Error}
-use Rattle.oxc_sourcemap.specs.Error.TheVariants.{VlqLeftover, VlqNoValues, VlqOverflow, BadJson, BadSegmentSize, BadSourceReference, BadNameReference, OutOfMemory, TooLarge, LineOrder, BadChunks, SeveralSources}
+use Rattle.oxc_sourcemap.specs.Error.TheVariants.{VlqLeftover, VlqNoValues, VlqOverflow, BadJson, BadSegmentSize, BadSourceReference, BadNameReference, OutOfMemory, TooLarge, LineOrder, BadChunks, SeveralSources, SectionOrder}
 use Rattle.oxc_sourcemap.specs.Json.{JsonRecord}
 use Rattle.oxc_sourcemap.specs.Chunks.{writing_fault}
 use Rattle.oxc_sourcemap.specs.Record.{MapRecord}
@@ -60,3 +60,4 @@ only-memory TooLarge h = absurd (h (λ q. cc))
 only-memory (LineOrder i) h = absurd (h (λ q. cc))
 only-memory (BadChunks k) h = absurd (h (λ q. cc))
 only-memory (SeveralSources n) h = absurd (h (λ q. cc))
+only-memory (SectionOrder k) h = absurd (h (λ q. cc))

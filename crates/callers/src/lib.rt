@@ -10,7 +10,7 @@ ghost use Rattle.oxc_sourcemap.specs.Sorted.{are_tokens_sorted};
 ghost use Rattle.oxc_sourcemap.specs.Sound.{IsSound};
 ghost use Rattle.oxc_sourcemap.specs.DecodedMap.{decoded_map_of};
 ghost use Rattle.oxc_sourcemap.specs.Record.{MapRecord};
-ghost use Rattle.oxc_sourcemap.specs.ReadMap.{read_map};
+ghost use Rattle.oxc_sourcemap.specs.ReadMap.{read_map, said_in};
 ghost use Rattle.oxc_sourcemap.specs.JsonText.{map_text};
 ghost use Rattle.oxc_sourcemap.specs.Trace.{trace};
 ghost use Rattle.oxc_sourcemap.specs.View.{view_of, view_original};
@@ -221,7 +221,7 @@ pub fn minified_map(
     minified: &str,
     compiled: &str,
 ) -> std::result::Result<OwnedSourceMap, PlanError>
-    ensures map { IfOk result (λ map. IsEvaluated map (composition_outcome (read_outcome (read_map minified.now)) (read_outcome (read_map compiled.now)))) }
+    ensures map { IfOk result (λ map. IsEvaluated map (composition_outcome (read_outcome (said_in minified.now)) (read_outcome (said_in compiled.now)))) }
 {
     let first = Box::new(alloc, Plan::Read(minified))?;
     let second = Box::new(alloc, Plan::Read(compiled))?;

@@ -6,6 +6,8 @@ mod accessors;
 #[cfg(test)]
 mod helpers;
 #[cfg(test)]
+mod indexed;
+#[cfg(test)]
 mod lookups;
 #[cfg(test)]
 mod mappings;

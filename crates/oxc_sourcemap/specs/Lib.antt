@@ -31,7 +31,11 @@ pub use Rattle.oxc_sourcemap_json.specs.Shape
 pub use Rattle.oxc_sourcemap_json.specs.JsonString
 pub use Rattle.oxc_sourcemap_json.specs.Decoded
 pub use Rattle.oxc_sourcemap_json.specs.Encoded
-pub use Rattle.oxc_sourcemap_json.specs.ReadMap
+pub use Rattle.oxc_sourcemap_sections.specs.Section
+pub use Rattle.oxc_sourcemap_sections.specs.JoinLimits
+pub use Rattle.oxc_sourcemap_sections.specs.Sections
+pub use Rattle.oxc_sourcemap_sections.specs.ReadMap
+pub use Rattle.oxc_sourcemap_sections.specs.ReadLaws
 pub use Rattle.oxc_sourcemap_json.specs.JsonText
 pub use Rattle.oxc_sourcemap_json.specs.MapLaws
 pub use Rattle.oxc_sourcemap_compose.specs.Composed

@@ -1,14 +1,17 @@
-//! Reading a map from a JSON source map and from a JSON text.
+//! Reading a map from a JSON source map, from a JSON value and from a JSON text.
 ghost use Rattle.std.specs.Prelude.{◌≡◌, ◌≢◌, Some, IfOk, IfErr, Ok, Err};
+ghost use Rattle.serde_json.specs.View.{view};
 ghost use Rattle.oxc_sourcemap_mappings.specs.declared.error.Error.{Error};
 ghost use Rattle.oxc_sourcemap_mappings.specs.declared.error.Error.TheVariants.{OutOfMemory};
 ghost use Rattle.oxc_sourcemap_json.specs.Json.{json_record};
 ghost use Rattle.oxc_sourcemap_json.specs.Decoded.{decoded, json_fault};
-ghost use Rattle.oxc_sourcemap_json.specs.ReadMap.{read_map};
+ghost use Rattle.oxc_sourcemap_sections.specs.ReadMap.{read_value, read_map};
 
 use oxc_sourcemap_json::JSONSourceMap;
 use oxc_sourcemap_map::SourceMap;
 use oxc_sourcemap_mappings::Result;
+use oxc_sourcemap_sections::decode_parts_from_value;
+use serde_json::Value;
 use std::alloc::Global;
 
 /// Makes the map of a JSON source map. Its strings are moved; if it has no list of contents, the map's is empty. The map has
@@ -28,14 +31,37 @@ pub fn decode(alloc: Global, json: JSONSourceMap) -> Result<SourceMap<'static>>
     SourceMap::from_json(alloc, json)
 }
 
-/// Reads the map of a JSON text: `serde_json` reads the text, `JSONSourceMap::from_value` the value, and `decode` the
-/// fields. All strings of the map are owned.
+/// Reads the map of a JSON value. A value whose `sections` is there and is not null is an indexed map (ECMA-426, "Index source
+/// map"): the maps of its sections are joined, each at its offset, and the joined map gets the file of the value. Any other value
+/// is read by `JSONSourceMap::from_value` and `decode`. All strings of the map are owned. The map has no chunks, and its tokens
+/// are in line order.
+///
+/// Of the keys beside the `sections` of an indexed map, only `version` and `file` are looked at. It fails with the first of these
+/// in this order, section by section from the second on:
+/// - the errors of `file_from_value`, then `BadJson(Shape(Sections))` if `sections` is not a list;
+/// - `BadJson(Shape(Sections))` if a section is not an object;
+/// - `BadJson(Shape(Offset))` if its `offset` is not an object whose `line` and `column` are whole numbers of 0 to 4294967295;
+/// - `SectionOrder(k)` if its offset is before that of the section before it, or before the last token so far, where k counts the
+///   sections before it;
+/// - `BadJson(Shape(Map))` if its `map` is not an object, or is an indexed map itself;
+/// - the errors of `JSONSourceMap::from_value` and of `decode` for its `map`;
+/// - `TooLarge`, as `ConcatSourceMapBuilder::add_sourcemap_at` fails with it.
+///
+/// Also `OutOfMemory` if memory is refused, which may be before another error is found.
+pub fn decode_value(alloc: Global, value: &Value) -> Result<SourceMap<'static>>
+    ensures map { IfOk result (λ map. read_value (view value.now) ≡ Ok map) }
+    ensures refused { IfErr result (λ e. (e ≢ OutOfMemory) → read_value (view value.now) ≡ Err e) }
+{
+    Ok(SourceMap::from_parts(decode_parts_from_value(alloc, value)?))
+}
+
+/// Reads the map of a JSON text: `serde_json` reads the text, and the value is read as `decode_value` reads it. All strings of the
+/// map are owned.
 ///
 /// Fails in this order:
 /// - `BadJson(Reading)` if `serde_json` reads no value, as for a text that is not JSON, one with more than white space
 ///   after the value, or one that nests deeper than 127;
-/// - the errors of `JSONSourceMap::from_value`;
-/// - the errors of `decode`.
+/// - the errors of `decode_value`.
 ///
 /// Also `OutOfMemory` if memory is refused, which may be before another error is found.
 pub fn decode_from_string(alloc: Global, text: &str) -> Result<SourceMap<'static>>

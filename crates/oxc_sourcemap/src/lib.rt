@@ -8,11 +8,11 @@ mod decoding;
 mod encoding;
 pub mod laws;
 
-pub use decoding::{decode, decode_from_string};
+pub use decoding::{decode, decode_from_string, decode_value};
 pub use encoding::{encode, encode_to_string};
 pub use oxc_sourcemap_builder::SourceMapBuilder;
-pub use oxc_sourcemap_join::ConcatSourceMapBuilder;
-pub use oxc_sourcemap_json::{JSONSourceMap, push_json_string};
+pub use oxc_sourcemap_concat::ConcatSourceMapBuilder;
+pub use oxc_sourcemap_json::{JSONSourceMap, file_from_value, push_json_string};
 pub use oxc_sourcemap_map::{OwnedSourceMap, SourceMap, SourceViewToken, ViewTokens};
 pub use oxc_sourcemap_mappings::{
     Error, Field, JsonFault, Result, Token, TokenChunk, chunk_fault, decode_mappings, encode_chunk,

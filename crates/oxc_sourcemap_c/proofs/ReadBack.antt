@@ -2,9 +2,9 @@
 use Rattle.std.proofs.Common.{◌≡◌, Some, refl, ap}
 use Rattle.std.proofs.Math.Nat.{mod-eq_of_lt}
 use Rattle.oxc_sourcemap.specs.Field.{Field}
-use Rattle.oxc_sourcemap.specs.Field.TheVariants.{Object, Version as VersionField, File, Mappings, SourceRoot, Sources, SourcesContent, Names, DebugId, IgnoreList, GoogleIgnoreList}
+use Rattle.oxc_sourcemap.specs.Field.TheVariants.{Object, Version as VersionField, File, Mappings, SourceRoot, Sources, SourcesContent, Names, DebugId, IgnoreList, GoogleIgnoreList, Sections, Offset, Map as MapField}
 use Rattle.oxc_sourcemap.specs.JsonFault.TheVariants.{Reading, Shape, Version}
-use Rattle.oxc_sourcemap.specs.Error.TheVariants.{VlqLeftover, VlqNoValues, VlqOverflow, BadJson, BadSegmentSize, BadSourceReference, BadNameReference, OutOfMemory, TooLarge, LineOrder, BadChunks, SeveralSources}
+use Rattle.oxc_sourcemap.specs.Error.TheVariants.{VlqLeftover, VlqNoValues, VlqOverflow, BadJson, BadSegmentSize, BadSourceReference, BadNameReference, OutOfMemory, TooLarge, LineOrder, BadChunks, SeveralSources, SectionOrder}
 use Rattle.oxc_sourcemap.specs.PlanError.TheVariants.{Map, Unsorted, TooDeep}
 use Rattle.oxc_sourcemap_c.specs.declared.refusal.Refusal.{Refusal}
 use Rattle.oxc_sourcemap_c.specs.declared.refusal.Refusal.TheVariants.{Plan, Words, NoText, EmptyHandle, NotUtf8, Lengths, NoEntry}
@@ -22,6 +22,9 @@ shape_back Names = refl
 shape_back DebugId = refl
 shape_back IgnoreList = refl
 shape_back GoogleIgnoreList = refl
+shape_back Sections = refl
+shape_back Offset = refl
+shape_back MapField = refl
 
 pub read_back : (r : Refusal) → IsSmall r → refusal_of (fault_of r) ≡ Some r
 read_back (Plan (Map VlqLeftover)) s = refl
@@ -38,6 +41,7 @@ read_back (Plan (Map TooLarge)) s = refl
 read_back (Plan (Map (LineOrder i))) s = refl
 read_back (Plan (Map (BadChunks k))) s = refl
 read_back (Plan (Map (SeveralSources n))) s = refl
+read_back (Plan (Map (SectionOrder k))) s = refl
 read_back (Plan Unsorted) s = refl
 read_back (Plan TooDeep) s = refl
 read_back Words s = refl

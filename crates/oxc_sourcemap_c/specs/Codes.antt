@@ -1,11 +1,11 @@
 -- The numbers of refusals. `fault_of` is the definition of codes; `refusal_of` goes back.
 use Rattle.std.specs.Prelude.{ℕ, ◌%◌, ◌<◌, Option, Some, None, option_map, if◌then◌else◌, ◌==◌}
 use Rattle.oxc_sourcemap.specs.Field.{Field}
-use Rattle.oxc_sourcemap.specs.Field.TheVariants.{Object, Version as VersionField, File, Mappings, SourceRoot, Sources, SourcesContent, Names, DebugId, IgnoreList, GoogleIgnoreList}
+use Rattle.oxc_sourcemap.specs.Field.TheVariants.{Object, Version as VersionField, File, Mappings, SourceRoot, Sources, SourcesContent, Names, DebugId, IgnoreList, GoogleIgnoreList, Sections, Offset, Map as MapField}
 use Rattle.oxc_sourcemap.specs.JsonFault.{JsonFault}
 use Rattle.oxc_sourcemap.specs.JsonFault.TheVariants.{Reading, Shape, Version}
 use Rattle.oxc_sourcemap.specs.Error.{Error}
-use Rattle.oxc_sourcemap.specs.Error.TheVariants.{VlqLeftover, VlqNoValues, VlqOverflow, BadJson, BadSegmentSize, BadSourceReference, BadNameReference, OutOfMemory, TooLarge, LineOrder, BadChunks, SeveralSources}
+use Rattle.oxc_sourcemap.specs.Error.TheVariants.{VlqLeftover, VlqNoValues, VlqOverflow, BadJson, BadSegmentSize, BadSourceReference, BadNameReference, OutOfMemory, TooLarge, LineOrder, BadChunks, SeveralSources, SectionOrder}
 use Rattle.oxc_sourcemap.specs.PlanError.{PlanError}
 use Rattle.oxc_sourcemap.specs.PlanError.TheVariants.{Map, Unsorted, TooDeep}
 use Rattle.oxc_sourcemap_c.specs.declared.refusal.Refusal.{Refusal}
@@ -28,6 +28,9 @@ number_of_field Names = 7
 number_of_field DebugId = 8
 number_of_field IgnoreList = 9
 number_of_field GoogleIgnoreList = 10
+number_of_field Sections = 11
+number_of_field Offset = 12
+number_of_field MapField = 13
 
 abbrev pub fault_of_json : JsonFault → Fault
 fault_of_json Reading = fault 4 0
@@ -47,6 +50,7 @@ fault_of_error TooLarge = fault 11 0
 fault_of_error (LineOrder i) = fault 12 i
 fault_of_error (BadChunks k) = fault 13 k
 fault_of_error (SeveralSources n) = fault 14 n
+fault_of_error (SectionOrder k) = fault 19 k
 
 abbrev pub fault_of_plan_error : PlanError → Fault
 fault_of_plan_error (Map error) = fault_of_error error
@@ -85,6 +89,9 @@ field_of n =
     else if n == 8 then Some DebugId
     else if n == 9 then Some IgnoreList
     else if n == 10 then Some GoogleIgnoreList
+    else if n == 11 then Some Sections
+    else if n == 12 then Some Offset
+    else if n == 13 then Some MapField
     else None
 
 -- the error of the library that numbers say; a detail that stands for a 32-bit number counts by its low 32 bits
@@ -104,6 +111,7 @@ error_of f =
     else if f.code == 12 then Some (LineOrder f.detail)
     else if f.code == 13 then Some (BadChunks f.detail)
     else if f.code == 14 then Some (SeveralSources f.detail)
+    else if f.code == 19 then Some (SectionOrder f.detail)
     else None
 
 -- the refusal that numbers say
@@ -135,6 +143,7 @@ short_number_of_error TooLarge = 0
 short_number_of_error (LineOrder i) = 0
 short_number_of_error (BadChunks k) = 0
 short_number_of_error (SeveralSources n) = 0
+short_number_of_error (SectionOrder k) = 0
 
 abbrev pub short_number_of : Refusal → ℕ
 short_number_of (Plan (Map error)) = short_number_of_error error

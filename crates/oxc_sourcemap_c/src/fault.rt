@@ -30,6 +30,9 @@ fn number_of(field: Field) -> u32
         Field::DebugId => 8,
         Field::IgnoreList => 9,
         Field::GoogleIgnoreList => 10,
+        Field::Sections => 11,
+        Field::Offset => 12,
+        Field::Map => 13,
     }
 }
 
@@ -49,6 +52,9 @@ fn field_of(number: u32) -> Option<Field>
         8 => Some(Field::DebugId),
         9 => Some(Field::IgnoreList),
         10 => Some(Field::GoogleIgnoreList),
+        11 => Some(Field::Sections),
+        12 => Some(Field::Offset),
+        13 => Some(Field::Map),
         _ => None,
     }
 }
@@ -101,6 +107,7 @@ impl Fault {
             Error::LineOrder(i) => Fault::with(12, i as u64),
             Error::BadChunks(k) => Fault::with(13, k as u64),
             Error::SeveralSources(n) => Fault::with(14, n as u64),
+            Error::SectionOrder(k) => Fault::with(19, k as u64),
         }
     }
 
@@ -150,6 +157,7 @@ impl Fault {
             12 => Some(Error::LineOrder(index)),
             13 => Some(Error::BadChunks(index)),
             14 => Some(Error::SeveralSources(index)),
+            19 => Some(Error::SectionOrder(index)),
             _ => None,
         }
     }

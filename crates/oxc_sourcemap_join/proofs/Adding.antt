@@ -14,8 +14,8 @@ use Rattle.oxc_sourcemap_parts.specs.Record.{Text, MapRecord}
 use Rattle.oxc_sourcemap_lookup.specs.Lookup.{last}
 use Rattle.oxc_sourcemap_join.specs.Joined.{Offset, fitted, shifted, is_same_token, without_repeat, raised_ignore_list, appended_ignore_lists, added, added_tokens, added_chunk, added_ignore_list, nothing_joined, added_all, AreEntriesInBounds, IsWithinLimits}
 use Rattle.oxc_sourcemap_join.specs.Joining.{IsJoin, offset_of, all_shifted, IsAddition}
-use Rattle.oxc_sourcemap_join.specs.declared.concat_sourcemap_builder.Shift.{Shift}
-use Rattle.oxc_sourcemap_join.specs.declared.concat_sourcemap_builder.Addition.{Addition}
+use Rattle.oxc_sourcemap_join.specs.declared.joined_parts.Shift.{Shift}
+use Rattle.oxc_sourcemap_join.specs.declared.joined_parts.Addition.{Addition}
 use Rattle.oxc_sourcemap_join.proofs.Fitted.{length-fitted, fitted-more}
 use Rattle.oxc_sourcemap_join.proofs.Joining.{fit-added, added_all-continues, length-front, all-front}
 use Rattle.oxc_sourcemap_join.proofs.Moving.{repeat-in-bounds, kept-in-bounds, length-mapped}

@@ -5,7 +5,7 @@ use Rattle.std.proofs.lemmas.List.Elements.{All-append, All-from_recursion, recu
 use Rattle.oxc_sourcemap_parts.specs.Record.{MapRecord}
 use Rattle.oxc_sourcemap_join.specs.Joined.{Offset, raised_ignore_list, appended_ignore_lists, added, added_all, AreEntriesInBounds, IsWithinLimits}
 use Rattle.oxc_sourcemap_join.specs.Joining.{IsAddition}
-use Rattle.oxc_sourcemap_join.specs.declared.concat_sourcemap_builder.Addition.{Addition}
+use Rattle.oxc_sourcemap_join.specs.declared.joined_parts.Addition.{Addition}
 
 before-each : (P : ℕ → Type 0) (xs ys : List ℕ) → AllByRecursion P (xs ++ ys) → AllByRecursion P xs
 before-each P [] ys h = tt

@@ -6,8 +6,8 @@ use Rattle.oxc_sourcemap_mappings.specs.Chunks.{ChunksFit}
 use Rattle.oxc_sourcemap_parts.specs.Record.{Text, MapRecord}
 use Rattle.oxc_sourcemap_lookup.specs.Lookup.{last}
 use Rattle.oxc_sourcemap_join.specs.Joined.{Offset, shifted, is_same_token, without_repeat, added_chunk, added, AreEntriesInBounds, IsWithinLimits}
-use Rattle.oxc_sourcemap_join.specs.declared.concat_sourcemap_builder.Shift.{Shift}
-use Rattle.oxc_sourcemap_join.specs.declared.concat_sourcemap_builder.Addition.{Addition}
+use Rattle.oxc_sourcemap_join.specs.declared.joined_parts.Shift.{Shift}
+use Rattle.oxc_sourcemap_join.specs.declared.joined_parts.Addition.{Addition}
 
 -- What a join in the making consists of: counts within limits, tokens and entries of the ignore list in bounds, a content
 -- for each source, and chunks that fit.

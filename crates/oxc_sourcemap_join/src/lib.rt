@@ -1,8 +1,8 @@
-//! Joins: maps as one, each at its line and column.
+//! Joins: the parts of maps as one, each map at its line and column.
 //!
-//! This crate stands below `oxc_sourcemap`, which users name, and which hands all public items of this one on.
+//! The joins of maps, in `oxc_sourcemap_concat`, stand on this crate. Users name the crate `oxc_sourcemap`.
 #![tactic(auto)]
 
-mod concat_sourcemap_builder;
+mod joined_parts;
 
-pub use concat_sourcemap_builder::ConcatSourceMapBuilder;
+pub use joined_parts::JoinedParts;

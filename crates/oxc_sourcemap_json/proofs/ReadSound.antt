@@ -1,27 +1,23 @@
--- A map that is read has its ids in range and no chunks, so it is sound exactly where it is sorted.
-use Rattle.std.proofs.Common.{◌≡◌, ◌↔◌, ℕ, ◌<◌, ◌==◌, Bool, true, false, cond, nat_lt, List, [], ◌∷◌, length, get_or, drop, arith, refl, ap, sym, subst, ◌∙◌, inl, inr, Option, Some, None, option_map, Result, Ok, Err}
+-- A map that is decoded has its ids in range and no chunks, and its tokens are in bounds and in line order.
+use Rattle.std.proofs.Common.{◌≡◌, ℕ, ◌<◌, ◌==◌, Bool, true, false, cond, nat_lt, List, [], ◌∷◌, length, get_or, drop, arith, refl, ap, sym, subst, ◌∙◌, inl, inr, Option, Some, None, option_map, Result, Ok, Err}
 use Rattle.std.specs.List.{AllByRecursion}
 use Rattle.std.specs.Option.{IfSome, is_some, option_map_or}
 use Rattle.std.proofs.lemmas.Bool.{cases_lt}
 use Rattle.std.proofs.lemmas.Bool.Decides.{nat_tests}
-use Rattle.serde_json.specs.Read.{read}
 use Rattle.oxc_sourcemap_mappings.specs.declared.error.Error.{Error}
 use Rattle.oxc_sourcemap_mappings.specs.declared.error.Error.TheVariants.{BadSourceReference}
 use Rattle.oxc_sourcemap_mappings.specs.Refusals.{unless}
 use Rattle.oxc_sourcemap_mappings.specs.Token.{TokenRecord, AreInBounds, mapped_name, name_beside}
 use Rattle.oxc_sourcemap_json.specs.Json.{JsonRecord}
-use Rattle.oxc_sourcemap_json.specs.Shape.{◌>>=◌}
 use Rattle.oxc_sourcemap_mappings.specs.Reading.{reading}
 use Rattle.oxc_sourcemap_mappings.specs.State.{State, initial}
-use Rattle.oxc_sourcemap_mappings.specs.Canonical.{carried_token}
+use Rattle.oxc_sourcemap_mappings.specs.Canonical.{carried_token, back_from}
 use Rattle.oxc_sourcemap_mappings.specs.Encoding.{advanced}
 use Rattle.oxc_sourcemap_mappings.proofs.Again.{reads_of, bounds_within}
 use Rattle.oxc_sourcemap_mappings.proofs.RoundTrip.{IsWithin, carrying}
-use Rattle.oxc_sourcemap_parts.specs.Record.{Text, MapRecord}
-use Rattle.oxc_sourcemap_parts.specs.Sorted.{are_tokens_sorted}
-use Rattle.oxc_sourcemap_parts.specs.Sound.{IsInRange, AreIdsInRange, IsSound}
+use Rattle.oxc_sourcemap_parts.specs.Record.{MapRecord}
+use Rattle.oxc_sourcemap_parts.specs.Sound.{IsInRange, AreIdsInRange}
 use Rattle.oxc_sourcemap_json.specs.Decoded.{first_not_below, ignore_list_fault, decoded_record, with_tokens, json_fault, decoded}
-use Rattle.oxc_sourcemap_json.specs.ReadMap.{json_fields, read_map}
 
 -- ---- ids
 
@@ -88,39 +84,22 @@ ids-in-range j ts l e =
       ignore_list = list-below (length j.sources) j.ignore_list l;
     }
 
--- a record without chunks, whose ids are in range
-abbrev OnlyOrder : MapRecord → Type 0
-OnlyOrder r = IsSound r ↔ (are_tokens_sorted r.tokens ≡ true)
+-- What is known of a map that was decoded: its ids are in range, it has no chunks, and its tokens are in bounds and in line
+-- order.
+pub record IsWellRead (r : MapRecord) : Type 0 where
+  pub in_range : AreIdsInRange r
+  pub chunks : r.token_chunks ≡ None
+  pub in_bounds : AreInBounds r.tokens
+  pub order : (i : ℕ) → back_from 0 i r.tokens ≡ None
 
-only-order : (j : JsonRecord) (ts : List TokenRecord) → AreIdsInRange (decoded_record j ts) → OnlyOrder (decoded_record j ts)
-only-order j ts h = (λ s. s.sorted, λ o. record { sorted = o; in_range = h; chunks = tt })
-
-decoded-sound : (j : JsonRecord) (r : MapRecord) → decoded j ≡ Ok r → OnlyOrder r
-decoded-sound j r e =
-    let well = of-fault (json_fault j) _ r e in
-    let read = of-tokens j _ r well.1 in
-    subst OnlyOrder read.is_map (only-order j read.tokens (ids-in-range j read.tokens (list-fits (j.version == 3) _ (ignore_list_fault j) well.0) read.are_read))
-
-of-fields : (x : Result JsonRecord Error) (r : MapRecord) → (x >>= decoded) ≡ Ok r → OnlyOrder r
-of-fields (Ok j) r e = decoded-sound j r e
-of-fields (Err fault) r e = cc
-
-pub read_map_sound : (text : Text) (r : MapRecord) → read_map text ≡ Ok r → IsSound r ↔ (are_tokens_sorted r.tokens ≡ true)
-unfolding read_map
-read_map_sound text r e = of-fields (json_fields (read text)) r e
-
--- ---- bounds
-decoded-in-bounds : (j : JsonRecord) (r : MapRecord) → decoded j ≡ Ok r → AreInBounds r.tokens
-decoded-in-bounds j r e =
+pub decoded-well : (j : JsonRecord) (r : MapRecord) → decoded j ≡ Ok r → IsWellRead r
+decoded-well j r e =
     let well = of-fault (json_fault j) _ r e in
     let found = of-tokens j _ r well.1 in
     let reads = reads_of j.mappings (length j.names) (length j.sources) found.tokens found.are_read in
-    subst (λ (m : MapRecord). AreInBounds m.tokens) found.is_map (bounds_within (length j.names) (length j.sources) found.tokens reads.within)
-
-fields-in-bounds : (x : Result JsonRecord Error) (r : MapRecord) → (x >>= decoded) ≡ Ok r → AreInBounds r.tokens
-fields-in-bounds (Ok j) r e = decoded-in-bounds j r e
-fields-in-bounds (Err fault) r e = cc
-
-pub read_in_bounds : (text : Text) (r : MapRecord) → read_map text ≡ Ok r → AreInBounds r.tokens
-unfolding read_map
-read_in_bounds text r e = fields-in-bounds (json_fields (read text)) r e
+    subst IsWellRead found.is_map (record {
+      in_range = ids-in-range j found.tokens (list-fits (j.version == 3) _ (ignore_list_fault j) well.0) found.are_read;
+      chunks = refl;
+      in_bounds = bounds_within (length j.names) (length j.sources) found.tokens reads.within;
+      order = reads.order;
+    })

@@ -4,7 +4,6 @@ pub mod JsonString
 pub mod Plain
 pub mod Decoded
 pub mod Encoded
-pub mod ReadMap
 pub mod JsonText
 pub mod Room
 pub mod JsonParts

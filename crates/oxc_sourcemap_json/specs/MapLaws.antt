@@ -4,12 +4,11 @@ use Rattle.std.specs.Option.{unwrap_or}
 use Rattle.oxc_sourcemap_mappings.specs.declared.error.Error.TheVariants.{TooLarge}
 use Rattle.oxc_sourcemap_mappings.specs.Token.{AreInBounds}
 use Rattle.oxc_sourcemap_mappings.specs.Canonical.{as_written, carried}
-use Rattle.oxc_sourcemap_parts.specs.Record.{Text, MapRecord}
+use Rattle.oxc_sourcemap_parts.specs.Record.{MapRecord}
 use Rattle.oxc_sourcemap_parts.specs.Sound.{IsSound}
 use Rattle.oxc_sourcemap_parts.specs.DecodedMap.{decoded_map_of}
 use Rattle.oxc_sourcemap_json.specs.Encoded.{encoded, encoded_record, written_contents}
 use Rattle.oxc_sourcemap_json.specs.Decoded.{decoded}
-use Rattle.oxc_sourcemap_json.specs.ReadMap.{read_map}
 
 -- A map as it comes back: an unmapped token has the source position that the sums have reached there, and no name;
 -- contents are there where there is some content; and it has no chunks.
@@ -51,7 +50,3 @@ pub record StaysSound (r : MapRecord) : Type 0 where
 -- so it is for every sound map
 abbrev pub SoundStaysSound : Type 0
 SoundStaysSound = (r : MapRecord) → IsSound r → StaysSound r
-
--- The tokens of a map that a JSON text says are in bounds.
-abbrev pub ReadIsInBounds : Type 0
-ReadIsInBounds = (text : Text) (r : MapRecord) → read_map text ≡ Ok r → AreInBounds r.tokens

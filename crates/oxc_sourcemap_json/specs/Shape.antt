@@ -107,6 +107,13 @@ abbrev pub ignore_list_of : Option Data → Option Data → Result (Option (List
 ignore_list_of (Some d) older = ids_in IgnoreList d >>= (λ ids. Ok (Some ids))
 ignore_list_of None older = optional (ids_in GoogleIgnoreList) older
 
+-- What is looked at first, by itself: the value is an object, its version is 3, and its file is a text, null or missing.
+abbrev pub file_of : Data → Result (Option (List ℕ)) Error
+file_of d = do
+  members ← or_misshapen Object (as_object d)
+  version ← required VersionField version_in (get (codes "version") d)
+  optional (text_in File) (present (get (codes "file") d))
+
 -- the fields of a JSON value, or its first fault
 unfoldable pub shape : Data → Result JsonRecord Error
 shape d = do

@@ -1,4 +1,4 @@
-//! Reading the parts of a map from a JSON source map and from a JSON text.
+//! Reading the parts of a map from a JSON source map.
 ghost use Rattle.std.specs.Prelude.{◌≡◌, ◌≢◌, ℕ, List, length, map, option_map, string_bytes, IfOk, IfErr, Ok, Err, Some, []};
 ghost use Rattle.std.specs.Option.{unwrap_or};
 ghost use Rattle.oxc_sourcemap_mappings.specs.declared.error.Error.{Error};
@@ -6,13 +6,10 @@ ghost use Rattle.oxc_sourcemap_mappings.specs.declared.error.Error.TheVariants.{
 ghost use Rattle.oxc_sourcemap_parts.specs.Views.{text_of, texts_of, contents_of, record_of_parts};
 ghost use Rattle.oxc_sourcemap_json.specs.Json.{json_record, json_contents};
 ghost use Rattle.oxc_sourcemap_json.specs.Decoded.{decoded, json_fault, first_not_below};
-ghost use Rattle.oxc_sourcemap_json.specs.ReadMap.{read_map};
 
 use crate::json_source_map::JSONSourceMap;
-use crate::moved::json_of;
 use oxc_sourcemap_mappings::{Error, JsonFault, Result, decode_mappings};
 use oxc_sourcemap_parts::SourceMapParts;
-use serde_json::Value;
 use std::alloc::{AllocError, Global};
 use std::borrow::CowStr;
 
@@ -116,24 +113,4 @@ pub fn decode_parts(alloc: Global, json: JSONSourceMap) -> Result<SourceMapParts
         ignore_list: json.ignore_list,
         debug_id: owned(json.debug_id),
     })
-}
-
-/// The parts of the map that a JSON text says: `serde_json` reads the text, `JSONSourceMap::from_value` the value, and
-/// `decode_parts` the fields. All its strings are owned.
-///
-/// Fails in this order:
-/// - `BadJson(Reading)` where `serde_json` reads no value, as for a text that is not JSON, one with more than white
-///   space after the value, and one that nests deeper than 127;
-/// - what `JSONSourceMap::from_value` refuses;
-/// - what `decode_parts` refuses.
-///
-/// `OutOfMemory` if memory is refused, which may be before a fault is met.
-#[tactic(auto, unfolding(crate::specs::ReadMap::read_map))]
-pub fn decode_parts_from_string(alloc: Global, text: &str) -> Result<SourceMapParts<'static>>
-    ensures map { IfOk result (λ parts. read_map text.now ≡ Ok (record_of_parts parts)) }
-    ensures refused { IfErr result (λ e. (e ≢ OutOfMemory) → read_map text.now ≡ Err e) }
-{
-    let value = Value::from_str(alloc, text)?;
-    let json = json_of(alloc, value)?;
-    decode_parts(alloc, json)
 }

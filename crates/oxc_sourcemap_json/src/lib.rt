@@ -2,7 +2,7 @@
 //! from it and written to it, JSON strings, the JSON text and the data URL.
 //!
 //! The calls of `SourceMap` that read and write stand on this crate. Users name the crate `oxc_sourcemap`, which re-exports
-//! what is meant for them: `JSONSourceMap` and `push_json_string`.
+//! what is meant for them: `JSONSourceMap`, `file_from_value` and `push_json_string`.
 #![tactic(auto)]
 
 mod decode;
@@ -14,8 +14,10 @@ mod moved;
 mod room;
 mod shape;
 
-pub use decode::{decode_parts, decode_parts_from_string};
+pub use decode::decode_parts;
 pub use encode::encode_parts;
 pub use json_source_map::JSONSourceMap;
 pub use json_string::push_json_string;
 pub use json_text::{encode_parts_to_data_url, encode_parts_to_string};
+pub use moved::json_of;
+pub use shape::{file_from_value, read_id};

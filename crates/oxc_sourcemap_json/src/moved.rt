@@ -210,7 +210,7 @@ fn moved_names(alloc: Global, member: Option<Value>) -> Result<Vec<String>>
 /// The fields of an owned JSON value: what `JSONSourceMap::from_value` makes of it, but its strings are moved. The rest of
 /// the value is dropped. Fails as that call does.
 #[tactic(auto, unfolding(crate::specs::Shape::shape))]
-pub(crate) fn json_of(alloc: Global, value: Value) -> Result<JSONSourceMap>
+pub fn json_of(alloc: Global, value: Value) -> Result<JSONSourceMap>
     ensures json { IfOk result (λ json. shape (view value) ≡ Ok (json_record json)) }
     ensures refused { IfErr result (λ e. (e ≢ OutOfMemory) → shape (view value) ≡ Err e) }
 {

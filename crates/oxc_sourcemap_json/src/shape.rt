@@ -5,7 +5,7 @@ ghost use Rattle.serde_json.specs.Find.{get, as_object};
 ghost use Rattle.oxc_sourcemap_mappings.specs.declared.error.Error.TheVariants.{OutOfMemory};
 ghost use Rattle.oxc_sourcemap_mappings.specs.declared.error.Field.TheVariants.{Version as VersionField, Mappings, Sources, SourcesContent};
 ghost use Rattle.oxc_sourcemap_json.specs.Json.{json_record, json_contents};
-ghost use Rattle.oxc_sourcemap_json.specs.Shape.{present, optional, required, text_in, texts_in, contents_in, ids_in, version_in, names_of, ignore_list_of, as_id, shape};
+ghost use Rattle.oxc_sourcemap_json.specs.Shape.{present, optional, required, text_in, texts_in, contents_in, ids_in, version_in, names_of, ignore_list_of, as_id, file_of, shape};
 
 use crate::json_source_map::JSONSourceMap;
 use oxc_sourcemap_mappings::{Error, Field, JsonFault, Result};
@@ -50,7 +50,7 @@ fn read_texts(alloc: Global, member: &Value, field: Field) -> Result<Vec<String>
 }
 
 /// A whole number of 0 to 4294967295.
-fn read_id(item: &Value) -> Option<u32>
+pub fn read_id(item: &Value) -> Option<u32>
     ensures { result ≡ as_id (view item.now) }
 {
     let number = item.as_u64()?;
@@ -195,6 +195,25 @@ fn read_ignore_list(alloc: Global, value: &Value) -> Result<Option<Vec<u32>>>
         value.get("ignoreList"),
         value.get("x_google_ignoreList"),
     )
+}
+
+/// The file of a JSON value that is a source map, indexed or not (docs/FORMAT.md, "The shape of a JSON value"); None if it
+/// is null or missing. Nothing else of the value is looked at than its `version` and its `file`.
+///
+/// Fails with `BadJson` for the first of these in this order, and with `OutOfMemory` if memory is refused:
+/// - `Shape(Object)` unless the value is an object;
+/// - `version`, which has to be 3: `Version(n)` for another whole number n of 0 to 4294967295, `Shape(Version)` for any other
+///   value, and if it is missing;
+/// - `file`: `Shape(File)` unless it is a string, null or missing.
+pub fn file_from_value(alloc: Global, value: &Value) -> Result<Option<String>>
+    ensures file { IfOk result (λ file. file_of (view value.now) ≡ Ok (option_map string_bytes file)) }
+    ensures refused { IfErr result (λ e. (e ≢ OutOfMemory) → file_of (view value.now) ≡ Err e) }
+{
+    if value.as_object().is_none() {
+        return Err(Error::BadJson(JsonFault::Shape(Field::Object)));
+    }
+    let _version = read_version(value.get("version"))?;
+    optional_text(alloc, value, "file", Field::File)
 }
 
 impl JSONSourceMap {

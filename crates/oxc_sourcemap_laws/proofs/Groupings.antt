@@ -3,7 +3,7 @@ use Rattle.std.proofs.Common.{◌≡◌, ◌≢◌, ◌↔◌, ◌⊎◌, inl, i
 use Rattle.std.proofs.lemmas.Bool.Decides.{nat_tests}
 use Rattle.std.specs.Option.{option_and_then}
 use Rattle.oxc_sourcemap_mappings.specs.declared.error.Error.{Error}
-use Rattle.oxc_sourcemap_mappings.specs.declared.error.Error.TheVariants.{VlqLeftover, VlqNoValues, VlqOverflow, BadJson, BadSegmentSize, BadSourceReference, BadNameReference, OutOfMemory, TooLarge, LineOrder, BadChunks, SeveralSources}
+use Rattle.oxc_sourcemap_mappings.specs.declared.error.Error.TheVariants.{VlqLeftover, VlqNoValues, VlqOverflow, BadJson, BadSegmentSize, BadSourceReference, BadNameReference, OutOfMemory, TooLarge, LineOrder, BadChunks, SeveralSources, SectionOrder}
 use Rattle.oxc_sourcemap_mappings.specs.Canonical.{first_out_of_order}
 use Rattle.oxc_sourcemap_parts.specs.Record.{Text, MapRecord}
 use Rattle.oxc_sourcemap_parts.specs.Texts.{index_of}
@@ -152,6 +152,7 @@ too-large-or-not TooLarge = inl refl
 too-large-or-not (LineOrder i) = inr (λ q. cc (q))
 too-large-or-not (BadChunks k) = inr (λ q. cc (q))
 too-large-or-not (SeveralSources n) = inr (λ q. cc (q))
+too-large-or-not (SectionOrder k) = inr (λ q. cc (q))
 
 is-too-large : (q : Result MapRecord Error) → (q ≡ Err TooLarge) ⊎ (q ≢ Err TooLarge)
 is-too-large (Ok r) = inr (λ e. cc (e))

@@ -5,7 +5,8 @@
 #![tactic(auto)]
 
 ghost use Rattle.oxc_sourcemap_mappings.specs.TextLaws.{CanonicalUnique, ReadsBack, ReadsAgain, InPieces};
-ghost use Rattle.oxc_sourcemap_json.specs.MapLaws.{SoundIsWritten, SoundIsTooLarge, SoundReadsBack, SoundStaysSound, ReadIsInBounds};
+ghost use Rattle.oxc_sourcemap_json.specs.MapLaws.{SoundIsWritten, SoundIsTooLarge, SoundReadsBack, SoundStaysSound};
+ghost use Rattle.oxc_sourcemap_sections.specs.ReadLaws.{ReadIsInBounds, ReadIsInLineOrder};
 ghost use Rattle.oxc_sourcemap_laws.specs.ComposeLaws.{DecodedMapOfComposition, CompositionKeepsEqualUpToRepeats, CompositionStandsFor, DecodedMapsAssociative, ComposedMapsAssociative, CompositionAssociative, GroupingsRefusedTogether, GroupingsAnswered, GroupingsTell, CompositionInRange, CompositionNames, CompositionTokens, CompositionTooLarge, CompositionInBounds};
 ghost use Rattle.oxc_sourcemap_laws.specs.JoinLaws.{RepeatsHarmless, TracesAgree, TestsAgree, JoinKeepsEqualUpToRepeats, DecodedMapOfJoin, JoinStandsFor, JoinInRange, JoinNames, JoinTokens, JoinChunksFit, JoinsAssociative, JoinOneMore};
 
@@ -21,7 +22,8 @@ ghost use Rattle.oxc_sourcemap_laws.specs.JoinLaws.{RepeatsHarmless, TracesAgree
 ///   (`sound_is_too_large`). What is written is read as a map with the same decoded map (its ids looked up), the same
 ///   names, and tokens equal as written (`sound_reads_back`). It is sound, has as many tokens, and comes back a second time
 ///   with the same tokens (`sound_stays_sound`).
-/// - The tokens of a map that was read from a JSON text are in bounds (`read_is_in_bounds`).
+/// - The tokens of a map that was read from a JSON text are in bounds (`read_is_in_bounds`) and in line order
+///   (`read_is_in_line_order`).
 pub fn canonical_unique()
     ensures unique { CanonicalUnique }
     ensures reads_back { ReadsBack }
@@ -32,6 +34,7 @@ pub fn canonical_unique()
     ensures sound_reads_back { SoundReadsBack }
     ensures sound_stays_sound { SoundStaysSound }
     ensures read_is_in_bounds { ReadIsInBounds }
+    ensures read_is_in_line_order { ReadIsInLineOrder }
 {}
 
 /// Dropping repeated mappings is harmless. A mapping of a decoded map (a map with its ids looked up) is a repeat if it

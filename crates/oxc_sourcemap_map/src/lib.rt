@@ -1,7 +1,7 @@
 //! `SourceMap`, borrowing or owned: its fields, views of its tokens, and its calls that read, write, look up and compose,
 //! which call the crates below.
 //!
-//! Joins of maps stand on this crate, in `oxc_sourcemap_join`. Users name the crate `oxc_sourcemap`.
+//! Joins of maps stand on this crate, in `oxc_sourcemap_concat`, for which `parts_of` is public here. Users name the crate `oxc_sourcemap`.
 #![tactic(auto)]
 
 mod compose;
@@ -13,5 +13,5 @@ mod view_tokens;
 
 pub use owned_sourcemap::OwnedSourceMap;
 pub use source_view_token::SourceViewToken;
-pub use sourcemap::SourceMap;
+pub use sourcemap::{SourceMap, parts_of};
 pub use view_tokens::ViewTokens;

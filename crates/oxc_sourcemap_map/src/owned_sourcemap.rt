@@ -7,6 +7,7 @@ ghost use Rattle.std.specs.List.{Contains};
 ghost use Rattle.oxc_sourcemap_mappings.specs.declared.error.Error.TheVariants.{OutOfMemory};
 ghost use Rattle.oxc_sourcemap_mappings.specs.declared.error.Error.{Error};
 ghost use Rattle.oxc_sourcemap_mappings.specs.Token.{AreInBounds};
+ghost use Rattle.oxc_sourcemap_mappings.specs.Canonical.{IsInLineOrder};
 ghost use Rattle.oxc_sourcemap_json.specs.Json.{json_record};
 ghost use Rattle.oxc_sourcemap_parts.specs.Views.{record_of_parts, empty_record};
 ghost use Rattle.oxc_sourcemap_parts.specs.Sorted.{are_tokens_sorted, token_line, token_column};
@@ -14,7 +15,7 @@ ghost use Rattle.oxc_sourcemap_parts.specs.Sound.{IsSound};
 ghost use Rattle.oxc_sourcemap_parts.specs.DecodedMap.{decoded_map_of};
 ghost use Rattle.oxc_sourcemap_json.specs.Decoded.{decoded, json_fault};
 ghost use Rattle.oxc_sourcemap_json.specs.Encoded.{encoded};
-ghost use Rattle.oxc_sourcemap_json.specs.ReadMap.{read_map, read_decoded_map};
+ghost use Rattle.oxc_sourcemap_sections.specs.ReadMap.{read_map, read_decoded_map};
 ghost use Rattle.oxc_sourcemap_json.specs.JsonText.{map_text, map_url};
 ghost use Rattle.oxc_sourcemap_lookup.specs.Lookup.{at, clamped_at, pick, clamped_pick, no_column_goes_back};
 ghost use Rattle.oxc_sourcemap_lookup.specs.Lookup.{table_fault, line_table, slice_of};
@@ -112,6 +113,7 @@ impl OwnedSourceMap {
         ensures map { IfOk result (λ map. read_map text.now ≡ Ok map) }
         ensures decoded_map { IfOk result (λ map. read_decoded_map text.now ≡ Ok (decoded_map_of map)) }
         ensures sound { IfOk result (λ map. IsSound map ↔ (are_tokens_sorted map.tokens ≡ true)) }
+        ensures in_line_order { IfOk result (λ map. IsInLineOrder map.tokens) }
         ensures refused { IfErr result (λ e. (e ≢ OutOfMemory) → read_map text.now ≡ Err e) }
     {
         Ok(OwnedSourceMap::new(SourceMap::from_json_string(alloc, text)?))

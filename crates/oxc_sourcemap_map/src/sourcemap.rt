@@ -15,21 +15,21 @@ ghost use Rattle.oxc_sourcemap_parts.specs.Sound.{IsInRange, IsSound};
 ghost use Rattle.oxc_sourcemap_json.specs.Decoded.{decoded, json_fault};
 ghost use Rattle.oxc_sourcemap_json.specs.Encoded.{encoded};
 ghost use Rattle.oxc_sourcemap_parts.specs.DecodedMap.{decoded_map_of};
-ghost use Rattle.oxc_sourcemap_json.specs.ReadMap.{read_map, read_decoded_map};
+ghost use Rattle.oxc_sourcemap_sections.specs.ReadMap.{read_map, read_decoded_map};
 ghost use Rattle.oxc_sourcemap_json.specs.JsonText.{map_text, map_url};
 ghost use Rattle.oxc_sourcemap_map.specs.View.{view_of, seen_in, content_at, source_and_content_at};
 
 use crate::source_view_token::SourceViewToken;
 use crate::view_tokens::ViewTokens;
 use oxc_sourcemap_json::{
-    JSONSourceMap, decode_parts, decode_parts_from_string, encode_parts, encode_parts_to_data_url,
-    encode_parts_to_string,
+    JSONSourceMap, decode_parts, encode_parts, encode_parts_to_data_url, encode_parts_to_string,
 };
 use oxc_sourcemap_mappings::{Result, Token, TokenChunk};
 use oxc_sourcemap_parts::{
     Contents, Names, SourceMapParts, Sources, Tokens, are_sorted, are_sound, contents_in, names_in,
     owned_parts, sources_in, stored_contents, stored_texts, tokens_in,
 };
+use oxc_sourcemap_sections::decode_parts_from_string;
 use std::alloc::Global;
 use std::borrow::CowStr;
 use std::boxed::BoxedSlice;
@@ -108,19 +108,22 @@ impl<'a> SourceMap<'a> {
         Ok(SourceMap::from_parts(decode_parts(alloc, value)?))
     }
 
-    /// Reads a map from its JSON text, as `decode_from_string` does. All its strings are owned.
+    /// Reads a map from its JSON text, as `decode_from_string` does: a map by itself, or the sections of an indexed map, joined.
+    /// All its strings are owned.
     ///
     /// Fails with the first of these, in the order that `decode_from_string` documents: `BadJson` for the text and its fields,
-    /// `BadSourceReference` for the ignore list, then `VlqOverflow`, `VlqLeftover`, `BadSegmentSize`, `BadSourceReference`,
-    /// `BadNameReference` or `TooLarge` for the mappings; or with `OutOfMemory` if memory is refused.
+    /// `SectionOrder` for the offset of a section, `BadSourceReference` for the ignore list, then `VlqOverflow`, `VlqLeftover`,
+    /// `BadSegmentSize`, `BadSourceReference`, `BadNameReference` or `TooLarge` for the mappings, and `TooLarge` for a join of
+    /// sections; or with `OutOfMemory` if memory is refused.
     ///
-    /// Its ids are in range and it has no chunks, so it is sound exactly if it is sorted. A text may list the columns of a
-    /// line in any order; `is_sorted` checks that.
-    #[tactic(auto, using(oxc_sourcemap_json::proofs::ReadSound::read_map_sound))]
+    /// Its ids are in range, its tokens in line order, and it has no chunks, so it is sound exactly if it is sorted. A text may
+    /// list the columns of a line in any order; `is_sorted` checks that.
+    #[tactic(auto, using(oxc_sourcemap_sections::proofs::WellRead::read_map_sound, oxc_sourcemap_sections::proofs::WellRead::read_in_order))]
     pub fn from_json_string(alloc: Global, text: &str) -> Result<SourceMap<'static>>
         ensures map { IfOk result (λ map. read_map text.now ≡ Ok map) }
         ensures decoded_map { IfOk result (λ map. read_decoded_map text.now ≡ Ok (decoded_map_of map)) }
         ensures sound { IfOk result (λ map. IsSound map ↔ (are_tokens_sorted map.tokens ≡ true)) }
+        ensures in_line_order { IfOk result (λ map. IsInLineOrder map.tokens) }
         ensures refused { IfErr result (λ e. (e ≢ OutOfMemory) → read_map text.now ≡ Err e) }
     {
         Ok(SourceMap::from_parts(decode_parts_from_string(alloc, text)?))
@@ -378,6 +381,13 @@ impl<'a> SourceMap<'a> {
     {
         are_sound(&self.parts)
     }
+}
+
+/// The parts of a map, borrowed.
+pub fn parts_of<'m, 'a>(map: &'m SourceMap<'a>) -> &'m SourceMapParts<'a>
+    ensures { record_of_parts result.now ≡ map.now }
+{
+    &map.parts
 }
 
 impl<'a> From<SourceMapParts<'a>> for SourceMap<'a> {

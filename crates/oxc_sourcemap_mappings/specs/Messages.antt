@@ -2,11 +2,11 @@
 use Rattle.std.specs.Prelude.{ℕ, List, ◌++◌, codes, Option, Some, None}
 use Rattle.std.specs.Fmt.{decimal}
 use Rattle.oxc_sourcemap_mappings.specs.declared.error.Field.{Field}
-use Rattle.oxc_sourcemap_mappings.specs.declared.error.Field.TheVariants.{Object, Version as VersionField, File, Mappings, SourceRoot, Sources, SourcesContent, Names, DebugId, IgnoreList, GoogleIgnoreList}
+use Rattle.oxc_sourcemap_mappings.specs.declared.error.Field.TheVariants.{Object, Version as VersionField, File, Mappings, SourceRoot, Sources, SourcesContent, Names, DebugId, IgnoreList, GoogleIgnoreList, Sections, Offset, Map}
 use Rattle.oxc_sourcemap_mappings.specs.declared.error.JsonFault.{JsonFault}
 use Rattle.oxc_sourcemap_mappings.specs.declared.error.JsonFault.TheVariants.{Reading, Shape, Version}
 use Rattle.oxc_sourcemap_mappings.specs.declared.error.Error.{Error}
-use Rattle.oxc_sourcemap_mappings.specs.declared.error.Error.TheVariants.{VlqLeftover, VlqNoValues, VlqOverflow, BadJson, BadSegmentSize, BadSourceReference, BadNameReference, OutOfMemory, TooLarge, LineOrder, BadChunks, SeveralSources}
+use Rattle.oxc_sourcemap_mappings.specs.declared.error.Error.TheVariants.{VlqLeftover, VlqNoValues, VlqOverflow, BadJson, BadSegmentSize, BadSourceReference, BadNameReference, OutOfMemory, TooLarge, LineOrder, BadChunks, SeveralSources, SectionOrder}
 
 -- the key of a field of the JSON object, and none for the object itself
 abbrev pub key_of : Field → Option (List ℕ)
@@ -21,6 +21,9 @@ key_of Names = Some (codes "names")
 key_of DebugId = Some (codes "debugId")
 key_of IgnoreList = Some (codes "ignoreList")
 key_of GoogleIgnoreList = Some (codes "x_google_ignoreList")
+key_of Sections = Some (codes "sections")
+key_of Offset = Some (codes "offset")
+key_of Map = Some (codes "map")
 
 -- that the value is no object, or that the field of this key is missing or has the wrong type
 abbrev pub shape_text : Option (List ℕ) → List ℕ
@@ -47,3 +50,4 @@ error_text TooLarge = codes "A line, an id or a count is too large"
 error_text (LineOrder i) = codes "Token " ++ decimal i ++ codes " lies on a line before the token in front of it"
 error_text (BadChunks k) = codes "Token chunk " ++ decimal k ++ codes " does not fit the tokens"
 error_text (SeveralSources n) = codes "Cannot compose a transformation map with " ++ decimal n ++ codes " sources"
+error_text (SectionOrder k) = codes "Section " ++ decimal k ++ codes " begins before the end of what is in front of it"

@@ -41,6 +41,9 @@ pub enum Error {
     BadChunks(usize),
     /// `compose` was called on a map with this many sources; at most one is allowed.
     SeveralSources(usize),
+    /// The index of the first section of an indexed map whose offset is before that of the section before it, or before the
+    /// last token of the sections before it.
+    SectionOrder(usize),
 }
 
 /// Why a JSON text or a JSON value is not a source map of version 3.
@@ -54,7 +57,8 @@ pub enum JsonFault {
     Version(u32),
 }
 
-/// The part of a JSON value that is missing or has the wrong type: the value itself, or one of its fields.
+/// The part of a JSON value that is missing or has the wrong type: the value itself, or one of its fields, or a field of a
+/// section of an indexed map.
 #[derive(Clone, Copy, Debug, PartialEq, Eq)]
 pub enum Field {
     /// The value itself, which is not an object.
@@ -79,6 +83,12 @@ pub enum Field {
     IgnoreList,
     /// `x_google_ignoreList`, which stands in for an `ignoreList` that is missing or null.
     GoogleIgnoreList,
+    /// `sections` of an indexed map, a list of objects.
+    Sections,
+    /// `offset` of a section, an object with `line` and `column`, both whole numbers of 0 to 4294967295.
+    Offset,
+    /// `map` of a section, an object that is a source map and not an indexed one.
+    Map,
 }
 
 /// A `Result` with the `Error` of this library.
@@ -101,6 +111,9 @@ impl Field {
             Field::DebugId => Some("debugId"),
             Field::IgnoreList => Some("ignoreList"),
             Field::GoogleIgnoreList => Some("x_google_ignoreList"),
+            Field::Sections => Some("sections"),
+            Field::Offset => Some("offset"),
+            Field::Map => Some("map"),
         }
     }
 }
@@ -151,6 +164,12 @@ impl fmt::Display for Error {
             Error::BadChunks(k) => write!(f, "Token chunk {k} does not fit the tokens"),
             Error::SeveralSources(n) => {
                 write!(f, "Cannot compose a transformation map with {n} sources")
+            }
+            Error::SectionOrder(k) => {
+                write!(
+                    f,
+                    "Section {k} begins before the end of what is in front of it"
+                )
             }
         }
     }

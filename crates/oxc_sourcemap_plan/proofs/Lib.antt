@@ -2,6 +2,7 @@ pub mod Plans
 pub mod KnownNames
 pub mod Decoding
 pub mod Realizing
+pub mod Reading
 pub mod Parts
 pub mod Answering
 mod Worked

@@ -2,7 +2,7 @@
 use Rattle.std.proofs.Common.{◌≡◌, ℕ, List, [], ◌∷◌, ◌++◌, map, ◌+◌, Vec, Box, refl, ap, sym, ◌∙◌}
 use Rattle.std.specs.declared.alloc.Global.{Global}
 use Rattle.std.specs.Borrow.{Bor}
-use Rattle.oxc_sourcemap_json.specs.ReadMap.{read_map}
+use Rattle.oxc_sourcemap_sections.specs.ReadMap.{said_in}
 use Rattle.oxc_sourcemap_join.specs.Joined.{at_line, at_lines, at_positions}
 use Rattle.oxc_sourcemap_plan.specs.declared.plan.Plan.{Plan}
 use Rattle.oxc_sourcemap_plan.specs.declared.plan.Plan.TheVariants.{Read, rolls-Read, Rewrite, rolls-Rewrite, Join, rolls-Join, JoinAt, rolls-JoinAt, Compose, rolls-Compose}
@@ -57,7 +57,7 @@ outcome_parts_at plan parts items e f = ap outcome_of e ∙ outcome_join_at part
 pub outcome_compose : (p q : Box Plan Global) → outcome_of (Compose p q) ≡ composition_outcome (outcome_of p.value) (outcome_of q.value)
 outcome_compose p q = ap outcome_of (sym (rolls-Compose p q)) ∙ fold-roll-Plan Outcome outcome_step (Plan-F.Compose p q)
 
-pub outcome_read : (text : Bor (List ℕ)) → outcome_of (Read text) ≡ read_outcome (read_map text.now)
+pub outcome_read : (text : Bor (List ℕ)) → outcome_of (Read text) ≡ read_outcome (said_in text.now)
 outcome_read text = ap outcome_of (sym (rolls-Read text)) ∙ fold-roll-Plan Outcome outcome_step (Plan-F.Read text)
 
 pub outcome_rewrite : (p : Box Plan Global) → outcome_of (Rewrite p) ≡ rewrite_outcome (outcome_of p.value)

@@ -7,7 +7,7 @@ use Rattle.std.proofs.lemmas.Bool.Decides.{nat_tests}
 use Rattle.std.proofs.lemmas.List.{length-append, length-map}
 use Rattle.std.proofs.lemmas.List.Elements.{recursion_from_All, All-from_recursion}
 use Rattle.oxc_sourcemap_mappings.specs.declared.error.Error.{Error}
-use Rattle.oxc_sourcemap_mappings.specs.declared.error.Error.TheVariants.{VlqLeftover, VlqNoValues, VlqOverflow, BadJson, BadSegmentSize, BadSourceReference, BadNameReference, OutOfMemory, TooLarge, LineOrder, BadChunks, SeveralSources}
+use Rattle.oxc_sourcemap_mappings.specs.declared.error.Error.TheVariants.{VlqLeftover, VlqNoValues, VlqOverflow, BadJson, BadSegmentSize, BadSourceReference, BadNameReference, OutOfMemory, TooLarge, LineOrder, BadChunks, SeveralSources, SectionOrder}
 use Rattle.oxc_sourcemap_mappings.specs.Token.{TokenRecord, IsInBounds, AreInBounds}
 use Rattle.oxc_sourcemap_mappings.specs.TextLaws.{ReadsAgain}
 use Rattle.oxc_sourcemap_mappings.specs.Canonical.{first_out_of_order}
@@ -19,8 +19,7 @@ use Rattle.oxc_sourcemap_parts.specs.DecodedMap.{DecodedSource, DecodedMapping, 
 use Rattle.oxc_sourcemap_json.specs.Decoded.{decoded}
 use Rattle.oxc_sourcemap_json.specs.Encoded.{encoded, encoded_record, written_contents}
 use Rattle.oxc_sourcemap_mappings.specs.Chunks.{writing_fault}
-use Rattle.oxc_sourcemap_json.specs.ReadMap.{read_map}
-use Rattle.oxc_sourcemap_json.specs.MapLaws.{SoundIsWritten, SoundIsTooLarge, SoundReadsBack, SoundStaysSound, ReadIsInBounds, rewritten}
+use Rattle.oxc_sourcemap_json.specs.MapLaws.{SoundIsWritten, SoundIsTooLarge, SoundReadsBack, SoundStaysSound, rewritten}
 use Rattle.oxc_sourcemap_join.specs.Joined.{Offset, is_same_token, without_repeat, shifted, added, added_all, nothing_joined, joined, AreEntriesInBounds, IsWithinLimits}
 use Rattle.oxc_sourcemap_join.proofs.Fitted.{length-fitted}
 use Rattle.oxc_sourcemap_lookup.specs.Lookup.{last}
@@ -36,7 +35,7 @@ use Rattle.oxc_sourcemap_plan.specs.declared.plan.PlanError.{PlanError}
 use Rattle.oxc_sourcemap_plan.specs.declared.plan.PlanError.TheVariants.{Map, Unsorted}
 use Rattle.oxc_sourcemap_plan.specs.Meaning.{read_meaning, onto_decoded_maps, all_decoded_maps, join_meaning, composition_meaning}
 use Rattle.oxc_sourcemap_plan.specs.Limits.{are_counts_within_limits, is_position_within_limits, are_positions_within_limits, is_part_within_limits, is_join_within_limits}
-use Rattle.oxc_sourcemap_plan.specs.Outcome.{Outcome, read_outcome, rewrite_outcome, meanings, names_of_all, all_records, joined_source_count, are_all_within_limits, join_outcome, composition_outcome}
+use Rattle.oxc_sourcemap_plan.specs.Outcome.{Outcome, plain_outcome, rewrite_outcome, meanings, names_of_all, all_records, joined_source_count, are_all_within_limits, join_outcome, composition_outcome}
 use Rattle.oxc_sourcemap_plan.specs.Evaluated.{is_among, are_among}
 use Rattle.oxc_sourcemap_plan.specs.Realizes.{Realizes, FailsAs, AllRealize}
 use Rattle.oxc_sourcemap_plan.proofs.KnownNames.{among-left, among-right, among-both, among-self, all-more, all-weaker}
@@ -56,6 +55,7 @@ memory_or_not TooLarge = inr (λ q. cc (q))
 memory_or_not (LineOrder i) = inr (λ q. cc (q))
 memory_or_not (BadChunks k) = inr (λ q. cc (q))
 memory_or_not (SeveralSources n) = inr (λ q. cc (q))
+memory_or_not (SectionOrder k) = inr (λ q. cc (q))
 
 -- what is refused as is meant, where it is not lack of memory
 pub unless_memory : (e : Error) (o : Outcome) → ((e ≢ OutOfMemory) → FailsAs (Map e) o) → FailsAs (Map e) o
@@ -67,7 +67,7 @@ length-sources (p ∷ ps) [] = ap suc (length-sources ps [])
 length-sources (p ∷ ps) (c ∷ cs) = ap suc (length-sources ps cs)
 
 -- a map has as many sources as a decoded map that it is equal up to repeats to
-same-sources : (r : MapRecord) (s : DecodedMap) → EqualUpToRepeats (decoded_map_of r) s → length r.sources ≡ length s.sources
+pub same-sources : (r : MapRecord) (s : DecodedMap) → EqualUpToRepeats (decoded_map_of r) s → length r.sources ≡ length s.sources
 same-sources r s e = sym (length-sources r.sources r.source_contents) ∙ ap length (matches (decoded_map_of r) s e).rest.sources
 
 -- ---- counts that fit
@@ -79,22 +79,22 @@ pub record CountsFit (names : List Text) (s : DecodedMap) : Type 0 where
 at_most : (n : ℕ) → nat_le n 4294967295 ≡ true → n ≤ 4294967295
 at_most n e = grind (arith, nat_tests)
 
-counts-fit : (names : List Text) (s : DecodedMap) → are_counts_within_limits names s ≡ true → CountsFit names s
+pub counts-fit : (names : List Text) (s : DecodedMap) → are_counts_within_limits names s ≡ true → CountsFit names s
 counts-fit names s e =
     let p = and_parts (nat_le (length names) 4294967295) (nat_le (length s.sources) 4294967295 && nat_le (length s.mappings) 4294967295) e in
     let q = and_parts (nat_le (length s.sources) 4294967295) (nat_le (length s.mappings) 4294967295) p.1 in
     record { names_fit = at_most _ p.0; sources_fit = at_most _ q.0; entries_fit = at_most _ q.1 }
 
--- ---- a text
-pub read_gives : ReadIsInBounds → (text : Text) (r : MapRecord) → read_map text ≡ Ok r → IsSound r → are_tokens_sorted r.tokens ≡ true → Realizes r (read_outcome (read_map text))
-read_gives law text r e h s =
+-- ---- a map that is read by itself
+pub plain_gives : (r : MapRecord) → AreInBounds r.tokens → IsSound r → are_tokens_sorted r.tokens ≡ true → Realizes r (plain_outcome (Ok r))
+plain_gives r b h s =
     let means : read_meaning (Ok r) ≡ Ok (decoded_map_of r) = ap (λ b. cond b (Ok (decoded_map_of r)) (Err Unsorted)) s in
     let room : is_part_within_limits r.names (read_meaning (Ok r)) ≡ true → length (decoded_map_of r).mappings ≤ 4294967295 = λ k. (counts-fit r.names (decoded_map_of r) (ap (is_part_within_limits r.names) (sym means) ∙ k)).entries_fit in
-    subst (λ q. Realizes r (read_outcome q)) (sym e) (record {
+    record {
       decoded_map = decoded_map_of r;
       means = means;
       stands = record { sound = h; up_to_repeats = refl };
-      in_bounds = law text r e;
+      in_bounds = b;
       map_record = refl;
       tokens = rw length-map (omega arith);
       names = omega arith;
@@ -102,13 +102,10 @@ read_gives law text r e h s =
       known = among-self r.names;
       within_limits = room;
       rewritten = λ k. absurd (both_ways false refl k);
-    })
+    }
 
-pub read_unsorted : (text : Text) (r : MapRecord) → read_map text ≡ Ok r → are_tokens_sorted r.tokens ≡ false → FailsAs Unsorted (read_outcome (read_map text))
-read_unsorted text r e s = inr (inl (ap read_meaning e ∙ ap (λ b. cond b (Ok (decoded_map_of r)) (Err Unsorted)) s))
-
-pub read_refused : (text : Text) (e : Error) → read_map text ≡ Err e → FailsAs (Map e) (read_outcome (read_map text))
-read_refused text e q = inr (inl (ap read_meaning q))
+pub plain_unsorted : (r : MapRecord) → are_tokens_sorted r.tokens ≡ false → FailsAs Unsorted (plain_outcome (Ok r))
+plain_unsorted r s = inr (inl (ap (λ b. cond b (Ok (decoded_map_of r)) (Err Unsorted)) s))
 
 -- ---- a rewriting
 ok-same : {A : Type 0} (x y : A) → ◌≡◌ {A = Result A Error} (Ok x) (Ok y) → x ≡ y
@@ -165,11 +162,11 @@ reading_refused back r j e w d o g =
 
 -- ---- a join
 -- what a move in a join leaves of a token in bounds
-record Stays (t : TokenRecord) : Type 0 where
+pub record Stays (t : TokenRecord) : Type 0 where
   src_line : t.src_line < 4294967296
   src_col : t.src_col < 4294967296
 
-stays-of : (t : TokenRecord) → IsInBounds t → Stays t
+pub stays-of : (t : TokenRecord) → IsInBounds t → Stays t
 stays-of t b = record { src_line = b.src_line; src_col = b.src_col }
 
 stays-shifted : (names sources : ℕ) (offset : Offset) (ts : List TokenRecord) → AllByRecursion Stays ts → AllByRecursion Stays (map (shifted names sources offset) ts)
@@ -269,7 +266,7 @@ up_to_repeats-each (m ∷ ms) [] h = absurd h
 up_to_repeats-each (m ∷ ms) (s ∷ ss) h = ((h.0.0.up_to_repeats, h.0.1), up_to_repeats-each ms ss h.1)
 
 -- a join has one content for each source
-contents-added : (r : MapRecord) (ms : List (MapRecord × Offset)) → length r.source_contents ≡ length r.sources → length (added_all r ms).source_contents ≡ length (added_all r ms).sources
+pub contents-added : (r : MapRecord) (ms : List (MapRecord × Offset)) → length r.source_contents ≡ length r.sources → length (added_all r ms).source_contents ≡ length (added_all r ms).sources
 contents-added r [] e = e
 contents-added r (m ∷ ms) e = contents-added (added r m.0 m.1) ms (length-fitted (length (r.sources ++ m.0.sources)) (r.source_contents ++ m.0.source_contents))
 
@@ -295,6 +292,30 @@ pub record JoinLaws : Type 0 where
 
 pub join_laws : TestsAgree → JoinKeepsEqualUpToRepeats → DecodedMapOfJoin → JoinInRange → JoinStandsFor → JoinNames → JoinTokens → JoinLaws
 join_laws a b c d e f g = record { tests = a; keeps = b; decoded_map = c; range = d; stands = e; names = f; tokens = g }
+
+-- A join is within limits where a decoded map is that it is equal up to repeats to, with at least as many names and mappings.
+pub within_of : (laws : JoinLaws) (ms : List (MapRecord × Offset)) (s : DecodedMap) (all : List Text) → EqualUpToRepeats (decoded_map_of (joined ms)) s
+    → AreAllInRange ms → AreIgnoreListsInRange ms → AllByRecursion (λ m. AllByRecursion Stays m.0.tokens) ms
+    → length (flat_map (λ m. m.0.tokens) ms) ≤ length s.mappings → length (flat_map (λ m. m.0.names) ms) ≤ length all
+    → CountsFit all s → are_positions_within_limits s.mappings ≡ true → IsWithinLimits (joined ms)
+within_of laws ms s all al range lists stays jt jn fits within =
+    let sources = same-sources (joined ms) s al in
+    let names = ap length (laws.names ms) in
+    let positions : are_positions_within_limits (decoded_map_of (joined ms)).mappings ≡ true = laws.tests are_positions_within_limits blind-positions (decoded_map_of (joined ms)) s al ∙ within in
+    let r = (laws.range ms).0 range in
+    let stay = stays-added nothing_joined ms tt stays in
+    let pt = laws.tokens ms in
+    let fn = fits.names_fit in let fs = fits.sources_fit in let fe = fits.entries_fit in
+    let bn : length (joined ms).names ≤ 4294967295 = omega arith in
+    let bs : length (joined ms).sources ≤ 4294967295 = omega arith in
+    record {
+      names = bn;
+      sources = bs;
+      tokens = omega arith;
+      in_bounds = All-from_recursion IsInBounds (joined ms).tokens
+          (in-bounds (length (joined ms).names) (length (joined ms).sources) (sources_of (joined ms).sources (joined ms).source_contents) (joined ms).names (joined ms).tokens bn bs positions r stay);
+      ignore_list = entries-below (joined ms).ignore_list (length (joined ms).sources) bs ((laws.range ms).1 lists);
+    }
 
 module _ (laws : JoinLaws) (ms : List (MapRecord × Offset)) (os : List (Outcome × Offset)) (h : AllRealize ms os) where
   means-of : (join_outcome os).meaning ≡ join_meaning (Ok (joint ms os h).decoded_maps)
@@ -334,23 +355,7 @@ module _ (laws : JoinLaws) (ms : List (MapRecord × Offset)) (os : List (Outcome
       let room = room-of ms os j e in
       let s = joined_decoded_maps j.decoded_maps in
       let al : EqualUpToRepeats (decoded_map_of (joined ms)) s = laws.decoded_map ms j.in_range ∙ laws.keeps (decoded_maps_of ms) j.decoded_maps (up_to_repeats-each ms j.decoded_maps j.stand) in
-      let sources = same-sources (joined ms) s al in
-      let names = ap length (laws.names ms) in
-      let positions : are_positions_within_limits (decoded_map_of (joined ms)).mappings ≡ true = laws.tests are_positions_within_limits blind-positions (decoded_map_of (joined ms)) s al ∙ room.1 in
-      let r = (laws.range ms).0 j.in_range in
-      let stay = stays-added nothing_joined ms tt j.stay in
-      let jt = j.tokens in let jn = j.names in let pt = laws.tokens ms in
-      let fn = room.0.names_fit in let fs = room.0.sources_fit in let fe = room.0.entries_fit in
-      let bn : length (joined ms).names ≤ 4294967295 = omega arith in
-      let bs : length (joined ms).sources ≤ 4294967295 = omega arith in
-      record {
-        names = bn;
-        sources = bs;
-        tokens = omega arith;
-        in_bounds = All-from_recursion IsInBounds (joined ms).tokens
-            (in-bounds (length (joined ms).names) (length (joined ms).sources) (sources_of (joined ms).sources (joined ms).source_contents) (joined ms).names (joined ms).tokens bn bs positions r stay);
-        ignore_list = entries-below (joined ms).ignore_list (length (joined ms).sources) bs ((laws.range ms).1 j.lists_in_range);
-      }
+      within_of laws ms s (names_of_all os) al j.in_range j.lists_in_range j.stay j.tokens j.names room.0 room.1
 
   pub join_refused : (e : Error) → (e ≡ OutOfMemory) ⊎ ((e ≡ TooLarge) × (IsWithinLimits (joined ms) → ⊥)) → FailsAs (Map e) (join_outcome os)
   join_refused e r = elim r [

@@ -9,7 +9,7 @@ use Rattle.oxc_sourcemap_parts.specs.DecodedMap.{DecodedMapping}
 use Rattle.oxc_sourcemap_plan.specs.declared.plan.PlanError.TheVariants.{Map, Unsorted}
 use Rattle.oxc_sourcemap_join.specs.Joined.{at_lines}
 use Rattle.oxc_sourcemap_plan.specs.Meaning.{Meaning}
-use Rattle.oxc_sourcemap_plan.specs.Outcome.{Outcome, read_outcome, rewrite_outcome, join_outcome, composition_outcome}
+use Rattle.oxc_sourcemap_plan.specs.Outcome.{Outcome, plain_outcome, rewrite_outcome, join_outcome, composition_outcome}
 
 -- generated line and column, source line and column, source id, name id
 abbrev token : ℕ → ℕ → ℕ → ℕ → Option ℕ → Option ℕ → TokenRecord
@@ -22,7 +22,7 @@ plain names sources tokens = record empty_record { names = names; sources = sour
 
 -- what a text that says this map comes to
 abbrev of_map : MapRecord → Outcome
-of_map r = read_outcome (Ok r)
+of_map r = plain_outcome (Ok r)
 
 -- a mapping at a position, which points to this one of a source
 abbrev points : ℕ → ℕ → Text → ℕ → ℕ → Option Text → DecodedMapping
@@ -68,10 +68,10 @@ joins-unsorted : (lines_outcome ((of_map first_map, 1) ∷ (of_map second_map, 0
 joins-unsorted = refl
 
 -- a map on line 1 at the last line, and a text that is no JSON: the text's fault, and nothing is counted
-bad-part-first : (lines_outcome ((of_map (plain [] [] (token 1 0 0 0 None None ∷ [])), 4294967295) ∷ (read_outcome (Err (BadJson Reading)), 0) ∷ [])).meaning ≡ Err (Map (BadJson Reading))
+bad-part-first : (lines_outcome ((of_map (plain [] [] (token 1 0 0 0 None None ∷ [])), 4294967295) ∷ (plain_outcome (Err (BadJson Reading)), 0) ∷ [])).meaning ≡ Err (Map (BadJson Reading))
 bad-part-first = refl
 
-bad-part-counts-nothing : (lines_outcome ((of_map (plain [] [] (token 1 0 0 0 None None ∷ [])), 4294967295) ∷ (read_outcome (Err (BadJson Reading)), 0) ∷ [])).is_within_limits ≡ true
+bad-part-counts-nothing : (lines_outcome ((of_map (plain [] [] (token 1 0 0 0 None None ∷ [])), 4294967295) ∷ (plain_outcome (Err (BadJson Reading)), 0) ∷ [])).is_within_limits ≡ true
 bad-part-counts-nothing = refl
 
 -- without that text there is no room

@@ -1,8 +1,8 @@
 -- What plans mean: a decoded map, or one refusal. Here by what their parts mean; `Outcome` has the cases.
-use Rattle.std.specs.Prelude.{List, [], ◌∷◌, length, Result, Ok, Err, if◌then◌else◌, nat_lt}
+use Rattle.std.specs.Prelude.{List, [], ◌∷◌, length, Option, Some, None, Result, Ok, Err, if◌then◌else◌, nat_lt}
 use Rattle.oxc_sourcemap_mappings.specs.declared.error.Error.{Error}
 use Rattle.oxc_sourcemap_mappings.specs.declared.error.Error.TheVariants.{SeveralSources}
-use Rattle.oxc_sourcemap_parts.specs.Record.{MapRecord}
+use Rattle.oxc_sourcemap_parts.specs.Record.{Text, MapRecord}
 use Rattle.oxc_sourcemap_parts.specs.Sorted.{are_tokens_sorted}
 use Rattle.oxc_sourcemap_parts.specs.DecodedMap.{DecodedMap, decoded_map_of}
 use Rattle.oxc_sourcemap_join.specs.Joined.{Offset}
@@ -15,10 +15,16 @@ use Rattle.oxc_sourcemap_plan.specs.declared.plan.PlanError.TheVariants.{Map, Un
 abbrev pub Meaning : Type 0
 Meaning = Result DecodedMap PlanError
 
--- A text that is read: the decoded map of its map, where that is sorted.
+-- A map that is read by itself: its decoded map, where that is sorted.
 abbrev pub read_meaning : Result MapRecord Error → Meaning
 read_meaning (Err fault) = Err (Map fault)
 read_meaning (Ok r) = if are_tokens_sorted r.tokens then Ok (decoded_map_of r) else Err Unsorted
+
+-- An indexed map that is read: the join of the decoded maps of its sections, with its file, where that is sorted; or the fault of
+-- a section.
+abbrev pub indexed_meaning : Option Text → Option Error → DecodedMap → Meaning
+indexed_meaning file (Some fault) s = Err (Map fault)
+indexed_meaning file None s = if is_sorted_decoded_map s then Ok (record s { file = file }) else Err Unsorted
 
 -- a decoded map at its offset, before others; the first refusal stands
 abbrev pub onto_decoded_maps : Meaning → Offset → Result (List (DecodedMap × Offset)) PlanError

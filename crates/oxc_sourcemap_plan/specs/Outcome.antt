@@ -5,18 +5,20 @@ use Rattle.std.specs.Option.{option_map, option_and_then}
 use Rattle.oxc_sourcemap_mappings.specs.declared.error.Error.{Error}
 use Rattle.oxc_sourcemap_parts.specs.Record.{Text, MapRecord}
 use Rattle.oxc_sourcemap_parts.specs.DecodedMap.{DecodedMap}
-use Rattle.oxc_sourcemap_json.specs.ReadMap.{read_map}
 use Rattle.oxc_sourcemap_json.specs.MapLaws.{rewritten}
 use Rattle.oxc_sourcemap_compose.specs.Composed.{composed}
 use Rattle.oxc_sourcemap_join.specs.Joined.{Offset, at_lines, at_positions, joined}
+use Rattle.oxc_sourcemap_sections.specs.Sections.{Sections}
+use Rattle.oxc_sourcemap_sections.specs.ReadMap.{Said, plain, indexed, indexed_record, said_in}
 use Rattle.oxc_sourcemap_laws.specs.JoinedDecodedMaps.{joined_decoded_maps}
+use Rattle.oxc_sourcemap_laws.specs.JoinLaws.{decoded_maps_of}
 use Rattle.oxc_sourcemap_plan.specs.declared.plan.Plan.{Plan}
 use Rattle.oxc_sourcemap_plan.specs.declared.plan.Plan.TheOpen.{Plan-F}
 use Rattle.oxc_sourcemap_plan.specs.declared.plan.Plan.TheFolds.{fold-Plan}
 use Rattle.oxc_sourcemap_plan.specs.declared.plan.PlanError.{PlanError}
 use Rattle.oxc_sourcemap_plan.specs.declared.plan.PlanError.TheVariants.{TooDeep}
 use Rattle.oxc_sourcemap_plan.specs.Depth.{depth}
-use Rattle.oxc_sourcemap_plan.specs.Meaning.{Meaning, read_meaning, all_decoded_maps, join_meaning, composition_meaning}
+use Rattle.oxc_sourcemap_plan.specs.Meaning.{Meaning, read_meaning, indexed_meaning, all_decoded_maps, join_meaning, composition_meaning}
 use Rattle.oxc_sourcemap_plan.specs.Limits.{is_part_within_limits, is_join_within_limits}
 
 pub record Outcome : Type 0 where
@@ -29,7 +31,8 @@ pub record Outcome : Type 0 where
   -- how many contents the map lists at most: as many as the text that is read, as a join has sources, as the second part of a
   -- composition
   pub contents : ℕ
-  -- At every part names, sources and mappings number at most 4294967295, and no line or column of a join is above that.
+  -- At every part names, sources and mappings number at most 4294967295, and no line or column of a join is above that. An
+  -- indexed map counts as the join of its sections.
   -- A join counts what all its parts have; a composition the names of both, the sources of the second and the mappings
   -- of the first. A part that means an error counts nothing; but a join whose parts mean none counts, sorted or not.
   pub is_within_limits : Bool
@@ -51,8 +54,9 @@ abbrev pub contents_of_read : Result MapRecord Error → ℕ
 contents_of_read (Err fault) = 0
 contents_of_read (Ok r) = length r.source_contents
 
-abbrev pub read_outcome : Result MapRecord Error → Outcome
-read_outcome read = record {
+-- a map that is read by itself
+abbrev pub plain_outcome : Result MapRecord Error → Outcome
+plain_outcome read = record {
   meaning = read_meaning read;
   map_record = record_read read;
   names = names_of_read read;
@@ -60,6 +64,32 @@ read_outcome read = record {
   is_within_limits = is_part_within_limits (names_of_read read) (read_meaning read);
   is_rewritten = false;
 }
+
+-- the map of sections, unless one has a fault
+abbrev pub map_of_sections : Option Error → MapRecord → Option MapRecord
+map_of_sections None r = Some r
+map_of_sections (Some fault) r = None
+
+-- the names of sections, in order
+abbrev pub names_of_sections : List (MapRecord × Offset) → List Text
+names_of_sections maps = flat_map (λ m. m.0.names) maps
+
+-- An indexed map with this file, by the fault of its sections and those in front of it. It counts what the join of these counts,
+-- whatever it means.
+abbrev pub sections_outcome : Option Text → Option Error → List (MapRecord × Offset) → Outcome
+sections_outcome file fault maps = record {
+  meaning = indexed_meaning file fault (joined_decoded_maps (decoded_maps_of maps));
+  map_record = map_of_sections fault (indexed_record file (joined maps));
+  names = names_of_sections maps;
+  contents = length (joined_decoded_maps (decoded_maps_of maps)).sources;
+  is_within_limits = is_join_within_limits (names_of_sections maps) (Ok (decoded_maps_of maps));
+  is_rewritten = false;
+}
+
+-- a text that is read, by what it says
+abbrev pub read_outcome : Said → Outcome
+read_outcome (plain answer) = plain_outcome answer
+read_outcome (indexed file found) = sections_outcome file found.fault found.maps
 
 -- a rewriting means what its part means
 abbrev pub rewrite_outcome : Outcome → Outcome
@@ -110,7 +140,7 @@ composition_outcome first second = record {
 
 -- the cases of a plan, by the outcomes of its parts
 abbrev pub outcome_step : Plan-F Outcome → Outcome
-outcome_step (Plan-F.Read text) = read_outcome (read_map text.now)
+outcome_step (Plan-F.Read text) = read_outcome (said_in text.now)
 outcome_step (Plan-F.Rewrite part) = rewrite_outcome part.value
 outcome_step (Plan-F.Join parts) = join_outcome (at_lines parts.items)
 outcome_step (Plan-F.JoinAt parts) = join_outcome (at_positions parts.items)

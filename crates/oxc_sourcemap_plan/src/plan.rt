@@ -7,11 +7,11 @@ ghost use Rattle.oxc_sourcemap_join.specs.Joined.{Offset, at_lines, at_positions
 ghost use Rattle.oxc_sourcemap_plan.specs.Evaluated.{IsEvaluated, IsFailure};
 ghost use Rattle.oxc_sourcemap_plan.specs.Realizes.{Realizes, FailsAs, AllRealize};
 ghost use Rattle.oxc_sourcemap_mappings.specs.declared.error.Error.TheVariants.{OutOfMemory, TooLarge};
-ghost use Rattle.oxc_sourcemap_json.specs.ReadMap.{read_map};
+ghost use Rattle.oxc_sourcemap_sections.specs.ReadMap.{said_in};
 ghost use Rattle.oxc_sourcemap_parts.specs.Sorted.{are_tokens_sorted};
 ghost use Rattle.oxc_sourcemap_plan.specs.declared.plan.PlanError.TheVariants.{Map, Unsorted};
 
-use oxc_sourcemap_join::ConcatSourceMapBuilder;
+use oxc_sourcemap_concat::ConcatSourceMapBuilder;
 use oxc_sourcemap_laws::{canonical_unique, composition_associative, dropping_harmless};
 use oxc_sourcemap_map::{OwnedSourceMap, SourceMap};
 use oxc_sourcemap_mappings::Error;
@@ -131,10 +131,11 @@ fn sorted(map: SourceMap<'static>) -> Result<SourceMap<'static>, PlanError>
 /// The map that a JSON text says.
 #[inline(never)]
 fn read(alloc: Global, text: &str) -> Result<SourceMap<'static>, PlanError>
-    ensures map { IfOk result (λ map. Realizes map (read_outcome (read_map text.now))) }
-    ensures refused { IfErr result (λ e. FailsAs e (read_outcome (read_map text.now))) }
+    ensures map { IfOk result (λ map. Realizes map (read_outcome (said_in text.now))) }
+    ensures refused { IfErr result (λ e. FailsAs e (read_outcome (said_in text.now))) }
 {
     canonical_unique();
+    dropping_harmless();
     sorted(SourceMap::from_json_string(alloc, text)?)
 }
 
@@ -299,7 +300,8 @@ fn evaluate_composition(
 ///   `SourceMap::from_json_string`; `Unsorted` if the map of a text or of a join is not sorted; `Map(SeveralSources(n))` if
 ///   the first map of a composition has n sources and n is above 1;
 /// - it may fail instead with `Map(TooLarge)` if some part has more than 4294967295 names (of all texts read for it), sources or mappings
-///   (repeated ones included), each counted by itself, or a joined line or column above that (`is_within_limits`), and
+///   (repeated ones included), each counted by itself, or a joined line or column above that, where an indexed map counts as the
+///   join of its sections (`is_within_limits`), and
 ///   `Map(OutOfMemory)` if memory is refused.
 pub fn evaluate(alloc: Global, plan: &Plan<'_>) -> Result<OwnedSourceMap, PlanError>
     ensures map { IfOk result (λ map. IsEvaluated map (outcome plan.now)) }

@@ -97,6 +97,38 @@ const NORMALISED: &[(&str, Result<&str, &str>)] = &[
         r#"{"version":3,"sources":["a.js","b.js"],"mappings":"","ignoreList":[0.5]}"#,
         Err("JSON parsing error: field ignoreList is missing or has the wrong type"),
     ),
+    (
+        r#"{"version":3,"file":"out.js","sections":[{"offset":{"line":0,"column":0},"map":{"version":3,"sources":["a.js"],"mappings":"AAAA,IAAI"}},{"offset":{"line":0,"column":10},"map":{"version":3,"sources":["b.js"],"mappings":"AAAA;AACA"}}]}"#,
+        Ok(
+            r#"{"version":3,"file":"out.js","names":[],"sources":["a.js","b.js"],"mappings":"AAAA,IAAI,MCAJ;AACA"}"#,
+        ),
+    ),
+    (
+        r#"{"version":3,"file":"out.js","sections":[{"offset":{"line":0,"column":0},"map":{"version":3,"sources":["a.js"],"mappings":"AAAA,IAAI"}},{"offset":{"line":0,"column":4},"map":{"version":3,"sources":["b.js"],"mappings":"AAAA;AACA"}}]}"#,
+        Ok(
+            r#"{"version":3,"file":"out.js","names":[],"sources":["a.js","b.js"],"mappings":"AAAA,IAAI,ACAJ;AACA"}"#,
+        ),
+    ),
+    (
+        r#"{"version":3,"file":"out.js","sections":[{"offset":{"line":0,"column":0},"map":{"version":3,"sources":["a.js"],"mappings":"AAAA,IAAI"}},{"offset":{"line":0,"column":3},"map":{"version":3,"sources":["b.js"],"mappings":"AAAA;AACA"}}]}"#,
+        Err("Section 1 begins before the end of what is in front of it"),
+    ),
+    (
+        r#"{"version":3,"file":"out.js","sections":[{"offset":{"line":0,"column":0},"map":{"version":3,"sources":["a.js"],"mappings":"AAAA,IAAI"}},{"offset":{"line":0,"column":4294967295},"map":{"version":3,"sources":["b.js"],"mappings":"C"}}]}"#,
+        Err("A line, an id or a count is too large"),
+    ),
+    (
+        r#"{"version":3,"file":"out.js","sections":[{"offset":{"line":0,"column":0},"map":{"version":3,"sources":["a.js"],"mappings":"AAAA,IAAI"}},{"offset":{"line":0,"column":10},"url":"b.map"}]}"#,
+        Err("JSON parsing error: field map is missing or has the wrong type"),
+    ),
+    (
+        r#"{"version":3,"sections":[0]}"#,
+        Err("JSON parsing error: field sections is missing or has the wrong type"),
+    ),
+    (
+        r#"{"version":3,"sections":[{}]}"#,
+        Err("JSON parsing error: field offset is missing or has the wrong type"),
+    ),
 ];
 
 /// The JSON text of a map, and its data URL: without padding, and with one and two symbols of it.
@@ -153,6 +185,11 @@ const TRACES: &[(&[&str], &str, Result<&str, RunError>)] = &[
         &["trace", "9", "0"],
         r#"{"version":3,"sources":[],"mappings":"G"}"#,
         Ok("nothing\n"),
+    ),
+    (
+        &["trace", "0", "11"],
+        r#"{"version":3,"file":"out.js","sections":[{"offset":{"line":0,"column":0},"map":{"version":3,"sources":["a.js"],"mappings":"AAAA,IAAI"}},{"offset":{"line":0,"column":10},"map":{"version":3,"sources":["b.js"],"mappings":"AAAA;AACA"}}]}"#,
+        Ok("\"b.js\":0:0\n"),
     ),
     (
         &["trace", "0", "0"],

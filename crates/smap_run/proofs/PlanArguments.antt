@@ -7,7 +7,7 @@ use Rattle.std.proofs.lemmas.Bool.{false_from_ne_true}
 use Rattle.std.proofs.lemmas.List.{append_assoc, append-nil}
 use Rattle.std.specs.List.{slice_get}
 use Rattle.std.proofs.lemmas.Bool.Decides.{nat_tests}
-use Rattle.oxc_sourcemap.specs.ReadMap.{read_map}
+use Rattle.oxc_sourcemap.specs.ReadMap.{said_in}
 use Rattle.smap_run.specs.Arguments.{number_of}
 use Rattle.oxc_sourcemap.specs.Depth.{deepest}
 use Rattle.oxc_sourcemap.specs.Joined.{Offset}
@@ -21,7 +21,7 @@ part-named inputs zero argument arguments n = absurd (n refl)
 part-named inputs (suc room) argument arguments n = let e : suc room - 1 ≡ room = omega arith in ap (λ r. parsed_by inputs (parsed_part inputs r) argument arguments) (sym e)
 
 -- ---- the input with a number
-pub text-read : (inputs : List Text) (argument digits : Text) (k : ℕ) (text : Text) → argument ≡ 64 ∷ digits → number_of digits ≡ Some k → slice_get inputs k ≡ Some text → parsed_input inputs argument ≡ Ok (read_outcome (read_map text))
+pub text-read : (inputs : List Text) (argument digits : Text) (k : ℕ) (text : Text) → argument ≡ 64 ∷ digits → number_of digits ≡ Some k → slice_get inputs k ≡ Some text → parsed_input inputs argument ≡ Ok (read_outcome (said_in text))
 text-read inputs argument digits k text e n g = ap (parsed_input inputs) e ∙ ap (read_of_number inputs) n ∙ ap (λ t. read_or_fault t k) g
 
 pub text-missing : (inputs : List Text) (argument digits : Text) (k : ℕ) → argument ≡ 64 ∷ digits → number_of digits ≡ Some k → slice_get inputs k ≡ None → parsed_input inputs argument ≡ Err (NoText k)

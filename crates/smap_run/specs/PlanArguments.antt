@@ -2,7 +2,7 @@
 use Rattle.std.specs.Prelude.{ℕ, zero, suc, List, [], ◌∷◌, codes, slice_get, Option, Some, None, Result, Ok, Err, if◌then◌else◌, ◌==◌}
 use Rattle.std.specs.Str.{bytes_eq}
 use Rattle.oxc_sourcemap.specs.Record.{Text}
-use Rattle.oxc_sourcemap.specs.ReadMap.{read_map}
+use Rattle.oxc_sourcemap.specs.ReadMap.{said_in}
 use Rattle.oxc_sourcemap.specs.Joined.{Offset, at_line}
 use Rattle.oxc_sourcemap.specs.PlanError.TheVariants.{TooDeep}
 use Rattle.smap_run.specs.declared.running.RunError.{RunError}
@@ -31,7 +31,7 @@ parsed_number (argument ∷ arguments) = number_or_fault (number_of argument) ar
 -- the input with a number
 abbrev pub read_or_fault : Option Text → ℕ → Result Outcome RunError
 read_or_fault None k = Err (NoText k)
-read_or_fault (Some text) k = Ok (read_outcome (read_map text))
+read_or_fault (Some text) k = Ok (read_outcome (said_in text))
 
 abbrev pub read_of_number : List Text → Option ℕ → Result Outcome RunError
 read_of_number inputs None = Err Arguments

@@ -6,7 +6,7 @@ use Rattle.std.proofs.Common.{◌∙◌, sym}
 use Rattle.std.proofs.lemmas.List.Elements.{recursion_from_All}
 use Rattle.oxc_sourcemap_mappings.specs.Token.{IsInBounds}
 use Rattle.oxc_sourcemap_json.proofs.ReadsBack.{is_written, is_too_large, reads_back}
-use Rattle.oxc_sourcemap_json.proofs.ReadSound.{read_in_bounds}
+use Rattle.oxc_sourcemap_sections.proofs.WellRead.{read_in_bounds, read_in_order}
 use Rattle.oxc_sourcemap_json.proofs.Rewriting.{stays_sound}
 use Rattle.oxc_sourcemap_laws.proofs.canonical_unique.Goals as goal
 
@@ -38,3 +38,6 @@ returns-clause-sound_stays_sound c = stays_sound
 
 pub returns-clause-read_is_in_bounds : goal.returns-clause-read_is_in_bounds
 returns-clause-read_is_in_bounds c = read_in_bounds
+
+pub returns-clause-read_is_in_line_order : goal.returns-clause-read_is_in_line_order
+returns-clause-read_is_in_line_order c = read_in_order

@@ -1,0 +1,291 @@
+//! Indexed maps: sections read into one map, from JSON values and from JSON texts.
+use crate::helpers::same;
+use oxc_sourcemap::{
+    Error, Field, JsonFault, Result, SourceMap, decode_from_string, decode_value, file_from_value,
+};
+use serde_json::Value;
+use std::alloc::Global;
+use std::process::Abort;
+
+/// What is looked at, a JSON text, and the JSON text of the map that it says, or why it says none.
+const READ: &[(&str, &str, Result<&str>)] = &[
+    (
+        "two sections on one line",
+        r#"{"version":3,"file":"out.js","sections":[{"offset":{"line":0,"column":0},"map":{"version":3,"sources":["a.js"],"mappings":"AAAA,IAAI"}},{"offset":{"line":0,"column":10},"map":{"version":3,"sources":["b.js"],"mappings":"AAAA;AACA"}}]}"#,
+        Ok(
+            r#"{"version":3,"file":"out.js","names":[],"sources":["a.js","b.js"],"mappings":"AAAA,IAAI,MCAJ;AACA"}"#,
+        ),
+    ),
+    (
+        "a section where the one before it ends",
+        r#"{"version":3,"file":"out.js","sections":[{"offset":{"line":0,"column":0},"map":{"version":3,"sources":["a.js"],"mappings":"AAAA,IAAI"}},{"offset":{"line":0,"column":4},"map":{"version":3,"sources":["b.js"],"mappings":"AAAA;AACA"}}]}"#,
+        Ok(
+            r#"{"version":3,"file":"out.js","names":[],"sources":["a.js","b.js"],"mappings":"AAAA,IAAI,ACAJ;AACA"}"#,
+        ),
+    ),
+    (
+        "a section before the last token",
+        r#"{"version":3,"file":"out.js","sections":[{"offset":{"line":0,"column":0},"map":{"version":3,"sources":["a.js"],"mappings":"AAAA,IAAI"}},{"offset":{"line":0,"column":3},"map":{"version":3,"sources":["b.js"],"mappings":"AAAA;AACA"}}]}"#,
+        Err(Error::SectionOrder(1)),
+    ),
+    (
+        "a section on a line below, whose column is smaller",
+        r#"{"version":3,"file":"out.js","sections":[{"offset":{"line":0,"column":7},"map":{"version":3,"sources":["a.js"],"mappings":"AAAA,IAAI"}},{"offset":{"line":2,"column":1},"map":{"version":3,"sources":["b.js"],"mappings":"AAAA;AACA"}}]}"#,
+        Ok(
+            r#"{"version":3,"file":"out.js","names":[],"sources":["a.js","b.js"],"mappings":"OAAA,IAAI;;CCAJ;AACA"}"#,
+        ),
+    ),
+    (
+        "a section before the offset of one without tokens",
+        r#"{"version":3,"file":"out.js","sections":[{"offset":{"line":0,"column":0},"map":{"version":3,"sources":["a.js"],"mappings":"AAAA,IAAI"}},{"offset":{"line":3,"column":5},"map":{"version":3,"sources":[],"mappings":""}},{"offset":{"line":3,"column":4},"map":{"version":3,"sources":["b.js"],"mappings":"AAAA;AACA"}}]}"#,
+        Err(Error::SectionOrder(2)),
+    ),
+    (
+        "equal offsets",
+        r#"{"version":3,"file":"out.js","sections":[{"offset":{"line":1,"column":1},"map":{"version":3,"sources":[],"mappings":""}},{"offset":{"line":1,"column":1},"map":{"version":3,"sources":["a.js"],"mappings":"AAAA,IAAI"}}]}"#,
+        Ok(
+            r#"{"version":3,"file":"out.js","names":[],"sources":["a.js"],"mappings":";CAAA,IAAI"}"#,
+        ),
+    ),
+    (
+        "no sections",
+        r#"{"version":3,"sections":[]}"#,
+        Ok(r#"{"version":3,"names":[],"sources":[],"mappings":""}"#),
+    ),
+    (
+        "a null list of sections is none",
+        r#"{"version":3,"sources":["a.js"],"sections":null,"mappings":"AAAA"}"#,
+        Ok(r#"{"version":3,"names":[],"sources":["a.js"],"mappings":"AAAA"}"#),
+    ),
+    (
+        "keys beside sections are not looked at",
+        r#"{"version":3,"sources":7,"mappings":false,"debugId":[],"names":null,"ignoreList":[9],"sections":[{"offset":{"line":0,"column":0},"map":{"version":3,"sources":["a.js"],"mappings":"AAAA,IAAI"}}]}"#,
+        Ok(r#"{"version":3,"names":[],"sources":["a.js"],"mappings":"AAAA,IAAI"}"#),
+    ),
+    (
+        "the file is that of the outer value",
+        r#"{"version":3,"file":"out.js","sections":[{"offset":{"line":0,"column":0},"map":{"version":3,"file":"in.js","sourceRoot":"r","debugId":"d","sources":["a.js"],"mappings":"AAAA"}}]}"#,
+        Ok(r#"{"version":3,"file":"out.js","names":[],"sources":["a.js"],"mappings":"AAAA"}"#),
+    ),
+    (
+        "no file",
+        r#"{"version":3,"sections":[{"offset":{"line":0,"column":0},"map":{"version":3,"file":"in.js","sources":["a.js"],"mappings":"AAAA"}}]}"#,
+        Ok(r#"{"version":3,"names":[],"sources":["a.js"],"mappings":"AAAA"}"#),
+    ),
+    (
+        "names, contents and ignore lists",
+        r#"{"version":3,"file":"out.js","sections":[{"offset":{"line":0,"column":0},"map":{"version":3,"sources":["a.js","b.js"],"sourcesContent":["A"],"names":["x"],"mappings":"AAAAA,CCAA","ignoreList":[1]}},{"offset":{"line":1,"column":2},"map":{"version":3,"sources":["c.js"],"sourcesContent":["C","EXTRA"],"names":["y","x"],"mappings":"AAAAC","x_google_ignoreList":[0,0]}}]}"#,
+        Ok(
+            r#"{"version":3,"file":"out.js","names":["x","y","x"],"sources":["a.js","b.js","c.js"],"sourcesContent":["A",null,"C"],"ignoreList":[1,2,2],"mappings":"AAAAA,CCAA;ECAAE"}"#,
+        ),
+    ),
+    (
+        "a first token that repeats the last one",
+        r#"{"version":3,"file":"out.js","sections":[{"offset":{"line":0,"column":0},"map":{"version":3,"sources":[],"mappings":"A,C"}},{"offset":{"line":0,"column":1},"map":{"version":3,"sources":[],"mappings":"A,C"}}]}"#,
+        Ok(r#"{"version":3,"file":"out.js","names":[],"sources":[],"mappings":"A,C,C"}"#),
+    ),
+    (
+        "unsorted columns in a section",
+        r#"{"version":3,"file":"out.js","sections":[{"offset":{"line":0,"column":0},"map":{"version":3,"sources":[],"mappings":"I,D"}},{"offset":{"line":0,"column":3},"map":{"version":3,"sources":[],"mappings":"A"}}]}"#,
+        Ok(r#"{"version":3,"file":"out.js","names":[],"sources":[],"mappings":"I,D"}"#),
+    ),
+    (
+        "a column past the limit",
+        r#"{"version":3,"file":"out.js","sections":[{"offset":{"line":0,"column":0},"map":{"version":3,"sources":["a.js"],"mappings":"AAAA,IAAI"}},{"offset":{"line":0,"column":4294967295},"map":{"version":3,"sources":["b.js"],"mappings":"C"}}]}"#,
+        Err(Error::TooLarge),
+    ),
+    (
+        "a line past the limit",
+        r#"{"version":3,"file":"out.js","sections":[{"offset":{"line":4294967295,"column":0},"map":{"version":3,"sources":["b.js"],"mappings":"AAAA;AACA"}}]}"#,
+        Err(Error::TooLarge),
+    ),
+    (
+        "another version",
+        r#"{"version":2,"sections":[{"offset":{"line":0,"column":0},"map":{"version":3,"sources":["a.js"],"mappings":"AAAA,IAAI"}}]}"#,
+        Err(Error::BadJson(JsonFault::Version(2))),
+    ),
+    (
+        "a file of the wrong type comes before the sections",
+        r#"{"version":3,"file":1,"sections":1}"#,
+        Err(Error::BadJson(JsonFault::Shape(Field::File))),
+    ),
+    (
+        "sections that are no list",
+        r#"{"version":3,"sections":{}}"#,
+        Err(Error::BadJson(JsonFault::Shape(Field::Sections))),
+    ),
+    (
+        "sections of false",
+        r#"{"version":3,"sections":false,"sources":[],"mappings":""}"#,
+        Err(Error::BadJson(JsonFault::Shape(Field::Sections))),
+    ),
+    (
+        "a section that is no object",
+        r#"{"version":3,"file":"out.js","sections":[3]}"#,
+        Err(Error::BadJson(JsonFault::Shape(Field::Sections))),
+    ),
+    (
+        "a section without an offset",
+        r#"{"version":3,"file":"out.js","sections":[{"map":{"version":3,"sources":["a.js"],"mappings":"AAAA,IAAI"}}]}"#,
+        Err(Error::BadJson(JsonFault::Shape(Field::Offset))),
+    ),
+    (
+        "an offset that is a list",
+        r#"{"version":3,"file":"out.js","sections":[{"offset":[0,0],"map":{"version":3,"sources":["a.js"],"mappings":"AAAA,IAAI"}}]}"#,
+        Err(Error::BadJson(JsonFault::Shape(Field::Offset))),
+    ),
+    (
+        "an offset without a column",
+        r#"{"version":3,"file":"out.js","sections":[{"offset":{"line":0},"map":{"version":3,"sources":["a.js"],"mappings":"AAAA,IAAI"}}]}"#,
+        Err(Error::BadJson(JsonFault::Shape(Field::Offset))),
+    ),
+    (
+        "a line that is no whole number",
+        r#"{"version":3,"file":"out.js","sections":[{"offset":{"line":0.5,"column":0},"map":{"version":3,"sources":["a.js"],"mappings":"AAAA,IAAI"}}]}"#,
+        Err(Error::BadJson(JsonFault::Shape(Field::Offset))),
+    ),
+    (
+        "a column above 4294967295",
+        r#"{"version":3,"file":"out.js","sections":[{"offset":{"line":0,"column":4294967296},"map":{"version":3,"sources":["a.js"],"mappings":"AAAA,IAAI"}}]}"#,
+        Err(Error::BadJson(JsonFault::Shape(Field::Offset))),
+    ),
+    (
+        "a negative line",
+        r#"{"version":3,"file":"out.js","sections":[{"offset":{"line":-1,"column":0},"map":{"version":3,"sources":["a.js"],"mappings":"AAAA,IAAI"}}]}"#,
+        Err(Error::BadJson(JsonFault::Shape(Field::Offset))),
+    ),
+    (
+        "the order before the map",
+        r#"{"version":3,"file":"out.js","sections":[{"offset":{"line":1,"column":0},"map":{"version":3,"sources":["a.js"],"mappings":"AAAA,IAAI"}},{"offset":{"line":0,"column":0},"map":3}]}"#,
+        Err(Error::SectionOrder(1)),
+    ),
+    (
+        "the shape of the offset before the order",
+        r#"{"version":3,"file":"out.js","sections":[{"offset":{"line":1,"column":0},"map":{"version":3,"sources":["a.js"],"mappings":"AAAA,IAAI"}},{"offset":{"line":0,"column":"0"},"map":{"version":3,"sources":["a.js"],"mappings":"AAAA,IAAI"}}]}"#,
+        Err(Error::BadJson(JsonFault::Shape(Field::Offset))),
+    ),
+    (
+        "a url in place of a map",
+        r#"{"version":3,"file":"out.js","sections":[{"offset":{"line":0,"column":0},"map":{"version":3,"sources":["a.js"],"mappings":"AAAA,IAAI"}},{"offset":{"line":0,"column":10},"url":"b.map"}]}"#,
+        Err(Error::BadJson(JsonFault::Shape(Field::Map))),
+    ),
+    (
+        "a map that is null",
+        r#"{"version":3,"file":"out.js","sections":[{"offset":{"line":0,"column":0},"map":null}]}"#,
+        Err(Error::BadJson(JsonFault::Shape(Field::Map))),
+    ),
+    (
+        "a section that is an indexed map",
+        r#"{"version":3,"file":"out.js","sections":[{"offset":{"line":0,"column":0},"map":{"version":3,"file":"out.js","sections":[{"offset":{"line":0,"column":0},"map":{"version":3,"sources":["a.js"],"mappings":"AAAA,IAAI"}}]}}]}"#,
+        Err(Error::BadJson(JsonFault::Shape(Field::Map))),
+    ),
+    (
+        "a map whose sections is null",
+        r#"{"version":3,"file":"out.js","sections":[{"offset":{"line":0,"column":0},"map":{"version":3,"sections":null,"sources":["a.js"],"mappings":"AAAA"}}]}"#,
+        Ok(r#"{"version":3,"file":"out.js","names":[],"sources":["a.js"],"mappings":"AAAA"}"#),
+    ),
+    (
+        "the version of a map",
+        r#"{"version":3,"file":"out.js","sections":[{"offset":{"line":0,"column":0},"map":{"version":3,"sources":["a.js"],"mappings":"AAAA,IAAI"}},{"offset":{"line":0,"column":10},"map":{"version":4}}]}"#,
+        Err(Error::BadJson(JsonFault::Version(4))),
+    ),
+    (
+        "the shape of a map",
+        r#"{"version":3,"file":"out.js","sections":[{"offset":{"line":0,"column":0},"map":{"version":3,"sources":["a.js"],"mappings":"AAAA,IAAI"}},{"offset":{"line":0,"column":10},"map":{"version":3,"sources":[null],"mappings":""}}]}"#,
+        Err(Error::BadJson(JsonFault::Shape(Field::Sources))),
+    ),
+    (
+        "the ignore list of a map",
+        r#"{"version":3,"file":"out.js","sections":[{"offset":{"line":0,"column":0},"map":{"version":3,"sources":["a.js"],"mappings":"AAAA,IAAI"}},{"offset":{"line":0,"column":10},"map":{"version":3,"sources":["b.js"],"mappings":"","ignoreList":[1]}}]}"#,
+        Err(Error::BadSourceReference(1)),
+    ),
+    (
+        "the mappings of a map",
+        r#"{"version":3,"file":"out.js","sections":[{"offset":{"line":0,"column":0},"map":{"version":3,"sources":["a.js"],"mappings":"AAAA,IAAI"}},{"offset":{"line":0,"column":10},"map":{"version":3,"sources":["b.js"],"mappings":"ACAA"}}]}"#,
+        Err(Error::BadSourceReference(0)),
+    ),
+    (
+        "the first fault stands",
+        r#"{"version":3,"file":"out.js","sections":[{"offset":{"line":0,"column":0},"map":{"version":3,"sources":["b.js"],"mappings":"AC"}},3]}"#,
+        Err(Error::BadSegmentSize(2)),
+    ),
+];
+
+/// JSON texts, and the file of what they say.
+const FILES: &[(&str, Result<Option<&str>>)] = &[
+    (
+        r#"{"version":3,"file":"a.js","sections":[7]}"#,
+        Ok(Some("a.js")),
+    ),
+    (r#"{"version":3,"file":"","mappings":7}"#, Ok(Some(""))),
+    (r#"{"version":3,"file":null}"#, Ok(None)),
+    (r#"{"version":3}"#, Ok(None)),
+    (
+        r#"{"version":3,"file":7}"#,
+        Err(Error::BadJson(JsonFault::Shape(Field::File))),
+    ),
+    (
+        r#"{"version":4,"file":7}"#,
+        Err(Error::BadJson(JsonFault::Version(4))),
+    ),
+    (
+        r#"{"file":"a.js"}"#,
+        Err(Error::BadJson(JsonFault::Shape(Field::Version))),
+    ),
+    ("[]", Err(Error::BadJson(JsonFault::Shape(Field::Object)))),
+];
+
+fn is_written_as(
+    rt: &impl Abort,
+    alloc: Global,
+    what: &str,
+    read: &Result<SourceMap<'_>>,
+    wanted: Result<&str>,
+) -> Result<()> {
+    match read {
+        Ok(map) => same(rt, what, Ok(map.to_json_string(alloc)?.as_str()), wanted),
+        Err(fault) => same(rt, what, Err(*fault), wanted),
+    }
+    Ok(())
+}
+
+#[test]
+fn sections_are_joined(rt: HostRuntime) -> Result<()> {
+    for (what, text, wanted) in READ {
+        let read = decode_from_string(rt.alloc(), text);
+        is_written_as(&rt, rt.alloc(), what, &read, *wanted)?;
+    }
+    Ok(())
+}
+
+#[test]
+fn sections_of_values_are_joined(rt: HostRuntime) -> Result<()> {
+    for (what, text, wanted) in READ {
+        let value = Value::from_str(rt.alloc(), text)?;
+        let read = decode_value(rt.alloc(), &value);
+        is_written_as(&rt, rt.alloc(), what, &read, *wanted)?;
+    }
+    Ok(())
+}
+
+fn has_file(
+    rt: &impl Abort,
+    alloc: Global,
+    text: &str,
+    wanted: Result<Option<&str>>,
+) -> Result<()> {
+    let value = Value::from_str(alloc, text)?;
+    match &file_from_value(alloc, &value) {
+        Ok(file) => same(rt, text, Ok(file.as_deref()), wanted),
+        Err(fault) => same(rt, text, Err(*fault), wanted),
+    }
+    Ok(())
+}
+
+#[test]
+fn the_file_is_looked_at_first(rt: HostRuntime) -> Result<()> {
+    for (text, wanted) in FILES {
+        has_file(&rt, rt.alloc(), text, *wanted)?;
+    }
+    Ok(())
+}

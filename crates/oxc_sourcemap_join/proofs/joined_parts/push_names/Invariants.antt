@@ -1,0 +1,10 @@
+use Rattle.std.proofs.Common.{◌≡◌, ◌+◌, ◌++◌, ◌≤◌, length, vec_len}
+use Rattle.std.specs.Vec.{vec_capacity}
+use Rattle.oxc_sourcemap_parts.specs.Views.{texts_of}
+use Rattle.oxc_sourcemap_join.proofs.joined_parts.push_names.Given as goal
+
+abbrev pub invariant-loop-name : goal.invariant-loop-name
+invariant-loop-name l = record {
+  items : texts_of l.texts ++ l.name-iterator ≡ texts_of l.initial.texts ++ l.fn.lent;
+  room : vec_len l.texts + length l.name-iterator ≤ vec_capacity l.texts;
+}

@@ -1,0 +1,508 @@
+//! Joining the parts of maps into those of one.
+ghost use Rattle.std.specs.Prelude.{◌≡◌, ◌↔◌, ◌≤◌, ◌<◌, ◌+◌, ◌++◌, ◌⊎◌, ℕ, [], map, option_map, length, replicate, drop, Some, None, IsTrue, IfSome, IfOk, IfErr, IsErrOf, OnOk, OnErr, vec_len};
+ghost use Rattle.std.specs.List.{All};
+ghost use Rattle.std.specs.Vec.{vec_capacity};
+ghost use Rattle.std.specs.Cow.{cow_str_bytes};
+ghost use Rattle.std.specs.Option.{unwrap_or};
+ghost use Rattle.oxc_sourcemap_mappings.specs.declared.error.Error.TheVariants.{OutOfMemory, TooLarge};
+ghost use Rattle.oxc_sourcemap_mappings.specs.Token.{IsInBounds, AreInBounds};
+ghost use Rattle.oxc_sourcemap_mappings.specs.Chunks.{ChunksFit};
+ghost use Rattle.oxc_sourcemap_parts.specs.Views.{texts_of, contents_of, ids_of, record_of_parts};
+ghost use Rattle.oxc_sourcemap_lookup.specs.Lookup.{last};
+ghost use Rattle.oxc_sourcemap_join.specs.Joined.{fitted, raised_id, shifted_column, shifted, is_same_token, without_repeat, raised_ignore_list, appended_ignore_lists, added, nothing_joined, AreEntriesInBounds, IsWithinLimits};
+ghost use Rattle.oxc_sourcemap_join.specs.Joining.{offset_of, all_shifted, IsAddition};
+
+use oxc_sourcemap_mappings::{Error, Result, Token, TokenChunk, next_chunk};
+use oxc_sourcemap_parts::{
+    Contents, Names, SourceMapParts, Sources, contents_in, names_in, sources_in,
+};
+use std::alloc::{AllocError, Global};
+use std::borrow::CowStr;
+use std::marker::Model;
+
+/// The largest count of names, sources or tokens of a join.
+const MAX_COUNT: usize = 4294967295;
+
+/// How the tokens of a map are moved to their place in a join: the numbers of names and sources before, the lines, and the
+/// columns of its line 0.
+#[derive(Clone, Copy)]
+struct Shift {
+    names: u32,
+    sources: u32,
+    lines: u32,
+    columns: u32,
+}
+
+/// Whether an id raised by a number is at most 4294967294; none is.
+fn is_id_raisable(id: Option<u32>, number: u32) -> bool
+    ensures { IsTrue result ↔ IfSome (raised_id number id) (λ i. i < 4294967295) }
+{
+    match id {
+        Some(id) => u64::from(id) + u64::from(number) < 4294967295,
+        None => true,
+    }
+}
+
+/// An id raised by a number; none stays none.
+fn raised(id: Option<u32>, number: u32) -> Option<u32>
+    requires { IfSome (raised_id number id) (λ i. i < 4294967295) }
+    ensures { result ≡ raised_id number id }
+{
+    match id {
+        Some(id) => Some(id + number),
+        None => None,
+    }
+}
+
+/// Whether all of these entries of an ignore list, raised by a number, are at most 4294967294.
+fn are_raisable(ids: &[u32], number: u32) -> bool
+    ensures { IsTrue result ↔ All (λ id. id < 4294967295) (map (λ id. id + number) ids.now) }
+{
+    for id in ids {
+        if !is_id_raisable(Some(*id), number) {
+            return false;
+        }
+    }
+    true
+}
+
+impl Shift {
+    /// The generated column of the moved token.
+    fn column(&self, token: &Token) -> u64
+        ensures { result ≡ shifted_column (offset_of self.now) token.now.dst_line token.now.dst_col }
+    {
+        let column = u64::from(token.get_dst_col());
+        if token.get_dst_line() == 0 {
+            column + u64::from(self.columns)
+        } else {
+            column
+        }
+    }
+
+    /// Whether the moved token is in bounds.
+    fn fits(&self, token: &Token) -> bool
+        ensures { IsTrue result ↔ IsInBounds (shifted self.now.names self.now.sources (offset_of self.now) token.now) }
+    {
+        u64::from(token.get_dst_line()) + u64::from(self.lines) < 4294967296
+            && self.column(token) < 4294967296
+            && is_id_raisable(token.get_source_id(), self.sources)
+            && is_id_raisable(token.get_name_id(), self.names)
+    }
+
+    /// Whether all of the moved tokens are in bounds.
+    fn fits_all(&self, tokens: &[Token]) -> bool
+        ensures { IsTrue result ↔ AreInBounds (all_shifted self.now tokens.now) }
+    {
+        for token in tokens {
+            if !self.fits(token) {
+                return false;
+            }
+        }
+        true
+    }
+
+    /// Whether all entries of an ignore list, raised by the number of sources before, are at most 4294967294.
+    fn fits_ignore_list(&self, list: Option<&[u32]>) -> bool
+        ensures { IsTrue result ↔ AreEntriesInBounds (raised_ignore_list self.now.sources (option_map (λ ids. ids.now) list.entry)) }
+    {
+        match list {
+            Some(ids) => are_raisable(ids, self.sources),
+            None => true,
+        }
+    }
+
+    /// The moved token.
+    fn moved(&self, token: &Token) -> Token
+        requires { IsInBounds (shifted self.now.names self.now.sources (offset_of self.now) token.now) }
+        ensures { result ≡ shifted self.now.names self.now.sources (offset_of self.now) token.now }
+    {
+        Token::new(
+            token.get_dst_line() + self.lines,
+            self.column(token) as u32,
+            token.get_src_line(),
+            token.get_src_col(),
+            raised(token.get_source_id(), self.sources),
+            raised(token.get_name_id(), self.names),
+        )
+    }
+
+    /// How many of the first tokens of a map are left out: one if the first, moved, is the same as the last token so far.
+    fn passed_over(&self, last_token: Option<Token>, tokens: &[Token]) -> usize
+        requires { AreInBounds (all_shifted self.now tokens.now) }
+        ensures kept { all_shifted self.now (drop result tokens.now) ≡ without_repeat is_same_token last_token (all_shifted self.now tokens.now) }
+        ensures within { result ≤ length tokens.now }
+    {
+        if let (Some(last_token), Some(first)) = (last_token, tokens.first()) {
+            if last_token == self.moved(first) {
+                return 1;
+            }
+        }
+        0
+    }
+
+    /// Adds the ignore list of a map, if it has one, with its entries raised by the number of sources before. Fails only for
+    /// memory; the list is then as it was.
+    fn add_ignore_list(
+        &self,
+        alloc: Global,
+        list: &mut Option<Vec<u32>>,
+        added: Option<&[u32]>,
+    ) -> std::result::Result<(), AllocError>
+        requires { AreEntriesInBounds (raised_ignore_list self.now.sources (option_map (λ ids. ids.now) added)) }
+        ensures added { OnOk result (ids_of list.new ≡ appended_ignore_lists (ids_of list.old) (raised_ignore_list self.now.sources (option_map (λ ids. ids.now) added.entry))) }
+        ensures unchanged { OnErr result (ids_of list.new ≡ ids_of list.old) }
+    {
+        let Some(added) = added else {
+            return Ok(());
+        };
+        match list {
+            Some(ids) => {
+                ids.reserve(added.len())?;
+                push_raised(ids, added, self.sources);
+            }
+            None => {
+                let mut ids = Vec::with_capacity(alloc, added.len())?;
+                push_raised(&mut ids, added, self.sources);
+                *list = Some(ids);
+            }
+        }
+        Ok(())
+    }
+}
+
+/// What is worked out before a map is added: how its tokens are moved, how many of them are passed over before, and the
+/// chunk of the others.
+#[derive(Drop)]
+struct Addition {
+    shift: Shift,
+    passed: usize,
+    chunk: TokenChunk,
+}
+
+// Each of these calls `push_` is made where there is room for what it adds.
+
+/// Adds names, borrowed.
+fn push_names<'a>(texts: &mut Vec<CowStr<'a>>, lent: Names<'a, '_>)
+    requires { vec_len texts.old + length lent ≤ vec_capacity texts.old }
+    ensures { texts_of texts.new ≡ texts_of texts.old ++ lent.entry }
+{
+    for name in lent {
+        let pushed: std::result::Result<_, _> = texts.push(CowStr::Borrowed(name));
+        pushed.unwrap();
+    }
+}
+
+/// Adds sources, borrowed.
+fn push_sources<'a>(texts: &mut Vec<CowStr<'a>>, lent: Sources<'a, '_>)
+    requires { vec_len texts.old + length lent ≤ vec_capacity texts.old }
+    ensures { texts_of texts.new ≡ texts_of texts.old ++ lent.entry }
+{
+    for source in lent {
+        let pushed: std::result::Result<_, _> = texts.push(CowStr::Borrowed(source));
+        pushed.unwrap();
+    }
+}
+
+/// Adds this many unknown contents.
+fn push_unknown<'a>(contents: &mut Vec<Option<CowStr<'a>>>, count: usize)
+    requires { vec_len contents.old + count ≤ vec_capacity contents.old }
+    ensures { contents_of contents.new ≡ contents_of contents.old ++ replicate count None }
+{
+    for i in 0..count {
+        let pushed: std::result::Result<_, _> = contents.push(None);
+        pushed.unwrap();
+    }
+}
+
+/// A content, borrowed; one that is missing is unknown.
+fn lent_content<'a>(content: Option<Option<&'a str>>) -> Option<CowStr<'a>>
+    ensures { option_map cow_str_bytes result ≡ unwrap_or (option_map (option_map (λ text. text.now)) content.entry) None }
+{
+    match content {
+        Some(Some(content)) => Some(CowStr::Borrowed(content)),
+        _ => None,
+    }
+}
+
+/// Adds this many contents: these, borrowed, and padded with unknown ones or cut.
+fn push_lent_fitted<'a>(
+    contents: &mut Vec<Option<CowStr<'a>>>,
+    mut lent: Contents<'a, '_>,
+    count: usize,
+)
+    requires { vec_len contents.old + count ≤ vec_capacity contents.old }
+    ensures { contents_of contents.new ≡ contents_of contents.old ++ fitted count lent.entry }
+{
+    for id in 0..count {
+        let pushed: std::result::Result<_, _> = contents.push(lent_content(lent.next()));
+        pushed.unwrap();
+    }
+}
+
+/// Adds this many contents: these, moved, and padded with unknown ones or cut.
+fn push_fitted<'a>(
+    contents: &mut Vec<Option<CowStr<'a>>>,
+    mut added: Vec<Option<CowStr<'a>>>,
+    count: usize,
+)
+    requires { vec_len contents.old + count ≤ vec_capacity contents.old }
+    ensures { contents_of contents.new ≡ contents_of contents.old ++ fitted count (contents_of added.entry) }
+{
+    added.truncate(count);
+    let unknown = count - added.len();
+    let appended = contents.append(&mut added);
+    appended.unwrap();
+    push_unknown(contents, unknown);
+}
+
+/// Adds tokens, moved.
+fn push_moved(tokens: &mut Vec<Token>, shift: &Shift, added: &[Token])
+    requires room { vec_len tokens.old + length added.now ≤ vec_capacity tokens.old }
+    requires in_bounds { AreInBounds (all_shifted shift.now added.now) }
+    ensures { tokens.new.items ≡ tokens.old.items ++ all_shifted shift.now added.now }
+{
+    for token in added {
+        let pushed: std::result::Result<_, _> = tokens.push(shift.moved(token));
+        pushed.unwrap();
+    }
+}
+
+/// Adds entries of an ignore list, raised by a number.
+fn push_raised(list: &mut Vec<u32>, added: &[u32], number: u32)
+    requires room { vec_len list.old + length added.now ≤ vec_capacity list.old }
+    requires in_bounds { All (λ id. id < 4294967295) (map (λ id. id + number) added.now) }
+    ensures { list.new.items ≡ list.old.items ++ map (λ id. id + number) added.now }
+{
+    for id in added {
+        let pushed: std::result::Result<_, _> = list.push(*id + number);
+        pushed.unwrap();
+    }
+}
+
+/// The parts of the join of some maps, each at a line and a column of the joined code. The strings of maps that are lent are
+/// borrowed for `'a`, those of maps that are moved are moved: an add copies no string.
+///
+/// An add that fails leaves the join as it was. Whether the result is sorted is not checked here.
+#[derive(Drop)]
+pub struct JoinedParts<'a> {
+    alloc: Global,
+    names: Vec<CowStr<'a>>,
+    sources: Vec<CowStr<'a>>,
+    source_contents: Vec<Option<CowStr<'a>>>,
+    tokens: Vec<Token>,
+    token_chunks: Vec<TokenChunk>,
+    ignore_list: Option<Vec<u32>>,
+}
+
+impl<'a> Model for JoinedParts<'a> {
+    ghost use Rattle.std.specs.Prelude.{Some, None};
+    ghost use Rattle.oxc_sourcemap_parts.specs.Record.{MapRecord};
+    ghost use Rattle.oxc_sourcemap_parts.specs.Views.{texts_of, contents_of, ids_of};
+    ghost use Rattle.oxc_sourcemap_join.specs.Joining.{IsJoin};
+
+    ghost Value = { MapRecord };
+
+    ghost view = { λ b. record {
+      file = None;
+      names = texts_of b.names;
+      source_root = None;
+      sources = texts_of b.sources;
+      source_contents = contents_of b.source_contents;
+      tokens = b.tokens.items;
+      token_chunks = Some b.token_chunks.items;
+      ignore_list = ids_of b.ignore_list;
+      debug_id = None;
+    } };
+
+    ghost invariant = { λ b. IsJoin (texts_of b.names) (texts_of b.sources) (contents_of b.source_contents) b.tokens.items b.token_chunks.items (ids_of b.ignore_list) };
+}
+
+impl<'a> JoinedParts<'a> {
+    /// The join of no maps. It keeps the allocator, and takes no memory.
+    pub fn empty(alloc: Global) -> JoinedParts<'a>
+        ensures { result ≡ nothing_joined }
+    {
+        JoinedParts {
+            alloc,
+            names: Vec::new(alloc),
+            sources: Vec::new(alloc),
+            source_contents: Vec::new(alloc),
+            tokens: Vec::new(alloc),
+            token_chunks: Vec::new(alloc),
+            ignore_list: None,
+        }
+    }
+
+    /// The join of no maps, with room for this many names, sources, tokens and chunks. Fails only with `OutOfMemory`.
+    pub fn with_capacity(
+        alloc: Global,
+        names_len: usize,
+        sources_len: usize,
+        tokens_len: usize,
+        token_chunks_len: usize,
+    ) -> Result<JoinedParts<'a>>
+        ensures parts { IfOk result (λ parts. parts ≡ nothing_joined) }
+        ensures refused { IfErr result (λ e. e ≡ OutOfMemory) }
+    {
+        Ok(JoinedParts {
+            alloc,
+            names: Vec::with_capacity(alloc, names_len)?,
+            sources: Vec::with_capacity(alloc, sources_len)?,
+            source_contents: Vec::with_capacity(alloc, sources_len)?,
+            tokens: Vec::with_capacity(alloc, tokens_len)?,
+            token_chunks: Vec::with_capacity(alloc, token_chunks_len)?,
+            ignore_list: None,
+        })
+    }
+
+    /// The number of maps so far.
+    pub fn map_count(&self) -> usize
+        ensures { result ≡ length (unwrap_or self.now.token_chunks []) }
+    {
+        self.token_chunks.len()
+    }
+
+    /// The last token so far.
+    pub fn last_token(&self) -> Option<Token>
+        ensures { result ≡ last self.now.tokens }
+    {
+        self.tokens.as_slice().last().copied()
+    }
+
+    /// What an add of this map takes, None where it would pass a limit.
+    fn addition(&self, parts: &SourceMapParts<'_>, line: u32, column: u32) -> Option<Addition>
+        ensures fits { IfSome result (λ a. IsAddition self.now (record_of_parts parts.now) (record { line = line; column = column }) a) }
+        ensures too_large { result ≡ None → ¬ (IsWithinLimits (added self.now (record_of_parts parts.now) (record { line = line; column = column }))) }
+    {
+        let shift = Shift {
+            names: self.names.len() as u32,
+            sources: self.sources.len() as u32,
+            lines: line,
+            columns: column,
+        };
+        let tokens = parts.tokens.as_slice();
+        if parts.names.len() > MAX_COUNT - self.names.len()
+            || parts.sources.len() > MAX_COUNT - self.sources.len()
+            || !shift.fits_all(tokens)
+        {
+            return None;
+        }
+        if !shift.fits_ignore_list(parts.ignore_list.as_deref()) {
+            return None;
+        }
+        let passed = shift.passed_over(self.last_token(), tokens);
+        let kept = tokens.len() - passed;
+        if kept > MAX_COUNT - self.tokens.len() {
+            return None;
+        }
+        let end = self.tokens.len() + kept;
+        let chunk = next_chunk(
+            self.tokens.as_slice(),
+            self.token_chunks.as_slice(),
+            end as u32,
+        );
+        Some(Addition {
+            shift,
+            passed,
+            chunk,
+        })
+    }
+
+    /// Appends a map whose code begins at this line and column of the joined code (docs/FORMAT.md, "Joins"). Lines and columns
+    /// count from 0; columns are in UTF-16 code units. The strings of the map are lent.
+    ///
+    /// Fails with `TooLarge` if there would be more than 4294967295 names, sources or tokens, a line or a column above
+    /// 4294967295, or an id or an entry of the ignore list above 4294967294, then with `OutOfMemory` if memory is refused;
+    /// the join is then as it was.
+    pub fn add_lent(&mut self, parts: &'a SourceMapParts<'_>, line: u32, column: u32) -> Result<()>
+        ensures joined { OnOk result (self.new ≡ added self.old (record_of_parts parts.now) (record { line = line; column = column })) }
+        ensures limits { OnOk result (IsWithinLimits (added self.old (record_of_parts parts.now) (record { line = line; column = column }))) }
+        ensures too_large { IsErrOf result TooLarge ↔ ¬ (IsWithinLimits (added self.old (record_of_parts parts.now) (record { line = line; column = column }))) }
+        ensures refused { IfErr result (λ e. (e ≡ OutOfMemory) ⊎ (e ≡ TooLarge)) }
+        ensures unchanged { OnErr result (self.new ≡ self.old) }
+    {
+        let Some(addition) = self.addition(parts, line, column) else {
+            return Err(Error::TooLarge);
+        };
+        let kept = &parts.tokens.as_slice()[addition.passed..];
+        let source_count = parts.sources.len();
+        self.names.reserve(parts.names.len())?;
+        self.sources.reserve(source_count)?;
+        self.source_contents.reserve(source_count)?;
+        self.tokens.reserve(kept.len())?;
+        self.token_chunks.reserve(1)?;
+        let shift = addition.shift;
+        let ignored = parts.ignore_list.as_deref();
+        shift.add_ignore_list(self.alloc, &mut self.ignore_list, ignored)?;
+        push_names(&mut self.names, names_in(parts.names.as_slice()));
+        push_sources(&mut self.sources, sources_in(parts.sources.as_slice()));
+        push_lent_fitted(
+            &mut self.source_contents,
+            contents_in(parts.source_contents.as_slice()),
+            source_count,
+        );
+        push_moved(&mut self.tokens, &addition.shift, kept);
+        let pushed: std::result::Result<_, _> = self.token_chunks.push(addition.chunk);
+        pushed.unwrap();
+        Ok(())
+    }
+
+    /// Appends a map as `add_lent` does, with the same result, but moves its strings and drops the rest of it. Fails as that
+    /// does; the join is then as it was, and the map is dropped.
+    pub fn add_moved(&mut self, parts: SourceMapParts<'a>, line: u32, column: u32) -> Result<()>
+        ensures joined { OnOk result (self.new ≡ added self.old (record_of_parts parts.entry) (record { line = line; column = column })) }
+        ensures limits { OnOk result (IsWithinLimits (added self.old (record_of_parts parts.entry) (record { line = line; column = column }))) }
+        ensures too_large { IsErrOf result TooLarge ↔ ¬ (IsWithinLimits (added self.old (record_of_parts parts.entry) (record { line = line; column = column }))) }
+        ensures refused { IfErr result (λ e. (e ≡ OutOfMemory) ⊎ (e ≡ TooLarge)) }
+        ensures unchanged { OnErr result (self.new ≡ self.old) }
+    {
+        let Some(addition) = self.addition(&parts, line, column) else {
+            return Err(Error::TooLarge);
+        };
+        let SourceMapParts {
+            mut names,
+            mut sources,
+            source_contents,
+            tokens,
+            ignore_list,
+            ..
+        } = parts;
+        let kept = &tokens.as_slice()[addition.passed..];
+        let count = sources.len();
+        self.names.reserve(names.len())?;
+        self.sources.reserve(count)?;
+        self.source_contents.reserve(count)?;
+        self.tokens.reserve(kept.len())?;
+        self.token_chunks.reserve(1)?;
+        let shift = addition.shift;
+        let list = ignore_list.as_deref();
+        shift.add_ignore_list(self.alloc, &mut self.ignore_list, list)?;
+        self.names.append(&mut names).unwrap();
+        self.sources.append(&mut sources).unwrap();
+        push_fitted(&mut self.source_contents, source_contents, count);
+        push_moved(&mut self.tokens, &addition.shift, kept);
+        let pushed: std::result::Result<_, _> = self.token_chunks.push(addition.chunk);
+        pushed.unwrap();
+        Ok(())
+    }
+
+    /// The parts of the joined map: with chunks, which fit, with an ignore list if one of its maps has one, and without file,
+    /// source root and debug id. Takes no memory.
+    pub fn into_parts(self) -> SourceMapParts<'a>
+        ensures parts { record_of_parts result ≡ self.entry }
+        ensures fits { IfSome self.entry.token_chunks (ChunksFit self.entry.tokens) }
+        ensures limits { IsWithinLimits self.entry }
+    {
+        SourceMapParts {
+            file: None,
+            names: self.names,
+            source_root: None,
+            sources: self.sources,
+            source_contents: self.source_contents,
+            tokens: self.tokens.into_boxed_slice(),
+            token_chunks: Some(self.token_chunks),
+            ignore_list: self.ignore_list,
+            debug_id: None,
+        }
+    }
+}

@@ -1,0 +1,180 @@
+-- What reading a text gives: a map by itself, or the join of the sections of an indexed map.
+use Rattle.std.proofs.Common.{◌≡◌, ◌≢◌, ℕ, ◌≤◌, ◌&&◌, Bool, true, false, cond, List, [], ◌∷◌, ◌++◌, map, length, refl, sym, ap, ◌∙◌, subst, arith, inl, inr, ◌⊎◌, Option, Some, None, Result, Ok, Err}
+use Rattle.std.specs.List.{flat_map, AllByRecursion}
+use Rattle.std.proofs.lemmas.Bool.{and_parts, both_ways, false_from_ne_true}
+use Rattle.std.proofs.lemmas.List.{length-append, length-map}
+use Rattle.std.proofs.lemmas.List.Elements.{recursion_from_All}
+use Rattle.oxc_sourcemap_mappings.specs.declared.error.Error.{Error}
+use Rattle.oxc_sourcemap_mappings.specs.declared.error.Error.TheVariants.{OutOfMemory, TooLarge}
+use Rattle.oxc_sourcemap_mappings.specs.Refusals.{unless}
+use Rattle.oxc_sourcemap_mappings.specs.Token.{TokenRecord, IsInBounds, AreInBounds}
+use Rattle.oxc_sourcemap_parts.specs.Record.{Text, MapRecord}
+use Rattle.oxc_sourcemap_parts.specs.Sorted.{are_tokens_sorted}
+use Rattle.oxc_sourcemap_parts.specs.Sound.{IsSound}
+use Rattle.oxc_sourcemap_parts.specs.DecodedMap.{DecodedMap, mapping_of, sources_of, decoded_map_of}
+use Rattle.oxc_sourcemap_json.specs.Shape.{◌>>=◌}
+use Rattle.oxc_sourcemap_join.specs.Joined.{Offset, nothing_joined, joined, IsWithinLimits}
+use Rattle.oxc_sourcemap_sections.specs.Sections.{Sections, joined_sections}
+use Rattle.oxc_sourcemap_sections.specs.JoinLimits.{is_within_limits}
+use Rattle.oxc_sourcemap_sections.specs.ReadMap.{Said, plain, indexed, indexed_record, map_said, said_in, read_map}
+use Rattle.oxc_sourcemap_sections.proofs.Limits.{limits_decided}
+use Rattle.oxc_sourcemap_sections.proofs.WellRead.{IsWellRead, sections_well, read_is_said}
+use Rattle.oxc_sourcemap_laws.specs.Repeats.{EqualUpToRepeats, is_sorted_decoded_map}
+use Rattle.oxc_sourcemap_laws.specs.JoinedDecodedMaps.{lowered, joined_decoded_maps}
+use Rattle.oxc_sourcemap_laws.specs.JoinLaws.{AreAllInRange, AreIgnoreListsInRange, decoded_maps_of}
+use Rattle.oxc_sourcemap_laws.proofs.JoinStands.{sorted-mappings}
+use Rattle.oxc_sourcemap_laws.proofs.UpToRepeats.{sorted_decoded_map_up_to_repeats}
+use Rattle.oxc_sourcemap_plan.specs.declared.plan.PlanError.TheVariants.{Map, Unsorted}
+use Rattle.oxc_sourcemap_plan.specs.Limits.{are_counts_within_limits, are_positions_within_limits, is_join_within_limits}
+use Rattle.oxc_sourcemap_plan.specs.Outcome.{Outcome, plain_outcome, names_of_sections, sections_outcome, read_outcome}
+use Rattle.oxc_sourcemap_plan.specs.Evaluated.{are_among}
+use Rattle.oxc_sourcemap_plan.specs.Realizes.{Realizes, FailsAs}
+use Rattle.oxc_sourcemap_plan.proofs.KnownNames.{among-self}
+use Rattle.oxc_sourcemap_plan.proofs.Realizing.{CountsFit, counts-fit, same-sources, contents-added, Stays, stays-of, JoinLaws, within_of, plain_gives, plain_unsorted, unless_memory}
+
+all-in-range : (ms : List (MapRecord × Offset)) → AllByRecursion (λ m. IsWellRead m.0) ms → AreAllInRange ms
+all-in-range [] h = tt
+all-in-range (m ∷ ms) h = (h.0.in_range.tokens, all-in-range ms h.1)
+
+lists-in-range : (ms : List (MapRecord × Offset)) → AllByRecursion (λ m. IsWellRead m.0) ms → AreIgnoreListsInRange ms
+lists-in-range [] h = tt
+lists-in-range (m ∷ ms) h = (h.0.in_range.ignore_list, lists-in-range ms h.1)
+
+stay : (ts : List TokenRecord) → AllByRecursion IsInBounds ts → AllByRecursion Stays ts
+stay [] h = tt
+stay (t ∷ ts) h = (stays-of t h.0, stay ts h.1)
+
+all-stay : (ms : List (MapRecord × Offset)) → AllByRecursion (λ m. IsWellRead m.0) ms → AllByRecursion (λ m. AllByRecursion Stays m.0.tokens) ms
+all-stay [] h = tt
+all-stay (m ∷ ms) h = (stay m.0.tokens (recursion_from_All IsInBounds m.0.tokens h.0.in_bounds), all-stay ms h.1)
+
+-- a join of decoded maps has as many mappings as their maps have tokens
+count-mappings : (ms : List (MapRecord × Offset)) → length (flat_map (λ m. m.0.tokens) ms) ≡ length (joined_decoded_maps (decoded_maps_of ms)).mappings
+count-mappings [] = refl
+count-mappings (m ∷ ms) =
+    let h = count-mappings ms in
+    let s = decoded_map_of m.0 in
+    let a = length-append m.0.tokens (flat_map (λ m. m.0.tokens) ms) in
+    let b = length-append (map (lowered m.1) s.mappings) (joined_decoded_maps (decoded_maps_of ms)).mappings in
+    let c = length-map s.mappings (lowered m.1) in
+    let d = length-map m.0.tokens (mapping_of (sources_of m.0.sources m.0.source_contents) m.0.names) in
+    omega arith
+
+module _ (laws : JoinLaws) (file : Option Text) (ms : List (MapRecord × Offset)) (well : AllByRecursion (λ m. IsWellRead m.0) ms) where
+  same : EqualUpToRepeats (decoded_map_of (joined ms)) (joined_decoded_maps (decoded_maps_of ms))
+  same = laws.decoded_map ms (all-in-range ms well)
+
+  sorted-same : are_tokens_sorted (joined ms).tokens ≡ is_sorted_decoded_map (joined_decoded_maps (decoded_maps_of ms))
+  sorted-same = sym (sorted-mappings (joined ms)) ∙ sorted_decoded_map_up_to_repeats (decoded_map_of (joined ms)) (joined_decoded_maps (decoded_maps_of ms)) same
+
+  room : is_join_within_limits (names_of_sections ms) (Ok (decoded_maps_of ms)) ≡ true
+      → CountsFit (names_of_sections ms) (joined_decoded_maps (decoded_maps_of ms)) × (are_positions_within_limits (joined_decoded_maps (decoded_maps_of ms)).mappings ≡ true)
+  room e =
+      let s = joined_decoded_maps (decoded_maps_of ms) in
+      let p = and_parts (are_counts_within_limits (names_of_sections ms) s) (are_positions_within_limits s.mappings) e in
+      (counts-fit (names_of_sections ms) s p.0, p.1)
+
+  within : is_join_within_limits (names_of_sections ms) (Ok (decoded_maps_of ms)) ≡ true → IsWithinLimits (joined ms)
+  within e =
+      let r = room e in
+      let c = count-mappings ms in
+      within_of laws ms (joined_decoded_maps (decoded_maps_of ms)) (names_of_sections ms) same (all-in-range ms well) (lists-in-range ms well) (all-stay ms well)
+      (omega arith) (omega arith) r.0 r.1
+
+  sections_give : AreInBounds (joined ms).tokens → IsSound (indexed_record file (joined ms)) → are_tokens_sorted (joined ms).tokens ≡ true
+      → Realizes (indexed_record file (joined ms)) (sections_outcome file None ms)
+  sections_give b h e =
+      let s = joined_decoded_maps (decoded_maps_of ms) in
+      let f : is_sorted_decoded_map s ≡ true = sym sorted-same ∙ e in
+      let c = count-mappings ms in
+      let pt = laws.tokens ms in
+      let n = ap length (laws.names ms) in
+      let one = contents-added nothing_joined ms refl in
+      let ss = same-sources (joined ms) s same in
+      record {
+        decoded_map = record s { file = file };
+        means = ap (λ b. cond b (Ok (record s { file = file })) (Err Unsorted)) f;
+        stands = record { sound = h; up_to_repeats = ap (λ (t : DecodedMap). record t { file = file }) same };
+        in_bounds = b;
+        map_record = refl;
+        tokens = omega arith;
+        names = omega arith;
+        contents = omega arith;
+        known = ap (are_among (names_of_sections ms)) (laws.names ms) ∙ among-self (names_of_sections ms);
+        within_limits = λ r. (room r).0.entries_fit;
+        rewritten = λ r. absurd (both_ways false refl r);
+      }
+
+  sections_unsorted : are_tokens_sorted (joined ms).tokens ≡ false → FailsAs Unsorted (sections_outcome file None ms)
+  sections_unsorted e =
+      let s = joined_decoded_maps (decoded_maps_of ms) in
+      inr (inl (ap (λ b. cond b (Ok (record s { file = file })) (Err Unsorted)) (sym sorted-same ∙ e)))
+
+  sections_too_large : (fault : Option Error) → is_within_limits (joined ms) ≡ false → FailsAs (Map TooLarge) (sections_outcome file fault ms)
+  sections_too_large fault e =
+      inr (inr (refl, false_from_ne_true _ (λ k. both_ways (is_within_limits (joined ms)) e ((limits_decided (joined ms)).1 (within k)))))
+
+-- ---- by what the join of sections is
+record FromSections (fault : Option Error) (ms : List (MapRecord × Offset)) (r : MapRecord) : Type 0 where
+  no_fault : fault ≡ None
+  is_join : joined ms ≡ r
+
+from-sections : (b : Bool) (fault : Option Error) (ms : List (MapRecord × Offset)) (r : MapRecord) → cond b (unless fault (Ok (joined ms))) (Err TooLarge) ≡ Ok r → FromSections fault ms r
+from-sections true None ms r e = record { no_fault = refl; is_join = cc }
+from-sections true (Some f) ms r e = cc
+from-sections false fault ms r e = cc
+
+joined-of : (file : Option Text) (x : Result MapRecord Error) (r : MapRecord) → (x >>= (λ j. Ok (indexed_record file j))) ≡ Ok r → (j : MapRecord) × (x ≡ Ok j) × (indexed_record file j ≡ r)
+joined-of file (Ok j) r e = (j, refl, cc)
+joined-of file (Err f) r e = cc
+
+refused-of : (file : Option Text) (x : Result MapRecord Error) (f : Error) → (x >>= (λ j. Ok (indexed_record file j))) ≡ Err f → x ≡ Err f
+refused-of file (Ok j) f e = cc
+refused-of file (Err g) f e = cc
+
+-- ---- by what is said
+gives : (laws : JoinLaws) (said : Said) (r : MapRecord) → ((file : Option Text) (found : Sections) → said ≡ indexed file found → AllByRecursion (λ m. IsWellRead m.0) found.maps)
+    → map_said said ≡ Ok r → AreInBounds r.tokens → IsSound r → are_tokens_sorted r.tokens ≡ true → Realizes r (read_outcome said)
+gives laws (plain answer) r w e b h s = subst (λ a. Realizes r (plain_outcome a)) (sym e) (plain_gives r b h s)
+gives laws (indexed file found) r w e b h s =
+    let j = joined-of file (joined_sections found) r e in
+    let f = from-sections (is_within_limits (joined found.maps)) found.fault found.maps j.0 j.1 in
+    let is : indexed_record file (joined found.maps) ≡ r = ap (indexed_record file) f.is_join ∙ j.2 in
+    let back = sym is in
+    subst (λ fault. Realizes r (sections_outcome file fault found.maps)) (sym f.no_fault) (subst (λ m. Realizes m (sections_outcome file None found.maps)) is
+    (sections_give laws file found.maps (w file found refl) (subst (λ (m : MapRecord). AreInBounds m.tokens) back b) (subst IsSound back h) (subst (λ (m : MapRecord). are_tokens_sorted m.tokens ≡ true) back s)))
+
+unsorted : (laws : JoinLaws) (said : Said) (r : MapRecord) → ((file : Option Text) (found : Sections) → said ≡ indexed file found → AllByRecursion (λ m. IsWellRead m.0) found.maps)
+    → map_said said ≡ Ok r → are_tokens_sorted r.tokens ≡ false → FailsAs Unsorted (read_outcome said)
+unsorted laws (plain answer) r w e s = subst (λ a. FailsAs Unsorted (plain_outcome a)) (sym e) (plain_unsorted r s)
+unsorted laws (indexed file found) r w e s =
+    let j = joined-of file (joined_sections found) r e in
+    let f = from-sections (is_within_limits (joined found.maps)) found.fault found.maps j.0 j.1 in
+    let is : indexed_record file (joined found.maps) ≡ r = ap (indexed_record file) f.is_join ∙ j.2 in
+    subst (λ fault. FailsAs Unsorted (sections_outcome file fault found.maps)) (sym f.no_fault)
+    (sections_unsorted laws file found.maps (w file found refl) (ap (λ (m : MapRecord). are_tokens_sorted m.tokens) is ∙ s))
+
+fault-of : (fault : Option Error) (r : MapRecord) (e : Error) → unless fault (Ok r) ≡ Err e → fault ≡ Some e
+fault-of None r e h = cc
+fault-of (Some f) r e h = cc
+
+refused : (laws : JoinLaws) (said : Said) (e : Error) → ((file : Option Text) (found : Sections) → said ≡ indexed file found → AllByRecursion (λ m. IsWellRead m.0) found.maps)
+    → map_said said ≡ Err e → FailsAs (Map e) (read_outcome said)
+refused laws (plain answer) e w h = subst (λ a. FailsAs (Map e) (plain_outcome a)) (sym h) (inr (inl refl))
+refused laws (indexed file found) e w h =
+    let j : joined_sections found ≡ Err e = refused-of file (joined_sections found) e h in
+    elim (is_within_limits (joined found.maps)) as (λ b. is_within_limits (joined found.maps) ≡ b → cond b (unless found.fault (Ok (joined found.maps))) (Err TooLarge) ≡ Err e
+    → FailsAs (Map e) (sections_outcome file found.fault found.maps)) [
+      | true ↦ (λ t k. let f = fault-of found.fault (joined found.maps) e k in subst (λ fault. FailsAs (Map e) (sections_outcome file fault found.maps)) (sym f) (inr (inl refl)))
+      | false ↦ (λ t k. let f : TooLarge ≡ e = cc (k) in subst (λ x. FailsAs (Map x) (sections_outcome file found.fault found.maps)) f (sections_too_large laws file found.maps (w file found refl) found.fault t))
+    ] refl j
+
+-- ---- a text
+pub read_gives : JoinLaws → (text : Text) (r : MapRecord) → read_map text ≡ Ok r → AreInBounds r.tokens → IsSound r → are_tokens_sorted r.tokens ≡ true → Realizes r (read_outcome (said_in text))
+read_gives laws text r e b h s = gives laws (said_in text) r (sections_well text) (sym (read_is_said text) ∙ e) b h s
+
+pub read_unsorted : JoinLaws → (text : Text) (r : MapRecord) → read_map text ≡ Ok r → are_tokens_sorted r.tokens ≡ false → FailsAs Unsorted (read_outcome (said_in text))
+read_unsorted laws text r e s = unsorted laws (said_in text) r (sections_well text) (sym (read_is_said text) ∙ e) s
+
+pub read_refused : JoinLaws → (text : Text) (e : Error) → ((e ≢ OutOfMemory) → read_map text ≡ Err e) → FailsAs (Map e) (read_outcome (said_in text))
+read_refused laws text e q = unless_memory e (read_outcome (said_in text)) (λ n. refused laws (said_in text) e (sections_well text) (sym (read_is_said text) ∙ q n))

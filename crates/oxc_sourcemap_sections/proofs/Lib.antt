@@ -1,0 +1,5 @@
+pub mod Limits
+pub mod LineOrder
+pub mod InRange
+pub mod Steps
+pub mod WellRead

@@ -1,0 +1,6 @@
+pub mod Section
+pub mod JoinLimits
+pub mod Sections
+pub mod ReadMap
+pub mod ReadLaws
+pub mod Reading

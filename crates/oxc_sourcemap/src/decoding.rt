@@ -36,16 +36,16 @@ pub fn decode(alloc: Global, json: JSONSourceMap) -> Result<SourceMap<'static>>
 /// is read by `JSONSourceMap::from_value` and `decode`. All strings of the map are owned. The map has no chunks, and its tokens
 /// are in line order.
 ///
-/// Of the keys beside the `sections` of an indexed map, only `version` and `file` are looked at. It fails with the first of these
-/// in this order, section by section from the second on:
-/// - the errors of `file_from_value`, then `BadJson(Shape(Sections))` if `sections` is not a list;
-/// - `BadJson(Shape(Sections))` if a section is not an object;
+/// Of the keys beside the `sections` of an indexed map, only `version` and `file` are looked at. It fails with the errors of
+/// `file_from_value`, then with `BadJson(Shape(Sections))` if `sections` is not a list, then with the first error of a section.
+/// Each section is read and joined before the next one is looked at, and fails with the first of these in this order:
+/// - `BadJson(Shape(Sections))` if it is not an object;
 /// - `BadJson(Shape(Offset))` if its `offset` is not an object whose `line` and `column` are whole numbers of 0 to 4294967295;
-/// - `SectionOrder(k)` if its offset is before that of the section before it, or before the last token so far, where k counts the
-///   sections before it;
+/// - `SectionOrder(k)` if its offset is before that of the section before it, or before the last token so far, where k is the
+///   index of this section, from 0;
 /// - `BadJson(Shape(Map))` if its `map` is not an object, or is an indexed map itself;
 /// - the errors of `JSONSourceMap::from_value` and of `decode` for its `map`;
-/// - `TooLarge`, as `ConcatSourceMapBuilder::add_sourcemap_at` fails with it.
+/// - `TooLarge` if the join with its map would be too large, as for `ConcatSourceMapBuilder::add_sourcemap_at`.
 ///
 /// Also `OutOfMemory` if memory is refused, which may be before another error is found.
 pub fn decode_value(alloc: Global, value: &Value) -> Result<SourceMap<'static>>
@@ -55,8 +55,8 @@ pub fn decode_value(alloc: Global, value: &Value) -> Result<SourceMap<'static>>
     Ok(SourceMap::from_parts(decode_parts_from_value(alloc, value)?))
 }
 
-/// Reads the map of a JSON text: `serde_json` reads the text, and the value is read as `decode_value` reads it. All strings of the
-/// map are owned.
+/// Reads the map of a JSON text: `serde_json` reads the text, and the value is read as `decode_value` reads it. All strings of
+/// the map are owned.
 ///
 /// Fails in this order:
 /// - `BadJson(Reading)` if `serde_json` reads no value, as for a text that is not JSON, one with more than white space

@@ -198,7 +198,7 @@ fn read_ignore_list(alloc: Global, value: &Value) -> Result<Option<Vec<u32>>>
 }
 
 /// The file of a JSON value that is a source map, indexed or not (docs/FORMAT.md, "The shape of a JSON value"); None if it
-/// is null or missing. Nothing else of the value is looked at than its `version` and its `file`.
+/// is null or missing. Only the `version` and the `file` of the value are looked at.
 ///
 /// Fails with `BadJson` for the first of these in this order, and with `OutOfMemory` if memory is refused:
 /// - `Shape(Object)` unless the value is an object;

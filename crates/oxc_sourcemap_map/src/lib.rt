@@ -1,7 +1,8 @@
 //! `SourceMap`, borrowing or owned: its fields, views of its tokens, and its calls that read, write, look up and compose,
 //! which call the crates below.
 //!
-//! Joins of maps stand on this crate, in `oxc_sourcemap_concat`, for which `parts_of` is public here. Users name the crate `oxc_sourcemap`.
+//! The builder of joins, in `oxc_sourcemap_concat`, stands on this crate; for it `parts_of` is public here. Users name the
+//! crate `oxc_sourcemap`.
 #![tactic(auto)]
 
 mod compose;

@@ -87,7 +87,7 @@ pub enum Field {
     Sections,
     /// `offset` of a section, an object with `line` and `column`, both whole numbers of 0 to 4294967295.
     Offset,
-    /// `map` of a section, an object that is a source map and not an indexed one.
+    /// `map` of a section, an object that is not an indexed map itself.
     Map,
 }
 

@@ -31,10 +31,10 @@ pub record Outcome : Type 0 where
   -- how many contents the map lists at most: as many as the text that is read, as a join has sources, as the second part of a
   -- composition
   pub contents : ℕ
-  -- At every part names, sources and mappings number at most 4294967295, and no line or column of a join is above that. An
-  -- indexed map counts as the join of its sections.
+  -- At every part names, sources and mappings number at most 4294967295, and no line or column of a join is above that.
   -- A join counts what all its parts have; a composition the names of both, the sources of the second and the mappings
-  -- of the first. A part that means an error counts nothing; but a join whose parts mean none counts, sorted or not.
+  -- of the first. A part that means an error counts nothing; but a join whose parts mean none counts, sorted or not, and an
+  -- indexed map counts as the join of its sections in front of the first fault, whatever it means.
   pub is_within_limits : Bool
   -- the last thing done is to write and read again
   pub is_rewritten : Bool

@@ -62,6 +62,6 @@ said_in text = said_of (read text)
 unfoldable pub read_map : Text → Result MapRecord Error
 read_map text = map_said (said_in text)
 
--- what a JSON text means: the decoded map of its map, or its first fault
+-- the decoded map of the map that a JSON text says, or its first fault
 abbrev pub read_decoded_map : Text → Result DecodedMap Error
 read_decoded_map text = read_map text >>= (λ r. Ok (decoded_map_of r))

@@ -150,11 +150,13 @@ fn moved_indexed(alloc: Global, value: Value) -> Result<SourceMapParts<'static>>
 /// the maps of its sections, each at its offset, with the file of the value and without chunks. Of its other keys only
 /// `version` is looked at. Any other value is read by `JSONSourceMap::from_value` and `decode_parts`.
 ///
-/// An indexed map fails with the first of these in this order, section by section from `SectionOrder` on:
-/// - what `file_from_value` refuses;
-/// - `BadJson(Shape(Sections))` unless `sections` is a list, and for a section that is not an object;
+/// An indexed map fails with what `file_from_value` refuses, then with `BadJson(Shape(Sections))` unless `sections` is a list,
+/// then with the first fault of a section. Each section is read and joined before the next one is looked at, and fails with
+/// the first of these in this order:
+/// - `BadJson(Shape(Sections))` unless it is an object;
 /// - `BadJson(Shape(Offset))` unless `offset` is an object whose `line` and `column` are whole numbers of 0 to 4294967295;
-/// - `SectionOrder(k)` if the offset of section k is before that of the section before it, or before the last token so far;
+/// - `SectionOrder(k)`, where k is its index, if its offset is before that of the section before it, or before the last token
+///   so far;
 /// - `BadJson(Shape(Map))` unless `map` is an object whose own `sections` is missing or null;
 /// - what `JSONSourceMap::from_value` and `decode_parts` refuse for the map;
 /// - `TooLarge` if the join with this section would be past the limits of `JoinedParts::add_moved`.

@@ -41,7 +41,7 @@ signed raw = if raw % 2 == 1 then neg_ℤ (pos (raw / 2)) else pos (raw / 2)
 abbrev pub number : List ℕ → ℤ
 number run = signed (raw_number run)
 
--- A run fits if it has at most 13 digits and its 13th payload, if it has one, is at most 7. So 63 bits hold each raw number
+-- A run of more than 13 digits does not fit, nor does one whose 13th payload is above 7. So 63 bits hold each raw number
 -- that fits.
 abbrev pub is_fitting : List ℕ → Bool
 is_fitting run = nat_le (length run) 13 && nat_le (payload (slice_index run 12)) 7

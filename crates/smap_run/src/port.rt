@@ -7,8 +7,8 @@ ghost use Rattle.smap_run.specs.Flags.{read_flag, write_flag};
 use std::io;
 use std::io::{Read, Write};
 
-/// A reader or writer with a flag, which is set by the first call that fails: a read or write of the inner value that fails,
-/// or a write of some bytes that takes none.
+/// A reader or writer with a flag, which is set by the first call that fails: the inner value reports an error, or takes none
+/// of the bytes that it is to write.
 ///
 /// A port passes each call on to its inner value, and returns what that returns.
 #[derive(Drop)]

@@ -81,7 +81,7 @@ fn token_at(alloc: Global, map: &SourceMap<'_>, line: u32, col: u32) -> Result<O
 
 /// Looks up a generated line and column in the map of a JSON text, and says what is there: `nothing` if no token is found,
 /// `unmapped` if the token has no source; else its source as a JSON string, `:`, the source line, `:`, the source column,
-/// and, if it has a name, a space and the name as a JSON string. Lines and columns count from 0.
+/// and, if it has a name, a space and that, as a JSON string too. Lines and columns count from 0.
 ///
 /// Fails with `Map(e)` if `SourceMap::from_json_string` fails with `e`, then with `Unsorted` if the tokens are not sorted,
 /// and with `Map(OutOfMemory)` if memory is refused.

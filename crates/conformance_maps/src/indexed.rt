@@ -209,6 +209,43 @@ const READ: &[(&str, &str, Result<&str>)] = &[
         r#"{"version":3,"file":"out.js","sections":[{"offset":{"line":0,"column":0},"map":{"version":3,"sources":["b.js"],"mappings":"AC"}},3]}"#,
         Err(Error::BadSegmentSize(2)),
     ),
+    (
+        "too large before a fault of a later section",
+        r#"{"version":3,"sections":[{"offset":{"line":4294967295,"column":0},"map":{"version":3,"sources":[],"mappings":"A;A"}},3]}"#,
+        Err(Error::TooLarge),
+    ),
+    (
+        "a fault of the mappings before too large",
+        r#"{"version":3,"sections":[{"offset":{"line":4294967295,"column":0},"map":{"version":3,"sources":[],"mappings":"A;AC"}}]}"#,
+        Err(Error::BadSegmentSize(2)),
+    ),
+    (
+        "an empty ignore list",
+        r#"{"version":3,"sections":[{"offset":{"line":0,"column":0},"map":{"version":3,"sources":["a.js"],"mappings":"AAAA"}},{"offset":{"line":1,"column":0},"map":{"version":3,"sources":["b.js"],"ignoreList":[],"mappings":"AAAA"}}]}"#,
+        Ok(
+            r#"{"version":3,"names":[],"sources":["a.js","b.js"],"ignoreList":[],"mappings":"AAAA;ACAA"}"#,
+        ),
+    ),
+    (
+        "a column of 3.0",
+        r#"{"version":3,"sections":[{"offset":{"line":0,"column":3.0},"map":{"version":3,"sources":[],"mappings":""}}]}"#,
+        Err(Error::BadJson(JsonFault::Shape(Field::Offset))),
+    ),
+    (
+        "a map whose sections is false",
+        r#"{"version":3,"sections":[{"offset":{"line":0,"column":0},"map":{"version":3,"sections":false,"sources":[],"mappings":""}}]}"#,
+        Err(Error::BadJson(JsonFault::Shape(Field::Map))),
+    ),
+    (
+        "a section before the last token, after the offset in front",
+        r#"{"version":3,"sections":[{"offset":{"line":0,"column":0},"map":{"version":3,"sources":["a.js"],"mappings":"AAAA;IAAA"}},{"offset":{"line":1,"column":3},"map":{"version":3,"sources":[],"mappings":""}}]}"#,
+        Err(Error::SectionOrder(1)),
+    ),
+    (
+        "columns of line 0 alone",
+        r#"{"version":3,"sections":[{"offset":{"line":0,"column":5},"map":{"version":3,"sources":[],"mappings":"A;A"}},{"offset":{"line":1,"column":7},"map":{"version":3,"sources":[],"mappings":"A;A"}}]}"#,
+        Ok(r#"{"version":3,"names":[],"sources":[],"mappings":"K;A,O;A"}"#),
+    ),
 ];
 
 /// JSON texts, and the file of what they say.

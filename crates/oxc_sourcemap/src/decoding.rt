@@ -32,9 +32,9 @@ pub fn decode(alloc: Global, json: JSONSourceMap) -> Result<SourceMap<'static>>
 }
 
 /// Reads the map of a JSON value. A value whose `sections` is there and is not null is an indexed map (ECMA-426, "Index source
-/// map"): the maps of its sections are joined, each at its offset, and the joined map gets the file of the value. Any other value
-/// is read by `JSONSourceMap::from_value` and `decode`. All strings of the map are owned. The map has no chunks, and its tokens
-/// are in line order.
+/// map"): the maps of its sections are joined, each at its offset, and the joined map gets the file of the value. Any other
+/// value is read by `JSONSourceMap::from_value` and `decode`. All strings of the map are owned. The map has no chunks, and its
+/// tokens are in line order.
 ///
 /// Of the keys beside the `sections` of an indexed map, only `version` and `file` are looked at. It fails with the errors of
 /// `file_from_value`, then with `BadJson(Shape(Sections))` if `sections` is not a list, then with the first error of a section.

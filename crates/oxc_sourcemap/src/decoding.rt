@@ -1,8 +1,11 @@
 //! Reading a map from a JSON source map, from a JSON value and from a JSON text.
-ghost use Rattle.std.specs.Prelude.{◌≡◌, ◌≢◌, Some, IfOk, IfErr, Ok, Err};
+ghost use Rattle.std.specs.Prelude.{◌≡◌, ◌≢◌, ◌↔◌, true, Some, IfOk, IfErr, Ok, Err};
 ghost use Rattle.serde_json.specs.View.{view};
 ghost use Rattle.oxc_sourcemap_mappings.specs.declared.error.Error.{Error};
 ghost use Rattle.oxc_sourcemap_mappings.specs.declared.error.Error.TheVariants.{OutOfMemory};
+ghost use Rattle.oxc_sourcemap_mappings.specs.Canonical.{IsInLineOrder};
+ghost use Rattle.oxc_sourcemap_parts.specs.Sorted.{are_tokens_sorted};
+ghost use Rattle.oxc_sourcemap_parts.specs.Sound.{IsSound};
 ghost use Rattle.oxc_sourcemap_json.specs.Json.{json_record};
 ghost use Rattle.oxc_sourcemap_json.specs.Decoded.{decoded, json_fault};
 ghost use Rattle.oxc_sourcemap_sections.specs.ReadMap.{read_value, read_map};
@@ -33,8 +36,8 @@ pub fn decode(alloc: Global, json: JSONSourceMap) -> Result<SourceMap<'static>>
 
 /// Reads the map of a JSON value. A value whose `sections` is there and is not null is an indexed map (ECMA-426, "Index source
 /// map"): the maps of its sections are joined, each at its offset, and the joined map gets the file of the value. Any other
-/// value is read by `JSONSourceMap::from_value` and `decode`. All strings of the map are owned. The map has no chunks, and its
-/// tokens are in line order.
+/// value is read by `JSONSourceMap::from_value` and `decode`. All strings of the map are owned. The map has no chunks, its ids
+/// are in range, and its tokens are in line order, so it is sound exactly if it is sorted.
 ///
 /// Of the keys beside the `sections` of an indexed map, only `version` and `file` are looked at. It fails with the errors of
 /// `file_from_value`, then with `BadJson(Shape(Sections))` if `sections` is not a list, then with the first error of a section.
@@ -48,8 +51,11 @@ pub fn decode(alloc: Global, json: JSONSourceMap) -> Result<SourceMap<'static>>
 /// - `TooLarge` if the join with its map would be too large, as for `ConcatSourceMapBuilder::add_sourcemap_at`.
 ///
 /// Also `OutOfMemory` if memory is refused, which may be before another error is found.
+#[tactic(auto, using(oxc_sourcemap_sections::proofs::WellRead::value_sound, oxc_sourcemap_sections::proofs::WellRead::value_in_order))]
 pub fn decode_value(alloc: Global, value: &Value) -> Result<SourceMap<'static>>
     ensures map { IfOk result (λ map. read_value (view value.now) ≡ Ok map) }
+    ensures sound { IfOk result (λ map. IsSound map ↔ (are_tokens_sorted map.tokens ≡ true)) }
+    ensures in_line_order { IfOk result (λ map. IsInLineOrder map.tokens) }
     ensures refused { IfErr result (λ e. (e ≢ OutOfMemory) → read_value (view value.now) ≡ Err e) }
 {
     Ok(SourceMap::from_parts(decode_parts_from_value(alloc, value)?))
@@ -66,6 +72,8 @@ pub fn decode_value(alloc: Global, value: &Value) -> Result<SourceMap<'static>>
 /// Also `OutOfMemory` if memory is refused, which may be before another error is found.
 pub fn decode_from_string(alloc: Global, text: &str) -> Result<SourceMap<'static>>
     ensures map { IfOk result (λ map. read_map text.now ≡ Ok map) }
+    ensures sound { IfOk result (λ map. IsSound map ↔ (are_tokens_sorted map.tokens ≡ true)) }
+    ensures in_line_order { IfOk result (λ map. IsInLineOrder map.tokens) }
     ensures refused { IfErr result (λ e. (e ≢ OutOfMemory) → read_map text.now ≡ Err e) }
 {
     SourceMap::from_json_string(alloc, text)

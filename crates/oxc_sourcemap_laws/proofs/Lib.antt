@@ -5,6 +5,7 @@ pub mod Seams
 pub mod Joins
 pub mod JoinDecodedMaps
 pub mod JoinStands
+pub mod Sections
 pub mod Compositions
 pub mod ComposedNames
 pub mod Groupings

@@ -1,5 +1,6 @@
 pub mod Repeats
 pub mod JoinedDecodedMaps
 pub mod JoinLaws
+pub mod SectionLaws
 pub mod ComposedDecodedMaps
 pub mod ComposeLaws

@@ -7,6 +7,7 @@
 ghost use Rattle.oxc_sourcemap_mappings.specs.TextLaws.{CanonicalUnique, ReadsBack, ReadsAgain, InPieces};
 ghost use Rattle.oxc_sourcemap_json.specs.MapLaws.{SoundIsWritten, SoundIsTooLarge, SoundReadsBack, SoundStaysSound};
 ghost use Rattle.oxc_sourcemap_sections.specs.ReadLaws.{ReadIsInBounds, ReadIsInLineOrder};
+ghost use Rattle.oxc_sourcemap_laws.specs.SectionLaws.{ValueOfSections, TextOfSections};
 ghost use Rattle.oxc_sourcemap_laws.specs.ComposeLaws.{DecodedMapOfComposition, CompositionKeepsEqualUpToRepeats, CompositionStandsFor, DecodedMapsAssociative, ComposedMapsAssociative, CompositionAssociative, GroupingsRefusedTogether, GroupingsAnswered, GroupingsTell, CompositionInRange, CompositionNames, CompositionTokens, CompositionTooLarge, CompositionInBounds};
 ghost use Rattle.oxc_sourcemap_laws.specs.JoinLaws.{RepeatsHarmless, TracesAgree, TestsAgree, JoinKeepsEqualUpToRepeats, DecodedMapOfJoin, JoinStandsFor, JoinInRange, JoinNames, JoinTokens, JoinChunksFit, JoinsAssociative, JoinOneMore};
 
@@ -51,6 +52,8 @@ pub fn canonical_unique()
 /// - If each map is sound and its decoded map equal up to repeats to a given one, the join is sorted exactly if the join of
 ///   the given ones is, and then it is sound and equal to that up to repeats (`stands_for`).
 /// - The names of a join are those of its maps, in order (`names`), and it has no more tokens than they have (`tokens`).
+/// - The decoded map of an indexed map that is read from a JSON value or a JSON text equals, up to repeats, the join of the
+///   decoded maps of its sections, each at its offset, with the file of the value (`value_of_sections`, `text_of_sections`).
 pub fn dropping_harmless()
     ensures repeats { RepeatsHarmless }
     ensures traces_agree { TracesAgree }
@@ -61,6 +64,8 @@ pub fn dropping_harmless()
     ensures stands_for { JoinStandsFor }
     ensures names { JoinNames }
     ensures tokens { JoinTokens }
+    ensures value_of_sections { ValueOfSections }
+    ensures text_of_sections { TextOfSections }
 {}
 
 /// Joins may be grouped, for any maps, sound or not.

@@ -23,6 +23,7 @@ use Rattle.oxc_sourcemap_laws.specs.Repeats.{EqualUpToRepeats, is_sorted_decoded
 use Rattle.oxc_sourcemap_laws.specs.JoinedDecodedMaps.{lowered, joined_decoded_maps}
 use Rattle.oxc_sourcemap_laws.specs.JoinLaws.{AreAllInRange, AreIgnoreListsInRange, decoded_maps_of}
 use Rattle.oxc_sourcemap_laws.proofs.JoinStands.{sorted-mappings}
+use Rattle.oxc_sourcemap_laws.proofs.Sections.{all-in-range, FromSections, from-sections, joined-of}
 use Rattle.oxc_sourcemap_laws.proofs.UpToRepeats.{sorted_decoded_map_up_to_repeats}
 use Rattle.oxc_sourcemap_plan.specs.declared.plan.PlanError.TheVariants.{Map, Unsorted}
 use Rattle.oxc_sourcemap_plan.specs.Limits.{are_counts_within_limits, are_positions_within_limits, is_join_within_limits}
@@ -31,10 +32,6 @@ use Rattle.oxc_sourcemap_plan.specs.Evaluated.{are_among}
 use Rattle.oxc_sourcemap_plan.specs.Realizes.{Realizes, FailsAs}
 use Rattle.oxc_sourcemap_plan.proofs.KnownNames.{among-self}
 use Rattle.oxc_sourcemap_plan.proofs.Realizing.{CountsFit, counts-fit, same-sources, contents-added, Stays, stays-of, JoinLaws, within_of, plain_gives, plain_unsorted, unless_memory}
-
-all-in-range : (ms : List (MapRecord × Offset)) → AllByRecursion (λ m. IsWellRead m.0) ms → AreAllInRange ms
-all-in-range [] h = tt
-all-in-range (m ∷ ms) h = (h.0.in_range.tokens, all-in-range ms h.1)
 
 lists-in-range : (ms : List (MapRecord × Offset)) → AllByRecursion (λ m. IsWellRead m.0) ms → AreIgnoreListsInRange ms
 lists-in-range [] h = tt
@@ -115,19 +112,6 @@ module _ (laws : JoinLaws) (file : Option Text) (ms : List (MapRecord × Offset)
       inr (inr (refl, false_from_ne_true _ (λ k. both_ways (is_within_limits (joined ms)) e ((limits_decided (joined ms)).1 (within k)))))
 
 -- ---- by what the join of sections is
-record FromSections (fault : Option Error) (ms : List (MapRecord × Offset)) (r : MapRecord) : Type 0 where
-  no_fault : fault ≡ None
-  is_join : joined ms ≡ r
-
-from-sections : (b : Bool) (fault : Option Error) (ms : List (MapRecord × Offset)) (r : MapRecord) → cond b (unless fault (Ok (joined ms))) (Err TooLarge) ≡ Ok r → FromSections fault ms r
-from-sections true None ms r e = record { no_fault = refl; is_join = cc }
-from-sections true (Some f) ms r e = cc
-from-sections false fault ms r e = cc
-
-joined-of : (file : Option Text) (x : Result MapRecord Error) (r : MapRecord) → (x >>= (λ j. Ok (indexed_record file j))) ≡ Ok r → (j : MapRecord) × (x ≡ Ok j) × (indexed_record file j ≡ r)
-joined-of file (Ok j) r e = (j, refl, cc)
-joined-of file (Err f) r e = cc
-
 refused-of : (file : Option Text) (x : Result MapRecord Error) (f : Error) → (x >>= (λ j. Ok (indexed_record file j))) ≡ Err f → x ≡ Err f
 refused-of file (Ok j) f e = cc
 refused-of file (Err g) f e = cc

@@ -23,7 +23,7 @@ use Rattle.oxc_sourcemap_join.specs.Joined.{Offset, is_same_token, added, nothin
 use Rattle.oxc_sourcemap_sections.specs.Section.{is_indexed, place_in, map_in}
 use Rattle.oxc_sourcemap_sections.specs.Sections.{Sections, position_of, may_follow, may_begin, in_order, place_after, section_map, section_after, onto_section, sections_after, all_sections, joined_sections}
 use Rattle.oxc_sourcemap_sections.specs.JoinLimits.{is_within_limits}
-use Rattle.oxc_sourcemap_sections.specs.ReadMap.{Said, plain, indexed, sections_in, indexed_said, said_by, indexed_record, map_said, said_of, said_in, read_map}
+use Rattle.oxc_sourcemap_sections.specs.ReadMap.{Said, plain, indexed, sections_in, indexed_said, said_by, indexed_record, map_said, said_of, said_in, read_map, read_value}
 use Rattle.oxc_sourcemap_sections.proofs.Limits.{limits_decided}
 use Rattle.oxc_sourcemap_sections.proofs.LineOrder.{RunsFrom, runs-of, runs-order, runs-joined}
 use Rattle.oxc_sourcemap_sections.proofs.InRange.{added-in-range}
@@ -184,13 +184,33 @@ pub read_is_said : (text : Text) → read_map text ≡ map_said (said_in text)
 unfolding read_map
 read_is_said text = refl
 
+well-sound : (r : MapRecord) → IsWellRead r → IsSound r ↔ (are_tokens_sorted r.tokens ≡ true)
+well-sound r w = (λ s. s.sorted, λ o. record { sorted = o; in_range = w.in_range; chunks = subst (λ o. IfSome o (ChunksFit r.tokens)) (sym w.chunks) tt })
+
 pub read_map_sound : (text : Text) (r : MapRecord) → read_map text ≡ Ok r → IsSound r ↔ (are_tokens_sorted r.tokens ≡ true)
-read_map_sound text r e =
-    let w = read_well text r e in
-    (λ s. s.sorted, λ o. record { sorted = o; in_range = w.in_range; chunks = subst (λ o. IfSome o (ChunksFit r.tokens)) (sym w.chunks) tt })
+read_map_sound text r e = well-sound r (read_well text r e)
 
 pub read_in_bounds : (text : Text) (r : MapRecord) → read_map text ≡ Ok r → AreInBounds r.tokens
 read_in_bounds text r e = (read_well text r e).in_bounds
 
 pub read_in_order : (text : Text) (r : MapRecord) → read_map text ≡ Ok r → IsInLineOrder r.tokens
 read_in_order text r e = runs-order 0 r.tokens (read_well text r e).order
+
+-- ---- the same of a value
+pub value_is_said : (d : Data) → read_value d ≡ map_said (said_by d)
+unfolding read_value
+value_is_said d = refl
+
+value-well : (d : Data) (r : MapRecord) → read_value d ≡ Ok r → IsWellRead r
+value-well d r e = said-well d r (sym (value_is_said d) ∙ e)
+
+pub value_sound : (d : Data) (r : MapRecord) → read_value d ≡ Ok r → IsSound r ↔ (are_tokens_sorted r.tokens ≡ true)
+value_sound d r e = well-sound r (value-well d r e)
+
+pub value_in_order : (d : Data) (r : MapRecord) → read_value d ≡ Ok r → IsInLineOrder r.tokens
+value_in_order d r e = runs-order 0 r.tokens (value-well d r e).order
+
+pub value_sections_well : (d : Data) (file : Option Text) (found : Sections) → said_by d ≡ indexed file found → AllByRecursion (λ m. IsWellRead m.0) found.maps
+value_sections_well d file found e =
+    let s = said-sections d file found e in
+    subst (λ (q : Sections). AllByRecursion (λ m. IsWellRead m.0) q.maps) s.1 (all-well [] s.0 tt)

@@ -7,6 +7,7 @@ use crate::faults::{
     IGNORED, VERSION, compose_faulty, join_faulty, make_faulty_table, read_faulty, write_faulty,
 };
 use crate::fields::{Setter, set_field, set_owned_field};
+use crate::indexed::{read_file, read_indexed};
 use crate::joins::{
     Join, add_to_join, finish_join, finish_join_owned, join_lent, join_moved, take_room,
 };
@@ -35,6 +36,8 @@ pub(crate) enum Call {
     MakeMap(Make),
     CloneParts,
     ReadJson(bool),
+    ReadIndexed(bool),
+    ReadFile,
     OwnTexts,
     Own,
     Compose,
@@ -151,6 +154,17 @@ pub(crate) const CALLS: &[(&str, &str, Call)] = &[
         "SourceMap::from_json_string",
         Call::MakeMap(Make::FromJsonString),
     ),
+    (
+        "takes",
+        "decode_from_string of an indexed map",
+        Call::ReadIndexed(true),
+    ),
+    (
+        "takes",
+        "decode_value of an indexed map",
+        Call::ReadIndexed(false),
+    ),
+    ("takes", "file_from_value", Call::ReadFile),
     ("takes", "SourceMap::clone", Call::MakeMap(Make::Clone)),
     ("takes", "SourceMapParts::clone", Call::CloneParts),
     ("takes", "decode", Call::ReadJson(true)),
@@ -347,6 +361,8 @@ fn made(rt: &HostRuntime, call: Call) -> Result<Ended, Error> {
         Call::MakeMap(make) => make_map(rt, make),
         Call::CloneParts => clone_parts(rt),
         Call::ReadJson(is_free) => read_json(rt, is_free),
+        Call::ReadIndexed(is_text) => read_indexed(rt, is_text),
+        Call::ReadFile => read_file(rt),
         Call::OwnTexts => own_texts(rt),
         Call::Own => own(rt),
         Call::Compose => compose(rt),

@@ -15,6 +15,7 @@ mod commands;
 mod faults;
 mod fields;
 mod fixtures;
+mod indexed;
 mod joins;
 mod lists;
 mod made;

@@ -4,6 +4,7 @@ use Rattle.oxc_sourcemap_laws.proofs.Same.{decides_entry}
 use Rattle.oxc_sourcemap_laws.proofs.UpToRepeats.{matches, without_repeats_is_up_to_repeats, trace_up_to_repeats, clamped_trace_up_to_repeats, sorted_decoded_map_up_to_repeats, joined_up_to_repeats}
 use Rattle.oxc_sourcemap_laws.proofs.JoinDecodedMaps.{decoded_map_joined}
 use Rattle.oxc_sourcemap_laws.proofs.JoinStands.{range_joined, entries_joined, count_joined, names_joined, join_sorted, join_stands}
+use Rattle.oxc_sourcemap_laws.proofs.Sections.{value_of_sections, text_of_sections}
 use Rattle.oxc_sourcemap_laws.proofs.dropping_harmless.Goals as goal
 
 pub returns-clause-repeats : goal.returns-clause-repeats
@@ -32,3 +33,9 @@ returns-clause-names c = names_joined
 
 pub returns-clause-tokens : goal.returns-clause-tokens
 returns-clause-tokens c = count_joined
+
+pub returns-clause-value_of_sections : goal.returns-clause-value_of_sections
+returns-clause-value_of_sections c = value_of_sections
+
+pub returns-clause-text_of_sections : goal.returns-clause-text_of_sections
+returns-clause-text_of_sections c = text_of_sections

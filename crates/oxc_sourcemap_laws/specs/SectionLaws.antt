@@ -1,0 +1,24 @@
+-- What an indexed map that is read means.
+use Rattle.std.specs.Prelude.{◌≡◌, Option, Ok}
+use Rattle.serde_json.specs.Data.{Data}
+use Rattle.oxc_sourcemap_parts.specs.Record.{Text, MapRecord}
+use Rattle.oxc_sourcemap_parts.specs.DecodedMap.{DecodedMap, decoded_map_of}
+use Rattle.oxc_sourcemap_sections.specs.Sections.{Sections}
+use Rattle.oxc_sourcemap_sections.specs.ReadMap.{indexed, said_by, said_in, read_value, read_map}
+use Rattle.oxc_sourcemap_laws.specs.Repeats.{EqualUpToRepeats}
+use Rattle.oxc_sourcemap_laws.specs.JoinedDecodedMaps.{joined_decoded_maps}
+use Rattle.oxc_sourcemap_laws.specs.JoinLaws.{decoded_maps_of}
+
+-- the join of the decoded maps of sections, each at its offset, with this file
+abbrev pub decoded_map_of_sections : Option Text → Sections → DecodedMap
+decoded_map_of_sections file found = record (joined_decoded_maps (decoded_maps_of found.maps)) { file = file }
+
+-- The decoded map of an indexed map that is read from a value is equal up to repeats to that of its sections.
+abbrev pub ValueOfSections : Type 0
+ValueOfSections = (d : Data) (file : Option Text) (found : Sections) (r : MapRecord) → said_by d ≡ indexed file found → read_value d ≡ Ok r
+    → EqualUpToRepeats (decoded_map_of r) (decoded_map_of_sections file found)
+
+-- So is that of one that is read from a text.
+abbrev pub TextOfSections : Type 0
+TextOfSections = (text : Text) (file : Option Text) (found : Sections) (r : MapRecord) → said_in text ≡ indexed file found → read_map text ≡ Ok r
+    → EqualUpToRepeats (decoded_map_of r) (decoded_map_of_sections file found)

@@ -81,13 +81,14 @@ enum {
     SMAP_TOO_DEEP = 16,             /* in a plan: it is deeper than 64 */
     SMAP_WORDS = 17,                /* in a plan: the words say no plan */
     SMAP_NO_TEXT = 18,              /* in a plan: the number of a text that is not there */
+    SMAP_SECTION_ORDER = 19,        /* the first section of an indexed map that begins before the end of those before it */
     SMAP_EMPTY_HANDLE = 100,
     SMAP_NOT_UTF8 = 101,            /* how many bytes before the first that is not UTF-8 */
     SMAP_LENGTHS = 102,             /* the lengths of two lists differ */
     SMAP_NO_ENTRY = 103             /* there is no entry of this index, or it is not known */
 };
 
-/* `field` of SMAP_JSON_SHAPE. */
+/* `field` of SMAP_JSON_SHAPE. The last three are those of indexed maps. */
 enum {
     SMAP_FIELD_OBJECT = 0, /* the value itself is not an object */
     SMAP_FIELD_VERSION = 1,
@@ -99,7 +100,10 @@ enum {
     SMAP_FIELD_NAMES = 7,
     SMAP_FIELD_DEBUG_ID = 8,
     SMAP_FIELD_IGNORE_LIST = 9,
-    SMAP_FIELD_GOOGLE_IGNORE_LIST = 10
+    SMAP_FIELD_GOOGLE_IGNORE_LIST = 10,
+    SMAP_FIELD_SECTIONS = 11,
+    SMAP_FIELD_OFFSET = 12,
+    SMAP_FIELD_MAP = 13
 };
 
 typedef struct smap_fault {
@@ -158,7 +162,8 @@ typedef struct smap_position {
 /* Reads a map from its JSON text. Refused with SMAP_NOT_UTF8, or with the first fault of the text: SMAP_JSON_READING,
  * SMAP_JSON_SHAPE, SMAP_JSON_VERSION, SMAP_BAD_SOURCE_REFERENCE (of the ignore list), then a fault of the mappings:
  * SMAP_VLQ_OVERFLOW, SMAP_VLQ_LEFTOVER, SMAP_BAD_SEGMENT_SIZE, SMAP_BAD_SOURCE_REFERENCE, SMAP_BAD_NAME_REFERENCE,
- * SMAP_TOO_LARGE. */
+ * SMAP_TOO_LARGE. An indexed map (with `sections`) is read as the join of its sections, and refused with SMAP_JSON_SHAPE of
+ * SMAP_FIELD_SECTIONS, SMAP_FIELD_OFFSET or SMAP_FIELD_MAP, with SMAP_SECTION_ORDER, or as the map of a section is. */
 uint32_t smap_from_json_string(const uint8_t *json, size_t json_len, smap_map *map, smap_fault *fault);
 
 /* Empties a handle and frees what it held. */

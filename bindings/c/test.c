@@ -79,6 +79,10 @@ static void messages(void) {
     message_is(SMAP_TOO_DEEP, 0, 0, "The plan is deeper than 64");
     message_is(SMAP_WORDS, 0, 0, "The words say no plan");
     message_is(SMAP_NO_TEXT, 0, 3, "There is no text 3");
+    message_is(SMAP_SECTION_ORDER, 0, 3, "Section 3 begins before the end of what is in front of it");
+    message_is(SMAP_JSON_SHAPE, SMAP_FIELD_SECTIONS, 0, "JSON parsing error: field sections is missing or has the wrong type");
+    message_is(SMAP_JSON_SHAPE, SMAP_FIELD_OFFSET, 0, "JSON parsing error: field offset is missing or has the wrong type");
+    message_is(SMAP_JSON_SHAPE, SMAP_FIELD_MAP, 0, "JSON parsing error: field map is missing or has the wrong type");
     message_is(SMAP_EMPTY_HANDLE, 0, 0, "The handle is empty");
     message_is(SMAP_NOT_UTF8, 0, 5, "Byte 5 is not UTF-8");
     message_is(SMAP_LENGTHS, 0, 0, "The lengths of two lists differ");
@@ -104,6 +108,26 @@ static void refusals(void) {
     refused_read(BYTES("{\"version\":3,\"sources\":[\"a\"],\"mappings\":\"AAAAA\"}"), SMAP_BAD_NAME_REFERENCE, 0, 0);
     refused_read(BYTES("{\"version\":3,\"sources\":[],\"mappings\":\"g\"}"), SMAP_VLQ_LEFTOVER, 0, 0);
     refused_read(BYTES("{\"version\":3,\"sources\":[],\"mappings\":\"gggggggggggggggg\"}"), SMAP_VLQ_OVERFLOW, 0, 0);
+}
+
+#define SECTION(line, map) "{\"offset\":{\"line\":" line ",\"column\":2},\"map\":" map "}"
+#define INDEXED(sections) "{\"version\":3,\"sections\":[" sections "]}"
+#define SMALL "{\"version\":3,\"sources\":[\"a.ts\"],\"mappings\":\"AAAA\"}"
+
+static void indexed_maps(void) {
+    smap_map map = SMAP_EMPTY;
+    smap_fault fault;
+    smap_place p;
+    CHECK(smap_from_json_string(BYTES(INDEXED(SECTION("0", SMALL) "," SECTION("4", SMALL))), &map, &fault) == SMAP_OK);
+    CHECK(smap_trace(&map, 4, 2, &p, &fault) == SMAP_OK && p.kind == SMAP_MAPPED && p.source_id == 1 && is(&p.source, "a.ts"));
+    CHECK(smap_trace(&map, 4, 1, &p, &fault) == SMAP_OK && p.kind == SMAP_NOTHING);
+    smap_free_map(&map);
+    refused_read(BYTES("{\"version\":3,\"sections\":7}"), SMAP_JSON_SHAPE, SMAP_FIELD_SECTIONS, 0);
+    refused_read(BYTES(INDEXED("7")), SMAP_JSON_SHAPE, SMAP_FIELD_SECTIONS, 0);
+    refused_read(BYTES(INDEXED(SECTION("-1", SMALL))), SMAP_JSON_SHAPE, SMAP_FIELD_OFFSET, 0);
+    refused_read(BYTES(INDEXED(SECTION("0", "7"))), SMAP_JSON_SHAPE, SMAP_FIELD_MAP, 0);
+    refused_read(BYTES(INDEXED(SECTION("0", INDEXED("")))), SMAP_JSON_SHAPE, SMAP_FIELD_MAP, 0);
+    refused_read(BYTES(INDEXED(SECTION("4", SMALL) "," SECTION("0", SMALL))), SMAP_SECTION_ORDER, 0, 1);
 }
 
 static void empty_handles(void) {
@@ -310,6 +334,7 @@ static void without_memory(void) {
 int main(void) {
     messages();
     refusals();
+    indexed_maps();
     empty_handles();
     reading();
     tracing();

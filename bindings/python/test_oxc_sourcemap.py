@@ -43,6 +43,26 @@ class Reading(unittest.TestCase):
                 SourceMap.from_json(text)
             self.assertEqual((caught.exception.code, str(caught.exception)), (code, message))
 
+    def test_indexed_maps(self):
+        def section(line, map={"version": 3, "sources": ["a.ts"], "mappings": "AAAA"}):
+            return {"offset": {"line": line, "column": 2}, "map": map}
+
+        def read(sections):
+            return SourceMap.from_json(json.dumps({"version": 3, "sections": sections}))
+
+        with read([section(0), section(4)]) as map:
+            self.assertEqual(map.trace(4, 2), ("a.ts", 0, 0, None, 1))
+        for sections, code, field, detail in (
+            (7, 5, 11, 0),
+            ([section(-1)], 5, 12, 0),
+            ([section(0, 7)], 5, 13, 0),
+            ([section(4), section(0)], 19, 0, 1),
+        ):
+            with self.assertRaises(SourceMapError) as caught:
+                read(sections)
+            error = caught.exception
+            self.assertEqual((error.code, error.field, error.detail), (code, field, detail))
+
 
 class Lookups(unittest.TestCase):
     def test_trace(self):

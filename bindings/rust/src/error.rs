@@ -18,6 +18,12 @@ pub enum Field {
     DebugId,
     IgnoreList,
     GoogleIgnoreList,
+    /// `sections` of an indexed map.
+    Sections,
+    /// `offset` of a section.
+    Offset,
+    /// `map` of a section.
+    Map,
 }
 
 /// Why a call fails.
@@ -37,6 +43,8 @@ pub enum ErrorKind {
     LineOrder(u64),
     BadChunks(u64),
     SeveralSources(u64),
+    /// The first section of an indexed map that begins before the end of those before it.
+    SectionOrder(u64),
     /// In a plan: the tokens of a map are not sorted.
     Unsorted,
     /// In a plan: it is deeper than 64.
@@ -96,7 +104,11 @@ fn field_of(number: u32) -> Field {
         7 => Field::Names,
         8 => Field::DebugId,
         9 => Field::IgnoreList,
-        _ => Field::GoogleIgnoreList,
+        10 => Field::GoogleIgnoreList,
+        11 => Field::Sections,
+        12 => Field::Offset,
+        13 => Field::Map,
+        number => unreachable!("field {number}"),
     }
 }
 
@@ -121,6 +133,7 @@ fn kind_of(fault: &raw::Fault) -> ErrorKind {
         16 => ErrorKind::TooDeep,
         17 => ErrorKind::Words,
         18 => ErrorKind::NoText(number),
+        19 => ErrorKind::SectionOrder(index),
         101 => ErrorKind::NotUtf8(index),
         // The types of this crate rule out empty handles and lists of different lengths.
         code => unreachable!("code {code}"),

@@ -97,6 +97,20 @@ impl SourceMap {
     /// assert_eq!(error.kind(), ErrorKind::JsonVersion(2));
     /// assert_eq!(error.to_string(), "JSON parsing error: unsupported source map version: 2");
     /// ```
+    ///
+    /// An indexed map is read as the join of its sections:
+    ///
+    /// ```
+    /// use oxc_sourcemap_native::{ErrorKind, Field, SourceMap};
+    /// let section = |line| {
+    ///     format!(r#"{{"offset":{{"line":{line},"column":0}},"map":{{"version":3,"sources":["a.ts"],"mappings":"AAAA"}}}}"#)
+    /// };
+    /// let indexed = |parts: &[String]| SourceMap::from_json_string(&format!(r#"{{"version":3,"sections":[{}]}}"#, parts.join(",")));
+    /// assert_eq!(indexed(&[section(0), section(4)])?.trace(4, 0)?.unwrap().unwrap().source, "a.ts");
+    /// assert_eq!(indexed(&[section(4), section(0)]).err().unwrap().kind(), ErrorKind::SectionOrder(1));
+    /// assert_eq!(indexed(&["7".to_string()]).err().unwrap().kind(), ErrorKind::JsonShape(Field::Sections));
+    /// # Ok::<(), oxc_sourcemap_native::Error>(())
+    /// ```
     pub fn from_json_string(text: &str) -> Result<SourceMap> {
         SourceMap::from_json_bytes(text.as_bytes())
     }

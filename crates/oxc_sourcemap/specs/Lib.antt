@@ -50,6 +50,7 @@ pub use Rattle.oxc_sourcemap_join.specs.Joined
 pub use Rattle.oxc_sourcemap_laws.specs.Repeats
 pub use Rattle.oxc_sourcemap_laws.specs.JoinedDecodedMaps
 pub use Rattle.oxc_sourcemap_laws.specs.JoinLaws
+pub use Rattle.oxc_sourcemap_laws.specs.SectionLaws
 pub use Rattle.oxc_sourcemap_laws.specs.ComposedDecodedMaps
 pub use Rattle.oxc_sourcemap_laws.specs.ComposeLaws
 pub use Rattle.oxc_sourcemap_plan.specs.PlanMessages

@@ -1,18 +1,21 @@
 #!/usr/bin/env python3
-"""Makes indexed maps of bundles whose parts were minified one by one, compares `smap` with peers on them, and prints the tables of
-docs/REAL_MAPS.md, "Indexed maps".
+"""Makes indexed maps of bundles whose parts were minified one by one, compares `smap` with peers on them, and prints the tables
+of docs/REAL_MAPS.md, "Indexed maps".
 
     tools/compare_indexed.py [--smap PROGRAM] [--positions N] FOLDER
 
-The parts are modules of Debian's node-lodash, minified by esbuild or terser. The peers are peer.py, with the single maps, and the
-npm packages of Debian's node-source-map and node-ampproject-remapping (indexed_peers.js). The status is 1 if `smap` differs from
-peer.py. Without --smap, the program of this repository is proved and built, and run.
+The parts are modules of Debian's node-lodash, minified by Debian's esbuild or terser. The peers are peer.py, with the single
+maps, the npm packages of Debian's node-source-map and node-ampproject-remapping, and Node's own `SourceMap` (indexed_peers.js).
+Without --smap, the program of this repository is proved and built, and run. The status is 1 if there is a difference that is
+not explained.
 """
 import argparse, glob, json, os, random, subprocess, sys
+from collections import Counter
 import peer
 
 HERE = os.path.dirname(os.path.abspath(__file__))
 LODASH = "/usr/share/nodejs/lodash-es"
+EXPLAINED = {"trace-mapping": [], "node-source-map": ["section start", "own section alone"], "node": ["last token"]}
 failures = []
 
 
@@ -22,38 +25,45 @@ def check(holds, what):
         print(f"DIFFERS: {what}", file=sys.stderr)
 
 
+def row(*cells):
+    return "| " + " | ".join(map(str, cells)) + " |"
+
+
+def header(*names):
+    """The two first lines of a table; a name that ends in `#` has a column of numbers."""
+    rule = "|" + "".join("---:|" if name.endswith("#") else "---|" for name in names)
+    return [row(*[name.rstrip("#") for name in names]), rule]
+
+
 def run(command, **options):
     return subprocess.run(command, check=True, capture_output=True, **options).stdout
 
 
-def esbuild(module, *options):
-    """The code and the map of a module."""
+def part(module):
+    """The code and the map that a tool wrote for a module; the source is named without its folder."""
     name = os.path.basename(module)
-    run(["esbuild", module, "--sourcemap=external", "--log-level=error", f"--outfile=parts/{name}", *options])
-    return open(f"parts/{name}", encoding="utf-8").read(), json.load(open(f"parts/{name}.map"))
+    code = open(f"parts/{name}", encoding="utf-8").read()
+    value = json.load(open(f"parts/{name}.map"))
+    return code.split("//# sourceMappingURL")[0], {**value, "sources": [os.path.basename(path) for path in value["sources"]]}
+
+
+def esbuild(module, *words):
+    run(["esbuild", module, "--sourcemap=external", "--log-level=error", f"--outfile=parts/{os.path.basename(module)}", *words])
+    return part(module)
 
 
 def terser(module):
     name = os.path.basename(module)
     run(["terser", "-c", "-m", "--module", "--source-map", f"filename={name}", "-o", f"parts/{name}", "--", module])
-    code = open(f"parts/{name}", encoding="utf-8").read()
-    return code.split("//# sourceMappingURL")[0], json.load(open(f"parts/{name}.map"))
-
-
-def minified(module):
-    return esbuild(module, "--minify")
-
-
-def as_it_is(module):
-    return esbuild(module)
+    return part(module)
 
 
 def units(text):
     return len(text.encode("utf-16-le")) // 2
 
 
-def bundle(parts, separator):
-    """The indexed map of codes one behind the other, and where each begins."""
+def bundle(parts, separator=""):
+    """The indexed map of codes one behind the other, each at the place where it begins."""
     sections, line, column = [], 0, 0
     for code, value in parts:
         sections.append({"offset": {"line": line, "column": column}, "map": value})
@@ -62,73 +72,87 @@ def bundle(parts, separator):
     return {"version": 3, "file": "bundle.js", "sections": sections}
 
 
+def side_by_side(parts, separator):
+    """A bundle in which no part ends in a line feed, so that the next one begins on its last line."""
+    return bundle([(code.rstrip("\n"), value) for code, value in parts], separator)
+
+
+def start(section):
+    return section["offset"]["line"], section["offset"]["column"]
+
+
 def placed(value):
     """The maps of an indexed map, each with its tokens at their place in the bundle."""
     maps = []
     for section in value["sections"]:
-        at = section["offset"]
-        tokens = [(line + at["line"], column + (at["column"] if line == 0 else 0), *rest)
-                  for line, column, *rest in peer.decode(section["map"]["mappings"])]
+        line, column = start(section)
+        tokens = [(at_line + line, at_column + (column if at_line == 0 else 0), *rest)
+                  for at_line, at_column, *rest in peer.decode(section["map"]["mappings"])]
         maps.append((section["map"], tokens))
     return maps
 
 
-def expected_text(value):
+def joined_text(value, file):
     """The JSON text of the join of the sections."""
     joined, tokens = peer.join([(map, tokens, 0) for map, tokens in placed(value)])
-    return peer.to_text({**joined, "file": value["file"]}, tokens)
+    return peer.to_text({**joined, "file": file}, tokens)
+
+
+def named(map, token):
+    """What a token says of the source, by names."""
+    if token is None or token[2] is None:
+        return None
+    return [map["sources"][token[2]], token[3], token[4], None if token[5] is None else map["names"][token[5]]]
 
 
 def some_positions(value, count):
     """Columns of tokens and columns beside them, columns where sections begin, and random ones."""
-    random.seed(1)
+    chosen = random.Random(1)
     tokens = [token for _, tokens in placed(value) for token in tokens]
-    starts = [(s["offset"]["line"], s["offset"]["column"]) for s in value["sections"]]
-    near = [(line, max(0, column + random.choice([-1, 0, 0, 1]))) for line, column, *_ in random.choices(tokens, k=count * 6 // 10)]
-    first = [(line, max(0, column + random.choice([-1, 0, 1]))) for line, column in random.choices(starts, k=count * 2 // 10)]
-    rest = [(random.choice(tokens)[0], random.randrange(400)) for _ in range(count - len(near) - len(first))]
+    beside = lambda place: (place[0], max(0, place[1] + chosen.choice([-1, 0, 0, 1])))
+    near = [beside(token) for token in chosen.choices(tokens, k=count * 6 // 10)]
+    first = [beside(start(section)) for section in chosen.choices(value["sections"], k=count * 2 // 10)]
+    rest = [(chosen.choice(tokens)[0], chosen.randrange(400)) for _ in range(count - len(near) - len(first))]
     return near + first + rest
 
 
-def by_single_maps(value, line, column):
-    """What the single map says in whose part the position lies, and where that says nothing, the one before it on the line."""
-    begun = [k for k, s in enumerate(value["sections"]) if (s["offset"]["line"], s["offset"]["column"]) <= (line, column)]
-    for k in reversed(begun):
-        map, at = value["sections"][k]["map"], value["sections"][k]["offset"]
-        if k not in tables:
-            tables[k] = peer.Table(peer.decode(map["mappings"]))
-        own = (line - at["line"], column - at["column"] if line == at["line"] else column)
-        token = tables[k].find(*own)
-        if token is not None:
-            return map, token
-        if at["column"] == 0 or at["line"] < line:
-            break
-    return None, None
+class Sections:
+    """Looks positions up in the single maps."""
 
+    def __init__(self, value):
+        self.starts = [start(section) for section in value["sections"]]
+        self.maps = [section["map"] for section in value["sections"]]
+        self.tables = [peer.Table(peer.decode(map["mappings"])) for map in self.maps]
 
-def compared(name, how, value):
-    tables.clear()
-    text = json.dumps(value, ensure_ascii=False)
-    open(f"{name}.map", "w", encoding="utf-8").write(text)
-    positions = some_positions(value, options.positions)
-    wanted = []
-    for line, column in positions:
-        map, token = by_single_maps(value, line, column)
-        wanted.append((map, token))
-    peers = json.loads(run(["node", f"{HERE}/indexed_peers.js"], input=json.dumps({"map": value, "positions": positions}).encode()))
-    normalised, traces = answers(name, text, positions)
-    check(normalised == expected_text(value), f"{name}: normalise")
-    for position, trace, (map, token) in zip(positions, traces, wanted):
-        check(trace == peer.trace_text(map, token), f"{name}: trace {position}: {trace}")
-    told = [None if token is None or token[2] is None else
-            [map["sources"][token[2]], token[3], token[4], None if token[5] is None else map["names"][token[5]]] for map, token in wanted]
-    same = []
-    for of in ("trace-mapping", "node-source-map"):
-        given = peers[of]
-        same.append(given if isinstance(given, str) else sum(a == b for a, b in zip(given, told)))
-    offsets = [s["offset"] for s in value["sections"]]
-    found = sum(token is not None for _, token in wanted)
-    print(f"| {name} | {how} | {len(offsets)} | {sum(o['column'] > 0 for o in offsets)} | {len(text.encode())} | {len(positions)} | {found} | {same[0]} | {same[1]} |", flush=True)
+    def own(self, k, line, column):
+        at_line, at_column = self.starts[k]
+        return line - at_line, column - at_column if line == at_line else column
+
+    def find(self, line, column):
+        """The section of a position and its token there, or, where it has none, those of the section before it on the line."""
+        for k in reversed(range(len(self.starts))):
+            if self.starts[k] > (line, column):
+                continue
+            token = self.tables[k].find(*self.own(k, line, column))
+            if token is not None or self.starts[k][0] < line or self.starts[k][1] == 0:
+                return k, token
+        return 0, None
+
+    def answer(self, k, token):
+        return named(self.maps[k], token)
+
+    def trace(self, k, token):
+        return peer.trace_text(self.maps[k], token)
+
+    def reason(self, name, position, k, token, answer):
+        """Why a peer's answer is not that of the lookup, or None."""
+        if name == "node-source-map" and position in self.starts:
+            return "section start"
+        if name == "node-source-map" and answer is None and k + 1 < len(self.starts) and self.starts[k + 1] <= position:
+            return "own section alone"
+        if name == "node" and token and token == self.tables[k].tokens[-1]:
+            return "last token"
+        return None
 
 
 def smap(words, text):
@@ -137,18 +161,86 @@ def smap(words, text):
     return ran.stdout.decode()[:-1]
 
 
-def answers(name, text, positions):
-    """What `smap` writes of the map, and of each position."""
-    return smap(["normalise"], text), [smap(["trace", *position], text) for position in positions]
+def join_plan(value):
+    """The words and the input of the same join as a plan over the single maps."""
+    words = ["plan", "joinat", len(value["sections"])]
+    for k, section in enumerate(value["sections"]):
+        words += [f"@{k}", *start(section)]
+    return words, "\n---\n".join(json.dumps(section["map"], ensure_ascii=False) for section in value["sections"])
+
+
+def equal_answers(name, peers, positions, wanted, sections):
+    """How many answers of each peer are the wanted ones, and why the others are not."""
+    cells = []
+    for of, answers in peers["answers"].items():
+        why, equal = dict.fromkeys(EXPLAINED[of], 0), 0
+        for position, (k, token), answer in zip(positions, wanted, answers):
+            if answer == sections.answer(k, token):
+                equal += 1
+                continue
+            because = sections.reason(of, position, k, token, answer)
+            check(because in why, f"{name}: {of} at {position}: {answer}, not {sections.answer(k, token)}")
+            if because in why:
+                why[because] += 1
+        cells += [equal] + ["/".join(map(str, why.values()))] * bool(why)
+    return cells
+
+
+def count_of(tokens, *places):
+    """How often each token is there, where only these places of it are looked at."""
+    return Counter(tuple(token[place] for place in places) for token in tokens.elements())
+
+
+def equal_mappings(name, peers, tokens):
+    """How many of the tokens stand in the list of all mappings of each package, and why the others do not."""
+    listed = {of: Counter(map(tuple, mappings)) for of, mappings in peers["mappings"].items()}
+    check(listed["trace-mapping"] == tokens, f"{name}: mappings of trace-mapping")
+    missing, other = tokens - listed["node-source-map"], listed["node-source-map"] - tokens
+    no_name = (count_of(missing, *range(5)) & count_of(other, *range(5))).total()
+    moved = (count_of(missing, 0, 2, 3, 4) & count_of(other, 0, 2, 3, 4)).total() - no_name
+    check(no_name + moved == missing.total(), f"{name}: mappings of node-source-map")
+    return [(listed[of] & tokens).total() for of in ("trace-mapping", "node-source-map")] + [f"{no_name}/{moved}"]
+
+
+def by_esbuild(name):
+    """What esbuild says of a file whose map is the indexed one."""
+    open("over.js", "w").write(f"0\n//# sourceMappingURL={name}.map\n")
+    said = subprocess.run(["esbuild", "over.js", "--sourcemap", "--outfile=over.out.js"], capture_output=True, text=True).stderr
+    return " ".join(line for line in said.splitlines() if "WARNING" in line)
+
+
+def compared(name, how, value):
+    text = json.dumps(value, ensure_ascii=False)
+    open(f"{name}.map", "w", encoding="utf-8").write(text)
+    positions, sections = some_positions(value, options.positions), Sections(value)
+    wanted = [sections.find(*position) for position in positions]
+    check(smap(["normalise"], text) == joined_text(value, value["file"]), f"{name}: normalise")
+    words, maps = join_plan(value)
+    check(smap(words, maps) == joined_text(value, None), f"{name}: plan joinat")
+    for position, found in zip(positions, wanted):
+        trace = smap(["trace", *position], text)
+        check(trace == sections.trace(*found), f"{name}: trace {position}: {trace}")
+    given = json.dumps({"map": value, "positions": positions}).encode()
+    peers = json.loads(run(["node", f"{HERE}/indexed_peers.js"], input=given))
+    tokens = Counter((line, column, *(named(map, (line, column, *rest)) or [None] * 4))
+                     for map, part in placed(value) for line, column, *rest in part)
+    none = sum(token is None for _, token in wanted)
+    unmapped = sum(token is not None and token[2] is None for _, token in wanted)
+    in_mid_line = sum(column > 0 for _, column in sections.starts)
+    maps_row = row(name, how, len(sections.starts), in_mid_line, len(text.encode()), tokens.total(),
+                   *equal_mappings(name, peers, tokens))
+    traces_row = row(name, len(positions), f"{none}/{unmapped}/{len(wanted) - none - unmapped}",
+                     *equal_answers(name, peers, positions, wanted, sections))
+    return maps_row, traces_row, f"{name}: remapping: {peers['remapped'][:80]}; esbuild: {by_esbuild(name)}"
 
 
 def main():
-    global options, tables
+    global options
     parser = argparse.ArgumentParser(description=__doc__, formatter_class=argparse.RawDescriptionHelpFormatter)
     parser.add_argument("--smap")
     parser.add_argument("--positions", type=int, default=1000)
     parser.add_argument("folder")
-    options, tables = parser.parse_args(), {}
+    options = parser.parse_args()
     if not options.smap:
         top = os.path.dirname(HERE)
         subprocess.run([f"{top}/smap", "mappings", "0", "0"], stdin=subprocess.DEVNULL, stdout=subprocess.DEVNULL, check=True)
@@ -158,14 +250,19 @@ def main():
     os.makedirs(f"{options.folder}/parts", exist_ok=True)
     os.chdir(options.folder)
     modules = sorted(glob.glob(f"{LODASH}/[a-z]*.js"))
-    print("| indexed map | made by | sections | begin in mid-line | bytes | positions | found | equal: trace-mapping | node-source-map |")
-    print("|---|---|---:|---:|---:|---:|---:|---:|---:|")
-    small = modules[::6]
-    compared("lines", "esbuild `--minify`, a line each", bundle([minified(m) for m in modules], ""))
-    compared("one-line", "esbuild `--minify`, side by side", bundle([(c.rstrip("\n"), v) for c, v in map(minified, small)], ""))
-    compared("terser-one-line", "terser `-c -m`, side by side", bundle([(c.rstrip("\n"), v) for c, v in map(terser, small)], ";"))
-    compared("codes-side-by-side", "esbuild, the line feed at the end left out", bundle([(c.rstrip("\n"), v) for c, v in map(as_it_is, small)], " "))
-    print(f"\n{len(failures)} differences" if failures else "\nNo difference from the single maps.")
+    few = modules[::6]
+    rows = [
+        compared("lines", "esbuild `--minify`, a line each", bundle([esbuild(it, "--minify") for it in modules])),
+        compared("one-line", "esbuild `--minify`, side by side", side_by_side([esbuild(it, "--minify") for it in few], "")),
+        compared("terser-one-line", "terser `-c -m`, side by side", side_by_side(map(terser, few), ";")),
+        compared("several-lines", "esbuild, each on the last line of the one before", side_by_side(map(esbuild, few), " ")),
+    ]
+    maps, traces, others = zip(*rows)
+    print(*header("indexed map", "made by", "sections#", "begin in mid-line#", "bytes#", "tokens#", "listed: trace-mapping#",
+                  "node-source-map#", "it differs"), *maps, "", sep="\n")
+    print(*header("indexed map", "positions#", "found", "equal: trace-mapping#", "node-source-map#", "it differs", "Node#",
+                  "it differs"), *traces, "", *others, sep="\n")
+    print(f"\n{len(failures)} differences" if failures else "\nNo difference that is not explained.")
     sys.exit(1 if failures else 0)
 
 

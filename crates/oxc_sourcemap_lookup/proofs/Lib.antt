@@ -1,6 +1,7 @@
 pub mod Lookups
 pub mod Tables
 pub mod LineSpans
+pub mod LineStarts
 pub mod Halving
 pub mod OwnTables
 pub mod Picks

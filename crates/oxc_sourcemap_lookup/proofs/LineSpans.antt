@@ -1,5 +1,5 @@
 -- Cutting the spans of lines off a list in line order, one by one.
-use Rattle.std.proofs.Common.{◌≡◌, ◌≢◌, ℕ, ◌+◌, ◌-◌, ◌<◌, ◌≤◌, ◌==◌, nat_lt, Bool, true, false, List, [], ◌∷◌, ◌++◌, length, take, drop, get_or, slice_get, option_map, Some, None, refl, sym, ap, subst, ◌∙◌, arith, length-append, length-drop}
+use Rattle.std.proofs.Common.{◌≡◌, ◌≢◌, ℕ, ◌+◌, ◌-◌, ◌<◌, ◌≤◌, ◌==◌, nat_lt, Bool, true, false, List, [], ◌∷◌, ◌++◌, length, take, drop, get_or, slice_get, option_map, Some, None, refl, sym, ap, subst, ◌∙◌, arith, length-append, length-drop, length-take}
 use Rattle.std.proofs.Math.ListN.{get_or-append, drop_of_length-le}
 use Rattle.std.proofs.Math.Seq.{get_or-append_seam}
 use Rattle.std.proofs.lemmas.List.{drop-drop}
@@ -79,6 +79,13 @@ counted-within tokens rest start count line rest_is small counted =
     let most : prefix_len (λ t. t.dst_line == line) rest ≤ length rest = prefix_len-le-length (λ t. t.dst_line == line) rest in
     let left : length rest ≡ length tokens - start = ap length rest_is ∙ length-drop start tokens in
     omega (arith, most, left, counted, small)
+
+pub counted-to : (tokens : List TokenRecord) (start count line : ℕ) → start ≤ length tokens → count ≡ prefix_len (λ t. t.dst_line == line) (take (length tokens - start) (drop start tokens)) → start + count ≤ length tokens
+counted-to tokens start count line h counted =
+    let most = prefix_len-le-length (λ t. t.dst_line == line) (take (length tokens - start) (drop start tokens)) in
+    let left = length-take (length tokens - start) (drop start tokens) in
+    let size = length-drop start tokens in
+    omega (arith, most, left, size, counted, h)
 
 pub back-more : (tokens rest : List TokenRecord) (start next line count : ℕ) → rest ≡ drop start tokens → count ≡ prefix_len (λ t. t.dst_line == line) rest → next ≤ line
     → IsFrom (line + 1) (drop (start + count) tokens) → IsFrom next (drop start tokens)

@@ -23,7 +23,7 @@ row-past f a (suc n) zero d h = absurd (omega (arith, h))
 row-past f a (suc n) (suc i) d h = row-past f (a + 1) n i d (omega (arith, h))
 
 -- nothing lies after the last token's line
-last-reached : (t : TokenRecord) (ts : List TokenRecord) → IsFrom t.dst_line ts → t.dst_line < lines_through (last_or (Some t) ts)
+pub last-reached : (t : TokenRecord) (ts : List TokenRecord) → IsFrom t.dst_line ts → t.dst_line < lines_through (last_or (Some t) ts)
 last-reached t [] p = omega arith
 last-reached t (u ∷ us) p = omega (arith, p.0, last-reached u us p.1)
 
@@ -34,7 +34,7 @@ on_line-after n t (u ∷ us) p h =
     let rest = on_line-after n u us p.1 h in
     grind (arith, reached, h, rest)
 
-none-after : (n : ℕ) (ts : List TokenRecord) → first_out_of_order ts ≡ None → lines_through (last ts) ≤ n → on_line token_line n ts ≡ []
+pub none-after : (n : ℕ) (ts : List TokenRecord) → first_out_of_order ts ≡ None → lines_through (last ts) ≤ n → on_line token_line n ts ≡ []
 none-after n [] p h = refl
 none-after n (t ∷ ts) p h = on_line-after n t ts (in_order-from_0 (t ∷ ts) p).1 h
 

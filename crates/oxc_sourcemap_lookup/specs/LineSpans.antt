@@ -1,12 +1,25 @@
 -- The index of the lines of a list of tokens. Contracts cite `IsIndexOf`; the others are its parts.
-use Rattle.std.specs.Prelude.{◌≡◌, ◌≢◌, ℕ, ◌-◌, ◌<◌, ◌≤◌, List, [], length, take, drop, get_or}
-use Rattle.std.specs.List.{All}
+use Rattle.std.specs.Prelude.{◌≡◌, ◌≢◌, ℕ, ◌+◌, ◌-◌, ◌*◌, ◌<◌, ◌≤◌, nat_lt, List, [], length, take, drop, get_or, map, count_by}
+use Rattle.std.specs.List.{All, range_with_len}
 use Rattle.oxc_sourcemap_mappings.specs.Token.{TokenRecord}
 use Rattle.oxc_sourcemap_mappings.specs.Canonical.{IsInLineOrder}
 use Rattle.oxc_sourcemap_parts.specs.Sorted.{token_line}
-use Rattle.oxc_sourcemap_lookup.specs.Lookup.{on_line}
+use Rattle.oxc_sourcemap_lookup.specs.Lookup.{on_line, last, lines_through}
 use Rattle.oxc_sourcemap_lookup.specs.declared.line_index.LineSpan.{LineSpan}
+use Rattle.oxc_sourcemap_lookup.specs.declared.line_index.Lines.{Lines}
+use Rattle.oxc_sourcemap_lookup.specs.declared.line_index.Lines.TheVariants.{Starts, Spans}
 use Rattle.oxc_sourcemap_lookup.specs.declared.line_index.LineIndex.{LineIndex}
+
+-- how many tokens lie on lines before this one
+abbrev pub count_before_line : ℕ → List TokenRecord → ℕ
+count_before_line n tokens = count_by (λ t. nat_lt (token_line t) n) tokens
+
+-- where the lines of tokens in line order begin: for each line up to the last token's, and for the one after it, how many
+-- tokens lie on the lines before; and there are at most four lines for each token, and 16 more
+pub record AreStarts (tokens : List TokenRecord) (starts : List ℕ) : Type 0 where
+  pub order : IsInLineOrder tokens
+  pub each : starts ≡ map (λ n. count_before_line n tokens) (range_with_len 0 (lines_through (last tokens) + 1))
+  pub few : lines_through (last tokens) ≤ 4 * length tokens + 16
 
 -- a span has exactly the tokens of its line, and there are some
 pub record IsSpan (tokens : List TokenRecord) (span : LineSpan) : Type 0 where
@@ -25,6 +38,11 @@ pub record AreSpans (tokens : List TokenRecord) (spans : List LineSpan) : Type 0
   pub rise : DoLinesRise spans
   pub others : (n : ℕ) → All (λ span. span.line ≢ n) spans → on_line token_line n tokens ≡ []
 
+-- either of the two
+abbrev pub AreLines : List TokenRecord → Lines → Type 0
+AreLines tokens (Starts starts) = AreStarts tokens starts.items
+AreLines tokens (Spans spans) = AreSpans tokens spans.items
+
 -- the index of the lines of these tokens
 abbrev pub IsIndexOf : List TokenRecord → LineIndex → Type 0
-IsIndexOf tokens index = AreSpans tokens index.spans.items
+IsIndexOf tokens index = AreLines tokens index.lines

@@ -1,12 +1,12 @@
-//! The index of the lines of a list of tokens: where the tokens of each line lie, for lines that have tokens.
-ghost use Rattle.std.specs.Prelude.{ℕ, ◌≡◌, ◌≢◌, ◌↔◌, ◌<◌, ◌≤◌, true, IsTrue, length, get_or, option_map, slice_get, IfOk, IfErr, IfSome, IsNone, Ok, Err, Some, None};
+//! The index of the lines of a list of tokens: where the tokens of each line lie.
+ghost use Rattle.std.specs.Prelude.{ℕ, ◌+◌, ◌*◌, ◌^◌, ◌≡◌, ◌≢◌, ◌↔◌, ◌<◌, ◌≤◌, true, IsTrue, length, get_or, option_map, slice_get, IfOk, IfErr, IfSome, IsNone, Ok, Err, Some, None};
 ghost use Rattle.std.specs.List.{All, Contains, prefix_len};
 ghost use Rattle.oxc_sourcemap_mappings.specs.declared.error.Error.{Error};
 ghost use Rattle.oxc_sourcemap_mappings.specs.declared.error.Error.TheVariants.{LineOrder, OutOfMemory};
 ghost use Rattle.oxc_sourcemap_mappings.specs.Canonical.{IsInLineOrder, first_out_of_order};
 ghost use Rattle.oxc_sourcemap_parts.specs.Sorted.{are_tokens_sorted, token_line, token_column};
-ghost use Rattle.oxc_sourcemap_lookup.specs.Lookup.{on_line, pick, clamped_pick};
-ghost use Rattle.oxc_sourcemap_lookup.specs.LineSpans.{AreSpans, DoLinesRise, IsIndexOf};
+ghost use Rattle.oxc_sourcemap_lookup.specs.Lookup.{on_line, last, lines_through, pick, clamped_pick};
+ghost use Rattle.oxc_sourcemap_lookup.specs.LineSpans.{AreStarts, AreSpans, DoLinesRise, AreLines, IsIndexOf};
 
 use crate::lookup::{line_count, line_length, search, search_clamped};
 use oxc_sourcemap_mappings::{Error, Result, Token, line_order_fault};
@@ -20,11 +20,51 @@ struct LineSpan {
     end: usize,
 }
 
-/// Where the tokens of each line lie in a list of tokens in line order. It has an entry for each line that has tokens, so
-/// at most as many as there are tokens, and borrows nothing.
+/// Where the tokens of each line lie in a list of tokens in line order.
+#[derive(Drop)]
+enum Lines {
+    /// Where each line begins, and where the last one ends: a line is found by its number.
+    Starts(Vec<u32>),
+    /// The spans of the lines that have tokens: a line is found by halving.
+    Spans(Vec<LineSpan>),
+}
+
+/// Where the tokens of each line lie in a list of tokens in line order. It takes memory for every line where lines are few
+/// beside tokens, and else for those that have tokens: at most 24 bytes a token, and 68. It borrows nothing.
 #[derive(Drop)]
 pub struct LineIndex {
-    spans: Vec<LineSpan>,
+    lines: Lines,
+}
+
+/// Whether to keep where each line begins: whether the tokens can be counted in 32 bits, and there are at most four lines
+/// for each of them, and 16 more.
+fn has_few_lines(tokens: &[Token]) -> bool
+    ensures { IsTrue result ↔ ((length tokens.now < 2 ^ 32) × (lines_through (last tokens.now) ≤ 4 * length tokens.now + 16)) }
+{
+    let count = tokens.len() as u64;
+    count <= 4294967295 && line_count(tokens) <= 4 * count + 16
+}
+
+/// Where each line begins, and where the last one ends; None if the tokens are not in line order.
+fn starts_of(alloc: Global, tokens: &[Token]) -> std::result::Result<Option<Vec<u32>>, AllocError>
+    requires small { length tokens.now < 2 ^ 32 }
+    requires few { lines_through (last tokens.now) ≤ 4 * length tokens.now + 16 }
+    ensures starts { IfOk result (λ found. IfSome found (λ starts. AreStarts tokens.now starts.items)) }
+    ensures out_of_order { IfOk result (λ found. IsNone found → IsInLineOrder tokens.now → ⊥) }
+{
+    let lines = line_count(tokens);
+    let mut starts = Vec::with_capacity(alloc, lines as usize + 1)?;
+    starts.push(0)?;
+    let mut start = 0;
+    for line in 0..lines {
+        start += line_length(&tokens[start..], line);
+        starts.push(start as u32)?;
+    }
+    if start == tokens.len() {
+        Ok(Some(starts))
+    } else {
+        Ok(None)
+    }
 }
 
 /// The spans of the lines that have tokens; None if the tokens are not in line order.
@@ -52,6 +92,18 @@ fn spans_of(
     Ok(Some(spans))
 }
 
+/// Where the lines lie; None if the tokens are not in line order.
+fn lines_of(alloc: Global, tokens: &[Token]) -> std::result::Result<Option<Lines>, AllocError>
+    ensures lines { IfOk result (λ found. IfSome found (λ lines. AreLines tokens.now lines)) }
+    ensures out_of_order { IfOk result (λ found. IsNone found → IsInLineOrder tokens.now → ⊥) }
+{
+    if has_few_lines(tokens) {
+        Ok(starts_of(alloc, tokens)?.map(|starts| Lines::Starts(starts)))
+    } else {
+        Ok(spans_of(alloc, tokens)?.map(|spans| Lines::Spans(spans)))
+    }
+}
+
 /// How many spans lie on lines before this one.
 fn count_lines_before(spans: &[LineSpan], line: u32) -> usize
     requires { DoLinesRise spans.now }
@@ -59,6 +111,67 @@ fn count_lines_before(spans: &[LineSpan], line: u32) -> usize
     ensures others { (k : ℕ) (d : LineSpan) → result ≤ k → k < length spans.now → line ≤ (get_or spans.now k d).line }
 {
     spans.partition_point(|span: &LineSpan| span.line < line)
+}
+
+/// Whether there is a span of a line at an index.
+fn is_line_at(spans: &[LineSpan], i: usize, line: u32) -> bool
+    ensures { IsTrue result ↔ (option_map (λ span. span.line) (slice_get spans.now i) ≡ Some line) }
+{
+    match spans.get(i) {
+        Some(span) => span.line == line,
+        None => false,
+    }
+}
+
+/// The index of a line's span, looked for at `near`, then after it, then by halving.
+fn find(spans: &[LineSpan], line: u32, near: usize) -> Option<usize>
+    requires { DoLinesRise spans.now }
+    ensures found { IfSome result (λ i. option_map (λ span. span.line) (slice_get spans.now i) ≡ Some line) }
+    ensures none { IsNone result → All (λ span. span.line ≢ line) spans.now }
+{
+    if is_line_at(spans, near, line) {
+        return Some(near);
+    }
+    let next = near.saturating_add(1);
+    if is_line_at(spans, next, line) {
+        return Some(next);
+    }
+    let i = count_lines_before(spans, line);
+    if is_line_at(spans, i, line) {
+        return Some(i);
+    }
+    None
+}
+
+/// The tokens on a line, by the spans of lines. The line is looked for first at `near`, which becomes its place.
+fn tokens_by_span<'t>(
+    spans: &[LineSpan],
+    tokens: &'t [Token],
+    line: u32,
+    near: &mut usize,
+) -> &'t [Token]
+    requires { AreSpans tokens.now spans.now }
+    ensures { result.now ≡ on_line token_line line tokens.now }
+{
+    let Some(i) = find(spans, line, *near) else {
+        return &[];
+    };
+    *near = i;
+    let span = spans[i];
+    &tokens[span.start..span.end]
+}
+
+/// The tokens on a line, by where lines begin.
+fn tokens_by_start<'t>(starts: &[u32], tokens: &'t [Token], line: u32) -> &'t [Token]
+    requires { AreStarts tokens.now starts.now }
+    ensures { result.now ≡ on_line token_line line tokens.now }
+{
+    let next = line as usize + 1;
+    if next < starts.len() {
+        &tokens[starts[next - 1] as usize..starts[next] as usize]
+    } else {
+        &[]
+    }
 }
 
 impl LineIndex {
@@ -71,8 +184,8 @@ impl LineIndex {
         ensures refused { IfErr result (λ e. (e ≢ OutOfMemory) → option_map LineOrder (first_out_of_order tokens.now) ≡ Some e) }
         ensures fault { (e : Error) → option_map LineOrder (first_out_of_order tokens.now) ≡ Some e → result ≡ Err e }
     {
-        if let Ok(Some(spans)) = spans_of(alloc, tokens) {
-            return Ok(LineIndex { spans });
+        if let Ok(Some(lines)) = lines_of(alloc, tokens) {
+            return Ok(LineIndex { lines });
         }
         match line_order_fault(tokens) {
             Some(i) => Err(Error::LineOrder(i)),
@@ -80,48 +193,16 @@ impl LineIndex {
         }
     }
 
-    /// Whether there is a span of a line at an index.
-    fn is_line_at(&self, i: usize, line: u32) -> bool
-        ensures { IsTrue result ↔ (option_map (λ span. span.line) (slice_get self.now.spans.items i) ≡ Some line) }
-    {
-        match self.spans.get(i) {
-            Some(span) => span.line == line,
-            None => false,
-        }
-    }
-
-    /// The index of a line's span, looked for at `near`, then after it, then by halving.
-    fn find(&self, line: u32, near: usize) -> Option<usize>
-        requires { DoLinesRise self.now.spans.items }
-        ensures found { IfSome result (λ i. option_map (λ span. span.line) (slice_get self.now.spans.items i) ≡ Some line) }
-        ensures none { IsNone result → All (λ span. span.line ≢ line) self.now.spans.items }
-    {
-        if self.is_line_at(near, line) {
-            return Some(near);
-        }
-        let next = near.saturating_add(1);
-        if self.is_line_at(next, line) {
-            return Some(next);
-        }
-        let i = count_lines_before(self.spans.as_slice(), line);
-        if self.is_line_at(i, line) {
-            return Some(i);
-        }
-        None
-    }
-
-    /// The tokens on a line, in order. The line is looked for first at `near`, any number, and `near` becomes the place
-    /// where it was found: pass the same variable to calls whose lines are mostly close to one another.
+    /// The tokens on a line, in order. Where it is found by halving, it is looked for first at `near`, any number, and `near`
+    /// becomes the place where it was found: pass the same variable to calls whose lines are mostly close to one another.
     pub fn tokens_near<'t>(&self, tokens: &'t [Token], line: u32, near: &mut usize) -> &'t [Token]
         requires { IsIndexOf tokens.now self.now }
         ensures { result.now ≡ on_line token_line line tokens.now }
     {
-        let Some(i) = self.find(line, *near) else {
-            return &[];
-        };
-        *near = i;
-        let span = self.spans[i];
-        &tokens[span.start..span.end]
+        match &self.lines {
+            Lines::Starts(starts) => tokens_by_start(starts.as_slice(), tokens, line),
+            Lines::Spans(spans) => tokens_by_span(spans.as_slice(), tokens, line, near),
+        }
     }
 
     /// The token at a generated position of sorted tokens, by the rule of `search`; None if the position is before the first

@@ -1,4 +1,5 @@
 -- Worked examples, computed by the definitions themselves.
+use Rattle.std.proofs.Common.{arith}
 use Rattle.std.specs.Prelude.{◌≡◌, refl, ℕ, List, [], ◌∷◌, codes, Ok, Err, Option, Some, None}
 use Rattle.oxc_sourcemap_mappings.specs.declared.error.Error.TheVariants.{LineOrder}
 use Rattle.oxc_sourcemap_mappings.specs.Token.{TokenRecord}
@@ -8,6 +9,7 @@ use Rattle.oxc_sourcemap_parts.specs.Sorted.{token_line, token_column}
 use Rattle.oxc_sourcemap_parts.specs.DecodedMap.{decoded_map_of}
 use Rattle.oxc_sourcemap_lookup.specs.Digits.{binary_digits}
 use Rattle.oxc_sourcemap_lookup.specs.Lookup.{pick, clamped_pick, line_table}
+use Rattle.oxc_sourcemap_lookup.specs.LineSpans.{AreStarts}
 use Rattle.oxc_sourcemap_lookup.specs.Trace.{trace}
 
 -- generated line and column, source line and column, source id, name id
@@ -45,6 +47,10 @@ looks_up-the_first_when_clamped = refl
 tables-have_each_line : line_table (token 1 1 1 1 (Some 0) (Some 0) ∷ token 3 1 1 1 (Some 1) (Some 2) ∷ token 3 2 2 2 (Some 2) (Some 3) ∷ [])
     ≡ Ok ([] ∷ (token 1 1 1 1 (Some 0) (Some 0) ∷ []) ∷ [] ∷ (token 3 1 1 1 (Some 1) (Some 2) ∷ token 3 2 2 2 (Some 2) (Some 3) ∷ []) ∷ [])
 tables-have_each_line = refl
+
+-- no token lies before line 1, one before line 2, and all three before line 4
+begins-each_line : AreStarts (token 1 1 1 1 (Some 0) (Some 0) ∷ token 3 1 1 1 (Some 1) (Some 2) ∷ token 3 2 2 2 (Some 2) (Some 3) ∷ []) (0 ∷ 0 ∷ 1 ∷ 1 ∷ 3 ∷ [])
+begins-each_line = record { order = refl; each = refl; few = omega arith }
 
 tables-ask_for_line_order : line_table (token 1 0 0 0 None None ∷ token 0 0 0 0 None None ∷ []) ≡ Err (LineOrder 1)
 tables-ask_for_line_order = refl

@@ -200,6 +200,13 @@ uint32_t smap_get_token(smap_map *map, uint32_t index, smap_token *out);
 uint32_t smap_trace(smap_map *map, uint32_t line, uint32_t column, smap_place *out, smap_fault *fault);
 uint32_t smap_trace_clamped(smap_map *map, uint32_t line, uint32_t column, smap_place *out, smap_fault *fault);
 
+/* The same of many positions, in any order: out[i] is what smap_trace (smap_trace_clamped) says of positions[i]. Refused with
+ * SMAP_LENGTHS if there are not as many places as positions, SMAP_EMPTY_HANDLE, or SMAP_LINE_ORDER, also for no position. */
+uint32_t smap_trace_all(smap_map *map, const smap_position *positions, size_t positions_len, smap_place *out, size_t out_len,
+                        smap_fault *fault);
+uint32_t smap_trace_all_clamped(smap_map *map, const smap_position *positions, size_t positions_len, smap_place *out,
+                                size_t out_len, smap_fault *fault);
+
 /* Composes a map from generated to intermediate code with one from intermediate to original code. Takes both. Refused with
  * SMAP_EMPTY_HANDLE, SMAP_SEVERAL_SOURCES, SMAP_LINE_ORDER (of the second) or SMAP_TOO_LARGE. */
 uint32_t smap_compose(smap_map *first, smap_map *input, smap_map *out, smap_fault *fault);

@@ -218,6 +218,35 @@ static void tracing(void) {
     smap_free_map(&map);
 }
 
+static int is_same(const smap_place *p, const smap_place *q) {
+    return p->kind == q->kind && p->line == q->line && p->column == q->column && p->source_id == q->source_id &&
+           p->name_id == q->name_id && p->source.len == q->source.len && memcmp(p->source.at, q->source.at, p->source.len) == 0 &&
+           p->name.len == q->name.len && memcmp(p->name.at, q->name.at, p->name.len) == 0;
+}
+
+static void tracing_all(void) {
+    smap_map map = SMAP_EMPTY;
+    smap_fault fault = { 77, 77, 77 };
+    smap_position at[6] = { { 1, 0 }, { 0, 4 }, { UINT32_MAX, 0 }, { 0, 2 }, { 0, UINT32_MAX }, { 0, 4 } };
+    smap_place exact[7], clamped[7], one;
+    memset(exact, 7, sizeof exact);
+    memset(clamped, 7, sizeof clamped);
+    CHECK(smap_trace_all(&map, at, 6, exact, 6, &fault) == SMAP_EMPTY_HANDLE && fault.code == SMAP_EMPTY_HANDLE);
+    CHECK(smap_trace_all_clamped(&map, at, 6, exact, 6, &fault) == SMAP_EMPTY_HANDLE && exact[0].kind == 0x07070707);
+    CHECK(smap_from_json_string(BYTES(A), &map, &fault) == SMAP_OK);
+    CHECK(smap_trace_all(&map, at, 6, exact, 7, &fault) == SMAP_LENGTHS && fault.code == SMAP_LENGTHS);
+    CHECK(smap_trace_all_clamped(&map, at, 6, exact, 5, &fault) == SMAP_LENGTHS && exact[0].kind == 0x07070707);
+    CHECK(smap_trace_all(&map, at, 6, exact, 6, &fault) == SMAP_OK && exact[6].kind == 0x07070707);
+    CHECK(smap_trace_all_clamped(&map, at, 6, clamped, 6, &fault) == SMAP_OK && clamped[6].kind == 0x07070707);
+    for (int i = 0; i < 6; i++) {
+        CHECK(smap_trace(&map, at[i].line, at[i].column, &one, &fault) == SMAP_OK && is_same(&one, &exact[i]));
+        CHECK(smap_trace_clamped(&map, at[i].line, at[i].column, &one, &fault) == SMAP_OK && is_same(&one, &clamped[i]));
+    }
+    CHECK(exact[0].kind == SMAP_NOTHING && clamped[0].kind == SMAP_NAMED && exact[5].column == 9);
+    CHECK(smap_trace_all(&map, at, 0, exact, 0, &fault) == SMAP_OK);
+    smap_free_map(&map);
+}
+
 static void joining(void) {
     smap_map parts[3] = { SMAP_EMPTY, SMAP_EMPTY, SMAP_EMPTY }, out = SMAP_EMPTY;
     smap_position offsets[3] = { { 2, 5 }, { 4, 0 }, { 1, 0 } };
@@ -239,6 +268,7 @@ static void joining(void) {
     for (int i = 0; i < 3; i++) CHECK(smap_from_json_string(BYTES(B), &parts[i], &fault) == SMAP_OK);
     CHECK(smap_join(parts, 3, offsets, 3, &out, &fault) == SMAP_OK); /* lines go back */
     CHECK(smap_trace(&out, 1, 0, &p, &fault) == SMAP_LINE_ORDER && fault.code == SMAP_LINE_ORDER && fault.detail == 2);
+    CHECK(smap_trace_all(&out, offsets, 1, &p, 1, &fault) == SMAP_LINE_ORDER && fault.detail == 2);
     CHECK(smap_is_sorted(&out, &number) == SMAP_OK && number == 0);
     CHECK(smap_join(parts, 0, offsets, 0, &out, &fault) == SMAP_OK);
     offsets[0].line = UINT32_MAX;
@@ -338,6 +368,7 @@ int main(void) {
     empty_handles();
     reading();
     tracing();
+    tracing_all();
     joining();
     composing();
     writing();

@@ -49,6 +49,12 @@ class _Place(ctypes.Structure):
     _fields_ = [(name, _u32) for name in ("kind", "line", "column", "source_id", "name_id")]
     _fields_ += [("source", _Text), ("name", _Text)]
 
+    def traced(self) -> Traced:
+        if self.kind < 2:
+            return UNMAPPED if self.kind else None
+        name = self.name.copied() if self.kind == 3 else None
+        return Place(self.source.copied(), self.line, self.column, name, self.source_id)
+
 
 class _Position(ctypes.Structure):
     _fields_ = [("line", _u32), ("column", _u32)]
@@ -71,6 +77,8 @@ _PROTOTYPES = {
     "smap_get_token": (_u32, _p(_Handle), _u32, _p(_Token)),
     "smap_trace": (_u32, _p(_Handle), _u32, _u32, _p(_Place), _p(_Fault)),
     "smap_trace_clamped": (_u32, _p(_Handle), _u32, _u32, _p(_Place), _p(_Fault)),
+    "smap_trace_all": (_u32, _p(_Handle), _p(_Position), _size, _p(_Place), _size, _p(_Fault)),
+    "smap_trace_all_clamped": (_u32, _p(_Handle), _p(_Position), _size, _p(_Place), _size, _p(_Fault)),
     "smap_compose": (_u32, _p(_Handle), _p(_Handle), _p(_Handle), _p(_Fault)),
     "smap_join": (_u32, _p(_Handle), _size, _p(_Position), _size, _p(_Handle), _p(_Fault)),
     "smap_evaluate": (_u32, _bytes, _size, _bytes, _size, _p(_Handle), _p(_Fault)),
@@ -287,10 +295,16 @@ class SourceMap:
         call = _lib.smap_trace_clamped if clamped else _lib.smap_trace
         if call(self._handle, _number(line), _number(column), place, fault):
             raise SourceMapError(fault)
-        if place.kind < 2:
-            return UNMAPPED if place.kind else None
-        name = place.name.copied() if place.kind == 3 else None
-        return Place(place.source.copied(), place.line, place.column, name, place.source_id)
+        return place.traced()
+
+    def trace_all(self, positions: Iterable[tuple[int, int]], clamped: bool = False) -> list[Traced]:
+        """What `trace` answers to each of these lines and columns, in one call of the library."""
+        at = [_Position(_number(line), _number(column)) for line, column in positions]
+        places, fault = (_Place * len(at))(), _Fault()
+        call = _lib.smap_trace_all_clamped if clamped else _lib.smap_trace_all
+        if call(self._handle, (_Position * len(at))(*at), len(at), places, len(places), fault):
+            raise SourceMapError(fault)
+        return [place.traced() for place in places]
 
     def _written(self, call) -> str:
         string, fault, text = _Handle(), _Fault(), _Text()

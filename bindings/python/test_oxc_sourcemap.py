@@ -75,6 +75,19 @@ class Lookups(unittest.TestCase):
             with self.assertRaises(OverflowError):
                 map.trace(1 << 32, 0)
 
+    def test_trace_all(self):
+        positions = [(1, 0), (0, 4), (7, 0), (0, 9), (0, 4), (0, 2)]
+        with SourceMap.from_json(TEXT) as map:
+            for clamped in (False, True):
+                one_by_one = [map.trace(line, column, clamped) for line, column in positions]
+                self.assertEqual(map.trace_all(positions, clamped), one_by_one)
+            self.assertEqual(map.trace_all([]), [])
+            with self.assertRaises(OverflowError):
+                map.trace_all([(0, -1)])
+        with self.assertRaises(SourceMapError) as caught:
+            map.trace_all([])
+        self.assertEqual(caught.exception.code, 100)
+
     def test_every_token_is_found(self):
         with SourceMap.from_json(TEXT) as map:
             for token in map.tokens():

@@ -255,18 +255,7 @@ impl SourceMap {
             return Err(Error::of(&fault));
         }
         // SAFETY: a call that is not refused writes the whole place; its texts are the map's.
-        let place = unsafe { place.assume_init() };
-        Ok(match place.kind {
-            0 => None,
-            1 => Some(None),
-            kind => Some(Some(Place {
-                source: unsafe { place.source.lent() },
-                line: place.line,
-                column: place.column,
-                name: (kind == 3).then(|| unsafe { place.name.lent() }),
-                source_id: place.source_id,
-            })),
-        })
+        Ok(unsafe { place.assume_init().traced() })
     }
 
     /// What the map says of a generated position: nothing if no token is found, `Some(None)` if the token is unmapped.
@@ -279,6 +268,39 @@ impl SourceMap {
     /// As `trace`, but a position before the first token of its line finds that token.
     pub fn trace_clamped(&self, line: u32, column: u32) -> Result<Option<Option<Place<'_>>>> {
         self.place(|map, out, fault| unsafe { raw::smap_trace_clamped(map, line, column, out, fault) })
+    }
+
+    /// What the map says of each of these generated positions, lines and columns, in one call: the answers of `trace`.
+    ///
+    /// ```
+    /// use oxc_sourcemap_native::SourceMap;
+    /// let map = SourceMap::from_json_string(r#"{"version":3,"sources":["a.ts"],"mappings":"AAAA;EACA"}"#)?;
+    /// let places = map.trace_all(&[(1, 4), (1, 1), (0, 0)])?;
+    /// assert_eq!(places.iter().map(|p| p.flatten().map(|p| p.line)).collect::<Vec<_>>(), [Some(1), None, Some(0)]);
+    /// assert_eq!(map.trace_all_clamped(&[(1, 1)])?[0], map.trace(1, 4)?);
+    /// # Ok::<(), oxc_sourcemap_native::Error>(())
+    /// ```
+    pub fn trace_all(&self, positions: &[(u32, u32)]) -> Result<Vec<Option<Option<Place<'_>>>>> {
+        self.places(positions, raw::smap_trace_all)
+    }
+
+    /// As `trace_all`, with the answers of `trace_clamped`.
+    pub fn trace_all_clamped(&self, positions: &[(u32, u32)]) -> Result<Vec<Option<Option<Place<'_>>>>> {
+        self.places(positions, raw::smap_trace_all_clamped)
+    }
+
+    fn places(&self, positions: &[(u32, u32)], call: raw::TraceAll) -> Result<Vec<Option<Option<Place<'_>>>>> {
+        let positions: Vec<_> = positions.iter().map(|&(line, column)| raw::Position { line, column }).collect();
+        let (mut places, mut fault) = (Vec::<raw::Place>::with_capacity(positions.len()), raw::Fault::default());
+        let (at, len) = (positions.as_ptr(), positions.len());
+        // SAFETY: a call that is not refused writes this many places; their texts are the map's.
+        unsafe {
+            if call(self.0.get(), at, len, places.as_mut_ptr(), len, &mut fault) != 0 {
+                return Err(Error::of(&fault));
+            }
+            places.set_len(len);
+            Ok(places.iter().map(|place| place.traced()).collect())
+        }
     }
 
     /// Composes this map, from generated to intermediate code, with `input`, from there to original code.
@@ -358,6 +380,25 @@ impl std::ops::Deref for JsonString {
 impl Drop for JsonString {
     fn drop(&mut self) {
         unsafe { raw::smap_free_string(self.0.get()) }
+    }
+}
+
+impl raw::Place {
+    /// # Safety
+    ///
+    /// A call wrote this place, and the handle of its map stays as it is for this long.
+    unsafe fn traced<'m>(&self) -> Option<Option<Place<'m>>> {
+        match self.kind {
+            0 => None,
+            1 => Some(None),
+            kind => Some(Some(Place {
+                source: self.source.lent(),
+                line: self.line,
+                column: self.column,
+                name: (kind == 3).then(|| self.name.lent()),
+                source_id: self.source_id,
+            })),
+        }
     }
 }
 

@@ -57,6 +57,8 @@ pub struct Position {
 
 pub const NO_ID: u32 = u32::MAX;
 
+pub type TraceAll = unsafe extern "C" fn(*mut Handle, *const Position, usize, *mut Place, usize, *mut Fault) -> u32;
+
 extern "C" {
     pub fn smap_from_json_string(json: *const u8, len: usize, map: *mut Handle, fault: *mut Fault) -> u32;
     pub fn smap_free_map(map: *mut Handle);
@@ -77,6 +79,22 @@ extern "C" {
         line: u32,
         column: u32,
         out: *mut Place,
+        fault: *mut Fault,
+    ) -> u32;
+    pub fn smap_trace_all(
+        map: *mut Handle,
+        positions: *const Position,
+        positions_len: usize,
+        out: *mut Place,
+        out_len: usize,
+        fault: *mut Fault,
+    ) -> u32;
+    pub fn smap_trace_all_clamped(
+        map: *mut Handle,
+        positions: *const Position,
+        positions_len: usize,
+        out: *mut Place,
+        out_len: usize,
         fault: *mut Fault,
     ) -> u32;
     pub fn smap_compose(first: *mut Handle, input: *mut Handle, out: *mut Handle, fault: *mut Fault) -> u32;

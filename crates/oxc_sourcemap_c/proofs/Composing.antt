@@ -6,7 +6,8 @@ use Rattle.oxc_sourcemap.specs.Record.{MapRecord}
 use Rattle.oxc_sourcemap.specs.Composed.{SomeComposition}
 use Rattle.oxc_sourcemap_c.specs.declared.refusal.Refusal.{Refusal}
 use Rattle.oxc_sourcemap_c.specs.declared.refusal.Refusal.TheVariants.{EmptyHandle}
-use Rattle.oxc_sourcemap_c.specs.Answers.{IsCompositionRefusal, of_map}
+use Rattle.oxc_sourcemap_c.specs.Refusals.{of_map}
+use Rattle.oxc_sourcemap_c.specs.Answers.{IsCompositionRefusal}
 
 -- what is taken out of a handle
 abbrev pub Taken : Option MapRecord → Result MapRecord Refusal → Type 0

@@ -3,30 +3,20 @@ use Rattle.std.specs.Prelude.{◌≡◌, ◌≢◌, ℕ, List, ◌⊎◌, Option
 use Rattle.std.specs.Option.{option_and_then}
 use Rattle.std.specs.Str.Lossy.{utf8_valid_len}
 use Rattle.oxc_sourcemap.specs.Error.{Error}
-use Rattle.oxc_sourcemap.specs.Error.TheVariants.{TooLarge}
-use Rattle.oxc_sourcemap.specs.PlanError.TheVariants.{Map}
 use Rattle.oxc_sourcemap.specs.Record.{Text, MapRecord}
 use Rattle.oxc_sourcemap.specs.ReadMap.{read_map}
-use Rattle.oxc_sourcemap.specs.Token.{TokenRecord}
-use Rattle.oxc_sourcemap.specs.Sorted.{are_tokens_sorted, token_line, token_column}
-use Rattle.oxc_sourcemap.specs.Lookup.{pick, clamped_pick}
-use Rattle.oxc_sourcemap.specs.DecodedMap.{OriginalPosition, decoded_map_of}
-use Rattle.oxc_sourcemap.specs.Trace.{trace, clamped_trace}
 use Rattle.oxc_sourcemap.specs.Composed.{SomeComposition}
 use Rattle.oxc_sourcemap.specs.View.{content_at}
 use Rattle.oxc_sourcemap_c.specs.declared.refusal.Refusal.{Refusal}
-use Rattle.oxc_sourcemap_c.specs.declared.refusal.Refusal.TheVariants.{Plan, EmptyHandle, NotUtf8, NoEntry}
+use Rattle.oxc_sourcemap_c.specs.declared.refusal.Refusal.TheVariants.{EmptyHandle, NotUtf8, NoEntry}
 use Rattle.oxc_sourcemap_c.specs.declared.fault.Fault.{Fault}
 use Rattle.oxc_sourcemap_c.specs.declared.held.Held.{Held}
 use Rattle.oxc_sourcemap_c.specs.declared.text.Text.{Text as LentText}
-use Rattle.oxc_sourcemap_c.specs.declared.text.Place.{Place}
 use Rattle.oxc_sourcemap_c.specs.declared.asked.Asked.{Asked}
 use Rattle.oxc_sourcemap_c.specs.declared.asked.Asked.TheVariants.{Name, Source, SourceContent, File, SourceRoot, DebugId}
-use Rattle.oxc_sourcemap_c.specs.Refusals.{out_of_memory}
-use Rattle.oxc_sourcemap_c.specs.Codes.{fault_of, code_of, no_fault}
+use Rattle.oxc_sourcemap_c.specs.Refusals.{out_of_memory, of_map}
+use Rattle.oxc_sourcemap_c.specs.Codes.{fault_of, code_of}
 use Rattle.oxc_sourcemap_c.specs.Holding.{held_map, held_text, HoldsMap}
-use Rattle.oxc_sourcemap_c.specs.Indexed.{IsOutOfOrder}
-use Rattle.oxc_sourcemap_c.specs.Places.{IsPlace, HasIds}
 
 -- A call is refused: its code and its fault are those of one refusal, which is lack of memory or one of these.
 abbrev pub IsRefusedAs : ℕ → Fault → (Refusal → Type 0) → Type 0
@@ -35,10 +25,6 @@ IsRefusedAs code f These = (r : Refusal) × (f ≡ fault_of r) × (code ≡ code
 -- The same of a call that takes no memory.
 abbrev pub IsRefused : ℕ → Fault → (Refusal → Type 0) → Type 0
 IsRefused code f These = (r : Refusal) × (f ≡ fault_of r) × (code ≡ code_of r) × These r
-
--- an error of a call on a map
-abbrev pub of_map : Error → Refusal
-of_map e = Plan (Map e)
 
 -- why bytes are not read: they are not UTF-8, or their text says no map
 abbrev pub IsReadRefusal : List ℕ → Refusal → Type 0
@@ -85,32 +71,6 @@ abbrev pub IsWrittenAs : {S : Type 0} → (S → Text) → Result S Refusal → 
 IsWrittenAs bytes answer held write =
     MatchOption (held_map held) (answer ≡ Err EmptyHandle) (λ m. MatchResult answer (λ text. write m ≡ Ok (bytes text))
     (λ r. r ≢ out_of_memory → (e : Error) × (write m ≡ Err e) × (r ≡ of_map e)))
-
--- A place is what was traced, where the tokens of the map are sorted, and the token that was found has its ids.
-pub record IsTrace (m : MapRecord) (found : Option TokenRecord) (traced : Option (Option OriginalPosition)) (p : Place) : Type 0 where
-  pub place : are_tokens_sorted m.tokens ≡ true → IsPlace p traced
-  pub ids : are_tokens_sorted m.tokens ≡ true → HasIds p found
-
--- a map is not traced if its tokens are not in line order
-abbrev pub IsUntraced : MapRecord → Refusal → Type 0
-IsUntraced m r = (e : Error) × IsOutOfOrder m.tokens e × (r ≡ of_map e)
-
--- What a handle's map says of a generated position, or why it says nothing.
-abbrev pub IsTraced : Result Place Refusal → Option Held → ℕ → ℕ → Type 0
-IsTraced answer held line col =
-    MatchOption (held_map held) (answer ≡ Err EmptyHandle) (λ m. MatchResult answer
-    (IsTrace m (pick token_line token_column m.tokens line col) (trace (decoded_map_of m) line col)) (IsUntraced m))
-
--- the same, clamped
-abbrev pub IsTracedClamped : Result Place Refusal → Option Held → ℕ → ℕ → Type 0
-IsTracedClamped answer held line col =
-    MatchOption (held_map held) (answer ≡ Err EmptyHandle) (λ m. MatchResult answer
-    (IsTrace m (clamped_pick token_line token_column m.tokens line col) (clamped_trace (decoded_map_of m) line col)) (IsUntraced m))
-
--- why what a handle holds is not traced
-abbrev pub IsTraceRefusal : Option MapRecord → Refusal → Type 0
-IsTraceRefusal None r = r ≡ EmptyHandle
-IsTraceRefusal (Some m) r = IsUntraced m r
 
 -- why what a handle holds is not written
 abbrev pub IsWritingRefusal : (MapRecord → Result Text Error) → Option MapRecord → Refusal → Type 0

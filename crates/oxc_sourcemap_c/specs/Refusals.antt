@@ -1,5 +1,6 @@
 -- The texts of refusals, as bytes, and what an error of a plan's words is here.
 use Rattle.std.specs.Prelude.{ℕ, List, ◌++◌, codes, decimal}
+use Rattle.oxc_sourcemap.specs.Error.{Error}
 use Rattle.oxc_sourcemap.specs.Error.TheVariants.{OutOfMemory}
 use Rattle.oxc_sourcemap.specs.PlanError.TheVariants.{Map}
 use Rattle.oxc_sourcemap.specs.PlanMessages.{plan_error_text}
@@ -16,6 +17,10 @@ refusal_text EmptyHandle = codes "The handle is empty"
 refusal_text (NotUtf8 n) = codes "Byte " ++ decimal n ++ codes " is not UTF-8"
 refusal_text Lengths = codes "The lengths of two lists differ"
 refusal_text NoEntry = codes "There is no such entry"
+
+-- an error of a call on a map
+abbrev pub of_map : Error → Refusal
+of_map e = Plan (Map e)
 
 -- lack of memory
 abbrev pub out_of_memory : Refusal

@@ -1,14 +1,12 @@
 //! What a handle holds.
-ghost use Rattle.std.specs.Prelude.{◌≡◌, true, option_map, IfOk, IfErr};
+ghost use Rattle.std.specs.Prelude.{◌≡◌, true, length, IfOk, IfErr, OnOk, OnErr};
 ghost use Rattle.oxc_sourcemap.specs.Error.TheVariants.{OutOfMemory};
-ghost use Rattle.oxc_sourcemap.specs.Sorted.{are_tokens_sorted, token_line, token_column};
-ghost use Rattle.oxc_sourcemap.specs.Lookup.{pick, clamped_pick};
-ghost use Rattle.oxc_sourcemap.specs.DecodedMap.{decoded_map_of};
-ghost use Rattle.oxc_sourcemap.specs.Trace.{trace, clamped_trace};
+ghost use Rattle.oxc_sourcemap.specs.Sorted.{are_tokens_sorted};
+ghost use Rattle.oxc_sourcemap_lookup.specs.LineSpans.{IsIndexOf};
 ghost use Rattle.oxc_sourcemap_c.specs.Indexed.{IsOutOfOrder};
-ghost use Rattle.oxc_sourcemap_c.specs.Places.{IsPlace, HasIds};
+ghost use Rattle.oxc_sourcemap_c.specs.Traces.{found_at, IsTraceOf, AreTracesOf};
 
-use crate::text::Place;
+use crate::text::{Place, Position};
 use oxc_sourcemap::{Error, OwnedSourceMap, Result, Token};
 use oxc_sourcemap_lookup::LineIndex;
 use std::alloc::Global;
@@ -59,50 +57,65 @@ impl LoadedMap {
         &self.map
     }
 
-    /// The token at a generated position. Fails with `LineOrder` where the tokens are not in line order.
-    fn find(&self, line: u32, column: u32) -> Result<Option<Token>>
-        ensures found { IfOk result (λ token. are_tokens_sorted self.now.tokens ≡ true → token ≡ pick token_line token_column self.now.tokens line column) }
+    /// The index of the lines. Fails with `LineOrder` where the tokens are not in line order.
+    fn index(&self) -> Result<&LineIndex>
+        ensures index { IfOk result (λ index. IsIndexOf self.now.tokens index.now) }
         ensures refused { IfErr result (IsOutOfOrder self.now.tokens) }
     {
         match &self.index {
-            Ok(index) => Ok(index.lookup(self.map.get_tokens().as_slice(), line, column)),
+            Ok(index) => Ok(index),
             Err(e) => Err(*e),
         }
     }
 
-    /// As `find`, but a position before the first token of its line gives that token.
-    fn find_clamped(&self, line: u32, column: u32) -> Result<Option<Token>>
-        ensures found { IfOk result (λ token. are_tokens_sorted self.now.tokens ≡ true → token ≡ clamped_pick token_line token_column self.now.tokens line column) }
-        ensures refused { IfErr result (IsOutOfOrder self.now.tokens) }
+    /// The token at a generated position, found by this index. If `clamped`, a position before the first token of its line
+    /// finds that token.
+    fn find(&self, index: &LineIndex, at: Position, clamped: bool) -> Option<Token>
+        requires { IsIndexOf self.now.tokens index.now }
+        ensures { are_tokens_sorted self.now.tokens ≡ true → result ≡ found_at clamped self.now at }
     {
-        match &self.index {
-            Ok(index) => Ok(index.lookup_clamped(self.map.get_tokens().as_slice(), line, column)),
-            Err(e) => Err(*e),
+        let tokens = self.map.get_tokens().as_slice();
+        if clamped {
+            return index.lookup_clamped(tokens, at.line, at.column);
         }
+        index.lookup(tokens, at.line, at.column)
     }
 
-    /// What the map says of a generated position. Fails as `find`.
-    pub fn trace(&self, line: u32, column: u32) -> Result<Place>
-        ensures place { IfOk result (λ place. are_tokens_sorted self.now.tokens ≡ true → IsPlace place (trace (decoded_map_of self.now) line column)) }
-        ensures ids { IfOk result (λ place. are_tokens_sorted self.now.tokens ≡ true → HasIds place (pick token_line token_column self.now.tokens line column)) }
-        ensures refused { IfErr result (IsOutOfOrder self.now.tokens) }
+    /// What the map says of a generated position, found by this index.
+    fn place_of(&self, index: &LineIndex, at: Position, clamped: bool) -> Place
+        requires { IsIndexOf self.now.tokens index.now }
+        ensures { IsTraceOf clamped self.now at result }
     {
-        match self.find(line, column) {
-            Ok(token) => Ok(Place::of(token, self.map.as_source_map())),
-            Err(e) => Err(e),
-        }
+        Place::of(self.find(index, at, clamped), self.map.as_source_map())
     }
 
-    /// As `trace`, but a position before the first token of its line gives what that token says.
-    pub fn trace_clamped(&self, line: u32, column: u32) -> Result<Place>
-        ensures place { IfOk result (λ place. are_tokens_sorted self.now.tokens ≡ true → IsPlace place (clamped_trace (decoded_map_of self.now) line column)) }
-        ensures ids { IfOk result (λ place. are_tokens_sorted self.now.tokens ≡ true → HasIds place (clamped_pick token_line token_column self.now.tokens line column)) }
+    /// What the map says of a generated position, clamped as in `find`. Fails with `LineOrder` where the tokens are not in line
+    /// order.
+    pub fn trace(&self, at: Position, clamped: bool) -> Result<Place>
+        ensures place { IfOk result (IsTraceOf clamped self.now at) }
         ensures refused { IfErr result (IsOutOfOrder self.now.tokens) }
     {
-        match self.find_clamped(line, column) {
-            Ok(token) => Ok(Place::of(token, self.map.as_source_map())),
-            Err(e) => Err(e),
+        let index = self.index()?;
+        Ok(self.place_of(index, at, clamped))
+    }
+
+    /// The same of many positions, each answered at its index. Fails as `trace`, and writes nothing then.
+    pub fn trace_all(
+        &self,
+        positions: &[Position],
+        places: &mut [Place],
+        clamped: bool,
+    ) -> Result<()>
+        requires { length positions.now ≡ length places.old }
+        ensures places { OnOk result (AreTracesOf clamped positions.now places.new self.now) }
+        ensures refused { IfErr result (IsOutOfOrder self.now.tokens) }
+        ensures unchanged { OnErr result (places.new ≡ places.old) }
+    {
+        let index = self.index()?;
+        for i in 0..positions.len() {
+            places[i] = self.place_of(index, positions[i], clamped);
         }
+        Ok(())
     }
 }
 

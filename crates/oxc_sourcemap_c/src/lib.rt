@@ -4,7 +4,7 @@
 //! refusal.
 #![tactic(auto)]
 
-ghost use Rattle.std.specs.Prelude.{◌≡◌, ◌≢◌, None, Some, Ok, MatchOption, IsUtf8, slice_get};
+ghost use Rattle.std.specs.Prelude.{◌≡◌, ◌≢◌, true, false, None, Some, Ok, MatchOption, IsUtf8, slice_get};
 ghost use Rattle.std.specs.List.{All};
 ghost use Rattle.oxc_sourcemap.specs.ReadMap.{read_map};
 ghost use Rattle.oxc_sourcemap.specs.JsonText.{map_text, map_url};
@@ -21,7 +21,8 @@ ghost use Rattle.oxc_sourcemap_c.specs.Holding.{held_map, held_text, HoldsMap};
 ghost use Rattle.oxc_sourcemap_c.specs.Places.{counts_of, numbers_of};
 ghost use Rattle.oxc_sourcemap_c.specs.Joins.{all_held, IsJoinOf, IsJoinRefusal};
 ghost use Rattle.oxc_sourcemap_c.specs.Plans.{plan_of, IsPlanMap, IsPlanRefusal};
-ghost use Rattle.oxc_sourcemap_c.specs.Answers.{IsRefusedAs, IsReadRefusal, IsCompositionRefusal, IsWritingRefusal, HoldsWritten, Found, HasLength, HoldsText, ignored_at, flag_of, IsTrace, IsTraceRefusal, IsRefused, IsMessage};
+ghost use Rattle.oxc_sourcemap_c.specs.Answers.{IsRefusedAs, IsReadRefusal, IsCompositionRefusal, IsWritingRefusal, HoldsWritten, Found, HasLength, HoldsText, ignored_at, flag_of, IsRefused, IsMessage};
+ghost use Rattle.oxc_sourcemap_c.specs.Traces.{IsTrace, IsTraceRefusal, AreTracesOf, IsTraceAllRefusal};
 
 mod asked;
 mod fault;
@@ -41,8 +42,8 @@ use fault::Fault;
 use handle::Handle;
 use joins::join;
 use lookups::{
-    answered, counts, data_url, ignored, is_sorted, json, placed, text_of_map, token, traced,
-    traced_clamped, written_text,
+    answered, answered_all, counts, data_url, ignored, is_sorted, json, placed, text_of_map, token,
+    traced, traced_all, written_text,
 };
 use operations::{compose, put_map, put_text, read};
 use std::alloc::Global;
@@ -305,7 +306,8 @@ pub extern "C" fn smap_trace(
     ensures kept { map.new.held ≡ map.old.held }
     ensures refused { result ≢ 0 → (place.new ≡ place.old) × IsRefused result fault.new (IsTraceRefusal (held_map map.old.held)) }
 {
-    placed(traced(alloc, map, line, column), place, fault)
+    let at = Position { line, column };
+    placed(traced(alloc, map, at, false), place, fault)
 }
 
 /// The same, where the first token of a line stands in for none.
@@ -322,7 +324,42 @@ pub extern "C" fn smap_trace_clamped(
     ensures kept { map.new.held ≡ map.old.held }
     ensures refused { result ≢ 0 → (place.new ≡ place.old) × IsRefused result fault.new (IsTraceRefusal (held_map map.old.held)) }
 {
-    placed(traced_clamped(alloc, map, line, column), place, fault)
+    let at = Position { line, column };
+    placed(traced(alloc, map, at, true), place, fault)
+}
+
+/// What the map in a handle says of generated positions: in each place what `smap_trace` says of the position at its index.
+#[unsafe(no_mangle)]
+pub extern "C" fn smap_trace_all(
+    alloc: Global,
+    map: &mut Handle,
+    positions: &[Position],
+    places: &mut [Place],
+    fault: &mut Fault,
+) -> u32
+    ensures traced { result ≡ 0 → HoldsMap map.old.held (AreTracesOf false positions.now places.new) }
+    ensures kept { map.new.held ≡ map.old.held }
+    ensures refused { result ≢ 0 → (places.new ≡ places.old)
+        × IsRefused result fault.new (IsTraceAllRefusal positions.now places.old (held_map map.old.held)) }
+{
+    answered_all(traced_all(alloc, map, positions, places, false), fault)
+}
+
+/// The same, where the first token of a line stands in for none.
+#[unsafe(no_mangle)]
+pub extern "C" fn smap_trace_all_clamped(
+    alloc: Global,
+    map: &mut Handle,
+    positions: &[Position],
+    places: &mut [Place],
+    fault: &mut Fault,
+) -> u32
+    ensures traced { result ≡ 0 → HoldsMap map.old.held (AreTracesOf true positions.now places.new) }
+    ensures kept { map.new.held ≡ map.old.held }
+    ensures refused { result ≢ 0 → (places.new ≡ places.old)
+        × IsRefused result fault.new (IsTraceAllRefusal positions.now places.old (held_map map.old.held)) }
+{
+    answered_all(traced_all(alloc, map, positions, places, true), fault)
 }
 
 /// Writes as much of the message of a fault as there is room for, and returns the length of the whole; 0 for want of memory,

@@ -1,5 +1,5 @@
 //! What exports look up in what handles hold. Each takes the box out of its handle, looks into it and puts it back.
-ghost use Rattle.std.specs.Prelude.{◌≡◌, ◌≢◌, [], true, Some, None, Ok, Err, length, slice_get, string_bytes, IfOk, IfErr, MatchOption, MatchResult};
+ghost use Rattle.std.specs.Prelude.{◌≡◌, ◌≢◌, [], true, Some, None, Ok, Err, length, slice_get, string_bytes, IfOk, IfErr, OnOk, OnErr, MatchOption, MatchResult};
 ghost use Rattle.std.specs.Option.{unwrap_or};
 ghost use Rattle.oxc_sourcemap.specs.Record.{MapRecord};
 ghost use Rattle.oxc_sourcemap.specs.JsonText.{map_text, map_url};
@@ -7,9 +7,10 @@ ghost use Rattle.oxc_sourcemap.specs.Sorted.{are_tokens_sorted, token_line, toke
 ghost use Rattle.oxc_sourcemap_c.specs.declared.refusal.Refusal.TheVariants.{EmptyHandle};
 ghost use Rattle.oxc_sourcemap_c.specs.Refusals.{out_of_memory};
 ghost use Rattle.oxc_sourcemap_c.specs.Codes.{fault_of, code_of};
-ghost use Rattle.oxc_sourcemap_c.specs.Holding.{held_map, held_text};
+ghost use Rattle.oxc_sourcemap_c.specs.Holding.{held_map, held_text, HoldsMap};
 ghost use Rattle.oxc_sourcemap_c.specs.Places.{counts_of, numbers_of};
-ghost use Rattle.oxc_sourcemap_c.specs.Answers.{text_at, ignored_at, flag_of, IsFound, HasLength, IsWrittenAs, IsTraced, IsTracedClamped};
+ghost use Rattle.oxc_sourcemap_c.specs.Answers.{text_at, ignored_at, flag_of, IsFound, HasLength, IsWrittenAs};
+ghost use Rattle.oxc_sourcemap_c.specs.Traces.{IsTraced, AreTracesOf, IsTraceRefusal, IsTraceAllRefusal};
 
 use crate::asked::Asked;
 use crate::fault::Fault;
@@ -17,7 +18,7 @@ use crate::handle::Handle;
 use crate::held::Held;
 use crate::operations::{map_in, text_in};
 use crate::refusal::Refusal;
-use crate::text::{Counts, Place, Text, TokenNumbers};
+use crate::text::{Counts, Place, Position, Text, TokenNumbers};
 use std::alloc::Global;
 
 /// Writes what was found, or leaves what was there, and returns the code.
@@ -42,6 +43,19 @@ pub fn placed(answer: Result<Place, Refusal>, place: &mut Place, fault: &mut Fau
             *place = found;
             0
         }
+        Err(refusal) => {
+            *fault = Fault::of(refusal);
+            fault.code
+        }
+    }
+}
+
+/// The code of an answer that is written already, with a fault that tells why there is none.
+pub fn answered_all(answer: Result<(), Refusal>, fault: &mut Fault) -> u32
+    ensures { MatchResult answer (λ _. result ≡ 0) (λ r. (result ≡ code_of r) × (fault.new ≡ fault_of r)) }
+{
+    match answer {
+        Ok(()) => 0,
         Err(refusal) => {
             *fault = Fault::of(refusal);
             fault.code
@@ -212,23 +226,28 @@ pub fn token(alloc: Global, handle: &mut Handle, index: u32) -> Result<TokenNumb
     }
 }
 
-fn traced_in(held: &Held, line: u32, column: u32) -> Result<Place, Refusal>
-    ensures { IsTraced result (Some held.now) line column }
+fn traced_in(held: &Held, at: Position, clamped: bool) -> Result<Place, Refusal>
+    ensures { IsTraced clamped result (Some held.now) at }
 {
     match map_in(held) {
-        Some(loaded) => Ok(loaded.trace(line, column)?),
+        Some(loaded) => Ok(loaded.trace(at, clamped)?),
         None => Err(Refusal::EmptyHandle),
     }
 }
 
-/// What the map in a handle says of a position.
-pub fn traced(alloc: Global, handle: &mut Handle, line: u32, column: u32) -> Result<Place, Refusal>
-    ensures place { IsTraced result handle.old.held line column }
+/// What the map in a handle says of a position, exactly or clamped.
+pub fn traced(
+    alloc: Global,
+    handle: &mut Handle,
+    at: Position,
+    clamped: bool,
+) -> Result<Place, Refusal>
+    ensures place { IsTraced clamped result handle.old.held at }
     ensures kept { handle.new.held ≡ handle.old.held }
 {
     match handle.take(alloc) {
         Some(held) => {
-            let answer = traced_in(held.as_ref(), line, column);
+            let answer = traced_in(held.as_ref(), at, clamped);
             handle.put(held);
             answer
         }
@@ -236,28 +255,42 @@ pub fn traced(alloc: Global, handle: &mut Handle, line: u32, column: u32) -> Res
     }
 }
 
-fn traced_clamped_in(held: &Held, line: u32, column: u32) -> Result<Place, Refusal>
-    ensures { IsTracedClamped result (Some held.now) line column }
+fn traced_all_in(
+    held: &Held,
+    positions: &[Position],
+    places: &mut [Place],
+    clamped: bool,
+) -> Result<(), Refusal>
+    requires { length positions.now ≡ length places.old }
+    ensures places { OnOk result (HoldsMap (Some held.now) (AreTracesOf clamped positions.now places.new)) }
+    ensures refused { IfErr result (IsTraceRefusal (held_map (Some held.now))) }
+    ensures unchanged { OnErr result (places.new ≡ places.old) }
 {
     match map_in(held) {
-        Some(loaded) => Ok(loaded.trace_clamped(line, column)?),
+        Some(loaded) => Ok(loaded.trace_all(positions, places, clamped)?),
         None => Err(Refusal::EmptyHandle),
     }
 }
 
-/// What the map in a handle says of a position, clamped.
-pub fn traced_clamped(
+/// What the map in a handle says of many positions, exactly or clamped.
+pub fn traced_all(
     alloc: Global,
     handle: &mut Handle,
-    line: u32,
-    column: u32,
-) -> Result<Place, Refusal>
-    ensures place { IsTracedClamped result handle.old.held line column }
+    positions: &[Position],
+    places: &mut [Place],
+    clamped: bool,
+) -> Result<(), Refusal>
+    ensures places { OnOk result (HoldsMap handle.old.held (AreTracesOf clamped positions.now places.new)) }
+    ensures refused { IfErr result (IsTraceAllRefusal positions.now places.old (held_map handle.old.held)) }
+    ensures unchanged { OnErr result (places.new ≡ places.old) }
     ensures kept { handle.new.held ≡ handle.old.held }
 {
+    if positions.len() != places.len() {
+        return Err(Refusal::Lengths);
+    }
     match handle.take(alloc) {
         Some(held) => {
-            let answer = traced_clamped_in(held.as_ref(), line, column);
+            let answer = traced_all_in(held.as_ref(), positions, places, clamped);
             handle.put(held);
             answer
         }

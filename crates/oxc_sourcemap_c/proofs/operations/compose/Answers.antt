@@ -3,7 +3,7 @@ use Rattle.oxc_sourcemap.specs.Composed.{composition, SomeComposition, NoColumnG
 use Rattle.oxc_sourcemap_c.specs.declared.refusal.Refusal.TheVariants.{Plan}
 use Rattle.oxc_sourcemap.specs.PlanError.TheVariants.{Map}
 use Rattle.oxc_sourcemap_c.specs.Holding.{held_map}
-use Rattle.oxc_sourcemap_c.specs.Answers.{of_map}
+use Rattle.oxc_sourcemap_c.specs.Refusals.{of_map}
 use Rattle.smap_run.proofs.Maps.{carried_error}
 use Rattle.oxc_sourcemap_c.proofs.Composing.{both_taken, input_missing, not_composed}
 use Rattle.oxc_sourcemap_c.proofs.operations.compose.Goals as goal

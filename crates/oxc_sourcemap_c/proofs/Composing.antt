@@ -4,9 +4,9 @@ use Rattle.std.specs.Prelude.{MatchOption}
 use Rattle.oxc_sourcemap.specs.Error.{Error}
 use Rattle.oxc_sourcemap.specs.Record.{MapRecord}
 use Rattle.oxc_sourcemap.specs.Composed.{SomeComposition}
-use Rattle.oxc_sourcemap_c.specs.declared.refusal.Refusal.{Refusal}
-use Rattle.oxc_sourcemap_c.specs.declared.refusal.Refusal.TheVariants.{EmptyHandle}
-use Rattle.oxc_sourcemap_c.specs.Refusals.{of_map}
+use Rattle.oxc_sourcemap_faults.specs.declared.refusal.Refusal.{Refusal}
+use Rattle.oxc_sourcemap_faults.specs.declared.refusal.Refusal.TheVariants.{EmptyHandle}
+use Rattle.oxc_sourcemap_faults.specs.Refusals.{of_map}
 use Rattle.oxc_sourcemap_c.specs.Answers.{IsCompositionRefusal}
 
 -- what is taken out of a handle

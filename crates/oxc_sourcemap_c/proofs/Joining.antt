@@ -7,7 +7,7 @@ use Rattle.oxc_sourcemap.specs.Joined.{Offset, at_positions}
 use Rattle.oxc_sourcemap_c.specs.declared.held.Held.{Held}
 use Rattle.oxc_sourcemap_c.specs.declared.handle.Handle.{Handle}
 use Rattle.oxc_sourcemap_c.specs.declared.text.Position.{Position}
-use Rattle.oxc_sourcemap_c.specs.declared.refusal.Refusal.{Refusal}
+use Rattle.oxc_sourcemap_faults.specs.declared.refusal.Refusal.{Refusal}
 use Rattle.oxc_sourcemap_c.proofs.Composing.{Taken}
 use Rattle.oxc_sourcemap_c.specs.Holding.{held_map}
 use Rattle.oxc_sourcemap_c.specs.Joins.{all_held, offset_of, placed_maps}

@@ -3,4 +3,3 @@ pub mod Traces
 pub mod Composing
 pub mod Planned
 pub mod Joining
-pub mod ReadBack

@@ -10,9 +10,9 @@ use Rattle.oxc_sourcemap.specs.Outcome.{Outcome}
 use Rattle.oxc_sourcemap.specs.Evaluated.{IsEvaluated, IsFailure}
 use Rattle.smap_run.specs.declared.running.RunError.{RunError}
 use Rattle.smap_run.specs.Refusals.{out_of_memory as run_out_of_memory}
-use Rattle.oxc_sourcemap_c.specs.declared.refusal.Refusal.{Refusal}
-use Rattle.oxc_sourcemap_c.specs.declared.refusal.Refusal.TheVariants.{Plan}
-use Rattle.oxc_sourcemap_c.specs.Refusals.{out_of_memory, refusal_of_run}
+use Rattle.oxc_sourcemap_faults.specs.declared.refusal.Refusal.{Refusal}
+use Rattle.oxc_sourcemap_faults.specs.declared.refusal.Refusal.TheVariants.{Plan}
+use Rattle.oxc_sourcemap_faults.specs.Refusals.{out_of_memory, refusal_of_run}
 use Rattle.oxc_sourcemap_c.specs.Plans.{plan_of, IsPlanMap, IsPlanFailure, IsPlanRefusal}
 
 pub map_of_plan : (read : Result Outcome RunError) (o : Outcome) (m : MapRecord) → read ≡ Ok o → IsEvaluated m o → IsPlanMap read m

@@ -1,5 +1,5 @@
 -- What calls answer: a code, and a fault that tells more.
-use Rattle.std.specs.Prelude.{◌≡◌, ◌≢◌, ℕ, List, ◌⊎◌, Option, Some, None, Result, Ok, Err, MatchOption, MatchResult, IsUtf8, slice_get, length, take, drop, ◌++◌, Bool, true, false}
+use Rattle.std.specs.Prelude.{◌≡◌, ◌≢◌, ℕ, List, ◌⊎◌, Option, Some, None, Result, Ok, Err, MatchOption, MatchResult, IsUtf8, slice_get, length, Bool, true, false}
 use Rattle.std.specs.Option.{option_and_then}
 use Rattle.std.specs.Str.Lossy.{utf8_valid_len}
 use Rattle.oxc_sourcemap.specs.Error.{Error}
@@ -7,15 +7,15 @@ use Rattle.oxc_sourcemap.specs.Record.{Text, MapRecord}
 use Rattle.oxc_sourcemap.specs.ReadMap.{read_map}
 use Rattle.oxc_sourcemap.specs.Composed.{SomeComposition}
 use Rattle.oxc_sourcemap.specs.View.{content_at}
-use Rattle.oxc_sourcemap_c.specs.declared.refusal.Refusal.{Refusal}
-use Rattle.oxc_sourcemap_c.specs.declared.refusal.Refusal.TheVariants.{EmptyHandle, NotUtf8, NoEntry}
-use Rattle.oxc_sourcemap_c.specs.declared.fault.Fault.{Fault}
+use Rattle.oxc_sourcemap_faults.specs.declared.refusal.Refusal.{Refusal}
+use Rattle.oxc_sourcemap_faults.specs.declared.refusal.Refusal.TheVariants.{EmptyHandle, NotUtf8, NoEntry}
+use Rattle.oxc_sourcemap_faults.specs.declared.fault.Fault.{Fault}
 use Rattle.oxc_sourcemap_c.specs.declared.held.Held.{Held}
 use Rattle.oxc_sourcemap_c.specs.declared.text.Text.{Text as LentText}
 use Rattle.oxc_sourcemap_c.specs.declared.asked.Asked.{Asked}
 use Rattle.oxc_sourcemap_c.specs.declared.asked.Asked.TheVariants.{Name, Source, SourceContent, File, SourceRoot, DebugId}
-use Rattle.oxc_sourcemap_c.specs.Refusals.{out_of_memory, of_map}
-use Rattle.oxc_sourcemap_c.specs.Codes.{fault_of, code_of}
+use Rattle.oxc_sourcemap_faults.specs.Refusals.{out_of_memory, of_map}
+use Rattle.oxc_sourcemap_faults.specs.Codes.{fault_of, code_of}
 use Rattle.oxc_sourcemap_c.specs.Holding.{held_map, held_text, HoldsMap}
 
 -- A call is refused: its code and its fault are those of one refusal, which is lack of memory or one of these.
@@ -85,14 +85,6 @@ HoldsWritten write map text = HoldsMap map (λ m. MatchOption (held_text text) �
 abbrev pub flag_of : Bool → ℕ
 flag_of true = 1
 flag_of false = 0
-
--- a buffer, with as much of a text at its beginning as there is room for
-abbrev pub overwritten : Text → Text → Text
-overwritten text old = take (length old) text ++ drop (length text) old
-
--- the length of a message, with the message in the buffer; or 0 for want of memory, and the buffer as it was
-abbrev pub IsMessage : Text → Text → Text → ℕ → Type 0
-IsMessage text old new n = ((n ≡ length text) × (new ≡ overwritten text old)) ⊎ ((n ≡ 0) × (new ≡ old))
 
 -- what a call answers that lends the text in a handle
 abbrev pub HoldsText : ℕ → Option Held → LentText → Type 0

@@ -7,10 +7,10 @@ use Rattle.oxc_sourcemap.specs.Joined.{Offset, joined, IsWithinLimits}
 use Rattle.oxc_sourcemap_c.specs.declared.handle.Handle.{Handle}
 use Rattle.oxc_sourcemap_c.specs.declared.held.Held.{Held}
 use Rattle.oxc_sourcemap_c.specs.declared.text.Position.{Position}
-use Rattle.oxc_sourcemap_c.specs.declared.refusal.Refusal.{Refusal}
-use Rattle.oxc_sourcemap_c.specs.declared.refusal.Refusal.TheVariants.{EmptyHandle, Lengths}
+use Rattle.oxc_sourcemap_faults.specs.declared.refusal.Refusal.{Refusal}
+use Rattle.oxc_sourcemap_faults.specs.declared.refusal.Refusal.TheVariants.{EmptyHandle, Lengths}
 use Rattle.oxc_sourcemap_c.specs.Holding.{held_map}
-use Rattle.oxc_sourcemap_c.specs.Refusals.{of_map}
+use Rattle.oxc_sourcemap_faults.specs.Refusals.{of_map}
 
 -- what each of these handles holds
 abbrev pub all_held : List Handle → List (Option Held)

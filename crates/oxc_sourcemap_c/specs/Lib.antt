@@ -1,5 +1,3 @@
-pub mod Refusals
-pub mod Codes
 pub mod Handles
 pub mod Holding
 pub mod Indexed

@@ -9,9 +9,9 @@ use Rattle.oxc_sourcemap.specs.Evaluated.{IsEvaluated, IsFailure}
 use Rattle.smap_run.specs.declared.running.RunError.{RunError}
 use Rattle.smap_run.specs.PlanInputs.{inputs_of}
 use Rattle.smap_run.specs.PlanArguments.{parsed_plan}
-use Rattle.oxc_sourcemap_c.specs.declared.refusal.Refusal.{Refusal}
-use Rattle.oxc_sourcemap_c.specs.declared.refusal.Refusal.TheVariants.{Plan, NotUtf8}
-use Rattle.oxc_sourcemap_c.specs.Refusals.{refusal_of_run}
+use Rattle.oxc_sourcemap_faults.specs.declared.refusal.Refusal.{Refusal}
+use Rattle.oxc_sourcemap_faults.specs.declared.refusal.Refusal.TheVariants.{Plan, NotUtf8}
+use Rattle.oxc_sourcemap_faults.specs.Refusals.{refusal_of_run}
 
 -- the words of a plan: what stands between spaces
 abbrev pub words_of : Text → List Text

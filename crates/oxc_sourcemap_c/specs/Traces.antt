@@ -8,12 +8,12 @@ use Rattle.oxc_sourcemap.specs.Sorted.{are_tokens_sorted, token_line, token_colu
 use Rattle.oxc_sourcemap.specs.Lookup.{pick, clamped_pick}
 use Rattle.oxc_sourcemap.specs.DecodedMap.{OriginalPosition, decoded_map_of}
 use Rattle.oxc_sourcemap.specs.Trace.{trace, clamped_trace}
-use Rattle.oxc_sourcemap_c.specs.declared.refusal.Refusal.{Refusal}
-use Rattle.oxc_sourcemap_c.specs.declared.refusal.Refusal.TheVariants.{EmptyHandle, Lengths}
+use Rattle.oxc_sourcemap_faults.specs.declared.refusal.Refusal.{Refusal}
+use Rattle.oxc_sourcemap_faults.specs.declared.refusal.Refusal.TheVariants.{EmptyHandle, Lengths}
 use Rattle.oxc_sourcemap_c.specs.declared.held.Held.{Held}
 use Rattle.oxc_sourcemap_c.specs.declared.text.Place.{Place}
 use Rattle.oxc_sourcemap_c.specs.declared.text.Position.{Position}
-use Rattle.oxc_sourcemap_c.specs.Refusals.{of_map}
+use Rattle.oxc_sourcemap_faults.specs.Refusals.{of_map}
 use Rattle.oxc_sourcemap_c.specs.Holding.{held_map}
 use Rattle.oxc_sourcemap_c.specs.Indexed.{IsOutOfOrder}
 use Rattle.oxc_sourcemap_c.specs.Places.{IsPlace, HasIds}

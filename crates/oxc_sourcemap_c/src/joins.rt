@@ -3,15 +3,15 @@ ghost use Rattle.std.specs.Prelude.{◌≡◌, ◌≢◌, ◌⊎◌, None, Some,
 ghost use Rattle.std.specs.List.{All};
 ghost use Rattle.oxc_sourcemap.specs.Error.TheVariants.{OutOfMemory, TooLarge};
 ghost use Rattle.oxc_sourcemap.specs.Joined.{at_positions, joined, IsWithinLimits};
-ghost use Rattle.oxc_sourcemap_c.specs.declared.refusal.Refusal.TheVariants.{EmptyHandle};
-ghost use Rattle.oxc_sourcemap_c.specs.Refusals.{out_of_memory};
+ghost use Rattle.oxc_sourcemap_faults.specs.declared.refusal.Refusal.TheVariants.{EmptyHandle};
+ghost use Rattle.oxc_sourcemap_faults.specs.Refusals.{out_of_memory};
 ghost use Rattle.oxc_sourcemap_c.specs.Joins.{all_held, placed_maps, IsJoinOf, IsJoinRefusal};
 
 use crate::handle::Handle;
 use crate::operations::take_map;
-use crate::refusal::Refusal;
 use crate::text::Position;
 use oxc_sourcemap::{ConcatSourceMapBuilder, OwnedSourceMap, SourceMap};
+use oxc_sourcemap_faults::Refusal;
 use std::alloc::Global;
 
 /// The maps in handles, each with its line and column. They are taken out of the handles up to the first that holds none.

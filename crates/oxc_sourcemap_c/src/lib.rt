@@ -14,31 +14,28 @@ ghost use Rattle.oxc_sourcemap.specs.Lookup.{pick, clamped_pick};
 ghost use Rattle.oxc_sourcemap.specs.DecodedMap.{decoded_map_of};
 ghost use Rattle.oxc_sourcemap.specs.Trace.{trace, clamped_trace};
 ghost use Rattle.oxc_sourcemap.specs.View.{content_at};
-ghost use Rattle.oxc_sourcemap_c.specs.declared.refusal.Refusal.{Refusal};
-ghost use Rattle.oxc_sourcemap_c.specs.Refusals.{refusal_text};
-ghost use Rattle.oxc_sourcemap_c.specs.Codes.{fault_of, refusal_of, IsSmall};
+ghost use Rattle.oxc_sourcemap_faults.specs.declared.refusal.Refusal.{Refusal};
+ghost use Rattle.oxc_sourcemap_faults.specs.Refusals.{refusal_text};
+ghost use Rattle.oxc_sourcemap_faults.specs.Codes.{fault_of, refusal_of, IsSmall};
 ghost use Rattle.oxc_sourcemap_c.specs.Holding.{held_map, held_text, HoldsMap};
 ghost use Rattle.oxc_sourcemap_c.specs.Places.{counts_of, numbers_of};
 ghost use Rattle.oxc_sourcemap_c.specs.Joins.{all_held, IsJoinOf, IsJoinRefusal};
 ghost use Rattle.oxc_sourcemap_c.specs.Plans.{plan_of, IsPlanMap, IsPlanRefusal};
-ghost use Rattle.oxc_sourcemap_c.specs.Answers.{IsRefusedAs, IsReadRefusal, IsCompositionRefusal, IsWritingRefusal, HoldsWritten, Found, HasLength, HoldsText, ignored_at, flag_of, IsRefused, IsMessage};
+ghost use Rattle.oxc_sourcemap_c.specs.Answers.{IsRefusedAs, IsReadRefusal, IsCompositionRefusal, IsWritingRefusal, HoldsWritten, Found, HasLength, HoldsText, ignored_at, flag_of, IsRefused};
+ghost use Rattle.oxc_sourcemap_faults.specs.Messages.{IsMessage};
 ghost use Rattle.oxc_sourcemap_c.specs.Traces.{IsTrace, IsTraceRefusal, AreTracesOf, IsTraceAllRefusal};
 
 mod asked;
-mod fault;
 mod handle;
 mod held;
 mod joins;
 mod lookups;
 mod loose;
-mod messages;
 mod operations;
 mod plans;
-mod refusal;
 mod text;
 
 use asked::Asked;
-use fault::Fault;
 use handle::Handle;
 use joins::join;
 use lookups::{
@@ -46,6 +43,7 @@ use lookups::{
     traced, traced_all, written_text,
 };
 use operations::{compose, put_map, put_text, read};
+use oxc_sourcemap_faults::{Fault, write_message};
 use std::alloc::Global;
 use text::{Counts, Place, Position, Text, TokenNumbers};
 
@@ -369,5 +367,5 @@ pub extern "C" fn smap_message(alloc: Global, fault: &Fault, out: &mut [u8]) -> 
     ensures message { (r : Refusal) → IsSmall r → fault.now ≡ fault_of r → IsMessage (refusal_text r) out.old out.new result }
     ensures cases { MatchOption (refusal_of fault.now) ((result ≡ 0) × (out.new ≡ out.old)) (λ r. IsMessage (refusal_text r) out.old out.new result) }
 {
-    messages::write_message(alloc, fault, out)
+    write_message(alloc, fault, out)
 }

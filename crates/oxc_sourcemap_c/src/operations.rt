@@ -5,18 +5,17 @@ ghost use Rattle.oxc_sourcemap.specs.Error.TheVariants.{OutOfMemory};
 ghost use Rattle.oxc_sourcemap.specs.ReadMap.{read_map};
 ghost use Rattle.oxc_sourcemap.specs.JsonText.{map_text, map_url};
 ghost use Rattle.oxc_sourcemap.specs.Composed.{composition, SomeComposition, NoColumnGoesBack};
-ghost use Rattle.oxc_sourcemap_c.specs.declared.refusal.Refusal.TheVariants.{EmptyHandle};
-ghost use Rattle.oxc_sourcemap_c.specs.Refusals.{out_of_memory, of_map};
-ghost use Rattle.oxc_sourcemap_c.specs.Codes.{fault_of, code_of, no_fault};
+ghost use Rattle.oxc_sourcemap_faults.specs.declared.refusal.Refusal.TheVariants.{EmptyHandle};
+ghost use Rattle.oxc_sourcemap_faults.specs.Refusals.{out_of_memory, of_map};
+ghost use Rattle.oxc_sourcemap_faults.specs.Codes.{fault_of, code_of, no_fault};
 ghost use Rattle.oxc_sourcemap_c.specs.Holding.{held_map, held_text, HoldsMap};
 ghost use Rattle.oxc_sourcemap_c.specs.Answers.{IsReadRefusal, IsCompositionRefusal, IsRefusedAs};
 
-use crate::fault::Fault;
 use crate::handle::Handle;
 use crate::held::{Held, LoadedMap};
 use crate::plans::text_of;
-use crate::refusal::Refusal;
 use oxc_sourcemap::OwnedSourceMap;
+use oxc_sourcemap_faults::{Fault, Refusal};
 use std::alloc::Global;
 
 /// The map of a JSON text.

@@ -1,10 +1,10 @@
 //! Plans: their words and their texts.
 ghost use Rattle.std.specs.Prelude.{◌≡◌, ◌≢◌, map, string_bytes, IfOk, IfErr, OnOk, IsUtf8};
-ghost use Rattle.oxc_sourcemap_c.specs.Refusals.{out_of_memory};
+ghost use Rattle.oxc_sourcemap_faults.specs.Refusals.{out_of_memory};
 ghost use Rattle.oxc_sourcemap_c.specs.Plans.{words_of, plan_of, IsPlanMap, IsPlanFailure, IsPlanRefusal, IsNotText};
 
-use crate::refusal::Refusal;
 use oxc_sourcemap::{OwnedSourceMap, evaluate};
+use oxc_sourcemap_faults::Refusal;
 use smap_run::{inputs_of, read_plan};
 use std::alloc::{AllocError, Global};
 

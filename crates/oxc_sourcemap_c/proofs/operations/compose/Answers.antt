@@ -1,9 +1,9 @@
 use Rattle.std.proofs.Common.{◌≡◌, ap, Ok}
 use Rattle.oxc_sourcemap.specs.Composed.{composition, SomeComposition, NoColumnGoesBack}
-use Rattle.oxc_sourcemap_c.specs.declared.refusal.Refusal.TheVariants.{Plan}
+use Rattle.oxc_sourcemap_faults.specs.declared.refusal.Refusal.TheVariants.{Plan}
 use Rattle.oxc_sourcemap.specs.PlanError.TheVariants.{Map}
 use Rattle.oxc_sourcemap_c.specs.Holding.{held_map}
-use Rattle.oxc_sourcemap_c.specs.Refusals.{of_map}
+use Rattle.oxc_sourcemap_faults.specs.Refusals.{of_map}
 use Rattle.smap_run.proofs.Maps.{carried_error}
 use Rattle.oxc_sourcemap_c.proofs.Composing.{both_taken, input_missing, not_composed}
 use Rattle.oxc_sourcemap_c.proofs.operations.compose.Goals as goal

@@ -1,6 +1,6 @@
 use Rattle.std.proofs.Common.{◌≡◌, map, string_bytes, ap, sym, ◌∙◌, Ok}
 use Rattle.oxc_sourcemap.specs.Outcome.{outcome}
-use Rattle.oxc_sourcemap_c.specs.declared.refusal.Refusal.TheVariants.{Plan}
+use Rattle.oxc_sourcemap_faults.specs.declared.refusal.Refusal.TheVariants.{Plan}
 use Rattle.smap_run.specs.PlanInputs.{inputs_of}
 use Rattle.smap_run.specs.PlanArguments.{parsed_plan}
 use Rattle.smap_run.proofs.Maps.{carried_error}

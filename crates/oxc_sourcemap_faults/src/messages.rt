@@ -1,8 +1,8 @@
 //! The messages of refusals.
 ghost use Rattle.std.specs.Prelude.{◌≡◌, length, MatchOption, string_bytes};
-ghost use Rattle.oxc_sourcemap_c.specs.Refusals.{refusal_text};
-ghost use Rattle.oxc_sourcemap_c.specs.Codes.{refusal_of};
-ghost use Rattle.oxc_sourcemap_c.specs.Answers.{overwritten, IsMessage};
+ghost use Rattle.oxc_sourcemap_faults.specs.Refusals.{refusal_text};
+ghost use Rattle.oxc_sourcemap_faults.specs.Codes.{refusal_of};
+ghost use Rattle.oxc_sourcemap_faults.specs.Messages.{overwritten, IsMessage};
 
 use crate::fault::Fault;
 use crate::refusal::Refusal;

@@ -2,8 +2,8 @@
 ghost use Rattle.std.specs.Prelude.{◌≡◌, Some};
 ghost use Rattle.oxc_sourcemap.specs.Error.TheVariants.{OutOfMemory};
 ghost use Rattle.oxc_sourcemap.specs.PlanError.TheVariants.{Map};
-ghost use Rattle.oxc_sourcemap_c.specs.declared.refusal.Refusal.TheVariants.{Plan};
-ghost use Rattle.oxc_sourcemap_c.specs.Refusals.{refusal_text, out_of_memory, refusal_of_run};
+ghost use Rattle.oxc_sourcemap_faults.specs.declared.refusal.Refusal.TheVariants.{Plan};
+ghost use Rattle.oxc_sourcemap_faults.specs.Refusals.{refusal_text, out_of_memory, refusal_of_run};
 
 use oxc_sourcemap::{Error, PlanError};
 use smap_run::RunError;

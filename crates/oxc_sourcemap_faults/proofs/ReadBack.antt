@@ -6,9 +6,9 @@ use Rattle.oxc_sourcemap.specs.Field.TheVariants.{Object, Version as VersionFiel
 use Rattle.oxc_sourcemap.specs.JsonFault.TheVariants.{Reading, Shape, Version}
 use Rattle.oxc_sourcemap.specs.Error.TheVariants.{VlqLeftover, VlqNoValues, VlqOverflow, BadJson, BadSegmentSize, BadSourceReference, BadNameReference, OutOfMemory, TooLarge, LineOrder, BadChunks, SeveralSources, SectionOrder}
 use Rattle.oxc_sourcemap.specs.PlanError.TheVariants.{Map, Unsorted, TooDeep}
-use Rattle.oxc_sourcemap_c.specs.declared.refusal.Refusal.{Refusal}
-use Rattle.oxc_sourcemap_c.specs.declared.refusal.Refusal.TheVariants.{Plan, Words, NoText, EmptyHandle, NotUtf8, Lengths, NoEntry}
-use Rattle.oxc_sourcemap_c.specs.Codes.{fault_of, refusal_of, IsSmall}
+use Rattle.oxc_sourcemap_faults.specs.declared.refusal.Refusal.{Refusal}
+use Rattle.oxc_sourcemap_faults.specs.declared.refusal.Refusal.TheVariants.{Plan, Words, NoText, EmptyHandle, NotUtf8, Lengths, NoEntry}
+use Rattle.oxc_sourcemap_faults.specs.Codes.{fault_of, refusal_of, IsSmall}
 
 shape_back : (f : Field) → refusal_of (fault_of (Plan (Map (BadJson (Shape f))))) ≡ Some (Plan (Map (BadJson (Shape f))))
 shape_back Object = refl

@@ -6,8 +6,8 @@ use Rattle.oxc_sourcemap.specs.PlanError.TheVariants.{Map}
 use Rattle.oxc_sourcemap.specs.PlanMessages.{plan_error_text}
 use Rattle.smap_run.specs.declared.running.RunError.{RunError}
 use Rattle.smap_run.specs.declared.running.RunError.TheVariants.{Plan as PlanFails, Read, Write, Utf8, Arguments, NoText as NoInput}
-use Rattle.oxc_sourcemap_c.specs.declared.refusal.Refusal.{Refusal}
-use Rattle.oxc_sourcemap_c.specs.declared.refusal.Refusal.TheVariants.{Plan, Words, NoText, EmptyHandle, NotUtf8, Lengths, NoEntry}
+use Rattle.oxc_sourcemap_faults.specs.declared.refusal.Refusal.{Refusal}
+use Rattle.oxc_sourcemap_faults.specs.declared.refusal.Refusal.TheVariants.{Plan, Words, NoText, EmptyHandle, NotUtf8, Lengths, NoEntry}
 
 abbrev pub refusal_text : Refusal → List ℕ
 refusal_text (Plan error) = plan_error_text error

@@ -1,0 +1,10 @@
+//! Refusals of the library for C: their codes, their numbers and their messages. `oxc_sourcemap_c` alone uses this crate.
+#![tactic(auto)]
+
+mod fault;
+mod messages;
+mod refusal;
+
+pub use fault::Fault;
+pub use messages::write_message;
+pub use refusal::Refusal;

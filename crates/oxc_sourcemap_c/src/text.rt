@@ -1,6 +1,7 @@
 //! What is lent to C: bytes, and structs of numbers and bytes.
 ghost use Rattle.std.specs.Prelude.{◌≡◌, [], length, option_map, Option, Some};
 ghost use Rattle.std.specs.Option.{unwrap_or};
+ghost use Rattle.std.specs.Ptr.{as_ptr};
 ghost use Rattle.oxc_sourcemap.specs.View.{view_of, view_original, seen_in};
 ghost use Rattle.oxc_sourcemap_c.specs.Places.{IsPlace, HasIds, number_or_none, numbers_of, counts_of};
 
@@ -15,8 +16,9 @@ pub struct Text {
 }
 
 impl Text {
+    /// The address and the length of these bytes.
     pub fn of(bytes: &[u8]) -> Text
-        ensures { result.len ≡ length bytes.now }
+        ensures { (result.at ≡ as_ptr bytes.entry) × (result.len ≡ length bytes.now) }
     {
         let at = bytes.as_ptr();
         let len = bytes.len();

@@ -1,7 +1,10 @@
 -- The ids given to paths, and those of names, as hashed maps have them.
-use Rattle.std.proofs.Common.{◌≡◌, ◌∙◌, ap, sym, ℕ, cond, List, [], ◌∷◌, ◌++◌, map, length, Some, None, refl, arith, Bor}
+use Rattle.std.proofs.Common.{◌≡◌, ◌∙◌, ap, sym, ℕ, cond, List, [], ◌∷◌, ◌++◌, map, length, Some, None, refl, arith}
 use Rattle.std.proofs.lemmas.List.{map-append, length-map}
 use Rattle.std.specs.Option.{option_or}
+use Rattle.std.specs.Cow.{cow_str_bytes}
+use Rattle.std.specs.declared.alloc.Global.{Global}
+use Rattle.std.specs.declared.borrow.CowStr.{CowStr}
 use Rattle.std.proofs.lemmas.Map.Text.{is_eq-slice_cmp, text_keys}
 use Rattle.std.proofs.lemmas.Slice.Eq.{bytes_eq-Decides}
 use Rattle.std.specs.Ordering.{nat_cmp}
@@ -14,20 +17,20 @@ use Rattle.oxc_sourcemap_parts.specs.Texts.{index_of}
 use Rattle.oxc_sourcemap_parts.proofs.Places.{index-push}
 
 -- the ids that entries give
-abbrev ids_of : List (Bor Text × ℕ) → fin.FinMap (slice_cmp nat_cmp) ℕ
-ids_of es = fin.from_entries {R = slice_cmp nat_cmp} (map (λ e. (e.0.now, e.1)) es)
+abbrev ids_of : List (CowStr Global × ℕ) → fin.FinMap (slice_cmp nat_cmp) ℕ
+ids_of es = fin.from_entries {R = slice_cmp nat_cmp} (map (λ e. (cow_str_bytes e.0, e.1)) es)
 
-find_given : (path : Text) (es : List (Bor Text × ℕ)) → fin.find (slice_cmp nat_cmp) path (map (λ e. (e.0.now, e.1)) es) ≡ lookup (λ k. bytes_eq path k.now) es
+find_given : (path : Text) (es : List (CowStr Global × ℕ)) → fin.find (slice_cmp nat_cmp) path (map (λ e. (cow_str_bytes e.0, e.1)) es) ≡ lookup (λ k. bytes_eq path (cow_str_bytes k)) es
 find_given path [] = refl
 find_given path (e ∷ es) = grind (arith, is_eq-slice_cmp, find_given path es)
 
 -- the id given to a path
-pub get_given : (es : List (Bor Text × ℕ)) (path : Text) → fin.get (ids_of es) path ≡ lookup (λ k. bytes_eq path k.now) es
-get_given es path = fin.get-from_entries nat_list_cmp_total (map (λ e. (e.0.now, e.1)) es) path ∙ find_given path es
+pub get_given : (es : List (CowStr Global × ℕ)) (path : Text) → fin.get (ids_of es) path ≡ lookup (λ k. bytes_eq path (cow_str_bytes k)) es
+get_given es path = fin.get-from_entries nat_list_cmp_total (map (λ e. (cow_str_bytes e.0, e.1)) es) path ∙ find_given path es
 
 -- the ids after one more is given
-pub given_more : (es fs : List (Bor Text × ℕ)) (path : Text) (id : ℕ)
-    → ((q : Text) → lookup (λ k. bytes_eq q k.now) fs ≡ update bytes_eq (λ ds. lookup (λ k. bytes_eq ds k.now) es) path (Some id) q) → ids_of fs ≡ fin.insert (ids_of es) path id
+pub given_more : (es fs : List (CowStr Global × ℕ)) (path : Text) (id : ℕ)
+    → ((q : Text) → lookup (λ k. bytes_eq q (cow_str_bytes k)) fs ≡ update bytes_eq (λ ds. lookup (λ k. bytes_eq ds (cow_str_bytes k)) es) path (Some id) q) → ids_of fs ≡ fin.insert (ids_of es) path id
 given_more es fs path id h =
     fin.same_map nat_list_cmp_total (fin.slice_cmp-IsAntisymmetric fin.nat_cmp-IsAntisymmetric) _ _
     (λ q.
@@ -35,13 +38,13 @@ given_more es fs path id h =
     ∙ grind (arith, is_eq-slice_cmp, text_keys, bytes_eq-Decides path q, bytes_eq-Decides q path, get_given es q, fin.get-insert nat_list_cmp_total (ids_of es) path id q))
 
 -- entries in another order give the same ids
-pub given_same : (es fs : List (Bor Text × ℕ)) → ((q : Text) → lookup (λ k. bytes_eq q k.now) fs ≡ lookup (λ k. bytes_eq q k.now) es) → ids_of fs ≡ ids_of es
+pub given_same : (es fs : List (CowStr Global × ℕ)) → ((q : Text) → lookup (λ k. bytes_eq q (cow_str_bytes k)) fs ≡ lookup (λ k. bytes_eq q (cow_str_bytes k)) es) → ids_of fs ≡ ids_of es
 given_same es fs h =
     fin.same_map nat_list_cmp_total (fin.slice_cmp-IsAntisymmetric fin.nat_cmp-IsAntisymmetric) _ _ (λ q. get_given fs q ∙ h q ∙ sym (get_given es q))
 
 -- the place of a text, where there is one name more
-pub place_more : (text : Text) (names : List (Bor Text)) (name : Bor Text)
-    → index_of text (map (λ t. t.now) (names ++ name ∷ [])) ≡ option_or (index_of text (map (λ t. t.now) names)) (cond (bytes_eq text name.now) (Some (length names)) None)
+pub place_more : (text : Text) (names : List (CowStr Global)) (name : CowStr Global)
+    → index_of text (map cow_str_bytes (names ++ name ∷ [])) ≡ option_or (index_of text (map cow_str_bytes names)) (cond (bytes_eq text (cow_str_bytes name)) (Some (length names)) None)
 place_more text names name =
-    ap (index_of text) (map-append (λ t. t.now) names (name ∷ [])) ∙ index-push text (map (λ t. t.now) names) name.now
-    ∙ ap (λ n. option_or (index_of text (map (λ t. t.now) names)) (cond (bytes_eq text name.now) (Some n) None)) (length-map names (λ t. t.now))
+    ap (index_of text) (map-append cow_str_bytes names (name ∷ [])) ∙ index-push text (map cow_str_bytes names) (cow_str_bytes name)
+    ∙ ap (λ n. option_or (index_of text (map cow_str_bytes names)) (cond (bytes_eq text (cow_str_bytes name)) (Some n) None)) (length-map names cow_str_bytes)

@@ -1,17 +1,18 @@
 -- What contracts see of a builder.
-use Rattle.std.specs.Prelude.{◌≡◌, ℕ, [], map, Vec}
-use Rattle.std.specs.Borrow.{Bor}
+use Rattle.std.specs.Prelude.{◌≡◌, ℕ, [], Vec}
+use Rattle.std.specs.Cow.{cow_str_bytes}
 use Rattle.std.specs.Str.{bytes_eq}
 use Rattle.std.specs.HashMap as hash
 use Rattle.std.specs.HashMap.{HashMap}
 use Rattle.std.specs.declared.alloc.Global.{Global}
+use Rattle.std.specs.declared.borrow.CowStr.{CowStr}
 use Rattle.std.specs.Ordering.{nat_cmp}
 use Rattle.std.specs.Cmp.Lexicographic.{slice_cmp}
 use Rattle.std.specs.Coded.{Coded, coded_ℕ, coded_list}
 use Rattle.std.specs.FinMap as fin
 use Rattle.oxc_sourcemap_parts.specs.Record.{Text, MapRecord}
 use Rattle.oxc_sourcemap_parts.specs.Texts.{index_of}
-use Rattle.oxc_sourcemap_parts.specs.Views.{empty_record}
+use Rattle.oxc_sourcemap_parts.specs.Views.{texts_of, empty_record}
 
 -- the ids given to paths
 abbrev pub Ids : Type 0
@@ -31,5 +32,5 @@ abbrev pub nothing_built : Built
 nothing_built = record { map = empty_record; given = fin.from_entries [] }
 
 -- This map has the place of each text among these, and no other text. No public contract cites it.
-abbrev pub HasPlaces : {S : Type 0} → Vec (Bor Text) Global → HashMap (Bor Text) ℕ S → Type 0
-HasPlaces texts ids = (text : Text) → hash.get_by (λ key. bytes_eq text key.now) ids ≡ index_of text (map (λ t. t.now) texts.items)
+abbrev pub HasPlaces : {S : Type 0} → Vec (CowStr Global) Global → HashMap (CowStr Global) ℕ S → Type 0
+HasPlaces texts ids = (text : Text) → hash.get_by (λ key. bytes_eq text (cow_str_bytes key)) ids ≡ index_of text (texts_of texts)

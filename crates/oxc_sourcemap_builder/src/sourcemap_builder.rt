@@ -1,14 +1,15 @@
 //! Building a map call by call.
-ghost use Rattle.std.specs.Prelude.{◌≡◌, ◌↔◌, ◌≤◌, ◌<◌, ◌++◌, ◌∷◌, ◌⊎◌, ℕ, [], map, option_map, length, Some, None, IsNone, IfSome, IfOk, IfErr, IsErrOf, OnOk, OnErr};
+ghost use Rattle.std.specs.Prelude.{◌≡◌, ◌↔◌, ◌≤◌, ◌<◌, ◌++◌, ◌∷◌, ◌⊎◌, ℕ, [], length, Some, None, IsNone, IfSome, IfOk, IfErr, IsErrOf, OnOk, OnErr};
+ghost use Rattle.std.specs.Cow.{cow_str_bytes};
 ghost use Rattle.std.specs.FinMap as fin;
 ghost use Rattle.std.specs.Ordering.{nat_cmp};
 ghost use Rattle.std.specs.Cmp.Lexicographic.{slice_cmp};
 ghost use Rattle.oxc_sourcemap_mappings.specs.declared.error.Error.TheVariants.{OutOfMemory, TooLarge};
 ghost use Rattle.oxc_sourcemap_mappings.specs.Token.{kept_id};
-ghost use Rattle.oxc_sourcemap_parts.specs.Views.{text_of, texts_of, contents_of};
+ghost use Rattle.oxc_sourcemap_parts.specs.Views.{texts_of, contents_of};
 ghost use Rattle.oxc_sourcemap_parts.specs.Texts.{index_of};
 ghost use Rattle.oxc_sourcemap_builder.specs.Built.{nothing_built};
-ghost use Rattle.oxc_sourcemap_builder.specs.Building.{with_name, with_another_source, with_path};
+ghost use Rattle.oxc_sourcemap_builder.specs.Building.{with_name, with_name_at, with_another_source, with_path, with_path_at};
 
 use oxc_sourcemap_map::{OwnedSourceMap, SourceMap};
 use oxc_sourcemap_mappings::{Error, Result, Token, TokenChunk};
@@ -17,30 +18,32 @@ use std::borrow::CowStr;
 use std::collections::HashMap;
 use std::marker::Model;
 
-/// Builds a map call by call. All strings are borrowed for `'a`.
+/// Builds a map call by call. Strings are borrowed for `'a`, except those given to the calls that end in `_copied`: of these
+/// the builder keeps copies. A builder whose strings are all copied is a `SourceMapBuilder<'static>`.
 ///
 /// Ids are counted from 0, in the order in which names and sources come. Lines and columns count from 0; columns are in
 /// UTF-16 code units. An add that fails leaves the builder unchanged, and an `into_` call that fails drops it.
 #[derive(Drop)]
 pub struct SourceMapBuilder<'a> {
     alloc: Global,
-    file: Option<&'a str>,
-    names: Vec<&'a str>,
+    file: Option<CowStr<'a>>,
+    names: Vec<CowStr<'a>>,
     /// The index of each name.
-    name_ids: HashMap<&'a str, u32>,
-    sources: Vec<&'a str>,
-    source_contents: Vec<Option<&'a str>>,
+    name_ids: HashMap<CowStr<'a>, u32>,
+    sources: Vec<CowStr<'a>>,
+    source_contents: Vec<Option<CowStr<'a>>>,
     tokens: Vec<Token>,
     token_chunks: Option<Vec<TokenChunk>>,
     /// The ids that `add_source_and_content` has given to paths.
-    given: HashMap<&'a str, u32>,
+    given: HashMap<CowStr<'a>, u32>,
 }
 
 impl<'a> Model for SourceMapBuilder<'a> {
-    ghost use Rattle.std.specs.Prelude.{map, option_map, None, length, ◌≤◌};
+    ghost use Rattle.std.specs.Prelude.{map, None, length, ◌≤◌};
+    ghost use Rattle.std.specs.Cow.{cow_str_bytes};
     ghost use Rattle.std.specs.Coded.{codes};
     ghost use Rattle.std.specs.FinMap as fin;
-    ghost use Rattle.oxc_sourcemap_parts.specs.Views.{chunks_of};
+    ghost use Rattle.oxc_sourcemap_parts.specs.Views.{text_of, texts_of, contents_of, chunks_of};
     ghost use Rattle.oxc_sourcemap_builder.specs.Built.{Built, ids_code, HasPlaces};
 
     ghost Value = { Built };
@@ -49,17 +52,17 @@ impl<'a> Model for SourceMapBuilder<'a> {
 
     ghost view = { λ b. record {
       map = record {
-        file = option_map (λ text. text.now) b.file;
-        names = map (λ text. text.now) b.names.items;
+        file = text_of b.file;
+        names = texts_of b.names;
         source_root = None;
-        sources = map (λ text. text.now) b.sources.items;
-        source_contents = map (λ content. option_map (λ text. text.now) content) b.source_contents.items;
+        sources = texts_of b.sources;
+        source_contents = contents_of b.source_contents;
         tokens = b.tokens.items;
         token_chunks = chunks_of b.token_chunks;
         ignore_list = None;
         debug_id = None;
       };
-      given = fin.from_entries (map (λ entry. (entry.0.now, entry.1)) b.given.entries);
+      given = fin.from_entries (map (λ entry. (cow_str_bytes entry.0, entry.1)) b.given.entries);
     } };
 
     // So an index of a name is an id, and the one that the map has for it.
@@ -78,16 +81,22 @@ fn next_id(count: usize) -> Result<u32>
     Ok(count as u32)
 }
 
+/// A copy of a string.
+fn copied<'a>(alloc: Global, text: &str) -> std::result::Result<CowStr<'a>, AllocError>
+    ensures { IfOk result (λ copy. cow_str_bytes copy ≡ text.now) }
+{
+    Ok(CowStr::Owned(String::from_str(alloc, text)?))
+}
+
 /// Adds a path and a content, or neither.
 fn push_source<'a>(
-    sources: &mut Vec<&'a str>,
-    contents: &mut Vec<Option<&'a str>>,
-    path: &'a str,
-    content: &'a str,
+    sources: &mut Vec<CowStr<'a>>,
+    contents: &mut Vec<Option<CowStr<'a>>>,
+    path: CowStr<'a>,
+    content: CowStr<'a>,
 ) -> std::result::Result<(), AllocError>
-    ensures sources { OnOk result (map (λ text. text.now) sources.new.items ≡ map (λ text. text.now) sources.old.items ++ path.now ∷ []) }
-    ensures contents { OnOk result (map (option_map (λ text. text.now)) contents.new.items
-        ≡ map (option_map (λ text. text.now)) contents.old.items ++ Some content.now ∷ []) }
+    ensures sources { OnOk result (texts_of sources.new ≡ texts_of sources.old ++ cow_str_bytes path.entry ∷ []) }
+    ensures contents { OnOk result (contents_of contents.new ≡ contents_of contents.old ++ Some (cow_str_bytes content.entry) ∷ []) }
     ensures unchanged { OnErr result ((sources.new.items ≡ sources.old.items) × (contents.new.items ≡ contents.old.items)) }
 {
     sources.reserve(1)?;
@@ -132,13 +141,48 @@ impl<'a> SourceMapBuilder<'a> {
             return Ok(*id);
         }
         let id = next_id(self.names.len())?;
+        self.push_name(CowStr::Borrowed(name), CowStr::Borrowed(name), id)?;
+        Ok(id)
+    }
+
+    /// The same as `add_name`, with copies of the name where it is new.
+    pub fn add_name_copied(&mut self, name: &str) -> Result<u32>
+        ensures added { IfOk result (λ id. (self.new, id) ≡ with_name self.old name.now) }
+        ensures too_large { IsErrOf result TooLarge
+            ↔ (IsNone (index_of name.now self.old.map.names) × (4294967295 ≤ length self.old.map.names)) }
+        ensures refused { IfErr result (λ e. (e ≡ OutOfMemory) ⊎ (e ≡ TooLarge)) }
+        ensures unchanged { OnErr result (self.new ≡ self.old) }
+    {
+        if let Some(known) = self.name_ids.get(name) {
+            return Ok(*known);
+        }
+        let id = next_id(self.names.len())?;
+        let key = copied(self.alloc, name)?;
+        let copy = copied(self.alloc, name)?;
+        self.push_name(key, copy, id)?;
+        Ok(id)
+    }
+
+    /// Adds a name that is new, and the same string as its key, or neither.
+    fn push_name(
+        &mut self,
+        key: CowStr<'a>,
+        name: CowStr<'a>,
+        id: u32,
+    ) -> std::result::Result<(), AllocError>
+        requires same { cow_str_bytes key ≡ cow_str_bytes name }
+        requires new { index_of (cow_str_bytes name) self.old.map.names ≡ None }
+        requires id { (id ≡ length self.old.map.names) × (id < 4294967295) }
+        ensures added { OnOk result (self.new ≡ (with_name_at self.old (cow_str_bytes name.entry) None).0) }
+        ensures unchanged { OnErr result (self.new ≡ self.old) }
+    {
         self.names.reserve(1)?;
         self.name_ids.reserve(1)?;
-        let inserted: std::result::Result<_, _> = self.name_ids.insert(name, id);
+        let inserted: std::result::Result<_, _> = self.name_ids.insert(key, id);
         let _none = inserted.unwrap();
         let pushed: std::result::Result<_, _> = self.names.push(name);
         pushed.unwrap();
-        Ok(id)
+        Ok(())
     }
 
     /// Adds a source with its content and returns its id. A path that this call has added before keeps its id and its first
@@ -157,11 +201,52 @@ impl<'a> SourceMapBuilder<'a> {
             return Ok(*id);
         }
         let id = next_id(self.sources.len())?;
+        self.push_given(
+            CowStr::Borrowed(path),
+            CowStr::Borrowed(path),
+            CowStr::Borrowed(content),
+            id,
+        )?;
+        Ok(id)
+    }
+
+    /// The same as `add_source_and_content`, with copies of the path and the content where the path is new.
+    pub fn add_source_and_content_copied(&mut self, path: &str, content: &str) -> Result<u32>
+        ensures added { IfOk result (λ id. (self.new, id) ≡ with_path self.old path.now content.now) }
+        ensures too_large { IsErrOf result TooLarge
+            ↔ (IsNone (fin.get self.old.given path.now) × (4294967295 ≤ length self.old.map.sources)) }
+        ensures refused { IfErr result (λ e. (e ≡ OutOfMemory) ⊎ (e ≡ TooLarge)) }
+        ensures unchanged { OnErr result (self.new ≡ self.old) }
+    {
+        if let Some(known) = self.given.get(path) {
+            return Ok(*known);
+        }
+        let id = next_id(self.sources.len())?;
+        let key = copied(self.alloc, path)?;
+        let listed = copied(self.alloc, path)?;
+        let text = copied(self.alloc, content)?;
+        self.push_given(key, listed, text, id)?;
+        Ok(id)
+    }
+
+    /// Adds a source and its content, and gives the id to its path, or nothing.
+    fn push_given(
+        &mut self,
+        key: CowStr<'a>,
+        path: CowStr<'a>,
+        content: CowStr<'a>,
+        id: u32,
+    ) -> std::result::Result<(), AllocError>
+        requires same { cow_str_bytes key ≡ cow_str_bytes path }
+        requires id { id ≡ length self.old.map.sources }
+        ensures added { OnOk result (self.new ≡ (with_path_at self.old (cow_str_bytes path.entry) (cow_str_bytes content.entry) None).0) }
+        ensures unchanged { OnErr result (self.new ≡ self.old) }
+    {
         self.given.reserve(1)?;
         push_source(&mut self.sources, &mut self.source_contents, path, content)?;
-        let inserted: std::result::Result<_, _> = self.given.insert(path, id);
+        let inserted: std::result::Result<_, _> = self.given.insert(key, id);
         let _none = inserted.unwrap();
-        Ok(id)
+        Ok(())
     }
 
     /// Appends a source with its content, even if there is one of this path, and returns the new id. It replaces nothing,
@@ -176,8 +261,27 @@ impl<'a> SourceMapBuilder<'a> {
         ensures unchanged { OnErr result (self.new ≡ self.old) }
     {
         let last = next_id(self.sources.len())?;
-        push_source(&mut self.sources, &mut self.source_contents, path, content)?;
+        push_source(
+            &mut self.sources,
+            &mut self.source_contents,
+            CowStr::Borrowed(path),
+            CowStr::Borrowed(content),
+        )?;
         Ok(last)
+    }
+
+    /// The same as `set_source_and_content`, with copies of the path and the content.
+    pub fn set_source_and_content_copied(&mut self, path: &str, content: &str) -> Result<u32>
+        ensures added { IfOk result (λ id. (self.new, id) ≡ with_another_source self.old path.now content.now) }
+        ensures too_large { IsErrOf result TooLarge ↔ (4294967295 ≤ length self.old.map.sources) }
+        ensures refused { IfErr result (λ e. (e ≡ OutOfMemory) ⊎ (e ≡ TooLarge)) }
+        ensures unchanged { OnErr result (self.new ≡ self.old) }
+    {
+        let new_id = next_id(self.sources.len())?;
+        let path = copied(self.alloc, path)?;
+        let content = copied(self.alloc, content)?;
+        push_source(&mut self.sources, &mut self.source_contents, path, content)?;
+        Ok(new_id)
     }
 
     /// Appends a token, as `Token::new` makes it: unmapped if `src_id` is None, without a name if `name_id` is None. Nothing
@@ -217,7 +321,18 @@ impl<'a> SourceMapBuilder<'a> {
     pub fn set_file(&mut self, file: &'a str)
         ensures { self.new ≡ record self.old { map = record self.old.map { file = Some file.now } } }
     {
-        self.file = Some(file);
+        self.file = Some(CowStr::Borrowed(file));
+    }
+
+    /// Sets the name of the generated file to a copy of this one. Fails only with `OutOfMemory`; the builder is then as it
+    /// was.
+    pub fn set_file_copied(&mut self, file: &str) -> Result<()>
+        ensures set { OnOk result (self.new ≡ record self.old { map = record self.old.map { file = Some file.now } }) }
+        ensures refused { IfErr result (λ e. e ≡ OutOfMemory) }
+        ensures unchanged { OnErr result (self.new ≡ self.old) }
+    {
+        self.file = Some(copied(self.alloc, file)?);
+        Ok(())
     }
 
     /// Sets the chunks in which the tokens are written. Nothing is checked, and it cannot fail.
@@ -227,26 +342,26 @@ impl<'a> SourceMapBuilder<'a> {
         self.token_chunks = Some(token_chunks);
     }
 
-    /// The map that was built, without source root, ignore list and debug id. Its strings are borrowed. Fails only with
-    /// `OutOfMemory`; the builder is then dropped.
+    /// The map that was built, without source root, ignore list and debug id. Its strings are those of the builder, borrowed
+    /// or owned. Takes no memory.
     pub fn into_sourcemap(self) -> Result<SourceMap<'a>>
         ensures map { IfOk result (λ map. map ≡ self.entry.map) }
         ensures nothing_else { IfOk result (λ map. (map.source_root ≡ None) × (map.ignore_list ≡ None) × (map.debug_id ≡ None)) }
         ensures refused { IfErr result (λ e. e ≡ OutOfMemory) }
     {
         Ok(SourceMap::new(
-            lent(self.file),
-            lent_texts(self.alloc, self.names)?,
+            self.file,
+            self.names,
             None,
-            lent_texts(self.alloc, self.sources)?,
-            lent_contents(self.alloc, self.source_contents)?,
+            self.sources,
+            self.source_contents,
             self.tokens.into_boxed_slice(),
             self.token_chunks,
         ))
     }
 
-    /// The map that was built, as `into_sourcemap` gives it, with copies of its strings. Fails only with `OutOfMemory`; the
-    /// builder is then dropped.
+    /// The map that was built, as `into_sourcemap` gives it, with copies of its borrowed strings. Fails only with
+    /// `OutOfMemory`; the builder is then dropped.
     pub fn into_owned_sourcemap(self) -> Result<OwnedSourceMap>
         ensures map { IfOk result (λ map. map ≡ self.entry.map) }
         ensures nothing_else { IfOk result (λ map. (map.source_root ≡ None) × (map.ignore_list ≡ None) × (map.debug_id ≡ None)) }
@@ -255,42 +370,4 @@ impl<'a> SourceMapBuilder<'a> {
         let alloc = self.alloc;
         self.into_sourcemap()?.into_owned_sourcemap(alloc)
     }
-}
-
-/// A borrowed string that may be there.
-fn lent<'a>(text: Option<&'a str>) -> Option<CowStr<'a>>
-    ensures { text_of result ≡ option_map (λ text. text.now) text.entry }
-{
-    match text {
-        Some(text) => Some(CowStr::Borrowed(text)),
-        None => None,
-    }
-}
-
-/// Borrowed strings.
-fn lent_texts<'a>(
-    alloc: Global,
-    texts: Vec<&'a str>,
-) -> std::result::Result<Vec<CowStr<'a>>, AllocError>
-    ensures { IfOk result (λ lent. texts_of lent ≡ map (λ text. text.now) texts.entry.items) }
-{
-    let mut lent_ones = Vec::with_capacity(alloc, texts.len())?;
-    for text in texts {
-        lent_ones.push(CowStr::Borrowed(text))?;
-    }
-    Ok(lent_ones)
-}
-
-/// Borrowed contents.
-fn lent_contents<'a>(
-    alloc: Global,
-    contents: Vec<Option<&'a str>>,
-) -> std::result::Result<Vec<Option<CowStr<'a>>>, AllocError>
-    ensures { IfOk result (λ lent. contents_of lent ≡ map (option_map (λ text. text.now)) contents.entry.items) }
-{
-    let mut lent_ones = Vec::with_capacity(alloc, contents.len())?;
-    for content in contents {
-        lent_ones.push(lent(content))?;
-    }
-    Ok(lent_ones)
 }

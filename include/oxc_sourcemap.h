@@ -4,15 +4,17 @@
  * on this page. Nothing checks that a caller keeps them. docs/C.md tells which promises are proved and which are tested.
  *
  * Handles
- *  - A map is an smap_map, a string that the library wrote an smap_string. Each is one pointer, which is yours to keep and
- *    not to look into. A variable begins as SMAP_EMPTY, and these functions alone change it.
+ *  - A map is an smap_map, a string that the library wrote an smap_string, a map that is being built an smap_builder. Each is
+ *    one pointer, which is yours to keep and not to look into. A variable begins as SMAP_EMPTY, and these functions alone
+ *    change it.
  *  - A full handle is never copied and used twice. To move it, copy it and set the old variable to SMAP_EMPTY.
- *  - smap_free_map and smap_free_string empty a handle. An empty handle may be freed again; every other call answers
- *    SMAP_EMPTY_HANDLE to one that it reads.
- *  - smap_compose and smap_join take their inputs: the handles are empty afterwards, also if the call is refused. Every other
- *    call leaves the handles that it reads as they are.
- *  - A call that makes a map or a string puts it into the handle that you give it, and frees what was there. If the call is
- *    refused, the handle is as it was.
+ *  - smap_free_map, smap_free_string and smap_builder_free empty a handle. An empty handle may be freed again; every other
+ *    call answers SMAP_EMPTY_HANDLE to one that it reads.
+ *  - smap_compose, smap_join and smap_builder_finish take their inputs: the handles are empty afterwards, also if the call is
+ *    refused. Every other call leaves the handles that it reads as they are, and a call on a builder that is refused leaves
+ *    the builder as it was.
+ *  - A call that makes a map, a string or a builder puts it into the handle that you give it, and frees what was there. If the
+ *    call is refused, the handle is as it was.
  *  - One call at a time may use a handle, and all calls on a handle are made by one thread.
  *
  * Texts
@@ -43,7 +45,7 @@
 extern "C" {
 #endif
 
-/* A map, and a string that was written. Not to be looked into. */
+/* A map, a string that was written, and a map that is being built. Not to be looked into. */
 typedef struct smap_map {
     void *at;
 } smap_map;
@@ -51,6 +53,10 @@ typedef struct smap_map {
 typedef struct smap_string {
     void *at;
 } smap_string;
+
+typedef struct smap_builder {
+    void *at;
+} smap_builder;
 
 #define SMAP_EMPTY { 0 }
 
@@ -222,6 +228,32 @@ uint32_t smap_join(smap_map *maps, size_t maps_len, const smap_position *offsets
  * SMAP_NO_TEXT, SMAP_TOO_DEEP, or with the first refusal of a step, SMAP_UNSORTED among them. */
 uint32_t smap_evaluate(const uint8_t *words, size_t words_len, const uint8_t *texts, size_t texts_len, smap_map *out,
                        smap_fault *fault);
+
+/* A builder with nothing in it. Refused only for want of memory. */
+uint32_t smap_builder_new(smap_builder *builder, smap_fault *fault);
+
+/* Adds a name, or finds the equal one that was added before, and writes its id to *id. Ids count from 0 in the order in which
+ * names come. The builder keeps a copy. Refused with SMAP_NOT_UTF8, SMAP_EMPTY_HANDLE, or SMAP_TOO_LARGE if the id would be
+ * SMAP_NO_ID. */
+uint32_t smap_builder_add_name(smap_builder *builder, const uint8_t *name, size_t name_len, uint32_t *id, smap_fault *fault);
+
+/* The same of a source by its path, with its content. A path that was added before keeps its id and its first content. */
+uint32_t smap_builder_add_source_and_content(smap_builder *builder, const uint8_t *path, size_t path_len,
+                                             const uint8_t *content, size_t content_len, uint32_t *id, smap_fault *fault);
+
+/* Appends a token: unmapped if its source_id is SMAP_NO_ID, without a name if its name_id is. Add tokens in the order of their
+ * generated positions. Ids are not compared with what was added: one that is out of range traces to no source or no name, and
+ * its map can be written but not read again. Refused with SMAP_EMPTY_HANDLE. */
+uint32_t smap_builder_add_token(smap_builder *builder, const smap_token *token, smap_fault *fault);
+
+/* Sets the name of the generated file. The builder keeps a copy. Refused with SMAP_NOT_UTF8 or SMAP_EMPTY_HANDLE. */
+uint32_t smap_builder_set_file(smap_builder *builder, const uint8_t *file, size_t file_len, smap_fault *fault);
+
+/* Makes the map that was built. Takes the builder. Refused with SMAP_EMPTY_HANDLE. */
+uint32_t smap_builder_finish(smap_builder *builder, smap_map *out, smap_fault *fault);
+
+/* Empties a builder's handle and frees what it held. */
+void smap_builder_free(smap_builder *builder);
 
 /* Writes the JSON text of a map, and the same as a data URL. Refused with SMAP_LINE_ORDER or SMAP_TOO_LARGE. */
 uint32_t smap_to_json_string(smap_map *map, smap_string *out, smap_fault *fault);

@@ -304,6 +304,60 @@ static void writing(void) {
     smap_free_map(&map);
 }
 
+static uint32_t add_token(smap_builder *builder, uint32_t col, uint32_t src_col, uint32_t source_id, uint32_t name_id) {
+    smap_token token = { 0, col, 0, src_col, source_id, name_id };
+    smap_fault fault;
+    uint32_t code = smap_builder_add_token(builder, &token, &fault);
+    return code == fault.code ? code : 77;
+}
+
+static void building(void) {
+    smap_builder builder = SMAP_EMPTY;
+    smap_map map = SMAP_EMPTY;
+    smap_string string = SMAP_EMPTY;
+    smap_fault fault = { 77, 77, 77 };
+    smap_text text;
+    smap_place p;
+    uint32_t id = 77;
+    char name[3] = "hi";
+    CHECK(smap_builder_new(&builder, &fault) == SMAP_OK && fault.code == SMAP_OK && builder.at != NULL);
+    CHECK(smap_builder_set_file(&builder, BYTES("out.js"), &fault) == SMAP_OK);
+    CHECK(smap_builder_add_source_and_content(&builder, BYTES("a.ts"), BYTES("let hi;"), &id, &fault) == SMAP_OK && id == 0);
+    CHECK(smap_builder_add_source_and_content(&builder, BYTES("b.ts"), BYTES(""), &id, &fault) == SMAP_OK && id == 1);
+    CHECK(smap_builder_add_source_and_content(&builder, BYTES("a.ts"), BYTES("x"), &id, &fault) == SMAP_OK && id == 0);
+    CHECK(smap_builder_add_name(&builder, BYTES(name), &id, &fault) == SMAP_OK && id == 0);
+    memset(name, '#', 2); /* the builder has a copy */
+    CHECK(smap_builder_add_name(&builder, BYTES("gr\xc3\xb6\xc3\x9f" "e"), &id, &fault) == SMAP_OK && id == 1);
+    CHECK(smap_builder_add_name(&builder, BYTES("hi"), &id, &fault) == SMAP_OK && id == 0);
+    CHECK(add_token(&builder, 0, 0, 0, SMAP_NO_ID) == SMAP_OK && add_token(&builder, 3, 9, 1, 0) == SMAP_OK);
+    CHECK(add_token(&builder, 8, 0, SMAP_NO_ID, SMAP_NO_ID) == SMAP_OK);
+    id = 77;
+    CHECK(smap_builder_add_name(&builder, BYTES("ab\xff"), &id, &fault) == SMAP_NOT_UTF8 && fault.detail == 2 && id == 77);
+    CHECK(smap_builder_add_source_and_content(&builder, BYTES("\xff"), BYTES(""), &id, &fault) == SMAP_NOT_UTF8);
+    CHECK(smap_builder_add_source_and_content(&builder, BYTES("c.ts"), BYTES("x\xff"), &id, &fault) == SMAP_NOT_UTF8);
+    CHECK(fault.code == SMAP_NOT_UTF8 && fault.detail == 1 && id == 77);
+    CHECK(smap_builder_set_file(&builder, BYTES("\xff"), &fault) == SMAP_NOT_UTF8 && fault.detail == 0);
+    CHECK(smap_builder_finish(&builder, &map, &fault) == SMAP_OK && builder.at == NULL && map.at != NULL);
+    CHECK(smap_to_json_string(&map, &string, &fault) == SMAP_OK && smap_get_text(&string, &text) == SMAP_OK);
+    CHECK(is(&text, "{\"version\":3,\"file\":\"out.js\",\"names\":[\"hi\",\"gr\xc3\xb6\xc3\x9f" "e\"],\"sources\":[\"a.ts\",\"b.ts\"],"
+                    "\"sourcesContent\":[\"let hi;\",\"\"],\"mappings\":\"AAAA,GCASA,K\"}"));
+    CHECK(smap_trace(&map, 0, 4, &p, &fault) == SMAP_OK && p.kind == SMAP_NAMED && is(&p.source, "b.ts") && is(&p.name, "hi"));
+    CHECK(smap_builder_finish(&builder, &map, &fault) == SMAP_EMPTY_HANDLE && map.at != NULL); /* kept */
+    CHECK(smap_builder_add_name(&builder, BYTES("hi"), &id, &fault) == SMAP_EMPTY_HANDLE && id == 77);
+    CHECK(smap_builder_add_source_and_content(&builder, BYTES("a"), BYTES(""), &id, &fault) == SMAP_EMPTY_HANDLE && id == 77);
+    CHECK(add_token(&builder, 0, 0, 0, 0) == SMAP_EMPTY_HANDLE);
+    CHECK(smap_builder_set_file(&builder, BYTES("a"), &fault) == SMAP_EMPTY_HANDLE && builder.at == NULL);
+    CHECK(smap_builder_new(&builder, &fault) == SMAP_OK && add_token(&builder, 0, 0, 7, 7) == SMAP_OK); /* no such source, no such name */
+    CHECK(smap_builder_finish(&builder, &map, &fault) == SMAP_OK); /* the map before is freed */
+    CHECK(smap_trace(&map, 0, 0, &p, &fault) == SMAP_OK && p.kind == SMAP_UNMAPPED && p.source_id == 7);
+    CHECK(smap_builder_new(&builder, &fault) == SMAP_OK && smap_builder_new(&builder, &fault) == SMAP_OK); /* the first is freed */
+    smap_builder_free(&builder);
+    CHECK(builder.at == NULL);
+    smap_builder_free(&builder);
+    smap_free_string(&string);
+    smap_free_map(&map);
+}
+
 static void evaluate(const char *words, uint32_t code, uint64_t detail) {
     smap_map map = SMAP_EMPTY;
     smap_fault fault;
@@ -330,15 +384,21 @@ static void evaluating(void) {
 static uint32_t run_all(void) {
     smap_map one = SMAP_EMPTY, two = SMAP_EMPTY, out = SMAP_EMPTY, parts[2] = { SMAP_EMPTY, SMAP_EMPTY };
     smap_string string = SMAP_EMPTY;
+    smap_builder builder = SMAP_EMPTY;
+    smap_token token = { 0, 0, 0, 0, 0, 0 };
     smap_position offsets[2] = { { 0, 0 }, { 3, 4 } };
     smap_fault f;
     smap_place p;
-    uint32_t c;
+    uint32_t c, id;
     (void)((c = smap_from_json_string(BYTES(B), &one, &f)) || (c = smap_from_json_string(BYTES(C), &two, &f)) ||
            (c = smap_compose(&one, &two, &parts[0], &f)) || (c = smap_from_json_string(BYTES(A), &parts[1], &f)) ||
            (c = smap_join(parts, 2, offsets, 2, &out, &f)) || (c = smap_trace(&out, 3, 8, &p, &f)) ||
            (c = smap_to_json_string(&out, &string, &f)) || (c = smap_to_data_url(&out, &string, &f)) ||
-           (c = smap_evaluate(BYTES("join 1 @0 2"), BYTES(A), &out, &f)));
+           (c = smap_evaluate(BYTES("join 1 @0 2"), BYTES(A), &out, &f)) || (c = smap_builder_new(&builder, &f)) ||
+           (c = smap_builder_set_file(&builder, BYTES("f"), &f)) || (c = smap_builder_add_name(&builder, BYTES("n"), &id, &f)) ||
+           (c = smap_builder_add_source_and_content(&builder, BYTES("a"), BYTES("A"), &id, &f)) ||
+           (c = smap_builder_add_token(&builder, &token, &f)) || (c = smap_builder_finish(&builder, &out, &f)));
+    smap_builder_free(&builder);
     smap_free_map(&one);
     smap_free_map(&two);
     smap_free_map(&parts[0]);
@@ -372,6 +432,7 @@ int main(void) {
     joining();
     composing();
     writing();
+    building();
     evaluating();
     without_memory();
     printf("%d passed, %d failed\n", passed, failed);

@@ -16,7 +16,7 @@ from collections.abc import Iterable, Iterator, Sequence
 from pathlib import Path
 from typing import NamedTuple, Optional, Union
 
-__all__ = ["SourceMap", "SourceMapError", "Place", "Token", "Counts", "UNMAPPED"]
+__all__ = ["SourceMap", "SourceMapBuilder", "SourceMapError", "Place", "Token", "Counts", "UNMAPPED"]
 
 _u32, _size, _p = ctypes.c_uint32, ctypes.c_size_t, ctypes.POINTER
 _NO_ID = 0xFFFFFFFF
@@ -82,6 +82,13 @@ _PROTOTYPES = {
     "smap_compose": (_u32, _p(_Handle), _p(_Handle), _p(_Handle), _p(_Fault)),
     "smap_join": (_u32, _p(_Handle), _size, _p(_Position), _size, _p(_Handle), _p(_Fault)),
     "smap_evaluate": (_u32, _bytes, _size, _bytes, _size, _p(_Handle), _p(_Fault)),
+    "smap_builder_new": (_u32, _p(_Handle), _p(_Fault)),
+    "smap_builder_add_name": (_u32, _p(_Handle), _bytes, _size, _p(_u32), _p(_Fault)),
+    "smap_builder_add_source_and_content": (_u32, _p(_Handle), _bytes, _size, _bytes, _size, _p(_u32), _p(_Fault)),
+    "smap_builder_add_token": (_u32, _p(_Handle), _p(_Token), _p(_Fault)),
+    "smap_builder_set_file": (_u32, _p(_Handle), _bytes, _size, _p(_Fault)),
+    "smap_builder_finish": (_u32, _p(_Handle), _p(_Handle), _p(_Fault)),
+    "smap_builder_free": (None, _p(_Handle)),
     "smap_to_json_string": (_u32, _p(_Handle), _p(_Handle), _p(_Fault)),
     "smap_to_data_url": (_u32, _p(_Handle), _p(_Handle), _p(_Fault)),
     "smap_get_text": (_u32, _p(_Handle), _p(_Text)),
@@ -164,6 +171,11 @@ def _number(value: int) -> int:
 
 def _id(number: int) -> Optional[int]:
     return None if number == _NO_ID else number
+
+
+def _sized(text: str) -> tuple[bytes, int]:
+    data = text.encode()
+    return data, len(data)
 
 
 class SourceMap:
@@ -323,3 +335,54 @@ class SourceMap:
     def to_data_url(self) -> str:
         """Writes the JSON text as a data URL."""
         return self._written(_lib.smap_to_data_url)
+
+
+class SourceMapBuilder:
+    """Builds a map call by call. `close`, or the end of a `with`, frees it; so do `into_sourcemap` and the garbage collector."""
+
+    def __init__(self) -> None:
+        self._handle = _Handle()
+        self._call(_lib.smap_builder_new)
+
+    def _call(self, call, *arguments) -> None:
+        fault = _Fault()
+        if call(self._handle, *arguments, fault):
+            raise SourceMapError(fault)
+
+    def _added(self, call, *texts: str) -> int:
+        id = _u32()
+        self._call(call, *(it for text in texts for it in _sized(text)), id)
+        return id.value
+
+    def add_name(self, name: str) -> int:
+        """Adds a name and returns its id. A name that was added before keeps its id."""
+        return self._added(_lib.smap_builder_add_name, name)
+
+    def add_source_and_content(self, path: str, content: str) -> int:
+        """Adds a source and returns its id. A path that was added before keeps its id and its first content."""
+        return self._added(_lib.smap_builder_add_source_and_content, path, content)
+
+    def add_token(self, token: Token) -> None:
+        """Appends a token. Add tokens in the order of their generated positions; ids are not compared with what was added."""
+        numbers = (_NO_ID if it is None else _number(it) for it in token)
+        self._call(_lib.smap_builder_add_token, _Token(*numbers))
+
+    def set_file(self, file: str) -> None:
+        """Sets the name of the generated file."""
+        self._call(_lib.smap_builder_set_file, *_sized(file))
+
+    def into_sourcemap(self) -> SourceMap:
+        """The map that was built. The builder is closed."""
+        return SourceMap._made(_lib.smap_builder_finish, self._handle)
+
+    def close(self) -> None:
+        _lib.smap_builder_free(self._handle)
+
+    def __enter__(self) -> "SourceMapBuilder":
+        return self
+
+    def __exit__(self, *_: object) -> None:
+        self.close()
+
+    def __del__(self) -> None:
+        self.close()

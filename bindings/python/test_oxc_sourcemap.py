@@ -5,7 +5,7 @@ import json
 import os
 import unittest
 
-from oxc_sourcemap import UNMAPPED, SourceMap, SourceMapError
+from oxc_sourcemap import UNMAPPED, SourceMap, SourceMapBuilder, SourceMapError, Token
 
 MAP = {
     "version": 3,
@@ -125,6 +125,44 @@ class Making(unittest.TestCase):
             with self.assertRaises(SourceMapError) as caught:
                 SourceMap.evaluate(words, [TEXT])
             self.assertEqual(caught.exception.code, code)
+
+
+class Building(unittest.TestCase):
+    def test_built_and_read(self):
+        with SourceMapBuilder() as builder:
+            builder.set_file("out.js")
+            self.assertEqual([builder.add_source_and_content(it, it.upper()) for it in ("a.ts", "b.ts", "a.ts")], [0, 1, 0])
+            self.assertEqual([builder.add_name(it) for it in ("größe", "hi", "größe")], [0, 1, 0])
+            tokens = [Token(0, 0, 0, 0, 0, None), Token(0, 3, 0, 9, 1, 0), Token(2, 8, 0, 0, None, None)]
+            for token in tokens:
+                builder.add_token(token)
+            with builder.into_sourcemap() as map:
+                self.assertEqual((map.file, map.names, map.sources), ("out.js", ["größe", "hi"], ["a.ts", "b.ts"]))
+                self.assertEqual(map.source_contents, ["A.TS", "B.TS"])
+                self.assertEqual(list(map.tokens()), tokens)
+                self.assertEqual(map.trace(0, 4), ("b.ts", 0, 9, "größe", 1))
+
+    def test_a_builder_that_is_closed(self):
+        builder = SourceMapBuilder()
+        builder.close()
+        token = Token(0, 0, 0, 0, 0, None)
+        for call in (
+            builder.into_sourcemap,
+            lambda: builder.add_name("a"),
+            lambda: builder.add_source_and_content("a", ""),
+            lambda: builder.add_token(token),
+            lambda: builder.set_file("a"),
+        ):
+            with self.assertRaises(SourceMapError) as caught:
+                call()
+            self.assertEqual(caught.exception.code, 100)
+        with SourceMapBuilder() as builder:
+            builder.add_token(token)
+            with builder.into_sourcemap() as map, self.assertRaises(SourceMapError) as caught:
+                SourceMap.from_json(map.to_json())
+            self.assertEqual((caught.exception.code, caught.exception.detail), (8, 0))
+            with self.assertRaises(OverflowError):
+                builder.add_token(token._replace(dst_line=1 << 32))
 
 
 @unittest.skipUnless("OXC_SOURCEMAP_MAP" in os.environ, "OXC_SOURCEMAP_MAP names no map")

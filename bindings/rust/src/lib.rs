@@ -30,6 +30,23 @@ pub struct SourceMap(UnsafeCell<raw::Handle>);
 /// A string that the library wrote.
 pub struct JsonString(UnsafeCell<raw::Handle>);
 
+/// Builds a map call by call. It keeps copies of the strings that it is given.
+///
+/// ```
+/// use oxc_sourcemap_native::{SourceMapBuilder, Token};
+/// let mut builder = SourceMapBuilder::new()?;
+/// builder.set_file("out.js")?;
+/// let source = builder.add_source_and_content("a.ts", "let hi;")?;
+/// let name = builder.add_name("hi")?;
+/// assert_eq!(builder.add_name("hi")?, name);
+/// builder.add_token(Token { dst_line: 0, dst_col: 3, src_line: 0, src_col: 4, source_id: Some(source), name_id: Some(name) })?;
+/// let map = builder.into_sourcemap()?;
+/// assert_eq!(map.trace(0, 5)?.unwrap().unwrap().name, Some("hi"));
+/// assert_eq!(map.get_file(), Some("out.js"));
+/// # Ok::<(), oxc_sourcemap_native::Error>(())
+/// ```
+pub struct SourceMapBuilder(raw::Handle);
+
 /// A token: a generated position and what it points to.
 #[derive(Clone, Copy, Debug, PartialEq, Eq)]
 pub struct Token {
@@ -352,6 +369,67 @@ impl SourceMap {
 impl Drop for SourceMap {
     fn drop(&mut self) {
         unsafe { raw::smap_free_map(self.0.get()) }
+    }
+}
+
+impl SourceMapBuilder {
+    /// A builder with nothing in it.
+    pub fn new() -> Result<SourceMapBuilder> {
+        made(|builder, fault| unsafe { raw::smap_builder_new(builder, fault) }).map(SourceMapBuilder)
+    }
+
+    fn call<T: Default>(&mut self, call: impl FnOnce(*mut raw::Handle, &mut T, *mut raw::Fault) -> u32) -> Result<T> {
+        let (mut out, mut fault) = (T::default(), raw::Fault::default());
+        match call(&mut self.0, &mut out, &mut fault) {
+            0 => Ok(out),
+            _ => Err(Error::of(&fault)),
+        }
+    }
+
+    /// Adds a name and returns its id. A name that was added before keeps its id.
+    pub fn add_name(&mut self, name: &str) -> Result<u32> {
+        self.call(|builder, id, fault| unsafe {
+            raw::smap_builder_add_name(builder, name.as_ptr(), name.len(), id, fault)
+        })
+    }
+
+    /// Adds a source with its content and returns its id. A path that was added before keeps its id and its first content.
+    pub fn add_source_and_content(&mut self, path: &str, content: &str) -> Result<u32> {
+        self.call(|builder, id, fault| unsafe {
+            let (at, len) = (path.as_ptr(), path.len());
+            raw::smap_builder_add_source_and_content(builder, at, len, content.as_ptr(), content.len(), id, fault)
+        })
+    }
+
+    /// Appends a token. Add tokens in the order of their generated positions; ids are not compared with what was added.
+    pub fn add_token(&mut self, token: Token) -> Result<()> {
+        let token = raw::Token {
+            dst_line: token.dst_line,
+            dst_col: token.dst_col,
+            src_line: token.src_line,
+            src_col: token.src_col,
+            source_id: token.source_id.unwrap_or(raw::NO_ID),
+            name_id: token.name_id.unwrap_or(raw::NO_ID),
+        };
+        self.call(|builder, _: &mut (), fault| unsafe { raw::smap_builder_add_token(builder, &token, fault) })
+    }
+
+    /// Sets the name of the generated file.
+    pub fn set_file(&mut self, file: &str) -> Result<()> {
+        self.call(|builder, _: &mut (), fault| unsafe {
+            raw::smap_builder_set_file(builder, file.as_ptr(), file.len(), fault)
+        })
+    }
+
+    /// The map that was built.
+    pub fn into_sourcemap(mut self) -> Result<SourceMap> {
+        made(|map, fault| unsafe { raw::smap_builder_finish(&mut self.0, map, fault) }).map(SourceMap::of)
+    }
+}
+
+impl Drop for SourceMapBuilder {
+    fn drop(&mut self) {
+        unsafe { raw::smap_builder_free(&mut self.0) }
     }
 }
 

@@ -114,6 +114,27 @@ extern "C" {
         out: *mut Handle,
         fault: *mut Fault,
     ) -> u32;
+    pub fn smap_builder_new(builder: *mut Handle, fault: *mut Fault) -> u32;
+    pub fn smap_builder_add_name(
+        builder: *mut Handle,
+        name: *const u8,
+        name_len: usize,
+        id: *mut u32,
+        fault: *mut Fault,
+    ) -> u32;
+    pub fn smap_builder_add_source_and_content(
+        builder: *mut Handle,
+        path: *const u8,
+        path_len: usize,
+        content: *const u8,
+        content_len: usize,
+        id: *mut u32,
+        fault: *mut Fault,
+    ) -> u32;
+    pub fn smap_builder_add_token(builder: *mut Handle, token: *const Token, fault: *mut Fault) -> u32;
+    pub fn smap_builder_set_file(builder: *mut Handle, file: *const u8, file_len: usize, fault: *mut Fault) -> u32;
+    pub fn smap_builder_finish(builder: *mut Handle, out: *mut Handle, fault: *mut Fault) -> u32;
+    pub fn smap_builder_free(builder: *mut Handle);
     pub fn smap_to_json_string(map: *mut Handle, out: *mut Handle, fault: *mut Fault) -> u32;
     pub fn smap_to_data_url(map: *mut Handle, out: *mut Handle, fault: *mut Fault) -> u32;
     pub fn smap_get_text(string: *mut Handle, out: *mut Text) -> u32;

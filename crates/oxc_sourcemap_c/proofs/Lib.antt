@@ -3,3 +3,4 @@ pub mod Traces
 pub mod Composing
 pub mod Planned
 pub mod Joining
+pub mod Memory

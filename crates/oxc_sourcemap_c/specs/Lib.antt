@@ -6,3 +6,5 @@ pub mod Traces
 pub mod Answers
 pub mod Plans
 pub mod Joins
+pub mod Steps
+pub mod Builders

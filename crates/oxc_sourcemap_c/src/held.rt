@@ -7,7 +7,7 @@ ghost use Rattle.oxc_sourcemap_c.specs.Indexed.{IsOutOfOrder};
 ghost use Rattle.oxc_sourcemap_c.specs.Traces.{found_at, IsTraceOf, AreTracesOf};
 
 use crate::text::{Place, Position};
-use oxc_sourcemap::{Error, OwnedSourceMap, Result, Token};
+use oxc_sourcemap::{Error, OwnedSourceMap, Result, SourceMapBuilder, Token};
 use oxc_sourcemap_lookup::LineIndex;
 use std::alloc::Global;
 use std::marker::Model;
@@ -119,9 +119,10 @@ impl LoadedMap {
     }
 }
 
-/// A map, or a text that was written.
+/// A map, a text that was written, or a builder, whose strings are its own.
 #[derive(Drop)]
 pub enum Held {
     Map(LoadedMap),
     Written(String),
+    Building(SourceMapBuilder<'static>),
 }

@@ -14,18 +14,22 @@ ghost use Rattle.oxc_sourcemap.specs.Lookup.{pick, clamped_pick};
 ghost use Rattle.oxc_sourcemap.specs.DecodedMap.{decoded_map_of};
 ghost use Rattle.oxc_sourcemap.specs.Trace.{trace, clamped_trace};
 ghost use Rattle.oxc_sourcemap.specs.View.{content_at};
+ghost use Rattle.oxc_sourcemap.specs.Built.{nothing_built};
+ghost use Rattle.oxc_sourcemap.specs.Building.{with_name, with_path};
 ghost use Rattle.oxc_sourcemap_faults.specs.declared.refusal.Refusal.{Refusal};
 ghost use Rattle.oxc_sourcemap_faults.specs.Refusals.{refusal_text};
 ghost use Rattle.oxc_sourcemap_faults.specs.Codes.{fault_of, refusal_of, IsSmall};
-ghost use Rattle.oxc_sourcemap_c.specs.Holding.{held_map, held_text, HoldsMap};
+ghost use Rattle.oxc_sourcemap_c.specs.Holding.{held_map, held_text, held_builder, HoldsMap};
 ghost use Rattle.oxc_sourcemap_c.specs.Places.{counts_of, numbers_of};
 ghost use Rattle.oxc_sourcemap_c.specs.Joins.{all_held, IsJoinOf, IsJoinRefusal};
+ghost use Rattle.oxc_sourcemap_c.specs.Builders.{token_of, with_token, with_file, Builds, IsBuilderRefusal, IsNameRefusal, IsSourceRefusal, IsFileRefusal};
 ghost use Rattle.oxc_sourcemap_c.specs.Plans.{plan_of, IsPlanMap, IsPlanRefusal};
 ghost use Rattle.oxc_sourcemap_c.specs.Answers.{IsRefusedAs, IsReadRefusal, IsCompositionRefusal, IsWritingRefusal, HoldsWritten, Found, HasLength, HoldsText, ignored_at, flag_of, IsRefused};
 ghost use Rattle.oxc_sourcemap_faults.specs.Messages.{IsMessage};
 ghost use Rattle.oxc_sourcemap_c.specs.Traces.{IsTrace, IsTraceRefusal, AreTracesOf, IsTraceAllRefusal};
 
 mod asked;
+mod builders;
 mod handle;
 mod held;
 mod joins;
@@ -36,6 +40,7 @@ mod plans;
 mod text;
 
 use asked::Asked;
+use builders::{add_name, add_source, add_token, finish, noted, put_builder, set_file};
 use handle::Handle;
 use joins::join;
 use lookups::{
@@ -368,4 +373,100 @@ pub extern "C" fn smap_message(alloc: Global, fault: &Fault, out: &mut [u8]) -> 
     ensures cases { MatchOption (refusal_of fault.now) ((result ≡ 0) × (out.new ≡ out.old)) (λ r. IsMessage (refusal_text r) out.old out.new result) }
 {
     write_message(alloc, fault, out)
+}
+
+/// Puts a builder with nothing in it into a handle.
+#[unsafe(no_mangle)]
+pub extern "C" fn smap_builder_new(alloc: Global, builder: &mut Handle, fault: &mut Fault) -> u32
+    ensures built { result ≡ 0 → held_builder builder.new.held ≡ Some nothing_built }
+    ensures refused { result ≢ 0 → (builder.new.held ≡ builder.old.held) × IsRefusedAs result fault.new (λ r. ⊥) }
+{
+    put_builder(alloc, builder, fault)
+}
+
+/// Adds a name to the builder in a handle, and writes its id.
+#[unsafe(no_mangle)]
+pub extern "C" fn smap_builder_add_name(
+    alloc: Global,
+    builder: &mut Handle,
+    name: &[u8],
+    id: &mut u32,
+    fault: &mut Fault,
+) -> u32
+    ensures added { result ≡ 0 → Builds builder.old.held builder.new.held (λ b c. (c, id.new) ≡ with_name b name.now) }
+    ensures refused { result ≢ 0 → (builder.new.held ≡ builder.old.held) × (id.new ≡ id.old)
+        × IsRefusedAs result fault.new (IsNameRefusal builder.old.held name.now) }
+{
+    noted(add_name(alloc, builder, name), id, fault)
+}
+
+/// Adds a source with its content to the builder in a handle, and writes its id.
+#[unsafe(no_mangle)]
+pub extern "C" fn smap_builder_add_source_and_content(
+    alloc: Global,
+    builder: &mut Handle,
+    path: &[u8],
+    content: &[u8],
+    id: &mut u32,
+    fault: &mut Fault,
+) -> u32
+    ensures added { result ≡ 0 → Builds builder.old.held builder.new.held (λ b c. (c, id.new) ≡ with_path b path.now content.now) }
+    ensures refused { result ≢ 0 → (builder.new.held ≡ builder.old.held) × (id.new ≡ id.old)
+        × IsRefusedAs result fault.new (IsSourceRefusal builder.old.held path.now content.now) }
+{
+    noted(add_source(alloc, builder, path, content), id, fault)
+}
+
+/// Adds a token to the builder in a handle.
+#[unsafe(no_mangle)]
+pub extern "C" fn smap_builder_add_token(
+    alloc: Global,
+    builder: &mut Handle,
+    token: &TokenNumbers,
+    fault: &mut Fault,
+) -> u32
+    ensures added { result ≡ 0 → Builds builder.old.held builder.new.held (λ b c. c ≡ with_token b (token_of token.now)) }
+    ensures refused { result ≢ 0 → (builder.new.held ≡ builder.old.held) × IsRefusedAs result fault.new (IsBuilderRefusal builder.old.held) }
+{
+    let mut none = 0;
+    noted(add_token(alloc, builder, *token), &mut none, fault)
+}
+
+/// Sets the file of the builder in a handle.
+#[unsafe(no_mangle)]
+pub extern "C" fn smap_builder_set_file(
+    alloc: Global,
+    builder: &mut Handle,
+    file: &[u8],
+    fault: &mut Fault,
+) -> u32
+    ensures set { result ≡ 0 → Builds builder.old.held builder.new.held (λ b c. c ≡ with_file b file.now) }
+    ensures refused { result ≢ 0 → (builder.new.held ≡ builder.old.held) × IsRefusedAs result fault.new (IsFileRefusal builder.old.held file.now) }
+{
+    let mut none = 0;
+    noted(set_file(alloc, builder, file), &mut none, fault)
+}
+
+/// Puts the map that the builder in a handle has built into another. The builder's handle is then empty.
+#[unsafe(no_mangle)]
+pub extern "C" fn smap_builder_finish(
+    alloc: Global,
+    builder: &mut Handle,
+    map: &mut Handle,
+    fault: &mut Fault,
+) -> u32
+    ensures emptied { builder.new.held ≡ None }
+    ensures map { result ≡ 0 → HoldsMap map.new.held (λ m. MatchOption (held_builder builder.old.held) ⊥ (λ b. m ≡ b.map)) }
+    ensures refused { result ≢ 0 → (map.new.held ≡ map.old.held) × IsRefusedAs result fault.new (IsBuilderRefusal builder.old.held) }
+{
+    let built = finish(alloc, builder);
+    put_map(alloc, built, map, fault)
+}
+
+/// Frees the builder in a handle, which is then empty.
+#[unsafe(no_mangle)]
+pub extern "C" fn smap_builder_free(alloc: Global, builder: &mut Handle)
+    ensures { builder.new.held ≡ None }
+{
+    drop(builder.take(alloc));
 }

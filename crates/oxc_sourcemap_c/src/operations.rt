@@ -35,7 +35,7 @@ pub fn take_map(alloc: Global, handle: &mut Handle) -> Result<OwnedSourceMap, Re
     match handle.take(alloc) {
         Some(held) => match Box::into_inner(held) {
             Held::Map(loaded) => Ok(loaded.into_map()),
-            Held::Written(_) => Err(Refusal::EmptyHandle),
+            _ => Err(Refusal::EmptyHandle),
         },
         None => Err(Refusal::EmptyHandle),
     }
@@ -104,7 +104,7 @@ pub fn put_text(
 }
 
 /// Puts what was made into a handle, or leaves the handle as it is, and returns the code.
-fn put(
+pub(crate) fn put(
     alloc: Global,
     made: Result<Box<Held>, Refusal>,
     handle: &mut Handle,
@@ -133,7 +133,7 @@ pub fn map_in(held: &Held) -> Option<&LoadedMap>
 {
     match held {
         Held::Map(loaded) => Some(loaded),
-        Held::Written(_) => None,
+        _ => None,
     }
 }
 
@@ -142,7 +142,7 @@ pub fn text_in(held: &Held) -> Option<&str>
     ensures { option_map (λ text. text.now) result ≡ held_text (Some held.now) }
 {
     match held {
-        Held::Map(_) => None,
         Held::Written(text) => Some(text.as_str()),
+        _ => None,
     }
 }

@@ -2,7 +2,7 @@
 use crate::helpers::same;
 use crate::streams::{BreakingReader, BreakingWriter};
 use smap_run::{Command, Port, RunError, read_words, run};
-use std::alloc::Global;
+use std::alloc::{AllocError, Global};
 use std::process::Abort;
 
 /// The words of a command, an input, and what is written.
@@ -36,19 +36,19 @@ const RUNS: &[Run] = &[
     ),
 ];
 
-/// The command of words.
-fn command_of(alloc: Global, words: &[&str]) -> Result<Command, RunError> {
+/// Copies of words.
+fn copied(alloc: Global, words: &[&str]) -> Result<Vec<String>, AllocError> {
     let mut copies = Vec::new(alloc);
     for word in words {
         copies.push(String::from_str(alloc, word)?)?;
     }
-    read_words(alloc, copies.as_slice())
+    Ok(copies)
 }
 
 /// What a command answers to an input that is there at once.
 fn answer_to(
     alloc: Global,
-    command: &Command,
+    command: &Command<'_>,
     input: &[u8],
     written: &mut Vec<u8>,
 ) -> Result<(), RunError> {
@@ -63,7 +63,7 @@ fn answer_to(
 fn a_reader_breaks(
     rt: &impl Abort,
     alloc: Global,
-    command: &Command,
+    command: &Command<'_>,
     reader: BreakingReader<'_>,
     wanted: Result<(), RunError>,
     text: &[u8],
@@ -79,7 +79,13 @@ fn a_reader_breaks(
 }
 
 /// The read after the last byte is the last one.
-fn each_read_fails(rt: &impl Abort, alloc: Global, command: &Command, input: &[u8], answer: &[u8]) {
+fn each_read_fails(
+    rt: &impl Abort,
+    alloc: Global,
+    command: &Command<'_>,
+    input: &[u8],
+    answer: &[u8],
+) {
     let reads = input.len() as u64 + 1;
     for breaks_at in 0..reads + 1 {
         let reader = BreakingReader {
@@ -100,7 +106,8 @@ fn each_read_fails(rt: &impl Abort, alloc: Global, command: &Command, input: &[u
 #[test]
 fn a_failed_read_is_told_and_nothing_is_written(rt: HostRuntime) -> Result<(), RunError> {
     for (words, input, answer) in RUNS {
-        let command = command_of(rt.alloc(), words)?;
+        let words = copied(rt.alloc(), words)?;
+        let command = read_words(words.as_slice())?;
         each_read_fails(
             &rt,
             rt.alloc(),
@@ -116,7 +123,7 @@ fn a_failed_read_is_told_and_nothing_is_written(rt: HostRuntime) -> Result<(), R
 fn each_read_gives_none(
     rt: &impl Abort,
     alloc: Global,
-    command: &Command,
+    command: &Command<'_>,
     input: &[u8],
 ) -> Result<(), RunError> {
     for end in 0..input.len() {
@@ -137,7 +144,8 @@ fn each_read_gives_none(
 #[test]
 fn a_read_that_gives_none_ends_the_input(rt: HostRuntime) -> Result<(), RunError> {
     for (words, input, _) in RUNS {
-        let command = command_of(rt.alloc(), words)?;
+        let words = copied(rt.alloc(), words)?;
+        let command = read_words(words.as_slice())?;
         each_read_gives_none(&rt, rt.alloc(), &command, input.as_bytes())?;
     }
     Ok(())
@@ -147,7 +155,7 @@ fn a_read_that_gives_none_ends_the_input(rt: HostRuntime) -> Result<(), RunError
 fn a_write_breaks(
     rt: &impl Abort,
     alloc: Global,
-    command: &Command,
+    command: &Command<'_>,
     input: &[u8],
     writer: BreakingWriter,
     answer: &[u8],
@@ -175,7 +183,7 @@ fn a_write_breaks(
 fn each_write_breaks(
     rt: &impl Abort,
     alloc: Global,
-    command: &Command,
+    command: &Command<'_>,
     input: &[u8],
     answer: &[u8],
     fails: bool,
@@ -195,7 +203,8 @@ fn each_write_breaks(
 fn a_failed_write_is_told_and_a_beginning_stands(rt: HostRuntime) -> Result<(), RunError> {
     for fails in [true, false] {
         for (words, input, answer) in RUNS {
-            let command = command_of(rt.alloc(), words)?;
+            let words = copied(rt.alloc(), words)?;
+            let command = read_words(words.as_slice())?;
             let (input, answer) = (input.as_bytes(), answer.as_bytes());
             each_write_breaks(&rt, rt.alloc(), &command, input, answer, fails);
         }
@@ -206,7 +215,8 @@ fn a_failed_write_is_told_and_a_beginning_stands(rt: HostRuntime) -> Result<(), 
 #[test]
 fn input_is_utf8(rt: HostRuntime) -> Result<(), RunError> {
     for (words, _, _) in RUNS {
-        let command = command_of(rt.alloc(), words)?;
+        let words = copied(rt.alloc(), words)?;
+        let command = read_words(words.as_slice())?;
         for input in [&b"\xff"[..], b"{\"a\":\"\xed\xa0\x80\"}", b"A\xc3"] {
             let mut written = Vec::new(rt.alloc());
             let ran = answer_to(rt.alloc(), &command, input, &mut written);

@@ -297,7 +297,6 @@ pub(crate) const CALLS: &[(&str, &str, Call)] = &[
         "ConcatSourceMapBuilder::into_owned_sourcemap",
         Call::FinishJoinOwned,
     ),
-    ("takes", "read_words", Call::ReadArguments),
     ("takes", "inputs_of", Call::SplitInput),
     ("takes", "read_plan", Call::ReadPlan),
     ("takes", "trace", Call::TracePosition),
@@ -322,6 +321,7 @@ pub(crate) const CALLS: &[(&str, &str, Call)] = &[
     ),
     ("none", "empty", Call::MakeEmpty),
     ("none", "chunk_fault, Port, status", Call::MakeValues),
+    ("none", "read_words", Call::ReadArguments),
     (
         "tells",
         "LineOrder and BadChunks of writing",

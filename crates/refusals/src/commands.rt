@@ -28,12 +28,9 @@ fn copied(rt: &HostRuntime, words: &[&str]) -> Result<Vec<String>, RunError> {
 /// The words of a plan that joins the map with itself.
 const PLAN: &[&str] = &["join", "2", "@0", "0", "rewrite", "@0", "1"];
 
-/// The command, its input, and what it writes.
-fn ordered(
-    rt: &HostRuntime,
-    order: Order,
-) -> Result<(Command, &'static str, &'static str), RunError> {
-    Ok(match order {
+/// The command, its input, and what it writes. The words are those of its plan.
+fn ordered<'w>(order: Order, words: &'w [String]) -> (Command<'w>, &'static str, &'static str) {
+    match order {
         Order::Mappings => (Command::Mappings(1, 1), "AAAA,GAAIA", "AAAA,GAAIA\n"),
         Order::Normalise => (
             Command::Normalise,
@@ -47,16 +44,17 @@ fn ordered(
         ),
         Order::Trace => (Command::Trace(0, 3), INPUT, "\"a.js\":0:4 \"x\"\n"),
         Order::Plan => (
-            Command::Plan(copied(rt, PLAN)?),
+            Command::Plan(words),
             INPUT,
             "{\"version\":3,\"names\":[\"x\",\"x\"],\"sources\":[\"a.js\",\"a.js\"],\"mappings\":\"AAAA,GAAIA;ACAJ,GAAIC\"}\n",
         ),
-    })
+    }
 }
 
 /// Runs a command, with a writer that has room for its answer.
 pub(crate) fn run_command(rt: &HostRuntime, order: Order) -> Result<Ended, RunError> {
-    let (command, input, wanted) = ordered(rt, order)?;
+    let words = copied(rt, PLAN)?;
+    let (command, input, wanted) = ordered(order, words.as_slice());
     let mut reader = Port::new(input.as_bytes());
     let mut writer = Port::new(Vec::with_capacity(rt.alloc(), 4096)?);
     call(rt);
@@ -76,16 +74,15 @@ fn run_ended(ran: Result<(), RunError>, has_failed: bool, written: &[u8], wanted
     }
 }
 
-/// Reads the words of a plan.
+/// Reads the words of a plan, which are borrowed.
 pub(crate) fn read_arguments(rt: &HostRuntime) -> Result<Ended, RunError> {
     let words = copied(rt, &["plan", "join", "1", "@0", "0"])?;
     call(rt);
-    let read = read_words(rt.alloc(), words.as_slice());
+    let read = read_words(words.as_slice());
     answer(rt);
     Ok(match read {
         Ok(Command::Plan(words)) => passed_if(words.len() == 4),
-        Ok(_) => Ended::Wrong,
-        Err(error) => run_failed(error),
+        _ => Ended::Wrong,
     })
 }
 
@@ -103,9 +100,8 @@ pub(crate) fn split_input(rt: &HostRuntime) -> Result<Ended, RunError> {
 /// Reads the plan that words name.
 pub(crate) fn read_arguments_of_plan(rt: &HostRuntime) -> Result<Ended, RunError> {
     let words = copied(rt, PLAN)?;
-    let inputs = copied(rt, &[INPUT])?;
     call(rt);
-    let read = read_plan(rt.alloc(), inputs.as_slice(), words.as_slice());
+    let read = read_plan(rt.alloc(), &[INPUT], words.as_slice());
     answer(rt);
     Ok(match read {
         Ok(_) => Ended::Passed,

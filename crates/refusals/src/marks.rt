@@ -49,7 +49,7 @@ pub(crate) fn plan_failed(error: PlanError) -> Ended {
     }
 }
 
-/// The same of `run` and `read_words`.
+/// The same of `run` and `read_plan`.
 pub(crate) fn run_failed(error: RunError) -> Ended {
     match error {
         RunError::Plan(error) => plan_failed(error),

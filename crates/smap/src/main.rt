@@ -35,7 +35,8 @@ fn arguments_of(rt: &HostRuntime) -> Result<Vec<String>, RunError> {
 }
 
 fn smap(rt: &HostRuntime) -> Result<(), RunError> {
-    let command = read_words(rt.alloc(), arguments_of(rt)?.as_slice())?;
+    let arguments = arguments_of(rt)?;
+    let command = read_words(arguments.as_slice())?;
     let mut reader = Port::new(rt.stdin());
     let mut writer = Port::new(rt.stdout());
     run(rt.alloc(), &command, &mut reader, &mut writer)

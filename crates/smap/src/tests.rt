@@ -294,7 +294,7 @@ pub fn strings(alloc: Global, words: &[&str]) -> Result<Vec<String>, AllocError>
 /// Runs the command on the input, and adds what it writes.
 fn run_command(
     alloc: Global,
-    command: &Command,
+    command: &Command<'_>,
     input: &[u8],
     written: &mut Vec<u8>,
 ) -> Result<(), RunError> {
@@ -313,7 +313,7 @@ fn run_words(
     written: &mut Vec<u8>,
 ) -> Result<(), RunError> {
     let words = strings(alloc, words)?;
-    let command = read_words(alloc, words.as_slice())?;
+    let command = read_words(words.as_slice())?;
     run_command(alloc, &command, input, written)
 }
 

@@ -1,78 +1,110 @@
--- Texts of an input, gathered line by line.
-use Rattle.std.proofs.Common.{◌≡◌, ℕ, Bool, true, false, cond, List, [], ◌∷◌, ◌++◌, map, length, refl, sym, ap, ◌∙◌, arith}
-use Rattle.std.specs.List.{slice_split, join_with_byte, onto_first}
-use Rattle.std.proofs.lemmas.List.{append_assoc, append-nil}
-use Rattle.std.proofs.lemmas.List.Splits.{length-slice_split}
+-- The first text of an input, and what comes after its parting line.
+use Rattle.std.proofs.Common.{◌≡◌, ◌≢◌, ℕ, ◌<◌, Bool, true, false, cond, ◌==◌, List, [], ◌∷◌, ◌++◌, map, codes, length, drop, refl, sym, ap, ◌∙◌, arith}
+use Rattle.std.specs.List.{All, slice_split, join_with_byte, onto_first}
+use Rattle.std.specs.Cmp.Lexicographic.{bytes_decides}
+use Rattle.std.proofs.lemmas.Bool.{false_from_ne_true}
+use Rattle.std.proofs.Math.Seq.{drop-append_seam}
+use Rattle.std.proofs.lemmas.List.{append_assoc, length-append}
+use Rattle.std.proofs.lemmas.List.Elements.{All-nil, All-cons}
+use Rattle.std.proofs.lemmas.List.Splits.{slice_split-cons_yes, slice_split_none, slice_split_at, length-slice_split, join_with_byte-slice_split}
 use Rattle.oxc_sourcemap.specs.Record.{Text}
-use Rattle.smap_run.specs.PlanInputs.{with_line, is_parting}
-use Rattle.std.specs.Borrow.{Bor}
+use Rattle.smap_run.specs.PlanInputs.{input_lines, is_parting, inputs_of}
 
--- the texts of some more lines, after a text that has lines already, or none
-abbrev pub continued : Text → Bool → List Text → List Text
-continued text is_first [] = text ∷ []
-continued text is_first (line ∷ more) = cond (is_parting line) (text ∷ continued [] true more) (continued (with_line text is_first line) false more)
+abbrev dashes : Text
+dashes = codes "---"
 
-abbrev has_none : List Text → Bool
-has_none [] = true
-has_none (line ∷ input_lines) = false
+-- ---- lines of two texts with a line feed between them
+onto-front : {X : Type 0} (x : X) (groups more : List (List X)) → (length groups ≡ 0 → ⊥) → onto_first x (groups ++ more) ≡ onto_first x groups ++ more
+onto-front x [] more n = absurd (n refl)
+onto-front x (g ∷ groups) more n = refl
 
--- these lines before the first of some groups
-abbrev after : List Text → List (List Text) → List (List Text)
-after front [] = []
-after front (group ∷ groups) = (front ++ group) ∷ groups
+split-some : {X : Type 0} (p : X → Bool) (xs : List X) → length (slice_split p xs) ≡ 0 → ⊥
+split-some p xs e = let k = length-slice_split p xs in omega arith
 
-join-more : (front : List Text) (line : Text) → join_with_byte 10 (front ++ line ∷ []) ≡ with_line (join_with_byte 10 front) (has_none front) line
-join-more [] line = refl
-join-more (a ∷ []) line = refl
-join-more (a ∷ b ∷ front) line = ap (λ t. a ++ 10 ∷ t) (join-more (b ∷ front) line) ∙ sym (append_assoc a (10 ∷ join_with_byte 10 (b ∷ front)) (10 ∷ line))
-
-none-more : (front : List Text) (line : Text) → has_none (front ++ line ∷ []) ≡ false
-none-more [] line = refl
-none-more (a ∷ front) line = refl
-
-after-onto : (front : List Text) (line : Text) (groups : List (List Text)) → (length groups ≡ 0 → ⊥) → after front (onto_first line groups) ≡ after (front ++ line ∷ []) groups
-after-onto front line [] n = absurd (n refl)
-after-onto front line (g ∷ groups) n = ap (λ xs. xs ∷ groups) (sym (append_assoc front (line ∷ []) g))
-
-after-none : (groups : List (List Text)) → after [] groups ≡ groups
-after-none [] = refl
-after-none (g ∷ groups) = refl
-
-split-some : (input_lines : List Text) → length (slice_split is_parting input_lines) ≡ 0 → ⊥
-split-some input_lines e = let k = length-slice_split is_parting input_lines in omega arith
-
-grouped : (front input_lines : List Text) → map (join_with_byte 10) (after front (slice_split is_parting input_lines)) ≡ continued (join_with_byte 10 front) (has_none front) input_lines
-grouped front [] = ap (λ xs. join_with_byte 10 xs ∷ []) (append-nil front)
-grouped front (line ∷ input_lines) =
-    elim (is_parting line) as (λ b. map (join_with_byte 10) (after front (cond b ([] ∷ slice_split is_parting input_lines) (onto_first line (slice_split is_parting input_lines))))
-    ≡ cond b (join_with_byte 10 front ∷ continued [] true input_lines) (continued (with_line (join_with_byte 10 front) (has_none front) line) false input_lines)) [
-      | true ↦ ap (λ xs. join_with_byte 10 xs ∷ map (join_with_byte 10) (slice_split is_parting input_lines)) (append-nil front)
-          ∙ ap (λ xs. join_with_byte 10 front ∷ xs) (ap (map (join_with_byte 10)) (sym (after-none (slice_split is_parting input_lines))) ∙ grouped [] input_lines)
-      | false ↦ ap (map (join_with_byte 10)) (after-onto front line (slice_split is_parting input_lines) (split-some input_lines))
-          ∙ grouped (front ++ line ∷ []) input_lines
-          ∙ ap (λ t. continued t (has_none (front ++ line ∷ [])) input_lines) (join-more front line)
-          ∙ ap (λ b. continued (with_line (join_with_byte 10 front) (has_none front) line) b input_lines) (none-more front line)
+-- a list is split at each element that passes
+split-at : {X : Type 0} (p : X → Bool) (xs : List X) (y : X) (ys : List X) → p y ≡ true → slice_split p (xs ++ y ∷ ys) ≡ slice_split p xs ++ slice_split p ys
+split-at p [] y ys e = slice_split-cons_yes p y ys e
+split-at p (x ∷ xs) y ys e =
+    elim (p x) as (λ b. cond b ([] ∷ slice_split p (xs ++ y ∷ ys)) (onto_first x (slice_split p (xs ++ y ∷ ys))) ≡ cond b ([] ∷ slice_split p xs) (onto_first x (slice_split p xs)) ++ slice_split p ys) [
+      | true ↦ ap (λ groups. [] ∷ groups) (split-at p xs y ys e)
+      | false ↦ ap (onto_first x) (split-at p xs y ys e) ∙ onto-front x (slice_split p xs) (slice_split p ys) (split-some p xs)
     ]
 
--- all texts of some lines
-pub texts_grouped : (input_lines : List Text) → map (join_with_byte 10) (slice_split is_parting input_lines) ≡ continued [] true input_lines
-texts_grouped input_lines = ap (map (join_with_byte 10)) (sym (after-none (slice_split is_parting input_lines))) ∙ grouped [] input_lines
+-- ---- where a parting line stands in a text
+join-front : (x : Text) (xs : List Text) (y : Text) (ys : List Text) → join_with_byte 10 ((x ∷ xs) ++ y ∷ ys) ≡ join_with_byte 10 (x ∷ xs) ++ 10 ∷ join_with_byte 10 (y ∷ ys)
+join-front x [] y ys = refl
+join-front x (z ∷ xs) y ys = ap (λ t. x ++ 10 ∷ t) (join-front z xs y ys) ∙ sym (append_assoc x (10 ∷ join_with_byte 10 (z ∷ xs)) (10 ∷ join_with_byte 10 (y ∷ ys)))
 
--- texts gathered from the lines that have come
-abbrev pub Gathered : List (Bor (List ℕ)) → List Text → Text → Bool → Type 0
-Gathered come inputs text is_first = (more : List Text) → continued [] true (map (λ line. line.now) come ++ more) ≡ inputs ++ continued text is_first more
+-- no line of a text is a parting one: by itself, first, last, or between two others
+abbrev pub HasNone : Text → Type 0
+HasNone text =
+    (text ≢ codes "---")
+    × ((rest : Text) → text ≢ codes "---\n" ++ rest)
+    × ((front : Text) → text ≢ front ++ codes "\n---")
+    × ((front rest : Text) → text ≢ front ++ (codes "\n---\n" ++ rest))
 
-come-more : (come : List (Bor (List ℕ))) (line : Bor (List ℕ)) (more : List Text) → map (λ line. line.now) (come ++ line ∷ []) ++ more ≡ map (λ line. line.now) come ++ line.now ∷ more
-come-more [] line more = refl
-come-more (l ∷ come) line more = ap (λ xs. l.now ∷ xs) (come-more come line more)
+none-among : (text : Text) (front after : List Text) → HasNone text → text ≡ join_with_byte 10 (front ++ dashes ∷ after) → ⊥
+none-among text [] [] h e = h.0 e
+none-among text [] (y ∷ after) h e = h.1 (join_with_byte 10 (y ∷ after)) e
+none-among text (x ∷ front) [] h e = h.2 (join_with_byte 10 (x ∷ front)) (e ∙ join-front x front dashes [])
+none-among text (x ∷ front) (y ∷ after) h e = h.3 (join_with_byte 10 (x ∷ front)) (join_with_byte 10 (y ∷ after)) (e ∙ join-front x front dashes (y ∷ after))
 
-pub gathered_parting : (come : List (Bor (List ℕ))) (line : Bor (List ℕ)) (inputs : List Text) (text : Text) (is_first : Bool) → is_parting line.now ≡ true → Gathered come inputs text is_first → Gathered (come ++ line ∷ []) (inputs ++ text ∷ []) [] true
-gathered_parting come line inputs text is_first e h = λ more.
-    ap (continued [] true) (come-more come line more) ∙ h (line.now ∷ more)
-    ∙ ap (λ b. inputs ++ cond b (text ∷ continued [] true more) (continued (with_line text is_first line.now) false more)) e
-    ∙ sym (append_assoc inputs (text ∷ []) (continued [] true more))
+not-parting : (line : Text) → line ≢ dashes → is_parting line ≡ false
+not-parting line n = false_from_ne_true (is_parting line) (λ t. n ((bytes_decides line dashes).0 t))
 
-pub gathered_line : (come : List (Bor (List ℕ))) (line : Bor (List ℕ)) (inputs : List Text) (text : Text) (is_first : Bool) → is_parting line.now ≡ false → Gathered come inputs text is_first → Gathered (come ++ line ∷ []) inputs (with_line text is_first line.now) false
-gathered_line come line inputs text is_first e h = λ more.
-    ap (continued [] true) (come-more come line more) ∙ h (line.now ∷ more)
-    ∙ ap (λ b. inputs ++ cond b (text ∷ continued [] true more) (continued (with_line text is_first line.now) false more)) e
+pub not_dashes : (text : Text) → is_parting text ≡ false → text ≢ dashes
+not_dashes text f e = cc (sym f ∙ ap is_parting e)
+
+-- lines that hold no parting line, wherever one is looked for
+none-left : (lines : List Text) → ((front after : List Text) → lines ≢ front ++ dashes ∷ after) → All (λ line. is_parting line ≡ false) lines
+none-left [] n = All-nil (λ line. is_parting line ≡ false)
+none-left (line ∷ lines) n =
+    All-cons (λ line. is_parting line ≡ false) line lines (not-parting line (λ e. n [] lines (ap (λ l. l ∷ lines) e)))
+    (none-left lines (λ front after e. n (line ∷ front) after (ap (λ ls. line ∷ ls) e)))
+
+none-parting : (text : Text) → HasNone text → All (λ line. is_parting line ≡ false) (input_lines text)
+none-parting text h = none-left (input_lines text) (λ front after e. none-among text front after h (sym (join_with_byte-slice_split 10 text) ∙ ap (join_with_byte 10) e))
+
+-- ---- the texts of an input, by the first of them
+pub only_text : (text : Text) → HasNone text → inputs_of text ≡ text ∷ []
+only_text text h = ap (map (join_with_byte 10)) (slice_split_none is_parting (input_lines text) (none-parting text h)) ∙ ap (λ t. t ∷ []) (join_with_byte-slice_split 10 text)
+
+with-dashes : (text after : Text) (lines : List Text) → HasNone text → input_lines after ≡ dashes ∷ lines → inputs_of (text ++ 10 ∷ after) ≡ text ∷ map (join_with_byte 10) (slice_split is_parting lines)
+with-dashes text after lines h e =
+    ap (λ ls. map (join_with_byte 10) (slice_split is_parting ls)) (split-at (λ b. b == 10) text 10 after refl ∙ ap (λ ls. input_lines text ++ ls) e)
+    ∙ ap (map (join_with_byte 10)) (slice_split_at is_parting (input_lines text) dashes lines (none-parting text h) refl)
+    ∙ ap (λ t. t ∷ map (join_with_byte 10) (slice_split is_parting lines)) (join_with_byte-slice_split 10 text)
+
+-- a text with a parting line after it, and then others
+pub text_and_more : (input text rest : Text) → input ≡ text ++ (codes "\n---\n" ++ rest) → HasNone text → inputs_of input ≡ text ∷ inputs_of rest
+text_and_more input text rest e h = ap inputs_of e ∙ with-dashes text (codes "---\n" ++ rest) (input_lines rest) h refl
+
+-- a text with a parting line after it, which ends the input
+pub text_and_none : (input text : Text) → input ≡ text ++ codes "\n---" → HasNone text → inputs_of input ≡ text ∷ [] ∷ []
+text_and_none input text e h = ap inputs_of e ∙ with-dashes text dashes [] h refl
+
+-- ---- where a search found no parting line
+module _ (input text : Text) (no_first : (rest : Text) → input ≢ codes "---\n" ++ rest) where
+  shorter : (front after : Text) → text ≡ front ++ after → 0 < length after → length front < length text
+  shorter front after e l = let k = ap length e ∙ length-append front after in omega (arith, k, l)
+
+  -- the text before the first parting line between two others
+  pub none_before : (rest : Text) → input ≡ text ++ (codes "\n---\n" ++ rest)
+      → ((i : ℕ) → i < length text → (after : Text) → drop i input ≢ codes "\n---\n" ++ after) → HasNone text
+  none_before rest e first =
+      let stands : (front after : Text) → length front < length text → input ≡ front ++ (codes "\n---\n" ++ after) → ⊥ =
+      λ front after l q. first (length front) l after (ap (drop (length front)) q ∙ drop-append_seam front (codes "\n---\n" ++ after)) in (
+        λ q. no_first (codes "---\n" ++ rest) (e ∙ ap (λ t. t ++ (codes "\n---\n" ++ rest)) q),
+        λ ys q. no_first (ys ++ (codes "\n---\n" ++ rest)) (e ∙ ap (λ t. t ++ (codes "\n---\n" ++ rest)) q),
+        λ front q. stands front (codes "---\n" ++ rest) (shorter front (codes "\n---") q (omega arith)) (e ∙ ap (λ t. t ++ (codes "\n---\n" ++ rest)) q ∙ append_assoc front (codes "\n---") (codes "\n---\n" ++ rest)),
+        λ front ys q. stands front (ys ++ (codes "\n---\n" ++ rest)) (shorter front (codes "\n---\n" ++ ys) q (omega arith)) (e ∙ ap (λ t. t ++ (codes "\n---\n" ++ rest)) q ∙ append_assoc front (codes "\n---\n" ++ ys) (codes "\n---\n" ++ rest)),
+      )
+
+  -- the text before a parting line that ends the input, where there is none between two others
+  pub none_before_last : input ≡ text ++ codes "\n---" → ((front rest : Text) → input ≢ front ++ (codes "\n---\n" ++ rest)) → HasNone text
+  none_before_last e none = (
+    λ q. no_first dashes (e ∙ ap (λ t. t ++ codes "\n---") q),
+    λ ys q. no_first (ys ++ codes "\n---") (e ∙ ap (λ t. t ++ codes "\n---") q),
+    λ front q. none front dashes (e ∙ ap (λ t. t ++ codes "\n---") q ∙ append_assoc front (codes "\n---") (codes "\n---")),
+    λ front ys q. none front (ys ++ codes "\n---") (e ∙ ap (λ t. t ++ codes "\n---") q ∙ append_assoc front (codes "\n---\n" ++ ys) (codes "\n---")),
+  )

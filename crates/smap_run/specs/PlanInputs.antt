@@ -1,5 +1,5 @@
 -- The texts of a plan, in one input.
-use Rattle.std.specs.Prelude.{◌==◌, Bool, List, ◌∷◌, ◌++◌, map, codes, if◌then◌else◌}
+use Rattle.std.specs.Prelude.{◌==◌, Bool, List, map, codes}
 use Rattle.std.specs.Str.{bytes_eq}
 use Rattle.std.specs.List.{slice_split, join_with_byte}
 use Rattle.oxc_sourcemap.specs.Record.{Text}
@@ -7,10 +7,6 @@ use Rattle.oxc_sourcemap.specs.Record.{Text}
 -- what stands between line feeds
 abbrev pub input_lines : Text → List Text
 input_lines text = slice_split (λ b. b == 10) text
-
--- a text with one line more
-abbrev pub with_line : Text → Bool → Text → Text
-with_line text is_first line = if is_first then text ++ line else text ++ 10 ∷ line
 
 -- a line that parts two texts
 abbrev pub is_parting : Text → Bool

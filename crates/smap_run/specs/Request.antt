@@ -13,6 +13,6 @@ pub data Request : Type 0 where
 abbrev pub request_of : Command → Request
 request_of (MappingsCommand names sources) = Mappings names sources
 request_of NormaliseCommand = Normalise
-request_of (PlanCommand arguments) = Plan (map string_bytes arguments.items)
+request_of (PlanCommand arguments) = Plan (map string_bytes arguments.now)
 request_of (TraceCommand line col) = Trace line col
 request_of UrlCommand = Url

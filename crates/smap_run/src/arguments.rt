@@ -1,21 +1,19 @@
 //! The arguments after the program's name.
-ghost use Rattle.std.specs.Prelude.{◌≡◌, ◌≢◌, ◌∷◌, [], map, string_bytes, option_map, MatchOption, IfOk, IfErr, Option, Some, None};
-ghost use Rattle.smap_run.specs.Refusals.{out_of_memory};
+ghost use Rattle.std.specs.Prelude.{◌≡◌, ◌∷◌, [], map, string_bytes, option_map, MatchOption, IfOk, IfErr, Option, Some, None};
 ghost use Rattle.smap_run.specs.Request.{request_of};
 ghost use Rattle.smap_run.specs.Arguments.{number_of, two_numbers, without_arguments, parsed_command, command_of};
 
 use crate::running::RunError;
-use std::alloc::{AllocError, Global};
 
 /// What the program is asked to do with its input.
 #[derive(Debug, PartialEq, Eq, Drop)]
-pub enum Command {
+pub enum Command<'w> {
     /// Read a mappings text, with this many names and sources beside it, and write its canonical text.
     Mappings(u32, u32),
     /// Read a map from its JSON text, and write its JSON text.
     Normalise,
     /// Evaluate the plan that these arguments say over the JSON texts of maps, and write the JSON text of its map.
-    Plan(Vec<String>),
+    Plan(&'w [String]),
     /// Read a map from its JSON text, and write what it says of this generated line and column.
     Trace(u32, u32),
     /// Read a map from its JSON text, and write its data URL.
@@ -43,8 +41,8 @@ fn read_numbers(arguments: &[String]) -> Option<(u32, u32)>
 }
 
 /// This command, if no arguments follow its name.
-fn without_arguments(command: Command, arguments: &[String]) -> Option<Command>
-    ensures { option_map request_of result ≡ without_arguments (request_of command) (map string_bytes arguments.now) }
+fn without_arguments<'w>(command: Command<'w>, arguments: &[String]) -> Option<Command<'w>>
+    ensures { option_map request_of result ≡ without_arguments (request_of command.entry) (map string_bytes arguments.now) }
 {
     match arguments {
         [] => Some(command),
@@ -53,7 +51,7 @@ fn without_arguments(command: Command, arguments: &[String]) -> Option<Command>
 }
 
 /// The command of this name with these arguments.
-fn read_command(name: &str, arguments: &[String]) -> Option<Command>
+fn read_command<'w>(name: &str, arguments: &'w [String]) -> Option<Command<'w>>
     ensures { option_map request_of result ≡ parsed_command name.now (map string_bytes arguments.now) }
 {
     match name {
@@ -71,30 +69,19 @@ fn read_command(name: &str, arguments: &[String]) -> Option<Command>
     }
 }
 
-/// A copy of each argument.
-fn copied_arguments(alloc: Global, arguments: &[String]) -> Result<Vec<String>, AllocError>
-    ensures { IfOk result (λ copies. map string_bytes copies.items ≡ map string_bytes arguments.now) }
-{
-    let mut copies = Vec::with_capacity(alloc, arguments.len())?;
-    for argument in arguments {
-        copies.push(String::from_str(alloc, argument.as_str())?)?;
-    }
-    Ok(copies)
-}
-
 /// The command of the program's arguments: `mappings NAMES SOURCES`, `normalise`, `plan PLAN`, `trace LINE COL` or `url`, each
-/// number as `read_number` reads it. The arguments after `plan` are copied as they are, and read by `run`.
+/// number as `read_number` reads it. The arguments after `plan` are borrowed as they are, and read by `run`.
 ///
-/// Fails with `Arguments` for all others, and with `Plan(Map(OutOfMemory))` if memory is refused.
-pub fn read_words(alloc: Global, arguments: &[String]) -> Result<Command, RunError>
+/// Fails with `Arguments` for all others. It takes no memory.
+pub fn read_words<'w>(arguments: &'w [String]) -> Result<Command<'w>, RunError>
     ensures command { IfOk result (λ command. command_of (map string_bytes arguments.now) ≡ Some (request_of command)) }
-    ensures refused { IfErr result (λ e. (e ≢ out_of_memory) → (e ≡ RunError.Arguments) × (command_of (map string_bytes arguments.now) ≡ None)) }
+    ensures refused { IfErr result (λ e. (e ≡ RunError.Arguments) × (command_of (map string_bytes arguments.now) ≡ None)) }
 {
     let Some((name, arguments)) = arguments.split_first() else {
         return Err(RunError::Arguments);
     };
     if name.as_str() == "plan" {
-        return Ok(Command::Plan(copied_arguments(alloc, arguments)?));
+        return Ok(Command::Plan(arguments));
     }
     read_command(name.as_str(), arguments).ok_or(RunError::Arguments)
 }

@@ -1,9 +1,9 @@
 //! The arguments of a plan, and its inputs.
-ghost use Rattle.std.specs.Prelude.{◌≡◌, ◌≢◌, ◌≤◌, ◌+◌, ℕ, false, map, string_bytes, Ok, Err, option_map, slice_get, IfOk, IfErr, OnOk};
+ghost use Rattle.std.specs.Prelude.{◌≡◌, ◌≢◌, ◌≤◌, ◌<◌, ◌+◌, ◌∷◌, [], ℕ, false, length, map, string_bytes, Ok, Err, option_map, slice_get, MatchOption, IfOk, IfErr, IfSome};
 ghost use Rattle.smap_run.specs.Refusals.{out_of_memory, is_of_port};
 ghost use Rattle.oxc_sourcemap.specs.Depth.{depth};
 ghost use Rattle.oxc_sourcemap.specs.Outcome.{outcome_of, outcome};
-ghost use Rattle.smap_run.specs.PlanInputs.{with_line, inputs_of};
+ghost use Rattle.smap_run.specs.PlanInputs.{inputs_of};
 ghost use Rattle.smap_run.specs.PlanArguments.{parsed_number, parsed_line, parsed_position, parsed_input, parsed_join, parsed_part, parsed_plan};
 
 use crate::arguments::read_number;
@@ -11,35 +11,41 @@ use crate::running::RunError;
 use oxc_sourcemap::{Plan, PlanError};
 use std::alloc::{AllocError, Global};
 
-/// Appends a line, after a line feed unless it is the first.
-fn push_line(text: &mut String, is_first: bool, line: &str) -> Result<(), AllocError>
-    ensures { OnOk result (string_bytes text.new ≡ with_line (string_bytes text.old) is_first line.now) }
+/// The text before the first line that is exactly `---`, and what comes after that line. If there is no such line, the text is
+/// the whole input, and nothing comes after it.
+fn first_text(input: &str) -> (&str, Option<&str>)
+    ensures text { MatchOption result.1 (inputs_of input.now ≡ result.0.now ∷ []) (λ rest. inputs_of input.now ≡ result.0.now ∷ inputs_of rest.now) }
+    ensures shorter { IfSome result.1 (λ rest. length rest.now < length input.now) }
 {
-    if !is_first {
-        text.push('\n')?;
+    if input == "---" {
+        return ("", Some(""));
     }
-    text.push_str(line)
+    if let Some(rest) = input.strip_prefix("---\n") {
+        return ("", Some(rest));
+    }
+    if let Some((text, rest)) = input.split_once("\n---\n") {
+        return (text, Some(rest));
+    }
+    match input.strip_suffix("\n---") {
+        Some(text) => (text, Some("")),
+        None => (input, None),
+    }
 }
 
-/// The texts of an input, separated by lines that are exactly `---`.
-pub fn inputs_of(alloc: Global, input: &str) -> Result<Vec<String>, AllocError>
-    ensures { IfOk result (λ inputs. map string_bytes inputs.items ≡ inputs_of input.now) }
+/// The texts of an input, separated by lines that are exactly `---`. They are parts of the input, and nothing of it is copied.
+pub fn inputs_of<'t>(alloc: Global, input: &'t str) -> Result<Vec<&'t str>, AllocError>
+    ensures { IfOk result (λ inputs. map (λ text. text.now) inputs.items ≡ inputs_of input.now) }
 {
     let mut inputs = Vec::new(alloc);
-    let mut text = String::new(alloc);
-    let mut is_first = true;
-    for line in input.split('\n') {
-        if line == "---" {
-            inputs.push(text)?;
-            text = String::new(alloc);
-            is_first = true;
-        } else {
-            push_line(&mut text, is_first, line)?;
-            is_first = false;
+    let mut rest = input;
+    loop {
+        let (text, after) = first_text(rest);
+        inputs.push(text)?;
+        match after {
+            Some(others) => rest = others,
+            None => return Ok(inputs),
         }
     }
-    inputs.push(text)?;
-    Ok(inputs)
 }
 
 /// The number that the first argument says, and the arguments after it.
@@ -69,17 +75,17 @@ fn take_position<'w>(arguments: &'w [String]) -> Result<(u32, u32, &'w [String])
 }
 
 /// The input with this number, from 0.
-fn input_at<'t>(inputs: &'t [String], number: u32) -> Option<&'t str>
-    ensures { option_map (λ text. text.now) result ≡ slice_get (map string_bytes inputs.now) number }
+fn input_at<'t>(inputs: &'t [&'t str], number: u32) -> Option<&'t str>
+    ensures { option_map (λ text. text.now) result ≡ slice_get (map (λ text. text.now) inputs.now) number }
 {
-    Some(inputs.get(number as usize)?.as_str())
+    inputs.get(number as usize).copied()
 }
 
 /// The part that an argument `@K` says: read input K.
-fn read_input<'t>(inputs: &'t [String], argument: &str) -> Result<Plan<'t>, RunError>
-    ensures part { IfOk result (λ plan. parsed_input (map string_bytes inputs.now) argument.now ≡ Ok (outcome_of plan)) }
+fn read_input<'t>(inputs: &'t [&'t str], argument: &str) -> Result<Plan<'t>, RunError>
+    ensures part { IfOk result (λ plan. parsed_input (map (λ text. text.now) inputs.now) argument.now ≡ Ok (outcome_of plan)) }
     ensures depth { IfOk result (λ plan. depth plan ≡ 1) }
-    ensures refused { IfErr result (λ e. parsed_input (map string_bytes inputs.now) argument.now ≡ Err e) }
+    ensures refused { IfErr result (λ e. parsed_input (map (λ text. text.now) inputs.now) argument.now ≡ Err e) }
     ensures causes { IfErr result (λ e. is_of_port e ≡ false) }
 {
     let Some(digits) = argument.strip_prefix('@') else {
@@ -98,13 +104,13 @@ fn read_input<'t>(inputs: &'t [String], argument: &str) -> Result<Plan<'t>, RunE
 #[cycle(part)]
 fn read_part<'t, 'w>(
     alloc: Global,
-    inputs: &'t [String],
+    inputs: &'t [&'t str],
     arguments: &'w [String],
     room: u32,
 ) -> Result<(Plan<'t>, &'w [String]), RunError>
-    ensures part { IfOk result (λ r. parsed_part (map string_bytes inputs.now) room (map string_bytes arguments.now) ≡ Ok (outcome_of r.0, map string_bytes r.1.now)) }
+    ensures part { IfOk result (λ r. parsed_part (map (λ text. text.now) inputs.now) room (map string_bytes arguments.now) ≡ Ok (outcome_of r.0, map string_bytes r.1.now)) }
     ensures depth { IfOk result (λ r. depth r.0 ≤ room) }
-    ensures refused { IfErr result (λ e. (e ≢ out_of_memory) → parsed_part (map string_bytes inputs.now) room (map string_bytes arguments.now) ≡ Err e) }
+    ensures refused { IfErr result (λ e. (e ≢ out_of_memory) → parsed_part (map (λ text. text.now) inputs.now) room (map string_bytes arguments.now) ≡ Err e) }
     ensures causes { IfErr result (λ e. is_of_port e ≡ false) }
 {
     let Some((argument, others)) = arguments.split_first() else {
@@ -136,13 +142,13 @@ fn read_part<'t, 'w>(
 #[cycle(part)]
 fn read_join<'t, 'w>(
     alloc: Global,
-    inputs: &'t [String],
+    inputs: &'t [&'t str],
     arguments: &'w [String],
     room: u32,
 ) -> Result<(Plan<'t>, &'w [String]), RunError>
-    ensures part { IfOk result (λ r. parsed_join (parsed_part (map string_bytes inputs.now) room) parsed_line (map string_bytes arguments.now) ≡ Ok (outcome_of r.0, map string_bytes r.1.now)) }
+    ensures part { IfOk result (λ r. parsed_join (parsed_part (map (λ text. text.now) inputs.now) room) parsed_line (map string_bytes arguments.now) ≡ Ok (outcome_of r.0, map string_bytes r.1.now)) }
     ensures depth { IfOk result (λ r. depth r.0 ≤ room + 1) }
-    ensures refused { IfErr result (λ e. (e ≢ out_of_memory) → parsed_join (parsed_part (map string_bytes inputs.now) room) parsed_line (map string_bytes arguments.now) ≡ Err e) }
+    ensures refused { IfErr result (λ e. (e ≢ out_of_memory) → parsed_join (parsed_part (map (λ text. text.now) inputs.now) room) parsed_line (map string_bytes arguments.now) ≡ Err e) }
     ensures causes { IfErr result (λ e. is_of_port e ≡ false) }
 {
     let (count, after) = take_number(arguments)?;
@@ -162,13 +168,13 @@ fn read_join<'t, 'w>(
 #[cycle(part)]
 fn read_join_at<'t, 'w>(
     alloc: Global,
-    inputs: &'t [String],
+    inputs: &'t [&'t str],
     arguments: &'w [String],
     room: u32,
 ) -> Result<(Plan<'t>, &'w [String]), RunError>
-    ensures part { IfOk result (λ r. parsed_join (parsed_part (map string_bytes inputs.now) room) parsed_position (map string_bytes arguments.now) ≡ Ok (outcome_of r.0, map string_bytes r.1.now)) }
+    ensures part { IfOk result (λ r. parsed_join (parsed_part (map (λ text. text.now) inputs.now) room) parsed_position (map string_bytes arguments.now) ≡ Ok (outcome_of r.0, map string_bytes r.1.now)) }
     ensures depth { IfOk result (λ r. depth r.0 ≤ room + 1) }
-    ensures refused { IfErr result (λ e. (e ≢ out_of_memory) → parsed_join (parsed_part (map string_bytes inputs.now) room) parsed_position (map string_bytes arguments.now) ≡ Err e) }
+    ensures refused { IfErr result (λ e. (e ≢ out_of_memory) → parsed_join (parsed_part (map (λ text. text.now) inputs.now) room) parsed_position (map string_bytes arguments.now) ≡ Err e) }
     ensures causes { IfErr result (λ e. is_of_port e ≡ false) }
 {
     let (count, after) = take_number(arguments)?;
@@ -194,11 +200,11 @@ fn read_join_at<'t, 'w>(
 /// Also `Plan(Map(OutOfMemory))` if memory is refused.
 pub fn read_plan<'t>(
     alloc: Global,
-    inputs: &'t [String],
+    inputs: &'t [&'t str],
     arguments: &[String],
 ) -> Result<Plan<'t>, RunError>
-    ensures plan { IfOk result (λ plan. parsed_plan (map string_bytes inputs.now) (map string_bytes arguments.now) ≡ Ok (outcome plan)) }
-    ensures refused { IfErr result (λ e. (e ≢ out_of_memory) → parsed_plan (map string_bytes inputs.now) (map string_bytes arguments.now) ≡ Err e) }
+    ensures plan { IfOk result (λ plan. parsed_plan (map (λ text. text.now) inputs.now) (map string_bytes arguments.now) ≡ Ok (outcome plan)) }
+    ensures refused { IfErr result (λ e. (e ≢ out_of_memory) → parsed_plan (map (λ text. text.now) inputs.now) (map string_bytes arguments.now) ≡ Err e) }
     ensures causes { IfErr result (λ e. is_of_port e ≡ false) }
 {
     let (plan, rest) = read_part(alloc, inputs, arguments, 64)?;

@@ -1,5 +1,6 @@
 //! Running a command over a reader and a writer.
-ghost use Rattle.std.specs.Prelude.{◌≡◌, ◌≢◌, ◌++◌, ◌∷◌, [], ℕ, Bool, true, false, ◌↔◌, IfOk, OnOk, OnErr, IfErr, IfSome, List, Some, None, Option, Ok, Err, IsErrOf, ◌⊎◌, IsUtf8, string_bytes, map};
+ghost use Rattle.std.specs.Prelude.{◌≡◌, ◌≢◌, ◌≤◌, ◌<◌, ◌++◌, ◌∷◌, [], ℕ, take, Bool, true, false, ◌↔◌, IfOk, OnOk, OnErr, IfErr, IfSome, List, Some, None, Option, Ok, Err, IsErrOf, ◌⊎◌, IsUtf8, string_bytes, map};
+ghost use Rattle.std.specs.Vec.{vec_len};
 ghost use Rattle.std.specs.Io.KnownBytes.{Appends, Keeps};
 ghost use Rattle.oxc_sourcemap.specs.PlanError.TheVariants.{Map};
 ghost use Rattle.smap_run.specs.declared.running.RunError.TheVariants.{Plan};
@@ -99,19 +100,38 @@ impl<T: Drop> From<AllocFailed<T>> for RunError {
     }
 }
 
-/// Reads up to the end, by a loop over `read`. It is not inlined, so that its buffer does not stay on the stack.
-#[inline(never)]
+/// Room for what is read at once.
+const PIECE: usize = 65536;
+
+/// Makes room for a piece behind the bytes that are used, if there is no room for half of one.
+fn make_room(input: &mut Vec<u8>, used: usize) -> Result<(), AllocError>
+    requires { used ≤ vec_len input.old }
+    ensures room { OnOk result (used < vec_len input.new) }
+    ensures kept { take used input.new.items ≡ take used input.old.items }
+{
+    if input.len() - used >= PIECE / 2 {
+        return Ok(());
+    }
+    input.resize(used + PIECE, 0)
+}
+
+/// Reads up to the end, by a loop over `read`, into the vector that is returned: nothing is copied. Each byte of it is cleared
+/// once.
 fn read_all<R: Read>(alloc: Global, reader: &mut Port<R>) -> Result<Vec<u8>, RunError>
     ensures bytes { IfOk result (λ input. IfSome (R.remaining reader.old.inner) (λ all. input.items ≡ all)) }
     ensures flag { reader.old.failed ≡ false → IsErrOf result RunError.Read ↔ (reader.new.failed ≡ true) }
     ensures causes { IfErr result (λ e. (e ≡ RunError.Read) ⊎ (e ≡ out_of_memory)) }
 {
     let mut input = Vec::new(alloc);
-    let mut buf = [0u8; 8192];
+    let mut used: usize = 0;
     loop {
-        match reader.read(&mut buf) {
-            Ok(0) => return Ok(input),
-            Ok(n) => input.extend_from_slice(&buf[..n])?,
+        make_room(&mut input, used)?;
+        match reader.read(&mut input[used..]) {
+            Ok(0) => {
+                input.truncate(used);
+                return Ok(input);
+            }
+            Ok(n) => used += n,
             Err(_) => return Err(RunError::Read),
         }
     }
@@ -186,7 +206,7 @@ fn plan_text(alloc: Global, input: &str, arguments: &[String]) -> Result<String,
 }
 
 /// What a command answers to an input.
-fn answer(alloc: Global, command: &Command, input: Vec<u8>) -> Result<String, RunError>
+fn answer(alloc: Global, command: &Command<'_>, input: Vec<u8>) -> Result<String, RunError>
     ensures text { IfOk result (λ out. IsUtf8 input.items × IsAnswer (request_of command.now) input.items (string_bytes out)) }
     ensures refused { IfErr result (λ e. (e ≢ out_of_memory) → Refuses (request_of command.now) input.items e) }
     ensures causes { IfErr result (λ e. is_of_port e ≡ false) }
@@ -204,7 +224,7 @@ fn answer(alloc: Global, command: &Command, input: Vec<u8>) -> Result<String, Ru
             )
         }
         Command::Normalise => Ok(normalise(alloc, text.as_str())?),
-        Command::Plan(arguments) => plan_text(alloc, text.as_str(), arguments.as_slice()),
+        Command::Plan(arguments) => plan_text(alloc, text.as_str(), arguments),
         Command::Trace(line, col) => Ok(trace(alloc, text.as_str(), *line, *col)?),
         Command::Url => Ok(data_url(alloc, text.as_str())?),
     }
@@ -231,7 +251,7 @@ fn answer(alloc: Global, command: &Command, input: Vec<u8>) -> Result<String, Ru
 /// Also `Plan(Map(OutOfMemory))` if memory is refused, or the input has more than 9223372036854775807 bytes.
 pub fn run<R: Read, W: Write>(
     alloc: Global,
-    command: &Command,
+    command: &Command<'_>,
     reader: &mut Port<R>,
     writer: &mut Port<W>,
 ) -> Result<(), RunError>

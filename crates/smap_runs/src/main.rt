@@ -45,7 +45,7 @@ fn copied(alloc: Global, words: &[&str]) -> Result<Vec<String>, AllocError> {
 /// Runs the command of these words on this input, and writes its answer to standard output.
 fn answer(rt: &HostRuntime, words: &[&str], input: &str) -> Result<(), RunError> {
     let words = copied(rt.alloc(), words)?;
-    let command = read_words(rt.alloc(), words.as_slice())?;
+    let command = read_words(words.as_slice())?;
     let mut reader = Port::new(input.as_bytes());
     let mut writer = Port::new(rt.stdout());
     run(rt.alloc(), &command, &mut reader, &mut writer)

@@ -13,58 +13,58 @@ use Rattle.smap_run.proofs.plan_arguments.+part.Goals as goal
 
 pub read_part-returns-in_err-part-in-rewrite-clause-refused : goal.read_part-returns-in_err-part-in-rewrite-clause-refused
 read_part-returns-in_err-part-in-rewrite-clause-refused t c =
-    let start = named-start (map string_bytes c.args.inputs.now) c.args.room c.args.arguments.now c.in-Some.argument.now c.in-Some.others.now c.as_str.result.now c.if-room-eq0.false c.in-Some.ensures.cases.0 c.as_str.ensures.value in
-    let part = parsed_part (map string_bytes c.args.inputs.now) (c.args.room - 1) in
+    let start = named-start (map (λ text. text.now) c.args.inputs.now) c.args.room c.args.arguments.now c.in-Some.argument.now c.in-Some.others.now c.as_str.result.now c.if-room-eq0.false c.in-Some.ensures.cases.0 c.as_str.ensures.value in
+    let part = parsed_part (map (λ text. text.now) c.args.inputs.now) (c.args.room - 1) in
     let others = map string_bytes c.in-Some.others.now in
-    let T = map string_bytes c.args.inputs.now in
+    let T = map (λ text. text.now) c.args.inputs.now in
     from_err c.from_residual.result _ _ c.from_residual.ensures.1 (λ e h n. start ∙ named-rewrite T part c.as_str.result.now others c.in-rewrite.is
     ∙ ap (λ r. then_parsed r (λ o left. Ok (rewrite_outcome o, left))) (c.in_err-part-in-rewrite.ensures.refused (λ q. n (h ∙ q))) ∙ ap Err (sym h))
 
 pub read_part-returns-in_ok-new-in-rewrite-clause-part : goal.read_part-returns-in_ok-new-in-rewrite-clause-part
 read_part-returns-in_ok-new-in-rewrite-clause-part t c =
-    let start = named-start (map string_bytes c.args.inputs.now) c.args.room c.args.arguments.now c.in-Some.argument.now c.in-Some.others.now c.as_str.result.now c.if-room-eq0.false c.in-Some.ensures.cases.0 c.as_str.ensures.value in
-    let part = parsed_part (map string_bytes c.args.inputs.now) (c.args.room - 1) in
+    let start = named-start (map (λ text. text.now) c.args.inputs.now) c.args.room c.args.arguments.now c.in-Some.argument.now c.in-Some.others.now c.as_str.result.now c.if-room-eq0.false c.in-Some.ensures.cases.0 c.as_str.ensures.value in
+    let part = parsed_part (map (λ text. text.now) c.args.inputs.now) (c.args.room - 1) in
     let others = map string_bytes c.in-Some.others.now in
-    let T = map string_bytes c.args.inputs.now in
+    let T = map (λ text. text.now) c.args.inputs.now in
     start ∙ named-rewrite T part c.as_str.result.now others c.in-rewrite.is
     ∙ ap (λ r. then_parsed r (λ o left. Ok (rewrite_outcome o, left))) c.in_ok-part-in-rewrite.ensures.part
     ∙ ap (λ o. Ok (o, map string_bytes c.in_ok-part-in-rewrite.rest.now)) (sym (outcome_rewrite c.in_ok-new-in-rewrite.field-0 ∙ ap (λ p. rewrite_outcome (outcome_of p)) c.in_ok-new-in-rewrite.ensures.ok))
 
 pub read_part-returns-in_err-first-in-compose-clause-refused : goal.read_part-returns-in_err-first-in-compose-clause-refused
 read_part-returns-in_err-first-in-compose-clause-refused t c =
-    let start = named-start (map string_bytes c.args.inputs.now) c.args.room c.args.arguments.now c.in-Some.argument.now c.in-Some.others.now c.as_str.result.now c.if-room-eq0.false c.in-Some.ensures.cases.0 c.as_str.ensures.value in
-    let part = parsed_part (map string_bytes c.args.inputs.now) (c.args.room - 1) in
+    let start = named-start (map (λ text. text.now) c.args.inputs.now) c.args.room c.args.arguments.now c.in-Some.argument.now c.in-Some.others.now c.as_str.result.now c.if-room-eq0.false c.in-Some.ensures.cases.0 c.as_str.ensures.value in
+    let part = parsed_part (map (λ text. text.now) c.args.inputs.now) (c.args.room - 1) in
     let others = map string_bytes c.in-Some.others.now in
-    let T = map string_bytes c.args.inputs.now in
+    let T = map (λ text. text.now) c.args.inputs.now in
     from_err c.from_residual-in_err-first-in-compose.result _ _ c.from_residual-in_err-first-in-compose.ensures.1 (λ e h n. start ∙ named-compose T part c.as_str.result.now others c.in-compose.is
     ∙ ap (λ r. then_parsed r (λ first after. then_parsed (part after) (λ second left. Ok (composition_outcome first second, left)))) (c.in_err-first-in-compose.ensures.refused (λ q. n (h ∙ q))) ∙ ap Err (sym h))
 
 pub read_part-returns-in_err-second-in-compose-clause-refused : goal.read_part-returns-in_err-second-in-compose-clause-refused
 read_part-returns-in_err-second-in-compose-clause-refused t c =
-    let start = named-start (map string_bytes c.args.inputs.now) c.args.room c.args.arguments.now c.in-Some.argument.now c.in-Some.others.now c.as_str.result.now c.if-room-eq0.false c.in-Some.ensures.cases.0 c.as_str.ensures.value in
-    let part = parsed_part (map string_bytes c.args.inputs.now) (c.args.room - 1) in
+    let start = named-start (map (λ text. text.now) c.args.inputs.now) c.args.room c.args.arguments.now c.in-Some.argument.now c.in-Some.others.now c.as_str.result.now c.if-room-eq0.false c.in-Some.ensures.cases.0 c.as_str.ensures.value in
+    let part = parsed_part (map (λ text. text.now) c.args.inputs.now) (c.args.room - 1) in
     let others = map string_bytes c.in-Some.others.now in
-    let T = map string_bytes c.args.inputs.now in
+    let T = map (λ text. text.now) c.args.inputs.now in
     from_err c.from_residual-in_err-second-in-compose.result _ _ c.from_residual-in_err-second-in-compose.ensures.1 (λ e h n. start ∙ named-compose T part c.as_str.result.now others c.in-compose.is
     ∙ ap (λ r. then_parsed r (λ first after. then_parsed (part after) (λ second left. Ok (composition_outcome first second, left)))) c.in_ok-first-in-compose.ensures.part
     ∙ ap (λ r. then_parsed r (λ second left. Ok (composition_outcome (outcome_of c.in_ok-first-in-compose.first) second, left))) (c.in_err-second-in-compose.ensures.refused (λ q. n (h ∙ q))) ∙ ap Err (sym h))
 
 pub read_part-returns-in_err-read_input-in_default-as_str-clause-refused : goal.read_part-returns-in_err-read_input-in_default-as_str-clause-refused
 read_part-returns-in_err-read_input-in_default-as_str-clause-refused t c =
-    let start = named-start (map string_bytes c.args.inputs.now) c.args.room c.args.arguments.now c.in-Some.argument.now c.in-Some.others.now c.as_str.result.now c.if-room-eq0.false c.in-Some.ensures.cases.0 c.as_str.ensures.value in
-    let part = parsed_part (map string_bytes c.args.inputs.now) (c.args.room - 1) in
+    let start = named-start (map (λ text. text.now) c.args.inputs.now) c.args.room c.args.arguments.now c.in-Some.argument.now c.in-Some.others.now c.as_str.result.now c.if-room-eq0.false c.in-Some.ensures.cases.0 c.as_str.ensures.value in
+    let part = parsed_part (map (λ text. text.now) c.args.inputs.now) (c.args.room - 1) in
     let others = map string_bytes c.in-Some.others.now in
-    let T = map string_bytes c.args.inputs.now in
+    let T = map (λ text. text.now) c.args.inputs.now in
     from_err c.from_residual-in_err-read_input-in_default-as_str.result _ _ c.from_residual-in_err-read_input-in_default-as_str.ensures.1 (λ e h n. start
     ∙ named-text T part c.as_str.result.now others c.in_default-as_str.not-rewrite c.in_default-as_str.not-join c.in_default-as_str.not-joinat c.in_default-as_str.not-compose
     ∙ ap (λ r. with_rest r others) c.in_err-read_input-in_default-as_str.ensures.refused ∙ ap Err (sym h))
 
 pub read_part-returns-in_ok-new-in-compose-2-clause-part : goal.read_part-returns-in_ok-new-in-compose-2-clause-part
 read_part-returns-in_ok-new-in-compose-2-clause-part t c =
-    let start = named-start (map string_bytes c.args.inputs.now) c.args.room c.args.arguments.now c.in-Some.argument.now c.in-Some.others.now c.as_str.result.now c.if-room-eq0.false c.in-Some.ensures.cases.0 c.as_str.ensures.value in
-    let part = parsed_part (map string_bytes c.args.inputs.now) (c.args.room - 1) in
+    let start = named-start (map (λ text. text.now) c.args.inputs.now) c.args.room c.args.arguments.now c.in-Some.argument.now c.in-Some.others.now c.as_str.result.now c.if-room-eq0.false c.in-Some.ensures.cases.0 c.as_str.ensures.value in
+    let part = parsed_part (map (λ text. text.now) c.args.inputs.now) (c.args.room - 1) in
     let others = map string_bytes c.in-Some.others.now in
-    let T = map string_bytes c.args.inputs.now in
+    let T = map (λ text. text.now) c.args.inputs.now in
     start ∙ named-compose T part c.as_str.result.now others c.in-compose.is
     ∙ ap (λ r. then_parsed r (λ first after. then_parsed (part after) (λ second left. Ok (composition_outcome first second, left)))) c.in_ok-first-in-compose.ensures.part
     ∙ ap (λ r. then_parsed r (λ second left. Ok (composition_outcome (outcome_of c.in_ok-first-in-compose.first) second, left))) c.in_ok-second-in-compose.ensures.part
@@ -74,39 +74,39 @@ read_part-returns-in_ok-new-in-compose-2-clause-part t c =
 
 pub read_part-returns-in-join-clause-part : goal.read_part-returns-in-join-clause-part
 read_part-returns-in-join-clause-part t c =
-    let start = named-start (map string_bytes c.args.inputs.now) c.args.room c.args.arguments.now c.in-Some.argument.now c.in-Some.others.now c.as_str.result.now c.if-room-eq0.false c.in-Some.ensures.cases.0 c.as_str.ensures.value in
-    let part = parsed_part (map string_bytes c.args.inputs.now) (c.args.room - 1) in
+    let start = named-start (map (λ text. text.now) c.args.inputs.now) c.args.room c.args.arguments.now c.in-Some.argument.now c.in-Some.others.now c.as_str.result.now c.if-room-eq0.false c.in-Some.ensures.cases.0 c.as_str.ensures.value in
+    let part = parsed_part (map (λ text. text.now) c.args.inputs.now) (c.args.room - 1) in
     let others = map string_bytes c.in-Some.others.now in
-    let T = map string_bytes c.args.inputs.now in
+    let T = map (λ text. text.now) c.args.inputs.now in
     IfOk-weaker c.read_join.result _ _ (λ r h. start ∙ named-join T part c.as_str.result.now others c.in-join.is ∙ h) c.read_join.ensures.part
 
 pub read_part-returns-in-join-clause-refused : goal.read_part-returns-in-join-clause-refused
 read_part-returns-in-join-clause-refused t c =
-    let start = named-start (map string_bytes c.args.inputs.now) c.args.room c.args.arguments.now c.in-Some.argument.now c.in-Some.others.now c.as_str.result.now c.if-room-eq0.false c.in-Some.ensures.cases.0 c.as_str.ensures.value in
-    let part = parsed_part (map string_bytes c.args.inputs.now) (c.args.room - 1) in
+    let start = named-start (map (λ text. text.now) c.args.inputs.now) c.args.room c.args.arguments.now c.in-Some.argument.now c.in-Some.others.now c.as_str.result.now c.if-room-eq0.false c.in-Some.ensures.cases.0 c.as_str.ensures.value in
+    let part = parsed_part (map (λ text. text.now) c.args.inputs.now) (c.args.room - 1) in
     let others = map string_bytes c.in-Some.others.now in
-    let T = map string_bytes c.args.inputs.now in
+    let T = map (λ text. text.now) c.args.inputs.now in
     IfErr-weaker c.read_join.result _ _ (λ e h n. start ∙ named-join T part c.as_str.result.now others c.in-join.is ∙ h n) c.read_join.ensures.refused
 
 pub read_part-returns-in-joinat-clause-part : goal.read_part-returns-in-joinat-clause-part
 read_part-returns-in-joinat-clause-part t c =
-    let start = named-start (map string_bytes c.args.inputs.now) c.args.room c.args.arguments.now c.in-Some.argument.now c.in-Some.others.now c.as_str.result.now c.if-room-eq0.false c.in-Some.ensures.cases.0 c.as_str.ensures.value in
-    let part = parsed_part (map string_bytes c.args.inputs.now) (c.args.room - 1) in
+    let start = named-start (map (λ text. text.now) c.args.inputs.now) c.args.room c.args.arguments.now c.in-Some.argument.now c.in-Some.others.now c.as_str.result.now c.if-room-eq0.false c.in-Some.ensures.cases.0 c.as_str.ensures.value in
+    let part = parsed_part (map (λ text. text.now) c.args.inputs.now) (c.args.room - 1) in
     let others = map string_bytes c.in-Some.others.now in
-    let T = map string_bytes c.args.inputs.now in
+    let T = map (λ text. text.now) c.args.inputs.now in
     IfOk-weaker c.read_join_at.result _ _ (λ r h. start ∙ named-join_at T part c.as_str.result.now others c.in-joinat.is ∙ h) c.read_join_at.ensures.part
 
 pub read_part-returns-in-joinat-clause-refused : goal.read_part-returns-in-joinat-clause-refused
 read_part-returns-in-joinat-clause-refused t c =
-    let start = named-start (map string_bytes c.args.inputs.now) c.args.room c.args.arguments.now c.in-Some.argument.now c.in-Some.others.now c.as_str.result.now c.if-room-eq0.false c.in-Some.ensures.cases.0 c.as_str.ensures.value in
-    let part = parsed_part (map string_bytes c.args.inputs.now) (c.args.room - 1) in
+    let start = named-start (map (λ text. text.now) c.args.inputs.now) c.args.room c.args.arguments.now c.in-Some.argument.now c.in-Some.others.now c.as_str.result.now c.if-room-eq0.false c.in-Some.ensures.cases.0 c.as_str.ensures.value in
+    let part = parsed_part (map (λ text. text.now) c.args.inputs.now) (c.args.room - 1) in
     let others = map string_bytes c.in-Some.others.now in
-    let T = map string_bytes c.args.inputs.now in
+    let T = map (λ text. text.now) c.args.inputs.now in
     IfErr-weaker c.read_join_at.result _ _ (λ e h n. start ∙ named-join_at T part c.as_str.result.now others c.in-joinat.is ∙ h n) c.read_join_at.ensures.refused
 
 pub read_join-returns-in_err-part-clause-refused : goal.read_join-returns-in_err-part-clause-refused
 read_join-returns-in_err-part-clause-refused t c =
-    let part = parsed_part (map string_bytes c.args.inputs.now) c.args.room in
+    let part = parsed_part (map (λ text. text.now) c.args.inputs.now) c.args.room in
     let done = outcomes (at_lines c.loop-i.parts.items) in
     from_err c.from_residual-in_err-part.result _ _ c.from_residual-in_err-part.ensures.1 (λ e h n.
     join-of-parts part parsed_line (map string_bytes c.args.arguments.now) _ c.in_ok-count.count _ c.in_ok-count.ensures.number
@@ -115,7 +115,7 @@ read_join-returns-in_err-part-clause-refused t c =
 
 pub read_join-returns-in_err-line-clause-refused : goal.read_join-returns-in_err-line-clause-refused
 read_join-returns-in_err-line-clause-refused t c =
-    let part = parsed_part (map string_bytes c.args.inputs.now) c.args.room in
+    let part = parsed_part (map (λ text. text.now) c.args.inputs.now) c.args.room in
     let done = outcomes (at_lines c.loop-i.parts.items) in
     from_err c.from_residual-in_err-line.result _ _ c.from_residual-in_err-line.ensures.1 (λ e h n.
     join-of-parts part parsed_line (map string_bytes c.args.arguments.now) _ c.in_ok-count.count _ c.in_ok-count.ensures.number
@@ -125,7 +125,7 @@ read_join-returns-in_err-line-clause-refused t c =
 
 pub read_join-loop-i-preserved : goal.read_join-loop-i-preserved
 read_join-loop-i-preserved t c =
-    let part = parsed_part (map string_bytes c.args.inputs.now) c.args.room in
+    let part = parsed_part (map (λ text. text.now) c.args.inputs.now) c.args.room in
     let count = c.in_ok-count.count in
     let done = outcomes (at_lines c.loop-i.parts.items) in
     let p : Plan × ℕ = (c.in_ok-part.part, c.in_ok-line.line) in
@@ -139,7 +139,7 @@ read_join-loop-i-preserved t c =
 
 pub read_join-returns-clause-part : goal.read_join-returns-clause-part
 read_join-returns-clause-part t c =
-    let part = parsed_part (map string_bytes c.args.inputs.now) c.args.room in
+    let part = parsed_part (map (λ text. text.now) c.args.inputs.now) c.args.room in
     let done = outcomes (at_lines c.loop-i.parts.items) in
     join-of-parts part parsed_line (map string_bytes c.args.arguments.now) _ c.in_ok-count.count _ c.in_ok-count.ensures.number
     (c.loop-i.invariant.0 ∙ parts-end part parsed_line done c.in_ok-count.count c.loop-i.i (map string_bytes c.loop-i.rest.now) (let f = c.loop-i-test.false in omega (arith, f)))
@@ -147,7 +147,7 @@ read_join-returns-clause-part t c =
 
 pub read_join_at-returns-in_err-part-clause-refused : goal.read_join_at-returns-in_err-part-clause-refused
 read_join_at-returns-in_err-part-clause-refused t c =
-    let part = parsed_part (map string_bytes c.args.inputs.now) c.args.room in
+    let part = parsed_part (map (λ text. text.now) c.args.inputs.now) c.args.room in
     let done = outcomes (at_positions c.loop-i.parts.items) in
     from_err c.from_residual-in_err-part.result _ _ c.from_residual-in_err-part.ensures.1 (λ e h n.
     join-of-parts part parsed_position (map string_bytes c.args.arguments.now) _ c.in_ok-count.count _ c.in_ok-count.ensures.number
@@ -156,7 +156,7 @@ read_join_at-returns-in_err-part-clause-refused t c =
 
 pub read_join_at-returns-in_err-line-clause-refused : goal.read_join_at-returns-in_err-line-clause-refused
 read_join_at-returns-in_err-line-clause-refused t c =
-    let part = parsed_part (map string_bytes c.args.inputs.now) c.args.room in
+    let part = parsed_part (map (λ text. text.now) c.args.inputs.now) c.args.room in
     let done = outcomes (at_positions c.loop-i.parts.items) in
     from_err c.from_residual-in_err-line.result _ _ c.from_residual-in_err-line.ensures.1 (λ e h n.
     join-of-parts part parsed_position (map string_bytes c.args.arguments.now) _ c.in_ok-count.count _ c.in_ok-count.ensures.number
@@ -166,7 +166,7 @@ read_join_at-returns-in_err-line-clause-refused t c =
 
 pub read_join_at-loop-i-preserved : goal.read_join_at-loop-i-preserved
 read_join_at-loop-i-preserved t c =
-    let part = parsed_part (map string_bytes c.args.inputs.now) c.args.room in
+    let part = parsed_part (map (λ text. text.now) c.args.inputs.now) c.args.room in
     let count = c.in_ok-count.count in
     let done = outcomes (at_positions c.loop-i.parts.items) in
     let p : Plan × ℕ × ℕ = (c.in_ok-part.part, c.in_ok-line.line, c.in_ok-line.column) in
@@ -180,7 +180,7 @@ read_join_at-loop-i-preserved t c =
 
 pub read_join_at-returns-clause-part : goal.read_join_at-returns-clause-part
 read_join_at-returns-clause-part t c =
-    let part = parsed_part (map string_bytes c.args.inputs.now) c.args.room in
+    let part = parsed_part (map (λ text. text.now) c.args.inputs.now) c.args.room in
     let done = outcomes (at_positions c.loop-i.parts.items) in
     join-of-parts part parsed_position (map string_bytes c.args.arguments.now) _ c.in_ok-count.count _ c.in_ok-count.ensures.number
     (c.loop-i.invariant.0 ∙ parts-end part parsed_position done c.in_ok-count.count c.loop-i.i (map string_bytes c.loop-i.rest.now) (let f = c.loop-i-test.false in omega (arith, f)))

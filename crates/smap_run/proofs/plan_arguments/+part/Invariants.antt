@@ -17,12 +17,12 @@ decreases-read_join_at l = l.room + l.room + 1
 
 abbrev pub invariant-read_join-loop-i : goal.invariant-read_join-loop-i
 invariant-read_join-loop-i l =
-    (parsed_parts (parsed_part (map string_bytes l.inputs) l.room) parsed_line l.count (map string_bytes l.initial.rest)
-    ≡ left_after (parsed_part (map string_bytes l.inputs) l.room) parsed_line (outcomes (at_lines l.parts.items)) (l.count - l.i) (map string_bytes l.rest))
+    (parsed_parts (parsed_part (map (λ text. text.now) l.inputs) l.room) parsed_line l.count (map string_bytes l.initial.rest)
+    ≡ left_after (parsed_part (map (λ text. text.now) l.inputs) l.room) parsed_line (outcomes (at_lines l.parts.items)) (l.count - l.i) (map string_bytes l.rest))
     × (deepest (map (λ p. depth p.0) l.parts.items) ≤ l.room)
 
 abbrev pub invariant-read_join_at-loop-i : goal.invariant-read_join_at-loop-i
 invariant-read_join_at-loop-i l =
-    (parsed_parts (parsed_part (map string_bytes l.inputs) l.room) parsed_position l.count (map string_bytes l.initial.rest)
-    ≡ left_after (parsed_part (map string_bytes l.inputs) l.room) parsed_position (outcomes (at_positions l.parts.items)) (l.count - l.i) (map string_bytes l.rest))
+    (parsed_parts (parsed_part (map (λ text. text.now) l.inputs) l.room) parsed_position l.count (map string_bytes l.initial.rest)
+    ≡ left_after (parsed_part (map (λ text. text.now) l.inputs) l.room) parsed_position (outcomes (at_positions l.parts.items)) (l.count - l.i) (map string_bytes l.rest))
     × (deepest (map (λ p. depth p.0) l.parts.items) ≤ l.room)

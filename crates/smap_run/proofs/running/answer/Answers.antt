@@ -13,8 +13,7 @@ returns-in-Plan-clause-text c =
     IfOk-weaker c.plan_text.result _ _ (λ out h. (
       u,
       subst (λ command. IsAnswer (request_of command) c.args.input.items (string_bytes out)) (sym c.in-Plan.is)
-          (subst (λ text. IsPlanAnswer (parsed_plan (inputs_of text) (map string_bytes c.in-Plan.arguments.items)) (string_bytes out)) s
-          (subst (λ ws. IsPlanAnswer (parsed_plan (inputs_of c.as_str-in-Plan.result.now) (map string_bytes ws)) (string_bytes out)) c.as_slice.ensures.value h)),
+          (subst (λ text. IsPlanAnswer (parsed_plan (inputs_of text) (map string_bytes c.in-Plan.arguments.now)) (string_bytes out)) s h),
     )) c.plan_text.ensures.text
 
 pub returns-in-Plan-clause-refused : goal.returns-in-Plan-clause-refused
@@ -24,6 +23,5 @@ returns-in-Plan-clause-refused c =
     IfErr-weaker c.plan_text.result _ _ (λ e h n. inr (
       u,
       subst (λ command. IsRefusal (request_of command) c.args.input.items e) (sym c.in-Plan.is)
-          (subst (λ text. IsPlanRefusal (parsed_plan (inputs_of text) (map string_bytes c.in-Plan.arguments.items)) e) s
-          (subst (λ ws. IsPlanRefusal (parsed_plan (inputs_of c.as_str-in-Plan.result.now) (map string_bytes ws)) e) c.as_slice.ensures.value (h n))),
+          (subst (λ text. IsPlanRefusal (parsed_plan (inputs_of text) (map string_bytes c.in-Plan.arguments.now)) e) s (h n)),
     )) c.plan_text.ensures.refused

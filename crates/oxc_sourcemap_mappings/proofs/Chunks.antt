@@ -103,7 +103,7 @@ andb : (a b : Bool) → (a && b) ≡ true → (a ≡ true) × (b ≡ true)
 andb true b e = (refl, e)
 andb false b e = cc
 
-same-fields : (a : State) (l c s sl sc n : ℕ) → a.dst_line ≡ l → a.dst_col ≡ c → a.source_id ≡ s → a.src_line ≡ sl → a.src_col ≡ sc → a.name_id ≡ n → a ≡ record { dst_line = l; dst_col = c; source_id = s; src_line = sl; src_col = sc; name_id = n }
+pub same-fields : (a : State) (l c s sl sc n : ℕ) → a.dst_line ≡ l → a.dst_col ≡ c → a.source_id ≡ s → a.src_line ≡ sl → a.src_col ≡ sc → a.name_id ≡ n → a ≡ record { dst_line = l; dst_col = c; source_id = s; src_line = sl; src_col = sc; name_id = n }
 same-fields a l c s sl sc n e1 e2 e3 e4 e5 e6 = rw (← e1, ← e2, ← e3, ← e4, ← e5, ← e6)
 
 is_same_state-equal : (a b : State) → is_same_state a b ≡ true → a ≡ b

@@ -11,6 +11,7 @@ pub mod Placing
 pub mod Writing
 pub mod Length
 pub mod Chunks
+pub mod Last
 pub mod Digits
 pub mod Texts
 pub mod Segments

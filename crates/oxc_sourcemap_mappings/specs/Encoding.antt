@@ -1,6 +1,6 @@
 -- How the steps of the encoder are seen, against the states of `State`. No public contract speaks of these.
-use Rattle.std.specs.Prelude.{ℕ, ◌+◌, ◌-◌, ◌*◌, ◌/◌, ◌%◌, ◌<◌, ◌++◌, ◌==◌, nat_lt, Bool, false, List, [], ◌∷◌, replicate, if◌then◌else◌}
-use Rattle.std.specs.Option.{unwrap_or}
+use Rattle.std.specs.Prelude.{ℕ, ◌+◌, ◌-◌, ◌*◌, ◌/◌, ◌%◌, ◌<◌, ◌++◌, ◌==◌, nat_lt, Bool, false, List, [], ◌∷◌, Option, None, replicate, if◌then◌else◌}
+use Rattle.std.specs.Option.{unwrap_or, option_map, option_or}
 use Rattle.oxc_sourcemap_mappings.specs.declared.encode.Previous.{Previous}
 use Rattle.oxc_sourcemap_mappings.specs.declared.encode.Delta.{Delta}
 use Rattle.oxc_sourcemap_mappings.specs.declared.encode.Deltas.{Deltas}
@@ -27,6 +27,15 @@ advanced s t = record {
 abbrev pub advanced_all : State → List TokenRecord → State
 advanced_all s [] = s
 advanced_all s (t ∷ ts) = advanced_all (advanced s t) ts
+
+-- the source id, line and column of a mapped token
+abbrev pub source_given : TokenRecord → Option (ℕ × ℕ × ℕ)
+source_given t = option_map (λ id. (id, t.src_line, t.src_col)) t.source_id
+
+-- what the last of these tokens that gives something gives
+abbrev pub last_given : {A : Type 0} → (TokenRecord → Option A) → List TokenRecord → Option A
+last_given given [] = None
+last_given given (t ∷ ts) = option_or (last_given given ts) (given t)
 
 -- the text of these tokens from a state on, the state carried along
 abbrev pub text_from : Bool → State → List TokenRecord → List ℕ

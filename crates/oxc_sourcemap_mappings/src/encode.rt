@@ -2,11 +2,11 @@
 ghost use Rattle.std.specs.Prelude.{◌≡◌, ◌≢◌, ◌↔◌, ℕ, ◌+◌, ◌-◌, ◌*◌, ◌/◌, ◌%◌, ◌^◌, ◌<◌, ◌≤◌, ◌++◌, ◌==◌, List, ◌∷◌, [], length, min, replicate, string_bytes, OnOk, OnErr, IfErr, IfOk, IsTrue, Option, Some, None, IsNone, Err, if◌then◌else◌, nat_lt, nat_le, drop, take, flat_map, encode_utf8};
 ghost use Rattle.oxc_sourcemap_mappings.specs.declared.error.Error.{Error};
 ghost use Rattle.oxc_sourcemap_mappings.specs.declared.error.Error.TheVariants.{OutOfMemory};
-ghost use Rattle.oxc_sourcemap_mappings.specs.Token.{AreInBounds, last_line};
+ghost use Rattle.oxc_sourcemap_mappings.specs.Token.{AreInBounds, last_line, mapped_name};
 ghost use Rattle.oxc_sourcemap_mappings.specs.State.{initial, state_at};
 ghost use Rattle.oxc_sourcemap_mappings.specs.Canonical.{letter, vlq_text, raw_delta, delta_text, canonical, first_out_of_order, back_from, Extends};
 ghost use Rattle.oxc_sourcemap_mappings.specs.Chunks.{header, chunk_tokens, piece, piece_fault, chunk_from, is_same_state, first_misfit, ChunksFit, writing_fault, lent_chunks};
-ghost use Rattle.oxc_sourcemap_mappings.specs.Encoding.{state_of, advanced, advanced_all, text_from, OnlyAdds, line_marks, marks_of, column_from, fields_text, raw_at, first_letter, second_letter, rank_of, offset_of, deltas_text, AreSingle};
+ghost use Rattle.oxc_sourcemap_mappings.specs.Encoding.{state_of, advanced, advanced_all, source_given, last_given, text_from, OnlyAdds, line_marks, marks_of, column_from, fields_text, raw_at, first_letter, second_letter, rank_of, offset_of, deltas_text, AreSingle};
 ghost use Rattle.std.specs.List.{AllByRecursion};
 
 use crate::error::{Error, Result};
@@ -76,15 +76,73 @@ impl Previous {
     }
 }
 
-/// The state after these tokens, from this state before them.
+/// The source id, line and column of a token, if it is mapped.
+fn source_of(token: &Token) -> Option<(u32, u32, u32)>
+    ensures { result ≡ source_given token.now }
+{
+    match token.get_source_id() {
+        Some(id) => Some((id, token.get_src_line(), token.get_src_col())),
+        None => None,
+    }
+}
+
+/// The source id, line and column of the last of these tokens that is mapped.
+fn last_source(tokens: &[Token]) -> Option<(u32, u32, u32)>
+    ensures { result ≡ last_given source_given tokens.now }
+{
+    let mut left = tokens.len();
+    while left > 0 {
+        left -= 1;
+        let source = source_of(&tokens[left]);
+        if source.is_some() {
+            return source;
+        }
+    }
+    None
+}
+
+/// The name id of a token, if it is mapped.
+fn name_of(token: &Token) -> Option<u32>
+    ensures { result ≡ mapped_name token.now }
+{
+    match token.get_source_id() {
+        Some(_) => token.get_name_id(),
+        None => None,
+    }
+}
+
+/// The name id of the last of these tokens that is mapped and has one.
+fn last_name(tokens: &[Token]) -> Option<u32>
+    ensures { result ≡ last_given mapped_name tokens.now }
+{
+    let mut left = tokens.len();
+    while left > 0 {
+        left -= 1;
+        let name = name_of(&tokens[left]);
+        if name.is_some() {
+            return name;
+        }
+    }
+    None
+}
+
+/// The state after these tokens, from this state before them. It looks for what they give from their end on.
 fn after_all(previous: Previous, tokens: &[Token]) -> Previous
     ensures { state_of result ≡ advanced_all (state_of previous) tokens.now }
 {
-    let mut reached = previous;
-    for token in tokens {
-        reached = reached.after(token);
+    let Some(last) = tokens.last() else {
+        return previous;
+    };
+    let before = (previous.source_id, previous.src_line, previous.src_col);
+    let (source_id, src_line, src_col) = last_source(tokens).unwrap_or(before);
+    Previous {
+        dst_line: last.get_dst_line(),
+        dst_col: last.get_dst_col(),
+        source_id,
+        src_line,
+        src_col,
+        name_id: last_name(tokens).unwrap_or(previous.name_id),
     }
-    reached
 }
 
 /// Whether a state is the header of a chunk.
@@ -567,7 +625,7 @@ fn after_chunks(tokens: &[Token], chunks: &[TokenChunk]) -> Previous
 }
 
 /// The chunk after these, which fit the tokens: it starts at the end of the tokens, with the state there for its header,
-/// and ends at `end`. It goes over the tokens of the last chunk alone.
+/// and ends at `end`. It looks at tokens of the last chunk alone, from its end up to those that give a source and a name.
 pub fn next_chunk(tokens: &[Token], chunks: &[TokenChunk], end: u32) -> TokenChunk
     requires fits { ChunksFit tokens.now chunks.now }
     requires counted { length tokens.now ≤ 4294967295 }

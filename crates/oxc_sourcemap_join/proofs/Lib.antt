@@ -2,6 +2,7 @@ pub mod Fitted
 pub mod SameToken
 pub mod Joining
 pub mod Moving
+pub mod Reach
 pub mod IgnoreLists
 pub mod Adding
 mod Worked

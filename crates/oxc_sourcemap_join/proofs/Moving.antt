@@ -1,9 +1,12 @@
 -- Tokens moved to their place in a join, and contents fitted to sources.
-use Rattle.std.proofs.Common.{◌≡◌, ℕ, zero, suc, ◌-◌, ◌<◌, List, [], ◌∷◌, ◌++◌, map, length, take, replicate, get_or, refl, sym, ap, ◌∙◌, subst, arith, Option, Some, None, slice_get, true, false, cond}
+use Rattle.std.proofs.Common.{◌≡◌, ℕ, zero, suc, ◌+◌, ◌-◌, ◌<◌, List, [], ◌∷◌, ◌++◌, map, length, take, drop, replicate, get_or, refl, sym, ap, ◌∙◌, subst, arith, Option, Some, None, slice_get, true, false, cond}
 use Rattle.std.specs.List.{All, AllByRecursion}
 use Rattle.std.specs.Option.{IfSome, option_map, unwrap_or}
 use Rattle.std.specs.Iterator.{YieldsFirstBy}
-use Rattle.std.proofs.lemmas.List.{get_or-map, take-map}
+use Rattle.std.proofs.Math.ListN.{set}
+use Rattle.std.proofs.Math.Seq.{take-suc}
+use Rattle.std.proofs.lemmas.List.{get_or-map, take-map, get_or-drop, get_or-set_same, length-set, take-set, drop-set-lt, map-append, take-append-drop}
+use Rattle.std.proofs.lemmas.Grind.{drop_more_same}
 use Rattle.std.proofs.lemmas.List.Elements.{All-get_or, All-from_recursion, recursion_from_All}
 use Rattle.oxc_sourcemap_mappings.specs.Token.{TokenRecord, IsInBounds, AreInBounds}
 use Rattle.oxc_sourcemap_parts.specs.Record.{Text}
@@ -18,6 +21,30 @@ length-mapped f (x ∷ xs) = ap suc (length-mapped f xs)
 -- an item of a mapped list
 pub all-mapped-at : {A B : Type 0} (P : B → Type 0) (f : A → B) (xs : List A) (i : ℕ) (d : A) → i < length xs → All P (map f xs) → P (f (get_or xs i d))
 all-mapped-at P f xs i d h a = subst P (get_or-map f xs i d (f d) h) (All-get_or P (map f xs) i (f d) (omega (arith, length-mapped f xs)) a)
+
+-- ---- tokens moved where they stand
+module _ {A : Type 0} (f : A → A) (xs ys : List A) (i : ℕ) (d : A) (h : i < length xs) (l : length ys ≡ length xs) (rest : drop i ys ≡ drop i xs) where
+  -- what is not yet moved is as it was
+  pub not-yet-moved : get_or ys i d ≡ get_or xs i d
+  not-yet-moved =
+      let n : i ≡ i + 0 = omega arith in
+      ap (λ k. get_or ys k d) n ∙ sym (get_or-drop i ys 0 d) ∙ ap (λ zs. get_or zs 0 d) rest ∙ get_or-drop i xs 0 d ∙ ap (λ k. get_or xs k d) (sym n)
+
+  pub moved-next : (v : A) → v ≡ f (get_or ys i d) → take i ys ≡ map f (take i xs) → take (i + 1) (set ys i v) ≡ map f (take (i + 1) xs)
+  moved-next v e t =
+      let n : i + 1 ≡ suc i = omega arith in
+      let m = f (get_or xs i d) in
+      ap (λ k. take k (set ys i v)) n ∙ take-suc (set ys i v) i d (omega (arith, length-set ys i v))
+      ∙ ap (λ zs. zs ++ get_or (set ys i v) i d ∷ []) (take-set ys i v ∙ t)
+      ∙ ap (λ z. map f (take i xs) ++ z ∷ []) (get_or-set_same ys i v d (omega arith) ∙ e ∙ ap f not-yet-moved)
+      ∙ sym (ap (λ k. map f (take k xs)) n ∙ ap (map f) (take-suc xs i d h) ∙ map-append f (take i xs) (get_or xs i d ∷ []))
+
+  pub rest-next : (v : A) → drop (i + 1) (set ys i v) ≡ drop (i + 1) xs
+  rest-next v = drop-set-lt (i + 1) ys i v (omega arith) ∙ drop_more_same ys xs i rest
+
+-- a list mapped in two parts
+pub mapped-parts : {A B : Type 0} (f : A → B) (n : ℕ) (xs : List A) → map f (take n xs) ++ map f (drop n xs) ≡ map f xs
+mapped-parts f n xs = sym (map-append f (take n xs) (drop n xs)) ∙ ap (map f) (take-append-drop n xs)
 
 fitted-none : (n : ℕ) → fitted n [] ≡ replicate n None
 fitted-none zero = refl
@@ -56,6 +83,16 @@ last-slice_get (x ∷ y ∷ xs) =
 all-after : {A : Type 0} (P : A → Type 0) (xs ys : List A) → AllByRecursion P (xs ++ ys) → AllByRecursion P ys
 all-after P [] ys h = h
 all-after P (x ∷ xs) ys h = all-after P xs ys h.1
+
+both-parts : {A : Type 0} (P : A → Type 0) (xs ys : List A) → AllByRecursion P (xs ++ ys) → AllByRecursion P xs × AllByRecursion P ys
+both-parts P [] ys h = (tt, h)
+both-parts P (x ∷ xs) ys h = let rest = both-parts P xs ys h.1 in ((h.0, rest.0), rest.1)
+
+-- each of two parts is in bounds where the whole is
+pub parts-in-bounds : (us vs ws : List TokenRecord) → us ++ vs ≡ ws → AreInBounds ws → AreInBounds us × AreInBounds vs
+parts-in-bounds us vs ws e h =
+    let both = both-parts IsInBounds us vs (recursion_from_All IsInBounds (us ++ vs) (subst AreInBounds (sym e) h)) in
+    (All-from_recursion IsInBounds us both.0, All-from_recursion IsInBounds vs both.1)
 
 last-holds : {A : Type 0} (P : A → Type 0) (xs : List A) → AllByRecursion P xs → IfSome (last xs) P
 last-holds P [] h = tt

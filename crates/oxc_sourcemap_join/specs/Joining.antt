@@ -1,5 +1,5 @@
 -- How the private steps of a join are seen. No public contract speaks of these.
-use Rattle.std.specs.Prelude.{◌≡◌, ℕ, ◌≤◌, List, map, length, drop, Option}
+use Rattle.std.specs.Prelude.{◌≡◌, ℕ, ◌+◌, ◌≤◌, List, [], ◌∷◌, map, length, drop, max, Option, Some, None, if◌then◌else◌, ◌==◌}
 use Rattle.oxc_sourcemap_mappings.specs.Token.{TokenRecord, AreInBounds}
 use Rattle.oxc_sourcemap_mappings.specs.declared.token.TokenChunk.{TokenChunk}
 use Rattle.oxc_sourcemap_mappings.specs.Chunks.{ChunksFit}
@@ -27,6 +27,20 @@ offset_of s = record { line = s.lines; column = s.columns }
 -- tokens, moved
 abbrev pub all_shifted : Shift → List TokenRecord → List TokenRecord
 all_shifted s tokens = map (shifted s.names s.sources (offset_of s)) tokens
+
+-- one more than an id, and 0 for none
+abbrev pub above : Option ℕ → ℕ
+above None = 0
+above (Some id) = id + 1
+
+-- the column of a token, if its line is the one that the columns of an offset move
+abbrev pub moving_column : TokenRecord → ℕ
+moving_column t = if t.dst_line == 0 then t.dst_col else 0
+
+-- the greatest of a number and of those that tokens give
+abbrev pub greatest : (TokenRecord → ℕ) → ℕ → List TokenRecord → ℕ
+greatest given most [] = most
+greatest given most (t ∷ ts) = greatest given (max most (given t)) ts
 
 -- What is worked out for a map after a join: how its tokens are moved, how many of them are passed over before, and the
 -- chunk of the others.

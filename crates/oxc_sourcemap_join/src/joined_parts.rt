@@ -10,7 +10,7 @@ ghost use Rattle.oxc_sourcemap_mappings.specs.Chunks.{ChunksFit};
 ghost use Rattle.oxc_sourcemap_parts.specs.Views.{texts_of, contents_of, ids_of, record_of_parts};
 ghost use Rattle.oxc_sourcemap_lookup.specs.Lookup.{last};
 ghost use Rattle.oxc_sourcemap_join.specs.Joined.{fitted, raised_id, shifted_column, shifted, is_same_token, without_repeat, raised_ignore_list, appended_ignore_lists, added, nothing_joined, AreEntriesInBounds, IsWithinLimits};
-ghost use Rattle.oxc_sourcemap_join.specs.Joining.{offset_of, all_shifted, IsAddition};
+ghost use Rattle.oxc_sourcemap_join.specs.Joining.{offset_of, all_shifted, above, moving_column, greatest, IsAddition};
 
 use oxc_sourcemap_mappings::{Error, Result, Token, TokenChunk, next_chunk};
 use oxc_sourcemap_parts::{
@@ -66,39 +66,110 @@ fn are_raisable(ids: &[u32], number: u32) -> bool
     true
 }
 
+/// The greatest line of some tokens, and one more than the greatest of their ids: 0 where there is none.
+#[derive(Clone, Copy)]
+struct Reach {
+    line: u32,
+    source: u32,
+    name: u32,
+}
+
+/// One more than an id, and 0 for none.
+fn above(id: Option<u32>) -> u32
+    requires { IfSome id (λ i. i < 4294967295) }
+    ensures { result ≡ above id }
+{
+    match id {
+        Some(id) => id + 1,
+        None => 0,
+    }
+}
+
+/// The greatest numbers of these tokens.
+fn reach_of(tokens: &[Token]) -> Reach
+    ensures line { result.line ≡ greatest (λ t. t.dst_line) 0 tokens.now }
+    ensures source { result.source ≡ greatest (λ t. above t.source_id) 0 tokens.now }
+    ensures name { result.name ≡ greatest (λ t. above t.name_id) 0 tokens.now }
+
+    // True of every list of tokens, and stated here for callers that need it.
+    ensures in_bounds { AreInBounds tokens.now }
+{
+    let mut line: u32 = 0;
+    let mut source: u32 = 0;
+    let mut name: u32 = 0;
+    for token in tokens {
+        line = line.max(token.get_dst_line());
+        source = source.max(above(token.get_source_id()));
+        name = name.max(above(token.get_name_id()));
+    }
+    Reach { line, source, name }
+}
+
+/// The column of a token, if it lies on line 0.
+fn moving_column(token: &Token) -> u32
+    ensures { result ≡ moving_column token.now }
+{
+    if token.get_dst_line() == 0 {
+        token.get_dst_col()
+    } else {
+        0
+    }
+}
+
+/// The greatest column on line 0 of these tokens.
+fn column_reach(tokens: &[Token]) -> u32
+    ensures { result ≡ greatest moving_column 0 tokens.now }
+{
+    let mut column: u32 = 0;
+    for token in tokens {
+        column = column.max(moving_column(token));
+    }
+    column
+}
+
+/// Whether the greatest of some numbers, raised by a number, is at most 4294967295.
+fn is_in_reach(greatest: u32, number: u32) -> bool
+    ensures { IsTrue result ↔ (greatest + number < 4294967296) }
+{
+    u64::from(greatest) + u64::from(number) < 4294967296
+}
+
 impl Shift {
     /// The generated column of the moved token.
     fn column(&self, token: &Token) -> u64
         ensures { result ≡ shifted_column (offset_of self.now) token.now.dst_line token.now.dst_col }
     {
         let column = u64::from(token.get_dst_col());
-        if token.get_dst_line() == 0 {
+        if self.columns != 0 && token.get_dst_line() == 0 {
             column + u64::from(self.columns)
         } else {
             column
         }
     }
 
-    /// Whether the moved token is in bounds.
-    fn fits(&self, token: &Token) -> bool
-        ensures { IsTrue result ↔ IsInBounds (shifted self.now.names self.now.sources (offset_of self.now) token.now) }
+    /// Whether tokens of these greatest numbers are in bounds, moved, but for their columns.
+    fn fits_reach(self, reach: Reach) -> bool
+        ensures { IsTrue result ↔ ((reach.line + self.lines < 4294967296) × (reach.source + self.sources < 4294967296) × (reach.name + self.names < 4294967296)) }
     {
-        u64::from(token.get_dst_line()) + u64::from(self.lines) < 4294967296
-            && self.column(token) < 4294967296
-            && is_id_raisable(token.get_source_id(), self.sources)
-            && is_id_raisable(token.get_name_id(), self.names)
+        is_in_reach(reach.line, self.lines)
+            && is_in_reach(reach.source, self.sources)
+            && is_in_reach(reach.name, self.names)
     }
 
-    /// Whether all of the moved tokens are in bounds.
-    fn fits_all(&self, tokens: &[Token]) -> bool
-        ensures { IsTrue result ↔ AreInBounds (all_shifted self.now tokens.now) }
+    /// Whether the columns of these tokens are in bounds, moved.
+    fn fits_columns(self, tokens: &[Token]) -> bool
+        requires { AreInBounds tokens.now }
+        ensures { IsTrue result ↔ (greatest moving_column 0 tokens.now + self.columns < 4294967296) }
     {
-        for token in tokens {
-            if !self.fits(token) {
-                return false;
-            }
-        }
-        true
+        self.columns == 0 || is_in_reach(column_reach(tokens), self.columns)
+    }
+
+    /// Whether all of the moved tokens are in bounds. It compares the greatest numbers alone, so that the loops over the
+    /// tokens have no branch.
+    fn fits_all(self, tokens: &[Token]) -> bool
+        ensures { IsTrue result ↔ AreInBounds (all_shifted self tokens.now) }
+    {
+        self.fits_reach(reach_of(tokens)) && self.fits_columns(tokens)
     }
 
     /// Whether all entries of an ignore list, raised by the number of sources before, are at most 4294967294.
@@ -124,6 +195,16 @@ impl Shift {
             raised(token.get_source_id(), self.sources),
             raised(token.get_name_id(), self.names),
         )
+    }
+
+    /// Moves tokens where they stand.
+    fn move_all(self, tokens: &mut [Token])
+        requires { AreInBounds (all_shifted self tokens.old) }
+        ensures { tokens.new ≡ all_shifted self tokens.old }
+    {
+        for token in tokens.iter_mut() {
+            *token = self.moved(token);
+        }
     }
 
     /// How many of the first tokens of a map are left out: one if the first, moved, is the same as the last token so far.
@@ -255,15 +336,33 @@ fn push_fitted<'a>(
     push_unknown(contents, unknown);
 }
 
-/// Adds tokens, moved.
-fn push_moved(tokens: &mut Vec<Token>, shift: &Shift, added: &[Token])
+/// How many tokens are copied at once before they are moved: so few that they stay in the cache.
+const BLOCK: usize = 64;
+
+/// Adds tokens, moved: they are copied, and then moved where they stand.
+fn push_block(tokens: &mut Vec<Token>, shift: Shift, added: &[Token])
     requires room { vec_len tokens.old + length added.now ≤ vec_capacity tokens.old }
-    requires in_bounds { AreInBounds (all_shifted shift.now added.now) }
-    ensures { tokens.new.items ≡ tokens.old.items ++ all_shifted shift.now added.now }
+    requires in_bounds { AreInBounds (all_shifted shift added.now) }
+    ensures items { tokens.new.items ≡ tokens.old.items ++ all_shifted shift added.now }
+    ensures len { vec_len tokens.new ≡ vec_len tokens.old + length added.now }
+    ensures capacity { vec_capacity tokens.old ≤ vec_capacity tokens.new }
 {
-    for token in added {
-        let pushed: std::result::Result<_, _> = tokens.push(shift.moved(token));
-        pushed.unwrap();
+    let start = tokens.len();
+    tokens.extend_from_slice(added).unwrap();
+    shift.move_all(&mut tokens.as_mut_slice()[start..]);
+}
+
+/// Adds tokens, moved, in blocks.
+fn push_moved(tokens: &mut Vec<Token>, shift: Shift, added: &[Token])
+    requires room { vec_len tokens.old + length added.now ≤ vec_capacity tokens.old }
+    requires in_bounds { AreInBounds (all_shifted shift added.now) }
+    ensures { tokens.new.items ≡ tokens.old.items ++ all_shifted shift added.now }
+{
+    let mut rest = added;
+    while !rest.is_empty() {
+        let (block, others) = rest.split_at(rest.len().min(BLOCK));
+        push_block(tokens, shift, block);
+        rest = others;
     }
 }
 
@@ -441,7 +540,7 @@ impl<'a> JoinedParts<'a> {
             contents_in(parts.source_contents.as_slice()),
             source_count,
         );
-        push_moved(&mut self.tokens, &addition.shift, kept);
+        push_moved(&mut self.tokens, shift, kept);
         let pushed: std::result::Result<_, _> = self.token_chunks.push(addition.chunk);
         pushed.unwrap();
         Ok(())
@@ -480,7 +579,7 @@ impl<'a> JoinedParts<'a> {
         self.names.append(&mut names).unwrap();
         self.sources.append(&mut sources).unwrap();
         push_fitted(&mut self.source_contents, source_contents, count);
-        push_moved(&mut self.tokens, &addition.shift, kept);
+        push_moved(&mut self.tokens, shift, kept);
         let pushed: std::result::Result<_, _> = self.token_chunks.push(addition.chunk);
         pushed.unwrap();
         Ok(())

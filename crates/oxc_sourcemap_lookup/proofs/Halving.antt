@@ -1,5 +1,7 @@
 -- Halving a line, and how many columns are then compared.
-use Rattle.std.proofs.Common.{◌≡◌, refl, sym, ap, ◌∙◌, ℕ, zero, suc, ◌+◌, ◌^◌, ◌-◌, ◌/◌, ◌<◌, ◌≤◌, true, false, List, [], ◌∷◌, length, take, drop, get_or, slice_get, option_map, Bor, Option, Some, None, nat_cmp, nat_lt, ◌==◌, ◌≢◌, arith, if◌then◌else◌}
+use Rattle.std.proofs.Common.{◌≡◌, refl, sym, ap, ◌∙◌, ℕ, zero, suc, ◌+◌, ◌^◌, ◌-◌, ◌/◌, ◌<◌, ◌≤◌, true, false, List, [], ◌∷◌, length, take, drop, get_or, slice_get, option_map, Bor, Option, Some, None, nat_cmp, nat_lt, ◌==◌, ◌≢◌, arith, if◌then◌else◌, bit_and, Bool}
+use Rattle.std.proofs.lemmas.Nat.{and-not, and_comm}
+use Rattle.std.specs.Int.Bits.{and_zero_l, and_zero_r}
 use Rattle.std.proofs.lemmas.List.Sums.{prefix_len-le-length}
 use Rattle.std.specs.List.{prefix_len, last_or}
 use Rattle.std.specs.Ordering.{match_ordering}
@@ -11,6 +13,11 @@ use Rattle.oxc_sourcemap_lookup.specs.Digits.{digits_up_to, binary_digits}
 use Rattle.oxc_sourcemap_lookup.specs.Lookup.{first, last, at, no_column_goes_back}
 use Rattle.oxc_sourcemap_lookup.proofs.Tables.{last_at}
 use Rattle.oxc_sourcemap_lookup.proofs.Lookups.{walked, walked_is_at, goes_on, not_before, not_before-at}
+
+-- what a mask of all binary digits, or of none, leaves of a number
+pub masked : (b : Bool) (n : ℕ) → n < 2 ^ 64 → bit_and n (if b then 18446744073709551615 else 0) ≡ (if b then n else 0)
+masked true n h = and_comm n 18446744073709551615 ∙ omega (arith, and-not 64 0 n (omega arith) h, and_zero_l n)
+masked false n h = and_zero_r n
 
 half-less : (n : ℕ) → suc n / 2 ≤ n
 half-less n = omega arith
@@ -60,10 +67,41 @@ before-earlier col (t ∷ ts) (suc m) d h le = grind (arith, before-earlier col 
 pub before-all : (col : ℕ) (ts : List TokenRecord) → before col ts ≤ length ts
 before-all col ts = prefix_len-le-length (λ t. nat_lt t.dst_col col) ts
 
+pub chosen : (b : Bool) (n : ℕ) → (if b then n else 0) ≤ n
+chosen true n = omega arith
+chosen false n = omega arith
+
+-- where the front ends, once the token in the middle is compared
+pub halved : (b : Bool) (col : ℕ) (ts : List TokenRecord) (start left half : ℕ) (d : TokenRecord) → nat_lt (get_or ts (start + left - 1) d).dst_col col ≡ b
+    → 0 < left → left ≤ suc half → start + left ≤ length ts → no_column_goes_back token_column ts ≡ true
+    → start ≤ before col ts → before col ts ≤ start + left + half
+    → (start + (if b then left else 0) ≤ before col ts) × (before col ts ≤ start + (if b then left else 0) + half)
+halved true col ts start left half d e some near within g low high =
+    let lt : (get_or ts (start + left - 1) d).dst_col < col = grind (arith, e) in
+    (omega (arith, before-later col ts (start + left - 1) d g (omega (arith, some, within)) lt), omega (arith, high))
+halved false col ts start left half d e some near within g low high =
+    let le : col ≤ (get_or ts (start + left - 1) d).dst_col = grind (arith, e) in
+    (omega (arith, low), omega (arith, before-earlier col ts (start + left - 1) d (omega (arith, some, within)) le, near, some))
+
 -- of the first token that is not before the column and the last one that is: the former where it is at the column
 abbrev pub nearer : ℕ → Option TokenRecord → Option TokenRecord → Option TokenRecord
 nearer col None last = last
 nearer col (Some t) last = if t.dst_col == col then Some t else last
+
+not_before-first-by : (b : Bool) (col : ℕ) (x : TokenRecord) (ts : List TokenRecord) (t : TokenRecord) → nat_lt x.dst_col col ≡ b
+    → (first (drop (before col ts) ts) ≡ Some t → col ≤ t.dst_col) → first (drop (before col (x ∷ ts)) (x ∷ ts)) ≡ Some t → col ≤ t.dst_col
+not_before-first-by true col x ts t lt more e =
+    let n : before col (x ∷ ts) ≡ suc (before col ts) = rw lt (omega arith) in
+    more (sym (ap (λ k. first (drop k (x ∷ ts))) n) ∙ e)
+not_before-first-by false col x ts t lt more e =
+    let n : before col (x ∷ ts) ≡ 0 = rw lt in
+    let same : Some x ≡ Some t = sym (ap (λ k. first (drop k (x ∷ ts))) n) ∙ e in
+    grind (arith, same, lt)
+
+-- the first token after those before the column is not before it
+pub not_before-first : (col : ℕ) (ts : List TokenRecord) (t : TokenRecord) → first (drop (before col ts) ts) ≡ Some t → col ≤ t.dst_col
+not_before-first col [] t e = cc (e)
+not_before-first col (x ∷ ts) t e = not_before-first-by (nat_lt x.dst_col col) col x ts t refl (not_before-first col ts t) e
 
 -- the two, where the line is cut at an index
 abbrev pub nearer_at : ℕ → Option TokenRecord → List TokenRecord → ℕ → Option TokenRecord

@@ -1,9 +1,8 @@
 //! Lookup tables over slices of tokens, and lookups on a line. (In the Rust crate these stand in the module `sourcemap`.)
 ghost use Rattle.std.specs.Prelude.{◌≡◌, ◌≢◌, ◌↔◌, ◌==◌, ℕ, ◌+◌, ◌<◌, ◌≤◌, nat_lt, true, false, IsTrue, length, take, map, option_map, slice_get};
-ghost use Rattle.std.specs.Prelude.{IfOk, IfErr, IfSome, IsNone, Ok, Err, Some, None, []};
+ghost use Rattle.std.specs.Prelude.{IfOk, IfErr, IfSome, IsNone, Ok, Err, Some, None, [], if◌then◌else◌};
 ghost use Rattle.std.specs.Option.{option_map_or};
 ghost use Rattle.std.specs.List.{Contains, prefix_len};
-ghost use Rattle.std.specs.Ordering.{nat_cmp};
 ghost use Rattle.oxc_sourcemap_mappings.specs.declared.error.Error.{Error};
 ghost use Rattle.oxc_sourcemap_mappings.specs.declared.error.Error.TheVariants.{OutOfMemory};
 ghost use Rattle.oxc_sourcemap_mappings.specs.Canonical.{IsInLineOrder};
@@ -14,7 +13,6 @@ ghost use Rattle.oxc_sourcemap_lookup.specs.Lookup.{lines_through, tokens_by_lin
 
 use oxc_sourcemap_mappings::{Error, Result, Token, line_order_fault};
 use std::alloc::{AllocError, Global};
-use std::cmp::Ordering;
 
 /// How many lines there are up to that of the last token.
 pub(crate) fn line_count(tokens: &[Token]) -> u64
@@ -108,14 +106,22 @@ pub fn slice_of<'t>(lookup_table: &[&'t [Token]], line: u32) -> &'t [Token]
     }
 }
 
-/// How a token's column compares with the asked one. A lookup compares columns here alone, and counts each comparison.
-fn compare_column(token: &Token, col: u32, steps: &mut u64) -> Ordering
+/// All binary digits set if x is less than y, else 0. Subtraction borrows from the upper half, so no branch is taken: LLVM
+/// would make one of a choice, and on most lines half of the branches would be mispredicted.
+fn mask_if_less(x: u32, y: u64) -> usize
+    ensures { result ≡ (if nat_lt x y then 18446744073709551615 else 0) }
+{
+    (u128::from(x).wrapping_sub(u128::from(y)) >> 64) as usize
+}
+
+/// `count` if a token lies before the column `col`, else 0. A lookup compares columns here alone, and counts each comparison.
+fn compare_column(token: &Token, col: u64, count: usize, steps: &mut u64) -> usize
     requires { steps.old < 18446744073709551615 }
-    ensures value { result ≡ nat_cmp token.now.dst_col col }
+    ensures value { result ≡ (if nat_lt token.now.dst_col col then count else 0) }
     ensures counted { steps.new ≡ steps.old + 1 }
 {
     *steps += 1;
-    token.get_dst_col().cmp(&col)
+    count & mask_if_less(token.get_dst_col(), col)
 }
 
 /// How many tokens at the front of a line lie before `col`, found by halving: the index of the first token that does not.
@@ -132,9 +138,7 @@ fn count_before(line: &[Token], col: u32, steps: &mut u64) -> usize
     while size > 0 {
         let half = size / 2;
         let next = start + (size - half);
-        if compare_column(&line[next - 1], col, steps) == Ordering::Less {
-            start = next;
-        }
+        start += compare_column(&line[next - 1], u64::from(col), size - half, steps);
         size = half;
     }
     start
@@ -154,7 +158,7 @@ pub fn search(line: &[Token], col: u32, steps: &mut u64) -> Option<Token>
     *steps = 0;
     let (before, others) = line.split_at(count_before(line, col, steps));
     match others.first() {
-        Some(token) if compare_column(token, col, steps) == Ordering::Equal => Some(*token),
+        Some(token) if compare_column(token, u64::from(col) + 1, 1, steps) == 1 => Some(*token),
         _ => before.last().copied(),
     }
 }

@@ -1,7 +1,7 @@
-use Rattle.std.proofs.Common.{◌<◌, ◌≤◌, ◌+◌, ◌-◌, ◌/◌, ◌^◌, length, arith, ap, rules}
+use Rattle.std.proofs.Common.{◌≡◌, nat_lt, get_or, if◌then◌else◌, ◌<◌, ◌+◌, ◌-◌, ◌/◌, ◌^◌, length, arith, ap, rules}
 use Rattle.std.proofs.lemmas.Grind.{common_steps}
 use Rattle.oxc_sourcemap_parts.specs.Sorted.{token_column}
-use Rattle.oxc_sourcemap_lookup.proofs.Halving.{digits-half, digits-below, before-all, before-later, before-earlier}
+use Rattle.oxc_sourcemap_lookup.proofs.Halving.{digits-half, digits-below, before-all, chosen, halved}
 use Rattle.oxc_sourcemap_lookup.proofs.lookup.count_before.Goals as goal
 
 pub loop-size-init : goal.loop-size-init
@@ -13,31 +13,27 @@ loop-size-init c =
       count = λ g. (omega arith, omega (arith, before-all c.args.col c.args.line.now));
     }
 
-pub compare_column-requires : goal.compare_column-requires
-compare_column-requires c = let h = c.loop-size.invariant in omega (arith, digits-half c.loop-size.size c.loop-size-test.true)
-
-pub loop-size-preserved-then-eq : goal.loop-size-preserved-then-eq
-loop-size-preserved-then-eq c =
-    let middle = c.loop-size.start + (c.loop-size.size - c.loop-size.size / 2) - 1 in
-    let t = c.index-line-next.result in
-    let before : t.dst_col < c.args.col = grind (arith, common_steps) in
-    let h = c.loop-size.invariant in
-    let half = digits-half c.loop-size.size c.loop-size-test.true in record {
-      within = omega arith;
-      counted = omega arith;
-      small = h.small;
-      count = λ g. (omega (arith, before-later c.args.col c.args.line.now middle t g (omega arith) (omega (arith, before, ap token_column c.index-line-next.is))), omega (arith, h.count g));
-    }
+pub compare_column-start-requires : goal.compare_column-start-requires
+compare_column-start-requires c = let h = c.loop-size.invariant in omega (arith, digits-half c.loop-size.size c.loop-size-test.true)
 
 pub loop-size-preserved : goal.loop-size-preserved
 loop-size-preserved c =
-    let middle = c.loop-size.start + (c.loop-size.size - c.loop-size.size / 2) - 1 in
+    let line = c.args.line.now in
+    let col = c.args.col in
+    let start = c.loop-size.start in
+    let size = c.loop-size.size in
+    let left = size - size / 2 in
     let t = c.index-line-next.result in
-    let not_before : c.args.col ≤ t.dst_col = grind (arith, common_steps) in
+    let b = nat_lt t.dst_col col in
+    let at : (get_or line (start + left - 1) t).dst_col ≡ t.dst_col = omega (arith, ap token_column c.index-line-next.is) in
+    let value : c.compare_column-start.result ≡ (if b then left else 0) = grind (arith, common_steps) in
+    let most = chosen b left in
     let h = c.loop-size.invariant in
-    let half = digits-half c.loop-size.size c.loop-size-test.true in record {
-      within = omega arith;
+    let half = digits-half size c.loop-size-test.true in record {
+      within = omega (arith, value, most, h.within);
       counted = omega arith;
       small = h.small;
-      count = λ g. (omega (arith, h.count g), omega (arith, before-earlier c.args.col c.args.line.now middle t (omega arith) (omega (arith, not_before, ap token_column c.index-line-next.is))));
+      count = λ g.
+          let front = halved b col line start left (size / 2) t (ap (λ x. nat_lt x col) at) (omega arith) (omega arith) (omega (arith, h.within)) g (h.count g).0 (omega (arith, (h.count g).1)) in
+          (omega (arith, front.0, value), omega (arith, front.1, value));
     }

@@ -36,6 +36,12 @@ fn names_have_one_id_each(rt: &impl Abort, builder: &mut SourceMapBuilder<'_>) {
     }
 }
 
+fn copied_names_have_one_id_each(rt: &impl Abort, builder: &mut SourceMapBuilder<'static>) {
+    for (name, id) in NAMES {
+        same(rt, name, builder.add_name_copied(name), Ok(*id));
+    }
+}
+
 fn names_are_kept_once(rt: &impl Abort, map: &SourceMap<'_>) {
     same(rt, "number of names", map.get_names().len(), 2);
     same(rt, "name", map.get_name(1), Some("bar"));
@@ -45,6 +51,9 @@ fn names_are_kept_once(rt: &impl Abort, map: &SourceMap<'_>) {
 fn names_are_added(rt: HostRuntime) -> Result<()> {
     let mut builder = SourceMapBuilder::empty(rt.alloc());
     names_have_one_id_each(&rt, &mut builder);
+    names_are_kept_once(&rt, &builder.into_sourcemap()?);
+    let mut builder = SourceMapBuilder::empty(rt.alloc());
+    copied_names_have_one_id_each(&rt, &mut builder);
     names_are_kept_once(&rt, &builder.into_sourcemap()?);
     Ok(())
 }
@@ -126,6 +135,32 @@ fn build_texts(builder: &mut SourceMapBuilder<'_>) -> Result<()> {
     let _source = builder.set_source_and_content("baz.js", "")?;
     let _name = builder.add_name("x")?;
     Ok(())
+}
+
+/// A map of a text that is gone: the builder keeps copies of its words.
+fn words_map(alloc: Global) -> Result<SourceMap<'static>> {
+    let mut builder = SourceMapBuilder::empty(alloc);
+    let text = String::from_str(alloc, "file baz.js x")?;
+    for word in text.as_str().split(' ') {
+        builder.set_file_copied(word)?;
+        let _name = builder.add_name_copied(word)?;
+        let _again = builder.add_name("x")?;
+        let source = builder.add_source_and_content_copied(word, "")?;
+        builder.add_token(0, source, 0, 0, Some(source), None)?;
+    }
+    let _other = builder.set_source_and_content_copied("baz.js", "B")?;
+    builder.into_sourcemap()
+}
+
+#[test]
+fn strings_are_copied(rt: HostRuntime) -> Result<()> {
+    let map = words_map(rt.alloc())?;
+    is_read_back(
+        &rt,
+        rt.alloc(),
+        map.to_json_string(rt.alloc())?.as_str(),
+        r#"{"version":3,"file":"x","names":["file","x","baz.js"],"sources":["file","baz.js","x","baz.js"],"sourcesContent":["","","","B"],"mappings":"AAAA,CCAA,CCAA"}"#,
+    )
 }
 
 #[test]

@@ -11,6 +11,9 @@ pub(crate) enum Add {
     Source,
     OtherSource,
     Token,
+    NameCopied,
+    SourceCopied,
+    OtherSourceCopied,
 }
 
 fn make_add(rt: &HostRuntime, add: Add, builder: &mut SourceMapBuilder<'static>) -> Result<()> {
@@ -23,6 +26,9 @@ fn make_add(rt: &HostRuntime, add: Add, builder: &mut SourceMapBuilder<'static>)
             Ok(()) => Ok(0),
             Err(error) => Err(error),
         },
+        Add::NameCopied => builder.add_name_copied("k"),
+        Add::SourceCopied => builder.add_source_and_content_copied("b.js", "B"),
+        Add::OtherSourceCopied => builder.set_source_and_content_copied("b.js", "B"),
     };
     answer(rt);
     match added {
@@ -45,11 +51,11 @@ const UNMET: &str =
 /// The same where the call is made.
 fn wanted(add: Add) -> &'static str {
     match add {
-        Add::Name =>
+        Add::Name | Add::NameCopied =>
             r#"{"version":3,"file":"f.js","names":["k","m"],"sources":["b.js"],"sourcesContent":["C"],"mappings":"IACAC"}"#,
-        Add::Source =>
+        Add::Source | Add::SourceCopied =>
             r#"{"version":3,"file":"f.js","names":["m"],"sources":["b.js"],"sourcesContent":["B"],"mappings":"IACAA"}"#,
-        Add::OtherSource =>
+        Add::OtherSource | Add::OtherSourceCopied =>
             r#"{"version":3,"file":"f.js","names":["m"],"sources":["b.js","b.js"],"sourcesContent":["B","C"],"mappings":"ICCAA"}"#,
         Add::Token =>
             r#"{"version":3,"file":"f.js","names":["m"],"sources":["b.js"],"sourcesContent":["C"],"mappings":"E,EACAA"}"#,
@@ -66,6 +72,20 @@ pub(crate) fn add_to_builder(rt: &HostRuntime, kind: Add) -> Result<Ended> {
     Ok(match added {
         Ok(()) => passed_if(text.as_str() == wanted(kind)),
         Err(error) if text.as_str() == UNMET => failed(error),
+        Err(_) => Ended::Wrong,
+    })
+}
+
+/// Sets the file of a builder to a copy.
+pub(crate) fn set_file_copied(rt: &HostRuntime) -> Result<Ended> {
+    let mut builder = built(rt)?;
+    call(rt);
+    let set = builder.set_file_copied("g.js");
+    answer(rt);
+    let map = builder.into_sourcemap()?;
+    Ok(match set {
+        Ok(()) => passed_if(map.get_file() == Some("g.js")),
+        Err(error) if map.get_file() == Some("f.js") => failed(error),
         Err(_) => Ended::Wrong,
     })
 }

@@ -1,5 +1,5 @@
 //! The calls, by name.
-use crate::builders::{Add, add_to_builder, finish_builder, finish_builder_owned};
+use crate::builders::{Add, add_to_builder, finish_builder, finish_builder_owned, set_file_copied};
 use crate::commands::{
     Order, read_arguments, read_arguments_of_plan, run_command, split_input, trace_position,
 };
@@ -50,6 +50,7 @@ pub(crate) enum Call {
     SetOwnedField(Setter),
     MakeTable(bool),
     AddToBuilder(Add),
+    SetFileCopied,
     FinishBuilder,
     FinishBuilderOwned,
     AddToJoin(Join),
@@ -249,8 +250,23 @@ pub(crate) const CALLS: &[(&str, &str, Call)] = &[
     ),
     (
         "takes",
-        "SourceMapBuilder::into_sourcemap",
-        Call::FinishBuilder,
+        "SourceMapBuilder::add_name_copied",
+        Call::AddToBuilder(Add::NameCopied),
+    ),
+    (
+        "takes",
+        "SourceMapBuilder::add_source_and_content_copied",
+        Call::AddToBuilder(Add::SourceCopied),
+    ),
+    (
+        "takes",
+        "SourceMapBuilder::set_source_and_content_copied",
+        Call::AddToBuilder(Add::OtherSourceCopied),
+    ),
+    (
+        "takes",
+        "SourceMapBuilder::set_file_copied",
+        Call::SetFileCopied,
     ),
     (
         "takes",
@@ -316,6 +332,11 @@ pub(crate) const CALLS: &[(&str, &str, Call)] = &[
     ),
     (
         "none",
+        "SourceMapBuilder::into_sourcemap",
+        Call::FinishBuilder,
+    ),
+    (
+        "none",
         "ConcatSourceMapBuilder::into_sourcemap",
         Call::FinishJoin,
     ),
@@ -375,6 +396,7 @@ fn made(rt: &HostRuntime, call: Call) -> Result<Ended, Error> {
         Call::SetOwnedField(setter) => set_owned_field(rt, setter),
         Call::MakeTable(is_owned) => make_table(rt, is_owned),
         Call::AddToBuilder(add) => add_to_builder(rt, add),
+        Call::SetFileCopied => set_file_copied(rt),
         Call::FinishBuilder => finish_builder(rt),
         Call::FinishBuilderOwned => finish_builder_owned(rt),
         Call::AddToJoin(join) => add_to_join(rt, join),

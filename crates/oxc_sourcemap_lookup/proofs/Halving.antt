@@ -99,7 +99,7 @@ not_before-first-by false col x ts t lt more e =
     grind (arith, same, lt)
 
 -- the first token after those before the column is not before it
-pub not_before-first : (col : ℕ) (ts : List TokenRecord) (t : TokenRecord) → first (drop (before col ts) ts) ≡ Some t → col ≤ t.dst_col
+not_before-first : (col : ℕ) (ts : List TokenRecord) (t : TokenRecord) → first (drop (before col ts) ts) ≡ Some t → col ≤ t.dst_col
 not_before-first col [] t e = cc (e)
 not_before-first col (x ∷ ts) t e = not_before-first-by (nat_lt x.dst_col col) col x ts t refl (not_before-first col ts t) e
 
@@ -134,22 +134,51 @@ pub at-nearer : (col : ℕ) (ts : List TokenRecord) (n : ℕ) → no_column_goes
 at-nearer col ts n g e = sym (walked_is_at col ts g) ∙ walked-nearer col None ts ∙ sym (ap (nearer_at col None ts) e)
 
 -- the first token of what is left, at the column or not
-pub here : (col : ℕ) (t : TokenRecord) (o last : Option TokenRecord) → o ≡ Some t → t.dst_col ≡ col → nearer col o last ≡ Some t
+here : (col : ℕ) (t : TokenRecord) (o last : Option TokenRecord) → o ≡ Some t → t.dst_col ≡ col → nearer col o last ≡ Some t
 here col t o last e h = ap (λ p. nearer col p last) e ∙ grind (arith, h)
 
-pub past : (col : ℕ) (t : TokenRecord) (o last : Option TokenRecord) → o ≡ Some t → t.dst_col ≢ col → nearer col o last ≡ last
+past : (col : ℕ) (t : TokenRecord) (o last : Option TokenRecord) → o ≡ Some t → t.dst_col ≢ col → nearer col o last ≡ last
 past col t o last e h = ap (λ p. nearer col p last) e ∙ grind (arith, h)
 
-pub none_left : (col : ℕ) (o last : Option TokenRecord) → o ≡ None → nearer col o last ≡ last
+none_left : (col : ℕ) (o last : Option TokenRecord) → o ≡ None → nearer col o last ≡ last
 none_left col o last e = ap (λ p. nearer col p last) e
 
-first-get : (ts : List TokenRecord) → slice_get ts 0 ≡ first ts
-first-get [] = refl
-first-get (t ∷ ts) = refl
+first-drop : (ts : List TokenRecord) (n : ℕ) → first (drop n ts) ≡ slice_get ts n
+first-drop [] zero = refl
+first-drop [] (suc n) = refl
+first-drop (t ∷ ts) zero = refl
+first-drop (t ∷ ts) (suc n) = first-drop ts n
 
--- what `first` and `last` read of the two parts of a line
-pub read-first : (o : Option (Bor TokenRecord)) (left ts : List TokenRecord) (n : ℕ) → option_map (λ x. x.now) o ≡ slice_get left 0 → left ≡ drop n ts → first (drop n ts) ≡ option_map (λ x. x.now) o
-read-first o left ts n e d = sym (e ∙ first-get left ∙ ap first d)
+last-through : (ts : List TokenRecord) (found : Option TokenRecord) (n : ℕ) (t : TokenRecord) → slice_get ts n ≡ Some t → last_or found (take (suc n) ts) ≡ Some t
+last-through [] found n t e = cc (e)
+last-through (x ∷ ts) found zero t e = e
+last-through (x ∷ ts) found (suc n) t e = last-through ts (Some x) n t e
 
+nearer-through-by : (b : Bool) (col : ℕ) (ts : List TokenRecord) (n : ℕ) (t : TokenRecord) → nat_lt t.dst_col (col + 1) ≡ b → slice_get ts n ≡ Some t → col ≤ t.dst_col
+    → nearer_at col None ts n ≡ last (take (n + (if b then 1 else 0)) ts)
+nearer-through-by true col ts n t lt e le =
+    let same : t.dst_col ≡ col = grind (arith, lt, le) in
+    let next : n + 1 ≡ suc n = omega arith in
+    here col t _ _ (first-drop ts n ∙ e) same ∙ sym (ap (λ k. last (take k ts)) next ∙ last-through ts None n t e)
+nearer-through-by false col ts n t lt e le =
+    let other : t.dst_col ≢ col = grind (arith, lt) in
+    let same : n ≡ n + 0 = omega arith in
+    past col t _ _ (first-drop ts n ∙ e) other ∙ ap (λ k. last (take k ts)) same
+
+-- The nearer of the two ends the line that is cut before the first token not before the column, or after it where it is at
+-- the column.
+pub nearer-through : (col : ℕ) (ts : List TokenRecord) (n : ℕ) (t : TokenRecord) → slice_get ts n ≡ Some t → col ≤ t.dst_col
+    → nearer_at col None ts n ≡ last (take (n + (if nat_lt t.dst_col (col + 1) then 1 else 0)) ts)
+nearer-through col ts n t e le = nearer-through-by (nat_lt t.dst_col (col + 1)) col ts n t refl e le
+
+-- the first token after those before the column, read by its index, is not before it
+pub not_before-get : (col : ℕ) (ts : List TokenRecord) (n : ℕ) (t : TokenRecord) → n ≡ before col ts → slice_get ts n ≡ Some t → col ≤ t.dst_col
+not_before-get col ts n t count e = not_before-first col ts t (sym (ap (λ k. first (drop k ts)) count) ∙ first-drop ts n ∙ e)
+
+-- no token after those before the column
+pub nearer-none : (col : ℕ) (ts : List TokenRecord) (n : ℕ) → slice_get ts n ≡ None → nearer_at col None ts n ≡ last (take n ts)
+nearer-none col ts n e = none_left col _ _ (first-drop ts n ∙ e)
+
+-- what `last` reads of the front of a line
 pub read-last : (o : Option (Bor TokenRecord)) (front ts : List TokenRecord) (n : ℕ) → option_map (λ x. x.now) o ≡ slice_get front (length front - 1) → front ≡ take n ts → last (take n ts) ≡ option_map (λ x. x.now) o
 read-last o front ts n e d = sym (e ∙ sym (last_at front) ∙ ap last d)

@@ -156,11 +156,12 @@ pub fn search(line: &[Token], col: u32, steps: &mut u64) -> Option<Token>
     ensures started { 0 < length line.now → 0 < steps.new }
 {
     *steps = 0;
-    let (before, others) = line.split_at(count_before(line, col, steps));
-    match others.first() {
-        Some(token) if compare_column(token, u64::from(col) + 1, 1, steps) == 1 => Some(*token),
-        _ => before.last().copied(),
-    }
+    let before = count_before(line, col, steps);
+    let end = match line.get(before) {
+        Some(token) => before + compare_column(token, u64::from(col) + 1, 1, steps),
+        None => before,
+    };
+    line[..end].last().copied()
 }
 
 /// `search`, and the first token in place of None.

@@ -1,32 +1,29 @@
-use Rattle.std.proofs.Common.{◌≡◌, ◌≢◌, ◌≤◌, drop, ◌∙◌, arith, sym, ap, option_map}
+use Rattle.std.proofs.Common.{◌≡◌, if◌then◌else◌, nat_lt, ◌+◌, ◌<◌, ◌≤◌, take, length, get_or, refl, ◌∙◌, sym, ap, arith}
 use Rattle.std.proofs.lemmas.Grind.{common_steps}
-use Rattle.oxc_sourcemap_lookup.specs.Lookup.{first}
-use Rattle.oxc_sourcemap_lookup.proofs.Halving.{at-nearer, here, past, none_left, read-first, read-last, not_before-first}
+use Rattle.std.proofs.lemmas.Option.{slice_get_read, slice_get_past}
+use Rattle.oxc_sourcemap_lookup.specs.Lookup.{last}
+use Rattle.oxc_sourcemap_lookup.proofs.Halving.{at-nearer, nearer-through, nearer-none, not_before-get, read-last}
 use Rattle.oxc_sourcemap_lookup.proofs.lookup.search.Goals as goal
-use Rattle.oxc_sourcemap_lookup.proofs.lookup.search.Goals.{in_default-via-in-Some+else-compare_column-eq1, in_default-via-in_default}
+use Rattle.oxc_sourcemap_lookup.proofs.lookup.search.Goals.{in-Some, in-None}
 
-pub returns-in-Some-clause-found : goal.returns-in-Some-clause-found
-returns-in-Some-clause-found c = λ g.
-    let line = c.args.line.now in
-    let n = c.count_before.result in
-    let t = c.in-Some.token.now in
-    let left = read-first c.first.result _ line n c.first.ensures.value c.split_at.ensures.back ∙ ap (option_map (λ x. x.now)) c.in-Some.is in
-    let others : c.args.col ≤ t.dst_col = not_before-first c.args.col line t (sym (ap (λ k. first (drop k line)) (c.count_before.ensures.count g)) ∙ left) in
-    let same : t.dst_col ≡ c.args.col = grind (arith, common_steps, others) in
-    sym (at-nearer c.args.col line n g (c.count_before.ensures.count g) ∙ here c.args.col t _ _ left same)
-
-pub returns-in_default-clause-found : goal.returns-in_default-clause-found
-returns-in_default-clause-found c = λ g.
+pub returns-clause-found : goal.returns-clause-found
+returns-clause-found c = λ g.
     let col = c.args.col in
     let line = c.args.line.now in
-    let n = c.count_before.result in
-    let at = at-nearer col line n g (c.count_before.ensures.count g) in
-    let left = read-first c.first.result _ line n c.first.ensures.value c.split_at.ensures.back in
-    let front = read-last c.last.result _ line n c.last.ensures.value c.split_at.ensures.front ∙ sym c.copied.ensures in
-    elim c.in_default.branch [
-      | in_default-via-in-Some+else-compare_column-eq1 w ↦ (
+    let n = c.count_before-before.result in
+    let count = c.count_before-before.ensures.count g in
+    let at = at-nearer col line n g count in
+    let answer = read-last c.last.result _ line c.match-get.end c.last.ensures.value refl ∙ sym c.copied.ensures in
+    elim c.match-get.branch [
+      | in-Some w ↦ (
           let t = w.in-Some.token.now in
-          let other : t.dst_col ≢ col = grind (arith, common_steps) in
-          sym (at ∙ past col t _ _ (left ∙ ap (option_map (λ x. x.now)) w.in-Some.is) other ∙ front))
-      | in_default-via-in_default w ↦ sym (at ∙ none_left col _ _ (left ∙ ap (option_map (λ x. x.now)) w.in_default.is) ∙ front)
+          let within : n < length line = grind (arith, common_steps) in
+          let read : t ≡ get_or line n t = grind (arith, common_steps) in
+          let here = slice_get_read line _ n t refl within read in
+          let same : w.from.result ≡ col = grind (arith, common_steps) in
+          let end = w.end-is ∙ ap (λ k. n + k) (w.compare_column.ensures.value ∙ ap (λ x. if nat_lt t.dst_col (x + 1) then 1 else 0) same) in
+          sym (at ∙ nearer-through col line n t here (not_before-get col line n t count here) ∙ sym (ap (λ k. last (take k line)) end) ∙ answer))
+      | in-None w ↦ (
+          let past : length line ≤ n = grind (arith, common_steps) in
+          sym (at ∙ nearer-none col line n (slice_get_past line n past) ∙ sym (ap (λ k. last (take k line)) w.end-is) ∙ answer))
     ]

@@ -126,7 +126,7 @@ fn last_name(tokens: &[Token]) -> Option<u32>
     None
 }
 
-/// The state after these tokens, from this state before them. It looks for what they give from their end on.
+/// The state after these tokens, from this state before them. It looks back from their end for what they give.
 fn after_all(previous: Previous, tokens: &[Token]) -> Previous
     ensures { state_of result ≡ advanced_all (state_of previous) tokens.now }
 {
@@ -625,7 +625,7 @@ fn after_chunks(tokens: &[Token], chunks: &[TokenChunk]) -> Previous
 }
 
 /// The chunk after these, which fit the tokens: it starts at the end of the tokens, with the state there for its header,
-/// and ends at `end`. It looks at tokens of the last chunk alone, from its end up to those that give a source and a name.
+/// and ends at `end`. It looks at tokens of the last chunk alone, back from its end until one gives a source and one a name.
 pub fn next_chunk(tokens: &[Token], chunks: &[TokenChunk], end: u32) -> TokenChunk
     requires fits { ChunksFit tokens.now chunks.now }
     requires counted { length tokens.now ≤ 4294967295 }

@@ -115,8 +115,8 @@ fn make_room(input: &mut Vec<u8>, used: usize) -> Result<(), AllocError>
     input.resize(used + PIECE, 0)
 }
 
-/// Reads up to the end, by a loop over `read`, into the vector that is returned: nothing is copied. Each byte of it is cleared
-/// once.
+/// Reads up to the end, by a loop over `read`, into the vector that is returned, with no buffer between. Each byte of it is
+/// cleared once.
 fn read_all<R: Read>(alloc: Global, reader: &mut Port<R>) -> Result<Vec<u8>, RunError>
     ensures bytes { IfOk result (λ input. IfSome (R.remaining reader.old.inner) (λ all. input.items ≡ all)) }
     ensures flag { reader.old.failed ≡ false → IsErrOf result RunError.Read ↔ (reader.new.failed ≡ true) }

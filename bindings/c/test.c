@@ -237,6 +237,7 @@ static void tracing_all(void) {
     CHECK(smap_trace_all(&map, at, 6, exact, 7, &fault) == SMAP_LENGTHS && fault.code == SMAP_LENGTHS);
     CHECK(smap_trace_all_clamped(&map, at, 6, exact, 5, &fault) == SMAP_LENGTHS && exact[0].kind == 0x07070707);
     CHECK(smap_trace_all(&map, at, 6, exact, 6, &fault) == SMAP_OK && exact[6].kind == 0x07070707);
+    CHECK(fault.code == SMAP_OK && fault.field == 0 && fault.detail == 0);
     CHECK(smap_trace_all_clamped(&map, at, 6, clamped, 6, &fault) == SMAP_OK && clamped[6].kind == 0x07070707);
     for (int i = 0; i < 6; i++) {
         CHECK(smap_trace(&map, at[i].line, at[i].column, &one, &fault) == SMAP_OK && is_same(&one, &exact[i]));
@@ -269,6 +270,7 @@ static void joining(void) {
     CHECK(smap_join(parts, 3, offsets, 3, &out, &fault) == SMAP_OK); /* lines go back */
     CHECK(smap_trace(&out, 1, 0, &p, &fault) == SMAP_LINE_ORDER && fault.code == SMAP_LINE_ORDER && fault.detail == 2);
     CHECK(smap_trace_all(&out, offsets, 1, &p, 1, &fault) == SMAP_LINE_ORDER && fault.detail == 2);
+    CHECK(smap_trace_all(&out, offsets, 0, &p, 0, &fault) == SMAP_LINE_ORDER);
     CHECK(smap_is_sorted(&out, &number) == SMAP_OK && number == 0);
     CHECK(smap_join(parts, 0, offsets, 0, &out, &fault) == SMAP_OK);
     offsets[0].line = UINT32_MAX;
@@ -351,9 +353,9 @@ static void building(void) {
     CHECK(smap_builder_finish(&builder, &map, &fault) == SMAP_OK); /* the map before is freed */
     CHECK(smap_trace(&map, 0, 0, &p, &fault) == SMAP_OK && p.kind == SMAP_UNMAPPED && p.source_id == 7);
     CHECK(smap_builder_new(&builder, &fault) == SMAP_OK && smap_builder_new(&builder, &fault) == SMAP_OK); /* the first is freed */
-    smap_builder_free(&builder);
+    smap_free_builder(&builder);
     CHECK(builder.at == NULL);
-    smap_builder_free(&builder);
+    smap_free_builder(&builder);
     smap_free_string(&string);
     smap_free_map(&map);
 }
@@ -398,7 +400,7 @@ static uint32_t run_all(void) {
            (c = smap_builder_set_file(&builder, BYTES("f"), &f)) || (c = smap_builder_add_name(&builder, BYTES("n"), &id, &f)) ||
            (c = smap_builder_add_source_and_content(&builder, BYTES("a"), BYTES("A"), &id, &f)) ||
            (c = smap_builder_add_token(&builder, &token, &f)) || (c = smap_builder_finish(&builder, &out, &f)));
-    smap_builder_free(&builder);
+    smap_free_builder(&builder);
     smap_free_map(&one);
     smap_free_map(&two);
     smap_free_map(&parts[0]);

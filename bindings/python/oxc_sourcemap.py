@@ -5,7 +5,8 @@
         print(place.source, place.line, place.column, place.name)
 
 Lines, columns, ids and indices count from 0; columns are in UTF-16 code units. The shared library that `./build-c` makes is
-looked for where OXC_SOURCEMAP_LIB says, else in target/ of the repository. A map is used by one thread.
+looked for where OXC_SOURCEMAP_LIB says, else in target/ of the repository. A map or a builder is
+used by one thread.
 """
 
 from __future__ import annotations
@@ -88,7 +89,7 @@ _PROTOTYPES = {
     "smap_builder_add_token": (_u32, _p(_Handle), _p(_Token), _p(_Fault)),
     "smap_builder_set_file": (_u32, _p(_Handle), _bytes, _size, _p(_Fault)),
     "smap_builder_finish": (_u32, _p(_Handle), _p(_Handle), _p(_Fault)),
-    "smap_builder_free": (None, _p(_Handle)),
+    "smap_free_builder": (None, _p(_Handle)),
     "smap_to_json_string": (_u32, _p(_Handle), _p(_Handle), _p(_Fault)),
     "smap_to_data_url": (_u32, _p(_Handle), _p(_Handle), _p(_Fault)),
     "smap_get_text": (_u32, _p(_Handle), _p(_Text)),
@@ -364,8 +365,9 @@ class SourceMapBuilder:
 
     def add_token(self, token: Token) -> None:
         """Appends a token. Add tokens in the order of their generated positions; ids are not compared with what was added."""
-        numbers = (_NO_ID if it is None else _number(it) for it in token)
-        self._call(_lib.smap_builder_add_token, _Token(*numbers))
+        numbers = [_number(it) for it in token[:4]]
+        ids = [_NO_ID if it is None else _number(it) for it in token[4:]]
+        self._call(_lib.smap_builder_add_token, _Token(*numbers, *ids))
 
     def set_file(self, file: str) -> None:
         """Sets the name of the generated file."""
@@ -376,7 +378,7 @@ class SourceMapBuilder:
         return SourceMap._made(_lib.smap_builder_finish, self._handle)
 
     def close(self) -> None:
-        _lib.smap_builder_free(self._handle)
+        _lib.smap_free_builder(self._handle)
 
     def __enter__(self) -> "SourceMapBuilder":
         return self

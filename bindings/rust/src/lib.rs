@@ -12,7 +12,7 @@
 //! ```
 //!
 //! Lines, columns, ids and indices count from 0; columns are in UTF-16 code units. Texts that calls return borrow from the
-//! map. A map stays on the thread that made it.
+//! map. A map or a builder stays on the thread that made it.
 
 mod error;
 mod raw;
@@ -288,6 +288,7 @@ impl SourceMap {
     }
 
     /// What the map says of each of these generated positions, lines and columns, in one call: the answers of `trace`.
+    /// Fails with `LineOrder` as `trace` does, also for no position.
     ///
     /// ```
     /// use oxc_sourcemap_native::SourceMap;
@@ -386,7 +387,8 @@ impl SourceMapBuilder {
         }
     }
 
-    /// Adds a name and returns its id. A name that was added before keeps its id.
+    /// Adds a name and returns its id. A name that was added before keeps its id. Fails with `TooLarge` if the id would be
+    /// 4294967295, or with `OutOfMemory`; the builder is then as it was.
     pub fn add_name(&mut self, name: &str) -> Result<u32> {
         self.call(|builder, id, fault| unsafe {
             raw::smap_builder_add_name(builder, name.as_ptr(), name.len(), id, fault)
@@ -394,6 +396,7 @@ impl SourceMapBuilder {
     }
 
     /// Adds a source with its content and returns its id. A path that was added before keeps its id and its first content.
+    /// Fails with `TooLarge` if the id would be 4294967295, or with `OutOfMemory`; the builder is then as it was.
     pub fn add_source_and_content(&mut self, path: &str, content: &str) -> Result<u32> {
         self.call(|builder, id, fault| unsafe {
             let (at, len) = (path.as_ptr(), path.len());
@@ -402,6 +405,7 @@ impl SourceMapBuilder {
     }
 
     /// Appends a token. Add tokens in the order of their generated positions; ids are not compared with what was added.
+    /// Fails only with `OutOfMemory`; the builder is then as it was.
     pub fn add_token(&mut self, token: Token) -> Result<()> {
         let token = raw::Token {
             dst_line: token.dst_line,
@@ -414,14 +418,14 @@ impl SourceMapBuilder {
         self.call(|builder, _: &mut (), fault| unsafe { raw::smap_builder_add_token(builder, &token, fault) })
     }
 
-    /// Sets the name of the generated file.
+    /// Sets the name of the generated file. Fails only with `OutOfMemory`; the builder is then as it was.
     pub fn set_file(&mut self, file: &str) -> Result<()> {
         self.call(|builder, _: &mut (), fault| unsafe {
             raw::smap_builder_set_file(builder, file.as_ptr(), file.len(), fault)
         })
     }
 
-    /// The map that was built.
+    /// The map that was built. Fails only with `OutOfMemory`; the builder is dropped, also then.
     pub fn into_sourcemap(mut self) -> Result<SourceMap> {
         made(|map, fault| unsafe { raw::smap_builder_finish(&mut self.0, map, fault) }).map(SourceMap::of)
     }
@@ -429,7 +433,7 @@ impl SourceMapBuilder {
 
 impl Drop for SourceMapBuilder {
     fn drop(&mut self) {
-        unsafe { raw::smap_builder_free(&mut self.0) }
+        unsafe { raw::smap_free_builder(&mut self.0) }
     }
 }
 

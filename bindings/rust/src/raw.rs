@@ -134,7 +134,7 @@ extern "C" {
     pub fn smap_builder_add_token(builder: *mut Handle, token: *const Token, fault: *mut Fault) -> u32;
     pub fn smap_builder_set_file(builder: *mut Handle, file: *const u8, file_len: usize, fault: *mut Fault) -> u32;
     pub fn smap_builder_finish(builder: *mut Handle, out: *mut Handle, fault: *mut Fault) -> u32;
-    pub fn smap_builder_free(builder: *mut Handle);
+    pub fn smap_free_builder(builder: *mut Handle);
     pub fn smap_to_json_string(map: *mut Handle, out: *mut Handle, fault: *mut Fault) -> u32;
     pub fn smap_to_data_url(map: *mut Handle, out: *mut Handle, fault: *mut Fault) -> u32;
     pub fn smap_get_text(string: *mut Handle, out: *mut Text) -> u32;

@@ -60,7 +60,7 @@ IsNameRefusal held name r = IsNotText name r ⊎ (IsUtf8 name × IsAddRefusal he
 -- why bytes are not added as a source and its content
 abbrev pub IsSourceRefusal : Option Held → List ℕ → List ℕ → Refusal → Type 0
 IsSourceRefusal held path content r =
-    IsNotText path r ⊎ (IsNotText content r ⊎ (IsUtf8 path × IsUtf8 content × IsAddRefusal held (SourceHasNoId path) r))
+    IsNotText path r ⊎ ((IsUtf8 path × IsNotText content r) ⊎ (IsUtf8 path × IsUtf8 content × IsAddRefusal held (SourceHasNoId path) r))
 
 -- why bytes are not set as the file
 abbrev pub IsFileRefusal : Option Held → List ℕ → Refusal → Type 0

@@ -37,4 +37,5 @@ IsNotText bytes r = ¬ (IsUtf8 bytes) × (r ≡ NotUtf8 (utf8_valid_len bytes))
 
 -- why words and texts give no map
 abbrev pub IsPlanRefusal : List ℕ → List ℕ → Refusal → Type 0
-IsPlanRefusal words texts r = IsNotText words r ⊎ (IsNotText texts r ⊎ (IsUtf8 words × IsUtf8 texts × IsPlanFailure (plan_of words texts) r))
+IsPlanRefusal words texts r =
+    IsNotText words r ⊎ ((IsUtf8 words × IsNotText texts r) ⊎ (IsUtf8 words × IsUtf8 texts × IsPlanFailure (plan_of words texts) r))

@@ -4,6 +4,7 @@ use Rattle.std.specs.List.{AllZip}
 use Rattle.oxc_sourcemap.specs.Error.{Error}
 use Rattle.oxc_sourcemap.specs.Record.{MapRecord}
 use Rattle.oxc_sourcemap.specs.Token.{TokenRecord}
+use Rattle.oxc_sourcemap.specs.Canonical.{IsInLineOrder}
 use Rattle.oxc_sourcemap.specs.Sorted.{are_tokens_sorted, token_line, token_column}
 use Rattle.oxc_sourcemap.specs.Lookup.{pick, clamped_pick}
 use Rattle.oxc_sourcemap.specs.DecodedMap.{OriginalPosition, decoded_map_of}
@@ -37,18 +38,18 @@ traced_at true m at = clamped_trace (decoded_map_of m) at.line at.column
 abbrev pub IsTraceOf : Bool → MapRecord → Position → Place → Type 0
 IsTraceOf clamped m at p = IsTrace m (found_at clamped m at) (traced_at clamped m at) p
 
--- as many places as positions, and each place is the trace of the position at its index
+-- the tokens are in line order, there are as many places as positions, and each place is the trace of the position at its index
 abbrev pub AreTracesOf : Bool → List Position → List Place → MapRecord → Type 0
-AreTracesOf clamped positions places m = AllZip (IsTraceOf clamped m) positions places
+AreTracesOf clamped positions places m = IsInLineOrder m.tokens × AllZip (IsTraceOf clamped m) positions places
 
 -- a map is not traced if its tokens are not in line order
 abbrev pub IsUntraced : MapRecord → Refusal → Type 0
 IsUntraced m r = (e : Error) × IsOutOfOrder m.tokens e × (r ≡ of_map e)
 
--- What a handle's map says of a generated position, or why it says nothing.
+-- What a handle's map, whose tokens are in line order, says of a generated position, or why it says nothing.
 abbrev pub IsTraced : Bool → Result Place Refusal → Option Held → Position → Type 0
 IsTraced clamped answer held at =
-    MatchOption (held_map held) (answer ≡ Err EmptyHandle) (λ m. MatchResult answer (IsTraceOf clamped m at) (IsUntraced m))
+    MatchOption (held_map held) (answer ≡ Err EmptyHandle) (λ m. MatchResult answer (λ p. IsInLineOrder m.tokens × IsTraceOf clamped m at p) (IsUntraced m))
 
 -- why what a handle holds is not traced
 abbrev pub IsTraceRefusal : Option MapRecord → Refusal → Type 0

@@ -1,16 +1,16 @@
 //! What exports do with the builders that handles hold.
-ghost use Rattle.std.specs.Prelude.{◌≡◌, ◌≢◌, None, Some, IfOk, IfErr, OnErr, MatchOption, MatchResult};
+ghost use Rattle.std.specs.Prelude.{◌≡◌, ◌≢◌, ⊤, None, Some, Err, IsUtf8, IfOk, IfErr, OnErr, MatchOption, MatchResult};
 ghost use Rattle.oxc_sourcemap.specs.Error.TheVariants.{OutOfMemory, TooLarge};
 ghost use Rattle.oxc_sourcemap.specs.Token.{id_of};
 ghost use Rattle.oxc_sourcemap.specs.Built.{nothing_built};
 ghost use Rattle.oxc_sourcemap.specs.Building.{with_name, with_path};
 ghost use Rattle.oxc_sourcemap_c.specs.declared.builders.Step.TheVariants.{File, Mapping};
-ghost use Rattle.oxc_sourcemap_faults.specs.Refusals.{out_of_memory};
+ghost use Rattle.oxc_sourcemap_faults.specs.Refusals.{out_of_memory, of_map};
 ghost use Rattle.oxc_sourcemap_faults.specs.Codes.{fault_of, code_of, no_fault};
 ghost use Rattle.oxc_sourcemap_c.specs.Holding.{held_builder};
 ghost use Rattle.oxc_sourcemap_c.specs.Answers.{IsRefusedAs};
 ghost use Rattle.oxc_sourcemap_c.specs.Steps.{stepped, HasNoId};
-ghost use Rattle.oxc_sourcemap_c.specs.Builders.{token_of, with_token, with_file, Builds, IsAddRefusal, IsBuilderRefusal, IsNameRefusal, IsSourceRefusal, IsFileRefusal};
+ghost use Rattle.oxc_sourcemap_c.specs.Builders.{token_of, with_token, with_file, Builds, NameHasNoId, SourceHasNoId, IsAddRefusal, IsBuilderRefusal, IsNameRefusal, IsSourceRefusal, IsFileRefusal};
 
 use crate::handle::Handle;
 use crate::held::Held;
@@ -73,6 +73,7 @@ fn copy_file(builder: &mut SourceMapBuilder<'static>, file: &str) -> oxc_sourcem
 fn make(builder: &mut SourceMapBuilder<'static>, step: Step<'_>) -> oxc_sourcemap::Result<u32>
     ensures made { IfOk result (λ id. (builder.new, id) ≡ stepped builder.old step.entry) }
     ensures refused { IfErr result (λ e. (e ≢ OutOfMemory) → (e ≡ TooLarge) × HasNoId step.entry builder.old) }
+    ensures too_large { HasNoId step.entry builder.old → result ≡ Err TooLarge }
     ensures unchanged { OnErr result (builder.new ≡ builder.old) }
 {
     match step {
@@ -86,6 +87,7 @@ fn make(builder: &mut SourceMapBuilder<'static>, step: Step<'_>) -> oxc_sourcema
 fn make_held(held: &mut Held, step: Step<'_>) -> Result<u32, Refusal>
     ensures made { IfOk result (λ id. Builds (Some held.old) (Some held.new) (λ b c. (c, id) ≡ stepped b step.entry)) }
     ensures refused { IfErr result (λ r. (r ≢ out_of_memory) → IsAddRefusal (Some held.old) (HasNoId step.entry) r) }
+    ensures too_large { MatchOption (held_builder (Some held.old)) ⊤ (λ b. HasNoId step.entry b → result ≡ Err (of_map TooLarge)) }
     ensures unchanged { OnErr result (held.new ≡ held.old) }
 {
     match held {
@@ -98,6 +100,7 @@ fn make_held(held: &mut Held, step: Step<'_>) -> Result<u32, Refusal>
 fn make_in(alloc: Global, handle: &mut Handle, step: Step<'_>) -> Result<u32, Refusal>
     ensures made { IfOk result (λ id. Builds handle.old.held handle.new.held (λ b c. (c, id) ≡ stepped b step.entry)) }
     ensures refused { IfErr result (λ r. (r ≢ out_of_memory) → IsAddRefusal handle.old.held (HasNoId step.entry) r) }
+    ensures too_large { MatchOption (held_builder handle.old.held) ⊤ (λ b. HasNoId step.entry b → result ≡ Err (of_map TooLarge)) }
     ensures unchanged { OnErr result (handle.new.held ≡ handle.old.held) }
 {
     match handle.take(alloc) {
@@ -115,6 +118,7 @@ fn make_in(alloc: Global, handle: &mut Handle, step: Step<'_>) -> Result<u32, Re
 pub fn add_name(alloc: Global, handle: &mut Handle, name: &[u8]) -> Result<u32, Refusal>
     ensures added { IfOk result (λ id. Builds handle.old.held handle.new.held (λ b c. (c, id) ≡ with_name b name.now)) }
     ensures refused { IfErr result (λ r. (r ≢ out_of_memory) → IsNameRefusal handle.old.held name.now r) }
+    ensures too_large { MatchOption (held_builder handle.old.held) ⊤ (λ b. IsUtf8 name.now → NameHasNoId name.now b → result ≡ Err (of_map TooLarge)) }
     ensures unchanged { OnErr result (handle.new.held ≡ handle.old.held) }
 {
     let name = text_of(name)?;
@@ -130,6 +134,8 @@ pub fn add_source(
 ) -> Result<u32, Refusal>
     ensures added { IfOk result (λ id. Builds handle.old.held handle.new.held (λ b c. (c, id) ≡ with_path b path.now content.now)) }
     ensures refused { IfErr result (λ r. (r ≢ out_of_memory) → IsSourceRefusal handle.old.held path.now content.now r) }
+    ensures too_large { MatchOption (held_builder handle.old.held) ⊤ (λ b. IsUtf8 path.now → IsUtf8 content.now → SourceHasNoId path.now b
+        → result ≡ Err (of_map TooLarge)) }
     ensures unchanged { OnErr result (handle.new.held ≡ handle.old.held) }
 {
     let path = text_of(path)?;
@@ -160,6 +166,7 @@ pub fn add_token(alloc: Global, handle: &mut Handle, token: TokenNumbers) -> Res
 pub fn finish(alloc: Global, handle: &mut Handle) -> Result<OwnedSourceMap, Refusal>
     ensures emptied { handle.new.held ≡ None }
     ensures map { IfOk result (λ map. MatchOption (held_builder handle.old.held) ⊥ (λ b. map ≡ b.map)) }
+    ensures nothing_else { IfOk result (λ map. (map.source_root ≡ None) × (map.ignore_list ≡ None) × (map.debug_id ≡ None)) }
     ensures refused { IfErr result (λ r. (r ≢ out_of_memory) → IsBuilderRefusal handle.old.held r) }
 {
     match handle.take(alloc) {

@@ -1,6 +1,7 @@
 //! What a handle holds.
 ghost use Rattle.std.specs.Prelude.{◌≡◌, true, length, IfOk, IfErr, OnOk, OnErr};
 ghost use Rattle.oxc_sourcemap.specs.Error.TheVariants.{OutOfMemory};
+ghost use Rattle.oxc_sourcemap.specs.Canonical.{IsInLineOrder};
 ghost use Rattle.oxc_sourcemap.specs.Sorted.{are_tokens_sorted};
 ghost use Rattle.oxc_sourcemap_lookup.specs.LineSpans.{IsIndexOf};
 ghost use Rattle.oxc_sourcemap_c.specs.Indexed.{IsOutOfOrder};
@@ -92,7 +93,7 @@ impl LoadedMap {
     /// What the map says of a generated position, clamped as in `find`. Fails with `LineOrder` where the tokens are not in line
     /// order.
     pub fn trace(&self, at: Position, clamped: bool) -> Result<Place>
-        ensures place { IfOk result (IsTraceOf clamped self.now at) }
+        ensures place { IfOk result (λ place. IsInLineOrder self.now.tokens × IsTraceOf clamped self.now at place) }
         ensures refused { IfErr result (IsOutOfOrder self.now.tokens) }
     {
         let index = self.index()?;

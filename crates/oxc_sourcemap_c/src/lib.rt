@@ -4,11 +4,13 @@
 //! refusal.
 #![tactic(auto)]
 
-ghost use Rattle.std.specs.Prelude.{◌≡◌, ◌≢◌, true, false, None, Some, Ok, MatchOption, IsUtf8, slice_get};
+ghost use Rattle.std.specs.Prelude.{◌≡◌, ◌≢◌, ⊤, true, false, None, Some, Ok, MatchOption, IsUtf8, slice_get};
 ghost use Rattle.std.specs.List.{All};
+ghost use Rattle.oxc_sourcemap.specs.Error.TheVariants.{TooLarge};
 ghost use Rattle.oxc_sourcemap.specs.ReadMap.{read_map};
 ghost use Rattle.oxc_sourcemap.specs.JsonText.{map_text, map_url};
 ghost use Rattle.oxc_sourcemap.specs.Composed.{composition, SomeComposition, NoColumnGoesBack};
+ghost use Rattle.oxc_sourcemap.specs.Canonical.{IsInLineOrder};
 ghost use Rattle.oxc_sourcemap.specs.Sorted.{are_tokens_sorted, token_line, token_column};
 ghost use Rattle.oxc_sourcemap.specs.Lookup.{pick, clamped_pick};
 ghost use Rattle.oxc_sourcemap.specs.DecodedMap.{decoded_map_of};
@@ -17,12 +19,12 @@ ghost use Rattle.oxc_sourcemap.specs.View.{content_at};
 ghost use Rattle.oxc_sourcemap.specs.Built.{nothing_built};
 ghost use Rattle.oxc_sourcemap.specs.Building.{with_name, with_path};
 ghost use Rattle.oxc_sourcemap_faults.specs.declared.refusal.Refusal.{Refusal};
-ghost use Rattle.oxc_sourcemap_faults.specs.Refusals.{refusal_text};
-ghost use Rattle.oxc_sourcemap_faults.specs.Codes.{fault_of, refusal_of, IsSmall};
+ghost use Rattle.oxc_sourcemap_faults.specs.Refusals.{refusal_text, of_map};
+ghost use Rattle.oxc_sourcemap_faults.specs.Codes.{fault_of, code_of, refusal_of, no_fault, IsSmall};
 ghost use Rattle.oxc_sourcemap_c.specs.Holding.{held_map, held_text, held_builder, HoldsMap};
 ghost use Rattle.oxc_sourcemap_c.specs.Places.{counts_of, numbers_of};
 ghost use Rattle.oxc_sourcemap_c.specs.Joins.{all_held, IsJoinOf, IsJoinRefusal};
-ghost use Rattle.oxc_sourcemap_c.specs.Builders.{token_of, with_token, with_file, Builds, IsBuilderRefusal, IsNameRefusal, IsSourceRefusal, IsFileRefusal};
+ghost use Rattle.oxc_sourcemap_c.specs.Builders.{token_of, with_token, with_file, Builds, NameHasNoId, SourceHasNoId, IsBuilderRefusal, IsNameRefusal, IsSourceRefusal, IsFileRefusal};
 ghost use Rattle.oxc_sourcemap_c.specs.Plans.{plan_of, IsPlanMap, IsPlanRefusal};
 ghost use Rattle.oxc_sourcemap_c.specs.Answers.{IsRefusedAs, IsReadRefusal, IsCompositionRefusal, IsWritingRefusal, HoldsWritten, Found, HasLength, HoldsText, ignored_at, flag_of, IsRefused};
 ghost use Rattle.oxc_sourcemap_faults.specs.Messages.{IsMessage};
@@ -61,6 +63,7 @@ pub extern "C" fn smap_from_json_string(
     fault: &mut Fault,
 ) -> u32
     ensures map { result ≡ 0 → HoldsMap map.new.held (λ m. read_map json.now ≡ Ok m) }
+    ensures not_refused { result ≡ 0 → fault.new ≡ no_fault }
     ensures refused { result ≢ 0 → (map.new.held ≡ map.old.held) × IsRefusedAs result fault.new (IsReadRefusal json.now) }
 {
     put_map(alloc, read(alloc, json), map, fault)
@@ -78,6 +81,7 @@ pub extern "C" fn smap_compose(
     ensures emptied { (first.new.held ≡ None) × (input.new.held ≡ None) }
     ensures any_map { result ≡ 0 → HoldsMap map.new.held (λ m. HoldsMap first.old.held (λ a. HoldsMap input.old.held (λ b. SomeComposition a b (Ok m)))) }
     ensures map { result ≡ 0 → HoldsMap map.new.held (λ m. HoldsMap first.old.held (λ a. HoldsMap input.old.held (λ b. NoColumnGoesBack b.tokens → composition a b ≡ Ok m))) }
+    ensures not_refused { result ≡ 0 → fault.new ≡ no_fault }
     ensures refused { result ≢ 0 → (map.new.held ≡ map.old.held)
         × IsRefusedAs result fault.new (IsCompositionRefusal (held_map first.old.held) (held_map input.old.held)) }
 {
@@ -96,6 +100,7 @@ pub extern "C" fn smap_join(
 ) -> u32
     ensures emptied { All (λ h. h.held ≡ None) maps.new }
     ensures map { result ≡ 0 → HoldsMap map.new.held (IsJoinOf (all_held maps.old) offsets.now) }
+    ensures not_refused { result ≡ 0 → fault.new ≡ no_fault }
     ensures refused { result ≢ 0 → (map.new.held ≡ map.old.held) × IsRefusedAs result fault.new (IsJoinRefusal (all_held maps.old) offsets.now) }
 {
     let joined = join(alloc, maps, offsets);
@@ -112,6 +117,7 @@ pub extern "C" fn smap_evaluate(
     fault: &mut Fault,
 ) -> u32
     ensures map { result ≡ 0 → HoldsMap map.new.held (IsPlanMap (plan_of words.now texts.now)) }
+    ensures not_refused { result ≡ 0 → fault.new ≡ no_fault }
     ensures refused { result ≢ 0 → (map.new.held ≡ map.old.held) × IsRefusedAs result fault.new (IsPlanRefusal words.now texts.now) }
 {
     put_map(
@@ -132,6 +138,7 @@ pub extern "C" fn smap_to_json_string(
 ) -> u32
     ensures kept { map.new.held ≡ map.old.held }
     ensures text { result ≡ 0 → HoldsWritten map_text map.old.held string.new.held }
+    ensures not_refused { result ≡ 0 → fault.new ≡ no_fault }
     ensures refused { result ≢ 0 → (string.new.held ≡ string.old.held) × IsRefusedAs result fault.new (IsWritingRefusal map_text (held_map map.old.held)) }
 {
     let written = json(alloc, map);
@@ -148,6 +155,7 @@ pub extern "C" fn smap_to_data_url(
 ) -> u32
     ensures kept { map.new.held ≡ map.old.held }
     ensures text { result ≡ 0 → HoldsWritten map_url map.old.held string.new.held }
+    ensures not_refused { result ≡ 0 → fault.new ≡ no_fault }
     ensures refused { result ≢ 0 → (string.new.held ≡ string.old.held) × IsRefusedAs result fault.new (IsWritingRefusal map_url (held_map map.old.held)) }
 {
     let written = data_url(alloc, map);
@@ -305,8 +313,9 @@ pub extern "C" fn smap_trace(
     place: &mut Place,
     fault: &mut Fault,
 ) -> u32
-    ensures traced { result ≡ 0 → HoldsMap map.old.held (λ m. IsTrace m (pick token_line token_column m.tokens line column) (trace (decoded_map_of m) line column) place.new) }
+    ensures traced { result ≡ 0 → HoldsMap map.old.held (λ m. IsInLineOrder m.tokens × IsTrace m (pick token_line token_column m.tokens line column) (trace (decoded_map_of m) line column) place.new) }
     ensures kept { map.new.held ≡ map.old.held }
+    ensures not_refused { result ≡ 0 → fault.new ≡ no_fault }
     ensures refused { result ≢ 0 → (place.new ≡ place.old) × IsRefused result fault.new (IsTraceRefusal (held_map map.old.held)) }
 {
     let at = Position { line, column };
@@ -323,8 +332,9 @@ pub extern "C" fn smap_trace_clamped(
     place: &mut Place,
     fault: &mut Fault,
 ) -> u32
-    ensures traced { result ≡ 0 → HoldsMap map.old.held (λ m. IsTrace m (clamped_pick token_line token_column m.tokens line column) (clamped_trace (decoded_map_of m) line column) place.new) }
+    ensures traced { result ≡ 0 → HoldsMap map.old.held (λ m. IsInLineOrder m.tokens × IsTrace m (clamped_pick token_line token_column m.tokens line column) (clamped_trace (decoded_map_of m) line column) place.new) }
     ensures kept { map.new.held ≡ map.old.held }
+    ensures not_refused { result ≡ 0 → fault.new ≡ no_fault }
     ensures refused { result ≢ 0 → (place.new ≡ place.old) × IsRefused result fault.new (IsTraceRefusal (held_map map.old.held)) }
 {
     let at = Position { line, column };
@@ -332,6 +342,7 @@ pub extern "C" fn smap_trace_clamped(
 }
 
 /// What the map in a handle says of generated positions: in each place what `smap_trace` says of the position at its index.
+/// Refused if there are not as many places as positions. No place is written on any refusal.
 #[unsafe(no_mangle)]
 pub extern "C" fn smap_trace_all(
     alloc: Global,
@@ -342,6 +353,7 @@ pub extern "C" fn smap_trace_all(
 ) -> u32
     ensures traced { result ≡ 0 → HoldsMap map.old.held (AreTracesOf false positions.now places.new) }
     ensures kept { map.new.held ≡ map.old.held }
+    ensures not_refused { result ≡ 0 → fault.new ≡ no_fault }
     ensures refused { result ≢ 0 → (places.new ≡ places.old)
         × IsRefused result fault.new (IsTraceAllRefusal positions.now places.old (held_map map.old.held)) }
 {
@@ -359,6 +371,7 @@ pub extern "C" fn smap_trace_all_clamped(
 ) -> u32
     ensures traced { result ≡ 0 → HoldsMap map.old.held (AreTracesOf true positions.now places.new) }
     ensures kept { map.new.held ≡ map.old.held }
+    ensures not_refused { result ≡ 0 → fault.new ≡ no_fault }
     ensures refused { result ≢ 0 → (places.new ≡ places.old)
         × IsRefused result fault.new (IsTraceAllRefusal positions.now places.old (held_map map.old.held)) }
 {
@@ -379,6 +392,7 @@ pub extern "C" fn smap_message(alloc: Global, fault: &Fault, out: &mut [u8]) -> 
 #[unsafe(no_mangle)]
 pub extern "C" fn smap_builder_new(alloc: Global, builder: &mut Handle, fault: &mut Fault) -> u32
     ensures built { result ≡ 0 → held_builder builder.new.held ≡ Some nothing_built }
+    ensures not_refused { result ≡ 0 → fault.new ≡ no_fault }
     ensures refused { result ≢ 0 → (builder.new.held ≡ builder.old.held) × IsRefusedAs result fault.new (λ r. ⊥) }
 {
     put_builder(alloc, builder, fault)
@@ -394,8 +408,10 @@ pub extern "C" fn smap_builder_add_name(
     fault: &mut Fault,
 ) -> u32
     ensures added { result ≡ 0 → Builds builder.old.held builder.new.held (λ b c. (c, id.new) ≡ with_name b name.now) }
+    ensures not_refused { result ≡ 0 → fault.new ≡ no_fault }
     ensures refused { result ≢ 0 → (builder.new.held ≡ builder.old.held) × (id.new ≡ id.old)
         × IsRefusedAs result fault.new (IsNameRefusal builder.old.held name.now) }
+    ensures too_large { MatchOption (held_builder builder.old.held) ⊤ (λ b. IsUtf8 name.now → NameHasNoId name.now b → result ≡ code_of (of_map TooLarge)) }
 {
     noted(add_name(alloc, builder, name), id, fault)
 }
@@ -411,8 +427,11 @@ pub extern "C" fn smap_builder_add_source_and_content(
     fault: &mut Fault,
 ) -> u32
     ensures added { result ≡ 0 → Builds builder.old.held builder.new.held (λ b c. (c, id.new) ≡ with_path b path.now content.now) }
+    ensures not_refused { result ≡ 0 → fault.new ≡ no_fault }
     ensures refused { result ≢ 0 → (builder.new.held ≡ builder.old.held) × (id.new ≡ id.old)
         × IsRefusedAs result fault.new (IsSourceRefusal builder.old.held path.now content.now) }
+    ensures too_large { MatchOption (held_builder builder.old.held) ⊤ (λ b. IsUtf8 path.now → IsUtf8 content.now → SourceHasNoId path.now b
+        → result ≡ code_of (of_map TooLarge)) }
 {
     noted(add_source(alloc, builder, path, content), id, fault)
 }
@@ -426,6 +445,7 @@ pub extern "C" fn smap_builder_add_token(
     fault: &mut Fault,
 ) -> u32
     ensures added { result ≡ 0 → Builds builder.old.held builder.new.held (λ b c. c ≡ with_token b (token_of token.now)) }
+    ensures not_refused { result ≡ 0 → fault.new ≡ no_fault }
     ensures refused { result ≢ 0 → (builder.new.held ≡ builder.old.held) × IsRefusedAs result fault.new (IsBuilderRefusal builder.old.held) }
 {
     let mut none = 0;
@@ -441,6 +461,7 @@ pub extern "C" fn smap_builder_set_file(
     fault: &mut Fault,
 ) -> u32
     ensures set { result ≡ 0 → Builds builder.old.held builder.new.held (λ b c. c ≡ with_file b file.now) }
+    ensures not_refused { result ≡ 0 → fault.new ≡ no_fault }
     ensures refused { result ≢ 0 → (builder.new.held ≡ builder.old.held) × IsRefusedAs result fault.new (IsFileRefusal builder.old.held file.now) }
 {
     let mut none = 0;
@@ -457,6 +478,8 @@ pub extern "C" fn smap_builder_finish(
 ) -> u32
     ensures emptied { builder.new.held ≡ None }
     ensures map { result ≡ 0 → HoldsMap map.new.held (λ m. MatchOption (held_builder builder.old.held) ⊥ (λ b. m ≡ b.map)) }
+    ensures nothing_else { result ≡ 0 → HoldsMap map.new.held (λ m. (m.source_root ≡ None) × (m.ignore_list ≡ None) × (m.debug_id ≡ None)) }
+    ensures not_refused { result ≡ 0 → fault.new ≡ no_fault }
     ensures refused { result ≢ 0 → (map.new.held ≡ map.old.held) × IsRefusedAs result fault.new (IsBuilderRefusal builder.old.held) }
 {
     let built = finish(alloc, builder);
@@ -465,7 +488,7 @@ pub extern "C" fn smap_builder_finish(
 
 /// Frees the builder in a handle, which is then empty.
 #[unsafe(no_mangle)]
-pub extern "C" fn smap_builder_free(alloc: Global, builder: &mut Handle)
+pub extern "C" fn smap_free_builder(alloc: Global, builder: &mut Handle)
     ensures { builder.new.held ≡ None }
 {
     drop(builder.take(alloc));

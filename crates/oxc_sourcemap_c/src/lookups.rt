@@ -6,7 +6,7 @@ ghost use Rattle.oxc_sourcemap.specs.JsonText.{map_text, map_url};
 ghost use Rattle.oxc_sourcemap.specs.Sorted.{are_tokens_sorted, token_line, token_column};
 ghost use Rattle.oxc_sourcemap_faults.specs.declared.refusal.Refusal.TheVariants.{EmptyHandle};
 ghost use Rattle.oxc_sourcemap_faults.specs.Refusals.{out_of_memory};
-ghost use Rattle.oxc_sourcemap_faults.specs.Codes.{fault_of, code_of};
+ghost use Rattle.oxc_sourcemap_faults.specs.Codes.{fault_of, code_of, no_fault};
 ghost use Rattle.oxc_sourcemap_c.specs.Holding.{held_map, held_text, HoldsMap};
 ghost use Rattle.oxc_sourcemap_c.specs.Places.{counts_of, numbers_of};
 ghost use Rattle.oxc_sourcemap_c.specs.Answers.{text_at, ignored_at, flag_of, IsFound, HasLength, IsWrittenAs};
@@ -35,11 +35,12 @@ pub fn answered<T: Drop>(answer: Result<T, Refusal>, out: &mut T) -> u32
 
 /// The same of a place, with a fault that tells why there is none.
 pub fn placed(answer: Result<Place, Refusal>, place: &mut Place, fault: &mut Fault) -> u32
-    ensures { MatchResult answer (λ found. (result ≡ 0) × (place.new ≡ found)) (λ r. (result ≡ code_of r) × (place.new ≡ place.old) × (fault.new ≡ fault_of r)) }
+    ensures { MatchResult answer (λ found. (result ≡ 0) × (place.new ≡ found) × (fault.new ≡ no_fault)) (λ r. (result ≡ code_of r) × (place.new ≡ place.old) × (fault.new ≡ fault_of r)) }
 {
     match answer {
         Ok(found) => {
             *place = found;
+            *fault = Fault::none();
             0
         }
         Err(refusal) => {
@@ -51,10 +52,13 @@ pub fn placed(answer: Result<Place, Refusal>, place: &mut Place, fault: &mut Fau
 
 /// The code of an answer that is written already, with a fault that tells why there is none.
 pub fn answered_all(answer: Result<(), Refusal>, fault: &mut Fault) -> u32
-    ensures { MatchResult answer (λ _. result ≡ 0) (λ r. (result ≡ code_of r) × (fault.new ≡ fault_of r)) }
+    ensures { MatchResult answer (λ _. (result ≡ 0) × (fault.new ≡ no_fault)) (λ r. (result ≡ code_of r) × (fault.new ≡ fault_of r)) }
 {
     match answer {
-        Ok(()) => 0,
+        Ok(()) => {
+            *fault = Fault::none();
+            0
+        }
         Err(refusal) => {
             *fault = Fault::of(refusal);
             fault.code

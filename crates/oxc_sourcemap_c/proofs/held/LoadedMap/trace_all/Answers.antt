@@ -6,5 +6,7 @@ use Rattle.oxc_sourcemap_c.proofs.Traces.{all_zip}
 use Rattle.oxc_sourcemap_c.proofs.held.LoadedMap.trace_all.Goals as goal
 
 pub returns-clause-places : goal.returns-clause-places
-returns-clause-places c =
-    all_zip (IsTraceOf c.args.clamped c.args.self.now) c.args.positions.now c.loop-i.places (omega arith) (λ k at place below. c.loop-i.invariant k at place (omega arith))
+returns-clause-places c = (
+  c.in_ok-index.ensures.index.order,
+  all_zip (IsTraceOf c.args.clamped c.args.self.now) c.args.positions.now c.loop-i.places (omega arith) (λ k at place below. c.loop-i.invariant k at place (omega arith)),
+)

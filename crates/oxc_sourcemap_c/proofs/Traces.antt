@@ -6,6 +6,11 @@ use Rattle.oxc_sourcemap.specs.Token.{TokenRecord}
 use Rattle.oxc_sourcemap.specs.Record.{MapRecord}
 use Rattle.oxc_sourcemap.specs.DecodedMap.{OriginalPosition}
 use Rattle.oxc_sourcemap.specs.View.{seen_in, view_original}
+use Rattle.oxc_sourcemap.specs.Canonical.{IsInLineOrder}
+use Rattle.oxc_sourcemap_lookup.specs.LineSpans.{AreLines, IsIndexOf}
+use Rattle.oxc_sourcemap_lookup.specs.declared.line_index.LineIndex.{LineIndex}
+use Rattle.oxc_sourcemap_lookup.specs.declared.line_index.Lines.{Lines}
+use Rattle.oxc_sourcemap_lookup.specs.declared.line_index.Lines.TheVariants.{Starts, Spans}
 use Rattle.oxc_sourcemap_map.proofs.Picks.{traced, clamped_traced}
 use Rattle.oxc_sourcemap_c.specs.declared.text.Place.{Place}
 use Rattle.oxc_sourcemap_c.specs.declared.text.Position.{Position}
@@ -37,3 +42,11 @@ all_zip R [] [] e each = tt
 all_zip R [] (y ∷ ys) e each = absurd (cc e)
 all_zip R (x ∷ xs) [] e each = absurd (cc e)
 all_zip R (x ∷ xs) (y ∷ ys) e each = (each 0 x y (omega arith), all_zip R xs ys (omega arith) (λ k a b below. each (suc k) a b (omega arith)))
+
+lines_order : (tokens : List TokenRecord) (lines : Lines) → AreLines tokens lines → IsInLineOrder tokens
+lines_order tokens (Starts starts) h = h.order
+lines_order tokens (Spans spans) h = h.order
+
+-- tokens that have an index are in line order
+pub index_order : (tokens : List TokenRecord) (index : LineIndex) → IsIndexOf tokens index → IsInLineOrder tokens
+index_order tokens index h = lines_order tokens index.lines h

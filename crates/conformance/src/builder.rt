@@ -120,13 +120,11 @@ fn is_read_back(rt: &impl Abort, alloc: Global, text: &str, wanted: &str) -> Res
 }
 
 /// The example of the README.
-fn bundle_map(alloc: Global) -> Result<String> {
-    let mut builder = SourceMapBuilder::empty(alloc);
+fn build_bundle(builder: &mut SourceMapBuilder<'_>) -> Result<()> {
     builder.set_file("file");
     let source = builder.add_source_and_content("baz.js", "")?;
     let name = builder.add_name("x")?;
-    builder.add_token(0, 0, 0, 0, Some(source), Some(name))?;
-    builder.into_sourcemap()?.to_json_string(alloc)
+    builder.add_token(0, 0, 0, 0, Some(source), Some(name))
 }
 
 /// The same without a token, of a source that is set.
@@ -164,13 +162,19 @@ fn strings_are_copied(rt: HostRuntime) -> Result<()> {
 }
 
 #[test]
-fn maps_are_built_and_written(rt: HostRuntime) -> Result<()> {
+fn a_bundle_is_built_and_written(rt: HostRuntime) -> Result<()> {
+    let mut builder = SourceMapBuilder::empty(rt.alloc());
+    build_bundle(&mut builder)?;
     is_read_back(
         &rt,
         rt.alloc(),
-        bundle_map(rt.alloc())?.as_str(),
+        text_of(rt.alloc(), builder)?.as_str(),
         r#"{"version":3,"file":"file","names":["x"],"sources":["baz.js"],"sourcesContent":[""],"mappings":"AAAAA"}"#,
-    )?;
+    )
+}
+
+#[test]
+fn a_map_without_tokens_is_built_and_written(rt: HostRuntime) -> Result<()> {
     let mut builder = SourceMapBuilder::empty(rt.alloc());
     build_texts(&mut builder)?;
     is_read_back(

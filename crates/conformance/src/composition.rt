@@ -97,34 +97,44 @@ fn composed(alloc: Global, first: &Parts, second: &Parts) -> Result<SourceMap<'s
     map_of_parts(alloc, first)?.compose(alloc, input)
 }
 
-fn owned_composed(alloc: Global, first: &Parts, second: &Parts) -> Result<OwnedSourceMap> {
-    let input = OwnedSourceMap::new(map_of_parts(alloc, second)?);
-    OwnedSourceMap::new(map_of_parts(alloc, first)?).compose(alloc, input)
+fn owned_map_of_parts(alloc: Global, parts: &Parts) -> Result<OwnedSourceMap> {
+    Ok(OwnedSourceMap::new(map_of_parts(alloc, parts)?))
 }
 
-/// Asserts that a map has these names, sources and tokens.
-fn is_of(rt: &impl Abort, alloc: Global, map: &SourceMap<'_>, parts: &Parts) -> Result<()> {
+fn owned_composed(alloc: Global, first: &Parts, second: &Parts) -> Result<OwnedSourceMap> {
+    let input = owned_map_of_parts(alloc, second)?;
+    owned_map_of_parts(alloc, first)?.compose(alloc, input)
+}
+
+fn has_names(rt: &impl Abort, alloc: Global, map: &SourceMap<'_>, wanted: &[&str]) -> Result<()> {
     let mut names = Vec::new(alloc);
     for name in map.get_names() {
         names.push(name)?;
     }
-    same(rt, "names", names.as_slice(), parts.0);
+    same(rt, "names", names.as_slice(), wanted);
+    Ok(())
+}
+
+fn has_sources(rt: &impl Abort, alloc: Global, map: &SourceMap<'_>, wanted: &[&str]) -> Result<()> {
     let mut sources = Vec::new(alloc);
     for source in map.get_sources() {
         sources.push(source)?;
     }
-    same(rt, "sources", sources.as_slice(), parts.1);
-    let mut tokens = Vec::new(alloc);
-    for token in map.get_tokens() {
-        tokens.push(token)?;
-    }
-    same(
-        rt,
-        "tokens",
-        tokens.as_slice(),
-        tokens_of(alloc, parts.2)?.as_slice(),
-    );
+    same(rt, "sources", sources.as_slice(), wanted);
     Ok(())
+}
+
+fn has_tokens(rt: &impl Abort, alloc: Global, map: &SourceMap<'_>, rows: &[Row]) -> Result<()> {
+    let wanted = tokens_of(alloc, rows)?;
+    same(rt, "tokens", map.get_tokens().as_slice(), wanted.as_slice());
+    Ok(())
+}
+
+/// Asserts that a map has these names, sources and tokens.
+fn is_of(rt: &impl Abort, alloc: Global, map: &SourceMap<'_>, parts: &Parts) -> Result<()> {
+    has_names(rt, alloc, map, parts.0)?;
+    has_sources(rt, alloc, map, parts.1)?;
+    has_tokens(rt, alloc, map, parts.2)
 }
 
 /// Asserts that a composition gave this map or was refused so.
@@ -199,9 +209,19 @@ const GROUPED_RIGHT: Parts = (
 );
 
 #[test]
-fn three_maps_are_composed_in_both_groupings(rt: HostRuntime) -> Result<()> {
-    is_of(&rt, rt.alloc(), &grouped_left(rt.alloc())?, &GROUPED_LEFT)?;
+fn the_first_two_of_three_maps_are_composed_first(rt: HostRuntime) -> Result<()> {
+    is_of(&rt, rt.alloc(), &grouped_left(rt.alloc())?, &GROUPED_LEFT)
+}
+
+#[test]
+fn the_last_two_of_three_maps_are_composed_first(rt: HostRuntime) -> Result<()> {
     is_of(&rt, rt.alloc(), &grouped_right(rt.alloc())?, &GROUPED_RIGHT)
+}
+
+/// Sets the file and the debug id of a map.
+fn set_texts(alloc: Global, map: &mut SourceMap<'_>, file: &str, debug_id: &str) -> Result<()> {
+    map.set_file(alloc, file)?;
+    map.set_debug_id(alloc, debug_id)
 }
 
 /// A map with a file and a debug id.
@@ -212,8 +232,7 @@ fn named_map(
     debug_id: &str,
 ) -> Result<SourceMap<'static>> {
     let mut map = map_of_parts(alloc, parts)?;
-    map.set_file(alloc, file)?;
-    map.set_debug_id(alloc, debug_id)?;
+    set_texts(alloc, &mut map, file, debug_id)?;
     Ok(map)
 }
 

@@ -6,8 +6,6 @@ mod accessors;
 #[cfg(test)]
 mod helpers;
 #[cfg(test)]
-mod indexed;
-#[cfg(test)]
 mod lookups;
 #[cfg(test)]
 mod mappings;

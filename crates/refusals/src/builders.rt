@@ -1,8 +1,8 @@
 //! Calls of `SourceMapBuilder`. After a refused call the builder goes on as if the call had not been made.
-use crate::made::map_ended;
-use crate::marks::{Ended, answer, call, failed, passed_if};
-use crate::owned::owned_ended;
 use oxc_sourcemap::{Result, SourceMapBuilder};
+use refusals_maps::made::map_ended;
+use refusals_maps::marks::{Ended, answer, call, failed, passed_if};
+use refusals_maps::owned::owned_ended;
 
 /// A call that adds to a builder.
 #[derive(Clone, Copy)]

@@ -6,24 +6,24 @@ use crate::commands::{
 use crate::faults::{
     IGNORED, VERSION, compose_faulty, join_faulty, make_faulty_table, read_faulty, write_faulty,
 };
-use crate::fields::{Setter, set_field, set_owned_field};
-use crate::indexed::{read_file, read_indexed};
 use crate::joins::{
     Join, add_to_join, finish_join, finish_join_owned, join_lent, join_moved, take_room,
-};
-use crate::lists::{make_table, read_mappings};
-use crate::made::{
-    Make, MakeJson, clone_parts, compose, make_json, make_map, own_texts, read_json,
-};
-use crate::marks::Ended;
-use crate::owned::{
-    clone_owned, compose_owned, evaluate_plan, own, read_owned_json, read_owned_text,
 };
 use crate::takes_none::{
     get_fields, get_owned_fields, look_up, make_empty, make_values, walk, wrap,
 };
-use crate::texts::{Append, Text, append_text, write_text};
 use oxc_sourcemap::Error;
+use refusals_maps::fields::{Setter, set_field, set_owned_field};
+use refusals_maps::indexed::{read_file, read_indexed};
+use refusals_maps::lists::{make_table, read_mappings};
+use refusals_maps::made::{
+    Make, MakeJson, clone_parts, compose, make_json, make_map, own_texts, read_json,
+};
+use refusals_maps::marks::Ended;
+use refusals_maps::owned::{
+    clone_owned, compose_owned, evaluate_plan, own, read_owned_json, read_owned_text,
+};
+use refusals_maps::texts::{Append, Text, append_text, write_text};
 use smap_run::RunError;
 
 /// A call, or several that take no memory.

@@ -1,6 +1,6 @@
 //! Calls of the program's library.
-use crate::marks::{Ended, answer, call, failed, passed_if, plan_failed, run_failed};
 use oxc_sourcemap::Error;
+use refusals_maps::marks::{Ended, answer, call, failed, passed_if, plan_failed};
 use smap_run::{Command, Port, RunError, inputs_of, read_plan, read_words, run, trace};
 
 /// What the program is asked to do.
@@ -48,6 +48,14 @@ fn ordered<'w>(order: Order, words: &'w [String]) -> (Command<'w>, &'static str,
             INPUT,
             "{\"version\":3,\"names\":[\"x\",\"x\"],\"sources\":[\"a.js\",\"a.js\"],\"mappings\":\"AAAA,GAAIA;ACAJ,GAAIC\"}\n",
         ),
+    }
+}
+
+/// How a call of `run` or `read_plan` ended that failed.
+fn run_failed(error: RunError) -> Ended {
+    match error {
+        RunError::Plan(error) => plan_failed(error),
+        _ => Ended::Wrong,
     }
 }
 

@@ -1,10 +1,10 @@
 //! Faults that are found before any memory is taken. They are told also where each request would be refused.
-use crate::fixtures::{full_map, lent_map};
-use crate::marks::{Ended, answer, call, passed_if};
 use oxc_sourcemap::{
     ConcatSourceMapBuilder, Error, JSONSourceMap, JsonFault, Result, SourceMap, SourceMapParts,
     Token, TokenChunk, encode_chunk, encode_mappings,
 };
+use refusals_maps::fixtures::{full_map, lent_map};
+use refusals_maps::marks::{Ended, answer, call, passed_if};
 use std::alloc::Global;
 
 /// Lines and columns of two tokens whose lines go back.

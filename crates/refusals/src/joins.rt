@@ -1,9 +1,9 @@
 //! Calls of `ConcatSourceMapBuilder`. After a refused call the builder goes on as if the call had not been made.
-use crate::fixtures::{full_map, lent_map};
-use crate::made::map_ended;
-use crate::marks::{Ended, answer, call, failed, passed_if};
-use crate::owned::owned_ended;
 use oxc_sourcemap::{ConcatSourceMapBuilder, Result, SourceMap};
+use refusals_maps::fixtures::{full_map, lent_map};
+use refusals_maps::made::map_ended;
+use refusals_maps::marks::{Ended, answer, call, failed, passed_if};
+use refusals_maps::owned::owned_ended;
 
 /// A call that adds a map to a join.
 #[derive(Clone, Copy)]

@@ -13,19 +13,11 @@ mod builders;
 mod calls;
 mod commands;
 mod faults;
-mod fields;
-mod fixtures;
-mod indexed;
 mod joins;
-mod lists;
-mod made;
-mod marks;
-mod owned;
 mod takes_none;
-mod texts;
 
 use crate::calls::{CALLS, Call, ended};
-use crate::marks::Ended;
+use refusals_maps::marks::Ended;
 use std::process::ExitCode;
 use std::{env, io};
 

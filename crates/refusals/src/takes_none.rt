@@ -1,10 +1,10 @@
 //! Calls that take no memory. They pass also where each request would be refused.
-use crate::fixtures::{full_map, full_owned_map, lent_parts};
-use crate::marks::{Ended, answer, call, passed_if};
 use oxc_sourcemap::{
     ConcatSourceMapBuilder, Error, OwnedSourceMap, Result, SourceMap, SourceMapBuilder,
     SourceMapParts, SourcemapVisualizer, Token, TokenChunk, chunk_fault,
 };
+use refusals_maps::fixtures::{full_map, full_owned_map, lent_parts};
+use refusals_maps::marks::{Ended, answer, call, passed_if};
 use smap_run::{Port, RunError};
 use std::alloc::AllocError;
 

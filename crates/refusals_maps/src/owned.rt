@@ -5,11 +5,7 @@ use crate::marks::{Ended, answer, call, failed, passed_if, plan_failed};
 use oxc_sourcemap::{OwnedSourceMap, Plan, Result, evaluate};
 
 /// How a call ended that has to make the owned map of a text.
-pub(crate) fn owned_ended(
-    rt: &HostRuntime,
-    made: &Result<OwnedSourceMap>,
-    wanted: &str,
-) -> Result<Ended> {
+pub fn owned_ended(rt: &HostRuntime, made: &Result<OwnedSourceMap>, wanted: &str) -> Result<Ended> {
     Ok(match made {
         Ok(map) => passed_if(has_text(rt.alloc(), map.as_source_map(), wanted)?),
         Err(error) => failed(*error),
@@ -17,7 +13,7 @@ pub(crate) fn owned_ended(
 }
 
 /// Reads the JSON text of an owned map.
-pub(crate) fn read_owned_text(rt: &HostRuntime) -> Result<Ended> {
+pub fn read_owned_text(rt: &HostRuntime) -> Result<Ended> {
     call(rt);
     let made = OwnedSourceMap::from_json_string(rt.alloc(), TEXT);
     answer(rt);
@@ -25,7 +21,7 @@ pub(crate) fn read_owned_text(rt: &HostRuntime) -> Result<Ended> {
 }
 
 /// Reads the JSON source map of an owned map.
-pub(crate) fn read_owned_json(rt: &HostRuntime) -> Result<Ended> {
+pub fn read_owned_json(rt: &HostRuntime) -> Result<Ended> {
     let json = full_map(rt.alloc())?.to_json(rt.alloc())?;
     call(rt);
     let made = OwnedSourceMap::from_json(rt.alloc(), json);
@@ -34,7 +30,7 @@ pub(crate) fn read_owned_json(rt: &HostRuntime) -> Result<Ended> {
 }
 
 /// Clones an owned map.
-pub(crate) fn clone_owned(rt: &HostRuntime) -> Result<Ended> {
+pub fn clone_owned(rt: &HostRuntime) -> Result<Ended> {
     let map = full_owned_map(rt.alloc())?;
     call(rt);
     let made = map.clone(rt.alloc());
@@ -43,7 +39,7 @@ pub(crate) fn clone_owned(rt: &HostRuntime) -> Result<Ended> {
 }
 
 /// Copies the texts that a map borrows, and wraps it.
-pub(crate) fn own(rt: &HostRuntime) -> Result<Ended> {
+pub fn own(rt: &HostRuntime) -> Result<Ended> {
     let map = lent_map(rt.alloc())?;
     call(rt);
     let made = map.into_owned_sourcemap(rt.alloc());
@@ -52,7 +48,7 @@ pub(crate) fn own(rt: &HostRuntime) -> Result<Ended> {
 }
 
 /// Composes two owned maps.
-pub(crate) fn compose_owned(rt: &HostRuntime) -> Result<Ended> {
+pub fn compose_owned(rt: &HostRuntime) -> Result<Ended> {
     let map = OwnedSourceMap::new(lent_map(rt.alloc())?);
     let input = OwnedSourceMap::from_json_string(rt.alloc(), INPUT_TEXT)?;
     call(rt);
@@ -75,7 +71,7 @@ const EVALUATED: &str =
     r#"{"version":3,"sourceRoot":"root","names":["n0","n1","n"],"sources":["a.js","b.js"],"sourcesContent":["A",null],"ignoreList":[1],"mappings":"AAAAE"}"#;
 
 /// Evaluates that plan.
-pub(crate) fn evaluate_plan(rt: &HostRuntime) -> Result<Ended> {
+pub fn evaluate_plan(rt: &HostRuntime) -> Result<Ended> {
     let plan = plan(rt)?;
     call(rt);
     let made = evaluate(rt.alloc(), &plan);

@@ -4,7 +4,7 @@ use crate::marks::{Ended, answer, call, failed, passed_if};
 use oxc_sourcemap::{OwnedSourceMap, Result, Token, decode_mappings};
 
 /// Reads a `mappings` text.
-pub(crate) fn read_mappings(rt: &HostRuntime) -> Result<Ended> {
+pub fn read_mappings(rt: &HostRuntime) -> Result<Ended> {
     call(rt);
     let read = decode_mappings(rt.alloc(), "AAAAA,C;C,C,C,C,C,C,C,C,C", 1, 1);
     answer(rt);
@@ -21,7 +21,7 @@ fn is_read(tokens: &[Token]) -> bool {
 }
 
 /// Makes a lookup table, of the map inside or of the owned map.
-pub(crate) fn make_table(rt: &HostRuntime, is_owned: bool) -> Result<Ended> {
+pub fn make_table(rt: &HostRuntime, is_owned: bool) -> Result<Ended> {
     let map = full_owned_map(rt.alloc())?;
     make_table_of(rt, is_owned, &map)
 }

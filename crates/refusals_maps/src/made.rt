@@ -10,7 +10,7 @@ use serde_json::Value;
 
 /// A call that makes a map.
 #[derive(Clone, Copy)]
-pub(crate) enum Make {
+pub enum Make {
     DecodeFromString,
     FromJsonString,
     Clone,
@@ -29,11 +29,7 @@ fn made(rt: &HostRuntime, make: Make, map: &SourceMap<'static>) -> Result<Source
 }
 
 /// How a call ended that has to make the map of a text.
-pub(crate) fn map_ended(
-    rt: &HostRuntime,
-    made: &Result<SourceMap<'_>>,
-    wanted: &str,
-) -> Result<Ended> {
+pub fn map_ended(rt: &HostRuntime, made: &Result<SourceMap<'_>>, wanted: &str) -> Result<Ended> {
     Ok(match made {
         Ok(map) => passed_if(has_text(rt.alloc(), map, wanted)?),
         Err(error) => failed(*error),
@@ -41,14 +37,14 @@ pub(crate) fn map_ended(
 }
 
 /// Makes a call that makes a map. The map that a clone is made of stays as it is.
-pub(crate) fn make_map(rt: &HostRuntime, make: Make) -> Result<Ended> {
+pub fn make_map(rt: &HostRuntime, make: Make) -> Result<Ended> {
     let map = full_map(rt.alloc())?;
     let made = made(rt, make, &map);
     map_ended(rt, &made, TEXT)
 }
 
 /// Clones parts, all texts of which are borrowed.
-pub(crate) fn clone_parts(rt: &HostRuntime) -> Result<Ended> {
+pub fn clone_parts(rt: &HostRuntime) -> Result<Ended> {
     let parts = lent_parts(rt.alloc())?;
     call(rt);
     let made = parts.clone(rt.alloc());
@@ -60,7 +56,7 @@ pub(crate) fn clone_parts(rt: &HostRuntime) -> Result<Ended> {
 }
 
 /// Reads a JSON source map, by the method or by the free function.
-pub(crate) fn read_json(rt: &HostRuntime, is_free: bool) -> Result<Ended> {
+pub fn read_json(rt: &HostRuntime, is_free: bool) -> Result<Ended> {
     let json = full_map(rt.alloc())?.to_json(rt.alloc())?;
     call(rt);
     let made = if is_free {
@@ -73,7 +69,7 @@ pub(crate) fn read_json(rt: &HostRuntime, is_free: bool) -> Result<Ended> {
 }
 
 /// Copies the texts that a map borrows.
-pub(crate) fn own_texts(rt: &HostRuntime) -> Result<Ended> {
+pub fn own_texts(rt: &HostRuntime) -> Result<Ended> {
     let map = lent_map(rt.alloc())?;
     call(rt);
     let made = map.into_owned(rt.alloc());
@@ -82,7 +78,7 @@ pub(crate) fn own_texts(rt: &HostRuntime) -> Result<Ended> {
 }
 
 /// Composes two maps, the first of which gives the token its name.
-pub(crate) fn compose(rt: &HostRuntime) -> Result<Ended> {
+pub fn compose(rt: &HostRuntime) -> Result<Ended> {
     let map = lent_map(rt.alloc())?;
     let input = SourceMap::from_json_string(rt.alloc(), INPUT_TEXT)?;
     call(rt);
@@ -92,12 +88,12 @@ pub(crate) fn compose(rt: &HostRuntime) -> Result<Ended> {
 }
 
 /// What they compose to.
-pub(crate) const COMPOSED: &str =
+pub const COMPOSED: &str =
     r#"{"version":3,"file":"f.js","sourceRoot":"root","names":["n0","n1","n"],"sources":["a.js","b.js"],"sourcesContent":["A",null],"ignoreList":[1],"mappings":"AAAAE"}"#;
 
 /// A call that makes a JSON source map.
 #[derive(Clone, Copy)]
-pub(crate) enum MakeJson {
+pub enum MakeJson {
     FromValue,
     Encode,
     ToJson,
@@ -123,7 +119,7 @@ fn made_json(
 }
 
 /// Makes a call that makes a JSON source map.
-pub(crate) fn make_json(rt: &HostRuntime, make: MakeJson) -> Result<Ended> {
+pub fn make_json(rt: &HostRuntime, make: MakeJson) -> Result<Ended> {
     let map = full_owned_map(rt.alloc())?;
     let value = Value::from_str(rt.alloc(), TEXT)?;
     match made_json(rt, make, &map, &value) {

@@ -24,14 +24,14 @@ fn read(rt: &HostRuntime, is_text: bool, value: &Value) -> Result<SourceMap<'sta
 }
 
 /// Reads an indexed map from its text, or from its value.
-pub(crate) fn read_indexed(rt: &HostRuntime, is_text: bool) -> Result<Ended> {
+pub fn read_indexed(rt: &HostRuntime, is_text: bool) -> Result<Ended> {
     let value = Value::from_str(rt.alloc(), INDEXED_TEXT)?;
     let made = read(rt, is_text, &value);
     map_ended(rt, &made, JOINED_TEXT)
 }
 
 /// Reads the file of an indexed map.
-pub(crate) fn read_file(rt: &HostRuntime) -> Result<Ended> {
+pub fn read_file(rt: &HostRuntime) -> Result<Ended> {
     let value = Value::from_str(rt.alloc(), INDEXED_TEXT)?;
     call(rt);
     let file = file_from_value(rt.alloc(), &value);

@@ -9,7 +9,7 @@ use std::alloc::Global;
 
 /// A call that gives a text.
 #[derive(Clone, Copy)]
-pub(crate) enum Text {
+pub enum Text {
     EncodeToString,
     ToJsonString,
     OwnedToJsonString,
@@ -58,7 +58,7 @@ fn wanted(text: Text) -> &'static str {
 }
 
 /// Makes a call that gives a text.
-pub(crate) fn write_text(rt: &HostRuntime, text: Text) -> Result<Ended> {
+pub fn write_text(rt: &HostRuntime, text: Text) -> Result<Ended> {
     let map = full_owned_map(rt.alloc())?;
     Ok(match given(rt, text, &map) {
         Ok(given) => passed_if(given.as_str() == wanted(text)),
@@ -68,7 +68,7 @@ pub(crate) fn write_text(rt: &HostRuntime, text: Text) -> Result<Ended> {
 
 /// A call that appends to a text.
 #[derive(Clone, Copy)]
-pub(crate) enum Append {
+pub enum Append {
     Mappings,
     MappingsInChunks,
     Chunk,
@@ -113,7 +113,7 @@ fn append_to(rt: &HostRuntime, append: Append, tokens: &[Token], out: &mut Strin
 }
 
 /// Makes a call that appends to a text. What stands in the text stays where the call is refused.
-pub(crate) fn append_text(rt: &HostRuntime, append: Append) -> Result<Ended> {
+pub fn append_text(rt: &HostRuntime, append: Append) -> Result<Ended> {
     let tokens = many_tokens(rt.alloc())?;
     let mappings = many_mappings(rt.alloc())?;
     let mut out = String::from_str(rt.alloc(), "kept;")?;

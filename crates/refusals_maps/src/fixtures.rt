@@ -4,29 +4,29 @@ use std::alloc::Global;
 use std::borrow::CowStr;
 
 /// A map with every field.
-pub(crate) const TEXT: &str =
+pub const TEXT: &str =
     r#"{"version":3,"file":"out.js","sourceRoot":"root","names":["n0","n1"],"sources":["a.js","b.js"],"sourcesContent":["A",null],"ignoreList":[1],"mappings":"AAAAA,CCACC,C","debugId":"dbg"}"#;
 
 /// A map whose token has no name.
-pub(crate) const INPUT_TEXT: &str =
+pub const INPUT_TEXT: &str =
     r#"{"version":3,"sourceRoot":"root","names":["n0","n1"],"sources":["a.js","b.js"],"sourcesContent":["A",null],"ignoreList":[1],"mappings":"AAAA"}"#;
 
 /// A map of that text.
-pub(crate) fn full_map(alloc: Global) -> Result<SourceMap<'static>> {
+pub fn full_map(alloc: Global) -> Result<SourceMap<'static>> {
     SourceMap::from_json_string(alloc, TEXT)
 }
 
 /// The same, owned.
-pub(crate) fn full_owned_map(alloc: Global) -> Result<OwnedSourceMap> {
+pub fn full_owned_map(alloc: Global) -> Result<OwnedSourceMap> {
     OwnedSourceMap::from_json_string(alloc, TEXT)
 }
 
 /// The JSON text of a map of one source, name and content, and of one token with them.
-pub(crate) const LENT_TEXT: &str =
+pub const LENT_TEXT: &str =
     r#"{"version":3,"file":"f.js","names":["n"],"sources":["a.js"],"sourcesContent":["A"],"mappings":"AAAAA"}"#;
 
 /// The parts of that map, all texts of which are borrowed.
-pub(crate) fn lent_parts(alloc: Global) -> Result<SourceMapParts<'static>> {
+pub fn lent_parts(alloc: Global) -> Result<SourceMapParts<'static>> {
     let names = vec![in alloc; CowStr::Borrowed("n")]?;
     let sources = vec![in alloc; CowStr::Borrowed("a.js")]?;
     let contents = vec![in alloc; Some(CowStr::Borrowed("A"))]?;
@@ -41,12 +41,12 @@ pub(crate) fn lent_parts(alloc: Global) -> Result<SourceMapParts<'static>> {
 }
 
 /// A map of these parts.
-pub(crate) fn lent_map(alloc: Global) -> Result<SourceMap<'static>> {
+pub fn lent_map(alloc: Global) -> Result<SourceMap<'static>> {
     Ok(SourceMap::from_parts(lent_parts(alloc)?))
 }
 
 /// Whether a map has this JSON text.
-pub(crate) fn has_text(alloc: Global, map: &SourceMap<'_>, wanted: &str) -> Result<bool> {
+pub fn has_text(alloc: Global, map: &SourceMap<'_>, wanted: &str) -> Result<bool> {
     let text = map.to_json_string(alloc)?;
     Ok(text.as_str() == wanted)
 }

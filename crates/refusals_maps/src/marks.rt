@@ -1,10 +1,9 @@
 //! Marks around a call, and how it ended.
 use oxc_sourcemap::{Error, PlanError};
-use smap_run::RunError;
 
 /// How a call ended.
 #[derive(Clone, Copy, PartialEq, Eq)]
-pub(crate) enum Ended {
+pub enum Ended {
     /// It gave what it has to give.
     Passed,
     /// It was refused memory, and what it was lent is as it was.
@@ -14,17 +13,17 @@ pub(crate) enum Ended {
 }
 
 /// Tells that a call begins. From here on requests for memory may be refused.
-pub(crate) fn call(rt: &HostRuntime) {
+pub fn call(rt: &HostRuntime) {
     let _ = eprintln!(rt; "call");
 }
 
 /// Tells that the call has ended.
-pub(crate) fn answer(rt: &HostRuntime) {
+pub fn answer(rt: &HostRuntime) {
     let _ = eprintln!(rt; "answer");
 }
 
 /// Whether a call gave what it has to.
-pub(crate) fn passed_if(is_right: bool) -> Ended {
+pub fn passed_if(is_right: bool) -> Ended {
     if is_right {
         Ended::Passed
     } else {
@@ -33,7 +32,7 @@ pub(crate) fn passed_if(is_right: bool) -> Ended {
 }
 
 /// How a call ended that failed, where what it was lent is as it was.
-pub(crate) fn failed(error: Error) -> Ended {
+pub fn failed(error: Error) -> Ended {
     if error == Error::OutOfMemory {
         Ended::Refused
     } else {
@@ -42,17 +41,9 @@ pub(crate) fn failed(error: Error) -> Ended {
 }
 
 /// The same of `evaluate`.
-pub(crate) fn plan_failed(error: PlanError) -> Ended {
+pub fn plan_failed(error: PlanError) -> Ended {
     match error {
         PlanError::Map(error) => failed(error),
-        _ => Ended::Wrong,
-    }
-}
-
-/// The same of `run` and `read_plan`.
-pub(crate) fn run_failed(error: RunError) -> Ended {
-    match error {
-        RunError::Plan(error) => plan_failed(error),
         _ => Ended::Wrong,
     }
 }

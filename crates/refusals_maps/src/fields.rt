@@ -5,7 +5,7 @@ use oxc_sourcemap::{OwnedSourceMap, Result, SourceMap};
 
 /// A setter.
 #[derive(Clone, Copy)]
-pub(crate) enum Setter {
+pub enum Setter {
     File,
     DebugId,
     Sources,
@@ -77,7 +77,7 @@ fn set_ended(
 }
 
 /// Sets a field of a map.
-pub(crate) fn set_field(rt: &HostRuntime, setter: Setter) -> Result<Ended> {
+pub fn set_field(rt: &HostRuntime, setter: Setter) -> Result<Ended> {
     let mut map = full_map(rt.alloc())?;
     let contents = vec![in rt.alloc(); None, Some("B")]?;
     let set = set(rt, setter, &mut map, contents);
@@ -85,7 +85,7 @@ pub(crate) fn set_field(rt: &HostRuntime, setter: Setter) -> Result<Ended> {
 }
 
 /// Sets a field of an owned map.
-pub(crate) fn set_owned_field(rt: &HostRuntime, setter: Setter) -> Result<Ended> {
+pub fn set_owned_field(rt: &HostRuntime, setter: Setter) -> Result<Ended> {
     let mut map = full_owned_map(rt.alloc())?;
     let contents = vec![in rt.alloc(); None, Some("B")]?;
     let set = set_owned(rt, setter, &mut map, contents);

@@ -10,7 +10,8 @@ use std::process::Abort;
 /// What is looked at, a JSON text, and the JSON text of the map that it says, or why it says none.
 type Read = (&'static str, &'static str, Result<&'static str>);
 
-const READ: &[Read] = &[
+/// Where sections may begin.
+const PLACED: &[Read] = &[
     (
         "two sections on one line",
         r#"{"version":3,"file":"out.js","sections":[{"offset":{"line":0,"column":0},"map":{"version":3,"sources":["a.js"],"mappings":"AAAA,IAAI"}},{"offset":{"line":0,"column":10},"map":{"version":3,"sources":["b.js"],"mappings":"AAAA;AACA"}}]}"#,
@@ -49,6 +50,25 @@ const READ: &[Read] = &[
             r#"{"version":3,"file":"out.js","names":[],"sources":["a.js"],"mappings":";CAAA,IAAI"}"#,
         ),
     ),
+    (
+        "a section before the last token, after the offset in front",
+        r#"{"version":3,"sections":[{"offset":{"line":0,"column":0},"map":{"version":3,"sources":["a.js"],"mappings":"AAAA;IAAA"}},{"offset":{"line":1,"column":3},"map":{"version":3,"sources":[],"mappings":""}}]}"#,
+        Err(Error::SectionOrder(1)),
+    ),
+    (
+        "columns of line 0 alone",
+        r#"{"version":3,"sections":[{"offset":{"line":0,"column":5},"map":{"version":3,"sources":[],"mappings":"A;A"}},{"offset":{"line":1,"column":7},"map":{"version":3,"sources":[],"mappings":"A;A"}}]}"#,
+        Ok(r#"{"version":3,"names":[],"sources":[],"mappings":"K;A,O;A"}"#),
+    ),
+    (
+        "the order before the map",
+        r#"{"version":3,"file":"out.js","sections":[{"offset":{"line":1,"column":0},"map":{"version":3,"sources":["a.js"],"mappings":"AAAA,IAAI"}},{"offset":{"line":0,"column":0},"map":3}]}"#,
+        Err(Error::SectionOrder(1)),
+    ),
+];
+
+/// What of the sections, and of the value around them, is in the map.
+const JOINED: &[Read] = &[
     (
         "no sections",
         r#"{"version":3,"sections":[]}"#,
@@ -92,15 +112,21 @@ const READ: &[Read] = &[
         Ok(r#"{"version":3,"file":"out.js","names":[],"sources":[],"mappings":"I,D"}"#),
     ),
     (
-        "a column past the limit",
-        r#"{"version":3,"file":"out.js","sections":[{"offset":{"line":0,"column":0},"map":{"version":3,"sources":["a.js"],"mappings":"AAAA,IAAI"}},{"offset":{"line":0,"column":4294967295},"map":{"version":3,"sources":["b.js"],"mappings":"C"}}]}"#,
-        Err(Error::TooLarge),
+        "an empty ignore list",
+        r#"{"version":3,"sections":[{"offset":{"line":0,"column":0},"map":{"version":3,"sources":["a.js"],"mappings":"AAAA"}},{"offset":{"line":1,"column":0},"map":{"version":3,"sources":["b.js"],"ignoreList":[],"mappings":"AAAA"}}]}"#,
+        Ok(
+            r#"{"version":3,"names":[],"sources":["a.js","b.js"],"ignoreList":[],"mappings":"AAAA;ACAA"}"#,
+        ),
     ),
     (
-        "a line past the limit",
-        r#"{"version":3,"file":"out.js","sections":[{"offset":{"line":4294967295,"column":0},"map":{"version":3,"sources":["b.js"],"mappings":"AAAA;AACA"}}]}"#,
-        Err(Error::TooLarge),
+        "a map whose sections is null",
+        r#"{"version":3,"file":"out.js","sections":[{"offset":{"line":0,"column":0},"map":{"version":3,"sections":null,"sources":["a.js"],"mappings":"AAAA"}}]}"#,
+        Ok(r#"{"version":3,"file":"out.js","names":[],"sources":["a.js"],"mappings":"AAAA"}"#),
     ),
+];
+
+/// What is wrong with the value around the sections.
+const OUTER: &[Read] = &[
     (
         "another version",
         r#"{"version":2,"sections":[{"offset":{"line":0,"column":0},"map":{"version":3,"sources":["a.js"],"mappings":"AAAA,IAAI"}}]}"#,
@@ -126,6 +152,10 @@ const READ: &[Read] = &[
         r#"{"version":3,"file":"out.js","sections":[3]}"#,
         Err(Error::BadJson(JsonFault::Shape(Field::Sections))),
     ),
+];
+
+/// What is wrong with an offset.
+const OFFSETS: &[Read] = &[
     (
         "a section without an offset",
         r#"{"version":3,"file":"out.js","sections":[{"map":{"version":3,"sources":["a.js"],"mappings":"AAAA,IAAI"}}]}"#,
@@ -157,15 +187,19 @@ const READ: &[Read] = &[
         Err(Error::BadJson(JsonFault::Shape(Field::Offset))),
     ),
     (
-        "the order before the map",
-        r#"{"version":3,"file":"out.js","sections":[{"offset":{"line":1,"column":0},"map":{"version":3,"sources":["a.js"],"mappings":"AAAA,IAAI"}},{"offset":{"line":0,"column":0},"map":3}]}"#,
-        Err(Error::SectionOrder(1)),
-    ),
-    (
         "the shape of the offset before the order",
         r#"{"version":3,"file":"out.js","sections":[{"offset":{"line":1,"column":0},"map":{"version":3,"sources":["a.js"],"mappings":"AAAA,IAAI"}},{"offset":{"line":0,"column":"0"},"map":{"version":3,"sources":["a.js"],"mappings":"AAAA,IAAI"}}]}"#,
         Err(Error::BadJson(JsonFault::Shape(Field::Offset))),
     ),
+    (
+        "a column of 3.0",
+        r#"{"version":3,"sections":[{"offset":{"line":0,"column":3.0},"map":{"version":3,"sources":[],"mappings":""}}]}"#,
+        Err(Error::BadJson(JsonFault::Shape(Field::Offset))),
+    ),
+];
+
+/// What is wrong with the map of a section.
+const MAPS: &[Read] = &[
     (
         "a url in place of a map",
         r#"{"version":3,"file":"out.js","sections":[{"offset":{"line":0,"column":0},"map":{"version":3,"sources":["a.js"],"mappings":"AAAA,IAAI"}},{"offset":{"line":0,"column":10},"url":"b.map"}]}"#,
@@ -180,11 +214,6 @@ const READ: &[Read] = &[
         "a section that is an indexed map",
         r#"{"version":3,"file":"out.js","sections":[{"offset":{"line":0,"column":0},"map":{"version":3,"file":"out.js","sections":[{"offset":{"line":0,"column":0},"map":{"version":3,"sources":["a.js"],"mappings":"AAAA,IAAI"}}]}}]}"#,
         Err(Error::BadJson(JsonFault::Shape(Field::Map))),
-    ),
-    (
-        "a map whose sections is null",
-        r#"{"version":3,"file":"out.js","sections":[{"offset":{"line":0,"column":0},"map":{"version":3,"sections":null,"sources":["a.js"],"mappings":"AAAA"}}]}"#,
-        Ok(r#"{"version":3,"file":"out.js","names":[],"sources":["a.js"],"mappings":"AAAA"}"#),
     ),
     (
         "the version of a map",
@@ -207,6 +236,25 @@ const READ: &[Read] = &[
         Err(Error::BadSourceReference(0)),
     ),
     (
+        "a map whose sections is false",
+        r#"{"version":3,"sections":[{"offset":{"line":0,"column":0},"map":{"version":3,"sections":false,"sources":[],"mappings":""}}]}"#,
+        Err(Error::BadJson(JsonFault::Shape(Field::Map))),
+    ),
+];
+
+/// Maps past the limits, and which fault stands.
+const LIMITS: &[Read] = &[
+    (
+        "a column past the limit",
+        r#"{"version":3,"file":"out.js","sections":[{"offset":{"line":0,"column":0},"map":{"version":3,"sources":["a.js"],"mappings":"AAAA,IAAI"}},{"offset":{"line":0,"column":4294967295},"map":{"version":3,"sources":["b.js"],"mappings":"C"}}]}"#,
+        Err(Error::TooLarge),
+    ),
+    (
+        "a line past the limit",
+        r#"{"version":3,"file":"out.js","sections":[{"offset":{"line":4294967295,"column":0},"map":{"version":3,"sources":["b.js"],"mappings":"AAAA;AACA"}}]}"#,
+        Err(Error::TooLarge),
+    ),
+    (
         "the first fault stands",
         r#"{"version":3,"file":"out.js","sections":[{"offset":{"line":0,"column":0},"map":{"version":3,"sources":["b.js"],"mappings":"AC"}},3]}"#,
         Err(Error::BadSegmentSize(2)),
@@ -220,33 +268,6 @@ const READ: &[Read] = &[
         "a fault of the mappings before too large",
         r#"{"version":3,"sections":[{"offset":{"line":4294967295,"column":0},"map":{"version":3,"sources":[],"mappings":"A;AC"}}]}"#,
         Err(Error::BadSegmentSize(2)),
-    ),
-    (
-        "an empty ignore list",
-        r#"{"version":3,"sections":[{"offset":{"line":0,"column":0},"map":{"version":3,"sources":["a.js"],"mappings":"AAAA"}},{"offset":{"line":1,"column":0},"map":{"version":3,"sources":["b.js"],"ignoreList":[],"mappings":"AAAA"}}]}"#,
-        Ok(
-            r#"{"version":3,"names":[],"sources":["a.js","b.js"],"ignoreList":[],"mappings":"AAAA;ACAA"}"#,
-        ),
-    ),
-    (
-        "a column of 3.0",
-        r#"{"version":3,"sections":[{"offset":{"line":0,"column":3.0},"map":{"version":3,"sources":[],"mappings":""}}]}"#,
-        Err(Error::BadJson(JsonFault::Shape(Field::Offset))),
-    ),
-    (
-        "a map whose sections is false",
-        r#"{"version":3,"sections":[{"offset":{"line":0,"column":0},"map":{"version":3,"sections":false,"sources":[],"mappings":""}}]}"#,
-        Err(Error::BadJson(JsonFault::Shape(Field::Map))),
-    ),
-    (
-        "a section before the last token, after the offset in front",
-        r#"{"version":3,"sections":[{"offset":{"line":0,"column":0},"map":{"version":3,"sources":["a.js"],"mappings":"AAAA;IAAA"}},{"offset":{"line":1,"column":3},"map":{"version":3,"sources":[],"mappings":""}}]}"#,
-        Err(Error::SectionOrder(1)),
-    ),
-    (
-        "columns of line 0 alone",
-        r#"{"version":3,"sections":[{"offset":{"line":0,"column":5},"map":{"version":3,"sources":[],"mappings":"A;A"}},{"offset":{"line":1,"column":7},"map":{"version":3,"sources":[],"mappings":"A;A"}}]}"#,
-        Ok(r#"{"version":3,"names":[],"sources":[],"mappings":"K;A,O;A"}"#),
     ),
 ];
 
@@ -276,29 +297,61 @@ const FILES: &[File] = &[
     ("[]", Err(Error::BadJson(JsonFault::Shape(Field::Object)))),
 ];
 
-/// That table, taken from a function: a test that names it itself is proved much more slowly.
-fn read_rows() -> &'static [Read] {
-    READ
+/// The tables of sections, taken from functions: a test that names a table itself is proved much more slowly, and so is a
+/// table of many rows.
+fn placed() -> &'static [Read] {
+    PLACED
+}
+
+fn joined() -> &'static [Read] {
+    JOINED
+}
+
+fn outer() -> &'static [Read] {
+    OUTER
+}
+
+fn offsets() -> &'static [Read] {
+    OFFSETS
+}
+
+fn maps() -> &'static [Read] {
+    MAPS
+}
+
+fn limits() -> &'static [Read] {
+    LIMITS
+}
+
+fn tables() -> [&'static [Read]; 6] {
+    [placed(), joined(), outer(), offsets(), maps(), limits()]
+}
+
+fn texts_are_read(rt: &impl Abort, alloc: Global, rows: &[Read]) {
+    for (what, text, wanted) in rows {
+        has_text(rt, alloc, what, &decode_from_string(alloc, text), *wanted);
+    }
 }
 
 #[test]
-fn sections_are_joined(rt: HostRuntime) -> Result<()> {
-    for (what, text, wanted) in read_rows() {
-        let read = decode_from_string(rt.alloc(), text);
-        has_text(&rt, rt.alloc(), what, &read, *wanted);
+fn sections_are_joined(rt: HostRuntime) {
+    for rows in tables() {
+        texts_are_read(&rt, rt.alloc(), rows);
+    }
+}
+
+fn values_are_read(rt: &impl Abort, alloc: Global, rows: &[Read]) -> Result<()> {
+    for (what, text, wanted) in rows {
+        let value = Value::from_str(alloc, text)?;
+        has_text(rt, alloc, what, &decode_value(alloc, &value), *wanted);
     }
     Ok(())
 }
 
-fn is_read_as(rt: &impl Abort, alloc: Global, what: &str, value: &Value, wanted: Result<&str>) {
-    has_text(rt, alloc, what, &decode_value(alloc, value), wanted);
-}
-
 #[test]
 fn sections_of_values_are_joined(rt: HostRuntime) -> Result<()> {
-    for (what, text, wanted) in read_rows() {
-        let value = Value::from_str(rt.alloc(), text)?;
-        is_read_as(&rt, rt.alloc(), what, &value, *wanted);
+    for rows in tables() {
+        values_are_read(&rt, rt.alloc(), rows)?;
     }
     Ok(())
 }

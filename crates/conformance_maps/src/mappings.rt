@@ -10,7 +10,8 @@ use std::process::Abort;
 /// A text, counts of names and sources, and what it reads as.
 type Reading = (&'static str, usize, usize, Result<&'static [Row]>);
 
-const READINGS: &[Reading] = &[
+/// Texts that are read.
+const READ: &[Reading] = &[
     ("", 0, 0, Ok(&[])),
     (
         "AAAA,GAAIA,GAAI,EACR,IAAIA,GAAK,EAAG,CACVC,MAAM",
@@ -28,15 +29,6 @@ const READINGS: &[Reading] = &[
             (0, 24, 2, 8, Some(0), None),
         ]),
     ),
-    ("AA", 0, 0, Err(Error::BadSegmentSize(2))),
-    ("AAAAAA", 0, 0, Err(Error::BadSegmentSize(6))),
-    ("AAAAAg", 0, 0, Err(Error::VlqLeftover)),
-    ("DA", 0, 0, Err(Error::BadSegmentSize(0))),
-    ("ggggggggggggg,A", 0, 0, Err(Error::VlqLeftover)),
-    ("gggggggggggggg", 0, 0, Err(Error::VlqOverflow)),
-    ("hgggggggggggH", 0, 0, Err(Error::BadSegmentSize(0))),
-    ("hgggggggggggI", 0, 0, Err(Error::VlqOverflow)),
-    ("/////////////", 0, 0, Err(Error::VlqOverflow)),
     (
         "gD,!C",
         0,
@@ -44,11 +36,6 @@ const READINGS: &[Reading] = &[
         Ok(&[(0, 48, 0, 0, None, None), (0, 1, 0, 0, None, None)]),
     ),
     ("+/////H", 0, 0, Ok(&[(0, 4294967295, 0, 0, None, None)])),
-    ("ggggggI", 0, 0, Err(Error::VlqOverflow)),
-    ("AAAAA", 0, 1, Err(Error::BadNameReference(0))),
-    ("AAAAD", 1, 1, Err(Error::BadNameReference(4294967295))),
-    ("AAAAggggggI", 1, 1, Err(Error::BadNameReference(0))),
-    ("ACAA", 1, 1, Err(Error::BadSourceReference(0))),
     ("B", 0, 0, Ok(&[(0, 0, 0, 0, None, None)])),
     ("gA", 0, 0, Ok(&[(0, 0, 0, 0, None, None)])),
     (
@@ -64,12 +51,6 @@ const READINGS: &[Reading] = &[
         0,
         Ok(&[(0, 3, 0, 0, None, None), (0, 2, 0, 0, None, None)]),
     ),
-    ("AAA", 0, 1, Err(Error::BadSegmentSize(3))),
-    ("AAAAAA", 1, 1, Err(Error::BadSegmentSize(6))),
-    ("AAAAg", 1, 1, Err(Error::VlqLeftover)),
-    ("AAAA!", 1, 1, Err(Error::VlqLeftover)),
-    ("DAAA", 0, 1, Err(Error::BadSegmentSize(0))),
-    ("+/////H,C", 0, 0, Err(Error::VlqOverflow)),
     (
         "+/////H,D",
         0,
@@ -79,7 +60,6 @@ const READINGS: &[Reading] = &[
             (0, 4294967294, 0, 0, None, None),
         ]),
     ),
-    ("AA+/////HA,AACA", 0, 1, Err(Error::VlqOverflow)),
     (
         "ggggB,éC",
         0,
@@ -88,8 +68,62 @@ const READINGS: &[Reading] = &[
     ),
 ];
 
-/// Lists of tokens, with chunks or none, and how they are written.
-pub const WRITINGS: &[(&[Row], Option<&[[u32; 8]]>, Result<&str>)] = &[
+/// Texts with a number that does not end or is too large.
+const BAD_NUMBERS: &[Reading] = &[
+    ("AAAAAg", 0, 0, Err(Error::VlqLeftover)),
+    ("ggggggggggggg,A", 0, 0, Err(Error::VlqLeftover)),
+    ("gggggggggggggg", 0, 0, Err(Error::VlqOverflow)),
+    ("hgggggggggggI", 0, 0, Err(Error::VlqOverflow)),
+    ("/////////////", 0, 0, Err(Error::VlqOverflow)),
+    ("ggggggI", 0, 0, Err(Error::VlqOverflow)),
+    ("AAAAg", 1, 1, Err(Error::VlqLeftover)),
+    ("AAAA!", 1, 1, Err(Error::VlqLeftover)),
+    ("+/////H,C", 0, 0, Err(Error::VlqOverflow)),
+    ("AA+/////HA,AACA", 0, 1, Err(Error::VlqOverflow)),
+];
+
+/// Texts with a segment of another size, or with an id that names nothing.
+const BAD_SEGMENTS: &[Reading] = &[
+    ("AA", 0, 0, Err(Error::BadSegmentSize(2))),
+    ("AAAAAA", 0, 0, Err(Error::BadSegmentSize(6))),
+    ("DA", 0, 0, Err(Error::BadSegmentSize(0))),
+    ("hgggggggggggH", 0, 0, Err(Error::BadSegmentSize(0))),
+    ("AAAAA", 0, 1, Err(Error::BadNameReference(0))),
+    ("AAAAD", 1, 1, Err(Error::BadNameReference(4294967295))),
+    ("AAAAggggggI", 1, 1, Err(Error::BadNameReference(0))),
+    ("ACAA", 1, 1, Err(Error::BadSourceReference(0))),
+    ("AAA", 0, 1, Err(Error::BadSegmentSize(3))),
+    ("AAAAAA", 1, 1, Err(Error::BadSegmentSize(6))),
+    ("DAAA", 0, 1, Err(Error::BadSegmentSize(0))),
+];
+
+/// These tables, taken from functions: a test that names a table itself is proved much more slowly, and so is a table of
+/// many rows.
+fn read() -> &'static [Reading] {
+    READ
+}
+
+fn bad_numbers() -> &'static [Reading] {
+    BAD_NUMBERS
+}
+
+fn bad_segments() -> &'static [Reading] {
+    BAD_SEGMENTS
+}
+
+fn readings() -> [&'static [Reading]; 3] {
+    [read(), bad_numbers(), bad_segments()]
+}
+
+/// A list of tokens, with chunks or none, and how it is written.
+pub type Writing = (
+    &'static [Row],
+    Option<&'static [[u32; 8]]>,
+    Result<&'static str>,
+);
+
+/// Lists without chunks.
+const LISTS: &[Writing] = &[
     (&[], None, Ok("")),
     (
         &[
@@ -142,6 +176,30 @@ pub const WRITINGS: &[(&[Row], Option<&[[u32; 8]]>, Result<&str>)] = &[
         None,
         Ok("+/////HA+/////H+/////H;AA//////H//////H"),
     ),
+    (
+        &[(1, 0, 0, 0, None, None), (0, 0, 0, 0, None, None)],
+        None,
+        Err(Error::LineOrder(1)),
+    ),
+    (
+        &[
+            (0, 0, 4, 4, Some(0), Some(0)),
+            (0, 3, 5, 5, Some(0), Some(1)),
+        ],
+        None,
+        Ok("AAIIA,GACCC"),
+    ),
+    (
+        &[(0, 524288, 0, 0, None, None), (0, 522753, 0, 0, None, None)],
+        None,
+        Ok("ggggB,//C"),
+    ),
+    (&[(0, 0, 0, 0, Some(5), None)], None, Ok("AKAA")),
+    (&[(0, 0, 3, 4, None, Some(7))], None, Ok("A")),
+];
+
+/// Lists with chunks that fit.
+const CHUNKED: &[Writing] = &[
     (
         &[
             (1, 1, 1, 1, Some(0), Some(0)),
@@ -201,6 +259,10 @@ pub const WRITINGS: &[(&[Row], Option<&[[u32; 8]]>, Result<&str>)] = &[
         Some(&[[0, 1, 0, 0, 0, 0, 0, 0], [1, 1, 0, 0, 0, 0, 0, 0]]),
         Ok("A"),
     ),
+];
+
+/// Lists with chunks that do not fit.
+const MISFITS: &[Writing] = &[
     (
         &[(0, 0, 0, 0, None, None), (0, 1, 0, 0, None, None)],
         Some(&[[0, 1, 0, 0, 0, 0, 0, 0]]),
@@ -220,11 +282,6 @@ pub const WRITINGS: &[(&[Row], Option<&[[u32; 8]]>, Result<&str>)] = &[
         Err(Error::BadChunks(2)),
     ),
     (
-        &[(1, 0, 0, 0, None, None), (0, 0, 0, 0, None, None)],
-        None,
-        Err(Error::LineOrder(1)),
-    ),
-    (
         &[(0, 0, 0, 0, None, None), (0, 1, 0, 0, None, None)],
         Some(&[]),
         Err(Error::BadChunks(0)),
@@ -239,22 +296,25 @@ pub const WRITINGS: &[(&[Row], Option<&[[u32; 8]]>, Result<&str>)] = &[
         Some(&[[0, 2, 0, 0, 0, 0, 0, 0], [1, 2, 0, 0, 0, 0, 0, 0]]),
         Err(Error::BadChunks(1)),
     ),
-    (
-        &[
-            (0, 0, 4, 4, Some(0), Some(0)),
-            (0, 3, 5, 5, Some(0), Some(1)),
-        ],
-        None,
-        Ok("AAIIA,GACCC"),
-    ),
-    (
-        &[(0, 524288, 0, 0, None, None), (0, 522753, 0, 0, None, None)],
-        None,
-        Ok("ggggB,//C"),
-    ),
-    (&[(0, 0, 0, 0, Some(5), None)], None, Ok("AKAA")),
-    (&[(0, 0, 3, 4, None, Some(7))], None, Ok("A")),
 ];
+
+/// These tables, taken from functions: a test that names a table itself is proved much more slowly, and so is a table of
+/// many rows.
+fn lists() -> &'static [Writing] {
+    LISTS
+}
+
+fn chunked() -> &'static [Writing] {
+    CHUNKED
+}
+
+fn misfits() -> &'static [Writing] {
+    MISFITS
+}
+
+pub fn writings() -> [&'static [Writing]; 3] {
+    [lists(), chunked(), misfits()]
+}
 
 fn a_text_reads_as_its_tokens(rt: &impl Abort, alloc: Global, reading: &Reading) -> Result<()> {
     let (text, names, sources, want) = *reading;
@@ -271,8 +331,10 @@ fn a_text_reads_as_its_tokens(rt: &impl Abort, alloc: Global, reading: &Reading)
 
 #[test]
 fn texts_read_as_their_tokens(rt: HostRuntime) -> Result<()> {
-    for reading in READINGS {
-        a_text_reads_as_its_tokens(&rt, rt.alloc(), reading)?;
+    for table in readings() {
+        for reading in table {
+            a_text_reads_as_its_tokens(&rt, rt.alloc(), reading)?;
+        }
     }
     Ok(())
 }
@@ -306,19 +368,26 @@ fn a_chunk_that_does_not_fit_is_told(
     same(rt, "chunk", chunk_fault(tokens, chunks), told);
 }
 
+/// Asserts how the tokens of a row are written.
+fn a_row_is_written(rt: &impl Abort, alloc: Global, writing: &Writing) -> Result<()> {
+    let (rows, chunk_rows, want) = *writing;
+    let tokens = tokens_of(alloc, rows)?;
+    let tokens = tokens.as_slice();
+    match &chunks_of(alloc, &chunk_rows)? {
+        Some(chunks) => {
+            a_chunk_that_does_not_fit_is_told(rt, tokens, chunks.as_slice(), want);
+            a_list_is_written_as_its_text(rt, alloc, tokens, Some(chunks.as_slice()), want)
+        }
+        None => a_list_is_written_as_its_text(rt, alloc, tokens, None, want),
+    }
+}
+
 #[test]
 fn lists_are_written_as_their_text(rt: HostRuntime) -> Result<()> {
-    for (rows, chunks, want) in WRITINGS {
-        let tokens = tokens_of(rt.alloc(), rows)?;
-        let chunks = chunks_of(rt.alloc(), chunks)?;
-        let lent = match &chunks {
-            Some(chunks) => {
-                a_chunk_that_does_not_fit_is_told(&rt, tokens.as_slice(), chunks.as_slice(), *want);
-                Some(chunks.as_slice())
-            }
-            None => None,
-        };
-        a_list_is_written_as_its_text(&rt, rt.alloc(), tokens.as_slice(), lent, *want)?;
+    for table in writings() {
+        for writing in table {
+            a_row_is_written(&rt, rt.alloc(), writing)?;
+        }
     }
     Ok(())
 }

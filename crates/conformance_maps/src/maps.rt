@@ -1,6 +1,6 @@
 //! Maps, written as JSON source maps and read back.
 use crate::helpers::{is_written_as, same};
-use crate::mappings::WRITINGS;
+use crate::mappings::{Writing, writings};
 use conformance::rows::{Row, chunks_of, map_of, tokens_of};
 use oxc_sourcemap::{Error, JSONSourceMap, JsonFault, Result, SourceMap, SourceMapParts, encode};
 use std::alloc::Global;
@@ -20,11 +20,19 @@ fn map_with_chunks(
     Ok(SourceMap::from(parts))
 }
 
+/// Asserts how the map of a row is written.
+fn a_map_is_written(rt: &impl Abort, alloc: Global, writing: &Writing) -> Result<()> {
+    let (rows, chunks, want) = *writing;
+    is_written_as(rt, alloc, &map_with_chunks(alloc, rows, &chunks)?, want);
+    Ok(())
+}
+
 #[test]
 fn maps_are_written_as_their_text(rt: HostRuntime) -> Result<()> {
-    for (rows, chunks, want) in WRITINGS {
-        let map = map_with_chunks(rt.alloc(), rows, chunks)?;
-        is_written_as(&rt, rt.alloc(), &map, *want);
+    for table in writings() {
+        for writing in table {
+            a_map_is_written(&rt, rt.alloc(), writing)?;
+        }
     }
     Ok(())
 }

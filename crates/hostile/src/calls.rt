@@ -1,6 +1,6 @@
 //! Each public call on hostile maps.
 use crate::helpers::{has_text, is_text, same};
-use crate::maps::{FIRST, HOSTILE, Hostile, INPUT, hostile_map, map_of_parts};
+use crate::maps::{FIRST, Hostile, INPUT, hostile_map, hostile_maps, map_of_parts};
 use conformance::rows::{chunks_of, map_of, tokens_of};
 use oxc_sourcemap::{
     ConcatSourceMapBuilder, Error, OwnedSourceMap, Result, SourceMap, SourceMapParts,
@@ -87,7 +87,7 @@ fn copied(alloc: Global, map: &SourceMap<'_>) -> Result<SourceMapParts<'static>>
     Ok(map.clone(alloc)?.into_owned(alloc)?.into_parts())
 }
 
-/// What is lent a map. (Each test that makes the maps of the table is proved slowly, so there is one for all of these.)
+/// What is lent a map.
 fn each_call_answers(
     rt: &impl Abort,
     alloc: Global,
@@ -101,11 +101,18 @@ fn each_call_answers(
     has_its_tokens_and_chunks(rt, alloc, &copied(alloc, map)?, hostile)
 }
 
+fn each_call_on_these_answers(rt: &impl Abort, alloc: Global, rows: &[Hostile]) -> Result<()> {
+    for hostile in rows {
+        let map = hostile_map(alloc, hostile)?;
+        each_call_answers(rt, alloc, &map, hostile)?;
+    }
+    Ok(())
+}
+
 #[test]
 fn each_call_on_a_map_answers(rt: HostRuntime) -> Result<()> {
-    for hostile in HOSTILE {
-        let map = hostile_map(rt.alloc(), hostile)?;
-        each_call_answers(&rt, rt.alloc(), &map, hostile)?;
+    for rows in hostile_maps() {
+        each_call_on_these_answers(&rt, rt.alloc(), rows)?;
     }
     Ok(())
 }
@@ -118,33 +125,58 @@ fn joined(alloc: Global, map: &SourceMap<'_>, below: &SourceMap<'_>) -> Result<S
     builder.into_sourcemap()?.to_json_string(alloc)
 }
 
+fn these_are_joined(
+    rt: &impl Abort,
+    alloc: Global,
+    below: &SourceMap<'_>,
+    rows: &[Hostile],
+) -> Result<()> {
+    for hostile in rows {
+        let map = hostile_map(alloc, hostile)?;
+        is_text(rt, "joined", &joined(alloc, &map, below), hostile.joined);
+    }
+    Ok(())
+}
+
 #[test]
 fn maps_are_joined(rt: HostRuntime) -> Result<()> {
     let below = map_of_parts(rt.alloc(), INPUT)?;
-    for hostile in HOSTILE {
-        let map = hostile_map(rt.alloc(), hostile)?;
-        let text = joined(rt.alloc(), &map, &below);
-        is_text(&rt, "joined", &text, hostile.joined);
+    for rows in hostile_maps() {
+        these_are_joined(&rt, rt.alloc(), &below, rows)?;
     }
     Ok(())
+}
+
+/// A map, composed with another one.
+fn composed_with_input(alloc: Global, hostile: &Hostile) -> Result<SourceMap<'static>> {
+    let input = map_of_parts(alloc, INPUT)?;
+    hostile_map(alloc, hostile)?.compose(alloc, input)
 }
 
 #[test]
 fn maps_are_composed_with_another(rt: HostRuntime) -> Result<()> {
-    for hostile in HOSTILE {
-        let input = map_of_parts(rt.alloc(), INPUT)?;
-        let made = hostile_map(rt.alloc(), hostile)?.compose(rt.alloc(), input);
-        has_text(&rt, rt.alloc(), "first", &made, hostile.first);
+    for rows in hostile_maps() {
+        for hostile in rows {
+            let made = composed_with_input(rt.alloc(), hostile);
+            has_text(&rt, rt.alloc(), "first", &made, hostile.first);
+        }
     }
     Ok(())
 }
 
+/// Another map, composed with this one.
+fn composed_from_first(alloc: Global, hostile: &Hostile) -> Result<SourceMap<'static>> {
+    let input = hostile_map(alloc, hostile)?;
+    map_of_parts(alloc, FIRST)?.compose(alloc, input)
+}
+
 #[test]
 fn another_map_is_composed_with_maps(rt: HostRuntime) -> Result<()> {
-    for hostile in HOSTILE {
-        let map = map_of_parts(rt.alloc(), FIRST)?;
-        let made = map.compose(rt.alloc(), hostile_map(rt.alloc(), hostile)?);
-        has_text(&rt, rt.alloc(), "second", &made, hostile.second);
+    for rows in hostile_maps() {
+        for hostile in rows {
+            let made = composed_from_first(rt.alloc(), hostile);
+            has_text(&rt, rt.alloc(), "second", &made, hostile.second);
+        }
     }
     Ok(())
 }

@@ -54,7 +54,7 @@ pub fn map_of_parts(alloc: Global, parts: Parts) -> Result<SourceMap<'static>> {
     map_of(alloc, parts.0, parts.1, &[], parts.2)
 }
 
-/// The map of a row of the table below.
+/// The map of a row of the tables below.
 pub fn hostile_map(alloc: Global, hostile: &Hostile) -> Result<SourceMap<'static>> {
     let map = map_of(
         alloc,
@@ -71,7 +71,8 @@ pub fn hostile_map(alloc: Global, hostile: &Hostile) -> Result<SourceMap<'static
     Ok(SourceMap::from_parts(parts))
 }
 
-pub const HOSTILE: &[Hostile] = &[
+/// Lines and columns that go back or are the greatest.
+const ORDERS: &[Hostile] = &[
     // Lines that go back.
     Hostile {
         names: &[],
@@ -110,6 +111,59 @@ pub const HOSTILE: &[Hostile] = &[
         second: Ok(r#"{"version":3,"names":[],"sources":[],"mappings":"A,S"}"#),
         shown: "[no source contents]\n",
     },
+    // The greatest columns and source line.
+    Hostile {
+        names: &[],
+        sources: &["a.js"],
+        contents: &[],
+        rows: &[(0, 4294967295, 4294967295, 4294967295, Some(0), None)],
+        chunks: None,
+        ignored: None,
+        is_sorted: true,
+        is_sound: true,
+        text: Ok(
+            r#"{"version":3,"names":[],"sources":["a.js"],"mappings":"+/////HA+/////H+/////H"}"#,
+        ),
+        reading: None,
+        lines: Ok(1),
+        origin: (Some("a.js"), 4294967295, 4294967295, None),
+        joined: Ok(
+            r#"{"version":3,"names":["n"],"sources":["a.js","in.js"],"mappings":"+/////HA+/////H+/////H;ACx/////Hx/////H"}"#,
+        ),
+        first: Ok(r#"{"version":3,"names":["n"],"sources":["in.js"],"mappings":"+/////H"}"#),
+        second: Ok(
+            r#"{"version":3,"names":["p"],"sources":["a.js"],"mappings":"AA+/////H+/////HA,S"}"#,
+        ),
+        shown: "[no source contents]\n",
+    },
+    // The greatest column, joined to a column.
+    Hostile {
+        names: &[],
+        sources: &[],
+        contents: &[],
+        rows: &[
+            (0, 4294967294, 0, 0, None, None),
+            (0, 4294967295, 0, 0, None, None),
+        ],
+        chunks: None,
+        ignored: None,
+        is_sorted: true,
+        is_sound: true,
+        text: Ok(r#"{"version":3,"names":[],"sources":[],"mappings":"8/////H,C"}"#),
+        reading: None,
+        lines: Ok(1),
+        origin: (None, 0, 0, None),
+        joined: Ok(
+            r#"{"version":3,"names":["n"],"sources":["in.js"],"mappings":"8/////H,C;AAOO"}"#,
+        ),
+        first: Ok(r#"{"version":3,"names":["n"],"sources":["in.js"],"mappings":"8/////H,C"}"#),
+        second: Ok(r#"{"version":3,"names":[],"sources":[],"mappings":"A,S"}"#),
+        shown: "[no source contents]\n",
+    },
+];
+
+/// Ids that are out of range, without a source, or the greatest.
+const IDS: &[Hostile] = &[
     // A source id that is out of range.
     Hostile {
         names: &[],
@@ -200,6 +254,10 @@ pub const HOSTILE: &[Hostile] = &[
         ),
         shown: "[no source contents]\n",
     },
+];
+
+/// Chunks that do not fit.
+const CHUNKS: &[Hostile] = &[
     // A chunk that ends past the tokens.
     Hostile {
         names: &[],
@@ -280,6 +338,10 @@ pub const HOSTILE: &[Hostile] = &[
         second: Ok(r#"{"version":3,"names":["p"],"sources":["a.js"],"mappings":"AAAAA,S"}"#),
         shown: "[no source contents]\n",
     },
+];
+
+/// Contents and ignored sources that do not fit the sources.
+const LISTS: &[Hostile] = &[
     // More contents than sources.
     Hostile {
         names: &[],
@@ -355,53 +417,26 @@ pub const HOSTILE: &[Hostile] = &[
         ),
         shown: "[no source contents]\n",
     },
-    // The greatest columns and source line.
-    Hostile {
-        names: &[],
-        sources: &["a.js"],
-        contents: &[],
-        rows: &[(0, 4294967295, 4294967295, 4294967295, Some(0), None)],
-        chunks: None,
-        ignored: None,
-        is_sorted: true,
-        is_sound: true,
-        text: Ok(
-            r#"{"version":3,"names":[],"sources":["a.js"],"mappings":"+/////HA+/////H+/////H"}"#,
-        ),
-        reading: None,
-        lines: Ok(1),
-        origin: (Some("a.js"), 4294967295, 4294967295, None),
-        joined: Ok(
-            r#"{"version":3,"names":["n"],"sources":["a.js","in.js"],"mappings":"+/////HA+/////H+/////H;ACx/////Hx/////H"}"#,
-        ),
-        first: Ok(r#"{"version":3,"names":["n"],"sources":["in.js"],"mappings":"+/////H"}"#),
-        second: Ok(
-            r#"{"version":3,"names":["p"],"sources":["a.js"],"mappings":"AA+/////H+/////HA,S"}"#,
-        ),
-        shown: "[no source contents]\n",
-    },
-    // The greatest column, joined to a column.
-    Hostile {
-        names: &[],
-        sources: &[],
-        contents: &[],
-        rows: &[
-            (0, 4294967294, 0, 0, None, None),
-            (0, 4294967295, 0, 0, None, None),
-        ],
-        chunks: None,
-        ignored: None,
-        is_sorted: true,
-        is_sound: true,
-        text: Ok(r#"{"version":3,"names":[],"sources":[],"mappings":"8/////H,C"}"#),
-        reading: None,
-        lines: Ok(1),
-        origin: (None, 0, 0, None),
-        joined: Ok(
-            r#"{"version":3,"names":["n"],"sources":["in.js"],"mappings":"8/////H,C;AAOO"}"#,
-        ),
-        first: Ok(r#"{"version":3,"names":["n"],"sources":["in.js"],"mappings":"8/////H,C"}"#),
-        second: Ok(r#"{"version":3,"names":[],"sources":[],"mappings":"A,S"}"#),
-        shown: "[no source contents]\n",
-    },
 ];
+
+/// These tables, taken from functions: a test that names a table itself is proved much more slowly, and so is a table of
+/// many rows.
+fn orders() -> &'static [Hostile] {
+    ORDERS
+}
+
+fn ids() -> &'static [Hostile] {
+    IDS
+}
+
+fn chunks() -> &'static [Hostile] {
+    CHUNKS
+}
+
+fn lists() -> &'static [Hostile] {
+    LISTS
+}
+
+pub fn hostile_maps() -> [&'static [Hostile]; 4] {
+    [orders(), ids(), chunks(), lists()]
+}

@@ -80,7 +80,10 @@ pub(crate) enum Call {
 
 /// What a call does with memory, its name, and the call: it takes some or none, or it tells a fault, also where all memory is
 /// refused.
-pub(crate) const CALLS: &[(&str, &str, Call)] = &[
+pub(crate) type Named = (&'static str, &'static str, Call);
+
+/// Calls that read a `mappings` text and write texts.
+const WRITING: &[Named] = &[
     ("takes", "decode_mappings", Call::ReadMappings),
     ("takes", "encode_mappings", Call::Append(Append::Mappings)),
     (
@@ -129,6 +132,10 @@ pub(crate) const CALLS: &[(&str, &str, Call)] = &[
         "SourcemapVisualizer::get_text",
         Call::Text(Text::GetText),
     ),
+];
+
+/// Calls that make and read JSON source maps and maps.
+const READING: &[Named] = &[
     (
         "takes",
         "JSONSourceMap::from_value",
@@ -171,6 +178,10 @@ pub(crate) const CALLS: &[(&str, &str, Call)] = &[
     ("takes", "decode", Call::ReadJson(true)),
     ("takes", "SourceMap::from_json", Call::ReadJson(false)),
     ("takes", "SourceMap::into_owned", Call::OwnTexts),
+];
+
+/// Calls that compose, copy and evaluate maps.
+const MAPS: &[Named] = &[
     ("takes", "SourceMap::into_owned_sourcemap", Call::Own),
     ("takes", "SourceMap::compose", Call::Compose),
     ("takes", "OwnedSourceMap::compose", Call::ComposeOwned),
@@ -182,6 +193,10 @@ pub(crate) const CALLS: &[(&str, &str, Call)] = &[
     ("takes", "OwnedSourceMap::from_json", Call::ReadOwnedJson),
     ("takes", "OwnedSourceMap::clone", Call::CloneOwned),
     ("takes", "evaluate", Call::Evaluate),
+];
+
+/// Setters, and calls that make a table.
+const FIELDS: &[Named] = &[
     ("takes", "SourceMap::set_file", Call::SetField(Setter::File)),
     (
         "takes",
@@ -228,6 +243,10 @@ pub(crate) const CALLS: &[(&str, &str, Call)] = &[
         "OwnedSourceMap::generate_lookup_table",
         Call::MakeTable(true),
     ),
+];
+
+/// Calls of `SourceMapBuilder`.
+const BUILDERS: &[Named] = &[
     (
         "takes",
         "SourceMapBuilder::add_name",
@@ -273,6 +292,10 @@ pub(crate) const CALLS: &[(&str, &str, Call)] = &[
         "SourceMapBuilder::into_owned_sourcemap",
         Call::FinishBuilderOwned,
     ),
+];
+
+/// Calls of `ConcatSourceMapBuilder`.
+const JOINS: &[Named] = &[
     (
         "takes",
         "ConcatSourceMapBuilder::add_sourcemap",
@@ -313,6 +336,10 @@ pub(crate) const CALLS: &[(&str, &str, Call)] = &[
         "ConcatSourceMapBuilder::into_owned_sourcemap",
         Call::FinishJoinOwned,
     ),
+];
+
+/// Calls of the library of the program.
+const COMMANDS: &[Named] = &[
     ("takes", "inputs_of", Call::SplitInput),
     ("takes", "read_plan", Call::ReadPlan),
     ("takes", "trace", Call::TracePosition),
@@ -321,6 +348,10 @@ pub(crate) const CALLS: &[(&str, &str, Call)] = &[
     ("takes", "run url", Call::Run(Order::Url)),
     ("takes", "run trace", Call::Run(Order::Trace)),
     ("takes", "run plan", Call::Run(Order::Plan)),
+];
+
+/// Calls that take no memory.
+const TAKE_NONE: &[Named] = &[
     ("none", "getters of SourceMap", Call::GetFields),
     ("none", "getters of OwnedSourceMap", Call::GetOwnedFields),
     ("none", "iterators, is_sorted, is_sound", Call::Walk),
@@ -343,6 +374,10 @@ pub(crate) const CALLS: &[(&str, &str, Call)] = &[
     ("none", "empty", Call::MakeEmpty),
     ("none", "chunk_fault, Port, status", Call::MakeValues),
     ("none", "read_words", Call::ReadArguments),
+];
+
+/// Calls that tell a fault, also where all memory is refused.
+const TELL: &[Named] = &[
     (
         "tells",
         "LineOrder and BadChunks of writing",
@@ -371,6 +406,59 @@ pub(crate) const CALLS: &[(&str, &str, Call)] = &[
     ("tells", "LineOrder of compose", Call::ComposeFaulty(false)),
     ("tells", "TooLarge of add_sourcemap", Call::JoinFaulty),
 ];
+
+/// These tables, taken from functions: a table that its user names itself is proved much more slowly, and so is a table of many
+/// rows.
+fn writing() -> &'static [Named] {
+    WRITING
+}
+
+fn reading() -> &'static [Named] {
+    READING
+}
+
+fn maps() -> &'static [Named] {
+    MAPS
+}
+
+fn fields() -> &'static [Named] {
+    FIELDS
+}
+
+fn builders() -> &'static [Named] {
+    BUILDERS
+}
+
+fn joins() -> &'static [Named] {
+    JOINS
+}
+
+fn commands() -> &'static [Named] {
+    COMMANDS
+}
+
+fn take_none() -> &'static [Named] {
+    TAKE_NONE
+}
+
+fn tell() -> &'static [Named] {
+    TELL
+}
+
+/// All calls, in order.
+pub(crate) fn all_calls() -> [&'static [Named]; 9] {
+    [
+        writing(),
+        reading(),
+        maps(),
+        fields(),
+        builders(),
+        joins(),
+        commands(),
+        take_none(),
+        tell(),
+    ]
+}
 
 /// Makes a call of the library.
 fn made(rt: &HostRuntime, call: Call) -> Result<Ended, Error> {

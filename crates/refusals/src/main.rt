@@ -16,7 +16,7 @@ mod faults;
 mod joins;
 mod takes_none;
 
-use crate::calls::{CALLS, Call, ended};
+use crate::calls::{Call, Named, all_calls, ended};
 use refusals_maps::marks::Ended;
 use std::process::ExitCode;
 use std::{env, io};
@@ -33,14 +33,23 @@ fn make(rt: &HostRuntime, does: &str, name: &str, call: Call) -> Ended {
     ended
 }
 
-/// Makes the calls of this name, or all. Ends as the last one that did not pass.
-fn make_all(rt: &HostRuntime, only: Option<&str>) -> Ended {
-    let mut all = Ended::Passed;
-    for (does, name, call) in CALLS {
+/// Makes the calls of this name, or all, of a table. Ends as the last one that did not pass, or as those before.
+fn make_each(rt: &HostRuntime, only: Option<&str>, calls: &[Named], before: Ended) -> Ended {
+    let mut all = before;
+    for (does, name, call) in calls {
         if only.unwrap_or(name) == *name {
             let ended = make(rt, does, name, *call);
             all = if ended == Ended::Passed { all } else { ended };
         }
+    }
+    all
+}
+
+/// Makes the calls of this name, or all.
+fn make_all(rt: &HostRuntime, only: Option<&str>) -> Ended {
+    let mut all = Ended::Passed;
+    for calls in all_calls() {
+        all = make_each(rt, only, calls, all);
     }
     all
 }

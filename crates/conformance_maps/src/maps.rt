@@ -27,12 +27,17 @@ fn a_map_is_written(rt: &impl Abort, alloc: Global, writing: &Writing) -> Result
     Ok(())
 }
 
+fn these_are_written(rt: &impl Abort, alloc: Global, rows: &[Writing]) -> Result<()> {
+    for writing in rows {
+        a_map_is_written(rt, alloc, writing)?;
+    }
+    Ok(())
+}
+
 #[test]
 fn maps_are_written_as_their_text(rt: HostRuntime) -> Result<()> {
-    for table in writings() {
-        for writing in table {
-            a_map_is_written(&rt, rt.alloc(), writing)?;
-        }
+    for rows in writings() {
+        these_are_written(&rt, rt.alloc(), rows)?;
     }
     Ok(())
 }

@@ -153,15 +153,18 @@ fn composed_with_input(alloc: Global, hostile: &Hostile) -> Result<SourceMap<'st
     hostile_map(alloc, hostile)?.compose(alloc, input)
 }
 
-#[test]
-fn maps_are_composed_with_another(rt: HostRuntime) -> Result<()> {
-    for rows in hostile_maps() {
-        for hostile in rows {
-            let made = composed_with_input(rt.alloc(), hostile);
-            has_text(&rt, rt.alloc(), "first", &made, hostile.first);
-        }
+fn these_are_composed_with_another(rt: &impl Abort, alloc: Global, rows: &[Hostile]) {
+    for hostile in rows {
+        let made = composed_with_input(alloc, hostile);
+        has_text(rt, alloc, "first", &made, hostile.first);
     }
-    Ok(())
+}
+
+#[test]
+fn maps_are_composed_with_another(rt: HostRuntime) {
+    for rows in hostile_maps() {
+        these_are_composed_with_another(&rt, rt.alloc(), rows);
+    }
 }
 
 /// Another map, composed with this one.
@@ -170,15 +173,18 @@ fn composed_from_first(alloc: Global, hostile: &Hostile) -> Result<SourceMap<'st
     map_of_parts(alloc, FIRST)?.compose(alloc, input)
 }
 
-#[test]
-fn another_map_is_composed_with_maps(rt: HostRuntime) -> Result<()> {
-    for rows in hostile_maps() {
-        for hostile in rows {
-            let made = composed_from_first(rt.alloc(), hostile);
-            has_text(&rt, rt.alloc(), "second", &made, hostile.second);
-        }
+fn another_is_composed_with_these(rt: &impl Abort, alloc: Global, rows: &[Hostile]) {
+    for hostile in rows {
+        let made = composed_from_first(alloc, hostile);
+        has_text(rt, alloc, "second", &made, hostile.second);
     }
-    Ok(())
+}
+
+#[test]
+fn another_map_is_composed_with_maps(rt: HostRuntime) {
+    for rows in hostile_maps() {
+        another_is_composed_with_these(&rt, rt.alloc(), rows);
+    }
 }
 
 /// The slice of a table is the line, whatever line its tokens name.

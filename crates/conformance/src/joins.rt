@@ -25,13 +25,126 @@ type Join = (
     &'static str,
 );
 
-const JOINS: &[Join] = &[
+/// Names, sources and contents.
+const TEXTS: &[Join] = &[
     (
         &[],
         &[],
         &[],
         r#"{"version":3,"names":[],"sources":[],"mappings":""}"#,
     ),
+    (
+        &[
+            Part {
+                names: &[],
+                sources: &["a.js"],
+                contents: &[],
+                rows: &[],
+                line_offset: 0,
+            },
+            Part {
+                names: &[],
+                sources: &["b.js"],
+                contents: &[Some("B")],
+                rows: &[],
+                line_offset: 1,
+            },
+        ],
+        &[],
+        &[[0, 0, 0, 0, 0, 0, 0, 0], [0, 0, 0, 0, 0, 0, 0, 0]],
+        r#"{"version":3,"names":[],"sources":["a.js","b.js"],"sourcesContent":[null,"B"],"mappings":""}"#,
+    ),
+    (
+        &[
+            Part {
+                names: &[],
+                sources: &["a.js"],
+                contents: &[Some("A"), Some("EXTRA")],
+                rows: &[],
+                line_offset: 0,
+            },
+            Part {
+                names: &[],
+                sources: &["b.js"],
+                contents: &[Some("B")],
+                rows: &[],
+                line_offset: 1,
+            },
+        ],
+        &[],
+        &[[0, 0, 0, 0, 0, 0, 0, 0], [0, 0, 0, 0, 0, 0, 0, 0]],
+        r#"{"version":3,"names":[],"sources":["a.js","b.js"],"sourcesContent":["A","B"],"mappings":""}"#,
+    ),
+    (
+        &[
+            Part {
+                names: &["name_a"],
+                sources: &["a.js"],
+                contents: &[Some("a content")],
+                rows: &[(0, 0, 0, 0, Some(0), Some(0))],
+                line_offset: 0,
+            },
+            Part {
+                names: &["name_b"],
+                sources: &["b.js"],
+                contents: &[Some("b content")],
+                rows: &[(0, 0, 0, 0, Some(0), Some(0))],
+                line_offset: 5,
+            },
+        ],
+        &[
+            (0, 0, 0, 0, Some(0), Some(0)),
+            (5, 0, 0, 0, Some(1), Some(1)),
+        ],
+        &[[0, 1, 0, 0, 0, 0, 0, 0], [1, 2, 0, 0, 0, 0, 0, 0]],
+        r#"{"version":3,"names":["name_a","name_b"],"sources":["a.js","b.js"],"sourcesContent":["a content","b content"],"mappings":"AAAAA;;;;;ACAAC"}"#,
+    ),
+    (
+        &[
+            Part {
+                names: &[],
+                sources: &["a.js"],
+                contents: &[Some("a content")],
+                rows: &[],
+                line_offset: 0,
+            },
+            Part {
+                names: &[],
+                sources: &["b.js"],
+                contents: &[Some("b content")],
+                rows: &[(0, 0, 0, 0, Some(0), None)],
+                line_offset: 0,
+            },
+        ],
+        &[(0, 0, 0, 0, Some(1), None)],
+        &[[0, 0, 0, 0, 0, 0, 0, 0], [0, 1, 0, 0, 0, 0, 0, 0]],
+        r#"{"version":3,"names":[],"sources":["a.js","b.js"],"sourcesContent":["a content","b content"],"mappings":"ACAA"}"#,
+    ),
+    (
+        &[
+            Part {
+                names: &[],
+                sources: &["a.js"],
+                contents: &[],
+                rows: &[(0, 0, 0, 0, Some(0), None)],
+                line_offset: 0,
+            },
+            Part {
+                names: &[],
+                sources: &["b.js"],
+                contents: &[Some("b content")],
+                rows: &[(0, 0, 0, 0, Some(0), None)],
+                line_offset: 1,
+            },
+        ],
+        &[(0, 0, 0, 0, Some(0), None), (1, 0, 0, 0, Some(1), None)],
+        &[[0, 1, 0, 0, 0, 0, 0, 0], [1, 2, 0, 0, 0, 0, 0, 0]],
+        r#"{"version":3,"names":[],"sources":["a.js","b.js"],"sourcesContent":[null,"b content"],"mappings":"AAAA;ACAA"}"#,
+    ),
+];
+
+/// Tokens at their lines, with and without sources.
+const LINES: &[Join] = &[
     (
         &[
             Part {
@@ -118,48 +231,10 @@ const JOINS: &[Join] = &[
         &[[0, 2, 0, 0, 0, 0, 0, 0], [2, 3, 2, 3, 0, 0, 0, 0]],
         r#"{"version":3,"names":[],"sources":[],"mappings":"A;;G;S"}"#,
     ),
-    (
-        &[
-            Part {
-                names: &[],
-                sources: &["a.js"],
-                contents: &[],
-                rows: &[],
-                line_offset: 0,
-            },
-            Part {
-                names: &[],
-                sources: &["b.js"],
-                contents: &[Some("B")],
-                rows: &[],
-                line_offset: 1,
-            },
-        ],
-        &[],
-        &[[0, 0, 0, 0, 0, 0, 0, 0], [0, 0, 0, 0, 0, 0, 0, 0]],
-        r#"{"version":3,"names":[],"sources":["a.js","b.js"],"sourcesContent":[null,"B"],"mappings":""}"#,
-    ),
-    (
-        &[
-            Part {
-                names: &[],
-                sources: &["a.js"],
-                contents: &[Some("A"), Some("EXTRA")],
-                rows: &[],
-                line_offset: 0,
-            },
-            Part {
-                names: &[],
-                sources: &["b.js"],
-                contents: &[Some("B")],
-                rows: &[],
-                line_offset: 1,
-            },
-        ],
-        &[],
-        &[[0, 0, 0, 0, 0, 0, 0, 0], [0, 0, 0, 0, 0, 0, 0, 0]],
-        r#"{"version":3,"names":[],"sources":["a.js","b.js"],"sourcesContent":["A","B"],"mappings":""}"#,
-    ),
+];
+
+/// Where one map ends and the next one begins.
+const SEAMS: &[Join] = &[
     (
         &[
             Part {
@@ -241,72 +316,6 @@ const JOINS: &[Join] = &[
     (
         &[
             Part {
-                names: &["name_a"],
-                sources: &["a.js"],
-                contents: &[Some("a content")],
-                rows: &[(0, 0, 0, 0, Some(0), Some(0))],
-                line_offset: 0,
-            },
-            Part {
-                names: &["name_b"],
-                sources: &["b.js"],
-                contents: &[Some("b content")],
-                rows: &[(0, 0, 0, 0, Some(0), Some(0))],
-                line_offset: 5,
-            },
-        ],
-        &[
-            (0, 0, 0, 0, Some(0), Some(0)),
-            (5, 0, 0, 0, Some(1), Some(1)),
-        ],
-        &[[0, 1, 0, 0, 0, 0, 0, 0], [1, 2, 0, 0, 0, 0, 0, 0]],
-        r#"{"version":3,"names":["name_a","name_b"],"sources":["a.js","b.js"],"sourcesContent":["a content","b content"],"mappings":"AAAAA;;;;;ACAAC"}"#,
-    ),
-    (
-        &[
-            Part {
-                names: &[],
-                sources: &["a.js"],
-                contents: &[Some("a content")],
-                rows: &[],
-                line_offset: 0,
-            },
-            Part {
-                names: &[],
-                sources: &["b.js"],
-                contents: &[Some("b content")],
-                rows: &[(0, 0, 0, 0, Some(0), None)],
-                line_offset: 0,
-            },
-        ],
-        &[(0, 0, 0, 0, Some(1), None)],
-        &[[0, 0, 0, 0, 0, 0, 0, 0], [0, 1, 0, 0, 0, 0, 0, 0]],
-        r#"{"version":3,"names":[],"sources":["a.js","b.js"],"sourcesContent":["a content","b content"],"mappings":"ACAA"}"#,
-    ),
-    (
-        &[
-            Part {
-                names: &[],
-                sources: &["a.js"],
-                contents: &[],
-                rows: &[(0, 0, 0, 0, Some(0), None)],
-                line_offset: 0,
-            },
-            Part {
-                names: &[],
-                sources: &["b.js"],
-                contents: &[Some("b content")],
-                rows: &[(0, 0, 0, 0, Some(0), None)],
-                line_offset: 1,
-            },
-        ],
-        &[(0, 0, 0, 0, Some(0), None), (1, 0, 0, 0, Some(1), None)],
-        &[[0, 1, 0, 0, 0, 0, 0, 0], [1, 2, 0, 0, 0, 0, 0, 0]],
-        r#"{"version":3,"names":[],"sources":["a.js","b.js"],"sourcesContent":[null,"b content"],"mappings":"AAAA;ACAA"}"#,
-    ),
-    (
-        &[
-            Part {
                 names: &["name1"],
                 sources: &["file1.js"],
                 contents: &[],
@@ -338,9 +347,22 @@ const JOINS: &[Join] = &[
     ),
 ];
 
-/// That table, taken from a function: a test that names it itself is proved much more slowly.
-fn joins() -> &'static [Join] {
-    JOINS
+/// These tables, taken from functions: a test that names a table itself is proved much more slowly, and so is a table of
+/// many rows.
+fn texts() -> &'static [Join] {
+    TEXTS
+}
+
+fn lines() -> &'static [Join] {
+    LINES
+}
+
+fn seams() -> &'static [Join] {
+    SEAMS
+}
+
+fn joins() -> [&'static [Join]; 3] {
+    [texts(), lines(), seams()]
 }
 
 /// Maps, each with its offset.
@@ -468,13 +490,30 @@ fn maps_are_joined_one_by_one(
     Ok(())
 }
 
+/// The JSON text of the join of these maps, which are borrowed.
+fn lent_text_of(alloc: Global, parts: &[Part]) -> Result<String> {
+    lent_text(alloc, maps_of(alloc, parts)?.as_slice())
+}
+
+fn it_is_joined(rt: &impl Abort, alloc: Global, join: &Join) -> Result<()> {
+    moved_maps_are_joined(rt, alloc, join)?;
+    maps_are_joined_one_by_one(rt, alloc, join.0, join.3)?;
+    let lent = lent_text_of(alloc, join.0)?;
+    same(rt, "lent", lent.as_str(), join.3);
+    Ok(())
+}
+
+fn these_are_joined(rt: &impl Abort, alloc: Global, rows: &[Join]) -> Result<()> {
+    for join in rows {
+        it_is_joined(rt, alloc, join)?;
+    }
+    Ok(())
+}
+
 #[test]
 fn maps_are_joined(rt: HostRuntime) -> Result<()> {
-    for join in joins() {
-        moved_maps_are_joined(&rt, rt.alloc(), join)?;
-        maps_are_joined_one_by_one(&rt, rt.alloc(), join.0, join.3)?;
-        let lent = lent_text(rt.alloc(), maps_of(rt.alloc(), join.0)?.as_slice())?;
-        same(&rt, "lent", lent.as_str(), join.3);
+    for rows in joins() {
+        these_are_joined(&rt, rt.alloc(), rows)?;
     }
     Ok(())
 }
@@ -598,7 +637,7 @@ const TOO_LARGE: &[(&[Part], &str)] = &[
 fn lists_are_too_large(rt: &impl Abort, alloc: Global, parts: &[Part]) -> Result<()> {
     let refused = moved(alloc, maps_of(alloc, parts)?).err();
     same(rt, "moved", refused, Some(Error::TooLarge));
-    let refused = lent_text(alloc, maps_of(alloc, parts)?.as_slice()).err();
+    let refused = lent_text_of(alloc, parts).err();
     same(rt, "lent", refused, Some(Error::TooLarge));
     Ok(())
 }

@@ -21,7 +21,14 @@ const SIDE_BY_SIDE: &str =
 const UNSORTED: &str = r#"{"version":3,"sources":[],"mappings":"G,D"}"#;
 
 /// The words of a plan, its input, and the JSON text or the refusal that are answered.
-const PLANS: &[(&[&str], &str, Result<&str, RunError>)] = &[
+type PlanRow = (
+    &'static [&'static str],
+    &'static str,
+    Result<&'static str, RunError>,
+);
+
+/// Plans of a map.
+const MADE: &[PlanRow] = &[
     (
         &["compose", "@0", "@1"],
         "{\"version\":3,\"names\":[\"x\"],\"sources\":[\"m.js\"],\"mappings\":\"AAAAA,GAASA\"}\n---\n{\"version\":3,\"names\":[\"y\"],\"sources\":[\"o.ts\"],\"mappings\":\"AAIIA,QACC\"}",
@@ -53,6 +60,15 @@ const PLANS: &[(&[&str], &str, Result<&str, RunError>)] = &[
         ),
     ),
     (
+        &["join", "0"],
+        "",
+        Ok(r#"{"version":3,"names":[],"sources":[],"mappings":""}"#),
+    ),
+];
+
+/// Plans that are refused, for their maps.
+const REFUSED: &[PlanRow] = &[
+    (
         &["joinat", "2", "@0", "0", "0", "@1", "0", "3"],
         SIDE_BY_SIDE,
         Err(RunError::Plan(PlanError::Unsorted)),
@@ -61,16 +77,6 @@ const PLANS: &[(&[&str], &str, Result<&str, RunError>)] = &[
         &["joinat", "1", "@0", "0", "4294967295"],
         r#"{"version":3,"sources":[],"mappings":"C"}"#,
         Err(RunError::Plan(PlanError::Map(Error::TooLarge))),
-    ),
-    (
-        &["joinat", "1", "@0", "0"],
-        SIDE_BY_SIDE,
-        Err(RunError::Arguments),
-    ),
-    (
-        &["join", "0"],
-        "",
-        Ok(r#"{"version":3,"names":[],"sources":[],"mappings":""}"#),
     ),
     (&["@0"], UNSORTED, Err(RunError::Plan(PlanError::Unsorted))),
     (
@@ -94,6 +100,15 @@ const PLANS: &[(&[&str], &str, Result<&str, RunError>)] = &[
         "{\"version\":3,\"sources\":[],\"mappings\":\";A\"}\n---\n{",
         Err(RunError::Plan(PlanError::Map(Error::BadJson(JsonFault::Reading)))),
     ),
+];
+
+/// Words and inputs that are no plan.
+const MISREAD: &[PlanRow] = &[
+    (
+        &["joinat", "1", "@0", "0"],
+        SIDE_BY_SIDE,
+        Err(RunError::Arguments),
+    ),
     // A line of three dashes and a carriage return parts no texts.
     (&["@1"], "{}\n---\r\n{}", Err(RunError::NoText(1))),
     (&["@1"], UNSORTED, Err(RunError::NoText(1))),
@@ -102,6 +117,24 @@ const PLANS: &[(&[&str], &str, Result<&str, RunError>)] = &[
     (&["@"], "{}", Err(RunError::Arguments)),
     (&[], "{}", Err(RunError::Arguments)),
 ];
+
+/// These tables, taken from functions: a test that names a table itself is proved much more slowly, and so is a table of
+/// many rows.
+fn made() -> &'static [PlanRow] {
+    MADE
+}
+
+fn refused() -> &'static [PlanRow] {
+    REFUSED
+}
+
+fn misread() -> &'static [PlanRow] {
+    MISREAD
+}
+
+fn plans() -> [&'static [PlanRow]; 3] {
+    [made(), refused(), misread()]
+}
 
 /// The JSON text of the map of a plan.
 fn text_of(alloc: Global, plan: &Plan<'_>) -> Result<String, RunError> {
@@ -131,10 +164,17 @@ fn is_evaluated_to(
     Ok(())
 }
 
+fn these_are_evaluated(rt: &impl Abort, alloc: Global, rows: &[PlanRow]) -> Result<(), AllocError> {
+    for (words, input, want) in rows {
+        is_evaluated_to(rt, alloc, words, input, *want)?;
+    }
+    Ok(())
+}
+
 #[test]
 fn plans_are_evaluated(rt: HostRuntime) -> Result<(), AllocError> {
-    for (words, input, want) in PLANS {
-        is_evaluated_to(&rt, rt.alloc(), words, input, *want)?;
+    for rows in plans() {
+        these_are_evaluated(&rt, rt.alloc(), rows)?;
     }
     Ok(())
 }
@@ -156,10 +196,17 @@ fn is_run_to(
     Ok(())
 }
 
+fn these_are_run(rt: &impl Abort, alloc: Global, rows: &[PlanRow]) -> Result<(), AllocError> {
+    for (words, input, want) in rows {
+        is_run_to(rt, alloc, words, input, *want)?;
+    }
+    Ok(())
+}
+
 #[test]
 fn plans_are_run(rt: HostRuntime) -> Result<(), AllocError> {
-    for (words, input, want) in PLANS {
-        is_run_to(&rt, rt.alloc(), words, input, *want)?;
+    for rows in plans() {
+        these_are_run(&rt, rt.alloc(), rows)?;
     }
     Ok(())
 }

@@ -9,7 +9,14 @@ use std::process::Abort;
 use std::test::Fail;
 
 /// Words after the program's name, an input, and what is written or refused.
-const RUNS: &[(&[&str], &str, Result<&str, RunError>)] = &[
+type Run = (
+    &'static [&'static str],
+    &'static str,
+    Result<&'static str, RunError>,
+);
+
+/// Texts of mappings.
+const MAPPINGS: &[Run] = &[
     (&["mappings", "0", "0"], "gD,!C", Ok("gD,/C\n")),
     (&["mappings", "0", "0"], "gD,!C\n", Ok("gD,/C\n")),
     (&["mappings", "00", "000"], "G,D", Ok("G,D\n")),
@@ -26,6 +33,10 @@ const RUNS: &[(&[&str], &str, Result<&str, RunError>)] = &[
         "A\n\n",
         Err(RunError::Plan(PlanError::Map(Error::VlqLeftover))),
     ),
+];
+
+/// Words that are no command.
+const NO_COMMANDS: &[Run] = &[
     (&["mappings", "0"], "A", Err(RunError::Arguments)),
     (&["mappings", "0", "0", "0"], "A", Err(RunError::Arguments)),
     (&["mappings", "+1", "0"], "A", Err(RunError::Arguments)),
@@ -41,8 +52,25 @@ const RUNS: &[(&[&str], &str, Result<&str, RunError>)] = &[
     (&[], "A", Err(RunError::Arguments)),
 ];
 
+/// These tables, taken from functions: a test that names a table itself is proved much more slowly, and so is a table of
+/// many rows.
+fn mappings() -> &'static [Run] {
+    MAPPINGS
+}
+
+fn no_commands() -> &'static [Run] {
+    NO_COMMANDS
+}
+
+fn runs() -> [&'static [Run]; 2] {
+    [mappings(), no_commands()]
+}
+
 /// A JSON text, and what `normalise` writes, or the text of what it refuses.
-const NORMALISED: &[(&str, Result<&str, &str>)] = &[
+type Normalised = (&'static str, Result<&'static str, &'static str>);
+
+/// Maps that are written.
+const WRITTEN: &[Normalised] = &[
     (
         r#"{"mappings":"gD,!C","version":3,"sources":["a.js"],"x_google_ignoreList":[0],"extra":1}"#,
         Ok(r#"{"version":3,"names":[],"sources":["a.js"],"ignoreList":[0],"mappings":"gD,/C"}"#),
@@ -75,6 +103,10 @@ const NORMALISED: &[(&str, Result<&str, &str>)] = &[
         r#"{"version":3,"sources":["a"],"sourcesContent":[null],"mappings":"","file":null}"#,
         Ok(r#"{"version":3,"names":[],"sources":["a"],"mappings":""}"#),
     ),
+];
+
+/// Maps that are not read.
+const NOT_READ: &[Normalised] = &[
     ("{", Err("JSON parsing error: the text is not JSON")),
     ("[3]", Err("JSON parsing error: the value is not an object")),
     (
@@ -97,6 +129,10 @@ const NORMALISED: &[(&str, Result<&str, &str>)] = &[
         r#"{"version":3,"sources":["a.js","b.js"],"mappings":"","ignoreList":[0.5]}"#,
         Err("JSON parsing error: field ignoreList is missing or has the wrong type"),
     ),
+];
+
+/// Indexed maps.
+const INDEXED: &[Normalised] = &[
     (
         r#"{"version":3,"file":"out.js","sections":[{"offset":{"line":0,"column":0},"map":{"version":3,"sources":["a.js"],"mappings":"AAAA,IAAI"}},{"offset":{"line":0,"column":10},"map":{"version":3,"sources":["b.js"],"mappings":"AAAA;AACA"}}]}"#,
         Ok(
@@ -130,6 +166,24 @@ const NORMALISED: &[(&str, Result<&str, &str>)] = &[
         Err("JSON parsing error: field offset is missing or has the wrong type"),
     ),
 ];
+
+/// These tables, taken from functions: a test that names a table itself is proved much more slowly, and so is a table of
+/// many rows.
+fn written() -> &'static [Normalised] {
+    WRITTEN
+}
+
+fn not_read() -> &'static [Normalised] {
+    NOT_READ
+}
+
+fn indexed() -> &'static [Normalised] {
+    INDEXED
+}
+
+fn normalised() -> [&'static [Normalised]; 3] {
+    [written(), not_read(), indexed()]
+}
 
 /// The JSON text of a map, and its data URL: without padding, and with one and two symbols of it.
 const URLS: &[(&str, &str)] = &[
@@ -350,10 +404,16 @@ pub fn answers_line(rt: &impl Abort, alloc: Global, words: &[&str], input: &str,
     same(rt, input, line, Some((&b'\n', text.as_bytes())));
 }
 
+fn these_answer(rt: &impl Abort, alloc: Global, rows: &[Run]) {
+    for (words, input, want) in rows {
+        answers(rt, alloc, words, input.as_bytes(), *want);
+    }
+}
+
 #[test]
 fn commands_answer(rt: HostRuntime) {
-    for (words, input, want) in RUNS {
-        answers(&rt, rt.alloc(), words, input.as_bytes(), *want);
+    for rows in runs() {
+        these_answer(&rt, rt.alloc(), rows);
     }
 }
 
@@ -386,17 +446,30 @@ fn is_not_normalised(
     is_told_as(rt, alloc, refusal, message, 1)
 }
 
+fn is_normalised(rt: &impl Abort, alloc: Global, row: &Normalised) -> Result<(), Fail> {
+    let (input, want) = *row;
+    match want {
+        Ok(text) => {
+            answers_line(rt, alloc, &["normalise"], input, text);
+            // What is written is read, and written as the same text.
+            answers_line(rt, alloc, &["normalise"], text, text);
+            Ok(())
+        }
+        Err(message) => is_not_normalised(rt, alloc, input, message),
+    }
+}
+
+fn these_are_normalised(rt: &impl Abort, alloc: Global, rows: &[Normalised]) -> Result<(), Fail> {
+    for row in rows {
+        is_normalised(rt, alloc, row)?;
+    }
+    Ok(())
+}
+
 #[test]
 fn maps_are_normalised(rt: HostRuntime) -> Result<(), Fail> {
-    for (input, want) in NORMALISED {
-        match want {
-            Ok(text) => {
-                answers_line(&rt, rt.alloc(), &["normalise"], input, text);
-                // What is written is read, and written as the same text.
-                answers_line(&rt, rt.alloc(), &["normalise"], text, text);
-            }
-            Err(message) => is_not_normalised(&rt, rt.alloc(), input, message)?,
-        }
+    for rows in normalised() {
+        these_are_normalised(&rt, rt.alloc(), rows)?;
     }
     Ok(())
 }

@@ -22,7 +22,7 @@ ghost use Rattle.oxc_sourcemap_faults.specs.declared.refusal.Refusal.{Refusal};
 ghost use Rattle.oxc_sourcemap_faults.specs.Refusals.{refusal_text, of_map};
 ghost use Rattle.oxc_sourcemap_faults.specs.Codes.{fault_of, code_of, refusal_of, no_fault, IsSmall};
 ghost use Rattle.oxc_sourcemap_faults.specs.Messages.{IsMessage};
-ghost use Rattle.oxc_sourcemap_handles.specs.Holding.{held_map, held_text, held_builder, HoldsMap};
+ghost use Rattle.oxc_sourcemap_handles.specs.Holding.{held_map, held_builder, HoldsMap};
 ghost use Rattle.oxc_sourcemap_handles.specs.Places.{counts_of, numbers_of};
 ghost use Rattle.oxc_sourcemap_handles.specs.Joins.{all_held, IsJoinOf, IsJoinRefusal};
 ghost use Rattle.oxc_sourcemap_handles.specs.Builders.{token_of, with_token, with_file, Builds, NameHasNoId, SourceHasNoId, IsBuilderRefusal, IsNameRefusal, IsSourceRefusal, IsFileRefusal};

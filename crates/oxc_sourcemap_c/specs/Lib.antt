@@ -1,10 +1,1 @@
-pub mod Handles
-pub mod Holding
-pub mod Indexed
-pub mod Places
-pub mod Traces
-pub mod Answers
-pub mod Plans
-pub mod Joins
-pub mod Steps
-pub mod Builders
+pub mod Exports

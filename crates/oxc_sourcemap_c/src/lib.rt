@@ -21,38 +21,24 @@ ghost use Rattle.oxc_sourcemap.specs.Building.{with_name, with_path};
 ghost use Rattle.oxc_sourcemap_faults.specs.declared.refusal.Refusal.{Refusal};
 ghost use Rattle.oxc_sourcemap_faults.specs.Refusals.{refusal_text, of_map};
 ghost use Rattle.oxc_sourcemap_faults.specs.Codes.{fault_of, code_of, refusal_of, no_fault, IsSmall};
-ghost use Rattle.oxc_sourcemap_c.specs.Holding.{held_map, held_text, held_builder, HoldsMap};
-ghost use Rattle.oxc_sourcemap_c.specs.Places.{counts_of, numbers_of};
-ghost use Rattle.oxc_sourcemap_c.specs.Joins.{all_held, IsJoinOf, IsJoinRefusal};
-ghost use Rattle.oxc_sourcemap_c.specs.Builders.{token_of, with_token, with_file, Builds, NameHasNoId, SourceHasNoId, IsBuilderRefusal, IsNameRefusal, IsSourceRefusal, IsFileRefusal};
-ghost use Rattle.oxc_sourcemap_c.specs.Plans.{plan_of, IsPlanMap, IsPlanRefusal};
-ghost use Rattle.oxc_sourcemap_c.specs.Answers.{IsRefusedAs, IsReadRefusal, IsCompositionRefusal, IsWritingRefusal, HoldsWritten, Found, HasLength, HoldsText, ignored_at, flag_of, IsRefused};
 ghost use Rattle.oxc_sourcemap_faults.specs.Messages.{IsMessage};
-ghost use Rattle.oxc_sourcemap_c.specs.Traces.{IsTrace, IsTraceRefusal, AreTracesOf, IsTraceAllRefusal};
+ghost use Rattle.oxc_sourcemap_handles.specs.Holding.{held_map, held_builder, HoldsMap};
+ghost use Rattle.oxc_sourcemap_handles.specs.Places.{counts_of, numbers_of};
+ghost use Rattle.oxc_sourcemap_handles.specs.Joins.{all_held, IsJoinOf, IsJoinRefusal};
+ghost use Rattle.oxc_sourcemap_handles.specs.Builders.{token_of, with_token, with_file, Builds, NameHasNoId, SourceHasNoId, IsBuilderRefusal, IsNameRefusal, IsSourceRefusal, IsFileRefusal};
+ghost use Rattle.oxc_sourcemap_handles.specs.Plans.{plan_of, IsPlanMap, IsPlanRefusal};
+ghost use Rattle.oxc_sourcemap_handles.specs.Answers.{IsRefusedAs, IsReadRefusal, IsCompositionRefusal, HasLength, ignored_at, flag_of};
+ghost use Rattle.oxc_sourcemap_handles.specs.Traces.{IsTrace, IsTraceRefusal, AreTracesOf, IsTraceAllRefusal};
+ghost use Rattle.oxc_sourcemap_c.specs.Exports.{IsRefused, Found, HoldsText, HoldsWritten, IsWritingRefusal};
 
-mod asked;
-mod builders;
-mod handle;
-mod held;
-mod joins;
-mod lookups;
-mod loose;
-mod operations;
-mod plans;
-mod text;
-
-use asked::Asked;
-use builders::{add_name, add_source, add_token, finish, noted, put_builder, set_file};
-use handle::Handle;
-use joins::join;
-use lookups::{
-    answered, answered_all, counts, data_url, ignored, is_sorted, json, placed, text_of_map, token,
+use oxc_sourcemap_faults::{Fault, write_message};
+use oxc_sourcemap_handles::{
+    Asked, Counts, Handle, Place, Position, Text, TokenNumbers, add_name, add_source, add_token,
+    answered, answered_all, compose, counts, data_url, evaluate_bytes, finish, ignored, is_sorted,
+    join, json, noted, placed, put_builder, put_map, put_text, read, set_file, text_of_map, token,
     traced, traced_all, written_text,
 };
-use operations::{compose, put_map, put_text, read};
-use oxc_sourcemap_faults::{Fault, write_message};
 use std::alloc::Global;
-use text::{Counts, Place, Position, Text, TokenNumbers};
 
 /// Puts the map of a JSON text into a handle.
 #[unsafe(no_mangle)]
@@ -120,12 +106,7 @@ pub extern "C" fn smap_evaluate(
     ensures not_refused { result ≡ 0 → fault.new ≡ no_fault }
     ensures refused { result ≢ 0 → (map.new.held ≡ map.old.held) × IsRefusedAs result fault.new (IsPlanRefusal words.now texts.now) }
 {
-    put_map(
-        alloc,
-        plans::evaluate_bytes(alloc, words, texts),
-        map,
-        fault,
-    )
+    put_map(alloc, evaluate_bytes(alloc, words, texts), map, fault)
 }
 
 /// Puts the JSON text of the map in a handle into another.

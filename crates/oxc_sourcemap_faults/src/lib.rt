@@ -1,4 +1,5 @@
-//! Refusals of the library for C: their codes, their numbers and their messages. `oxc_sourcemap_c` alone uses this crate.
+//! Refusals of the library for C: their codes, their numbers and their messages. Only `oxc_sourcemap_handles` and
+//! `oxc_sourcemap_c` use this crate.
 #![tactic(auto)]
 
 mod fault;

@@ -1,8 +1,0 @@
-use Rattle.std.proofs.Common.{◌≡◌, ℕ, ◌<◌, get_or}
-use Rattle.oxc_sourcemap_c.specs.declared.text.Place.{Place}
-use Rattle.oxc_sourcemap_c.specs.declared.text.Position.{Position}
-use Rattle.oxc_sourcemap_c.specs.Traces.{IsTraceOf}
-use Rattle.oxc_sourcemap_c.proofs.held.LoadedMap.trace_all.Given as goal
-
-abbrev pub invariant-loop-i : goal.invariant-loop-i
-invariant-loop-i l = (k : ℕ) (at : Position) (place : Place) → k < l.i → IsTraceOf l.fn.clamped l.fn.self (get_or l.fn.positions k at) (get_or l.places k place)

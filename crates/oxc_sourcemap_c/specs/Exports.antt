@@ -1,0 +1,35 @@
+-- What exports answer: a code, and a fault that tells more.
+use Rattle.std.specs.Prelude.{◌≡◌, ℕ, Option, Some, None, Result, Ok, Err, MatchOption}
+use Rattle.oxc_sourcemap.specs.Error.{Error}
+use Rattle.oxc_sourcemap.specs.Record.{Text, MapRecord}
+use Rattle.oxc_sourcemap_faults.specs.declared.refusal.Refusal.{Refusal}
+use Rattle.oxc_sourcemap_faults.specs.declared.refusal.Refusal.TheVariants.{EmptyHandle, NoEntry}
+use Rattle.oxc_sourcemap_faults.specs.declared.fault.Fault.{Fault}
+use Rattle.oxc_sourcemap_faults.specs.Refusals.{of_map}
+use Rattle.oxc_sourcemap_faults.specs.Codes.{fault_of, code_of}
+use Rattle.oxc_sourcemap_handles.specs.declared.held.Held.{Held}
+use Rattle.oxc_sourcemap_handles.specs.declared.text.Text.{Text as LentText}
+use Rattle.oxc_sourcemap_handles.specs.Holding.{held_map, held_text, HoldsMap}
+use Rattle.oxc_sourcemap_handles.specs.Answers.{HasLength}
+
+-- A call that takes no memory is refused: its code and its fault are those of one of these refusals.
+abbrev pub IsRefused : ℕ → Fault → (Refusal → Type 0) → Type 0
+IsRefused code f These = (r : Refusal) × (f ≡ fault_of r) × (code ≡ code_of r) × These r
+
+-- why what a handle holds is not written
+abbrev pub IsWritingRefusal : (MapRecord → Result Text Error) → Option MapRecord → Refusal → Type 0
+IsWritingRefusal write None r = r ≡ EmptyHandle
+IsWritingRefusal write (Some m) r = (e : Error) × (write m ≡ Err e) × (r ≡ of_map e)
+
+-- a handle holds the text that another handle's map is written as
+abbrev pub HoldsWritten : (MapRecord → Result Text Error) → Option Held → Option Held → Type 0
+HoldsWritten write map text = HoldsMap map (λ m. MatchOption (held_text text) ⊥ (λ t. write m ≡ Ok t))
+
+-- what a call answers that lends the text in a handle
+abbrev pub HoldsText : ℕ → Option Held → LentText → Type 0
+HoldsText code held lent = MatchOption (held_text held) (code ≡ code_of EmptyHandle) (λ text. (code ≡ 0) × HasLength lent text)
+
+-- What a lookup in what a handle holds answers: the code of what is missing, or 0 and what is found.
+abbrev pub Found : {B : Type 0} → ℕ → Option Held → (MapRecord → Option B) → (B → Type 0) → Type 0
+Found code held ask That =
+    MatchOption (held_map held) (code ≡ code_of EmptyHandle) (λ m. MatchOption (ask m) (code ≡ code_of NoEntry) (λ found. (code ≡ 0) × That found))

@@ -1,0 +1,12 @@
+-- Calls that want of memory alone refuses.
+use Rattle.std.proofs.Common.{◌≡◌, ℕ, Result, Ok, Err, IfErr, MatchResult}
+use Rattle.oxc_sourcemap_faults.specs.declared.refusal.Refusal.{Refusal}
+use Rattle.oxc_sourcemap_faults.specs.declared.fault.Fault.{Fault}
+use Rattle.oxc_sourcemap_faults.specs.Refusals.{out_of_memory}
+use Rattle.oxc_sourcemap_faults.specs.Codes.{fault_of, code_of}
+use Rattle.oxc_sourcemap_handles.specs.Answers.{IsRefusedAs}
+
+pub memory_alone : {A : Type 0} (made : Result A Refusal) (fault : Fault) (code : ℕ) → IfErr made (λ r. r ≡ out_of_memory)
+    → MatchResult made (λ _. ⊥) (λ r. (fault ≡ fault_of r) × (code ≡ code_of r)) → IsRefusedAs code fault (λ r. ⊥)
+memory_alone (Ok a) fault code only is = absurd is
+memory_alone (Err r) fault code only is = (r, is.0, is.1, λ n. n only)

@@ -1,0 +1,69 @@
+-- What calls answer of what handles hold, and what they refuse.
+use Rattle.std.specs.Prelude.{◌≡◌, ◌≢◌, ℕ, List, ◌⊎◌, Option, Some, None, Result, Ok, Err, MatchOption, MatchResult, IsUtf8, slice_get, length, Bool, true, false}
+use Rattle.std.specs.Option.{option_and_then}
+use Rattle.std.specs.Str.Lossy.{utf8_valid_len}
+use Rattle.oxc_sourcemap.specs.Error.{Error}
+use Rattle.oxc_sourcemap.specs.Record.{Text, MapRecord}
+use Rattle.oxc_sourcemap.specs.ReadMap.{read_map}
+use Rattle.oxc_sourcemap.specs.Composed.{SomeComposition}
+use Rattle.oxc_sourcemap.specs.View.{content_at}
+use Rattle.oxc_sourcemap_faults.specs.declared.refusal.Refusal.{Refusal}
+use Rattle.oxc_sourcemap_faults.specs.declared.refusal.Refusal.TheVariants.{EmptyHandle, NotUtf8, NoEntry}
+use Rattle.oxc_sourcemap_faults.specs.declared.fault.Fault.{Fault}
+use Rattle.oxc_sourcemap_handles.specs.declared.held.Held.{Held}
+use Rattle.oxc_sourcemap_handles.specs.declared.text.Text.{Text as LentText}
+use Rattle.oxc_sourcemap_handles.specs.declared.asked.Asked.{Asked}
+use Rattle.oxc_sourcemap_handles.specs.declared.asked.Asked.TheVariants.{Name, Source, SourceContent, File, SourceRoot, DebugId}
+use Rattle.oxc_sourcemap_faults.specs.Refusals.{out_of_memory, of_map}
+use Rattle.oxc_sourcemap_faults.specs.Codes.{fault_of, code_of}
+use Rattle.oxc_sourcemap_handles.specs.Holding.{held_map}
+
+-- A call is refused: its code and its fault are those of one refusal, which is lack of memory or one of these.
+abbrev pub IsRefusedAs : ℕ → Fault → (Refusal → Type 0) → Type 0
+IsRefusedAs code f These = (r : Refusal) × (f ≡ fault_of r) × (code ≡ code_of r) × (r ≢ out_of_memory → These r)
+
+-- why bytes are not read: they are not UTF-8, or their text says no map
+abbrev pub IsReadRefusal : List ℕ → Refusal → Type 0
+IsReadRefusal bytes r =
+    (¬ (IsUtf8 bytes) × (r ≡ NotUtf8 (utf8_valid_len bytes))) ⊎ (IsUtf8 bytes × (e : Error) × (read_map bytes ≡ Err e) × (r ≡ of_map e))
+
+-- why what two handles hold is not composed: one holds no map, or the maps have no composition
+abbrev pub IsCompositionRefusal : Option MapRecord → Option MapRecord → Refusal → Type 0
+IsCompositionRefusal (Some a) (Some b) r = (e : Error) × SomeComposition a b (Err e) × (r ≡ of_map e)
+IsCompositionRefusal (Some a) None r = r ≡ EmptyHandle
+IsCompositionRefusal None b r = r ≡ EmptyHandle
+
+-- the text of a map that is asked for
+abbrev pub text_at : MapRecord → Asked → Option Text
+text_at m (Name id) = slice_get m.names id
+text_at m (Source id) = slice_get m.sources id
+text_at m (SourceContent id) = content_at m.source_contents id
+text_at m File = m.file
+text_at m SourceRoot = m.source_root
+text_at m DebugId = m.debug_id
+
+-- What a lookup in what a handle holds answers: `EmptyHandle`, `NoEntry`, or what is found.
+abbrev pub IsFound : {A B : Type 0} → Result A Refusal → Option Held → (MapRecord → Option B) → (A → B → Type 0) → Type 0
+IsFound answer held ask Is =
+    MatchOption (held_map held) (answer ≡ Err EmptyHandle)
+    (λ m. MatchOption (ask m) (answer ≡ Err NoEntry) (λ found. MatchResult answer (λ x. Is x found) (λ _. ⊥)))
+
+-- a text that is lent has the length of this one
+abbrev pub HasLength : LentText → Text → Type 0
+HasLength lent text = lent.len ≡ length text
+
+-- an entry of a map's ignore list
+abbrev pub ignored_at : MapRecord → ℕ → Option ℕ
+ignored_at m i = option_and_then (λ ids. slice_get ids i) m.ignore_list
+
+-- What a handle's map is written as, where this is how maps are written: `EmptyHandle` if it has none, an error of writing, or
+-- lack of memory.
+abbrev pub IsWrittenAs : {S : Type 0} → (S → Text) → Result S Refusal → Option Held → (MapRecord → Result Text Error) → Type 0
+IsWrittenAs bytes answer held write =
+    MatchOption (held_map held) (answer ≡ Err EmptyHandle) (λ m. MatchResult answer (λ text. write m ≡ Ok (bytes text))
+    (λ r. r ≢ out_of_memory → (e : Error) × (write m ≡ Err e) × (r ≡ of_map e)))
+
+-- 1 for true and 0 for false
+abbrev pub flag_of : Bool → ℕ
+flag_of true = 1
+flag_of false = 0

@@ -1,0 +1,67 @@
+-- What calls make of the builders that handles hold, and what they refuse.
+use Rattle.std.specs.Prelude.{◌≡◌, ◌≤◌, ◌⊎◌, ℕ, List, [], ◌∷◌, ◌++◌, length, Option, Some, IsNone, MatchOption, IsUtf8}
+use Rattle.std.specs.FinMap as fin
+use Rattle.oxc_sourcemap.specs.Error.TheVariants.{TooLarge}
+use Rattle.oxc_sourcemap.specs.Record.{Text}
+use Rattle.oxc_sourcemap.specs.Token.{TokenRecord, id_of}
+use Rattle.oxc_sourcemap.specs.Texts.{index_of}
+use Rattle.oxc_sourcemap.specs.Built.{Built}
+use Rattle.oxc_sourcemap_handles.specs.declared.held.Held.{Held}
+use Rattle.oxc_sourcemap_handles.specs.declared.text.TokenNumbers.{TokenNumbers}
+use Rattle.oxc_sourcemap_faults.specs.declared.refusal.Refusal.{Refusal}
+use Rattle.oxc_sourcemap_faults.specs.declared.refusal.Refusal.TheVariants.{EmptyHandle}
+use Rattle.oxc_sourcemap_handles.specs.Holding.{held_builder}
+use Rattle.oxc_sourcemap_faults.specs.Refusals.{of_map}
+use Rattle.oxc_sourcemap_handles.specs.Plans.{IsNotText}
+
+-- the token of these numbers; 4294967295 stands for no id
+abbrev pub token_of : TokenNumbers → TokenRecord
+token_of t = record {
+  dst_line = t.dst_line;
+  dst_col = t.dst_col;
+  src_line = t.src_line;
+  src_col = t.src_col;
+  source_id = id_of t.source_id;
+  name_id = id_of t.name_id;
+}
+
+-- a builder with one token more
+abbrev pub with_token : Built → TokenRecord → Built
+with_token b token = record b { map = record b.map { tokens = b.map.tokens ++ token ∷ [] } }
+
+-- a builder with this file
+abbrev pub with_file : Built → Text → Built
+with_file b file = record b { map = record b.map { file = Some file } }
+
+-- a handle holds a builder before a call and one after it, of which this holds
+abbrev pub Builds : Option Held → Option Held → (Built → Built → Type 0) → Type 0
+Builds old new P = MatchOption (held_builder old) ⊥ (λ b. MatchOption (held_builder new) ⊥ (λ c. P b c))
+
+-- a name that is new would have an id that is too large
+abbrev pub NameHasNoId : Text → Built → Type 0
+NameHasNoId name b = IsNone (index_of name b.map.names) × (4294967295 ≤ length b.map.names)
+
+-- the same of a source whose path is new
+abbrev pub SourceHasNoId : Text → Built → Type 0
+SourceHasNoId path b = IsNone (fin.get b.given path) × (4294967295 ≤ length b.map.sources)
+
+-- why nothing is added to a builder: the handle holds none, or the new id would be too large
+abbrev pub IsAddRefusal : Option Held → (Built → Type 0) → Refusal → Type 0
+IsAddRefusal held IsTooMany r = MatchOption (held_builder held) (r ≡ EmptyHandle) (λ b. (r ≡ of_map TooLarge) × IsTooMany b)
+
+-- why a call on a builder is refused that needs no id: the handle holds none
+abbrev pub IsBuilderRefusal : Option Held → Refusal → Type 0
+IsBuilderRefusal held r = MatchOption (held_builder held) (r ≡ EmptyHandle) (λ b. ⊥)
+
+-- why bytes are not added as a name
+abbrev pub IsNameRefusal : Option Held → List ℕ → Refusal → Type 0
+IsNameRefusal held name r = IsNotText name r ⊎ (IsUtf8 name × IsAddRefusal held (NameHasNoId name) r)
+
+-- why bytes are not added as a source and its content
+abbrev pub IsSourceRefusal : Option Held → List ℕ → List ℕ → Refusal → Type 0
+IsSourceRefusal held path content r =
+    IsNotText path r ⊎ ((IsUtf8 path × IsNotText content r) ⊎ (IsUtf8 path × IsUtf8 content × IsAddRefusal held (SourceHasNoId path) r))
+
+-- why bytes are not set as the file
+abbrev pub IsFileRefusal : Option Held → List ℕ → Refusal → Type 0
+IsFileRefusal held file r = IsNotText file r ⊎ (IsUtf8 file × IsBuilderRefusal held r)

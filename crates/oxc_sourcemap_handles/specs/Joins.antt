@@ -1,0 +1,37 @@
+-- Joins of what handles hold.
+use Rattle.std.specs.Prelude.{◌≡◌, ◌≢◌, ◌⊎◌, ℕ, List, [], ◌∷◌, map, length, Option, Some, None, option_map, MatchOption}
+use Rattle.std.specs.Option.{option_and_then}
+use Rattle.oxc_sourcemap.specs.Error.TheVariants.{TooLarge}
+use Rattle.oxc_sourcemap.specs.Record.{MapRecord}
+use Rattle.oxc_sourcemap.specs.Joined.{Offset, joined, IsWithinLimits}
+use Rattle.oxc_sourcemap_handles.specs.declared.handle.Handle.{Handle}
+use Rattle.oxc_sourcemap_handles.specs.declared.held.Held.{Held}
+use Rattle.oxc_sourcemap_handles.specs.declared.text.Position.{Position}
+use Rattle.oxc_sourcemap_faults.specs.declared.refusal.Refusal.{Refusal}
+use Rattle.oxc_sourcemap_faults.specs.declared.refusal.Refusal.TheVariants.{EmptyHandle, Lengths}
+use Rattle.oxc_sourcemap_handles.specs.Holding.{held_map}
+use Rattle.oxc_sourcemap_faults.specs.Refusals.{of_map}
+
+-- what each of these handles holds
+abbrev pub all_held : List Handle → List (Option Held)
+all_held handles = map (λ h. h.held) handles
+
+abbrev pub offset_of : Position → Offset
+offset_of p = record { line = p.line; column = p.column }
+
+-- the maps that handles hold, each at its offset; none if one of them holds no map, or has no offset
+abbrev pub placed_maps : List (Option Held) → List Position → Option (List (MapRecord × Offset))
+placed_maps [] ps = Some []
+placed_maps (h ∷ hs) [] = None
+placed_maps (h ∷ hs) (p ∷ ps) = option_and_then (λ m. option_map (λ ms. (m, offset_of p) ∷ ms) (placed_maps hs ps)) (held_map h)
+
+-- a map is the join of the maps that these handles hold
+abbrev pub IsJoinOf : List (Option Held) → List Position → MapRecord → Type 0
+IsJoinOf hs ps m = (length hs ≡ length ps) × MatchOption (placed_maps hs ps) ⊥ (λ ms. m ≡ joined ms)
+
+-- why maps in handles are not joined: there are not as many offsets as handles, a handle holds no map, or the join passes a
+-- limit
+abbrev pub IsJoinRefusal : List (Option Held) → List Position → Refusal → Type 0
+IsJoinRefusal hs ps r =
+    ((r ≡ Lengths) × (length hs ≢ length ps)) ⊎ ((length hs ≡ length ps) × MatchOption (placed_maps hs ps) (r ≡ EmptyHandle)
+    (λ ms. (r ≡ of_map TooLarge) × ¬ (IsWithinLimits (joined ms))))

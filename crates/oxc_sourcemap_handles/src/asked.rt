@@ -1,0 +1,32 @@
+//! Texts of a map, by what is asked for.
+ghost use Rattle.std.specs.Prelude.{◌≡◌, option_map};
+ghost use Rattle.oxc_sourcemap_handles.specs.Answers.{text_at};
+
+use oxc_sourcemap::OwnedSourceMap;
+
+/// Which text of a map is asked for.
+#[derive(Clone, Copy)]
+pub enum Asked {
+    Name(u32),
+    Source(u32),
+    SourceContent(u32),
+    File,
+    SourceRoot,
+    DebugId,
+}
+
+impl Asked {
+    /// This text of a map; none where it has none.
+    pub(crate) fn text_in(self, map: &OwnedSourceMap) -> Option<&str>
+        ensures { option_map (λ text. text.now) result ≡ text_at map.now self }
+    {
+        match self {
+            Asked::Name(id) => map.get_name(id),
+            Asked::Source(id) => map.get_source(id),
+            Asked::SourceContent(id) => map.get_source_content(id),
+            Asked::File => map.get_file(),
+            Asked::SourceRoot => map.get_source_root(),
+            Asked::DebugId => map.get_debug_id(),
+        }
+    }
+}

@@ -1,0 +1,215 @@
+//! What exports do with the builders that handles hold.
+ghost use Rattle.std.specs.Prelude.{◌≡◌, ◌≢◌, ⊤, None, Some, Err, IsUtf8, IfOk, IfErr, OnErr, MatchOption, MatchResult};
+ghost use Rattle.oxc_sourcemap.specs.Error.TheVariants.{OutOfMemory, TooLarge};
+ghost use Rattle.oxc_sourcemap.specs.Token.{id_of};
+ghost use Rattle.oxc_sourcemap.specs.Built.{nothing_built};
+ghost use Rattle.oxc_sourcemap.specs.Building.{with_name, with_path};
+ghost use Rattle.oxc_sourcemap_handles.specs.declared.builders.Step.TheVariants.{File, Mapping};
+ghost use Rattle.oxc_sourcemap_faults.specs.Refusals.{out_of_memory, of_map};
+ghost use Rattle.oxc_sourcemap_faults.specs.Codes.{fault_of, code_of, no_fault};
+ghost use Rattle.oxc_sourcemap_handles.specs.Holding.{held_builder};
+ghost use Rattle.oxc_sourcemap_handles.specs.Answers.{IsRefusedAs};
+ghost use Rattle.oxc_sourcemap_handles.specs.Steps.{stepped, HasNoId};
+ghost use Rattle.oxc_sourcemap_handles.specs.Builders.{token_of, with_token, with_file, Builds, NameHasNoId, SourceHasNoId, IsAddRefusal, IsBuilderRefusal, IsNameRefusal, IsSourceRefusal, IsFileRefusal};
+
+use crate::handle::Handle;
+use crate::held::Held;
+use crate::operations::put;
+use crate::plans::text_of;
+use crate::text::TokenNumbers;
+use oxc_sourcemap::{OwnedSourceMap, SourceMapBuilder};
+use oxc_sourcemap_faults::{Fault, Refusal};
+use std::alloc::Global;
+
+/// What a call does to a builder.
+#[derive(Clone, Copy)]
+pub enum Step<'t> {
+    Name(&'t str),
+    Source(&'t str, &'t str),
+    File(&'t str),
+    Mapping(TokenNumbers),
+}
+
+/// The id of a number; 4294967295 stands for none.
+fn id_of(number: u32) -> Option<u32>
+    ensures { result ≡ id_of number }
+{
+    if number == 4294967295 {
+        None
+    } else {
+        Some(number)
+    }
+}
+
+fn push_token(
+    builder: &mut SourceMapBuilder<'static>,
+    token: TokenNumbers,
+) -> oxc_sourcemap::Result<u32>
+    ensures made { IfOk result (λ id. (builder.new, id) ≡ stepped builder.old (Mapping token)) }
+    ensures refused { IfErr result (λ e. e ≡ OutOfMemory) }
+    ensures unchanged { OnErr result (builder.new ≡ builder.old) }
+{
+    builder.add_token(
+        token.dst_line,
+        token.dst_col,
+        token.src_line,
+        token.src_col,
+        id_of(token.source_id),
+        id_of(token.name_id),
+    )?;
+    Ok(0)
+}
+
+fn copy_file(builder: &mut SourceMapBuilder<'static>, file: &str) -> oxc_sourcemap::Result<u32>
+    ensures made { IfOk result (λ id. (builder.new, id) ≡ stepped builder.old (File file.entry)) }
+    ensures refused { IfErr result (λ e. e ≡ OutOfMemory) }
+    ensures unchanged { OnErr result (builder.new ≡ builder.old) }
+{
+    builder.set_file_copied(file)?;
+    Ok(0)
+}
+
+/// Makes a step, and returns the id of what it adds, or 0.
+fn make(builder: &mut SourceMapBuilder<'static>, step: Step<'_>) -> oxc_sourcemap::Result<u32>
+    ensures made { IfOk result (λ id. (builder.new, id) ≡ stepped builder.old step.entry) }
+    ensures refused { IfErr result (λ e. (e ≢ OutOfMemory) → (e ≡ TooLarge) × HasNoId step.entry builder.old) }
+    ensures too_large { HasNoId step.entry builder.old → result ≡ Err TooLarge }
+    ensures unchanged { OnErr result (builder.new ≡ builder.old) }
+{
+    match step {
+        Step::Name(name) => builder.add_name_copied(name),
+        Step::Source(path, content) => builder.add_source_and_content_copied(path, content),
+        Step::File(file) => copy_file(builder, file),
+        Step::Mapping(token) => push_token(builder, token),
+    }
+}
+
+fn make_held(held: &mut Held, step: Step<'_>) -> Result<u32, Refusal>
+    ensures made { IfOk result (λ id. Builds (Some held.old) (Some held.new) (λ b c. (c, id) ≡ stepped b step.entry)) }
+    ensures refused { IfErr result (λ r. (r ≢ out_of_memory) → IsAddRefusal (Some held.old) (HasNoId step.entry) r) }
+    ensures too_large { MatchOption (held_builder (Some held.old)) ⊤ (λ b. HasNoId step.entry b → result ≡ Err (of_map TooLarge)) }
+    ensures unchanged { OnErr result (held.new ≡ held.old) }
+{
+    match held {
+        Held::Building(builder) => Ok(make(builder, step)?),
+        _ => Err(Refusal::EmptyHandle),
+    }
+}
+
+/// The same in the builder of a handle.
+fn make_in(alloc: Global, handle: &mut Handle, step: Step<'_>) -> Result<u32, Refusal>
+    ensures made { IfOk result (λ id. Builds handle.old.held handle.new.held (λ b c. (c, id) ≡ stepped b step.entry)) }
+    ensures refused { IfErr result (λ r. (r ≢ out_of_memory) → IsAddRefusal handle.old.held (HasNoId step.entry) r) }
+    ensures too_large { MatchOption (held_builder handle.old.held) ⊤ (λ b. HasNoId step.entry b → result ≡ Err (of_map TooLarge)) }
+    ensures unchanged { OnErr result (handle.new.held ≡ handle.old.held) }
+{
+    match handle.take(alloc) {
+        Some(held) => {
+            let mut held = held;
+            let made = make_held(held.as_mut(), step);
+            handle.put(held);
+            made
+        }
+        None => Err(Refusal::EmptyHandle),
+    }
+}
+
+/// Adds a name to the builder in a handle.
+pub fn add_name(alloc: Global, handle: &mut Handle, name: &[u8]) -> Result<u32, Refusal>
+    ensures added { IfOk result (λ id. Builds handle.old.held handle.new.held (λ b c. (c, id) ≡ with_name b name.now)) }
+    ensures refused { IfErr result (λ r. (r ≢ out_of_memory) → IsNameRefusal handle.old.held name.now r) }
+    ensures too_large { MatchOption (held_builder handle.old.held) ⊤ (λ b. IsUtf8 name.now → NameHasNoId name.now b → result ≡ Err (of_map TooLarge)) }
+    ensures unchanged { OnErr result (handle.new.held ≡ handle.old.held) }
+{
+    let name = text_of(name)?;
+    make_in(alloc, handle, Step::Name(name))
+}
+
+/// Adds a source with its content to the builder in a handle.
+pub fn add_source(
+    alloc: Global,
+    handle: &mut Handle,
+    path: &[u8],
+    content: &[u8],
+) -> Result<u32, Refusal>
+    ensures added { IfOk result (λ id. Builds handle.old.held handle.new.held (λ b c. (c, id) ≡ with_path b path.now content.now)) }
+    ensures refused { IfErr result (λ r. (r ≢ out_of_memory) → IsSourceRefusal handle.old.held path.now content.now r) }
+    ensures too_large { MatchOption (held_builder handle.old.held) ⊤ (λ b. IsUtf8 path.now → IsUtf8 content.now → SourceHasNoId path.now b
+        → result ≡ Err (of_map TooLarge)) }
+    ensures unchanged { OnErr result (handle.new.held ≡ handle.old.held) }
+{
+    let path = text_of(path)?;
+    let content = text_of(content)?;
+    make_in(alloc, handle, Step::Source(path, content))
+}
+
+/// Sets the file of the builder in a handle.
+pub fn set_file(alloc: Global, handle: &mut Handle, file: &[u8]) -> Result<u32, Refusal>
+    ensures set { IfOk result (λ id. Builds handle.old.held handle.new.held (λ b c. c ≡ with_file b file.now)) }
+    ensures refused { IfErr result (λ r. (r ≢ out_of_memory) → IsFileRefusal handle.old.held file.now r) }
+    ensures unchanged { OnErr result (handle.new.held ≡ handle.old.held) }
+{
+    let file = text_of(file)?;
+    make_in(alloc, handle, Step::File(file))
+}
+
+/// Adds a token to the builder in a handle.
+pub fn add_token(alloc: Global, handle: &mut Handle, token: TokenNumbers) -> Result<u32, Refusal>
+    ensures added { IfOk result (λ id. Builds handle.old.held handle.new.held (λ b c. c ≡ with_token b (token_of token))) }
+    ensures refused { IfErr result (λ r. (r ≢ out_of_memory) → IsBuilderRefusal handle.old.held r) }
+    ensures unchanged { OnErr result (handle.new.held ≡ handle.old.held) }
+{
+    make_in(alloc, handle, Step::Mapping(token))
+}
+
+/// The map that the builder in a handle has built. The handle is then empty.
+pub fn finish(alloc: Global, handle: &mut Handle) -> Result<OwnedSourceMap, Refusal>
+    ensures emptied { handle.new.held ≡ None }
+    ensures map { IfOk result (λ map. MatchOption (held_builder handle.old.held) ⊥ (λ b. map ≡ b.map)) }
+    ensures nothing_else { IfOk result (λ map. (map.source_root ≡ None) × (map.ignore_list ≡ None) × (map.debug_id ≡ None)) }
+    ensures refused { IfErr result (λ r. (r ≢ out_of_memory) → IsBuilderRefusal handle.old.held r) }
+{
+    match handle.take(alloc) {
+        Some(held) => match Box::into_inner(held) {
+            Held::Building(builder) => Ok(OwnedSourceMap::new(builder.into_sourcemap()?)),
+            _ => Err(Refusal::EmptyHandle),
+        },
+        None => Err(Refusal::EmptyHandle),
+    }
+}
+
+/// A builder with nothing in it, in a box.
+fn new_builder(alloc: Global) -> Result<Box<Held>, Refusal>
+    ensures built { IfOk result (λ held. held_builder (Some held.value) ≡ Some nothing_built) }
+    ensures refused { IfErr result (λ r. r ≡ out_of_memory) }
+{
+    let builder = SourceMapBuilder::empty(alloc);
+    Ok(Box::new(alloc, Held::Building(builder))?)
+}
+
+/// Puts a builder with nothing in it into a handle, whose builder is then dropped, and returns the code.
+pub fn put_builder(alloc: Global, handle: &mut Handle, fault: &mut Fault) -> u32
+    ensures built { result ≡ 0 → (held_builder handle.new.held ≡ Some nothing_built) × (fault.new ≡ no_fault) }
+    ensures refused { result ≢ 0 → (handle.new.held ≡ handle.old.held) × IsRefusedAs result fault.new (λ r. ⊥) }
+{
+    let made = new_builder(alloc);
+    put(alloc, made, handle, fault)
+}
+
+/// Writes the id that was answered, and why there is none, and returns the code.
+pub fn noted(answer: Result<u32, Refusal>, out: &mut u32, fault: &mut Fault) -> u32
+    ensures { MatchResult answer (λ id. (result ≡ 0) × (out.new ≡ id) × (fault.new ≡ no_fault))
+        (λ r. (result ≡ code_of r) × (out.new ≡ out.old) × (fault.new ≡ fault_of r)) }
+{
+    match answer {
+        Ok(id) => {
+            *out = id;
+            *fault = Fault::none();
+            0
+        }
+        Err(refusal) => {
+            *fault = Fault::of(refusal);
+            fault.code
+        }
+    }
+}

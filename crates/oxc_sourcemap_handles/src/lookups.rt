@@ -1,0 +1,350 @@
+//! What exports look up in what handles hold. Each takes the box out of its handle, looks into it and puts it back.
+ghost use Rattle.std.specs.Prelude.{◌≡◌, ◌≢◌, [], true, Some, None, Ok, Err, length, slice_get, string_bytes, IfOk, IfErr, OnOk, OnErr, MatchOption, MatchResult};
+ghost use Rattle.std.specs.Option.{unwrap_or};
+ghost use Rattle.oxc_sourcemap.specs.Record.{MapRecord};
+ghost use Rattle.oxc_sourcemap.specs.JsonText.{map_text, map_url};
+ghost use Rattle.oxc_sourcemap.specs.Sorted.{are_tokens_sorted, token_line, token_column};
+ghost use Rattle.oxc_sourcemap_faults.specs.declared.refusal.Refusal.TheVariants.{EmptyHandle};
+ghost use Rattle.oxc_sourcemap_faults.specs.Refusals.{out_of_memory};
+ghost use Rattle.oxc_sourcemap_faults.specs.Codes.{fault_of, code_of, no_fault};
+ghost use Rattle.oxc_sourcemap_handles.specs.Holding.{held_map, held_text, HoldsMap};
+ghost use Rattle.oxc_sourcemap_handles.specs.Places.{counts_of, numbers_of};
+ghost use Rattle.oxc_sourcemap_handles.specs.Answers.{text_at, ignored_at, flag_of, IsFound, HasLength, IsWrittenAs};
+ghost use Rattle.oxc_sourcemap_handles.specs.Traces.{IsTraced, AreTracesOf, IsTraceRefusal, IsTraceAllRefusal};
+
+use crate::asked::Asked;
+use crate::handle::Handle;
+use crate::held::Held;
+use crate::operations::{map_in, text_in};
+use crate::text::{Counts, Place, Position, Text, TokenNumbers};
+use oxc_sourcemap_faults::{Fault, Refusal};
+use std::alloc::Global;
+
+/// Writes what was found, or leaves what was there, and returns the code.
+pub fn answered<T: Drop>(answer: Result<T, Refusal>, out: &mut T) -> u32
+    ensures { MatchResult answer (λ found. (result ≡ 0) × (out.new ≡ found)) (λ r. (result ≡ code_of r) × (out.new ≡ out.old)) }
+{
+    match answer {
+        Ok(found) => {
+            *out = found;
+            0
+        }
+        Err(refusal) => Fault::of(refusal).code,
+    }
+}
+
+/// The same of a place, with a fault that tells why there is none.
+pub fn placed(answer: Result<Place, Refusal>, place: &mut Place, fault: &mut Fault) -> u32
+    ensures { MatchResult answer (λ found. (result ≡ 0) × (place.new ≡ found) × (fault.new ≡ no_fault)) (λ r. (result ≡ code_of r) × (place.new ≡ place.old) × (fault.new ≡ fault_of r)) }
+{
+    match answer {
+        Ok(found) => {
+            *place = found;
+            *fault = Fault::none();
+            0
+        }
+        Err(refusal) => {
+            *fault = Fault::of(refusal);
+            fault.code
+        }
+    }
+}
+
+/// The code of an answer that is written already, with a fault that tells why there is none.
+pub fn answered_all(answer: Result<(), Refusal>, fault: &mut Fault) -> u32
+    ensures { MatchResult answer (λ _. (result ≡ 0) × (fault.new ≡ no_fault)) (λ r. (result ≡ code_of r) × (fault.new ≡ fault_of r)) }
+{
+    match answer {
+        Ok(()) => {
+            *fault = Fault::none();
+            0
+        }
+        Err(refusal) => {
+            *fault = Fault::of(refusal);
+            fault.code
+        }
+    }
+}
+
+fn lent_text(held: &Held, asked: Asked) -> Result<Text, Refusal>
+    ensures { IsFound result (Some held.now) (λ m. text_at m asked) HasLength }
+{
+    let Some(loaded) = map_in(held) else {
+        return Err(Refusal::EmptyHandle);
+    };
+    match asked.text_in(loaded.map()) {
+        Some(text) => Ok(Text::of(text.as_bytes())),
+        None => Err(Refusal::NoEntry),
+    }
+}
+
+/// A text of the map in a handle.
+pub fn text_of_map(alloc: Global, handle: &mut Handle, asked: Asked) -> Result<Text, Refusal>
+    ensures found { IsFound result handle.old.held (λ m. text_at m asked) HasLength }
+    ensures kept { handle.new.held ≡ handle.old.held }
+{
+    match handle.take(alloc) {
+        Some(held) => {
+            let answer = lent_text(held.as_ref(), asked);
+            handle.put(held);
+            answer
+        }
+        None => Err(Refusal::EmptyHandle),
+    }
+}
+
+fn lent_written(held: &Held) -> Result<Text, Refusal>
+    ensures { MatchOption (held_text (Some held.now)) (result ≡ Err EmptyHandle) (λ text. MatchResult result (λ t. HasLength t text) (λ _. ⊥)) }
+{
+    match text_in(held) {
+        Some(text) => Ok(Text::of(text.as_bytes())),
+        None => Err(Refusal::EmptyHandle),
+    }
+}
+
+/// The text in a handle.
+pub fn written_text(alloc: Global, handle: &mut Handle) -> Result<Text, Refusal>
+    ensures found { MatchOption (held_text handle.old.held) (result ≡ Err EmptyHandle) (λ text. MatchResult result (λ t. HasLength t text) (λ _. ⊥)) }
+    ensures kept { handle.new.held ≡ handle.old.held }
+{
+    match handle.take(alloc) {
+        Some(held) => {
+            let answer = lent_written(held.as_ref());
+            handle.put(held);
+            answer
+        }
+        None => Err(Refusal::EmptyHandle),
+    }
+}
+
+fn counted(held: &Held) -> Result<Counts, Refusal>
+    ensures { IsFound result (Some held.now) (λ m. Some (counts_of m)) (λ x counts. x ≡ counts) }
+{
+    match map_in(held) {
+        Some(loaded) => Ok(Counts::of(loaded.map())),
+        None => Err(Refusal::EmptyHandle),
+    }
+}
+
+/// The counts of the map in a handle.
+pub fn counts(alloc: Global, handle: &mut Handle) -> Result<Counts, Refusal>
+    ensures found { IsFound result handle.old.held (λ m. Some (counts_of m)) (λ x counts. x ≡ counts) }
+    ensures kept { handle.new.held ≡ handle.old.held }
+{
+    match handle.take(alloc) {
+        Some(held) => {
+            let answer = counted(held.as_ref());
+            handle.put(held);
+            answer
+        }
+        None => Err(Refusal::EmptyHandle),
+    }
+}
+
+/// 1 for true and 0 for false.
+fn flag(is_so: bool) -> u32
+    ensures { result ≡ flag_of is_so }
+{
+    if is_so { 1 } else { 0 }
+}
+
+fn sorted(held: &Held) -> Result<u32, Refusal>
+    ensures { IsFound result (Some held.now) (λ m. Some (flag_of (are_tokens_sorted m.tokens))) (λ x is. x ≡ is) }
+{
+    match map_in(held) {
+        Some(loaded) => Ok(flag(loaded.map().as_source_map().is_sorted())),
+        None => Err(Refusal::EmptyHandle),
+    }
+}
+
+/// Whether the tokens of the map in a handle are sorted.
+pub fn is_sorted(alloc: Global, handle: &mut Handle) -> Result<u32, Refusal>
+    ensures found { IsFound result handle.old.held (λ m. Some (flag_of (are_tokens_sorted m.tokens))) (λ x is. x ≡ is) }
+    ensures kept { handle.new.held ≡ handle.old.held }
+{
+    match handle.take(alloc) {
+        Some(held) => {
+            let answer = sorted(held.as_ref());
+            handle.put(held);
+            answer
+        }
+        None => Err(Refusal::EmptyHandle),
+    }
+}
+
+fn ignored_in(held: &Held, index: usize) -> Result<u32, Refusal>
+    ensures { IsFound result (Some held.now) (λ m. ignored_at m index) (λ x found. x ≡ found) }
+{
+    let Some(loaded) = map_in(held) else {
+        return Err(Refusal::EmptyHandle);
+    };
+    let Some(list) = loaded.map().get_ignore_list() else {
+        return Err(Refusal::NoEntry);
+    };
+    match list.get(index) {
+        Some(id) => Ok(*id),
+        None => Err(Refusal::NoEntry),
+    }
+}
+
+/// An entry of the ignore list of the map in a handle.
+pub fn ignored(alloc: Global, handle: &mut Handle, index: usize) -> Result<u32, Refusal>
+    ensures found { IsFound result handle.old.held (λ m. ignored_at m index) (λ x found. x ≡ found) }
+    ensures kept { handle.new.held ≡ handle.old.held }
+{
+    match handle.take(alloc) {
+        Some(held) => {
+            let answer = ignored_in(held.as_ref(), index);
+            handle.put(held);
+            answer
+        }
+        None => Err(Refusal::EmptyHandle),
+    }
+}
+
+fn token_in(held: &Held, index: u32) -> Result<TokenNumbers, Refusal>
+    ensures { IsFound result (Some held.now) (λ m. slice_get m.tokens index) (λ x token. x ≡ numbers_of token) }
+{
+    let Some(loaded) = map_in(held) else {
+        return Err(Refusal::EmptyHandle);
+    };
+    match loaded.map().get_token(index) {
+        Some(token) => Ok(TokenNumbers::of(&token)),
+        None => Err(Refusal::NoEntry),
+    }
+}
+
+/// A token of the map in a handle.
+pub fn token(alloc: Global, handle: &mut Handle, index: u32) -> Result<TokenNumbers, Refusal>
+    ensures found { IsFound result handle.old.held (λ m. slice_get m.tokens index) (λ x token. x ≡ numbers_of token) }
+    ensures kept { handle.new.held ≡ handle.old.held }
+{
+    match handle.take(alloc) {
+        Some(held) => {
+            let answer = token_in(held.as_ref(), index);
+            handle.put(held);
+            answer
+        }
+        None => Err(Refusal::EmptyHandle),
+    }
+}
+
+fn traced_in(held: &Held, at: Position, clamped: bool) -> Result<Place, Refusal>
+    ensures { IsTraced clamped result (Some held.now) at }
+{
+    match map_in(held) {
+        Some(loaded) => Ok(loaded.trace(at, clamped)?),
+        None => Err(Refusal::EmptyHandle),
+    }
+}
+
+/// What the map in a handle says of a position, exactly or clamped.
+pub fn traced(
+    alloc: Global,
+    handle: &mut Handle,
+    at: Position,
+    clamped: bool,
+) -> Result<Place, Refusal>
+    ensures place { IsTraced clamped result handle.old.held at }
+    ensures kept { handle.new.held ≡ handle.old.held }
+{
+    match handle.take(alloc) {
+        Some(held) => {
+            let answer = traced_in(held.as_ref(), at, clamped);
+            handle.put(held);
+            answer
+        }
+        None => Err(Refusal::EmptyHandle),
+    }
+}
+
+fn traced_all_in(
+    held: &Held,
+    positions: &[Position],
+    places: &mut [Place],
+    clamped: bool,
+) -> Result<(), Refusal>
+    requires { length positions.now ≡ length places.old }
+    ensures places { OnOk result (HoldsMap (Some held.now) (AreTracesOf clamped positions.now places.new)) }
+    ensures refused { IfErr result (IsTraceRefusal (held_map (Some held.now))) }
+    ensures unchanged { OnErr result (places.new ≡ places.old) }
+{
+    match map_in(held) {
+        Some(loaded) => Ok(loaded.trace_all(positions, places, clamped)?),
+        None => Err(Refusal::EmptyHandle),
+    }
+}
+
+/// What the map in a handle says of many positions, exactly or clamped.
+pub fn traced_all(
+    alloc: Global,
+    handle: &mut Handle,
+    positions: &[Position],
+    places: &mut [Place],
+    clamped: bool,
+) -> Result<(), Refusal>
+    ensures places { OnOk result (HoldsMap handle.old.held (AreTracesOf clamped positions.now places.new)) }
+    ensures refused { IfErr result (IsTraceAllRefusal positions.now places.old (held_map handle.old.held)) }
+    ensures unchanged { OnErr result (places.new ≡ places.old) }
+    ensures kept { handle.new.held ≡ handle.old.held }
+{
+    if positions.len() != places.len() {
+        return Err(Refusal::Lengths);
+    }
+    match handle.take(alloc) {
+        Some(held) => {
+            let answer = traced_all_in(held.as_ref(), positions, places, clamped);
+            handle.put(held);
+            answer
+        }
+        None => Err(Refusal::EmptyHandle),
+    }
+}
+
+fn json_of(alloc: Global, held: &Held) -> Result<String, Refusal>
+    ensures { IsWrittenAs (λ text. string_bytes text) result (Some held.now) map_text }
+{
+    match map_in(held) {
+        Some(loaded) => Ok(loaded.map().to_json_string(alloc)?),
+        None => Err(Refusal::EmptyHandle),
+    }
+}
+
+/// The JSON text of the map in a handle.
+pub fn json(alloc: Global, handle: &mut Handle) -> Result<String, Refusal>
+    ensures text { IsWrittenAs (λ text. string_bytes text) result handle.old.held map_text }
+    ensures kept { handle.new.held ≡ handle.old.held }
+{
+    match handle.take(alloc) {
+        Some(held) => {
+            let answer = json_of(alloc, held.as_ref());
+            handle.put(held);
+            answer
+        }
+        None => Err(Refusal::EmptyHandle),
+    }
+}
+
+fn data_url_of(alloc: Global, held: &Held) -> Result<String, Refusal>
+    ensures { IsWrittenAs (λ text. string_bytes text) result (Some held.now) map_url }
+{
+    match map_in(held) {
+        Some(loaded) => Ok(loaded.map().to_data_url(alloc)?),
+        None => Err(Refusal::EmptyHandle),
+    }
+}
+
+/// The data URL of the map in a handle.
+pub fn data_url(alloc: Global, handle: &mut Handle) -> Result<String, Refusal>
+    ensures text { IsWrittenAs (λ text. string_bytes text) result handle.old.held map_url }
+    ensures kept { handle.new.held ≡ handle.old.held }
+{
+    match handle.take(alloc) {
+        Some(held) => {
+            let answer = data_url_of(alloc, held.as_ref());
+            handle.put(held);
+            answer
+        }
+        None => Err(Refusal::EmptyHandle),
+    }
+}

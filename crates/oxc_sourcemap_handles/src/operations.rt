@@ -1,0 +1,148 @@
+//! What exports do with what handles hold.
+ghost use Rattle.std.specs.Prelude.{◌≡◌, ◌≢◌, ℕ, true, List, map, length, Some, None, Ok, Err, option_map, string_bytes, slice_get, IfOk, IfErr, MatchOption, MatchResult};
+ghost use Rattle.std.specs.List.{All};
+ghost use Rattle.oxc_sourcemap.specs.Error.TheVariants.{OutOfMemory};
+ghost use Rattle.oxc_sourcemap.specs.ReadMap.{read_map};
+ghost use Rattle.oxc_sourcemap.specs.JsonText.{map_text, map_url};
+ghost use Rattle.oxc_sourcemap.specs.Composed.{composition, SomeComposition, NoColumnGoesBack};
+ghost use Rattle.oxc_sourcemap_faults.specs.declared.refusal.Refusal.TheVariants.{EmptyHandle};
+ghost use Rattle.oxc_sourcemap_faults.specs.Refusals.{out_of_memory, of_map};
+ghost use Rattle.oxc_sourcemap_faults.specs.Codes.{fault_of, code_of, no_fault};
+ghost use Rattle.oxc_sourcemap_handles.specs.Holding.{held_map, held_text, HoldsMap};
+ghost use Rattle.oxc_sourcemap_handles.specs.Answers.{IsReadRefusal, IsCompositionRefusal, IsRefusedAs};
+
+use crate::handle::Handle;
+use crate::held::{Held, LoadedMap};
+use crate::plans::text_of;
+use oxc_sourcemap::OwnedSourceMap;
+use oxc_sourcemap_faults::{Fault, Refusal};
+use std::alloc::Global;
+
+/// The map of a JSON text.
+pub fn read(alloc: Global, json: &[u8]) -> Result<OwnedSourceMap, Refusal>
+    ensures map { IfOk result (λ map. read_map json.now ≡ Ok map) }
+    ensures refused { IfErr result (λ r. (r ≢ out_of_memory) → IsReadRefusal json.now r) }
+{
+    let text = text_of(json)?;
+    Ok(OwnedSourceMap::from_json_string(alloc, text)?)
+}
+
+/// The map in a handle, taken out of it.
+pub fn take_map(alloc: Global, handle: &mut Handle) -> Result<OwnedSourceMap, Refusal>
+    ensures map { MatchOption (held_map handle.old.held) (result ≡ Err EmptyHandle) (λ map. result ≡ Ok map) }
+    ensures emptied { handle.new.held ≡ None }
+{
+    match handle.take(alloc) {
+        Some(held) => match Box::into_inner(held) {
+            Held::Map(loaded) => Ok(loaded.into_map()),
+            _ => Err(Refusal::EmptyHandle),
+        },
+        None => Err(Refusal::EmptyHandle),
+    }
+}
+
+/// The composition of the maps in two handles, which are then empty.
+pub fn compose(
+    alloc: Global,
+    first: &mut Handle,
+    input: &mut Handle,
+) -> Result<OwnedSourceMap, Refusal>
+    ensures emptied { (first.new.held ≡ None) × (input.new.held ≡ None) }
+    ensures any_map { IfOk result (λ map. HoldsMap first.old.held (λ a. HoldsMap input.old.held (λ b. SomeComposition a b (Ok map)))) }
+    ensures map { IfOk result (λ map. HoldsMap first.old.held (λ a. HoldsMap input.old.held (λ b. NoColumnGoesBack b.tokens → composition a b ≡ Ok map))) }
+    ensures refused { IfErr result (λ r. (r ≢ out_of_memory) → IsCompositionRefusal (held_map first.old.held) (held_map input.old.held) r) }
+{
+    let first = take_map(alloc, first);
+    let input = take_map(alloc, input);
+    Ok(first?.compose(alloc, input?)?)
+}
+
+/// A handle's map in a box, with its index.
+fn boxed(alloc: Global, map: OwnedSourceMap) -> Result<Box<Held>, Refusal>
+    ensures map { IfOk result (λ held. held_map (Some held.value) ≡ Some map) }
+    ensures refused { IfErr result (λ r. r ≡ out_of_memory) }
+{
+    let loaded = LoadedMap::new(alloc, map)?;
+    Ok(Box::new(alloc, Held::Map(loaded))?)
+}
+
+/// Puts a map that was made into a handle, whose map is then dropped, and returns the code.
+pub fn put_map(
+    alloc: Global,
+    made: Result<OwnedSourceMap, Refusal>,
+    handle: &mut Handle,
+    fault: &mut Fault,
+) -> u32
+    ensures map { result ≡ 0 → MatchResult made (λ map. (held_map handle.new.held ≡ Some map) × (fault.new ≡ no_fault)) (λ _. ⊥) }
+    ensures refused { result ≢ 0 → (handle.new.held ≡ handle.old.held) × IsRefusedAs result fault.new (λ r. made ≡ Err r) }
+{
+    let held = match made {
+        Ok(map) => boxed(alloc, map),
+        Err(refusal) => Err(refusal),
+    };
+    put(alloc, held, handle, fault)
+}
+
+/// Puts a text that was written into a handle, whose text is then dropped, and returns the code.
+pub fn put_text(
+    alloc: Global,
+    written: Result<String, Refusal>,
+    handle: &mut Handle,
+    fault: &mut Fault,
+) -> u32
+    ensures text { result ≡ 0 → MatchResult written (λ text. (held_text handle.new.held ≡ Some (string_bytes text)) × (fault.new ≡ no_fault)) (λ _. ⊥) }
+    ensures refused { result ≢ 0 → (handle.new.held ≡ handle.old.held) × IsRefusedAs result fault.new (λ r. written ≡ Err r) }
+{
+    let held = match written {
+        Ok(text) => match Box::new(alloc, Held::Written(text)) {
+            Ok(held) => Ok(held),
+            Err(_) => Err(Refusal::memory()),
+        },
+        Err(refusal) => Err(refusal),
+    };
+    put(alloc, held, handle, fault)
+}
+
+/// Puts what was made into a handle, or leaves the handle as it is, and returns the code.
+pub(crate) fn put(
+    alloc: Global,
+    made: Result<Box<Held>, Refusal>,
+    handle: &mut Handle,
+    fault: &mut Fault,
+) -> u32
+    ensures held { result ≡ 0 → MatchResult made (λ held. (handle.new.held ≡ Some held.value) × (fault.new ≡ no_fault)) (λ _. ⊥) }
+    ensures refused { result ≢ 0 → (handle.new.held ≡ handle.old.held) × MatchResult made (λ _. ⊥) (λ r. (fault.new ≡ fault_of r) × (result ≡ code_of r)) }
+{
+    match made {
+        Ok(held) => {
+            drop(handle.take(alloc));
+            handle.put(held);
+            *fault = Fault::none();
+            0
+        }
+        Err(refusal) => {
+            *fault = Fault::of(refusal);
+            fault.code
+        }
+    }
+}
+
+/// The map that is held.
+pub fn map_in(held: &Held) -> Option<&LoadedMap>
+    ensures { option_map (λ map. map.now) result ≡ held_map (Some held.now) }
+{
+    match held {
+        Held::Map(loaded) => Some(loaded),
+        _ => None,
+    }
+}
+
+/// The text that is held.
+pub fn text_in(held: &Held) -> Option<&str>
+    ensures { option_map (λ text. text.now) result ≡ held_text (Some held.now) }
+{
+    match held {
+        Held::Written(text) => Some(text.as_str()),
+        _ => None,
+    }
+}

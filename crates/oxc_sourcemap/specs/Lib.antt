@@ -1,7 +1,7 @@
 -- What the contracts of this crate's items speak of.
-pub use Rattle.oxc_sourcemap_mappings.specs.declared.error.Error
-pub use Rattle.oxc_sourcemap_mappings.specs.declared.error.JsonFault
-pub use Rattle.oxc_sourcemap_mappings.specs.declared.error.Field
+pub use Rattle.oxc_sourcemap_error.specs.declared.error.Error
+pub use Rattle.oxc_sourcemap_error.specs.declared.error.JsonFault
+pub use Rattle.oxc_sourcemap_error.specs.declared.error.Field
 pub use Rattle.oxc_sourcemap_mappings.specs.declared.token.TokenChunk
 pub use Rattle.oxc_sourcemap_json.specs.declared.json_source_map.JSONSourceMap
 pub use Rattle.oxc_sourcemap_parts.specs.declared.parts.SourceMapParts
@@ -15,8 +15,8 @@ pub use Rattle.oxc_sourcemap_mappings.specs.State
 pub use Rattle.oxc_sourcemap_mappings.specs.Canonical
 pub use Rattle.oxc_sourcemap_mappings.specs.Chunks
 pub use Rattle.oxc_sourcemap_mappings.specs.TextLaws
-pub use Rattle.oxc_sourcemap_mappings.specs.Refusals
-pub use Rattle.oxc_sourcemap_mappings.specs.Messages
+pub use Rattle.oxc_sourcemap_error.specs.Refusals
+pub use Rattle.oxc_sourcemap_error.specs.Messages
 pub use Rattle.oxc_sourcemap_parts.specs.Record
 pub use Rattle.oxc_sourcemap_parts.specs.Views
 pub use Rattle.oxc_sourcemap_parts.specs.Sorted

@@ -1,6 +1,6 @@
 //! Writing a map as a JSON source map and as a JSON text.
 ghost use Rattle.std.specs.Prelude.{◌≡◌, ◌≢◌, string_bytes, IfOk, IfErr, OnOk, Ok, Err};
-ghost use Rattle.oxc_sourcemap_mappings.specs.declared.error.Error.TheVariants.{OutOfMemory};
+ghost use Rattle.oxc_sourcemap_error.specs.declared.error.Error.TheVariants.{OutOfMemory};
 ghost use Rattle.oxc_sourcemap_mappings.specs.Token.{AreInBounds};
 ghost use Rattle.oxc_sourcemap_json.specs.Json.{json_record};
 ghost use Rattle.oxc_sourcemap_json.specs.Encoded.{encoded};

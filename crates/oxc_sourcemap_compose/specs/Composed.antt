@@ -2,9 +2,9 @@
 use Rattle.std.specs.Prelude.{◌≡◌, ℕ, Bool, true, false, List, [], map, length, Option, Some, None, option_map, Result, Ok, Err, IfSome, if◌then◌else◌, nat_lt}
 use Rattle.std.specs.List.{filter_map, list_all, Contains, AllByRecursion}
 use Rattle.std.specs.Option.{option_and_then, option_or}
-use Rattle.oxc_sourcemap_mappings.specs.declared.error.Error.{Error}
-use Rattle.oxc_sourcemap_mappings.specs.declared.error.Error.TheVariants.{SeveralSources, LineOrder, TooLarge}
-use Rattle.oxc_sourcemap_mappings.specs.Refusals.{unless}
+use Rattle.oxc_sourcemap_error.specs.declared.error.Error.{Error}
+use Rattle.oxc_sourcemap_error.specs.declared.error.Error.TheVariants.{SeveralSources, LineOrder, TooLarge}
+use Rattle.oxc_sourcemap_error.specs.Refusals.{unless}
 use Rattle.oxc_sourcemap_mappings.specs.Token.{TokenRecord, is_mapped}
 use Rattle.oxc_sourcemap_mappings.specs.Canonical.{first_out_of_order}
 use Rattle.oxc_sourcemap_parts.specs.Record.{Text, MapRecord}

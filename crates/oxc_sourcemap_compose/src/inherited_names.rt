@@ -2,7 +2,7 @@
 ghost use Rattle.std.specs.Prelude.{◌≡◌, ◌≢◌, ◌<◌, ◌≤◌, ◌⊎◌, ℕ, [], length, map, option_map, slice_get, IfOk, OnOk, IfErr, Some, None, true, false};
 ghost use Rattle.std.specs.Cow.{cow_str_bytes};
 ghost use Rattle.std.specs.Option.{option_and_then};
-ghost use Rattle.oxc_sourcemap_mappings.specs.declared.error.Error.TheVariants.{OutOfMemory, TooLarge};
+ghost use Rattle.oxc_sourcemap_error.specs.declared.error.Error.TheVariants.{OutOfMemory, TooLarge};
 ghost use Rattle.oxc_sourcemap_parts.specs.Views.{texts_of};
 ghost use Rattle.oxc_sourcemap_parts.specs.Texts.{index_of, with_text};
 ghost use Rattle.oxc_sourcemap_compose.specs.Composed.{may_be_id};

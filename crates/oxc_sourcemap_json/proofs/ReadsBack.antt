@@ -4,7 +4,7 @@ use Rattle.std.specs.List.{AllByRecursion, list_any}
 use Rattle.std.specs.Option.{IfSome, is_some, option_map, option_map_or, unwrap_or}
 use Rattle.std.proofs.lemmas.Bool.Decides.{nat_tests}
 use Rattle.std.proofs.lemmas.List.Elements.{recursion_from_All}
-use Rattle.oxc_sourcemap_mappings.specs.declared.error.Error.TheVariants.{BadChunks, TooLarge}
+use Rattle.oxc_sourcemap_error.specs.declared.error.Error.TheVariants.{BadChunks, TooLarge}
 use Rattle.oxc_sourcemap_mappings.specs.declared.token.TokenChunk.{TokenChunk}
 use Rattle.oxc_sourcemap_mappings.specs.Token.{TokenRecord, IsInBounds, AreInBounds, name_beside}
 use Rattle.oxc_sourcemap_mappings.specs.Reading.{reading}
@@ -19,7 +19,7 @@ use Rattle.oxc_sourcemap_parts.specs.Sorted.{are_tokens_sorted, may_precede, tok
 use Rattle.oxc_sourcemap_parts.specs.Sound.{IsInRange, IsSound}
 use Rattle.oxc_sourcemap_parts.specs.DecodedMap.{DecodedSource, mapping_of, sources_of, decoded_map_of}
 use Rattle.oxc_sourcemap_json.specs.Decoded.{first_not_below}
-use Rattle.oxc_sourcemap_mappings.specs.Refusals.{unless}
+use Rattle.oxc_sourcemap_error.specs.Refusals.{unless}
 use Rattle.oxc_sourcemap_json.specs.Encoded.{written_contents, encoded, encoded_record}
 use Rattle.oxc_sourcemap_json.specs.MapLaws.{rewritten, ComesBack}
 

@@ -2,7 +2,7 @@
 use Rattle.std.specs.Prelude.{◌≡◌, refl, ℕ, true, List, [], ◌∷◌, ◌++◌, codes, Ok, Err, Option, Some, None}
 use Rattle.base64.specs.Engines.{standard}
 use Rattle.base64.specs.Rfc4648.{encode_symbols}
-use Rattle.oxc_sourcemap_mappings.specs.declared.error.Error.TheVariants.{BadJson, BadSourceReference}
+use Rattle.oxc_sourcemap_error.specs.declared.error.Error.TheVariants.{BadJson, BadSourceReference}
 use Rattle.oxc_sourcemap_json.specs.JsonString.{json_string, escaped}
 use Rattle.oxc_sourcemap_json.specs.Json.{JsonRecord}
 use Rattle.oxc_sourcemap_mappings.specs.Reading.{reading, text_results, line_results}
@@ -10,8 +10,8 @@ use Rattle.oxc_sourcemap_parts.specs.Views.{empty_record}
 use Rattle.oxc_sourcemap_json.specs.Encoded.{record_with}
 use Rattle.oxc_sourcemap_json.specs.JsonText.{json_list, field_text, optional_field, json_text, data_url}
 use Rattle.oxc_sourcemap_json.specs.Decoded.{decoded}
-use Rattle.oxc_sourcemap_mappings.specs.declared.error.JsonFault.TheVariants.{Shape, Version}
-use Rattle.oxc_sourcemap_mappings.specs.declared.error.Field.TheVariants.{Object, Version as VersionField, Names, IgnoreList}
+use Rattle.oxc_sourcemap_error.specs.declared.error.JsonFault.TheVariants.{Shape, Version}
+use Rattle.oxc_sourcemap_error.specs.declared.error.Field.TheVariants.{Object, Version as VersionField, Names, IgnoreList}
 use Rattle.oxc_sourcemap_json.specs.Shape.{shape}
 use Rattle.serde_json.specs.Data.{Data, null, number, string, array, object, unsigned, no_items, item, no_members, member}
 

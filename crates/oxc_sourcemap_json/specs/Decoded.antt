@@ -1,10 +1,10 @@
 -- The map that a JSON source map says, or why it says none.
 use Rattle.std.specs.Prelude.{ℕ, List, [], ◌∷◌, length, Option, Some, None, option_map, Result, Ok, Err, if◌then◌else◌, nat_lt, ◌==◌}
 use Rattle.std.specs.Option.{option_map_or, unwrap_or}
-use Rattle.oxc_sourcemap_mappings.specs.declared.error.Error.{Error}
-use Rattle.oxc_sourcemap_mappings.specs.declared.error.Error.TheVariants.{BadJson, BadSourceReference}
-use Rattle.oxc_sourcemap_mappings.specs.declared.error.JsonFault.TheVariants.{Version}
-use Rattle.oxc_sourcemap_mappings.specs.Refusals.{unless}
+use Rattle.oxc_sourcemap_error.specs.declared.error.Error.{Error}
+use Rattle.oxc_sourcemap_error.specs.declared.error.Error.TheVariants.{BadJson, BadSourceReference}
+use Rattle.oxc_sourcemap_error.specs.declared.error.JsonFault.TheVariants.{Version}
+use Rattle.oxc_sourcemap_error.specs.Refusals.{unless}
 use Rattle.oxc_sourcemap_mappings.specs.Token.{TokenRecord}
 use Rattle.oxc_sourcemap_json.specs.Json.{JsonRecord}
 use Rattle.oxc_sourcemap_mappings.specs.Reading.{reading}

@@ -1,7 +1,7 @@
 //! The JSON text of a map, written field by field, and its data URL.
 ghost use Rattle.std.specs.Prelude.{◌≡◌, ◌≢◌, ◌++◌, map, option_map, string_bytes, codes, decimal, IfOk, IfErr, OnOk, Ok, Err, Some, None};
 ghost use Rattle.std.specs.Cow.{cow_str_bytes};
-ghost use Rattle.oxc_sourcemap_mappings.specs.declared.error.Error.TheVariants.{OutOfMemory};
+ghost use Rattle.oxc_sourcemap_error.specs.declared.error.Error.TheVariants.{OutOfMemory};
 ghost use Rattle.oxc_sourcemap_mappings.specs.Canonical.{canonical};
 ghost use Rattle.oxc_sourcemap_mappings.specs.Chunks.{writing_fault};
 ghost use Rattle.oxc_sourcemap_json.specs.JsonString.{json_string};

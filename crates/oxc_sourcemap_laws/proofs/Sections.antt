@@ -1,9 +1,9 @@
 -- The decoded map of an indexed map that is read, by those of its sections.
 use Rattle.std.proofs.Common.{◌≡◌, Bool, true, false, cond, List, [], ◌∷◌, refl, sym, ap, ◌∙◌, subst, Option, Some, None, Result, Ok, Err}
 use Rattle.std.specs.List.{AllByRecursion}
-use Rattle.oxc_sourcemap_mappings.specs.declared.error.Error.{Error}
-use Rattle.oxc_sourcemap_mappings.specs.declared.error.Error.TheVariants.{TooLarge}
-use Rattle.oxc_sourcemap_mappings.specs.Refusals.{unless}
+use Rattle.oxc_sourcemap_error.specs.declared.error.Error.{Error}
+use Rattle.oxc_sourcemap_error.specs.declared.error.Error.TheVariants.{TooLarge}
+use Rattle.oxc_sourcemap_error.specs.Refusals.{unless}
 use Rattle.oxc_sourcemap_parts.specs.Record.{Text, MapRecord}
 use Rattle.oxc_sourcemap_parts.specs.DecodedMap.{DecodedMap, decoded_map_of}
 use Rattle.oxc_sourcemap_json.specs.Shape.{◌>>=◌}

@@ -1,8 +1,8 @@
 //! The index of the lines of a list of tokens: where the tokens of each line lie.
 ghost use Rattle.std.specs.Prelude.{ℕ, ◌+◌, ◌*◌, ◌^◌, ◌≡◌, ◌≢◌, ◌↔◌, ◌<◌, ◌≤◌, true, IsTrue, length, get_or, option_map, slice_get, IfOk, IfErr, IfSome, IsNone, Ok, Err, Some, None};
 ghost use Rattle.std.specs.List.{All, Contains, prefix_len};
-ghost use Rattle.oxc_sourcemap_mappings.specs.declared.error.Error.{Error};
-ghost use Rattle.oxc_sourcemap_mappings.specs.declared.error.Error.TheVariants.{LineOrder, OutOfMemory};
+ghost use Rattle.oxc_sourcemap_error.specs.declared.error.Error.{Error};
+ghost use Rattle.oxc_sourcemap_error.specs.declared.error.Error.TheVariants.{LineOrder, OutOfMemory};
 ghost use Rattle.oxc_sourcemap_mappings.specs.Canonical.{IsInLineOrder, first_out_of_order};
 ghost use Rattle.oxc_sourcemap_parts.specs.Sorted.{are_tokens_sorted, token_line, token_column};
 ghost use Rattle.oxc_sourcemap_lookup.specs.Lookup.{on_line, last, lines_through, pick, clamped_pick};

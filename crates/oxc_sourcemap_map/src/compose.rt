@@ -1,8 +1,8 @@
 //! Composition of maps: a map from generated to intermediate code and one from intermediate to original code, made one
 //! map from generated to original code.
 ghost use Rattle.std.specs.Prelude.{◌≡◌, ◌≢◌, true, Some, IfOk, IfErr, Ok, Err};
-ghost use Rattle.oxc_sourcemap_mappings.specs.declared.error.Error.{Error};
-ghost use Rattle.oxc_sourcemap_mappings.specs.declared.error.Error.TheVariants.{OutOfMemory};
+ghost use Rattle.oxc_sourcemap_error.specs.declared.error.Error.{Error};
+ghost use Rattle.oxc_sourcemap_error.specs.declared.error.Error.TheVariants.{OutOfMemory};
 ghost use Rattle.oxc_sourcemap_parts.specs.Sorted.{are_tokens_sorted};
 ghost use Rattle.oxc_sourcemap_compose.specs.Composed.{composition, composition_fault, SomeComposition, NoColumnGoesBack};
 

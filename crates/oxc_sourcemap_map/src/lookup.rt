@@ -1,8 +1,8 @@
 //! The lookups of `SourceMap` by generated position. (In the Rust crate these calls stand in the module `sourcemap`.)
 ghost use Rattle.std.specs.Prelude.{◌≡◌, ◌≢◌, ℕ, ◌+◌, ◌<◌, ◌≤◌, true, length, map, option_map, IfOk, IfErr, IfSome, IsNone, Ok, Err, Some, []};
 ghost use Rattle.std.specs.List.{Contains};
-ghost use Rattle.oxc_sourcemap_mappings.specs.declared.error.Error.{Error};
-ghost use Rattle.oxc_sourcemap_mappings.specs.declared.error.Error.TheVariants.{OutOfMemory};
+ghost use Rattle.oxc_sourcemap_error.specs.declared.error.Error.{Error};
+ghost use Rattle.oxc_sourcemap_error.specs.declared.error.Error.TheVariants.{OutOfMemory};
 ghost use Rattle.oxc_sourcemap_parts.specs.Sorted.{are_tokens_sorted, token_line, token_column};
 ghost use Rattle.oxc_sourcemap_parts.specs.DecodedMap.{decoded_map_of};
 ghost use Rattle.oxc_sourcemap_lookup.specs.Digits.{binary_digits};

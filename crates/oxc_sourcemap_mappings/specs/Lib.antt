@@ -8,8 +8,6 @@ pub mod State
 pub mod Canonical
 pub mod Chunks
 pub mod TextLaws
-pub mod Refusals
-pub mod Messages
 pub mod TokenFields
 pub mod Decoding
 pub mod Encoding

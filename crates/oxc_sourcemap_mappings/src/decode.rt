@@ -2,7 +2,7 @@
 ghost use Rattle.std.specs.Box.{boxed_slice_items};
 ghost use Rattle.std.specs.Prelude.{◌≡◌, ◌≢◌, ◌⊎◌, ℕ, ◌+◌, ◌*◌, ◌%◌, ◌^◌, ◌<◌, ◌≤◌, length, List, ◌∷◌, [], drop, ℤ, pos, nat_abs, ◌+ℤ◌};
 ghost use Rattle.std.specs.Prelude.{set, true, false, min, is_some, IfSome, IfNone, OnOk, IfOk, IfErr, Option, Some, None, Result, Ok, Err};
-ghost use Rattle.oxc_sourcemap_mappings.specs.declared.error.Error.TheVariants.{OutOfMemory, TooLarge};
+ghost use Rattle.oxc_sourcemap_error.specs.declared.error.Error.TheVariants.{OutOfMemory, TooLarge};
 ghost use Rattle.oxc_sourcemap_mappings.specs.Number.{digit, payload, signed};
 ghost use Rattle.oxc_sourcemap_mappings.specs.Places.{nothing_before, place};
 ghost use Rattle.oxc_sourcemap_mappings.specs.Faults.{digit_fault, range_fault, is_id_below, low_bits};
@@ -11,8 +11,8 @@ ghost use Rattle.oxc_sourcemap_mappings.specs.Reading.{token_at, segment_result,
 ghost use Rattle.oxc_sourcemap_mappings.specs.Decoding.{ends_segment, front_digits, front_segment, is_over, IsNumberAt, marks};
 ghost use Rattle.oxc_sourcemap_mappings.specs.Decoding.{AreFieldsOf, AreSmall, value, place_of, source_moved, moved, moved_by};
 
-use crate::error::{Error, Result};
 use crate::token::Token;
+use oxc_sourcemap_error::{Error, Result};
 use std::alloc::Global;
 use std::boxed::BoxedSlice;
 

@@ -1,7 +1,7 @@
 //! Writing the `mappings` text.
 ghost use Rattle.std.specs.Prelude.{◌≡◌, ◌≢◌, ◌↔◌, ℕ, ◌+◌, ◌-◌, ◌*◌, ◌/◌, ◌%◌, ◌^◌, ◌<◌, ◌≤◌, ◌++◌, ◌==◌, List, ◌∷◌, [], length, min, replicate, string_bytes, OnOk, OnErr, IfErr, IfOk, IsTrue, Option, Some, None, IsNone, Err, if◌then◌else◌, nat_lt, nat_le, drop, take, flat_map, encode_utf8};
-ghost use Rattle.oxc_sourcemap_mappings.specs.declared.error.Error.{Error};
-ghost use Rattle.oxc_sourcemap_mappings.specs.declared.error.Error.TheVariants.{OutOfMemory};
+ghost use Rattle.oxc_sourcemap_error.specs.declared.error.Error.{Error};
+ghost use Rattle.oxc_sourcemap_error.specs.declared.error.Error.TheVariants.{OutOfMemory};
 ghost use Rattle.oxc_sourcemap_mappings.specs.Token.{AreInBounds, last_line, mapped_name};
 ghost use Rattle.oxc_sourcemap_mappings.specs.State.{initial, state_at};
 ghost use Rattle.oxc_sourcemap_mappings.specs.Canonical.{letter, vlq_text, raw_delta, delta_text, canonical, first_out_of_order, back_from, Extends};
@@ -9,8 +9,8 @@ ghost use Rattle.oxc_sourcemap_mappings.specs.Chunks.{header, chunk_tokens, piec
 ghost use Rattle.oxc_sourcemap_mappings.specs.Encoding.{state_of, advanced, advanced_all, source_given, last_given, text_from, OnlyAdds, line_marks, marks_of, column_from, fields_text, raw_at, first_letter, second_letter, rank_of, offset_of, deltas_text, AreSingle};
 ghost use Rattle.std.specs.List.{AllByRecursion};
 
-use crate::error::{Error, Result};
 use crate::token::{Token, TokenChunk};
+use oxc_sourcemap_error::{Error, Result};
 use std::alloc::AllocError;
 
 /// What the next token is written against: the generated position before, the source position of the nearest mapped

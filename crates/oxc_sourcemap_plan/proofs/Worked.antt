@@ -1,7 +1,7 @@
 -- Worked examples of what plans mean, and of their words and texts, computed by the definitions themselves.
 use Rattle.std.specs.Prelude.{◌≡◌, refl, ℕ, true, false, List, [], ◌∷◌, codes, Option, Some, None, Ok, Err}
-use Rattle.oxc_sourcemap_mappings.specs.declared.error.Error.TheVariants.{BadJson, SeveralSources}
-use Rattle.oxc_sourcemap_mappings.specs.declared.error.JsonFault.TheVariants.{Reading}
+use Rattle.oxc_sourcemap_error.specs.declared.error.Error.TheVariants.{BadJson, SeveralSources}
+use Rattle.oxc_sourcemap_error.specs.declared.error.JsonFault.TheVariants.{Reading}
 use Rattle.oxc_sourcemap_mappings.specs.Token.{TokenRecord}
 use Rattle.oxc_sourcemap_parts.specs.Record.{Text, MapRecord}
 use Rattle.oxc_sourcemap_parts.specs.Views.{empty_record}

@@ -13,7 +13,7 @@ use Rattle.oxc_sourcemap_json.specs.MapLaws.{ComesBack}
 use Rattle.oxc_sourcemap_laws.specs.JoinLaws.{HaveSameTraces}
 use Rattle.oxc_sourcemap_plan.specs.declared.plan.PlanError.{PlanError}
 use Rattle.oxc_sourcemap_plan.specs.declared.plan.PlanError.TheVariants.{Map}
-use Rattle.oxc_sourcemap_mappings.specs.declared.error.Error.TheVariants.{TooLarge}
+use Rattle.oxc_sourcemap_error.specs.declared.error.Error.TheVariants.{TooLarge}
 use Rattle.oxc_sourcemap_plan.specs.Outcome.{Outcome}
 
 -- whether a name is one of these

@@ -1,6 +1,6 @@
 -- The texts of what the evaluation of a plan refuses, as bytes.
 use Rattle.std.specs.Prelude.{ℕ, List, codes}
-use Rattle.oxc_sourcemap_mappings.specs.Messages.{error_text}
+use Rattle.oxc_sourcemap_error.specs.Messages.{error_text}
 use Rattle.oxc_sourcemap_plan.specs.declared.plan.PlanError.{PlanError}
 use Rattle.oxc_sourcemap_plan.specs.declared.plan.PlanError.TheVariants.{Map, Unsorted, TooDeep}
 

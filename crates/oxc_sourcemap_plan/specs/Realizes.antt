@@ -1,7 +1,7 @@
 -- How the answers of the private steps of an evaluation stand to the outcomes of parts. No public contract cites this.
 use Rattle.std.specs.Prelude.{◌≡◌, ◌≤◌, true, List, length, Ok, Some, None, ◌⊎◌}
 use Rattle.std.specs.List.{AllZip}
-use Rattle.oxc_sourcemap_mappings.specs.declared.error.Error.TheVariants.{OutOfMemory}
+use Rattle.oxc_sourcemap_error.specs.declared.error.Error.TheVariants.{OutOfMemory}
 use Rattle.oxc_sourcemap_mappings.specs.Token.{AreInBounds}
 use Rattle.oxc_sourcemap_parts.specs.Record.{MapRecord}
 use Rattle.oxc_sourcemap_parts.specs.DecodedMap.{DecodedMap}

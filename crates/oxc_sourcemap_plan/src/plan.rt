@@ -6,7 +6,7 @@ ghost use Rattle.oxc_sourcemap_plan.specs.Outcome.{Outcome, read_outcome, rewrit
 ghost use Rattle.oxc_sourcemap_join.specs.Joined.{Offset, at_lines, at_positions, joined, IsWithinLimits};
 ghost use Rattle.oxc_sourcemap_plan.specs.Evaluated.{IsEvaluated, IsFailure};
 ghost use Rattle.oxc_sourcemap_plan.specs.Realizes.{Realizes, FailsAs, AllRealize};
-ghost use Rattle.oxc_sourcemap_mappings.specs.declared.error.Error.TheVariants.{OutOfMemory, TooLarge};
+ghost use Rattle.oxc_sourcemap_error.specs.declared.error.Error.TheVariants.{OutOfMemory, TooLarge};
 ghost use Rattle.oxc_sourcemap_sections.specs.ReadMap.{said_in};
 ghost use Rattle.oxc_sourcemap_parts.specs.Sorted.{are_tokens_sorted};
 ghost use Rattle.oxc_sourcemap_plan.specs.declared.plan.PlanError.TheVariants.{Map, Unsorted};

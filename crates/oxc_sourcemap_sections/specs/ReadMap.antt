@@ -4,10 +4,10 @@ use Rattle.std.specs.Option.{option_and_then}
 use Rattle.serde_json.specs.Data.{Data, Items}
 use Rattle.serde_json.specs.Find.{get, as_array}
 use Rattle.serde_json.specs.Read.{read}
-use Rattle.oxc_sourcemap_mappings.specs.declared.error.Error.{Error}
-use Rattle.oxc_sourcemap_mappings.specs.declared.error.Error.TheVariants.{BadJson}
-use Rattle.oxc_sourcemap_mappings.specs.declared.error.JsonFault.TheVariants.{Reading}
-use Rattle.oxc_sourcemap_mappings.specs.declared.error.Field.TheVariants.{Sections as SectionsField}
+use Rattle.oxc_sourcemap_error.specs.declared.error.Error.{Error}
+use Rattle.oxc_sourcemap_error.specs.declared.error.Error.TheVariants.{BadJson}
+use Rattle.oxc_sourcemap_error.specs.declared.error.JsonFault.TheVariants.{Reading}
+use Rattle.oxc_sourcemap_error.specs.declared.error.Field.TheVariants.{Sections as SectionsField}
 use Rattle.oxc_sourcemap_parts.specs.Record.{Text, MapRecord}
 use Rattle.oxc_sourcemap_parts.specs.DecodedMap.{DecodedMap, decoded_map_of}
 use Rattle.oxc_sourcemap_json.specs.Shape.{◌>>=◌, or_misshapen, shape, file_of}

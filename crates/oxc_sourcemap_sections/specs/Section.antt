@@ -3,8 +3,8 @@ use Rattle.std.specs.Prelude.{ℕ, List, codes, Bool, not, ◌&&◌, Option, Som
 use Rattle.std.specs.Option.{option_map, option_and_then}
 use Rattle.serde_json.specs.Data.{Data}
 use Rattle.serde_json.specs.Find.{get, as_object}
-use Rattle.oxc_sourcemap_mappings.specs.declared.error.Error.{Error}
-use Rattle.oxc_sourcemap_mappings.specs.declared.error.Field.TheVariants.{Sections, Offset as OffsetField, Map as MapField}
+use Rattle.oxc_sourcemap_error.specs.declared.error.Error.{Error}
+use Rattle.oxc_sourcemap_error.specs.declared.error.Field.TheVariants.{Sections, Offset as OffsetField, Map as MapField}
 use Rattle.oxc_sourcemap_json.specs.Shape.{◌>>=◌, or_misshapen, present, as_id}
 use Rattle.oxc_sourcemap_join.specs.Joined.{Offset}
 

@@ -1,5 +1,5 @@
 use Rattle.std.proofs.Common.{arith, ◌≡◌, ◌≢◌, ◌≤◌, ◌++◌, ◌∙◌, length, subst, OnOk, IfErr, Some, None, string_bytes}
-use Rattle.oxc_sourcemap_mappings.specs.declared.error.Error.TheVariants.{OutOfMemory}
+use Rattle.oxc_sourcemap_error.specs.declared.error.Error.TheVariants.{OutOfMemory}
 use Rattle.oxc_sourcemap_mappings.specs.Token.{AreInBounds}
 use Rattle.oxc_sourcemap_mappings.proofs.Chunks.{whole-tokens, whole-piece, whole-fault}
 use Rattle.oxc_sourcemap_mappings.proofs.encode.encode_whole.Goals as goal

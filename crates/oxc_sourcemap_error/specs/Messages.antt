@@ -1,12 +1,12 @@
 -- The texts of refusals, as bytes.
 use Rattle.std.specs.Prelude.{ℕ, List, ◌++◌, codes, Option, Some, None}
 use Rattle.std.specs.Fmt.{decimal}
-use Rattle.oxc_sourcemap_mappings.specs.declared.error.Field.{Field}
-use Rattle.oxc_sourcemap_mappings.specs.declared.error.Field.TheVariants.{Object, Version as VersionField, File, Mappings, SourceRoot, Sources, SourcesContent, Names, DebugId, IgnoreList, GoogleIgnoreList, Sections, Offset, Map}
-use Rattle.oxc_sourcemap_mappings.specs.declared.error.JsonFault.{JsonFault}
-use Rattle.oxc_sourcemap_mappings.specs.declared.error.JsonFault.TheVariants.{Reading, Shape, Version}
-use Rattle.oxc_sourcemap_mappings.specs.declared.error.Error.{Error}
-use Rattle.oxc_sourcemap_mappings.specs.declared.error.Error.TheVariants.{VlqLeftover, VlqNoValues, VlqOverflow, BadJson, BadSegmentSize, BadSourceReference, BadNameReference, OutOfMemory, TooLarge, LineOrder, BadChunks, SeveralSources, SectionOrder}
+use Rattle.oxc_sourcemap_error.specs.declared.error.Field.{Field}
+use Rattle.oxc_sourcemap_error.specs.declared.error.Field.TheVariants.{Object, Version as VersionField, File, Mappings, SourceRoot, Sources, SourcesContent, Names, DebugId, IgnoreList, GoogleIgnoreList, Sections, Offset, Map}
+use Rattle.oxc_sourcemap_error.specs.declared.error.JsonFault.{JsonFault}
+use Rattle.oxc_sourcemap_error.specs.declared.error.JsonFault.TheVariants.{Reading, Shape, Version}
+use Rattle.oxc_sourcemap_error.specs.declared.error.Error.{Error}
+use Rattle.oxc_sourcemap_error.specs.declared.error.Error.TheVariants.{VlqLeftover, VlqNoValues, VlqOverflow, BadJson, BadSegmentSize, BadSourceReference, BadNameReference, OutOfMemory, TooLarge, LineOrder, BadChunks, SeveralSources, SectionOrder}
 
 -- the key of a field of the JSON object, and none for the object itself
 abbrev pub key_of : Field → Option (List ℕ)

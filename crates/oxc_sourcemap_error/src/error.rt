@@ -1,8 +1,8 @@
 //! Errors and their messages.
 ghost use Rattle.std.specs.Prelude.{◌≡◌, Some, option_map};
-ghost use Rattle.oxc_sourcemap_mappings.specs.Messages.{key_of, json_fault_text, error_text};
-ghost use Rattle.oxc_sourcemap_mappings.specs.Refusals.{refusal_of_json};
-ghost use Rattle.oxc_sourcemap_mappings.specs.declared.error.Error.TheVariants.{OutOfMemory};
+ghost use Rattle.oxc_sourcemap_error.specs.Messages.{key_of, json_fault_text, error_text};
+ghost use Rattle.oxc_sourcemap_error.specs.Refusals.{refusal_of_json};
+ghost use Rattle.oxc_sourcemap_error.specs.declared.error.Error.TheVariants.{OutOfMemory};
 
 use std::alloc::{AllocError, AllocFailed};
 use std::fmt;

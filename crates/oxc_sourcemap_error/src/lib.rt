@@ -1,0 +1,8 @@
+//! The errors of the port of `oxc_sourcemap`, and the strings that they print.
+//!
+//! This is the lowest crate of the port. Users name the crate `oxc_sourcemap`, which re-exports what is meant for them.
+#![tactic(auto)]
+
+mod error;
+
+pub use error::{Error, Field, JsonFault, Result};

@@ -3,6 +3,7 @@ use Rattle.std.proofs.Common.{◌≡◌, refl, sym, ap, ◌∙◌, ℕ, zero, su
 use Rattle.std.proofs.lemmas.Nat.{and-not, and_comm}
 use Rattle.std.specs.Int.Bits.{and_zero_l, and_zero_r}
 use Rattle.std.proofs.lemmas.List.Sums.{prefix_len-le-length}
+use Rattle.std.proofs.lemmas.Option.{slice_get_past}
 use Rattle.std.specs.List.{prefix_len, last_or}
 use Rattle.std.specs.Ordering.{match_ordering}
 use Rattle.std.specs.declared.cmp.Ordering.{Ordering}
@@ -36,6 +37,16 @@ pub digits-half : (n : ℕ) → 0 < n → binary_digits n ≡ 1 + binary_digits 
 digits-half zero h = absurd (omega (arith, h))
 digits-half (suc n) h = ap (λ d. 1 + d) (digits-limits n (suc n / 2) (suc n / 2) (half-less n) (omega arith))
 
+digits-grow : (k m n : ℕ) → m ≤ n → digits_up_to k m ≤ digits_up_to k n
+digits-grow zero m n h = omega arith
+digits-grow (suc k) zero n h = omega arith
+digits-grow (suc k) (suc m) zero h = absurd (omega (arith, h))
+digits-grow (suc k) (suc m) (suc n) h = omega (arith, digits-grow k (suc m / 2) (suc n / 2) (omega (arith, h)))
+
+-- a smaller number has no more digits
+pub fewer-digits : (m n : ℕ) → m ≤ n → binary_digits m ≤ binary_digits n
+fewer-digits m n h = omega (arith, digits-limits m n m (omega arith) h, digits-grow n m n h)
+
 -- a number below a power of two has at most as many digits as the exponent
 pub digits-below : (d n : ℕ) → n < 2 ^ d → binary_digits n ≤ d
 digits-below zero zero h = omega arith
@@ -66,6 +77,27 @@ before-earlier col (t ∷ ts) (suc m) d h le = grind (arith, before-earlier col 
 
 pub before-all : (col : ℕ) (ts : List TokenRecord) → before col ts ≤ length ts
 before-all col ts = prefix_len-le-length (λ t. nat_lt t.dst_col col) ts
+
+-- columns go back nowhere in the front of a line either
+pub front-goes_on : (m : ℕ) (ts : List TokenRecord) → no_column_goes_back token_column ts ≡ true → no_column_goes_back token_column (take m ts) ≡ true
+front-goes_on zero ts g = refl
+front-goes_on (suc m) [] g = refl
+front-goes_on (suc zero) (t ∷ ts) g = refl
+front-goes_on (suc (suc m)) (t ∷ []) g = refl
+front-goes_on (suc (suc m)) (t ∷ u ∷ ts) g =
+    let more = front-goes_on (suc m) (u ∷ ts) (goes_on token_column t (u ∷ ts) g) in
+    grind (arith, g, more)
+
+before-front-by : (b : Bool) (col m : ℕ) (t : TokenRecord) (ts : List TokenRecord) → nat_lt t.dst_col col ≡ b → before col (take m ts) ≡ (if nat_lt (before col ts) m then before col ts else m)
+    → before col (take (suc m) (t ∷ ts)) ≡ (if nat_lt (before col (t ∷ ts)) (suc m) then before col (t ∷ ts) else suc m)
+before-front-by true col m t ts e more = grind (arith, e, more)
+before-front-by false col m t ts e more = grind (arith, e, more)
+
+-- those before the column in the front of a line: all of them, or the whole front
+pub before-front : (col m : ℕ) (ts : List TokenRecord) → before col (take m ts) ≡ (if nat_lt (before col ts) m then before col ts else m)
+before-front col zero ts = grind (arith)
+before-front col (suc m) [] = grind (arith)
+before-front col (suc m) (t ∷ ts) = before-front-by (nat_lt t.dst_col col) col m t ts refl (before-front col m ts)
 
 pub chosen : (b : Bool) (n : ℕ) → (if b then n else 0) ≤ n
 chosen true n = omega arith
@@ -178,6 +210,42 @@ not_before-get col ts n t count e = not_before-first col ts t (sym (ap (λ k. fi
 -- no token after those before the column
 pub nearer-none : (col : ℕ) (ts : List TokenRecord) (n : ℕ) → slice_get ts n ≡ None → nearer_at col None ts n ≡ last (take n ts)
 nearer-none col ts n e = none_left col _ _ (first-drop ts n ∙ e)
+
+nearer-here : (col : ℕ) (ts : List TokenRecord) (n : ℕ) (t : TokenRecord) → no_column_goes_back token_column ts ≡ true → slice_get ts n ≡ Some t → n ≡ before col ts
+    → at token_column ts col ≡ last (take (n + (if nat_lt t.dst_col (col + 1) then 1 else 0)) ts)
+nearer-here col ts n t g here e = at-nearer col ts n g e ∙ nearer-through col ts n t here (not_before-get col ts n t e here)
+
+nearer-end : (col : ℕ) (ts : List TokenRecord) (n : ℕ) (t : TokenRecord) → no_column_goes_back token_column ts ≡ true → n + 1 ≡ length ts → before col ts ≡ length ts → t.dst_col < col
+    → at token_column ts col ≡ last (take (n + (if nat_lt t.dst_col (col + 1) then 1 else 0)) ts)
+nearer-end col ts n t g end e lt =
+    let all = length ts in
+    let lies : nat_lt t.dst_col (col + 1) ≡ true = grind (arith, lt) in
+    let same : all ≡ n + (if nat_lt t.dst_col (col + 1) then 1 else 0) = rw lies (sym end) in
+    at-nearer col ts all g (sym e) ∙ nearer-none col ts all (slice_get_past ts all (omega arith)) ∙ ap (λ k. last (take k ts)) same
+
+nearer-last-by : (a b : Bool) (col : ℕ) (ts : List TokenRecord) (n : ℕ) (t : TokenRecord) → nat_lt (before col ts) (length ts - 1) ≡ a → nat_lt t.dst_col col ≡ b
+    → no_column_goes_back token_column ts ≡ true → n < length ts → get_or ts n t ≡ t → slice_get ts n ≡ Some t → n ≡ (if nat_lt (before col ts) (length ts - 1) then before col ts else length ts - 1)
+    → at token_column ts col ≡ last (take (n + (if nat_lt t.dst_col (col + 1) then 1 else 0)) ts)
+nearer-last-by true b col ts n t front lies g within read here e =
+    nearer-here col ts n t g here (e ∙ ap (λ x. if x then before col ts else length ts - 1) front)
+nearer-last-by false false col ts n t front lies g within read here e =
+    let last_one : n ≡ length ts - 1 = e ∙ ap (λ x. if x then before col ts else length ts - 1) front in
+    let all : length ts - 1 ≤ before col ts = grind (arith, front) in
+    let le : col ≤ t.dst_col = grind (arith, lies) in
+    let most = before-earlier col ts n t within (omega (arith, le, ap token_column read)) in
+    nearer-here col ts n t g here (omega (arith, last_one, all, most))
+nearer-last-by false true col ts n t front lies g within read here e =
+    let last_one : n ≡ length ts - 1 = e ∙ ap (λ x. if x then before col ts else length ts - 1) front in
+    let lt : t.dst_col < col = grind (arith, lies) in
+    let more = before-later col ts n t g within (omega (arith, lt, ap token_column read)) in
+    nearer-end col ts n t g (omega (arith, last_one, within)) (omega (arith, last_one, more, before-all col ts, within)) lt
+
+-- The answer ends the line that is cut after the tokens before the column, all but the last one counted, or after one more
+-- where the next is not past the column.
+pub nearer-last : (col : ℕ) (ts : List TokenRecord) (n : ℕ) (t : TokenRecord) → no_column_goes_back token_column ts ≡ true → n < length ts → get_or ts n t ≡ t → slice_get ts n ≡ Some t
+    → n ≡ before col (take (length ts - 1) ts) → at token_column ts col ≡ last (take (n + (if nat_lt t.dst_col (col + 1) then 1 else 0)) ts)
+nearer-last col ts n t g within read here e =
+    nearer-last-by (nat_lt (before col ts) (length ts - 1)) (nat_lt t.dst_col col) col ts n t refl refl g within read here (e ∙ before-front col (length ts - 1) ts)
 
 -- what `last` reads of the front of a line
 pub read-last : (o : Option (Bor TokenRecord)) (front ts : List TokenRecord) (n : ℕ) → option_map (λ x. x.now) o ≡ slice_get front (length front - 1) → front ≡ take n ts → last (take n ts) ≡ option_map (λ x. x.now) o

@@ -156,11 +156,11 @@ pub fn search(line: &[Token], col: u32, steps: &mut u64) -> Option<Token>
     ensures started { 0 < length line.now → 0 < steps.new }
 {
     *steps = 0;
-    let before = count_before(line, col, steps);
-    let end = match line.get(before) {
-        Some(token) => before + compare_column(token, u64::from(col) + 1, 1, steps),
-        None => before,
+    let Some(last) = line.len().checked_sub(1) else {
+        return None;
     };
+    let before = count_before(&line[..last], col, steps);
+    let end = before + compare_column(&line[before], u64::from(col) + 1, 1, steps);
     line[..end].last().copied()
 }
 

@@ -97,22 +97,10 @@ const BAD_SEGMENTS: &[Reading] = &[
     ("DAAA", 0, 1, Err(Error::BadSegmentSize(0))),
 ];
 
-/// These tables, taken from functions: a test that names a table itself is proved much more slowly, and so is a table of
-/// many rows.
-fn read() -> &'static [Reading] {
-    READ
-}
-
-fn bad_numbers() -> &'static [Reading] {
-    BAD_NUMBERS
-}
-
-fn bad_segments() -> &'static [Reading] {
-    BAD_SEGMENTS
-}
-
+/// These tables, taken from a function: a test that names a table itself is proved much more slowly, and so is a table of many
+/// rows.
 fn readings() -> [&'static [Reading]; 3] {
-    [read(), bad_numbers(), bad_segments()]
+    [READ, BAD_NUMBERS, BAD_SEGMENTS]
 }
 
 /// A list of tokens, with chunks or none, and how it is written.
@@ -298,22 +286,10 @@ const MISFITS: &[Writing] = &[
     ),
 ];
 
-/// These tables, taken from functions: a test that names a table itself is proved much more slowly, and so is a table of
-/// many rows.
-fn lists() -> &'static [Writing] {
-    LISTS
-}
-
-fn chunked() -> &'static [Writing] {
-    CHUNKED
-}
-
-fn misfits() -> &'static [Writing] {
-    MISFITS
-}
-
+/// These tables, taken from a function: a test that names a table itself is proved much more slowly, and so is a table of many
+/// rows.
 pub fn writings() -> [&'static [Writing]; 3] {
-    [lists(), chunked(), misfits()]
+    [LISTS, CHUNKED, MISFITS]
 }
 
 fn a_text_reads_as_its_tokens(rt: &impl Abort, alloc: Global, reading: &Reading) -> Result<()> {

@@ -490,22 +490,12 @@ fn maps_are_joined_one_by_one(
     Ok(())
 }
 
-/// The JSON text of the join of these maps, which are borrowed.
-fn lent_text_of(alloc: Global, parts: &[Part]) -> Result<String> {
-    lent_text(alloc, maps_of(alloc, parts)?.as_slice())
-}
-
-fn it_is_joined(rt: &impl Abort, alloc: Global, join: &Join) -> Result<()> {
-    moved_maps_are_joined(rt, alloc, join)?;
-    maps_are_joined_one_by_one(rt, alloc, join.0, join.3)?;
-    let lent = lent_text_of(alloc, join.0)?;
-    same(rt, "lent", lent.as_str(), join.3);
-    Ok(())
-}
-
 fn these_are_joined(rt: &impl Abort, alloc: Global, rows: &[Join]) -> Result<()> {
     for join in rows {
-        it_is_joined(rt, alloc, join)?;
+        moved_maps_are_joined(rt, alloc, join)?;
+        maps_are_joined_one_by_one(rt, alloc, join.0, join.3)?;
+        let lent = lent_text(alloc, maps_of(alloc, join.0)?.as_slice())?;
+        same(rt, "lent", lent.as_str(), join.3);
     }
     Ok(())
 }
@@ -637,7 +627,7 @@ const TOO_LARGE: &[(&[Part], &str)] = &[
 fn lists_are_too_large(rt: &impl Abort, alloc: Global, parts: &[Part]) -> Result<()> {
     let refused = moved(alloc, maps_of(alloc, parts)?).err();
     same(rt, "moved", refused, Some(Error::TooLarge));
-    let refused = lent_text_of(alloc, parts).err();
+    let refused = lent_text(alloc, maps_of(alloc, parts)?.as_slice()).err();
     same(rt, "lent", refused, Some(Error::TooLarge));
     Ok(())
 }

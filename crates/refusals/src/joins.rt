@@ -14,19 +14,35 @@ pub(crate) enum Join {
     MovedAt,
 }
 
-fn make_join<'m>(
+/// Adds a map that is lent, at a column or not.
+fn lend<'m>(
     rt: &HostRuntime,
-    join: Join,
+    is_at: bool,
     builder: &mut ConcatSourceMapBuilder<'m>,
-    lent: &'m SourceMap<'static>,
-    moved: SourceMap<'static>,
+    map: &'m SourceMap<'static>,
 ) -> Result<()> {
     call(rt);
-    let added = match join {
-        Join::Lent => builder.add_sourcemap(lent, 0),
-        Join::LentAt => builder.add_sourcemap_at(lent, 0, 1),
-        Join::Moved => builder.add_sourcemap_owned(moved, 0),
-        Join::MovedAt => builder.add_sourcemap_owned_at(moved, 0, 1),
+    let added = if is_at {
+        builder.add_sourcemap_at(map, 0, 1)
+    } else {
+        builder.add_sourcemap(map, 0)
+    };
+    answer(rt);
+    added
+}
+
+/// Adds a map that is moved, at a column or not.
+fn give(
+    rt: &HostRuntime,
+    is_at: bool,
+    builder: &mut ConcatSourceMapBuilder<'_>,
+    map: SourceMap<'static>,
+) -> Result<()> {
+    call(rt);
+    let added = if is_at {
+        builder.add_sourcemap_owned_at(map, 0, 1)
+    } else {
+        builder.add_sourcemap_owned(map, 0)
     };
     answer(rt);
     added
@@ -49,9 +65,13 @@ fn wanted(join: Join) -> &'static str {
 /// Adds a map to a join.
 pub(crate) fn add_to_join(rt: &HostRuntime, kind: Join) -> Result<Ended> {
     let lent = full_map(rt.alloc())?;
-    let moved = full_map(rt.alloc())?;
     let mut builder = ConcatSourceMapBuilder::empty(rt.alloc());
-    let added = make_join(rt, kind, &mut builder, &lent, moved);
+    let added = match kind {
+        Join::Lent => lend(rt, false, &mut builder, &lent),
+        Join::LentAt => lend(rt, true, &mut builder, &lent),
+        Join::Moved => give(rt, false, &mut builder, full_map(rt.alloc())?),
+        Join::MovedAt => give(rt, true, &mut builder, full_map(rt.alloc())?),
+    };
     builder.add_sourcemap_owned(lent_map(rt.alloc())?, 1)?;
     let text = builder.into_sourcemap()?.to_json_string(rt.alloc())?;
     Ok(match added {

@@ -6,7 +6,7 @@ use oxc_sourcemap::{
 use refusals_maps::fixtures::{full_map, full_owned_map, lent_parts};
 use refusals_maps::marks::{Ended, answer, call, passed_if};
 use smap_run::{Port, RunError};
-use std::alloc::AllocError;
+use std::alloc::{AllocError, Global};
 
 /// The getters of a map.
 pub(crate) fn get_fields(rt: &HostRuntime) -> Result<Ended> {
@@ -118,20 +118,45 @@ pub(crate) fn wrap(rt: &HostRuntime) -> Result<Ended> {
     Ok(passed_if(owned.get_file() == Some("f.js")))
 }
 
+fn parts_are_empty(alloc: Global) -> Result<bool> {
+    Ok(SourceMapParts::empty(alloc)?.tokens.is_empty())
+}
+
+fn an_empty_map_is_sound(alloc: Global) -> Result<bool> {
+    Ok(SourceMap::empty(alloc)?.is_sound())
+}
+
+fn an_empty_owned_map_is_sound(alloc: Global) -> Result<bool> {
+    Ok(OwnedSourceMap::empty(alloc)?.is_sound())
+}
+
+fn an_empty_builder_gives_its_file(alloc: Global) -> Result<bool> {
+    let mut builder = SourceMapBuilder::empty(alloc);
+    builder.set_file("f.js");
+    builder.set_token_chunks(Vec::new(alloc));
+    Ok(builder.into_sourcemap()?.get_file() == Some("f.js"))
+}
+
+fn an_empty_join_is_sound(alloc: Global) -> Result<bool> {
+    let joined = ConcatSourceMapBuilder::empty(alloc).into_sourcemap()?;
+    Ok(joined.is_sound())
+}
+
 /// Maps and builders with nothing in them.
 pub(crate) fn make_empty(rt: &HostRuntime) -> Result<Ended> {
+    let alloc = rt.alloc();
     call(rt);
-    let parts = SourceMapParts::empty(rt.alloc())?;
-    let map = SourceMap::empty(rt.alloc())?;
-    let owned = OwnedSourceMap::empty(rt.alloc())?;
-    let mut builder = SourceMapBuilder::empty(rt.alloc());
-    builder.set_file("f.js");
-    builder.set_token_chunks(Vec::new(rt.alloc()));
-    let built = builder.into_sourcemap()?;
-    let joined = ConcatSourceMapBuilder::empty(rt.alloc()).into_sourcemap()?;
+    let maps = [
+        parts_are_empty(alloc)?,
+        an_empty_map_is_sound(alloc)?,
+        an_empty_owned_map_is_sound(alloc)?,
+    ];
+    let built = [
+        an_empty_builder_gives_its_file(alloc)?,
+        an_empty_join_is_sound(alloc)?,
+    ];
     answer(rt);
-    let is_empty = parts.tokens.is_empty() && map.is_sound() && owned.is_sound();
-    Ok(passed_if(is_empty && built.get_file() == Some("f.js") && joined.is_sound()))
+    Ok(passed_if(maps == [true; 3] && built == [true; 2]))
 }
 
 /// Chunks, visualizers, ports and errors.

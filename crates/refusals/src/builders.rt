@@ -3,6 +3,7 @@ use oxc_sourcemap::{Result, SourceMapBuilder};
 use refusals_maps::made::map_ended;
 use refusals_maps::marks::{Ended, answer, call, failed, passed_if};
 use refusals_maps::owned::owned_ended;
+use std::alloc::Global;
 
 /// A call that adds to a builder.
 #[derive(Clone, Copy)]
@@ -16,25 +17,42 @@ pub(crate) enum Add {
     OtherSourceCopied,
 }
 
-fn make_add(rt: &HostRuntime, add: Add, builder: &mut SourceMapBuilder<'static>) -> Result<()> {
-    call(rt);
+/// Adds a word that is borrowed, or a token.
+fn add_borrowed(add: Add, builder: &mut SourceMapBuilder<'static>) -> Result<()> {
     let added = match add {
         Add::Name => builder.add_name("k"),
         Add::Source => builder.add_source_and_content("b.js", "B"),
         Add::OtherSource => builder.set_source_and_content("b.js", "B"),
-        Add::Token => match builder.add_token(0, 2, 0, 0, None, None) {
-            Ok(()) => Ok(0),
-            Err(error) => Err(error),
-        },
+        _ => return builder.add_token(0, 2, 0, 0, None, None),
+    };
+    without_id(added)
+}
+
+/// Adds a copy of a word.
+fn add_copied(add: Add, builder: &mut SourceMapBuilder<'static>) -> Result<()> {
+    let added = match add {
         Add::NameCopied => builder.add_name_copied("k"),
         Add::SourceCopied => builder.add_source_and_content_copied("b.js", "B"),
-        Add::OtherSourceCopied => builder.set_source_and_content_copied("b.js", "B"),
+        _ => builder.set_source_and_content_copied("b.js", "B"),
     };
-    answer(rt);
+    without_id(added)
+}
+
+fn without_id(added: Result<u32>) -> Result<()> {
     match added {
         Ok(_) => Ok(()),
         Err(error) => Err(error),
     }
+}
+
+fn make_add(rt: &HostRuntime, add: Add, builder: &mut SourceMapBuilder<'static>) -> Result<()> {
+    call(rt);
+    let added = match add {
+        Add::Name | Add::Source | Add::OtherSource | Add::Token => add_borrowed(add, builder),
+        Add::NameCopied | Add::SourceCopied | Add::OtherSourceCopied => add_copied(add, builder),
+    };
+    answer(rt);
+    added
 }
 
 /// Adds a source, a name and a token.
@@ -62,18 +80,33 @@ fn wanted(add: Add) -> &'static str {
     }
 }
 
+/// The text of what is built.
+fn text_of(alloc: Global, builder: SourceMapBuilder<'static>) -> Result<String> {
+    builder.into_sourcemap()?.to_json_string(alloc)
+}
+
+/// The text of what is built once a builder goes on.
+fn text_of_more(alloc: Global, mut builder: SourceMapBuilder<'static>) -> Result<String> {
+    go_on(&mut builder)?;
+    text_of(alloc, builder)
+}
+
+/// How a call ended that adds to a builder, after which this text was built.
+fn added_ended(added: Result<()>, text: &str, wanted: &str) -> Ended {
+    match added {
+        Ok(()) => passed_if(text == wanted),
+        Err(error) if text == UNMET => failed(error),
+        Err(_) => Ended::Wrong,
+    }
+}
+
 /// Adds to a builder.
 pub(crate) fn add_to_builder(rt: &HostRuntime, kind: Add) -> Result<Ended> {
     let mut builder = SourceMapBuilder::empty(rt.alloc());
     builder.set_file("f.js");
     let added = make_add(rt, kind, &mut builder);
-    go_on(&mut builder)?;
-    let text = builder.into_sourcemap()?.to_json_string(rt.alloc())?;
-    Ok(match added {
-        Ok(()) => passed_if(text.as_str() == wanted(kind)),
-        Err(error) if text.as_str() == UNMET => failed(error),
-        Err(_) => Ended::Wrong,
-    })
+    let text = text_of_more(rt.alloc(), builder)?;
+    Ok(added_ended(added, text.as_str(), wanted(kind)))
 }
 
 /// Sets the file of a builder to a copy.

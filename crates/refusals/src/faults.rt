@@ -72,10 +72,15 @@ pub(crate) fn read_faulty(rt: &HostRuntime, version: u32, fault: Error) -> Resul
     Ok(passed_if(read.err() == Some(fault)))
 }
 
+fn full_json(alloc: Global) -> Result<JSONSourceMap> {
+    full_map(alloc)?.to_json(alloc)
+}
+
 fn faulty_json(alloc: Global, version: u32) -> Result<JSONSourceMap> {
-    let mut json = full_map(alloc)?.to_json(alloc)?;
+    let ignored = vec![in alloc; 2u32]?;
+    let mut json = full_json(alloc)?;
     json.version = version;
-    json.ignore_list = Some(vec![in alloc; 2u32]?);
+    json.ignore_list = Some(ignored);
     Ok(json)
 }
 

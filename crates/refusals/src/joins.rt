@@ -4,6 +4,7 @@ use refusals_maps::fixtures::{full_map, lent_map};
 use refusals_maps::made::map_ended;
 use refusals_maps::marks::{Ended, answer, call, failed, passed_if};
 use refusals_maps::owned::owned_ended;
+use std::alloc::Global;
 
 /// A call that adds a map to a join.
 #[derive(Clone, Copy)]
@@ -17,15 +18,14 @@ pub(crate) enum Join {
 /// Adds a map that is lent, at a column or not.
 fn lend<'m>(
     rt: &HostRuntime,
-    is_at: bool,
+    join: Join,
     builder: &mut ConcatSourceMapBuilder<'m>,
     map: &'m SourceMap<'static>,
 ) -> Result<()> {
     call(rt);
-    let added = if is_at {
-        builder.add_sourcemap_at(map, 0, 1)
-    } else {
-        builder.add_sourcemap(map, 0)
+    let added = match join {
+        Join::LentAt => builder.add_sourcemap_at(map, 0, 1),
+        _ => builder.add_sourcemap(map, 0),
     };
     answer(rt);
     added
@@ -34,15 +34,14 @@ fn lend<'m>(
 /// Adds a map that is moved, at a column or not.
 fn give(
     rt: &HostRuntime,
-    is_at: bool,
+    join: Join,
     builder: &mut ConcatSourceMapBuilder<'_>,
     map: SourceMap<'static>,
 ) -> Result<()> {
     call(rt);
-    let added = if is_at {
-        builder.add_sourcemap_owned_at(map, 0, 1)
-    } else {
-        builder.add_sourcemap_owned(map, 0)
+    let added = match join {
+        Join::MovedAt => builder.add_sourcemap_owned_at(map, 0, 1),
+        _ => builder.add_sourcemap_owned(map, 0),
     };
     answer(rt);
     added
@@ -62,23 +61,52 @@ fn wanted(join: Join) -> &'static str {
     }
 }
 
+/// The text of a join.
+fn text_of(alloc: Global, builder: ConcatSourceMapBuilder<'_>) -> Result<String> {
+    builder.into_sourcemap()?.to_json_string(alloc)
+}
+
+/// Adds one more map, on line 1.
+fn go_on(alloc: Global, builder: &mut ConcatSourceMapBuilder<'_>) -> Result<()> {
+    builder.add_sourcemap_owned(lent_map(alloc)?, 1)
+}
+
+/// How a call ended that adds to a join, which then has this text.
+fn added_ended(added: Result<()>, text: &str, wanted: &str) -> Ended {
+    match added {
+        Ok(()) => passed_if(text == wanted),
+        Err(error) if text == UNMET => failed(error),
+        Err(_) => Ended::Wrong,
+    }
+}
+
+/// Adds this map to a join, which is lent.
+fn add_lent<'m>(rt: &HostRuntime, kind: Join, map: &'m SourceMap<'static>) -> Result<Ended> {
+    let mut builder: ConcatSourceMapBuilder<'m> = ConcatSourceMapBuilder::empty(rt.alloc());
+    let added = lend(rt, kind, &mut builder, map);
+    go_on(rt.alloc(), &mut builder)?;
+    let text = text_of(rt.alloc(), builder)?;
+    Ok(added_ended(added, text.as_str(), wanted(kind)))
+}
+
+/// Adds this map to a join, which is moved.
+fn add_moved(rt: &HostRuntime, kind: Join, map: SourceMap<'static>) -> Result<Ended> {
+    let mut builder: ConcatSourceMapBuilder<'static> = ConcatSourceMapBuilder::empty(rt.alloc());
+    let added = give(rt, kind, &mut builder, map);
+    go_on(rt.alloc(), &mut builder)?;
+    let text = text_of(rt.alloc(), builder)?;
+    Ok(added_ended(added, text.as_str(), wanted(kind)))
+}
+
 /// Adds a map to a join.
 pub(crate) fn add_to_join(rt: &HostRuntime, kind: Join) -> Result<Ended> {
-    let lent = full_map(rt.alloc())?;
-    let mut builder = ConcatSourceMapBuilder::empty(rt.alloc());
-    let added = match kind {
-        Join::Lent => lend(rt, false, &mut builder, &lent),
-        Join::LentAt => lend(rt, true, &mut builder, &lent),
-        Join::Moved => give(rt, false, &mut builder, full_map(rt.alloc())?),
-        Join::MovedAt => give(rt, true, &mut builder, full_map(rt.alloc())?),
-    };
-    builder.add_sourcemap_owned(lent_map(rt.alloc())?, 1)?;
-    let text = builder.into_sourcemap()?.to_json_string(rt.alloc())?;
-    Ok(match added {
-        Ok(()) => passed_if(text.as_str() == wanted(kind)),
-        Err(error) if text.as_str() == UNMET => failed(error),
-        Err(_) => Ended::Wrong,
-    })
+    match kind {
+        Join::Lent | Join::LentAt => {
+            let map = full_map(rt.alloc())?;
+            add_lent(rt, kind, &map)
+        }
+        Join::Moved | Join::MovedAt => add_moved(rt, kind, full_map(rt.alloc())?),
+    }
 }
 
 /// The text of the join of that map twice, on the lines 0 and 1.

@@ -16,14 +16,21 @@ pub(crate) fn get_fields(rt: &HostRuntime) -> Result<Ended> {
 
 fn are_got(rt: &HostRuntime, map: &SourceMap<'_>) -> bool {
     call(rt);
-    let is_file = map.get_file() == Some("out.js") && map.get_source_root() == Some("root");
-    let is_id = map.get_debug_id() == Some("dbg") && map.get_name(1) == Some("n1");
-    let is_source = map.get_source(1) == Some("b.js") && map.get_source_content(0) == Some("A");
-    let is_missing = map.get_name(2).is_none() && map.get_source_content(1).is_none();
-    let is_pair = map.get_source_and_content(0) == Some(("a.js", "A"));
-    let is_ignored = map.get_ignore_list() == Some([1u32].as_slice());
+    let texts = [map.get_file(), map.get_source_root(), map.get_debug_id()];
+    let named = [
+        map.get_name(1),
+        map.get_source(1),
+        map.get_source_content(0),
+    ];
+    let missing = [map.get_name(2), map.get_source_content(1)];
+    let pair = map.get_source_and_content(0);
+    let ignored = map.get_ignore_list();
     answer(rt);
-    is_file && is_id && is_source && is_missing && is_pair && is_ignored
+    texts == [Some("out.js"), Some("root"), Some("dbg")]
+        && named == [Some("n1"), Some("b.js"), Some("A")]
+        && missing == [None; 2]
+        && pair == Some(("a.js", "A"))
+        && ignored == Some([1u32].as_slice())
 }
 
 /// The getters of an owned map.
@@ -34,33 +41,44 @@ pub(crate) fn get_owned_fields(rt: &HostRuntime) -> Result<Ended> {
 
 fn are_got_of_owned(rt: &HostRuntime, map: &OwnedSourceMap) -> bool {
     call(rt);
-    let is_file = map.get_file() == Some("out.js") && map.get_source_root() == Some("root");
-    let is_id = map.get_debug_id() == Some("dbg") && map.get_name(1) == Some("n1");
-    let is_source = map.get_source(1) == Some("b.js") && map.get_source_content(0) == Some("A");
-    let is_missing = map.get_name(2).is_none() && map.get_source_content(1).is_none();
-    let is_pair = map.get_source_and_content(0) == Some(("a.js", "A"));
-    let is_ignored = map.get_ignore_list() == Some([1u32].as_slice());
+    let texts = [map.get_file(), map.get_source_root(), map.get_debug_id()];
+    let named = [
+        map.get_name(1),
+        map.get_source(1),
+        map.get_source_content(0),
+    ];
+    let missing = [map.get_name(2), map.get_source_content(1)];
+    let pair = map.get_source_and_content(0);
+    let ignored = map.get_ignore_list();
     answer(rt);
-    is_file && is_id && is_source && is_missing && is_pair && is_ignored
+    texts == [Some("out.js"), Some("root"), Some("dbg")]
+        && named == [Some("n1"), Some("b.js"), Some("A")]
+        && missing == [None; 2]
+        && pair == Some(("a.js", "A"))
+        && ignored == Some([1u32].as_slice())
 }
 
 /// The iterators of a map, and whether it is sorted and sound.
 pub(crate) fn walk(rt: &HostRuntime) -> Result<Ended> {
     let map = full_map(rt.alloc())?;
+    Ok(passed_if(is_walked(rt, &map)))
+}
+
+fn is_walked(rt: &HostRuntime, map: &SourceMap<'_>) -> bool {
     call(rt);
-    let ends = (map.get_names().count(), map.get_sources().count());
+    let ends = [map.get_names().count(), map.get_sources().count()];
     let last = map.get_tokens().last();
     let content = map.get_source_contents().next();
     let view = map.get_source_view_tokens().next();
-    let is_well = map.is_sorted() && map.is_sound();
+    let is_well = [map.is_sorted(), map.is_sound()];
     answer(rt);
     let name = match view {
         Some(view) => view.get_name(),
         None => None,
     };
-    let is_seen = name == Some("n0") && content == Some(Some("A"));
+    let seen = [name, content.flatten()];
     let wanted = Some(Token::new(0, 2, 0, 1, None, None));
-    Ok(passed_if(ends == (2, 2) && last == wanted && is_seen && is_well))
+    ends == [2; 2] && last == wanted && seen == [Some("n0"), Some("A")] && is_well == [true; 2]
 }
 
 /// Lookups in a table, and the search on a line.
@@ -87,19 +105,18 @@ fn finds(rt: &HostRuntime, map: &OwnedSourceMap, table: &[&[Token]]) -> bool {
         Some(view) => Some(view.to_tuple()),
         None => None,
     };
-    let is_seen = map.lookup_source_view_token_approx(table, 0, 1).is_some()
-        && map
-            .as_source_map()
-            .lookup_source_view_token(table, 0, 1)
-            .is_some()
-        && map
-            .as_source_map()
+    let inside = map.as_source_map();
+    let are_seen = [
+        map.lookup_source_view_token_approx(table, 0, 1).is_some(),
+        inside.lookup_source_view_token(table, 0, 1).is_some(),
+        inside
             .lookup_source_view_token_approx(table, 0, 1)
-            .is_some();
+            .is_some(),
+    ];
     answer(rt);
     let token = Some(Token::new(0, 1, 0, 1, Some(1), Some(1)));
     let wanted = Some((Some("b.js"), 0, 1, Some("n1")));
-    found == [token; 6] && original == wanted && is_seen
+    found == [token; 6] && original == wanted && are_seen == [true; 3]
 }
 
 /// Wraps the parts of a map and unwraps them, in each way.

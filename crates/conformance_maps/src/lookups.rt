@@ -88,12 +88,14 @@ fn a_map_finds(rt: &impl Abort, alloc: Global, map: &SourceMap<'_>, lookup: &Loo
     Ok(())
 }
 
+/// The same, of the map inside too.
 fn an_owned_map_finds(
     rt: &impl Abort,
     alloc: Global,
     map: &OwnedSourceMap,
     lookup: &Lookup,
 ) -> Result<()> {
+    a_map_finds(rt, alloc, map.as_source_map(), lookup)?;
     let (rows, line, col, exact, clamped) = *lookup;
     let table = map.generate_lookup_table(alloc)?;
     let table = table.as_slice();
@@ -115,9 +117,8 @@ fn an_owned_map_finds(
 #[test]
 fn tokens_are_looked_up(rt: HostRuntime) -> Result<()> {
     for lookup in lookups() {
-        let map = map_of_rows(rt.alloc(), lookup.0)?;
-        a_map_finds(&rt, rt.alloc(), &map, lookup)?;
-        an_owned_map_finds(&rt, rt.alloc(), &OwnedSourceMap::new(map), lookup)?;
+        let map = OwnedSourceMap::new(map_of_rows(rt.alloc(), lookup.0)?);
+        an_owned_map_finds(&rt, rt.alloc(), &map, lookup)?;
     }
     Ok(())
 }
@@ -231,21 +232,37 @@ fn the_table_that_it_is_handed_is_read(
     Ok(())
 }
 
-fn a_table_asks_for_line_order(rt: &impl Abort, alloc: Global, map: &SourceMap<'_>) {
-    let fault = map.generate_lookup_table(alloc).err();
-    same(rt, "refusal", fault, Some(Error::LineOrder(1)));
-}
-
 /// Tokens whose lines go back.
 const BACK_A_LINE: &[Row] = &[(1, 0, 0, 0, None, None), (0, 0, 0, 0, None, None)];
 
 #[test]
-fn tables_are_made_and_read(rt: HostRuntime) -> Result<()> {
-    a_table_has_a_slice_for_each_line(&rt, rt.alloc(), &map_of_rows(rt.alloc(), LINES)?)?;
-    a_table_asks_for_line_order(&rt, rt.alloc(), &map_of_rows(rt.alloc(), BACK_A_LINE)?);
+fn tables_are_made(rt: HostRuntime) -> Result<()> {
+    let map = map_of_rows(rt.alloc(), LINES)?;
+    a_table_has_a_slice_for_each_line(&rt, rt.alloc(), &map)
+}
+
+#[test]
+fn a_table_asks_for_line_order(rt: HostRuntime) -> Result<()> {
+    let map = map_of_rows(rt.alloc(), BACK_A_LINE)?;
+    let fault = map.generate_lookup_table(rt.alloc()).err();
+    same(&rt, "refusal", fault, Some(Error::LineOrder(1)));
+    Ok(())
+}
+
+/// A lookup in a map with the table of another one.
+fn the_table_of_another_is_read(
+    rt: &impl Abort,
+    alloc: Global,
+    empty: &SourceMap<'_>,
+) -> Result<()> {
+    let other = map_of_rows(alloc, EQUAL)?;
+    the_table_that_it_is_handed_is_read(rt, alloc, empty, &other)
+}
+
+#[test]
+fn tables_are_read(rt: HostRuntime) -> Result<()> {
     let empty = SourceMap::empty(rt.alloc())?;
-    let other = map_of_rows(rt.alloc(), EQUAL)?;
-    the_table_that_it_is_handed_is_read(&rt, rt.alloc(), &empty, &other)
+    the_table_of_another_is_read(&rt, rt.alloc(), &empty)
 }
 
 /// The text of a map, its sources and names, and what lookups find: source, source line, source column and name.

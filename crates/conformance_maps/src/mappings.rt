@@ -305,17 +305,12 @@ fn a_text_reads_as_its_tokens(rt: &impl Abort, alloc: Global, reading: &Reading)
     Ok(())
 }
 
-fn these_read_as_their_tokens(rt: &impl Abort, alloc: Global, rows: &[Reading]) -> Result<()> {
-    for reading in rows {
-        a_text_reads_as_its_tokens(rt, alloc, reading)?;
-    }
-    Ok(())
-}
-
 #[test]
 fn texts_read_as_their_tokens(rt: HostRuntime) -> Result<()> {
     for rows in readings() {
-        these_read_as_their_tokens(&rt, rt.alloc(), rows)?;
+        for reading in rows {
+            a_text_reads_as_its_tokens(&rt, rt.alloc(), reading)?;
+        }
     }
     Ok(())
 }
@@ -363,17 +358,12 @@ fn a_row_is_written(rt: &impl Abort, alloc: Global, writing: &Writing) -> Result
     }
 }
 
-fn these_are_written(rt: &impl Abort, alloc: Global, rows: &[Writing]) -> Result<()> {
-    for writing in rows {
-        a_row_is_written(rt, alloc, writing)?;
-    }
-    Ok(())
-}
-
 #[test]
 fn lists_are_written_as_their_text(rt: HostRuntime) -> Result<()> {
     for rows in writings() {
-        these_are_written(&rt, rt.alloc(), rows)?;
+        for writing in rows {
+            a_row_is_written(&rt, rt.alloc(), writing)?;
+        }
     }
     Ok(())
 }

@@ -163,11 +163,15 @@ fn add_tokens(builder: &mut SourceMapBuilder<'_>, map: &SourceMap<'_>) -> MapRes
     Ok(())
 }
 
+fn add_all<'m>(builder: &mut SourceMapBuilder<'m>, map: &'m SourceMap<'_>) -> MapResult<()> {
+    add_names(builder, map)?;
+    add_tokens(builder, map)
+}
+
 /// A map with the names and the tokens of this one, each added to a builder.
 fn rebuilt<'m>(alloc: Global, map: &'m SourceMap<'_>) -> MapResult<SourceMap<'m>> {
     let mut builder = SourceMapBuilder::empty(alloc);
-    add_names(&mut builder, map)?;
-    add_tokens(&mut builder, map)?;
+    add_all(&mut builder, map)?;
     builder.into_sourcemap()
 }
 
@@ -326,17 +330,22 @@ fn time_lookups(rt: &HostRuntime, map: &SourceMap<'_>) -> Result<(), Fault> {
     time_join(rt, map, table.len())
 }
 
+/// Times each stage on the map that a text reads as.
+fn time_stages(rt: &HostRuntime, text: &str, map: &SourceMap<'_>) -> Result<(), Fault> {
+    let tokens = map.get_tokens().len();
+    time(rt, "parse", Stage::Parse(text), tokens)?;
+    time(rt, "serialize", Stage::Serialize(map), tokens)?;
+    time(rt, "table", Stage::Table(map), tokens)?;
+    time_decode(rt, map)?;
+    time_encode(rt, map)?;
+    time(rt, "build", Stage::Build(map), tokens)?;
+    time_lookups(rt, map)
+}
+
 /// Times each stage on one map.
 pub(crate) fn time_map(rt: &HostRuntime, text: &str) -> Result<(), Fault> {
     let map = SourceMap::from_json_string(rt.alloc(), text)?;
-    let tokens = map.get_tokens().len();
-    time(rt, "parse", Stage::Parse(text), tokens)?;
-    time(rt, "serialize", Stage::Serialize(&map), tokens)?;
-    time(rt, "table", Stage::Table(&map), tokens)?;
-    time_decode(rt, &map)?;
-    time_encode(rt, &map)?;
-    time(rt, "build", Stage::Build(&map), tokens)?;
-    time_lookups(rt, &map)
+    time_stages(rt, text, &map)
 }
 
 fn token_count(map: Option<&SourceMap<'_>>) -> usize {

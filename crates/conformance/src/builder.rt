@@ -1,8 +1,7 @@
 //! Building maps call by call.
-use crate::helpers::{is_written_as, same};
+use crate::helpers::{is_text, is_written_as, same};
 use oxc_sourcemap::{
-    Error, OwnedSourceMap, Result, SourceMap, SourceMapBuilder, SourceMapParts, SourceViewToken,
-    Token, TokenChunk,
+    Error, OwnedSourceMap, Result, SourceMap, SourceMapBuilder, SourceViewToken, Token, TokenChunk,
 };
 use std::alloc::Global;
 use std::process::Abort;
@@ -70,15 +69,15 @@ fn sources_are_added_by_their_path_or_set(rt: &impl Abort, builder: &mut SourceM
 }
 
 #[test]
-fn sources_are_added(rt: HostRuntime) -> Result<()> {
+fn sources_are_added(rt: HostRuntime) {
     let mut builder = SourceMapBuilder::empty(rt.alloc());
     sources_are_added_by_their_path_or_set(&rt, &mut builder);
     is_read_back(
         &rt,
         rt.alloc(),
-        owned_text_of(rt.alloc(), builder)?.as_str(),
+        &owned_text_of(rt.alloc(), builder),
         r#"{"version":3,"names":[],"sources":["a.js","b.js","b.js"],"sourcesContent":["A","B","C"],"mappings":""}"#,
-    )
+    );
 }
 
 /// Adds unmapped tokens at the columns 0 and 1, and one chunk that ends at this index.
@@ -104,19 +103,25 @@ fn a_token_without_a_chunk_is_not_written(rt: &impl Abort, alloc: Global, map: &
 
 #[test]
 fn chunks_are_looked_at_when_the_map_is_written(rt: HostRuntime) -> Result<()> {
-    let short = map_with_columns(rt.alloc(), 1)?;
-    a_token_without_a_chunk_is_not_written(&rt, rt.alloc(), &short);
-    let whole = map_with_columns(rt.alloc(), 2)?;
-    is_written_as(&rt, rt.alloc(), &whole, Ok("A,C"));
+    a_token_without_a_chunk_is_not_written(&rt, rt.alloc(), &map_with_columns(rt.alloc(), 1)?);
+    is_written_as(
+        &rt,
+        rt.alloc(),
+        &map_with_columns(rt.alloc(), 2)?,
+        Ok("A,C"),
+    );
     Ok(())
 }
 
+/// What a JSON text is written as, once it is read.
+fn rewritten(alloc: Global, text: &str) -> Result<String> {
+    SourceMap::from_json_string(alloc, text)?.to_json_string(alloc)
+}
+
 /// Asserts the JSON text of what was built, and that it is read back as a map with that text.
-fn is_read_back(rt: &impl Abort, alloc: Global, text: &str, wanted: &str) -> Result<()> {
-    same(rt, "text", text, wanted);
-    let back = SourceMap::from_json_string(alloc, text)?.to_json_string(alloc)?;
-    same(rt, "read back", back.as_str(), wanted);
-    Ok(())
+fn is_read_back(rt: &impl Abort, alloc: Global, text: &Result<String>, wanted: &str) {
+    is_text(rt, "text", text, Ok(wanted));
+    is_text(rt, "read back", &rewritten(alloc, wanted), Ok(wanted));
 }
 
 /// The example of the README.
@@ -135,30 +140,36 @@ fn build_texts(builder: &mut SourceMapBuilder<'_>) -> Result<()> {
     Ok(())
 }
 
-/// A map of a text that is gone: the builder keeps copies of its words.
-fn words_map(alloc: Global) -> Result<SourceMap<'static>> {
-    let mut builder = SourceMapBuilder::empty(alloc);
+/// Adds a word of a text: the builder keeps copies.
+fn add_word(builder: &mut SourceMapBuilder<'static>, word: &str) -> Result<()> {
+    builder.set_file_copied(word)?;
+    let _name = builder.add_name_copied(word)?;
+    let _again = builder.add_name("x")?;
+    let source = builder.add_source_and_content_copied(word, "")?;
+    builder.add_token(0, source, 0, 0, Some(source), None)
+}
+
+/// Adds the words of a text that is gone then.
+fn add_words(alloc: Global, builder: &mut SourceMapBuilder<'static>) -> Result<()> {
     let text = String::from_str(alloc, "file baz.js x")?;
     for word in text.as_str().split(' ') {
-        builder.set_file_copied(word)?;
-        let _name = builder.add_name_copied(word)?;
-        let _again = builder.add_name("x")?;
-        let source = builder.add_source_and_content_copied(word, "")?;
-        builder.add_token(0, source, 0, 0, Some(source), None)?;
+        add_word(builder, word)?;
     }
     let _other = builder.set_source_and_content_copied("baz.js", "B")?;
-    builder.into_sourcemap()
+    Ok(())
 }
 
 #[test]
 fn strings_are_copied(rt: HostRuntime) -> Result<()> {
-    let map = words_map(rt.alloc())?;
+    let mut builder = SourceMapBuilder::empty(rt.alloc());
+    add_words(rt.alloc(), &mut builder)?;
     is_read_back(
         &rt,
         rt.alloc(),
-        map.to_json_string(rt.alloc())?.as_str(),
+        &text_of(rt.alloc(), builder),
         r#"{"version":3,"file":"x","names":["file","x","baz.js"],"sources":["file","baz.js","x","baz.js"],"sourcesContent":["","","","B"],"mappings":"AAAA,CCAA,CCAA"}"#,
-    )
+    );
+    Ok(())
 }
 
 #[test]
@@ -168,9 +179,10 @@ fn a_bundle_is_built_and_written(rt: HostRuntime) -> Result<()> {
     is_read_back(
         &rt,
         rt.alloc(),
-        text_of(rt.alloc(), builder)?.as_str(),
+        &text_of(rt.alloc(), builder),
         r#"{"version":3,"file":"file","names":["x"],"sources":["baz.js"],"sourcesContent":[""],"mappings":"AAAAA"}"#,
-    )
+    );
+    Ok(())
 }
 
 #[test]
@@ -180,20 +192,18 @@ fn a_map_without_tokens_is_built_and_written(rt: HostRuntime) -> Result<()> {
     is_read_back(
         &rt,
         rt.alloc(),
-        text_of(rt.alloc(), builder)?.as_str(),
+        &text_of(rt.alloc(), builder),
         r#"{"version":3,"file":"file","names":["x"],"sources":["baz.js"],"sourcesContent":[""],"mappings":""}"#,
-    )
-}
-
-fn parts_are_empty(rt: &impl Abort, parts: &SourceMapParts<'_>) {
-    assert!(rt; parts.token_chunks.is_none() && parts.file.is_none());
-    assert!(rt; parts.tokens.is_empty());
+    );
+    Ok(())
 }
 
 #[test]
 fn a_builder_without_anything_gives_an_empty_map(rt: HostRuntime) -> Result<()> {
     let map = SourceMapBuilder::empty(rt.alloc()).into_owned_sourcemap()?;
-    parts_are_empty(&rt, &map.into_parts());
+    let parts = map.into_parts();
+    assert!(rt; parts.token_chunks.is_none() && parts.file.is_none());
+    assert!(rt; parts.tokens.is_empty());
     Ok(())
 }
 

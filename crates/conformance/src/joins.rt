@@ -1,5 +1,5 @@
 //! Joins, and the pieces of chunks.
-use crate::helpers::same;
+use crate::helpers::{is_text, same};
 use crate::rows::{Row, chunks_of, map_of, tokens_of};
 use oxc_sourcemap::{
     ConcatSourceMapBuilder, Error, Result, SourceMap, SourceMapParts, Token, TokenChunk,
@@ -361,10 +361,6 @@ fn seams() -> &'static [Join] {
     SEAMS
 }
 
-fn joins() -> [&'static [Join]; 3] {
-    [texts(), lines(), seams()]
-}
-
 /// Maps, each with its offset.
 type Maps = Vec<(SourceMap<'static>, u32)>;
 
@@ -378,8 +374,9 @@ fn maps_of(alloc: Global, parts: &[Part]) -> Result<Maps> {
     Ok(maps)
 }
 
-/// The joined map, of maps that are moved.
-fn moved(alloc: Global, maps: Maps) -> Result<SourceMap<'static>> {
+/// The joined map of these maps, which are moved.
+fn joined(alloc: Global, parts: &[Part]) -> Result<SourceMap<'static>> {
+    let maps = maps_of(alloc, parts)?;
     ConcatSourceMapBuilder::from_owned_sourcemaps(alloc, maps)?.into_sourcemap()
 }
 
@@ -401,6 +398,12 @@ fn lent_text(alloc: Global, maps: &[(SourceMap<'static>, u32)]) -> Result<String
     }
     let builder = ConcatSourceMapBuilder::from_sourcemaps(alloc, lent_maps.as_slice())?;
     builder.into_owned_sourcemap()?.to_json_string(alloc)
+}
+
+/// The same, of maps that are made for it.
+fn lent_text_of(alloc: Global, parts: &[Part]) -> Result<String> {
+    let maps = maps_of(alloc, parts)?;
+    lent_text(alloc, maps.as_slice())
 }
 
 /// Passes over a map that is too large.
@@ -428,6 +431,11 @@ fn added_text<'m>(alloc: Global, maps: &'m [(SourceMap<'static>, u32)]) -> Resul
     let mut builder: ConcatSourceMapBuilder<'m> = ConcatSourceMapBuilder::empty(alloc);
     add_each(&mut builder, maps)?;
     text_of(alloc, builder)
+}
+
+/// The same, of maps that are dropped then.
+fn added_text_of(alloc: Global, maps: Maps) -> Result<String> {
+    added_text(alloc, maps.as_slice())
 }
 
 /// Adds maps that are moved, one by one, but for those that are too large.
@@ -461,19 +469,9 @@ fn has_tokens_and_chunks(
     Ok(())
 }
 
-fn has_text(rt: &impl Abort, alloc: Global, map: &SourceMap<'_>, text: &str) -> Result<()> {
-    same(rt, "moved", map.to_json_string(alloc)?.as_str(), text);
-    Ok(())
-}
-
-/// The joined map of these maps, which are moved.
-fn joined(alloc: Global, parts: &[Part]) -> Result<SourceMap<'static>> {
-    moved(alloc, maps_of(alloc, parts)?)
-}
-
 fn moved_maps_are_joined(rt: &impl Abort, alloc: Global, join: &Join) -> Result<()> {
     let joined = joined(alloc, join.0)?;
-    has_text(rt, alloc, &joined, join.3)?;
+    is_text(rt, "moved", &joined.to_json_string(alloc), Ok(join.3));
     has_tokens_and_chunks(rt, alloc, &joined.into_parts(), join)
 }
 
@@ -483,10 +481,10 @@ fn maps_are_joined_one_by_one(
     parts: &[Part],
     text: &str,
 ) -> Result<()> {
-    let added = added_text(alloc, maps_of(alloc, parts)?.as_slice())?;
-    same(rt, "added", added.as_str(), text);
-    let moved = moved_text(alloc, maps_of(alloc, parts)?)?;
-    same(rt, "moved one by one", moved.as_str(), text);
+    let added = added_text_of(alloc, maps_of(alloc, parts)?);
+    is_text(rt, "added", &added, Ok(text));
+    let moved = moved_text(alloc, maps_of(alloc, parts)?);
+    is_text(rt, "moved one by one", &moved, Ok(text));
     Ok(())
 }
 
@@ -494,15 +492,14 @@ fn these_are_joined(rt: &impl Abort, alloc: Global, rows: &[Join]) -> Result<()>
     for join in rows {
         moved_maps_are_joined(rt, alloc, join)?;
         maps_are_joined_one_by_one(rt, alloc, join.0, join.3)?;
-        let lent = lent_text(alloc, maps_of(alloc, join.0)?.as_slice())?;
-        same(rt, "lent", lent.as_str(), join.3);
+        is_text(rt, "lent", &lent_text_of(alloc, join.0), Ok(join.3));
     }
     Ok(())
 }
 
 #[test]
 fn maps_are_joined(rt: HostRuntime) -> Result<()> {
-    for rows in joins() {
+    for rows in [texts(), lines(), seams()] {
         these_are_joined(&rt, rt.alloc(), rows)?;
     }
     Ok(())
@@ -570,13 +567,6 @@ fn moved_side_by_side(
     owned_text_of(alloc, builder)
 }
 
-fn is_text(rt: &impl Abort, what: &str, found: &Result<String>, want: Result<&str>) {
-    match found {
-        Ok(text) => same(rt, what, Ok(text.as_str()), want),
-        Err(fault) => same(rt, what, Err(*fault), want),
-    }
-}
-
 #[test]
 fn maps_are_joined_side_by_side(rt: HostRuntime) -> Result<()> {
     for (left, right, column, want) in SIDE_BY_SIDE {
@@ -623,19 +613,14 @@ const TOO_LARGE: &[(&[Part], &str)] = &[
     ),
 ];
 
-/// Lists of maps are refused, and give no map.
-fn lists_are_too_large(rt: &impl Abort, alloc: Global, parts: &[Part]) -> Result<()> {
-    let refused = moved(alloc, maps_of(alloc, parts)?).err();
-    same(rt, "moved", refused, Some(Error::TooLarge));
-    let refused = lent_text(alloc, maps_of(alloc, parts)?.as_slice()).err();
-    same(rt, "lent", refused, Some(Error::TooLarge));
-    Ok(())
-}
-
+/// The lists of maps are refused, and give no map.
 #[test]
 fn joins_past_a_limit_are_refused(rt: HostRuntime) -> Result<()> {
     for (parts, text) in TOO_LARGE {
-        lists_are_too_large(&rt, rt.alloc(), parts)?;
+        let refused = joined(rt.alloc(), parts).err();
+        same(&rt, "moved", refused, Some(Error::TooLarge));
+        let refused = lent_text_of(rt.alloc(), parts).err();
+        same(&rt, "lent", refused, Some(Error::TooLarge));
         maps_are_joined_one_by_one(&rt, rt.alloc(), parts, text)?;
     }
     Ok(())
@@ -684,38 +669,35 @@ fn ignoring_maps(alloc: Global, parts: &[Ignoring]) -> Result<Maps> {
 #[test]
 fn ignore_lists_are_joined(rt: HostRuntime) -> Result<()> {
     for (parts, text) in IGNORE_LISTS {
-        let added = added_text(rt.alloc(), ignoring_maps(rt.alloc(), *parts)?.as_slice())?;
-        same(&rt, "added", added.as_str(), text);
-        let moved = moved_text(rt.alloc(), ignoring_maps(rt.alloc(), *parts)?)?;
-        same(&rt, "moved one by one", moved.as_str(), text);
+        let added = added_text_of(rt.alloc(), ignoring_maps(rt.alloc(), *parts)?);
+        is_text(&rt, "added", &added, Ok(*text));
+        let moved = moved_text(rt.alloc(), ignoring_maps(rt.alloc(), *parts)?);
+        is_text(&rt, "moved one by one", &moved, Ok(*text));
     }
     Ok(())
 }
 
-/// A text, so many times.
-fn repeated(alloc: Global, text: &'static str, times: usize) -> Result<Vec<&'static str>> {
-    let mut all = Vec::new(alloc);
-    for _ in 0..times {
-        all.push(text)?;
-    }
-    Ok(all)
-}
-
 /// A map without tokens, of 1000 names and 100 sources.
 fn large_map(alloc: Global) -> Result<SourceMap<'static>> {
-    let names = repeated(alloc, "name", 1000)?;
-    let sources = repeated(alloc, "source", 100)?;
+    let names = vec![in alloc; "name"; 1000]?;
+    let sources = vec![in alloc; "source"; 100]?;
     map_of(alloc, names.as_slice(), sources.as_slice(), &[], &[])
 }
 
 /// Joins a map, ten lines down, after a large one.
-fn join_after<'m>(
+fn join_after_a_large_map<'m>(
+    alloc: Global,
     builder: &mut ConcatSourceMapBuilder<'m>,
-    large: SourceMap<'static>,
     map: &'m SourceMap<'_>,
 ) -> Result<()> {
-    builder.add_sourcemap_owned(large, 7)?;
+    builder.add_sourcemap_owned(large_map(alloc)?, 7)?;
     builder.add_sourcemap(map, 10)
+}
+
+fn joined_after_a_large_map<'m>(alloc: Global, map: &'m SourceMap<'_>) -> Result<SourceMap<'m>> {
+    let mut builder: ConcatSourceMapBuilder<'m> = ConcatSourceMapBuilder::empty(alloc);
+    join_after_a_large_map(alloc, &mut builder, map)?;
+    builder.into_sourcemap()
 }
 
 fn tokens_are_moved(rt: &impl Abort, joined: &SourceMap<'_>) {
@@ -729,9 +711,7 @@ fn tokens_are_moved(rt: &impl Abort, joined: &SourceMap<'_>) {
 fn tokens_after_a_large_map_are_moved(rt: HostRuntime) -> Result<()> {
     let rows = [(1, 2, 3, 4, Some(5), Some(6)), (2, 0, 0, 0, None, None)];
     let map = map_of(rt.alloc(), &[], &[], &[], rows.as_slice())?;
-    let mut builder = ConcatSourceMapBuilder::empty(rt.alloc());
-    join_after(&mut builder, large_map(rt.alloc())?, &map)?;
-    tokens_are_moved(&rt, &builder.into_sourcemap()?);
+    tokens_are_moved(&rt, &joined_after_a_large_map(rt.alloc(), &map)?);
     Ok(())
 }
 

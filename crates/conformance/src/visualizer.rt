@@ -1,12 +1,13 @@
 //! A map beside its strings: the visual text, and the link to the page that draws it.
-use crate::helpers::same;
+use crate::helpers::is_text;
 use crate::rows::{Row, map_of};
-use oxc_sourcemap::{Error, Result, SourceMap, SourcemapVisualizer};
+use oxc_sourcemap::{Error, Result, SourcemapVisualizer};
 use std::alloc::Global;
-use std::process::Abort;
 
 /// A code, which is the content of the source `a.js` too, tokens, and the visual text.
-const TEXTS: &[(&str, &[Row], &str)] = &[
+type Text = (&'static str, &'static [Row], &'static str);
+
+const TEXTS: &[Text] = &[
     (
         "ab\ncd",
         &[(0, 0, 0, 0, Some(0), None), (1, 1, 1, 0, Some(0), None)],
@@ -60,26 +61,29 @@ const TEXTS: &[(&str, &[Row], &str)] = &[
     ),
 ];
 
-/// Asserts how the code and the map are shown beside each other.
-fn is_shown_as(
-    rt: &impl Abort,
+/// That table, taken from a function: a test that names it itself is proved much more slowly.
+fn texts() -> &'static [Text] {
+    TEXTS
+}
+
+/// The text that shows the code and a map beside each other.
+fn shown_text(
     alloc: Global,
     code: &str,
-    map: &SourceMap<'_>,
-    wanted: &str,
-) -> Result<()> {
-    let text = SourcemapVisualizer::new(code, map).get_text(alloc)?;
-    same(rt, code, text.as_str(), wanted);
-    Ok(())
+    sources: &[&'static str],
+    contents: &[Option<&'static str>],
+    rows: &[Row],
+) -> Result<String> {
+    let map = map_of(alloc, &[], sources, contents, rows)?;
+    SourcemapVisualizer::new(code, &map).get_text(alloc)
 }
 
 #[test]
-fn texts_show_what_is_tied_together(rt: HostRuntime) -> Result<()> {
-    for (code, rows, wanted) in TEXTS {
-        let map = map_of(rt.alloc(), &[], &["a.js"], &[Some(*code)], rows)?;
-        is_shown_as(&rt, rt.alloc(), code, &map, wanted)?;
+fn texts_show_what_is_tied_together(rt: HostRuntime) {
+    for (code, rows, wanted) in texts() {
+        let shown = shown_text(rt.alloc(), code, &["a.js"], &[Some(*code)], rows);
+        is_text(&rt, code, &shown, Ok(*wanted));
     }
-    Ok(())
 }
 
 /// A code, sources, contents and tokens of a map, and the visual text.
@@ -117,26 +121,17 @@ const SHOWN: &[Shown] = &[
 ];
 
 #[test]
-fn what_is_not_there_is_marked_or_left_out(rt: HostRuntime) -> Result<()> {
+fn what_is_not_there_is_marked_or_left_out(rt: HostRuntime) {
     for (code, sources, contents, rows, wanted) in SHOWN {
-        let map = map_of(rt.alloc(), &[], sources, contents, rows)?;
-        is_shown_as(&rt, rt.alloc(), code, &map, wanted)?;
+        let shown = shown_text(rt.alloc(), code, sources, contents, rows);
+        is_text(&rt, code, &shown, Ok(*wanted));
     }
-    Ok(())
 }
 
-/// Asserts the link of a code and a map, or why there is none.
-fn has_the_link(
-    rt: &impl Abort,
-    alloc: Global,
-    code: &str,
-    map: &SourceMap<'_>,
-    wanted: Result<&str>,
-) {
-    match &SourcemapVisualizer::new(code, map).get_url(alloc) {
-        Ok(url) => same(rt, "link", Ok(url.as_str()), wanted),
-        Err(fault) => same(rt, "link", Err(*fault), wanted),
-    }
+/// The link of a code and a map.
+fn link(alloc: Global, code: &str, rows: &[Row]) -> Result<String> {
+    let map = map_of(alloc, &[], &[], &[], rows)?;
+    SourcemapVisualizer::new(code, &map).get_url(alloc)
 }
 
 /// A code, the tokens of a map, and the link that holds both, or why there is none.
@@ -156,10 +151,8 @@ const LINKS: &[(&str, &[Row], Result<&str>)] = &[
 ];
 
 #[test]
-fn the_link_holds_the_code_and_the_map(rt: HostRuntime) -> Result<()> {
+fn the_link_holds_the_code_and_the_map(rt: HostRuntime) {
     for (code, rows, wanted) in LINKS {
-        let map = map_of(rt.alloc(), &[], &[], &[], rows)?;
-        has_the_link(&rt, rt.alloc(), code, &map, *wanted);
+        is_text(&rt, "link", &link(rt.alloc(), code, rows), *wanted);
     }
-    Ok(())
 }

@@ -3,7 +3,7 @@
 
     tools/performance.py [--rounds N] [--beside PROGRAM] [--whole PROGRAM] [--smap PROGRAM] [--only TABLE] [--into FILE] FOLDER
 
---beside names a program like crates/bench over another library (see ./bench), --whole one whose commands are `normalise`, and
+--beside names a program like tools/bench over another library (see ./bench), --whole one whose commands are `normalise`, and
 `compose` of texts separated by lines `---`, the last step's first. Both sides run in turn, and the best of N rounds counts.
 --only prints one of the tables stages, pipelines, processes, growth and builders (of one round, since it takes long).
 --into replaces the part of FILE between the lines `<!-- measured -->` and `<!-- end -->`. Needs Debian's package `time`.

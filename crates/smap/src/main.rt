@@ -9,11 +9,6 @@
 //! An error is printed on standard error after `smap: `, and the status is then 2 for bad arguments and 1 for all else.
 #![tactic(auto)]
 
-#[cfg(test)]
-mod plan_tests;
-#[cfg(test)]
-mod tests;
-
 use smap_run::{Port, RunError, read_words, run};
 use std::alloc::AllocError;
 use std::env;

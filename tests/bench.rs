@@ -1,0 +1,22 @@
+//! The stages of the program of `./bench`, on small maps. (`./check-tests` puts the program's modules beside this file.)
+mod fault;
+mod stages;
+mod timing;
+
+use self::fault::Fault;
+
+#[test]
+fn the_stages_of_a_map_are_timed(rt: HostRuntime) -> Result<(), Fault> {
+    stages::time_map(
+        &rt,
+        r#"{"version":3,"sources":["a.js"],"names":["x"],"mappings":"AAAA,GAAIA"}"#,
+    )
+}
+
+#[test]
+fn a_composition_is_timed(rt: HostRuntime) -> Result<(), Fault> {
+    stages::time_pipeline(
+        &rt,
+        "{\"version\":3,\"names\":[],\"sources\":[\"o.ts\"],\"mappings\":\"AACA\"}\n---\n{\"version\":3,\"names\":[],\"sources\":[\"m.js\"],\"mappings\":\"AAAA\"}",
+    )
+}

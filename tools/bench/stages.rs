@@ -1,0 +1,368 @@
+//! The stages that are timed.
+
+use super::fault::Fault;
+use super::timing::{Run, best};
+use oxc_sourcemap::{
+    ConcatSourceMapBuilder, JSONSourceMap, Result as MapResult, SourceMap, SourceMapBuilder, Token,
+};
+use std::alloc::Global;
+use std::time::Instant;
+
+/// What stands between two maps of an input.
+pub(crate) const SEPARATOR: &str = "\n---\n";
+
+const LOOKUPS: u32 = 100_000;
+
+const COLUMNS: u32 = 200;
+
+const SEED: u64 = 0x9E37_79B9_7F4A_7C15;
+
+const COPIES: u32 = 10;
+
+/// Marsaglia's xorshift generator with the shifts 13, 7 and 17.
+#[derive(Drop)]
+struct XorShift(u64);
+
+impl XorShift {
+    fn next(&mut self) -> u64 {
+        self.0 ^= self.0 << 13;
+        self.0 ^= self.0 >> 7;
+        self.0 ^= self.0 << 17;
+        self.0
+    }
+
+    /// A number below `n`, or 0 if `n` is 0.
+    fn below(&mut self, n: u32) -> u32 {
+        ((self.next() >> 32) as u32).checked_rem(n).unwrap_or(0)
+    }
+}
+
+/// A call that is timed, on what was made for it before. To make what a call consumes, and to drop its result, is not part
+/// of the time.
+#[derive(Clone, Copy)]
+pub(crate) enum Stage<'s, 'd> {
+    /// Reads a JSON text.
+    Parse(&'s str),
+    /// Writes a map as JSON text.
+    Serialize(&'s SourceMap<'d>),
+    /// Makes the lookup table.
+    Table(&'s SourceMap<'d>),
+    /// Reads a `mappings` text, for so many names and sources.
+    Decode(&'s str, usize, usize),
+    /// Adds each name and each token of a map to a builder.
+    Build(&'s SourceMap<'d>),
+    /// Looks up positions, by the table of the map.
+    Lookup(&'s SourceMap<'d>, &'s [&'s [Token]], &'s [(u32, u32)]),
+    /// Joins maps.
+    Join(&'s [(&'s SourceMap<'d>, u32)]),
+    /// Composes maps, the first of which is nearest to the sources.
+    Compose(&'s [SourceMap<'static>]),
+}
+
+impl Stage<'_, '_> {
+    /// Runs the call once.
+    pub(crate) fn run(&self, rt: &HostRuntime) -> Result<Run, Fault> {
+        match *self {
+            Stage::Parse(text) => parse(rt, text),
+            Stage::Serialize(map) => serialize(rt, map),
+            Stage::Table(map) => table(rt, map),
+            Stage::Decode(mappings, names, sources) => decode(rt, mappings, names, sources),
+            Stage::Build(map) => build(rt, map),
+            Stage::Lookup(map, table, positions) => lookup(rt, map, table, positions),
+            Stage::Join(copies) => join(rt, copies),
+            Stage::Compose(maps) => compose(rt, maps),
+        }
+    }
+}
+
+/// Times a stage, and prints its line.
+fn time(rt: &HostRuntime, name: &str, stage: Stage<'_, '_>, tokens: usize) -> Result<(), Fault> {
+    let timed = best(rt, &stage)?;
+    let nanoseconds = timed.best.as_nanos();
+    let made = timed.made;
+    println!(rt;
+        "{{\"stage\":\"{name}\",\"ns\":{nanoseconds},\"tokens\":{tokens},\"made\":{made}}}"
+    )?;
+    Ok(())
+}
+
+fn parse(rt: &HostRuntime, text: &str) -> Result<Run, Fault> {
+    let start = Instant::now(rt)?;
+    let map = SourceMap::from_json_string(rt.alloc(), text)?;
+    Run::ended(rt, start, map.get_tokens().len())
+}
+
+fn serialize(rt: &HostRuntime, map: &SourceMap<'_>) -> Result<Run, Fault> {
+    let start = Instant::now(rt)?;
+    let text = map.to_json_string(rt.alloc())?;
+    Run::ended(rt, start, text.len())
+}
+
+fn table(rt: &HostRuntime, map: &SourceMap<'_>) -> Result<Run, Fault> {
+    let start = Instant::now(rt)?;
+    let table = map.generate_lookup_table(rt.alloc())?;
+    Run::ended(rt, start, table.len())
+}
+
+fn empty_texts(alloc: Global, count: usize) -> MapResult<Vec<String>> {
+    let mut texts = Vec::with_capacity(alloc, count)?;
+    for _ in 0..count {
+        texts.push(String::new(alloc))?;
+    }
+    Ok(texts)
+}
+
+/// A value that has the `mappings` text, and as many names and sources, but nothing else.
+fn bare_json(
+    alloc: Global,
+    mappings: &str,
+    names: usize,
+    sources: usize,
+) -> MapResult<JSONSourceMap> {
+    let mappings = String::from_str(alloc, mappings)?;
+    let names = empty_texts(alloc, names)?;
+    let sources = empty_texts(alloc, sources)?;
+    Ok(JSONSourceMap {
+        version: 3,
+        file: None,
+        mappings,
+        source_root: None,
+        sources,
+        sources_content: None,
+        names,
+        debug_id: None,
+        ignore_list: None,
+    })
+}
+
+fn decode(rt: &HostRuntime, mappings: &str, names: usize, sources: usize) -> Result<Run, Fault> {
+    let json = bare_json(rt.alloc(), mappings, names, sources)?;
+    let start = Instant::now(rt)?;
+    let map = SourceMap::from_json(rt.alloc(), json)?;
+    Run::ended(rt, start, map.get_tokens().len())
+}
+
+fn add_names<'m>(builder: &mut SourceMapBuilder<'m>, map: &'m SourceMap<'_>) -> MapResult<()> {
+    for name in map.get_names() {
+        builder.add_name(name)?;
+    }
+    Ok(())
+}
+
+fn add_tokens(builder: &mut SourceMapBuilder<'_>, map: &SourceMap<'_>) -> MapResult<()> {
+    for token in map.get_tokens() {
+        builder.add_token(
+            token.get_dst_line(),
+            token.get_dst_col(),
+            token.get_src_line(),
+            token.get_src_col(),
+            token.get_source_id(),
+            token.get_name_id(),
+        )?;
+    }
+    Ok(())
+}
+
+fn add_all<'m>(builder: &mut SourceMapBuilder<'m>, map: &'m SourceMap<'_>) -> MapResult<()> {
+    add_names(builder, map)?;
+    add_tokens(builder, map)
+}
+
+/// A map with the names and the tokens of this one, each added to a builder.
+fn rebuilt<'m>(alloc: Global, map: &'m SourceMap<'_>) -> MapResult<SourceMap<'m>> {
+    let mut builder = SourceMapBuilder::empty(alloc);
+    add_all(&mut builder, map)?;
+    builder.into_sourcemap()
+}
+
+fn build(rt: &HostRuntime, map: &SourceMap<'_>) -> Result<Run, Fault> {
+    let start = Instant::now(rt)?;
+    let map = rebuilt(rt.alloc(), map)?;
+    Run::ended(rt, start, map.get_tokens().len())
+}
+
+/// Positions on these lines, the same ones in each run.
+fn some_positions(alloc: Global, lines: u32) -> MapResult<Vec<(u32, u32)>> {
+    let mut random = XorShift(SEED);
+    let mut positions = Vec::new(alloc);
+    for _ in 0..LOOKUPS {
+        let line = random.below(lines);
+        let column = random.below(COLUMNS);
+        positions.push((line, column))?;
+    }
+    Ok(positions)
+}
+
+/// The sum of the source lines that are found, each plus 1.
+fn sum_of_lookups(map: &SourceMap<'_>, table: &[&[Token]], positions: &[(u32, u32)]) -> usize {
+    let mut sum: usize = 0;
+    for (line, column) in positions {
+        if let Some(token) = map.lookup_token(table, *line, *column) {
+            sum = sum.wrapping_add(token.get_src_line() as usize + 1);
+        }
+    }
+    sum
+}
+
+fn lookup(
+    rt: &HostRuntime,
+    map: &SourceMap<'_>,
+    table: &[&[Token]],
+    positions: &[(u32, u32)],
+) -> Result<Run, Fault> {
+    let start = Instant::now(rt)?;
+    let sum = sum_of_lookups(map, table, positions);
+    Run::ended(rt, start, sum)
+}
+
+fn join(rt: &HostRuntime, copies: &[(&SourceMap<'_>, u32)]) -> Result<Run, Fault> {
+    let start = Instant::now(rt)?;
+    let map = ConcatSourceMapBuilder::from_sourcemaps(rt.alloc(), copies)?.into_sourcemap()?;
+    Run::ended(rt, start, map.get_tokens().len())
+}
+
+fn read_maps(alloc: Global, text: &str) -> MapResult<Vec<SourceMap<'static>>> {
+    let mut maps = Vec::new(alloc);
+    for text in text.split(SEPARATOR) {
+        maps.push(SourceMap::from_json_string(alloc, text)?)?;
+    }
+    Ok(maps)
+}
+
+fn copies_of(alloc: Global, maps: &[SourceMap<'static>]) -> MapResult<Vec<SourceMap<'static>>> {
+    let mut copies = Vec::with_capacity(alloc, maps.len())?;
+    for map in maps {
+        copies.push(map.clone(alloc)?)?;
+    }
+    Ok(copies)
+}
+
+/// The composition of maps, the first of which is nearest to the sources.
+fn composed(alloc: Global, maps: Vec<SourceMap<'static>>) -> MapResult<SourceMap<'static>> {
+    let mut maps = maps.into_iter();
+    let mut result = match maps.next() {
+        Some(map) => map,
+        None => SourceMap::empty(alloc)?,
+    };
+    for map in maps {
+        result = map.compose(alloc, result)?;
+    }
+    Ok(result)
+}
+
+fn compose(rt: &HostRuntime, maps: &[SourceMap<'static>]) -> Result<Run, Fault> {
+    let copies = copies_of(rt.alloc(), maps)?;
+    let start = Instant::now(rt)?;
+    let map = composed(rt.alloc(), copies)?;
+    Run::ended(rt, start, map.get_tokens().len())
+}
+
+/// Copies of a map of so many lines, each with the line where it begins.
+fn copies_below<'m, 'd>(
+    alloc: Global,
+    map: &'m SourceMap<'d>,
+    lines: u32,
+) -> MapResult<Vec<(&'m SourceMap<'d>, u32)>> {
+    let mut copies = Vec::new(alloc);
+    for i in 0..COPIES {
+        copies.push((map, i.wrapping_mul(lines)))?;
+    }
+    Ok(copies)
+}
+
+/// A map with the tokens of this one, and nothing else.
+fn bare_map(alloc: Global, map: &SourceMap<'_>) -> MapResult<SourceMap<'static>> {
+    let tokens = map
+        .get_tokens()
+        .as_slice()
+        .to_vec(alloc)?
+        .into_boxed_slice();
+    Ok(SourceMap::new(
+        None,
+        Vec::new(alloc),
+        None,
+        Vec::new(alloc),
+        Vec::new(alloc),
+        tokens,
+        None,
+    ))
+}
+
+/// The reading of this `mappings` text, for as many names and sources as are here.
+fn decoding(json: &JSONSourceMap) -> Stage<'_, 'static> {
+    Stage::Decode(json.mappings.as_str(), json.names.len(), json.sources.len())
+}
+
+fn time_decode(rt: &HostRuntime, map: &SourceMap<'_>) -> Result<(), Fault> {
+    let json = map.to_json(rt.alloc())?;
+    time(rt, "decode", decoding(&json), map.get_tokens().len())
+}
+
+fn time_encode(rt: &HostRuntime, map: &SourceMap<'_>) -> Result<(), Fault> {
+    let bare = bare_map(rt.alloc(), map)?;
+    time(
+        rt,
+        "encode",
+        Stage::Serialize(&bare),
+        map.get_tokens().len(),
+    )
+}
+
+fn time_lookup(rt: &HostRuntime, map: &SourceMap<'_>, table: &[&[Token]]) -> Result<(), Fault> {
+    let lines = u32::try_from(table.len()).unwrap_or(u32::MAX);
+    let positions = some_positions(rt.alloc(), lines)?;
+    let stage = Stage::Lookup(map, table, positions.as_slice());
+    time(rt, "lookup", stage, map.get_tokens().len())
+}
+
+/// Times the join of copies of a map of so many lines, one below the other.
+fn time_join(rt: &HostRuntime, map: &SourceMap<'_>, lines: usize) -> Result<(), Fault> {
+    let lines = u32::try_from(lines).unwrap_or(u32::MAX);
+    let copies = copies_below(rt.alloc(), map, lines)?;
+    let stage = Stage::Join(copies.as_slice());
+    time(rt, "join", stage, map.get_tokens().len())
+}
+
+/// Times the stages that need the lookup table.
+fn time_lookups(rt: &HostRuntime, map: &SourceMap<'_>) -> Result<(), Fault> {
+    let table = map.generate_lookup_table(rt.alloc())?;
+    time_lookup(rt, map, table.as_slice())?;
+    time_join(rt, map, table.len())
+}
+
+/// Times each stage on the map that a text reads as.
+fn time_stages(rt: &HostRuntime, text: &str, map: &SourceMap<'_>) -> Result<(), Fault> {
+    let tokens = map.get_tokens().len();
+    time(rt, "parse", Stage::Parse(text), tokens)?;
+    time(rt, "serialize", Stage::Serialize(map), tokens)?;
+    time(rt, "table", Stage::Table(map), tokens)?;
+    time_decode(rt, map)?;
+    time_encode(rt, map)?;
+    time(rt, "build", Stage::Build(map), tokens)?;
+    time_lookups(rt, map)
+}
+
+/// Times each stage on one map.
+pub(crate) fn time_map(rt: &HostRuntime, text: &str) -> Result<(), Fault> {
+    let map = SourceMap::from_json_string(rt.alloc(), text)?;
+    time_stages(rt, text, &map)
+}
+
+fn token_count(map: Option<&SourceMap<'_>>) -> usize {
+    match map {
+        Some(map) => map.get_tokens().len(),
+        None => 0,
+    }
+}
+
+/// Times the composition of several maps.
+pub(crate) fn time_pipeline(rt: &HostRuntime, text: &str) -> Result<(), Fault> {
+    let maps = read_maps(rt.alloc(), text)?;
+    let maps = maps.as_slice();
+    time(
+        rt,
+        "compose",
+        Stage::Compose(maps),
+        token_count(maps.last()),
+    )
+}

@@ -26,7 +26,7 @@ ghost use Rattle.oxc_sourcemap_handles.specs.Holding.{held_map, held_builder, Ho
 ghost use Rattle.oxc_sourcemap_handles.specs.Places.{counts_of, numbers_of};
 ghost use Rattle.oxc_sourcemap_handles.specs.Joins.{all_held, IsJoinOf, IsJoinRefusal};
 ghost use Rattle.oxc_sourcemap_handles.specs.Builders.{token_of, with_token, with_file, Builds, NameHasNoId, SourceHasNoId, IsBuilderRefusal, IsNameRefusal, IsSourceRefusal, IsFileRefusal};
-ghost use Rattle.oxc_sourcemap_handles.specs.Plans.{plan_of, IsPlanMap, IsPlanRefusal};
+ghost use Rattle.oxc_sourcemap_plan_bytes.specs.Plans.{plan_of, IsPlanMap, IsPlanRefusal};
 ghost use Rattle.oxc_sourcemap_handles.specs.Answers.{IsRefusedAs, IsReadRefusal, IsCompositionRefusal, HasLength, ignored_at, flag_of};
 ghost use Rattle.oxc_sourcemap_handles.specs.Traces.{IsTrace, IsTraceRefusal, AreTracesOf, IsTraceAllRefusal};
 ghost use Rattle.oxc_sourcemap_c.specs.Exports.{IsRefused, Found, HoldsText, HoldsWritten, IsWritingRefusal};
@@ -34,10 +34,11 @@ ghost use Rattle.oxc_sourcemap_c.specs.Exports.{IsRefused, Found, HoldsText, Hol
 use oxc_sourcemap_faults::{Fault, write_message};
 use oxc_sourcemap_handles::{
     Asked, Counts, Handle, Place, Position, Text, TokenNumbers, add_name, add_source, add_token,
-    answered, answered_all, compose, counts, data_url, evaluate_bytes, finish, ignored, is_sorted,
-    join, json, noted, placed, put_builder, put_map, put_text, read, set_file, text_of_map, token,
-    traced, traced_all, written_text,
+    answered, answered_all, compose, counts, data_url, finish, ignored, is_sorted, join, json,
+    noted, placed, put_builder, put_map, put_text, read, set_file, text_of_map, token, traced,
+    traced_all, written_text,
 };
+use oxc_sourcemap_plan_bytes::evaluate_bytes;
 use std::alloc::Global;
 
 /// Puts the map of a JSON text into a handle.

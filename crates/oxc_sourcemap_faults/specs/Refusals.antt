@@ -1,11 +1,10 @@
--- The texts of refusals, as bytes, and what an error of a plan's words is here.
-use Rattle.std.specs.Prelude.{ℕ, List, ◌++◌, codes, decimal}
+-- The texts of refusals, as bytes, and which refusals stand for errors.
+use Rattle.std.specs.Prelude.{◌≡◌, ℕ, List, ◌++◌, codes, decimal, IsUtf8}
+use Rattle.std.specs.Str.Lossy.{utf8_valid_len}
 use Rattle.oxc_sourcemap.specs.Error.{Error}
 use Rattle.oxc_sourcemap.specs.Error.TheVariants.{OutOfMemory}
 use Rattle.oxc_sourcemap.specs.PlanError.TheVariants.{Map}
 use Rattle.oxc_sourcemap.specs.PlanMessages.{plan_error_text}
-use Rattle.smap_run.specs.declared.running.RunError.{RunError}
-use Rattle.smap_run.specs.declared.running.RunError.TheVariants.{Plan as PlanFails, Read, Write, Utf8, Arguments, NoText as NoInput}
 use Rattle.oxc_sourcemap_faults.specs.declared.refusal.Refusal.{Refusal}
 use Rattle.oxc_sourcemap_faults.specs.declared.refusal.Refusal.TheVariants.{Plan, Words, NoText, EmptyHandle, NotUtf8, Lengths, NoEntry}
 
@@ -26,11 +25,6 @@ of_map e = Plan (Map e)
 abbrev pub out_of_memory : Refusal
 out_of_memory = Plan (Map OutOfMemory)
 
--- an error of a plan: all but a missing text and an error of evaluation say that the words are no plan
-abbrev pub refusal_of_run : RunError → Refusal
-refusal_of_run (PlanFails error) = Plan error
-refusal_of_run Read = Words
-refusal_of_run Write = Words
-refusal_of_run Utf8 = Words
-refusal_of_run Arguments = Words
-refusal_of_run (NoInput k) = NoText k
+-- bytes are not UTF-8, and the refusal says where
+abbrev pub IsNotText : List ℕ → Refusal → Type 0
+IsNotText bytes r = ¬ (IsUtf8 bytes) × (r ≡ NotUtf8 (utf8_valid_len bytes))

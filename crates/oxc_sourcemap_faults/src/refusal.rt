@@ -3,10 +3,9 @@ ghost use Rattle.std.specs.Prelude.{◌≡◌, Some};
 ghost use Rattle.oxc_sourcemap.specs.Error.TheVariants.{OutOfMemory};
 ghost use Rattle.oxc_sourcemap.specs.PlanError.TheVariants.{Map};
 ghost use Rattle.oxc_sourcemap_faults.specs.declared.refusal.Refusal.TheVariants.{Plan};
-ghost use Rattle.oxc_sourcemap_faults.specs.Refusals.{refusal_text, out_of_memory, refusal_of_run};
+ghost use Rattle.oxc_sourcemap_faults.specs.Refusals.{refusal_text, out_of_memory};
 
 use oxc_sourcemap::{Error, PlanError};
-use smap_run::RunError;
 use std::alloc::{AllocError, AllocFailed};
 use std::fmt;
 
@@ -35,17 +34,6 @@ impl Refusal {
         ensures { result ≡ out_of_memory }
     {
         Refusal::Plan(PlanError::Map(Error::OutOfMemory))
-    }
-
-    /// The refusal that stands for an error of reading or evaluating a plan.
-    pub fn of_run(error: RunError) -> Refusal
-        ensures { result ≡ refusal_of_run error }
-    {
-        match error {
-            RunError::Plan(error) => Refusal::Plan(error),
-            RunError::NoText(number) => Refusal::NoText(number),
-            _ => Refusal::Words,
-        }
     }
 }
 

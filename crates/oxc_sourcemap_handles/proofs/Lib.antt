@@ -1,6 +1,5 @@
 pub mod Values
 pub mod Traces
 pub mod Composing
-pub mod Planned
 pub mod Joining
 pub mod Memory

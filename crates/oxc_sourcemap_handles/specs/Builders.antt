@@ -11,8 +11,7 @@ use Rattle.oxc_sourcemap_handles.specs.declared.text.TokenNumbers.{TokenNumbers}
 use Rattle.oxc_sourcemap_faults.specs.declared.refusal.Refusal.{Refusal}
 use Rattle.oxc_sourcemap_faults.specs.declared.refusal.Refusal.TheVariants.{EmptyHandle}
 use Rattle.oxc_sourcemap_handles.specs.Holding.{held_builder}
-use Rattle.oxc_sourcemap_faults.specs.Refusals.{of_map}
-use Rattle.oxc_sourcemap_handles.specs.Plans.{IsNotText}
+use Rattle.oxc_sourcemap_faults.specs.Refusals.{of_map, IsNotText}
 
 -- the token of these numbers; 4294967295 stands for no id
 abbrev pub token_of : TokenNumbers → TokenRecord

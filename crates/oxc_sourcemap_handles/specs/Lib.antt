@@ -4,7 +4,6 @@ pub mod Indexed
 pub mod Places
 pub mod Traces
 pub mod Answers
-pub mod Plans
 pub mod Joins
 pub mod Steps
 pub mod Builders

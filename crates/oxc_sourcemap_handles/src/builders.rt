@@ -15,10 +15,9 @@ ghost use Rattle.oxc_sourcemap_handles.specs.Builders.{token_of, with_token, wit
 use crate::handle::Handle;
 use crate::held::Held;
 use crate::operations::put;
-use crate::plans::text_of;
 use crate::text::TokenNumbers;
 use oxc_sourcemap::{OwnedSourceMap, SourceMapBuilder};
-use oxc_sourcemap_faults::{Fault, Refusal};
+use oxc_sourcemap_faults::{Fault, Refusal, text_of};
 use std::alloc::Global;
 
 /// What a call does to a builder.

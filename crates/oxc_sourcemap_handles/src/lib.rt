@@ -9,7 +9,6 @@ mod joins;
 mod lookups;
 mod loose;
 mod operations;
-mod plans;
 mod text;
 
 pub use asked::Asked;
@@ -21,5 +20,4 @@ pub use lookups::{
     traced, traced_all, written_text,
 };
 pub use operations::{compose, put_map, put_text, read};
-pub use plans::evaluate_bytes;
 pub use text::{Counts, Place, Position, Text, TokenNumbers};

@@ -13,9 +13,8 @@ ghost use Rattle.oxc_sourcemap_handles.specs.Answers.{IsReadRefusal, IsCompositi
 
 use crate::handle::Handle;
 use crate::held::{Held, LoadedMap};
-use crate::plans::text_of;
 use oxc_sourcemap::OwnedSourceMap;
-use oxc_sourcemap_faults::{Fault, Refusal};
+use oxc_sourcemap_faults::{Fault, Refusal, text_of};
 use std::alloc::Global;
 
 /// The map of a JSON text.

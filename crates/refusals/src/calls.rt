@@ -1,29 +1,32 @@
 //! The calls, by name.
-use crate::builders::{Add, add_to_builder, finish_builder, finish_builder_owned, set_file_copied};
 use crate::commands::{
-    Order, read_arguments, read_arguments_of_plan, run_command, split_input, trace_position,
-};
-use crate::faults::{
-    IGNORED, VERSION, compose_faulty, join_faulty, make_faulty_table, read_faulty, write_faulty,
-};
-use crate::joins::{
-    Join, add_to_join, finish_join, finish_join_owned, join_lent, join_moved, take_room,
-};
-use crate::takes_none::{
-    get_fields, get_owned_fields, look_up, make_empty, make_values, walk, wrap,
+    Order, make_port, read_arguments, read_arguments_of_plan, run_command, split_input,
+    trace_position,
 };
 use oxc_sourcemap::Error;
+use refusals_builders::builders::{
+    Add, add_to_builder, finish_builder, finish_builder_owned, set_file_copied,
+};
+use refusals_builders::faults::{
+    IGNORED, VERSION, compose_faulty, join_faulty, make_faulty_table, read_faulty, write_faulty,
+};
+use refusals_builders::joins::{
+    Join, add_to_join, finish_join, finish_join_owned, join_lent, join_moved, take_room,
+};
+use refusals_builders::takes_none::{
+    get_fields, get_owned_fields, look_up, make_empty, make_values, walk, wrap,
+};
 use refusals_maps::fields::{Setter, set_field, set_owned_field};
 use refusals_maps::indexed::{read_file, read_indexed};
 use refusals_maps::lists::{make_table, read_mappings};
 use refusals_maps::made::{
     Make, MakeJson, clone_parts, compose, make_json, make_map, own_texts, read_json,
 };
-use refusals_maps::marks::Ended;
 use refusals_maps::owned::{
     clone_owned, compose_owned, evaluate_plan, own, read_owned_json, read_owned_text,
 };
 use refusals_maps::texts::{Append, Text, append_text, write_text};
+use refusals_marks::marks::Ended;
 use smap_run::RunError;
 
 /// A call, or several that take no memory.
@@ -66,6 +69,7 @@ pub(crate) enum Call {
     Wrap,
     MakeEmpty,
     MakeValues,
+    MakePort,
     WriteFaulty,
     MakeFaultyTable,
     ReadFaulty(u32, Error),
@@ -372,7 +376,8 @@ const TAKE_NONE: &[Named] = &[
         Call::FinishJoin,
     ),
     ("none", "empty", Call::MakeEmpty),
-    ("none", "chunk_fault, Port, status", Call::MakeValues),
+    ("none", "chunk_fault", Call::MakeValues),
+    ("none", "Port, status", Call::MakePort),
     ("none", "read_words", Call::ReadArguments),
 ];
 
@@ -512,6 +517,7 @@ fn made(rt: &HostRuntime, call: Call) -> Result<Ended, Error> {
 /// Makes a call of the program's library.
 fn ran(rt: &HostRuntime, call: Call) -> Result<Ended, RunError> {
     match call {
+        Call::MakePort => make_port(rt),
         Call::ReadArguments => read_arguments(rt),
         Call::SplitInput => split_input(rt),
         Call::ReadPlan => read_arguments_of_plan(rt),

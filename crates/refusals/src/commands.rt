@@ -1,7 +1,8 @@
 //! Calls of the program's library.
 use oxc_sourcemap::Error;
-use refusals_maps::marks::{Ended, answer, call, failed, passed_if, plan_failed};
+use refusals_marks::marks::{Ended, answer, call, failed, passed_if, plan_failed};
 use smap_run::{Command, Port, RunError, inputs_of, read_plan, read_words, run, trace};
+use std::alloc::AllocError;
 
 /// What the program is asked to do.
 #[derive(Clone, Copy)]
@@ -126,4 +127,16 @@ pub(crate) fn trace_position(rt: &HostRuntime) -> Result<Ended, RunError> {
         Ok(line) => passed_if(line.as_str() == "\"a.js\":0:4 \"x\""),
         Err(error) => plan_failed(error),
     })
+}
+
+/// Ports and errors.
+pub(crate) fn make_port(rt: &HostRuntime) -> Result<Ended, RunError> {
+    let text: &[u8] = b"text";
+    call(rt);
+    let port = Port::new(text);
+    let is_unset = !port.failed();
+    let left = port.into_inner();
+    let status = RunError::from(Error::from(AllocError)).status();
+    answer(rt);
+    Ok(passed_if(is_unset && left.len() == 4 && status == 1))
 }

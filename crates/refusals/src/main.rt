@@ -9,15 +9,11 @@
 //! a line `answer` after it: what is prepared before and compared after it is not refused.
 #![tactic(auto)]
 
-mod builders;
 mod calls;
 mod commands;
-mod faults;
-mod joins;
-mod takes_none;
 
 use crate::calls::{Call, Named, all_calls, ended};
-use refusals_maps::marks::Ended;
+use refusals_marks::marks::Ended;
 use std::process::ExitCode;
 use std::{env, io};
 

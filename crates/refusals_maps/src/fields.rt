@@ -1,7 +1,7 @@
 //! Setters. A refused one leaves the map as it was.
-use crate::fixtures::{TEXT, full_map, full_owned_map, has_text};
-use crate::marks::{Ended, answer, call, failed, passed_if};
 use oxc_sourcemap::{OwnedSourceMap, Result, SourceMap};
+use refusals_marks::fixtures::{TEXT, full_map, full_owned_map, has_text};
+use refusals_marks::marks::{Ended, answer, call, failed, passed_if};
 
 /// A setter.
 #[derive(Clone, Copy)]

@@ -1,7 +1,7 @@
 //! Calls that read an indexed map.
-use crate::made::map_ended;
-use crate::marks::{Ended, answer, call, failed, passed_if};
 use oxc_sourcemap::{Result, SourceMap, decode_from_string, decode_value, file_from_value};
+use refusals_marks::ended::map_ended;
+use refusals_marks::marks::{Ended, answer, call, failed, passed_if};
 use serde_json::Value;
 
 /// An indexed map of two sections, each with a source and a name of its own.

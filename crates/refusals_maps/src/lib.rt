@@ -3,10 +3,8 @@
 #![tactic(auto)]
 
 pub mod fields;
-pub mod fixtures;
 pub mod indexed;
 pub mod lists;
 pub mod made;
-pub mod marks;
 pub mod owned;
 pub mod texts;

@@ -1,7 +1,7 @@
 //! Calls that give a list.
-use crate::fixtures::full_owned_map;
-use crate::marks::{Ended, answer, call, failed, passed_if};
 use oxc_sourcemap::{OwnedSourceMap, Result, Token, decode_mappings};
+use refusals_marks::fixtures::full_owned_map;
+use refusals_marks::marks::{Ended, answer, call, failed, passed_if};
 
 /// Reads a `mappings` text.
 pub fn read_mappings(rt: &HostRuntime) -> Result<Ended> {

@@ -1,11 +1,12 @@
 //! Calls that make a map or a JSON source map.
-use crate::fixtures::{
-    INPUT_TEXT, LENT_TEXT, TEXT, full_map, full_owned_map, has_text, lent_map, lent_parts,
-};
-use crate::marks::{Ended, answer, call, failed, passed_if};
 use oxc_sourcemap::{
     JSONSourceMap, OwnedSourceMap, Result, SourceMap, decode, decode_from_string, encode,
 };
+use refusals_marks::ended::map_ended;
+use refusals_marks::fixtures::{
+    INPUT_TEXT, LENT_TEXT, TEXT, full_map, full_owned_map, lent_map, lent_parts,
+};
+use refusals_marks::marks::{Ended, answer, call, failed};
 use serde_json::Value;
 
 /// A call that makes a map.
@@ -26,14 +27,6 @@ fn made(rt: &HostRuntime, make: Make, map: &SourceMap<'static>) -> Result<Source
     };
     answer(rt);
     made
-}
-
-/// How a call ended that has to make the map of a text.
-pub fn map_ended(rt: &HostRuntime, made: &Result<SourceMap<'_>>, wanted: &str) -> Result<Ended> {
-    Ok(match made {
-        Ok(map) => passed_if(has_text(rt.alloc(), map, wanted)?),
-        Err(error) => failed(*error),
-    })
 }
 
 /// Makes a call that makes a map. The map that a clone is made of stays as it is.

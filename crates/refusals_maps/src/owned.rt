@@ -1,16 +1,9 @@
 //! Calls that make an owned map.
-use crate::fixtures::{INPUT_TEXT, LENT_TEXT, TEXT, full_map, full_owned_map, has_text, lent_map};
 use crate::made::COMPOSED;
-use crate::marks::{Ended, answer, call, failed, passed_if, plan_failed};
 use oxc_sourcemap::{OwnedSourceMap, Plan, Result, evaluate};
-
-/// How a call ended that has to make the owned map of a text.
-pub fn owned_ended(rt: &HostRuntime, made: &Result<OwnedSourceMap>, wanted: &str) -> Result<Ended> {
-    Ok(match made {
-        Ok(map) => passed_if(has_text(rt.alloc(), map.as_source_map(), wanted)?),
-        Err(error) => failed(*error),
-    })
-}
+use refusals_marks::ended::owned_ended;
+use refusals_marks::fixtures::{INPUT_TEXT, LENT_TEXT, TEXT, full_map, full_owned_map, lent_map};
+use refusals_marks::marks::{Ended, answer, call, failed, plan_failed};
 
 /// Reads the JSON text of an owned map.
 pub fn read_owned_text(rt: &HostRuntime) -> Result<Ended> {

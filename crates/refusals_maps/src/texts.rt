@@ -1,10 +1,10 @@
 //! Calls that write a text.
-use crate::fixtures::{TEXT, full_owned_map};
-use crate::marks::{Ended, answer, call, failed, passed_if};
 use oxc_sourcemap::{
     OwnedSourceMap, Result, SourcemapVisualizer, Token, TokenChunk, encode_chunk, encode_mappings,
     encode_to_string, push_json_string,
 };
+use refusals_marks::fixtures::{TEXT, full_owned_map};
+use refusals_marks::marks::{Ended, answer, call, failed, passed_if};
 use std::alloc::Global;
 
 /// A call that gives a text.

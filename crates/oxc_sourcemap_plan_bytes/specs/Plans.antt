@@ -1,17 +1,17 @@
 -- Plans: words separated by single spaces, over texts that lines of exactly `---` part.
 use Rattle.std.specs.Prelude.{◌≡◌, ◌==◌, ◌⊎◌, ℕ, List, Result, Ok, Err, IsUtf8}
 use Rattle.std.specs.List.{slice_split}
-use Rattle.std.specs.Str.Lossy.{utf8_valid_len}
 use Rattle.oxc_sourcemap.specs.Record.{Text, MapRecord}
 use Rattle.oxc_sourcemap.specs.PlanError.{PlanError}
 use Rattle.oxc_sourcemap.specs.Outcome.{Outcome}
 use Rattle.oxc_sourcemap.specs.Evaluated.{IsEvaluated, IsFailure}
 use Rattle.smap_run.specs.declared.running.RunError.{RunError}
+use Rattle.smap_run.specs.declared.running.RunError.TheVariants.{Plan as PlanFails, Read, Write, Utf8, Arguments, NoText as NoInput}
 use Rattle.smap_run.specs.PlanInputs.{inputs_of}
 use Rattle.smap_run.specs.PlanArguments.{parsed_plan}
 use Rattle.oxc_sourcemap_faults.specs.declared.refusal.Refusal.{Refusal}
-use Rattle.oxc_sourcemap_faults.specs.declared.refusal.Refusal.TheVariants.{Plan, NotUtf8}
-use Rattle.oxc_sourcemap_faults.specs.Refusals.{refusal_of_run}
+use Rattle.oxc_sourcemap_faults.specs.declared.refusal.Refusal.TheVariants.{Plan, Words, NoText}
+use Rattle.oxc_sourcemap_faults.specs.Refusals.{IsNotText}
 
 -- the words of a plan: what stands between spaces
 abbrev pub words_of : Text → List Text
@@ -20,6 +20,15 @@ words_of text = slice_split (λ b. b == 32) text
 -- the outcome of the plan that words say over texts, or why they say none
 abbrev pub plan_of : Text → Text → Result Outcome RunError
 plan_of words texts = parsed_plan (inputs_of texts) (words_of words)
+
+-- an error of a plan: all but a missing text and an error of evaluation say that the words are no plan
+abbrev pub refusal_of_run : RunError → Refusal
+refusal_of_run (PlanFails error) = Plan error
+refusal_of_run Read = Words
+refusal_of_run Write = Words
+refusal_of_run Utf8 = Words
+refusal_of_run Arguments = Words
+refusal_of_run (NoInput k) = NoText k
 
 -- the map of a plan is as its outcome says
 abbrev pub IsPlanMap : Result Outcome RunError → MapRecord → Type 0
@@ -30,10 +39,6 @@ IsPlanMap (Ok o) m = IsEvaluated m o
 abbrev pub IsPlanFailure : Result Outcome RunError → Refusal → Type 0
 IsPlanFailure (Err e) r = r ≡ refusal_of_run e
 IsPlanFailure (Ok o) r = (p : PlanError) × IsFailure o p × (r ≡ Plan p)
-
--- bytes are not UTF-8, and the refusal says where
-abbrev pub IsNotText : List ℕ → Refusal → Type 0
-IsNotText bytes r = ¬ (IsUtf8 bytes) × (r ≡ NotUtf8 (utf8_valid_len bytes))
 
 -- why words and texts give no map
 abbrev pub IsPlanRefusal : List ℕ → List ℕ → Refusal → Type 0

@@ -3,13 +3,12 @@ use oxc_sourcemap::{
     ConcatSourceMapBuilder, Error, OwnedSourceMap, Result, SourceMap, SourceMapBuilder,
     SourceMapParts, SourcemapVisualizer, Token, TokenChunk, chunk_fault,
 };
-use refusals_maps::fixtures::{full_map, full_owned_map, lent_parts};
-use refusals_maps::marks::{Ended, answer, call, passed_if};
-use smap_run::{Port, RunError};
-use std::alloc::{AllocError, Global};
+use refusals_marks::fixtures::{full_map, full_owned_map, lent_parts};
+use refusals_marks::marks::{Ended, answer, call, passed_if};
+use std::alloc::Global;
 
 /// The getters of a map.
-pub(crate) fn get_fields(rt: &HostRuntime) -> Result<Ended> {
+pub fn get_fields(rt: &HostRuntime) -> Result<Ended> {
     let map = full_map(rt.alloc())?;
     Ok(passed_if(are_got(rt, &map)))
 }
@@ -34,7 +33,7 @@ fn are_got(rt: &HostRuntime, map: &SourceMap<'_>) -> bool {
 }
 
 /// The getters of an owned map.
-pub(crate) fn get_owned_fields(rt: &HostRuntime) -> Result<Ended> {
+pub fn get_owned_fields(rt: &HostRuntime) -> Result<Ended> {
     let map = full_owned_map(rt.alloc())?;
     Ok(passed_if(are_got_of_owned(rt, &map)))
 }
@@ -59,7 +58,7 @@ fn are_got_of_owned(rt: &HostRuntime, map: &OwnedSourceMap) -> bool {
 }
 
 /// The iterators of a map, and whether it is sorted and sound.
-pub(crate) fn walk(rt: &HostRuntime) -> Result<Ended> {
+pub fn walk(rt: &HostRuntime) -> Result<Ended> {
     let map = full_map(rt.alloc())?;
     Ok(passed_if(is_walked(rt, &map)))
 }
@@ -82,7 +81,7 @@ fn is_walked(rt: &HostRuntime, map: &SourceMap<'_>) -> bool {
 }
 
 /// Lookups in a table, and the search on a line.
-pub(crate) fn look_up(rt: &HostRuntime) -> Result<Ended> {
+pub fn look_up(rt: &HostRuntime) -> Result<Ended> {
     let map = full_owned_map(rt.alloc())?;
     let table = map.generate_lookup_table(rt.alloc())?;
     let table = table.as_slice();
@@ -120,7 +119,7 @@ fn finds(rt: &HostRuntime, map: &OwnedSourceMap, table: &[&[Token]]) -> bool {
 }
 
 /// Wraps the parts of a map and unwraps them, in each way.
-pub(crate) fn wrap(rt: &HostRuntime) -> Result<Ended> {
+pub fn wrap(rt: &HostRuntime) -> Result<Ended> {
     let parts = lent_parts(rt.alloc())?;
     call(rt);
     let map = SourceMap::from(parts);
@@ -160,7 +159,7 @@ fn an_empty_join_is_sound(alloc: Global) -> Result<bool> {
 }
 
 /// Maps and builders with nothing in them.
-pub(crate) fn make_empty(rt: &HostRuntime) -> Result<Ended> {
+pub fn make_empty(rt: &HostRuntime) -> Result<Ended> {
     let alloc = rt.alloc();
     call(rt);
     let maps = [
@@ -176,18 +175,13 @@ pub(crate) fn make_empty(rt: &HostRuntime) -> Result<Ended> {
     Ok(passed_if(maps == [true; 3] && built == [true; 2]))
 }
 
-/// Chunks, visualizers, ports and errors.
-pub(crate) fn make_values(rt: &HostRuntime) -> Result<Ended> {
+/// Chunks and visualizers.
+pub fn make_values(rt: &HostRuntime) -> Result<Ended> {
     let map = full_map(rt.alloc())?;
-    let text: &[u8] = b"text";
     call(rt);
     let chunks = [TokenChunk::new(0, 3, 0, 0, 0, 0, 0, 0)];
     let fault = chunk_fault(map.get_tokens().as_slice(), chunks.as_slice());
     let _shown = SourcemapVisualizer::new("ab", &map);
-    let port = Port::new(text);
-    let is_unset = !port.failed();
-    let left = port.into_inner();
-    let status = RunError::from(Error::from(AllocError)).status();
     answer(rt);
-    Ok(passed_if(fault.is_none() && is_unset && left.len() == 4 && status == 1))
+    Ok(passed_if(fault.is_none()))
 }

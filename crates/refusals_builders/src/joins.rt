@@ -1,14 +1,13 @@
 //! Calls of `ConcatSourceMapBuilder`. After a refused call the builder goes on as if the call had not been made.
 use oxc_sourcemap::{ConcatSourceMapBuilder, Result, SourceMap};
-use refusals_maps::fixtures::{full_map, lent_map};
-use refusals_maps::made::map_ended;
-use refusals_maps::marks::{Ended, answer, call, failed, passed_if};
-use refusals_maps::owned::owned_ended;
+use refusals_marks::ended::{map_ended, owned_ended};
+use refusals_marks::fixtures::{full_map, lent_map};
+use refusals_marks::marks::{Ended, answer, call, failed, passed_if};
 use std::alloc::Global;
 
 /// A call that adds a map to a join.
 #[derive(Clone, Copy)]
-pub(crate) enum Join {
+pub enum Join {
     Lent,
     LentAt,
     Moved,
@@ -99,7 +98,7 @@ fn add_moved(rt: &HostRuntime, kind: Join, map: SourceMap<'static>) -> Result<En
 }
 
 /// Adds a map to a join.
-pub(crate) fn add_to_join(rt: &HostRuntime, kind: Join) -> Result<Ended> {
+pub fn add_to_join(rt: &HostRuntime, kind: Join) -> Result<Ended> {
     match kind {
         Join::Lent | Join::LentAt => {
             let map = full_map(rt.alloc())?;
@@ -129,7 +128,7 @@ fn joined_ended(
 }
 
 /// Takes room for a join.
-pub(crate) fn take_room(rt: &HostRuntime) -> Result<Ended> {
+pub fn take_room(rt: &HostRuntime) -> Result<Ended> {
     call(rt);
     let made = ConcatSourceMapBuilder::with_capacity(rt.alloc(), 1, 2, 3, 4);
     answer(rt);
@@ -141,7 +140,7 @@ pub(crate) fn take_room(rt: &HostRuntime) -> Result<Ended> {
 }
 
 /// Joins maps that are lent.
-pub(crate) fn join_lent(rt: &HostRuntime) -> Result<Ended> {
+pub fn join_lent(rt: &HostRuntime) -> Result<Ended> {
     let map = lent_map(rt.alloc())?;
     let maps = [(&map, 0), (&map, 1)];
     call(rt);
@@ -151,7 +150,7 @@ pub(crate) fn join_lent(rt: &HostRuntime) -> Result<Ended> {
 }
 
 /// Joins maps that are moved.
-pub(crate) fn join_moved(rt: &HostRuntime) -> Result<Ended> {
+pub fn join_moved(rt: &HostRuntime) -> Result<Ended> {
     let maps = vec![in rt.alloc(); (lent_map(rt.alloc())?, 0), (lent_map(rt.alloc())?, 1)]?;
     call(rt);
     let made = ConcatSourceMapBuilder::from_owned_sourcemaps(rt.alloc(), maps);
@@ -168,7 +167,7 @@ fn joined(rt: &HostRuntime) -> Result<ConcatSourceMapBuilder<'static>> {
 }
 
 /// Makes the map of a join.
-pub(crate) fn finish_join(rt: &HostRuntime) -> Result<Ended> {
+pub fn finish_join(rt: &HostRuntime) -> Result<Ended> {
     let builder = joined(rt)?;
     call(rt);
     let made = builder.into_sourcemap();
@@ -177,7 +176,7 @@ pub(crate) fn finish_join(rt: &HostRuntime) -> Result<Ended> {
 }
 
 /// Makes the owned map of a join.
-pub(crate) fn finish_join_owned(rt: &HostRuntime) -> Result<Ended> {
+pub fn finish_join_owned(rt: &HostRuntime) -> Result<Ended> {
     let builder = joined(rt)?;
     call(rt);
     let made = builder.into_owned_sourcemap();

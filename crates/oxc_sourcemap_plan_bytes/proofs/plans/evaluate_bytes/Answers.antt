@@ -1,8 +1,8 @@
 use Rattle.std.proofs.Common.{ap, subst, ◌∙◌}
 use Rattle.std.specs.Result.{IfOk}
-use Rattle.oxc_sourcemap_handles.specs.Plans.{plan_of, IsPlanMap}
-use Rattle.oxc_sourcemap_handles.proofs.Planned.{refused_of_bytes}
-use Rattle.oxc_sourcemap_handles.proofs.plans.evaluate_bytes.Goals as goal
+use Rattle.oxc_sourcemap_plan_bytes.specs.Plans.{plan_of, IsPlanMap}
+use Rattle.oxc_sourcemap_plan_bytes.proofs.Planned.{refused_of_bytes}
+use Rattle.oxc_sourcemap_plan_bytes.proofs.plans.evaluate_bytes.Goals as goal
 
 pub returns-clause-map : goal.returns-clause-map
 returns-clause-map c =

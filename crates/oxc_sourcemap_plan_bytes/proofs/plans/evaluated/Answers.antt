@@ -3,10 +3,10 @@ use Rattle.oxc_sourcemap.specs.Outcome.{outcome}
 use Rattle.oxc_sourcemap_faults.specs.declared.refusal.Refusal.TheVariants.{Plan}
 use Rattle.smap_run.specs.PlanInputs.{inputs_of}
 use Rattle.smap_run.specs.PlanArguments.{parsed_plan}
-use Rattle.smap_run.proofs.Maps.{carried_error}
-use Rattle.oxc_sourcemap_handles.specs.Plans.{plan_of, words_of}
-use Rattle.oxc_sourcemap_handles.proofs.Planned.{map_of_plan, failure_of_plan, words_refused}
-use Rattle.oxc_sourcemap_handles.proofs.plans.evaluated.Goals as goal
+use Rattle.oxc_sourcemap_faults.proofs.Carried.{carried_error}
+use Rattle.oxc_sourcemap_plan_bytes.specs.Plans.{plan_of, words_of}
+use Rattle.oxc_sourcemap_plan_bytes.proofs.Planned.{map_of_plan, failure_of_plan, words_refused}
+use Rattle.oxc_sourcemap_plan_bytes.proofs.plans.evaluated.Goals as goal
 
 pub returns-in_err-evaluate-in-Ok-clause-refused : goal.returns-in_err-evaluate-in-Ok-clause-refused
 returns-in_err-evaluate-in-Ok-clause-refused c =
@@ -27,5 +27,5 @@ pub returns-clause-refused : goal.returns-clause-refused
 returns-clause-refused c =
     let texts : inputs_of c.args.texts.now ≡ map (λ text. text.now) c.as_slice.result.now = sym (ap (map (λ text. text.now)) c.as_slice.ensures.value ∙ c.in_ok-inputs.ensures) in
     let words : words_of c.args.words.now ≡ map string_bytes c.as_slice-2.result.now = sym (ap (map string_bytes) c.as_slice-2.ensures.value ∙ c.in_ok-words.ensures) in
-    words_refused (plan_of c.args.words.now c.args.texts.now) c.in-Err.error _ c.of_run.ensures
+    words_refused (plan_of c.args.words.now c.args.texts.now) c.in-Err.error _ c.refusal_of.ensures
     (λ n. ap (λ ts. parsed_plan ts (words_of c.args.words.now)) texts ∙ ap (parsed_plan (map (λ text. text.now) c.as_slice.result.now)) words ∙ c.in-Err.ensures.refused n)

@@ -2,7 +2,7 @@ use Rattle.std.proofs.Common.{map, lit<, ap, ◌∙◌}
 use Rattle.std.specs.Str.Iter.{split_text, split_has_more, split_pattern}
 use Rattle.std.proofs.lemmas.Iterator.Consumers.{YieldsList-end}
 use Rattle.std.proofs.lemmas.Iterator.Splits.{YieldsList-from_str_split}
-use Rattle.oxc_sourcemap_handles.proofs.plans.words_of.Goals as goal
+use Rattle.oxc_sourcemap_plan_bytes.proofs.plans.words_of.Goals as goal
 
 pub returns : goal.returns
 returns c =

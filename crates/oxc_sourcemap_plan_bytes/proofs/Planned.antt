@@ -12,8 +12,8 @@ use Rattle.smap_run.specs.declared.running.RunError.{RunError}
 use Rattle.smap_run.specs.Refusals.{out_of_memory as run_out_of_memory}
 use Rattle.oxc_sourcemap_faults.specs.declared.refusal.Refusal.{Refusal}
 use Rattle.oxc_sourcemap_faults.specs.declared.refusal.Refusal.TheVariants.{Plan}
-use Rattle.oxc_sourcemap_faults.specs.Refusals.{out_of_memory, refusal_of_run}
-use Rattle.oxc_sourcemap_handles.specs.Plans.{plan_of, IsPlanMap, IsPlanFailure, IsPlanRefusal}
+use Rattle.oxc_sourcemap_faults.specs.Refusals.{out_of_memory}
+use Rattle.oxc_sourcemap_plan_bytes.specs.Plans.{plan_of, refusal_of_run, IsPlanMap, IsPlanFailure, IsPlanRefusal}
 
 pub map_of_plan : (read : Result Outcome RunError) (o : Outcome) (m : MapRecord) → read ≡ Ok o → IsEvaluated m o → IsPlanMap read m
 map_of_plan read o m e is = subst (λ x. IsPlanMap x m) (sym e) is

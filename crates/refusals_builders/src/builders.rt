@@ -1,13 +1,12 @@
 //! Calls of `SourceMapBuilder`. After a refused call the builder goes on as if the call had not been made.
 use oxc_sourcemap::{Result, SourceMapBuilder};
-use refusals_maps::made::map_ended;
-use refusals_maps::marks::{Ended, answer, call, failed, passed_if};
-use refusals_maps::owned::owned_ended;
+use refusals_marks::ended::{map_ended, owned_ended};
+use refusals_marks::marks::{Ended, answer, call, failed, passed_if};
 use std::alloc::Global;
 
 /// A call that adds to a builder.
 #[derive(Clone, Copy)]
-pub(crate) enum Add {
+pub enum Add {
     Name,
     Source,
     OtherSource,
@@ -101,7 +100,7 @@ fn added_ended(added: Result<()>, text: &str, wanted: &str) -> Ended {
 }
 
 /// Adds to a builder.
-pub(crate) fn add_to_builder(rt: &HostRuntime, kind: Add) -> Result<Ended> {
+pub fn add_to_builder(rt: &HostRuntime, kind: Add) -> Result<Ended> {
     let mut builder = SourceMapBuilder::empty(rt.alloc());
     builder.set_file("f.js");
     let added = make_add(rt, kind, &mut builder);
@@ -110,7 +109,7 @@ pub(crate) fn add_to_builder(rt: &HostRuntime, kind: Add) -> Result<Ended> {
 }
 
 /// Sets the file of a builder to a copy.
-pub(crate) fn set_file_copied(rt: &HostRuntime) -> Result<Ended> {
+pub fn set_file_copied(rt: &HostRuntime) -> Result<Ended> {
     let mut builder = built(rt)?;
     call(rt);
     let set = builder.set_file_copied("g.js");
@@ -132,7 +131,7 @@ fn built(rt: &HostRuntime) -> Result<SourceMapBuilder<'static>> {
 }
 
 /// Makes the map of what is built.
-pub(crate) fn finish_builder(rt: &HostRuntime) -> Result<Ended> {
+pub fn finish_builder(rt: &HostRuntime) -> Result<Ended> {
     let builder = built(rt)?;
     call(rt);
     let made = builder.into_sourcemap();
@@ -141,7 +140,7 @@ pub(crate) fn finish_builder(rt: &HostRuntime) -> Result<Ended> {
 }
 
 /// Makes the owned map of what is built.
-pub(crate) fn finish_builder_owned(rt: &HostRuntime) -> Result<Ended> {
+pub fn finish_builder_owned(rt: &HostRuntime) -> Result<Ended> {
     let builder = built(rt)?;
     call(rt);
     let made = builder.into_owned_sourcemap();

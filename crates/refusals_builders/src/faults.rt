@@ -3,8 +3,8 @@ use oxc_sourcemap::{
     ConcatSourceMapBuilder, Error, JSONSourceMap, JsonFault, Result, SourceMap, SourceMapParts,
     Token, TokenChunk, encode_chunk, encode_mappings,
 };
-use refusals_maps::fixtures::{full_map, lent_map};
-use refusals_maps::marks::{Ended, answer, call, passed_if};
+use refusals_marks::fixtures::{full_map, lent_map};
+use refusals_marks::marks::{Ended, answer, call, passed_if};
 use std::alloc::Global;
 
 /// Lines and columns of two tokens whose lines go back.
@@ -28,7 +28,7 @@ fn map_at(alloc: Global, positions: &[(u32, u32)]) -> Result<SourceMap<'static>>
 }
 
 /// Writes tokens whose lines go back, and chunks that do not fit.
-pub(crate) fn write_faulty(rt: &HostRuntime) -> Result<Ended> {
+pub fn write_faulty(rt: &HostRuntime) -> Result<Ended> {
     let tokens = tokens_at(rt.alloc(), BACK)?;
     let mut out = String::new(rt.alloc());
     Ok(passed_if(are_refused(rt, tokens.as_slice(), &mut out) && out.is_empty()))
@@ -55,7 +55,7 @@ fn are_refused(rt: &HostRuntime, tokens: &[Token], out: &mut String) -> bool {
 }
 
 /// Makes the table of a map whose lines go back.
-pub(crate) fn make_faulty_table(rt: &HostRuntime) -> Result<Ended> {
+pub fn make_faulty_table(rt: &HostRuntime) -> Result<Ended> {
     let map = map_at(rt.alloc(), BACK)?;
     call(rt);
     let made = map.generate_lookup_table(rt.alloc());
@@ -64,7 +64,7 @@ pub(crate) fn make_faulty_table(rt: &HostRuntime) -> Result<Ended> {
 }
 
 /// Reads a JSON source map whose version is wrong, or whose ignore list is out of range.
-pub(crate) fn read_faulty(rt: &HostRuntime, version: u32, fault: Error) -> Result<Ended> {
+pub fn read_faulty(rt: &HostRuntime, version: u32, fault: Error) -> Result<Ended> {
     let json = faulty_json(rt.alloc(), version)?;
     call(rt);
     let read = SourceMap::from_json(rt.alloc(), json);
@@ -85,13 +85,13 @@ fn faulty_json(alloc: Global, version: u32) -> Result<JSONSourceMap> {
 }
 
 /// The wrong version of that JSON source map.
-pub(crate) const VERSION: Error = Error::BadJson(JsonFault::Version(4));
+pub const VERSION: Error = Error::BadJson(JsonFault::Version(4));
 
 /// The id in its ignore list that is out of range.
-pub(crate) const IGNORED: Error = Error::BadSourceReference(2);
+pub const IGNORED: Error = Error::BadSourceReference(2);
 
 /// Composes a map of two sources, and a map with one whose lines go back.
-pub(crate) fn compose_faulty(rt: &HostRuntime, has_several: bool) -> Result<Ended> {
+pub fn compose_faulty(rt: &HostRuntime, has_several: bool) -> Result<Ended> {
     let map = if has_several {
         full_map(rt.alloc())?
     } else {
@@ -110,7 +110,7 @@ pub(crate) fn compose_faulty(rt: &HostRuntime, has_several: bool) -> Result<Ende
 }
 
 /// Joins a map whose token would lie past the last line, lent and moved.
-pub(crate) fn join_faulty(rt: &HostRuntime) -> Result<Ended> {
+pub fn join_faulty(rt: &HostRuntime) -> Result<Ended> {
     let lent = map_at(rt.alloc(), &[(4294967295, 0)])?;
     let moved = map_at(rt.alloc(), &[(0, 4294967295)])?;
     let mut builder = ConcatSourceMapBuilder::empty(rt.alloc());

@@ -1,23 +1,12 @@
 //! Plans: their words and their texts.
-ghost use Rattle.std.specs.Prelude.{◌≡◌, ◌≢◌, map, string_bytes, IfOk, IfErr, OnOk, IsUtf8};
+ghost use Rattle.std.specs.Prelude.{◌≡◌, ◌≢◌, map, string_bytes, IfOk, IfErr};
 ghost use Rattle.oxc_sourcemap_faults.specs.Refusals.{out_of_memory};
-ghost use Rattle.oxc_sourcemap_handles.specs.Plans.{words_of, plan_of, IsPlanMap, IsPlanFailure, IsPlanRefusal, IsNotText};
+ghost use Rattle.oxc_sourcemap_plan_bytes.specs.Plans.{words_of, plan_of, refusal_of_run, IsPlanMap, IsPlanFailure, IsPlanRefusal};
 
 use oxc_sourcemap::{OwnedSourceMap, evaluate};
-use oxc_sourcemap_faults::Refusal;
-use smap_run::{inputs_of, read_plan};
+use oxc_sourcemap_faults::{Refusal, text_of};
+use smap_run::{RunError, inputs_of, read_plan};
 use std::alloc::{AllocError, Global};
-
-/// The text that bytes are in UTF-8.
-pub fn text_of(bytes: &[u8]) -> Result<&str, Refusal>
-    ensures text { IfOk result (λ text. (text.now ≡ bytes.now) × IsUtf8 bytes.now) }
-    ensures refused { IfErr result (IsNotText bytes.now) }
-{
-    match std::str::from_utf8(bytes) {
-        Ok(text) => Ok(text),
-        Err(error) => Err(Refusal::NotUtf8(error.valid_up_to())),
-    }
-}
 
 /// The words of a text.
 fn words_of(alloc: Global, text: &str) -> Result<Vec<String>, AllocError>
@@ -30,6 +19,17 @@ fn words_of(alloc: Global, text: &str) -> Result<Vec<String>, AllocError>
     Ok(words)
 }
 
+/// The refusal that stands for an error of reading or evaluating a plan.
+fn refusal_of(error: RunError) -> Refusal
+    ensures { result ≡ refusal_of_run error }
+{
+    match error {
+        RunError::Plan(error) => Refusal::Plan(error),
+        RunError::NoText(number) => Refusal::NoText(number),
+        _ => Refusal::Words,
+    }
+}
+
 /// The map of the plan that words say over texts.
 fn evaluated(alloc: Global, words: &str, texts: &str) -> Result<OwnedSourceMap, Refusal>
     ensures map { IfOk result (IsPlanMap (plan_of words.now texts.now)) }
@@ -39,7 +39,7 @@ fn evaluated(alloc: Global, words: &str, texts: &str) -> Result<OwnedSourceMap, 
     let words = words_of(alloc, words)?;
     match read_plan(alloc, inputs.as_slice(), words.as_slice()) {
         Ok(plan) => Ok(evaluate(alloc, &plan)?),
-        Err(error) => Err(Refusal::of_run(error)),
+        Err(error) => Err(refusal_of(error)),
     }
 }
 

@@ -1,4 +1,4 @@
--- The texts of refusals, as bytes, and which refusals stand for errors.
+-- The texts of refusals, as bytes, and the refusals that stand for an error.
 use Rattle.std.specs.Prelude.{◌≡◌, ℕ, List, ◌++◌, codes, decimal, IsUtf8}
 use Rattle.std.specs.Str.Lossy.{utf8_valid_len}
 use Rattle.oxc_sourcemap.specs.Error.{Error}

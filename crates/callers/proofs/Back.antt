@@ -4,7 +4,7 @@ use Rattle.std.specs.Result.{IfOk, IfErr}
 use Rattle.oxc_sourcemap.specs.Error.{Error}
 use Rattle.oxc_sourcemap.specs.Error.TheVariants.{VlqLeftover, VlqNoValues, VlqOverflow, BadJson, BadSegmentSize, BadSourceReference, BadNameReference, OutOfMemory, TooLarge, LineOrder, BadChunks, SeveralSources, SectionOrder}
 use Rattle.oxc_sourcemap.specs.Json.{JsonRecord}
-use Rattle.oxc_sourcemap.specs.Chunks.{writing_fault}
+use Rattle.oxc_sourcemap.specs.Pieces.{writing_fault}
 use Rattle.oxc_sourcemap.specs.Record.{MapRecord}
 use Rattle.oxc_sourcemap.specs.Decoded.{decoded}
 use Rattle.oxc_sourcemap.specs.Refusals.{unless}

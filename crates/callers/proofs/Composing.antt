@@ -6,7 +6,7 @@ use Rattle.oxc_sourcemap.specs.Error.{Error}
 use Rattle.oxc_sourcemap.specs.Error.TheVariants.{SeveralSources, LineOrder, TooLarge}
 use Rattle.oxc_sourcemap.specs.Refusals.{unless}
 use Rattle.oxc_sourcemap.specs.Token.{TokenRecord}
-use Rattle.oxc_sourcemap.specs.Canonical.{first_out_of_order}
+use Rattle.oxc_sourcemap.specs.LineOrder.{first_out_of_order}
 use Rattle.oxc_sourcemap.specs.Record.{MapRecord}
 use Rattle.oxc_sourcemap.specs.Sorted.{are_tokens_sorted, may_precede, token_line, token_column}
 use Rattle.oxc_sourcemap.specs.Sound.{IsSound}

@@ -3,16 +3,16 @@ ghost use Rattle.std.specs.Prelude.{◌≡◌, ◌≢◌, ◌↔◌, true, Some,
 ghost use Rattle.serde_json.specs.View.{view};
 ghost use Rattle.oxc_sourcemap_error.specs.declared.error.Error.{Error};
 ghost use Rattle.oxc_sourcemap_error.specs.declared.error.Error.TheVariants.{OutOfMemory};
-ghost use Rattle.oxc_sourcemap_mappings.specs.Canonical.{IsInLineOrder};
+ghost use Rattle.oxc_sourcemap_tokens.specs.LineOrder.{IsInLineOrder};
 ghost use Rattle.oxc_sourcemap_parts.specs.Sorted.{are_tokens_sorted};
 ghost use Rattle.oxc_sourcemap_parts.specs.Sound.{IsSound};
 ghost use Rattle.oxc_sourcemap_json.specs.Json.{json_record};
 ghost use Rattle.oxc_sourcemap_json.specs.Decoded.{decoded, json_fault};
 ghost use Rattle.oxc_sourcemap_sections.specs.ReadMap.{read_value, read_map};
 
+use oxc_sourcemap_error::Result;
 use oxc_sourcemap_json::JSONSourceMap;
 use oxc_sourcemap_map::SourceMap;
-use oxc_sourcemap_mappings::Result;
 use oxc_sourcemap_sections::decode_parts_from_value;
 use serde_json::Value;
 use std::alloc::Global;

@@ -1,7 +1,7 @@
 -- Calls of a builder, and the law on the ids of names.
 use Rattle.std.specs.Prelude.{◌≡◌, ◌↔◌, List, [], ◌∷◌, ◌++◌, Some}
-use Rattle.oxc_sourcemap_mappings.specs.declared.token.TokenChunk.{TokenChunk}
-use Rattle.oxc_sourcemap_mappings.specs.Token.{TokenRecord}
+use Rattle.oxc_sourcemap_tokens.specs.declared.token.TokenChunk.{TokenChunk}
+use Rattle.oxc_sourcemap_tokens.specs.Token.{TokenRecord}
 use Rattle.oxc_sourcemap_parts.specs.Record.{Text}
 use Rattle.oxc_sourcemap_builder.specs.Built.{Built}
 use Rattle.oxc_sourcemap_builder.specs.Building.{with_name, with_another_source, with_path}

@@ -5,14 +5,15 @@ ghost use Rattle.std.specs.FinMap as fin;
 ghost use Rattle.std.specs.Ordering.{nat_cmp};
 ghost use Rattle.std.specs.Cmp.Lexicographic.{slice_cmp};
 ghost use Rattle.oxc_sourcemap_error.specs.declared.error.Error.TheVariants.{OutOfMemory, TooLarge};
-ghost use Rattle.oxc_sourcemap_mappings.specs.Token.{kept_id};
+ghost use Rattle.oxc_sourcemap_tokens.specs.Token.{kept_id};
 ghost use Rattle.oxc_sourcemap_parts.specs.Views.{texts_of, contents_of};
 ghost use Rattle.oxc_sourcemap_parts.specs.Texts.{index_of};
 ghost use Rattle.oxc_sourcemap_builder.specs.Built.{nothing_built};
 ghost use Rattle.oxc_sourcemap_builder.specs.Building.{with_name, with_name_at, with_another_source, with_path, with_path_at};
 
+use oxc_sourcemap_error::{Error, Result};
 use oxc_sourcemap_map::{OwnedSourceMap, SourceMap};
-use oxc_sourcemap_mappings::{Error, Result, Token, TokenChunk};
+use oxc_sourcemap_tokens::{Token, TokenChunk};
 use std::alloc::{AllocError, Global};
 use std::borrow::CowStr;
 use std::collections::HashMap;

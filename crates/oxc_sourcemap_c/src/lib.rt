@@ -10,7 +10,7 @@ ghost use Rattle.oxc_sourcemap.specs.Error.TheVariants.{TooLarge};
 ghost use Rattle.oxc_sourcemap.specs.ReadMap.{read_map};
 ghost use Rattle.oxc_sourcemap.specs.JsonText.{map_text, map_url};
 ghost use Rattle.oxc_sourcemap.specs.Composed.{composition, SomeComposition, NoColumnGoesBack};
-ghost use Rattle.oxc_sourcemap.specs.Canonical.{IsInLineOrder};
+ghost use Rattle.oxc_sourcemap.specs.LineOrder.{IsInLineOrder};
 ghost use Rattle.oxc_sourcemap.specs.Sorted.{are_tokens_sorted, token_line, token_column};
 ghost use Rattle.oxc_sourcemap.specs.Lookup.{pick, clamped_pick};
 ghost use Rattle.oxc_sourcemap.specs.DecodedMap.{decoded_map_of};

@@ -2,7 +2,7 @@
 use Rattle.std.proofs.Common.{◌≡◌, sym, ap, subst, ◌∙◌, Bool, true, false, cond, List, map, Option, Some, None, Result, Ok, Err, ◌≢◌, IfErr}
 use Rattle.oxc_sourcemap_error.specs.declared.error.Error.{Error}
 use Rattle.oxc_sourcemap_error.specs.declared.error.Error.TheVariants.{TooLarge, OutOfMemory}
-use Rattle.oxc_sourcemap_mappings.specs.Token.{TokenRecord}
+use Rattle.oxc_sourcemap_tokens.specs.Token.{TokenRecord}
 use Rattle.oxc_sourcemap_parts.specs.Record.{Text, MapRecord}
 use Rattle.oxc_sourcemap_compose.specs.Composed.{Target, target_in, targets, composed_names, composed_token, composed_by, are_ids, composition_fault, composition_by, composition, AreTargets, SomeComposition, NoColumnGoesBack}
 use Rattle.oxc_sourcemap_compose.proofs.Targets.{are_targets, targets-are}

@@ -5,7 +5,7 @@ use Rattle.std.proofs.lemmas.List.Elements.{recursion_from_All, All-contains_its
 use Rattle.std.proofs.lemmas.List.Folds.{list_all-append}
 use Rattle.std.specs.List.{Contains, last_or, filter, filter_map, AllByRecursion}
 use Rattle.std.specs.Option.{option_or, option_and_then, IfSome}
-use Rattle.oxc_sourcemap_mappings.specs.Token.{TokenRecord, is_mapped}
+use Rattle.oxc_sourcemap_tokens.specs.Token.{TokenRecord, is_mapped}
 use Rattle.oxc_sourcemap_parts.specs.Record.{Text}
 use Rattle.oxc_sourcemap_parts.specs.Sorted.{token_line, token_column}
 use Rattle.oxc_sourcemap_lookup.specs.Lookup.{first, last, greatest, not_past, in_column, at, clamped_at, clamped_pick, on_line, no_column_goes_back}

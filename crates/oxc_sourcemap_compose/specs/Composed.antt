@@ -5,8 +5,8 @@ use Rattle.std.specs.Option.{option_and_then, option_or}
 use Rattle.oxc_sourcemap_error.specs.declared.error.Error.{Error}
 use Rattle.oxc_sourcemap_error.specs.declared.error.Error.TheVariants.{SeveralSources, LineOrder, TooLarge}
 use Rattle.oxc_sourcemap_error.specs.Refusals.{unless}
-use Rattle.oxc_sourcemap_mappings.specs.Token.{TokenRecord, is_mapped}
-use Rattle.oxc_sourcemap_mappings.specs.Canonical.{first_out_of_order}
+use Rattle.oxc_sourcemap_tokens.specs.Token.{TokenRecord, is_mapped}
+use Rattle.oxc_sourcemap_tokens.specs.LineOrder.{first_out_of_order}
 use Rattle.oxc_sourcemap_parts.specs.Record.{Text, MapRecord}
 use Rattle.oxc_sourcemap_parts.specs.Texts.{index_of, with_texts}
 use Rattle.oxc_sourcemap_parts.specs.Sorted.{token_line, token_column}

@@ -13,9 +13,10 @@ ghost use Rattle.oxc_sourcemap_compose.specs.InheritedNames.{with_inherited, inh
 ghost use Rattle.oxc_sourcemap_compose.specs.Inherited.{names_with, IsInheriting};
 
 use crate::inherited_names::{InheritedNames, copied_names, inherit_id, no_names};
+use oxc_sourcemap_error::{Error, Result};
 use oxc_sourcemap_lookup::{LineIndex, search_clamped};
-use oxc_sourcemap_mappings::{Error, Result, Token};
 use oxc_sourcemap_parts::{SourceMapParts, detached_text};
+use oxc_sourcemap_tokens::Token;
 use std::alloc::Global;
 use std::borrow::CowStr;
 

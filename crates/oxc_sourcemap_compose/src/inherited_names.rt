@@ -9,7 +9,7 @@ ghost use Rattle.oxc_sourcemap_compose.specs.Composed.{may_be_id};
 ghost use Rattle.oxc_sourcemap_compose.specs.InheritedNames.{with_inherited, inherited_index};
 ghost use Rattle.oxc_sourcemap_compose.specs.Inherited.{names_with, HasPlaces, HasNames, IsInheriting};
 
-use oxc_sourcemap_mappings::{Error, Result};
+use oxc_sourcemap_error::{Error, Result};
 use std::alloc::{AllocError, Global};
 use std::borrow::CowStr;
 use std::collections::HashMap;

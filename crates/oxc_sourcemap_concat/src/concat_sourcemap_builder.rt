@@ -1,12 +1,12 @@
 //! Joining maps into one.
 ghost use Rattle.std.specs.Prelude.{◌≡◌, ◌↔◌, ◌⊎◌, IfSome, IfOk, IfErr, IsErrOf, OnOk, OnErr};
 ghost use Rattle.oxc_sourcemap_error.specs.declared.error.Error.TheVariants.{OutOfMemory, TooLarge};
-ghost use Rattle.oxc_sourcemap_mappings.specs.Chunks.{ChunksFit};
+ghost use Rattle.oxc_sourcemap_tokens.specs.Chunks.{ChunksFit};
 ghost use Rattle.oxc_sourcemap_join.specs.Joined.{at_line, at_lines, added, nothing_joined, joined, lent_maps, IsWithinLimits};
 
+use oxc_sourcemap_error::Result;
 use oxc_sourcemap_join::JoinedParts;
 use oxc_sourcemap_map::{OwnedSourceMap, SourceMap, parts_of};
-use oxc_sourcemap_mappings::Result;
 use std::alloc::Global;
 use std::marker::Model;
 

@@ -6,7 +6,7 @@ use Rattle.oxc_sourcemap.specs.Token.{TokenRecord}
 use Rattle.oxc_sourcemap.specs.Record.{MapRecord}
 use Rattle.oxc_sourcemap.specs.DecodedMap.{OriginalPosition}
 use Rattle.oxc_sourcemap.specs.View.{seen_in, view_original}
-use Rattle.oxc_sourcemap.specs.Canonical.{IsInLineOrder}
+use Rattle.oxc_sourcemap.specs.LineOrder.{IsInLineOrder}
 use Rattle.oxc_sourcemap_lookup.specs.LineSpans.{AreLines, IsIndexOf}
 use Rattle.oxc_sourcemap_lookup.specs.declared.line_index.LineIndex.{LineIndex}
 use Rattle.oxc_sourcemap_lookup.specs.declared.line_index.Lines.{Lines}

@@ -3,7 +3,7 @@ use Rattle.std.specs.Prelude.{◌≡◌, List, Option, Some, Result, Ok, Err, op
 use Rattle.oxc_sourcemap.specs.Error.{Error}
 use Rattle.oxc_sourcemap.specs.Error.TheVariants.{LineOrder}
 use Rattle.oxc_sourcemap.specs.Token.{TokenRecord}
-use Rattle.oxc_sourcemap.specs.Canonical.{first_out_of_order}
+use Rattle.oxc_sourcemap.specs.LineOrder.{first_out_of_order}
 use Rattle.oxc_sourcemap_lookup.specs.declared.line_index.LineIndex.{LineIndex}
 use Rattle.oxc_sourcemap_lookup.specs.LineSpans.{IsIndexOf}
 

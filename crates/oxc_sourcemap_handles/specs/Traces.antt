@@ -4,7 +4,7 @@ use Rattle.std.specs.List.{AllZip}
 use Rattle.oxc_sourcemap.specs.Error.{Error}
 use Rattle.oxc_sourcemap.specs.Record.{MapRecord}
 use Rattle.oxc_sourcemap.specs.Token.{TokenRecord}
-use Rattle.oxc_sourcemap.specs.Canonical.{IsInLineOrder}
+use Rattle.oxc_sourcemap.specs.LineOrder.{IsInLineOrder}
 use Rattle.oxc_sourcemap.specs.Sorted.{are_tokens_sorted, token_line, token_column}
 use Rattle.oxc_sourcemap.specs.Lookup.{pick, clamped_pick}
 use Rattle.oxc_sourcemap.specs.DecodedMap.{OriginalPosition, decoded_map_of}

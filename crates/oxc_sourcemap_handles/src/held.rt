@@ -1,7 +1,7 @@
 //! What a handle holds.
 ghost use Rattle.std.specs.Prelude.{◌≡◌, true, length, IfOk, IfErr, OnOk, OnErr};
 ghost use Rattle.oxc_sourcemap.specs.Error.TheVariants.{OutOfMemory};
-ghost use Rattle.oxc_sourcemap.specs.Canonical.{IsInLineOrder};
+ghost use Rattle.oxc_sourcemap.specs.LineOrder.{IsInLineOrder};
 ghost use Rattle.oxc_sourcemap.specs.Sorted.{are_tokens_sorted};
 ghost use Rattle.oxc_sourcemap_lookup.specs.LineSpans.{IsIndexOf};
 ghost use Rattle.oxc_sourcemap_handles.specs.Indexed.{IsOutOfOrder};

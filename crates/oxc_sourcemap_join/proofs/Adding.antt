@@ -1,15 +1,15 @@
 -- What an add works out is right.
-use Rattle.std.proofs.Common.{◌≡◌, ℕ, ◌+◌, ◌-◌, ◌≤◌, List, [], ◌∷◌, ◌++◌, map, length, take, drop, refl, sym, ap, ◌∙◌, subst, arith, Option, Some, None, Result, Ok, Err, IsErrAnd, IfErr, ◌⊎◌, inl, inr}
+use Rattle.std.proofs.Common.{◌≡◌, ℕ, ◌+◌, ◌-◌, ◌≤◌, List, [], ◌∷◌, ◌++◌, map, length, take, drop, refl, sym, ap, ◌∙◌, subst, arith, Option, Some, None, ◌⊎◌, inl, inr}
 use Rattle.oxc_sourcemap_error.specs.declared.error.Error.{Error}
 use Rattle.oxc_sourcemap_error.specs.declared.error.Error.TheVariants.{OutOfMemory, TooLarge}
 use Rattle.std.specs.List.{AllByRecursion, All}
 use Rattle.std.specs.Option.{unwrap_or}
 use Rattle.std.proofs.lemmas.List.{length-append, length-drop, take_all}
 use Rattle.std.proofs.lemmas.List.Elements.{All-append, All-from_recursion, recursion_from_All}
-use Rattle.oxc_sourcemap_mappings.specs.declared.token.TokenChunk.{TokenChunk}
-use Rattle.oxc_sourcemap_mappings.specs.Token.{TokenRecord, IsInBounds, AreInBounds}
-use Rattle.oxc_sourcemap_mappings.specs.State.{state_at}
-use Rattle.oxc_sourcemap_mappings.specs.Chunks.{chunk_from, ChunksFit}
+use Rattle.oxc_sourcemap_tokens.specs.declared.token.TokenChunk.{TokenChunk}
+use Rattle.oxc_sourcemap_tokens.specs.Token.{TokenRecord, IsInBounds, AreInBounds}
+use Rattle.oxc_sourcemap_tokens.specs.State.{state_at}
+use Rattle.oxc_sourcemap_tokens.specs.Chunks.{chunk_from, ChunksFit}
 use Rattle.oxc_sourcemap_parts.specs.Record.{Text, MapRecord}
 use Rattle.oxc_sourcemap_lookup.specs.Lookup.{last}
 use Rattle.oxc_sourcemap_join.specs.Joined.{Offset, fitted, shifted, is_same_token, without_repeat, raised_ignore_list, appended_ignore_lists, added, added_tokens, added_chunk, added_ignore_list, nothing_joined, added_all, AreEntriesInBounds, IsWithinLimits}
@@ -145,7 +145,3 @@ pub refusal-of-all : (r m : MapRecord) (offset : Offset) (ms rest : List (MapRec
 refusal-of-all r m offset ms rest all p q e (inl o) h = inl o
 refusal-of-all r m offset ms rest all p q e (inr l) h =
     inr (l, λ w. h l (front-within (added r m offset) rest (subst IsWithinLimits (sym p ∙ ap (added_all r) q) w)))
-
-pub carried_error : {T E : Type 0} (result : Result T E) (fault : E) (P : E → Type 0) → IsErrAnd result (λ e. e ≡ fault) → P fault → IfErr result P
-carried_error (Ok x) fault P same p = tt
-carried_error (Err e) fault P same p = subst P (sym same) p

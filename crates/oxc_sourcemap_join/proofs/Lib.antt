@@ -5,4 +5,4 @@ pub mod Moving
 pub mod Reach
 pub mod IgnoreLists
 pub mod Adding
-mod Worked
+pub mod Worked

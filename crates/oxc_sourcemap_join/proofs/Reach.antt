@@ -4,7 +4,7 @@ use Rattle.std.specs.List.{All, AllByRecursion}
 use Rattle.std.specs.Option.{IfSome}
 use Rattle.std.proofs.lemmas.List.{drop_more}
 use Rattle.std.proofs.lemmas.List.Elements.{All-from_recursion, recursion_from_All}
-use Rattle.oxc_sourcemap_mappings.specs.Token.{TokenRecord, IsInBounds, AreInBounds}
+use Rattle.oxc_sourcemap_tokens.specs.Token.{TokenRecord, IsInBounds, AreInBounds}
 use Rattle.oxc_sourcemap_join.specs.Joined.{raised_id, shifted_column, shifted}
 use Rattle.oxc_sourcemap_join.specs.Joining.{offset_of, all_shifted, above, moving_column, greatest}
 use Rattle.oxc_sourcemap_join.specs.declared.joined_parts.Shift.{Shift}

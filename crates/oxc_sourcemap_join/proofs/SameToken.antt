@@ -3,8 +3,8 @@ use Rattle.std.proofs.Common.{◌≡◌, ℕ, ◌+◌, Bool, true, false, cond, 
 use Rattle.std.specs.Bool.{Decides}
 use Rattle.std.proofs.lemmas.Bool.{and_parts, and_from}
 use Rattle.std.proofs.lemmas.Bool.Decides.{Decides-eqb, nat_tests}
-use Rattle.oxc_sourcemap_mappings.specs.Token.{TokenRecord}
-use Rattle.oxc_sourcemap_mappings.specs.TokenFields.{number_of}
+use Rattle.oxc_sourcemap_tokens.specs.Token.{TokenRecord}
+use Rattle.oxc_sourcemap_tokens.specs.TokenFields.{number_of}
 use Rattle.oxc_sourcemap_join.specs.Joined.{is_same_option, is_same_id, is_same_token}
 
 pub decides_and : (a b : Bool) (P Q : Type 0) → Decides a P → Decides b Q → Decides (a && b) (P × Q)

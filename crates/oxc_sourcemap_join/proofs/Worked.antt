@@ -1,8 +1,7 @@
 -- Worked examples of joins, computed by the definitions themselves.
 use Rattle.std.specs.Prelude.{◌≡◌, refl, ℕ, true, false, List, [], ◌∷◌, codes, map, Option, Some, None}
-use Rattle.oxc_sourcemap_mappings.specs.declared.token.TokenChunk.{TokenChunk}
-use Rattle.oxc_sourcemap_mappings.specs.Token.{TokenRecord}
-use Rattle.oxc_sourcemap_mappings.specs.Canonical.{canonical, text_after, token_text, separator, vlq_text, digits, letter}
+use Rattle.oxc_sourcemap_tokens.specs.declared.token.TokenChunk.{TokenChunk}
+use Rattle.oxc_sourcemap_tokens.specs.Token.{TokenRecord}
 use Rattle.oxc_sourcemap_parts.specs.Record.{MapRecord}
 use Rattle.oxc_sourcemap_parts.specs.Sorted.{are_tokens_sorted}
 use Rattle.oxc_sourcemap_parts.specs.Views.{empty_record}
@@ -27,7 +26,7 @@ abbrev joined_at_lines : List (MapRecord × ℕ) → MapRecord
 joined_at_lines maps = joined (at_lines maps)
 
 -- the second map has no tokens
-abbrev one_source_each : MapRecord
+abbrev pub one_source_each : MapRecord
 one_source_each = joined_at_lines (
     (plain [] (codes "a.js" ∷ []) (token 0 0 5 3 (Some 0) None ∷ []), 0)
     ∷ (plain [] (codes "b.js" ∷ []) [], 0)
@@ -41,12 +40,8 @@ joins-after_a_map_without_tokens = refl
 joins-with_an_empty_chunk : one_source_each.token_chunks ≡ Some (chunk 0 1 0 0 0 0 0 0 ∷ chunk 1 1 0 0 5 3 0 0 ∷ chunk 1 2 0 0 5 3 0 0 ∷ [])
 joins-with_an_empty_chunk = refl
 
-writes-after_a_map_without_tokens : canonical one_source_each.tokens ≡ codes "AAKG;EEJF"
-unfolding canonical text_after token_text separator vlq_text digits letter
-writes-after_a_map_without_tokens = refl
-
 -- an unmapped token with a name, which the header does not count
-abbrev three_names : MapRecord
+abbrev pub three_names : MapRecord
 three_names = joined_at_lines (
     (plain (codes "x" ∷ codes "y" ∷ codes "z" ∷ []) (codes "a.js" ∷ []) (token 0 0 0 0 (Some 0) (Some 0) ∷ token 0 1 0 0 None (Some 2) ∷ []), 0)
     ∷ (plain (codes "w" ∷ []) (codes "b.js" ∷ []) (token 0 0 0 0 (Some 0) (Some 0) ∷ []), 1)
@@ -59,12 +54,8 @@ joins-after_an_unmapped_token_with_a_name = refl
 joins-without_the_name_of_an_unmapped_token : three_names.token_chunks ≡ Some (chunk 0 2 0 0 0 0 0 0 ∷ chunk 2 3 0 1 0 0 0 0 ∷ [])
 joins-without_the_name_of_an_unmapped_token = refl
 
-writes-after_an_unmapped_token_with_a_name : canonical three_names.tokens ≡ codes "AAAAA,C;ACAAG"
-unfolding canonical text_after token_text separator vlq_text digits letter
-writes-after_an_unmapped_token_with_a_name = refl
-
 -- the second map's only token repeats the first map's
-abbrev unmapped_twice : MapRecord
+abbrev pub unmapped_twice : MapRecord
 unmapped_twice = joined_at_lines ((plain [] [] (token 0 0 0 0 None None ∷ []), 0) ∷ (plain [] [] (token 0 0 0 0 None None ∷ []), 0) ∷ [])
 
 joins-once_what_repeats : unmapped_twice.tokens ≡ token 0 0 0 0 None None ∷ []
@@ -72,10 +63,6 @@ joins-once_what_repeats = refl
 
 joins-an_empty_chunk_where_all_repeats : unmapped_twice.token_chunks ≡ Some (chunk 0 1 0 0 0 0 0 0 ∷ chunk 1 1 0 0 0 0 0 0 ∷ [])
 joins-an_empty_chunk_where_all_repeats = refl
-
-writes-once_what_repeats : canonical unmapped_twice.tokens ≡ codes "A"
-unfolding canonical text_after token_text separator vlq_text digits letter
-writes-once_what_repeats = refl
 
 joins-contents_padded : (joined_at_lines ((plain [] (codes "a.js" ∷ []) [], 0) ∷ (record (plain [] (codes "b.js" ∷ []) []) { source_contents = Some (codes "B") ∷ [] }, 1) ∷ [])).source_contents ≡ None ∷ Some (codes "B") ∷ []
 joins-contents_padded = refl
@@ -115,7 +102,7 @@ abbrev right : MapRecord
 right = plain [] (codes "b.js" ∷ []) (token 0 0 0 0 (Some 0) None ∷ token 1 0 1 0 (Some 0) None ∷ [])
 
 -- the second map begins on line 0 of the join, at this column
-abbrev side_by_side : ℕ → MapRecord
+abbrev pub side_by_side : ℕ → MapRecord
 side_by_side column = joined ((left, at 0 0) ∷ (right, at 0 column) ∷ [])
 
 -- line 0 of the second map is moved to the right, and line 1 is not
@@ -123,18 +110,10 @@ joins-at_column_10 : (side_by_side 10).tokens
     ≡ token 0 0 0 0 (Some 0) None ∷ token 0 4 0 4 (Some 0) None ∷ token 0 10 0 0 (Some 1) None ∷ token 1 0 1 0 (Some 1) None ∷ []
 joins-at_column_10 = refl
 
-writes-at_column_10 : canonical (side_by_side 10).tokens ≡ codes "AAAA,IAAI,MCAJ;AACA"
-unfolding canonical text_after token_text separator vlq_text digits letter
-writes-at_column_10 = refl
-
 sorts-at_column_10 : are_tokens_sorted (side_by_side 10).tokens ≡ true
 sorts-at_column_10 = refl
 
 -- two maps may meet at one position
-writes-at_column_4 : canonical (side_by_side 4).tokens ≡ codes "AAAA,IAAI,ACAJ;AACA"
-unfolding canonical text_after token_text separator vlq_text digits letter
-writes-at_column_4 = refl
-
 sorts-at_column_4 : are_tokens_sorted (side_by_side 4).tokens ≡ true
 sorts-at_column_4 = refl
 

@@ -7,12 +7,13 @@ use Rattle.std.proofs.lemmas.Bool.Decides.{nat_tests}
 use Rattle.oxc_sourcemap_error.specs.declared.error.Error.{Error}
 use Rattle.oxc_sourcemap_error.specs.declared.error.Error.TheVariants.{BadSourceReference}
 use Rattle.oxc_sourcemap_error.specs.Refusals.{unless}
-use Rattle.oxc_sourcemap_mappings.specs.Token.{TokenRecord, AreInBounds, mapped_name, name_beside}
+use Rattle.oxc_sourcemap_tokens.specs.Token.{TokenRecord, AreInBounds, mapped_name, name_beside}
 use Rattle.oxc_sourcemap_json.specs.Json.{JsonRecord}
 use Rattle.oxc_sourcemap_mappings.specs.Reading.{reading}
-use Rattle.oxc_sourcemap_mappings.specs.State.{State, initial}
-use Rattle.oxc_sourcemap_mappings.specs.Canonical.{carried_token, back_from}
-use Rattle.oxc_sourcemap_mappings.specs.Encoding.{advanced}
+use Rattle.oxc_sourcemap_tokens.specs.State.{State, initial}
+use Rattle.oxc_sourcemap_mappings.specs.Canonical.{carried_token}
+use Rattle.oxc_sourcemap_tokens.specs.LineOrder.{back_from}
+use Rattle.oxc_sourcemap_tokens.specs.Steps.{advanced}
 use Rattle.oxc_sourcemap_mappings.proofs.Again.{reads_of, bounds_within}
 use Rattle.oxc_sourcemap_mappings.proofs.RoundTrip.{IsWithin, carrying}
 use Rattle.oxc_sourcemap_parts.specs.Record.{MapRecord}

@@ -1,10 +1,3 @@
 pub mod Json
 pub mod Shape
-pub mod JsonString
-pub mod Plain
 pub mod Decoded
-pub mod Encoded
-pub mod JsonText
-pub mod Room
-pub mod JsonParts
-pub mod MapLaws

@@ -1,5 +1,5 @@
 //! Reading the parts of a map from a JSON source map.
-ghost use Rattle.std.specs.Prelude.{◌≡◌, ◌≢◌, ℕ, List, length, map, option_map, string_bytes, IfOk, IfErr, Ok, Err, Some, []};
+ghost use Rattle.std.specs.Prelude.{◌≡◌, ◌≢◌, map, option_map, string_bytes, IfOk, IfErr, Ok, Err, Some, []};
 ghost use Rattle.std.specs.Option.{unwrap_or};
 ghost use Rattle.oxc_sourcemap_error.specs.declared.error.Error.{Error};
 ghost use Rattle.oxc_sourcemap_error.specs.declared.error.Error.TheVariants.{OutOfMemory};
@@ -8,7 +8,8 @@ ghost use Rattle.oxc_sourcemap_json.specs.Json.{json_record, json_contents};
 ghost use Rattle.oxc_sourcemap_json.specs.Decoded.{decoded, json_fault, first_not_below};
 
 use crate::json_source_map::JSONSourceMap;
-use oxc_sourcemap_mappings::{Error, JsonFault, Result, decode_mappings};
+use oxc_sourcemap_error::{Error, JsonFault, Result};
+use oxc_sourcemap_mappings::decode_mappings;
 use oxc_sourcemap_parts::SourceMapParts;
 use std::alloc::{AllocError, Global};
 use std::borrow::CowStr;

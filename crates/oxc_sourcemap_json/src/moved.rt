@@ -10,7 +10,7 @@ ghost use Rattle.oxc_sourcemap_json.specs.Shape.{present, optional, required, te
 
 use crate::json_source_map::JSONSourceMap;
 use crate::shape::{read_either_list, read_version};
-use oxc_sourcemap_mappings::{Error, Field, JsonFault, Result};
+use oxc_sourcemap_error::{Error, Field, JsonFault, Result};
 use serde_json::{Map, Value};
 use std::alloc::Global;
 

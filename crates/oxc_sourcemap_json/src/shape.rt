@@ -1,5 +1,5 @@
 //! The shape of a source map as a JSON value.
-ghost use Rattle.std.specs.Prelude.{◌≡◌, ◌≢◌, ◌++◌, ℕ, List, map, option_map, string_bytes, codes, IfOk, IfErr, Ok, Err, Some, None, Option};
+ghost use Rattle.std.specs.Prelude.{◌≡◌, ◌≢◌, map, option_map, string_bytes, codes, IfOk, IfErr, Ok, Err, Some, None, Option};
 ghost use Rattle.serde_json.specs.View.{view};
 ghost use Rattle.serde_json.specs.Find.{get, as_object};
 ghost use Rattle.oxc_sourcemap_error.specs.declared.error.Error.TheVariants.{OutOfMemory};
@@ -8,7 +8,7 @@ ghost use Rattle.oxc_sourcemap_json.specs.Json.{json_record, json_contents};
 ghost use Rattle.oxc_sourcemap_json.specs.Shape.{present, optional, required, text_in, texts_in, contents_in, ids_in, version_in, names_of, ignore_list_of, as_id, file_of, shape};
 
 use crate::json_source_map::JSONSourceMap;
-use oxc_sourcemap_mappings::{Error, Field, JsonFault, Result};
+use oxc_sourcemap_error::{Error, Field, JsonFault, Result};
 use serde_json::Value;
 use std::alloc::Global;
 

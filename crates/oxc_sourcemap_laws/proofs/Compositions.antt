@@ -5,14 +5,13 @@ use Rattle.std.specs.List.{slice_get, filter_map, position_from, AllByRecursion}
 use Rattle.std.specs.Option.{option_map, option_and_then, option_or, IfSome}
 use Rattle.std.specs.Str.{bytes_eq}
 use Rattle.std.specs.Cmp.Lexicographic.{bytes_decides}
-use Rattle.oxc_sourcemap_mappings.specs.Token.{TokenRecord}
+use Rattle.oxc_sourcemap_tokens.specs.Token.{TokenRecord}
 use Rattle.oxc_sourcemap_parts.specs.Record.{Text, MapRecord}
 use Rattle.oxc_sourcemap_parts.specs.Texts.{index_of}
 use Rattle.oxc_sourcemap_parts.specs.Sorted.{token_line, token_column, may_precede, is_sorted_by}
 use Rattle.oxc_sourcemap_parts.specs.Sound.{IsInRange, AreIdsInRange, IsSound}
-use Rattle.oxc_sourcemap_parts.specs.DecodedMap.{DecodedSource, OriginalPosition, DecodedMapping, DecodedMap, sources_of, name_of, original_at, original_of, mapping_of, decoded_map_of}
+use Rattle.oxc_sourcemap_parts.specs.DecodedMap.{DecodedSource, OriginalPosition, DecodedMapping, DecodedMap, sources_of, name_of, original_at, original_of, mapping_of, decoded_map_of, mapping_line, mapping_column}
 use Rattle.oxc_sourcemap_lookup.specs.Lookup.{clamped_pick}
-use Rattle.oxc_sourcemap_parts.specs.DecodedMap.{mapping_line, mapping_column}
 use Rattle.oxc_sourcemap_compose.specs.Composed.{target_of, if_mapped, found_on, line_of, target_in, targets, kept_name, inherited_name, inherited_id, composed_names, composed_token, token_through, composed}
 use Rattle.oxc_sourcemap_lookup.proofs.Picks.{clamped_pick-map}
 use Rattle.oxc_sourcemap_compose.proofs.Targets.{clamped_pick-all, found-all}

@@ -3,7 +3,7 @@ use Rattle.std.proofs.Common.{◌≡◌, ℕ, zero, suc, ◌+◌, ◌<◌, List,
 use Rattle.std.specs.List.{slice_get, AllByRecursion}
 use Rattle.std.specs.Option.{option_map, option_and_then, IfSome}
 use Rattle.std.proofs.lemmas.List.{map-append}
-use Rattle.oxc_sourcemap_mappings.specs.Token.{TokenRecord}
+use Rattle.oxc_sourcemap_tokens.specs.Token.{TokenRecord}
 use Rattle.oxc_sourcemap_parts.specs.Record.{Text, MapRecord}
 use Rattle.oxc_sourcemap_parts.specs.Sound.{IsInRange}
 use Rattle.oxc_sourcemap_parts.specs.DecodedMap.{DecodedSource, sources_of, name_of, mapping_of, decoded_map_of}

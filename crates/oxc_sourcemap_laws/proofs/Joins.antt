@@ -4,8 +4,8 @@ use Rattle.std.specs.List.{flat_map}
 use Rattle.std.specs.Option.{option_map}
 use Rattle.std.proofs.lemmas.Bool.Decides.{nat_tests}
 use Rattle.std.proofs.lemmas.List.{append-nil, length-append, map-append}
-use Rattle.oxc_sourcemap_mappings.specs.declared.token.TokenChunk.{TokenChunk}
-use Rattle.oxc_sourcemap_mappings.specs.Token.{TokenRecord}
+use Rattle.oxc_sourcemap_tokens.specs.declared.token.TokenChunk.{TokenChunk}
+use Rattle.oxc_sourcemap_tokens.specs.Token.{TokenRecord}
 use Rattle.oxc_sourcemap_parts.specs.Record.{Text, MapRecord}
 use Rattle.oxc_sourcemap_join.specs.Joined.{Offset, at_line, at_lines, shifted_column, fitted, shifted, is_same_id, is_same_token, seamed, raised_ignore_list, appended_ignore_lists, added_tokens, added_ignore_list, added, nothing_joined, added_all, joined}
 use Rattle.oxc_sourcemap_join.proofs.SameToken.{decides_token}

@@ -11,3 +11,4 @@ pub mod ComposedNames
 pub mod Groupings
 pub mod ComposedBounds
 mod Worked
+mod WorkedTexts

@@ -8,7 +8,7 @@ use Rattle.std.specs.List.{prefix_len, last_or}
 use Rattle.std.specs.Ordering.{match_ordering}
 use Rattle.std.specs.declared.cmp.Ordering.{Ordering}
 use Rattle.std.specs.declared.cmp.Ordering.TheVariants.{Less, Equal, Greater}
-use Rattle.oxc_sourcemap_mappings.specs.Token.{TokenRecord}
+use Rattle.oxc_sourcemap_tokens.specs.Token.{TokenRecord}
 use Rattle.oxc_sourcemap_parts.specs.Sorted.{token_column}
 use Rattle.oxc_sourcemap_lookup.specs.Digits.{digits_up_to, binary_digits}
 use Rattle.oxc_sourcemap_lookup.specs.Lookup.{first, last, at, no_column_goes_back}

@@ -8,8 +8,8 @@ use Rattle.std.proofs.lemmas.List.Sums.{prefix_len-le-length}
 use Rattle.std.proofs.lemmas.Option.{slice_get-get_or}
 use Rattle.std.specs.List.Sorted.{IsNonDecreasingBy}
 use Rattle.std.specs.List.{All, prefix_len}
-use Rattle.oxc_sourcemap_mappings.specs.Token.{TokenRecord}
-use Rattle.oxc_sourcemap_mappings.specs.Canonical.{first_out_of_order}
+use Rattle.oxc_sourcemap_tokens.specs.Token.{TokenRecord}
+use Rattle.oxc_sourcemap_tokens.specs.LineOrder.{first_out_of_order}
 use Rattle.oxc_sourcemap_parts.specs.Sorted.{token_line}
 use Rattle.oxc_sourcemap_lookup.specs.declared.line_index.LineSpan.{LineSpan}
 use Rattle.oxc_sourcemap_lookup.specs.Lookup.{on_line}

@@ -4,8 +4,8 @@ use Rattle.std.specs.List.{last_or, range_with_len, AllByRecursion}
 use Rattle.std.specs.Option.{unwrap_or}
 use Rattle.oxc_sourcemap_error.specs.declared.error.Error.TheVariants.{LineOrder}
 use Rattle.oxc_sourcemap_error.specs.Refusals.{unless}
-use Rattle.oxc_sourcemap_mappings.specs.Token.{TokenRecord}
-use Rattle.oxc_sourcemap_mappings.specs.Canonical.{first_out_of_order}
+use Rattle.oxc_sourcemap_tokens.specs.Token.{TokenRecord}
+use Rattle.oxc_sourcemap_tokens.specs.LineOrder.{first_out_of_order}
 use Rattle.oxc_sourcemap_parts.specs.Sorted.{token_line, token_column, may_precede, are_tokens_sorted}
 use Rattle.oxc_sourcemap_lookup.specs.Lookup.{last, on_line, lines_through, tokens_by_line, line_table, slice_of, no_column_goes_back}
 use Rattle.oxc_sourcemap_parts.proofs.Order.{sorted-head}

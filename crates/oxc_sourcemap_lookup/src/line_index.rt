@@ -3,13 +3,14 @@ ghost use Rattle.std.specs.Prelude.{ℕ, ◌+◌, ◌*◌, ◌^◌, ◌≡◌, �
 ghost use Rattle.std.specs.List.{All, Contains, prefix_len};
 ghost use Rattle.oxc_sourcemap_error.specs.declared.error.Error.{Error};
 ghost use Rattle.oxc_sourcemap_error.specs.declared.error.Error.TheVariants.{LineOrder, OutOfMemory};
-ghost use Rattle.oxc_sourcemap_mappings.specs.Canonical.{IsInLineOrder, first_out_of_order};
+ghost use Rattle.oxc_sourcemap_tokens.specs.LineOrder.{IsInLineOrder, first_out_of_order};
 ghost use Rattle.oxc_sourcemap_parts.specs.Sorted.{are_tokens_sorted, token_line, token_column};
 ghost use Rattle.oxc_sourcemap_lookup.specs.Lookup.{on_line, last, lines_through, pick, clamped_pick};
 ghost use Rattle.oxc_sourcemap_lookup.specs.LineSpans.{AreStarts, AreSpans, DoLinesRise, AreLines, IsIndexOf};
 
 use crate::lookup::{line_count, line_length, search, search_clamped};
-use oxc_sourcemap_mappings::{Error, Result, Token, line_order_fault};
+use oxc_sourcemap_error::{Error, Result};
+use oxc_sourcemap_tokens::{Token, line_order_fault};
 use std::alloc::{AllocError, Global};
 
 /// Where the tokens of one line lie in the list: from index `start` up to but not including `end`.

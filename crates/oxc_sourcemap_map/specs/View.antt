@@ -1,7 +1,7 @@
 -- A token together with the map that its ids are looked up in, and what the ids name there.
 use Rattle.std.specs.Prelude.{ℕ, List, slice_get, Option}
 use Rattle.std.specs.Option.{option_and_then, option_zip}
-use Rattle.oxc_sourcemap_mappings.specs.Token.{TokenRecord}
+use Rattle.oxc_sourcemap_tokens.specs.Token.{TokenRecord}
 use Rattle.oxc_sourcemap_parts.specs.Record.{Text, MapRecord}
 use Rattle.oxc_sourcemap_parts.specs.DecodedMap.{OriginalPosition, sources_of, original_of, name_of}
 use Rattle.oxc_sourcemap_map.specs.declared.source_view_token.SourceViewToken.{SourceViewToken}

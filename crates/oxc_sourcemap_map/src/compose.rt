@@ -8,7 +8,7 @@ ghost use Rattle.oxc_sourcemap_compose.specs.Composed.{composition, composition_
 
 use crate::sourcemap::SourceMap;
 use oxc_sourcemap_compose::compose_parts;
-use oxc_sourcemap_mappings::Result;
+use oxc_sourcemap_error::Result;
 use std::alloc::Global;
 
 impl<'a> SourceMap<'a> {

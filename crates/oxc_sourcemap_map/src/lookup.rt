@@ -13,8 +13,9 @@ ghost use Rattle.oxc_sourcemap_map.specs.View.{view_of, seen_in, view_original};
 
 use crate::source_view_token::SourceViewToken;
 use crate::sourcemap::SourceMap;
+use oxc_sourcemap_error::Result;
 use oxc_sourcemap_lookup::{lookup_table, search, search_clamped, slice_of};
-use oxc_sourcemap_mappings::{Result, Token};
+use oxc_sourcemap_tokens::Token;
 use std::alloc::Global;
 
 impl<'a> SourceMap<'a> {

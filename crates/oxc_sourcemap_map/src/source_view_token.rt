@@ -3,7 +3,7 @@ ghost use Rattle.std.specs.Prelude.{◌≡◌, option_map, MatchOption, Some, No
 ghost use Rattle.oxc_sourcemap_map.specs.View.{view_of, seen_in, view_name, view_source, view_content, view_source_and_content, view_original};
 
 use crate::sourcemap::SourceMap;
-use oxc_sourcemap_mappings::Token;
+use oxc_sourcemap_tokens::Token;
 
 /// A token, and the map that its ids are looked up in. Strings that it returns borrow from the map, for `'sm`; `'data` is
 /// the lifetime of what the map itself borrows.

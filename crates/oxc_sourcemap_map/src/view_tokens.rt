@@ -6,7 +6,7 @@ ghost use Rattle.oxc_sourcemap_map.specs.View.{view_of, seen_in};
 
 use crate::source_view_token::SourceViewToken;
 use crate::sourcemap::SourceMap;
-use oxc_sourcemap_mappings::Token;
+use oxc_sourcemap_tokens::Token;
 use std::marker::Model;
 use std::slice;
 

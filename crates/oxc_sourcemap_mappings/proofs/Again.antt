@@ -5,17 +5,18 @@ use Rattle.std.proofs.lemmas.Bool.{cases_lt, cases_eq}
 use Rattle.std.proofs.lemmas.List.Elements.{All-from_recursion}
 use Rattle.std.proofs.lemmas.Bool.Decides.{nat_tests}
 use Rattle.oxc_sourcemap_error.specs.declared.error.Error.{Error}
-use Rattle.oxc_sourcemap_mappings.specs.Token.{TokenRecord, IsInBounds, AreInBounds}
+use Rattle.oxc_sourcemap_tokens.specs.Token.{TokenRecord, IsInBounds, AreInBounds}
 use Rattle.oxc_sourcemap_mappings.specs.Parts.{Segment, lines, field}
 use Rattle.oxc_sourcemap_mappings.specs.Places.{Place}
 use Rattle.oxc_sourcemap_mappings.specs.Faults.{◌orelse◌, counts_of, range_fault, size_fault, place_fault, is_id_below}
 use Rattle.oxc_sourcemap_error.specs.Refusals.{unless}
 use Rattle.oxc_sourcemap_mappings.specs.Reading.{token_at, segment_result, gathered, onto, reading}
-use Rattle.oxc_sourcemap_mappings.specs.State.{State, initial}
-use Rattle.oxc_sourcemap_mappings.specs.Canonical.{carried_token, canonical, back_from}
+use Rattle.oxc_sourcemap_tokens.specs.State.{State, initial}
+use Rattle.oxc_sourcemap_mappings.specs.Canonical.{carried_token, canonical}
+use Rattle.oxc_sourcemap_tokens.specs.LineOrder.{back_from}
 use Rattle.oxc_sourcemap_mappings.specs.Decoding.{moved, moved_by}
-use Rattle.oxc_sourcemap_mappings.specs.Encoding.{advanced}
-use Rattle.oxc_sourcemap_mappings.proofs.Order.{back_from-all}
+use Rattle.oxc_sourcemap_tokens.specs.Steps.{advanced}
+use Rattle.oxc_sourcemap_tokens.proofs.InOrder.{back_from-all}
 use Rattle.oxc_sourcemap_mappings.proofs.Length.{IsBounded, IsBounded-advanced}
 use Rattle.oxc_sourcemap_mappings.proofs.Left.{along, along_lines, moved_by_all, reading-lines}
 use Rattle.oxc_sourcemap_mappings.proofs.RoundTrip.{IsWithin, round_trip, carried-is, carrying, IsBounded-initial}

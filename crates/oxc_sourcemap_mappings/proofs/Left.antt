@@ -12,7 +12,7 @@ use Rattle.oxc_sourcemap_mappings.specs.Parts.{Segment, segment, segments, lines
 use Rattle.oxc_sourcemap_mappings.specs.Places.{Before, nothing_before, past_segment, past_line, Place, place, field_sum, of_any_size}
 use Rattle.oxc_sourcemap_error.specs.Refusals.{unless}
 use Rattle.oxc_sourcemap_mappings.specs.Faults.{Counts, counts_of, digit_fault, place_fault}
-use Rattle.oxc_sourcemap_mappings.specs.Token.{TokenRecord}
+use Rattle.oxc_sourcemap_tokens.specs.Token.{TokenRecord}
 use Rattle.oxc_sourcemap_mappings.specs.Reading.{segment_result, token_at, line_results, text_results, onto, gathered, reading}
 use Rattle.oxc_sourcemap_mappings.specs.Decoding.{ends_segment, front_digits, front_segment, AreFieldsOf, value, moved, moved_by, at_line_start}
 

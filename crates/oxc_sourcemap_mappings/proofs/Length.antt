@@ -1,5 +1,5 @@
 -- How long the text of a list is.
-use Rattle.std.proofs.Common.{◌≡◌, ℕ, zero, suc, ◌+◌, ◌-◌, ◌*◌, ◌/◌, ◌^◌, ◌<◌, ◌≤◌, Bool, true, false, cond, ◌==◌, nat_lt, List, [], ◌∷◌, ◌++◌, length, replicate, arith, refl, ap, ◌∙◌, lit<, lit≤, Option, Some, None, inl, inr, Result, Ok, Err, OnOk}
+use Rattle.std.proofs.Common.{◌≡◌, ℕ, zero, suc, ◌+◌, ◌-◌, ◌*◌, ◌/◌, ◌^◌, ◌<◌, ◌≤◌, Bool, true, false, cond, ◌==◌, nat_lt, List, [], ◌∷◌, ◌++◌, length, replicate, arith, ap, ◌∙◌, lit<, lit≤, Option, Some, None, inl, inr, Result, Ok, Err, OnOk}
 use Rattle.std.specs.List.{AllByRecursion}
 use Rattle.std.proofs.Math.Nat.{pow-suc}
 use Rattle.std.proofs.lemmas.Bool.{cases_lt}
@@ -7,11 +7,13 @@ use Rattle.std.proofs.lemmas.Bool.Decides.{nat_tests}
 use Rattle.std.proofs.lemmas.List.{length-append, length-map, length-replicate}
 use Rattle.std.proofs.lemmas.List.Elements.{recursion_from_All}
 use Rattle.std.specs.Option.{option_map_or, unwrap_or, IfSome}
-use Rattle.oxc_sourcemap_mappings.specs.Token.{TokenRecord, IsInBounds, AreInBounds, last_line, mapped_name, name_beside, beside_source}
-use Rattle.oxc_sourcemap_mappings.specs.State.{State, initial}
-use Rattle.oxc_sourcemap_mappings.specs.Canonical.{digits, vlq_text, letter, raw_delta, delta_text, separator, column_text, token_text, canonical, first_out_of_order, back_from}
-use Rattle.oxc_sourcemap_mappings.specs.Encoding.{text_from, advanced}
-use Rattle.oxc_sourcemap_mappings.proofs.Order.{back_from-all}
+use Rattle.oxc_sourcemap_tokens.specs.Token.{TokenRecord, IsInBounds, AreInBounds, last_line, mapped_name, name_beside, beside_source}
+use Rattle.oxc_sourcemap_tokens.specs.State.{State, initial}
+use Rattle.oxc_sourcemap_mappings.specs.Canonical.{digits, vlq_text, letter, raw_delta, delta_text, separator, column_text, token_text, canonical}
+use Rattle.oxc_sourcemap_tokens.specs.LineOrder.{first_out_of_order, back_from}
+use Rattle.oxc_sourcemap_mappings.specs.Encoding.{text_from}
+use Rattle.oxc_sourcemap_tokens.specs.Steps.{advanced}
+use Rattle.oxc_sourcemap_tokens.proofs.InOrder.{back_from-all, in_order}
 use Rattle.oxc_sourcemap_mappings.proofs.Vlq.{digits_zero, digits_small, digits_large}
 use Rattle.oxc_sourcemap_mappings.proofs.Writing.{canonical-is}
 
@@ -90,11 +92,6 @@ length-token_text first s t h w l =
     let b = length-or t.source_id (λ id. delta_text id s.source_id ++ delta_text t.src_line s.src_line ++ delta_text t.src_col s.src_col) 21 w.source_id (λ id k. (let d1 = length-delta_text id s.source_id k h.source_id in simp length-append (omega arith))) in
     let n = length-or (mapped_name t) (λ id. delta_text id s.name_id) 7 (name_beside-id t.source_id t.name_id w.name_id) (λ id k. length-delta_text id s.name_id k h.name_id) in
     simp length-append (omega arith)
-
--- a list in order after a line
-pub in_order : (b : Bool) (i : ℕ) (o : Option ℕ) → cond b (Some i) o ≡ None → (b ≡ false) × (o ≡ None)
-in_order true i o e = cc
-in_order false i o e = (refl, e)
 
 length-text_from : (first : Bool) (s : State) (i : ℕ) (ts : List TokenRecord) → IsBounded s → AllByRecursion IsInBounds ts → back_from s.dst_line i ts ≡ None → length (text_from first s ts) + s.dst_line ≤ last_line s.dst_line ts + 36 * length ts
 length-text_from first s i [] h w o = omega arith

@@ -4,14 +4,12 @@ pub mod Table
 pub mod Usual
 pub mod Left
 pub mod Room
-pub mod Order
 pub mod Vlq
 pub mod Letters
 pub mod Placing
 pub mod Writing
 pub mod Length
-pub mod Chunks
-pub mod Last
+pub mod Pieces
 pub mod Digits
 pub mod Texts
 pub mod Segments

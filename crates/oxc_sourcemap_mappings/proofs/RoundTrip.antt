@@ -1,23 +1,25 @@
 -- What a written list reads as.
-use Rattle.std.proofs.Common.{◌≡◌, ℕ, zero, suc, ◌+◌, ◌-◌, ◌<◌, ◌≤◌, Bool, true, false, cond, ◌==◌, nat_lt, List, [], ◌∷◌, ◌++◌, length, replicate, pos, min, arith, refl, sym, ap, ◌∙◌, append_assoc, lit<, inl, inr, Option, Some, None, Result, Ok, if◌then◌else◌, subst, add-zero}
+use Rattle.std.proofs.Common.{◌≡◌, ℕ, zero, suc, ◌+◌, ◌-◌, ◌<◌, ◌≤◌, Bool, true, false, cond, ◌==◌, nat_lt, List, [], ◌∷◌, ◌++◌, length, replicate, min, arith, refl, sym, ap, ◌∙◌, append_assoc, lit<, inl, inr, Option, Some, None, Result, Ok, if◌then◌else◌, subst, add-zero}
 use Rattle.std.specs.List.{AllByRecursion}
 use Rattle.std.proofs.lemmas.Bool.{cases_lt}
 use Rattle.std.proofs.lemmas.Bool.Decides.{nat_tests}
 use Rattle.std.proofs.lemmas.List.{length-map}
 use Rattle.std.specs.Option.{IfSome, is_some}
 use Rattle.oxc_sourcemap_error.specs.declared.error.Error.{Error}
-use Rattle.oxc_sourcemap_mappings.specs.Token.{TokenRecord, IsInBounds, mapped_name}
+use Rattle.oxc_sourcemap_tokens.specs.Token.{TokenRecord, IsInBounds, mapped_name}
 use Rattle.oxc_sourcemap_mappings.specs.Parts.{Segment, segment, lines, is_filled}
 use Rattle.oxc_sourcemap_mappings.specs.Places.{nothing_before, Place, place}
 use Rattle.oxc_sourcemap_mappings.specs.Faults.{Counts, counts_of}
 use Rattle.oxc_sourcemap_mappings.specs.Reading.{segment_result, gathered, onto, reading}
-use Rattle.oxc_sourcemap_mappings.specs.State.{State, initial, state_after}
-use Rattle.oxc_sourcemap_mappings.specs.Canonical.{digits, vlq_text, letter, separator, token_text, canonical, as_written, token_as_written, carried, carried_token, carried_after, first_out_of_order, back_from}
+use Rattle.oxc_sourcemap_tokens.specs.State.{State, initial, state_after}
+use Rattle.oxc_sourcemap_mappings.specs.Canonical.{digits, vlq_text, letter, separator, token_text, canonical, as_written, token_as_written, carried, carried_token, carried_after}
+use Rattle.oxc_sourcemap_tokens.specs.LineOrder.{first_out_of_order, back_from}
 use Rattle.oxc_sourcemap_mappings.specs.TextLaws.{AreWrittenIdsBelow}
 use Rattle.oxc_sourcemap_mappings.specs.Decoding.{moved_by, at_line_start}
-use Rattle.oxc_sourcemap_mappings.specs.Encoding.{advanced, text_from}
-use Rattle.oxc_sourcemap_mappings.proofs.Order.{back_from-all}
-use Rattle.oxc_sourcemap_mappings.proofs.Length.{name_beside-id, IsBounded, IsBounded-advanced, in_order}
+use Rattle.oxc_sourcemap_tokens.specs.Steps.{advanced}
+use Rattle.oxc_sourcemap_mappings.specs.Encoding.{text_from}
+use Rattle.oxc_sourcemap_tokens.proofs.InOrder.{back_from-all, in_order}
+use Rattle.oxc_sourcemap_mappings.proofs.Length.{name_beside-id, IsBounded, IsBounded-advanced}
 use Rattle.oxc_sourcemap_mappings.proofs.Digits.{length-digits-pos}
 use Rattle.oxc_sourcemap_mappings.proofs.Left.{along, along_lines, moved_by_all, reading-lines}
 use Rattle.oxc_sourcemap_mappings.proofs.Writing.{canonical-is}

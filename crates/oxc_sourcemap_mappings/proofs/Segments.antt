@@ -4,13 +4,13 @@ use Rattle.std.specs.List.{AllByRecursion}
 use Rattle.std.proofs.lemmas.Bool.Decides.{nat_tests}
 use Rattle.std.proofs.lemmas.List.{append-nil, map-append}
 use Rattle.std.specs.Option.{option_map_or, unwrap_or, IfSome}
-use Rattle.oxc_sourcemap_mappings.specs.Token.{TokenRecord, IsInBounds, name_beside, beside_source}
+use Rattle.oxc_sourcemap_tokens.specs.Token.{TokenRecord, IsInBounds, name_beside, beside_source}
 use Rattle.oxc_sourcemap_mappings.specs.Number.{digit, number}
 use Rattle.oxc_sourcemap_mappings.specs.Parts.{Segment, segment, runs}
 use Rattle.oxc_sourcemap_mappings.specs.Places.{Place}
 use Rattle.oxc_sourcemap_mappings.specs.Faults.{Counts, digit_fault, place_fault, range_fault}
 use Rattle.oxc_sourcemap_mappings.specs.Reading.{token_at, segment_result}
-use Rattle.oxc_sourcemap_mappings.specs.State.{State}
+use Rattle.oxc_sourcemap_tokens.specs.State.{State}
 use Rattle.oxc_sourcemap_mappings.specs.Canonical.{digits, vlq_text, raw_delta, delta_text, column_text, separator, token_text, carried_token}
 use Rattle.oxc_sourcemap_mappings.specs.Decoding.{moved_by}
 use Rattle.oxc_sourcemap_mappings.proofs.Length.{IsBounded}

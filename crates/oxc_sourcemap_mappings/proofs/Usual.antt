@@ -1,5 +1,5 @@
 -- Segments of four or five fields of one to three digits.
-use Rattle.std.proofs.Common.{◌≡◌, ℕ, zero, suc, ◌+◌, ◌*◌, ◌%◌, ◌^◌, ◌<◌, ◌≤◌, true, false, List, [], ◌∷◌, length, get_or, drop, map, ℤ, pos, nat_abs, None, nat_le, if◌then◌else◌, arith, refl, sym, ap, ◌∙◌, add-one, zero-add, drop-cons, lit<, rules, to_z, of_z, w64}
+use Rattle.std.proofs.Common.{◌≡◌, ℕ, zero, suc, ◌+◌, ◌*◌, ◌%◌, ◌^◌, ◌<◌, ◌≤◌, true, false, List, [], ◌∷◌, length, get_or, drop, map, ℤ, pos, nat_abs, None, nat_le, arith, refl, sym, ap, ◌∙◌, zero-add, drop-cons, lit<, rules, to_z, of_z, w64}
 use Rattle.std.proofs.lemmas.Int.{to_z-of_z}
 use Rattle.std.proofs.lemmas.Bool.Decides.{nat_tests}
 use Rattle.oxc_sourcemap_mappings.specs.declared.decode.Fields.{Fields}

@@ -2,13 +2,13 @@
 use Rattle.std.specs.Prelude.{◌≡◌, refl, ℕ, [], ◌∷◌, ◌++◌, codes, Ok, Err, Option, Some, None}
 use Rattle.std.specs.List.{flat_map}
 use Rattle.oxc_sourcemap_error.specs.declared.error.Error.TheVariants.{VlqLeftover, VlqOverflow, BadSegmentSize, BadSourceReference, BadNameReference, LineOrder, BadChunks}
-use Rattle.oxc_sourcemap_mappings.specs.declared.token.TokenChunk.{TokenChunk}
+use Rattle.oxc_sourcemap_tokens.specs.declared.token.TokenChunk.{TokenChunk}
 use Rattle.oxc_sourcemap_mappings.specs.Number.{digit}
 use Rattle.oxc_sourcemap_mappings.specs.Faults.{digit_fault, place_fault}
-use Rattle.oxc_sourcemap_mappings.specs.Token.{TokenRecord}
+use Rattle.oxc_sourcemap_tokens.specs.Token.{TokenRecord}
 use Rattle.oxc_sourcemap_mappings.specs.Reading.{reading, text_results, line_results}
 use Rattle.oxc_sourcemap_mappings.specs.Canonical.{canonical, text_after, token_text, separator, delta_text, vlq_text, digits, letter}
-use Rattle.oxc_sourcemap_mappings.specs.Chunks.{piece, piece_after, writing_fault}
+use Rattle.oxc_sourcemap_mappings.specs.Pieces.{piece, piece_after, writing_fault}
 
 -- generated line and column, source line and column, source id, name id
 abbrev token : ℕ → ℕ → ℕ → ℕ → Option ℕ → Option ℕ → TokenRecord

@@ -1,9 +1,9 @@
 -- The one canonical text of a list of tokens (for its form, ECMA-426, "Mappings structure").
-use Rattle.std.specs.Prelude.{◌≡◌, ℕ, zero, suc, ◌+◌, ◌-◌, ◌*◌, ◌/◌, ◌%◌, ◌<◌, Bool, true, false, List, [], ◌∷◌, ◌++◌, map, replicate, Option, Some, None, if◌then◌else◌, nat_lt, ◌==◌}
+use Rattle.std.specs.Prelude.{◌≡◌, ℕ, zero, suc, ◌+◌, ◌-◌, ◌*◌, ◌/◌, ◌%◌, ◌<◌, Bool, true, false, List, [], ◌∷◌, ◌++◌, map, replicate, None, if◌then◌else◌, nat_lt, ◌==◌}
 use Rattle.std.specs.List.{AllByRecursion}
-use Rattle.std.specs.Option.{option_map, option_map_or}
-use Rattle.oxc_sourcemap_mappings.specs.Token.{TokenRecord, is_mapped, mapped_name}
-use Rattle.oxc_sourcemap_mappings.specs.State.{State, initial, state_after}
+use Rattle.std.specs.Option.{option_map_or}
+use Rattle.oxc_sourcemap_tokens.specs.Token.{TokenRecord, is_mapped, mapped_name}
+use Rattle.oxc_sourcemap_tokens.specs.State.{State, initial, state_after}
 
 -- the byte of a digit below 64 in the base64 alphabet
 unfoldable pub letter : ℕ → ℕ
@@ -80,22 +80,6 @@ token_as_written t = if is_mapped t then t else record t { src_line = 0; src_col
 -- a list without what its text leaves out
 abbrev pub as_written : List TokenRecord → List TokenRecord
 as_written tokens = map token_as_written tokens
-
--- the index of the first token whose generated line goes back
-abbrev pub first_out_of_order : List TokenRecord → Option ℕ
-first_out_of_order [] = None
-first_out_of_order (t ∷ []) = None
-first_out_of_order (t ∷ u ∷ ts) =
-    if nat_lt u.dst_line t.dst_line then Some 1 else option_map (λ i. i + 1) (first_out_of_order (u ∷ ts))
-
--- The same for tokens that stand after a token on this line, the first of them at index i.
-abbrev pub back_from : ℕ → ℕ → List TokenRecord → Option ℕ
-back_from line i [] = None
-back_from line i (t ∷ ts) = if nat_lt t.dst_line line then Some i else back_from t.dst_line (i + 1) ts
-
--- generated lines never go back
-abbrev pub IsInLineOrder : List TokenRecord → Type 0
-IsInLineOrder tokens = first_out_of_order tokens ≡ None
 
 -- A token as it comes back from its text: an unmapped one takes its source position from the state, and has no name.
 abbrev pub carried_token : State → TokenRecord → TokenRecord

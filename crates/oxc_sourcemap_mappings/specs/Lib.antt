@@ -2,12 +2,9 @@ pub mod Number
 pub mod Parts
 pub mod Places
 pub mod Faults
-pub mod Token
 pub mod Reading
-pub mod State
 pub mod Canonical
-pub mod Chunks
+pub mod Pieces
 pub mod TextLaws
-pub mod TokenFields
 pub mod Decoding
 pub mod Encoding

@@ -6,7 +6,7 @@ use Rattle.oxc_sourcemap_mappings.specs.Parts.{Segment, has_source, has_name, li
 use Rattle.oxc_sourcemap_mappings.specs.Places.{Before, nothing_before, past_segment, past_line, Place, place}
 use Rattle.oxc_sourcemap_error.specs.Refusals.{unless}
 use Rattle.oxc_sourcemap_mappings.specs.Faults.{Counts, counts_of, nat_of, segment_fault}
-use Rattle.oxc_sourcemap_mappings.specs.Token.{TokenRecord}
+use Rattle.oxc_sourcemap_tokens.specs.Token.{TokenRecord}
 
 -- The token of a segment of this size, by its place. A segment of four or five fields gives a source, one of five a name.
 abbrev pub token_at : ℕ → ℕ → Place → TokenRecord

@@ -1,11 +1,13 @@
 -- Laws of reading and writing.
 use Rattle.std.specs.Prelude.{◌≡◌, ℕ, ◌<◌, List, Ok, IfSome, ◌↔◌}
 use Rattle.std.specs.List.{AllByRecursion, flat_map}
-use Rattle.oxc_sourcemap_mappings.specs.declared.token.TokenChunk.{TokenChunk}
-use Rattle.oxc_sourcemap_mappings.specs.Token.{TokenRecord, AreInBounds, mapped_name}
+use Rattle.oxc_sourcemap_tokens.specs.declared.token.TokenChunk.{TokenChunk}
+use Rattle.oxc_sourcemap_tokens.specs.Token.{TokenRecord, AreInBounds, mapped_name}
 use Rattle.oxc_sourcemap_mappings.specs.Reading.{reading}
-use Rattle.oxc_sourcemap_mappings.specs.Canonical.{canonical, as_written, carried, IsInLineOrder}
-use Rattle.oxc_sourcemap_mappings.specs.Chunks.{piece, ChunksFit}
+use Rattle.oxc_sourcemap_mappings.specs.Canonical.{canonical, as_written, carried}
+use Rattle.oxc_sourcemap_tokens.specs.LineOrder.{IsInLineOrder}
+use Rattle.oxc_sourcemap_mappings.specs.Pieces.{piece}
+use Rattle.oxc_sourcemap_tokens.specs.Chunks.{ChunksFit}
 
 -- a list in line order and in bounds
 pub record IsOrderedInBounds (tokens : List TokenRecord) : Type 0 where

@@ -1,6 +1,6 @@
 //! Reading the `mappings` text.
 ghost use Rattle.std.specs.Box.{boxed_slice_items};
-ghost use Rattle.std.specs.Prelude.{◌≡◌, ◌≢◌, ◌⊎◌, ℕ, ◌+◌, ◌*◌, ◌%◌, ◌^◌, ◌<◌, ◌≤◌, length, List, ◌∷◌, [], drop, ℤ, pos, nat_abs, ◌+ℤ◌};
+ghost use Rattle.std.specs.Prelude.{◌≡◌, ◌≢◌, ◌⊎◌, ◌+◌, ◌*◌, ◌%◌, ◌^◌, ◌<◌, ◌≤◌, length, ◌∷◌, [], drop, ℤ, pos, nat_abs, ◌+ℤ◌};
 ghost use Rattle.std.specs.Prelude.{set, true, false, min, is_some, IfSome, IfNone, OnOk, IfOk, IfErr, Option, Some, None, Result, Ok, Err};
 ghost use Rattle.oxc_sourcemap_error.specs.declared.error.Error.TheVariants.{OutOfMemory, TooLarge};
 ghost use Rattle.oxc_sourcemap_mappings.specs.Number.{digit, payload, signed};
@@ -11,8 +11,8 @@ ghost use Rattle.oxc_sourcemap_mappings.specs.Reading.{token_at, segment_result,
 ghost use Rattle.oxc_sourcemap_mappings.specs.Decoding.{ends_segment, front_digits, front_segment, is_over, IsNumberAt, marks};
 ghost use Rattle.oxc_sourcemap_mappings.specs.Decoding.{AreFieldsOf, AreSmall, value, place_of, source_moved, moved, moved_by};
 
-use crate::token::Token;
 use oxc_sourcemap_error::{Error, Result};
+use oxc_sourcemap_tokens::Token;
 use std::alloc::Global;
 use std::boxed::BoxedSlice;
 

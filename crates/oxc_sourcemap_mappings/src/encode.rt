@@ -1,161 +1,22 @@
 //! Writing the `mappings` text.
-ghost use Rattle.std.specs.Prelude.{◌≡◌, ◌≢◌, ◌↔◌, ℕ, ◌+◌, ◌-◌, ◌*◌, ◌/◌, ◌%◌, ◌^◌, ◌<◌, ◌≤◌, ◌++◌, ◌==◌, List, ◌∷◌, [], length, min, replicate, string_bytes, OnOk, OnErr, IfErr, IfOk, IsTrue, Option, Some, None, IsNone, Err, if◌then◌else◌, nat_lt, nat_le, drop, take, flat_map, encode_utf8};
+ghost use Rattle.std.specs.Prelude.{◌≡◌, ◌≢◌, ◌↔◌, ◌+◌, ◌-◌, ◌*◌, ◌/◌, ◌%◌, ◌^◌, ◌<◌, ◌≤◌, ◌++◌, ◌==◌, ◌∷◌, [], length, min, replicate, string_bytes, OnOk, OnErr, IfErr, IfOk, IsTrue, Option, Some, None, Err, if◌then◌else◌, nat_le, take, flat_map};
 ghost use Rattle.oxc_sourcemap_error.specs.declared.error.Error.{Error};
 ghost use Rattle.oxc_sourcemap_error.specs.declared.error.Error.TheVariants.{OutOfMemory};
-ghost use Rattle.oxc_sourcemap_mappings.specs.Token.{AreInBounds, last_line, mapped_name};
-ghost use Rattle.oxc_sourcemap_mappings.specs.State.{initial, state_at};
-ghost use Rattle.oxc_sourcemap_mappings.specs.Canonical.{letter, vlq_text, raw_delta, delta_text, canonical, first_out_of_order, back_from, Extends};
-ghost use Rattle.oxc_sourcemap_mappings.specs.Chunks.{header, chunk_tokens, piece, piece_fault, chunk_from, is_same_state, first_misfit, ChunksFit, writing_fault, lent_chunks};
-ghost use Rattle.oxc_sourcemap_mappings.specs.Encoding.{state_of, advanced, advanced_all, source_given, last_given, text_from, OnlyAdds, line_marks, marks_of, column_from, fields_text, raw_at, first_letter, second_letter, rank_of, offset_of, deltas_text, AreSingle};
+ghost use Rattle.oxc_sourcemap_tokens.specs.Token.{AreInBounds, last_line};
+ghost use Rattle.oxc_sourcemap_mappings.specs.Canonical.{letter, vlq_text, raw_delta, delta_text, canonical, Extends};
+ghost use Rattle.oxc_sourcemap_tokens.specs.LineOrder.{back_from};
+ghost use Rattle.oxc_sourcemap_tokens.specs.Chunks.{header, chunk_tokens, lent_chunks};
+ghost use Rattle.oxc_sourcemap_mappings.specs.Pieces.{piece, piece_fault, writing_fault};
+ghost use Rattle.oxc_sourcemap_tokens.specs.Steps.{state_of};
+ghost use Rattle.oxc_sourcemap_mappings.specs.Encoding.{text_from, OnlyAdds, line_marks, marks_of, column_from, fields_text, raw_at, first_letter, second_letter, rank_of, offset_of, deltas_text, AreSingle};
 ghost use Rattle.std.specs.List.{AllByRecursion};
 
-use crate::token::{Token, TokenChunk};
 use oxc_sourcemap_error::{Error, Result};
+use oxc_sourcemap_tokens::{
+    Previous, Token, TokenChunk, chunk_fault, line_back_from, line_order_fault, next_chunk,
+    tokens_of,
+};
 use std::alloc::AllocError;
-
-/// What the next token is written against: the generated position before, the source position of the nearest mapped
-/// token there, and the nearest name id of a mapped token.
-#[derive(Clone, Copy, Drop)]
-struct Previous {
-    dst_line: u32,
-    dst_col: u32,
-    source_id: u32,
-    src_line: u32,
-    src_col: u32,
-    name_id: u32,
-}
-
-impl Previous {
-    /// What the first token of a list is written against.
-    fn new() -> Self
-        ensures { state_of result ≡ initial }
-    {
-        Self {
-            dst_line: 0,
-            dst_col: 0,
-            source_id: 0,
-            src_line: 0,
-            src_col: 0,
-            name_id: 0,
-        }
-    }
-
-    /// What the first token of a chunk is written against: the chunk's header.
-    fn header_of(chunk: &TokenChunk) -> Self
-        ensures { state_of result ≡ header chunk.now }
-    {
-        Self {
-            dst_line: chunk.prev_dst_line,
-            dst_col: chunk.prev_dst_col,
-            source_id: chunk.prev_source_id,
-            src_line: chunk.prev_src_line,
-            src_col: chunk.prev_src_col,
-            name_id: chunk.prev_name_id,
-        }
-    }
-
-    /// What the token after this one is written against.
-    fn after(&self, token: &Token) -> Self
-        ensures { state_of result ≡ advanced (state_of self.now) token.now }
-    {
-        match token.get_source_id() {
-            Some(source_id) => Self {
-                dst_line: token.get_dst_line(),
-                dst_col: token.get_dst_col(),
-                source_id,
-                src_line: token.get_src_line(),
-                src_col: token.get_src_col(),
-                name_id: token.get_name_id().unwrap_or(self.name_id),
-            },
-            None => Self {
-                dst_line: token.get_dst_line(),
-                dst_col: token.get_dst_col(),
-                ..*self
-            },
-        }
-    }
-}
-
-/// The source id, line and column of a token, if it is mapped.
-fn source_of(token: &Token) -> Option<(u32, u32, u32)>
-    ensures { result ≡ source_given token.now }
-{
-    match token.get_source_id() {
-        Some(id) => Some((id, token.get_src_line(), token.get_src_col())),
-        None => None,
-    }
-}
-
-/// The source id, line and column of the last of these tokens that is mapped.
-fn last_source(tokens: &[Token]) -> Option<(u32, u32, u32)>
-    ensures { result ≡ last_given source_given tokens.now }
-{
-    let mut left = tokens.len();
-    while left > 0 {
-        left -= 1;
-        let source = source_of(&tokens[left]);
-        if source.is_some() {
-            return source;
-        }
-    }
-    None
-}
-
-/// The name id of a token, if it is mapped.
-fn name_of(token: &Token) -> Option<u32>
-    ensures { result ≡ mapped_name token.now }
-{
-    match token.get_source_id() {
-        Some(_) => token.get_name_id(),
-        None => None,
-    }
-}
-
-/// The name id of the last of these tokens that is mapped and has one.
-fn last_name(tokens: &[Token]) -> Option<u32>
-    ensures { result ≡ last_given mapped_name tokens.now }
-{
-    let mut left = tokens.len();
-    while left > 0 {
-        left -= 1;
-        let name = name_of(&tokens[left]);
-        if name.is_some() {
-            return name;
-        }
-    }
-    None
-}
-
-/// The state after these tokens, from this state before them. It looks back from their end for what they give.
-fn after_all(previous: Previous, tokens: &[Token]) -> Previous
-    ensures { state_of result ≡ advanced_all (state_of previous) tokens.now }
-{
-    let Some(last) = tokens.last() else {
-        return previous;
-    };
-    let before = (previous.source_id, previous.src_line, previous.src_col);
-    let (source_id, src_line, src_col) = last_source(tokens).unwrap_or(before);
-    Previous {
-        dst_line: last.get_dst_line(),
-        dst_col: last.get_dst_col(),
-        source_id,
-        src_line,
-        src_col,
-        name_id: last_name(tokens).unwrap_or(previous.name_id),
-    }
-}
-
-/// Whether a state is the header of a chunk.
-fn is_header_of(chunk: &TokenChunk, previous: &Previous) -> bool
-    ensures { result ≡ is_same_state (header chunk.now) (state_of previous.now) }
-{
-    chunk.prev_dst_line == previous.dst_line
-        && chunk.prev_dst_col == previous.dst_col
-        && chunk.prev_source_id == previous.source_id
-        && chunk.prev_src_line == previous.src_line
-        && chunk.prev_src_col == previous.src_col
-        && chunk.prev_name_id == previous.name_id
-}
 
 /// How many bytes of the text are gathered before they are appended to it.
 const BLOCK: usize = 1024;
@@ -546,102 +407,6 @@ fn push_tokens(
         is_first = false;
     }
     push_bytes(out, &buf[..len])
-}
-
-/// The index of the first token whose generated line is smaller than that of the token before. Before the first
-/// stands `line`, and its own index is `first`.
-fn line_back_from(line: u32, first: usize, tokens: &[Token]) -> Option<usize>
-    requires { first + length tokens.now < 2 ^ 64 }
-    ensures place { result ≡ back_from line first tokens.now }
-    ensures in_bounds { result ≡ None → AreInBounds tokens.now }
-{
-    let mut line_before = line;
-    for (i, token) in tokens.iter().enumerate() {
-        if token.get_dst_line() < line_before {
-            return Some(first + i);
-        }
-        line_before = token.get_dst_line();
-    }
-    None
-}
-
-/// The index of the first token whose generated line is smaller than that of the token before, which `LineOrder` tells;
-/// None where there is none. It takes no memory.
-pub fn line_order_fault(tokens: &[Token]) -> Option<usize>
-    ensures place { result ≡ first_out_of_order tokens.now }
-    ensures in_bounds { result ≡ None → AreInBounds tokens.now }
-{
-    line_back_from(0, 0, tokens)
-}
-
-/// Checks that chunks fit the tokens: None if they do, else the index of the first chunk that does not, or the number of
-/// chunks if only tokens are left over.
-///
-/// A chunk fits if it begins where the one before it ends (the first at 0), ends neither before it starts nor past the
-/// tokens, and its header is the state there (docs/FORMAT.md, "Chunks"). The tokens may be in any order. Takes no memory.
-pub fn chunk_fault(tokens: &[Token], chunks: &[TokenChunk]) -> Option<usize>
-    ensures misfit { result ≡ first_misfit tokens.now chunks.now }
-    ensures fits { IsNone result ↔ ChunksFit tokens.now chunks.now }
-{
-    let mut previous = Previous::new();
-    let mut done: usize = 0;
-    for (k, chunk) in chunks.iter().enumerate() {
-        let start = chunk.start as usize;
-        let end = chunk.end as usize;
-        if start != done || start > end || end > tokens.len() {
-            return Some(k);
-        }
-        if !is_header_of(chunk, &previous) {
-            return Some(k);
-        }
-        previous = after_all(previous, &tokens[start..end]);
-        done = end;
-    }
-    if done == tokens.len() {
-        None
-    } else {
-        Some(chunks.len())
-    }
-}
-
-/// The tokens of a chunk.
-fn tokens_of<'t>(tokens: &'t [Token], chunk: &TokenChunk) -> &'t [Token]
-    requires ordered { chunk.now.start ≤ chunk.now.end }
-    requires within { chunk.now.end ≤ length tokens.now }
-    ensures { result.now ≡ chunk_tokens tokens.now chunk.now }
-{
-    &tokens[chunk.start as usize..chunk.end as usize]
-}
-
-/// What stands after all of the tokens, by the last of these chunks, which fit them.
-fn after_chunks(tokens: &[Token], chunks: &[TokenChunk]) -> Previous
-    requires { ChunksFit tokens.now chunks.now }
-    ensures { state_of result ≡ state_at tokens.now (length tokens.now) }
-{
-    match chunks.last() {
-        Some(chunk) => after_all(Previous::header_of(chunk), tokens_of(tokens, chunk)),
-        None => Previous::new(),
-    }
-}
-
-/// The chunk after these, which fit the tokens: it starts at the end of the tokens, with the state there for its header,
-/// and ends at `end`. It looks at tokens of the last chunk alone, back from its end until one gives a source and one a name.
-pub fn next_chunk(tokens: &[Token], chunks: &[TokenChunk], end: u32) -> TokenChunk
-    requires fits { ChunksFit tokens.now chunks.now }
-    requires counted { length tokens.now ≤ 4294967295 }
-    ensures { result ≡ chunk_from (state_at tokens.now (length tokens.now)) (length tokens.now) end }
-{
-    let reached = after_chunks(tokens, chunks);
-    TokenChunk::new(
-        tokens.len() as u32,
-        end,
-        reached.dst_line,
-        reached.dst_col,
-        reached.src_line,
-        reached.src_col,
-        reached.name_id,
-        reached.source_id,
-    )
 }
 
 /// Why a chunk is not written.

@@ -2,7 +2,7 @@
 -- listed and not resolved, the ignore list is one of indices, and a name belongs to an original position.
 use Rattle.std.specs.Prelude.{ℕ, List, [], ◌∷◌, map, slice_get, Option, None}
 use Rattle.std.specs.Option.{option_map, option_and_then}
-use Rattle.oxc_sourcemap_mappings.specs.Token.{TokenRecord}
+use Rattle.oxc_sourcemap_tokens.specs.Token.{TokenRecord}
 use Rattle.oxc_sourcemap_parts.specs.Record.{Text, MapRecord}
 
 -- a source: its path or URL as listed, and its content where that is known

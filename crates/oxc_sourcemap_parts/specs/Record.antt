@@ -1,7 +1,7 @@
 -- What contracts see of a map.
 use Rattle.std.specs.Prelude.{ℕ, List, Option}
-use Rattle.oxc_sourcemap_mappings.specs.declared.token.TokenChunk.{TokenChunk}
-use Rattle.oxc_sourcemap_mappings.specs.Token.{TokenRecord}
+use Rattle.oxc_sourcemap_tokens.specs.declared.token.TokenChunk.{TokenChunk}
+use Rattle.oxc_sourcemap_tokens.specs.Token.{TokenRecord}
 
 -- a string, as its bytes
 abbrev pub Text : Type 0

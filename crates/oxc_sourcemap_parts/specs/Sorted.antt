@@ -1,6 +1,6 @@
 -- Order by generated line, then by generated column.
 use Rattle.std.specs.Prelude.{ℕ, Bool, true, ◌&&◌, ◌||◌, List, [], ◌∷◌, nat_lt, nat_le, ◌==◌}
-use Rattle.oxc_sourcemap_mappings.specs.Token.{TokenRecord}
+use Rattle.oxc_sourcemap_tokens.specs.Token.{TokenRecord}
 
 -- an item may stand before another: on a line before it, or on its line and not after its column
 abbrev pub may_precede : {A : Type 0} → (A → ℕ) → (A → ℕ) → A → A → Bool

@@ -1,8 +1,8 @@
 -- Sound maps.
 use Rattle.std.specs.Prelude.{◌≡◌, ℕ, ◌<◌, true, length, IfSome}
 use Rattle.std.specs.List.{AllByRecursion}
-use Rattle.oxc_sourcemap_mappings.specs.Token.{TokenRecord}
-use Rattle.oxc_sourcemap_mappings.specs.Chunks.{ChunksFit}
+use Rattle.oxc_sourcemap_tokens.specs.Token.{TokenRecord}
+use Rattle.oxc_sourcemap_tokens.specs.Chunks.{ChunksFit}
 use Rattle.oxc_sourcemap_parts.specs.Record.{MapRecord}
 use Rattle.oxc_sourcemap_parts.specs.Sorted.{are_tokens_sorted}
 

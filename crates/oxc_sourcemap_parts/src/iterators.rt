@@ -6,7 +6,7 @@ ghost use Rattle.std.specs.Iterator.SizeHint.{IsWithinCount};
 ghost use Rattle.std.specs.Cow.{cow_str_bytes};
 ghost use Rattle.oxc_sourcemap_parts.specs.Views.{text_of};
 
-use oxc_sourcemap_mappings::Token;
+use oxc_sourcemap_tokens::Token;
 use std::borrow::CowStr;
 use std::marker::Model;
 use std::slice;
@@ -182,7 +182,7 @@ pub struct Tokens<'s> {
 impl<'s> Model for Tokens<'s> {
     ghost use Rattle.std.specs.Prelude.{List};
     ghost use Rattle.std.specs.Slice.Iter.{iter_rest};
-    ghost use Rattle.oxc_sourcemap_mappings.specs.Token.{TokenRecord};
+    ghost use Rattle.oxc_sourcemap_tokens.specs.Token.{TokenRecord};
 
     // The tokens that are left.
     ghost Value = { List TokenRecord };

@@ -7,7 +7,8 @@ use crate::texts::{
     cloned_chunks, cloned_contents, cloned_ids, cloned_text, cloned_texts, detached_contents,
     detached_text, detached_texts,
 };
-use oxc_sourcemap_mappings::{Result, Token, TokenChunk};
+use oxc_sourcemap_error::Result;
+use oxc_sourcemap_tokens::{Token, TokenChunk};
 use std::alloc::Global;
 use std::borrow::CowStr;
 use std::boxed::BoxedSlice;

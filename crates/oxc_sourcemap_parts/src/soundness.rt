@@ -1,14 +1,14 @@
 //! Whether tokens are sorted, and whether a map is sound.
 ghost use Rattle.std.specs.Prelude.{◌≡◌, ◌↔◌, ◌<◌, ℕ, IsTrue, IfSome};
 ghost use Rattle.std.specs.List.{AllByRecursion};
-ghost use Rattle.oxc_sourcemap_mappings.specs.Canonical.{IsInLineOrder};
-ghost use Rattle.oxc_sourcemap_mappings.specs.Chunks.{ChunksFit};
+ghost use Rattle.oxc_sourcemap_tokens.specs.LineOrder.{IsInLineOrder};
+ghost use Rattle.oxc_sourcemap_tokens.specs.Chunks.{ChunksFit};
 ghost use Rattle.oxc_sourcemap_parts.specs.Views.{chunks_of, ids_of, record_of_parts};
 ghost use Rattle.oxc_sourcemap_parts.specs.Sorted.{are_tokens_sorted, may_precede, token_line, token_column};
 ghost use Rattle.oxc_sourcemap_parts.specs.Sound.{IsInRange, IsSound};
 
 use crate::parts::SourceMapParts;
-use oxc_sourcemap_mappings::{Token, TokenChunk, chunk_fault};
+use oxc_sourcemap_tokens::{Token, TokenChunk, chunk_fault};
 
 /// Whether a token may stand before another in a sorted list.
 fn precedes(first: &Token, second: &Token) -> bool

@@ -4,10 +4,10 @@ use Rattle.std.proofs.lemmas.Bool.{and_parts}
 use Rattle.std.proofs.lemmas.Bool.Decides.{nat_tests}
 use Rattle.oxc_sourcemap_error.specs.declared.error.Error.{Error}
 use Rattle.oxc_sourcemap_error.specs.Refusals.{unless}
-use Rattle.oxc_sourcemap_mappings.specs.Token.{TokenRecord, AreInBounds}
+use Rattle.oxc_sourcemap_tokens.specs.Token.{TokenRecord, AreInBounds}
 use Rattle.oxc_sourcemap_mappings.specs.TextLaws.{ReadsAgain}
 use Rattle.oxc_sourcemap_mappings.specs.Reading.{reading}
-use Rattle.oxc_sourcemap_mappings.specs.Canonical.{first_out_of_order}
+use Rattle.oxc_sourcemap_tokens.specs.LineOrder.{first_out_of_order}
 use Rattle.oxc_sourcemap_json.specs.Json.{JsonRecord}
 use Rattle.oxc_sourcemap_parts.specs.Record.{MapRecord}
 use Rattle.oxc_sourcemap_parts.specs.Sorted.{are_tokens_sorted, may_precede, token_line, token_column}

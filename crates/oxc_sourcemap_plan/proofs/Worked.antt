@@ -2,7 +2,7 @@
 use Rattle.std.specs.Prelude.{◌≡◌, refl, ℕ, true, false, List, [], ◌∷◌, codes, Option, Some, None, Ok, Err}
 use Rattle.oxc_sourcemap_error.specs.declared.error.Error.TheVariants.{BadJson, SeveralSources}
 use Rattle.oxc_sourcemap_error.specs.declared.error.JsonFault.TheVariants.{Reading}
-use Rattle.oxc_sourcemap_mappings.specs.Token.{TokenRecord}
+use Rattle.oxc_sourcemap_tokens.specs.Token.{TokenRecord}
 use Rattle.oxc_sourcemap_parts.specs.Record.{Text, MapRecord}
 use Rattle.oxc_sourcemap_parts.specs.Views.{empty_record}
 use Rattle.oxc_sourcemap_parts.specs.DecodedMap.{DecodedMapping}

@@ -8,8 +8,8 @@ use Rattle.oxc_sourcemap_parts.specs.Record.{Text, MapRecord}
 use Rattle.oxc_sourcemap_parts.specs.DecodedMap.{DecodedMap, decoded_map_of}
 use Rattle.oxc_sourcemap_parts.specs.Sound.{IsSound}
 use Rattle.oxc_sourcemap_laws.specs.Repeats.{EqualUpToRepeats, EqualButForMappings}
-use Rattle.oxc_sourcemap_json.specs.Encoded.{encoded, encoded_record}
-use Rattle.oxc_sourcemap_json.specs.MapLaws.{ComesBack}
+use Rattle.oxc_sourcemap_json_text.specs.Encoded.{encoded, encoded_record}
+use Rattle.oxc_sourcemap_json_text.specs.MapLaws.{ComesBack}
 use Rattle.oxc_sourcemap_laws.specs.JoinLaws.{HaveSameTraces}
 use Rattle.oxc_sourcemap_plan.specs.declared.plan.PlanError.{PlanError}
 use Rattle.oxc_sourcemap_plan.specs.declared.plan.PlanError.TheVariants.{Map}

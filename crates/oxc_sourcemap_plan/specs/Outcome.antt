@@ -5,7 +5,7 @@ use Rattle.std.specs.Option.{option_map, option_and_then}
 use Rattle.oxc_sourcemap_error.specs.declared.error.Error.{Error}
 use Rattle.oxc_sourcemap_parts.specs.Record.{Text, MapRecord}
 use Rattle.oxc_sourcemap_parts.specs.DecodedMap.{DecodedMap}
-use Rattle.oxc_sourcemap_json.specs.MapLaws.{rewritten}
+use Rattle.oxc_sourcemap_json_text.specs.MapLaws.{rewritten}
 use Rattle.oxc_sourcemap_compose.specs.Composed.{composed}
 use Rattle.oxc_sourcemap_join.specs.Joined.{Offset, at_lines, at_positions, joined}
 use Rattle.oxc_sourcemap_sections.specs.Sections.{Sections}

@@ -2,10 +2,10 @@
 use Rattle.std.specs.Prelude.{◌≡◌, ◌≤◌, true, List, length, Ok, Some, None, ◌⊎◌}
 use Rattle.std.specs.List.{AllZip}
 use Rattle.oxc_sourcemap_error.specs.declared.error.Error.TheVariants.{OutOfMemory}
-use Rattle.oxc_sourcemap_mappings.specs.Token.{AreInBounds}
+use Rattle.oxc_sourcemap_tokens.specs.Token.{AreInBounds}
 use Rattle.oxc_sourcemap_parts.specs.Record.{MapRecord}
 use Rattle.oxc_sourcemap_parts.specs.DecodedMap.{DecodedMap}
-use Rattle.oxc_sourcemap_json.specs.MapLaws.{rewritten}
+use Rattle.oxc_sourcemap_json_text.specs.MapLaws.{rewritten}
 use Rattle.oxc_sourcemap_join.specs.Joined.{Offset}
 use Rattle.oxc_sourcemap_laws.specs.JoinLaws.{StandsFor}
 use Rattle.oxc_sourcemap_plan.specs.declared.plan.PlanError.{PlanError}

@@ -12,9 +12,9 @@ ghost use Rattle.oxc_sourcemap_parts.specs.Sorted.{are_tokens_sorted};
 ghost use Rattle.oxc_sourcemap_plan.specs.declared.plan.PlanError.TheVariants.{Map, Unsorted};
 
 use oxc_sourcemap_concat::ConcatSourceMapBuilder;
+use oxc_sourcemap_error::Error;
 use oxc_sourcemap_laws::{canonical_unique, composition_associative, dropping_harmless};
 use oxc_sourcemap_map::{OwnedSourceMap, SourceMap};
-use oxc_sourcemap_mappings::Error;
 use std::alloc::{AllocError, AllocFailed, Global};
 use std::fmt;
 
@@ -168,7 +168,7 @@ fn join(
 fn builder_at(
     alloc: Global,
     maps: Vec<(SourceMap<'static>, u32, u32)>,
-) -> oxc_sourcemap_mappings::Result<ConcatSourceMapBuilder<'static>>
+) -> oxc_sourcemap_error::Result<ConcatSourceMapBuilder<'static>>
     ensures joined { IfOk result (λ builder. builder ≡ joined (at_positions maps.entry.items)) }
     ensures limits { IfOk result IsWithinLimits }
     ensures refused { IfErr result (λ e. (e ≡ OutOfMemory) ⊎ ((e ≡ TooLarge) × ¬ (IsWithinLimits (joined (at_positions maps.entry.items))))) }

@@ -8,8 +8,8 @@ use Rattle.std.specs.Result.{IfErr}
 use Rattle.oxc_sourcemap.specs.Record.{Text, MapRecord}
 use Rattle.oxc_sourcemap.specs.Outcome.{Outcome}
 use Rattle.oxc_sourcemap.specs.Evaluated.{IsEvaluated, IsFailure}
-use Rattle.smap_run.specs.declared.running.RunError.{RunError}
-use Rattle.smap_run.specs.Refusals.{out_of_memory as run_out_of_memory}
+use Rattle.smap_arguments.specs.declared.run_error.RunError.{RunError}
+use Rattle.smap_arguments.specs.Refusals.{out_of_memory as run_out_of_memory}
 use Rattle.oxc_sourcemap_faults.specs.declared.refusal.Refusal.{Refusal}
 use Rattle.oxc_sourcemap_faults.specs.declared.refusal.Refusal.TheVariants.{Plan}
 use Rattle.oxc_sourcemap_faults.specs.Refusals.{out_of_memory}

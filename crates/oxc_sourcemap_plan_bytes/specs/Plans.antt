@@ -5,10 +5,10 @@ use Rattle.oxc_sourcemap.specs.Record.{Text, MapRecord}
 use Rattle.oxc_sourcemap.specs.PlanError.{PlanError}
 use Rattle.oxc_sourcemap.specs.Outcome.{Outcome}
 use Rattle.oxc_sourcemap.specs.Evaluated.{IsEvaluated, IsFailure}
-use Rattle.smap_run.specs.declared.running.RunError.{RunError}
-use Rattle.smap_run.specs.declared.running.RunError.TheVariants.{Plan as PlanFails, Read, Write, Utf8, Arguments, NoText as NoInput}
-use Rattle.smap_run.specs.PlanInputs.{inputs_of}
-use Rattle.smap_run.specs.PlanArguments.{parsed_plan}
+use Rattle.smap_arguments.specs.declared.run_error.RunError.{RunError}
+use Rattle.smap_arguments.specs.declared.run_error.RunError.TheVariants.{Plan as PlanFails, Read, Write, Utf8, Arguments, NoText as NoInput}
+use Rattle.smap_arguments.specs.PlanInputs.{inputs_of}
+use Rattle.smap_arguments.specs.PlanArguments.{parsed_plan}
 use Rattle.oxc_sourcemap_faults.specs.declared.refusal.Refusal.{Refusal}
 use Rattle.oxc_sourcemap_faults.specs.declared.refusal.Refusal.TheVariants.{Plan, Words, NoText}
 use Rattle.oxc_sourcemap_faults.specs.Refusals.{IsNotText}

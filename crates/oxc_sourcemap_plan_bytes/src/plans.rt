@@ -5,7 +5,7 @@ ghost use Rattle.oxc_sourcemap_plan_bytes.specs.Plans.{words_of, plan_of, refusa
 
 use oxc_sourcemap::{OwnedSourceMap, evaluate};
 use oxc_sourcemap_faults::{Refusal, text_of};
-use smap_run::{RunError, inputs_of, read_plan};
+use smap_arguments::{RunError, inputs_of, read_plan};
 use std::alloc::{AllocError, Global};
 
 /// The words of a text.

@@ -4,7 +4,7 @@ use Rattle.std.specs.Bool.{Decides}
 use Rattle.std.specs.List.{list_all}
 use Rattle.std.specs.Option.{IfSome}
 use Rattle.std.proofs.lemmas.Bool.Decides.{Decides-ltb, Decides-and, Decides-like, Decides-by_and}
-use Rattle.oxc_sourcemap_mappings.specs.Token.{TokenRecord, IsInBounds}
+use Rattle.oxc_sourcemap_tokens.specs.Token.{TokenRecord, IsInBounds}
 use Rattle.oxc_sourcemap_parts.specs.Record.{MapRecord}
 use Rattle.oxc_sourcemap_join.specs.Joined.{AreEntriesInBounds, IsWithinLimits}
 use Rattle.oxc_sourcemap_sections.specs.JoinLimits.{is_id_in_bounds, is_token_in_bounds, are_entries_in_bounds, is_within_limits}

@@ -3,8 +3,8 @@ use Rattle.std.proofs.Common.{◌≡◌, ℕ, ◌+◌, ◌≤◌, Bool, true, fa
 use Rattle.std.specs.Prelude.{⊤}
 use Rattle.std.proofs.lemmas.Bool.{cases_lt}
 use Rattle.std.proofs.lemmas.Bool.Decides.{nat_tests}
-use Rattle.oxc_sourcemap_mappings.specs.Token.{TokenRecord, last_line}
-use Rattle.oxc_sourcemap_mappings.specs.Canonical.{first_out_of_order, back_from}
+use Rattle.oxc_sourcemap_tokens.specs.Token.{TokenRecord, last_line}
+use Rattle.oxc_sourcemap_tokens.specs.LineOrder.{first_out_of_order, back_from}
 use Rattle.oxc_sourcemap_lookup.specs.Lookup.{last}
 use Rattle.oxc_sourcemap_join.specs.Joined.{Offset, shifted, without_repeat}
 use Rattle.oxc_sourcemap_sections.specs.Sections.{position_of, may_follow}

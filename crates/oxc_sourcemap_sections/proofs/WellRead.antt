@@ -8,9 +8,9 @@ use Rattle.serde_json.specs.Read.{read}
 use Rattle.oxc_sourcemap_error.specs.declared.error.Error.{Error}
 use Rattle.oxc_sourcemap_error.specs.declared.error.Error.TheVariants.{SectionOrder, TooLarge}
 use Rattle.oxc_sourcemap_error.specs.Refusals.{unless}
-use Rattle.oxc_sourcemap_mappings.specs.Token.{AreInBounds}
-use Rattle.oxc_sourcemap_mappings.specs.Canonical.{IsInLineOrder}
-use Rattle.oxc_sourcemap_mappings.specs.Chunks.{ChunksFit}
+use Rattle.oxc_sourcemap_tokens.specs.Token.{AreInBounds}
+use Rattle.oxc_sourcemap_tokens.specs.LineOrder.{IsInLineOrder}
+use Rattle.oxc_sourcemap_tokens.specs.Chunks.{ChunksFit}
 use Rattle.oxc_sourcemap_parts.specs.Record.{Text, MapRecord}
 use Rattle.oxc_sourcemap_parts.specs.Sorted.{are_tokens_sorted}
 use Rattle.oxc_sourcemap_parts.specs.Sound.{AreIdsInRange, IsSound}

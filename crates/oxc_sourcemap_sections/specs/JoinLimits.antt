@@ -1,7 +1,7 @@
 -- Whether a map is within limits, as a test: what `IsWithinLimits` of the join crate says.
 use Rattle.std.specs.Prelude.{ℕ, Bool, true, ◌&&◌, List, length, Option, Some, None, nat_lt}
 use Rattle.std.specs.List.{list_all}
-use Rattle.oxc_sourcemap_mappings.specs.Token.{TokenRecord}
+use Rattle.oxc_sourcemap_tokens.specs.Token.{TokenRecord}
 use Rattle.oxc_sourcemap_parts.specs.Record.{MapRecord}
 
 -- an id is at most 4294967294

@@ -1,7 +1,7 @@
 -- What holds of every map that is read from a JSON text.
 use Rattle.std.specs.Prelude.{◌≡◌, Ok}
-use Rattle.oxc_sourcemap_mappings.specs.Token.{AreInBounds}
-use Rattle.oxc_sourcemap_mappings.specs.Canonical.{IsInLineOrder}
+use Rattle.oxc_sourcemap_tokens.specs.Token.{AreInBounds}
+use Rattle.oxc_sourcemap_tokens.specs.LineOrder.{IsInLineOrder}
 use Rattle.oxc_sourcemap_parts.specs.Record.{Text, MapRecord}
 use Rattle.oxc_sourcemap_sections.specs.ReadMap.{read_map}
 

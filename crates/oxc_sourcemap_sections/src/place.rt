@@ -9,9 +9,10 @@ ghost use Rattle.oxc_sourcemap_sections.specs.Section.{number_at, as_place, plac
 ghost use Rattle.oxc_sourcemap_sections.specs.Sections.{position_of, may_follow, place_after};
 ghost use Rattle.oxc_sourcemap_sections.specs.Reading.{offset_of};
 
+use oxc_sourcemap_error::{Error, Field, JsonFault, Result};
 use oxc_sourcemap_join::JoinedParts;
 use oxc_sourcemap_json::read_id;
-use oxc_sourcemap_mappings::{Error, Field, JsonFault, Result, Token};
+use oxc_sourcemap_tokens::Token;
 use serde_json::Value;
 
 /// A line and a column of generated code.

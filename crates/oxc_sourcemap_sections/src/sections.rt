@@ -10,9 +10,9 @@ ghost use Rattle.oxc_sourcemap_sections.specs.Sections.{section_map, all_section
 ghost use Rattle.oxc_sourcemap_sections.specs.ReadMap.{sections_in, indexed_said, indexed_record, map_said, read_value, read_map};
 
 use crate::place::place_after;
+use oxc_sourcemap_error::{Error, Field, JsonFault, Result};
 use oxc_sourcemap_join::JoinedParts;
 use oxc_sourcemap_json::{JSONSourceMap, decode_parts, file_from_value, json_of};
-use oxc_sourcemap_mappings::{Error, Field, JsonFault, Result};
 use oxc_sourcemap_parts::SourceMapParts;
 use serde_json::Value;
 use std::alloc::Global;

@@ -4,7 +4,7 @@ use Rattle.std.specs.Fmt.{◌++?◌, AppendsText}
 use Rattle.std.specs.Option.{option_or}
 use Rattle.std.proofs.Math.Seq.{drop-cons}
 use Rattle.std.proofs.lemmas.List.{take_more, drop_all, append-nil, reverse-append}
-use Rattle.oxc_sourcemap_mappings.specs.Token.{TokenRecord}
+use Rattle.oxc_sourcemap_tokens.specs.Token.{TokenRecord}
 use Rattle.oxc_sourcemap_parts.specs.Record.{Text, MapRecord}
 use Rattle.oxc_sourcemap_visualizer.specs.VisualText.{shown, shown_source, nearest_source, visual_token_text, tokens_text}
 

@@ -1,7 +1,7 @@
 -- The source column at which a part ends, token by token.
 use Rattle.std.proofs.Common.{◌≡◌, ℕ, true, false, List, ◌∷◌, nat_lt}
 use Rattle.std.proofs.lemmas.List.Sums.{take_while-cons}
-use Rattle.oxc_sourcemap_mappings.specs.Token.{TokenRecord}
+use Rattle.oxc_sourcemap_tokens.specs.Token.{TokenRecord}
 use Rattle.oxc_sourcemap_visualizer.specs.VisualText.{is_on_source_line, src_end}
 
 pub src_end-stops : (len id : ℕ) (t u : TokenRecord) (us : List TokenRecord) → is_on_source_line id t.src_line u ≡ false → src_end len id t (u ∷ us) ≡ len

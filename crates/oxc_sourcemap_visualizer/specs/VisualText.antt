@@ -1,12 +1,11 @@
 -- The visual text of a code and its map (docs/FORMAT.md, "The visual text").
-use Rattle.std.specs.Prelude.{ℕ, Bool, false, not, ◌&&◌, List, [], ◌∷◌, ◌++◌, codes, decimal, length, take, drop, filter, min, max}
-use Rattle.std.specs.Prelude.{Option, Some, None, if◌then◌else◌, nat_lt, ◌==◌}
+use Rattle.std.specs.Prelude.{ℕ, Bool, false, not, ◌&&◌, List, [], ◌∷◌, ◌++◌, codes, decimal, length, take, drop, filter, min, max, Option, Some, None, if◌then◌else◌, nat_lt, ◌==◌}
 use Rattle.std.specs.Fmt.{◌++?◌, debug_str}
 use Rattle.std.specs.List.{find, take_while}
 use Rattle.std.specs.Option.{option_map, option_map_or, option_and_then, option_or}
 use Rattle.std.specs.Str.{bytes_eq, chars, encode_utf8_all}
 use Rattle.std.specs.Char.Utf16.{utf16_lossy_chars}
-use Rattle.oxc_sourcemap_mappings.specs.Token.{TokenRecord}
+use Rattle.oxc_sourcemap_tokens.specs.Token.{TokenRecord}
 use Rattle.oxc_sourcemap_parts.specs.Record.{Text, MapRecord}
 use Rattle.oxc_sourcemap_map.specs.View.{source_and_content_at}
 use Rattle.oxc_sourcemap_visualizer.specs.TextLines.{line_at, text_lines}

@@ -10,9 +10,10 @@ ghost use Rattle.oxc_sourcemap_visualizer.specs.VisualText.{is_within, dst_end, 
 
 use crate::text_lines::{Lines, utf16_units};
 use base64::engine::general_purpose::STANDARD;
+use oxc_sourcemap_error::{Error, Result};
 use oxc_sourcemap_map::SourceMap;
-use oxc_sourcemap_mappings::{Error, Result, Token};
 use oxc_sourcemap_parts::Contents;
+use oxc_sourcemap_tokens::Token;
 use std::alloc::{AllocError, Global};
 use std::fmt::Write;
 use std::marker::Model;

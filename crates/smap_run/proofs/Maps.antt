@@ -1,6 +1,5 @@
 -- What the commands on maps refuse and find, by the map that was read.
-use Rattle.std.proofs.Common.{◌≡◌, ◌≢◌, ℕ, List, Option, Some, None, Result, Ok, Err, true, option_map, ap, sym, subst, ◌∙◌}
-use Rattle.std.specs.Result.{IfErr, IsErrAnd}
+use Rattle.std.proofs.Common.{◌≡◌, ◌≢◌, ℕ, List, Option, Some, None, Ok, Err, true, option_map, ap, ◌∙◌}
 use Rattle.oxc_sourcemap.specs.Error.{Error}
 use Rattle.oxc_sourcemap.specs.Error.TheVariants.{LineOrder, OutOfMemory}
 use Rattle.oxc_sourcemap.specs.Record.{MapRecord}
@@ -8,14 +7,13 @@ use Rattle.oxc_sourcemap.specs.Shape.{◌>>=◌}
 use Rattle.oxc_sourcemap.specs.ReadMap.{read_map}
 use Rattle.oxc_sourcemap.specs.JsonText.{map_text, map_url}
 use Rattle.oxc_sourcemap.specs.Token.{TokenRecord}
-use Rattle.oxc_sourcemap.specs.Canonical.{first_out_of_order}
+use Rattle.oxc_sourcemap.specs.LineOrder.{first_out_of_order}
 use Rattle.oxc_sourcemap.specs.Lookup.{pick}
 use Rattle.oxc_sourcemap.specs.Sorted.{token_line, token_column, are_tokens_sorted}
 use Rattle.oxc_sourcemap.specs.DecodedMap.{decoded_map_of}
 use Rattle.oxc_sourcemap.specs.Trace.{trace}
 use Rattle.oxc_sourcemap.specs.View.{seen_in, view_original}
 use Rattle.oxc_sourcemap_map.proofs.Picks.{traced}
-use Rattle.oxc_sourcemap.specs.PlanError.TheVariants.{Map}
 use Rattle.smap_run.specs.Answer.{normalised, normalised_url}
 
 pub text_refused : (text : List ℕ) (r : MapRecord) (fault : Error) → read_map text ≡ Ok r → (fault ≢ OutOfMemory → map_text r ≡ Err fault) → fault ≢ OutOfMemory → normalised text ≡ Err fault
@@ -23,11 +21,6 @@ text_refused text r fault e m n = ap (λ read. read >>= map_text) e ∙ m n
 
 pub url_refused : (text : List ℕ) (r : MapRecord) (fault : Error) → read_map text ≡ Ok r → (fault ≢ OutOfMemory → map_url r ≡ Err fault) → fault ≢ OutOfMemory → normalised_url text ≡ Err fault
 url_refused text r fault e m n = ap (λ read. read >>= map_url) e ∙ m n
-
--- what holds of an error holds of a refusal that is this error
-pub carried_error : {T E : Type 0} (result : Result T E) (fault : E) (P : E → Type 0) → IsErrAnd result (λ e. e ≡ fault) → P fault → IfErr result P
-carried_error (Ok x) fault P same p = tt
-carried_error (Err e) fault P same p = subst P (sym same) p
 
 -- tokens in line order have an index of their lines
 order_stands : (order : Option ℕ) (fault : Error) → order ≡ None → option_map LineOrder order ≡ Some fault → ⊥

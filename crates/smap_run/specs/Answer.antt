@@ -1,5 +1,5 @@
 -- What a command answers to an input.
-use Rattle.std.specs.Prelude.{◌≡◌, ◌++◌, false, ℕ, List, Option, Some, None, Result, Ok, Err, ◌⊎◌, IsUtf8}
+use Rattle.std.specs.Prelude.{◌≡◌, ◌++◌, ℕ, List, Option, Some, None, Result, Ok, Err, ◌⊎◌, IsUtf8}
 use Rattle.std.specs.Io.BufRead.{strip_last}
 use Rattle.std.specs.Io.KnownBytes.{Appends}
 use Rattle.oxc_sourcemap.specs.Error.{Error}
@@ -8,20 +8,20 @@ use Rattle.oxc_sourcemap.specs.Record.{MapRecord}
 use Rattle.oxc_sourcemap.specs.Token.{TokenRecord}
 use Rattle.oxc_sourcemap.specs.Reading.{reading}
 use Rattle.oxc_sourcemap.specs.Canonical.{canonical}
-use Rattle.oxc_sourcemap.specs.Chunks.{writing_fault}
+use Rattle.oxc_sourcemap.specs.Pieces.{writing_fault}
 use Rattle.oxc_sourcemap.specs.Shape.{◌>>=◌}
 use Rattle.oxc_sourcemap.specs.ReadMap.{read_map}
 use Rattle.oxc_sourcemap.specs.JsonText.{map_text, map_url}
 use Rattle.oxc_sourcemap.specs.PlanError.{PlanError}
 use Rattle.oxc_sourcemap.specs.PlanError.TheVariants.{Map}
-use Rattle.smap_run.specs.declared.running.RunError.{RunError}
-use Rattle.smap_run.specs.declared.running.RunError.TheVariants.{Plan, Utf8}
+use Rattle.smap_arguments.specs.declared.run_error.RunError.{RunError}
+use Rattle.smap_arguments.specs.declared.run_error.RunError.TheVariants.{Plan, Utf8}
 use Rattle.smap_run.specs.Traced.{traced}
-use Rattle.smap_run.specs.Request.{Request, Mappings, Normalise, Plan as PlanOf, Trace, Url}
+use Rattle.smap_arguments.specs.Request.{Request, Mappings, Normalise, Plan as PlanOf, Trace, Url}
 use Rattle.oxc_sourcemap.specs.Outcome.{Outcome}
 use Rattle.oxc_sourcemap.specs.Evaluated.{IsEvaluated, IsFailure}
-use Rattle.smap_run.specs.PlanInputs.{inputs_of}
-use Rattle.smap_run.specs.PlanArguments.{parsed_plan}
+use Rattle.smap_arguments.specs.PlanInputs.{inputs_of}
+use Rattle.smap_arguments.specs.PlanArguments.{parsed_plan}
 
 -- a text without the line feed at its end, if it has one
 abbrev pub without_line_feed : List ℕ → List ℕ

@@ -1,15 +1,12 @@
-//! What the program `smap` does, as a library: the commands that its arguments say, and running them over a reader and a
-//! writer.
+//! What the program `smap` does, as a library: running the commands that its arguments say over a reader and a writer. How
+//! arguments are read, in the crate below, is handed on.
 #![tactic(auto)]
 
-mod arguments;
-mod plan_arguments;
 mod port;
 mod running;
 mod tracing;
 
-pub use arguments::{Command, read_number, read_words};
-pub use plan_arguments::{inputs_of, read_plan};
 pub use port::Port;
-pub use running::{RunError, run};
+pub use running::run;
+pub use smap_arguments::{Command, RunError, inputs_of, read_number, read_plan, read_words};
 pub use tracing::trace;

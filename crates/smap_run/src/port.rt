@@ -1,5 +1,5 @@
 //! Readers and writers that remember whether a call failed.
-ghost use Rattle.std.specs.Prelude.{◌≡◌, Bool, true, false, length};
+ghost use Rattle.std.specs.Prelude.{◌≡◌, true, false, length};
 ghost use Rattle.std.specs.Io.{ReadsAtMost, WritesAtMost};
 ghost use Rattle.std.specs.Io.KnownBytes.{ReadConsumes, WriteAppends, Keeps};
 ghost use Rattle.smap_run.specs.Flags.{read_flag, write_flag};

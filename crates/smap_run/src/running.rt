@@ -1,104 +1,24 @@
 //! Running a command over a reader and a writer.
-ghost use Rattle.std.specs.Prelude.{◌≡◌, ◌≢◌, ◌≤◌, ◌<◌, ◌++◌, ◌∷◌, [], ℕ, take, Bool, true, false, ◌↔◌, IfOk, OnOk, OnErr, IfErr, IfSome, List, Some, None, Option, Ok, Err, IsErrOf, ◌⊎◌, IsUtf8, string_bytes, map};
+ghost use Rattle.std.specs.Prelude.{◌≡◌, ◌≢◌, ◌≤◌, ◌<◌, ◌++◌, ◌∷◌, [], ℕ, take, true, false, ◌↔◌, IfOk, OnOk, OnErr, IfErr, IfSome, List, None, Ok, Err, IsErrOf, ◌⊎◌, IsUtf8, string_bytes, map};
 ghost use Rattle.std.specs.Vec.{vec_len};
 ghost use Rattle.std.specs.Io.KnownBytes.{Appends, Keeps};
 ghost use Rattle.oxc_sourcemap.specs.PlanError.TheVariants.{Map};
-ghost use Rattle.smap_run.specs.declared.running.RunError.TheVariants.{Plan};
-ghost use Rattle.smap_run.specs.Refusals.{run_error_text, status_of, out_of_memory, is_of_port};
-ghost use Rattle.smap_run.specs.Answer.{without_line_feed, mappings_answer, normalised, normalised_url, of_map, IsPlanAnswer, IsPlanRefusal, IsAnswer, Refuses, AppendsBeginning};
+ghost use Rattle.smap_arguments.specs.declared.run_error.RunError.TheVariants.{Plan};
+ghost use Rattle.smap_arguments.specs.Refusals.{out_of_memory, is_of_port};
+ghost use Rattle.smap_run.specs.Answer.{without_line_feed, mappings_answer, normalised, normalised_url, IsPlanAnswer, IsPlanRefusal, IsAnswer, Refuses, AppendsBeginning};
 ghost use Rattle.oxc_sourcemap.specs.Error.TheVariants.{OutOfMemory};
 ghost use Rattle.oxc_sourcemap.specs.Reading.{reading};
-ghost use Rattle.smap_run.specs.PlanInputs.{inputs_of};
-ghost use Rattle.smap_run.specs.PlanArguments.{parsed_plan};
-ghost use Rattle.smap_run.specs.Request.{request_of};
+ghost use Rattle.smap_arguments.specs.PlanInputs.{inputs_of};
+ghost use Rattle.smap_arguments.specs.PlanArguments.{parsed_plan};
+ghost use Rattle.smap_arguments.specs.Request.{request_of};
 
-use crate::arguments::Command;
-use crate::plan_arguments::{inputs_of, read_plan};
 use crate::port::Port;
 use crate::tracing::trace;
 use oxc_sourcemap::laws::canonical_unique;
-use oxc_sourcemap::{Error, PlanError, SourceMap, decode_mappings, encode_mappings, evaluate};
-use std::alloc::{AllocError, AllocFailed, Global};
-use std::fmt;
+use oxc_sourcemap::{Error, SourceMap, decode_mappings, encode_mappings, evaluate};
+use smap_arguments::{Command, RunError, inputs_of, read_plan};
+use std::alloc::{AllocError, Global};
 use std::io::{Read, Write};
-
-/// Why a command fails.
-#[derive(Clone, Copy, Debug, PartialEq, Eq)]
-pub enum RunError {
-    /// The evaluation of a plan, or a call on a map or a `mappings` text, failed, or memory was refused.
-    Plan(PlanError),
-    /// A read failed.
-    Read,
-    /// A write failed, or took none of some bytes.
-    Write,
-    /// The input is not UTF-8.
-    Utf8,
-    /// The arguments say no command, or no plan.
-    Arguments,
-    /// The arguments of a plan name a text that the input does not have.
-    NoText(u32),
-}
-
-impl RunError {
-    /// The status that the program ends with: 2 for bad arguments, else 1.
-    pub fn status(&self) -> u8
-        ensures { result ≡ status_of self.now }
-    {
-        match self {
-            RunError::Arguments => 2,
-            _ => 1,
-        }
-    }
-}
-
-impl fmt::Display for RunError {
-    ghost output = { λ error. Some (run_error_text error) };
-
-    fn fmt<W: fmt::Write>(&self, f: &mut fmt::Formatter<W>) -> fmt::Result {
-        match self {
-            RunError::Plan(error) => write!(f, "{error}"),
-            RunError::Read => write!(f, "read failed"),
-            RunError::Write => write!(f, "write failed"),
-            RunError::Utf8 => write!(f, "input is not UTF-8"),
-            RunError::Arguments => write!(f, "bad arguments"),
-            RunError::NoText(number) => write!(f, "no text {number}"),
-        }
-    }
-}
-
-impl std::error::Error for RunError {}
-
-impl From<Error> for RunError {
-    ghost from_gives = { λ error run. run ≡ Plan (Map error) };
-
-    fn from(error: Error) -> RunError {
-        RunError::Plan(PlanError::Map(error))
-    }
-}
-
-impl From<PlanError> for RunError {
-    ghost from_gives = { λ error run. run ≡ Plan error };
-
-    fn from(error: PlanError) -> RunError {
-        RunError::Plan(error)
-    }
-}
-
-impl From<AllocError> for RunError {
-    ghost from_gives = { λ _ run. run ≡ out_of_memory };
-
-    fn from(_: AllocError) -> RunError {
-        RunError::Plan(PlanError::Map(Error::OutOfMemory))
-    }
-}
-
-impl<T: Drop> From<AllocFailed<T>> for RunError {
-    ghost from_gives = { λ _ run. run ≡ out_of_memory };
-
-    fn from(_: AllocFailed<T>) -> RunError {
-        RunError::Plan(PlanError::Map(Error::OutOfMemory))
-    }
-}
 
 /// Room for what is read at once.
 const PIECE: usize = 65536;

@@ -1,7 +1,7 @@
 //! What a map says of a generated position, as a line of text.
 ghost use Rattle.std.specs.Prelude.{◌≡◌, ◌≢◌, ◌++◌, true, option_map, string_bytes, Some, IfOk, IfErr, OnOk, Ok, Err};
 ghost use Rattle.oxc_sourcemap.specs.Error.TheVariants.{OutOfMemory};
-ghost use Rattle.oxc_sourcemap.specs.Canonical.{IsInLineOrder};
+ghost use Rattle.oxc_sourcemap.specs.LineOrder.{IsInLineOrder};
 ghost use Rattle.oxc_sourcemap.specs.Sorted.{are_tokens_sorted};
 ghost use Rattle.oxc_sourcemap.specs.DecodedMap.{decoded_map_of};
 ghost use Rattle.oxc_sourcemap.specs.Trace.{trace};

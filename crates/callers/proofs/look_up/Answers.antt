@@ -2,7 +2,7 @@ use Rattle.std.proofs.Common.{◌≡◌, List, None, Ok, Err, refl, ap}
 use Rattle.oxc_sourcemap.specs.Error.{Error}
 use Rattle.oxc_sourcemap.specs.PlanError.TheVariants.{Map}
 use Rattle.oxc_sourcemap.specs.Token.{TokenRecord}
-use Rattle.oxc_sourcemap.specs.Canonical.{first_out_of_order}
+use Rattle.oxc_sourcemap.specs.LineOrder.{first_out_of_order}
 use Rattle.oxc_sourcemap.specs.Lookup.{tokens_by_line, line_table}
 use Rattle.callers.proofs.Errors.{carried}
 use Rattle.callers.proofs.look_up.Goals as goal

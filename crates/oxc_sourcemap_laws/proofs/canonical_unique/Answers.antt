@@ -1,13 +1,13 @@
-use Rattle.oxc_sourcemap_mappings.proofs.Chunks.{pieces-is}
-use Rattle.oxc_sourcemap_mappings.proofs.Order.{back_from-all}
+use Rattle.oxc_sourcemap_mappings.proofs.Pieces.{pieces-is}
+use Rattle.oxc_sourcemap_tokens.proofs.InOrder.{back_from-all}
 use Rattle.oxc_sourcemap_mappings.proofs.RoundTrip.{are-within, round_trip, as_written-of_carried, as_written-from_canonical, canonical-from_bare}
 use Rattle.oxc_sourcemap_mappings.proofs.Again.{reads_of, read_again, bounds_within}
 use Rattle.std.proofs.Common.{◌∙◌, sym}
 use Rattle.std.proofs.lemmas.List.Elements.{recursion_from_All}
-use Rattle.oxc_sourcemap_mappings.specs.Token.{IsInBounds}
-use Rattle.oxc_sourcemap_json.proofs.ReadsBack.{is_written, is_too_large, reads_back}
+use Rattle.oxc_sourcemap_tokens.specs.Token.{IsInBounds}
+use Rattle.oxc_sourcemap_json_text.proofs.ReadsBack.{is_written, is_too_large, reads_back}
 use Rattle.oxc_sourcemap_sections.proofs.WellRead.{read_in_bounds, read_in_order}
-use Rattle.oxc_sourcemap_json.proofs.Rewriting.{stays_sound}
+use Rattle.oxc_sourcemap_json_text.proofs.Rewriting.{stays_sound}
 use Rattle.oxc_sourcemap_laws.proofs.canonical_unique.Goals as goal
 
 pub returns-clause-unique : goal.returns-clause-unique

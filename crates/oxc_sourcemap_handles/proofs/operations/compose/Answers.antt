@@ -4,7 +4,7 @@ use Rattle.oxc_sourcemap_faults.specs.declared.refusal.Refusal.TheVariants.{Plan
 use Rattle.oxc_sourcemap.specs.PlanError.TheVariants.{Map}
 use Rattle.oxc_sourcemap_handles.specs.Holding.{held_map}
 use Rattle.oxc_sourcemap_faults.specs.Refusals.{of_map}
-use Rattle.oxc_sourcemap_join.proofs.Adding.{carried_error}
+use Rattle.oxc_sourcemap_error.proofs.Carried.{carried_error}
 use Rattle.oxc_sourcemap_handles.proofs.Composing.{both_taken, input_missing, not_composed}
 use Rattle.oxc_sourcemap_handles.proofs.operations.compose.Goals as goal
 

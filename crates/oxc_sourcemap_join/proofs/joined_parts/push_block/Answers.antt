@@ -1,6 +1,6 @@
 use Rattle.std.proofs.Common.{◌≡◌, ◌++◌, ◌-◌, arith, ap, sym, ◌∙◌, subst, length, take, drop}
 use Rattle.std.proofs.Math.Seq.{drop-append_seam}
-use Rattle.oxc_sourcemap_mappings.specs.Token.{AreInBounds}
+use Rattle.oxc_sourcemap_tokens.specs.Token.{AreInBounds}
 use Rattle.oxc_sourcemap_join.specs.Joining.{all_shifted}
 use Rattle.oxc_sourcemap_join.proofs.Adding.{all-after-some}
 use Rattle.oxc_sourcemap_join.proofs.joined_parts.push_block.Goals as goal

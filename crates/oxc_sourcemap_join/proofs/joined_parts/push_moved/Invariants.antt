@@ -1,6 +1,6 @@
 use Rattle.std.proofs.Common.{◌≡◌, ◌+◌, ◌++◌, ◌≤◌, length, vec_len}
 use Rattle.std.specs.Vec.{vec_capacity}
-use Rattle.oxc_sourcemap_mappings.specs.Token.{AreInBounds}
+use Rattle.oxc_sourcemap_tokens.specs.Token.{AreInBounds}
 use Rattle.oxc_sourcemap_join.specs.Joining.{all_shifted}
 use Rattle.oxc_sourcemap_join.proofs.joined_parts.push_moved.Given as goal
 

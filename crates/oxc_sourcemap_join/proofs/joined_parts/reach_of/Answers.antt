@@ -2,7 +2,7 @@ use Rattle.std.proofs.Common.{ap, ◌∙◌, max, subst}
 use Rattle.std.specs.List.{All}
 use Rattle.std.proofs.lemmas.List.{take_all}
 use Rattle.std.proofs.lemmas.List.Elements.{All-more}
-use Rattle.oxc_sourcemap_mappings.specs.Token.{IsInBounds}
+use Rattle.oxc_sourcemap_tokens.specs.Token.{IsInBounds}
 use Rattle.oxc_sourcemap_join.specs.Joining.{above}
 use Rattle.oxc_sourcemap_join.proofs.Reach.{greatest-next}
 use Rattle.oxc_sourcemap_join.proofs.joined_parts.reach_of.Goals as goal

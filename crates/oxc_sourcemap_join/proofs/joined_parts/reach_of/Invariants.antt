@@ -1,5 +1,5 @@
 use Rattle.std.proofs.Common.{◌≡◌, drop, take}
-use Rattle.oxc_sourcemap_mappings.specs.Token.{AreInBounds}
+use Rattle.oxc_sourcemap_tokens.specs.Token.{AreInBounds}
 use Rattle.oxc_sourcemap_join.specs.Joining.{above, greatest}
 use Rattle.oxc_sourcemap_join.proofs.joined_parts.reach_of.Given as goal
 

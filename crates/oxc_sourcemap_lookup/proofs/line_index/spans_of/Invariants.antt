@@ -1,5 +1,5 @@
 use Rattle.std.proofs.Common.{◌≤◌, ◌-◌, length, drop}
-use Rattle.oxc_sourcemap_mappings.specs.Canonical.{IsInLineOrder}
+use Rattle.oxc_sourcemap_tokens.specs.LineOrder.{IsInLineOrder}
 use Rattle.oxc_sourcemap_lookup.proofs.Tables.{IsFrom}
 use Rattle.oxc_sourcemap_lookup.proofs.LineSpans.{AreSpansTo}
 use Rattle.oxc_sourcemap_lookup.proofs.line_index.spans_of.Given as goal

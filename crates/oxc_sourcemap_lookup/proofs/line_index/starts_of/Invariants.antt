@@ -1,6 +1,6 @@
 use Rattle.std.proofs.Common.{◌≡◌, ◌≤◌, ◌+◌, length, drop, map}
 use Rattle.std.specs.List.{range_with_len}
-use Rattle.oxc_sourcemap_mappings.specs.Canonical.{IsInLineOrder}
+use Rattle.oxc_sourcemap_tokens.specs.LineOrder.{IsInLineOrder}
 use Rattle.oxc_sourcemap_lookup.specs.LineSpans.{count_before_line}
 use Rattle.oxc_sourcemap_lookup.proofs.Tables.{IsFrom}
 use Rattle.oxc_sourcemap_lookup.proofs.line_index.starts_of.Given as goal

@@ -1,6 +1,6 @@
 use Rattle.std.proofs.Common.{◌≡◌, ℕ, ◌≤◌, map}
 use Rattle.std.specs.List.{range_with_len}
-use Rattle.oxc_sourcemap_mappings.specs.Canonical.{IsInLineOrder}
+use Rattle.oxc_sourcemap_tokens.specs.LineOrder.{IsInLineOrder}
 use Rattle.oxc_sourcemap_parts.specs.Sorted.{token_line}
 use Rattle.oxc_sourcemap_lookup.specs.Lookup.{on_line}
 use Rattle.oxc_sourcemap_lookup.proofs.Tables.{IsFrom}

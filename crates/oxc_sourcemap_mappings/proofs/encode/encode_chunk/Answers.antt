@@ -1,9 +1,10 @@
 use Rattle.std.proofs.Common.{rules, ◌==◌, ◌++◌, string_bytes, ◌∙◌, sym, ap, subst}
-use Rattle.oxc_sourcemap_mappings.specs.Canonical.{back_from, Extends}
-use Rattle.oxc_sourcemap_mappings.specs.Chunks.{header}
+use Rattle.oxc_sourcemap_tokens.specs.LineOrder.{back_from}
+use Rattle.oxc_sourcemap_mappings.specs.Canonical.{Extends}
+use Rattle.oxc_sourcemap_tokens.specs.Chunks.{header}
 use Rattle.oxc_sourcemap_mappings.specs.Encoding.{text_from}
 use Rattle.oxc_sourcemap_mappings.proofs.Writing.{extends-none, cut-back, cut-place}
-use Rattle.oxc_sourcemap_mappings.proofs.Chunks.{written-in-order, written-in-range, piece-is}
+use Rattle.oxc_sourcemap_mappings.proofs.Pieces.{written-in-order, written-in-range, piece-is}
 use Rattle.oxc_sourcemap_mappings.proofs.encode.encode_chunk.Goals as goal
 
 pub push_tokens-requires : goal.push_tokens-requires

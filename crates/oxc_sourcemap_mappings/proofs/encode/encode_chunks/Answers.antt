@@ -1,7 +1,7 @@
 use Rattle.std.proofs.Common.{rules, ◌≡◌, ◌++◌, ◌∙◌, sym, ap, Some, None, string_bytes}
-use Rattle.oxc_sourcemap_mappings.specs.Chunks.{writing_fault}
+use Rattle.oxc_sourcemap_mappings.specs.Pieces.{writing_fault}
 use Rattle.oxc_sourcemap_mappings.proofs.Writing.{extends-none, cut-back, cut-place}
-use Rattle.oxc_sourcemap_mappings.proofs.Chunks.{all-written, all-pieces}
+use Rattle.oxc_sourcemap_mappings.proofs.Pieces.{all-written, all-pieces}
 use Rattle.oxc_sourcemap_mappings.proofs.encode.encode_chunks.Goals as goal
 
 pub push_chunks-requires : goal.push_chunks-requires

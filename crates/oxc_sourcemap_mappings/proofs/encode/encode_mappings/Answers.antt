@@ -1,6 +1,6 @@
 use Rattle.std.proofs.Common.{Some, None, string_bytes}
 use Rattle.oxc_sourcemap_mappings.proofs.Length.{canonical-bounded}
-use Rattle.oxc_sourcemap_mappings.proofs.Chunks.{on_ok-order}
+use Rattle.oxc_sourcemap_mappings.proofs.Pieces.{on_ok-order}
 use Rattle.oxc_sourcemap_mappings.proofs.encode.encode_mappings.Goals as goal
 
 pub returns-in-Some-clause-bound : goal.returns-in-Some-clause-bound

@@ -1,6 +1,6 @@
 use Rattle.std.proofs.Common.{◌≡◌, ◌++◌, drop, None, string_bytes, flat_map}
 use Rattle.std.specs.List.{AllByRecursion}
-use Rattle.oxc_sourcemap_mappings.specs.Chunks.{piece, piece_fault}
+use Rattle.oxc_sourcemap_mappings.specs.Pieces.{piece, piece_fault}
 use Rattle.oxc_sourcemap_mappings.specs.Encoding.{OnlyAdds}
 use Rattle.oxc_sourcemap_mappings.proofs.encode.push_chunks.Given as goal
 

@@ -1,7 +1,8 @@
 use Rattle.std.proofs.Common.{◌≡◌, ◌≤◌, ◌<◌, ◌++◌, take, drop, None, string_bytes}
 use Rattle.std.specs.List.{AllByRecursion}
-use Rattle.oxc_sourcemap_mappings.specs.Canonical.{back_from}
-use Rattle.oxc_sourcemap_mappings.specs.Encoding.{state_of, text_from, OnlyAdds}
+use Rattle.oxc_sourcemap_tokens.specs.LineOrder.{back_from}
+use Rattle.oxc_sourcemap_tokens.specs.Steps.{state_of}
+use Rattle.oxc_sourcemap_mappings.specs.Encoding.{text_from, OnlyAdds}
 use Rattle.oxc_sourcemap_mappings.proofs.encode.push_tokens.Given as goal
 
 -- what is in the text, and then what is in the buffer, is written

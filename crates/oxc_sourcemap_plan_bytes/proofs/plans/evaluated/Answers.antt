@@ -1,9 +1,9 @@
 use Rattle.std.proofs.Common.{◌≡◌, map, string_bytes, ap, sym, ◌∙◌, Ok}
 use Rattle.oxc_sourcemap.specs.Outcome.{outcome}
 use Rattle.oxc_sourcemap_faults.specs.declared.refusal.Refusal.TheVariants.{Plan}
-use Rattle.smap_run.specs.PlanInputs.{inputs_of}
-use Rattle.smap_run.specs.PlanArguments.{parsed_plan}
-use Rattle.smap_run.proofs.Maps.{carried_error}
+use Rattle.smap_arguments.specs.PlanInputs.{inputs_of}
+use Rattle.smap_arguments.specs.PlanArguments.{parsed_plan}
+use Rattle.oxc_sourcemap_error.proofs.Carried.{carried_error}
 use Rattle.oxc_sourcemap_plan_bytes.specs.Plans.{plan_of, words_of}
 use Rattle.oxc_sourcemap_plan_bytes.proofs.Planned.{map_of_plan, failure_of_plan, words_refused}
 use Rattle.oxc_sourcemap_plan_bytes.proofs.plans.evaluated.Goals as goal

@@ -2,7 +2,7 @@ use Rattle.std.proofs.Common.{◌∷◌, ◌+◌, drop, ap, sym, ◌∙◌, subs
 use Rattle.std.proofs.lemmas.List.{drop_more, drop_all}
 use Rattle.serde_json.specs.View.{view, items_view}
 use Rattle.oxc_sourcemap_parts.specs.Views.{record_of_parts}
-use Rattle.oxc_sourcemap_join.proofs.Adding.{carried_error}
+use Rattle.oxc_sourcemap_error.proofs.Carried.{carried_error}
 use Rattle.oxc_sourcemap_sections.specs.Reading.{offset_of}
 use Rattle.oxc_sourcemap_sections.proofs.Steps.{SoFar, place-refused, map-refused, add-refused, more-so-far, all-joined}
 use Rattle.oxc_sourcemap_sections.proofs.sections.join_lent.Goals as goal

@@ -1,4 +1,5 @@
-use Rattle.smap_run.proofs.Maps.{url_refused, carried_error}
+use Rattle.smap_run.proofs.Maps.{url_refused}
+use Rattle.oxc_sourcemap_error.proofs.Carried.{carried_error}
 use Rattle.smap_run.proofs.running.data_url.Goals as goal
 
 pub returns-in_err-to_data_url-clause-refused : goal.returns-in_err-to_data_url-clause-refused

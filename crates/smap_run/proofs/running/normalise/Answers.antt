@@ -1,4 +1,5 @@
-use Rattle.smap_run.proofs.Maps.{text_refused, carried_error}
+use Rattle.smap_run.proofs.Maps.{text_refused}
+use Rattle.oxc_sourcemap_error.proofs.Carried.{carried_error}
 use Rattle.smap_run.proofs.running.normalise.Goals as goal
 
 pub returns-in_err-to_json_string-clause-refused : goal.returns-in_err-to_json_string-clause-refused

@@ -1,6 +1,5 @@
 use Rattle.std.proofs.Common.{◌∙◌}
-use Rattle.std.proofs.lemmas.Result.{err_from_is_err_and}
-use Rattle.smap_run.proofs.Maps.{index_refused, traced_token}
+use Rattle.smap_run.proofs.Maps.{traced_token}
 use Rattle.smap_run.proofs.tracing.token_at.Goals as goal
 
 pub returns-clause-found : goal.returns-clause-found

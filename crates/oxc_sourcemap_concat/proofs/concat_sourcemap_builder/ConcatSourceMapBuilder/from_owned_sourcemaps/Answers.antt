@@ -1,6 +1,7 @@
 use Rattle.std.proofs.Common.{ap, Err}
 use Rattle.oxc_sourcemap_join.specs.Joined.{at_line, at_lines}
-use Rattle.oxc_sourcemap_join.proofs.Adding.{refusal-of-all, carried_error}
+use Rattle.oxc_sourcemap_join.proofs.Adding.{refusal-of-all}
+use Rattle.oxc_sourcemap_error.proofs.Carried.{carried_error}
 use Rattle.oxc_sourcemap_concat.proofs.concat_sourcemap_builder.ConcatSourceMapBuilder.from_owned_sourcemaps.Goals as goal
 
 pub returns-in_err-add_sourcemap_owned-clause-refused :

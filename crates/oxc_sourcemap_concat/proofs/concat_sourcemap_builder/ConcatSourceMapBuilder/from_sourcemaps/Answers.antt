@@ -1,7 +1,8 @@
 use Rattle.std.proofs.Common.{◌+◌, Err, drop, ap, ◌∙◌, sym, ◌∷◌}
 use Rattle.std.proofs.lemmas.List.{drop_more}
 use Rattle.oxc_sourcemap_join.specs.Joined.{at_line, lent_maps}
-use Rattle.oxc_sourcemap_join.proofs.Adding.{refusal-of-all, carried_error}
+use Rattle.oxc_sourcemap_join.proofs.Adding.{refusal-of-all}
+use Rattle.oxc_sourcemap_error.proofs.Carried.{carried_error}
 use Rattle.oxc_sourcemap_concat.proofs.concat_sourcemap_builder.ConcatSourceMapBuilder.from_sourcemaps.Goals as goal
 
 pub returns-in_err-add_sourcemap-clause-refused : goal.returns-in_err-add_sourcemap-clause-refused

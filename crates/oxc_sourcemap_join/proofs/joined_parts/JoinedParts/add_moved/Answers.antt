@@ -2,8 +2,8 @@ use Rattle.std.proofs.Common.{◌++◌, ◌∷◌, [], Some, arith, ap, length, 
 use Rattle.std.specs.Option.{option_map}
 use Rattle.std.specs.Cow.{cow_str_bytes}
 use Rattle.std.proofs.lemmas.List.{map-append}
-use Rattle.oxc_sourcemap_mappings.specs.Token.{AreInBounds}
-use Rattle.oxc_sourcemap_mappings.specs.Chunks.{ChunksFit}
+use Rattle.oxc_sourcemap_tokens.specs.Token.{AreInBounds}
+use Rattle.oxc_sourcemap_tokens.specs.Chunks.{ChunksFit}
 use Rattle.oxc_sourcemap_join.specs.Joined.{fitted, raised_ignore_list, appended_ignore_lists, AreEntriesInBounds}
 use Rattle.oxc_sourcemap_join.specs.Joining.{all_shifted}
 use Rattle.oxc_sourcemap_parts.specs.Views.{texts_of, contents_of, ids_of, record_of_parts}

@@ -1,6 +1,6 @@
 use Rattle.std.proofs.Common.{◌<◌, arith, length, sym, ap, subst, ◌∙◌}
 use Rattle.std.proofs.lemmas.List.{length-set}
-use Rattle.oxc_sourcemap_mappings.specs.Token.{IsInBounds}
+use Rattle.oxc_sourcemap_tokens.specs.Token.{IsInBounds}
 use Rattle.oxc_sourcemap_join.specs.Joined.{shifted}
 use Rattle.oxc_sourcemap_join.specs.Joining.{offset_of}
 use Rattle.oxc_sourcemap_join.proofs.Moving.{all-mapped-at, not-yet-moved, moved-next, rest-next}

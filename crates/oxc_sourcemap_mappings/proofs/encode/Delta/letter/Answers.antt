@@ -1,4 +1,4 @@
-use Rattle.std.proofs.Common.{arith, ◌≡◌, ◌<◌, ◌+◌, ◌∙◌, sym, ap, subst}
+use Rattle.std.proofs.Common.{arith, ◌<◌, ◌+◌, ◌∙◌, sym, ap, subst}
 use Rattle.oxc_sourcemap_mappings.specs.Canonical.{letter}
 use Rattle.oxc_sourcemap_mappings.specs.Encoding.{raw_at}
 use Rattle.oxc_sourcemap_mappings.proofs.Placing.{single-below, lowest-last}

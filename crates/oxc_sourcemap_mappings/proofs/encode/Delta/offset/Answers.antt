@@ -1,4 +1,4 @@
-use Rattle.std.proofs.Common.{arith, ◌∙◌}
+use Rattle.std.proofs.Common.{arith}
 use Rattle.oxc_sourcemap_mappings.proofs.Placing.{single-raw}
 use Rattle.oxc_sourcemap_mappings.proofs.encode.Delta.offset.Goals as goal
 

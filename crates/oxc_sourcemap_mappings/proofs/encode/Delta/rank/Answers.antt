@@ -1,4 +1,4 @@
-use Rattle.std.proofs.Common.{arith, ◌∙◌}
+use Rattle.std.proofs.Common.{arith}
 use Rattle.oxc_sourcemap_mappings.proofs.Placing.{near-raw}
 use Rattle.oxc_sourcemap_mappings.proofs.encode.Delta.rank.Goals as goal
 

@@ -1,6 +1,0 @@
-use Rattle.std.proofs.Common.{◌∙◌}
-use Rattle.oxc_sourcemap_mappings.proofs.Order.{back_from-all}
-use Rattle.oxc_sourcemap_mappings.proofs.encode.line_order_fault.Goals as goal
-
-pub returns-clause-place : goal.returns-clause-place
-returns-clause-place c = c.line_back_from.ensures.place ∙ back_from-all c.args.tokens.now

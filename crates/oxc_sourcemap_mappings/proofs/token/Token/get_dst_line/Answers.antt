@@ -1,7 +1,0 @@
-use Rattle.std.proofs.Common.{subst}
-use Rattle.oxc_sourcemap_mappings.specs.Token.{IsInBounds}
-use Rattle.oxc_sourcemap_mappings.specs.TokenFields.{in_bounds}
-use Rattle.oxc_sourcemap_mappings.proofs.token.Token.get_dst_line.Goals as goal
-
-pub returns-clause-in_bounds : goal.returns-clause-in_bounds
-returns-clause-in_bounds c = subst IsInBounds c.self.view_is (in_bounds c.self.inside c.self.invariant)

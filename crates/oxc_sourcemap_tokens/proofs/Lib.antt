@@ -1,0 +1,3 @@
+pub mod InOrder
+pub mod Fits
+pub mod Last

@@ -1,0 +1,13 @@
+use Rattle.std.proofs.Common.{◌≡◌, ◌≤◌, length, take}
+use Rattle.oxc_sourcemap_tokens.specs.Token.{mapped_name}
+use Rattle.oxc_sourcemap_tokens.specs.Steps.{last_given}
+use Rattle.oxc_sourcemap_tokens.proofs.state.last_name.Given as goal
+
+abbrev pub invariant-loop-left : goal.invariant-loop-left
+invariant-loop-left l = record {
+  within : l.left ≤ length l.tokens;
+  rest : last_given mapped_name (take l.left l.tokens) ≡ last_given mapped_name l.tokens;
+}
+
+abbrev pub decreases-loop-left : goal.decreases-loop-left
+decreases-loop-left l = l.left

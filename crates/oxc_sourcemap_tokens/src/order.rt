@@ -1,0 +1,32 @@
+//! Whether tokens are in the order of their generated lines.
+ghost use Rattle.std.specs.Prelude.{◌≡◌, ◌+◌, ◌^◌, ◌<◌, length, Option, None};
+ghost use Rattle.oxc_sourcemap_tokens.specs.Token.{AreInBounds};
+ghost use Rattle.oxc_sourcemap_tokens.specs.LineOrder.{first_out_of_order, back_from};
+
+use crate::token::Token;
+
+/// The index of the first token whose generated line is smaller than that of the token before. Before the first
+/// stands `line`, and its own index is `first`.
+pub fn line_back_from(line: u32, first: usize, tokens: &[Token]) -> Option<usize>
+    requires { first + length tokens.now < 2 ^ 64 }
+    ensures place { result ≡ back_from line first tokens.now }
+    ensures in_bounds { result ≡ None → AreInBounds tokens.now }
+{
+    let mut line_before = line;
+    for (i, token) in tokens.iter().enumerate() {
+        if token.get_dst_line() < line_before {
+            return Some(first + i);
+        }
+        line_before = token.get_dst_line();
+    }
+    None
+}
+
+/// The index of the first token whose generated line is smaller than that of the token before, which `LineOrder` tells;
+/// None where there is none. It takes no memory.
+pub fn line_order_fault(tokens: &[Token]) -> Option<usize>
+    ensures place { result ≡ first_out_of_order tokens.now }
+    ensures in_bounds { result ≡ None → AreInBounds tokens.now }
+{
+    line_back_from(0, 0, tokens)
+}

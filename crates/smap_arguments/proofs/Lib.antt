@@ -1,0 +1,4 @@
+pub mod Numbers
+pub mod PlanInputs
+pub mod PlanArguments
+mod Worked

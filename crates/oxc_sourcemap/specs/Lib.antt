@@ -7,7 +7,7 @@ pub use Rattle.oxc_sourcemap_json.specs.declared.json_source_map.JSONSourceMap
 pub use Rattle.oxc_sourcemap_parts.specs.declared.parts.SourceMapParts
 pub use Rattle.oxc_sourcemap_map.specs.declared.source_view_token.SourceViewToken
 pub use Rattle.oxc_sourcemap_plan.specs.declared.plan.Plan
-pub use Rattle.oxc_sourcemap_plan.specs.declared.plan.PlanError
+pub use Rattle.oxc_sourcemap_error.specs.declared.plan_error.PlanError
 pub use Rattle.oxc_sourcemap_tokens.specs.Token
 pub use Rattle.oxc_sourcemap_mappings.specs.Faults
 pub use Rattle.oxc_sourcemap_mappings.specs.Reading
@@ -55,7 +55,7 @@ pub use Rattle.oxc_sourcemap_laws.specs.JoinLaws
 pub use Rattle.oxc_sourcemap_laws.specs.SectionLaws
 pub use Rattle.oxc_sourcemap_laws.specs.ComposedDecodedMaps
 pub use Rattle.oxc_sourcemap_laws.specs.ComposeLaws
-pub use Rattle.oxc_sourcemap_plan.specs.PlanMessages
+pub use Rattle.oxc_sourcemap_error.specs.PlanMessages
 pub use Rattle.oxc_sourcemap_plan.specs.Depth
 pub use Rattle.oxc_sourcemap_plan.specs.Meaning
 pub use Rattle.oxc_sourcemap_plan.specs.Limits

@@ -1,7 +1,7 @@
 -- What exports answer: a code, and a fault that tells more.
 use Rattle.std.specs.Prelude.{◌≡◌, ℕ, Option, Some, None, Result, Ok, Err, MatchOption}
-use Rattle.oxc_sourcemap.specs.Error.{Error}
-use Rattle.oxc_sourcemap.specs.Record.{Text, MapRecord}
+use Rattle.oxc_sourcemap_error.specs.declared.error.Error.{Error}
+use Rattle.oxc_sourcemap_parts.specs.Record.{Text, MapRecord}
 use Rattle.oxc_sourcemap_faults.specs.declared.refusal.Refusal.{Refusal}
 use Rattle.oxc_sourcemap_faults.specs.declared.refusal.Refusal.TheVariants.{EmptyHandle, NoEntry}
 use Rattle.oxc_sourcemap_faults.specs.declared.fault.Fault.{Fault}

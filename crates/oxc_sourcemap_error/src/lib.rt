@@ -4,5 +4,7 @@
 #![tactic(auto)]
 
 mod error;
+mod plan_error;
 
 pub use error::{Error, Field, JsonFault, Result};
+pub use plan_error::PlanError;

@@ -1,11 +1,11 @@
 -- The numbers of a refusal say that refusal.
 use Rattle.std.proofs.Common.{◌≡◌, Some, refl, ap}
 use Rattle.std.proofs.Math.Nat.{mod-eq_of_lt}
-use Rattle.oxc_sourcemap.specs.Field.{Field}
-use Rattle.oxc_sourcemap.specs.Field.TheVariants.{Object, Version as VersionField, File, Mappings, SourceRoot, Sources, SourcesContent, Names, DebugId, IgnoreList, GoogleIgnoreList, Sections, Offset, Map as MapField}
-use Rattle.oxc_sourcemap.specs.JsonFault.TheVariants.{Reading, Shape, Version}
-use Rattle.oxc_sourcemap.specs.Error.TheVariants.{VlqLeftover, VlqNoValues, VlqOverflow, BadJson, BadSegmentSize, BadSourceReference, BadNameReference, OutOfMemory, TooLarge, LineOrder, BadChunks, SeveralSources, SectionOrder}
-use Rattle.oxc_sourcemap.specs.PlanError.TheVariants.{Map, Unsorted, TooDeep}
+use Rattle.oxc_sourcemap_error.specs.declared.error.Field.{Field}
+use Rattle.oxc_sourcemap_error.specs.declared.error.Field.TheVariants.{Object, Version as VersionField, File, Mappings, SourceRoot, Sources, SourcesContent, Names, DebugId, IgnoreList, GoogleIgnoreList, Sections, Offset, Map as MapField}
+use Rattle.oxc_sourcemap_error.specs.declared.error.JsonFault.TheVariants.{Reading, Shape, Version}
+use Rattle.oxc_sourcemap_error.specs.declared.error.Error.TheVariants.{VlqLeftover, VlqNoValues, VlqOverflow, BadJson, BadSegmentSize, BadSourceReference, BadNameReference, OutOfMemory, TooLarge, LineOrder, BadChunks, SeveralSources, SectionOrder}
+use Rattle.oxc_sourcemap_error.specs.declared.plan_error.PlanError.TheVariants.{Map, Unsorted, TooDeep}
 use Rattle.oxc_sourcemap_faults.specs.declared.refusal.Refusal.{Refusal}
 use Rattle.oxc_sourcemap_faults.specs.declared.refusal.Refusal.TheVariants.{Plan, Words, NoText, EmptyHandle, NotUtf8, Lengths, NoEntry}
 use Rattle.oxc_sourcemap_faults.specs.Codes.{fault_of, refusal_of, IsSmall}

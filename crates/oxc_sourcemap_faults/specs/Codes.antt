@@ -1,13 +1,13 @@
 -- The numbers of refusals. `fault_of` is the definition of codes; `refusal_of` goes back.
 use Rattle.std.specs.Prelude.{ℕ, ◌%◌, ◌<◌, Option, Some, None, option_map, if◌then◌else◌, ◌==◌}
-use Rattle.oxc_sourcemap.specs.Field.{Field}
-use Rattle.oxc_sourcemap.specs.Field.TheVariants.{Object, Version as VersionField, File, Mappings, SourceRoot, Sources, SourcesContent, Names, DebugId, IgnoreList, GoogleIgnoreList, Sections, Offset, Map as MapField}
-use Rattle.oxc_sourcemap.specs.JsonFault.{JsonFault}
-use Rattle.oxc_sourcemap.specs.JsonFault.TheVariants.{Reading, Shape, Version}
-use Rattle.oxc_sourcemap.specs.Error.{Error}
-use Rattle.oxc_sourcemap.specs.Error.TheVariants.{VlqLeftover, VlqNoValues, VlqOverflow, BadJson, BadSegmentSize, BadSourceReference, BadNameReference, OutOfMemory, TooLarge, LineOrder, BadChunks, SeveralSources, SectionOrder}
-use Rattle.oxc_sourcemap.specs.PlanError.{PlanError}
-use Rattle.oxc_sourcemap.specs.PlanError.TheVariants.{Map, Unsorted, TooDeep}
+use Rattle.oxc_sourcemap_error.specs.declared.error.Field.{Field}
+use Rattle.oxc_sourcemap_error.specs.declared.error.Field.TheVariants.{Object, Version as VersionField, File, Mappings, SourceRoot, Sources, SourcesContent, Names, DebugId, IgnoreList, GoogleIgnoreList, Sections, Offset, Map as MapField}
+use Rattle.oxc_sourcemap_error.specs.declared.error.JsonFault.{JsonFault}
+use Rattle.oxc_sourcemap_error.specs.declared.error.JsonFault.TheVariants.{Reading, Shape, Version}
+use Rattle.oxc_sourcemap_error.specs.declared.error.Error.{Error}
+use Rattle.oxc_sourcemap_error.specs.declared.error.Error.TheVariants.{VlqLeftover, VlqNoValues, VlqOverflow, BadJson, BadSegmentSize, BadSourceReference, BadNameReference, OutOfMemory, TooLarge, LineOrder, BadChunks, SeveralSources, SectionOrder}
+use Rattle.oxc_sourcemap_error.specs.declared.plan_error.PlanError.{PlanError}
+use Rattle.oxc_sourcemap_error.specs.declared.plan_error.PlanError.TheVariants.{Map, Unsorted, TooDeep}
 use Rattle.oxc_sourcemap_faults.specs.declared.refusal.Refusal.{Refusal}
 use Rattle.oxc_sourcemap_faults.specs.declared.refusal.Refusal.TheVariants.{Plan, Words, NoText, EmptyHandle, NotUtf8, Lengths, NoEntry}
 use Rattle.oxc_sourcemap_faults.specs.declared.fault.Fault.{Fault}

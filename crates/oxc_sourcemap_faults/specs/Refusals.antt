@@ -1,10 +1,10 @@
 -- The texts of refusals, as bytes, and the refusals that stand for an error.
 use Rattle.std.specs.Prelude.{◌≡◌, ℕ, List, ◌++◌, codes, decimal, IsUtf8}
 use Rattle.std.specs.Str.Lossy.{utf8_valid_len}
-use Rattle.oxc_sourcemap.specs.Error.{Error}
-use Rattle.oxc_sourcemap.specs.Error.TheVariants.{OutOfMemory}
-use Rattle.oxc_sourcemap.specs.PlanError.TheVariants.{Map}
-use Rattle.oxc_sourcemap.specs.PlanMessages.{plan_error_text}
+use Rattle.oxc_sourcemap_error.specs.declared.error.Error.{Error}
+use Rattle.oxc_sourcemap_error.specs.declared.error.Error.TheVariants.{OutOfMemory}
+use Rattle.oxc_sourcemap_error.specs.declared.plan_error.PlanError.TheVariants.{Map}
+use Rattle.oxc_sourcemap_error.specs.PlanMessages.{plan_error_text}
 use Rattle.oxc_sourcemap_faults.specs.declared.refusal.Refusal.{Refusal}
 use Rattle.oxc_sourcemap_faults.specs.declared.refusal.Refusal.TheVariants.{Plan, Words, NoText, EmptyHandle, NotUtf8, Lengths, NoEntry}
 

@@ -3,7 +3,7 @@ ghost use Rattle.std.specs.Prelude.{◌≡◌, ◌%◌};
 ghost use Rattle.oxc_sourcemap_faults.specs.Codes.{fault_of, fault_of_error, fault_of_plan_error, fault_of_json, number_of_field, no_fault, refusal_of, error_of, field_of, code_of};
 
 use crate::refusal::Refusal;
-use oxc_sourcemap::{Error, Field, JsonFault, PlanError};
+use oxc_sourcemap_error::{Error, Field, JsonFault, PlanError};
 
 /// A refusal: a code, which of the fields of a JSON source map it is about, and the number that it tells. The code 0 is none.
 #[repr(C)]

@@ -1,11 +1,11 @@
 //! Why a call is refused.
 ghost use Rattle.std.specs.Prelude.{◌≡◌, Some};
-ghost use Rattle.oxc_sourcemap.specs.Error.TheVariants.{OutOfMemory};
-ghost use Rattle.oxc_sourcemap.specs.PlanError.TheVariants.{Map};
+ghost use Rattle.oxc_sourcemap_error.specs.declared.error.Error.TheVariants.{OutOfMemory};
+ghost use Rattle.oxc_sourcemap_error.specs.declared.plan_error.PlanError.TheVariants.{Map};
 ghost use Rattle.oxc_sourcemap_faults.specs.declared.refusal.Refusal.TheVariants.{Plan};
 ghost use Rattle.oxc_sourcemap_faults.specs.Refusals.{refusal_text, out_of_memory};
 
-use oxc_sourcemap::{Error, PlanError};
+use oxc_sourcemap_error::{Error, PlanError};
 use std::alloc::{AllocError, AllocFailed};
 use std::fmt;
 

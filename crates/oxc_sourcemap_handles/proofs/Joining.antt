@@ -2,8 +2,8 @@
 use Rattle.std.proofs.Common.{◌≡◌, ℕ, ◌+◌, ◌<◌, List, [], ◌∷◌, ◌++◌, length, drop, get_or, slice_set, Option, Some, None, Result, Ok, option_map, refl, sym, ap, ◌∙◌, arith}
 use Rattle.std.specs.Option.{option_and_then}
 use Rattle.std.proofs.lemmas.List.{append_assoc, append-nil, drop_more, drop-set-lt, map-append}
-use Rattle.oxc_sourcemap.specs.Record.{MapRecord}
-use Rattle.oxc_sourcemap.specs.Joined.{Offset, at_positions}
+use Rattle.oxc_sourcemap_parts.specs.Record.{MapRecord}
+use Rattle.oxc_sourcemap_join.specs.Joined.{Offset, at_positions}
 use Rattle.oxc_sourcemap_handles.specs.declared.held.Held.{Held}
 use Rattle.oxc_sourcemap_handles.specs.declared.handle.Handle.{Handle}
 use Rattle.oxc_sourcemap_handles.specs.declared.text.Position.{Position}

@@ -1,12 +1,12 @@
 -- A place that says what the token says that is found at a position is the trace of the position.
 use Rattle.std.proofs.Common.{◌≡◌, Bool, true, false, ℕ, ◌<◌, suc, List, [], ◌∷◌, length, get_or, Option, option_map, ap, subst, ◌∙◌, arith}
 use Rattle.std.specs.List.{AllZip}
-use Rattle.oxc_sourcemap.specs.Sorted.{are_tokens_sorted}
-use Rattle.oxc_sourcemap.specs.Token.{TokenRecord}
-use Rattle.oxc_sourcemap.specs.Record.{MapRecord}
-use Rattle.oxc_sourcemap.specs.DecodedMap.{OriginalPosition}
-use Rattle.oxc_sourcemap.specs.View.{seen_in, view_original}
-use Rattle.oxc_sourcemap.specs.LineOrder.{IsInLineOrder}
+use Rattle.oxc_sourcemap_parts.specs.Sorted.{are_tokens_sorted}
+use Rattle.oxc_sourcemap_tokens.specs.Token.{TokenRecord}
+use Rattle.oxc_sourcemap_parts.specs.Record.{MapRecord}
+use Rattle.oxc_sourcemap_parts.specs.DecodedMap.{OriginalPosition}
+use Rattle.oxc_sourcemap_map.specs.View.{seen_in, view_original}
+use Rattle.oxc_sourcemap_tokens.specs.LineOrder.{IsInLineOrder}
 use Rattle.oxc_sourcemap_lookup.specs.LineSpans.{AreLines, IsIndexOf}
 use Rattle.oxc_sourcemap_lookup.specs.declared.line_index.LineIndex.{LineIndex}
 use Rattle.oxc_sourcemap_lookup.specs.declared.line_index.Lines.{Lines}

@@ -2,11 +2,11 @@
 use Rattle.std.specs.Prelude.{◌≡◌, ◌≢◌, ℕ, List, ◌⊎◌, Option, Some, None, Result, Ok, Err, MatchOption, MatchResult, IsUtf8, slice_get, length, Bool, true, false}
 use Rattle.std.specs.Option.{option_and_then}
 use Rattle.std.specs.Str.Lossy.{utf8_valid_len}
-use Rattle.oxc_sourcemap.specs.Error.{Error}
-use Rattle.oxc_sourcemap.specs.Record.{Text, MapRecord}
-use Rattle.oxc_sourcemap.specs.ReadMap.{read_map}
-use Rattle.oxc_sourcemap.specs.Composed.{SomeComposition}
-use Rattle.oxc_sourcemap.specs.View.{content_at}
+use Rattle.oxc_sourcemap_error.specs.declared.error.Error.{Error}
+use Rattle.oxc_sourcemap_parts.specs.Record.{Text, MapRecord}
+use Rattle.oxc_sourcemap_sections.specs.ReadMap.{read_map}
+use Rattle.oxc_sourcemap_compose.specs.Composed.{SomeComposition}
+use Rattle.oxc_sourcemap_map.specs.View.{content_at}
 use Rattle.oxc_sourcemap_faults.specs.declared.refusal.Refusal.{Refusal}
 use Rattle.oxc_sourcemap_faults.specs.declared.refusal.Refusal.TheVariants.{EmptyHandle, NotUtf8, NoEntry}
 use Rattle.oxc_sourcemap_faults.specs.declared.fault.Fault.{Fault}

@@ -1,11 +1,11 @@
 -- What calls make of the builders that handles hold, and what they refuse.
 use Rattle.std.specs.Prelude.{◌≡◌, ◌≤◌, ◌⊎◌, ℕ, List, [], ◌∷◌, ◌++◌, length, Option, Some, IsNone, MatchOption, IsUtf8}
 use Rattle.std.specs.FinMap as fin
-use Rattle.oxc_sourcemap.specs.Error.TheVariants.{TooLarge}
-use Rattle.oxc_sourcemap.specs.Record.{Text}
-use Rattle.oxc_sourcemap.specs.Token.{TokenRecord, id_of}
-use Rattle.oxc_sourcemap.specs.Texts.{index_of}
-use Rattle.oxc_sourcemap.specs.Built.{Built}
+use Rattle.oxc_sourcemap_error.specs.declared.error.Error.TheVariants.{TooLarge}
+use Rattle.oxc_sourcemap_parts.specs.Record.{Text}
+use Rattle.oxc_sourcemap_tokens.specs.Token.{TokenRecord, id_of}
+use Rattle.oxc_sourcemap_parts.specs.Texts.{index_of}
+use Rattle.oxc_sourcemap_builder.specs.Built.{Built}
 use Rattle.oxc_sourcemap_handles.specs.declared.held.Held.{Held}
 use Rattle.oxc_sourcemap_handles.specs.declared.text.TokenNumbers.{TokenNumbers}
 use Rattle.oxc_sourcemap_faults.specs.declared.refusal.Refusal.{Refusal}

@@ -1,9 +1,9 @@
 -- The index that a handle keeps beside a map.
 use Rattle.std.specs.Prelude.{◌≡◌, List, Option, Some, Result, Ok, Err, option_map}
-use Rattle.oxc_sourcemap.specs.Error.{Error}
-use Rattle.oxc_sourcemap.specs.Error.TheVariants.{LineOrder}
-use Rattle.oxc_sourcemap.specs.Token.{TokenRecord}
-use Rattle.oxc_sourcemap.specs.LineOrder.{first_out_of_order}
+use Rattle.oxc_sourcemap_error.specs.declared.error.Error.{Error}
+use Rattle.oxc_sourcemap_error.specs.declared.error.Error.TheVariants.{LineOrder}
+use Rattle.oxc_sourcemap_tokens.specs.Token.{TokenRecord}
+use Rattle.oxc_sourcemap_tokens.specs.LineOrder.{first_out_of_order}
 use Rattle.oxc_sourcemap_lookup.specs.declared.line_index.LineIndex.{LineIndex}
 use Rattle.oxc_sourcemap_lookup.specs.LineSpans.{IsIndexOf}
 

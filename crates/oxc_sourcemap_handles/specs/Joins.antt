@@ -1,9 +1,9 @@
 -- Joins of what handles hold.
 use Rattle.std.specs.Prelude.{◌≡◌, ◌≢◌, ◌⊎◌, ℕ, List, [], ◌∷◌, map, length, Option, Some, None, option_map, MatchOption}
 use Rattle.std.specs.Option.{option_and_then}
-use Rattle.oxc_sourcemap.specs.Error.TheVariants.{TooLarge}
-use Rattle.oxc_sourcemap.specs.Record.{MapRecord}
-use Rattle.oxc_sourcemap.specs.Joined.{Offset, joined, IsWithinLimits}
+use Rattle.oxc_sourcemap_error.specs.declared.error.Error.TheVariants.{TooLarge}
+use Rattle.oxc_sourcemap_parts.specs.Record.{MapRecord}
+use Rattle.oxc_sourcemap_join.specs.Joined.{Offset, joined, IsWithinLimits}
 use Rattle.oxc_sourcemap_handles.specs.declared.handle.Handle.{Handle}
 use Rattle.oxc_sourcemap_handles.specs.declared.held.Held.{Held}
 use Rattle.oxc_sourcemap_handles.specs.declared.text.Position.{Position}

@@ -1,9 +1,9 @@
 -- What C reads of a traced position, of a token and of a map's counts.
 use Rattle.std.specs.Prelude.{◌≡◌, ℕ, List, [], length, Option, Some, None}
 use Rattle.std.specs.Option.{unwrap_or}
-use Rattle.oxc_sourcemap.specs.Token.{TokenRecord}
-use Rattle.oxc_sourcemap.specs.Record.{Text, MapRecord}
-use Rattle.oxc_sourcemap.specs.DecodedMap.{OriginalPosition}
+use Rattle.oxc_sourcemap_tokens.specs.Token.{TokenRecord}
+use Rattle.oxc_sourcemap_parts.specs.Record.{Text, MapRecord}
+use Rattle.oxc_sourcemap_parts.specs.DecodedMap.{OriginalPosition}
 use Rattle.oxc_sourcemap_handles.specs.declared.text.Place.{Place}
 use Rattle.oxc_sourcemap_handles.specs.declared.text.TokenNumbers.{TokenNumbers}
 use Rattle.oxc_sourcemap_handles.specs.declared.text.Counts.{Counts}

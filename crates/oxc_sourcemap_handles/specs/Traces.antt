@@ -1,14 +1,14 @@
 -- What a handle's map says of generated positions.
 use Rattle.std.specs.Prelude.{◌≡◌, ◌≢◌, ◌⊎◌, ℕ, Bool, true, false, List, length, Option, Some, None, Result, Err, MatchOption, MatchResult}
 use Rattle.std.specs.List.{AllZip}
-use Rattle.oxc_sourcemap.specs.Error.{Error}
-use Rattle.oxc_sourcemap.specs.Record.{MapRecord}
-use Rattle.oxc_sourcemap.specs.Token.{TokenRecord}
-use Rattle.oxc_sourcemap.specs.LineOrder.{IsInLineOrder}
-use Rattle.oxc_sourcemap.specs.Sorted.{are_tokens_sorted, token_line, token_column}
-use Rattle.oxc_sourcemap.specs.Lookup.{pick, clamped_pick}
-use Rattle.oxc_sourcemap.specs.DecodedMap.{OriginalPosition, decoded_map_of}
-use Rattle.oxc_sourcemap.specs.Trace.{trace, clamped_trace}
+use Rattle.oxc_sourcemap_error.specs.declared.error.Error.{Error}
+use Rattle.oxc_sourcemap_parts.specs.Record.{MapRecord}
+use Rattle.oxc_sourcemap_tokens.specs.Token.{TokenRecord}
+use Rattle.oxc_sourcemap_tokens.specs.LineOrder.{IsInLineOrder}
+use Rattle.oxc_sourcemap_parts.specs.Sorted.{are_tokens_sorted, token_line, token_column}
+use Rattle.oxc_sourcemap_lookup.specs.Lookup.{pick, clamped_pick}
+use Rattle.oxc_sourcemap_parts.specs.DecodedMap.{OriginalPosition, decoded_map_of}
+use Rattle.oxc_sourcemap_lookup.specs.Trace.{trace, clamped_trace}
 use Rattle.oxc_sourcemap_faults.specs.declared.refusal.Refusal.{Refusal}
 use Rattle.oxc_sourcemap_faults.specs.declared.refusal.Refusal.TheVariants.{EmptyHandle, Lengths}
 use Rattle.oxc_sourcemap_handles.specs.declared.held.Held.{Held}

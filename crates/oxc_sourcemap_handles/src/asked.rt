@@ -2,7 +2,7 @@
 ghost use Rattle.std.specs.Prelude.{◌≡◌, option_map};
 ghost use Rattle.oxc_sourcemap_handles.specs.Answers.{text_at};
 
-use oxc_sourcemap::OwnedSourceMap;
+use oxc_sourcemap_map::OwnedSourceMap;
 
 /// Which text of a map is asked for.
 #[derive(Clone, Copy)]

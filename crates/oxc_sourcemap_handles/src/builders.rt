@@ -1,9 +1,9 @@
 //! What exports do with the builders that handles hold.
 ghost use Rattle.std.specs.Prelude.{◌≡◌, ◌≢◌, ⊤, None, Some, Err, IsUtf8, IfOk, IfErr, OnErr, MatchOption, MatchResult};
-ghost use Rattle.oxc_sourcemap.specs.Error.TheVariants.{OutOfMemory, TooLarge};
-ghost use Rattle.oxc_sourcemap.specs.Token.{id_of};
-ghost use Rattle.oxc_sourcemap.specs.Built.{nothing_built};
-ghost use Rattle.oxc_sourcemap.specs.Building.{with_name, with_path};
+ghost use Rattle.oxc_sourcemap_error.specs.declared.error.Error.TheVariants.{OutOfMemory, TooLarge};
+ghost use Rattle.oxc_sourcemap_tokens.specs.Token.{id_of};
+ghost use Rattle.oxc_sourcemap_builder.specs.Built.{nothing_built};
+ghost use Rattle.oxc_sourcemap_builder.specs.Building.{with_name, with_path};
 ghost use Rattle.oxc_sourcemap_handles.specs.declared.builders.Step.TheVariants.{File, Mapping};
 ghost use Rattle.oxc_sourcemap_faults.specs.Refusals.{out_of_memory, of_map};
 ghost use Rattle.oxc_sourcemap_faults.specs.Codes.{fault_of, code_of, no_fault};
@@ -16,8 +16,9 @@ use crate::handle::Handle;
 use crate::held::Held;
 use crate::operations::put;
 use crate::text::TokenNumbers;
-use oxc_sourcemap::{OwnedSourceMap, SourceMapBuilder};
+use oxc_sourcemap_builder::SourceMapBuilder;
 use oxc_sourcemap_faults::{Fault, Refusal, text_of};
+use oxc_sourcemap_map::OwnedSourceMap;
 use std::alloc::Global;
 
 /// What a call does to a builder.
@@ -43,7 +44,7 @@ fn id_of(number: u32) -> Option<u32>
 fn push_token(
     builder: &mut SourceMapBuilder<'static>,
     token: TokenNumbers,
-) -> oxc_sourcemap::Result<u32>
+) -> oxc_sourcemap_error::Result<u32>
     ensures made { IfOk result (λ id. (builder.new, id) ≡ stepped builder.old (Mapping token)) }
     ensures refused { IfErr result (λ e. e ≡ OutOfMemory) }
     ensures unchanged { OnErr result (builder.new ≡ builder.old) }
@@ -59,7 +60,10 @@ fn push_token(
     Ok(0)
 }
 
-fn copy_file(builder: &mut SourceMapBuilder<'static>, file: &str) -> oxc_sourcemap::Result<u32>
+fn copy_file(
+    builder: &mut SourceMapBuilder<'static>,
+    file: &str,
+) -> oxc_sourcemap_error::Result<u32>
     ensures made { IfOk result (λ id. (builder.new, id) ≡ stepped builder.old (File file.entry)) }
     ensures refused { IfErr result (λ e. e ≡ OutOfMemory) }
     ensures unchanged { OnErr result (builder.new ≡ builder.old) }
@@ -69,7 +73,7 @@ fn copy_file(builder: &mut SourceMapBuilder<'static>, file: &str) -> oxc_sourcem
 }
 
 /// Makes a step, and returns the id of what it adds, or 0.
-fn make(builder: &mut SourceMapBuilder<'static>, step: Step<'_>) -> oxc_sourcemap::Result<u32>
+fn make(builder: &mut SourceMapBuilder<'static>, step: Step<'_>) -> oxc_sourcemap_error::Result<u32>
     ensures made { IfOk result (λ id. (builder.new, id) ≡ stepped builder.old step.entry) }
     ensures refused { IfErr result (λ e. (e ≢ OutOfMemory) → (e ≡ TooLarge) × HasNoId step.entry builder.old) }
     ensures too_large { HasNoId step.entry builder.old → result ≡ Err TooLarge }

@@ -1,8 +1,8 @@
 //! Joins of what handles hold.
 ghost use Rattle.std.specs.Prelude.{◌≡◌, ◌≢◌, ◌⊎◌, None, Some, length, IfOk, IfErr};
 ghost use Rattle.std.specs.List.{All};
-ghost use Rattle.oxc_sourcemap.specs.Error.TheVariants.{OutOfMemory, TooLarge};
-ghost use Rattle.oxc_sourcemap.specs.Joined.{at_positions, joined, IsWithinLimits};
+ghost use Rattle.oxc_sourcemap_error.specs.declared.error.Error.TheVariants.{OutOfMemory, TooLarge};
+ghost use Rattle.oxc_sourcemap_join.specs.Joined.{at_positions, joined, IsWithinLimits};
 ghost use Rattle.oxc_sourcemap_faults.specs.declared.refusal.Refusal.TheVariants.{EmptyHandle};
 ghost use Rattle.oxc_sourcemap_faults.specs.Refusals.{out_of_memory};
 ghost use Rattle.oxc_sourcemap_handles.specs.Joins.{all_held, placed_maps, IsJoinOf, IsJoinRefusal};
@@ -10,8 +10,9 @@ ghost use Rattle.oxc_sourcemap_handles.specs.Joins.{all_held, placed_maps, IsJoi
 use crate::handle::Handle;
 use crate::operations::take_map;
 use crate::text::Position;
-use oxc_sourcemap::{ConcatSourceMapBuilder, OwnedSourceMap, SourceMap};
+use oxc_sourcemap_concat::ConcatSourceMapBuilder;
 use oxc_sourcemap_faults::Refusal;
+use oxc_sourcemap_map::{OwnedSourceMap, SourceMap};
 use std::alloc::Global;
 
 /// The maps in handles, each with its line and column. They are taken out of the handles up to the first that holds none.
@@ -45,7 +46,7 @@ fn empty(alloc: Global, handles: &mut [Handle])
 fn joined_map(
     alloc: Global,
     maps: Vec<(SourceMap<'static>, u32, u32)>,
-) -> oxc_sourcemap::Result<OwnedSourceMap>
+) -> oxc_sourcemap_error::Result<OwnedSourceMap>
     ensures joined { IfOk result (λ map. map ≡ joined (at_positions maps.entry.items)) }
     ensures refused { IfErr result (λ e. (e ≡ OutOfMemory) ⊎ ((e ≡ TooLarge) × ¬ (IsWithinLimits (joined (at_positions maps.entry.items))))) }
 {

@@ -1,10 +1,10 @@
 //! What exports do with what handles hold.
 ghost use Rattle.std.specs.Prelude.{◌≡◌, ◌≢◌, ℕ, true, List, map, length, Some, None, Ok, Err, option_map, string_bytes, slice_get, IfOk, IfErr, MatchOption, MatchResult};
 ghost use Rattle.std.specs.List.{All};
-ghost use Rattle.oxc_sourcemap.specs.Error.TheVariants.{OutOfMemory};
-ghost use Rattle.oxc_sourcemap.specs.ReadMap.{read_map};
-ghost use Rattle.oxc_sourcemap.specs.JsonText.{map_text, map_url};
-ghost use Rattle.oxc_sourcemap.specs.Composed.{composition, SomeComposition, NoColumnGoesBack};
+ghost use Rattle.oxc_sourcemap_error.specs.declared.error.Error.TheVariants.{OutOfMemory};
+ghost use Rattle.oxc_sourcemap_sections.specs.ReadMap.{read_map};
+ghost use Rattle.oxc_sourcemap_json_text.specs.JsonText.{map_text, map_url};
+ghost use Rattle.oxc_sourcemap_compose.specs.Composed.{composition, SomeComposition, NoColumnGoesBack};
 ghost use Rattle.oxc_sourcemap_faults.specs.declared.refusal.Refusal.TheVariants.{EmptyHandle};
 ghost use Rattle.oxc_sourcemap_faults.specs.Refusals.{out_of_memory, of_map};
 ghost use Rattle.oxc_sourcemap_faults.specs.Codes.{fault_of, code_of, no_fault};
@@ -13,8 +13,8 @@ ghost use Rattle.oxc_sourcemap_handles.specs.Answers.{IsReadRefusal, IsCompositi
 
 use crate::handle::Handle;
 use crate::held::{Held, LoadedMap};
-use oxc_sourcemap::OwnedSourceMap;
 use oxc_sourcemap_faults::{Fault, Refusal, text_of};
+use oxc_sourcemap_map::OwnedSourceMap;
 use std::alloc::Global;
 
 /// The map of a JSON text.

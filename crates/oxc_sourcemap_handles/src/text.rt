@@ -2,10 +2,11 @@
 ghost use Rattle.std.specs.Prelude.{◌≡◌, [], length, option_map, Option, Some};
 ghost use Rattle.std.specs.Option.{unwrap_or};
 ghost use Rattle.std.specs.Ptr.{as_ptr};
-ghost use Rattle.oxc_sourcemap.specs.View.{view_of, view_original, seen_in};
+ghost use Rattle.oxc_sourcemap_map.specs.View.{view_of, view_original, seen_in};
 ghost use Rattle.oxc_sourcemap_handles.specs.Places.{IsPlace, HasIds, number_or_none, numbers_of, counts_of};
 
-use oxc_sourcemap::{OwnedSourceMap, SourceMap, SourceViewToken, Token};
+use oxc_sourcemap_map::{OwnedSourceMap, SourceMap, SourceViewToken};
+use oxc_sourcemap_tokens::Token;
 
 /// Bytes of what a handle holds, for C alone: nothing here reads them.
 #[repr(C)]

@@ -25,7 +25,7 @@ use Rattle.oxc_sourcemap_laws.specs.JoinLaws.{AreAllInRange, AreIgnoreListsInRan
 use Rattle.oxc_sourcemap_laws.proofs.JoinStands.{sorted-mappings}
 use Rattle.oxc_sourcemap_laws.proofs.Sections.{all-in-range, FromSections, from-sections, joined-of}
 use Rattle.oxc_sourcemap_laws.proofs.UpToRepeats.{sorted_decoded_map_up_to_repeats}
-use Rattle.oxc_sourcemap_plan.specs.declared.plan.PlanError.TheVariants.{Map, Unsorted}
+use Rattle.oxc_sourcemap_error.specs.declared.plan_error.PlanError.TheVariants.{Map, Unsorted}
 use Rattle.oxc_sourcemap_plan.specs.Limits.{are_counts_within_limits, are_positions_within_limits, is_join_within_limits}
 use Rattle.oxc_sourcemap_plan.specs.Outcome.{Outcome, plain_outcome, names_of_sections, sections_outcome, read_outcome}
 use Rattle.oxc_sourcemap_plan.specs.Evaluated.{are_among}

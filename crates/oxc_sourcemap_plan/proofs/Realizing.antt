@@ -31,8 +31,8 @@ use Rattle.oxc_sourcemap_laws.specs.JoinedDecodedMaps.{joined_decoded_maps, lowe
 use Rattle.oxc_sourcemap_laws.specs.ComposedDecodedMaps.{composed_decoded_maps}
 use Rattle.oxc_sourcemap_laws.specs.JoinLaws.{TestsAgree, DecodedMapOfJoin, JoinKeepsEqualUpToRepeats, JoinStandsFor, JoinInRange, JoinNames, JoinTokens, AreAllInRange, AreIgnoreListsInRange, AreEqualUpToRepeats, decoded_maps_of, AllStandFor}
 use Rattle.oxc_sourcemap_laws.specs.ComposeLaws.{CompositionStandsFor, CompositionNames, CompositionTokens, CompositionTooLarge, CompositionInBounds}
-use Rattle.oxc_sourcemap_plan.specs.declared.plan.PlanError.{PlanError}
-use Rattle.oxc_sourcemap_plan.specs.declared.plan.PlanError.TheVariants.{Map, Unsorted}
+use Rattle.oxc_sourcemap_error.specs.declared.plan_error.PlanError.{PlanError}
+use Rattle.oxc_sourcemap_error.specs.declared.plan_error.PlanError.TheVariants.{Map, Unsorted}
 use Rattle.oxc_sourcemap_plan.specs.Meaning.{read_meaning, onto_decoded_maps, all_decoded_maps, join_meaning, composition_meaning}
 use Rattle.oxc_sourcemap_plan.specs.Limits.{are_counts_within_limits, is_position_within_limits, are_positions_within_limits, is_part_within_limits, is_join_within_limits}
 use Rattle.oxc_sourcemap_plan.specs.Outcome.{Outcome, plain_outcome, rewrite_outcome, meanings, names_of_all, all_records, joined_source_count, are_all_within_limits, join_outcome, composition_outcome}

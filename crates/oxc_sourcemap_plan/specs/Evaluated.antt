@@ -11,8 +11,8 @@ use Rattle.oxc_sourcemap_laws.specs.Repeats.{EqualUpToRepeats, EqualButForMappin
 use Rattle.oxc_sourcemap_json_text.specs.Encoded.{encoded, encoded_record}
 use Rattle.oxc_sourcemap_json_text.specs.MapLaws.{ComesBack}
 use Rattle.oxc_sourcemap_laws.specs.JoinLaws.{HaveSameTraces}
-use Rattle.oxc_sourcemap_plan.specs.declared.plan.PlanError.{PlanError}
-use Rattle.oxc_sourcemap_plan.specs.declared.plan.PlanError.TheVariants.{Map}
+use Rattle.oxc_sourcemap_error.specs.declared.plan_error.PlanError.{PlanError}
+use Rattle.oxc_sourcemap_error.specs.declared.plan_error.PlanError.TheVariants.{Map}
 use Rattle.oxc_sourcemap_error.specs.declared.error.Error.TheVariants.{TooLarge}
 use Rattle.oxc_sourcemap_plan.specs.Outcome.{Outcome}
 

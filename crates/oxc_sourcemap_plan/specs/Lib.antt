@@ -1,4 +1,3 @@
-pub mod PlanMessages
 pub mod Depth
 pub mod Meaning
 pub mod Limits

@@ -9,8 +9,8 @@ use Rattle.oxc_sourcemap_join.specs.Joined.{Offset}
 use Rattle.oxc_sourcemap_laws.specs.Repeats.{is_sorted_decoded_map}
 use Rattle.oxc_sourcemap_laws.specs.JoinedDecodedMaps.{joined_decoded_maps}
 use Rattle.oxc_sourcemap_laws.specs.ComposedDecodedMaps.{composed_decoded_maps}
-use Rattle.oxc_sourcemap_plan.specs.declared.plan.PlanError.{PlanError}
-use Rattle.oxc_sourcemap_plan.specs.declared.plan.PlanError.TheVariants.{Map, Unsorted}
+use Rattle.oxc_sourcemap_error.specs.declared.plan_error.PlanError.{PlanError}
+use Rattle.oxc_sourcemap_error.specs.declared.plan_error.PlanError.TheVariants.{Map, Unsorted}
 
 abbrev pub Meaning : Type 0
 Meaning = Result DecodedMap PlanError

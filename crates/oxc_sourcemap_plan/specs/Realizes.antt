@@ -8,8 +8,8 @@ use Rattle.oxc_sourcemap_parts.specs.DecodedMap.{DecodedMap}
 use Rattle.oxc_sourcemap_json_text.specs.MapLaws.{rewritten}
 use Rattle.oxc_sourcemap_join.specs.Joined.{Offset}
 use Rattle.oxc_sourcemap_laws.specs.JoinLaws.{StandsFor}
-use Rattle.oxc_sourcemap_plan.specs.declared.plan.PlanError.{PlanError}
-use Rattle.oxc_sourcemap_plan.specs.declared.plan.PlanError.TheVariants.{Map}
+use Rattle.oxc_sourcemap_error.specs.declared.plan_error.PlanError.{PlanError}
+use Rattle.oxc_sourcemap_error.specs.declared.plan_error.PlanError.TheVariants.{Map}
 use Rattle.oxc_sourcemap_plan.specs.Outcome.{Outcome}
 use Rattle.oxc_sourcemap_plan.specs.Evaluated.{are_among, IsFailure}
 

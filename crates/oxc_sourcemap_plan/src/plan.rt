@@ -1,6 +1,5 @@
 //! Plans: readings, rewritings, joins and compositions of maps, and their evaluation.
-ghost use Rattle.std.specs.Prelude.{◌≡◌, ◌≤◌, ◌↔◌, ◌⊎◌, ℕ, List, Some, true, false, IsTrue, IfOk, IfErr};
-ghost use Rattle.oxc_sourcemap_plan.specs.PlanMessages.{plan_error_text};
+ghost use Rattle.std.specs.Prelude.{◌≡◌, ◌≤◌, ◌↔◌, ◌⊎◌, List, true, false, IsTrue, IfOk, IfErr};
 ghost use Rattle.oxc_sourcemap_plan.specs.Depth.{depth};
 ghost use Rattle.oxc_sourcemap_plan.specs.Outcome.{Outcome, read_outcome, rewrite_outcome, join_outcome, composition_outcome, outcome_of, outcomes, outcome};
 ghost use Rattle.oxc_sourcemap_join.specs.Joined.{Offset, at_lines, at_positions, joined, IsWithinLimits};
@@ -9,14 +8,13 @@ ghost use Rattle.oxc_sourcemap_plan.specs.Realizes.{Realizes, FailsAs, AllRealiz
 ghost use Rattle.oxc_sourcemap_error.specs.declared.error.Error.TheVariants.{OutOfMemory, TooLarge};
 ghost use Rattle.oxc_sourcemap_sections.specs.ReadMap.{said_in};
 ghost use Rattle.oxc_sourcemap_parts.specs.Sorted.{are_tokens_sorted};
-ghost use Rattle.oxc_sourcemap_plan.specs.declared.plan.PlanError.TheVariants.{Map, Unsorted};
+ghost use Rattle.oxc_sourcemap_error.specs.declared.plan_error.PlanError.TheVariants.{Map, Unsorted};
 
 use oxc_sourcemap_concat::ConcatSourceMapBuilder;
-use oxc_sourcemap_error::Error;
+use oxc_sourcemap_error::{Error, PlanError};
 use oxc_sourcemap_laws::{canonical_unique, composition_associative, dropping_harmless};
 use oxc_sourcemap_map::{OwnedSourceMap, SourceMap};
-use std::alloc::{AllocError, AllocFailed, Global};
-use std::fmt;
+use std::alloc::Global;
 
 /// What to do with maps, which are given as JSON texts borrowed for `'t`. Lines and columns count from 0; columns are in
 /// UTF-16 code units.
@@ -33,55 +31,6 @@ pub enum Plan<'t> {
     /// Compose the map of the first part, from generated to intermediate code, with that of the second, from there to
     /// original code.
     Compose(Box<Plan<'t>>, Box<Plan<'t>>),
-}
-
-/// Why a plan is not evaluated, or a position not traced.
-#[derive(Clone, Copy, Debug, PartialEq, Eq)]
-pub enum PlanError {
-    /// An operation on a map failed with this error.
-    Map(Error),
-    /// The tokens of a map are not sorted by generated line and column.
-    Unsorted,
-    /// The plan is deeper than 64.
-    TooDeep,
-}
-
-impl fmt::Display for PlanError {
-    ghost output = { λ error. Some (plan_error_text error) };
-
-    fn fmt<W: fmt::Write>(&self, f: &mut fmt::Formatter<W>) -> fmt::Result {
-        match self {
-            PlanError::Map(error) => write!(f, "{error}"),
-            PlanError::Unsorted => write!(f, "Tokens are not in order of line and column"),
-            PlanError::TooDeep => write!(f, "The plan is deeper than 64"),
-        }
-    }
-}
-
-impl std::error::Error for PlanError {}
-
-impl From<Error> for PlanError {
-    ghost from_gives = { λ error plan. plan ≡ Map error };
-
-    fn from(error: Error) -> PlanError {
-        PlanError::Map(error)
-    }
-}
-
-impl From<AllocError> for PlanError {
-    ghost from_gives = { λ _ plan. plan ≡ Map OutOfMemory };
-
-    fn from(_: AllocError) -> PlanError {
-        PlanError::Map(Error::OutOfMemory)
-    }
-}
-
-impl<T: Drop> From<AllocFailed<T>> for PlanError {
-    ghost from_gives = { λ _ plan. plan ≡ Map OutOfMemory };
-
-    fn from(_: AllocFailed<T>) -> PlanError {
-        PlanError::Map(Error::OutOfMemory)
-    }
 }
 
 /// Whether a plan is at most so deep. A plan without parts has depth 1.

@@ -1,13 +1,13 @@
 -- Plans of words and texts.
 use Rattle.std.proofs.Common.{◌≡◌, ◌≢◌, ◌⊎◌, inl, inr, Result, Ok, Err, refl, sym, ap, subst, ◌∙◌}
-use Rattle.oxc_sourcemap.specs.Error.TheVariants.{OutOfMemory}
-use Rattle.oxc_sourcemap.specs.PlanError.{PlanError}
-use Rattle.oxc_sourcemap.specs.PlanError.TheVariants.{Map}
+use Rattle.oxc_sourcemap_error.specs.declared.error.Error.TheVariants.{OutOfMemory}
+use Rattle.oxc_sourcemap_error.specs.declared.plan_error.PlanError.{PlanError}
+use Rattle.oxc_sourcemap_error.specs.declared.plan_error.PlanError.TheVariants.{Map}
 use Rattle.std.specs.Prelude.{IsUtf8}
 use Rattle.std.specs.Result.{IfErr}
-use Rattle.oxc_sourcemap.specs.Record.{Text, MapRecord}
-use Rattle.oxc_sourcemap.specs.Outcome.{Outcome}
-use Rattle.oxc_sourcemap.specs.Evaluated.{IsEvaluated, IsFailure}
+use Rattle.oxc_sourcemap_parts.specs.Record.{Text, MapRecord}
+use Rattle.oxc_sourcemap_plan.specs.Outcome.{Outcome}
+use Rattle.oxc_sourcemap_plan.specs.Evaluated.{IsEvaluated, IsFailure}
 use Rattle.smap_arguments.specs.declared.run_error.RunError.{RunError}
 use Rattle.smap_arguments.specs.Refusals.{out_of_memory as run_out_of_memory}
 use Rattle.oxc_sourcemap_faults.specs.declared.refusal.Refusal.{Refusal}

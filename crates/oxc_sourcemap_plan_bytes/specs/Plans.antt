@@ -1,10 +1,10 @@
 -- Plans: words separated by single spaces, over texts that lines of exactly `---` part.
 use Rattle.std.specs.Prelude.{◌≡◌, ◌==◌, ◌⊎◌, ℕ, List, Result, Ok, Err, IsUtf8}
 use Rattle.std.specs.List.{slice_split}
-use Rattle.oxc_sourcemap.specs.Record.{Text, MapRecord}
-use Rattle.oxc_sourcemap.specs.PlanError.{PlanError}
-use Rattle.oxc_sourcemap.specs.Outcome.{Outcome}
-use Rattle.oxc_sourcemap.specs.Evaluated.{IsEvaluated, IsFailure}
+use Rattle.oxc_sourcemap_parts.specs.Record.{Text, MapRecord}
+use Rattle.oxc_sourcemap_error.specs.declared.plan_error.PlanError.{PlanError}
+use Rattle.oxc_sourcemap_plan.specs.Outcome.{Outcome}
+use Rattle.oxc_sourcemap_plan.specs.Evaluated.{IsEvaluated, IsFailure}
 use Rattle.smap_arguments.specs.declared.run_error.RunError.{RunError}
 use Rattle.smap_arguments.specs.declared.run_error.RunError.TheVariants.{Plan as PlanFails, Read, Write, Utf8, Arguments, NoText as NoInput}
 use Rattle.smap_arguments.specs.PlanInputs.{inputs_of}

@@ -3,8 +3,9 @@ ghost use Rattle.std.specs.Prelude.{◌≡◌, ◌≢◌, map, string_bytes, IfO
 ghost use Rattle.oxc_sourcemap_faults.specs.Refusals.{out_of_memory};
 ghost use Rattle.oxc_sourcemap_plan_bytes.specs.Plans.{words_of, plan_of, refusal_of_run, IsPlanMap, IsPlanFailure, IsPlanRefusal};
 
-use oxc_sourcemap::{OwnedSourceMap, evaluate};
 use oxc_sourcemap_faults::{Refusal, text_of};
+use oxc_sourcemap_map::OwnedSourceMap;
+use oxc_sourcemap_plan::evaluate;
 use smap_arguments::{RunError, inputs_of, read_plan};
 use std::alloc::{AllocError, Global};
 

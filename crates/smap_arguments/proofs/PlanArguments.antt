@@ -1,19 +1,19 @@
 -- What arguments say, step by step.
 use Rattle.std.proofs.Common.{◌≡◌, ◌≢◌, ℕ, zero, suc, ◌+◌, ◌-◌, ◌<◌, ◌≤◌, String, string_bytes, length, length, true, false, cond, ◌==◌, List, [], ◌∷◌, ◌++◌, map, codes, refl, sym, ap, ◌∙◌, arith, Some, None, Ok, Err, bytes_eq}
-use Rattle.oxc_sourcemap.specs.Record.{Text}
+use Rattle.oxc_sourcemap_parts.specs.Record.{Text}
 use Rattle.std.specs.declared.alloc.Global.{Global}
 use Rattle.std.specs.Cmp.Lexicographic.{bytes_decides}
 use Rattle.std.proofs.lemmas.Bool.{false_from_ne_true}
 use Rattle.std.proofs.lemmas.List.{append_assoc, append-nil}
 use Rattle.std.specs.List.{slice_get}
 use Rattle.std.proofs.lemmas.Bool.Decides.{nat_tests}
-use Rattle.oxc_sourcemap.specs.ReadMap.{said_in}
+use Rattle.oxc_sourcemap_sections.specs.ReadMap.{said_in}
 use Rattle.smap_arguments.specs.Arguments.{number_of}
-use Rattle.oxc_sourcemap.specs.Depth.{deepest}
-use Rattle.oxc_sourcemap.specs.Joined.{Offset}
+use Rattle.oxc_sourcemap_plan.specs.Depth.{deepest}
+use Rattle.oxc_sourcemap_join.specs.Joined.{Offset}
 use Rattle.smap_arguments.specs.declared.run_error.RunError.{RunError}
 use Rattle.smap_arguments.specs.declared.run_error.RunError.TheVariants.{Arguments, NoText}
-use Rattle.oxc_sourcemap.specs.Outcome.{Outcome, read_outcome, rewrite_outcome, join_outcome, composition_outcome}
+use Rattle.oxc_sourcemap_plan.specs.Outcome.{Outcome, read_outcome, rewrite_outcome, join_outcome, composition_outcome}
 use Rattle.smap_arguments.specs.PlanArguments.{Parsed, whole, then_parsed, parsed_number, parsed_line, parsed_position, read_or_fault, read_of_number, parsed_input, with_rest, parsed_parts, parsed_join, parsed_by, parsed_part}
 
 pub part-named : (inputs : List Text) (room : ℕ) (argument : Text) (arguments : List Text) → room ≢ 0 → parsed_part inputs room (argument ∷ arguments) ≡ parsed_by inputs (parsed_part inputs (room - 1)) argument arguments

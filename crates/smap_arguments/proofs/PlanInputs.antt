@@ -7,7 +7,7 @@ use Rattle.std.proofs.Math.Seq.{drop-append_seam}
 use Rattle.std.proofs.lemmas.List.{append_assoc, length-append}
 use Rattle.std.proofs.lemmas.List.Elements.{All-nil, All-cons}
 use Rattle.std.proofs.lemmas.List.Splits.{slice_split-cons_yes, slice_split_none, slice_split_at, length-slice_split, join_with_byte-slice_split}
-use Rattle.oxc_sourcemap.specs.Record.{Text}
+use Rattle.oxc_sourcemap_parts.specs.Record.{Text}
 use Rattle.smap_arguments.specs.PlanInputs.{input_lines, is_parting, inputs_of}
 
 abbrev dashes : Text

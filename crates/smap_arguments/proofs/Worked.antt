@@ -1,7 +1,7 @@
 -- Worked examples of what plans mean, and of their arguments and texts, computed by the definitions themselves.
 use Rattle.std.specs.Prelude.{◌≡◌, refl, ℕ, zero, suc, length, List, [], ◌∷◌, codes, Some, None, Err}
-use Rattle.oxc_sourcemap.specs.Record.{Text}
-use Rattle.oxc_sourcemap.specs.PlanError.TheVariants.{TooDeep}
+use Rattle.oxc_sourcemap_parts.specs.Record.{Text}
+use Rattle.oxc_sourcemap_error.specs.declared.plan_error.PlanError.TheVariants.{TooDeep}
 use Rattle.smap_arguments.specs.declared.run_error.RunError.TheVariants.{Plan, Arguments, NoText}
 use Rattle.smap_arguments.specs.Arguments.{number_of}
 use Rattle.smap_arguments.specs.PlanInputs.{inputs_of}

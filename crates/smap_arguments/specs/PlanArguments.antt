@@ -1,14 +1,14 @@
 -- The plan that arguments say, by its outcome. They are read from the left, up to the first fault.
 use Rattle.std.specs.Prelude.{ℕ, zero, suc, List, [], ◌∷◌, codes, slice_get, Option, Some, None, Result, Ok, Err, if◌then◌else◌, ◌==◌}
 use Rattle.std.specs.Str.{bytes_eq}
-use Rattle.oxc_sourcemap.specs.Record.{Text}
-use Rattle.oxc_sourcemap.specs.ReadMap.{said_in}
-use Rattle.oxc_sourcemap.specs.Joined.{Offset, at_line}
-use Rattle.oxc_sourcemap.specs.PlanError.TheVariants.{TooDeep}
+use Rattle.oxc_sourcemap_parts.specs.Record.{Text}
+use Rattle.oxc_sourcemap_sections.specs.ReadMap.{said_in}
+use Rattle.oxc_sourcemap_join.specs.Joined.{Offset, at_line}
+use Rattle.oxc_sourcemap_error.specs.declared.plan_error.PlanError.TheVariants.{TooDeep}
 use Rattle.smap_arguments.specs.declared.run_error.RunError.{RunError}
 use Rattle.smap_arguments.specs.declared.run_error.RunError.TheVariants.{Plan, Arguments, NoText}
 use Rattle.smap_arguments.specs.Arguments.{number_of}
-use Rattle.oxc_sourcemap.specs.Outcome.{Outcome, read_outcome, rewrite_outcome, join_outcome, composition_outcome}
+use Rattle.oxc_sourcemap_plan.specs.Outcome.{Outcome, read_outcome, rewrite_outcome, join_outcome, composition_outcome}
 
 -- What the first arguments say, and the arguments that are left.
 abbrev pub Parsed : Type 0 → Type 0

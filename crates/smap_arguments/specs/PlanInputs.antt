@@ -2,7 +2,7 @@
 use Rattle.std.specs.Prelude.{◌==◌, Bool, List, map, codes}
 use Rattle.std.specs.Str.{bytes_eq}
 use Rattle.std.specs.List.{slice_split, join_with_byte}
-use Rattle.oxc_sourcemap.specs.Record.{Text}
+use Rattle.oxc_sourcemap_parts.specs.Record.{Text}
 
 -- what stands between line feeds
 abbrev pub input_lines : Text → List Text

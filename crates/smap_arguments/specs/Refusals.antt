@@ -1,8 +1,8 @@
 -- The texts of the program's refusals, as bytes, and the status that it ends with.
 use Rattle.std.specs.Prelude.{ℕ, Bool, true, false, List, ◌++◌, codes, decimal}
-use Rattle.oxc_sourcemap.specs.Error.TheVariants.{OutOfMemory}
-use Rattle.oxc_sourcemap.specs.PlanMessages.{plan_error_text}
-use Rattle.oxc_sourcemap.specs.PlanError.TheVariants.{Map}
+use Rattle.oxc_sourcemap_error.specs.declared.error.Error.TheVariants.{OutOfMemory}
+use Rattle.oxc_sourcemap_error.specs.PlanMessages.{plan_error_text}
+use Rattle.oxc_sourcemap_error.specs.declared.plan_error.PlanError.TheVariants.{Map}
 use Rattle.smap_arguments.specs.declared.run_error.RunError.{RunError}
 use Rattle.smap_arguments.specs.declared.run_error.RunError.TheVariants.{Plan, Read, Write, Utf8, Arguments, NoText}
 

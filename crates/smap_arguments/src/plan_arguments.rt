@@ -1,14 +1,15 @@
 //! The arguments of a plan, and its inputs.
 ghost use Rattle.std.specs.Prelude.{◌≡◌, ◌≢◌, ◌≤◌, ◌<◌, ◌+◌, ◌∷◌, [], false, length, map, string_bytes, Ok, Err, option_map, slice_get, MatchOption, IfOk, IfErr, IfSome};
 ghost use Rattle.smap_arguments.specs.Refusals.{out_of_memory, is_of_port};
-ghost use Rattle.oxc_sourcemap.specs.Depth.{depth};
-ghost use Rattle.oxc_sourcemap.specs.Outcome.{outcome_of, outcome};
+ghost use Rattle.oxc_sourcemap_plan.specs.Depth.{depth};
+ghost use Rattle.oxc_sourcemap_plan.specs.Outcome.{outcome_of, outcome};
 ghost use Rattle.smap_arguments.specs.PlanInputs.{inputs_of};
 ghost use Rattle.smap_arguments.specs.PlanArguments.{parsed_number, parsed_line, parsed_position, parsed_input, parsed_join, parsed_part, parsed_plan};
 
 use crate::arguments::read_number;
 use crate::run_error::RunError;
-use oxc_sourcemap::{Plan, PlanError};
+use oxc_sourcemap_error::PlanError;
+use oxc_sourcemap_plan::Plan;
 use std::alloc::{AllocError, Global};
 
 /// The text before the first line that is exactly `---`, and what comes after that line. If there is no such line, the text is

@@ -1,10 +1,10 @@
 //! Why a command fails.
 ghost use Rattle.std.specs.Prelude.{◌≡◌, Some};
-ghost use Rattle.oxc_sourcemap.specs.PlanError.TheVariants.{Map};
+ghost use Rattle.oxc_sourcemap_error.specs.declared.plan_error.PlanError.TheVariants.{Map};
 ghost use Rattle.smap_arguments.specs.declared.run_error.RunError.TheVariants.{Plan};
 ghost use Rattle.smap_arguments.specs.Refusals.{run_error_text, status_of, out_of_memory};
 
-use oxc_sourcemap::{Error, PlanError};
+use oxc_sourcemap_error::{Error, PlanError};
 use std::alloc::{AllocError, AllocFailed};
 use std::fmt;
 

@@ -1,5 +1,5 @@
 use Rattle.std.proofs.Common.{◌≡◌}
-use Rattle.oxc_sourcemap.specs.Joined.{at_positions, added_all, joined, IsWithinLimits}
+use Rattle.oxc_sourcemap_join.specs.Joined.{at_positions, added_all, joined, IsWithinLimits}
 use Rattle.oxc_sourcemap_handles.proofs.joins.joined_map.Given as goal
 
 abbrev pub invariant-loop-map : goal.invariant-loop-map

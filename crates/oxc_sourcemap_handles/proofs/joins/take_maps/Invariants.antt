@@ -1,5 +1,5 @@
 use Rattle.std.proofs.Common.{◌≡◌, drop}
-use Rattle.oxc_sourcemap.specs.Joined.{at_positions}
+use Rattle.oxc_sourcemap_join.specs.Joined.{at_positions}
 use Rattle.oxc_sourcemap_handles.specs.Joins.{all_held, placed_maps}
 use Rattle.oxc_sourcemap_handles.proofs.Joining.{after}
 use Rattle.oxc_sourcemap_handles.proofs.joins.take_maps.Given as goal

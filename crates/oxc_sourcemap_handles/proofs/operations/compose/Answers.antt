@@ -1,7 +1,7 @@
 use Rattle.std.proofs.Common.{◌≡◌, ap, Ok}
-use Rattle.oxc_sourcemap.specs.Composed.{composition, SomeComposition, NoColumnGoesBack}
+use Rattle.oxc_sourcemap_compose.specs.Composed.{composition, SomeComposition, NoColumnGoesBack}
 use Rattle.oxc_sourcemap_faults.specs.declared.refusal.Refusal.TheVariants.{Plan}
-use Rattle.oxc_sourcemap.specs.PlanError.TheVariants.{Map}
+use Rattle.oxc_sourcemap_error.specs.declared.plan_error.PlanError.TheVariants.{Map}
 use Rattle.oxc_sourcemap_handles.specs.Holding.{held_map}
 use Rattle.oxc_sourcemap_faults.specs.Refusals.{of_map}
 use Rattle.oxc_sourcemap_error.proofs.Carried.{carried_error}

@@ -1,5 +1,5 @@
 use Rattle.std.proofs.Common.{◌≡◌, map, string_bytes, ap, sym, ◌∙◌, Ok}
-use Rattle.oxc_sourcemap.specs.Outcome.{outcome}
+use Rattle.oxc_sourcemap_plan.specs.Outcome.{outcome}
 use Rattle.oxc_sourcemap_faults.specs.declared.refusal.Refusal.TheVariants.{Plan}
 use Rattle.smap_arguments.specs.PlanInputs.{inputs_of}
 use Rattle.smap_arguments.specs.PlanArguments.{parsed_plan}

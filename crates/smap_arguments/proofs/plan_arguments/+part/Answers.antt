@@ -1,10 +1,10 @@
 use Rattle.std.proofs.Common.{ℕ, ◌-◌, ◌+◌, ◌≤◌, List, [], ◌∷◌, map, string_bytes, ap, sym, ◌∙◌, subst, arith, Ok, Err}
 use Rattle.std.proofs.lemmas.List.{map-append}
 use Rattle.std.proofs.lemmas.Result.{IfOk-weaker, IfErr-weaker}
-use Rattle.oxc_sourcemap.specs.Plan.{Plan}
-use Rattle.oxc_sourcemap.specs.Joined.{at_line, at_lines, at_positions}
-use Rattle.oxc_sourcemap.specs.Depth.{depth, deepest}
-use Rattle.oxc_sourcemap.specs.Outcome.{outcome_of, outcomes, rewrite_outcome, composition_outcome}
+use Rattle.oxc_sourcemap_plan.specs.declared.plan.Plan.{Plan}
+use Rattle.oxc_sourcemap_join.specs.Joined.{at_line, at_lines, at_positions}
+use Rattle.oxc_sourcemap_plan.specs.Depth.{depth, deepest}
+use Rattle.oxc_sourcemap_plan.specs.Outcome.{outcome_of, outcomes, rewrite_outcome, composition_outcome}
 use Rattle.smap_arguments.specs.PlanArguments.{then_parsed, parsed_line, parsed_position, parsed_part, with_rest}
 use Rattle.oxc_sourcemap_plan.proofs.Parts.{from_err}
 use Rattle.oxc_sourcemap_plan.proofs.Plans.{outcomes-lines-pushed, outcomes-positions-pushed, depth_join, depth_join_at, outcome_rewrite, outcome_join, outcome_join_at, outcome_compose}

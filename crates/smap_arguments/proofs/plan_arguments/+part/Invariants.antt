@@ -1,8 +1,8 @@
 use Rattle.std.proofs.Common.{◌≡◌, ◌≤◌, ◌-◌, ◌+◌, map, string_bytes}
-use Rattle.oxc_sourcemap.specs.Depth.{depth, deepest}
-use Rattle.oxc_sourcemap.specs.Joined.{at_lines, at_positions}
+use Rattle.oxc_sourcemap_plan.specs.Depth.{depth, deepest}
+use Rattle.oxc_sourcemap_join.specs.Joined.{at_lines, at_positions}
 use Rattle.smap_arguments.specs.PlanArguments.{parsed_line, parsed_position, parsed_parts, parsed_part}
-use Rattle.oxc_sourcemap.specs.Outcome.{outcomes}
+use Rattle.oxc_sourcemap_plan.specs.Outcome.{outcomes}
 use Rattle.smap_arguments.proofs.PlanArguments.{left_after}
 use Rattle.smap_arguments.proofs.plan_arguments.+part.Given as goal
 

@@ -1,5 +1,5 @@
 use Rattle.std.proofs.Common.{ap, ◌∙◌, arith}
-use Rattle.oxc_sourcemap.specs.Outcome.{outcome_of}
+use Rattle.oxc_sourcemap_plan.specs.Outcome.{outcome_of}
 use Rattle.smap_arguments.specs.PlanArguments.{whole}
 use Rattle.smap_arguments.proofs.PlanArguments.{whole-left}
 use Rattle.smap_arguments.proofs.plan_arguments.read_plan.Goals as goal

@@ -1,8 +1,8 @@
 -- The texts of what the evaluation of a plan refuses, as bytes.
 use Rattle.std.specs.Prelude.{ℕ, List, codes}
 use Rattle.oxc_sourcemap_error.specs.Messages.{error_text}
-use Rattle.oxc_sourcemap_plan.specs.declared.plan.PlanError.{PlanError}
-use Rattle.oxc_sourcemap_plan.specs.declared.plan.PlanError.TheVariants.{Map, Unsorted, TooDeep}
+use Rattle.oxc_sourcemap_error.specs.declared.plan_error.PlanError.{PlanError}
+use Rattle.oxc_sourcemap_error.specs.declared.plan_error.PlanError.TheVariants.{Map, Unsorted, TooDeep}
 
 abbrev pub plan_error_text : PlanError → List ℕ
 plan_error_text (Map error) = error_text error

@@ -7,14 +7,14 @@ use oxc_sourcemap::Error;
 use refusals_builders::builders::{
     Add, add_to_builder, finish_builder, finish_builder_owned, set_file_copied,
 };
-use refusals_builders::faults::{
-    IGNORED, VERSION, compose_faulty, join_faulty, make_faulty_table, read_faulty, write_faulty,
-};
-use refusals_builders::joins::{
-    Join, add_to_join, finish_join, finish_join_owned, join_lent, join_moved, take_room,
-};
 use refusals_builders::takes_none::{
     get_fields, get_owned_fields, look_up, make_empty, make_values, walk, wrap,
+};
+use refusals_joins::faults::{
+    IGNORED, VERSION, compose_faulty, join_faulty, make_faulty_table, read_faulty, write_faulty,
+};
+use refusals_joins::joins::{
+    Join, add_to_join, finish_join, finish_join_owned, join_lent, join_moved, take_room,
 };
 use refusals_maps::fields::{Setter, set_field, set_owned_field};
 use refusals_maps::indexed::{read_file, read_indexed};

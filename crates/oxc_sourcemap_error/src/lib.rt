@@ -1,6 +1,6 @@
 //! The errors of the port of `oxc_sourcemap`, and the strings that they print.
 //!
-//! This is the lowest crate of the port. Users name the crate `oxc_sourcemap`, which re-exports what is meant for them.
+//! No crate of the port lies below this one. Users name the crate `oxc_sourcemap`, which re-exports what is meant for them.
 #![tactic(auto)]
 
 mod error;

@@ -1,43 +1,51 @@
-// Refuses requests for memory of a program into which it is loaded (LD_PRELOAD). ./check-memory compiles and loads it.
+// Refuses requests for memory of the tests, which are linked with it (./check-tests): it stands between them and the allocator
+// of C. tests/refusals/memory.rs says what these functions do.
 //
-// Requests are counted from the line `call` on standard error to the line `answer`. REFUSE=N refuses the Nth of them, counted
-// from 1, REFUSE=N+ that one and all after it, and REFUSE=0 none. When the program ends, standard error gets a line that tells
-// how many requests were counted and refused, and how many blocks were never given back.
+// The tests are watched by AddressSanitizer, whose allocator is there under names of its own.
 #include <errno.h>
 #include <stddef.h>
-#include <stdio.h>
-#include <stdlib.h>
-#include <string.h>
-#include <sys/syscall.h>
-#include <unistd.h>
+#include <stdint.h>
 
-// The allocator of glibc under its own names.
-void *__libc_malloc(size_t size);
-void *__libc_calloc(size_t count, size_t size);
-void *__libc_realloc(void *block, size_t size);
-void __libc_free(void *block);
+void *__interceptor_malloc(size_t size);
+void *__interceptor_calloc(size_t count, size_t size);
+void *__interceptor_realloc(void *block, size_t size);
+void __interceptor_free(void *block);
 
-static long requests, refused, kept, at;
-static int is_counting, goes_on;
+static uint64_t first, last, requests, refused, blocks;
+static int is_counting;
 
-__attribute__((constructor)) static void begin(void) {
-    const char *said = getenv("REFUSE");
-    char *rest = "";
-    at = said ? strtol(said, &rest, 10) : 0;
-    goes_on = *rest == '+';
+void begin_call(void) {
+    requests = 0;
+    refused = 0;
+    is_counting = 1;
 }
 
-__attribute__((destructor)) static void end(void) {
-    char line[120];
-    int length = snprintf(line, sizeof line, "requests=%ld refused=%ld kept=%ld\n", requests, refused, kept);
-    syscall(SYS_write, 2, line, length);
+void end_call(void) {
+    is_counting = 0;
+}
+
+void refuse_requests(uint64_t from, uint64_t to) {
+    first = from;
+    last = to;
+}
+
+uint64_t requests_made(void) {
+    return requests;
+}
+
+uint64_t requests_refused(void) {
+    return refused;
+}
+
+uint64_t blocks_in_use(void) {
+    return blocks;
 }
 
 static int is_refused(void) {
     if (!is_counting)
         return 0;
     requests++;
-    if (at == 0 || (goes_on ? requests < at : requests != at))
+    if (requests < first || requests > last)
         return 0;
     refused++;
     errno = ENOMEM;
@@ -45,33 +53,25 @@ static int is_refused(void) {
 }
 
 static void *given(void *block) {
-    kept += block != NULL;
+    blocks += block != NULL;
     return block;
 }
 
 void *malloc(size_t size) {
-    return is_refused() ? NULL : given(__libc_malloc(size));
+    return is_refused() ? NULL : given(__interceptor_malloc(size));
 }
 
 void *calloc(size_t count, size_t size) {
-    return is_refused() ? NULL : given(__libc_calloc(count, size));
+    return is_refused() ? NULL : given(__interceptor_calloc(count, size));
 }
 
 void *realloc(void *block, size_t size) {
     if (is_refused())
         return NULL;
-    return block ? __libc_realloc(block, size) : given(__libc_malloc(size));
+    return block ? __interceptor_realloc(block, size) : given(__interceptor_malloc(size));
 }
 
 void free(void *block) {
-    kept -= block != NULL;
-    __libc_free(block);
-}
-
-ssize_t write(int file, const void *bytes, size_t count) {
-    if (file == 2 && count == 5 && !memcmp(bytes, "call\n", 5))
-        is_counting = 1;
-    if (file == 2 && count == 7 && !memcmp(bytes, "answer\n", 7))
-        is_counting = 0;
-    return syscall(SYS_write, file, bytes, count);
+    blocks -= block != NULL;
+    __interceptor_free(block);
 }

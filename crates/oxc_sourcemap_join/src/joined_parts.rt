@@ -261,6 +261,41 @@ struct Addition {
     chunk: TokenChunk,
 }
 
+/// How many names, sources and tokens a map adds to a join.
+#[derive(Clone, Copy)]
+struct Counts {
+    names: usize,
+    sources: usize,
+    tokens: usize,
+}
+
+/// Takes room in the lists of a join for this many names, sources with their contents, and tokens, and for a chunk.
+fn make_room<'a>(
+    names: &mut Vec<CowStr<'a>>,
+    sources: &mut Vec<CowStr<'a>>,
+    contents: &mut Vec<Option<CowStr<'a>>>,
+    tokens: &mut Vec<Token>,
+    chunks: &mut Vec<TokenChunk>,
+    counts: Counts,
+) -> std::result::Result<(), AllocError>
+    ensures names { names.new.items ≡ names.old.items }
+    ensures sources { sources.new.items ≡ sources.old.items }
+    ensures contents { contents.new.items ≡ contents.old.items }
+    ensures tokens { tokens.new.items ≡ tokens.old.items }
+    ensures chunks { chunks.new.items ≡ chunks.old.items }
+    ensures room_for_names { OnOk result (vec_len names.new + counts.names ≤ vec_capacity names.new) }
+    ensures room_for_sources { OnOk result (vec_len sources.new + counts.sources ≤ vec_capacity sources.new) }
+    ensures room_for_contents { OnOk result (vec_len contents.new + counts.sources ≤ vec_capacity contents.new) }
+    ensures room_for_tokens { OnOk result (vec_len tokens.new + counts.tokens ≤ vec_capacity tokens.new) }
+    ensures room_for_chunk { OnOk result (vec_len chunks.new + 1 ≤ vec_capacity chunks.new) }
+{
+    names.reserve(counts.names)?;
+    sources.reserve(counts.sources)?;
+    contents.reserve(counts.sources)?;
+    tokens.reserve(counts.tokens)?;
+    chunks.reserve(1)
+}
+
 // Each of these calls `push_` is made where there is room for what it adds.
 
 /// Adds names, borrowed.
@@ -526,11 +561,18 @@ impl<'a> JoinedParts<'a> {
         };
         let kept = &parts.tokens.as_slice()[addition.passed..];
         let source_count = parts.sources.len();
-        self.names.reserve(parts.names.len())?;
-        self.sources.reserve(source_count)?;
-        self.source_contents.reserve(source_count)?;
-        self.tokens.reserve(kept.len())?;
-        self.token_chunks.reserve(1)?;
+        make_room(
+            &mut self.names,
+            &mut self.sources,
+            &mut self.source_contents,
+            &mut self.tokens,
+            &mut self.token_chunks,
+            Counts {
+                names: parts.names.len(),
+                sources: source_count,
+                tokens: kept.len(),
+            },
+        )?;
         let shift = addition.shift;
         let ignored = parts.ignore_list.as_deref();
         shift.add_ignore_list(self.alloc, &mut self.ignore_list, ignored)?;
@@ -569,11 +611,18 @@ impl<'a> JoinedParts<'a> {
         } = parts;
         let kept = &tokens.as_slice()[addition.passed..];
         let count = sources.len();
-        self.names.reserve(names.len())?;
-        self.sources.reserve(count)?;
-        self.source_contents.reserve(count)?;
-        self.tokens.reserve(kept.len())?;
-        self.token_chunks.reserve(1)?;
+        make_room(
+            &mut self.names,
+            &mut self.sources,
+            &mut self.source_contents,
+            &mut self.tokens,
+            &mut self.token_chunks,
+            Counts {
+                names: names.len(),
+                sources: count,
+                tokens: kept.len(),
+            },
+        )?;
         let shift = addition.shift;
         let list = ignore_list.as_deref();
         shift.add_ignore_list(self.alloc, &mut self.ignore_list, list)?;

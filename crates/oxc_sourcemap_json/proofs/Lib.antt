@@ -1,3 +1,4 @@
-pub mod ReadSound
 pub mod Moving
+pub mod ReadSound
+pub mod Steps
 mod Worked

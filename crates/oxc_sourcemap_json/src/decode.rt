@@ -67,6 +67,32 @@ fn owned_contents(
     Ok(moved)
 }
 
+/// The lists of strings of a map.
+#[derive(Drop)]
+struct Lists {
+    names: Vec<CowStr<'static>>,
+    sources: Vec<CowStr<'static>>,
+    contents: Vec<Option<CowStr<'static>>>,
+}
+
+/// Lists of strings, moved.
+fn owned_lists(
+    alloc: Global,
+    names: Vec<String>,
+    sources: Vec<String>,
+    contents: Option<Vec<Option<String>>>,
+) -> std::result::Result<Lists, AllocError>
+    ensures names { IfOk result (λ lists. texts_of lists.names ≡ map string_bytes names.items) }
+    ensures sources { IfOk result (λ lists. texts_of lists.sources ≡ map string_bytes sources.items) }
+    ensures contents { IfOk result (λ lists. contents_of lists.contents ≡ unwrap_or (json_contents contents) []) }
+{
+    Ok(Lists {
+        names: owned_texts(alloc, names)?,
+        sources: owned_texts(alloc, sources)?,
+        contents: owned_contents(alloc, contents)?,
+    })
+}
+
 /// What is wrong with a JSON source map besides its mappings, if anything is.
 fn json_fault(json: &JSONSourceMap) -> Option<Error>
     ensures { result ≡ json_fault (json_record json.now) }
@@ -103,12 +129,13 @@ pub fn decode_parts(alloc: Global, json: JSONSourceMap) -> Result<SourceMapParts
         json.names.len(),
         json.sources.len(),
     )?;
+    let lists = owned_lists(alloc, json.names, json.sources, json.sources_content)?;
     Ok(SourceMapParts {
         file: owned(json.file),
-        names: owned_texts(alloc, json.names)?,
+        names: lists.names,
         source_root: owned(json.source_root),
-        sources: owned_texts(alloc, json.sources)?,
-        source_contents: owned_contents(alloc, json.sources_content)?,
+        sources: lists.sources,
+        source_contents: lists.contents,
         tokens,
         token_chunks: None,
         ignore_list: json.ignore_list,

@@ -233,16 +233,11 @@ impl JSONSourceMap {
     /// - `debugId`: `Shape(DebugId)` unless it is a string, null or missing;
     /// - `ignoreList`: `Shape(IgnoreList)` unless it is a list of whole numbers of 0 to 4294967295, null or missing; if it is
     ///   null or missing, `x_google_ignoreList` in its place, with `Shape(GoogleIgnoreList)`.
-    #[tactic(auto, unfolding(crate::specs::Shape::shape))]
     pub fn from_value(alloc: Global, value: &Value) -> Result<JSONSourceMap>
         ensures json { IfOk result (λ json. shape (view value.now) ≡ Ok (json_record json)) }
         ensures refused { IfErr result (λ e. (e ≢ OutOfMemory) → shape (view value.now) ≡ Err e) }
     {
-        if !value.is_object() {
-            return Err(Error::BadJson(JsonFault::Shape(Field::Object)));
-        }
-        let version = read_version(value.get("version"))?;
-        let file = optional_text(alloc, value, "file", Field::File)?;
+        let file = file_from_value(alloc, value)?;
         let mappings = read_mappings(alloc, value)?;
         let source_root = optional_text(alloc, value, "sourceRoot", Field::SourceRoot)?;
         let sources = read_sources(alloc, value)?;
@@ -251,7 +246,7 @@ impl JSONSourceMap {
         let debug_id = optional_text(alloc, value, "debugId", Field::DebugId)?;
         let ignore_list = read_ignore_list(alloc, value)?;
         Ok(JSONSourceMap {
-            version,
+            version: 3,
             file,
             mappings,
             source_root,

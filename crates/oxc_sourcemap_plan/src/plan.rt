@@ -90,9 +90,9 @@ fn read(alloc: Global, text: &str) -> Result<SourceMap<'static>, PlanError>
 
 /// A map, written and read again.
 #[inline(never)]
-fn rewrite(alloc: Global, map: SourceMap<'static>) -> Result<SourceMap<'static>, PlanError>
-    ensures map { IfOk result (λ m. (o : Outcome) → Realizes map.entry o → Realizes m (rewrite_outcome o)) }
-    ensures refused { IfErr result (λ e. (o : Outcome) → Realizes map.entry o → FailsAs e (rewrite_outcome o)) }
+fn rewrite(alloc: Global, map: &SourceMap<'_>) -> Result<SourceMap<'static>, PlanError>
+    ensures map { IfOk result (λ m. (o : Outcome) → Realizes map.now o → Realizes m (rewrite_outcome o)) }
+    ensures refused { IfErr result (λ e. (o : Outcome) → Realizes map.now o → FailsAs e (rewrite_outcome o)) }
 {
     canonical_unique();
     let json = map.to_json(alloc)?;
@@ -182,7 +182,8 @@ fn evaluate_rewrite(alloc: Global, part: &Plan<'_>) -> Result<SourceMap<'static>
     ensures map { IfOk result (λ map. Realizes map (rewrite_outcome (outcome_of part.now))) }
     ensures refused { IfErr result (λ e. FailsAs e (rewrite_outcome (outcome_of part.now))) }
 {
-    rewrite(alloc, evaluate_part(alloc, part)?)
+    let map = evaluate_part(alloc, part)?;
+    rewrite(alloc, &map)
 }
 
 /// The join of the maps of parts, each at its line.

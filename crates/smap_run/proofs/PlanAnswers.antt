@@ -16,14 +16,14 @@ use Rattle.smap_arguments.specs.declared.run_error.RunError.{RunError}
 use Rattle.smap_arguments.specs.declared.run_error.RunError.TheVariants.{Plan}
 use Rattle.smap_arguments.specs.Refusals.{out_of_memory}
 use Rattle.oxc_sourcemap.specs.Outcome.{Outcome}
-use Rattle.oxc_sourcemap.specs.Evaluated.{IsEvaluated}
+use Rattle.oxc_sourcemap.specs.Evaluated.{IsEvaluated, IsFailure}
 use Rattle.smap_run.specs.Answer.{IsPlanAnswer, IsPlanRefusal}
 
 pub words_refused : (r : Result Outcome RunError) (f e : RunError) → r ≡ Err f → e ≡ f → IsPlanRefusal r e
 words_refused r f e p q = subst (λ r. IsPlanRefusal r e) (sym p) q
 
-pub evaluation_refused : (r : Result Outcome RunError) (o : Outcome) (p : PlanError) (e : RunError) → r ≡ Ok o → e ≡ Plan p → (e ≢ out_of_memory) → (p ≡ Map OutOfMemory) ⊎ ((o.meaning ≡ Err p) ⊎ ((p ≡ Map TooLarge) × (o.is_within_limits ≡ false))) → IsPlanRefusal r e
-evaluation_refused r o p e k h n c = subst (λ r. IsPlanRefusal r e) (sym k) (elim c [ inl m ↦ absurd (n (h ∙ ap (λ x. Plan x) m)) | inr t ↦ (p, h, t) ])
+pub failure_refused : (r : Result Outcome RunError) (o : Outcome) (p : PlanError) (e : RunError) → r ≡ Ok o → e ≡ Plan p → e ≢ out_of_memory → (p ≢ Map OutOfMemory → IsFailure o p) → IsPlanRefusal r e
+failure_refused r o p e k h n f = subst (λ r. IsPlanRefusal r e) (sym k) (p, h, f (λ m. n (h ∙ ap (λ x. Plan x) m)))
 
 text-of : (m : MapRecord) → encoded m ≡ Ok (encoded_record m) → map_text m ≡ Ok (json_text (encoded_record m))
 unfolding map_text
@@ -36,18 +36,18 @@ fault-of m e k = ap (λ r. r >>= (λ j. Ok (json_text j))) k
 same-error : {A : Type 0} (x y : Error) → ◌≡◌ {A = Result A Error} (Err x) (Err y) → x ≡ y
 same-error x y e = cc (e)
 
-pub writing_refused : SoundIsTooLarge → (r : Result Outcome RunError) (o : Outcome) (m : MapRecord) (f : Error) (e : RunError) → r ≡ Ok o → e ≡ Plan (Map f) → (e ≢ out_of_memory) → (f ≢ OutOfMemory → map_text m ≡ Err f)
-    → IsEvaluated m o → IsPlanRefusal r e
-writing_refused law r o m f e k h n refused is =
-    let told = refused (λ q. n (h ∙ ap (λ x. Plan (Map x)) q)) in
-    subst (λ r. IsPlanRefusal r e) (sym k) (elim (cases_lt 4294967295 (length m.tokens)) [
+-- a map that is not written has too many tokens
+pub writing_fails : SoundIsTooLarge → (o : Outcome) (m : MapRecord) (f : Error) → IsEvaluated m o → (f ≢ OutOfMemory → map_text m ≡ Err f) → f ≢ OutOfMemory → IsFailure o (Map f)
+writing_fails law o m f is refused n =
+    let told = refused n in
+    elim (cases_lt 4294967295 (length m.tokens)) [
       | inl l ↦ (let s = same-error f TooLarge (sym told ∙ fault-of m TooLarge (law m is.sound l)) in
-          (Map f, h, inr (ap (λ x. Map x) s, false_from_ne_true o.is_within_limits (λ t. (let most = is.within_limits t in omega arith)))))
+          inr (ap (λ x. Map x) s, false_from_ne_true o.is_within_limits (λ t. (let most = is.within_limits t in omega arith))))
       | inr l ↦ absurd (cc (sym told ∙ text-of m (is.written (omega arith))))
-    ])
+    ]
 
-pub plan_answers : (r : Result Outcome RunError) (o : Outcome) (m : MapRecord) (out : List ℕ) → r ≡ Ok o → IsEvaluated m o → map_text m ≡ Ok out → IsPlanAnswer r out
-plan_answers r o m out k e t = subst (λ r. IsPlanAnswer r out) (sym k) (m, e, t)
+pub plan_answers : (r : Result Outcome RunError) (o : Outcome) (out : List ℕ) → r ≡ Ok o → IsPlanAnswer (Ok o) out → IsPlanAnswer r out
+plan_answers r o out k is = subst (λ r. IsPlanAnswer r out) (sym k) is
 
 -- ---- running
 pub some_weaker : {A : Type 0} (o : Option A) (P Q : A → Type 0) → ((x : A) → P x → Q x) → IfSome o P → IfSome o Q

@@ -8,6 +8,8 @@ ghost use Rattle.smap_arguments.specs.Refusals.{out_of_memory, is_of_port};
 ghost use Rattle.smap_run.specs.Answer.{without_line_feed, mappings_answer, normalised, normalised_url, IsPlanAnswer, IsPlanRefusal, IsAnswer, Refuses, AppendsBeginning};
 ghost use Rattle.oxc_sourcemap.specs.Error.TheVariants.{OutOfMemory};
 ghost use Rattle.oxc_sourcemap.specs.Reading.{reading};
+ghost use Rattle.oxc_sourcemap.specs.Outcome.{outcome};
+ghost use Rattle.oxc_sourcemap.specs.Evaluated.{IsFailure};
 ghost use Rattle.smap_arguments.specs.PlanInputs.{inputs_of};
 ghost use Rattle.smap_arguments.specs.PlanArguments.{parsed_plan};
 ghost use Rattle.smap_arguments.specs.Request.{request_of};
@@ -15,7 +17,9 @@ ghost use Rattle.smap_arguments.specs.Request.{request_of};
 use crate::port::Port;
 use crate::tracing::trace;
 use oxc_sourcemap::laws::canonical_unique;
-use oxc_sourcemap::{Error, SourceMap, decode_mappings, encode_mappings, evaluate};
+use oxc_sourcemap::{
+    Error, Plan, PlanError, SourceMap, decode_mappings, encode_mappings, evaluate,
+};
 use smap_arguments::{Command, RunError, inputs_of, read_plan};
 use std::alloc::{AllocError, Global};
 use std::io::{Read, Write};
@@ -100,7 +104,7 @@ fn normalise(alloc: Global, text: &str) -> Result<String, Error>
     ensures refused { IfErr result (λ e. (e ≢ OutOfMemory) → normalised text.now ≡ Err e) }
 {
     let map = SourceMap::from_json_string(alloc, text)?;
-    Ok(map.to_json_string(alloc)?)
+    map.to_json_string(alloc)
 }
 
 /// The data URL of the map that a JSON text says.
@@ -109,7 +113,17 @@ fn data_url(alloc: Global, text: &str) -> Result<String, Error>
     ensures refused { IfErr result (λ e. (e ≢ OutOfMemory) → normalised_url text.now ≡ Err e) }
 {
     let map = SourceMap::from_json_string(alloc, text)?;
-    Ok(map.to_data_url(alloc)?)
+    map.to_data_url(alloc)
+}
+
+/// The JSON text of the map of a plan.
+fn evaluated_text(alloc: Global, plan: &Plan<'_>) -> Result<String, PlanError>
+    ensures text { IfOk result (λ out. IsPlanAnswer (Ok (outcome plan.now)) (string_bytes out)) }
+    ensures refused { IfErr result (λ e. (e ≢ Map OutOfMemory) → IsFailure (outcome plan.now) e) }
+{
+    canonical_unique();
+    let map = evaluate(alloc, plan)?;
+    Ok(map.to_json_string(alloc)?)
 }
 
 /// The JSON text of the map of the plan that these arguments say, over the maps of an input.
@@ -118,11 +132,9 @@ fn plan_text(alloc: Global, input: &str, arguments: &[String]) -> Result<String,
     ensures refused { IfErr result (λ e. (e ≢ out_of_memory) → IsPlanRefusal (parsed_plan (inputs_of input.now) (map string_bytes arguments.now)) e) }
     ensures causes { IfErr result (λ e. is_of_port e ≡ false) }
 {
-    canonical_unique();
     let inputs = inputs_of(alloc, input)?;
     let plan = read_plan(alloc, inputs.as_slice(), arguments)?;
-    let map = evaluate(alloc, &plan)?;
-    Ok(map.to_json_string(alloc)?)
+    Ok(evaluated_text(alloc, &plan)?)
 }
 
 /// What a command answers to an input.

@@ -7,7 +7,7 @@ ghost use Rattle.oxc_sourcemap.specs.DecodedMap.{decoded_map_of};
 ghost use Rattle.oxc_sourcemap.specs.Trace.{trace};
 ghost use Rattle.oxc_sourcemap.specs.View.{view_of, seen_in, view_original};
 ghost use Rattle.oxc_sourcemap.specs.PlanError.TheVariants.{Map};
-ghost use Rattle.smap_run.specs.Traced.{number_part, name_part, original_text, trace_text, traced};
+ghost use Rattle.smap_run.specs.Traced.{number_part, name_part, original_text, trace_text, traced_of, traced};
 
 use oxc_sourcemap::{Error, PlanError, SourceMap, SourceViewToken, Token, push_json_string};
 use oxc_sourcemap_lookup::LineIndex;
@@ -79,6 +79,21 @@ fn token_at(alloc: Global, map: &SourceMap<'_>, line: u32, col: u32) -> Result<O
     Ok(index.lookup(tokens, line, col))
 }
 
+/// What `trace` says of a generated position of this map.
+fn trace_in(alloc: Global, map: &SourceMap<'_>, line: u32, col: u32) -> Result<String, PlanError>
+    requires in_line_order { IsInLineOrder map.now.tokens }
+    ensures text { IfOk result (λ out. traced_of (Ok map.now) line col ≡ Ok (string_bytes out)) }
+    ensures refused { IfErr result (λ e. (e ≢ Map OutOfMemory) → traced_of (Ok map.now) line col ≡ Err e) }
+{
+    if !map.is_sorted() {
+        return Err(PlanError::Unsorted);
+    }
+    match token_at(alloc, map, line, col)? {
+        Some(token) => Ok(token_text(alloc, &SourceViewToken::new(token, map))?),
+        None => Ok(String::from_str(alloc, "nothing")?),
+    }
+}
+
 /// Looks up a generated line and column in the map of a JSON text, and says what is there: `nothing` if no token is found,
 /// `unmapped` if the token has no source; else its source as a JSON string, `:`, the source line, `:`, the source column,
 /// and, if it has a name, a space and that, as a JSON string too. Lines and columns count from 0.
@@ -90,11 +105,5 @@ pub fn trace(alloc: Global, text: &str, line: u32, col: u32) -> Result<String, P
     ensures refused { IfErr result (λ e. (e ≢ Map OutOfMemory) → traced text.now line col ≡ Err e) }
 {
     let map = SourceMap::from_json_string(alloc, text)?;
-    if !map.is_sorted() {
-        return Err(PlanError::Unsorted);
-    }
-    match token_at(alloc, &map, line, col)? {
-        Some(token) => Ok(token_text(alloc, &SourceViewToken::new(token, &map))?),
-        None => Ok(String::from_str(alloc, "nothing")?),
-    }
+    trace_in(alloc, &map, line, col)
 }

@@ -76,3 +76,9 @@ evaluate_composition-returns-in_err-evaluate_part-2-clause-refused t c =
     let second = outcome_of c.args.second.now in
     from_err c.from_residual-in_err-evaluate_part-2.result _ _ c.from_residual-in_err-evaluate_part-2.ensures.1
     (λ e h. subst (λ e. FailsAs e (composition_outcome first second)) (sym h) (second_refuses c.in_ok-evaluate_part.field-0 first second c.in_err-evaluate_part-2.field-0.0 c.in_ok-evaluate_part.ensures.map c.in_err-evaluate_part-2.ensures.refused))
+
+pub evaluate_rewrite-returns-clause-map : goal.evaluate_rewrite-returns-clause-map
+evaluate_rewrite-returns-clause-map t c = IfOk-weaker c.rewrite.result _ _ (λ m realizes. realizes (outcome_of c.args.part.now) c.in_ok-map.ensures.map) c.rewrite.ensures.map
+
+pub evaluate_rewrite-returns-clause-refused : goal.evaluate_rewrite-returns-clause-refused
+evaluate_rewrite-returns-clause-refused t c = IfErr-weaker c.rewrite.result _ _ (λ e fails. fails (outcome_of c.args.part.now) c.in_ok-map.ensures.map) c.rewrite.ensures.refused

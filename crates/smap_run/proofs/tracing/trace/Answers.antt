@@ -1,9 +1,10 @@
-use Rattle.std.proofs.Common.{ap}
-use Rattle.oxc_sourcemap.specs.PlanError.TheVariants.{Map}
-use Rattle.oxc_sourcemap_error.proofs.Carried.{carried_error}
+use Rattle.std.proofs.Common.{ap, ◌∙◌}
+use Rattle.std.proofs.lemmas.Result.{IfOk-weaker, IfErr-weaker}
+use Rattle.smap_run.specs.Traced.{traced_of}
 use Rattle.smap_run.proofs.tracing.trace.Goals as goal
 
-pub returns-in_err-token-clause-refused : goal.returns-in_err-token-clause-refused
-returns-in_err-token-clause-refused c =
-    carried_error c.from_residual-in_err-token.result (Map c.in_err-token.field-0.0) _ c.from_residual-in_err-token.ensures.1
-    (λ other. absurd (c.in_err-token.ensures.refused (λ e. other (ap Map e))))
+pub returns-clause-text : goal.returns-clause-text
+returns-clause-text c = IfOk-weaker c.trace_in.result _ _ (λ out e. ap (λ r. traced_of r c.args.line c.args.col) c.in_ok-map.ensures.map ∙ e) c.trace_in.ensures.text
+
+pub returns-clause-refused : goal.returns-clause-refused
+returns-clause-refused c = IfErr-weaker c.trace_in.result _ _ (λ fault e n. ap (λ r. traced_of r c.args.line c.args.col) c.in_ok-map.ensures.map ∙ e n) c.trace_in.ensures.refused

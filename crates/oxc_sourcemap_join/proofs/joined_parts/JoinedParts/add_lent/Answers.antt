@@ -28,25 +28,25 @@ add_ignore_list-requires c =
 -- what the builder's lists become
 module _ (c : After-unwrap) where
   names : texts_of c.push_names.new.texts ≡ c.args.self.now.names ++ (record_of_parts c.args.parts.now).names
-  names = c.push_names.ensures ∙ glued (ap (map cow_str_bytes) c.reserve.ensures.items ∙ ap (λ x. x.names) c.self.view_is) (c.names_in.ensures ∙ ap (map cow_str_bytes) c.as_slice-2.ensures.value)
+  names = c.push_names.ensures ∙ glued (ap (map cow_str_bytes) c.make_room.ensures.names ∙ ap (λ x. x.names) c.self.view_is) (c.names_in.ensures ∙ ap (map cow_str_bytes) c.as_slice-2.ensures.value)
 
   sources : texts_of c.push_sources.new.texts ≡ c.args.self.now.sources ++ (record_of_parts c.args.parts.now).sources
-  sources = c.push_sources.ensures ∙ glued (ap (map cow_str_bytes) c.reserve-2.ensures.items ∙ ap (λ x. x.sources) c.self.view_is) (c.sources_in.ensures ∙ ap (map cow_str_bytes) c.as_slice-3.ensures.value)
+  sources = c.push_sources.ensures ∙ glued (ap (map cow_str_bytes) c.make_room.ensures.sources ∙ ap (λ x. x.sources) c.self.view_is) (c.sources_in.ensures ∙ ap (map cow_str_bytes) c.as_slice-3.ensures.value)
 
   count : c.len-source_count.result ≡ length (record_of_parts c.args.parts.now).sources
   count = omega (arith, c.len-source_count.ensures, length-mapped cow_str_bytes c.args.parts.now.sources.items)
 
   contents : contents_of c.push_lent_fitted.new.contents ≡ c.args.self.now.source_contents ++ fitted (length (record_of_parts c.args.parts.now).sources) (record_of_parts c.args.parts.now).source_contents
-  contents = c.push_lent_fitted.ensures ∙ glued (ap (map (option_map cow_str_bytes)) c.reserve-3.ensures.items ∙ ap (λ x. x.source_contents) c.self.view_is)
+  contents = c.push_lent_fitted.ensures ∙ glued (ap (map (option_map cow_str_bytes)) c.make_room.ensures.contents ∙ ap (λ x. x.source_contents) c.self.view_is)
       (ap (λ n. fitted n c.contents_in.result) count ∙ ap (fitted (length (record_of_parts c.args.parts.now).sources)) (c.contents_in.ensures ∙ ap (map (option_map cow_str_bytes)) c.as_slice-4.ensures.value))
 
   tokens : c.push_moved.new.tokens.items ≡ c.args.self.now.tokens ++ all_shifted c.in-Some.addition.shift (drop c.in-Some.addition.passed (record_of_parts c.args.parts.now).tokens)
-  tokens = c.push_moved.ensures ∙ glued (c.reserve-4.ensures.items ∙ ap (λ x. x.tokens) c.self.view_is)
+  tokens = c.push_moved.ensures ∙ glued (c.make_room.ensures.tokens ∙ ap (λ x. x.tokens) c.self.view_is)
       (ap (all_shifted c.in-Some.addition.shift) (all-after-some c.in-Some.addition.passed c.as_slice.result.now
       ∙ ap (drop c.in-Some.addition.passed) (c.as_slice.ensures.value)))
 
   chunks : c.push-pushed.new.self.items ≡ c.self.inside.token_chunks.items ++ c.in-Some.addition.chunk ∷ []
-  chunks = (rw c.unwrap.ensures at c.push-pushed.ensures.items) ∙ ap (λ ks. ks ++ c.in-Some.addition.chunk ∷ []) c.reserve-5.ensures.items
+  chunks = (rw c.unwrap.ensures at c.push-pushed.ensures.items) ∙ ap (λ ks. ks ++ c.in-Some.addition.chunk ∷ []) c.make_room.ensures.chunks
 
   entries : ids_of c.add_ignore_list.new.list ≡ appended_ignore_lists c.args.self.now.ignore_list (raised_ignore_list c.in-Some.addition.shift.sources (record_of_parts c.args.parts.now).ignore_list)
   entries = c.in_ok-add_ignore_list.ensures.added ∙ ap (λ o. appended_ignore_lists o (raised_ignore_list c.in-Some.addition.shift.sources (option_map (λ ids. ids.now) c.as_deref-ignored.result))) (ap (λ x. x.ignore_list) c.self.view_is)

@@ -11,7 +11,7 @@ use Rattle.oxc_sourcemap_join.proofs.Moving.{length-mapped}
 use Rattle.oxc_sourcemap_join.proofs.IgnoreLists.{addition-in-bounds}
 use Rattle.oxc_sourcemap_join.proofs.Adding.{kept-are-in-bounds, added-is, join-is, all-after-some, glued}
 use Rattle.oxc_sourcemap_join.proofs.joined_parts.JoinedParts.add_moved.Goals as goal
-use Rattle.oxc_sourcemap_join.proofs.joined_parts.JoinedParts.add_moved.Goals.{Joined-parts-56}
+use Rattle.oxc_sourcemap_join.proofs.joined_parts.JoinedParts.add_moved.Goals.{Joined-parts-28}
 
 pub push_moved-requires-clause-in_bounds : goal.push_moved-requires-clause-in_bounds
 push_moved-requires-clause-in_bounds c =
@@ -27,29 +27,29 @@ add_ignore_list-requires c =
     subst AreEntriesInBounds (ap (raised_ignore_list a.shift.sources) (sym (list))) (addition-in-bounds c.args.self.now (record_of_parts c.args.parts) (record { line = c.args.line; column = c.args.column }) a c.in-Some.ensures.fits)
 
 -- what the builder's lists become
-module _ (c : Joined-parts-56) where
+module _ (c : Joined-parts-28) where
   names : texts_of c.append.new.self ≡ c.args.self.now.names ++ (record_of_parts c.args.parts).names
-  names = ap (map cow_str_bytes) (rw c.unwrap.ensures at c.append.ensures.items) ∙ map-append cow_str_bytes c.reserve.new.self.items c.args.parts.names.items
-      ∙ glued (ap (map cow_str_bytes) c.reserve.ensures.items ∙ ap (λ x. x.names) c.self.view_is) refl
+  names = ap (map cow_str_bytes) (rw c.unwrap.ensures at c.append.ensures.items) ∙ map-append cow_str_bytes c.make_room.new.names.items c.args.parts.names.items
+      ∙ glued (ap (map cow_str_bytes) c.make_room.ensures.names ∙ ap (λ x. x.names) c.self.view_is) refl
 
   sources : texts_of c.append-2.new.self ≡ c.args.self.now.sources ++ (record_of_parts c.args.parts).sources
-  sources = ap (map cow_str_bytes) (rw c.unwrap-2.ensures at c.append-2.ensures.items) ∙ map-append cow_str_bytes c.reserve-2.new.self.items c.args.parts.sources.items
-      ∙ glued (ap (map cow_str_bytes) c.reserve-2.ensures.items ∙ ap (λ x. x.sources) c.self.view_is) refl
+  sources = ap (map cow_str_bytes) (rw c.unwrap-2.ensures at c.append-2.ensures.items) ∙ map-append cow_str_bytes c.make_room.new.sources.items c.args.parts.sources.items
+      ∙ glued (ap (map cow_str_bytes) c.make_room.ensures.sources ∙ ap (λ x. x.sources) c.self.view_is) refl
 
   count : c.len-count.result ≡ length (record_of_parts c.args.parts).sources
   count = omega (arith, c.len-count.ensures, length-mapped cow_str_bytes c.args.parts.sources.items)
 
   contents : contents_of c.push_fitted.new.contents ≡ c.args.self.now.source_contents ++ fitted (length (record_of_parts c.args.parts).sources) (record_of_parts c.args.parts).source_contents
-  contents = c.push_fitted.ensures ∙ glued (ap (map (option_map cow_str_bytes)) c.reserve-3.ensures.items ∙ ap (λ x. x.source_contents) c.self.view_is)
+  contents = c.push_fitted.ensures ∙ glued (ap (map (option_map cow_str_bytes)) c.make_room.ensures.contents ∙ ap (λ x. x.source_contents) c.self.view_is)
       (ap (λ n. fitted n (contents_of c.args.parts.source_contents)) count)
 
   tokens : c.push_moved.new.tokens.items ≡ c.args.self.now.tokens ++ all_shifted c.in-Some.addition.shift (drop c.in-Some.addition.passed (record_of_parts c.args.parts).tokens)
-  tokens = c.push_moved.ensures ∙ glued (c.reserve-4.ensures.items ∙ ap (λ x. x.tokens) c.self.view_is)
+  tokens = c.push_moved.ensures ∙ glued (c.make_room.ensures.tokens ∙ ap (λ x. x.tokens) c.self.view_is)
       (ap (all_shifted c.in-Some.addition.shift) (all-after-some c.in-Some.addition.passed c.as_slice.result.now
       ∙ ap (drop c.in-Some.addition.passed) (c.as_slice.ensures.value)))
 
   chunks : c.push-pushed.new.self.items ≡ c.self.inside.token_chunks.items ++ c.in-Some.addition.chunk ∷ []
-  chunks = (rw c.unwrap-3.ensures at c.push-pushed.ensures.items) ∙ ap (λ ks. ks ++ c.in-Some.addition.chunk ∷ []) c.reserve-5.ensures.items
+  chunks = (rw c.unwrap-3.ensures at c.push-pushed.ensures.items) ∙ ap (λ ks. ks ++ c.in-Some.addition.chunk ∷ []) c.make_room.ensures.chunks
 
   entries : ids_of c.add_ignore_list.new.list ≡ appended_ignore_lists c.args.self.now.ignore_list (raised_ignore_list c.in-Some.addition.shift.sources (record_of_parts c.args.parts).ignore_list)
   entries = c.in_ok-add_ignore_list.ensures.added ∙ ap (λ o. appended_ignore_lists o (raised_ignore_list c.in-Some.addition.shift.sources (option_map (λ ids. ids.now) c.as_deref-list.result))) (ap (λ x. x.ignore_list) c.self.view_is)

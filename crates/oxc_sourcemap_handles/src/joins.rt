@@ -54,7 +54,7 @@ fn joined_map(
     for (map, line, column) in maps {
         builder.add_sourcemap_owned_at(map, line, column)?;
     }
-    Ok(builder.into_owned_sourcemap()?)
+    builder.into_owned_sourcemap()
 }
 
 /// The join of the maps in handles, taken out of them.

@@ -277,15 +277,36 @@ fn owned_maps_of_copied_parts_are_equal(rt: HostRuntime) -> Result<()> {
     Ok(())
 }
 
-/// A map that outlives the text which it borrowed.
-fn detached(alloc: Global, text: &str) -> Result<OwnedSourceMap> {
-    let names = vec![in alloc; CowStr::Borrowed(text)]?;
-    let contents = vec![in alloc; None, Some(CowStr::Borrowed(text))]?;
+/// A map that borrows a text as its file, a name and a content.
+fn borrowing(alloc: Global, text: &str) -> Result<SourceMap<'_>> {
     let mut parts = SourceMapParts::empty(alloc)?;
     parts.file = Some(CowStr::Borrowed(text));
-    parts.names = names;
-    parts.source_contents = contents;
-    SourceMap::from_parts(parts).into_owned_sourcemap(alloc)
+    parts.names = vec![in alloc; CowStr::Borrowed(text)]?;
+    parts.source_contents = vec![in alloc; None, Some(CowStr::Borrowed(text))]?;
+    Ok(SourceMap::from_parts(parts))
+}
+
+fn is_borrowed(text: Option<&CowStr<'_>>) -> bool {
+    matches!(text, Some(CowStr::Borrowed(_)))
+}
+
+#[test]
+fn a_clone_borrows_what_the_map_borrows(rt: HostRuntime) -> Result<()> {
+    let text = String::from_str(rt.alloc(), "text")?;
+    let map = borrowing(rt.alloc(), text.as_str())?;
+    let parts = map.clone(rt.alloc())?.into_parts();
+    let content = match parts.source_contents.get(1) {
+        Some(content) => content.as_ref(),
+        None => None,
+    };
+    let texts = [parts.file.as_ref(), parts.names.first(), content];
+    same(&rt, "borrowed", texts.map(is_borrowed), [true; 3]);
+    Ok(())
+}
+
+/// A map that outlives the text which it borrowed.
+fn detached(alloc: Global, text: &str) -> Result<OwnedSourceMap> {
+    borrowing(alloc, text)?.into_owned_sourcemap(alloc)
 }
 
 /// A map that borrowed a text which is gone.

@@ -207,10 +207,12 @@ impl LineIndex {
     }
 
     /// The token at a generated position of sorted tokens, by the rule of `search`; None if the position is before the first
-    /// token of its line, or no token is on the line. Takes no memory.
+    /// token of its line, or no token is on the line. On a line whose columns go back, it is some token of the line, or None.
+    /// Takes no memory.
     pub fn lookup(&self, tokens: &[Token], line: u32, col: u32) -> Option<Token>
         requires { IsIndexOf tokens.now self.now }
-        ensures { are_tokens_sorted tokens.now ≡ true → result ≡ pick token_line token_column tokens.now line col }
+        ensures found { are_tokens_sorted tokens.now ≡ true → result ≡ pick token_line token_column tokens.now line col }
+        ensures among { IfSome result (Contains (on_line token_line line tokens.now)) }
     {
         search(self.tokens_near(tokens, line, &mut 0), col, &mut 0)
     }
@@ -218,7 +220,8 @@ impl LineIndex {
     /// As `lookup`, but a position before the first token of its line gives that token.
     pub fn lookup_clamped(&self, tokens: &[Token], line: u32, col: u32) -> Option<Token>
         requires { IsIndexOf tokens.now self.now }
-        ensures { are_tokens_sorted tokens.now ≡ true → result ≡ clamped_pick token_line token_column tokens.now line col }
+        ensures found { are_tokens_sorted tokens.now ≡ true → result ≡ clamped_pick token_line token_column tokens.now line col }
+        ensures among { IfSome result (Contains (on_line token_line line tokens.now)) }
     {
         search_clamped(self.tokens_near(tokens, line, &mut 0), col)
     }

@@ -1,5 +1,5 @@
 -- Segments of four or five fields of one to three digits.
-use Rattle.std.proofs.Common.{◌≡◌, ℕ, zero, suc, ◌+◌, ◌*◌, ◌%◌, ◌^◌, ◌<◌, ◌≤◌, true, false, List, [], ◌∷◌, length, get_or, drop, map, ℤ, pos, nat_abs, None, nat_le, arith, refl, sym, ap, ◌∙◌, zero-add, drop-cons, lit<, rules, to_z, of_z, w64}
+use Rattle.std.proofs.Common.{if◌then◌else◌, ◌≡◌, ℕ, zero, suc, ◌+◌, ◌*◌, ◌%◌, ◌^◌, ◌<◌, ◌≤◌, ◌-◌, ◌++◌, true, false, List, [], ◌∷◌, length, replicate, get_or, drop, map, ℤ, pos, nat_abs, None, nat_le, arith, refl, sym, ap, ◌∙◌, zero-add, drop-cons, lit<, rules, to_z, of_z, w64}
 use Rattle.std.proofs.lemmas.Int.{to_z-of_z}
 use Rattle.std.proofs.lemmas.Bool.Decides.{nat_tests}
 use Rattle.oxc_sourcemap_mappings.specs.declared.decode.Fields.{Fields}
@@ -149,3 +149,14 @@ module _ (text : List ℕ) (a b c d : ℕ) (x y z w : ℤ) (first : IsNumberAt t
           count = count ∙ sym (ap length s);
           values = λ k _. ap (λ q. get_or q k (pos 0)) values ∙ sym (ap (λ q. get_or q k (pos 0)) n);
         }
+
+-- `;` behind a text end its last segment as the end of the text does
+pub front-ended : (text : List ℕ) (n : ℕ) → front_digits (text ++ replicate n 59) ≡ front_digits text
+front-ended [] zero = refl
+front-ended [] (suc n) = refl
+front-ended (b ∷ bs) n = rw (front-ended bs n) refl
+
+-- a segment has no more digits than its text has bytes
+pub front-within : (text : List ℕ) → length (front_digits text) ≤ length text
+front-within [] = omega arith
+front-within (b ∷ bs) = elim (ends_segment b) as (λ v. length (if v then [] else digit b ∷ front_digits bs) ≤ suc (length bs)) [ true ↦ omega arith | false ↦ omega (arith, front-within bs) ]

@@ -21,10 +21,13 @@ front_digits (byte ∷ bytes) = if ends_segment byte then [] else digit byte ∷
 abbrev pub front_segment : List ℕ → Segment
 front_segment text = runs (front_digits text)
 
--- how many `,` and `;` a text has
-abbrev pub marks : List ℕ → ℕ
-marks [] = 0
-marks (byte ∷ bytes) = (if ends_segment byte then 1 else 0) + marks bytes
+-- how many segments begin in a text that stands after a byte of a segment, or after none
+abbrev pub segments_after : Bool → List ℕ → ℕ
+segments_after is_inside [] = 0
+segments_after is_inside (byte ∷ bytes) =
+    if ends_segment byte
+    then segments_after false bytes
+    else (if is_inside then segments_after true bytes else 1 + segments_after true bytes)
 
 -- A number of so many digits stands at this place of a text: its run, which has no fault, and then the rest of the segment
 pub record IsNumberAt (text : List ℕ) (at : ℕ) (n : ℤ) (len : ℕ) : Type 0 where

@@ -1,6 +1,6 @@
 //! Reading the `mappings` text.
 ghost use Rattle.std.specs.Box.{boxed_slice_items};
-ghost use Rattle.std.specs.Prelude.{◌≡◌, ◌≢◌, ◌⊎◌, ◌+◌, ◌*◌, ◌%◌, ◌^◌, ◌<◌, ◌≤◌, length, ◌∷◌, [], drop, ℤ, pos, nat_abs, ◌+ℤ◌};
+ghost use Rattle.std.specs.Prelude.{ℕ, List, ◌≡◌, ◌≢◌, ◌⊎◌, ◌+◌, ◌*◌, ◌%◌, ◌^◌, ◌<◌, ◌≤◌, ◌-◌, ◌++◌, length, ◌∷◌, [], drop, replicate, not, ℤ, pos, nat_abs, ◌+ℤ◌};
 ghost use Rattle.std.specs.Prelude.{set, true, false, min, is_some, IfSome, IfNone, OnOk, IfOk, IfErr, Option, Some, None, Result, Ok, Err};
 ghost use Rattle.oxc_sourcemap_error.specs.declared.error.Error.TheVariants.{OutOfMemory, TooLarge};
 ghost use Rattle.oxc_sourcemap_mappings.specs.Number.{digit, payload, signed};
@@ -8,7 +8,7 @@ ghost use Rattle.oxc_sourcemap_mappings.specs.Places.{nothing_before, place};
 ghost use Rattle.oxc_sourcemap_mappings.specs.Faults.{digit_fault, range_fault, is_id_below, low_bits};
 ghost use Rattle.oxc_sourcemap_mappings.specs.Faults.{source_fault, place_fault, counts_of};
 ghost use Rattle.oxc_sourcemap_mappings.specs.Reading.{token_at, segment_result, reading};
-ghost use Rattle.oxc_sourcemap_mappings.specs.Decoding.{ends_segment, front_digits, front_segment, is_over, IsNumberAt, marks};
+ghost use Rattle.oxc_sourcemap_mappings.specs.Decoding.{ends_segment, front_digits, front_segment, segments_after, is_over, IsNumberAt};
 ghost use Rattle.oxc_sourcemap_mappings.specs.Decoding.{AreFieldsOf, AreSmall, value, place_of, source_moved, moved, moved_by};
 
 use oxc_sourcemap_error::{Error, Result};
@@ -211,6 +211,28 @@ fn any_segment(text: &[u8]) -> Result<Fields>
     Ok(Fields { values, count, len })
 }
 
+/// A text of fewer than 16 bytes with `;` behind it, which ends its last segment as the end of the text does.
+fn with_end(text: &[u8]) -> [u8; 16]
+    requires { length text.now < 16 }
+    ensures { result ≡ text.now ++ replicate (16 - length text.now) 59 }
+{
+    let mut window = [b';'; 16];
+    window[..text.len()].copy_from_slice(text);
+    window
+}
+
+/// `usual_segment` near the end of a text.
+#[cold]
+fn usual_last_segment(text: &[u8]) -> Option<Fields>
+    requires { length text.now < 16 }
+    ensures fields { IfSome result (λ fields. AreFieldsOf (front_segment text.now) fields) }
+    ensures len { IfSome result (λ fields. fields.len ≡ length (front_digits text.now)) }
+    ensures within { IfSome result (λ fields. fields.len ≤ length text.now) }
+    ensures small { IfSome result AreSmall }
+{
+    usual_segment(&with_end(text))
+}
+
 /// The fields of the segment at the front of a text, or the fault of its digits.
 #[inline(always)]
 fn read_segment(text: &[u8]) -> Result<Fields>
@@ -220,12 +242,15 @@ fn read_segment(text: &[u8]) -> Result<Fields>
     ensures small { IfOk result AreSmall }
     ensures fault { IfErr result (λ e. digit_fault (front_segment text.now) ≡ Some e) }
 {
-    if text.len() >= 16 {
-        if let Some(fields) = usual_segment(text) {
-            return Ok(fields);
-        }
+    let usual = if text.len() >= 16 {
+        usual_segment(text)
+    } else {
+        usual_last_segment(text)
+    };
+    match usual {
+        Some(fields) => Ok(fields),
+        None => any_segment(text),
     }
-    any_segment(text)
 }
 
 /// A line or column moved by a field, where it stays within 0 to 4294967295.
@@ -396,33 +421,41 @@ fn next_line(line: u32) -> Result<u32>
     line.checked_add(1).ok_or(Error::TooLarge)
 }
 
-/// How many `,` and `;` there are in at most 255 bytes. Counted in eight bits, which lets the compiler look at many bytes at
-/// once.
-fn marks_in_block(block: &[u8]) -> u8
+/// Whether a byte belongs to a segment: all but `,` and `;`.
+fn is_in_segment(byte: u8) -> bool
+    ensures { result ≡ not (ends_segment byte) }
+{
+    (byte != b',') & (byte != b';')
+}
+
+/// How many segments begin in at most 255 bytes. `is_inside` tells whether a segment reaches to their front, and then whether
+/// one reaches to their end. Counted in eight bits and without a branch, which lets the compiler look at many bytes at once.
+fn segments_in_block(block: &[u8], is_inside: &mut bool) -> u8
     requires { length block.now ≤ 255 }
-    ensures { result ≡ marks block.now }
+    ensures { (rest : List ℕ) → segments_after is_inside.old (block.now ++ rest) ≡ result + segments_after is_inside.new rest }
 {
     let mut count: u8 = 0;
     for byte in block {
-        if *byte == b',' || *byte == b';' {
-            count += 1;
-        }
+        let was_inside = *is_inside;
+        *is_inside = is_in_segment(*byte);
+        count += u8::from(*is_inside & !was_inside);
     }
     count
 }
 
-/// How many `,` and `;` a text has.
-fn marks_in(text: &[u8]) -> usize
-    ensures { result ≡ marks text.now }
+/// How many segments a text has, empty ones left out.
+fn segment_count(text: &[u8]) -> usize
+    ensures { result ≡ segments_after false text.now }
 {
     let mut count: usize = 0;
+    let mut is_inside = false;
     let mut rest = text;
     while rest.len() > 128 {
         let (block, more) = rest.split_at(128);
-        count += usize::from(marks_in_block(block));
+        count += usize::from(segments_in_block(block, &mut is_inside));
         rest = more;
     }
-    count + usize::from(marks_in_block(rest))
+    count + usize::from(segments_in_block(rest, &mut is_inside))
 }
 
 /// The text after a `,`, where it begins with one.
@@ -462,7 +495,7 @@ pub fn decode_mappings(
     ensures fault { IfErr result (λ e. (e ≢ OutOfMemory) → reading text.now names sources ≡ Err e) }
 {
     let mut rest = text.as_bytes();
-    let mut tokens = Vec::with_capacity(alloc, marks_in(rest) + 1)?;
+    let mut tokens = Vec::with_capacity(alloc, segment_count(rest))?;
     let mut sums = Sums::new();
     let mut line = 0;
     while let Some(byte) = rest.first() {

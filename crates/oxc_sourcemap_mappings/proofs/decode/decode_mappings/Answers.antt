@@ -4,19 +4,16 @@ use Rattle.std.proofs.lemmas.List.{take_rest}
 use Rattle.std.proofs.lemmas.Bool.Decides.{nat_tests}
 use Rattle.oxc_sourcemap_mappings.specs.Faults.{counts_of}
 use Rattle.oxc_sourcemap_mappings.specs.Reading.{gathered}
-use Rattle.oxc_sourcemap_mappings.specs.Decoding.{place_of, ends_segment}
+use Rattle.oxc_sourcemap_mappings.specs.Decoding.{place_of, ends_segment, segments_after}
 use Rattle.oxc_sourcemap_mappings.proofs.Left.{onto_all, onto_all-none, onto_all-token, onto_all-fault, left_outcomes, left-after, left-too_large, left-segment, front-byte, front-filled, reading-is}
-use Rattle.oxc_sourcemap_mappings.proofs.Room.{marks-le, most-all, most-token, most-after}
+use Rattle.oxc_sourcemap_mappings.proofs.Room.{segments-mark, segments-token, segments-comma}
 use Rattle.oxc_sourcemap_mappings.proofs.decode.decode_mappings.Goals as goal
-
-pub overflow_add-marks_in : goal.overflow_add-marks_in
-overflow_add-marks_in c = omega (arith, marks-le c.as_bytes-rest.result.now, c.marks_in.ensures)
 
 pub loop-byte-init : goal.loop-byte-init
 loop-byte-init c = record {
   reading = rw (c.in_ok-tokens.ensures.items, c.new-sums.ensures, c.as_bytes-rest.ensures.value)
       (onto_all-none _ ∙ sym (reading-is c.args.text.now c.args.names c.args.sources));
-  room = omega (arith, c.in_ok-tokens.ensures.len, c.in_ok-tokens.ensures.capacity, c.marks_in.ensures, most-all c.as_bytes-rest.result.now);
+  room = omega (arith, c.in_ok-tokens.ensures.len, c.in_ok-tokens.ensures.capacity, c.segment_count.ensures);
 }
 
 pub push_reserved-requires : goal.push_reserved-requires
@@ -24,7 +21,7 @@ push_reserved-requires c =
     let rest = c.loop-byte.rest.now in
     let g : slice_get rest 0 ≡ Some c.in-Some.byte.now = sym c.in-Some.ensures.value in
     let m : ends_segment c.in-Some.byte.now ≡ false = grind (arith, nat_tests) in
-    omega (arith, c.loop-byte.invariant.room, most-token rest c.in-Some.byte.now g m)
+    omega (arith, c.loop-byte.invariant.room, segments-token rest c.in-Some.byte.now g m)
 
 pub returns-in_err-line-in-59-clause-fault : goal.returns-in_err-line-in-59-clause-fault
 returns-in_err-line-in-59-clause-fault c =
@@ -64,5 +61,5 @@ loop-byte-preserved c =
           (sym (ap (λ os. onto_all c.loop-byte.tokens.items (gathered os)) (left-segment counts c.loop-byte.line place rest (front-filled rest c.in-Some.byte.now g m))
           ∙ onto_all-token c.loop-byte.tokens.items read.token _ _ read.ensures.token)
           ∙ c.loop-byte.invariant.reading);
-      room = omega (arith, c.loop-byte.invariant.room, c.push_reserved.ensures.len, c.push_reserved.ensures.capacity, most-token rest c.in-Some.byte.now g m, most-after _ _ rest (take_rest rest read.len ∙ ap (λ k. drop k rest) read.ensures.len) left);
+      room = omega (arith, c.loop-byte.invariant.room, c.push_reserved.ensures.len, c.push_reserved.ensures.capacity, segments-token rest c.in-Some.byte.now g m, ap (segments_after false) (take_rest rest read.len ∙ ap (λ k. drop k rest) read.ensures.len), segments-comma _ _ left);
     }

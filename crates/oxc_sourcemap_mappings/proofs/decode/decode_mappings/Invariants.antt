@@ -1,10 +1,9 @@
-use Rattle.std.proofs.Common.{◌≡◌, ◌+◌, ◌≤◌, length, vec_len}
+use Rattle.std.proofs.Common.{◌≡◌, ◌+◌, ◌≤◌, false, length, vec_len}
 use Rattle.std.specs.Vec.{vec_capacity}
 use Rattle.oxc_sourcemap_mappings.specs.Faults.{counts_of}
 use Rattle.oxc_sourcemap_mappings.specs.Reading.{gathered, reading}
-use Rattle.oxc_sourcemap_mappings.specs.Decoding.{place_of}
+use Rattle.oxc_sourcemap_mappings.specs.Decoding.{place_of, segments_after}
 use Rattle.oxc_sourcemap_mappings.proofs.Left.{left_outcomes, onto_all}
-use Rattle.oxc_sourcemap_mappings.proofs.Room.{most_tokens}
 use Rattle.oxc_sourcemap_mappings.proofs.decode.decode_mappings.Given as goal
 
 -- the tokens so far, and then what the text that is left gives, are what the whole text gives
@@ -12,7 +11,7 @@ abbrev pub invariant-loop-byte : goal.invariant-loop-byte
 invariant-loop-byte l = record {
   reading : onto_all l.tokens.items (gathered (left_outcomes (counts_of l.names l.sources) l.line (place_of l.sums) l.rest))
       ≡ reading l.text l.names l.sources;
-  room : vec_len l.tokens + most_tokens l.rest ≤ vec_capacity l.tokens;
+  room : vec_len l.tokens + segments_after false l.rest ≤ vec_capacity l.tokens;
 }
 
 abbrev pub decreases-loop-byte : goal.decreases-loop-byte

@@ -1,10 +1,10 @@
 -- Segments of four or five fields of one to three digits.
-use Rattle.std.proofs.Common.{if◌then◌else◌, ◌≡◌, ℕ, zero, suc, ◌+◌, ◌*◌, ◌%◌, ◌^◌, ◌<◌, ◌≤◌, ◌-◌, ◌++◌, true, false, List, [], ◌∷◌, length, replicate, get_or, drop, map, ℤ, pos, nat_abs, None, nat_le, arith, refl, sym, ap, ◌∙◌, zero-add, drop-cons, lit<, rules, to_z, of_z, w64}
+use Rattle.std.proofs.Common.{if◌then◌else◌, ◌≡◌, ℕ, zero, suc, ◌+◌, ◌*◌, ◌%◌, ◌^◌, ◌<◌, ◌≤◌, ◌++◌, true, false, List, [], ◌∷◌, length, replicate, get_or, drop, map, ℤ, pos, nat_abs, None, nat_le, arith, refl, sym, ap, ◌∙◌, zero-add, drop-cons, lit<, rules, to_z, of_z, w64}
 use Rattle.std.proofs.lemmas.Int.{to_z-of_z}
 use Rattle.std.proofs.lemmas.Bool.Decides.{nat_tests}
 use Rattle.oxc_sourcemap_mappings.specs.declared.decode.Fields.{Fields}
 use Rattle.oxc_sourcemap_mappings.specs.Number.{digit, ends_run, signed, number, is_fitting, is_open}
-use Rattle.oxc_sourcemap_mappings.specs.Parts.{Segment, runs, field}
+use Rattle.oxc_sourcemap_mappings.specs.Parts.{Segment, runs}
 use Rattle.oxc_sourcemap_mappings.specs.Faults.{digit_fault}
 use Rattle.oxc_sourcemap_mappings.specs.Decoding.{ends_segment, front_digits, front_segment, IsNumberAt, AreFieldsOf}
 

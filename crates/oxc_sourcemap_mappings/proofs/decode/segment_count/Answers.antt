@@ -1,4 +1,4 @@
-use Rattle.std.proofs.Common.{arith, ◌≡◌, ◌+◌, ◌++◌, ap, sym, [], ◌∙◌, false, drop, take}
+use Rattle.std.proofs.Common.{arith, ◌≡◌, ◌+◌, ◌++◌, ap, sym, [], ◌∙◌, false, drop}
 use Rattle.std.proofs.lemmas.List.{take-append-drop, append-nil}
 use Rattle.oxc_sourcemap_mappings.specs.Decoding.{segments_after}
 use Rattle.oxc_sourcemap_mappings.proofs.Room.{segments-le}

@@ -1,4 +1,4 @@
-use Rattle.std.proofs.Common.{◌≡◌, ◌-◌, ◌≤◌, ◌∙◌, arith, sym, ap, length}
+use Rattle.std.proofs.Common.{◌≡◌, ◌-◌, ◌∙◌, arith, sym, ap, length}
 use Rattle.oxc_sourcemap_mappings.specs.Decoding.{front_digits}
 use Rattle.oxc_sourcemap_mappings.proofs.Usual.{front-ended, front-within}
 use Rattle.oxc_sourcemap_mappings.proofs.decode.usual_last_segment.Goals as goal

@@ -1,4 +1,8 @@
 //! Reading and writing the `mappings` text.
+mod long;
+mod numbers;
+mod pieces;
+
 use crate::helpers::same;
 use crate::rows::{Row, chunks_of, tokens_of};
 use oxc_sourcemap::{
@@ -46,6 +50,12 @@ const READ: &[Reading] = &[
     ),
     ("A;;", 0, 0, Ok(&[(0, 0, 0, 0, None, None)])),
     (
+        "G,,D",
+        0,
+        0,
+        Ok(&[(0, 3, 0, 0, None, None), (0, 2, 0, 0, None, None)]),
+    ),
+    (
         "G,D",
         0,
         0,
@@ -66,6 +76,43 @@ const READ: &[Reading] = &[
         0,
         Ok(&[(0, 524288, 0, 0, None, None), (0, 522753, 0, 0, None, None)]),
     ),
+    (
+        "AAKG,I;ACEF",
+        0,
+        2,
+        Ok(&[
+            (0, 0, 5, 3, Some(0), None),
+            (0, 4, 5, 3, None, None),
+            (1, 0, 7, 1, Some(1), None),
+        ]),
+    ),
+    (
+        "CCEGI;CDCDD,C;EAAA",
+        6,
+        2,
+        Ok(&[
+            (0, 1, 2, 3, Some(1), Some(4)),
+            (1, 1, 3, 2, Some(0), Some(3)),
+            (1, 2, 3, 2, None, None),
+            (2, 2, 3, 2, Some(0), None),
+        ]),
+    ),
+    (
+        "AAAAC,CAAA,CAAAC",
+        3,
+        1,
+        Ok(&[
+            (0, 0, 0, 0, Some(0), Some(1)),
+            (0, 1, 0, 0, Some(0), None),
+            (0, 2, 0, 0, Some(0), Some(2)),
+        ]),
+    ),
+    (
+        "A8/////HAA8/////H",
+        4294967296,
+        4294967296,
+        Ok(&[(0, 0, 0, 0, Some(4294967294), Some(4294967294))]),
+    ),
 ];
 
 /// Texts with a number that does not end or is too large.
@@ -78,8 +125,14 @@ const BAD_NUMBERS: &[Reading] = &[
     ("ggggggI", 0, 0, Err(Error::VlqOverflow)),
     ("AAAAg", 1, 1, Err(Error::VlqLeftover)),
     ("AAAA!", 1, 1, Err(Error::VlqLeftover)),
+    ("AAAAgg", 1, 1, Err(Error::VlqLeftover)),
+    ("AAAg", 0, 1, Err(Error::VlqLeftover)),
     ("+/////H,C", 0, 0, Err(Error::VlqOverflow)),
     ("AA+/////HA,AACA", 0, 1, Err(Error::VlqOverflow)),
+    ("ggggggggggggggAg", 0, 0, Err(Error::VlqOverflow)),
+    ("ggggggIA", 0, 0, Err(Error::VlqOverflow)),
+    ("AAggggggID", 0, 1, Err(Error::VlqOverflow)),
+    ("AAAAhggggggggggggH", 1, 1, Err(Error::VlqOverflow)),
 ];
 
 /// Texts with a segment of another size, or with an id that names nothing.
@@ -94,7 +147,29 @@ const BAD_SEGMENTS: &[Reading] = &[
     ("ACAA", 1, 1, Err(Error::BadSourceReference(0))),
     ("AAA", 0, 1, Err(Error::BadSegmentSize(3))),
     ("AAAAAA", 1, 1, Err(Error::BadSegmentSize(6))),
+    ("AAAAAAA", 1, 1, Err(Error::BadSegmentSize(7))),
     ("DAAA", 0, 1, Err(Error::BadSegmentSize(0))),
+    ("DCAA", 0, 1, Err(Error::BadSegmentSize(0))),
+    ("AADggggggI", 0, 1, Err(Error::BadSegmentSize(0))),
+    ("AAADD", 1, 1, Err(Error::BadSegmentSize(0))),
+    ("ADDD", 0, 1, Err(Error::BadSourceReference(0))),
+    ("ACAA,ACAA", 0, 2, Err(Error::BadSourceReference(1))),
+    (
+        "A+/////HAA",
+        0,
+        4294967296,
+        Err(Error::BadSourceReference(0)),
+    ),
+    ("AAAAF", 1, 1, Err(Error::BadNameReference(4294967294))),
+    ("AAAAE,AAAAC", 3, 1, Err(Error::BadNameReference(3))),
+    ("AAAAqggggggI", 1, 1, Err(Error::BadNameReference(5))),
+    (
+        "AAAA+/////H",
+        4294967296,
+        1,
+        Err(Error::BadNameReference(4294967295)),
+    ),
+    ("AAAA////////////H", 1, 1, Err(Error::BadNameReference(1))),
 ];
 
 /// All of these.
@@ -178,6 +253,16 @@ const LISTS: &[Writing] = &[
         &[(0, 524288, 0, 0, None, None), (0, 522753, 0, 0, None, None)],
         None,
         Ok("ggggB,//C"),
+    ),
+    (
+        &[
+            (0, 0, 5, 3, Some(0), Some(1)),
+            (0, 4, 9, 9, None, Some(7)),
+            (0, 6, 7, 1, Some(1), None),
+            (0, 7, 7, 1, Some(1), Some(3)),
+        ],
+        None,
+        Ok("AAKGC,I,ECEF,CAAAE"),
     ),
     (&[(0, 0, 0, 0, Some(5), None)], None, Ok("AKAA")),
     (&[(0, 0, 3, 4, None, Some(7))], None, Ok("A")),
@@ -281,20 +366,69 @@ const MISFITS: &[Writing] = &[
         Some(&[[0, 2, 0, 0, 0, 0, 0, 0], [1, 2, 0, 0, 0, 0, 0, 0]]),
         Err(Error::BadChunks(1)),
     ),
+    (
+        &[(1, 0, 0, 0, None, None), (0, 0, 0, 0, None, None)],
+        Some(&[]),
+        Err(Error::LineOrder(1)),
+    ),
 ];
 
 /// All of these.
 pub const WRITINGS: [&[Writing]; 3] = [LISTS, CHUNKED, MISFITS];
 
-fn a_text_reads_as_its_tokens(rt: &impl Abort, alloc: Global, reading: &Reading) -> Result<()> {
+/// What stands in front of a text: nothing, or unmapped tokens, which move no sum.
+const FRONTS: [(&str, &[Row]); 2] = [
+    ("", &[]),
+    ("A,A,A,A,A,A,A,A,A,", &[(0, 0, 0, 0, None, None); 9]),
+];
+
+/// Empty segments and lines, which may stand behind any text. A reader can look at 16 bytes at once only where there are so
+/// many left.
+const BEHIND: [&str; 4] = ["", ";;;", ",,,,,,,,,,,,,,,,,,,,", ";;;;;;;;;;;;;;;;;;;;"];
+
+/// Segments that are not read behind a fault.
+const BEHIND_FAULT: [&str; 2] = [",A,A,A,A,A,A,A,A,A,A", ",AAAAA,AAAAA,AAAAA,AAAAA"];
+
+/// Asserts what a text reads as.
+fn it_reads_as(
+    rt: &impl Abort,
+    alloc: Global,
+    text: &str,
+    names: usize,
+    sources: usize,
+    want: Result<&[Token]>,
+) {
+    match &decode_mappings(alloc, text, names, sources) {
+        Ok(tokens) => same(rt, text, Ok(tokens.as_slice()), want),
+        Err(error) => same(rt, text, Err(*error), want),
+    }
+}
+
+/// Asserts what the text of a row reads as behind this text, which reads as these rows, and in front of each of those.
+fn it_reads_behind(
+    rt: &impl Abort,
+    alloc: Global,
+    reading: &Reading,
+    front: (&str, &[Row]),
+    behind: &[&str],
+) -> Result<()> {
     let (text, names, sources, want) = *reading;
-    let read = decode_mappings(alloc, text, names, sources);
-    match (&read, want) {
-        (Ok(tokens), Ok(rows)) => {
-            let wanted = tokens_of(alloc, rows)?;
-            same(rt, text, tokens.as_slice(), wanted.as_slice());
+    let mut tokens = tokens_of(alloc, front.1)?;
+    tokens.append(&mut tokens_of(alloc, want.unwrap_or(&[]))?)?;
+    for end in behind {
+        let whole = [front.0, text, *end].as_slice().concat(alloc)?;
+        let want = want.map(|_| tokens.as_slice());
+        it_reads_as(rt, alloc, whole.as_str(), names, sources, want);
+    }
+    Ok(())
+}
+
+fn a_text_reads_as_its_tokens(rt: &impl Abort, alloc: Global, reading: &Reading) -> Result<()> {
+    for front in FRONTS {
+        it_reads_behind(rt, alloc, reading, front, BEHIND.as_slice())?;
+        if reading.3.is_err() {
+            it_reads_behind(rt, alloc, reading, front, BEHIND_FAULT.as_slice())?;
         }
-        (read, want) => same(rt, text, read.as_ref().err(), want.as_ref().err()),
     }
     Ok(())
 }
@@ -333,9 +467,48 @@ fn a_chunk_that_does_not_fit_is_told(
 ) {
     let told = match want {
         Err(Error::BadChunks(k)) => Some(k),
-        _ => None,
+        // Lines that go back are told first, and say nothing of the chunks.
+        Err(_) => return,
+        Ok(_) => None,
     };
     same(rt, "chunk", chunk_fault(tokens, chunks), told);
+}
+
+/// Where two lists first differ, which is told in place of long texts.
+fn difference<T: PartialEq>(found: &[T], wanted: &[T]) -> Option<usize> {
+    if found == wanted {
+        return None;
+    }
+    let common = found.len().min(wanted.len());
+    let at = found
+        .iter()
+        .zip(wanted)
+        .position(|(one, other)| one != other);
+    Some(at.unwrap_or(common))
+}
+
+/// Asserts that tokens are written as a text, which reads as them, alone and with lines behind it.
+fn they_are_written_and_read(
+    rt: &impl Abort,
+    alloc: Global,
+    tokens: &[Token],
+    text: &str,
+) -> Result<()> {
+    let beginning = text.get(..99).unwrap_or(text);
+    let mut out = String::new(alloc);
+    encode_mappings(tokens, None, &mut out)?;
+    same(
+        rt,
+        beginning,
+        difference(out.as_bytes(), text.as_bytes()),
+        None,
+    );
+    for end in ["", ";;;;;;;;;;;;;;;;;;;;"] {
+        let whole = [text, end].as_slice().concat(alloc)?;
+        let read = decode_mappings(alloc, whole.as_str(), 4294967295, 4294967295)?;
+        same(rt, beginning, difference(read.as_slice(), tokens), None);
+    }
+    Ok(())
 }
 
 /// Asserts how the tokens of a row are written.

@@ -18,7 +18,7 @@ use super::lists::{make_table, read_mappings};
 use super::made::{
     Make, MakeJson, clone_parts, compose, make_json, make_map, own_texts, read_json,
 };
-use super::memory::{reports, takes, takes_none};
+use super::memory::{reports, takes, takes_none, takes_several};
 use super::owned::{
     clone_owned, compose_owned, evaluate_plan, own, read_owned_json, read_owned_text,
 };
@@ -34,17 +34,17 @@ fn decode_mappings(rt: HostRuntime) {
 
 #[test]
 fn encode_mappings(rt: HostRuntime) {
-    takes(&rt, || append_text(&rt, Append::Mappings));
+    takes_several(&rt, || append_text(&rt, Append::Mappings));
 }
 
 #[test]
 fn encode_mappings_in_chunks(rt: HostRuntime) {
-    takes(&rt, || append_text(&rt, Append::MappingsInChunks));
+    takes_several(&rt, || append_text(&rt, Append::MappingsInChunks));
 }
 
 #[test]
 fn encode_chunk(rt: HostRuntime) {
-    takes(&rt, || append_text(&rt, Append::Chunk));
+    takes_several(&rt, || append_text(&rt, Append::Chunk));
 }
 
 #[test]

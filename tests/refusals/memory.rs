@@ -93,6 +93,12 @@ pub fn takes<E: Drop>(rt: &impl Abort, call: impl Fn() -> Result<Ended, E>) {
     assert!(rt; requests > 0, "no request");
 }
 
+/// The same of a call that makes several requests, so that a later one is refused where something is done already.
+pub fn takes_several<E: Drop>(rt: &impl Abort, call: impl Fn() -> Result<Ended, E>) {
+    let requests = refuse_each(rt, call, Ended::Refused);
+    assert!(rt; requests > 1, "requests: {requests}");
+}
+
 /// Asserts that a call, or several, take no memory.
 pub fn takes_none<E: Drop>(rt: &impl Abort, call: impl Fn() -> Result<Ended, E>) {
     let requests = refuse_each(rt, call, Ended::Passed);

@@ -75,34 +75,57 @@ pub enum Append {
     JsonString,
 }
 
-/// How many tokens are written: so many that the text grows more than once.
+/// How many tokens are written on line 0. Their text takes more than the 6 bytes for each that are asked for at first.
 const MANY: u32 = 3000;
 
-/// An unmapped token at each column of a line.
+/// How far below them one more token lies.
+const LINES: u32 = 100000;
+
+/// Unmapped tokens, at column 0 and at the last column in turn.
 fn many_tokens(alloc: Global) -> Result<Vec<Token>> {
     let mut tokens = Vec::new(alloc);
-    for column in 0..MANY {
+    for i in 0..MANY {
+        let column = if i % 2 == 0 { 0 } else { 4294967295 };
         tokens.push(Token::new(0, column, 0, 0, None, None))?;
     }
+    tokens.push(Token::new(LINES, 0, 0, 0, None, None))?;
     Ok(tokens)
 }
 
 /// Their canonical text, after what is there before.
 fn many_mappings(alloc: Global) -> Result<String> {
-    let mut text = String::from_str(alloc, "kept;A")?;
-    for _ in 1..MANY {
-        text.push_str(",C")?;
+    let mut text = String::from_str(alloc, "kept;A,+/////H")?;
+    for _ in 1..MANY / 2 {
+        text.push_str(",//////H,+/////H")?;
     }
+    text.push_str(";".repeat(alloc, LINES as usize)?.as_str())?;
+    text.push('A')?;
     Ok(text)
 }
 
-fn append_to(rt: &HostRuntime, append: Append, tokens: &[Token], out: &mut String) -> Result<()> {
-    let chunks = [TokenChunk::new(0, MANY, 0, 0, 0, 0, 0, 0)];
+/// Chunks of 1000 of them.
+fn chunks_of_many(alloc: Global) -> Result<Vec<TokenChunk>> {
+    let mut chunks = Vec::new(alloc);
+    for k in 0..=MANY / 1000 {
+        let (start, end) = (k * 1000, (k * 1000 + 1000).min(MANY + 1));
+        let column = if k == 0 { 0 } else { 4294967295 };
+        chunks.push(TokenChunk::new(start, end, 0, column, 0, 0, 0, 0))?;
+    }
+    Ok(chunks)
+}
+
+fn append_to(
+    append: Append,
+    tokens: &[Token],
+    chunks: &[TokenChunk],
+    out: &mut String,
+) -> Result<()> {
+    let whole = TokenChunk::new(0, MANY + 1, 0, 0, 0, 0, 0, 0);
     begin_call();
     let done = match append {
         Append::Mappings => encode_mappings(tokens, None, out),
-        Append::MappingsInChunks => encode_mappings(tokens, Some(chunks.as_slice()), out),
-        Append::Chunk => encode_chunk(tokens, &chunks[0], out),
+        Append::MappingsInChunks => encode_mappings(tokens, Some(chunks), out),
+        Append::Chunk => encode_chunk(tokens, &whole, out),
         Append::JsonString => push_json_string(
             "a\n\"b\" and so many bytes more that the text grows",
             out,
@@ -116,8 +139,9 @@ fn append_to(rt: &HostRuntime, append: Append, tokens: &[Token], out: &mut Strin
 pub fn append_text(rt: &HostRuntime, append: Append) -> Result<Ended> {
     let tokens = many_tokens(rt.alloc())?;
     let mappings = many_mappings(rt.alloc())?;
+    let chunks = chunks_of_many(rt.alloc())?;
     let mut out = String::from_str(rt.alloc(), "kept;")?;
-    let done = append_to(rt, append, tokens.as_slice(), &mut out);
+    let done = append_to(append, tokens.as_slice(), chunks.as_slice(), &mut out);
     let wanted = match append {
         Append::JsonString => "kept;\"a\\n\\\"b\\\" and so many bytes more that the text grows\"",
         _ => mappings.as_str(),

@@ -35,6 +35,8 @@ mod refusals;
 #[cfg(test)]
 mod rows;
 #[cfg(test)]
+mod shapes;
+#[cfg(test)]
 mod texts;
 #[cfg(test)]
 mod visualizer;

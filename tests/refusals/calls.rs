@@ -16,14 +16,16 @@ use super::joins::{
 };
 use super::lists::{make_table, read_mappings};
 use super::made::{
-    Make, MakeJson, clone_parts, compose, make_json, make_map, own_texts, read_json,
+    Make, MakeJson, clone_parts, compose, make_json, make_map, own_texts, read_json, read_value,
 };
 use super::memory::{reports, takes, takes_none, takes_several};
 use super::owned::{
-    clone_owned, compose_owned, evaluate_plan, own, read_owned_json, read_owned_text,
+    clone_owned, compose_owned, evaluate_join_at, evaluate_plan, own, read_owned_json,
+    read_owned_text,
 };
 use super::takes_none::{
-    get_fields, get_owned_fields, look_up, make_empty, make_values, walk, wrap,
+    convert_errors, convert_errors_of_plans, get_fields, get_owned_fields, lend, look_up,
+    make_empty, make_of_fields, make_token, make_values, view, walk, walk_owned, wrap,
 };
 use super::texts::{Append, Text, append_text, write_text};
 
@@ -128,6 +130,11 @@ fn decode_value_of_an_indexed_map(rt: HostRuntime) {
 }
 
 #[test]
+fn decode_value_of_a_map_by_itself(rt: HostRuntime) {
+    takes(&rt, || read_value(&rt));
+}
+
+#[test]
 fn file_from_value(rt: HostRuntime) {
     takes(&rt, || read_file(&rt));
 }
@@ -190,6 +197,11 @@ fn owned_source_map_clone(rt: HostRuntime) {
 #[test]
 fn evaluate(rt: HostRuntime) {
     takes(&rt, || evaluate_plan(&rt));
+}
+
+#[test]
+fn evaluate_of_a_join_at_columns(rt: HostRuntime) {
+    takes(&rt, || evaluate_join_at(&rt));
 }
 
 #[test]
@@ -420,6 +432,41 @@ fn ports_and_status(rt: HostRuntime) {
 #[test]
 fn read_words(rt: HostRuntime) {
     takes_none(&rt, || read_arguments(&rt));
+}
+
+#[test]
+fn iterators_of_owned_source_map(rt: HostRuntime) {
+    takes_none(&rt, || walk_owned(&rt));
+}
+
+#[test]
+fn views_of_tokens(rt: HostRuntime) {
+    takes_none(&rt, || view(&rt));
+}
+
+#[test]
+fn token_new_and_getters(rt: HostRuntime) {
+    takes_none(&rt, || make_token(&rt));
+}
+
+#[test]
+fn source_map_new(rt: HostRuntime) {
+    takes_none(&rt, || make_of_fields(&rt));
+}
+
+#[test]
+fn deref_and_deref_mut_of_owned_source_map(rt: HostRuntime) {
+    takes_none(&rt, || lend(&rt));
+}
+
+#[test]
+fn from_of_errors(rt: HostRuntime) {
+    takes_none(&rt, || convert_errors(&rt));
+}
+
+#[test]
+fn from_of_errors_of_plans_and_commands(rt: HostRuntime) {
+    takes_none(&rt, || convert_errors_of_plans(&rt));
 }
 
 #[test]

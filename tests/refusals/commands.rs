@@ -1,5 +1,5 @@
 //! Calls of the program's library.
-use oxc_sourcemap::Error;
+use oxc_sourcemap::{Error, evaluate};
 use super::memory::{Ended, begin_call, end_call, failed, passed_if, plan_failed};
 use smap_run::{Command, Port, RunError, inputs_of, read_plan, read_words, run, trace};
 use std::alloc::AllocError;
@@ -26,8 +26,15 @@ fn copied(rt: &HostRuntime, words: &[&str]) -> Result<Vec<String>, RunError> {
     Ok(copies)
 }
 
-/// The words of a plan that joins the map with itself.
-const PLAN: &[&str] = &["join", "2", "@0", "0", "rewrite", "@0", "1"];
+/// The words of a plan with each kind of part.
+const PLAN: &[&str] = &[
+    "join", "2", "compose", "@0", "rewrite", "@0", "0", "joinat", "2", "@0", "0", "2", "@0", "0",
+    "9", "1",
+];
+
+/// What is written of its map.
+const PLANNED: &str =
+    "{\"version\":3,\"names\":[\"x\",\"x\",\"x\"],\"sources\":[\"a.js\",\"a.js\",\"a.js\"],\"mappings\":\"AAAA,GAAIA;ECAJ,GAAIC,ICAJ,GAAIC\"}\n";
 
 /// The command, its input, and what it writes. The words are those of its plan.
 fn ordered<'w>(order: Order, words: &'w [String]) -> (Command<'w>, &'static str, &'static str) {
@@ -44,11 +51,7 @@ fn ordered<'w>(order: Order, words: &'w [String]) -> (Command<'w>, &'static str,
             "data:application/json;charset=utf-8;base64,eyJ2ZXJzaW9uIjozLCJuYW1lcyI6WyJ4Il0sInNvdXJjZXMiOlsiYS5qcyJdLCJtYXBwaW5ncyI6IkFBQUEsR0FBSUEifQ==\n",
         ),
         Order::Trace => (Command::Trace(0, 3), INPUT, "\"a.js\":0:4 \"x\"\n"),
-        Order::Plan => (
-            Command::Plan(words),
-            INPUT,
-            "{\"version\":3,\"names\":[\"x\",\"x\"],\"sources\":[\"a.js\",\"a.js\"],\"mappings\":\"AAAA,GAAIA;ACAJ,GAAIC\"}\n",
-        ),
+        Order::Plan => (Command::Plan(words), INPUT, PLANNED),
     }
 }
 
@@ -112,10 +115,13 @@ pub fn read_arguments_of_plan(rt: &HostRuntime) -> Result<Ended, RunError> {
     begin_call();
     let read = read_plan(rt.alloc(), &[INPUT], words.as_slice());
     end_call();
-    Ok(match read {
-        Ok(_) => Ended::Passed,
-        Err(error) => run_failed(error),
-    })
+    match read {
+        Ok(plan) => {
+            let text = evaluate(rt.alloc(), &plan)?.to_json_string(rt.alloc())?;
+            Ok(passed_if(PLANNED.strip_suffix('\n') == Some(text.as_str())))
+        }
+        Err(error) => Ok(run_failed(error)),
+    }
 }
 
 /// Looks a position up.

@@ -1,7 +1,9 @@
 //! Setters. A refused one leaves the map as it was.
-use oxc_sourcemap::{OwnedSourceMap, Result, SourceMap};
-use super::fixtures::{TEXT, full_map, full_owned_map, has_text};
+use oxc_sourcemap::{OwnedSourceMap, Result, SourceMap, SourceMapParts};
+use super::fixtures::{are_equal, chunked_parts};
 use super::memory::{Ended, begin_call, end_call, failed, passed_if};
+use std::alloc::Global;
+use std::borrow::CowStr;
 
 /// A setter.
 #[derive(Clone, Copy)]
@@ -48,46 +50,46 @@ fn set_owned(
     set
 }
 
-/// The text of the map once the field is set.
-fn wanted(setter: Setter) -> &'static str {
+/// The parts of the map once the field is set.
+fn wanted(alloc: Global, setter: Setter) -> Result<SourceMapParts<'static>> {
+    let sources = vec![in alloc; CowStr::Borrowed("c.js"), CowStr::Borrowed("d.js")]?;
+    let contents = vec![in alloc; None, Some(CowStr::Borrowed("B"))]?;
+    let mut parts = chunked_parts(alloc)?;
     match setter {
-        Setter::File =>
-            r#"{"version":3,"file":"new.js","sourceRoot":"root","names":["n0","n1"],"sources":["a.js","b.js"],"sourcesContent":["A",null],"ignoreList":[1],"mappings":"AAAAA,CCACC,C","debugId":"dbg"}"#,
-        Setter::DebugId =>
-            r#"{"version":3,"file":"out.js","sourceRoot":"root","names":["n0","n1"],"sources":["a.js","b.js"],"sourcesContent":["A",null],"ignoreList":[1],"mappings":"AAAAA,CCACC,C","debugId":"id"}"#,
-        Setter::Sources =>
-            r#"{"version":3,"file":"out.js","sourceRoot":"root","names":["n0","n1"],"sources":["c.js","d.js"],"sourcesContent":["A",null],"ignoreList":[1],"mappings":"AAAAA,CCACC,C","debugId":"dbg"}"#,
-        Setter::SourceContents =>
-            r#"{"version":3,"file":"out.js","sourceRoot":"root","names":["n0","n1"],"sources":["a.js","b.js"],"sourcesContent":[null,"B"],"ignoreList":[1],"mappings":"AAAAA,CCACC,C","debugId":"dbg"}"#,
+        Setter::File => parts.file = Some(CowStr::Borrowed("new.js")),
+        Setter::DebugId => parts.debug_id = Some(CowStr::Borrowed("id")),
+        Setter::Sources => parts.sources = sources,
+        Setter::SourceContents => parts.source_contents = contents,
     }
+    Ok(parts)
 }
 
-/// How a call ended that set a field of this map, or left the map as it was.
+/// How a call ended that set a field of a map which now has these parts, or left the map as it was.
 fn set_ended(
-    rt: &HostRuntime,
+    alloc: Global,
     setter: Setter,
     set: Result<()>,
-    map: &SourceMap<'_>,
+    parts: &SourceMapParts<'_>,
 ) -> Result<Ended> {
     Ok(match set {
-        Ok(()) => passed_if(has_text(rt.alloc(), map, wanted(setter))?),
-        Err(error) if has_text(rt.alloc(), map, TEXT)? => failed(error),
+        Ok(()) => passed_if(are_equal(parts, &wanted(alloc, setter)?)),
+        Err(error) if are_equal(parts, &chunked_parts(alloc)?) => failed(error),
         Err(_) => Ended::Wrong,
     })
 }
 
 /// Sets a field of a map.
 pub fn set_field(rt: &HostRuntime, setter: Setter) -> Result<Ended> {
-    let mut map = full_map(rt.alloc())?;
+    let mut map = SourceMap::from_parts(chunked_parts(rt.alloc())?);
     let contents = vec![in rt.alloc(); None, Some("B")]?;
     let set = set(rt, setter, &mut map, contents);
-    set_ended(rt, setter, set, &map)
+    set_ended(rt.alloc(), setter, set, &map.into_parts())
 }
 
 /// Sets a field of an owned map.
 pub fn set_owned_field(rt: &HostRuntime, setter: Setter) -> Result<Ended> {
-    let mut map = full_owned_map(rt.alloc())?;
+    let mut map = OwnedSourceMap::from_parts(chunked_parts(rt.alloc())?);
     let contents = vec![in rt.alloc(); None, Some("B")]?;
     let set = set_owned(rt, setter, &mut map, contents);
-    set_ended(rt, setter, set, map.as_source_map())
+    set_ended(rt.alloc(), setter, set, &map.into_parts())
 }

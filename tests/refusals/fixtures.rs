@@ -1,5 +1,5 @@
 //! Maps that calls are made on.
-use oxc_sourcemap::{OwnedSourceMap, Result, SourceMap, SourceMapParts, Token};
+use oxc_sourcemap::{OwnedSourceMap, Result, SourceMap, SourceMapParts, Token, TokenChunk};
 use std::alloc::Global;
 use std::borrow::CowStr;
 
@@ -49,4 +49,28 @@ pub fn lent_map(alloc: Global) -> Result<SourceMap<'static>> {
 pub fn has_text(alloc: Global, map: &SourceMap<'_>, wanted: &str) -> Result<bool> {
     let text = map.to_json_string(alloc)?;
     Ok(text.as_str() == wanted)
+}
+
+/// The parts of the map with every field, with chunks that fit its tokens.
+pub fn chunked_parts(alloc: Global) -> Result<SourceMapParts<'static>> {
+    let chunks = vec![in alloc;
+        TokenChunk::new(0, 1, 0, 0, 0, 0, 0, 0),
+        TokenChunk::new(1, 3, 0, 0, 0, 0, 0, 0),
+    ]?;
+    let mut parts = full_map(alloc)?.into_parts();
+    parts.token_chunks = Some(chunks);
+    Ok(parts)
+}
+
+/// Whether all nine fields of these parts are equal.
+pub fn are_equal(parts: &SourceMapParts<'_>, wanted: &SourceMapParts<'_>) -> bool {
+    parts.file == wanted.file
+        && parts.names == wanted.names
+        && parts.source_root == wanted.source_root
+        && parts.sources == wanted.sources
+        && parts.source_contents == wanted.source_contents
+        && parts.tokens.as_slice() == wanted.tokens.as_slice()
+        && parts.token_chunks == wanted.token_chunks
+        && parts.ignore_list == wanted.ignore_list
+        && parts.debug_id == wanted.debug_id
 }

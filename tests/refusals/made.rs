@@ -1,6 +1,7 @@
 //! Calls that make a map or a JSON source map.
 use oxc_sourcemap::{
-    JSONSourceMap, OwnedSourceMap, Result, SourceMap, decode, decode_from_string, encode,
+    JSONSourceMap, OwnedSourceMap, Result, SourceMap, decode, decode_from_string, decode_value,
+    encode,
 };
 use super::ended::map_ended;
 use super::fixtures::{
@@ -33,6 +34,15 @@ fn made(rt: &HostRuntime, make: Make, map: &SourceMap<'static>) -> Result<Source
 pub fn make_map(rt: &HostRuntime, make: Make) -> Result<Ended> {
     let map = full_map(rt.alloc())?;
     let made = made(rt, make, &map);
+    map_ended(rt, &made, TEXT)
+}
+
+/// Reads the value of a map by itself.
+pub fn read_value(rt: &HostRuntime) -> Result<Ended> {
+    let value = Value::from_str(rt.alloc(), TEXT)?;
+    begin_call();
+    let made = decode_value(rt.alloc(), &value);
+    end_call();
     map_ended(rt, &made, TEXT)
 }
 

@@ -65,12 +65,26 @@ const EVALUATED: &str =
 
 /// Evaluates that plan.
 pub fn evaluate_plan(rt: &HostRuntime) -> Result<Ended> {
-    let plan = plan(rt)?;
+    evaluated(rt, &plan(rt)?, EVALUATED)
+}
+
+/// Evaluates a plan that joins a map with itself, at columns.
+pub fn evaluate_join_at(rt: &HostRuntime) -> Result<Ended> {
+    let first = (Plan::Read(LENT_TEXT), 0, 2);
+    let second = (Plan::Read(LENT_TEXT), 0, 5);
+    let plan = Plan::JoinAt(vec![in rt.alloc(); first, second]?);
+    evaluated(rt, &plan, JOINED_AT)
+}
+
+const JOINED_AT: &str =
+    r#"{"version":3,"names":["n","n"],"sources":["a.js","a.js"],"sourcesContent":["A","A"],"mappings":"EAAAA,GCAAC"}"#;
+
+fn evaluated(rt: &HostRuntime, plan: &Plan<'_>, wanted: &str) -> Result<Ended> {
     begin_call();
-    let made = evaluate(rt.alloc(), &plan);
+    let made = evaluate(rt.alloc(), plan);
     end_call();
     match made {
-        Ok(map) => owned_ended(rt, &Ok(map), EVALUATED),
+        Ok(map) => owned_ended(rt, &Ok(map), wanted),
         Err(error) => Ok(plan_failed(error)),
     }
 }

@@ -148,7 +148,7 @@ fn moved_indexed(alloc: Global, value: Value) -> Result<SourceMapParts<'static>>
 
 /// The parts of the map that a JSON value says. A value whose `sections` is there and is not null is an indexed map: the join
 /// of the maps of its sections, each at its offset, with the file of the value and without chunks. Of its other keys only
-/// `version` is looked at. Any other value is read by `JSONSourceMap::from_value` and `decode_parts`.
+/// `version` and `file` are looked at. Any other value is read by `JSONSourceMap::from_value` and `decode_parts`.
 ///
 /// An indexed map fails with what `file_from_value` refuses, then with `BadJson(Shape(Sections))` unless `sections` is a list,
 /// then with the first fault of a section. Each section is read and joined before the next one is looked at, and fails with

@@ -81,20 +81,9 @@ def start(section):
     return section["offset"]["line"], section["offset"]["column"]
 
 
-def placed(value):
-    """The maps of an indexed map, each with its tokens at their place in the bundle."""
-    maps = []
-    for section in value["sections"]:
-        line, column = start(section)
-        tokens = [(at_line + line, at_column + (column if at_line == 0 else 0), *rest)
-                  for at_line, at_column, *rest in peer.decode(section["map"]["mappings"])]
-        maps.append((section["map"], tokens))
-    return maps
-
-
 def joined_text(value, file):
     """The JSON text of the join of the sections."""
-    joined, tokens = peer.join([(map, tokens, 0) for map, tokens in placed(value)])
+    joined, tokens = peer.read(value)
     return peer.to_text({**joined, "file": file}, tokens)
 
 
@@ -108,7 +97,7 @@ def named(map, token):
 def some_positions(value, count):
     """Columns of tokens and columns beside them, columns where sections begin, and random ones."""
     chosen = random.Random(1)
-    tokens = [token for _, tokens in placed(value) for token in tokens]
+    tokens = [token for _, tokens in peer.placed(value) for token in tokens]
     beside = lambda place: (place[0], max(0, place[1] + chosen.choice([-1, 0, 0, 1])))
     near = [beside(token) for token in chosen.choices(tokens, k=count * 6 // 10)]
     first = [beside(start(section)) for section in chosen.choices(value["sections"], k=count * 2 // 10)]
@@ -223,7 +212,7 @@ def compared(name, how, value):
     given = json.dumps({"map": value, "positions": positions}).encode()
     peers = json.loads(run(["node", f"{HERE}/indexed_peers.js"], input=given))
     tokens = Counter((line, column, *(named(map, (line, column, *rest)) or [None] * 4))
-                     for map, part in placed(value) for line, column, *rest in part)
+                     for map, part in peer.placed(value) for line, column, *rest in part)
     none = sum(token is None for _, token in wanted)
     unmapped = sum(token is not None and token[2] is None for _, token in wanted)
     in_mid_line = sum(column > 0 for _, column in sections.starts)
@@ -244,7 +233,7 @@ def main():
     if not options.smap:
         top = os.path.dirname(HERE)
         subprocess.run([f"{top}/smap", "mappings", "0", "0"], stdin=subprocess.DEVNULL, stdout=subprocess.DEVNULL, check=True)
-        options.smap = f"{top}/crates/smap/out/smap"
+        options.smap = f"{top}/target/smap"
     options.smap = os.path.abspath(options.smap)
     os.environ.setdefault("NODE_PATH", "/usr/share/nodejs")
     os.makedirs(f"{options.folder}/parts", exist_ok=True)

@@ -226,7 +226,7 @@ def main():
     if not options.smap:
         top = os.path.dirname(HERE)
         subprocess.run([f"{top}/smap", "mappings", "0", "0"], stdin=subprocess.DEVNULL, stdout=subprocess.DEVNULL, check=True)
-        options.smap = f"{top}/crates/smap/out/smap"
+        options.smap = f"{top}/target/smap"
     options.smap = os.path.abspath(options.smap)
     os.chdir(options.folder)
     tables = {"maps": (normalised, "maps"), "traces": (traced, "maps"), "compositions": (composed, "pipelines"),

@@ -33,4 +33,4 @@ def measure(command, given=b"", before=""):
 def built(top):
     """The program `smap` of this repository, proved and built."""
     subprocess.run([f"{top}/smap", "mappings", "0", "0"], stdin=subprocess.DEVNULL, stdout=subprocess.DEVNULL, check=True)
-    return f"{top}/crates/smap/out/smap"
+    return f"{top}/target/smap"

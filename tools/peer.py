@@ -1,4 +1,4 @@
-"""Source maps in plain Python, written after docs/FORMAT.md and apart from the library, for compare_maps.py.
+"""Source maps in plain Python, written after docs/FORMAT.md and apart from the library, for the scripts that compare the two.
 
 A map is the value that json.loads gives; its tokens are tuples (line, column, source, source line, source column, name),
 with None for a source or a name that is missing. Only valid maps are read.
@@ -153,3 +153,21 @@ def join(parts):
         if ignored is not None:
             joined["ignoreList"] = (joined["ignoreList"] or []) + [source + sources for source in ignored]
     return joined, tokens
+
+
+def placed(value):
+    """The maps of an indexed map, each with its tokens at their place in the generated code."""
+    maps = []
+    for section in value["sections"]:
+        line, column = section["offset"]["line"], section["offset"]["column"]
+        tokens = [(at_line + line, at_column + (column if at_line == 0 else 0), *rest)
+                  for at_line, at_column, *rest in decode(section["map"]["mappings"])]
+        maps.append((section["map"], tokens))
+    return maps
+
+
+def read(value):
+    """A map and its tokens. An indexed map is the join of its sections."""
+    if value.get("sections") is None:
+        return value, decode(value["mappings"])
+    return join([(map, tokens, 0) for map, tokens in placed(value)])

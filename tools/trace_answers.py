@@ -1,9 +1,13 @@
-"""trace_answers.py FILE.map POSITIONS ANSWERS: writes positions of generated code to look up in a map, and the answers of
-peer.py, apart from the library, in the form of bindings/*/trace_all.*: at up to 2,000 tokens, beside them, and past the end.
-Ends with status 2, and writes nothing, for a map that peer.py does not look up: indexed, not sorted, or with a line break in a
-text."""
-import json, sys
-import peer
+"""Positions of generated code to look up in a map, and the answers of peer.py, which shares no code with the library, in the form
+of bindings/*/trace_all.*: at up to 2,000 tokens, beside them, and past the end. For ./check-maps."""
+
+import json
+
+from tools import peer
+
+
+class PassedOver(Exception):
+    """Why a file has no answers."""
 
 
 def positions_of(tokens, most=2000):
@@ -22,22 +26,33 @@ def text_of(value, token):
     return text if name is None else f"{text} {value['names'][name]}"
 
 
-def main(path, positions_file, answers_file):
-    value = json.load(open(path, encoding="utf-8"))
-    texts = value.get("names", []) + [it or "" for it in value.get("sources", [])]
-    if "sections" in value or any("\n" in it for it in texts):
-        return 2
-    tokens = peer.decode(value["mappings"])
-    table = peer.Table(tokens)
-    if table.keys != sorted(table.keys):
-        return 2
-    positions = list(positions_of(tokens))
-    answers = [text_of(value, table.find(*at, clamped)) for at in positions for clamped in (False, True)]
-    for name, lines in ((positions_file, [f"{line} {column}" for line, column in positions]), (answers_file, answers)):
-        with open(name, "w", encoding="utf-8", newline="\n") as file:
-            file.write("".join(it + "\n" for it in lines))
-    print(f"{path}: {len(positions)} positions")
-    return 0
+def is_in_range(value, token):
+    limits = 2**32, 2**32, len(value["sources"]), 2**32, 2**32, len(value.get("names", []))
+    is_mapped = token[2] is not None
+    return all(it is None or 0 <= it < limit for it, limit in list(zip(token, limits))[: None if is_mapped else 2])
 
 
-sys.exit(main(*sys.argv[1:]))
+def traced(text):
+    """The map that the bytes of a file say, and its tokens, if it is one that can be traced."""
+    try:
+        value = json.loads(text.decode())
+        if value["version"] != 3:
+            raise PassedOver("not of version 3")
+        value, tokens = peer.read(value)
+        texts = [(it or "").encode() for it in [*value.get("names", []), *value["sources"]]]
+    except (ValueError, LookupError, TypeError, AttributeError, RecursionError) as fault:
+        raise PassedOver("not a map") from fault
+    if not all(is_in_range(value, it) for it in tokens):
+        raise PassedOver("a number out of range")
+    if any(it[:2] > after[:2] for it, after in zip(tokens, tokens[1:])):
+        raise PassedOver("not sorted")
+    if any(b"\n" in it for it in texts):
+        raise PassedOver("a line break in a text")
+    return value, tokens
+
+
+def answered(text):
+    """Positions, and two answers for each: what the map says there, and what it says clamped."""
+    value, tokens = traced(text)
+    table, positions = peer.Table(tokens), list(positions_of(tokens))
+    return positions, [text_of(value, table.find(*at, clamped)) for at in positions for clamped in (False, True)]

@@ -1,5 +1,6 @@
 /* trace_all FILE.map: answers each line `LINE COLUMN` of standard input with two lines, what the map says of the position and
- * what it says clamped: `nothing`, `unmapped`, or `SOURCE:LINE:COLUMN`, then a space and the name if there is one. */
+ * what it says clamped: `nothing`, `unmapped`, or `SOURCE:LINE:COLUMN`, then a space and the name if there is one. Ends with
+ * status 1 and a message if a call is refused or the map is not sorted. */
 #include "oxc_sourcemap.h"
 
 #include <stdio.h>
@@ -29,19 +30,31 @@ static void print(const smap_place *p) {
     }
 }
 
+static int refused(const smap_fault *fault) {
+    uint8_t text[256];
+    size_t len = smap_message(fault, text, sizeof text);
+    fprintf(stderr, "%.*s\n", (int)(len < sizeof text ? len : sizeof text), (const char *)text);
+    return 1;
+}
+
 int main(int argc, char **argv) {
     smap_map map = SMAP_EMPTY;
     smap_fault fault;
     smap_place place;
     size_t len;
+    uint32_t is_sorted;
     unsigned line, column;
     uint8_t *json = read_file(argv[argc - 1], &len);
-    if (smap_from_json_string(json, len, &map, &fault)) return 1;
+    if (smap_from_json_string(json, len, &map, &fault)) return refused(&fault);
     free(json);
+    if (smap_is_sorted(&map, &is_sorted) || !is_sorted) {
+        fputs("Tokens are not in order of line and column\n", stderr);
+        return 1;
+    }
     while (scanf("%u %u", &line, &column) == 2) {
-        if (smap_trace(&map, line, column, &place, &fault)) return 1;
+        if (smap_trace(&map, line, column, &place, &fault)) return refused(&fault);
         print(&place);
-        if (smap_trace_clamped(&map, line, column, &place, &fault)) return 1;
+        if (smap_trace_clamped(&map, line, column, &place, &fault)) return refused(&fault);
         print(&place);
     }
     smap_free_map(&map);

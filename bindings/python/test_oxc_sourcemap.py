@@ -171,10 +171,11 @@ class Real(unittest.TestCase):
         with open(os.environ["OXC_SOURCEMAP_MAP"], "rb") as file:
             text = file.read()
         said = json.loads(text)
-        if "sections" in said:
-            self.skipTest("a map with sections")
+        maps = [said] if said.get("sections") is None else [it["map"] for it in said["sections"]]
+        sources = [it or "" for map in maps for it in map["sources"]]
+        names = [it for map in maps for it in map.get("names", [])]
         with SourceMap.from_json(text) as map:
-            self.assertEqual((map.sources, map.names), (said["sources"], said.get("names", [])))
+            self.assertEqual((map.sources, map.names), (sources, names))
             with SourceMap.from_json(map.to_json()) as again:
                 self.assertEqual(again.to_json(), map.to_json())
                 self.assertEqual(list(again.tokens()), list(map.tokens()))

@@ -246,6 +246,15 @@ fn setters_set_their_field(rt: HostRuntime) -> Result<()> {
     Ok(())
 }
 
+#[test]
+fn an_ignore_list_of_nothing_is_written(rt: HostRuntime) -> Result<()> {
+    let mut map = SourceMap::empty(rt.alloc())?;
+    map.set_ignore_list(Vec::new(rt.alloc()));
+    let text = r#"{"version":3,"names":[],"sources":[],"ignoreList":[],"mappings":""}"#;
+    is_text(&rt, "text", &map.to_json_string(rt.alloc()), Ok(text));
+    Ok(())
+}
+
 /// The text of a clone.
 fn text_of_clone(alloc: Global, map: &SourceMap<'_>) -> Result<String> {
     map.clone(alloc)?.to_json_string(alloc)

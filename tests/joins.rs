@@ -491,6 +491,17 @@ fn maps_are_joined(rt: HostRuntime) -> Result<()> {
     Ok(())
 }
 
+/// The data URL of the join of no maps.
+const URL: &str =
+    "data:application/json;charset=utf-8;base64,eyJ2ZXJzaW9uIjozLCJuYW1lcyI6W10sInNvdXJjZXMiOltdLCJtYXBwaW5ncyI6IiJ9";
+
+#[test]
+fn the_join_of_no_maps_has_a_url(rt: HostRuntime) -> Result<()> {
+    let joined = joined(rt.alloc(), &[])?;
+    is_text(&rt, "url", &joined.to_data_url(rt.alloc()), Ok(URL));
+    Ok(())
+}
+
 /// Two maps, the column of the joined line 0 where the second one begins, and the JSON text of the join.
 const SIDE_BY_SIDE: &[(&str, &str, u32, Result<&str>)] = &[
     (
@@ -708,8 +719,8 @@ const PIECES: &[([u32; 8], Result<&str>)] = &[
     ([2, 4, 0, 0, 0, 0, 0, 0], Err(Error::BadChunks(0))),
 ];
 
-/// Nothing is added to the text where a piece is refused.
-fn a_piece_is_written(
+/// Asserts what a chunk is written as, or why it is not. Nothing is added to the text where it is refused.
+pub fn a_piece_is_written(
     rt: &impl Abort,
     alloc: Global,
     tokens: &[Token],

@@ -1,7 +1,7 @@
 //! Lookup tables and lookups, on maps plain and owned.
-use crate::helpers::same;
+use crate::helpers::{same, seen};
 use crate::rows::{Row, map_of, tokens_of};
-use oxc_sourcemap::{Error, OwnedSourceMap, Result, SourceMap, Token};
+use oxc_sourcemap::{Error, OwnedSourceMap, Result, SourceMap, SourceViewToken, Token};
 use std::alloc::Global;
 use std::process::Abort;
 
@@ -64,6 +64,11 @@ fn token_at(rows: &[Row], index: Option<usize>) -> Option<Token> {
     Some(Token::new(dst_line, dst_col, src_line, src_col, source_id, name_id))
 }
 
+/// The token that is viewed.
+fn token_of(view: Option<SourceViewToken<'_, '_>>) -> Option<Token> {
+    Some(seen(view?).0)
+}
+
 fn a_map_finds(rt: &impl Abort, alloc: Global, map: &SourceMap<'_>, lookup: &Lookup) -> Result<()> {
     let (rows, line, col, exact, clamped) = *lookup;
     let table = map.generate_lookup_table(alloc)?;
@@ -77,9 +82,9 @@ fn a_map_finds(rt: &impl Abort, alloc: Global, map: &SourceMap<'_>, lookup: &Loo
     let found = map.lookup_token_approx(table, line, col);
     same(rt, "clamped", found, token_at(rows, clamped));
     let view = map.lookup_source_view_token(table, line, col);
-    same(rt, "exact view", view.is_some(), exact.is_some());
+    same(rt, "exact view", token_of(view), token_at(rows, exact));
     let view = map.lookup_source_view_token_approx(table, line, col);
-    same(rt, "clamped view", view.is_some(), clamped.is_some());
+    same(rt, "clamped view", token_of(view), token_at(rows, clamped));
     Ok(())
 }
 
@@ -103,9 +108,9 @@ fn an_owned_map_finds(
     let found = map.lookup_token_approx(table, line, col);
     same(rt, "clamped", found, token_at(rows, clamped));
     let view = map.lookup_source_view_token(table, line, col);
-    same(rt, "exact view", view.is_some(), exact.is_some());
+    same(rt, "exact view", token_of(view), token_at(rows, exact));
     let view = map.lookup_source_view_token_approx(table, line, col);
-    same(rt, "clamped view", view.is_some(), clamped.is_some());
+    same(rt, "clamped view", token_of(view), token_at(rows, clamped));
     Ok(())
 }
 
@@ -307,7 +312,7 @@ fn some_token_or_none_is_found(rt: &impl Abort, alloc: Global, map: &SourceMap<'
     let is_second = found == token_at(BACK_A_COLUMN, Some(1));
     assert!(rt; found.is_none() || is_first || is_second);
     let view = map.lookup_source_view_token(table.as_slice(), 0, 2);
-    same(rt, "view", view.is_some(), found.is_some());
+    same(rt, "view", token_of(view), found);
     Ok(())
 }
 

@@ -99,6 +99,7 @@ const SHOWN: &[Shown] = &[
         &[(0, 0, 0, 9, Some(0), None), (3, 0, 0, 0, Some(0), None)],
         "- a.js\n(0:9) [invalid] --> (0:0)\n(0:0) --> (3:0) [invalid]\n",
     ),
+    ("x", &["a.js"], &[], &[], "[no source contents]\n"),
     (
         "hello\n",
         &["a.js", "b.js"],

@@ -1,4 +1,4 @@
-// Shapes with their größe: 😀 stands before code, and a name has a letter beyond 16 bits.
+// Shapes with their größe: 😀 stands before code.
 export interface Shape {
   readonly name: string;
   größe(): number;
@@ -9,18 +9,18 @@ export enum Kind { Circle = "○", Square = "□" }
 type Made<K extends Kind> = K extends Kind.Circle ? Circle : Square;
 
 abstract class Named implements Shape {
-  constructor(readonly name: string, protected readonly 𐐨𐐩: number) {}
+  constructor(readonly name: string, protected readonly länge: number) {}
   abstract größe(): number;
   toString(): string { return `${this.name} 😀 ${this.größe().toFixed(2)}`; }
 }
 
 export class Circle extends Named {
   static readonly π = 3.14159;
-  größe(): number { return Circle.π * this.𐐨𐐩 ** 2; }
+  größe(): number { return Circle.π * this.länge ** 2; }
 }
 
 export class Square extends Named {
-  größe(): number { return this.𐐨𐐩 * this.𐐨𐐩; }
+  größe(): number { return this.länge * this.länge; }
 }
 
 export function make<K extends Kind>(kind: K, size: number, name?: string): Made<K> {

@@ -4,18 +4,18 @@ export var Kind;
     Kind["Square"] = "\u25A1";
 })(Kind || (Kind = {}));
 class Named {
-    constructor(name, 𐐨𐐩) {
+    constructor(name, länge) {
         this.name = name;
-        this.𐐨𐐩 = 𐐨𐐩;
+        this.länge = länge;
     }
     toString() { return `${this.name} 😀 ${this.größe().toFixed(2)}`; }
 }
 export class Circle extends Named {
-    größe() { return Circle.π * this.𐐨𐐩 ** 2; }
+    größe() { return Circle.π * this.länge ** 2; }
 }
 Circle.π = 3.14159;
 export class Square extends Named {
-    größe() { return this.𐐨𐐩 * this.𐐨𐐩; }
+    größe() { return this.länge * this.länge; }
 }
 export function make(kind, size, name) {
     const made = kind === Kind.Circle ? new Circle(name ?? "円", size) : new Square(name ?? "四角", size);

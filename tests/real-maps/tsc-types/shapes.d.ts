@@ -9,8 +9,8 @@ export declare enum Kind {
 declare type Made<K extends Kind> = K extends Kind.Circle ? Circle : Square;
 declare abstract class Named implements Shape {
     readonly name: string;
-    protected readonly 𐐨𐐩: number;
-    constructor(name: string, 𐐨𐐩: number);
+    protected readonly länge: number;
+    constructor(name: string, länge: number);
     abstract größe(): number;
     toString(): string;
 }

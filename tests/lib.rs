@@ -1,4 +1,4 @@
-//! Tests of the library and of the commands of the program, by tables whose answers come from outside. `./check-tests` runs
+//! Tests of the library and of the commands of the program, by tables whose answers come from outside. `./check tests` runs
 //! them. They are not proved: a proof of a test says no more than that the test itself is safe.
 #![tactic(auto)]
 

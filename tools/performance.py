@@ -3,7 +3,7 @@
 
     tools/performance.py [--rounds N] [--beside PROGRAM] [--whole PROGRAM] [--smap PROGRAM] [--only TABLE] [--into FILE] FOLDER
 
---beside names a program like tools/bench over another library (see ./bench), --whole one whose commands are `normalise`, and
+--beside names a program like tools/bench over another library (see tools/bench/bench), --whole one whose commands are `normalise`, and
 `compose` of texts separated by lines `---`, the last step's first. Both sides run in turn, and the best of N rounds counts.
 --only prints one of the tables stages, pipelines, processes, growth and builders (of one round, since it takes long).
 --into replaces the part of FILE between the lines `<!-- measured -->` and `<!-- end -->`. Needs Debian's package `time`.
@@ -33,9 +33,9 @@ def ratio(ours, theirs, goal):
 
 
 def bench(paths, rounds):
-    """The rows that ./bench prints, by map and stage."""
+    """The rows that tools/bench/bench prints, by map and stage."""
     beside = ["--beside", options.beside] if options.beside else []
-    command = [f"{TOP}/bench", "--json", "--rounds", str(rounds), *beside, *paths]
+    command = [f"{TOP}/tools/bench/bench", "--json", "--rounds", str(rounds), *beside, *paths]
     ran = subprocess.run(command, stdout=subprocess.PIPE, check=True)
     rows = map(json.loads, ran.stdout.splitlines())
     return {(row["map"], row["stage"]): row for row in rows if "ns" in row}

@@ -1,4 +1,4 @@
-// Refuses requests for memory of the tests, which are linked with it (./check-tests): it stands between them and the allocator
+// Refuses requests for memory of the tests, which are linked with it (./check tests): it stands between them and the allocator
 // of C. tests/refusals/memory.rs says what these functions do.
 //
 // The tests are watched by AddressSanitizer, whose allocator is there under names of its own.

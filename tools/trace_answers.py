@@ -1,5 +1,5 @@
 """Positions of generated code to look up in a map, and the answers of peer.py, which shares no code with the library, in the form
-of bindings/*/trace_all.*: at up to 2,000 tokens, beside them, and past the end. For ./check-maps."""
+of bindings/*/trace_all.*: at up to 2,000 tokens, beside them, and past the end. For tools/check/maps."""
 
 import json
 

@@ -1,5 +1,5 @@
 /* bench FILE.map: times reading, writing and 100,000 lookups through the interface, as the stages `parse`, `serialize` and
- * `lookup` of ./bench do: the best of 20 runs, in nanoseconds a token and, for lookups, each. */
+ * `lookup` of tools/bench/bench do: the best of 20 runs, in nanoseconds a token and, for lookups, each. */
 #define _POSIX_C_SOURCE 199309L
 #include "oxc_sourcemap.h"
 

@@ -1,7 +1,7 @@
 //! Times the calls of `oxc_sourcemap` on the source map that standard input has as JSON text, or on the composition of
 //! several, separated by lines `---`, the first nearest to the sources. Prints a line of JSON for each stage: its name, the
 //! nanoseconds of the best run, and the number of tokens of the map (of the last one, for a composition). Without input it
-//! prints nothing. `./bench` runs it over files.
+//! prints nothing. `tools/bench/bench` runs it over files.
 #![tactic(auto)]
 
 mod fault;

@@ -1,4 +1,4 @@
-//! The library for C: opaque handles, numbers, and texts as pointers with lengths (`include/oxc_sourcemap.h`).
+//! The library for C: opaque handles, numbers, and texts as pointers with lengths (`bindings/c/oxc_sourcemap.h`).
 //!
 //! A call returns 0, or the code of a refusal (`fault_of`). Handles that a call does not take are as they were after each
 //! refusal.

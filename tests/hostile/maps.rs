@@ -183,7 +183,7 @@ const ORDERS: &[Hostile] = &[
         ),
         ..USUAL
     },
-    // The greatest column, joined to a column.
+    // The greatest column, after the one before it.
     Hostile {
         rows: &[
             (0, 4294967294, 0, 0, None, None),

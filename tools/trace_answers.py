@@ -22,7 +22,7 @@ def text_of(value, token):
     if token is None or token[2] is None:
         return "nothing" if token is None else "unmapped"
     _, _, source, line, column, name = token
-    text = f"{value['sources'][source] or ''}:{line}:{column}"
+    text = f"{value['sources'][source]}:{line}:{column}"
     return text if name is None else f"{text} {value['names'][name]}"
 
 
@@ -39,15 +39,15 @@ def traced(text):
         if value["version"] != 3:
             raise PassedOver("not of version 3")
         value, tokens = peer.read(value)
-        texts = [(it or "").encode() for it in [*value.get("names", []), *value["sources"]]]
+        if None in value["sources"]:
+            raise PassedOver("a source is null")
+        "".join([*value.get("names", []), *value["sources"]]).encode()
     except (ValueError, LookupError, TypeError, AttributeError, RecursionError) as fault:
         raise PassedOver("not a map") from fault
     if not all(is_in_range(value, it) for it in tokens):
         raise PassedOver("a number out of range")
     if any(it[:2] > after[:2] for it, after in zip(tokens, tokens[1:])):
         raise PassedOver("not sorted")
-    if any(b"\n" in it for it in texts):
-        raise PassedOver("a line break in a text")
     return value, tokens
 
 

@@ -172,7 +172,7 @@ class Real(unittest.TestCase):
             text = file.read()
         said = json.loads(text)
         maps = [said] if said.get("sections") is None else [it["map"] for it in said["sections"]]
-        sources = [it or "" for map in maps for it in map["sources"]]
+        sources = [it for map in maps for it in map["sources"]]
         names = [it for map in maps for it in map.get("names", [])]
         with SourceMap.from_json(text) as map:
             self.assertEqual((map.sources, map.names), (sources, names))

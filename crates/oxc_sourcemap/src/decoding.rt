@@ -1,19 +1,19 @@
 //! Reading a map from a JSON source map, from a JSON value and from a JSON text.
 ghost use Rattle.std.specs.Prelude.{◌≡◌, ◌≢◌, ◌↔◌, true, Some, IfOk, IfErr, Ok, Err};
 ghost use Rattle.serde_json.specs.View.{view};
-ghost use Rattle.oxc_sourcemap_error.specs.declared.error.Error.{Error};
-ghost use Rattle.oxc_sourcemap_error.specs.declared.error.Error.TheVariants.{OutOfMemory};
+ghost use Rattle.oxc_sourcemap_tokens.specs.declared.error.Error.{Error};
+ghost use Rattle.oxc_sourcemap_tokens.specs.declared.error.Error.TheVariants.{OutOfMemory};
 ghost use Rattle.oxc_sourcemap_tokens.specs.LineOrder.{IsInLineOrder};
 ghost use Rattle.oxc_sourcemap_parts.specs.Sorted.{are_tokens_sorted};
 ghost use Rattle.oxc_sourcemap_parts.specs.Sound.{IsSound};
 ghost use Rattle.oxc_sourcemap_json.specs.Json.{json_record};
-ghost use Rattle.oxc_sourcemap_json.specs.Decoded.{decoded, json_fault};
-ghost use Rattle.oxc_sourcemap_sections.specs.ReadMap.{read_value, read_map};
+ghost use Rattle.oxc_sourcemap_decode.specs.Decoded.{decoded, json_fault};
+ghost use Rattle.oxc_sourcemap_decode.specs.ReadMap.{read_value, read_map};
 
-use oxc_sourcemap_error::Result;
+use oxc_sourcemap_decode::decode_parts_from_value;
 use oxc_sourcemap_json::JSONSourceMap;
 use oxc_sourcemap_map::SourceMap;
-use oxc_sourcemap_sections::decode_parts_from_value;
+use oxc_sourcemap_tokens::Result;
 use serde_json::Value;
 use std::alloc::Global;
 
@@ -51,7 +51,7 @@ pub fn decode(alloc: Global, json: JSONSourceMap) -> Result<SourceMap<'static>>
 /// - `TooLarge` if the join with its map would be too large, as for `ConcatSourceMapBuilder::add_sourcemap_at`.
 ///
 /// Also `OutOfMemory` if memory is refused, which may be before another error is found.
-#[tactic(auto, using(oxc_sourcemap_sections::proofs::WellRead::value_sound, oxc_sourcemap_sections::proofs::WellRead::value_in_order))]
+#[tactic(auto, using(oxc_sourcemap_decode::proofs::WellRead::value_sound, oxc_sourcemap_decode::proofs::WellRead::value_in_order))]
 pub fn decode_value(alloc: Global, value: &Value) -> Result<SourceMap<'static>>
     ensures map { IfOk result (λ map. read_value (view value.now) ≡ Ok map) }
     ensures sound { IfOk result (λ map. IsSound map ↔ (are_tokens_sorted map.tokens ≡ true)) }

@@ -1,14 +1,14 @@
 //! Writing a map as a JSON source map and as a JSON text.
 ghost use Rattle.std.specs.Prelude.{◌≡◌, ◌≢◌, string_bytes, IfOk, IfErr, OnOk, Ok, Err};
-ghost use Rattle.oxc_sourcemap_error.specs.declared.error.Error.TheVariants.{OutOfMemory};
+ghost use Rattle.oxc_sourcemap_tokens.specs.declared.error.Error.TheVariants.{OutOfMemory};
 ghost use Rattle.oxc_sourcemap_tokens.specs.Token.{AreInBounds};
 ghost use Rattle.oxc_sourcemap_json.specs.Json.{json_record};
-ghost use Rattle.oxc_sourcemap_json_text.specs.Encoded.{encoded};
-ghost use Rattle.oxc_sourcemap_json_text.specs.JsonText.{map_text};
+ghost use Rattle.oxc_sourcemap_encode.specs.Encoded.{encoded};
+ghost use Rattle.oxc_sourcemap_encode.specs.JsonText.{map_text};
 
-use oxc_sourcemap_error::Result;
 use oxc_sourcemap_json::JSONSourceMap;
 use oxc_sourcemap_map::SourceMap;
+use oxc_sourcemap_tokens::Result;
 use std::alloc::Global;
 
 /// Makes the JSON source map of a map: copies of its fields, and the canonical text of its tokens. A list of contents without

@@ -1,12 +1,12 @@
 -- What exports answer: a code, and a fault that tells more.
 use Rattle.std.specs.Prelude.{◌≡◌, ℕ, Option, Some, None, Result, Ok, Err, MatchOption}
-use Rattle.oxc_sourcemap_error.specs.declared.error.Error.{Error}
+use Rattle.oxc_sourcemap_tokens.specs.declared.error.Error.{Error}
 use Rattle.oxc_sourcemap_parts.specs.Record.{Text, MapRecord}
-use Rattle.oxc_sourcemap_faults.specs.declared.refusal.Refusal.{Refusal}
-use Rattle.oxc_sourcemap_faults.specs.declared.refusal.Refusal.TheVariants.{EmptyHandle, NoEntry}
-use Rattle.oxc_sourcemap_faults.specs.declared.fault.Fault.{Fault}
-use Rattle.oxc_sourcemap_faults.specs.Refusals.{of_map}
-use Rattle.oxc_sourcemap_faults.specs.Codes.{fault_of, code_of}
+use Rattle.oxc_sourcemap_handles.specs.declared.refusal.Refusal.{Refusal}
+use Rattle.oxc_sourcemap_handles.specs.declared.refusal.Refusal.TheVariants.{EmptyHandle, NoEntry}
+use Rattle.oxc_sourcemap_handles.specs.declared.fault.Fault.{Fault}
+use Rattle.oxc_sourcemap_handles.specs.Refusals.{of_map}
+use Rattle.oxc_sourcemap_handles.specs.Codes.{fault_of, code_of}
 use Rattle.oxc_sourcemap_handles.specs.declared.held.Held.{Held}
 use Rattle.oxc_sourcemap_handles.specs.declared.text.Text.{Text as LentText}
 use Rattle.oxc_sourcemap_handles.specs.Holding.{held_map, held_text, HoldsMap}

@@ -4,41 +4,42 @@
 //! refusal.
 #![tactic(auto)]
 
+mod plans;
+
 ghost use Rattle.std.specs.Prelude.{◌≡◌, ◌≢◌, ⊤, true, false, None, Some, Ok, MatchOption, IsUtf8, slice_get};
 ghost use Rattle.std.specs.List.{All};
-ghost use Rattle.oxc_sourcemap_error.specs.declared.error.Error.TheVariants.{TooLarge};
-ghost use Rattle.oxc_sourcemap_sections.specs.ReadMap.{read_map};
-ghost use Rattle.oxc_sourcemap_json_text.specs.JsonText.{map_text, map_url};
-ghost use Rattle.oxc_sourcemap_compose.specs.Composed.{composition, SomeComposition, NoColumnGoesBack};
+ghost use Rattle.oxc_sourcemap_tokens.specs.declared.error.Error.TheVariants.{TooLarge};
+ghost use Rattle.oxc_sourcemap_decode.specs.ReadMap.{read_map};
+ghost use Rattle.oxc_sourcemap_encode.specs.JsonText.{map_text, map_url};
+ghost use Rattle.oxc_sourcemap_lookup.specs.Composed.{composition, SomeComposition, NoColumnGoesBack};
 ghost use Rattle.oxc_sourcemap_tokens.specs.LineOrder.{IsInLineOrder};
 ghost use Rattle.oxc_sourcemap_parts.specs.Sorted.{are_tokens_sorted, token_line, token_column};
 ghost use Rattle.oxc_sourcemap_lookup.specs.Lookup.{pick, clamped_pick};
 ghost use Rattle.oxc_sourcemap_parts.specs.DecodedMap.{decoded_map_of};
 ghost use Rattle.oxc_sourcemap_lookup.specs.Trace.{trace, clamped_trace};
 ghost use Rattle.oxc_sourcemap_map.specs.View.{content_at};
-ghost use Rattle.oxc_sourcemap_builder.specs.Built.{nothing_built};
-ghost use Rattle.oxc_sourcemap_builder.specs.Building.{with_name, with_path};
-ghost use Rattle.oxc_sourcemap_faults.specs.declared.refusal.Refusal.{Refusal};
-ghost use Rattle.oxc_sourcemap_faults.specs.Refusals.{refusal_text, of_map};
-ghost use Rattle.oxc_sourcemap_faults.specs.Codes.{fault_of, code_of, refusal_of, no_fault, IsSmall};
-ghost use Rattle.oxc_sourcemap_faults.specs.Messages.{IsMessage};
+ghost use Rattle.oxc_sourcemap_builders.specs.Built.{nothing_built};
+ghost use Rattle.oxc_sourcemap_builders.specs.Building.{with_name, with_path};
+ghost use Rattle.oxc_sourcemap_handles.specs.declared.refusal.Refusal.{Refusal};
+ghost use Rattle.oxc_sourcemap_handles.specs.Refusals.{refusal_text, of_map};
+ghost use Rattle.oxc_sourcemap_handles.specs.Codes.{fault_of, code_of, refusal_of, no_fault, IsSmall};
+ghost use Rattle.oxc_sourcemap_handles.specs.Messages.{IsMessage};
 ghost use Rattle.oxc_sourcemap_handles.specs.Holding.{held_map, held_builder, HoldsMap};
 ghost use Rattle.oxc_sourcemap_handles.specs.Places.{counts_of, numbers_of};
 ghost use Rattle.oxc_sourcemap_handles.specs.Joins.{all_held, IsJoinOf, IsJoinRefusal};
 ghost use Rattle.oxc_sourcemap_handles.specs.Builders.{token_of, with_token, with_file, Builds, NameHasNoId, SourceHasNoId, IsBuilderRefusal, IsNameRefusal, IsSourceRefusal, IsFileRefusal};
-ghost use Rattle.oxc_sourcemap_plan_bytes.specs.Plans.{plan_of, IsPlanMap, IsPlanRefusal};
+ghost use Rattle.oxc_sourcemap_c.specs.Plans.{plan_of, IsPlanMap, IsPlanRefusal};
 ghost use Rattle.oxc_sourcemap_handles.specs.Answers.{IsRefusedAs, IsReadRefusal, IsCompositionRefusal, HasLength, ignored_at, flag_of};
 ghost use Rattle.oxc_sourcemap_handles.specs.Traces.{IsTrace, IsTraceRefusal, AreTracesOf, IsTraceAllRefusal};
 ghost use Rattle.oxc_sourcemap_c.specs.Exports.{IsRefused, Found, HoldsText, HoldsWritten, IsWritingRefusal};
 
-use oxc_sourcemap_faults::{Fault, write_message};
+use crate::plans::evaluate_bytes;
 use oxc_sourcemap_handles::{
-    Asked, Counts, Handle, Place, Position, Text, TokenNumbers, add_name, add_source, add_token,
-    answered, answered_all, compose, counts, data_url, finish, ignored, is_sorted, join, json,
-    noted, placed, put_builder, put_map, put_text, read, set_file, text_of_map, token, traced,
-    traced_all, written_text,
+    Asked, Counts, Fault, Handle, Place, Position, Text, TokenNumbers, add_name, add_source,
+    add_token, answered, answered_all, compose, counts, data_url, finish, ignored, is_sorted, join,
+    json, noted, placed, put_builder, put_map, put_text, read, set_file, text_of_map, token,
+    traced, traced_all, write_message, written_text,
 };
-use oxc_sourcemap_plan_bytes::evaluate_bytes;
 use std::alloc::Global;
 
 /// Puts the map of a JSON text into a handle.

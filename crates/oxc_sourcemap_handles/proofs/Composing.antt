@@ -1,12 +1,12 @@
 -- The composition of the maps that two handles held.
 use Rattle.std.proofs.Common.{◌≡◌, Option, Some, None, Result, Ok, Err, refl, sym, subst, ◌∙◌}
 use Rattle.std.specs.Prelude.{MatchOption}
-use Rattle.oxc_sourcemap_error.specs.declared.error.Error.{Error}
+use Rattle.oxc_sourcemap_tokens.specs.declared.error.Error.{Error}
 use Rattle.oxc_sourcemap_parts.specs.Record.{MapRecord}
-use Rattle.oxc_sourcemap_compose.specs.Composed.{SomeComposition}
-use Rattle.oxc_sourcemap_faults.specs.declared.refusal.Refusal.{Refusal}
-use Rattle.oxc_sourcemap_faults.specs.declared.refusal.Refusal.TheVariants.{EmptyHandle}
-use Rattle.oxc_sourcemap_faults.specs.Refusals.{of_map}
+use Rattle.oxc_sourcemap_lookup.specs.Composed.{SomeComposition}
+use Rattle.oxc_sourcemap_handles.specs.declared.refusal.Refusal.{Refusal}
+use Rattle.oxc_sourcemap_handles.specs.declared.refusal.Refusal.TheVariants.{EmptyHandle}
+use Rattle.oxc_sourcemap_handles.specs.Refusals.{of_map}
 use Rattle.oxc_sourcemap_handles.specs.Answers.{IsCompositionRefusal}
 
 -- what is taken out of a handle

@@ -7,7 +7,7 @@ use Rattle.oxc_sourcemap_join.specs.Joined.{Offset, at_positions}
 use Rattle.oxc_sourcemap_handles.specs.declared.held.Held.{Held}
 use Rattle.oxc_sourcemap_handles.specs.declared.handle.Handle.{Handle}
 use Rattle.oxc_sourcemap_handles.specs.declared.text.Position.{Position}
-use Rattle.oxc_sourcemap_faults.specs.declared.refusal.Refusal.{Refusal}
+use Rattle.oxc_sourcemap_handles.specs.declared.refusal.Refusal.{Refusal}
 use Rattle.oxc_sourcemap_handles.proofs.Composing.{Taken}
 use Rattle.oxc_sourcemap_handles.specs.Holding.{held_map}
 use Rattle.oxc_sourcemap_handles.specs.Joins.{all_held, offset_of, placed_maps}

@@ -1,3 +1,4 @@
+pub mod ReadBack
 pub mod Values
 pub mod Traces
 pub mod Composing

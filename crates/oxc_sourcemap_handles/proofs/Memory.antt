@@ -1,9 +1,9 @@
 -- Calls that want of memory alone refuses.
 use Rattle.std.proofs.Common.{◌≡◌, ℕ, Result, Ok, Err, IfErr, MatchResult}
-use Rattle.oxc_sourcemap_faults.specs.declared.refusal.Refusal.{Refusal}
-use Rattle.oxc_sourcemap_faults.specs.declared.fault.Fault.{Fault}
-use Rattle.oxc_sourcemap_faults.specs.Refusals.{out_of_memory}
-use Rattle.oxc_sourcemap_faults.specs.Codes.{fault_of, code_of}
+use Rattle.oxc_sourcemap_handles.specs.declared.refusal.Refusal.{Refusal}
+use Rattle.oxc_sourcemap_handles.specs.declared.fault.Fault.{Fault}
+use Rattle.oxc_sourcemap_handles.specs.Refusals.{out_of_memory}
+use Rattle.oxc_sourcemap_handles.specs.Codes.{fault_of, code_of}
 use Rattle.oxc_sourcemap_handles.specs.Answers.{IsRefusedAs}
 
 pub memory_alone : {A : Type 0} (made : Result A Refusal) (fault : Fault) (code : ℕ) → IfErr made (λ r. r ≡ out_of_memory)

@@ -1,17 +1,17 @@
 -- What calls make of the builders that handles hold, and what they refuse.
 use Rattle.std.specs.Prelude.{◌≡◌, ◌≤◌, ◌⊎◌, ℕ, List, [], ◌∷◌, ◌++◌, length, Option, Some, IsNone, MatchOption, IsUtf8}
 use Rattle.std.specs.FinMap as fin
-use Rattle.oxc_sourcemap_error.specs.declared.error.Error.TheVariants.{TooLarge}
+use Rattle.oxc_sourcemap_tokens.specs.declared.error.Error.TheVariants.{TooLarge}
 use Rattle.oxc_sourcemap_parts.specs.Record.{Text}
 use Rattle.oxc_sourcemap_tokens.specs.Token.{TokenRecord, id_of}
 use Rattle.oxc_sourcemap_parts.specs.Texts.{index_of}
-use Rattle.oxc_sourcemap_builder.specs.Built.{Built}
+use Rattle.oxc_sourcemap_builders.specs.Built.{Built}
 use Rattle.oxc_sourcemap_handles.specs.declared.held.Held.{Held}
 use Rattle.oxc_sourcemap_handles.specs.declared.text.TokenNumbers.{TokenNumbers}
-use Rattle.oxc_sourcemap_faults.specs.declared.refusal.Refusal.{Refusal}
-use Rattle.oxc_sourcemap_faults.specs.declared.refusal.Refusal.TheVariants.{EmptyHandle}
+use Rattle.oxc_sourcemap_handles.specs.declared.refusal.Refusal.{Refusal}
+use Rattle.oxc_sourcemap_handles.specs.declared.refusal.Refusal.TheVariants.{EmptyHandle}
 use Rattle.oxc_sourcemap_handles.specs.Holding.{held_builder}
-use Rattle.oxc_sourcemap_faults.specs.Refusals.{of_map, IsNotText}
+use Rattle.oxc_sourcemap_handles.specs.Refusals.{of_map, IsNotText}
 
 -- the token of these numbers; 4294967295 stands for no id
 abbrev pub token_of : TokenNumbers → TokenRecord

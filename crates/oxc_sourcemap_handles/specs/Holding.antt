@@ -2,7 +2,7 @@
 -- three, so a handle may also hold what a call does not take.
 use Rattle.std.specs.Prelude.{◌≡◌, Option, Some, None, string_bytes, MatchOption}
 use Rattle.oxc_sourcemap_parts.specs.Record.{Text, MapRecord}
-use Rattle.oxc_sourcemap_builder.specs.Built.{Built}
+use Rattle.oxc_sourcemap_builders.specs.Built.{Built}
 use Rattle.oxc_sourcemap_handles.specs.declared.held.Held.{Held}
 use Rattle.oxc_sourcemap_handles.specs.declared.held.Held.TheVariants.{Map, Written, Building}
 

@@ -1,16 +1,16 @@
 -- Joins of what handles hold.
 use Rattle.std.specs.Prelude.{◌≡◌, ◌≢◌, ◌⊎◌, ℕ, List, [], ◌∷◌, map, length, Option, Some, None, option_map, MatchOption}
 use Rattle.std.specs.Option.{option_and_then}
-use Rattle.oxc_sourcemap_error.specs.declared.error.Error.TheVariants.{TooLarge}
+use Rattle.oxc_sourcemap_tokens.specs.declared.error.Error.TheVariants.{TooLarge}
 use Rattle.oxc_sourcemap_parts.specs.Record.{MapRecord}
 use Rattle.oxc_sourcemap_join.specs.Joined.{Offset, joined, IsWithinLimits}
 use Rattle.oxc_sourcemap_handles.specs.declared.handle.Handle.{Handle}
 use Rattle.oxc_sourcemap_handles.specs.declared.held.Held.{Held}
 use Rattle.oxc_sourcemap_handles.specs.declared.text.Position.{Position}
-use Rattle.oxc_sourcemap_faults.specs.declared.refusal.Refusal.{Refusal}
-use Rattle.oxc_sourcemap_faults.specs.declared.refusal.Refusal.TheVariants.{EmptyHandle, Lengths}
+use Rattle.oxc_sourcemap_handles.specs.declared.refusal.Refusal.{Refusal}
+use Rattle.oxc_sourcemap_handles.specs.declared.refusal.Refusal.TheVariants.{EmptyHandle, Lengths}
 use Rattle.oxc_sourcemap_handles.specs.Holding.{held_map}
-use Rattle.oxc_sourcemap_faults.specs.Refusals.{of_map}
+use Rattle.oxc_sourcemap_handles.specs.Refusals.{of_map}
 
 -- what each of these handles holds
 abbrev pub all_held : List Handle → List (Option Held)

@@ -1,3 +1,6 @@
+pub mod Refusals
+pub mod Codes
+pub mod Messages
 pub mod Handles
 pub mod Holding
 pub mod Indexed

@@ -1,7 +1,7 @@
 -- How private steps of calls on builders are seen; no public contract cites it.
 use Rattle.std.specs.Prelude.{◌≡◌, ℕ, List, Option, Some}
-use Rattle.oxc_sourcemap_builder.specs.Built.{Built}
-use Rattle.oxc_sourcemap_builder.specs.Building.{with_name, with_path}
+use Rattle.oxc_sourcemap_builders.specs.Built.{Built}
+use Rattle.oxc_sourcemap_builders.specs.Building.{with_name, with_path}
 use Rattle.oxc_sourcemap_handles.specs.declared.builders.Step.{Step}
 use Rattle.oxc_sourcemap_handles.specs.declared.builders.Step.TheVariants.{Name, Source, File, Mapping}
 use Rattle.oxc_sourcemap_handles.specs.Builders.{with_file, with_token, token_of, NameHasNoId, SourceHasNoId}

@@ -1,23 +1,25 @@
 //! What exports do with the builders that handles hold.
 ghost use Rattle.std.specs.Prelude.{◌≡◌, ◌≢◌, ⊤, None, Some, Err, IsUtf8, IfOk, IfErr, OnErr, MatchOption, MatchResult};
-ghost use Rattle.oxc_sourcemap_error.specs.declared.error.Error.TheVariants.{OutOfMemory, TooLarge};
+ghost use Rattle.oxc_sourcemap_tokens.specs.declared.error.Error.TheVariants.{OutOfMemory, TooLarge};
 ghost use Rattle.oxc_sourcemap_tokens.specs.Token.{id_of};
-ghost use Rattle.oxc_sourcemap_builder.specs.Built.{nothing_built};
-ghost use Rattle.oxc_sourcemap_builder.specs.Building.{with_name, with_path};
+ghost use Rattle.oxc_sourcemap_builders.specs.Built.{nothing_built};
+ghost use Rattle.oxc_sourcemap_builders.specs.Building.{with_name, with_path};
 ghost use Rattle.oxc_sourcemap_handles.specs.declared.builders.Step.TheVariants.{File, Mapping};
-ghost use Rattle.oxc_sourcemap_faults.specs.Refusals.{out_of_memory, of_map};
-ghost use Rattle.oxc_sourcemap_faults.specs.Codes.{fault_of, code_of, no_fault};
+ghost use Rattle.oxc_sourcemap_handles.specs.Refusals.{out_of_memory, of_map};
+ghost use Rattle.oxc_sourcemap_handles.specs.Codes.{fault_of, code_of, no_fault};
 ghost use Rattle.oxc_sourcemap_handles.specs.Holding.{held_builder};
 ghost use Rattle.oxc_sourcemap_handles.specs.Answers.{IsRefusedAs};
 ghost use Rattle.oxc_sourcemap_handles.specs.Steps.{stepped, HasNoId};
 ghost use Rattle.oxc_sourcemap_handles.specs.Builders.{token_of, with_token, with_file, Builds, NameHasNoId, SourceHasNoId, IsAddRefusal, IsBuilderRefusal, IsNameRefusal, IsSourceRefusal, IsFileRefusal};
 
+use crate::fault::Fault;
 use crate::handle::Handle;
 use crate::held::Held;
 use crate::operations::put;
+use crate::refusal::Refusal;
 use crate::text::TokenNumbers;
-use oxc_sourcemap_builder::SourceMapBuilder;
-use oxc_sourcemap_faults::{Fault, Refusal, text_of};
+use crate::utf8::text_of;
+use oxc_sourcemap_builders::SourceMapBuilder;
 use oxc_sourcemap_map::OwnedSourceMap;
 use std::alloc::Global;
 

@@ -1,6 +1,6 @@
 //! What a handle holds.
 ghost use Rattle.std.specs.Prelude.{◌≡◌, true, length, IfOk, IfErr, OnOk, OnErr};
-ghost use Rattle.oxc_sourcemap_error.specs.declared.error.Error.TheVariants.{OutOfMemory};
+ghost use Rattle.oxc_sourcemap_tokens.specs.declared.error.Error.TheVariants.{OutOfMemory};
 ghost use Rattle.oxc_sourcemap_tokens.specs.LineOrder.{IsInLineOrder};
 ghost use Rattle.oxc_sourcemap_parts.specs.Sorted.{are_tokens_sorted};
 ghost use Rattle.oxc_sourcemap_lookup.specs.LineSpans.{IsIndexOf};
@@ -8,11 +8,10 @@ ghost use Rattle.oxc_sourcemap_handles.specs.Indexed.{IsOutOfOrder};
 ghost use Rattle.oxc_sourcemap_handles.specs.Traces.{found_at, IsTraceOf, AreTracesOf};
 
 use crate::text::{Place, Position};
-use oxc_sourcemap_builder::SourceMapBuilder;
-use oxc_sourcemap_error::{Error, Result};
+use oxc_sourcemap_builders::SourceMapBuilder;
 use oxc_sourcemap_lookup::LineIndex;
 use oxc_sourcemap_map::OwnedSourceMap;
-use oxc_sourcemap_tokens::Token;
+use oxc_sourcemap_tokens::{Error, Result, Token};
 use std::alloc::Global;
 use std::marker::Model;
 

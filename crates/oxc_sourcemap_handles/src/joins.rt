@@ -1,17 +1,17 @@
 //! Joins of what handles hold.
 ghost use Rattle.std.specs.Prelude.{◌≡◌, ◌≢◌, ◌⊎◌, None, Some, length, IfOk, IfErr};
 ghost use Rattle.std.specs.List.{All};
-ghost use Rattle.oxc_sourcemap_error.specs.declared.error.Error.TheVariants.{OutOfMemory, TooLarge};
+ghost use Rattle.oxc_sourcemap_tokens.specs.declared.error.Error.TheVariants.{OutOfMemory, TooLarge};
 ghost use Rattle.oxc_sourcemap_join.specs.Joined.{at_positions, joined, IsWithinLimits};
-ghost use Rattle.oxc_sourcemap_faults.specs.declared.refusal.Refusal.TheVariants.{EmptyHandle};
-ghost use Rattle.oxc_sourcemap_faults.specs.Refusals.{out_of_memory};
+ghost use Rattle.oxc_sourcemap_handles.specs.declared.refusal.Refusal.TheVariants.{EmptyHandle};
+ghost use Rattle.oxc_sourcemap_handles.specs.Refusals.{out_of_memory};
 ghost use Rattle.oxc_sourcemap_handles.specs.Joins.{all_held, placed_maps, IsJoinOf, IsJoinRefusal};
 
 use crate::handle::Handle;
 use crate::operations::take_map;
+use crate::refusal::Refusal;
 use crate::text::Position;
-use oxc_sourcemap_concat::ConcatSourceMapBuilder;
-use oxc_sourcemap_faults::Refusal;
+use oxc_sourcemap_builders::ConcatSourceMapBuilder;
 use oxc_sourcemap_map::{OwnedSourceMap, SourceMap};
 use std::alloc::Global;
 

@@ -1,23 +1,32 @@
-//! What handles of the library for C hold, and what its exports do with it. `oxc_sourcemap_c` alone uses this crate.
+//! What handles of the library for C hold, what its exports do with that, and the codes and messages of errors.
+//! `oxc_sourcemap_c` alone uses this crate.
 #![tactic(auto)]
 
 mod asked;
 mod builders;
+mod fault;
 mod handle;
 mod held;
 mod joins;
 mod lookups;
 mod loose;
+mod messages;
 mod operations;
+mod refusal;
 mod text;
+mod utf8;
 
 pub use asked::Asked;
 pub use builders::{add_name, add_source, add_token, finish, noted, put_builder, set_file};
+pub use fault::Fault;
 pub use handle::Handle;
 pub use joins::join;
 pub use lookups::{
     answered, answered_all, counts, data_url, ignored, is_sorted, json, placed, text_of_map, token,
     traced, traced_all, written_text,
 };
+pub use messages::write_message;
 pub use operations::{compose, put_map, put_text, read};
+pub use refusal::Refusal;
 pub use text::{Counts, Place, Position, Text, TokenNumbers};
+pub use utf8::text_of;

@@ -2,22 +2,23 @@
 ghost use Rattle.std.specs.Prelude.{◌≡◌, ◌≢◌, [], true, Some, None, Ok, Err, length, slice_get, string_bytes, IfOk, IfErr, OnOk, OnErr, MatchOption, MatchResult};
 ghost use Rattle.std.specs.Option.{unwrap_or};
 ghost use Rattle.oxc_sourcemap_parts.specs.Record.{MapRecord};
-ghost use Rattle.oxc_sourcemap_json_text.specs.JsonText.{map_text, map_url};
+ghost use Rattle.oxc_sourcemap_encode.specs.JsonText.{map_text, map_url};
 ghost use Rattle.oxc_sourcemap_parts.specs.Sorted.{are_tokens_sorted, token_line, token_column};
-ghost use Rattle.oxc_sourcemap_faults.specs.declared.refusal.Refusal.TheVariants.{EmptyHandle};
-ghost use Rattle.oxc_sourcemap_faults.specs.Refusals.{out_of_memory};
-ghost use Rattle.oxc_sourcemap_faults.specs.Codes.{fault_of, code_of, no_fault};
+ghost use Rattle.oxc_sourcemap_handles.specs.declared.refusal.Refusal.TheVariants.{EmptyHandle};
+ghost use Rattle.oxc_sourcemap_handles.specs.Refusals.{out_of_memory};
+ghost use Rattle.oxc_sourcemap_handles.specs.Codes.{fault_of, code_of, no_fault};
 ghost use Rattle.oxc_sourcemap_handles.specs.Holding.{held_map, held_text, HoldsMap};
 ghost use Rattle.oxc_sourcemap_handles.specs.Places.{counts_of, numbers_of};
 ghost use Rattle.oxc_sourcemap_handles.specs.Answers.{text_at, ignored_at, flag_of, IsFound, HasLength, IsWrittenAs};
 ghost use Rattle.oxc_sourcemap_handles.specs.Traces.{IsTraced, AreTracesOf, IsTraceRefusal, IsTraceAllRefusal};
 
 use crate::asked::Asked;
+use crate::fault::Fault;
 use crate::handle::Handle;
 use crate::held::Held;
 use crate::operations::{map_in, text_in};
+use crate::refusal::Refusal;
 use crate::text::{Counts, Place, Position, Text, TokenNumbers};
-use oxc_sourcemap_faults::{Fault, Refusal};
 use std::alloc::Global;
 
 /// Writes what was found, or leaves what was there, and returns the code.

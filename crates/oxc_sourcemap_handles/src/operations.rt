@@ -1,19 +1,21 @@
 //! What exports do with what handles hold.
 ghost use Rattle.std.specs.Prelude.{◌≡◌, ◌≢◌, ℕ, true, List, map, length, Some, None, Ok, Err, option_map, string_bytes, slice_get, IfOk, IfErr, MatchOption, MatchResult};
 ghost use Rattle.std.specs.List.{All};
-ghost use Rattle.oxc_sourcemap_error.specs.declared.error.Error.TheVariants.{OutOfMemory};
-ghost use Rattle.oxc_sourcemap_sections.specs.ReadMap.{read_map};
-ghost use Rattle.oxc_sourcemap_json_text.specs.JsonText.{map_text, map_url};
-ghost use Rattle.oxc_sourcemap_compose.specs.Composed.{composition, SomeComposition, NoColumnGoesBack};
-ghost use Rattle.oxc_sourcemap_faults.specs.declared.refusal.Refusal.TheVariants.{EmptyHandle};
-ghost use Rattle.oxc_sourcemap_faults.specs.Refusals.{out_of_memory, of_map};
-ghost use Rattle.oxc_sourcemap_faults.specs.Codes.{fault_of, code_of, no_fault};
+ghost use Rattle.oxc_sourcemap_tokens.specs.declared.error.Error.TheVariants.{OutOfMemory};
+ghost use Rattle.oxc_sourcemap_decode.specs.ReadMap.{read_map};
+ghost use Rattle.oxc_sourcemap_encode.specs.JsonText.{map_text, map_url};
+ghost use Rattle.oxc_sourcemap_lookup.specs.Composed.{composition, SomeComposition, NoColumnGoesBack};
+ghost use Rattle.oxc_sourcemap_handles.specs.declared.refusal.Refusal.TheVariants.{EmptyHandle};
+ghost use Rattle.oxc_sourcemap_handles.specs.Refusals.{out_of_memory, of_map};
+ghost use Rattle.oxc_sourcemap_handles.specs.Codes.{fault_of, code_of, no_fault};
 ghost use Rattle.oxc_sourcemap_handles.specs.Holding.{held_map, held_text, HoldsMap};
 ghost use Rattle.oxc_sourcemap_handles.specs.Answers.{IsReadRefusal, IsCompositionRefusal, IsRefusedAs};
 
+use crate::fault::Fault;
 use crate::handle::Handle;
 use crate::held::{Held, LoadedMap};
-use oxc_sourcemap_faults::{Fault, Refusal, text_of};
+use crate::refusal::Refusal;
+use crate::utf8::text_of;
 use oxc_sourcemap_map::OwnedSourceMap;
 use std::alloc::Global;
 

@@ -1,17 +1,16 @@
 -- What an add works out is right.
 use Rattle.std.proofs.Common.{◌≡◌, ℕ, ◌+◌, ◌-◌, ◌≤◌, List, [], ◌∷◌, ◌++◌, map, length, take, drop, refl, sym, ap, ◌∙◌, subst, arith, Option, Some, None, ◌⊎◌, inl, inr}
-use Rattle.oxc_sourcemap_error.specs.declared.error.Error.{Error}
-use Rattle.oxc_sourcemap_error.specs.declared.error.Error.TheVariants.{OutOfMemory, TooLarge}
+use Rattle.oxc_sourcemap_tokens.specs.declared.error.Error.{Error}
+use Rattle.oxc_sourcemap_tokens.specs.declared.error.Error.TheVariants.{OutOfMemory, TooLarge}
 use Rattle.std.specs.List.{AllByRecursion, All}
 use Rattle.std.specs.Option.{unwrap_or}
 use Rattle.std.proofs.lemmas.List.{length-append, length-drop, take_all}
 use Rattle.std.proofs.lemmas.List.Elements.{All-append, All-from_recursion, recursion_from_All}
 use Rattle.oxc_sourcemap_tokens.specs.declared.token.TokenChunk.{TokenChunk}
-use Rattle.oxc_sourcemap_tokens.specs.Token.{TokenRecord, IsInBounds, AreInBounds}
+use Rattle.oxc_sourcemap_tokens.specs.Token.{TokenRecord, IsInBounds, AreInBounds, last}
 use Rattle.oxc_sourcemap_tokens.specs.State.{state_at}
 use Rattle.oxc_sourcemap_tokens.specs.Chunks.{chunk_from, ChunksFit}
 use Rattle.oxc_sourcemap_parts.specs.Record.{Text, MapRecord}
-use Rattle.oxc_sourcemap_lookup.specs.Lookup.{last}
 use Rattle.oxc_sourcemap_join.specs.Joined.{Offset, fitted, shifted, is_same_token, without_repeat, raised_ignore_list, appended_ignore_lists, added, added_tokens, added_chunk, added_ignore_list, nothing_joined, added_all, AreEntriesInBounds, IsWithinLimits}
 use Rattle.oxc_sourcemap_join.specs.Joining.{IsJoin, offset_of, all_shifted, IsAddition}
 use Rattle.oxc_sourcemap_join.specs.declared.joined_parts.Shift.{Shift}

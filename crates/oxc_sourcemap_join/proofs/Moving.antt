@@ -8,9 +8,8 @@ use Rattle.std.proofs.Math.Seq.{take-suc}
 use Rattle.std.proofs.lemmas.List.{get_or-map, take-map, get_or-drop, get_or-set_same, length-set, take-set, drop-set-lt, map-append, take-append-drop}
 use Rattle.std.proofs.lemmas.Grind.{drop_more_same}
 use Rattle.std.proofs.lemmas.List.Elements.{All-get_or, All-from_recursion, recursion_from_All}
-use Rattle.oxc_sourcemap_tokens.specs.Token.{TokenRecord, IsInBounds, AreInBounds}
+use Rattle.oxc_sourcemap_tokens.specs.Token.{TokenRecord, IsInBounds, AreInBounds, last}
 use Rattle.oxc_sourcemap_parts.specs.Record.{Text}
-use Rattle.oxc_sourcemap_lookup.specs.Lookup.{last}
 use Rattle.oxc_sourcemap_join.specs.Joined.{fitted, is_same_token, without_repeat}
 use Rattle.oxc_sourcemap_join.proofs.SameToken.{decides_token}
 

@@ -1,10 +1,9 @@
 -- How the private steps of a join are seen. No public contract speaks of these.
 use Rattle.std.specs.Prelude.{◌≡◌, ℕ, ◌+◌, ◌≤◌, List, [], ◌∷◌, map, length, drop, max, Option, Some, None, if◌then◌else◌, ◌==◌}
-use Rattle.oxc_sourcemap_tokens.specs.Token.{TokenRecord, AreInBounds}
+use Rattle.oxc_sourcemap_tokens.specs.Token.{TokenRecord, AreInBounds, last}
 use Rattle.oxc_sourcemap_tokens.specs.declared.token.TokenChunk.{TokenChunk}
 use Rattle.oxc_sourcemap_tokens.specs.Chunks.{ChunksFit}
 use Rattle.oxc_sourcemap_parts.specs.Record.{Text, MapRecord}
-use Rattle.oxc_sourcemap_lookup.specs.Lookup.{last}
 use Rattle.oxc_sourcemap_join.specs.Joined.{Offset, shifted, is_same_token, without_repeat, added_chunk, added, AreEntriesInBounds, IsWithinLimits}
 use Rattle.oxc_sourcemap_join.specs.declared.joined_parts.Shift.{Shift}
 use Rattle.oxc_sourcemap_join.specs.declared.joined_parts.Addition.{Addition}

@@ -4,19 +4,17 @@ ghost use Rattle.std.specs.List.{All};
 ghost use Rattle.std.specs.Vec.{vec_capacity};
 ghost use Rattle.std.specs.Cow.{cow_str_bytes};
 ghost use Rattle.std.specs.Option.{unwrap_or};
-ghost use Rattle.oxc_sourcemap_error.specs.declared.error.Error.TheVariants.{OutOfMemory, TooLarge};
-ghost use Rattle.oxc_sourcemap_tokens.specs.Token.{IsInBounds, AreInBounds};
+ghost use Rattle.oxc_sourcemap_tokens.specs.declared.error.Error.TheVariants.{OutOfMemory, TooLarge};
+ghost use Rattle.oxc_sourcemap_tokens.specs.Token.{IsInBounds, AreInBounds, last};
 ghost use Rattle.oxc_sourcemap_tokens.specs.Chunks.{ChunksFit};
 ghost use Rattle.oxc_sourcemap_parts.specs.Views.{texts_of, contents_of, ids_of, record_of_parts};
-ghost use Rattle.oxc_sourcemap_lookup.specs.Lookup.{last};
 ghost use Rattle.oxc_sourcemap_join.specs.Joined.{fitted, raised_id, shifted_column, shifted, is_same_token, without_repeat, raised_ignore_list, appended_ignore_lists, added, nothing_joined, AreEntriesInBounds, IsWithinLimits};
 ghost use Rattle.oxc_sourcemap_join.specs.Joining.{offset_of, all_shifted, above, moving_column, greatest, IsAddition};
 
-use oxc_sourcemap_error::{Error, Result};
 use oxc_sourcemap_parts::{
     Contents, Names, SourceMapParts, Sources, contents_in, names_in, sources_in,
 };
-use oxc_sourcemap_tokens::{Token, TokenChunk, next_chunk};
+use oxc_sourcemap_tokens::{Error, Result, Token, TokenChunk, next_chunk};
 use std::alloc::{AllocError, Global};
 use std::borrow::CowStr;
 use std::marker::Model;

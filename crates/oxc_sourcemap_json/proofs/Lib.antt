@@ -1,4 +1,3 @@
 pub mod Moving
-pub mod ReadSound
 pub mod Steps
 mod Worked

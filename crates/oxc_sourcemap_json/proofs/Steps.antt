@@ -3,9 +3,9 @@ use Rattle.std.proofs.Common.{◌≡◌, ◌∙◌, ℕ, List, Option, Some, Non
 use Rattle.serde_json.specs.Data.{Data}
 use Rattle.serde_json.specs.Find.{get, as_object}
 use Rattle.std.specs.Prelude.{codes}
-use Rattle.oxc_sourcemap_error.specs.declared.error.Error.{Error}
-use Rattle.oxc_sourcemap_error.specs.declared.error.Field.{Field}
-use Rattle.oxc_sourcemap_error.specs.declared.error.Field.TheVariants.{Object, Version as VersionField, File, Mappings, SourceRoot, Sources, SourcesContent, Names, DebugId}
+use Rattle.oxc_sourcemap_tokens.specs.declared.error.Error.{Error}
+use Rattle.oxc_sourcemap_tokens.specs.declared.error.Field.{Field}
+use Rattle.oxc_sourcemap_tokens.specs.declared.error.Field.TheVariants.{Object, Version as VersionField, File, Mappings, SourceRoot, Sources, SourcesContent, Names, DebugId}
 use Rattle.oxc_sourcemap_json.specs.Json.{JsonRecord}
 use Rattle.oxc_sourcemap_json.specs.Shape.{◌>>=◌, or_misshapen, present, optional, required, text_in, texts_in, contents_in, as_id, version_three, version_in, names_of, ignore_list_of, file_of, shape}
 

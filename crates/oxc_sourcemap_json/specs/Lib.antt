@@ -1,3 +1,2 @@
 pub mod Json
 pub mod Shape
-pub mod Decoded

@@ -3,11 +3,11 @@ use Rattle.std.specs.Prelude.{ℕ, List, [], ◌∷◌, codes, Option, Some, Non
 use Rattle.std.specs.Option.{option_and_then}
 use Rattle.serde_json.specs.Data.{Data, null, boolean, number, string, array, object, Items, no_items, item}
 use Rattle.serde_json.specs.Find.{get, as_number, as_u64, as_str, as_array, as_object}
-use Rattle.oxc_sourcemap_error.specs.declared.error.Error.{Error}
-use Rattle.oxc_sourcemap_error.specs.declared.error.Error.TheVariants.{BadJson}
-use Rattle.oxc_sourcemap_error.specs.declared.error.JsonFault.TheVariants.{Shape, Version}
-use Rattle.oxc_sourcemap_error.specs.declared.error.Field.{Field}
-use Rattle.oxc_sourcemap_error.specs.declared.error.Field.TheVariants.{Object, Version as VersionField, File, Mappings, SourceRoot, Sources, SourcesContent, Names, DebugId, IgnoreList, GoogleIgnoreList}
+use Rattle.oxc_sourcemap_tokens.specs.declared.error.Error.{Error}
+use Rattle.oxc_sourcemap_tokens.specs.declared.error.Error.TheVariants.{BadJson}
+use Rattle.oxc_sourcemap_tokens.specs.declared.error.JsonFault.TheVariants.{Shape, Version}
+use Rattle.oxc_sourcemap_tokens.specs.declared.error.Field.{Field}
+use Rattle.oxc_sourcemap_tokens.specs.declared.error.Field.TheVariants.{Object, Version as VersionField, File, Mappings, SourceRoot, Sources, SourcesContent, Names, DebugId, IgnoreList, GoogleIgnoreList}
 use Rattle.oxc_sourcemap_json.specs.Json.{JsonRecord}
 
 -- the second step, where the first gave a value; else the first fault

@@ -3,14 +3,14 @@ ghost use Rattle.std.specs.Prelude.{◌≡◌, ◌≢◌, ℕ, List, map, option
 ghost use Rattle.std.specs.Str.{bytes_eq};
 ghost use Rattle.serde_json.specs.View.{view, members_view};
 ghost use Rattle.serde_json.specs.Find.{get_member};
-ghost use Rattle.oxc_sourcemap_error.specs.declared.error.Error.TheVariants.{OutOfMemory};
-ghost use Rattle.oxc_sourcemap_error.specs.declared.error.Field.TheVariants.{Mappings, Sources, SourcesContent};
+ghost use Rattle.oxc_sourcemap_tokens.specs.declared.error.Error.TheVariants.{OutOfMemory};
+ghost use Rattle.oxc_sourcemap_tokens.specs.declared.error.Field.TheVariants.{Mappings, Sources, SourcesContent};
 ghost use Rattle.oxc_sourcemap_json.specs.Json.{json_record, json_contents};
 ghost use Rattle.oxc_sourcemap_json.specs.Shape.{present, optional, required, text_in, texts_in, as_content, contents_in, names_of, shape};
 
 use crate::json_source_map::JSONSourceMap;
 use crate::shape::{read_either_list, read_version};
-use oxc_sourcemap_error::{Error, Field, JsonFault, Result};
+use oxc_sourcemap_tokens::{Error, Field, JsonFault, Result};
 use serde_json::{Map, Value};
 use std::alloc::Global;
 

@@ -2,13 +2,13 @@
 ghost use Rattle.std.specs.Prelude.{◌≡◌, ◌≢◌, map, option_map, string_bytes, codes, IfOk, IfErr, Ok, Err, Some, None, Option};
 ghost use Rattle.serde_json.specs.View.{view};
 ghost use Rattle.serde_json.specs.Find.{get, as_object};
-ghost use Rattle.oxc_sourcemap_error.specs.declared.error.Error.TheVariants.{OutOfMemory};
-ghost use Rattle.oxc_sourcemap_error.specs.declared.error.Field.TheVariants.{Version as VersionField, Mappings, Sources, SourcesContent};
+ghost use Rattle.oxc_sourcemap_tokens.specs.declared.error.Error.TheVariants.{OutOfMemory};
+ghost use Rattle.oxc_sourcemap_tokens.specs.declared.error.Field.TheVariants.{Version as VersionField, Mappings, Sources, SourcesContent};
 ghost use Rattle.oxc_sourcemap_json.specs.Json.{json_record, json_contents};
 ghost use Rattle.oxc_sourcemap_json.specs.Shape.{present, optional, required, text_in, texts_in, contents_in, ids_in, version_in, names_of, ignore_list_of, as_id, file_of, shape};
 
 use crate::json_source_map::JSONSourceMap;
-use oxc_sourcemap_error::{Error, Field, JsonFault, Result};
+use oxc_sourcemap_tokens::{Error, Field, JsonFault, Result};
 use serde_json::Value;
 use std::alloc::Global;
 

@@ -5,13 +5,13 @@ use Rattle.std.specs.Option.{IfSome, option_or}
 use Rattle.std.proofs.lemmas.Bool.{and_parts}
 use Rattle.std.proofs.lemmas.Bool.Decides.{nat_tests}
 use Rattle.std.proofs.lemmas.List.Elements.{recursion_from_All, All-from_recursion}
-use Rattle.oxc_sourcemap_error.specs.declared.error.Error.{Error}
-use Rattle.oxc_sourcemap_error.specs.declared.error.Error.TheVariants.{TooLarge}
+use Rattle.oxc_sourcemap_tokens.specs.declared.error.Error.{Error}
+use Rattle.oxc_sourcemap_tokens.specs.declared.error.Error.TheVariants.{TooLarge}
 use Rattle.oxc_sourcemap_tokens.specs.Token.{TokenRecord, IsInBounds, AreInBounds}
 use Rattle.oxc_sourcemap_parts.specs.Record.{Text, MapRecord}
-use Rattle.oxc_sourcemap_error.specs.Refusals.{unless}
-use Rattle.oxc_sourcemap_compose.specs.Composed.{target_of, target_in, line_of, found_on, targets, inherited_id, composed_names, composed_token, composed, may_be_id, are_ids, composition_fault, composition}
-use Rattle.oxc_sourcemap_compose.proofs.Targets.{found-all}
+use Rattle.oxc_sourcemap_tokens.specs.Refusals.{unless}
+use Rattle.oxc_sourcemap_lookup.specs.Composed.{target_of, target_in, line_of, found_on, targets, inherited_id, composed_names, composed_token, composed, may_be_id, are_ids, composition_fault, composition}
+use Rattle.oxc_sourcemap_lookup.proofs.Targets.{found-all}
 
 small-id : (id taken : Option ℕ) → IfSome id (λ n. n < 4294967295) → may_be_id taken ≡ true → IfSome (option_or id taken) (λ n. n < 4294967295)
 small-id (Some i) taken h k = h

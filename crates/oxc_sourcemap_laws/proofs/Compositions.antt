@@ -12,10 +12,10 @@ use Rattle.oxc_sourcemap_parts.specs.Sorted.{token_line, token_column, may_prece
 use Rattle.oxc_sourcemap_parts.specs.Sound.{IsInRange, AreIdsInRange, IsSound}
 use Rattle.oxc_sourcemap_parts.specs.DecodedMap.{DecodedSource, OriginalPosition, DecodedMapping, DecodedMap, sources_of, name_of, original_at, original_of, mapping_of, decoded_map_of, mapping_line, mapping_column}
 use Rattle.oxc_sourcemap_lookup.specs.Lookup.{clamped_pick}
-use Rattle.oxc_sourcemap_compose.specs.Composed.{target_of, if_mapped, found_on, line_of, target_in, targets, kept_name, inherited_name, inherited_id, composed_names, composed_token, token_through, composed}
+use Rattle.oxc_sourcemap_lookup.specs.Composed.{target_of, if_mapped, found_on, line_of, target_in, targets, kept_name, inherited_name, inherited_id, composed_names, composed_token, token_through, composed}
 use Rattle.oxc_sourcemap_lookup.proofs.Picks.{clamped_pick-map}
-use Rattle.oxc_sourcemap_compose.proofs.Targets.{clamped_pick-all, found-all}
-use Rattle.oxc_sourcemap_compose.proofs.InheritedNames.{IsPlaced, all-placed, with_texts-front}
+use Rattle.oxc_sourcemap_lookup.proofs.Targets.{clamped_pick-all, found-all}
+use Rattle.oxc_sourcemap_lookup.proofs.InheritedNames.{IsPlaced, all-placed, with_texts-front}
 use Rattle.oxc_sourcemap_laws.specs.Repeats.{without_repeats, is_same_mapping, decoded_map_without_repeats, EqualUpToRepeats}
 use Rattle.oxc_sourcemap_laws.specs.ComposedDecodedMaps.{found_original, named_by, original_through, composed_mapping, composed_decoded_maps}
 use Rattle.oxc_sourcemap_laws.specs.JoinLaws.{StandsFor}

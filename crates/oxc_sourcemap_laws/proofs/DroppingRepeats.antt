@@ -7,7 +7,8 @@ use Rattle.std.proofs.lemmas.Bool.Decides.{nat_tests}
 use Rattle.std.proofs.lemmas.List.{map-append}
 use Rattle.std.proofs.lemmas.List.Elements.{filter-append}
 use Rattle.oxc_sourcemap_parts.specs.Sorted.{may_precede, is_sorted_by}
-use Rattle.oxc_sourcemap_lookup.specs.Lookup.{first, last, greatest, not_past, in_column, at, clamped_at, pick, clamped_pick}
+use Rattle.oxc_sourcemap_lookup.specs.Lookup.{first, greatest, not_past, in_column, at, clamped_at, pick, clamped_pick}
+use Rattle.oxc_sourcemap_tokens.specs.Token.{last}
 use Rattle.oxc_sourcemap_laws.specs.Repeats.{without_repeats_after, without_repeats}
 
 -- an item twice in a row counts once

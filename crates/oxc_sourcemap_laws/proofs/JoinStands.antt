@@ -9,7 +9,7 @@ use Rattle.oxc_sourcemap_parts.specs.Sound.{IsInRange}
 use Rattle.oxc_sourcemap_parts.specs.DecodedMap.{DecodedMap, sources_of, decoded_map_of}
 use Rattle.oxc_sourcemap_join.specs.Joined.{Offset, is_same_token, raised_ignore_list, appended_ignore_lists, joined}
 use Rattle.oxc_sourcemap_join.proofs.SameToken.{decides_token}
-use Rattle.oxc_sourcemap_json_text.proofs.Rewriting.{sorted-tokens}
+use Rattle.oxc_sourcemap_laws.proofs.Rewriting.{sorted-tokens}
 use Rattle.oxc_sourcemap_join.proofs.Joining.{chunks_joined}
 use Rattle.oxc_sourcemap_laws.specs.Repeats.{EqualUpToRepeats, is_sorted_decoded_map}
 use Rattle.oxc_sourcemap_laws.specs.JoinedDecodedMaps.{joined_decoded_maps}

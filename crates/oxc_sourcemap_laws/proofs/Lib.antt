@@ -1,3 +1,5 @@
+pub mod ReadsBack
+pub mod Rewriting
 pub mod DroppingRepeats
 pub mod Same
 pub mod UpToRepeats

@@ -3,7 +3,7 @@ use Rattle.std.proofs.Common.{◌≡◌, ◌+◌, ◌≤◌, Bool, true, false, 
 use Rattle.std.specs.Bool.{Decides}
 use Rattle.std.specs.List.{AllByRecursion, last_or}
 use Rattle.std.proofs.lemmas.List.{length-append}
-use Rattle.oxc_sourcemap_lookup.specs.Lookup.{last}
+use Rattle.oxc_sourcemap_tokens.specs.Token.{last}
 use Rattle.oxc_sourcemap_join.specs.Joined.{without_repeat, seamed}
 use Rattle.oxc_sourcemap_laws.proofs.DroppingRepeats.{IsBlind}
 

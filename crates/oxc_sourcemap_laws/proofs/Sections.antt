@@ -1,17 +1,17 @@
 -- The decoded map of an indexed map that is read, by those of its sections.
 use Rattle.std.proofs.Common.{◌≡◌, Bool, true, false, cond, List, [], ◌∷◌, refl, sym, ap, ◌∙◌, subst, Option, Some, None, Result, Ok, Err}
 use Rattle.std.specs.List.{AllByRecursion}
-use Rattle.oxc_sourcemap_error.specs.declared.error.Error.{Error}
-use Rattle.oxc_sourcemap_error.specs.declared.error.Error.TheVariants.{TooLarge}
-use Rattle.oxc_sourcemap_error.specs.Refusals.{unless}
+use Rattle.oxc_sourcemap_tokens.specs.declared.error.Error.{Error}
+use Rattle.oxc_sourcemap_tokens.specs.declared.error.Error.TheVariants.{TooLarge}
+use Rattle.oxc_sourcemap_tokens.specs.Refusals.{unless}
 use Rattle.oxc_sourcemap_parts.specs.Record.{Text, MapRecord}
 use Rattle.oxc_sourcemap_parts.specs.DecodedMap.{DecodedMap, decoded_map_of}
 use Rattle.oxc_sourcemap_json.specs.Shape.{◌>>=◌}
 use Rattle.oxc_sourcemap_join.specs.Joined.{Offset, joined}
-use Rattle.oxc_sourcemap_sections.specs.Sections.{Sections, joined_sections}
-use Rattle.oxc_sourcemap_sections.specs.JoinLimits.{is_within_limits}
-use Rattle.oxc_sourcemap_sections.specs.ReadMap.{indexed, indexed_record, map_said}
-use Rattle.oxc_sourcemap_sections.proofs.WellRead.{IsWellRead, sections_well, value_sections_well, read_is_said, value_is_said}
+use Rattle.oxc_sourcemap_decode.specs.Sections.{Sections, joined_sections}
+use Rattle.oxc_sourcemap_decode.specs.JoinLimits.{is_within_limits}
+use Rattle.oxc_sourcemap_decode.specs.ReadMap.{indexed, indexed_record, map_said}
+use Rattle.oxc_sourcemap_decode.proofs.WellRead.{IsWellRead, sections_well, value_sections_well, read_is_said, value_is_said}
 use Rattle.oxc_sourcemap_laws.specs.Repeats.{EqualUpToRepeats}
 use Rattle.oxc_sourcemap_laws.specs.JoinLaws.{AreAllInRange}
 use Rattle.oxc_sourcemap_laws.specs.SectionLaws.{decoded_map_of_sections, ValueOfSections, TextOfSections}

@@ -1,13 +1,13 @@
 -- What composition keeps, and that it is associative.
 use Rattle.std.specs.Prelude.{◌≡◌, ◌≢◌, ◌↔◌, ◌⊎◌, ℕ, ◌+◌, ◌<◌, ◌≤◌, Bool, true, length, Result, Ok, Err, IfSome}
 use Rattle.std.specs.List.{AllByRecursion, list_all}
-use Rattle.oxc_sourcemap_error.specs.declared.error.Error.{Error}
-use Rattle.oxc_sourcemap_error.specs.declared.error.Error.TheVariants.{SeveralSources, TooLarge}
+use Rattle.oxc_sourcemap_tokens.specs.declared.error.Error.{Error}
+use Rattle.oxc_sourcemap_tokens.specs.declared.error.Error.TheVariants.{SeveralSources, TooLarge}
 use Rattle.oxc_sourcemap_tokens.specs.Token.{AreInBounds}
 use Rattle.oxc_sourcemap_parts.specs.Record.{Text, MapRecord}
 use Rattle.oxc_sourcemap_parts.specs.Sound.{IsInRange, AreIdsInRange, IsSound}
 use Rattle.oxc_sourcemap_parts.specs.DecodedMap.{DecodedMap, decoded_map_of}
-use Rattle.oxc_sourcemap_compose.specs.Composed.{composed, composition}
+use Rattle.oxc_sourcemap_lookup.specs.Composed.{composed, composition}
 use Rattle.oxc_sourcemap_laws.specs.Repeats.{EqualUpToRepeats}
 use Rattle.oxc_sourcemap_laws.specs.ComposedDecodedMaps.{composed_decoded_maps}
 use Rattle.oxc_sourcemap_laws.specs.JoinLaws.{StandsFor}

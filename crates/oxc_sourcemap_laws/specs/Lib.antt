@@ -1,3 +1,4 @@
+pub mod MapLaws
 pub mod Repeats
 pub mod JoinedDecodedMaps
 pub mod JoinLaws

@@ -5,8 +5,8 @@
 #![tactic(auto)]
 
 ghost use Rattle.oxc_sourcemap_mappings.specs.TextLaws.{CanonicalUnique, ReadsBack, ReadsAgain, InPieces};
-ghost use Rattle.oxc_sourcemap_json_text.specs.MapLaws.{SoundIsWritten, SoundIsTooLarge, SoundReadsBack, SoundStaysSound};
-ghost use Rattle.oxc_sourcemap_sections.specs.ReadLaws.{ReadIsInBounds, ReadIsInLineOrder};
+ghost use Rattle.oxc_sourcemap_laws.specs.MapLaws.{SoundIsWritten, SoundIsTooLarge, SoundReadsBack, SoundStaysSound};
+ghost use Rattle.oxc_sourcemap_decode.specs.ReadLaws.{ReadIsInBounds, ReadIsInLineOrder};
 ghost use Rattle.oxc_sourcemap_laws.specs.SectionLaws.{ValueOfSections, TextOfSections};
 ghost use Rattle.oxc_sourcemap_laws.specs.ComposeLaws.{DecodedMapOfComposition, CompositionKeepsEqualUpToRepeats, CompositionStandsFor, DecodedMapsAssociative, ComposedMapsAssociative, CompositionAssociative, GroupingsRefusedTogether, GroupingsAnswered, GroupingsTell, CompositionInRange, CompositionNames, CompositionTokens, CompositionTooLarge, CompositionInBounds};
 ghost use Rattle.oxc_sourcemap_laws.specs.JoinLaws.{RepeatsHarmless, TracesAgree, TestsAgree, JoinKeepsEqualUpToRepeats, DecodedMapOfJoin, JoinStandsFor, JoinInRange, JoinNames, JoinTokens, JoinChunksFit, JoinsAssociative, JoinOneMore};

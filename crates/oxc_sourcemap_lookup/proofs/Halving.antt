@@ -8,10 +8,10 @@ use Rattle.std.specs.List.{prefix_len, last_or}
 use Rattle.std.specs.Ordering.{match_ordering}
 use Rattle.std.specs.declared.cmp.Ordering.{Ordering}
 use Rattle.std.specs.declared.cmp.Ordering.TheVariants.{Less, Equal, Greater}
-use Rattle.oxc_sourcemap_tokens.specs.Token.{TokenRecord}
+use Rattle.oxc_sourcemap_tokens.specs.Token.{TokenRecord, last}
 use Rattle.oxc_sourcemap_parts.specs.Sorted.{token_column}
 use Rattle.oxc_sourcemap_lookup.specs.Digits.{digits_up_to, binary_digits}
-use Rattle.oxc_sourcemap_lookup.specs.Lookup.{first, last, at, no_column_goes_back}
+use Rattle.oxc_sourcemap_lookup.specs.Lookup.{first, at, no_column_goes_back}
 use Rattle.oxc_sourcemap_lookup.proofs.Tables.{last_at}
 use Rattle.oxc_sourcemap_lookup.proofs.Lookups.{walked, walked_is_at, goes_on, not_before, not_before-at}
 

@@ -1,3 +1,8 @@
+pub mod InheritedNames
+pub mod KeptNames
+pub mod Targets
+pub mod Compositions
+mod WorkedCompositions
 pub mod Lookups
 pub mod Tables
 pub mod LineSpans

@@ -4,10 +4,10 @@ use Rattle.std.proofs.lemmas.Bool.{lt-ltb}
 use Rattle.std.proofs.lemmas.List.FromFn.{length-map-range_with_len, get_or-map-range_with_len}
 use Rattle.std.proofs.lemmas.List.Sums.{count_by-le-length, sum_by-cons}
 use Rattle.std.specs.List.{prefix_len, last_or}
-use Rattle.oxc_sourcemap_tokens.specs.Token.{TokenRecord}
+use Rattle.oxc_sourcemap_tokens.specs.Token.{TokenRecord, last}
 use Rattle.oxc_sourcemap_tokens.specs.LineOrder.{first_out_of_order}
 use Rattle.oxc_sourcemap_parts.specs.Sorted.{token_line}
-use Rattle.oxc_sourcemap_lookup.specs.Lookup.{last, on_line, lines_through}
+use Rattle.oxc_sourcemap_lookup.specs.Lookup.{on_line, lines_through}
 use Rattle.oxc_sourcemap_lookup.specs.LineSpans.{count_before_line, AreStarts}
 use Rattle.oxc_sourcemap_lookup.proofs.Tables.{IsFrom, IsFrom-le, in_order-from_0, front}
 use Rattle.oxc_sourcemap_lookup.proofs.OwnTables.{last-reached, none-after}

@@ -5,9 +5,9 @@ use Rattle.std.specs.Ordering.{match_ordering}
 use Rattle.std.specs.declared.cmp.Ordering.{Ordering}
 use Rattle.std.specs.declared.cmp.Ordering.TheVariants.{Less, Equal, Greater}
 use Rattle.std.specs.List.{last_or, AllByRecursion}
-use Rattle.oxc_sourcemap_tokens.specs.Token.{TokenRecord}
+use Rattle.oxc_sourcemap_tokens.specs.Token.{TokenRecord, last}
 use Rattle.oxc_sourcemap_parts.specs.Sorted.{token_column}
-use Rattle.oxc_sourcemap_lookup.specs.Lookup.{first, last, greatest, not_past, in_column, at, no_column_goes_back}
+use Rattle.oxc_sourcemap_lookup.specs.Lookup.{first, greatest, not_past, in_column, at, no_column_goes_back}
 
 -- what a walk over what is left of a line answers, where the last token passed is this one
 abbrev pub walked : ℕ → Option TokenRecord → List TokenRecord → Option TokenRecord

@@ -2,7 +2,8 @@
 use Rattle.std.proofs.Common.{◌≡◌, ℕ, Bool, true, false, ◌==◌, nat_le, cond, List, [], ◌∷◌, map, max, refl, ap, ◌∙◌, Option, Some, None}
 use Rattle.std.specs.List.{filter, last_or}
 use Rattle.std.specs.Option.{option_map, option_or}
-use Rattle.oxc_sourcemap_lookup.specs.Lookup.{first, last, greatest, not_past, in_column, at, clamped_at, on_line, pick, clamped_pick}
+use Rattle.oxc_sourcemap_lookup.specs.Lookup.{first, greatest, not_past, in_column, at, clamped_at, on_line, pick, clamped_pick}
+use Rattle.oxc_sourcemap_tokens.specs.Token.{last}
 
 module _ {A B : Type 0} (f : A → B) where
   filter-map : (p : B → Bool) (xs : List A) → filter p (map f xs) ≡ map f (filter (λ x. p (f x)) xs)

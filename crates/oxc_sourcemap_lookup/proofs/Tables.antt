@@ -2,10 +2,10 @@
 use Rattle.std.proofs.Common.{◌≡◌, ℕ, suc, zero, ◌+◌, ◌-◌, ◌≤◌, ◌<◌, List, [], ◌∷◌, ◌++◌, map, take, drop, length, slice_get, nat_lt, ◌==◌, refl, arith, Bool, true, false, cond, ap, ◌∙◌, Some, None}
 use Rattle.std.specs.List.{prefix_len, last_or, range_with_len}
 use Rattle.std.specs.Option.{option_map_or}
-use Rattle.oxc_sourcemap_tokens.specs.Token.{TokenRecord}
+use Rattle.oxc_sourcemap_tokens.specs.Token.{TokenRecord, last}
 use Rattle.oxc_sourcemap_tokens.specs.LineOrder.{first_out_of_order}
 use Rattle.oxc_sourcemap_parts.specs.Sorted.{token_line}
-use Rattle.oxc_sourcemap_lookup.specs.Lookup.{last, on_line}
+use Rattle.oxc_sourcemap_lookup.specs.Lookup.{on_line}
 
 -- the last item, by its index
 last_or-at : {A : Type 0} (x : A) (xs : List A) → last_or (Some x) xs ≡ slice_get (x ∷ xs) (length xs)

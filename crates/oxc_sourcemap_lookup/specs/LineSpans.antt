@@ -1,10 +1,10 @@
 -- The index of the lines of a list of tokens. Contracts cite `IsIndexOf`; the others are its parts.
 use Rattle.std.specs.Prelude.{◌≡◌, ◌≢◌, ℕ, ◌+◌, ◌-◌, ◌*◌, ◌<◌, ◌≤◌, nat_lt, List, [], length, take, drop, get_or, map, count_by}
 use Rattle.std.specs.List.{All, range_with_len}
-use Rattle.oxc_sourcemap_tokens.specs.Token.{TokenRecord}
+use Rattle.oxc_sourcemap_tokens.specs.Token.{TokenRecord, last}
 use Rattle.oxc_sourcemap_tokens.specs.LineOrder.{IsInLineOrder}
 use Rattle.oxc_sourcemap_parts.specs.Sorted.{token_line}
-use Rattle.oxc_sourcemap_lookup.specs.Lookup.{on_line, last, lines_through}
+use Rattle.oxc_sourcemap_lookup.specs.Lookup.{on_line, lines_through}
 use Rattle.oxc_sourcemap_lookup.specs.declared.line_index.LineSpan.{LineSpan}
 use Rattle.oxc_sourcemap_lookup.specs.declared.line_index.Lines.{Lines}
 use Rattle.oxc_sourcemap_lookup.specs.declared.line_index.Lines.TheVariants.{Starts, Spans}

@@ -1,11 +1,11 @@
 -- Looking up by generated position, in any list of items that have a line and a column.
 use Rattle.std.specs.Prelude.{ℕ, ◌+◌, Bool, true, ◌&&◌, List, [], ◌∷◌, map, filter, max, slice_get, Option, Some, None, option_map, Result, Ok, if◌then◌else◌, nat_le, ◌==◌}
-use Rattle.std.specs.List.{last_or, range_with_len}
+use Rattle.std.specs.List.{range_with_len}
 use Rattle.std.specs.Option.{unwrap_or, option_or}
-use Rattle.oxc_sourcemap_error.specs.declared.error.Error.{Error}
-use Rattle.oxc_sourcemap_error.specs.declared.error.Error.TheVariants.{LineOrder}
-use Rattle.oxc_sourcemap_error.specs.Refusals.{unless}
-use Rattle.oxc_sourcemap_tokens.specs.Token.{TokenRecord}
+use Rattle.oxc_sourcemap_tokens.specs.declared.error.Error.{Error}
+use Rattle.oxc_sourcemap_tokens.specs.declared.error.Error.TheVariants.{LineOrder}
+use Rattle.oxc_sourcemap_tokens.specs.Refusals.{unless}
+use Rattle.oxc_sourcemap_tokens.specs.Token.{last, TokenRecord}
 use Rattle.oxc_sourcemap_tokens.specs.LineOrder.{first_out_of_order}
 use Rattle.oxc_sourcemap_parts.specs.Sorted.{token_line}
 
@@ -13,10 +13,6 @@ use Rattle.oxc_sourcemap_parts.specs.Sorted.{token_line}
 abbrev pub first : {A : Type 0} → List A → Option A
 first [] = None
 first (x ∷ xs) = Some x
-
--- the last item
-abbrev pub last : {A : Type 0} → List A → Option A
-last items = last_or None items
 
 -- the greatest column, 0 where there are no items
 abbrev pub greatest : {A : Type 0} → (A → ℕ) → List A → ℕ

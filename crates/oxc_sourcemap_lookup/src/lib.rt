@@ -1,11 +1,12 @@
-//! Looking up by generated position, over slices of tokens: the search on a line, and tables that have a slice for each
-//! line.
-//!
-//! The lookups of `SourceMap` and composition stand on this crate. Users name the crate `oxc_sourcemap`.
+//! Lookups by generated position over slices of tokens, and what is made of lookups: tables with a slice for each line, an
+//! index of lines, and the composition of maps. Part of `oxc_sourcemap`.
 #![tactic(auto)]
 
+mod compose;
+mod inherited_names;
 mod line_index;
 mod lookup;
 
+pub use compose::compose_parts;
 pub use line_index::LineIndex;
 pub use lookup::{lookup_table, search, search_clamped, slice_of};

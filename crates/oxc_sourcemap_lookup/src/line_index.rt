@@ -1,16 +1,16 @@
 //! The index of the lines of a list of tokens: where the tokens of each line lie.
 ghost use Rattle.std.specs.Prelude.{ℕ, ◌+◌, ◌*◌, ◌^◌, ◌≡◌, ◌≢◌, ◌↔◌, ◌<◌, ◌≤◌, true, IsTrue, length, get_or, option_map, slice_get, IfOk, IfErr, IfSome, IsNone, Ok, Err, Some, None};
 ghost use Rattle.std.specs.List.{All, Contains, prefix_len};
-ghost use Rattle.oxc_sourcemap_error.specs.declared.error.Error.{Error};
-ghost use Rattle.oxc_sourcemap_error.specs.declared.error.Error.TheVariants.{LineOrder, OutOfMemory};
+ghost use Rattle.oxc_sourcemap_tokens.specs.declared.error.Error.{Error};
+ghost use Rattle.oxc_sourcemap_tokens.specs.declared.error.Error.TheVariants.{LineOrder, OutOfMemory};
 ghost use Rattle.oxc_sourcemap_tokens.specs.LineOrder.{IsInLineOrder, first_out_of_order};
 ghost use Rattle.oxc_sourcemap_parts.specs.Sorted.{are_tokens_sorted, token_line, token_column};
-ghost use Rattle.oxc_sourcemap_lookup.specs.Lookup.{on_line, last, lines_through, pick, clamped_pick};
+ghost use Rattle.oxc_sourcemap_lookup.specs.Lookup.{on_line, lines_through, pick, clamped_pick};
+ghost use Rattle.oxc_sourcemap_tokens.specs.Token.{last};
 ghost use Rattle.oxc_sourcemap_lookup.specs.LineSpans.{AreStarts, AreSpans, DoLinesRise, AreLines, IsIndexOf};
 
 use crate::lookup::{line_count, line_length, search, search_clamped};
-use oxc_sourcemap_error::{Error, Result};
-use oxc_sourcemap_tokens::{Token, line_order_fault};
+use oxc_sourcemap_tokens::{Error, Result, Token, line_order_fault};
 use std::alloc::{AllocError, Global};
 
 /// Where the tokens of one line lie in the list: from index `start` up to but not including `end`.

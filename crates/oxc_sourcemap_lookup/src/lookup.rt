@@ -2,15 +2,15 @@
 ghost use Rattle.std.specs.Prelude.{◌≡◌, ◌≢◌, ◌↔◌, ◌==◌, ℕ, ◌+◌, ◌<◌, ◌≤◌, nat_lt, true, false, IsTrue, length, take, map, option_map, slice_get, IfOk, IfErr, IfSome, IsNone, Ok, Err, Some, None, [], if◌then◌else◌};
 ghost use Rattle.std.specs.Option.{option_map_or};
 ghost use Rattle.std.specs.List.{Contains, prefix_len};
-ghost use Rattle.oxc_sourcemap_error.specs.declared.error.Error.{Error};
-ghost use Rattle.oxc_sourcemap_error.specs.declared.error.Error.TheVariants.{OutOfMemory};
+ghost use Rattle.oxc_sourcemap_tokens.specs.declared.error.Error.{Error};
+ghost use Rattle.oxc_sourcemap_tokens.specs.declared.error.Error.TheVariants.{OutOfMemory};
 ghost use Rattle.oxc_sourcemap_tokens.specs.LineOrder.{IsInLineOrder};
 ghost use Rattle.oxc_sourcemap_parts.specs.Sorted.{are_tokens_sorted, token_line, token_column};
 ghost use Rattle.oxc_sourcemap_lookup.specs.Digits.{binary_digits};
-ghost use Rattle.oxc_sourcemap_lookup.specs.Lookup.{last, at, clamped_at, pick, clamped_pick, no_column_goes_back, lines_through, tokens_by_line, table_fault, line_table, slice_of};
+ghost use Rattle.oxc_sourcemap_lookup.specs.Lookup.{at, clamped_at, pick, clamped_pick, no_column_goes_back, lines_through, tokens_by_line, table_fault, line_table, slice_of};
+ghost use Rattle.oxc_sourcemap_tokens.specs.Token.{last};
 
-use oxc_sourcemap_error::{Error, Result};
-use oxc_sourcemap_tokens::{Token, line_order_fault};
+use oxc_sourcemap_tokens::{Error, Result, Token, line_order_fault};
 use std::alloc::{AllocError, Global};
 
 /// How many lines there are up to that of the last token.

@@ -1,14 +1,14 @@
 //! Composition of maps: a map from generated to intermediate code and one from intermediate to original code, made one
 //! map from generated to original code.
 ghost use Rattle.std.specs.Prelude.{◌≡◌, ◌≢◌, true, Some, IfOk, IfErr, Ok, Err};
-ghost use Rattle.oxc_sourcemap_error.specs.declared.error.Error.{Error};
-ghost use Rattle.oxc_sourcemap_error.specs.declared.error.Error.TheVariants.{OutOfMemory};
+ghost use Rattle.oxc_sourcemap_tokens.specs.declared.error.Error.{Error};
+ghost use Rattle.oxc_sourcemap_tokens.specs.declared.error.Error.TheVariants.{OutOfMemory};
 ghost use Rattle.oxc_sourcemap_parts.specs.Sorted.{are_tokens_sorted};
-ghost use Rattle.oxc_sourcemap_compose.specs.Composed.{composition, composition_fault, SomeComposition, NoColumnGoesBack};
+ghost use Rattle.oxc_sourcemap_lookup.specs.Composed.{composition, composition_fault, SomeComposition, NoColumnGoesBack};
 
 use crate::sourcemap::SourceMap;
-use oxc_sourcemap_compose::compose_parts;
-use oxc_sourcemap_error::Result;
+use oxc_sourcemap_lookup::compose_parts;
+use oxc_sourcemap_tokens::Result;
 use std::alloc::Global;
 
 impl<'a> SourceMap<'a> {

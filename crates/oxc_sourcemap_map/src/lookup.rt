@@ -1,8 +1,8 @@
 //! The lookups of `SourceMap` by generated position. (In the Rust crate these calls stand in the module `sourcemap`.)
 ghost use Rattle.std.specs.Prelude.{◌≡◌, ◌≢◌, ℕ, ◌+◌, ◌<◌, ◌≤◌, true, length, map, option_map, IfOk, IfErr, IfSome, IsNone, Ok, Err, Some, []};
 ghost use Rattle.std.specs.List.{Contains};
-ghost use Rattle.oxc_sourcemap_error.specs.declared.error.Error.{Error};
-ghost use Rattle.oxc_sourcemap_error.specs.declared.error.Error.TheVariants.{OutOfMemory};
+ghost use Rattle.oxc_sourcemap_tokens.specs.declared.error.Error.{Error};
+ghost use Rattle.oxc_sourcemap_tokens.specs.declared.error.Error.TheVariants.{OutOfMemory};
 ghost use Rattle.oxc_sourcemap_parts.specs.Sorted.{are_tokens_sorted, token_line, token_column};
 ghost use Rattle.oxc_sourcemap_parts.specs.DecodedMap.{decoded_map_of};
 ghost use Rattle.oxc_sourcemap_lookup.specs.Digits.{binary_digits};
@@ -13,9 +13,8 @@ ghost use Rattle.oxc_sourcemap_map.specs.View.{view_of, seen_in, view_original};
 
 use crate::source_view_token::SourceViewToken;
 use crate::sourcemap::SourceMap;
-use oxc_sourcemap_error::Result;
 use oxc_sourcemap_lookup::{lookup_table, search, search_clamped, slice_of};
-use oxc_sourcemap_tokens::Token;
+use oxc_sourcemap_tokens::{Result, Token};
 use std::alloc::Global;
 
 impl<'a> SourceMap<'a> {

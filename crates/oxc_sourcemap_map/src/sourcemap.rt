@@ -2,8 +2,8 @@
 ghost use Rattle.std.specs.Prelude.{◌≡◌, ◌≢◌, ◌↔◌, ◌<◌, ℕ, List, map, option_map, slice_get, IsTrue, true, IfSome, string_bytes, IfOk, IfErr, Ok, Err, Some, None, OnOk, OnErr};
 ghost use Rattle.std.specs.Iterator.{IsFinite, Drains};
 ghost use Rattle.std.specs.Box.{boxed_slice_items};
-ghost use Rattle.oxc_sourcemap_error.specs.declared.error.Error.{Error};
-ghost use Rattle.oxc_sourcemap_error.specs.declared.error.Error.TheVariants.{OutOfMemory};
+ghost use Rattle.oxc_sourcemap_tokens.specs.declared.error.Error.{Error};
+ghost use Rattle.oxc_sourcemap_tokens.specs.declared.error.Error.TheVariants.{OutOfMemory};
 ghost use Rattle.std.specs.List.{AllByRecursion};
 ghost use Rattle.oxc_sourcemap_tokens.specs.Chunks.{ChunksFit};
 ghost use Rattle.oxc_sourcemap_tokens.specs.Token.{AreInBounds};
@@ -12,24 +12,23 @@ ghost use Rattle.oxc_sourcemap_json.specs.Json.{json_record};
 ghost use Rattle.oxc_sourcemap_parts.specs.Views.{text_of, texts_of, contents_of, chunks_of, ids_of, record_of_parts, empty_record};
 ghost use Rattle.oxc_sourcemap_parts.specs.Sorted.{are_tokens_sorted, may_precede, token_line, token_column};
 ghost use Rattle.oxc_sourcemap_parts.specs.Sound.{IsInRange, IsSound};
-ghost use Rattle.oxc_sourcemap_json.specs.Decoded.{decoded, json_fault};
-ghost use Rattle.oxc_sourcemap_json_text.specs.Encoded.{encoded};
+ghost use Rattle.oxc_sourcemap_decode.specs.Decoded.{decoded, json_fault};
+ghost use Rattle.oxc_sourcemap_encode.specs.Encoded.{encoded};
 ghost use Rattle.oxc_sourcemap_parts.specs.DecodedMap.{decoded_map_of};
-ghost use Rattle.oxc_sourcemap_sections.specs.ReadMap.{read_map, read_decoded_map};
-ghost use Rattle.oxc_sourcemap_json_text.specs.JsonText.{map_text, map_url};
+ghost use Rattle.oxc_sourcemap_decode.specs.ReadMap.{read_map, read_decoded_map};
+ghost use Rattle.oxc_sourcemap_encode.specs.JsonText.{map_text, map_url};
 ghost use Rattle.oxc_sourcemap_map.specs.View.{view_of, seen_in, content_at, source_and_content_at};
 
 use crate::source_view_token::SourceViewToken;
 use crate::view_tokens::ViewTokens;
-use oxc_sourcemap_error::Result;
-use oxc_sourcemap_json::{JSONSourceMap, decode_parts};
-use oxc_sourcemap_json_text::{encode_parts, encode_parts_to_data_url, encode_parts_to_string};
+use oxc_sourcemap_decode::{decode_parts, decode_parts_from_string};
+use oxc_sourcemap_encode::{encode_parts, encode_parts_to_data_url, encode_parts_to_string};
+use oxc_sourcemap_json::JSONSourceMap;
 use oxc_sourcemap_parts::{
     Contents, Names, SourceMapParts, Sources, Tokens, are_sorted, are_sound, contents_in, names_in,
     owned_parts, sources_in, stored_contents, stored_texts, tokens_in,
 };
-use oxc_sourcemap_sections::decode_parts_from_string;
-use oxc_sourcemap_tokens::{Token, TokenChunk};
+use oxc_sourcemap_tokens::{Result, Token, TokenChunk};
 use std::alloc::Global;
 use std::borrow::CowStr;
 use std::boxed::BoxedSlice;
@@ -118,7 +117,7 @@ impl<'a> SourceMap<'a> {
     ///
     /// Its ids are in range, its tokens in line order, and it has no chunks, so it is sound exactly if it is sorted. A text may
     /// list the columns of a line in any order; `is_sorted` checks that.
-    #[tactic(auto, using(oxc_sourcemap_sections::proofs::WellRead::read_map_sound, oxc_sourcemap_sections::proofs::WellRead::read_in_order))]
+    #[tactic(auto, using(oxc_sourcemap_decode::proofs::WellRead::read_map_sound, oxc_sourcemap_decode::proofs::WellRead::read_in_order))]
     pub fn from_json_string(alloc: Global, text: &str) -> Result<SourceMap<'static>>
         ensures map { IfOk result (λ map. read_map text.now ≡ Ok map) }
         ensures decoded_map { IfOk result (λ map. read_decoded_map text.now ≡ Ok (decoded_map_of map)) }

@@ -4,12 +4,12 @@ use Rattle.std.specs.List.{AllByRecursion}
 use Rattle.std.proofs.lemmas.Bool.{cases_lt, cases_eq}
 use Rattle.std.proofs.lemmas.List.Elements.{All-from_recursion}
 use Rattle.std.proofs.lemmas.Bool.Decides.{nat_tests}
-use Rattle.oxc_sourcemap_error.specs.declared.error.Error.{Error}
+use Rattle.oxc_sourcemap_tokens.specs.declared.error.Error.{Error}
 use Rattle.oxc_sourcemap_tokens.specs.Token.{TokenRecord, IsInBounds, AreInBounds}
 use Rattle.oxc_sourcemap_mappings.specs.Parts.{Segment, lines, field}
 use Rattle.oxc_sourcemap_mappings.specs.Places.{Place}
 use Rattle.oxc_sourcemap_mappings.specs.Faults.{◌orelse◌, counts_of, range_fault, size_fault, place_fault, is_id_below}
-use Rattle.oxc_sourcemap_error.specs.Refusals.{unless}
+use Rattle.oxc_sourcemap_tokens.specs.Refusals.{unless}
 use Rattle.oxc_sourcemap_mappings.specs.Reading.{token_at, segment_result, gathered, onto, reading}
 use Rattle.oxc_sourcemap_tokens.specs.State.{State, initial}
 use Rattle.oxc_sourcemap_mappings.specs.Canonical.{carried_token, canonical}

@@ -4,8 +4,8 @@ use Rattle.std.specs.List.{onto_first}
 use Rattle.std.proofs.lemmas.Bool.Decides.{nat_tests}
 use Rattle.std.proofs.lemmas.Bool.{cases_lt, cases_eq}
 use Rattle.std.proofs.lemmas.List.{get_or_past, length-drop, length-map, get_or-set_same, get_or-set_other, set_past}
-use Rattle.oxc_sourcemap_error.specs.declared.error.Error.{Error}
-use Rattle.oxc_sourcemap_error.specs.declared.error.Error.TheVariants.{VlqLeftover, VlqOverflow}
+use Rattle.oxc_sourcemap_tokens.specs.declared.error.Error.{Error}
+use Rattle.oxc_sourcemap_tokens.specs.declared.error.Error.TheVariants.{VlqLeftover, VlqOverflow}
 use Rattle.oxc_sourcemap_mappings.specs.Number.{payload, ends_run, raw_from, signed, number, is_open}
 use Rattle.oxc_sourcemap_mappings.specs.Parts.{runs, field}
 use Rattle.oxc_sourcemap_mappings.specs.Faults.{digit_fault}

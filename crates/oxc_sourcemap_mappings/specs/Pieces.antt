@@ -1,8 +1,8 @@
 -- What chunks are written as, and why a chunk or a list is not written.
 use Rattle.std.specs.Prelude.{ℕ, ◌&&◌, List, [], ◌∷◌, ◌++◌, length, Option, Some, None, if◌then◌else◌, nat_lt, nat_le, ◌==◌}
 use Rattle.std.specs.Option.{option_map, option_map_or}
-use Rattle.oxc_sourcemap_error.specs.declared.error.Error.{Error}
-use Rattle.oxc_sourcemap_error.specs.declared.error.Error.TheVariants.{LineOrder, BadChunks, TooLarge}
+use Rattle.oxc_sourcemap_tokens.specs.declared.error.Error.{Error}
+use Rattle.oxc_sourcemap_tokens.specs.declared.error.Error.TheVariants.{LineOrder, BadChunks, TooLarge}
 use Rattle.oxc_sourcemap_tokens.specs.declared.token.TokenChunk.{TokenChunk}
 use Rattle.oxc_sourcemap_tokens.specs.Token.{TokenRecord}
 use Rattle.oxc_sourcemap_tokens.specs.State.{state_after}

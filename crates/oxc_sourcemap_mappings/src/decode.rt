@@ -2,7 +2,7 @@
 ghost use Rattle.std.specs.Box.{boxed_slice_items};
 ghost use Rattle.std.specs.Prelude.{ℕ, List, ◌≡◌, ◌≢◌, ◌⊎◌, ◌+◌, ◌*◌, ◌%◌, ◌^◌, ◌<◌, ◌≤◌, ◌-◌, ◌++◌, length, ◌∷◌, [], drop, replicate, not, ℤ, pos, nat_abs, ◌+ℤ◌};
 ghost use Rattle.std.specs.Prelude.{set, true, false, min, is_some, IfSome, IfNone, OnOk, IfOk, IfErr, Option, Some, None, Result, Ok, Err};
-ghost use Rattle.oxc_sourcemap_error.specs.declared.error.Error.TheVariants.{OutOfMemory, TooLarge};
+ghost use Rattle.oxc_sourcemap_tokens.specs.declared.error.Error.TheVariants.{OutOfMemory, TooLarge};
 ghost use Rattle.oxc_sourcemap_mappings.specs.Number.{digit, payload, signed};
 ghost use Rattle.oxc_sourcemap_mappings.specs.Places.{nothing_before, place};
 ghost use Rattle.oxc_sourcemap_mappings.specs.Faults.{digit_fault, range_fault, is_id_below, low_bits};
@@ -11,8 +11,7 @@ ghost use Rattle.oxc_sourcemap_mappings.specs.Reading.{token_at, segment_result,
 ghost use Rattle.oxc_sourcemap_mappings.specs.Decoding.{ends_segment, front_digits, front_segment, segments_after, is_over, IsNumberAt};
 ghost use Rattle.oxc_sourcemap_mappings.specs.Decoding.{AreFieldsOf, AreSmall, value, place_of, source_moved, moved, moved_by};
 
-use oxc_sourcemap_error::{Error, Result};
-use oxc_sourcemap_tokens::Token;
+use oxc_sourcemap_tokens::{Error, Result, Token};
 use std::alloc::Global;
 use std::boxed::BoxedSlice;
 

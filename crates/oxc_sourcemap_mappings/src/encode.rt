@@ -1,7 +1,7 @@
 //! Writing the `mappings` text.
 ghost use Rattle.std.specs.Prelude.{◌≡◌, ◌≢◌, ◌↔◌, ◌+◌, ◌-◌, ◌*◌, ◌/◌, ◌%◌, ◌^◌, ◌<◌, ◌≤◌, ◌++◌, ◌==◌, ◌∷◌, [], length, min, replicate, string_bytes, OnOk, OnErr, IfErr, IfOk, IsTrue, Option, Some, None, Err, if◌then◌else◌, nat_le, take, flat_map};
-ghost use Rattle.oxc_sourcemap_error.specs.declared.error.Error.{Error};
-ghost use Rattle.oxc_sourcemap_error.specs.declared.error.Error.TheVariants.{OutOfMemory};
+ghost use Rattle.oxc_sourcemap_tokens.specs.declared.error.Error.{Error};
+ghost use Rattle.oxc_sourcemap_tokens.specs.declared.error.Error.TheVariants.{OutOfMemory};
 ghost use Rattle.oxc_sourcemap_tokens.specs.Token.{AreInBounds, last_line};
 ghost use Rattle.oxc_sourcemap_mappings.specs.Canonical.{letter, vlq_text, raw_delta, delta_text, canonical, Extends};
 ghost use Rattle.oxc_sourcemap_tokens.specs.LineOrder.{back_from};
@@ -11,10 +11,9 @@ ghost use Rattle.oxc_sourcemap_tokens.specs.Steps.{state_of};
 ghost use Rattle.oxc_sourcemap_mappings.specs.Encoding.{text_from, OnlyAdds, line_marks, marks_of, column_from, fields_text, raw_at, first_letter, second_letter, rank_of, offset_of, deltas_text, AreSingle};
 ghost use Rattle.std.specs.List.{AllByRecursion};
 
-use oxc_sourcemap_error::{Error, Result};
 use oxc_sourcemap_tokens::{
-    Previous, Token, TokenChunk, chunk_fault, line_back_from, line_order_fault, next_chunk,
-    tokens_of,
+    Error, Previous, Result, Token, TokenChunk, chunk_fault, line_back_from, line_order_fault,
+    next_chunk, tokens_of,
 };
 use std::alloc::AllocError;
 

@@ -1,14 +1,13 @@
 //! The parts of a map: its nine fields.
 ghost use Rattle.std.specs.Prelude.{◌≡◌, IfOk, IfErr};
-ghost use Rattle.oxc_sourcemap_error.specs.declared.error.Error.TheVariants.{OutOfMemory};
+ghost use Rattle.oxc_sourcemap_tokens.specs.declared.error.Error.TheVariants.{OutOfMemory};
 ghost use Rattle.oxc_sourcemap_parts.specs.Views.{text_of, texts_of, contents_of, record_of_parts, empty_record};
 
 use crate::texts::{
     cloned_chunks, cloned_contents, cloned_ids, cloned_text, cloned_texts, detached_contents,
     detached_text, detached_texts,
 };
-use oxc_sourcemap_error::Result;
-use oxc_sourcemap_tokens::{Token, TokenChunk};
+use oxc_sourcemap_tokens::{Result, Token, TokenChunk};
 use std::alloc::{AllocError, Global};
 use std::borrow::CowStr;
 use std::boxed::BoxedSlice;

@@ -3,8 +3,8 @@ use Rattle.std.proofs.Common.{◌≡◌, ℕ, ◌≤◌, true, cond, nat_le, Ok,
 use Rattle.std.proofs.lemmas.Bool.Decides.{nat_tests}
 use Rattle.oxc_sourcemap_parts.specs.Record.{MapRecord}
 use Rattle.oxc_sourcemap_parts.specs.DecodedMap.{decoded_map_of}
-use Rattle.oxc_sourcemap_json_text.specs.Encoded.{encoded_record}
-use Rattle.oxc_sourcemap_json_text.specs.MapLaws.{rewritten, SoundIsWritten, SoundReadsBack}
+use Rattle.oxc_sourcemap_encode.specs.Encoded.{encoded_record}
+use Rattle.oxc_sourcemap_laws.specs.MapLaws.{rewritten, SoundIsWritten, SoundReadsBack}
 use Rattle.oxc_sourcemap_laws.specs.JoinLaws.{TracesAgree}
 use Rattle.oxc_sourcemap_laws.proofs.UpToRepeats.{matches}
 use Rattle.oxc_sourcemap_plan.specs.Outcome.{Outcome, too_deep}

@@ -2,8 +2,8 @@
 use Rattle.std.proofs.Common.{◌≡◌, true, false, nat_lt, List, [], ◌∷◌, length, refl, ap, arith, Option, Some, None, Result, Ok, Err}
 use Rattle.std.proofs.lemmas.Bool.{and_parts}
 use Rattle.std.proofs.lemmas.Bool.Decides.{nat_tests}
-use Rattle.oxc_sourcemap_error.specs.declared.error.Error.{Error}
-use Rattle.oxc_sourcemap_error.specs.Refusals.{unless}
+use Rattle.oxc_sourcemap_tokens.specs.declared.error.Error.{Error}
+use Rattle.oxc_sourcemap_tokens.specs.Refusals.{unless}
 use Rattle.oxc_sourcemap_tokens.specs.Token.{TokenRecord, AreInBounds}
 use Rattle.oxc_sourcemap_mappings.specs.TextLaws.{ReadsAgain}
 use Rattle.oxc_sourcemap_mappings.specs.Reading.{reading}
@@ -11,7 +11,7 @@ use Rattle.oxc_sourcemap_tokens.specs.LineOrder.{first_out_of_order}
 use Rattle.oxc_sourcemap_json.specs.Json.{JsonRecord}
 use Rattle.oxc_sourcemap_parts.specs.Record.{MapRecord}
 use Rattle.oxc_sourcemap_parts.specs.Sorted.{are_tokens_sorted, may_precede, token_line, token_column}
-use Rattle.oxc_sourcemap_json.specs.Decoded.{decoded, decoded_record, with_tokens, json_fault}
+use Rattle.oxc_sourcemap_decode.specs.Decoded.{decoded, decoded_record, with_tokens, json_fault}
 
 tokens-read : (j : JsonRecord) (q : Result (List TokenRecord) Error) (r : MapRecord) → with_tokens j q ≡ Ok r → q ≡ Ok r.tokens
 tokens-read j (Ok ts) r e = let s : decoded_record j ts ≡ r = cc (e) in ap (λ (m : MapRecord). Ok m.tokens) s

@@ -2,7 +2,7 @@
 use Rattle.std.proofs.Common.{◌≡◌, ℕ, List, [], ◌∷◌, ◌++◌, map, ◌+◌, Vec, Box, refl, ap, sym, ◌∙◌}
 use Rattle.std.specs.declared.alloc.Global.{Global}
 use Rattle.std.specs.Borrow.{Bor}
-use Rattle.oxc_sourcemap_sections.specs.ReadMap.{said_in}
+use Rattle.oxc_sourcemap_decode.specs.ReadMap.{said_in}
 use Rattle.oxc_sourcemap_join.specs.Joined.{at_line, at_lines, at_positions}
 use Rattle.oxc_sourcemap_plan.specs.declared.plan.Plan.{Plan}
 use Rattle.oxc_sourcemap_plan.specs.declared.plan.Plan.TheVariants.{Read, rolls-Read, Rewrite, rolls-Rewrite, Join, rolls-Join, JoinAt, rolls-JoinAt, Compose, rolls-Compose}

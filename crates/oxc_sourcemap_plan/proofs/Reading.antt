@@ -4,9 +4,9 @@ use Rattle.std.specs.List.{flat_map, AllByRecursion}
 use Rattle.std.proofs.lemmas.Bool.{and_parts, both_ways, false_from_ne_true}
 use Rattle.std.proofs.lemmas.List.{length-append, length-map}
 use Rattle.std.proofs.lemmas.List.Elements.{recursion_from_All}
-use Rattle.oxc_sourcemap_error.specs.declared.error.Error.{Error}
-use Rattle.oxc_sourcemap_error.specs.declared.error.Error.TheVariants.{OutOfMemory, TooLarge}
-use Rattle.oxc_sourcemap_error.specs.Refusals.{unless}
+use Rattle.oxc_sourcemap_tokens.specs.declared.error.Error.{Error}
+use Rattle.oxc_sourcemap_tokens.specs.declared.error.Error.TheVariants.{OutOfMemory, TooLarge}
+use Rattle.oxc_sourcemap_tokens.specs.Refusals.{unless}
 use Rattle.oxc_sourcemap_tokens.specs.Token.{TokenRecord, IsInBounds, AreInBounds}
 use Rattle.oxc_sourcemap_parts.specs.Record.{Text, MapRecord}
 use Rattle.oxc_sourcemap_parts.specs.Sorted.{are_tokens_sorted}
@@ -14,18 +14,18 @@ use Rattle.oxc_sourcemap_parts.specs.Sound.{IsSound}
 use Rattle.oxc_sourcemap_parts.specs.DecodedMap.{DecodedMap, mapping_of, sources_of, decoded_map_of}
 use Rattle.oxc_sourcemap_json.specs.Shape.{◌>>=◌}
 use Rattle.oxc_sourcemap_join.specs.Joined.{Offset, nothing_joined, joined, IsWithinLimits}
-use Rattle.oxc_sourcemap_sections.specs.Sections.{Sections, joined_sections}
-use Rattle.oxc_sourcemap_sections.specs.JoinLimits.{is_within_limits}
-use Rattle.oxc_sourcemap_sections.specs.ReadMap.{Said, plain, indexed, indexed_record, map_said, said_in, read_map}
-use Rattle.oxc_sourcemap_sections.proofs.Limits.{limits_decided}
-use Rattle.oxc_sourcemap_sections.proofs.WellRead.{IsWellRead, sections_well, read_is_said}
+use Rattle.oxc_sourcemap_decode.specs.Sections.{Sections, joined_sections}
+use Rattle.oxc_sourcemap_decode.specs.JoinLimits.{is_within_limits}
+use Rattle.oxc_sourcemap_decode.specs.ReadMap.{Said, plain, indexed, indexed_record, map_said, said_in, read_map}
+use Rattle.oxc_sourcemap_decode.proofs.Limits.{limits_decided}
+use Rattle.oxc_sourcemap_decode.proofs.WellRead.{IsWellRead, sections_well, read_is_said}
 use Rattle.oxc_sourcemap_laws.specs.Repeats.{EqualUpToRepeats, is_sorted_decoded_map}
 use Rattle.oxc_sourcemap_laws.specs.JoinedDecodedMaps.{lowered, joined_decoded_maps}
 use Rattle.oxc_sourcemap_laws.specs.JoinLaws.{AreAllInRange, AreIgnoreListsInRange, decoded_maps_of}
 use Rattle.oxc_sourcemap_laws.proofs.JoinStands.{sorted-mappings}
 use Rattle.oxc_sourcemap_laws.proofs.Sections.{all-in-range, FromSections, from-sections, joined-of}
 use Rattle.oxc_sourcemap_laws.proofs.UpToRepeats.{sorted_decoded_map_up_to_repeats}
-use Rattle.oxc_sourcemap_error.specs.declared.plan_error.PlanError.TheVariants.{Map, Unsorted}
+use Rattle.oxc_sourcemap_tokens.specs.declared.plan_error.PlanError.TheVariants.{Map, Unsorted}
 use Rattle.oxc_sourcemap_plan.specs.Limits.{are_counts_within_limits, are_positions_within_limits, is_join_within_limits}
 use Rattle.oxc_sourcemap_plan.specs.Outcome.{Outcome, plain_outcome, names_of_sections, sections_outcome, read_outcome}
 use Rattle.oxc_sourcemap_plan.specs.Evaluated.{are_among}

@@ -6,9 +6,9 @@ use Rattle.std.proofs.lemmas.Bool.{and_parts, and_left, and_right, false_from_ne
 use Rattle.std.proofs.lemmas.Bool.Decides.{nat_tests}
 use Rattle.std.proofs.lemmas.List.{length-append, length-map}
 use Rattle.std.proofs.lemmas.List.Elements.{recursion_from_All, All-from_recursion}
-use Rattle.oxc_sourcemap_error.specs.declared.error.Error.{Error}
-use Rattle.oxc_sourcemap_error.specs.declared.error.Error.TheVariants.{VlqLeftover, VlqNoValues, VlqOverflow, BadJson, BadSegmentSize, BadSourceReference, BadNameReference, OutOfMemory, TooLarge, LineOrder, BadChunks, SeveralSources, SectionOrder}
-use Rattle.oxc_sourcemap_tokens.specs.Token.{TokenRecord, IsInBounds, AreInBounds}
+use Rattle.oxc_sourcemap_tokens.specs.declared.error.Error.{Error}
+use Rattle.oxc_sourcemap_tokens.specs.declared.error.Error.TheVariants.{VlqLeftover, VlqNoValues, VlqOverflow, BadJson, BadSegmentSize, BadSourceReference, BadNameReference, OutOfMemory, TooLarge, LineOrder, BadChunks, SeveralSources, SectionOrder}
+use Rattle.oxc_sourcemap_tokens.specs.Token.{TokenRecord, IsInBounds, AreInBounds, last}
 use Rattle.oxc_sourcemap_mappings.specs.TextLaws.{ReadsAgain}
 use Rattle.oxc_sourcemap_tokens.specs.LineOrder.{first_out_of_order}
 use Rattle.oxc_sourcemap_json.specs.Json.{JsonRecord}
@@ -16,23 +16,22 @@ use Rattle.oxc_sourcemap_parts.specs.Record.{Text, MapRecord}
 use Rattle.oxc_sourcemap_parts.specs.Sorted.{are_tokens_sorted}
 use Rattle.oxc_sourcemap_parts.specs.Sound.{IsInRange, IsSound}
 use Rattle.oxc_sourcemap_parts.specs.DecodedMap.{DecodedSource, DecodedMapping, DecodedMap, sources_of, mapping_of, decoded_map_of}
-use Rattle.oxc_sourcemap_json.specs.Decoded.{decoded}
-use Rattle.oxc_sourcemap_json_text.specs.Encoded.{encoded, encoded_record, written_contents}
+use Rattle.oxc_sourcemap_decode.specs.Decoded.{decoded}
+use Rattle.oxc_sourcemap_encode.specs.Encoded.{encoded, encoded_record, written_contents}
 use Rattle.oxc_sourcemap_mappings.specs.Pieces.{writing_fault}
-use Rattle.oxc_sourcemap_json_text.specs.MapLaws.{SoundIsWritten, SoundIsTooLarge, SoundReadsBack, SoundStaysSound, rewritten}
+use Rattle.oxc_sourcemap_laws.specs.MapLaws.{SoundIsWritten, SoundIsTooLarge, SoundReadsBack, SoundStaysSound, rewritten}
 use Rattle.oxc_sourcemap_join.specs.Joined.{Offset, is_same_token, without_repeat, shifted, added, added_all, nothing_joined, joined, AreEntriesInBounds, IsWithinLimits}
 use Rattle.oxc_sourcemap_join.proofs.Fitted.{length-fitted}
-use Rattle.oxc_sourcemap_lookup.specs.Lookup.{last}
-use Rattle.oxc_sourcemap_error.specs.Refusals.{unless}
-use Rattle.oxc_sourcemap_compose.specs.Composed.{targets, composed_names, composed, are_ids, composition}
+use Rattle.oxc_sourcemap_tokens.specs.Refusals.{unless}
+use Rattle.oxc_sourcemap_lookup.specs.Composed.{targets, composed_names, composed, are_ids, composition}
 use Rattle.oxc_sourcemap_laws.specs.Repeats.{decoded_map_without_repeats, EqualUpToRepeats, is_sorted_decoded_map}
 use Rattle.oxc_sourcemap_laws.proofs.UpToRepeats.{matches}
 use Rattle.oxc_sourcemap_laws.specs.JoinedDecodedMaps.{joined_decoded_maps, lowered}
 use Rattle.oxc_sourcemap_laws.specs.ComposedDecodedMaps.{composed_decoded_maps}
 use Rattle.oxc_sourcemap_laws.specs.JoinLaws.{TestsAgree, DecodedMapOfJoin, JoinKeepsEqualUpToRepeats, JoinStandsFor, JoinInRange, JoinNames, JoinTokens, AreAllInRange, AreIgnoreListsInRange, AreEqualUpToRepeats, decoded_maps_of, AllStandFor}
 use Rattle.oxc_sourcemap_laws.specs.ComposeLaws.{CompositionStandsFor, CompositionNames, CompositionTokens, CompositionTooLarge, CompositionInBounds}
-use Rattle.oxc_sourcemap_error.specs.declared.plan_error.PlanError.{PlanError}
-use Rattle.oxc_sourcemap_error.specs.declared.plan_error.PlanError.TheVariants.{Map, Unsorted}
+use Rattle.oxc_sourcemap_tokens.specs.declared.plan_error.PlanError.{PlanError}
+use Rattle.oxc_sourcemap_tokens.specs.declared.plan_error.PlanError.TheVariants.{Map, Unsorted}
 use Rattle.oxc_sourcemap_plan.specs.Meaning.{read_meaning, onto_decoded_maps, all_decoded_maps, join_meaning, composition_meaning}
 use Rattle.oxc_sourcemap_plan.specs.Limits.{are_counts_within_limits, is_position_within_limits, are_positions_within_limits, is_part_within_limits, is_join_within_limits}
 use Rattle.oxc_sourcemap_plan.specs.Outcome.{Outcome, plain_outcome, rewrite_outcome, meanings, names_of_all, all_records, joined_source_count, are_all_within_limits, join_outcome, composition_outcome}

@@ -2,21 +2,21 @@
 use Rattle.std.specs.Prelude.{ℕ, Bool, true, false, ◌&&◌, List, [], ◌∷◌, ◌++◌, length, map, Option, Some, None, Result, Ok, Err, if◌then◌else◌, nat_le}
 use Rattle.std.specs.List.{flat_map, list_all}
 use Rattle.std.specs.Option.{option_map, option_and_then}
-use Rattle.oxc_sourcemap_error.specs.declared.error.Error.{Error}
+use Rattle.oxc_sourcemap_tokens.specs.declared.error.Error.{Error}
 use Rattle.oxc_sourcemap_parts.specs.Record.{Text, MapRecord}
 use Rattle.oxc_sourcemap_parts.specs.DecodedMap.{DecodedMap}
-use Rattle.oxc_sourcemap_json_text.specs.MapLaws.{rewritten}
-use Rattle.oxc_sourcemap_compose.specs.Composed.{composed}
+use Rattle.oxc_sourcemap_laws.specs.MapLaws.{rewritten}
+use Rattle.oxc_sourcemap_lookup.specs.Composed.{composed}
 use Rattle.oxc_sourcemap_join.specs.Joined.{Offset, at_lines, at_positions, joined}
-use Rattle.oxc_sourcemap_sections.specs.Sections.{Sections}
-use Rattle.oxc_sourcemap_sections.specs.ReadMap.{Said, plain, indexed, indexed_record, said_in}
+use Rattle.oxc_sourcemap_decode.specs.Sections.{Sections}
+use Rattle.oxc_sourcemap_decode.specs.ReadMap.{Said, plain, indexed, indexed_record, said_in}
 use Rattle.oxc_sourcemap_laws.specs.JoinedDecodedMaps.{joined_decoded_maps}
 use Rattle.oxc_sourcemap_laws.specs.JoinLaws.{decoded_maps_of}
 use Rattle.oxc_sourcemap_plan.specs.declared.plan.Plan.{Plan}
 use Rattle.oxc_sourcemap_plan.specs.declared.plan.Plan.TheOpen.{Plan-F}
 use Rattle.oxc_sourcemap_plan.specs.declared.plan.Plan.TheFolds.{fold-Plan}
-use Rattle.oxc_sourcemap_error.specs.declared.plan_error.PlanError.{PlanError}
-use Rattle.oxc_sourcemap_error.specs.declared.plan_error.PlanError.TheVariants.{TooDeep}
+use Rattle.oxc_sourcemap_tokens.specs.declared.plan_error.PlanError.{PlanError}
+use Rattle.oxc_sourcemap_tokens.specs.declared.plan_error.PlanError.TheVariants.{TooDeep}
 use Rattle.oxc_sourcemap_plan.specs.Depth.{depth}
 use Rattle.oxc_sourcemap_plan.specs.Meaning.{Meaning, read_meaning, indexed_meaning, all_decoded_maps, join_meaning, composition_meaning}
 use Rattle.oxc_sourcemap_plan.specs.Limits.{is_part_within_limits, is_join_within_limits}

@@ -1,15 +1,15 @@
 -- How the answers of the private steps of an evaluation stand to the outcomes of parts. No public contract cites this.
 use Rattle.std.specs.Prelude.{◌≡◌, ◌≤◌, true, List, length, Ok, Some, None, ◌⊎◌}
 use Rattle.std.specs.List.{AllZip}
-use Rattle.oxc_sourcemap_error.specs.declared.error.Error.TheVariants.{OutOfMemory}
+use Rattle.oxc_sourcemap_tokens.specs.declared.error.Error.TheVariants.{OutOfMemory}
 use Rattle.oxc_sourcemap_tokens.specs.Token.{AreInBounds}
 use Rattle.oxc_sourcemap_parts.specs.Record.{MapRecord}
 use Rattle.oxc_sourcemap_parts.specs.DecodedMap.{DecodedMap}
-use Rattle.oxc_sourcemap_json_text.specs.MapLaws.{rewritten}
+use Rattle.oxc_sourcemap_laws.specs.MapLaws.{rewritten}
 use Rattle.oxc_sourcemap_join.specs.Joined.{Offset}
 use Rattle.oxc_sourcemap_laws.specs.JoinLaws.{StandsFor}
-use Rattle.oxc_sourcemap_error.specs.declared.plan_error.PlanError.{PlanError}
-use Rattle.oxc_sourcemap_error.specs.declared.plan_error.PlanError.TheVariants.{Map}
+use Rattle.oxc_sourcemap_tokens.specs.declared.plan_error.PlanError.{PlanError}
+use Rattle.oxc_sourcemap_tokens.specs.declared.plan_error.PlanError.TheVariants.{Map}
 use Rattle.oxc_sourcemap_plan.specs.Outcome.{Outcome}
 use Rattle.oxc_sourcemap_plan.specs.Evaluated.{are_among, IsFailure}
 

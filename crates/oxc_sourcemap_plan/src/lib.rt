@@ -1,9 +1,13 @@
-//! Plans: pipelines of reading, rewriting, joining and composing maps, and `evaluate`, which is proved to answer what a
-//! plan means.
-//!
-//! Users name the crate `oxc_sourcemap`, which re-exports `Plan` and `evaluate`.
+//! Plans: pipelines of reading, rewriting, joining and composing maps. `evaluate` makes the map that a plan means, and
+//! `read_plan` reads a plan from words. Part of `oxc_sourcemap`.
 #![tactic(auto)]
 
+mod numbers;
 mod plan;
+mod plan_arguments;
+mod run_error;
 
+pub use numbers::read_number;
 pub use plan::{Plan, evaluate};
+pub use plan_arguments::{inputs_of, read_plan};
+pub use run_error::RunError;

@@ -5,15 +5,15 @@ ghost use Rattle.oxc_sourcemap_plan.specs.Outcome.{Outcome, read_outcome, rewrit
 ghost use Rattle.oxc_sourcemap_join.specs.Joined.{Offset, at_lines, at_positions, joined, IsWithinLimits};
 ghost use Rattle.oxc_sourcemap_plan.specs.Evaluated.{IsEvaluated, IsFailure};
 ghost use Rattle.oxc_sourcemap_plan.specs.Realizes.{Realizes, FailsAs, AllRealize};
-ghost use Rattle.oxc_sourcemap_error.specs.declared.error.Error.TheVariants.{OutOfMemory, TooLarge};
-ghost use Rattle.oxc_sourcemap_sections.specs.ReadMap.{said_in};
+ghost use Rattle.oxc_sourcemap_tokens.specs.declared.error.Error.TheVariants.{OutOfMemory, TooLarge};
+ghost use Rattle.oxc_sourcemap_decode.specs.ReadMap.{said_in};
 ghost use Rattle.oxc_sourcemap_parts.specs.Sorted.{are_tokens_sorted};
-ghost use Rattle.oxc_sourcemap_error.specs.declared.plan_error.PlanError.TheVariants.{Map, Unsorted};
+ghost use Rattle.oxc_sourcemap_tokens.specs.declared.plan_error.PlanError.TheVariants.{Map, Unsorted};
 
-use oxc_sourcemap_concat::ConcatSourceMapBuilder;
-use oxc_sourcemap_error::{Error, PlanError};
+use oxc_sourcemap_builders::ConcatSourceMapBuilder;
 use oxc_sourcemap_laws::{canonical_unique, composition_associative, dropping_harmless};
 use oxc_sourcemap_map::{OwnedSourceMap, SourceMap};
+use oxc_sourcemap_tokens::{Error, PlanError};
 use std::alloc::Global;
 
 /// What to do with maps, which are given as JSON texts borrowed for `'t`. Lines and columns count from 0; columns are in

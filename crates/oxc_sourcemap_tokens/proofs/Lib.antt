@@ -1,3 +1,4 @@
+pub mod Carried
 pub mod InOrder
 pub mod Fits
 pub mod Last

@@ -1,3 +1,6 @@
+pub mod Refusals
+pub mod Messages
+pub mod PlanMessages
 pub mod Token
 pub mod State
 pub mod LineOrder

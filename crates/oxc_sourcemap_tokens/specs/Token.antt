@@ -1,6 +1,6 @@
 -- What contracts see of a token.
 use Rattle.std.specs.Prelude.{ℕ, ◌<◌, Bool, List, [], ◌∷◌, Option, Some, None, if◌then◌else◌, nat_lt, is_some, IfSome}
-use Rattle.std.specs.List.{All}
+use Rattle.std.specs.List.{All, last_or}
 use Rattle.std.specs.Option.{option_map}
 
 -- A token: its generated line and column, its source line and column, its source id and its name id.
@@ -54,3 +54,7 @@ AreInBounds tokens = All IsInBounds tokens
 abbrev pub last_line : ℕ → List TokenRecord → ℕ
 last_line line [] = line
 last_line line (t ∷ ts) = last_line t.dst_line ts
+
+-- the last item
+abbrev pub last : {A : Type 0} → List A → Option A
+last items = last_or None items

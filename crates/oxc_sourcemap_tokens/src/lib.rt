@@ -1,15 +1,17 @@
-//! The tokens of a source map of version 3 and the chunks that lists of them are written in: their fields, the order of
-//! generated lines, what a token is written against, and whether chunks fit (docs/FORMAT.md, "Chunks").
-//!
-//! Users name the crate `oxc_sourcemap`, which re-exports what is meant for them: `Token`, `TokenChunk` and `chunk_fault`.
+//! What all crates of the port of `oxc_sourcemap` share: its errors and their messages; the tokens of a source map and the
+//! order of their generated lines; and the chunks that a list of tokens is written in. Part of `oxc_sourcemap`.
 #![tactic(auto)]
 
 mod chunks;
+mod error;
 mod order;
+mod plan_error;
 mod state;
 mod token;
 
 pub use chunks::{chunk_fault, next_chunk, tokens_of};
+pub use error::{Error, Field, JsonFault, Result};
 pub use order::{line_back_from, line_order_fault};
+pub use plan_error::PlanError;
 pub use state::Previous;
 pub use token::{Token, TokenChunk};

@@ -2,10 +2,10 @@
 use Rattle.std.specs.Prelude.{◌∷◌, ◌++◌, codes, decimal, length, Result, Ok}
 use Rattle.base64.specs.Engines.{standard}
 use Rattle.base64.specs.GeneralPurpose.{encode_of}
-use Rattle.oxc_sourcemap_error.specs.declared.error.Error.{Error}
+use Rattle.oxc_sourcemap_tokens.specs.declared.error.Error.{Error}
 use Rattle.oxc_sourcemap_json.specs.Shape.{◌>>=◌}
 use Rattle.oxc_sourcemap_parts.specs.Record.{Text, MapRecord}
-use Rattle.oxc_sourcemap_json_text.specs.JsonText.{map_text}
+use Rattle.oxc_sourcemap_encode.specs.JsonText.{map_text}
 
 -- a text after its number of bytes in decimal and a zero byte
 abbrev pub counted : Text → Text

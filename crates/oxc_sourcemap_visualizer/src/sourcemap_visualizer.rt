@@ -2,7 +2,7 @@
 ghost use Rattle.std.specs.Prelude.{◌≡◌, ◌≢◌, ◌++◌, ℕ, List, [], map, option_map, string_bytes, codes, Some, None, IfOk, IfErr, IfSome, OnOk, Ok, Err};
 ghost use Rattle.std.specs.Fmt.{AppendsText};
 ghost use Rattle.std.specs.Option.{option_or};
-ghost use Rattle.oxc_sourcemap_error.specs.declared.error.Error.TheVariants.{OutOfMemory};
+ghost use Rattle.oxc_sourcemap_tokens.specs.declared.error.Error.TheVariants.{OutOfMemory};
 ghost use Rattle.oxc_sourcemap_parts.specs.Record.{Text};
 ghost use Rattle.oxc_sourcemap_visualizer.specs.Link.{counted, map_link};
 ghost use Rattle.oxc_sourcemap_visualizer.specs.TextLines.{units_of, lines_of, text_lines};
@@ -10,10 +10,9 @@ ghost use Rattle.oxc_sourcemap_visualizer.specs.VisualText.{is_within, dst_end, 
 
 use crate::text_lines::{Lines, utf16_units};
 use base64::engine::general_purpose::STANDARD;
-use oxc_sourcemap_error::{Error, Result};
 use oxc_sourcemap_map::SourceMap;
 use oxc_sourcemap_parts::Contents;
-use oxc_sourcemap_tokens::Token;
+use oxc_sourcemap_tokens::{Error, Result, Token};
 use std::alloc::{AllocError, Global};
 use std::fmt::Write;
 use std::marker::Model;

@@ -12,9 +12,9 @@ use Rattle.oxc_sourcemap.specs.JsonText.{json_text, map_text}
 use Rattle.oxc_sourcemap.specs.MapLaws.{SoundIsTooLarge}
 use Rattle.oxc_sourcemap.specs.PlanError.{PlanError}
 use Rattle.oxc_sourcemap.specs.PlanError.TheVariants.{Map}
-use Rattle.smap_arguments.specs.declared.run_error.RunError.{RunError}
-use Rattle.smap_arguments.specs.declared.run_error.RunError.TheVariants.{Plan}
-use Rattle.smap_arguments.specs.Refusals.{out_of_memory}
+use Rattle.oxc_sourcemap_plan.specs.declared.run_error.RunError.{RunError}
+use Rattle.oxc_sourcemap_plan.specs.declared.run_error.RunError.TheVariants.{Plan}
+use Rattle.oxc_sourcemap_plan.specs.Refusals.{out_of_memory}
 use Rattle.oxc_sourcemap.specs.Outcome.{Outcome}
 use Rattle.oxc_sourcemap.specs.Evaluated.{IsEvaluated, IsFailure}
 use Rattle.smap_run.specs.Answer.{IsPlanAnswer, IsPlanRefusal}

@@ -14,14 +14,14 @@ use Rattle.oxc_sourcemap.specs.ReadMap.{read_map}
 use Rattle.oxc_sourcemap.specs.JsonText.{map_text, map_url}
 use Rattle.oxc_sourcemap.specs.PlanError.{PlanError}
 use Rattle.oxc_sourcemap.specs.PlanError.TheVariants.{Map}
-use Rattle.smap_arguments.specs.declared.run_error.RunError.{RunError}
-use Rattle.smap_arguments.specs.declared.run_error.RunError.TheVariants.{Plan, Utf8}
+use Rattle.oxc_sourcemap_plan.specs.declared.run_error.RunError.{RunError}
+use Rattle.oxc_sourcemap_plan.specs.declared.run_error.RunError.TheVariants.{Plan, Utf8}
 use Rattle.smap_run.specs.Traced.{traced}
-use Rattle.smap_arguments.specs.Request.{Request, Mappings, Normalise, Plan as PlanOf, Trace, Url}
+use Rattle.smap_run.specs.Request.{Request, Mappings, Normalise, Plan as PlanOf, Trace, Url}
 use Rattle.oxc_sourcemap.specs.Outcome.{Outcome}
 use Rattle.oxc_sourcemap.specs.Evaluated.{IsEvaluated, IsFailure}
-use Rattle.smap_arguments.specs.PlanInputs.{inputs_of}
-use Rattle.smap_arguments.specs.PlanArguments.{parsed_plan}
+use Rattle.oxc_sourcemap_plan.specs.PlanInputs.{inputs_of}
+use Rattle.oxc_sourcemap_plan.specs.PlanArguments.{parsed_plan}
 
 -- a text without the line feed at its end, if it has one
 abbrev pub without_line_feed : List ℕ → List ℕ

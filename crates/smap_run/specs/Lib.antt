@@ -1,3 +1,5 @@
+pub mod Arguments
+pub mod Request
 pub mod Flags
 pub mod Traced
 pub mod Answer

@@ -1,12 +1,13 @@
-//! What the program `smap` does, as a library: running the commands that its arguments say over a reader and a writer. How
-//! arguments are read, in the crate below, is handed on.
+//! The program `smap` as a library: it reads a command from arguments, and runs it over a reader and a writer.
 #![tactic(auto)]
 
+mod arguments;
 mod port;
 mod running;
 mod tracing;
 
+pub use arguments::{Command, read_words};
+pub use oxc_sourcemap_plan::{RunError, inputs_of, read_number, read_plan};
 pub use port::Port;
 pub use running::run;
-pub use smap_arguments::{Command, RunError, inputs_of, read_number, read_plan, read_words};
 pub use tracing::trace;

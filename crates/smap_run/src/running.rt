@@ -3,24 +3,25 @@ ghost use Rattle.std.specs.Prelude.{◌≡◌, ◌≢◌, ◌≤◌, ◌<◌, �
 ghost use Rattle.std.specs.Vec.{vec_len};
 ghost use Rattle.std.specs.Io.KnownBytes.{Appends, Keeps};
 ghost use Rattle.oxc_sourcemap.specs.PlanError.TheVariants.{Map};
-ghost use Rattle.smap_arguments.specs.declared.run_error.RunError.TheVariants.{Plan};
-ghost use Rattle.smap_arguments.specs.Refusals.{out_of_memory, is_of_port};
+ghost use Rattle.oxc_sourcemap_plan.specs.declared.run_error.RunError.TheVariants.{Plan};
+ghost use Rattle.oxc_sourcemap_plan.specs.Refusals.{out_of_memory, is_of_port};
 ghost use Rattle.smap_run.specs.Answer.{without_line_feed, mappings_answer, normalised, normalised_url, IsPlanAnswer, IsPlanRefusal, IsAnswer, Refuses, AppendsBeginning};
 ghost use Rattle.oxc_sourcemap.specs.Error.TheVariants.{OutOfMemory};
 ghost use Rattle.oxc_sourcemap.specs.Reading.{reading};
 ghost use Rattle.oxc_sourcemap.specs.Outcome.{outcome};
 ghost use Rattle.oxc_sourcemap.specs.Evaluated.{IsFailure};
-ghost use Rattle.smap_arguments.specs.PlanInputs.{inputs_of};
-ghost use Rattle.smap_arguments.specs.PlanArguments.{parsed_plan};
-ghost use Rattle.smap_arguments.specs.Request.{request_of};
+ghost use Rattle.oxc_sourcemap_plan.specs.PlanInputs.{inputs_of};
+ghost use Rattle.oxc_sourcemap_plan.specs.PlanArguments.{parsed_plan};
+ghost use Rattle.smap_run.specs.Request.{request_of};
 
+use crate::arguments::Command;
 use crate::port::Port;
 use crate::tracing::trace;
 use oxc_sourcemap::laws::canonical_unique;
 use oxc_sourcemap::{
     Error, Plan, PlanError, SourceMap, decode_mappings, encode_mappings, evaluate,
 };
-use smap_arguments::{Command, RunError, inputs_of, read_plan};
+use oxc_sourcemap_plan::{RunError, inputs_of, read_plan};
 use std::alloc::{AllocError, Global};
 use std::io::{Read, Write};
 

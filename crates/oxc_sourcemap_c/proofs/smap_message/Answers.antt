@@ -1,9 +1,9 @@
 use Rattle.std.proofs.Common.{◌≡◌, ap, subst, ◌∙◌}
 use Rattle.std.specs.Prelude.{MatchOption}
-use Rattle.oxc_sourcemap_faults.specs.Refusals.{refusal_text}
-use Rattle.oxc_sourcemap_faults.specs.Codes.{refusal_of}
-use Rattle.oxc_sourcemap_faults.specs.Messages.{IsMessage}
-use Rattle.oxc_sourcemap_faults.proofs.ReadBack.{read_back}
+use Rattle.oxc_sourcemap_handles.specs.Refusals.{refusal_text}
+use Rattle.oxc_sourcemap_handles.specs.Codes.{refusal_of}
+use Rattle.oxc_sourcemap_handles.specs.Messages.{IsMessage}
+use Rattle.oxc_sourcemap_handles.proofs.ReadBack.{read_back}
 use Rattle.oxc_sourcemap_c.proofs.smap_message.Goals as goal
 
 pub returns-clause-message : goal.returns-clause-message

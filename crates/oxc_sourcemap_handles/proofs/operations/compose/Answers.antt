@@ -1,10 +1,10 @@
 use Rattle.std.proofs.Common.{◌≡◌, ap, Ok}
-use Rattle.oxc_sourcemap_compose.specs.Composed.{composition, SomeComposition, NoColumnGoesBack}
-use Rattle.oxc_sourcemap_faults.specs.declared.refusal.Refusal.TheVariants.{Plan}
-use Rattle.oxc_sourcemap_error.specs.declared.plan_error.PlanError.TheVariants.{Map}
+use Rattle.oxc_sourcemap_lookup.specs.Composed.{composition, SomeComposition, NoColumnGoesBack}
+use Rattle.oxc_sourcemap_handles.specs.declared.refusal.Refusal.TheVariants.{Plan}
+use Rattle.oxc_sourcemap_tokens.specs.declared.plan_error.PlanError.TheVariants.{Map}
 use Rattle.oxc_sourcemap_handles.specs.Holding.{held_map}
-use Rattle.oxc_sourcemap_faults.specs.Refusals.{of_map}
-use Rattle.oxc_sourcemap_error.proofs.Carried.{carried_error}
+use Rattle.oxc_sourcemap_handles.specs.Refusals.{of_map}
+use Rattle.oxc_sourcemap_tokens.proofs.Carried.{carried_error}
 use Rattle.oxc_sourcemap_handles.proofs.Composing.{both_taken, input_missing, not_composed}
 use Rattle.oxc_sourcemap_handles.proofs.operations.compose.Goals as goal
 

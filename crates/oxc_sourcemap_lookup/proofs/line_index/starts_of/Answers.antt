@@ -3,7 +3,8 @@ use Rattle.std.proofs.lemmas.Grind.{common_steps}
 use Rattle.std.proofs.lemmas.List.{take_all}
 use Rattle.std.specs.List.{prefix_len, range_with_len}
 use Rattle.oxc_sourcemap_tokens.specs.LineOrder.{IsInLineOrder}
-use Rattle.oxc_sourcemap_lookup.specs.Lookup.{last, lines_through}
+use Rattle.oxc_sourcemap_lookup.specs.Lookup.{lines_through}
+use Rattle.oxc_sourcemap_tokens.specs.Token.{last}
 use Rattle.oxc_sourcemap_lookup.specs.LineSpans.{count_before_line}
 use Rattle.oxc_sourcemap_lookup.proofs.Tables.{in_order-from_0, from-in_order, rows-push}
 use Rattle.oxc_sourcemap_lookup.proofs.LineSpans.{counted-to, back-more, none-from}

@@ -1,5 +1,5 @@
 use Rattle.std.proofs.Common.{arith, ◌≡◌, ◌≢◌, ◌++◌, ◌∙◌, subst, OnOk, IfErr, Some, None, string_bytes}
-use Rattle.oxc_sourcemap_error.specs.declared.error.Error.TheVariants.{OutOfMemory}
+use Rattle.oxc_sourcemap_tokens.specs.declared.error.Error.TheVariants.{OutOfMemory}
 use Rattle.oxc_sourcemap_tokens.specs.Token.{AreInBounds}
 use Rattle.oxc_sourcemap_mappings.proofs.Pieces.{whole-tokens, whole-piece, whole-fault}
 use Rattle.oxc_sourcemap_mappings.proofs.encode.encode_whole.Goals as goal

@@ -1,7 +1,7 @@
 use Rattle.std.proofs.Common.{ap, Err}
 use Rattle.oxc_sourcemap_join.specs.Joined.{at_positions}
 use Rattle.oxc_sourcemap_join.proofs.Adding.{refusal-of-all}
-use Rattle.oxc_sourcemap_error.proofs.Carried.{carried_error}
+use Rattle.oxc_sourcemap_tokens.proofs.Carried.{carried_error}
 use Rattle.oxc_sourcemap_plan.proofs.plan.builder_at.Goals as goal
 
 pub returns-in_err-add_sourcemap_owned_at-clause-refused : goal.returns-in_err-add_sourcemap_owned_at-clause-refused

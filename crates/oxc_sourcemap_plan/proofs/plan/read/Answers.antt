@@ -1,6 +1,6 @@
 use Rattle.std.proofs.Common.{subst, sym}
 use Rattle.std.proofs.lemmas.Result.{IfOk-weaker, IfErr-weaker}
-use Rattle.oxc_sourcemap_sections.specs.ReadMap.{said_in}
+use Rattle.oxc_sourcemap_decode.specs.ReadMap.{said_in}
 use Rattle.oxc_sourcemap_plan.specs.Outcome.{read_outcome}
 use Rattle.oxc_sourcemap_plan.specs.Realizes.{Realizes, FailsAs}
 use Rattle.oxc_sourcemap_plan.proofs.Realizing.{join_laws}

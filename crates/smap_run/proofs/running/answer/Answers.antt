@@ -1,8 +1,8 @@
 use Rattle.std.proofs.Common.{◌≡◌, rules, map, string_bytes, subst, sym, inr, IsUtf8}
 use Rattle.std.proofs.lemmas.Result.{IfOk-weaker, IfErr-weaker}
-use Rattle.smap_arguments.specs.Request.{request_of}
-use Rattle.smap_arguments.specs.PlanInputs.{inputs_of}
-use Rattle.smap_arguments.specs.PlanArguments.{parsed_plan}
+use Rattle.smap_run.specs.Request.{request_of}
+use Rattle.oxc_sourcemap_plan.specs.PlanInputs.{inputs_of}
+use Rattle.oxc_sourcemap_plan.specs.PlanArguments.{parsed_plan}
 use Rattle.smap_run.specs.Answer.{IsPlanAnswer, IsPlanRefusal, IsAnswer, IsRefusal}
 use Rattle.smap_run.proofs.running.answer.Goals as goal
 

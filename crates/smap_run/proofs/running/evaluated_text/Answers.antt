@@ -1,7 +1,7 @@
 use Rattle.std.proofs.Common.{ap}
 use Rattle.oxc_sourcemap.specs.Outcome.{outcome}
 use Rattle.oxc_sourcemap.specs.PlanError.TheVariants.{Map}
-use Rattle.oxc_sourcemap_error.proofs.Carried.{carried_error}
+use Rattle.oxc_sourcemap_tokens.proofs.Carried.{carried_error}
 use Rattle.smap_run.proofs.PlanAnswers.{writing_fails}
 use Rattle.smap_run.proofs.running.evaluated_text.Goals as goal
 

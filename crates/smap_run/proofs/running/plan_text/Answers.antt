@@ -1,7 +1,7 @@
 use Rattle.std.proofs.Common.{◌≡◌, map, string_bytes, ap, sym, ◌∙◌, Ok}
 use Rattle.oxc_sourcemap.specs.Outcome.{outcome}
-use Rattle.smap_arguments.specs.PlanInputs.{inputs_of}
-use Rattle.smap_arguments.specs.PlanArguments.{parsed_plan}
+use Rattle.oxc_sourcemap_plan.specs.PlanInputs.{inputs_of}
+use Rattle.oxc_sourcemap_plan.specs.PlanArguments.{parsed_plan}
 use Rattle.oxc_sourcemap_plan.proofs.Parts.{from_err}
 use Rattle.smap_run.proofs.PlanAnswers.{words_refused, failure_refused, plan_answers}
 use Rattle.smap_run.proofs.running.plan_text.Goals as goal

@@ -1,6 +1,6 @@
 use Rattle.std.proofs.Common.{◌≡◌, rules, ◌++◌, ◌∷◌, [], string_bytes, subst, sym, ◌∙◌}
-use Rattle.smap_arguments.specs.declared.run_error.RunError.TheVariants.{Write}
-use Rattle.smap_arguments.specs.Request.{request_of}
+use Rattle.oxc_sourcemap_plan.specs.declared.run_error.RunError.TheVariants.{Write}
+use Rattle.smap_run.specs.Request.{request_of}
 use Rattle.smap_run.specs.Answer.{IsAnswer, Refuses, AppendsBeginning}
 use Rattle.std.specs.Str.{IsUtf8}
 use Rattle.oxc_sourcemap_plan.proofs.Parts.{from_err}

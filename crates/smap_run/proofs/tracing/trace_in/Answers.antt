@@ -1,6 +1,6 @@
 use Rattle.std.proofs.Common.{ap}
 use Rattle.oxc_sourcemap.specs.PlanError.TheVariants.{Map}
-use Rattle.oxc_sourcemap_error.proofs.Carried.{carried_error}
+use Rattle.oxc_sourcemap_tokens.proofs.Carried.{carried_error}
 use Rattle.smap_run.proofs.tracing.trace_in.Goals as goal
 
 pub returns-in_err-token-clause-refused : goal.returns-in_err-token-clause-refused

@@ -1,11 +1,10 @@
 use Rattle.std.proofs.Common.{◌+◌, ◌-◌, arith, ap, length, drop, ◌≡◌, ◌∙◌, sym, refl, subst, true, false}
 use Rattle.std.specs.Cow.{cow_str_bytes}
 use Rattle.std.proofs.lemmas.List.{length-append}
-use Rattle.oxc_sourcemap_tokens.specs.Token.{AreInBounds}
+use Rattle.oxc_sourcemap_tokens.specs.Token.{AreInBounds, last}
 use Rattle.oxc_sourcemap_tokens.specs.State.{state_at}
 use Rattle.oxc_sourcemap_tokens.specs.Chunks.{chunk_from}
 use Rattle.oxc_sourcemap_parts.specs.Views.{record_of_parts}
-use Rattle.oxc_sourcemap_lookup.specs.Lookup.{last}
 use Rattle.oxc_sourcemap_join.specs.Joined.{is_same_token, without_repeat, raised_ignore_list, AreEntriesInBounds}
 use Rattle.oxc_sourcemap_join.specs.Joining.{all_shifted}
 use Rattle.oxc_sourcemap_join.specs.declared.joined_parts.Shift.{Shift}

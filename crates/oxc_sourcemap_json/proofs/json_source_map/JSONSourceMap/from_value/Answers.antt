@@ -1,6 +1,6 @@
 use Rattle.std.proofs.Common.{◌∙◌, refl}
 use Rattle.serde_json.specs.View.{view}
-use Rattle.oxc_sourcemap_error.proofs.Carried.{carried_error}
+use Rattle.oxc_sourcemap_tokens.proofs.Carried.{carried_error}
 use Rattle.oxc_sourcemap_json.proofs.Steps.{step, stop, shape_after, shape_before}
 use Rattle.oxc_sourcemap_json.proofs.json_source_map.JSONSourceMap.from_value.Goals as goal
 

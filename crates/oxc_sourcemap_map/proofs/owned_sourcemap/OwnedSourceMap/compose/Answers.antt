@@ -1,4 +1,4 @@
-use Rattle.oxc_sourcemap_compose.proofs.Compositions.{exact, of_equals}
+use Rattle.oxc_sourcemap_lookup.proofs.Compositions.{exact, of_equals}
 use Rattle.oxc_sourcemap_map.proofs.owned_sourcemap.OwnedSourceMap.compose.Goals as goal
 
 pub returns-clause-any_map : goal.returns-clause-any_map

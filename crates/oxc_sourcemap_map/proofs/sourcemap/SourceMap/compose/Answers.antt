@@ -1,5 +1,5 @@
 use Rattle.std.proofs.lemmas.Result.{err_from_is_err_and}
-use Rattle.oxc_sourcemap_compose.proofs.Compositions.{exact, exact_refusal, of_equals}
+use Rattle.oxc_sourcemap_lookup.proofs.Compositions.{exact, exact_refusal, of_equals}
 use Rattle.oxc_sourcemap_map.proofs.sourcemap.SourceMap.compose.Goals as goal
 
 pub returns-in_err-parts-clause-any_refused : goal.returns-in_err-parts-clause-any_refused

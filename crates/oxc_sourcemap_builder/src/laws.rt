@@ -1,9 +1,0 @@
-//! The law on the ids of names.
-ghost use Rattle.oxc_sourcemap_builder.specs.NameLaws.{EqualIdsForEqualNames};
-
-/// Two names that are added to one builder get the same id exactly where they are equal, whatever is called between the two
-/// adds. A function without parameters, answer or body: its contract is the law, and a caller learns it by calling the
-/// function.
-pub fn name_ids_unique()
-    ensures { EqualIdsForEqualNames }
-{}

@@ -1,0 +1,250 @@
+//! Joining maps into one.
+ghost use Rattle.std.specs.Prelude.{◌≡◌, ◌↔◌, ◌⊎◌, IfSome, IfOk, IfErr, IsErrOf, OnOk, OnErr};
+ghost use Rattle.oxc_sourcemap_tokens.specs.declared.error.Error.TheVariants.{OutOfMemory, TooLarge};
+ghost use Rattle.oxc_sourcemap_tokens.specs.Chunks.{ChunksFit};
+ghost use Rattle.oxc_sourcemap_join.specs.Joined.{at_line, at_lines, added, nothing_joined, joined, lent_maps, IsWithinLimits};
+
+use oxc_sourcemap_join::JoinedParts;
+use oxc_sourcemap_map::{OwnedSourceMap, SourceMap, parts_of};
+use oxc_sourcemap_tokens::Result;
+use std::alloc::Global;
+use std::marker::Model;
+
+/// Joins maps into one, each at a line and a column of the joined code. The strings of borrowed maps are borrowed for `'a`,
+/// those of owned maps are moved: adding a map copies no string.
+///
+/// An add that fails leaves the builder as it was. Whether the result is sorted is not checked here; `SourceMap::is_sorted`
+/// does.
+#[derive(Drop)]
+pub struct ConcatSourceMapBuilder<'a> {
+    alloc: Global,
+    parts: JoinedParts<'a>,
+}
+
+impl<'a> Model for ConcatSourceMapBuilder<'a> {
+    ghost use Rattle.oxc_sourcemap_parts.specs.Record.{MapRecord};
+
+    ghost Value = { MapRecord };
+
+    ghost view = { λ b. b.parts };
+}
+
+impl<'a> ConcatSourceMapBuilder<'a> {
+    /// A builder of the join of no maps. It keeps the allocator, and takes no memory.
+    pub fn empty(alloc: Global) -> ConcatSourceMapBuilder<'a>
+        ensures { result ≡ nothing_joined }
+    {
+        ConcatSourceMapBuilder {
+            alloc,
+            parts: JoinedParts::empty(alloc),
+        }
+    }
+
+    /// A builder of the join of no maps, with room for this many names, sources, tokens and chunks. Fails only with
+    /// `OutOfMemory`.
+    pub fn with_capacity(
+        alloc: Global,
+        names_len: usize,
+        sources_len: usize,
+        tokens_len: usize,
+        token_chunks_len: usize,
+    ) -> Result<ConcatSourceMapBuilder<'a>>
+        ensures builder { IfOk result (λ builder. builder ≡ nothing_joined) }
+        ensures refused { IfErr result (λ e. e ≡ OutOfMemory) }
+    {
+        let parts = JoinedParts::with_capacity(
+            alloc,
+            names_len,
+            sources_len,
+            tokens_len,
+            token_chunks_len,
+        )?;
+        Ok(ConcatSourceMapBuilder { alloc, parts })
+    }
+
+    /// Appends a map whose code begins at line `line_offset` (from 0) and column 0 of the joined code, as `add_sourcemap_at`
+    /// does, and fails as that does.
+    pub fn add_sourcemap(&mut self, sourcemap: &'a SourceMap<'_>, line_offset: u32) -> Result<()>
+        ensures joined { OnOk result (self.new ≡ added self.old sourcemap.now (at_line line_offset)) }
+        ensures limits { OnOk result (IsWithinLimits (added self.old sourcemap.now (at_line line_offset))) }
+        ensures too_large { IsErrOf result TooLarge ↔ ¬ (IsWithinLimits (added self.old sourcemap.now (at_line line_offset))) }
+        ensures refused { IfErr result (λ e. (e ≡ OutOfMemory) ⊎ (e ≡ TooLarge)) }
+        ensures unchanged { OnErr result (self.new ≡ self.old) }
+    {
+        self.add_sourcemap_at(sourcemap, line_offset, 0)
+    }
+
+    /// Appends a map whose code begins at this line and column of the joined code (docs/FORMAT.md, "Joins"). Lines and columns
+    /// count from 0; columns are in UTF-16 code units.
+    ///
+    /// - Its names, sources and contents are borrowed. Each source gets one content: missing ones become None, surplus ones
+    ///   are dropped. Its file, debug id and source root are dropped; the source root is not prepended to its sources.
+    /// - Its tokens are shifted by the line, and those on its line 0 by the column too; their ids by the numbers of names and
+    ///   sources so far. The first token is left out if it is then the same, in all six fields, as the last token so far.
+    /// - Records one chunk, possibly empty, whose header is the state before it.
+    /// - If it has an ignore list, the entries are appended to the ignore list of the join, increased by the number of sources
+    ///   so far; an empty list counts as a list.
+    ///
+    /// Fails with `TooLarge` if there would be more than 4294967295 names, sources or tokens, a line or a column above
+    /// 4294967295, or an id or an entry of the ignore list above 4294967294, then with `OutOfMemory` if memory is refused;
+    /// the builder is then as it was.
+    pub fn add_sourcemap_at(
+        &mut self,
+        sourcemap: &'a SourceMap<'_>,
+        line: u32,
+        column: u32,
+    ) -> Result<()>
+        ensures joined { OnOk result (self.new ≡ added self.old sourcemap.now (record { line = line; column = column })) }
+        ensures limits { OnOk result (IsWithinLimits (added self.old sourcemap.now (record { line = line; column = column }))) }
+        ensures too_large { IsErrOf result TooLarge ↔ ¬ (IsWithinLimits (added self.old sourcemap.now (record { line = line; column = column }))) }
+        ensures refused { IfErr result (λ e. (e ≡ OutOfMemory) ⊎ (e ≡ TooLarge)) }
+        ensures unchanged { OnErr result (self.new ≡ self.old) }
+    {
+        self.parts.add_lent(parts_of(sourcemap), line, column)
+    }
+
+    /// Adds a map after the others as `add_sourcemap` does, with the same result, but moves its strings and drops the rest
+    /// of it. Fails as that does; the builder is then as it was, and the map is dropped.
+    pub fn add_sourcemap_owned(&mut self, sourcemap: SourceMap<'a>, line_offset: u32) -> Result<()>
+        ensures joined { OnOk result (self.new ≡ added self.old sourcemap.entry (at_line line_offset)) }
+        ensures limits { OnOk result (IsWithinLimits (added self.old sourcemap.entry (at_line line_offset))) }
+        ensures too_large { IsErrOf result TooLarge ↔ ¬ (IsWithinLimits (added self.old sourcemap.entry (at_line line_offset))) }
+        ensures refused { IfErr result (λ e. (e ≡ OutOfMemory) ⊎ (e ≡ TooLarge)) }
+        ensures unchanged { OnErr result (self.new ≡ self.old) }
+    {
+        self.add_sourcemap_owned_at(sourcemap, line_offset, 0)
+    }
+
+    /// Adds a map after the others as `add_sourcemap_at` does, with the same result, but moves its strings and drops the rest
+    /// of it. Fails as that does; the builder is then as it was, and the map is dropped.
+    pub fn add_sourcemap_owned_at(
+        &mut self,
+        sourcemap: SourceMap<'a>,
+        line: u32,
+        column: u32,
+    ) -> Result<()>
+        ensures joined { OnOk result (self.new ≡ added self.old sourcemap.entry (record { line = line; column = column })) }
+        ensures limits { OnOk result (IsWithinLimits (added self.old sourcemap.entry (record { line = line; column = column }))) }
+        ensures too_large { IsErrOf result TooLarge ↔ ¬ (IsWithinLimits (added self.old sourcemap.entry (record { line = line; column = column }))) }
+        ensures refused { IfErr result (λ e. (e ≡ OutOfMemory) ⊎ (e ≡ TooLarge)) }
+        ensures unchanged { OnErr result (self.new ≡ self.old) }
+    {
+        self.parts.add_moved(sourcemap.into_parts(), line, column)
+    }
+
+    /// A builder of the join of these maps, each with its line offset, added in order as `add_sourcemap` does. Their
+    /// strings are borrowed.
+    ///
+    /// Room is taken first for all of them (`OutOfMemory`); then the first error of an add is returned. The builder is then
+    /// dropped.
+    pub fn from_sourcemaps(
+        alloc: Global,
+        sourcemap_and_line_offsets: &[(&'a SourceMap<'_>, u32)],
+    ) -> Result<ConcatSourceMapBuilder<'a>>
+        ensures joined { IfOk result (λ builder. builder ≡ joined (lent_maps sourcemap_and_line_offsets.now)) }
+        ensures limits { IfOk result IsWithinLimits }
+        ensures refused { IfErr result (λ e. (e ≡ OutOfMemory) ⊎ ((e ≡ TooLarge) × ¬ (IsWithinLimits (joined (lent_maps sourcemap_and_line_offsets.now))))) }
+    {
+        let lengths = lent_lengths(sourcemap_and_line_offsets);
+        let mut builder = lengths.builder(alloc, sourcemap_and_line_offsets.len())?;
+        for (sourcemap, line_offset) in sourcemap_and_line_offsets {
+            builder.add_sourcemap(sourcemap, *line_offset)?;
+        }
+        Ok(builder)
+    }
+
+    /// The builder of the join of these maps as `from_sourcemaps` makes it, but of maps whose strings are moved. Fails as
+    /// that does; the builder and all maps are then dropped.
+    pub fn from_owned_sourcemaps(
+        alloc: Global,
+        sourcemap_and_line_offsets: Vec<(SourceMap<'a>, u32)>,
+    ) -> Result<ConcatSourceMapBuilder<'a>>
+        ensures joined { IfOk result (λ builder. builder ≡ joined (at_lines sourcemap_and_line_offsets.entry.items)) }
+        ensures limits { IfOk result IsWithinLimits }
+        ensures refused { IfErr result (λ e. (e ≡ OutOfMemory) ⊎ ((e ≡ TooLarge) × ¬ (IsWithinLimits (joined (at_lines sourcemap_and_line_offsets.entry.items))))) }
+    {
+        let lengths = owned_lengths(sourcemap_and_line_offsets.as_slice());
+        let mut builder = lengths.builder(alloc, sourcemap_and_line_offsets.len())?;
+        for (sourcemap, line_offset) in sourcemap_and_line_offsets {
+            builder.add_sourcemap_owned(sourcemap, line_offset)?;
+        }
+        Ok(builder)
+    }
+
+    /// The joined map: with chunks, which fit, with an ignore list if one of its maps has one, and without file, source root
+    /// and debug id. Borrowed strings stay borrowed. Fails only with `OutOfMemory`; the builder is then dropped.
+    pub fn into_sourcemap(self) -> Result<SourceMap<'a>>
+        ensures map { IfOk result (λ map. map ≡ self.entry) }
+        ensures fits { IfOk result (λ map. IfSome map.token_chunks (ChunksFit map.tokens)) }
+        ensures limits { IfOk result IsWithinLimits }
+        ensures refused { IfErr result (λ e. e ≡ OutOfMemory) }
+    {
+        Ok(SourceMap::from_parts(self.parts.into_parts()))
+    }
+
+    /// The joined map as `into_sourcemap` returns it, with copies of borrowed strings; owned strings are moved, not copied.
+    /// Fails only with `OutOfMemory`; the builder is then dropped.
+    pub fn into_owned_sourcemap(self) -> Result<OwnedSourceMap>
+        ensures map { IfOk result (λ map. map ≡ self.entry) }
+        ensures fits { IfOk result (λ map. IfSome map.token_chunks (ChunksFit map.tokens)) }
+        ensures limits { IfOk result IsWithinLimits }
+        ensures refused { IfErr result (λ e. e ≡ OutOfMemory) }
+    {
+        let alloc = self.alloc;
+        self.into_sourcemap()?.into_owned_sourcemap(alloc)
+    }
+}
+
+/// How many names, sources and tokens some maps have, up to the largest count there is.
+#[derive(Clone, Copy)]
+struct Lengths {
+    names: usize,
+    sources: usize,
+    tokens: usize,
+}
+
+impl Lengths {
+    /// Those of no maps.
+    fn none() -> Lengths {
+        Lengths {
+            names: 0,
+            sources: 0,
+            tokens: 0,
+        }
+    }
+
+    /// Those of one map more.
+    fn and(self, sourcemap: &SourceMap<'_>) -> Lengths {
+        Lengths {
+            names: self.names.saturating_add(sourcemap.get_names().len()),
+            sources: self.sources.saturating_add(sourcemap.get_sources().len()),
+            tokens: self.tokens.saturating_add(sourcemap.get_tokens().len()),
+        }
+    }
+
+    /// A builder with room for so much, and for this many chunks.
+    fn builder<'a>(self, alloc: Global, chunks: usize) -> Result<ConcatSourceMapBuilder<'a>>
+        ensures builder { IfOk result (λ builder. builder ≡ nothing_joined) }
+        ensures refused { IfErr result (λ e. e ≡ OutOfMemory) }
+    {
+        ConcatSourceMapBuilder::with_capacity(alloc, self.names, self.sources, self.tokens, chunks)
+    }
+}
+
+/// The lengths of maps that are borrowed.
+fn lent_lengths(maps: &[(&SourceMap<'_>, u32)]) -> Lengths {
+    let mut lengths = Lengths::none();
+    for (sourcemap, _) in maps {
+        lengths = lengths.and(sourcemap);
+    }
+    lengths
+}
+
+/// The lengths of maps that are taken.
+fn owned_lengths(maps: &[(SourceMap<'_>, u32)]) -> Lengths {
+    let mut lengths = Lengths::none();
+    for (sourcemap, _) in maps {
+        lengths = lengths.and(sourcemap);
+    }
+    lengths
+}

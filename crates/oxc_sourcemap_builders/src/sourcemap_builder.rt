@@ -1,0 +1,373 @@
+//! Building a map call by call.
+ghost use Rattle.std.specs.Prelude.{◌≡◌, ◌↔◌, ◌≤◌, ◌<◌, ◌++◌, ◌∷◌, ◌⊎◌, ℕ, [], length, Some, None, IsNone, IfSome, IfOk, IfErr, IsErrOf, OnOk, OnErr};
+ghost use Rattle.std.specs.Cow.{cow_str_bytes};
+ghost use Rattle.std.specs.FinMap as fin;
+ghost use Rattle.std.specs.Ordering.{nat_cmp};
+ghost use Rattle.std.specs.Cmp.Lexicographic.{slice_cmp};
+ghost use Rattle.oxc_sourcemap_tokens.specs.declared.error.Error.TheVariants.{OutOfMemory, TooLarge};
+ghost use Rattle.oxc_sourcemap_tokens.specs.Token.{kept_id};
+ghost use Rattle.oxc_sourcemap_parts.specs.Views.{texts_of, contents_of};
+ghost use Rattle.oxc_sourcemap_parts.specs.Texts.{index_of};
+ghost use Rattle.oxc_sourcemap_builders.specs.Built.{nothing_built};
+ghost use Rattle.oxc_sourcemap_builders.specs.Building.{with_name, with_name_at, with_another_source, with_path, with_path_at};
+
+use oxc_sourcemap_map::{OwnedSourceMap, SourceMap};
+use oxc_sourcemap_tokens::{Error, Result, Token, TokenChunk};
+use std::alloc::{AllocError, Global};
+use std::borrow::CowStr;
+use std::collections::HashMap;
+use std::marker::Model;
+
+/// Builds a map call by call. Strings are borrowed for `'a`, except those given to the calls that end in `_copied`: of these
+/// the builder keeps copies. A builder whose strings are all copied is a `SourceMapBuilder<'static>`.
+///
+/// Ids are counted from 0, in the order in which names and sources come. Lines and columns count from 0; columns are in
+/// UTF-16 code units. An add that fails leaves the builder unchanged, and an `into_` call that fails drops it.
+#[derive(Drop)]
+pub struct SourceMapBuilder<'a> {
+    alloc: Global,
+    file: Option<CowStr<'a>>,
+    names: Vec<CowStr<'a>>,
+    /// The index of each name.
+    name_ids: HashMap<CowStr<'a>, u32>,
+    sources: Vec<CowStr<'a>>,
+    source_contents: Vec<Option<CowStr<'a>>>,
+    tokens: Vec<Token>,
+    token_chunks: Option<Vec<TokenChunk>>,
+    /// The ids that `add_source_and_content` has given to paths.
+    given: HashMap<CowStr<'a>, u32>,
+}
+
+impl<'a> Model for SourceMapBuilder<'a> {
+    ghost use Rattle.std.specs.Prelude.{map, None, length, ◌≤◌};
+    ghost use Rattle.std.specs.Cow.{cow_str_bytes};
+    ghost use Rattle.std.specs.Coded.{codes};
+    ghost use Rattle.std.specs.FinMap as fin;
+    ghost use Rattle.oxc_sourcemap_parts.specs.Views.{text_of, texts_of, contents_of, chunks_of};
+    ghost use Rattle.oxc_sourcemap_builders.specs.Built.{Built, ids_code, HasPlaces};
+
+    ghost Value = { Built };
+
+    ghost coded = { Prim.hlevel (codes, ids_code) };
+
+    ghost view = { λ b. record {
+      map = record {
+        file = text_of b.file;
+        names = texts_of b.names;
+        source_root = None;
+        sources = texts_of b.sources;
+        source_contents = contents_of b.source_contents;
+        tokens = b.tokens.items;
+        token_chunks = chunks_of b.token_chunks;
+        ignore_list = None;
+        debug_id = None;
+      };
+      given = fin.from_entries (map (λ entry. (cow_str_bytes entry.0, entry.1)) b.given.entries);
+    } };
+
+    // So an index of a name is an id, and the one that the map has for it.
+    ghost invariant = { λ b. (length b.names.items ≤ 4294967295) × HasPlaces b.names b.name_ids };
+}
+
+/// The id of a new last item after this many others.
+fn next_id(count: usize) -> Result<u32>
+    ensures id { IfOk result (λ id. id ≡ count) }
+    ensures too_large { IsErrOf result TooLarge ↔ (4294967295 ≤ count) }
+    ensures refused { IfErr result (λ e. e ≡ TooLarge) }
+{
+    if count >= 4294967295 {
+        return Err(Error::TooLarge);
+    }
+    Ok(count as u32)
+}
+
+/// A copy of a string.
+fn copied<'a>(alloc: Global, text: &str) -> std::result::Result<CowStr<'a>, AllocError>
+    ensures { IfOk result (λ copy. cow_str_bytes copy ≡ text.now) }
+{
+    Ok(CowStr::Owned(String::from_str(alloc, text)?))
+}
+
+/// Adds a path and a content, or neither.
+fn push_source<'a>(
+    sources: &mut Vec<CowStr<'a>>,
+    contents: &mut Vec<Option<CowStr<'a>>>,
+    path: CowStr<'a>,
+    content: CowStr<'a>,
+) -> std::result::Result<(), AllocError>
+    ensures sources { OnOk result (texts_of sources.new ≡ texts_of sources.old ++ cow_str_bytes path.entry ∷ []) }
+    ensures contents { OnOk result (contents_of contents.new ≡ contents_of contents.old ++ Some (cow_str_bytes content.entry) ∷ []) }
+    ensures unchanged { OnErr result ((sources.new.items ≡ sources.old.items) × (contents.new.items ≡ contents.old.items)) }
+{
+    sources.reserve(1)?;
+    contents.reserve(1)?;
+    let pushed: std::result::Result<_, _> = sources.push(path);
+    pushed.unwrap();
+    let pushed: std::result::Result<_, _> = contents.push(Some(content));
+    pushed.unwrap();
+    Ok(())
+}
+
+impl<'a> SourceMapBuilder<'a> {
+    /// A builder with nothing in it. It keeps the allocator, and takes no memory.
+    pub fn empty(alloc: Global) -> SourceMapBuilder<'a>
+        ensures { result ≡ nothing_built }
+    {
+        SourceMapBuilder {
+            alloc,
+            file: None,
+            names: Vec::new(alloc),
+            name_ids: HashMap::new(alloc),
+            sources: Vec::new(alloc),
+            source_contents: Vec::new(alloc),
+            tokens: Vec::new(alloc),
+            token_chunks: None,
+            given: HashMap::new(alloc),
+        }
+    }
+
+    /// Adds a name and returns its id. A name that was added before keeps its id.
+    ///
+    /// Fails with `TooLarge` if the new id would be 4294967295, then with `OutOfMemory` if memory is refused; the builder
+    /// is then as it was.
+    pub fn add_name(&mut self, name: &'a str) -> Result<u32>
+        ensures added { IfOk result (λ id. (self.new, id) ≡ with_name self.old name.now) }
+        ensures too_large { IsErrOf result TooLarge
+            ↔ (IsNone (index_of name.now self.old.map.names) × (4294967295 ≤ length self.old.map.names)) }
+        ensures refused { IfErr result (λ e. (e ≡ OutOfMemory) ⊎ (e ≡ TooLarge)) }
+        ensures unchanged { OnErr result (self.new ≡ self.old) }
+    {
+        if let Some(id) = self.name_ids.get(name) {
+            return Ok(*id);
+        }
+        let id = next_id(self.names.len())?;
+        self.push_name(CowStr::Borrowed(name), CowStr::Borrowed(name), id)?;
+        Ok(id)
+    }
+
+    /// The same as `add_name`, with copies of the name where it is new.
+    pub fn add_name_copied(&mut self, name: &str) -> Result<u32>
+        ensures added { IfOk result (λ id. (self.new, id) ≡ with_name self.old name.now) }
+        ensures too_large { IsErrOf result TooLarge
+            ↔ (IsNone (index_of name.now self.old.map.names) × (4294967295 ≤ length self.old.map.names)) }
+        ensures refused { IfErr result (λ e. (e ≡ OutOfMemory) ⊎ (e ≡ TooLarge)) }
+        ensures unchanged { OnErr result (self.new ≡ self.old) }
+    {
+        if let Some(known) = self.name_ids.get(name) {
+            return Ok(*known);
+        }
+        let id = next_id(self.names.len())?;
+        let key = copied(self.alloc, name)?;
+        let copy = copied(self.alloc, name)?;
+        self.push_name(key, copy, id)?;
+        Ok(id)
+    }
+
+    /// Adds a name that is new, and the same string as its key, or neither.
+    fn push_name(
+        &mut self,
+        key: CowStr<'a>,
+        name: CowStr<'a>,
+        id: u32,
+    ) -> std::result::Result<(), AllocError>
+        requires same { cow_str_bytes key ≡ cow_str_bytes name }
+        requires new { index_of (cow_str_bytes name) self.old.map.names ≡ None }
+        requires id { (id ≡ length self.old.map.names) × (id < 4294967295) }
+        ensures added { OnOk result (self.new ≡ (with_name_at self.old (cow_str_bytes name.entry) None).0) }
+        ensures unchanged { OnErr result (self.new ≡ self.old) }
+    {
+        self.names.reserve(1)?;
+        self.name_ids.reserve(1)?;
+        let inserted: std::result::Result<_, _> = self.name_ids.insert(key, id);
+        let _none = inserted.unwrap();
+        let pushed: std::result::Result<_, _> = self.names.push(name);
+        pushed.unwrap();
+        Ok(())
+    }
+
+    /// Adds a source with its content and returns its id. A path that this call has added before keeps its id and its first
+    /// content; sources added by `set_source_and_content` are ignored.
+    ///
+    /// Fails with `TooLarge` if the new id would be 4294967295, then with `OutOfMemory` if memory is refused; the builder
+    /// is then as it was.
+    pub fn add_source_and_content(&mut self, path: &'a str, content: &'a str) -> Result<u32>
+        ensures added { IfOk result (λ id. (self.new, id) ≡ with_path self.old path.now content.now) }
+        ensures too_large { IsErrOf result TooLarge
+            ↔ (IsNone (fin.get self.old.given path.now) × (4294967295 ≤ length self.old.map.sources)) }
+        ensures refused { IfErr result (λ e. (e ≡ OutOfMemory) ⊎ (e ≡ TooLarge)) }
+        ensures unchanged { OnErr result (self.new ≡ self.old) }
+    {
+        if let Some(id) = self.given.get(path) {
+            return Ok(*id);
+        }
+        let id = next_id(self.sources.len())?;
+        self.push_given(
+            CowStr::Borrowed(path),
+            CowStr::Borrowed(path),
+            CowStr::Borrowed(content),
+            id,
+        )?;
+        Ok(id)
+    }
+
+    /// The same as `add_source_and_content`, with copies of the path and the content where the path is new.
+    pub fn add_source_and_content_copied(&mut self, path: &str, content: &str) -> Result<u32>
+        ensures added { IfOk result (λ id. (self.new, id) ≡ with_path self.old path.now content.now) }
+        ensures too_large { IsErrOf result TooLarge
+            ↔ (IsNone (fin.get self.old.given path.now) × (4294967295 ≤ length self.old.map.sources)) }
+        ensures refused { IfErr result (λ e. (e ≡ OutOfMemory) ⊎ (e ≡ TooLarge)) }
+        ensures unchanged { OnErr result (self.new ≡ self.old) }
+    {
+        if let Some(known) = self.given.get(path) {
+            return Ok(*known);
+        }
+        let id = next_id(self.sources.len())?;
+        let key = copied(self.alloc, path)?;
+        let listed = copied(self.alloc, path)?;
+        let text = copied(self.alloc, content)?;
+        self.push_given(key, listed, text, id)?;
+        Ok(id)
+    }
+
+    /// Adds a source and its content, and gives the id to its path, or nothing.
+    fn push_given(
+        &mut self,
+        key: CowStr<'a>,
+        path: CowStr<'a>,
+        content: CowStr<'a>,
+        id: u32,
+    ) -> std::result::Result<(), AllocError>
+        requires same { cow_str_bytes key ≡ cow_str_bytes path }
+        requires id { id ≡ length self.old.map.sources }
+        ensures added { OnOk result (self.new ≡ (with_path_at self.old (cow_str_bytes path.entry) (cow_str_bytes content.entry) None).0) }
+        ensures unchanged { OnErr result (self.new ≡ self.old) }
+    {
+        self.given.reserve(1)?;
+        push_source(&mut self.sources, &mut self.source_contents, path, content)?;
+        let inserted: std::result::Result<_, _> = self.given.insert(key, id);
+        let _none = inserted.unwrap();
+        Ok(())
+    }
+
+    /// Appends a source with its content, even if there is one of this path, and returns the new id. It replaces nothing,
+    /// and `add_source_and_content` does not find it.
+    ///
+    /// Fails with `TooLarge` if the new id would be 4294967295, then with `OutOfMemory` if memory is refused; the builder
+    /// is then as it was.
+    pub fn set_source_and_content(&mut self, path: &'a str, content: &'a str) -> Result<u32>
+        ensures added { IfOk result (λ id. (self.new, id) ≡ with_another_source self.old path.now content.now) }
+        ensures too_large { IsErrOf result TooLarge ↔ (4294967295 ≤ length self.old.map.sources) }
+        ensures refused { IfErr result (λ e. (e ≡ OutOfMemory) ⊎ (e ≡ TooLarge)) }
+        ensures unchanged { OnErr result (self.new ≡ self.old) }
+    {
+        let last = next_id(self.sources.len())?;
+        push_source(
+            &mut self.sources,
+            &mut self.source_contents,
+            CowStr::Borrowed(path),
+            CowStr::Borrowed(content),
+        )?;
+        Ok(last)
+    }
+
+    /// The same as `set_source_and_content`, with copies of the path and the content.
+    pub fn set_source_and_content_copied(&mut self, path: &str, content: &str) -> Result<u32>
+        ensures added { IfOk result (λ id. (self.new, id) ≡ with_another_source self.old path.now content.now) }
+        ensures too_large { IsErrOf result TooLarge ↔ (4294967295 ≤ length self.old.map.sources) }
+        ensures refused { IfErr result (λ e. (e ≡ OutOfMemory) ⊎ (e ≡ TooLarge)) }
+        ensures unchanged { OnErr result (self.new ≡ self.old) }
+    {
+        let new_id = next_id(self.sources.len())?;
+        let path = copied(self.alloc, path)?;
+        let content = copied(self.alloc, content)?;
+        push_source(&mut self.sources, &mut self.source_contents, path, content)?;
+        Ok(new_id)
+    }
+
+    /// Appends a token, as `Token::new` makes it: unmapped if `src_id` is None, without a name if `name_id` is None. Nothing
+    /// is checked, ids neither. Add tokens in the order of their generated positions, since writing a map whose lines
+    /// decrease fails with `LineOrder`, and lookups expect sorted columns.
+    ///
+    /// Fails only with `OutOfMemory`; the builder is then as it was.
+    pub fn add_token(
+        &mut self,
+        dst_line: u32,
+        dst_col: u32,
+        src_line: u32,
+        src_col: u32,
+        src_id: Option<u32>,
+        name_id: Option<u32>,
+    ) -> Result<()>
+        ensures added { OnOk result (self.new ≡ record self.old {
+          map = record self.old.map {
+            tokens = self.old.map.tokens ++ record {
+              dst_line = dst_line;
+              dst_col = dst_col;
+              src_line = src_line;
+              src_col = src_col;
+              source_id = kept_id src_id;
+              name_id = kept_id name_id;
+            } ∷ [];
+          };
+        }) }
+        ensures refused { IfErr result (λ e. e ≡ OutOfMemory) }
+        ensures unchanged { OnErr result (self.new ≡ self.old) }
+    {
+        self.tokens.push(Token::new(dst_line, dst_col, src_line, src_col, src_id, name_id))?;
+        Ok(())
+    }
+
+    /// Sets the name of the generated file. Cannot fail.
+    pub fn set_file(&mut self, file: &'a str)
+        ensures { self.new ≡ record self.old { map = record self.old.map { file = Some file.now } } }
+    {
+        self.file = Some(CowStr::Borrowed(file));
+    }
+
+    /// Sets the name of the generated file to a copy of this one. Fails only with `OutOfMemory`; the builder is then as it
+    /// was.
+    pub fn set_file_copied(&mut self, file: &str) -> Result<()>
+        ensures set { OnOk result (self.new ≡ record self.old { map = record self.old.map { file = Some file.now } }) }
+        ensures refused { IfErr result (λ e. e ≡ OutOfMemory) }
+        ensures unchanged { OnErr result (self.new ≡ self.old) }
+    {
+        self.file = Some(copied(self.alloc, file)?);
+        Ok(())
+    }
+
+    /// Sets the chunks in which the tokens are written. Nothing is checked, and it cannot fail.
+    pub fn set_token_chunks(&mut self, token_chunks: Vec<TokenChunk>)
+        ensures { self.new ≡ record self.old { map = record self.old.map { token_chunks = Some token_chunks.items } } }
+    {
+        self.token_chunks = Some(token_chunks);
+    }
+
+    /// The map that was built, without source root, ignore list and debug id. Its strings are those of the builder, borrowed
+    /// or owned. Takes no memory.
+    pub fn into_sourcemap(self) -> Result<SourceMap<'a>>
+        ensures map { IfOk result (λ map. map ≡ self.entry.map) }
+        ensures nothing_else { IfOk result (λ map. (map.source_root ≡ None) × (map.ignore_list ≡ None) × (map.debug_id ≡ None)) }
+        ensures refused { IfErr result (λ e. e ≡ OutOfMemory) }
+    {
+        Ok(SourceMap::new(
+            self.file,
+            self.names,
+            None,
+            self.sources,
+            self.source_contents,
+            self.tokens.into_boxed_slice(),
+            self.token_chunks,
+        ))
+    }
+
+    /// The map that was built, as `into_sourcemap` gives it, with copies of its borrowed strings. Fails only with
+    /// `OutOfMemory`; the builder is then dropped.
+    pub fn into_owned_sourcemap(self) -> Result<OwnedSourceMap>
+        ensures map { IfOk result (λ map. map ≡ self.entry.map) }
+        ensures nothing_else { IfOk result (λ map. (map.source_root ≡ None) × (map.ignore_list ≡ None) × (map.debug_id ≡ None)) }
+        ensures refused { IfErr result (λ e. e ≡ OutOfMemory) }
+    {
+        let alloc = self.alloc;
+        self.into_sourcemap()?.into_owned_sourcemap(alloc)
+    }
+}

@@ -1,0 +1,54 @@
+//! Plans: their words and their texts.
+ghost use Rattle.std.specs.Prelude.{◌≡◌, ◌≢◌, map, string_bytes, IfOk, IfErr};
+ghost use Rattle.oxc_sourcemap_handles.specs.Refusals.{out_of_memory};
+ghost use Rattle.oxc_sourcemap_c.specs.Plans.{words_of, plan_of, refusal_of_run, IsPlanMap, IsPlanFailure, IsPlanRefusal};
+
+use oxc_sourcemap_handles::{Refusal, text_of};
+use oxc_sourcemap_map::OwnedSourceMap;
+use oxc_sourcemap_plan::{RunError, evaluate, inputs_of, read_plan};
+use std::alloc::{AllocError, Global};
+
+/// The words of a text.
+fn words_of(alloc: Global, text: &str) -> Result<Vec<String>, AllocError>
+    ensures { IfOk result (λ words. map string_bytes words.items ≡ words_of text.now) }
+{
+    let mut words = Vec::new(alloc);
+    for word in text.split(' ') {
+        words.push(String::from_str(alloc, word)?)?;
+    }
+    Ok(words)
+}
+
+/// The refusal that stands for an error of reading or evaluating a plan.
+fn refusal_of(error: RunError) -> Refusal
+    ensures { result ≡ refusal_of_run error }
+{
+    match error {
+        RunError::Plan(error) => Refusal::Plan(error),
+        RunError::NoText(number) => Refusal::NoText(number),
+        _ => Refusal::Words,
+    }
+}
+
+/// The map of the plan that words say over texts.
+fn evaluated(alloc: Global, words: &str, texts: &str) -> Result<OwnedSourceMap, Refusal>
+    ensures map { IfOk result (IsPlanMap (plan_of words.now texts.now)) }
+    ensures refused { IfErr result (λ r. (r ≢ out_of_memory) → IsPlanFailure (plan_of words.now texts.now) r) }
+{
+    let inputs = inputs_of(alloc, texts)?;
+    let words = words_of(alloc, words)?;
+    match read_plan(alloc, inputs.as_slice(), words.as_slice()) {
+        Ok(plan) => Ok(evaluate(alloc, &plan)?),
+        Err(error) => Err(refusal_of(error)),
+    }
+}
+
+/// The map of the plan that the words say over the texts.
+pub fn evaluate_bytes(alloc: Global, words: &[u8], texts: &[u8]) -> Result<OwnedSourceMap, Refusal>
+    ensures map { IfOk result (IsPlanMap (plan_of words.now texts.now)) }
+    ensures refused { IfErr result (λ r. (r ≢ out_of_memory) → IsPlanRefusal words.now texts.now r) }
+{
+    let words = text_of(words)?;
+    let texts = text_of(texts)?;
+    evaluated(alloc, words, texts)
+}

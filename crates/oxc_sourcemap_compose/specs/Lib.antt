@@ -1,3 +1,0 @@
-pub mod Composed
-pub mod InheritedNames
-pub mod Inherited

@@ -1,0 +1,7 @@
+pub mod ReadSound
+pub mod Limits
+pub mod LineOrder
+pub mod InRange
+pub mod Steps
+pub mod WellRead
+mod Worked

@@ -1,0 +1,7 @@
+pub mod Decoded
+pub mod Section
+pub mod JoinLimits
+pub mod Sections
+pub mod ReadMap
+pub mod ReadLaws
+pub mod Reading

@@ -1,0 +1,76 @@
+-- The sections of an indexed map: those in front of the first fault, and their join.
+use Rattle.std.specs.Prelude.{ℕ, Bool, true, ◌&&◌, List, [], ◌∷◌, ◌++◌, length, Option, Some, None, Result, Ok, Err, if◌then◌else◌}
+use Rattle.std.specs.Option.{option_map, unwrap_or}
+use Rattle.serde_json.specs.Data.{Data, Items, no_items, item}
+use Rattle.oxc_sourcemap_tokens.specs.declared.error.Error.{Error}
+use Rattle.oxc_sourcemap_tokens.specs.declared.error.Error.TheVariants.{SectionOrder, TooLarge}
+use Rattle.oxc_sourcemap_tokens.specs.Refusals.{unless}
+use Rattle.oxc_sourcemap_tokens.specs.Token.{TokenRecord, last}
+use Rattle.oxc_sourcemap_parts.specs.Record.{Text, MapRecord}
+use Rattle.oxc_sourcemap_parts.specs.Sorted.{may_precede}
+use Rattle.oxc_sourcemap_json.specs.Shape.{◌>>=◌, shape}
+use Rattle.oxc_sourcemap_decode.specs.Decoded.{decoded}
+use Rattle.oxc_sourcemap_join.specs.Joined.{Offset, joined}
+use Rattle.oxc_sourcemap_decode.specs.Section.{place_in, map_in}
+use Rattle.oxc_sourcemap_decode.specs.JoinLimits.{is_within_limits}
+
+-- the generated position of a token
+abbrev pub position_of : TokenRecord → Offset
+position_of t = record { line = t.dst_line; column = t.dst_col }
+
+-- a place is not before another one, where there is one
+abbrev pub may_follow : Option Offset → Offset → Bool
+may_follow None place = true
+may_follow (Some before) place = may_precede (λ (p : Offset). p.line) (λ (p : Offset). p.column) before place
+
+-- A section may begin at a place if that is not before the offset of the section in front of it, and not before the last token
+-- of the sections in front of it. Equal places are allowed.
+abbrev pub may_begin : List (MapRecord × Offset) → Offset → Bool
+may_begin front place =
+    may_follow (option_map (λ s. s.1) (last front)) place && may_follow (option_map position_of (last (joined front).tokens)) place
+
+-- the place, where a section may begin there
+abbrev pub in_order : List (MapRecord × Offset) → Offset → Result Offset Error
+in_order front place = if may_begin front place then Ok place else Err (SectionOrder (length front))
+
+-- where a section after those in front of it begins
+abbrev pub place_after : List (MapRecord × Offset) → Data → Result Offset Error
+place_after front d = place_in d >>= in_order front
+
+-- the map of a section, or its first fault
+abbrev pub section_map : Data → Result MapRecord Error
+section_map d = do
+  value ← map_in d
+  fields ← shape value
+  decoded fields
+
+-- A section after those in front of it: its map and where that begins, or its first fault.
+abbrev pub section_after : List (MapRecord × Offset) → Data → Result (MapRecord × Offset) Error
+section_after front d = do
+  place ← place_after front d
+  map ← section_map d
+  Ok (map, place)
+
+-- what was read of sections: the maps in front of the first fault, each at its offset, and that fault
+pub record Sections : Type 0 where
+  pub maps : List (MapRecord × Offset)
+  pub fault : Option Error
+
+-- what follows a section that was read, or the end at a fault
+abbrev pub onto_section : List (MapRecord × Offset) → (MapRecord × Offset → Sections) → Result (MapRecord × Offset) Error → Sections
+onto_section front more (Ok s) = more s
+onto_section front more (Err fault) = record { maps = front; fault = Some fault }
+
+-- these sections, after those in front of them
+abbrev pub sections_after : List (MapRecord × Offset) → Items → Sections
+sections_after front no_items = record { maps = front; fault = None }
+sections_after front (item d ds) = onto_section front (λ s. sections_after (front ++ s ∷ []) ds) (section_after front d)
+
+-- all sections of a list
+abbrev pub all_sections : Items → Sections
+all_sections items = sections_after [] items
+
+-- The join of the sections. It is too large if the sections in front of the first fault make a join that is; else the fault
+-- stands.
+abbrev pub joined_sections : Sections → Result MapRecord Error
+joined_sections found = if is_within_limits (joined found.maps) then unless found.fault (Ok (joined found.maps)) else Err TooLarge

@@ -1,0 +1,144 @@
+//! Reading the parts of a map from a JSON source map.
+ghost use Rattle.std.specs.Prelude.{◌≡◌, ◌≢◌, map, option_map, string_bytes, IfOk, IfErr, Ok, Err, Some, []};
+ghost use Rattle.std.specs.Option.{unwrap_or};
+ghost use Rattle.oxc_sourcemap_tokens.specs.declared.error.Error.{Error};
+ghost use Rattle.oxc_sourcemap_tokens.specs.declared.error.Error.TheVariants.{OutOfMemory};
+ghost use Rattle.oxc_sourcemap_parts.specs.Views.{text_of, texts_of, contents_of, record_of_parts};
+ghost use Rattle.oxc_sourcemap_json.specs.Json.{json_record, json_contents};
+ghost use Rattle.oxc_sourcemap_decode.specs.Decoded.{decoded, json_fault, first_not_below};
+
+use crate::json_source_map::JSONSourceMap;
+use oxc_sourcemap_mappings::decode_mappings;
+use oxc_sourcemap_parts::SourceMapParts;
+use oxc_sourcemap_tokens::{Error, JsonFault, Result};
+use std::alloc::{AllocError, Global};
+use std::borrow::CowStr;
+
+/// The first id that is not below a count.
+fn first_id_not_below(count: usize, ids: &[u32]) -> Option<u32>
+    ensures { result ≡ first_not_below count ids.now }
+{
+    for id in ids {
+        if *id as usize >= count {
+            return Some(*id);
+        }
+    }
+    None
+}
+
+/// An optional string, moved.
+fn owned(text: Option<String>) -> Option<CowStr<'static>>
+    ensures { text_of result ≡ option_map string_bytes text }
+{
+    match text {
+        Some(text) => Some(CowStr::Owned(text)),
+        None => None,
+    }
+}
+
+/// Strings, moved.
+fn owned_texts(
+    alloc: Global,
+    texts: Vec<String>,
+) -> std::result::Result<Vec<CowStr<'static>>, AllocError>
+    ensures { IfOk result (λ owned. texts_of owned ≡ map string_bytes texts.items) }
+{
+    let mut moved = Vec::with_capacity(alloc, texts.len())?;
+    for text in texts {
+        moved.push(CowStr::Owned(text))?;
+    }
+    Ok(moved)
+}
+
+/// Contents, moved, or the empty list.
+fn owned_contents(
+    alloc: Global,
+    contents: Option<Vec<Option<String>>>,
+) -> std::result::Result<Vec<Option<CowStr<'static>>>, AllocError>
+    ensures { IfOk result (λ owned. contents_of owned ≡ unwrap_or (json_contents contents) []) }
+{
+    let Some(contents) = contents else {
+        return Ok(Vec::new(alloc));
+    };
+    let mut moved = Vec::with_capacity(alloc, contents.len())?;
+    for content in contents {
+        moved.push(owned(content))?;
+    }
+    Ok(moved)
+}
+
+/// The lists of strings of a map.
+#[derive(Drop)]
+struct Lists {
+    names: Vec<CowStr<'static>>,
+    sources: Vec<CowStr<'static>>,
+    contents: Vec<Option<CowStr<'static>>>,
+}
+
+/// Lists of strings, moved.
+fn owned_lists(
+    alloc: Global,
+    names: Vec<String>,
+    sources: Vec<String>,
+    contents: Option<Vec<Option<String>>>,
+) -> std::result::Result<Lists, AllocError>
+    ensures names { IfOk result (λ lists. texts_of lists.names ≡ map string_bytes names.items) }
+    ensures sources { IfOk result (λ lists. texts_of lists.sources ≡ map string_bytes sources.items) }
+    ensures contents { IfOk result (λ lists. contents_of lists.contents ≡ unwrap_or (json_contents contents) []) }
+{
+    Ok(Lists {
+        names: owned_texts(alloc, names)?,
+        sources: owned_texts(alloc, sources)?,
+        contents: owned_contents(alloc, contents)?,
+    })
+}
+
+/// What is wrong with a JSON source map besides its mappings, if anything is.
+fn json_fault(json: &JSONSourceMap) -> Option<Error>
+    ensures { result ≡ json_fault (json_record json.now) }
+{
+    if json.version != 3 {
+        return Some(Error::BadJson(JsonFault::Version(json.version)));
+    }
+    let list = json.ignore_list.as_ref()?;
+    let id = first_id_not_below(json.sources.len(), list.as_slice())?;
+    Some(Error::BadSourceReference(id))
+}
+
+/// The parts of the map that a JSON source map says. Its strings are moved, and contents that are missing are the empty
+/// list; it has no chunks.
+///
+/// Fails in this order, and the value is then dropped:
+/// - `BadJson(Version(n))` for a version n other than 3;
+/// - `BadSourceReference(id)` for the first entry of the ignore list that is not below the number of sources;
+/// - what `decode_mappings` refuses, with the numbers of names and sources.
+///
+/// The first two are found before any memory is asked for, and reported wherever they hold. `OutOfMemory` if memory is
+/// refused, which may be before a fault of the mappings is met.
+pub fn decode_parts(alloc: Global, json: JSONSourceMap) -> Result<SourceMapParts<'static>>
+    ensures map { IfOk result (λ parts. decoded (json_record json) ≡ Ok (record_of_parts parts)) }
+    ensures refused { IfErr result (λ e. (e ≢ OutOfMemory) → decoded (json_record json) ≡ Err e) }
+    ensures fault { (e : Error) → json_fault (json_record json) ≡ Some e → result ≡ Err e }
+{
+    if let Some(fault) = json_fault(&json) {
+        return Err(fault);
+    }
+    let tokens = decode_mappings(
+        alloc,
+        json.mappings.as_str(),
+        json.names.len(),
+        json.sources.len(),
+    )?;
+    let lists = owned_lists(alloc, json.names, json.sources, json.sources_content)?;
+    Ok(SourceMapParts {
+        file: owned(json.file),
+        names: lists.names,
+        source_root: owned(json.source_root),
+        sources: lists.sources,
+        source_contents: lists.contents,
+        tokens,
+        token_chunks: None,
+        ignore_list: json.ignore_list,
+        debug_id: owned(json.debug_id),
+    })
+}

@@ -1,0 +1,10 @@
+//! The parts of a map read from JSON: from the JSON object of a source map, and from any JSON value or JSON text, in which an
+//! indexed map (ECMA-426, "Index source map") is the join of its sections. Part of `oxc_sourcemap`.
+#![tactic(auto)]
+
+mod decode;
+mod place;
+mod sections;
+
+pub use decode::decode_parts;
+pub use sections::{decode_parts_from_string, decode_parts_from_value};

@@ -1,0 +1,110 @@
+//! Where sections begin.
+ghost use Rattle.std.specs.Prelude.{◌≡◌, ◌&&◌, ◌∷◌, List, [], codes, length, option_map, option_and_then, Ok, Err, IfOk, IfErr};
+ghost use Rattle.std.specs.Option.{unwrap_or};
+ghost use Rattle.serde_json.specs.View.{view};
+ghost use Rattle.oxc_sourcemap_parts.specs.Record.{MapRecord};
+ghost use Rattle.oxc_sourcemap_tokens.specs.Token.{last};
+ghost use Rattle.oxc_sourcemap_join.specs.Joined.{Offset, joined};
+ghost use Rattle.oxc_sourcemap_decode.specs.Section.{number_at, as_place, place_in};
+ghost use Rattle.oxc_sourcemap_decode.specs.Sections.{position_of, may_follow, place_after};
+ghost use Rattle.oxc_sourcemap_decode.specs.Reading.{offset_of};
+
+use oxc_sourcemap_join::JoinedParts;
+use oxc_sourcemap_json::read_id;
+use oxc_sourcemap_tokens::{Error, Field, JsonFault, Result, Token};
+use serde_json::Value;
+
+/// A line and a column of generated code.
+#[derive(Clone, Copy)]
+pub(crate) struct Place {
+    pub(crate) line: u32,
+    pub(crate) column: u32,
+}
+
+/// The whole number of 0 to 4294967295 at a key.
+fn number_at(value: &Value, key: &str) -> Option<u32>
+    ensures { result ≡ number_at key.now (view value.now) }
+{
+    read_id(value.get(key)?)
+}
+
+/// The place that a value says, if it is an object with a line and a column.
+fn as_place(value: &Value) -> Option<Place>
+    ensures { option_map offset_of result ≡ as_place (view value.now) }
+{
+    let line = number_at(value, "line")?;
+    let column = number_at(value, "column")?;
+    Some(Place { line, column })
+}
+
+/// The offset of a section.
+fn place_in(section: &Value) -> Result<Place>
+    ensures place { IfOk result (λ place. place_in (view section.now) ≡ Ok (offset_of place)) }
+    ensures refused { IfErr result (λ e. place_in (view section.now) ≡ Err e) }
+{
+    if !section.is_object() {
+        return Err(Error::BadJson(JsonFault::Shape(Field::Sections)));
+    }
+    let Some(place) = section.get("offset").and_then(as_place) else {
+        return Err(Error::BadJson(JsonFault::Shape(Field::Offset)));
+    };
+    Ok(place)
+}
+
+/// The generated position of a token.
+fn position_of(token: Token) -> Place
+    ensures { offset_of result ≡ position_of token }
+{
+    Place {
+        line: token.get_dst_line(),
+        column: token.get_dst_col(),
+    }
+}
+
+/// Whether a place is not before another one, where there is one.
+fn may_follow(before: Option<Place>, place: Place) -> bool
+    ensures { result ≡ may_follow (option_map offset_of before) (offset_of place) }
+{
+    match before {
+        Some(before) => {
+            before.line < place.line || (before.line == place.line && before.column <= place.column)
+        }
+        None => true,
+    }
+}
+
+/// The position of the last token of a join.
+fn last_position(so_far: &JoinedParts<'_>) -> Option<Place>
+    ensures { option_map offset_of result ≡ option_map position_of (last so_far.now.tokens) }
+{
+    so_far.last_token().map(position_of)
+}
+
+/// Whether a section may begin at a place, after those that are joined, the last of which begins at `before`.
+fn may_begin(so_far: &JoinedParts<'_>, before: Option<Place>, place: Place) -> bool
+    ensures { result ≡ (may_follow (option_map offset_of before) (offset_of place)
+        && may_follow (option_map position_of (last so_far.now.tokens)) (offset_of place)) }
+{
+    may_follow(before, place) && may_follow(last_position(so_far), place)
+}
+
+/// The offset of the section after those that are joined, the last of which begins at `before`. Fails if it has none, or if it
+/// is before that, or before the last token so far.
+pub(crate) fn place_after(
+    so_far: &JoinedParts<'_>,
+    before: Option<Place>,
+    section: &Value,
+) -> Result<Place>
+    ensures place { IfOk result (λ place. (front : List (MapRecord × Offset)) → so_far.now ≡ joined front
+        → option_map offset_of before ≡ option_map (λ s. s.1) (last front)
+        → place_after front (view section.now) ≡ Ok (offset_of place)) }
+    ensures refused { IfErr result (λ e. (front : List (MapRecord × Offset)) → so_far.now ≡ joined front
+        → option_map offset_of before ≡ option_map (λ s. s.1) (last front)
+        → place_after front (view section.now) ≡ Err e) }
+{
+    let place = place_in(section)?;
+    if !may_begin(so_far, before, place) {
+        return Err(Error::SectionOrder(so_far.map_count()));
+    }
+    Ok(place)
+}

@@ -1,0 +1,207 @@
+//! Sections, read one behind the other into a join, and the map of a JSON value and a JSON text.
+ghost use Rattle.std.specs.Prelude.{◌≡◌, ◌≢◌, option_map, string_bytes, IfOk, IfErr, Ok, Err};
+ghost use Rattle.serde_json.specs.View.{view, items_view};
+ghost use Rattle.serde_json.specs.Find.{get};
+ghost use Rattle.oxc_sourcemap_tokens.specs.declared.error.Error.TheVariants.{OutOfMemory};
+ghost use Rattle.oxc_sourcemap_parts.specs.Views.{record_of_parts};
+ghost use Rattle.oxc_sourcemap_json.specs.Shape.{file_of};
+ghost use Rattle.oxc_sourcemap_decode.specs.Section.{is_indexed, is_plain};
+ghost use Rattle.oxc_sourcemap_decode.specs.Sections.{section_map, all_sections, joined_sections};
+ghost use Rattle.oxc_sourcemap_decode.specs.ReadMap.{sections_in, indexed_said, indexed_record, map_said, read_value, read_map};
+
+use crate::decode::decode_parts;
+use crate::place::place_after;
+use oxc_sourcemap_join::JoinedParts;
+use oxc_sourcemap_json::{JSONSourceMap, file_from_value, json_of};
+use oxc_sourcemap_parts::SourceMapParts;
+use oxc_sourcemap_tokens::{Error, Field, JsonFault, Result};
+use serde_json::Value;
+use std::alloc::Global;
+use std::borrow::CowStr;
+
+/// A member of a value, moved out of it. The rest of the value is dropped.
+fn into_member(value: Value, key: &str) -> Option<Value>
+    ensures { option_map view result ≡ get key.now (view value) }
+{
+    match value {
+        Value::Object(mut object) => object.remove(key),
+        _ => None,
+    }
+}
+
+/// Whether a value is an indexed map.
+fn is_indexed(value: &Value) -> bool
+    ensures { result ≡ is_indexed (view value.now) }
+{
+    match value.get("sections") {
+        Some(sections) => !sections.is_null(),
+        None => false,
+    }
+}
+
+/// Whether a value may be the map of a section: an object that is not an indexed map.
+fn is_plain(value: &Value) -> bool
+    ensures { result ≡ is_plain (view value.now) }
+{
+    !is_indexed(value) && value.is_object()
+}
+
+/// The map of a section, borrowed.
+fn lent_map(alloc: Global, section: &Value) -> Result<SourceMapParts<'static>>
+    ensures map { IfOk result (λ parts. section_map (view section.now) ≡ Ok (record_of_parts parts)) }
+    ensures refused { IfErr result (λ e. (e ≢ OutOfMemory) → section_map (view section.now) ≡ Err e) }
+{
+    let Some(map) = section.get("map") else {
+        return Err(Error::BadJson(JsonFault::Shape(Field::Map)));
+    };
+    if !is_plain(map) {
+        return Err(Error::BadJson(JsonFault::Shape(Field::Map)));
+    }
+    let json = JSONSourceMap::from_value(alloc, map)?;
+    decode_parts(alloc, json)
+}
+
+/// The map of a section, whose strings are moved.
+fn moved_map(alloc: Global, section: Value) -> Result<SourceMapParts<'static>>
+    ensures map { IfOk result (λ parts. section_map (view section) ≡ Ok (record_of_parts parts)) }
+    ensures refused { IfErr result (λ e. (e ≢ OutOfMemory) → section_map (view section) ≡ Err e) }
+{
+    let Some(map) = into_member(section, "map") else {
+        return Err(Error::BadJson(JsonFault::Shape(Field::Map)));
+    };
+    if !is_plain(&map) {
+        return Err(Error::BadJson(JsonFault::Shape(Field::Map)));
+    }
+    let json = json_of(alloc, map)?;
+    decode_parts(alloc, json)
+}
+
+/// The join of sections, each read when the ones before it are joined.
+fn join_lent(alloc: Global, sections: &[Value]) -> Result<JoinedParts<'static>>
+    ensures joined { IfOk result (λ joined. joined_sections (all_sections (items_view sections.now)) ≡ Ok joined) }
+    ensures refused { IfErr result (λ e. (e ≢ OutOfMemory) → joined_sections (all_sections (items_view sections.now)) ≡ Err e) }
+{
+    let mut joined = JoinedParts::empty(alloc);
+    let mut before = None;
+    for section in sections {
+        let place = place_after(&joined, before, section)?;
+        let parts = lent_map(alloc, section)?;
+        joined.add_moved(parts, place.line, place.column)?;
+        before = Some(place);
+    }
+    Ok(joined)
+}
+
+/// The join of sections whose strings are moved, as `join_lent` makes it. Each section is dropped when it is joined.
+fn join_moved(alloc: Global, sections: Vec<Value>) -> Result<JoinedParts<'static>>
+    ensures joined { IfOk result (λ joined. joined_sections (all_sections (items_view sections.items)) ≡ Ok joined) }
+    ensures refused { IfErr result (λ e. (e ≢ OutOfMemory) → joined_sections (all_sections (items_view sections.items)) ≡ Err e) }
+{
+    let mut joined = JoinedParts::empty(alloc);
+    let mut before = None;
+    for section in sections {
+        let place = place_after(&joined, before, &section)?;
+        let parts = moved_map(alloc, section)?;
+        joined.add_moved(parts, place.line, place.column)?;
+        before = Some(place);
+    }
+    Ok(joined)
+}
+
+/// The parts of an indexed map: the join of its sections, with its file and without chunks.
+fn indexed_parts(joined: JoinedParts<'static>, file: Option<String>) -> SourceMapParts<'static>
+    ensures { record_of_parts result ≡ indexed_record (option_map string_bytes file) joined.entry }
+{
+    let mut parts = joined.into_parts();
+    parts.file = match file {
+        Some(file) => Some(CowStr::Owned(file)),
+        None => None,
+    };
+    parts.token_chunks = None;
+    parts
+}
+
+/// The parts of the map that an indexed map says.
+fn lent_indexed(alloc: Global, value: &Value) -> Result<SourceMapParts<'static>>
+    ensures map { IfOk result (λ parts. map_said (indexed_said (file_of (view value.now)) (sections_in (view value.now))) ≡ Ok (record_of_parts parts)) }
+    ensures refused { IfErr result (λ e. (e ≢ OutOfMemory) → map_said (indexed_said (file_of (view value.now)) (sections_in (view value.now))) ≡ Err e) }
+{
+    let file = file_from_value(alloc, value)?;
+    let Some(sections) = value.get("sections").and_then(Value::as_array) else {
+        return Err(Error::BadJson(JsonFault::Shape(Field::Sections)));
+    };
+    let joined = join_lent(alloc, sections.as_slice())?;
+    Ok(indexed_parts(joined, file))
+}
+
+/// The parts of the map that an indexed map says, whose strings are moved.
+fn moved_indexed(alloc: Global, value: Value) -> Result<SourceMapParts<'static>>
+    ensures map { IfOk result (λ parts. map_said (indexed_said (file_of (view value)) (sections_in (view value))) ≡ Ok (record_of_parts parts)) }
+    ensures refused { IfErr result (λ e. (e ≢ OutOfMemory) → map_said (indexed_said (file_of (view value)) (sections_in (view value))) ≡ Err e) }
+{
+    let file = file_from_value(alloc, &value)?;
+    let Some(Value::Array(sections)) = into_member(value, "sections") else {
+        return Err(Error::BadJson(JsonFault::Shape(Field::Sections)));
+    };
+    let joined = join_moved(alloc, sections)?;
+    Ok(indexed_parts(joined, file))
+}
+
+/// The parts of the map that a JSON value says. A value whose `sections` is there and is not null is an indexed map: the join
+/// of the maps of its sections, each at its offset, with the file of the value and without chunks. Of its other keys only
+/// `version` and `file` are looked at. Any other value is read by `JSONSourceMap::from_value` and `decode_parts`.
+///
+/// An indexed map fails with what `file_from_value` refuses, then with `BadJson(Shape(Sections))` unless `sections` is a list,
+/// then with the first fault of a section. Each section is read and joined before the next one is looked at, and fails with
+/// the first of these in this order:
+/// - `BadJson(Shape(Sections))` unless it is an object;
+/// - `BadJson(Shape(Offset))` unless `offset` is an object whose `line` and `column` are whole numbers of 0 to 4294967295;
+/// - `SectionOrder(k)`, where k is its index, if its offset is before that of the section before it, or before the last token
+///   so far;
+/// - `BadJson(Shape(Map))` unless `map` is an object whose own `sections` is missing or null;
+/// - what `JSONSourceMap::from_value` and `decode_parts` refuse for the map;
+/// - `TooLarge` if the join with this section would be past the limits of `JoinedParts::add_moved`.
+///
+/// `OutOfMemory` if memory is refused, which may be before a fault is met.
+#[tactic(auto, unfolding(crate::specs::ReadMap::read_value))]
+pub fn decode_parts_from_value(alloc: Global, value: &Value) -> Result<SourceMapParts<'static>>
+    ensures map { IfOk result (λ parts. read_value (view value.now) ≡ Ok (record_of_parts parts)) }
+    ensures refused { IfErr result (λ e. (e ≢ OutOfMemory) → read_value (view value.now) ≡ Err e) }
+{
+    if is_indexed(value) {
+        return lent_indexed(alloc, value);
+    }
+    let json = JSONSourceMap::from_value(alloc, value)?;
+    decode_parts(alloc, json)
+}
+
+/// What `decode_parts_from_value` gives, but the strings of the value are moved.
+#[tactic(auto, unfolding(crate::specs::ReadMap::read_value))]
+fn moved_value(alloc: Global, value: Value) -> Result<SourceMapParts<'static>>
+    ensures map { IfOk result (λ parts. read_value (view value) ≡ Ok (record_of_parts parts)) }
+    ensures refused { IfErr result (λ e. (e ≢ OutOfMemory) → read_value (view value) ≡ Err e) }
+{
+    if is_indexed(&value) {
+        return moved_indexed(alloc, value);
+    }
+    let json = json_of(alloc, value)?;
+    decode_parts(alloc, json)
+}
+
+/// The parts of the map that a JSON text says: `serde_json` reads the text, and `decode_parts_from_value` the value. All its
+/// strings are owned, and none is copied but the file of an indexed map.
+///
+/// Fails in this order:
+/// - `BadJson(Reading)` where `serde_json` reads no value, as for a text that is not JSON, one with more than white
+///   space after the value, and one that nests deeper than 127;
+/// - what `decode_parts_from_value` refuses.
+///
+/// `OutOfMemory` if memory is refused, which may be before a fault is met.
+#[tactic(auto, unfolding(crate::specs::ReadMap::read_map, crate::specs::ReadMap::read_value))]
+pub fn decode_parts_from_string(alloc: Global, text: &str) -> Result<SourceMapParts<'static>>
+    ensures map { IfOk result (λ parts. read_map text.now ≡ Ok (record_of_parts parts)) }
+    ensures refused { IfErr result (λ e. (e ≢ OutOfMemory) → read_map text.now ≡ Err e) }
+{
+    let value = Value::from_str(alloc, text)?;
+    moved_value(alloc, value)
+}

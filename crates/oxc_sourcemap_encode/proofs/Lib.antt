@@ -1,0 +1,6 @@
+pub mod Plain
+pub mod JsonString
+pub mod CanonicalPlain
+pub mod Separated
+pub mod JsonTexts
+mod Worked

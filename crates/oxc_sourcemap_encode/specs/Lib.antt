@@ -1,0 +1,6 @@
+pub mod JsonString
+pub mod Plain
+pub mod Encoded
+pub mod JsonText
+pub mod Room
+pub mod JsonParts

@@ -1,0 +1,136 @@
+//! Writing the parts of a map as a JSON source map.
+ghost use Rattle.std.specs.Prelude.{◌≡◌, ◌≢◌, map, option_map, string_bytes, IfOk, IfErr, Ok, Err, Some, None, OnOk};
+ghost use Rattle.std.specs.Cow.{cow_str_bytes};
+ghost use Rattle.std.specs.List.{list_any};
+ghost use Rattle.std.specs.Option.{is_some};
+ghost use Rattle.oxc_sourcemap_tokens.specs.declared.error.Error.TheVariants.{OutOfMemory};
+ghost use Rattle.oxc_sourcemap_tokens.specs.Token.{AreInBounds};
+ghost use Rattle.oxc_sourcemap_mappings.specs.Canonical.{canonical};
+ghost use Rattle.oxc_sourcemap_tokens.specs.Chunks.{lent_chunks};
+ghost use Rattle.oxc_sourcemap_mappings.specs.Pieces.{writing_fault};
+ghost use Rattle.oxc_sourcemap_parts.specs.Views.{text_of, ids_of, record_of_parts};
+ghost use Rattle.oxc_sourcemap_json.specs.Json.{json_record, json_contents};
+ghost use Rattle.oxc_sourcemap_encode.specs.Encoded.{encoded, written_contents};
+
+use oxc_sourcemap_json::JSONSourceMap;
+use oxc_sourcemap_mappings::encode_mappings;
+use oxc_sourcemap_parts::SourceMapParts;
+use oxc_sourcemap_tokens::{Result, TokenChunk};
+use std::alloc::{AllocError, Global};
+use std::borrow::CowStr;
+
+/// A copy of a text that may be there.
+fn copied(
+    alloc: Global,
+    text: &Option<CowStr<'_>>,
+) -> std::result::Result<Option<String>, AllocError>
+    ensures { IfOk result (λ copy. option_map string_bytes copy ≡ text_of text.now) }
+{
+    match text {
+        Some(text) => Ok(Some(String::from_str(alloc, text.as_str())?)),
+        None => Ok(None),
+    }
+}
+
+/// Copies of texts.
+fn copied_texts(alloc: Global, texts: &[CowStr<'_>]) -> std::result::Result<Vec<String>, AllocError>
+    ensures { IfOk result (λ copies. map string_bytes copies.items ≡ map cow_str_bytes texts.now) }
+{
+    let mut copies = Vec::with_capacity(alloc, texts.len())?;
+    for text in texts {
+        copies.push(String::from_str(alloc, text.as_str())?)?;
+    }
+    Ok(copies)
+}
+
+/// Whether there is some content in a list.
+pub(crate) fn has_content(contents: &[Option<CowStr<'_>>]) -> bool
+    ensures { result ≡ list_any is_some (map (option_map cow_str_bytes) contents.now) }
+{
+    for content in contents {
+        if content.is_some() {
+            return true;
+        }
+    }
+    false
+}
+
+/// Copies of contents, where there is some content among them.
+fn copied_contents(
+    alloc: Global,
+    contents: &[Option<CowStr<'_>>],
+) -> std::result::Result<Option<Vec<Option<String>>>, AllocError>
+    ensures { IfOk result (λ copies. json_contents copies ≡ written_contents (map (option_map cow_str_bytes) contents.now)) }
+{
+    if !has_content(contents) {
+        return Ok(None);
+    }
+    let mut copies = Vec::with_capacity(alloc, contents.len())?;
+    for content in contents {
+        copies.push(copied(alloc, content)?)?;
+    }
+    Ok(Some(copies))
+}
+
+/// A copy of an ignore list that may be there.
+fn copied_ids(
+    alloc: Global,
+    list: &Option<Vec<u32>>,
+) -> std::result::Result<Option<Vec<u32>>, AllocError>
+    ensures { IfOk result (λ copy. ids_of copy ≡ ids_of list.now) }
+{
+    match list {
+        Some(list) => Ok(Some(list.as_slice().to_vec(alloc)?)),
+        None => Ok(None),
+    }
+}
+
+/// The chunks of a map, borrowed.
+pub(crate) fn chunks_of<'p>(parts: &'p SourceMapParts<'_>) -> Option<&'p [TokenChunk]>
+    ensures { lent_chunks result ≡ (record_of_parts parts.now).token_chunks }
+{
+    match &parts.token_chunks {
+        Some(chunks) => Some(chunks.as_slice()),
+        None => None,
+    }
+}
+
+/// The canonical text of the tokens of a map. Chunks change nothing but have to fit.
+///
+/// Fails as `encode_mappings` does for the tokens and chunks.
+fn mappings_of(alloc: Global, parts: &SourceMapParts<'_>) -> Result<String>
+    ensures text { let r = record_of_parts parts.now in IfOk result (λ text. string_bytes text ≡ canonical r.tokens) }
+    ensures clean { let r = record_of_parts parts.now in OnOk result (writing_fault r.tokens r.token_chunks ≡ None) }
+    ensures refused { let r = record_of_parts parts.now in IfErr result (λ e. (e ≢ OutOfMemory) → writing_fault r.tokens r.token_chunks ≡ Some e) }
+    ensures in_bounds { OnOk result (AreInBounds (record_of_parts parts.now).tokens) }
+{
+    let mut mappings = String::new(alloc);
+    encode_mappings(parts.tokens.as_slice(), chunks_of(parts), &mut mappings)?;
+    Ok(mappings)
+}
+
+/// The JSON source map of a map: copies of its fields, and its tokens in their canonical text. A list of contents without
+/// any content is left out; any other is written whole. Chunks change nothing but have to fit.
+///
+/// Fails as `encode_mappings` does for the tokens and chunks: `LineOrder(i)`, `BadChunks(k)`, `TooLarge`, in this order;
+/// and with `OutOfMemory` if memory is refused.
+pub fn encode_parts(alloc: Global, parts: &SourceMapParts<'_>) -> Result<JSONSourceMap>
+    ensures json { IfOk result (λ json. encoded (record_of_parts parts.now) ≡ Ok (json_record json)) }
+    ensures refused { IfErr result (λ e. (e ≢ OutOfMemory) → encoded (record_of_parts parts.now) ≡ Err e) }
+
+    // True of every map, and stated here for callers that need it.
+    ensures in_bounds { OnOk result (AreInBounds (record_of_parts parts.now).tokens) }
+{
+    let mappings = mappings_of(alloc, parts)?;
+    Ok(JSONSourceMap {
+        version: 3,
+        file: copied(alloc, &parts.file)?,
+        mappings,
+        source_root: copied(alloc, &parts.source_root)?,
+        sources: copied_texts(alloc, parts.sources.as_slice())?,
+        sources_content: copied_contents(alloc, parts.source_contents.as_slice())?,
+        names: copied_texts(alloc, parts.names.as_slice())?,
+        debug_id: copied(alloc, &parts.debug_id)?,
+        ignore_list: copied_ids(alloc, &parts.ignore_list)?,
+    })
+}

@@ -1,0 +1,269 @@
+//! The JSON text of a map, written field by field, and its data URL.
+ghost use Rattle.std.specs.Prelude.{◌≡◌, ◌≢◌, ◌++◌, map, string_bytes, codes, decimal, IfOk, IfErr, OnOk, Ok, Err, Some, None};
+ghost use Rattle.std.specs.Cow.{cow_str_bytes};
+ghost use Rattle.oxc_sourcemap_tokens.specs.declared.error.Error.TheVariants.{OutOfMemory};
+ghost use Rattle.oxc_sourcemap_mappings.specs.Canonical.{canonical};
+ghost use Rattle.oxc_sourcemap_mappings.specs.Pieces.{writing_fault};
+ghost use Rattle.oxc_sourcemap_encode.specs.JsonString.{json_string};
+ghost use Rattle.oxc_sourcemap_parts.specs.Views.{text_of, ids_of, record_of_parts};
+ghost use Rattle.oxc_sourcemap_encode.specs.Encoded.{written_contents, encoded_record};
+ghost use Rattle.oxc_sourcemap_encode.specs.JsonText.{json_list, content_text, field_text, optional_field, json_text, map_text, map_url};
+ghost use Rattle.oxc_sourcemap_encode.specs.JsonParts.{head_text, lists_text, tail_text};
+
+use crate::encode::{chunks_of, has_content};
+use crate::json_string::push_json_string;
+use crate::room::text_room;
+use base64::engine::general_purpose::STANDARD;
+use oxc_sourcemap_mappings::encode_mappings;
+use oxc_sourcemap_parts::SourceMapParts;
+use oxc_sourcemap_tokens::Result;
+use std::alloc::Global;
+use std::borrow::CowStr;
+
+/// Appends a comma, a key and a colon.
+fn push_key(key: &str, out: &mut String) -> Result<()>
+    ensures text { OnOk result (string_bytes out.new ≡ string_bytes out.old ++ (codes ",\"" ++ (key.now ++ codes "\":"))) }
+    ensures refused { IfErr result (λ e. e ≡ OutOfMemory) }
+{
+    out.push_str(",\"")?;
+    out.push_str(key)?;
+    out.push_str("\":")?;
+    Ok(())
+}
+
+/// Appends a list of strings.
+#[tactic(auto, unfolding(crate::specs::JsonText::json_list))]
+fn push_texts(texts: &[CowStr<'_>], out: &mut String) -> Result<()>
+    ensures text { OnOk result (string_bytes out.new ≡ string_bytes out.old ++ json_list json_string (map cow_str_bytes texts.now)) }
+    ensures refused { IfErr result (λ e. e ≡ OutOfMemory) }
+{
+    out.push('[')?;
+    let mut is_first = true;
+    for text in texts {
+        if !is_first {
+            out.push(',')?;
+        }
+        push_json_string(text.as_str(), out)?;
+        is_first = false;
+    }
+    out.push(']')?;
+    Ok(())
+}
+
+/// Appends a content, or `null` where it is not known.
+fn push_content(content: &Option<CowStr<'_>>, out: &mut String) -> Result<()>
+    ensures text { OnOk result (string_bytes out.new ≡ string_bytes out.old ++ content_text (text_of content.now)) }
+    ensures refused { IfErr result (λ e. e ≡ OutOfMemory) }
+{
+    match content {
+        Some(content) => push_json_string(content.as_str(), out),
+        None => Ok(out.push_str("null")?),
+    }
+}
+
+/// Appends a list of contents.
+#[tactic(auto, unfolding(crate::specs::JsonText::json_list))]
+fn push_contents(contents: &[Option<CowStr<'_>>], out: &mut String) -> Result<()>
+    ensures text { OnOk result (string_bytes out.new ≡ string_bytes out.old ++ json_list content_text (map text_of contents.now)) }
+    ensures refused { IfErr result (λ e. e ≡ OutOfMemory) }
+{
+    out.push('[')?;
+    let mut is_first = true;
+    for content in contents {
+        if !is_first {
+            out.push(',')?;
+        }
+        push_content(content, out)?;
+        is_first = false;
+    }
+    out.push(']')?;
+    Ok(())
+}
+
+/// Appends a list of numbers.
+#[tactic(auto, unfolding(crate::specs::JsonText::json_list))]
+fn push_ids(alloc: Global, ids: &[u32], out: &mut String) -> Result<()>
+    ensures text { OnOk result (string_bytes out.new ≡ string_bytes out.old ++ json_list decimal ids.now) }
+    ensures refused { IfErr result (λ e. e ≡ OutOfMemory) }
+{
+    out.push('[')?;
+    let mut is_first = true;
+    for id in ids {
+        if !is_first {
+            out.push(',')?;
+        }
+        out.push_str(id.to_string(alloc)?.as_str())?;
+        is_first = false;
+    }
+    out.push(']')?;
+    Ok(())
+}
+
+/// Appends a field with a text, where there is one.
+#[tactic(auto, unfolding(crate::specs::JsonText::field_text, crate::specs::JsonText::optional_field))]
+fn push_optional_text(key: &str, text: &Option<CowStr<'_>>, out: &mut String) -> Result<()>
+    ensures text { OnOk result (string_bytes out.new ≡ string_bytes out.old ++ optional_field key.now json_string (text_of text.now)) }
+    ensures refused { IfErr result (λ e. e ≡ OutOfMemory) }
+{
+    let Some(text) = text else {
+        return Ok(());
+    };
+    push_key(key, out)?;
+    push_json_string(text.as_str(), out)
+}
+
+/// Appends a field with contents, where there is some content among them.
+#[tactic(auto, unfolding(crate::specs::JsonText::field_text, crate::specs::JsonText::optional_field))]
+fn push_optional_contents(
+    key: &str,
+    contents: &[Option<CowStr<'_>>],
+    out: &mut String,
+) -> Result<()>
+    ensures text { OnOk result (string_bytes out.new ≡ string_bytes out.old ++ optional_field key.now (json_list content_text) (written_contents (map text_of contents.now))) }
+    ensures refused { IfErr result (λ e. e ≡ OutOfMemory) }
+{
+    if !has_content(contents) {
+        return Ok(());
+    }
+    push_key(key, out)?;
+    push_contents(contents, out)
+}
+
+/// Appends a field with numbers, where there are any.
+#[tactic(auto, unfolding(crate::specs::JsonText::field_text, crate::specs::JsonText::optional_field))]
+fn push_optional_ids(
+    alloc: Global,
+    key: &str,
+    list: &Option<Vec<u32>>,
+    out: &mut String,
+) -> Result<()>
+    ensures text { OnOk result (string_bytes out.new ≡ string_bytes out.old ++ optional_field key.now (json_list decimal) (ids_of list.now)) }
+    ensures refused { IfErr result (λ e. e ≡ OutOfMemory) }
+{
+    let Some(list) = list else {
+        return Ok(());
+    };
+    push_key(key, out)?;
+    push_ids(alloc, list.as_slice(), out)
+}
+
+/// Appends a field with strings.
+#[tactic(auto, unfolding(crate::specs::JsonText::field_text))]
+fn push_texts_field(key: &str, texts: &[CowStr<'_>], out: &mut String) -> Result<()>
+    ensures text { OnOk result (string_bytes out.new ≡ string_bytes out.old ++ field_text key.now (json_list json_string (map cow_str_bytes texts.now))) }
+    ensures refused { IfErr result (λ e. e ≡ OutOfMemory) }
+{
+    push_key(key, out)?;
+    push_texts(texts, out)
+}
+
+/// Appends the field with the mappings: the canonical text of the tokens, in which no byte needs an escape.
+#[tactic(auto, unfolding(crate::specs::JsonText::field_text, crate::specs::JsonString::json_string))]
+fn push_mappings(parts: &SourceMapParts<'_>, out: &mut String) -> Result<()>
+    ensures text { let r = record_of_parts parts.now in OnOk result (string_bytes out.new ≡ string_bytes out.old ++ field_text (codes "mappings") (json_string (canonical r.tokens))) }
+    ensures clean { let r = record_of_parts parts.now in OnOk result (writing_fault r.tokens r.token_chunks ≡ None) }
+    ensures refused { let r = record_of_parts parts.now in IfErr result (λ e. (e ≢ OutOfMemory) → writing_fault r.tokens r.token_chunks ≡ Some e) }
+{
+    out.push_str(",\"mappings\":\"")?;
+    encode_mappings(parts.tokens.as_slice(), chunks_of(parts), out)?;
+    out.push('"')?;
+    Ok(())
+}
+
+/// Appends the beginning of the object, up to the root of sources.
+#[tactic(auto, unfolding(crate::specs::JsonParts::head_text))]
+fn push_head(
+    file: &Option<CowStr<'_>>,
+    source_root: &Option<CowStr<'_>>,
+    out: &mut String,
+) -> Result<()>
+    ensures text { OnOk result (string_bytes out.new ≡ string_bytes out.old ++ head_text (text_of file.now) (text_of source_root.now)) }
+    ensures refused { IfErr result (λ e. e ≡ OutOfMemory) }
+{
+    out.push_str("{\"version\":3")?;
+    push_optional_text("file", file, out)?;
+    push_optional_text("sourceRoot", source_root, out)?;
+    Ok(())
+}
+
+/// Appends the lists of names, sources and contents, and the ignore list.
+#[tactic(auto, unfolding(crate::specs::JsonParts::lists_text))]
+fn push_lists(
+    alloc: Global,
+    names: &[CowStr<'_>],
+    sources: &[CowStr<'_>],
+    contents: &[Option<CowStr<'_>>],
+    ignore_list: &Option<Vec<u32>>,
+    out: &mut String,
+) -> Result<()>
+    ensures text { OnOk result (string_bytes out.new ≡ string_bytes out.old ++ lists_text (map cow_str_bytes names.now) (map cow_str_bytes sources.now) (written_contents (map text_of contents.now)) (ids_of ignore_list.now)) }
+    ensures refused { IfErr result (λ e. e ≡ OutOfMemory) }
+{
+    push_texts_field("names", names, out)?;
+    push_texts_field("sources", sources, out)?;
+    push_optional_contents("sourcesContent", contents, out)?;
+    push_optional_ids(alloc, "ignoreList", ignore_list, out)?;
+    Ok(())
+}
+
+/// Appends the mappings, the debug id, and the end of the object.
+#[tactic(auto, unfolding(crate::specs::JsonParts::tail_text))]
+fn push_tail(parts: &SourceMapParts<'_>, out: &mut String) -> Result<()>
+    ensures text { let r = record_of_parts parts.now in OnOk result (string_bytes out.new ≡ string_bytes out.old ++ tail_text (canonical r.tokens) r.debug_id) }
+    ensures clean { let r = record_of_parts parts.now in OnOk result (writing_fault r.tokens r.token_chunks ≡ None) }
+    ensures refused { let r = record_of_parts parts.now in IfErr result (λ e. (e ≢ OutOfMemory) → writing_fault r.tokens r.token_chunks ≡ Some e) }
+{
+    push_mappings(parts, out)?;
+    push_optional_text("debugId", &parts.debug_id, out)?;
+    out.push('}')?;
+    Ok(())
+}
+
+/// Appends the fields of a map as a JSON object.
+fn push_object(alloc: Global, parts: &SourceMapParts<'_>, out: &mut String) -> Result<()>
+    ensures text { OnOk result (string_bytes out.new ≡ string_bytes out.old ++ json_text (encoded_record (record_of_parts parts.now))) }
+    ensures clean { let r = record_of_parts parts.now in OnOk result (writing_fault r.tokens r.token_chunks ≡ None) }
+    ensures refused { let r = record_of_parts parts.now in IfErr result (λ e. (e ≢ OutOfMemory) → writing_fault r.tokens r.token_chunks ≡ Some e) }
+{
+    push_head(&parts.file, &parts.source_root, out)?;
+    push_lists(
+        alloc,
+        parts.names.as_slice(),
+        parts.sources.as_slice(),
+        parts.source_contents.as_slice(),
+        &parts.ignore_list,
+        out,
+    )?;
+    push_tail(parts, out)?;
+    Ok(())
+}
+
+/// The JSON text of a map, without spaces and in the order `version`, `file`, `sourceRoot`, `names`, `sources`,
+/// `sourcesContent`, `ignoreList`, `mappings`, `debugId`: what `encode_parts` gives, as text. `names`, `sources` and
+/// `mappings` are always there, `sourcesContent` where there is some content, and the others where the map has them. The
+/// `mappings` are the canonical text of the tokens. Chunks change nothing but have to fit.
+///
+/// Fails as `encode_parts` does: `LineOrder(i)`, `BadChunks(k)`, `TooLarge`, in this order, and `OutOfMemory` if memory is
+/// refused.
+#[tactic(auto, unfolding(crate::specs::JsonText::map_text))]
+pub fn encode_parts_to_string(alloc: Global, parts: &SourceMapParts<'_>) -> Result<String>
+    ensures text { IfOk result (λ text. map_text (record_of_parts parts.now) ≡ Ok (string_bytes text)) }
+    ensures refused { IfErr result (λ e. (e ≢ OutOfMemory) → map_text (record_of_parts parts.now) ≡ Err e) }
+{
+    let mut out = String::with_capacity(alloc, text_room(parts))?;
+    push_object(alloc, parts, &mut out)?;
+    Ok(out)
+}
+
+/// The data URL of the JSON text of a map (RFC 2397): `data:application/json;charset=utf-8;base64,` and the text in padded
+/// base64 of the standard alphabet (RFC 4648). Fails as `encode_parts_to_string` does.
+#[tactic(auto, unfolding(crate::specs::JsonText::map_url))]
+pub fn encode_parts_to_data_url(alloc: Global, parts: &SourceMapParts<'_>) -> Result<String>
+    ensures url { IfOk result (λ url. map_url (record_of_parts parts.now) ≡ Ok (string_bytes url)) }
+    ensures refused { IfErr result (λ e. (e ≢ OutOfMemory) → map_url (record_of_parts parts.now) ≡ Err e) }
+{
+    let text = encode_parts_to_string(alloc, parts)?;
+    let mut url = String::from_str(alloc, "data:application/json;charset=utf-8;base64,")?;
+    STANDARD.encode_string(text.as_bytes(), &mut url)?;
+    Ok(url)
+}

@@ -1,0 +1,12 @@
+//! The parts of a map written as JSON: as a JSON object, as a JSON text with its strings, and as a data URL. Part of
+//! `oxc_sourcemap`.
+#![tactic(auto)]
+
+mod encode;
+mod json_string;
+mod json_text;
+mod room;
+
+pub use encode::encode_parts;
+pub use json_string::push_json_string;
+pub use json_text::{encode_parts_to_data_url, encode_parts_to_string};

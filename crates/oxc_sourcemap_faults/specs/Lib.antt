@@ -1,3 +1,0 @@
-pub mod Refusals
-pub mod Codes
-pub mod Messages

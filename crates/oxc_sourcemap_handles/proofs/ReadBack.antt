@@ -1,0 +1,52 @@
+-- The numbers of a refusal say that refusal.
+use Rattle.std.proofs.Common.{◌≡◌, Some, refl, ap}
+use Rattle.std.proofs.Math.Nat.{mod-eq_of_lt}
+use Rattle.oxc_sourcemap_tokens.specs.declared.error.Field.{Field}
+use Rattle.oxc_sourcemap_tokens.specs.declared.error.Field.TheVariants.{Object, Version as VersionField, File, Mappings, SourceRoot, Sources, SourcesContent, Names, DebugId, IgnoreList, GoogleIgnoreList, Sections, Offset, Map as MapField}
+use Rattle.oxc_sourcemap_tokens.specs.declared.error.JsonFault.TheVariants.{Reading, Shape, Version}
+use Rattle.oxc_sourcemap_tokens.specs.declared.error.Error.TheVariants.{VlqLeftover, VlqNoValues, VlqOverflow, BadJson, BadSegmentSize, BadSourceReference, BadNameReference, OutOfMemory, TooLarge, LineOrder, BadChunks, SeveralSources, SectionOrder}
+use Rattle.oxc_sourcemap_tokens.specs.declared.plan_error.PlanError.TheVariants.{Map, Unsorted, TooDeep}
+use Rattle.oxc_sourcemap_handles.specs.declared.refusal.Refusal.{Refusal}
+use Rattle.oxc_sourcemap_handles.specs.declared.refusal.Refusal.TheVariants.{Plan, Words, NoText, EmptyHandle, NotUtf8, Lengths, NoEntry}
+use Rattle.oxc_sourcemap_handles.specs.Codes.{fault_of, refusal_of, IsSmall}
+
+shape_back : (f : Field) → refusal_of (fault_of (Plan (Map (BadJson (Shape f))))) ≡ Some (Plan (Map (BadJson (Shape f))))
+shape_back Object = refl
+shape_back VersionField = refl
+shape_back File = refl
+shape_back Mappings = refl
+shape_back SourceRoot = refl
+shape_back Sources = refl
+shape_back SourcesContent = refl
+shape_back Names = refl
+shape_back DebugId = refl
+shape_back IgnoreList = refl
+shape_back GoogleIgnoreList = refl
+shape_back Sections = refl
+shape_back Offset = refl
+shape_back MapField = refl
+
+pub read_back : (r : Refusal) → IsSmall r → refusal_of (fault_of r) ≡ Some r
+read_back (Plan (Map VlqLeftover)) s = refl
+read_back (Plan (Map VlqNoValues)) s = refl
+read_back (Plan (Map VlqOverflow)) s = refl
+read_back (Plan (Map (BadJson Reading))) s = refl
+read_back (Plan (Map (BadJson (Shape f)))) s = shape_back f
+read_back (Plan (Map (BadJson (Version n)))) s = ap (λ k. Some (Plan (Map (BadJson (Version k))))) (mod-eq_of_lt s)
+read_back (Plan (Map (BadSegmentSize n))) s = ap (λ k. Some (Plan (Map (BadSegmentSize k)))) (mod-eq_of_lt s)
+read_back (Plan (Map (BadSourceReference n))) s = ap (λ k. Some (Plan (Map (BadSourceReference k)))) (mod-eq_of_lt s)
+read_back (Plan (Map (BadNameReference n))) s = ap (λ k. Some (Plan (Map (BadNameReference k)))) (mod-eq_of_lt s)
+read_back (Plan (Map OutOfMemory)) s = refl
+read_back (Plan (Map TooLarge)) s = refl
+read_back (Plan (Map (LineOrder i))) s = refl
+read_back (Plan (Map (BadChunks k))) s = refl
+read_back (Plan (Map (SeveralSources n))) s = refl
+read_back (Plan (Map (SectionOrder k))) s = refl
+read_back (Plan Unsorted) s = refl
+read_back (Plan TooDeep) s = refl
+read_back Words s = refl
+read_back (NoText k) s = ap (λ n. Some (NoText n)) (mod-eq_of_lt s)
+read_back EmptyHandle s = refl
+read_back (NotUtf8 n) s = refl
+read_back Lengths s = refl
+read_back NoEntry s = refl

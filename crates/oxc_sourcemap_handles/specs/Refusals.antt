@@ -1,0 +1,30 @@
+-- The texts of refusals, as bytes, and the refusals that stand for an error.
+use Rattle.std.specs.Prelude.{◌≡◌, ℕ, List, ◌++◌, codes, decimal, IsUtf8}
+use Rattle.std.specs.Str.Lossy.{utf8_valid_len}
+use Rattle.oxc_sourcemap_tokens.specs.declared.error.Error.{Error}
+use Rattle.oxc_sourcemap_tokens.specs.declared.error.Error.TheVariants.{OutOfMemory}
+use Rattle.oxc_sourcemap_tokens.specs.declared.plan_error.PlanError.TheVariants.{Map}
+use Rattle.oxc_sourcemap_tokens.specs.PlanMessages.{plan_error_text}
+use Rattle.oxc_sourcemap_handles.specs.declared.refusal.Refusal.{Refusal}
+use Rattle.oxc_sourcemap_handles.specs.declared.refusal.Refusal.TheVariants.{Plan, Words, NoText, EmptyHandle, NotUtf8, Lengths, NoEntry}
+
+abbrev pub refusal_text : Refusal → List ℕ
+refusal_text (Plan error) = plan_error_text error
+refusal_text Words = codes "The words say no plan"
+refusal_text (NoText k) = codes "There is no text " ++ decimal k
+refusal_text EmptyHandle = codes "The handle is empty"
+refusal_text (NotUtf8 n) = codes "Byte " ++ decimal n ++ codes " is not UTF-8"
+refusal_text Lengths = codes "The lengths of two lists differ"
+refusal_text NoEntry = codes "There is no such entry"
+
+-- an error of a call on a map
+abbrev pub of_map : Error → Refusal
+of_map e = Plan (Map e)
+
+-- lack of memory
+abbrev pub out_of_memory : Refusal
+out_of_memory = Plan (Map OutOfMemory)
+
+-- bytes are not UTF-8, and the refusal says where
+abbrev pub IsNotText : List ℕ → Refusal → Type 0
+IsNotText bytes r = ¬ (IsUtf8 bytes) × (r ≡ NotUtf8 (utf8_valid_len bytes))

@@ -1,0 +1,183 @@
+//! Refusals as numbers.
+ghost use Rattle.std.specs.Prelude.{◌≡◌, ◌%◌};
+ghost use Rattle.oxc_sourcemap_handles.specs.Codes.{fault_of, fault_of_error, fault_of_plan_error, fault_of_json, number_of_field, no_fault, refusal_of, error_of, field_of, code_of};
+
+use crate::refusal::Refusal;
+use oxc_sourcemap_tokens::{Error, Field, JsonFault, PlanError};
+
+/// A refusal: a code, which of the fields of a JSON source map it is about, and the number that it tells. The code 0 is none.
+#[repr(C)]
+#[derive(Clone, Copy)]
+pub struct Fault {
+    pub code: u32,
+    pub field: u32,
+    pub detail: u64,
+}
+
+/// The number of a field of a JSON source map.
+fn number_of(field: Field) -> u32
+    ensures { result ≡ number_of_field field }
+{
+    match field {
+        Field::Object => 0,
+        Field::Version => 1,
+        Field::File => 2,
+        Field::Mappings => 3,
+        Field::SourceRoot => 4,
+        Field::Sources => 5,
+        Field::SourcesContent => 6,
+        Field::Names => 7,
+        Field::DebugId => 8,
+        Field::IgnoreList => 9,
+        Field::GoogleIgnoreList => 10,
+        Field::Sections => 11,
+        Field::Offset => 12,
+        Field::Map => 13,
+    }
+}
+
+/// The field of a JSON source map that has this number.
+fn field_of(number: u32) -> Option<Field>
+    ensures { result ≡ field_of number }
+{
+    match number {
+        0 => Some(Field::Object),
+        1 => Some(Field::Version),
+        2 => Some(Field::File),
+        3 => Some(Field::Mappings),
+        4 => Some(Field::SourceRoot),
+        5 => Some(Field::Sources),
+        6 => Some(Field::SourcesContent),
+        7 => Some(Field::Names),
+        8 => Some(Field::DebugId),
+        9 => Some(Field::IgnoreList),
+        10 => Some(Field::GoogleIgnoreList),
+        11 => Some(Field::Sections),
+        12 => Some(Field::Offset),
+        13 => Some(Field::Map),
+        _ => None,
+    }
+}
+
+impl Fault {
+    /// No refusal.
+    pub fn none() -> Fault
+        ensures { result ≡ no_fault }
+    {
+        Fault::with(0, 0)
+    }
+
+    fn with(code: u32, detail: u64) -> Fault
+        ensures { result ≡ record { code = code; field = 0; detail = detail } }
+    {
+        Fault {
+            code,
+            field: 0,
+            detail,
+        }
+    }
+
+    fn of_json(fault: JsonFault) -> Fault
+        ensures { result ≡ fault_of_json fault }
+    {
+        match fault {
+            JsonFault::Reading => Fault::with(4, 0),
+            JsonFault::Shape(field) => Fault {
+                code: 5,
+                field: number_of(field),
+                detail: 0,
+            },
+            JsonFault::Version(version) => Fault::with(6, u64::from(version)),
+        }
+    }
+
+    fn of_error(error: Error) -> Fault
+        ensures { result ≡ fault_of_error error }
+    {
+        match error {
+            Error::VlqLeftover => Fault::with(1, 0),
+            Error::VlqNoValues => Fault::with(2, 0),
+            Error::VlqOverflow => Fault::with(3, 0),
+            Error::BadJson(fault) => Fault::of_json(fault),
+            Error::BadSegmentSize(size) => Fault::with(7, u64::from(size)),
+            Error::BadSourceReference(id) => Fault::with(8, u64::from(id)),
+            Error::BadNameReference(id) => Fault::with(9, u64::from(id)),
+            Error::OutOfMemory => Fault::with(10, 0),
+            Error::TooLarge => Fault::with(11, 0),
+            Error::LineOrder(i) => Fault::with(12, i as u64),
+            Error::BadChunks(k) => Fault::with(13, k as u64),
+            Error::SeveralSources(n) => Fault::with(14, n as u64),
+            Error::SectionOrder(k) => Fault::with(19, k as u64),
+        }
+    }
+
+    fn of_plan_error(error: PlanError) -> Fault
+        ensures { result ≡ fault_of_plan_error error }
+    {
+        match error {
+            PlanError::Map(error) => Fault::of_error(error),
+            PlanError::Unsorted => Fault::with(15, 0),
+            PlanError::TooDeep => Fault::with(16, 0),
+        }
+    }
+
+    /// The numbers of a refusal.
+    pub fn of(refusal: Refusal) -> Fault
+        ensures { result ≡ fault_of refusal }
+    {
+        match refusal {
+            Refusal::Plan(error) => Fault::of_plan_error(error),
+            Refusal::Words => Fault::with(17, 0),
+            Refusal::NoText(number) => Fault::with(18, u64::from(number)),
+            Refusal::EmptyHandle => Fault::with(100, 0),
+            Refusal::NotUtf8(valid) => Fault::with(101, valid as u64),
+            Refusal::Lengths => Fault::with(102, 0),
+            Refusal::NoEntry => Fault::with(103, 0),
+        }
+    }
+
+    /// The error of the library that these numbers say, where they say one.
+    fn error(&self, number: u32, index: usize) -> Option<Error>
+        requires number { number ≡ self.now.detail % 4294967296 }
+        requires index { index ≡ self.now.detail }
+        ensures { result ≡ error_of self.now }
+    {
+        match self.code {
+            1 => Some(Error::VlqLeftover),
+            2 => Some(Error::VlqNoValues),
+            3 => Some(Error::VlqOverflow),
+            4 => Some(Error::BadJson(JsonFault::Reading)),
+            5 => Some(Error::BadJson(JsonFault::Shape(field_of(self.field)?))),
+            6 => Some(Error::BadJson(JsonFault::Version(number))),
+            7 => Some(Error::BadSegmentSize(number)),
+            8 => Some(Error::BadSourceReference(number)),
+            9 => Some(Error::BadNameReference(number)),
+            10 => Some(Error::OutOfMemory),
+            11 => Some(Error::TooLarge),
+            12 => Some(Error::LineOrder(index)),
+            13 => Some(Error::BadChunks(index)),
+            14 => Some(Error::SeveralSources(index)),
+            19 => Some(Error::SectionOrder(index)),
+            _ => None,
+        }
+    }
+
+    /// The refusal that these numbers say, where they say one.
+    pub fn refusal(&self) -> Option<Refusal>
+        ensures { result ≡ refusal_of self.now }
+    {
+        let number = (self.detail % 4294967296) as u32;
+        let index = self.detail as usize;
+        match self.code {
+            15 => Some(Refusal::Plan(PlanError::Unsorted)),
+            16 => Some(Refusal::Plan(PlanError::TooDeep)),
+            17 => Some(Refusal::Words),
+            18 => Some(Refusal::NoText(number)),
+            100 => Some(Refusal::EmptyHandle),
+            101 => Some(Refusal::NotUtf8(index)),
+            102 => Some(Refusal::Lengths),
+            103 => Some(Refusal::NoEntry),
+            _ => Some(Refusal::Plan(PlanError::Map(self.error(number, index)?))),
+        }
+    }
+}

@@ -1,0 +1,40 @@
+//! The messages of refusals.
+ghost use Rattle.std.specs.Prelude.{◌≡◌, length, MatchOption, string_bytes};
+ghost use Rattle.oxc_sourcemap_handles.specs.Refusals.{refusal_text};
+ghost use Rattle.oxc_sourcemap_handles.specs.Codes.{refusal_of};
+ghost use Rattle.oxc_sourcemap_handles.specs.Messages.{overwritten, IsMessage};
+
+use crate::fault::Fault;
+use crate::refusal::Refusal;
+use std::alloc::Global;
+
+/// Writes as much of a text as there is room for.
+fn copy_to(text: &[u8], out: &mut [u8])
+    ensures { out.new ≡ overwritten text.now out.old }
+{
+    let count = text.len().min(out.len());
+    out[..count].copy_from_slice(&text[..count]);
+}
+
+/// Writes as much of a message as there is room for, and returns its whole length; 0 for want of memory.
+fn write_text(alloc: Global, refusal: Refusal, out: &mut [u8]) -> usize
+    ensures { IsMessage (refusal_text refusal) out.old out.new result }
+{
+    match refusal.to_string(alloc) {
+        Ok(text) => {
+            copy_to(text.as_bytes(), out);
+            text.as_bytes().len()
+        }
+        Err(_) => 0,
+    }
+}
+
+/// The same of the refusal that a fault says; 0 where it says none.
+pub fn write_message(alloc: Global, fault: &Fault, out: &mut [u8]) -> usize
+    ensures { MatchOption (refusal_of fault.now) ((result ≡ 0) × (out.new ≡ out.old)) (λ r. IsMessage (refusal_text r) out.old out.new result) }
+{
+    match fault.refusal() {
+        Some(refusal) => write_text(alloc, refusal, out),
+        None => 0,
+    }
+}

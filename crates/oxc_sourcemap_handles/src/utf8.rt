@@ -1,0 +1,16 @@
+//! Texts in bytes.
+ghost use Rattle.std.specs.Prelude.{◌≡◌, IfOk, IfErr, IsUtf8};
+ghost use Rattle.oxc_sourcemap_handles.specs.Refusals.{IsNotText};
+
+use crate::refusal::Refusal;
+
+/// The text that bytes are in UTF-8.
+pub fn text_of(bytes: &[u8]) -> Result<&str, Refusal>
+    ensures text { IfOk result (λ text. (text.now ≡ bytes.now) × IsUtf8 bytes.now) }
+    ensures refused { IfErr result (IsNotText bytes.now) }
+{
+    match std::str::from_utf8(bytes) {
+        Ok(text) => Ok(text),
+        Err(error) => Err(Refusal::NotUtf8(error.valid_up_to())),
+    }
+}

@@ -1,0 +1,29 @@
+-- What is kept of the names inherited from the first of two maps. No public contract cites it.
+use Rattle.std.specs.Prelude.{◌≡◌, ℕ, ◌<◌, List, [], ◌++◌, length, map, slice_get, Some}
+use Rattle.std.specs.Borrow.{Bor}
+use Rattle.std.specs.Str.{bytes_eq}
+use Rattle.std.specs.HashMap as hash
+use Rattle.std.specs.HashMap.{HashMap}
+use Rattle.oxc_sourcemap_parts.specs.Record.{Text}
+use Rattle.oxc_sourcemap_parts.specs.Texts.{index_of}
+use Rattle.oxc_sourcemap_lookup.specs.declared.inherited_names.InheritedNames.{InheritedNames}
+
+-- the names of the second map, and those inherited after them
+abbrev pub names_with : List Text → InheritedNames → List Text
+names_with second inherited = second ++ map (λ name. name.now) inherited.names.items
+
+-- this map has the place of each of these texts, and no other text
+abbrev pub HasPlaces : {S : Type 0} → List Text → HashMap (Bor Text) ℕ S → Type 0
+HasPlaces texts places = (text : Text) → hash.get_by (λ key. bytes_eq text key.now) places ≡ index_of text texts
+
+-- the map of places is filled, or there are no inherited names
+pub record HasNames (second : List Text) (inherited : InheritedNames) : Type 0 where
+  pub places : 0 < length inherited.places.entries → HasPlaces (names_with second inherited) inherited.places
+  pub none : length inherited.places.entries ≡ 0 → inherited.names.items ≡ []
+
+-- and each id that a name of the first map has got is that of the name
+pub record IsInheriting (first second : List Text) (inherited : InheritedNames) : Type 0 where
+  pub names : HasNames second inherited
+  pub each : length inherited.ids.items ≡ length first
+  pub ids : (i id : ℕ) (name : Text) → slice_get first i ≡ Some name → slice_get inherited.ids.items i ≡ Some (Some id)
+      → (index_of name (names_with second inherited) ≡ Some id) × (id < 4294967295)

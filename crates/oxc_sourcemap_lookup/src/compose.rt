@@ -1,0 +1,170 @@
+//! Composition of maps: a map from generated to intermediate code and one from intermediate to original code, made one
+//! map from generated to original code.
+ghost use Rattle.std.specs.Prelude.{◌≡◌, ◌≢◌, ◌++◌, List, map, IfOk, OnOk, IfErr, Ok, Err, Some, None, true, false};
+ghost use Rattle.std.specs.Box.{boxed_slice_items};
+ghost use Rattle.std.specs.Cow.{cow_str_bytes};
+ghost use Rattle.oxc_sourcemap_tokens.specs.declared.error.Error.{Error};
+ghost use Rattle.oxc_sourcemap_tokens.specs.declared.error.Error.TheVariants.{OutOfMemory, TooLarge};
+ghost use Rattle.oxc_sourcemap_parts.specs.Views.{texts_of, record_of_parts};
+ghost use Rattle.oxc_sourcemap_parts.specs.Sorted.{are_tokens_sorted};
+ghost use Rattle.oxc_sourcemap_lookup.specs.LineSpans.{IsIndexOf};
+ghost use Rattle.oxc_sourcemap_lookup.specs.Composed.{Target, target_of, line_of, IsTarget, AreTargets, inherited_name, composed_names, composed_token, may_be_id, are_ids, composition_fault, composition, SomeComposition, NoColumnGoesBack};
+ghost use Rattle.oxc_sourcemap_lookup.specs.InheritedNames.{with_inherited, inherited_index};
+ghost use Rattle.oxc_sourcemap_lookup.specs.Inherited.{names_with, IsInheriting};
+
+use crate::inherited_names::{InheritedNames, copied_names, inherit_id, no_names};
+use crate::line_index::LineIndex;
+use crate::lookup::search_clamped;
+use oxc_sourcemap_parts::{SourceMapParts, detached_text};
+use oxc_sourcemap_tokens::{Error, Result, Token};
+use std::alloc::Global;
+use std::borrow::CowStr;
+
+/// The token of the composed map for a token of the first one, and for what that leads to. It may inherit a name of the
+/// first map.
+fn composed_token<'n>(
+    inherited: &mut InheritedNames<'n>,
+    first: &'n [CowStr<'_>],
+    second: &'n [CowStr<'_>],
+    token: &Token,
+    found: Option<Token>,
+) -> Result<Token>
+    requires { IsInheriting (map cow_str_bytes first.now) (map cow_str_bytes second.now) inherited.old }
+    ensures names { let name = inherited_name (map cow_str_bytes first.now) (target_of token.now found) in
+        let second = map cow_str_bytes second.now in
+        OnOk result (names_with second inherited.new ≡ with_inherited (names_with second inherited.old) name) }
+    ensures token { IfOk result (λ t. t ≡ composed_token (map cow_str_bytes first.now) (names_with (map cow_str_bytes second.now) inherited.new) (target_of token.now found)) }
+    ensures id { let name = inherited_name (map cow_str_bytes first.now) (target_of token.now found) in
+        OnOk result (may_be_id (inherited_index (names_with (map cow_str_bytes second.now) inherited.new) name) ≡ true) }
+    ensures kept { OnOk result (IsInheriting (map cow_str_bytes first.now) (map cow_str_bytes second.now) inherited.new) }
+    ensures refused { let name = inherited_name (map cow_str_bytes first.now) (target_of token.now found) in
+        IfErr result (λ e. (e ≢ OutOfMemory) → (e ≡ TooLarge)
+        × (may_be_id (inherited_index (with_inherited (names_with (map cow_str_bytes second.now) inherited.old) name) name) ≡ false)) }
+{
+    let (line, col) = (token.get_dst_line(), token.get_dst_col());
+    let Some(found) = found else {
+        return Ok(Token::new(line, col, 0, 0, None, None));
+    };
+    let name_id = match found.get_name_id() {
+        Some(id) => Some(id),
+        None => inherit_id(inherited, first, second, token.get_name_id())?,
+    };
+    Ok(Token::new(
+        line,
+        col,
+        found.get_src_line(),
+        found.get_src_col(),
+        found.get_source_id(),
+        name_id,
+    ))
+}
+
+/// The mapped token that a token leads to, by the clamped lookup of its source position among the tokens of the second map.
+/// Its line is looked for first at `near`, which becomes the place where it was found.
+fn target(index: &LineIndex, input: &[Token], token: &Token, near: &mut usize) -> Option<Token>
+    requires { IsIndexOf input.now index.now }
+    ensures { IsTarget (line_of input.now token.now) (target_of token.now result) }
+{
+    token.get_source_id()?;
+    let line = index.tokens_near(input, token.get_src_line(), near);
+    let found = search_clamped(line, token.get_src_col())?;
+    found.get_source_id()?;
+    Some(found)
+}
+
+/// The tokens of the composed map, for the tokens and names of the first map and those of the second; and copies of the
+/// names that come after those of the second.
+fn composed_tokens<'a>(
+    alloc: Global,
+    first: &[CowStr<'_>],
+    tokens: &[Token],
+    second: &[CowStr<'_>],
+    input: &[Token],
+    index: &LineIndex,
+) -> Result<(Vec<Token>, Vec<CowStr<'a>>)>
+    requires { IsIndexOf input.now index.now }
+    ensures composed { let olds = map cow_str_bytes first.now in let names = map cow_str_bytes second.now in
+        IfOk result (λ made. (ls : List Target) × AreTargets tokens.now input.now ls
+        × (names ++ texts_of made.1 ≡ composed_names olds names ls)
+        × (made.0.items ≡ map (composed_token olds (names ++ texts_of made.1)) ls)
+        × (are_ids olds (names ++ texts_of made.1) ls ≡ true)) }
+    ensures refused { let olds = map cow_str_bytes first.now in let names = map cow_str_bytes second.now in
+        IfErr result (λ e. (e ≢ OutOfMemory) → (e ≡ TooLarge) × (ls : List Target) × AreTargets tokens.now input.now ls
+        × (are_ids olds (composed_names olds names ls) ls ≡ false)) }
+{
+    let mut inherited = no_names(alloc, first, second)?;
+    let mut composed = Vec::with_capacity(alloc, tokens.len())?;
+    let mut near = 0;
+    for token in tokens {
+        let found = target(index, input, token, &mut near);
+        composed.push(composed_token(&mut inherited, first, second, token, found)?)?;
+    }
+    let names = copied_names(alloc, inherited)?;
+    Ok((composed, names))
+}
+
+/// The index of the second map's lines. It fails if the first map has several sources, or the tokens of the second go back
+/// in lines.
+fn input_index(
+    alloc: Global,
+    first: &SourceMapParts<'_>,
+    second: &SourceMapParts<'_>,
+) -> Result<LineIndex>
+    ensures index { IfOk result (λ index. (composition_fault (record_of_parts first.now) (record_of_parts second.now) ≡ None) × IsIndexOf (boxed_slice_items second.now.tokens) index) }
+    ensures refused { IfErr result (λ e. (e ≢ OutOfMemory) → composition_fault (record_of_parts first.now) (record_of_parts second.now) ≡ Some e) }
+    ensures fault { (e : Error) → composition_fault (record_of_parts first.now) (record_of_parts second.now) ≡ Some e → result ≡ Err e }
+{
+    if first.sources.len() > 1 {
+        return Err(Error::SeveralSources(first.sources.len()));
+    }
+    LineIndex::new(alloc, second.tokens.as_slice())
+}
+
+/// Makes the second map the composition of the two. Texts of the first that it keeps are moved.
+fn compose_into(
+    alloc: Global,
+    first: &mut SourceMapParts<'_>,
+    second: &mut SourceMapParts<'_>,
+) -> Result<()>
+    ensures made { OnOk result (SomeComposition (record_of_parts first.old) (record_of_parts second.old) (Ok (record_of_parts second.new))) }
+    ensures refused { IfErr result (λ e. (e ≢ OutOfMemory) → SomeComposition (record_of_parts first.old) (record_of_parts second.old) (Err e)) }
+    ensures fault { (e : Error) → composition_fault (record_of_parts first.old) (record_of_parts second.old) ≡ Some e → result ≡ Err e }
+{
+    let index = input_index(alloc, first, second)?;
+    let (tokens, mut names) = composed_tokens(
+        alloc,
+        first.names.as_slice(),
+        first.tokens.as_slice(),
+        second.names.as_slice(),
+        second.tokens.as_slice(),
+        &index,
+    )?;
+    second.names.append(&mut names)?;
+    second.file = detached_text(alloc, first.file.take())?;
+    second.debug_id = detached_text(alloc, first.debug_id.take())?;
+    second.tokens = tokens.into_boxed_slice();
+    second.token_chunks = None;
+    Ok(())
+}
+
+/// The composition of the maps of two lists of parts: of the first map, from generated to intermediate code, and the
+/// second, from there to original code. (docs/FORMAT.md, "Composition".)
+///
+/// Fails in this order; both are then dropped: `SeveralSources(n)`, `LineOrder(i)` for the tokens of the second map,
+/// `TooLarge`, and `OutOfMemory` if memory is refused. The first two are reported wherever they hold.
+pub fn compose_parts<'input>(
+    alloc: Global,
+    mut first: SourceMapParts<'_>,
+    mut second: SourceMapParts<'input>,
+) -> Result<SourceMapParts<'input>>
+    ensures map { let a = record_of_parts first.entry in let b = record_of_parts second.entry in
+        NoColumnGoesBack b.tokens → IfOk result (λ parts. composition a b ≡ Ok (record_of_parts parts)) }
+    ensures refused { let a = record_of_parts first.entry in let b = record_of_parts second.entry in
+        NoColumnGoesBack b.tokens → IfErr result (λ e. (e ≢ OutOfMemory) → composition a b ≡ Err e) }
+    ensures any_map { IfOk result (λ parts. SomeComposition (record_of_parts first.entry) (record_of_parts second.entry) (Ok (record_of_parts parts))) }
+    ensures any_refused { IfErr result (λ e. (e ≢ OutOfMemory) → SomeComposition (record_of_parts first.entry) (record_of_parts second.entry) (Err e)) }
+    ensures fault { (e : Error) → composition_fault (record_of_parts first.entry) (record_of_parts second.entry) ≡ Some e → result ≡ Err e }
+{
+    compose_into(alloc, &mut first, &mut second)?;
+    Ok(second)
+}

@@ -1,0 +1,159 @@
+//! The names that a composed map inherits from the first map. Their ids are found by hashing.
+ghost use Rattle.std.specs.Prelude.{◌≡◌, ◌≢◌, ◌<◌, ◌≤◌, ◌⊎◌, ℕ, [], length, map, option_map, slice_get, IfOk, OnOk, IfErr, Some, None, true, false};
+ghost use Rattle.std.specs.Cow.{cow_str_bytes};
+ghost use Rattle.std.specs.Option.{option_and_then};
+ghost use Rattle.oxc_sourcemap_tokens.specs.declared.error.Error.TheVariants.{OutOfMemory, TooLarge};
+ghost use Rattle.oxc_sourcemap_parts.specs.Views.{texts_of};
+ghost use Rattle.oxc_sourcemap_parts.specs.Texts.{index_of, with_text};
+ghost use Rattle.oxc_sourcemap_lookup.specs.Composed.{may_be_id};
+ghost use Rattle.oxc_sourcemap_lookup.specs.InheritedNames.{with_inherited, inherited_index};
+ghost use Rattle.oxc_sourcemap_lookup.specs.Inherited.{names_with, HasPlaces, HasNames, IsInheriting};
+
+use oxc_sourcemap_tokens::{Error, Result};
+use std::alloc::{AllocError, Global};
+use std::borrow::CowStr;
+use std::collections::HashMap;
+
+/// The names inherited from the first map so far, and what is known of names. Texts are borrowed from both maps.
+#[derive(Drop)]
+pub(crate) struct InheritedNames<'n> {
+    /// The inherited names that the second map does not have, in the order in which they were inherited.
+    names: Vec<&'n str>,
+    /// The index of each name of the second map, and after these of each of `names`. Empty until a name is inherited.
+    places: HashMap<&'n str, usize>,
+    /// The id that each name of the first map has got.
+    ids: Vec<Option<u32>>,
+}
+
+/// No names, where the first map has this many.
+pub(crate) fn no_names<'n>(
+    alloc: Global,
+    first: &[CowStr<'_>],
+    second: &[CowStr<'_>],
+) -> std::result::Result<InheritedNames<'n>, AllocError>
+    ensures { IfOk result (λ inherited. IsInheriting (map cow_str_bytes first.now) (map cow_str_bytes second.now) inherited × (names_with (map cow_str_bytes second.now) inherited ≡ map cow_str_bytes second.now)) }
+{
+    let mut ids = Vec::with_capacity(alloc, first.len())?;
+    ids.resize(first.len(), None)?;
+    Ok(InheritedNames {
+        names: Vec::new(alloc),
+        places: HashMap::new(alloc),
+        ids,
+    })
+}
+
+/// Gives each name its place.
+fn fill_places<'n>(
+    places: &mut HashMap<&'n str, usize>,
+    names: &'n [CowStr<'_>],
+) -> std::result::Result<(), AllocError>
+    requires { places.old.entries ≡ [] }
+    ensures { OnOk result (HasPlaces (map cow_str_bytes names.now) places.new) }
+{
+    places.reserve(names.len())?;
+    for (i, name) in names.iter().enumerate() {
+        places.entry(name.as_str())?.or_insert(i);
+    }
+    Ok(())
+}
+
+/// Fills the map of places, unless it is filled.
+fn fill<'n>(
+    inherited: &mut InheritedNames<'n>,
+    second: &'n [CowStr<'_>],
+) -> std::result::Result<(), AllocError>
+    requires { HasNames (map cow_str_bytes second.now) inherited.old }
+    ensures places { OnOk result (HasPlaces (names_with (map cow_str_bytes second.now) inherited.new) inherited.new.places) }
+    ensures names { inherited.new.names.items ≡ inherited.old.names.items }
+    ensures ids { inherited.new.ids.items ≡ inherited.old.ids.items }
+{
+    if inherited.places.is_empty() {
+        fill_places(&mut inherited.places, second)?;
+    }
+    Ok(())
+}
+
+/// The id at this place.
+fn id_at(index: usize) -> Result<u32>
+    ensures id { IfOk result (λ id. (id ≡ index) × (id < 4294967295)) }
+    ensures too_large { IfErr result (λ e. (e ≡ TooLarge) × (4294967295 ≤ index)) }
+{
+    if index >= 4294967295 {
+        return Err(Error::TooLarge);
+    }
+    Ok(index as u32)
+}
+
+/// The id of a name: that of the equal one, else that of a new last one.
+fn inherit_name<'n>(
+    inherited: &mut InheritedNames<'n>,
+    second: &'n [CowStr<'_>],
+    name: &'n str,
+) -> Result<u32>
+    requires { HasNames (map cow_str_bytes second.now) inherited.old }
+    ensures names { let second = map cow_str_bytes second.now in
+        OnOk result (names_with second inherited.new ≡ with_text (names_with second inherited.old) name.now) }
+    ensures id { IfOk result (λ id. (index_of name.now (names_with (map cow_str_bytes second.now) inherited.new) ≡ Some id) × (id < 4294967295)) }
+    ensures kept { OnOk result (HasNames (map cow_str_bytes second.now) inherited.new) }
+    ensures ids { inherited.new.ids.items ≡ inherited.old.ids.items }
+    ensures refused { IfErr result (λ e. (e ≢ OutOfMemory) → (e ≡ TooLarge)
+        × (may_be_id (index_of name.now (with_text (names_with (map cow_str_bytes second.now) inherited.old) name.now)) ≡ false)) }
+{
+    fill(inherited, second)?;
+    if let Some(index) = inherited.places.get(name) {
+        return id_at(*index);
+    }
+    let index = second.len().saturating_add(inherited.names.len());
+    let id = id_at(index)?;
+    inherited.names.push(name)?;
+    inherited.places.insert(name, index)?;
+    Ok(id)
+}
+
+/// The id in the composed map of the name that the first map has at this id; it may be a new last one.
+pub(crate) fn inherit_id<'n>(
+    inherited: &mut InheritedNames<'n>,
+    first: &'n [CowStr<'_>],
+    second: &'n [CowStr<'_>],
+    id: Option<u32>,
+) -> Result<Option<u32>>
+    requires { IsInheriting (map cow_str_bytes first.now) (map cow_str_bytes second.now) inherited.old }
+    ensures names { let name = option_and_then (slice_get (map cow_str_bytes first.now)) id in
+        let second = map cow_str_bytes second.now in
+        OnOk result (names_with second inherited.new ≡ with_inherited (names_with second inherited.old) name) }
+    ensures id { let name = option_and_then (slice_get (map cow_str_bytes first.now)) id in
+        IfOk result (λ id. (inherited_index (names_with (map cow_str_bytes second.now) inherited.new) name ≡ id) × (may_be_id id ≡ true)) }
+    ensures kept { OnOk result (IsInheriting (map cow_str_bytes first.now) (map cow_str_bytes second.now) inherited.new) }
+    ensures refused { let name = option_and_then (slice_get (map cow_str_bytes first.now)) id in
+        IfErr result (λ e. (e ≢ OutOfMemory) → (e ≡ TooLarge)
+        × (may_be_id (inherited_index (with_inherited (names_with (map cow_str_bytes second.now) inherited.old) name) name) ≡ false)) }
+{
+    let Some(id) = id else {
+        return Ok(None);
+    };
+    let i = id as usize;
+    if i >= first.len() {
+        return Ok(None);
+    }
+    if let Some(known) = inherited.ids[i] {
+        return Ok(Some(known));
+    }
+    let id = inherit_name(inherited, second, first[i].as_str())?;
+    inherited.ids[i] = Some(id);
+    Ok(Some(id))
+}
+
+/// Copies of the names that were inherited.
+pub(crate) fn copied_names<'a>(
+    alloc: Global,
+    inherited: InheritedNames<'_>,
+) -> std::result::Result<Vec<CowStr<'a>>, AllocError>
+    ensures { IfOk result (λ copies. texts_of copies ≡ map (λ name. name.now) inherited.entry.names.items) }
+{
+    let InheritedNames { names, .. } = inherited;
+    let mut copies = Vec::with_capacity(alloc, names.len())?;
+    for name in names {
+        copies.push(CowStr::Owned(String::from_str(alloc, name)?))?;
+    }
+    Ok(copies)
+}

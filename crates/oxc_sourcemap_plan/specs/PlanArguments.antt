@@ -1,0 +1,106 @@
+-- The plan that arguments say, by its outcome. They are read from the left, up to the first fault.
+use Rattle.std.specs.Prelude.{ℕ, zero, suc, List, [], ◌∷◌, codes, slice_get, Option, Some, None, Result, Ok, Err, if◌then◌else◌, ◌==◌}
+use Rattle.std.specs.Str.{bytes_eq}
+use Rattle.oxc_sourcemap_parts.specs.Record.{Text}
+use Rattle.oxc_sourcemap_decode.specs.ReadMap.{said_in}
+use Rattle.oxc_sourcemap_join.specs.Joined.{Offset, at_line}
+use Rattle.oxc_sourcemap_tokens.specs.declared.plan_error.PlanError.TheVariants.{TooDeep}
+use Rattle.oxc_sourcemap_plan.specs.declared.run_error.RunError.{RunError}
+use Rattle.oxc_sourcemap_plan.specs.declared.run_error.RunError.TheVariants.{Plan, Arguments, NoText}
+use Rattle.oxc_sourcemap_plan.specs.Numbers.{number_of}
+use Rattle.oxc_sourcemap_plan.specs.Outcome.{Outcome, read_outcome, rewrite_outcome, join_outcome, composition_outcome}
+
+-- What the first arguments say, and the arguments that are left.
+abbrev pub Parsed : Type 0 → Type 0
+Parsed A = Result (A × List Text) RunError
+
+-- the second step, where the first has no fault; else the first fault
+abbrev pub then_parsed : {A B : Type 0} → Parsed A → (A → List Text → Parsed B) → Parsed B
+then_parsed (Ok read) next = next read.0 read.1
+then_parsed (Err fault) next = Err fault
+
+-- a number
+abbrev pub number_or_fault : Option ℕ → List Text → Parsed ℕ
+number_or_fault None arguments = Err Arguments
+number_or_fault (Some n) arguments = Ok (n, arguments)
+
+abbrev pub parsed_number : List Text → Parsed ℕ
+parsed_number [] = Err Arguments
+parsed_number (argument ∷ arguments) = number_or_fault (number_of argument) arguments
+
+-- the input with a number
+abbrev pub read_or_fault : Option Text → ℕ → Result Outcome RunError
+read_or_fault None k = Err (NoText k)
+read_or_fault (Some text) k = Ok (read_outcome (said_in text))
+
+abbrev pub read_of_number : List Text → Option ℕ → Result Outcome RunError
+read_of_number inputs None = Err Arguments
+read_of_number inputs (Some k) = read_or_fault (slice_get inputs k) k
+
+-- an argument `@K`, where K is a number
+abbrev pub parsed_input : List Text → Text → Result Outcome RunError
+parsed_input inputs [] = Err Arguments
+parsed_input inputs (byte ∷ digits) = if byte == 64 then read_of_number inputs (number_of digits) else Err Arguments
+
+-- what one argument says, and the arguments after it
+abbrev pub with_rest : Result Outcome RunError → List Text → Parsed Outcome
+with_rest (Ok o) arguments = Ok (o, arguments)
+with_rest (Err fault) arguments = Err fault
+
+-- where a part of a join begins: a line
+abbrev pub parsed_line : List Text → Parsed Offset
+parsed_line arguments = then_parsed (parsed_number arguments) (λ line left. Ok (at_line line, left))
+
+-- where a part of a join begins: a line and a column
+abbrev pub parsed_position : List Text → Parsed Offset
+parsed_position arguments =
+    then_parsed (parsed_number arguments) (λ line after. then_parsed (parsed_number after) (λ column left.
+    Ok (record { line = line; column = column }, left)))
+
+-- so many parts, each with its offset after it
+abbrev pub parsed_parts : (List Text → Parsed Outcome) → (List Text → Parsed Offset) → ℕ → List Text
+    → Parsed (List (Outcome × Offset))
+parsed_parts part offset zero arguments = Ok ([], arguments)
+parsed_parts part offset (suc n) arguments =
+    then_parsed (part arguments) (λ o after. then_parsed (offset after) (λ place left.
+    then_parsed (parsed_parts part offset n left) (λ others rest. Ok ((o, place) ∷ others, rest))))
+
+-- `rewrite P`, after its first argument
+abbrev pub parsed_rewrite : (List Text → Parsed Outcome) → List Text → Parsed Outcome
+parsed_rewrite part rest = then_parsed (part rest) (λ o left. Ok (rewrite_outcome o, left))
+
+-- N, and N times a part with its offset: the rest of `join` and of `joinat`
+abbrev pub parsed_join : (List Text → Parsed Outcome) → (List Text → Parsed Offset) → List Text → Parsed Outcome
+parsed_join part offset rest =
+    then_parsed (parsed_number rest) (λ n after. then_parsed (parsed_parts part offset n after) (λ parts left.
+    Ok (join_outcome parts, left)))
+
+-- `compose P P`
+abbrev pub parsed_composition : (List Text → Parsed Outcome) → List Text → Parsed Outcome
+parsed_composition part rest =
+    then_parsed (part rest) (λ first after. then_parsed (part after) (λ second left. Ok (composition_outcome first second, left)))
+
+-- what an argument and those after it say, where this reads the parts of a plan
+abbrev pub parsed_by : List Text → (List Text → Parsed Outcome) → Text → List Text → Parsed Outcome
+parsed_by inputs part argument rest =
+    if bytes_eq argument (codes "rewrite") then parsed_rewrite part rest
+    else if bytes_eq argument (codes "join") then parsed_join part parsed_line rest
+    else if bytes_eq argument (codes "joinat") then parsed_join part parsed_position rest
+    else if bytes_eq argument (codes "compose") then parsed_composition part rest
+    else with_rest (parsed_input inputs argument) rest
+
+-- A part that may be this many levels deep. An argument where no level is left is too deep.
+abbrev pub parsed_part : List Text → ℕ → List Text → Parsed Outcome
+parsed_part inputs levels [] = Err Arguments
+parsed_part inputs zero (argument ∷ rest) = Err (Plan TooDeep)
+parsed_part inputs (suc levels) (argument ∷ rest) = parsed_by inputs (parsed_part inputs levels) argument rest
+
+-- no arguments may be left over
+abbrev pub whole : Parsed Outcome → Result Outcome RunError
+whole (Err fault) = Err fault
+whole (Ok (o, [])) = Ok o
+whole (Ok (o, argument ∷ arguments)) = Err Arguments
+
+-- The outcome of the plan that these arguments say, over these inputs. Plans of one outcome are not told apart.
+abbrev pub parsed_plan : List Text → List Text → Result Outcome RunError
+parsed_plan inputs arguments = whole (parsed_part inputs 64 arguments)

@@ -1,0 +1,37 @@
+-- The texts of the program's refusals, as bytes, and the status that it ends with.
+use Rattle.std.specs.Prelude.{ℕ, Bool, true, false, List, ◌++◌, codes, decimal}
+use Rattle.oxc_sourcemap_tokens.specs.declared.error.Error.TheVariants.{OutOfMemory}
+use Rattle.oxc_sourcemap_tokens.specs.PlanMessages.{plan_error_text}
+use Rattle.oxc_sourcemap_tokens.specs.declared.plan_error.PlanError.TheVariants.{Map}
+use Rattle.oxc_sourcemap_plan.specs.declared.run_error.RunError.{RunError}
+use Rattle.oxc_sourcemap_plan.specs.declared.run_error.RunError.TheVariants.{Plan, Read, Write, Utf8, Arguments, NoText}
+
+abbrev pub run_error_text : RunError → List ℕ
+run_error_text (Plan error) = plan_error_text error
+run_error_text Read = codes "read failed"
+run_error_text Write = codes "write failed"
+run_error_text Utf8 = codes "input is not UTF-8"
+run_error_text Arguments = codes "bad arguments"
+run_error_text (NoText k) = codes "no text " ++ decimal k
+
+-- bad arguments end with 2, and all else that is refused with 1
+abbrev pub status_of : RunError → ℕ
+status_of (Plan error) = 1
+status_of Read = 1
+status_of Write = 1
+status_of Utf8 = 1
+status_of Arguments = 2
+status_of (NoText k) = 1
+
+-- lack of memory
+abbrev pub out_of_memory : RunError
+out_of_memory = Plan (Map OutOfMemory)
+
+-- a failed read or write
+abbrev pub is_of_port : RunError → Bool
+is_of_port (Plan error) = false
+is_of_port Read = true
+is_of_port Write = true
+is_of_port Utf8 = false
+is_of_port Arguments = false
+is_of_port (NoText k) = false

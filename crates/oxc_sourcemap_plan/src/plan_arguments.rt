@@ -1,0 +1,216 @@
+//! The arguments of a plan, and its inputs.
+ghost use Rattle.std.specs.Prelude.{◌≡◌, ◌≢◌, ◌≤◌, ◌<◌, ◌+◌, ◌∷◌, [], false, length, map, string_bytes, Ok, Err, option_map, slice_get, MatchOption, IfOk, IfErr, IfSome};
+ghost use Rattle.oxc_sourcemap_plan.specs.Refusals.{out_of_memory, is_of_port};
+ghost use Rattle.oxc_sourcemap_plan.specs.Depth.{depth};
+ghost use Rattle.oxc_sourcemap_plan.specs.Outcome.{outcome_of, outcome};
+ghost use Rattle.oxc_sourcemap_plan.specs.PlanInputs.{inputs_of};
+ghost use Rattle.oxc_sourcemap_plan.specs.PlanArguments.{parsed_number, parsed_line, parsed_position, parsed_input, parsed_join, parsed_part, parsed_plan};
+
+use crate::numbers::read_number;
+use crate::plan::Plan;
+use crate::run_error::RunError;
+use oxc_sourcemap_tokens::PlanError;
+use std::alloc::{AllocError, Global};
+
+/// The text before the first line that is exactly `---`, and what comes after that line. If there is no such line, the text is
+/// the whole input, and nothing comes after it.
+fn first_text(input: &str) -> (&str, Option<&str>)
+    ensures text { MatchOption result.1 (inputs_of input.now ≡ result.0.now ∷ []) (λ rest. inputs_of input.now ≡ result.0.now ∷ inputs_of rest.now) }
+    ensures shorter { IfSome result.1 (λ rest. length rest.now < length input.now) }
+{
+    if input == "---" {
+        return ("", Some(""));
+    }
+    if let Some(rest) = input.strip_prefix("---\n") {
+        return ("", Some(rest));
+    }
+    if let Some((text, rest)) = input.split_once("\n---\n") {
+        return (text, Some(rest));
+    }
+    match input.strip_suffix("\n---") {
+        Some(text) => (text, Some("")),
+        None => (input, None),
+    }
+}
+
+/// The texts of an input, separated by lines that are exactly `---`. They are parts of the input, and nothing of it is copied.
+pub fn inputs_of<'t>(alloc: Global, input: &'t str) -> Result<Vec<&'t str>, AllocError>
+    ensures { IfOk result (λ inputs. map (λ text. text.now) inputs.items ≡ inputs_of input.now) }
+{
+    let mut inputs = Vec::new(alloc);
+    let mut rest = input;
+    loop {
+        let (text, after) = first_text(rest);
+        inputs.push(text)?;
+        match after {
+            Some(others) => rest = others,
+            None => return Ok(inputs),
+        }
+    }
+}
+
+/// The number that the first argument says, and the arguments after it.
+fn take_number<'w>(arguments: &'w [String]) -> Result<(u32, &'w [String]), RunError>
+    ensures number { IfOk result (λ r. parsed_number (map string_bytes arguments.now) ≡ Ok (r.0, map string_bytes r.1.now)) }
+    ensures refused { IfErr result (λ e. parsed_number (map string_bytes arguments.now) ≡ Err e) }
+    ensures causes { IfErr result (λ e. is_of_port e ≡ false) }
+{
+    let Some((argument, others)) = arguments.split_first() else {
+        return Err(RunError::Arguments);
+    };
+    match read_number(argument.as_str()) {
+        Some(number) => Ok((number, others)),
+        None => Err(RunError::Arguments),
+    }
+}
+
+/// The line and the column that the first two arguments say, and the arguments after them.
+fn take_position<'w>(arguments: &'w [String]) -> Result<(u32, u32, &'w [String]), RunError>
+    ensures position { IfOk result (λ r. parsed_position (map string_bytes arguments.now) ≡ Ok (record { line = r.0; column = r.1 }, map string_bytes r.2.now)) }
+    ensures refused { IfErr result (λ e. parsed_position (map string_bytes arguments.now) ≡ Err e) }
+    ensures causes { IfErr result (λ e. is_of_port e ≡ false) }
+{
+    let (line, after) = take_number(arguments)?;
+    let (column, rest) = take_number(after)?;
+    Ok((line, column, rest))
+}
+
+/// The input with this number, from 0.
+fn input_at<'t>(inputs: &'t [&'t str], number: u32) -> Option<&'t str>
+    ensures { option_map (λ text. text.now) result ≡ slice_get (map (λ text. text.now) inputs.now) number }
+{
+    inputs.get(number as usize).copied()
+}
+
+/// The part that an argument `@K` says: read input K.
+fn read_input<'t>(inputs: &'t [&'t str], argument: &str) -> Result<Plan<'t>, RunError>
+    ensures part { IfOk result (λ plan. parsed_input (map (λ text. text.now) inputs.now) argument.now ≡ Ok (outcome_of plan)) }
+    ensures depth { IfOk result (λ plan. depth plan ≡ 1) }
+    ensures refused { IfErr result (λ e. parsed_input (map (λ text. text.now) inputs.now) argument.now ≡ Err e) }
+    ensures causes { IfErr result (λ e. is_of_port e ≡ false) }
+{
+    let Some(digits) = argument.strip_prefix('@') else {
+        return Err(RunError::Arguments);
+    };
+    let Some(number) = read_number(digits) else {
+        return Err(RunError::Arguments);
+    };
+    match input_at(inputs, number) {
+        Some(text) => Ok(Plan::Read(text)),
+        None => Err(RunError::NoText(number)),
+    }
+}
+
+/// The part that the arguments begin with, at most `room` levels deep, and the arguments after it.
+#[cycle(part)]
+fn read_part<'t, 'w>(
+    alloc: Global,
+    inputs: &'t [&'t str],
+    arguments: &'w [String],
+    room: u32,
+) -> Result<(Plan<'t>, &'w [String]), RunError>
+    ensures part { IfOk result (λ r. parsed_part (map (λ text. text.now) inputs.now) room (map string_bytes arguments.now) ≡ Ok (outcome_of r.0, map string_bytes r.1.now)) }
+    ensures depth { IfOk result (λ r. depth r.0 ≤ room) }
+    ensures refused { IfErr result (λ e. (e ≢ out_of_memory) → parsed_part (map (λ text. text.now) inputs.now) room (map string_bytes arguments.now) ≡ Err e) }
+    ensures causes { IfErr result (λ e. is_of_port e ≡ false) }
+{
+    let Some((argument, others)) = arguments.split_first() else {
+        return Err(RunError::Arguments);
+    };
+    if room == 0 {
+        return Err(RunError::Plan(PlanError::TooDeep));
+    }
+    match argument.as_str() {
+        "rewrite" => {
+            let (part, rest) = read_part(alloc, inputs, others, room - 1)?;
+            Ok((Plan::Rewrite(Box::new(alloc, part)?), rest))
+        }
+        "join" => read_join(alloc, inputs, others, room - 1),
+        "joinat" => read_join_at(alloc, inputs, others, room - 1),
+        "compose" => {
+            let (first, middle) = read_part(alloc, inputs, others, room - 1)?;
+            let (second, rest) = read_part(alloc, inputs, middle, room - 1)?;
+            Ok((
+                Plan::Compose(Box::new(alloc, first)?, Box::new(alloc, second)?),
+                rest,
+            ))
+        }
+        text => Ok((read_input(inputs, text)?, others)),
+    }
+}
+
+/// The join that arguments say after `join`: a number, and as many parts, at most `room` levels deep, each with its line.
+#[cycle(part)]
+fn read_join<'t, 'w>(
+    alloc: Global,
+    inputs: &'t [&'t str],
+    arguments: &'w [String],
+    room: u32,
+) -> Result<(Plan<'t>, &'w [String]), RunError>
+    ensures part { IfOk result (λ r. parsed_join (parsed_part (map (λ text. text.now) inputs.now) room) parsed_line (map string_bytes arguments.now) ≡ Ok (outcome_of r.0, map string_bytes r.1.now)) }
+    ensures depth { IfOk result (λ r. depth r.0 ≤ room + 1) }
+    ensures refused { IfErr result (λ e. (e ≢ out_of_memory) → parsed_join (parsed_part (map (λ text. text.now) inputs.now) room) parsed_line (map string_bytes arguments.now) ≡ Err e) }
+    ensures causes { IfErr result (λ e. is_of_port e ≡ false) }
+{
+    let (count, after) = take_number(arguments)?;
+    let mut parts = Vec::new(alloc);
+    let mut rest = after;
+    for i in 0..count {
+        let (part, left) = read_part(alloc, inputs, rest, room)?;
+        let (line, left) = take_number(left)?;
+        parts.push((part, line))?;
+        rest = left;
+    }
+    Ok((Plan::Join(parts), rest))
+}
+
+/// The join that arguments say after `joinat`: a number, and as many parts, at most `room` levels deep, each with its line
+/// and its column.
+#[cycle(part)]
+fn read_join_at<'t, 'w>(
+    alloc: Global,
+    inputs: &'t [&'t str],
+    arguments: &'w [String],
+    room: u32,
+) -> Result<(Plan<'t>, &'w [String]), RunError>
+    ensures part { IfOk result (λ r. parsed_join (parsed_part (map (λ text. text.now) inputs.now) room) parsed_position (map string_bytes arguments.now) ≡ Ok (outcome_of r.0, map string_bytes r.1.now)) }
+    ensures depth { IfOk result (λ r. depth r.0 ≤ room + 1) }
+    ensures refused { IfErr result (λ e. (e ≢ out_of_memory) → parsed_join (parsed_part (map (λ text. text.now) inputs.now) room) parsed_position (map string_bytes arguments.now) ≡ Err e) }
+    ensures causes { IfErr result (λ e. is_of_port e ≡ false) }
+{
+    let (count, after) = take_number(arguments)?;
+    let mut parts = Vec::new(alloc);
+    let mut rest = after;
+    for i in 0..count {
+        let (part, left) = read_part(alloc, inputs, rest, room)?;
+        let (line, column, left) = take_position(left)?;
+        parts.push((part, line, column))?;
+        rest = left;
+    }
+    Ok((Plan::JoinAt(parts), rest))
+}
+
+/// The plan that arguments say, over these inputs: `@K` for input K (from 0), `rewrite P`, `join N` followed by N times
+/// `P LINE`, `joinat N` followed by N times `P LINE COLUMN`, or `compose P P`, each number as `read_number` reads it.
+///
+/// Arguments are read from the left, and the error is that of the first fault:
+/// - `Plan(TooDeep)` for an argument where a part at depth 65 would begin;
+/// - `NoText(K)` for `@K` if there is no such input;
+/// - `Arguments` for any other argument that is bad, missing or left over.
+///
+/// Also `Plan(Map(OutOfMemory))` if memory is refused.
+pub fn read_plan<'t>(
+    alloc: Global,
+    inputs: &'t [&'t str],
+    arguments: &[String],
+) -> Result<Plan<'t>, RunError>
+    ensures plan { IfOk result (λ plan. parsed_plan (map (λ text. text.now) inputs.now) (map string_bytes arguments.now) ≡ Ok (outcome plan)) }
+    ensures refused { IfErr result (λ e. (e ≢ out_of_memory) → parsed_plan (map (λ text. text.now) inputs.now) (map string_bytes arguments.now) ≡ Err e) }
+    ensures causes { IfErr result (λ e. is_of_port e ≡ false) }
+{
+    let (plan, rest) = read_part(alloc, inputs, arguments, 64)?;
+    match rest {
+        [] => Ok(plan),
+        _ => Err(RunError::Arguments),
+    }
+}

@@ -1,5 +1,0 @@
-pub mod Limits
-pub mod LineOrder
-pub mod InRange
-pub mod Steps
-pub mod WellRead

@@ -1,6 +1,0 @@
-pub mod Section
-pub mod JoinLimits
-pub mod Sections
-pub mod ReadMap
-pub mod ReadLaws
-pub mod Reading

@@ -1,0 +1,53 @@
+-- The texts of refusals, as bytes.
+use Rattle.std.specs.Prelude.{ℕ, List, ◌++◌, codes, Option, Some, None}
+use Rattle.std.specs.Fmt.{decimal}
+use Rattle.oxc_sourcemap_tokens.specs.declared.error.Field.{Field}
+use Rattle.oxc_sourcemap_tokens.specs.declared.error.Field.TheVariants.{Object, Version as VersionField, File, Mappings, SourceRoot, Sources, SourcesContent, Names, DebugId, IgnoreList, GoogleIgnoreList, Sections, Offset, Map}
+use Rattle.oxc_sourcemap_tokens.specs.declared.error.JsonFault.{JsonFault}
+use Rattle.oxc_sourcemap_tokens.specs.declared.error.JsonFault.TheVariants.{Reading, Shape, Version}
+use Rattle.oxc_sourcemap_tokens.specs.declared.error.Error.{Error}
+use Rattle.oxc_sourcemap_tokens.specs.declared.error.Error.TheVariants.{VlqLeftover, VlqNoValues, VlqOverflow, BadJson, BadSegmentSize, BadSourceReference, BadNameReference, OutOfMemory, TooLarge, LineOrder, BadChunks, SeveralSources, SectionOrder}
+
+-- the key of a field of the JSON object, and none for the object itself
+abbrev pub key_of : Field → Option (List ℕ)
+key_of Object = None
+key_of VersionField = Some (codes "version")
+key_of File = Some (codes "file")
+key_of Mappings = Some (codes "mappings")
+key_of SourceRoot = Some (codes "sourceRoot")
+key_of Sources = Some (codes "sources")
+key_of SourcesContent = Some (codes "sourcesContent")
+key_of Names = Some (codes "names")
+key_of DebugId = Some (codes "debugId")
+key_of IgnoreList = Some (codes "ignoreList")
+key_of GoogleIgnoreList = Some (codes "x_google_ignoreList")
+key_of Sections = Some (codes "sections")
+key_of Offset = Some (codes "offset")
+key_of Map = Some (codes "map")
+
+-- that the value is no object, or that the field of this key is missing or has the wrong type
+abbrev pub shape_text : Option (List ℕ) → List ℕ
+shape_text None = codes "the value is not an object"
+shape_text (Some key) = codes "field " ++ key ++ codes " is missing or has the wrong type"
+
+-- why a text or a JSON value is not a source map
+abbrev pub json_fault_text : JsonFault → List ℕ
+json_fault_text Reading = codes "the text is not JSON"
+json_fault_text (Shape field) = shape_text (key_of field)
+json_fault_text (Version n) = codes "unsupported source map version: " ++ decimal n
+
+-- the message of an error
+abbrev pub error_text : Error → List ℕ
+error_text VlqLeftover = codes "VLQ string was malformed and data was left over"
+error_text VlqNoValues = codes "VLQ string was empty and no values could be decoded"
+error_text VlqOverflow = codes "The input encoded a number that didn't fit into i64"
+error_text (BadJson fault) = codes "JSON parsing error: " ++ json_fault_text fault
+error_text (BadSegmentSize n) = codes "Mapping segment had an unsupported size of " ++ decimal n
+error_text (BadSourceReference n) = codes "Reference to non-existing source at position " ++ decimal n
+error_text (BadNameReference n) = codes "Reference to non-existing name at position " ++ decimal n
+error_text OutOfMemory = codes "Out of memory"
+error_text TooLarge = codes "A line, an id or a count is too large"
+error_text (LineOrder i) = codes "Token " ++ decimal i ++ codes " lies on a line before the token in front of it"
+error_text (BadChunks k) = codes "Token chunk " ++ decimal k ++ codes " does not fit the tokens"
+error_text (SeveralSources n) = codes "Cannot compose a transformation map with " ++ decimal n ++ codes " sources"
+error_text (SectionOrder k) = codes "Section " ++ decimal k ++ codes " begins before the end of what is in front of it"

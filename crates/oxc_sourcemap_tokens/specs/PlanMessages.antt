@@ -1,0 +1,10 @@
+-- The texts of what the evaluation of a plan refuses, as bytes.
+use Rattle.std.specs.Prelude.{ℕ, List, codes}
+use Rattle.oxc_sourcemap_tokens.specs.Messages.{error_text}
+use Rattle.oxc_sourcemap_tokens.specs.declared.plan_error.PlanError.{PlanError}
+use Rattle.oxc_sourcemap_tokens.specs.declared.plan_error.PlanError.TheVariants.{Map, Unsorted, TooDeep}
+
+abbrev pub plan_error_text : PlanError → List ℕ
+plan_error_text (Map error) = error_text error
+plan_error_text Unsorted = codes "Tokens are not in order of line and column"
+plan_error_text TooDeep = codes "The plan is deeper than 64"

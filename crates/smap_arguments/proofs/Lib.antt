@@ -1,4 +1,0 @@
-pub mod Numbers
-pub mod PlanInputs
-pub mod PlanArguments
-mod Worked

@@ -1,5 +1,0 @@
-pub mod Arguments
-pub mod Request
-pub mod PlanInputs
-pub mod PlanArguments
-pub mod Refusals

@@ -1,0 +1,18 @@
+-- What a command asks for: a command, as contracts see it.
+use Rattle.std.specs.Prelude.{ℕ, List, map, string_bytes}
+use Rattle.smap_run.specs.declared.arguments.Command.{Command}
+use Rattle.smap_run.specs.declared.arguments.Command.TheVariants.{Mappings as MappingsCommand, Normalise as NormaliseCommand, Plan as PlanCommand, Trace as TraceCommand, Url as UrlCommand}
+
+pub data Request : Type 0 where
+  Mappings : (names sources : ℕ) → Request
+  Normalise : Request
+  Plan : (arguments : List (List ℕ)) → Request
+  Trace : (line col : ℕ) → Request
+  Url : Request
+
+abbrev pub request_of : Command → Request
+request_of (MappingsCommand names sources) = Mappings names sources
+request_of NormaliseCommand = Normalise
+request_of (PlanCommand arguments) = Plan (map string_bytes arguments.now)
+request_of (TraceCommand line col) = Trace line col
+request_of UrlCommand = Url

@@ -20,6 +20,7 @@ ghost use Rattle.oxc_sourcemap.specs.ComposeLaws.{grouped_left, grouped_right, I
 ghost use Rattle.oxc_sourcemap.specs.Meaning.{read_meaning};
 ghost use Rattle.oxc_sourcemap.specs.Outcome.{outcome, read_outcome, composition_outcome};
 ghost use Rattle.oxc_sourcemap.specs.Evaluated.{IsEvaluated};
+ghost use Rattle.oxc_sourcemap_tokens.specs.Results.{OnlyMemory};
 
 use oxc_sourcemap::laws::{
     canonical_unique, composition_associative, joins_associative, name_ids_unique,
@@ -98,7 +99,7 @@ pub fn one_token<'a>(
       ignore_list = None;
       debug_id = None;
     }) }
-    ensures refused { IfErr result (λ e. e ≡ OutOfMemory) }
+    ensures refused { OnlyMemory result }
 {
     let mut builder = SourceMapBuilder::empty(alloc);
     let source_id = builder.add_source_and_content(path, content)?;

@@ -1,7 +1,6 @@
 //! Reading a map from a JSON source map, from a JSON value and from a JSON text.
-ghost use Rattle.std.specs.Prelude.{◌≡◌, ◌≢◌, ◌↔◌, true, Some, IfOk, IfErr, Ok, Err};
+ghost use Rattle.std.specs.Prelude.{◌≡◌, ◌≢◌, ◌↔◌, true, IfOk, IfErr, Ok, Err};
 ghost use Rattle.serde_json.specs.View.{view};
-ghost use Rattle.oxc_sourcemap_tokens.specs.declared.error.Error.{Error};
 ghost use Rattle.oxc_sourcemap_tokens.specs.declared.error.Error.TheVariants.{OutOfMemory};
 ghost use Rattle.oxc_sourcemap_tokens.specs.LineOrder.{IsInLineOrder};
 ghost use Rattle.oxc_sourcemap_parts.specs.Sorted.{are_tokens_sorted};
@@ -9,6 +8,7 @@ ghost use Rattle.oxc_sourcemap_parts.specs.Sound.{IsSound};
 ghost use Rattle.oxc_sourcemap_json.specs.Json.{json_record};
 ghost use Rattle.oxc_sourcemap_decode.specs.Decoded.{decoded, json_fault};
 ghost use Rattle.oxc_sourcemap_decode.specs.ReadMap.{read_value, read_map};
+ghost use Rattle.oxc_sourcemap_tokens.specs.Results.{Answers, Reports};
 
 use oxc_sourcemap_decode::decode_parts_from_value;
 use oxc_sourcemap_json::JSONSourceMap;
@@ -27,9 +27,8 @@ use std::alloc::Global;
 ///
 /// Also `OutOfMemory` if memory is refused, which may be before an error of the mappings is found.
 pub fn decode(alloc: Global, json: JSONSourceMap) -> Result<SourceMap<'static>>
-    ensures map { IfOk result (λ map. decoded (json_record json) ≡ Ok map) }
-    ensures refused { IfErr result (λ e. (e ≢ OutOfMemory) → decoded (json_record json) ≡ Err e) }
-    ensures fault { (e : Error) → json_fault (json_record json) ≡ Some e → result ≡ Err e }
+    ensures map { Answers (λ map. map) result (decoded (json_record json)) }
+    ensures fault { Reports (json_fault (json_record json)) result }
 {
     SourceMap::from_json(alloc, json)
 }

@@ -1,10 +1,10 @@
 //! Writing a map as a JSON source map and as a JSON text.
-ghost use Rattle.std.specs.Prelude.{◌≡◌, ◌≢◌, string_bytes, IfOk, IfErr, OnOk, Ok, Err};
-ghost use Rattle.oxc_sourcemap_tokens.specs.declared.error.Error.TheVariants.{OutOfMemory};
+ghost use Rattle.std.specs.Prelude.{string_bytes, OnOk};
 ghost use Rattle.oxc_sourcemap_tokens.specs.Token.{AreInBounds};
 ghost use Rattle.oxc_sourcemap_json.specs.Json.{json_record};
 ghost use Rattle.oxc_sourcemap_encode.specs.Encoded.{encoded};
 ghost use Rattle.oxc_sourcemap_encode.specs.JsonText.{map_text};
+ghost use Rattle.oxc_sourcemap_tokens.specs.Results.{Answers};
 
 use oxc_sourcemap_json::JSONSourceMap;
 use oxc_sourcemap_map::SourceMap;
@@ -17,8 +17,7 @@ use std::alloc::Global;
 /// Fails as `encode_mappings` does for the tokens and chunks: `LineOrder(i)`, `BadChunks(k)`, `TooLarge`, in this order;
 /// and with `OutOfMemory` if memory is refused.
 pub fn encode(alloc: Global, sourcemap: &SourceMap<'_>) -> Result<JSONSourceMap>
-    ensures json { IfOk result (λ json. encoded sourcemap.now ≡ Ok (json_record json)) }
-    ensures refused { IfErr result (λ e. (e ≢ OutOfMemory) → encoded sourcemap.now ≡ Err e) }
+    ensures json { Answers json_record result (encoded sourcemap.now) }
 
     // True of every map, and stated here for callers that need it.
     ensures in_bounds { OnOk result (AreInBounds sourcemap.now.tokens) }
@@ -34,8 +33,7 @@ pub fn encode(alloc: Global, sourcemap: &SourceMap<'_>) -> Result<JSONSourceMap>
 /// Fails as `encode` does: `LineOrder(i)`, `BadChunks(k)`, `TooLarge`, in this order, and `OutOfMemory` if memory is
 /// refused.
 pub fn encode_to_string(alloc: Global, sourcemap: &SourceMap<'_>) -> Result<String>
-    ensures text { IfOk result (λ text. map_text sourcemap.now ≡ Ok (string_bytes text)) }
-    ensures refused { IfErr result (λ e. (e ≢ OutOfMemory) → map_text sourcemap.now ≡ Err e) }
+    ensures { Answers string_bytes result (map_text sourcemap.now) }
 {
     sourcemap.to_json_string(alloc)
 }

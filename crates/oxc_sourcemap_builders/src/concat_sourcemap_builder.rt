@@ -2,7 +2,8 @@
 ghost use Rattle.std.specs.Prelude.{◌≡◌, ◌↔◌, ◌⊎◌, IfSome, IfOk, IfErr, IsErrOf, OnOk, OnErr};
 ghost use Rattle.oxc_sourcemap_tokens.specs.declared.error.Error.TheVariants.{OutOfMemory, TooLarge};
 ghost use Rattle.oxc_sourcemap_tokens.specs.Chunks.{ChunksFit};
-ghost use Rattle.oxc_sourcemap_join.specs.Joined.{at_line, at_lines, added, nothing_joined, joined, lent_maps, IsWithinLimits};
+ghost use Rattle.oxc_sourcemap_join.specs.Joined.{at_line, at_lines, added, nothing_joined, joined, lent_maps, IsWithinLimits, position};
+ghost use Rattle.oxc_sourcemap_tokens.specs.Results.{OnlyMemory};
 
 use oxc_sourcemap_join::JoinedParts;
 use oxc_sourcemap_map::{OwnedSourceMap, SourceMap, parts_of};
@@ -50,7 +51,7 @@ impl<'a> ConcatSourceMapBuilder<'a> {
         token_chunks_len: usize,
     ) -> Result<ConcatSourceMapBuilder<'a>>
         ensures builder { IfOk result (λ builder. builder ≡ nothing_joined) }
-        ensures refused { IfErr result (λ e. e ≡ OutOfMemory) }
+        ensures refused { OnlyMemory result }
     {
         let parts = JoinedParts::with_capacity(
             alloc,
@@ -94,9 +95,9 @@ impl<'a> ConcatSourceMapBuilder<'a> {
         line: u32,
         column: u32,
     ) -> Result<()>
-        ensures joined { OnOk result (self.new ≡ added self.old sourcemap.now (record { line = line; column = column })) }
-        ensures limits { OnOk result (IsWithinLimits (added self.old sourcemap.now (record { line = line; column = column }))) }
-        ensures too_large { IsErrOf result TooLarge ↔ ¬ (IsWithinLimits (added self.old sourcemap.now (record { line = line; column = column }))) }
+        ensures joined { OnOk result (self.new ≡ added self.old sourcemap.now (position line column)) }
+        ensures limits { OnOk result (IsWithinLimits (added self.old sourcemap.now (position line column))) }
+        ensures too_large { IsErrOf result TooLarge ↔ ¬ (IsWithinLimits (added self.old sourcemap.now (position line column))) }
         ensures refused { IfErr result (λ e. (e ≡ OutOfMemory) ⊎ (e ≡ TooLarge)) }
         ensures unchanged { OnErr result (self.new ≡ self.old) }
     {
@@ -123,9 +124,9 @@ impl<'a> ConcatSourceMapBuilder<'a> {
         line: u32,
         column: u32,
     ) -> Result<()>
-        ensures joined { OnOk result (self.new ≡ added self.old sourcemap.entry (record { line = line; column = column })) }
-        ensures limits { OnOk result (IsWithinLimits (added self.old sourcemap.entry (record { line = line; column = column }))) }
-        ensures too_large { IsErrOf result TooLarge ↔ ¬ (IsWithinLimits (added self.old sourcemap.entry (record { line = line; column = column }))) }
+        ensures joined { OnOk result (self.new ≡ added self.old sourcemap.entry (position line column)) }
+        ensures limits { OnOk result (IsWithinLimits (added self.old sourcemap.entry (position line column))) }
+        ensures too_large { IsErrOf result TooLarge ↔ ¬ (IsWithinLimits (added self.old sourcemap.entry (position line column))) }
         ensures refused { IfErr result (λ e. (e ≡ OutOfMemory) ⊎ (e ≡ TooLarge)) }
         ensures unchanged { OnErr result (self.new ≡ self.old) }
     {
@@ -177,7 +178,7 @@ impl<'a> ConcatSourceMapBuilder<'a> {
         ensures map { IfOk result (λ map. map ≡ self.entry) }
         ensures fits { IfOk result (λ map. IfSome map.token_chunks (ChunksFit map.tokens)) }
         ensures limits { IfOk result IsWithinLimits }
-        ensures refused { IfErr result (λ e. e ≡ OutOfMemory) }
+        ensures refused { OnlyMemory result }
     {
         Ok(SourceMap::from_parts(self.parts.into_parts()))
     }
@@ -188,7 +189,7 @@ impl<'a> ConcatSourceMapBuilder<'a> {
         ensures map { IfOk result (λ map. map ≡ self.entry) }
         ensures fits { IfOk result (λ map. IfSome map.token_chunks (ChunksFit map.tokens)) }
         ensures limits { IfOk result IsWithinLimits }
-        ensures refused { IfErr result (λ e. e ≡ OutOfMemory) }
+        ensures refused { OnlyMemory result }
     {
         let alloc = self.alloc;
         self.into_sourcemap()?.into_owned_sourcemap(alloc)
@@ -225,7 +226,7 @@ impl Lengths {
     /// A builder with room for so much, and for this many chunks.
     fn builder<'a>(self, alloc: Global, chunks: usize) -> Result<ConcatSourceMapBuilder<'a>>
         ensures builder { IfOk result (λ builder. builder ≡ nothing_joined) }
-        ensures refused { IfErr result (λ e. e ≡ OutOfMemory) }
+        ensures refused { OnlyMemory result }
     {
         ConcatSourceMapBuilder::with_capacity(alloc, self.names, self.sources, self.tokens, chunks)
     }

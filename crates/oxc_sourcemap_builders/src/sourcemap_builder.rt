@@ -1,19 +1,18 @@
 //! Building a map call by call.
-ghost use Rattle.std.specs.Prelude.{◌≡◌, ◌↔◌, ◌≤◌, ◌<◌, ◌++◌, ◌∷◌, ◌⊎◌, ℕ, [], length, Some, None, IsNone, IfSome, IfOk, IfErr, IsErrOf, OnOk, OnErr};
+ghost use Rattle.std.specs.Prelude.{◌≡◌, ◌↔◌, ◌≤◌, ◌<◌, ◌++◌, ◌∷◌, ◌⊎◌, [], length, Some, None, IsNone, IfOk, IfErr, IsErrOf, OnOk, OnErr};
 ghost use Rattle.std.specs.Cow.{cow_str_bytes};
 ghost use Rattle.std.specs.FinMap as fin;
-ghost use Rattle.std.specs.Ordering.{nat_cmp};
-ghost use Rattle.std.specs.Cmp.Lexicographic.{slice_cmp};
 ghost use Rattle.oxc_sourcemap_tokens.specs.declared.error.Error.TheVariants.{OutOfMemory, TooLarge};
 ghost use Rattle.oxc_sourcemap_tokens.specs.Token.{kept_id};
 ghost use Rattle.oxc_sourcemap_parts.specs.Views.{texts_of, contents_of};
 ghost use Rattle.oxc_sourcemap_parts.specs.Texts.{index_of};
 ghost use Rattle.oxc_sourcemap_builders.specs.Built.{nothing_built};
 ghost use Rattle.oxc_sourcemap_builders.specs.Building.{with_name, with_name_at, with_another_source, with_path, with_path_at};
+ghost use Rattle.oxc_sourcemap_tokens.specs.Results.{OnlyMemory};
 
 use oxc_sourcemap_map::{OwnedSourceMap, SourceMap};
-use oxc_sourcemap_tokens::{Error, Result, Token, TokenChunk};
-use std::alloc::{AllocError, Global};
+use oxc_sourcemap_tokens::{Error, Memory, Result, Token, TokenChunk};
+use std::alloc::Global;
 use std::borrow::CowStr;
 use std::collections::HashMap;
 use std::marker::Model;
@@ -82,7 +81,7 @@ fn next_id(count: usize) -> Result<u32>
 }
 
 /// A copy of a string.
-fn copied<'a>(alloc: Global, text: &str) -> std::result::Result<CowStr<'a>, AllocError>
+fn copied<'a>(alloc: Global, text: &str) -> Memory<CowStr<'a>>
     ensures { IfOk result (λ copy. cow_str_bytes copy ≡ text.now) }
 {
     Ok(CowStr::Owned(String::from_str(alloc, text)?))
@@ -94,7 +93,7 @@ fn push_source<'a>(
     contents: &mut Vec<Option<CowStr<'a>>>,
     path: CowStr<'a>,
     content: CowStr<'a>,
-) -> std::result::Result<(), AllocError>
+) -> Memory<()>
     ensures sources { OnOk result (texts_of sources.new ≡ texts_of sources.old ++ cow_str_bytes path.entry ∷ []) }
     ensures contents { OnOk result (contents_of contents.new ≡ contents_of contents.old ++ Some (cow_str_bytes content.entry) ∷ []) }
     ensures unchanged { OnErr result ((sources.new.items ≡ sources.old.items) × (contents.new.items ≡ contents.old.items)) }
@@ -169,7 +168,7 @@ impl<'a> SourceMapBuilder<'a> {
         key: CowStr<'a>,
         name: CowStr<'a>,
         id: u32,
-    ) -> std::result::Result<(), AllocError>
+    ) -> Memory<()>
         requires same { cow_str_bytes key ≡ cow_str_bytes name }
         requires new { index_of (cow_str_bytes name) self.old.map.names ≡ None }
         requires id { (id ≡ length self.old.map.names) × (id < 4294967295) }
@@ -236,7 +235,7 @@ impl<'a> SourceMapBuilder<'a> {
         path: CowStr<'a>,
         content: CowStr<'a>,
         id: u32,
-    ) -> std::result::Result<(), AllocError>
+    ) -> Memory<()>
         requires same { cow_str_bytes key ≡ cow_str_bytes path }
         requires id { id ≡ length self.old.map.sources }
         ensures added { OnOk result (self.new ≡ (with_path_at self.old (cow_str_bytes path.entry) (cow_str_bytes content.entry) None).0) }
@@ -310,7 +309,7 @@ impl<'a> SourceMapBuilder<'a> {
             } ∷ [];
           };
         }) }
-        ensures refused { IfErr result (λ e. e ≡ OutOfMemory) }
+        ensures refused { OnlyMemory result }
         ensures unchanged { OnErr result (self.new ≡ self.old) }
     {
         self.tokens.push(Token::new(dst_line, dst_col, src_line, src_col, src_id, name_id))?;
@@ -328,7 +327,7 @@ impl<'a> SourceMapBuilder<'a> {
     /// was.
     pub fn set_file_copied(&mut self, file: &str) -> Result<()>
         ensures set { OnOk result (self.new ≡ record self.old { map = record self.old.map { file = Some file.now } }) }
-        ensures refused { IfErr result (λ e. e ≡ OutOfMemory) }
+        ensures refused { OnlyMemory result }
         ensures unchanged { OnErr result (self.new ≡ self.old) }
     {
         self.file = Some(copied(self.alloc, file)?);
@@ -347,7 +346,7 @@ impl<'a> SourceMapBuilder<'a> {
     pub fn into_sourcemap(self) -> Result<SourceMap<'a>>
         ensures map { IfOk result (λ map. map ≡ self.entry.map) }
         ensures nothing_else { IfOk result (λ map. (map.source_root ≡ None) × (map.ignore_list ≡ None) × (map.debug_id ≡ None)) }
-        ensures refused { IfErr result (λ e. e ≡ OutOfMemory) }
+        ensures refused { OnlyMemory result }
     {
         Ok(SourceMap::new(
             self.file,
@@ -365,7 +364,7 @@ impl<'a> SourceMapBuilder<'a> {
     pub fn into_owned_sourcemap(self) -> Result<OwnedSourceMap>
         ensures map { IfOk result (λ map. map ≡ self.entry.map) }
         ensures nothing_else { IfOk result (λ map. (map.source_root ≡ None) × (map.ignore_list ≡ None) × (map.debug_id ≡ None)) }
-        ensures refused { IfErr result (λ e. e ≡ OutOfMemory) }
+        ensures refused { OnlyMemory result }
     {
         let alloc = self.alloc;
         self.into_sourcemap()?.into_owned_sourcemap(alloc)

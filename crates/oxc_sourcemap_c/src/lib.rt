@@ -13,8 +13,7 @@ ghost use Rattle.oxc_sourcemap_decode.specs.ReadMap.{read_map};
 ghost use Rattle.oxc_sourcemap_encode.specs.JsonText.{map_text, map_url};
 ghost use Rattle.oxc_sourcemap_lookup.specs.Composed.{composition, SomeComposition, NoColumnGoesBack};
 ghost use Rattle.oxc_sourcemap_tokens.specs.LineOrder.{IsInLineOrder};
-ghost use Rattle.oxc_sourcemap_parts.specs.Sorted.{are_tokens_sorted, token_line, token_column};
-ghost use Rattle.oxc_sourcemap_lookup.specs.Lookup.{pick, clamped_pick};
+ghost use Rattle.oxc_sourcemap_parts.specs.Sorted.{are_tokens_sorted};
 ghost use Rattle.oxc_sourcemap_parts.specs.DecodedMap.{decoded_map_of};
 ghost use Rattle.oxc_sourcemap_lookup.specs.Trace.{trace, clamped_trace};
 ghost use Rattle.oxc_sourcemap_map.specs.View.{content_at};
@@ -32,6 +31,7 @@ ghost use Rattle.oxc_sourcemap_c.specs.Plans.{plan_of, IsPlanMap, IsPlanRefusal}
 ghost use Rattle.oxc_sourcemap_handles.specs.Answers.{IsRefusedAs, IsReadRefusal, IsCompositionRefusal, HasLength, ignored_at, flag_of};
 ghost use Rattle.oxc_sourcemap_handles.specs.Traces.{IsTrace, IsTraceRefusal, AreTracesOf, IsTraceAllRefusal};
 ghost use Rattle.oxc_sourcemap_c.specs.Exports.{IsRefused, Found, HoldsText, HoldsWritten, IsWritingRefusal};
+ghost use Rattle.oxc_sourcemap_lookup.specs.Lookup.{token_for, clamped_token_for};
 
 use crate::plans::evaluate_bytes;
 use oxc_sourcemap_handles::{
@@ -296,7 +296,7 @@ pub extern "C" fn smap_trace(
     place: &mut Place,
     fault: &mut Fault,
 ) -> u32
-    ensures traced { result ≡ 0 → HoldsMap map.old.held (λ m. IsInLineOrder m.tokens × IsTrace m (pick token_line token_column m.tokens line column) (trace (decoded_map_of m) line column) place.new) }
+    ensures traced { result ≡ 0 → HoldsMap map.old.held (λ m. IsInLineOrder m.tokens × IsTrace m (token_for m.tokens line column) (trace (decoded_map_of m) line column) place.new) }
     ensures kept { map.new.held ≡ map.old.held }
     ensures not_refused { result ≡ 0 → fault.new ≡ no_fault }
     ensures refused { result ≢ 0 → (place.new ≡ place.old) × IsRefused result fault.new (IsTraceRefusal (held_map map.old.held)) }
@@ -315,7 +315,7 @@ pub extern "C" fn smap_trace_clamped(
     place: &mut Place,
     fault: &mut Fault,
 ) -> u32
-    ensures traced { result ≡ 0 → HoldsMap map.old.held (λ m. IsInLineOrder m.tokens × IsTrace m (clamped_pick token_line token_column m.tokens line column) (clamped_trace (decoded_map_of m) line column) place.new) }
+    ensures traced { result ≡ 0 → HoldsMap map.old.held (λ m. IsInLineOrder m.tokens × IsTrace m (clamped_token_for m.tokens line column) (clamped_trace (decoded_map_of m) line column) place.new) }
     ensures kept { map.new.held ≡ map.old.held }
     ensures not_refused { result ≡ 0 → fault.new ≡ no_fault }
     ensures refused { result ≢ 0 → (place.new ≡ place.old) × IsRefused result fault.new (IsTraceRefusal (held_map map.old.held)) }

@@ -1,16 +1,16 @@
 //! Reading the parts of a map from a JSON source map.
-ghost use Rattle.std.specs.Prelude.{◌≡◌, ◌≢◌, map, option_map, string_bytes, IfOk, IfErr, Ok, Err, Some, []};
+ghost use Rattle.std.specs.Prelude.{◌≡◌, map, option_map, string_bytes, IfOk, Ok, Err, Some, []};
 ghost use Rattle.std.specs.Option.{unwrap_or};
 ghost use Rattle.oxc_sourcemap_tokens.specs.declared.error.Error.{Error};
-ghost use Rattle.oxc_sourcemap_tokens.specs.declared.error.Error.TheVariants.{OutOfMemory};
 ghost use Rattle.oxc_sourcemap_parts.specs.Views.{text_of, texts_of, contents_of, record_of_parts};
 ghost use Rattle.oxc_sourcemap_json.specs.Json.{json_record, json_contents};
 ghost use Rattle.oxc_sourcemap_decode.specs.Decoded.{decoded, json_fault, first_not_below};
+ghost use Rattle.oxc_sourcemap_tokens.specs.Results.{Answers, Reports};
 
 use crate::json_source_map::JSONSourceMap;
 use oxc_sourcemap_mappings::decode_mappings;
 use oxc_sourcemap_parts::SourceMapParts;
-use oxc_sourcemap_tokens::{Error, JsonFault, Result};
+use oxc_sourcemap_tokens::{Error, JsonFault, Memory, Result};
 use std::alloc::{AllocError, Global};
 use std::borrow::CowStr;
 
@@ -40,7 +40,7 @@ fn owned(text: Option<String>) -> Option<CowStr<'static>>
 fn owned_texts(
     alloc: Global,
     texts: Vec<String>,
-) -> std::result::Result<Vec<CowStr<'static>>, AllocError>
+) -> Memory<Vec<CowStr<'static>>>
     ensures { IfOk result (λ owned. texts_of owned ≡ map string_bytes texts.items) }
 {
     let mut moved = Vec::with_capacity(alloc, texts.len())?;
@@ -81,7 +81,7 @@ fn owned_lists(
     names: Vec<String>,
     sources: Vec<String>,
     contents: Option<Vec<Option<String>>>,
-) -> std::result::Result<Lists, AllocError>
+) -> Memory<Lists>
     ensures names { IfOk result (λ lists. texts_of lists.names ≡ map string_bytes names.items) }
     ensures sources { IfOk result (λ lists. texts_of lists.sources ≡ map string_bytes sources.items) }
     ensures contents { IfOk result (λ lists. contents_of lists.contents ≡ unwrap_or (json_contents contents) []) }
@@ -116,9 +116,8 @@ fn json_fault(json: &JSONSourceMap) -> Option<Error>
 /// The first two are found before any memory is asked for, and reported wherever they hold. `OutOfMemory` if memory is
 /// refused, which may be before a fault of the mappings is met.
 pub fn decode_parts(alloc: Global, json: JSONSourceMap) -> Result<SourceMapParts<'static>>
-    ensures map { IfOk result (λ parts. decoded (json_record json) ≡ Ok (record_of_parts parts)) }
-    ensures refused { IfErr result (λ e. (e ≢ OutOfMemory) → decoded (json_record json) ≡ Err e) }
-    ensures fault { (e : Error) → json_fault (json_record json) ≡ Some e → result ≡ Err e }
+    ensures map { Answers record_of_parts result (decoded (json_record json)) }
+    ensures fault { Reports (json_fault (json_record json)) result }
 {
     if let Some(fault) = json_fault(&json) {
         return Err(fault);

@@ -1,6 +1,5 @@
 //! Where sections begin.
-ghost use Rattle.std.specs.Prelude.{◌≡◌, ◌&&◌, ◌∷◌, List, [], codes, length, option_map, option_and_then, Ok, Err, IfOk, IfErr};
-ghost use Rattle.std.specs.Option.{unwrap_or};
+ghost use Rattle.std.specs.Prelude.{◌≡◌, ◌&&◌, List, option_map, Ok, Err};
 ghost use Rattle.serde_json.specs.View.{view};
 ghost use Rattle.oxc_sourcemap_parts.specs.Record.{MapRecord};
 ghost use Rattle.oxc_sourcemap_tokens.specs.Token.{last};
@@ -8,6 +7,7 @@ ghost use Rattle.oxc_sourcemap_join.specs.Joined.{Offset, joined};
 ghost use Rattle.oxc_sourcemap_decode.specs.Section.{number_at, as_place, place_in};
 ghost use Rattle.oxc_sourcemap_decode.specs.Sections.{position_of, may_follow, place_after};
 ghost use Rattle.oxc_sourcemap_decode.specs.Reading.{offset_of};
+ghost use Rattle.oxc_sourcemap_tokens.specs.Results.{Gives};
 
 use oxc_sourcemap_join::JoinedParts;
 use oxc_sourcemap_json::read_id;
@@ -39,8 +39,7 @@ fn as_place(value: &Value) -> Option<Place>
 
 /// The offset of a section.
 fn place_in(section: &Value) -> Result<Place>
-    ensures place { IfOk result (λ place. place_in (view section.now) ≡ Ok (offset_of place)) }
-    ensures refused { IfErr result (λ e. place_in (view section.now) ≡ Err e) }
+    ensures { Gives offset_of result (place_in (view section.now)) }
 {
     if !section.is_object() {
         return Err(Error::BadJson(JsonFault::Shape(Field::Sections)));
@@ -95,12 +94,9 @@ pub(crate) fn place_after(
     before: Option<Place>,
     section: &Value,
 ) -> Result<Place>
-    ensures place { IfOk result (λ place. (front : List (MapRecord × Offset)) → so_far.now ≡ joined front
+    ensures { Gives offset_of result ((front : List (MapRecord × Offset)) → so_far.now ≡ joined front
         → option_map offset_of before ≡ option_map (λ s. s.1) (last front)
-        → place_after front (view section.now) ≡ Ok (offset_of place)) }
-    ensures refused { IfErr result (λ e. (front : List (MapRecord × Offset)) → so_far.now ≡ joined front
-        → option_map offset_of before ≡ option_map (λ s. s.1) (last front)
-        → place_after front (view section.now) ≡ Err e) }
+        → place_after front (view section.now)) }
 {
     let place = place_in(section)?;
     if !may_begin(so_far, before, place) {

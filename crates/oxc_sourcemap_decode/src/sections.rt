@@ -1,13 +1,13 @@
 //! Sections, read one behind the other into a join, and the map of a JSON value and a JSON text.
-ghost use Rattle.std.specs.Prelude.{◌≡◌, ◌≢◌, option_map, string_bytes, IfOk, IfErr, Ok, Err};
+ghost use Rattle.std.specs.Prelude.{◌≡◌, option_map, string_bytes, Ok, Err};
 ghost use Rattle.serde_json.specs.View.{view, items_view};
 ghost use Rattle.serde_json.specs.Find.{get};
-ghost use Rattle.oxc_sourcemap_tokens.specs.declared.error.Error.TheVariants.{OutOfMemory};
 ghost use Rattle.oxc_sourcemap_parts.specs.Views.{record_of_parts};
 ghost use Rattle.oxc_sourcemap_json.specs.Shape.{file_of};
 ghost use Rattle.oxc_sourcemap_decode.specs.Section.{is_indexed, is_plain};
 ghost use Rattle.oxc_sourcemap_decode.specs.Sections.{section_map, all_sections, joined_sections};
 ghost use Rattle.oxc_sourcemap_decode.specs.ReadMap.{sections_in, indexed_said, indexed_record, map_said, read_value, read_map};
+ghost use Rattle.oxc_sourcemap_tokens.specs.Results.{Answers};
 
 use crate::decode::decode_parts;
 use crate::place::place_after;
@@ -48,8 +48,7 @@ fn is_plain(value: &Value) -> bool
 
 /// The map of a section, borrowed.
 fn lent_map(alloc: Global, section: &Value) -> Result<SourceMapParts<'static>>
-    ensures map { IfOk result (λ parts. section_map (view section.now) ≡ Ok (record_of_parts parts)) }
-    ensures refused { IfErr result (λ e. (e ≢ OutOfMemory) → section_map (view section.now) ≡ Err e) }
+    ensures { Answers record_of_parts result (section_map (view section.now)) }
 {
     let Some(map) = section.get("map") else {
         return Err(Error::BadJson(JsonFault::Shape(Field::Map)));
@@ -63,8 +62,7 @@ fn lent_map(alloc: Global, section: &Value) -> Result<SourceMapParts<'static>>
 
 /// The map of a section, whose strings are moved.
 fn moved_map(alloc: Global, section: Value) -> Result<SourceMapParts<'static>>
-    ensures map { IfOk result (λ parts. section_map (view section) ≡ Ok (record_of_parts parts)) }
-    ensures refused { IfErr result (λ e. (e ≢ OutOfMemory) → section_map (view section) ≡ Err e) }
+    ensures { Answers record_of_parts result (section_map (view section)) }
 {
     let Some(map) = into_member(section, "map") else {
         return Err(Error::BadJson(JsonFault::Shape(Field::Map)));
@@ -78,8 +76,7 @@ fn moved_map(alloc: Global, section: Value) -> Result<SourceMapParts<'static>>
 
 /// The join of sections, each read when the ones before it are joined.
 fn join_lent(alloc: Global, sections: &[Value]) -> Result<JoinedParts<'static>>
-    ensures joined { IfOk result (λ joined. joined_sections (all_sections (items_view sections.now)) ≡ Ok joined) }
-    ensures refused { IfErr result (λ e. (e ≢ OutOfMemory) → joined_sections (all_sections (items_view sections.now)) ≡ Err e) }
+    ensures { Answers (λ joined. joined) result (joined_sections (all_sections (items_view sections.now))) }
 {
     let mut joined = JoinedParts::empty(alloc);
     let mut before = None;
@@ -94,8 +91,7 @@ fn join_lent(alloc: Global, sections: &[Value]) -> Result<JoinedParts<'static>>
 
 /// The join of sections whose strings are moved, as `join_lent` makes it. Each section is dropped when it is joined.
 fn join_moved(alloc: Global, sections: Vec<Value>) -> Result<JoinedParts<'static>>
-    ensures joined { IfOk result (λ joined. joined_sections (all_sections (items_view sections.items)) ≡ Ok joined) }
-    ensures refused { IfErr result (λ e. (e ≢ OutOfMemory) → joined_sections (all_sections (items_view sections.items)) ≡ Err e) }
+    ensures { Answers (λ joined. joined) result (joined_sections (all_sections (items_view sections.items))) }
 {
     let mut joined = JoinedParts::empty(alloc);
     let mut before = None;
@@ -123,8 +119,7 @@ fn indexed_parts(joined: JoinedParts<'static>, file: Option<String>) -> SourceMa
 
 /// The parts of the map that an indexed map says.
 fn lent_indexed(alloc: Global, value: &Value) -> Result<SourceMapParts<'static>>
-    ensures map { IfOk result (λ parts. map_said (indexed_said (file_of (view value.now)) (sections_in (view value.now))) ≡ Ok (record_of_parts parts)) }
-    ensures refused { IfErr result (λ e. (e ≢ OutOfMemory) → map_said (indexed_said (file_of (view value.now)) (sections_in (view value.now))) ≡ Err e) }
+    ensures { Answers record_of_parts result (map_said (indexed_said (file_of (view value.now)) (sections_in (view value.now)))) }
 {
     let file = file_from_value(alloc, value)?;
     let Some(sections) = value.get("sections").and_then(Value::as_array) else {
@@ -136,8 +131,7 @@ fn lent_indexed(alloc: Global, value: &Value) -> Result<SourceMapParts<'static>>
 
 /// The parts of the map that an indexed map says, whose strings are moved.
 fn moved_indexed(alloc: Global, value: Value) -> Result<SourceMapParts<'static>>
-    ensures map { IfOk result (λ parts. map_said (indexed_said (file_of (view value)) (sections_in (view value))) ≡ Ok (record_of_parts parts)) }
-    ensures refused { IfErr result (λ e. (e ≢ OutOfMemory) → map_said (indexed_said (file_of (view value)) (sections_in (view value))) ≡ Err e) }
+    ensures { Answers record_of_parts result (map_said (indexed_said (file_of (view value)) (sections_in (view value)))) }
 {
     let file = file_from_value(alloc, &value)?;
     let Some(Value::Array(sections)) = into_member(value, "sections") else {
@@ -165,8 +159,7 @@ fn moved_indexed(alloc: Global, value: Value) -> Result<SourceMapParts<'static>>
 /// `OutOfMemory` if memory is refused, which may be before a fault is met.
 #[tactic(auto, unfolding(crate::specs::ReadMap::read_value))]
 pub fn decode_parts_from_value(alloc: Global, value: &Value) -> Result<SourceMapParts<'static>>
-    ensures map { IfOk result (λ parts. read_value (view value.now) ≡ Ok (record_of_parts parts)) }
-    ensures refused { IfErr result (λ e. (e ≢ OutOfMemory) → read_value (view value.now) ≡ Err e) }
+    ensures { Answers record_of_parts result (read_value (view value.now)) }
 {
     if is_indexed(value) {
         return lent_indexed(alloc, value);
@@ -178,8 +171,7 @@ pub fn decode_parts_from_value(alloc: Global, value: &Value) -> Result<SourceMap
 /// What `decode_parts_from_value` gives, but the strings of the value are moved.
 #[tactic(auto, unfolding(crate::specs::ReadMap::read_value))]
 fn moved_value(alloc: Global, value: Value) -> Result<SourceMapParts<'static>>
-    ensures map { IfOk result (λ parts. read_value (view value) ≡ Ok (record_of_parts parts)) }
-    ensures refused { IfErr result (λ e. (e ≢ OutOfMemory) → read_value (view value) ≡ Err e) }
+    ensures { Answers record_of_parts result (read_value (view value)) }
 {
     if is_indexed(&value) {
         return moved_indexed(alloc, value);
@@ -199,8 +191,7 @@ fn moved_value(alloc: Global, value: Value) -> Result<SourceMapParts<'static>>
 /// `OutOfMemory` if memory is refused, which may be before a fault is met.
 #[tactic(auto, unfolding(crate::specs::ReadMap::read_map, crate::specs::ReadMap::read_value))]
 pub fn decode_parts_from_string(alloc: Global, text: &str) -> Result<SourceMapParts<'static>>
-    ensures map { IfOk result (λ parts. read_map text.now ≡ Ok (record_of_parts parts)) }
-    ensures refused { IfErr result (λ e. (e ≢ OutOfMemory) → read_map text.now ≡ Err e) }
+    ensures { Answers record_of_parts result (read_map text.now) }
 {
     let value = Value::from_str(alloc, text)?;
     moved_value(alloc, value)

@@ -1,5 +1,5 @@
 //! Writing the parts of a map as a JSON source map.
-ghost use Rattle.std.specs.Prelude.{◌≡◌, ◌≢◌, map, option_map, string_bytes, IfOk, IfErr, Ok, Err, Some, None, OnOk};
+ghost use Rattle.std.specs.Prelude.{◌≡◌, ◌≢◌, map, option_map, string_bytes, IfOk, IfErr, Ok, Some, None, OnOk};
 ghost use Rattle.std.specs.Cow.{cow_str_bytes};
 ghost use Rattle.std.specs.List.{list_any};
 ghost use Rattle.std.specs.Option.{is_some};
@@ -8,14 +8,15 @@ ghost use Rattle.oxc_sourcemap_tokens.specs.Token.{AreInBounds};
 ghost use Rattle.oxc_sourcemap_mappings.specs.Canonical.{canonical};
 ghost use Rattle.oxc_sourcemap_tokens.specs.Chunks.{lent_chunks};
 ghost use Rattle.oxc_sourcemap_mappings.specs.Pieces.{writing_fault};
-ghost use Rattle.oxc_sourcemap_parts.specs.Views.{text_of, ids_of, record_of_parts};
+ghost use Rattle.oxc_sourcemap_parts.specs.Views.{text_of, ids_of, record_of_parts, cow_texts};
 ghost use Rattle.oxc_sourcemap_json.specs.Json.{json_record, json_contents};
 ghost use Rattle.oxc_sourcemap_encode.specs.Encoded.{encoded, written_contents};
+ghost use Rattle.oxc_sourcemap_tokens.specs.Results.{Answers};
 
 use oxc_sourcemap_json::JSONSourceMap;
 use oxc_sourcemap_mappings::encode_mappings;
 use oxc_sourcemap_parts::SourceMapParts;
-use oxc_sourcemap_tokens::{Result, TokenChunk};
+use oxc_sourcemap_tokens::{Memory, Result, TokenChunk};
 use std::alloc::{AllocError, Global};
 use std::borrow::CowStr;
 
@@ -23,7 +24,7 @@ use std::borrow::CowStr;
 fn copied(
     alloc: Global,
     text: &Option<CowStr<'_>>,
-) -> std::result::Result<Option<String>, AllocError>
+) -> Memory<Option<String>>
     ensures { IfOk result (λ copy. option_map string_bytes copy ≡ text_of text.now) }
 {
     match text {
@@ -33,8 +34,8 @@ fn copied(
 }
 
 /// Copies of texts.
-fn copied_texts(alloc: Global, texts: &[CowStr<'_>]) -> std::result::Result<Vec<String>, AllocError>
-    ensures { IfOk result (λ copies. map string_bytes copies.items ≡ map cow_str_bytes texts.now) }
+fn copied_texts(alloc: Global, texts: &[CowStr<'_>]) -> Memory<Vec<String>>
+    ensures { IfOk result (λ copies. map string_bytes copies.items ≡ cow_texts texts.now) }
 {
     let mut copies = Vec::with_capacity(alloc, texts.len())?;
     for text in texts {
@@ -76,7 +77,7 @@ fn copied_contents(
 fn copied_ids(
     alloc: Global,
     list: &Option<Vec<u32>>,
-) -> std::result::Result<Option<Vec<u32>>, AllocError>
+) -> Memory<Option<Vec<u32>>>
     ensures { IfOk result (λ copy. ids_of copy ≡ ids_of list.now) }
 {
     match list {
@@ -115,8 +116,7 @@ fn mappings_of(alloc: Global, parts: &SourceMapParts<'_>) -> Result<String>
 /// Fails as `encode_mappings` does for the tokens and chunks: `LineOrder(i)`, `BadChunks(k)`, `TooLarge`, in this order;
 /// and with `OutOfMemory` if memory is refused.
 pub fn encode_parts(alloc: Global, parts: &SourceMapParts<'_>) -> Result<JSONSourceMap>
-    ensures json { IfOk result (λ json. encoded (record_of_parts parts.now) ≡ Ok (json_record json)) }
-    ensures refused { IfErr result (λ e. (e ≢ OutOfMemory) → encoded (record_of_parts parts.now) ≡ Err e) }
+    ensures json { Answers json_record result (encoded (record_of_parts parts.now)) }
 
     // True of every map, and stated here for callers that need it.
     ensures in_bounds { OnOk result (AreInBounds (record_of_parts parts.now).tokens) }

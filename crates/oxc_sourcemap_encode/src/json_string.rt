@@ -1,14 +1,13 @@
 //! JSON strings.
-ghost use Rattle.std.specs.Prelude.{◌≡◌, ◌++◌, ◌<◌, ◌≤◌, true, length, slice_get, string_bytes, OnOk, IfOk, OnErr, IfErr, IfSome, flat_map, map};
+ghost use Rattle.std.specs.Prelude.{◌≡◌, ◌++◌, ◌<◌, ◌≤◌, true, length, slice_get, string_bytes, IfOk, OnErr, IfSome, flat_map, map};
 ghost use Rattle.std.specs.Char.{digit_char};
 ghost use Rattle.std.specs.List.{prefix_len};
 ghost use Rattle.std.specs.Simd.Lanes.{mask_l};
-ghost use Rattle.oxc_sourcemap_tokens.specs.declared.error.Error.TheVariants.{OutOfMemory};
 ghost use Rattle.oxc_sourcemap_encode.specs.JsonString.{hex_escape, escaped, json_string, StaysOpened, Begins};
 ghost use Rattle.oxc_sourcemap_encode.specs.Plain.{needs_escape, is_plain};
+ghost use Rattle.oxc_sourcemap_tokens.specs.Results.{OnlyMemory, Pushes};
 
-use oxc_sourcemap_tokens::{Error, Result};
-use std::alloc::AllocError;
+use oxc_sourcemap_tokens::{Error, Memory, Result};
 use std::simd::prelude::*;
 
 /// Which of 16 bytes need an escape: a bit for each, the first byte in the lowest.
@@ -69,8 +68,8 @@ fn hex_digit(digit: u8) -> char
 // After an `Err` of these calls `push_`, too, a beginning of what they add may stand in `out`.
 
 /// Adds the escape of a control character by its number.
-fn push_hex_escape(out: &mut String, code: u8) -> std::result::Result<(), AllocError>
-    ensures ok { OnOk result (string_bytes out.new ≡ string_bytes out.old ++ hex_escape code) }
+fn push_hex_escape(out: &mut String, code: u8) -> Memory<()>
+    ensures ok { Pushes result out.old out.new (hex_escape code) }
     ensures opened { StaysOpened (string_bytes out.old) (string_bytes out.new) }
 {
     out.push_str("\\u00")?;
@@ -80,9 +79,9 @@ fn push_hex_escape(out: &mut String, code: u8) -> std::result::Result<(), AllocE
 
 /// Adds the escape of a byte that needs one.
 #[tactic(auto, unfolding(crate::specs::JsonString::escaped))]
-fn push_escape(out: &mut String, byte: u8) -> std::result::Result<(), AllocError>
+fn push_escape(out: &mut String, byte: u8) -> Memory<()>
     requires { needs_escape byte ≡ true }
-    ensures ok { OnOk result (string_bytes out.new ≡ string_bytes out.old ++ escaped byte) }
+    ensures ok { Pushes result out.old out.new (escaped byte) }
     ensures opened { StaysOpened (string_bytes out.old) (string_bytes out.new) }
 {
     match byte {
@@ -98,7 +97,7 @@ fn push_escape(out: &mut String, byte: u8) -> std::result::Result<(), AllocError
 }
 
 /// Adds the run at the front of a text that needs no escape, as one slice. Gives the rest of the text.
-fn push_run<'t>(out: &mut String, text: &'t str) -> std::result::Result<&'t str, AllocError>
+fn push_run<'t>(out: &mut String, text: &'t str) -> Memory<&'t str>
     ensures ok { IfOk result (λ rest. string_bytes out.new ++ flat_map escaped rest.now ≡ string_bytes out.old ++ flat_map escaped text.now) }
     ensures stops { IfOk result (λ rest. IfSome (slice_get rest.now 0) (λ byte. needs_escape byte ≡ true)) }
     ensures shorter { IfOk result (λ rest. length rest.now ≤ length text.now) }
@@ -110,8 +109,8 @@ fn push_run<'t>(out: &mut String, text: &'t str) -> std::result::Result<&'t str,
 }
 
 /// Adds the bytes of a text as they stand in a JSON string.
-fn push_escaped(out: &mut String, text: &str) -> std::result::Result<(), AllocError>
-    ensures ok { OnOk result (string_bytes out.new ≡ string_bytes out.old ++ flat_map escaped text.now) }
+fn push_escaped(out: &mut String, text: &str) -> Memory<()>
+    ensures ok { Pushes result out.old out.new (flat_map escaped text.now) }
     ensures opened { StaysOpened (string_bytes out.old) (string_bytes out.new) }
 {
     let mut rest = push_run(out, text)?;
@@ -124,8 +123,8 @@ fn push_escaped(out: &mut String, text: &str) -> std::result::Result<(), AllocEr
 
 /// Adds a text as a JSON string.
 #[tactic(auto, unfolding(crate::specs::JsonString::json_string))]
-fn push_quoted(out: &mut String, text: &str) -> std::result::Result<(), AllocError>
-    ensures ok { OnOk result (string_bytes out.new ≡ string_bytes out.old ++ json_string text.now) }
+fn push_quoted(out: &mut String, text: &str) -> Memory<()>
+    ensures ok { Pushes result out.old out.new (json_string text.now) }
     ensures begins { Begins (string_bytes out.old) (string_bytes out.new) }
 {
     out.push('"')?;
@@ -140,8 +139,8 @@ fn push_quoted(out: &mut String, text: &str) -> std::result::Result<(), AllocErr
 ///
 /// Fails only with `OutOfMemory`; `out` is then as it was.
 pub fn push_json_string(text: &str, out: &mut String) -> Result<()>
-    ensures text { OnOk result (string_bytes out.new ≡ string_bytes out.old ++ json_string text.now) }
-    ensures only_memory { IfErr result (λ e. e ≡ OutOfMemory) }
+    ensures text { Pushes result out.old out.new (json_string text.now) }
+    ensures only_memory { OnlyMemory result }
     ensures unchanged { OnErr result (string_bytes out.new ≡ string_bytes out.old) }
 {
     let before = out.len();

@@ -1,14 +1,14 @@
 //! The JSON text of a map, written field by field, and its data URL.
-ghost use Rattle.std.specs.Prelude.{◌≡◌, ◌≢◌, ◌++◌, map, string_bytes, codes, decimal, IfOk, IfErr, OnOk, Ok, Err, Some, None};
-ghost use Rattle.std.specs.Cow.{cow_str_bytes};
+ghost use Rattle.std.specs.Prelude.{◌≡◌, ◌≢◌, ◌++◌, map, string_bytes, codes, decimal, IfErr, OnOk, Ok, Some, None};
 ghost use Rattle.oxc_sourcemap_tokens.specs.declared.error.Error.TheVariants.{OutOfMemory};
 ghost use Rattle.oxc_sourcemap_mappings.specs.Canonical.{canonical};
 ghost use Rattle.oxc_sourcemap_mappings.specs.Pieces.{writing_fault};
 ghost use Rattle.oxc_sourcemap_encode.specs.JsonString.{json_string};
-ghost use Rattle.oxc_sourcemap_parts.specs.Views.{text_of, ids_of, record_of_parts};
+ghost use Rattle.oxc_sourcemap_parts.specs.Views.{text_of, ids_of, record_of_parts, cow_texts};
 ghost use Rattle.oxc_sourcemap_encode.specs.Encoded.{written_contents, encoded_record};
 ghost use Rattle.oxc_sourcemap_encode.specs.JsonText.{json_list, content_text, field_text, optional_field, json_text, map_text, map_url};
 ghost use Rattle.oxc_sourcemap_encode.specs.JsonParts.{head_text, lists_text, tail_text};
+ghost use Rattle.oxc_sourcemap_tokens.specs.Results.{Answers, OnlyMemory, Pushes};
 
 use crate::encode::{chunks_of, has_content};
 use crate::json_string::push_json_string;
@@ -22,8 +22,8 @@ use std::borrow::CowStr;
 
 /// Appends a comma, a key and a colon.
 fn push_key(key: &str, out: &mut String) -> Result<()>
-    ensures text { OnOk result (string_bytes out.new ≡ string_bytes out.old ++ (codes ",\"" ++ (key.now ++ codes "\":"))) }
-    ensures refused { IfErr result (λ e. e ≡ OutOfMemory) }
+    ensures text { Pushes result out.old out.new (codes ",\"" ++ (key.now ++ codes "\":")) }
+    ensures refused { OnlyMemory result }
 {
     out.push_str(",\"")?;
     out.push_str(key)?;
@@ -34,8 +34,8 @@ fn push_key(key: &str, out: &mut String) -> Result<()>
 /// Appends a list of strings.
 #[tactic(auto, unfolding(crate::specs::JsonText::json_list))]
 fn push_texts(texts: &[CowStr<'_>], out: &mut String) -> Result<()>
-    ensures text { OnOk result (string_bytes out.new ≡ string_bytes out.old ++ json_list json_string (map cow_str_bytes texts.now)) }
-    ensures refused { IfErr result (λ e. e ≡ OutOfMemory) }
+    ensures text { Pushes result out.old out.new (json_list json_string (cow_texts texts.now)) }
+    ensures refused { OnlyMemory result }
 {
     out.push('[')?;
     let mut is_first = true;
@@ -52,8 +52,8 @@ fn push_texts(texts: &[CowStr<'_>], out: &mut String) -> Result<()>
 
 /// Appends a content, or `null` where it is not known.
 fn push_content(content: &Option<CowStr<'_>>, out: &mut String) -> Result<()>
-    ensures text { OnOk result (string_bytes out.new ≡ string_bytes out.old ++ content_text (text_of content.now)) }
-    ensures refused { IfErr result (λ e. e ≡ OutOfMemory) }
+    ensures text { Pushes result out.old out.new (content_text (text_of content.now)) }
+    ensures refused { OnlyMemory result }
 {
     match content {
         Some(content) => push_json_string(content.as_str(), out),
@@ -64,8 +64,8 @@ fn push_content(content: &Option<CowStr<'_>>, out: &mut String) -> Result<()>
 /// Appends a list of contents.
 #[tactic(auto, unfolding(crate::specs::JsonText::json_list))]
 fn push_contents(contents: &[Option<CowStr<'_>>], out: &mut String) -> Result<()>
-    ensures text { OnOk result (string_bytes out.new ≡ string_bytes out.old ++ json_list content_text (map text_of contents.now)) }
-    ensures refused { IfErr result (λ e. e ≡ OutOfMemory) }
+    ensures text { Pushes result out.old out.new (json_list content_text (map text_of contents.now)) }
+    ensures refused { OnlyMemory result }
 {
     out.push('[')?;
     let mut is_first = true;
@@ -83,8 +83,8 @@ fn push_contents(contents: &[Option<CowStr<'_>>], out: &mut String) -> Result<()
 /// Appends a list of numbers.
 #[tactic(auto, unfolding(crate::specs::JsonText::json_list))]
 fn push_ids(alloc: Global, ids: &[u32], out: &mut String) -> Result<()>
-    ensures text { OnOk result (string_bytes out.new ≡ string_bytes out.old ++ json_list decimal ids.now) }
-    ensures refused { IfErr result (λ e. e ≡ OutOfMemory) }
+    ensures text { Pushes result out.old out.new (json_list decimal ids.now) }
+    ensures refused { OnlyMemory result }
 {
     out.push('[')?;
     let mut is_first = true;
@@ -102,8 +102,8 @@ fn push_ids(alloc: Global, ids: &[u32], out: &mut String) -> Result<()>
 /// Appends a field with a text, where there is one.
 #[tactic(auto, unfolding(crate::specs::JsonText::field_text, crate::specs::JsonText::optional_field))]
 fn push_optional_text(key: &str, text: &Option<CowStr<'_>>, out: &mut String) -> Result<()>
-    ensures text { OnOk result (string_bytes out.new ≡ string_bytes out.old ++ optional_field key.now json_string (text_of text.now)) }
-    ensures refused { IfErr result (λ e. e ≡ OutOfMemory) }
+    ensures text { Pushes result out.old out.new (optional_field key.now json_string (text_of text.now)) }
+    ensures refused { OnlyMemory result }
 {
     let Some(text) = text else {
         return Ok(());
@@ -119,8 +119,8 @@ fn push_optional_contents(
     contents: &[Option<CowStr<'_>>],
     out: &mut String,
 ) -> Result<()>
-    ensures text { OnOk result (string_bytes out.new ≡ string_bytes out.old ++ optional_field key.now (json_list content_text) (written_contents (map text_of contents.now))) }
-    ensures refused { IfErr result (λ e. e ≡ OutOfMemory) }
+    ensures text { Pushes result out.old out.new (optional_field key.now (json_list content_text) (written_contents (map text_of contents.now))) }
+    ensures refused { OnlyMemory result }
 {
     if !has_content(contents) {
         return Ok(());
@@ -137,8 +137,8 @@ fn push_optional_ids(
     list: &Option<Vec<u32>>,
     out: &mut String,
 ) -> Result<()>
-    ensures text { OnOk result (string_bytes out.new ≡ string_bytes out.old ++ optional_field key.now (json_list decimal) (ids_of list.now)) }
-    ensures refused { IfErr result (λ e. e ≡ OutOfMemory) }
+    ensures text { Pushes result out.old out.new (optional_field key.now (json_list decimal) (ids_of list.now)) }
+    ensures refused { OnlyMemory result }
 {
     let Some(list) = list else {
         return Ok(());
@@ -150,8 +150,8 @@ fn push_optional_ids(
 /// Appends a field with strings.
 #[tactic(auto, unfolding(crate::specs::JsonText::field_text))]
 fn push_texts_field(key: &str, texts: &[CowStr<'_>], out: &mut String) -> Result<()>
-    ensures text { OnOk result (string_bytes out.new ≡ string_bytes out.old ++ field_text key.now (json_list json_string (map cow_str_bytes texts.now))) }
-    ensures refused { IfErr result (λ e. e ≡ OutOfMemory) }
+    ensures text { Pushes result out.old out.new (field_text key.now (json_list json_string (cow_texts texts.now))) }
+    ensures refused { OnlyMemory result }
 {
     push_key(key, out)?;
     push_texts(texts, out)
@@ -160,7 +160,7 @@ fn push_texts_field(key: &str, texts: &[CowStr<'_>], out: &mut String) -> Result
 /// Appends the field with the mappings: the canonical text of the tokens, in which no byte needs an escape.
 #[tactic(auto, unfolding(crate::specs::JsonText::field_text, crate::specs::JsonString::json_string))]
 fn push_mappings(parts: &SourceMapParts<'_>, out: &mut String) -> Result<()>
-    ensures text { let r = record_of_parts parts.now in OnOk result (string_bytes out.new ≡ string_bytes out.old ++ field_text (codes "mappings") (json_string (canonical r.tokens))) }
+    ensures text { let r = record_of_parts parts.now in Pushes result out.old out.new (field_text (codes "mappings") (json_string (canonical r.tokens))) }
     ensures clean { let r = record_of_parts parts.now in OnOk result (writing_fault r.tokens r.token_chunks ≡ None) }
     ensures refused { let r = record_of_parts parts.now in IfErr result (λ e. (e ≢ OutOfMemory) → writing_fault r.tokens r.token_chunks ≡ Some e) }
 {
@@ -177,8 +177,8 @@ fn push_head(
     source_root: &Option<CowStr<'_>>,
     out: &mut String,
 ) -> Result<()>
-    ensures text { OnOk result (string_bytes out.new ≡ string_bytes out.old ++ head_text (text_of file.now) (text_of source_root.now)) }
-    ensures refused { IfErr result (λ e. e ≡ OutOfMemory) }
+    ensures text { Pushes result out.old out.new (head_text (text_of file.now) (text_of source_root.now)) }
+    ensures refused { OnlyMemory result }
 {
     out.push_str("{\"version\":3")?;
     push_optional_text("file", file, out)?;
@@ -196,8 +196,8 @@ fn push_lists(
     ignore_list: &Option<Vec<u32>>,
     out: &mut String,
 ) -> Result<()>
-    ensures text { OnOk result (string_bytes out.new ≡ string_bytes out.old ++ lists_text (map cow_str_bytes names.now) (map cow_str_bytes sources.now) (written_contents (map text_of contents.now)) (ids_of ignore_list.now)) }
-    ensures refused { IfErr result (λ e. e ≡ OutOfMemory) }
+    ensures text { Pushes result out.old out.new (lists_text (cow_texts names.now) (cow_texts sources.now) (written_contents (map text_of contents.now)) (ids_of ignore_list.now)) }
+    ensures refused { OnlyMemory result }
 {
     push_texts_field("names", names, out)?;
     push_texts_field("sources", sources, out)?;
@@ -209,7 +209,7 @@ fn push_lists(
 /// Appends the mappings, the debug id, and the end of the object.
 #[tactic(auto, unfolding(crate::specs::JsonParts::tail_text))]
 fn push_tail(parts: &SourceMapParts<'_>, out: &mut String) -> Result<()>
-    ensures text { let r = record_of_parts parts.now in OnOk result (string_bytes out.new ≡ string_bytes out.old ++ tail_text (canonical r.tokens) r.debug_id) }
+    ensures text { let r = record_of_parts parts.now in Pushes result out.old out.new (tail_text (canonical r.tokens) r.debug_id) }
     ensures clean { let r = record_of_parts parts.now in OnOk result (writing_fault r.tokens r.token_chunks ≡ None) }
     ensures refused { let r = record_of_parts parts.now in IfErr result (λ e. (e ≢ OutOfMemory) → writing_fault r.tokens r.token_chunks ≡ Some e) }
 {
@@ -221,7 +221,7 @@ fn push_tail(parts: &SourceMapParts<'_>, out: &mut String) -> Result<()>
 
 /// Appends the fields of a map as a JSON object.
 fn push_object(alloc: Global, parts: &SourceMapParts<'_>, out: &mut String) -> Result<()>
-    ensures text { OnOk result (string_bytes out.new ≡ string_bytes out.old ++ json_text (encoded_record (record_of_parts parts.now))) }
+    ensures text { Pushes result out.old out.new (json_text (encoded_record (record_of_parts parts.now))) }
     ensures clean { let r = record_of_parts parts.now in OnOk result (writing_fault r.tokens r.token_chunks ≡ None) }
     ensures refused { let r = record_of_parts parts.now in IfErr result (λ e. (e ≢ OutOfMemory) → writing_fault r.tokens r.token_chunks ≡ Some e) }
 {
@@ -247,8 +247,7 @@ fn push_object(alloc: Global, parts: &SourceMapParts<'_>, out: &mut String) -> R
 /// refused.
 #[tactic(auto, unfolding(crate::specs::JsonText::map_text))]
 pub fn encode_parts_to_string(alloc: Global, parts: &SourceMapParts<'_>) -> Result<String>
-    ensures text { IfOk result (λ text. map_text (record_of_parts parts.now) ≡ Ok (string_bytes text)) }
-    ensures refused { IfErr result (λ e. (e ≢ OutOfMemory) → map_text (record_of_parts parts.now) ≡ Err e) }
+    ensures { Answers string_bytes result (map_text (record_of_parts parts.now)) }
 {
     let mut out = String::with_capacity(alloc, text_room(parts))?;
     push_object(alloc, parts, &mut out)?;
@@ -259,8 +258,7 @@ pub fn encode_parts_to_string(alloc: Global, parts: &SourceMapParts<'_>) -> Resu
 /// base64 of the standard alphabet (RFC 4648). Fails as `encode_parts_to_string` does.
 #[tactic(auto, unfolding(crate::specs::JsonText::map_url))]
 pub fn encode_parts_to_data_url(alloc: Global, parts: &SourceMapParts<'_>) -> Result<String>
-    ensures url { IfOk result (λ url. map_url (record_of_parts parts.now) ≡ Ok (string_bytes url)) }
-    ensures refused { IfErr result (λ e. (e ≢ OutOfMemory) → map_url (record_of_parts parts.now) ≡ Err e) }
+    ensures { Answers string_bytes result (map_url (record_of_parts parts.now)) }
 {
     let text = encode_parts_to_string(alloc, parts)?;
     let mut url = String::from_str(alloc, "data:application/json;charset=utf-8;base64,")?;

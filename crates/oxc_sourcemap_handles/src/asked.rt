@@ -1,5 +1,5 @@
 //! Texts of a map, by what is asked for.
-ghost use Rattle.std.specs.Prelude.{◌≡◌, option_map};
+ghost use Rattle.std.specs.Prelude.{◌≡◌};
 ghost use Rattle.oxc_sourcemap_handles.specs.Answers.{text_at};
 
 use oxc_sourcemap_map::OwnedSourceMap;
@@ -18,7 +18,7 @@ pub enum Asked {
 impl Asked {
     /// This text of a map; none where it has none.
     pub(crate) fn text_in(self, map: &OwnedSourceMap) -> Option<&str>
-        ensures { option_map (λ text. text.now) result ≡ text_at map.now self }
+        ensures { option_lent_items result ≡ text_at map.now self }
     {
         match self {
             Asked::Name(id) => map.get_name(id),

@@ -11,6 +11,7 @@ ghost use Rattle.oxc_sourcemap_handles.specs.Holding.{held_builder};
 ghost use Rattle.oxc_sourcemap_handles.specs.Answers.{IsRefusedAs};
 ghost use Rattle.oxc_sourcemap_handles.specs.Steps.{stepped, HasNoId};
 ghost use Rattle.oxc_sourcemap_handles.specs.Builders.{token_of, with_token, with_file, Builds, NameHasNoId, SourceHasNoId, IsAddRefusal, IsBuilderRefusal, IsNameRefusal, IsSourceRefusal, IsFileRefusal};
+ghost use Rattle.oxc_sourcemap_tokens.specs.Results.{OnlyMemory};
 
 use crate::fault::Fault;
 use crate::handle::Handle;
@@ -48,7 +49,7 @@ fn push_token(
     token: TokenNumbers,
 ) -> oxc_sourcemap_error::Result<u32>
     ensures made { IfOk result (λ id. (builder.new, id) ≡ stepped builder.old (Mapping token)) }
-    ensures refused { IfErr result (λ e. e ≡ OutOfMemory) }
+    ensures refused { OnlyMemory result }
     ensures unchanged { OnErr result (builder.new ≡ builder.old) }
 {
     builder.add_token(
@@ -67,7 +68,7 @@ fn copy_file(
     file: &str,
 ) -> oxc_sourcemap_error::Result<u32>
     ensures made { IfOk result (λ id. (builder.new, id) ≡ stepped builder.old (File file.entry)) }
-    ensures refused { IfErr result (λ e. e ≡ OutOfMemory) }
+    ensures refused { OnlyMemory result }
     ensures unchanged { OnErr result (builder.new ≡ builder.old) }
 {
     builder.set_file_copied(file)?;

@@ -1,5 +1,5 @@
 //! A boxed value as one word that C keeps.
-ghost use Rattle.std.specs.Prelude.{◌≡◌, Option, None, Some, option_map, OnOk, OnErr};
+ghost use Rattle.std.specs.Prelude.{◌≡◌, Option, None, Some, option_map};
 ghost use Rattle.oxc_sourcemap_handles.specs.declared.held.Held.{Held};
 ghost use Rattle.oxc_sourcemap_handles.specs.Handles.{handle_owns, held_coded};
 

@@ -6,6 +6,7 @@ ghost use Rattle.oxc_sourcemap_parts.specs.Sorted.{are_tokens_sorted};
 ghost use Rattle.oxc_sourcemap_lookup.specs.LineSpans.{IsIndexOf};
 ghost use Rattle.oxc_sourcemap_handles.specs.Indexed.{IsOutOfOrder};
 ghost use Rattle.oxc_sourcemap_handles.specs.Traces.{found_at, IsTraceOf, AreTracesOf};
+ghost use Rattle.oxc_sourcemap_tokens.specs.Results.{OnlyMemory};
 
 use crate::text::{Place, Position};
 use oxc_sourcemap_builders::SourceMapBuilder;
@@ -37,7 +38,7 @@ impl LoadedMap {
     /// The map with the index of its lines. Fails only with `OutOfMemory`.
     pub fn new(alloc: Global, map: OwnedSourceMap) -> Result<LoadedMap>
         ensures map { IfOk result (λ loaded. loaded ≡ map) }
-        ensures refused { IfErr result (λ e. e ≡ OutOfMemory) }
+        ensures refused { OnlyMemory result }
     {
         match LineIndex::new(alloc, map.get_tokens().as_slice()) {
             Err(Error::OutOfMemory) => Err(Error::OutOfMemory),

@@ -1,11 +1,8 @@
 //! What exports look up in what handles hold. Each takes the box out of its handle, looks into it and puts it back.
-ghost use Rattle.std.specs.Prelude.{◌≡◌, ◌≢◌, [], true, Some, None, Ok, Err, length, slice_get, string_bytes, IfOk, IfErr, OnOk, OnErr, MatchOption, MatchResult};
-ghost use Rattle.std.specs.Option.{unwrap_or};
-ghost use Rattle.oxc_sourcemap_parts.specs.Record.{MapRecord};
+ghost use Rattle.std.specs.Prelude.{◌≡◌, Some, None, Ok, Err, length, slice_get, string_bytes, IfErr, OnOk, OnErr, MatchOption, MatchResult};
 ghost use Rattle.oxc_sourcemap_encode.specs.JsonText.{map_text, map_url};
-ghost use Rattle.oxc_sourcemap_parts.specs.Sorted.{are_tokens_sorted, token_line, token_column};
+ghost use Rattle.oxc_sourcemap_parts.specs.Sorted.{are_tokens_sorted};
 ghost use Rattle.oxc_sourcemap_handles.specs.declared.refusal.Refusal.TheVariants.{EmptyHandle};
-ghost use Rattle.oxc_sourcemap_handles.specs.Refusals.{out_of_memory};
 ghost use Rattle.oxc_sourcemap_handles.specs.Codes.{fault_of, code_of, no_fault};
 ghost use Rattle.oxc_sourcemap_handles.specs.Holding.{held_map, held_text, HoldsMap};
 ghost use Rattle.oxc_sourcemap_handles.specs.Places.{counts_of, numbers_of};

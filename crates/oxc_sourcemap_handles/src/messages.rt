@@ -1,5 +1,5 @@
 //! The messages of refusals.
-ghost use Rattle.std.specs.Prelude.{◌≡◌, length, MatchOption, string_bytes};
+ghost use Rattle.std.specs.Prelude.{◌≡◌, MatchOption};
 ghost use Rattle.oxc_sourcemap_handles.specs.Refusals.{refusal_text};
 ghost use Rattle.oxc_sourcemap_handles.specs.Codes.{refusal_of};
 ghost use Rattle.oxc_sourcemap_handles.specs.Messages.{overwritten, IsMessage};

@@ -1,12 +1,9 @@
 //! What exports do with what handles hold.
-ghost use Rattle.std.specs.Prelude.{◌≡◌, ◌≢◌, ℕ, true, List, map, length, Some, None, Ok, Err, option_map, string_bytes, slice_get, IfOk, IfErr, MatchOption, MatchResult};
-ghost use Rattle.std.specs.List.{All};
-ghost use Rattle.oxc_sourcemap_tokens.specs.declared.error.Error.TheVariants.{OutOfMemory};
+ghost use Rattle.std.specs.Prelude.{◌≡◌, ◌≢◌, map, Some, None, Ok, Err, string_bytes, IfOk, IfErr, MatchOption, MatchResult};
 ghost use Rattle.oxc_sourcemap_decode.specs.ReadMap.{read_map};
-ghost use Rattle.oxc_sourcemap_encode.specs.JsonText.{map_text, map_url};
 ghost use Rattle.oxc_sourcemap_lookup.specs.Composed.{composition, SomeComposition, NoColumnGoesBack};
 ghost use Rattle.oxc_sourcemap_handles.specs.declared.refusal.Refusal.TheVariants.{EmptyHandle};
-ghost use Rattle.oxc_sourcemap_handles.specs.Refusals.{out_of_memory, of_map};
+ghost use Rattle.oxc_sourcemap_handles.specs.Refusals.{out_of_memory};
 ghost use Rattle.oxc_sourcemap_handles.specs.Codes.{fault_of, code_of, no_fault};
 ghost use Rattle.oxc_sourcemap_handles.specs.Holding.{held_map, held_text, HoldsMap};
 ghost use Rattle.oxc_sourcemap_handles.specs.Answers.{IsReadRefusal, IsCompositionRefusal, IsRefusedAs};
@@ -130,7 +127,7 @@ pub(crate) fn put(
 
 /// The map that is held.
 pub fn map_in(held: &Held) -> Option<&LoadedMap>
-    ensures { option_map (λ map. map.now) result ≡ held_map (Some held.now) }
+    ensures { option_lent_items result ≡ held_map (Some held.now) }
 {
     match held {
         Held::Map(loaded) => Some(loaded),
@@ -140,7 +137,7 @@ pub fn map_in(held: &Held) -> Option<&LoadedMap>
 
 /// The text that is held.
 pub fn text_in(held: &Held) -> Option<&str>
-    ensures { option_map (λ text. text.now) result ≡ held_text (Some held.now) }
+    ensures { option_lent_items result ≡ held_text (Some held.now) }
 {
     match held {
         Held::Written(text) => Some(text.as_str()),

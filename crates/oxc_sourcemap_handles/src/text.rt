@@ -28,7 +28,7 @@ impl Text {
 
     /// An empty text where there is none.
     fn of_option(text: Option<&str>) -> Text
-        ensures { result.len ≡ length (unwrap_or (option_map (λ t. t.now) text.entry) []) }
+        ensures { result.len ≡ length (unwrap_or (option_lent_items text.entry) []) }
     {
         match text {
             Some(text) => Text::of(text.as_bytes()),

@@ -24,6 +24,10 @@ pub record Offset : Type 0 where
   pub line : ℕ
   pub column : ℕ
 
+-- this line and column
+abbrev pub position : ℕ → ℕ → Offset
+position line column = record { line = line; column = column }
+
 -- At the beginning of a line: joins at lines alone are joins at these offsets.
 abbrev pub at_line : ℕ → Offset
 at_line line = record { line = line; column = 0 }

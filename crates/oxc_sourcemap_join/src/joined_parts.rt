@@ -1,5 +1,5 @@
 //! Joining the parts of maps into those of one.
-ghost use Rattle.std.specs.Prelude.{◌≡◌, ◌↔◌, ◌≤◌, ◌<◌, ◌+◌, ◌++◌, ◌⊎◌, ℕ, [], map, option_map, length, replicate, drop, Some, None, IsTrue, IfSome, IfOk, IfErr, IsErrOf, OnOk, OnErr, vec_len};
+ghost use Rattle.std.specs.Prelude.{◌≡◌, ◌↔◌, ◌≤◌, ◌<◌, ◌+◌, ◌++◌, ◌⊎◌, [], map, option_map, length, replicate, drop, Some, None, IsTrue, IfSome, IfOk, IfErr, IsErrOf, OnOk, OnErr, vec_len};
 ghost use Rattle.std.specs.List.{All};
 ghost use Rattle.std.specs.Vec.{vec_capacity};
 ghost use Rattle.std.specs.Cow.{cow_str_bytes};
@@ -8,14 +8,15 @@ ghost use Rattle.oxc_sourcemap_tokens.specs.declared.error.Error.TheVariants.{Ou
 ghost use Rattle.oxc_sourcemap_tokens.specs.Token.{IsInBounds, AreInBounds, last};
 ghost use Rattle.oxc_sourcemap_tokens.specs.Chunks.{ChunksFit};
 ghost use Rattle.oxc_sourcemap_parts.specs.Views.{texts_of, contents_of, ids_of, record_of_parts};
-ghost use Rattle.oxc_sourcemap_join.specs.Joined.{fitted, raised_id, shifted_column, shifted, is_same_token, without_repeat, raised_ignore_list, appended_ignore_lists, added, nothing_joined, AreEntriesInBounds, IsWithinLimits};
+ghost use Rattle.oxc_sourcemap_join.specs.Joined.{fitted, raised_id, shifted_column, shifted, is_same_token, without_repeat, raised_ignore_list, appended_ignore_lists, added, nothing_joined, AreEntriesInBounds, IsWithinLimits, position};
 ghost use Rattle.oxc_sourcemap_join.specs.Joining.{offset_of, all_shifted, above, moving_column, greatest, IsAddition};
+ghost use Rattle.oxc_sourcemap_tokens.specs.Results.{OnlyMemory};
 
 use oxc_sourcemap_parts::{
     Contents, Names, SourceMapParts, Sources, contents_in, names_in, sources_in,
 };
-use oxc_sourcemap_tokens::{Error, Result, Token, TokenChunk, next_chunk};
-use std::alloc::{AllocError, Global};
+use oxc_sourcemap_tokens::{Error, Memory, Result, Token, TokenChunk, next_chunk};
+use std::alloc::Global;
 use std::borrow::CowStr;
 use std::marker::Model;
 
@@ -173,7 +174,7 @@ impl Shift {
 
     /// Whether all entries of an ignore list, raised by the number of sources before, are at most 4294967294.
     fn fits_ignore_list(&self, list: Option<&[u32]>) -> bool
-        ensures { IsTrue result ↔ AreEntriesInBounds (raised_ignore_list self.now.sources (option_map (λ ids. ids.now) list.entry)) }
+        ensures { IsTrue result ↔ AreEntriesInBounds (raised_ignore_list self.now.sources (option_lent_items list.entry)) }
     {
         match list {
             Some(ids) => are_raisable(ids, self.sources),
@@ -227,9 +228,9 @@ impl Shift {
         alloc: Global,
         list: &mut Option<Vec<u32>>,
         added: Option<&[u32]>,
-    ) -> std::result::Result<(), AllocError>
-        requires { AreEntriesInBounds (raised_ignore_list self.now.sources (option_map (λ ids. ids.now) added)) }
-        ensures added { OnOk result (ids_of list.new ≡ appended_ignore_lists (ids_of list.old) (raised_ignore_list self.now.sources (option_map (λ ids. ids.now) added.entry))) }
+    ) -> Memory<()>
+        requires { AreEntriesInBounds (raised_ignore_list self.now.sources (option_lent_items added)) }
+        ensures added { OnOk result (ids_of list.new ≡ appended_ignore_lists (ids_of list.old) (raised_ignore_list self.now.sources (option_lent_items added.entry))) }
         ensures unchanged { OnErr result (ids_of list.new ≡ ids_of list.old) }
     {
         let Some(added) = added else {
@@ -275,7 +276,7 @@ fn make_room<'a>(
     tokens: &mut Vec<Token>,
     chunks: &mut Vec<TokenChunk>,
     counts: Counts,
-) -> std::result::Result<(), AllocError>
+) -> Memory<()>
     ensures names { names.new.items ≡ names.old.items }
     ensures sources { sources.new.items ≡ sources.old.items }
     ensures contents { contents.new.items ≡ contents.old.items }
@@ -475,7 +476,7 @@ impl<'a> JoinedParts<'a> {
         token_chunks_len: usize,
     ) -> Result<JoinedParts<'a>>
         ensures parts { IfOk result (λ parts. parts ≡ nothing_joined) }
-        ensures refused { IfErr result (λ e. e ≡ OutOfMemory) }
+        ensures refused { OnlyMemory result }
     {
         Ok(JoinedParts {
             alloc,
@@ -504,8 +505,8 @@ impl<'a> JoinedParts<'a> {
 
     /// What an add of this map takes, None where it would pass a limit.
     fn addition(&self, parts: &SourceMapParts<'_>, line: u32, column: u32) -> Option<Addition>
-        ensures fits { IfSome result (λ a. IsAddition self.now (record_of_parts parts.now) (record { line = line; column = column }) a) }
-        ensures too_large { result ≡ None → ¬ (IsWithinLimits (added self.now (record_of_parts parts.now) (record { line = line; column = column }))) }
+        ensures fits { IfSome result (λ a. IsAddition self.now (record_of_parts parts.now) (position line column) a) }
+        ensures too_large { result ≡ None → ¬ (IsWithinLimits (added self.now (record_of_parts parts.now) (position line column))) }
     {
         let shift = Shift {
             names: self.names.len() as u32,
@@ -548,9 +549,9 @@ impl<'a> JoinedParts<'a> {
     /// 4294967295, or an id or an entry of the ignore list above 4294967294, then with `OutOfMemory` if memory is refused;
     /// the join is then as it was.
     pub fn add_lent(&mut self, parts: &'a SourceMapParts<'_>, line: u32, column: u32) -> Result<()>
-        ensures joined { OnOk result (self.new ≡ added self.old (record_of_parts parts.now) (record { line = line; column = column })) }
-        ensures limits { OnOk result (IsWithinLimits (added self.old (record_of_parts parts.now) (record { line = line; column = column }))) }
-        ensures too_large { IsErrOf result TooLarge ↔ ¬ (IsWithinLimits (added self.old (record_of_parts parts.now) (record { line = line; column = column }))) }
+        ensures joined { OnOk result (self.new ≡ added self.old (record_of_parts parts.now) (position line column)) }
+        ensures limits { OnOk result (IsWithinLimits (added self.old (record_of_parts parts.now) (position line column))) }
+        ensures too_large { IsErrOf result TooLarge ↔ ¬ (IsWithinLimits (added self.old (record_of_parts parts.now) (position line column))) }
         ensures refused { IfErr result (λ e. (e ≡ OutOfMemory) ⊎ (e ≡ TooLarge)) }
         ensures unchanged { OnErr result (self.new ≡ self.old) }
     {
@@ -590,9 +591,9 @@ impl<'a> JoinedParts<'a> {
     /// Appends a map as `add_lent` does, with the same result, but moves its strings and drops the rest of it. Fails as that
     /// does; the join is then as it was, and the map is dropped.
     pub fn add_moved(&mut self, parts: SourceMapParts<'a>, line: u32, column: u32) -> Result<()>
-        ensures joined { OnOk result (self.new ≡ added self.old (record_of_parts parts.entry) (record { line = line; column = column })) }
-        ensures limits { OnOk result (IsWithinLimits (added self.old (record_of_parts parts.entry) (record { line = line; column = column }))) }
-        ensures too_large { IsErrOf result TooLarge ↔ ¬ (IsWithinLimits (added self.old (record_of_parts parts.entry) (record { line = line; column = column }))) }
+        ensures joined { OnOk result (self.new ≡ added self.old (record_of_parts parts.entry) (position line column)) }
+        ensures limits { OnOk result (IsWithinLimits (added self.old (record_of_parts parts.entry) (position line column))) }
+        ensures too_large { IsErrOf result TooLarge ↔ ¬ (IsWithinLimits (added self.old (record_of_parts parts.entry) (position line column))) }
         ensures refused { IfErr result (λ e. (e ≡ OutOfMemory) ⊎ (e ≡ TooLarge)) }
         ensures unchanged { OnErr result (self.new ≡ self.old) }
     {

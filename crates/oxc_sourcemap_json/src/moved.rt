@@ -1,12 +1,12 @@
 //! The shape of a source map as an owned JSON value: strings are moved, and never copied.
-ghost use Rattle.std.specs.Prelude.{◌≡◌, ◌≢◌, ℕ, List, map, option_map, string_bytes, codes, false, IfOk, IfErr, Ok, Err, Some, None};
+ghost use Rattle.std.specs.Prelude.{◌≡◌, ℕ, List, map, option_map, string_bytes, codes, false, Ok, Err, Some, None};
 ghost use Rattle.std.specs.Str.{bytes_eq};
 ghost use Rattle.serde_json.specs.View.{view, members_view};
 ghost use Rattle.serde_json.specs.Find.{get_member};
-ghost use Rattle.oxc_sourcemap_tokens.specs.declared.error.Error.TheVariants.{OutOfMemory};
 ghost use Rattle.oxc_sourcemap_tokens.specs.declared.error.Field.TheVariants.{Mappings, Sources, SourcesContent};
 ghost use Rattle.oxc_sourcemap_json.specs.Json.{json_record, json_contents};
 ghost use Rattle.oxc_sourcemap_json.specs.Shape.{present, optional, required, text_in, texts_in, as_content, contents_in, names_of, shape};
+ghost use Rattle.oxc_sourcemap_tokens.specs.Results.{Gives, Answers};
 
 use crate::json_source_map::JSONSourceMap;
 use crate::shape::{read_either_list, read_version};
@@ -96,8 +96,7 @@ fn present(member: Option<Value>) -> Option<Value>
 
 /// A text.
 fn moved_text(member: Value, field: Field) -> Result<String>
-    ensures text { IfOk result (λ text. text_in field (view member) ≡ Ok (string_bytes text)) }
-    ensures refused { IfErr result (λ e. text_in field (view member) ≡ Err e) }
+    ensures { Gives string_bytes result (text_in field (view member)) }
 {
     match member {
         Value::String(text) => Ok(text),
@@ -107,8 +106,7 @@ fn moved_text(member: Value, field: Field) -> Result<String>
 
 /// A list of texts.
 fn moved_texts(alloc: Global, member: Value, field: Field) -> Result<Vec<String>>
-    ensures texts { IfOk result (λ texts. texts_in field (view member) ≡ Ok (map string_bytes texts.items)) }
-    ensures refused { IfErr result (λ e. (e ≢ OutOfMemory) → texts_in field (view member) ≡ Err e) }
+    ensures { Answers (λ texts. map string_bytes texts.items) result (texts_in field (view member)) }
 {
     let Value::Array(items) = member else {
         return Err(Error::BadJson(JsonFault::Shape(field)));
@@ -133,8 +131,7 @@ fn moved_content(item: Value) -> Option<Option<String>>
 
 /// A list of texts and nulls.
 fn moved_contents(alloc: Global, member: Value, field: Field) -> Result<Vec<Option<String>>>
-    ensures contents { IfOk result (λ contents. contents_in field (view member) ≡ Ok (map (option_map string_bytes) contents.items)) }
-    ensures refused { IfErr result (λ e. (e ≢ OutOfMemory) → contents_in field (view member) ≡ Err e) }
+    ensures { Answers (λ contents. map (option_map string_bytes) contents.items) result (contents_in field (view member)) }
 {
     let Value::Array(items) = member else {
         return Err(Error::BadJson(JsonFault::Shape(field)));
@@ -151,8 +148,7 @@ fn moved_contents(alloc: Global, member: Value, field: Field) -> Result<Vec<Opti
 
 /// A text that may be missing or null.
 fn optional_text(member: Option<Value>, field: Field) -> Result<Option<String>>
-    ensures text { IfOk result (λ text. optional (text_in field) (present (option_map view member)) ≡ Ok (option_map string_bytes text)) }
-    ensures refused { IfErr result (λ e. optional (text_in field) (present (option_map view member)) ≡ Err e) }
+    ensures { Gives (option_map string_bytes) result (optional (text_in field) (present (option_map view member))) }
 {
     match present(member) {
         Some(value) => Ok(Some(moved_text(value, field)?)),
@@ -162,8 +158,7 @@ fn optional_text(member: Option<Value>, field: Field) -> Result<Option<String>>
 
 /// The mappings, which must be there.
 fn moved_mappings(member: Option<Value>) -> Result<String>
-    ensures text { IfOk result (λ text. required Mappings (text_in Mappings) (option_map view member) ≡ Ok (string_bytes text)) }
-    ensures refused { IfErr result (λ e. required Mappings (text_in Mappings) (option_map view member) ≡ Err e) }
+    ensures { Gives string_bytes result (required Mappings (text_in Mappings) (option_map view member)) }
 {
     match member {
         Some(value) => moved_text(value, Field::Mappings),
@@ -173,8 +168,7 @@ fn moved_mappings(member: Option<Value>) -> Result<String>
 
 /// The sources, which must be there.
 fn moved_sources(alloc: Global, member: Option<Value>) -> Result<Vec<String>>
-    ensures texts { IfOk result (λ texts. required Sources (texts_in Sources) (option_map view member) ≡ Ok (map string_bytes texts.items)) }
-    ensures refused { IfErr result (λ e. (e ≢ OutOfMemory) → required Sources (texts_in Sources) (option_map view member) ≡ Err e) }
+    ensures { Answers (λ texts. map string_bytes texts.items) result (required Sources (texts_in Sources) (option_map view member)) }
 {
     match member {
         Some(value) => moved_texts(alloc, value, Field::Sources),
@@ -187,8 +181,7 @@ fn moved_sources_content(
     alloc: Global,
     member: Option<Value>,
 ) -> Result<Option<Vec<Option<String>>>>
-    ensures contents { IfOk result (λ contents. optional (contents_in SourcesContent) (present (option_map view member)) ≡ Ok (json_contents contents)) }
-    ensures refused { IfErr result (λ e. (e ≢ OutOfMemory) → optional (contents_in SourcesContent) (present (option_map view member)) ≡ Err e) }
+    ensures { Answers json_contents result (optional (contents_in SourcesContent) (present (option_map view member))) }
 {
     match present(member) {
         Some(value) => Ok(Some(moved_contents(alloc, value, Field::SourcesContent)?)),
@@ -198,8 +191,7 @@ fn moved_sources_content(
 
 /// The names, which may be missing but not null.
 fn moved_names(alloc: Global, member: Option<Value>) -> Result<Vec<String>>
-    ensures texts { IfOk result (λ texts. names_of (option_map view member) ≡ Ok (map string_bytes texts.items)) }
-    ensures refused { IfErr result (λ e. (e ≢ OutOfMemory) → names_of (option_map view member) ≡ Err e) }
+    ensures { Answers (λ texts. map string_bytes texts.items) result (names_of (option_map view member)) }
 {
     match member {
         Some(value) => moved_texts(alloc, value, Field::Names),
@@ -211,8 +203,7 @@ fn moved_names(alloc: Global, member: Option<Value>) -> Result<Vec<String>>
 /// the value is dropped. Fails as that call does.
 #[tactic(auto, unfolding(crate::specs::Shape::shape))]
 pub fn json_of(alloc: Global, value: Value) -> Result<JSONSourceMap>
-    ensures json { IfOk result (λ json. shape (view value) ≡ Ok (json_record json)) }
-    ensures refused { IfErr result (λ e. (e ≢ OutOfMemory) → shape (view value) ≡ Err e) }
+    ensures { Answers json_record result (shape (view value)) }
 {
     let Value::Object(object) = value else {
         return Err(Error::BadJson(JsonFault::Shape(Field::Object)));

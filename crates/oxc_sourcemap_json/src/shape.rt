@@ -1,11 +1,11 @@
 //! The shape of a source map as a JSON value.
-ghost use Rattle.std.specs.Prelude.{◌≡◌, ◌≢◌, map, option_map, string_bytes, codes, IfOk, IfErr, Ok, Err, Some, None, Option};
+ghost use Rattle.std.specs.Prelude.{◌≡◌, map, option_map, string_bytes, codes, Ok, Err, Some, None, Option};
 ghost use Rattle.serde_json.specs.View.{view};
-ghost use Rattle.serde_json.specs.Find.{get, as_object};
-ghost use Rattle.oxc_sourcemap_tokens.specs.declared.error.Error.TheVariants.{OutOfMemory};
+ghost use Rattle.serde_json.specs.Find.{get};
 ghost use Rattle.oxc_sourcemap_tokens.specs.declared.error.Field.TheVariants.{Version as VersionField, Mappings, Sources, SourcesContent};
 ghost use Rattle.oxc_sourcemap_json.specs.Json.{json_record, json_contents};
 ghost use Rattle.oxc_sourcemap_json.specs.Shape.{present, optional, required, text_in, texts_in, contents_in, ids_in, version_in, names_of, ignore_list_of, as_id, file_of, shape};
+ghost use Rattle.oxc_sourcemap_tokens.specs.Results.{Answers};
 
 use crate::json_source_map::JSONSourceMap;
 use oxc_sourcemap_tokens::{Error, Field, JsonFault, Result};
@@ -22,8 +22,7 @@ fn present(member: Option<&Value>) -> Option<&Value>
 
 /// A text.
 fn read_text(alloc: Global, member: &Value, field: Field) -> Result<String>
-    ensures text { IfOk result (λ text. text_in field (view member.now) ≡ Ok (string_bytes text)) }
-    ensures refused { IfErr result (λ e. (e ≢ OutOfMemory) → text_in field (view member.now) ≡ Err e) }
+    ensures { Answers string_bytes result (text_in field (view member.now)) }
 {
     let Some(text) = member.as_str() else {
         return Err(Error::BadJson(JsonFault::Shape(field)));
@@ -33,8 +32,7 @@ fn read_text(alloc: Global, member: &Value, field: Field) -> Result<String>
 
 /// A list of texts.
 fn read_texts(alloc: Global, member: &Value, field: Field) -> Result<Vec<String>>
-    ensures texts { IfOk result (λ texts. texts_in field (view member.now) ≡ Ok (map string_bytes texts.items)) }
-    ensures refused { IfErr result (λ e. (e ≢ OutOfMemory) → texts_in field (view member.now) ≡ Err e) }
+    ensures { Answers (λ texts. map string_bytes texts.items) result (texts_in field (view member.now)) }
 {
     let Some(items) = member.as_array() else {
         return Err(Error::BadJson(JsonFault::Shape(field)));
@@ -62,8 +60,7 @@ pub fn read_id(item: &Value) -> Option<u32>
 
 /// A list of whole numbers of 0 to 4294967295.
 fn read_ids(alloc: Global, member: &Value, field: Field) -> Result<Vec<u32>>
-    ensures ids { IfOk result (λ ids. ids_in field (view member.now) ≡ Ok ids.items) }
-    ensures refused { IfErr result (λ e. (e ≢ OutOfMemory) → ids_in field (view member.now) ≡ Err e) }
+    ensures { Answers (λ ids. ids.items) result (ids_in field (view member.now)) }
 {
     let Some(items) = member.as_array() else {
         return Err(Error::BadJson(JsonFault::Shape(field)));
@@ -80,8 +77,7 @@ fn read_ids(alloc: Global, member: &Value, field: Field) -> Result<Vec<u32>>
 
 /// A list of texts and nulls.
 fn read_contents(alloc: Global, member: &Value, field: Field) -> Result<Vec<Option<String>>>
-    ensures contents { IfOk result (λ contents. contents_in field (view member.now) ≡ Ok (map (option_map string_bytes) contents.items)) }
-    ensures refused { IfErr result (λ e. (e ≢ OutOfMemory) → contents_in field (view member.now) ≡ Err e) }
+    ensures { Answers (λ contents. map (option_map string_bytes) contents.items) result (contents_in field (view member.now)) }
 {
     let Some(items) = member.as_array() else {
         return Err(Error::BadJson(JsonFault::Shape(field)));
@@ -114,8 +110,7 @@ pub(crate) fn read_version(member: Option<&Value>) -> Result<u32>
 
 /// A text that may be missing or null.
 fn optional_text(alloc: Global, value: &Value, key: &str, field: Field) -> Result<Option<String>>
-    ensures text { IfOk result (λ text. optional (text_in field) (present (get key.now (view value.now))) ≡ Ok (option_map string_bytes text)) }
-    ensures refused { IfErr result (λ e. (e ≢ OutOfMemory) → optional (text_in field) (present (get key.now (view value.now))) ≡ Err e) }
+    ensures { Answers (option_map string_bytes) result (optional (text_in field) (present (get key.now (view value.now)))) }
 {
     let Some(member) = present(value.get(key)) else {
         return Ok(None);
@@ -125,8 +120,7 @@ fn optional_text(alloc: Global, value: &Value, key: &str, field: Field) -> Resul
 
 /// The mappings, which must be there.
 fn read_mappings(alloc: Global, value: &Value) -> Result<String>
-    ensures text { IfOk result (λ text. required Mappings (text_in Mappings) (get (codes "mappings") (view value.now)) ≡ Ok (string_bytes text)) }
-    ensures refused { IfErr result (λ e. (e ≢ OutOfMemory) → required Mappings (text_in Mappings) (get (codes "mappings") (view value.now)) ≡ Err e) }
+    ensures { Answers string_bytes result (required Mappings (text_in Mappings) (get (codes "mappings") (view value.now))) }
 {
     let Some(member) = value.get("mappings") else {
         return Err(Error::BadJson(JsonFault::Shape(Field::Mappings)));
@@ -136,8 +130,7 @@ fn read_mappings(alloc: Global, value: &Value) -> Result<String>
 
 /// The sources, which must be there.
 fn read_sources(alloc: Global, value: &Value) -> Result<Vec<String>>
-    ensures texts { IfOk result (λ texts. required Sources (texts_in Sources) (get (codes "sources") (view value.now)) ≡ Ok (map string_bytes texts.items)) }
-    ensures refused { IfErr result (λ e. (e ≢ OutOfMemory) → required Sources (texts_in Sources) (get (codes "sources") (view value.now)) ≡ Err e) }
+    ensures { Answers (λ texts. map string_bytes texts.items) result (required Sources (texts_in Sources) (get (codes "sources") (view value.now))) }
 {
     let Some(member) = value.get("sources") else {
         return Err(Error::BadJson(JsonFault::Shape(Field::Sources)));
@@ -147,8 +140,7 @@ fn read_sources(alloc: Global, value: &Value) -> Result<Vec<String>>
 
 /// The contents of sources, which may be missing or null.
 fn read_sources_content(alloc: Global, value: &Value) -> Result<Option<Vec<Option<String>>>>
-    ensures contents { IfOk result (λ contents. optional (contents_in SourcesContent) (present (get (codes "sourcesContent") (view value.now))) ≡ Ok (json_contents contents)) }
-    ensures refused { IfErr result (λ e. (e ≢ OutOfMemory) → optional (contents_in SourcesContent) (present (get (codes "sourcesContent") (view value.now))) ≡ Err e) }
+    ensures { Answers json_contents result (optional (contents_in SourcesContent) (present (get (codes "sourcesContent") (view value.now)))) }
 {
     let Some(member) = present(value.get("sourcesContent")) else {
         return Ok(None);
@@ -158,8 +150,7 @@ fn read_sources_content(alloc: Global, value: &Value) -> Result<Option<Vec<Optio
 
 /// The names, which may be missing but not null.
 fn read_names(alloc: Global, value: &Value) -> Result<Vec<String>>
-    ensures texts { IfOk result (λ texts. names_of (get (codes "names") (view value.now)) ≡ Ok (map string_bytes texts.items)) }
-    ensures refused { IfErr result (λ e. (e ≢ OutOfMemory) → names_of (get (codes "names") (view value.now)) ≡ Err e) }
+    ensures { Answers (λ texts. map string_bytes texts.items) result (names_of (get (codes "names") (view value.now))) }
 {
     match value.get("names") {
         Some(member) => read_texts(alloc, member, Field::Names),
@@ -173,8 +164,7 @@ pub(crate) fn read_either_list(
     member: Option<&Value>,
     older: Option<&Value>,
 ) -> Result<Option<Vec<u32>>>
-    ensures ids { IfOk result (λ ids. ignore_list_of (present (option_map (λ value. view value.now) member.entry)) (present (option_map (λ value. view value.now) older.entry)) ≡ Ok (option_map (λ list. list.items) ids)) }
-    ensures refused { IfErr result (λ e. (e ≢ OutOfMemory) → ignore_list_of (present (option_map (λ value. view value.now) member.entry)) (present (option_map (λ value. view value.now) older.entry)) ≡ Err e) }
+    ensures { Answers (option_map (λ list. list.items)) result (ignore_list_of (present (option_map (λ value. view value.now) member.entry)) (present (option_map (λ value. view value.now) older.entry))) }
 {
     if let Some(list) = present(member) {
         return Ok(Some(read_ids(alloc, list, Field::IgnoreList)?));
@@ -187,8 +177,7 @@ pub(crate) fn read_either_list(
 
 /// The ignore list of a value.
 fn read_ignore_list(alloc: Global, value: &Value) -> Result<Option<Vec<u32>>>
-    ensures ids { IfOk result (λ ids. ignore_list_of (present (get (codes "ignoreList") (view value.now))) (present (get (codes "x_google_ignoreList") (view value.now))) ≡ Ok (option_map (λ list. list.items) ids)) }
-    ensures refused { IfErr result (λ e. (e ≢ OutOfMemory) → ignore_list_of (present (get (codes "ignoreList") (view value.now))) (present (get (codes "x_google_ignoreList") (view value.now))) ≡ Err e) }
+    ensures { Answers (option_map (λ list. list.items)) result (ignore_list_of (present (get (codes "ignoreList") (view value.now))) (present (get (codes "x_google_ignoreList") (view value.now)))) }
 {
     read_either_list(
         alloc,
@@ -206,8 +195,7 @@ fn read_ignore_list(alloc: Global, value: &Value) -> Result<Option<Vec<u32>>>
 ///   value, and if it is missing;
 /// - `file`: `Shape(File)` unless it is a string, null or missing.
 pub fn file_from_value(alloc: Global, value: &Value) -> Result<Option<String>>
-    ensures file { IfOk result (λ file. file_of (view value.now) ≡ Ok (option_map string_bytes file)) }
-    ensures refused { IfErr result (λ e. (e ≢ OutOfMemory) → file_of (view value.now) ≡ Err e) }
+    ensures { Answers (option_map string_bytes) result (file_of (view value.now)) }
 {
     if value.as_object().is_none() {
         return Err(Error::BadJson(JsonFault::Shape(Field::Object)));
@@ -234,8 +222,7 @@ impl JSONSourceMap {
     /// - `ignoreList`: `Shape(IgnoreList)` unless it is a list of whole numbers of 0 to 4294967295, null or missing; if it is
     ///   null or missing, `x_google_ignoreList` in its place, with `Shape(GoogleIgnoreList)`.
     pub fn from_value(alloc: Global, value: &Value) -> Result<JSONSourceMap>
-        ensures json { IfOk result (λ json. shape (view value.now) ≡ Ok (json_record json)) }
-        ensures refused { IfErr result (λ e. (e ≢ OutOfMemory) → shape (view value.now) ≡ Err e) }
+        ensures { Answers json_record result (shape (view value.now)) }
     {
         let file = file_from_value(alloc, value)?;
         let mappings = read_mappings(alloc, value)?;

@@ -1,5 +1,5 @@
 -- Looking up by generated position, in any list of items that have a line and a column.
-use Rattle.std.specs.Prelude.{ℕ, ◌+◌, Bool, true, ◌&&◌, List, [], ◌∷◌, map, filter, max, slice_get, Option, Some, None, option_map, Result, Ok, if◌then◌else◌, nat_le, ◌==◌}
+use Rattle.std.specs.Prelude.{◌≡◌, ℕ, ◌+◌, Bool, true, ◌&&◌, List, [], ◌∷◌, map, filter, max, slice_get, Option, Some, None, option_map, Result, Ok, if◌then◌else◌, nat_le, ◌==◌}
 use Rattle.std.specs.List.{range_with_len}
 use Rattle.std.specs.Option.{unwrap_or, option_or}
 use Rattle.oxc_sourcemap_tokens.specs.declared.error.Error.{Error}
@@ -7,7 +7,7 @@ use Rattle.oxc_sourcemap_tokens.specs.declared.error.Error.TheVariants.{LineOrde
 use Rattle.oxc_sourcemap_tokens.specs.Refusals.{unless}
 use Rattle.oxc_sourcemap_tokens.specs.Token.{last, TokenRecord}
 use Rattle.oxc_sourcemap_tokens.specs.LineOrder.{first_out_of_order}
-use Rattle.oxc_sourcemap_parts.specs.Sorted.{token_line}
+use Rattle.oxc_sourcemap_parts.specs.Sorted.{are_tokens_sorted, token_line, token_column}
 
 -- the first item
 abbrev pub first : {A : Type 0} → List A → Option A
@@ -76,3 +76,14 @@ line_table tokens = unless (table_fault tokens) (Ok (tokens_by_line tokens))
 -- the tokens that a table has for a line: none past its end
 abbrev pub slice_of : List (List TokenRecord) → ℕ → List TokenRecord
 slice_of table n = unwrap_or (slice_get table n) []
+
+-- the token that a position looks up, and the one that it looks up clamped
+abbrev pub token_for : List TokenRecord → ℕ → ℕ → Option TokenRecord
+token_for tokens line col = pick token_line token_column tokens line col
+
+abbrev pub clamped_token_for : List TokenRecord → ℕ → ℕ → Option TokenRecord
+clamped_token_for tokens line col = clamped_pick token_line token_column tokens line col
+
+-- This holds, if the tokens are sorted and the table is their own.
+abbrev pub IfOwnTable : List TokenRecord → List (List TokenRecord) → Type 0 → Type 0
+IfOwnTable tokens table holds = are_tokens_sorted tokens ≡ true → line_table tokens ≡ Ok table → holds

@@ -2,15 +2,14 @@
 //! map from generated to original code.
 ghost use Rattle.std.specs.Prelude.{◌≡◌, ◌≢◌, ◌++◌, List, map, IfOk, OnOk, IfErr, Ok, Err, Some, None, true, false};
 ghost use Rattle.std.specs.Box.{boxed_slice_items};
-ghost use Rattle.std.specs.Cow.{cow_str_bytes};
 ghost use Rattle.oxc_sourcemap_tokens.specs.declared.error.Error.{Error};
 ghost use Rattle.oxc_sourcemap_tokens.specs.declared.error.Error.TheVariants.{OutOfMemory, TooLarge};
-ghost use Rattle.oxc_sourcemap_parts.specs.Views.{texts_of, record_of_parts};
-ghost use Rattle.oxc_sourcemap_parts.specs.Sorted.{are_tokens_sorted};
+ghost use Rattle.oxc_sourcemap_parts.specs.Views.{texts_of, record_of_parts, cow_texts};
 ghost use Rattle.oxc_sourcemap_lookup.specs.LineSpans.{IsIndexOf};
 ghost use Rattle.oxc_sourcemap_lookup.specs.Composed.{Target, target_of, line_of, IsTarget, AreTargets, inherited_name, composed_names, composed_token, may_be_id, are_ids, composition_fault, composition, SomeComposition, NoColumnGoesBack};
 ghost use Rattle.oxc_sourcemap_lookup.specs.InheritedNames.{with_inherited, inherited_index};
 ghost use Rattle.oxc_sourcemap_lookup.specs.Inherited.{names_with, IsInheriting};
+ghost use Rattle.oxc_sourcemap_tokens.specs.Results.{FailsBy, Reports};
 
 use crate::inherited_names::{InheritedNames, copied_names, inherit_id, no_names};
 use crate::line_index::LineIndex;
@@ -29,17 +28,17 @@ fn composed_token<'n>(
     token: &Token,
     found: Option<Token>,
 ) -> Result<Token>
-    requires { IsInheriting (map cow_str_bytes first.now) (map cow_str_bytes second.now) inherited.old }
-    ensures names { let name = inherited_name (map cow_str_bytes first.now) (target_of token.now found) in
-        let second = map cow_str_bytes second.now in
+    requires { IsInheriting (cow_texts first.now) (cow_texts second.now) inherited.old }
+    ensures names { let name = inherited_name (cow_texts first.now) (target_of token.now found) in
+        let second = cow_texts second.now in
         OnOk result (names_with second inherited.new ≡ with_inherited (names_with second inherited.old) name) }
-    ensures token { IfOk result (λ t. t ≡ composed_token (map cow_str_bytes first.now) (names_with (map cow_str_bytes second.now) inherited.new) (target_of token.now found)) }
-    ensures id { let name = inherited_name (map cow_str_bytes first.now) (target_of token.now found) in
-        OnOk result (may_be_id (inherited_index (names_with (map cow_str_bytes second.now) inherited.new) name) ≡ true) }
-    ensures kept { OnOk result (IsInheriting (map cow_str_bytes first.now) (map cow_str_bytes second.now) inherited.new) }
-    ensures refused { let name = inherited_name (map cow_str_bytes first.now) (target_of token.now found) in
+    ensures token { IfOk result (λ t. t ≡ composed_token (cow_texts first.now) (names_with (cow_texts second.now) inherited.new) (target_of token.now found)) }
+    ensures id { let name = inherited_name (cow_texts first.now) (target_of token.now found) in
+        OnOk result (may_be_id (inherited_index (names_with (cow_texts second.now) inherited.new) name) ≡ true) }
+    ensures kept { OnOk result (IsInheriting (cow_texts first.now) (cow_texts second.now) inherited.new) }
+    ensures refused { let name = inherited_name (cow_texts first.now) (target_of token.now found) in
         IfErr result (λ e. (e ≢ OutOfMemory) → (e ≡ TooLarge)
-        × (may_be_id (inherited_index (with_inherited (names_with (map cow_str_bytes second.now) inherited.old) name) name) ≡ false)) }
+        × (may_be_id (inherited_index (with_inherited (names_with (cow_texts second.now) inherited.old) name) name) ≡ false)) }
 {
     let (line, col) = (token.get_dst_line(), token.get_dst_col());
     let Some(found) = found else {
@@ -83,12 +82,12 @@ fn composed_tokens<'a>(
     index: &LineIndex,
 ) -> Result<(Vec<Token>, Vec<CowStr<'a>>)>
     requires { IsIndexOf input.now index.now }
-    ensures composed { let olds = map cow_str_bytes first.now in let names = map cow_str_bytes second.now in
+    ensures composed { let olds = cow_texts first.now in let names = cow_texts second.now in
         IfOk result (λ made. (ls : List Target) × AreTargets tokens.now input.now ls
         × (names ++ texts_of made.1 ≡ composed_names olds names ls)
         × (made.0.items ≡ map (composed_token olds (names ++ texts_of made.1)) ls)
         × (are_ids olds (names ++ texts_of made.1) ls ≡ true)) }
-    ensures refused { let olds = map cow_str_bytes first.now in let names = map cow_str_bytes second.now in
+    ensures refused { let olds = cow_texts first.now in let names = cow_texts second.now in
         IfErr result (λ e. (e ≢ OutOfMemory) → (e ≡ TooLarge) × (ls : List Target) × AreTargets tokens.now input.now ls
         × (are_ids olds (composed_names olds names ls) ls ≡ false)) }
 {
@@ -111,8 +110,8 @@ fn input_index(
     second: &SourceMapParts<'_>,
 ) -> Result<LineIndex>
     ensures index { IfOk result (λ index. (composition_fault (record_of_parts first.now) (record_of_parts second.now) ≡ None) × IsIndexOf (boxed_slice_items second.now.tokens) index) }
-    ensures refused { IfErr result (λ e. (e ≢ OutOfMemory) → composition_fault (record_of_parts first.now) (record_of_parts second.now) ≡ Some e) }
-    ensures fault { (e : Error) → composition_fault (record_of_parts first.now) (record_of_parts second.now) ≡ Some e → result ≡ Err e }
+    ensures refused { FailsBy (composition_fault (record_of_parts first.now) (record_of_parts second.now)) result }
+    ensures fault { Reports (composition_fault (record_of_parts first.now) (record_of_parts second.now)) result }
 {
     if first.sources.len() > 1 {
         return Err(Error::SeveralSources(first.sources.len()));
@@ -128,7 +127,7 @@ fn compose_into(
 ) -> Result<()>
     ensures made { OnOk result (SomeComposition (record_of_parts first.old) (record_of_parts second.old) (Ok (record_of_parts second.new))) }
     ensures refused { IfErr result (λ e. (e ≢ OutOfMemory) → SomeComposition (record_of_parts first.old) (record_of_parts second.old) (Err e)) }
-    ensures fault { (e : Error) → composition_fault (record_of_parts first.old) (record_of_parts second.old) ≡ Some e → result ≡ Err e }
+    ensures fault { Reports (composition_fault (record_of_parts first.old) (record_of_parts second.old)) result }
 {
     let index = input_index(alloc, first, second)?;
     let (tokens, mut names) = composed_tokens(
@@ -163,7 +162,7 @@ pub fn compose_parts<'input>(
         NoColumnGoesBack b.tokens → IfErr result (λ e. (e ≢ OutOfMemory) → composition a b ≡ Err e) }
     ensures any_map { IfOk result (λ parts. SomeComposition (record_of_parts first.entry) (record_of_parts second.entry) (Ok (record_of_parts parts))) }
     ensures any_refused { IfErr result (λ e. (e ≢ OutOfMemory) → SomeComposition (record_of_parts first.entry) (record_of_parts second.entry) (Err e)) }
-    ensures fault { (e : Error) → composition_fault (record_of_parts first.entry) (record_of_parts second.entry) ≡ Some e → result ≡ Err e }
+    ensures fault { Reports (composition_fault (record_of_parts first.entry) (record_of_parts second.entry)) result }
 {
     compose_into(alloc, &mut first, &mut second)?;
     Ok(second)

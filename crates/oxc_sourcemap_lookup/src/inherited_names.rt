@@ -1,16 +1,16 @@
 //! The names that a composed map inherits from the first map. Their ids are found by hashing.
-ghost use Rattle.std.specs.Prelude.{◌≡◌, ◌≢◌, ◌<◌, ◌≤◌, ◌⊎◌, ℕ, [], length, map, option_map, slice_get, IfOk, OnOk, IfErr, Some, None, true, false};
-ghost use Rattle.std.specs.Cow.{cow_str_bytes};
+ghost use Rattle.std.specs.Prelude.{◌≡◌, ◌≢◌, ◌<◌, ◌≤◌, [], slice_get, IfOk, OnOk, IfErr, Some, None, true, false};
 ghost use Rattle.std.specs.Option.{option_and_then};
 ghost use Rattle.oxc_sourcemap_tokens.specs.declared.error.Error.TheVariants.{OutOfMemory, TooLarge};
-ghost use Rattle.oxc_sourcemap_parts.specs.Views.{texts_of};
+ghost use Rattle.oxc_sourcemap_parts.specs.Views.{texts_of, cow_texts};
 ghost use Rattle.oxc_sourcemap_parts.specs.Texts.{index_of, with_text};
 ghost use Rattle.oxc_sourcemap_lookup.specs.Composed.{may_be_id};
 ghost use Rattle.oxc_sourcemap_lookup.specs.InheritedNames.{with_inherited, inherited_index};
 ghost use Rattle.oxc_sourcemap_lookup.specs.Inherited.{names_with, HasPlaces, HasNames, IsInheriting};
+ghost use Rattle.oxc_sourcemap_tokens.specs.Results.{lent_items};
 
-use oxc_sourcemap_tokens::{Error, Result};
-use std::alloc::{AllocError, Global};
+use oxc_sourcemap_tokens::{Error, Memory, Result};
+use std::alloc::Global;
 use std::borrow::CowStr;
 use std::collections::HashMap;
 
@@ -30,8 +30,8 @@ pub(crate) fn no_names<'n>(
     alloc: Global,
     first: &[CowStr<'_>],
     second: &[CowStr<'_>],
-) -> std::result::Result<InheritedNames<'n>, AllocError>
-    ensures { IfOk result (λ inherited. IsInheriting (map cow_str_bytes first.now) (map cow_str_bytes second.now) inherited × (names_with (map cow_str_bytes second.now) inherited ≡ map cow_str_bytes second.now)) }
+) -> Memory<InheritedNames<'n>>
+    ensures { IfOk result (λ inherited. IsInheriting (cow_texts first.now) (cow_texts second.now) inherited × (names_with (cow_texts second.now) inherited ≡ cow_texts second.now)) }
 {
     let mut ids = Vec::with_capacity(alloc, first.len())?;
     ids.resize(first.len(), None)?;
@@ -46,9 +46,9 @@ pub(crate) fn no_names<'n>(
 fn fill_places<'n>(
     places: &mut HashMap<&'n str, usize>,
     names: &'n [CowStr<'_>],
-) -> std::result::Result<(), AllocError>
+) -> Memory<()>
     requires { places.old.entries ≡ [] }
-    ensures { OnOk result (HasPlaces (map cow_str_bytes names.now) places.new) }
+    ensures { OnOk result (HasPlaces (cow_texts names.now) places.new) }
 {
     places.reserve(names.len())?;
     for (i, name) in names.iter().enumerate() {
@@ -61,9 +61,9 @@ fn fill_places<'n>(
 fn fill<'n>(
     inherited: &mut InheritedNames<'n>,
     second: &'n [CowStr<'_>],
-) -> std::result::Result<(), AllocError>
-    requires { HasNames (map cow_str_bytes second.now) inherited.old }
-    ensures places { OnOk result (HasPlaces (names_with (map cow_str_bytes second.now) inherited.new) inherited.new.places) }
+) -> Memory<()>
+    requires { HasNames (cow_texts second.now) inherited.old }
+    ensures places { OnOk result (HasPlaces (names_with (cow_texts second.now) inherited.new) inherited.new.places) }
     ensures names { inherited.new.names.items ≡ inherited.old.names.items }
     ensures ids { inherited.new.ids.items ≡ inherited.old.ids.items }
 {
@@ -90,14 +90,14 @@ fn inherit_name<'n>(
     second: &'n [CowStr<'_>],
     name: &'n str,
 ) -> Result<u32>
-    requires { HasNames (map cow_str_bytes second.now) inherited.old }
-    ensures names { let second = map cow_str_bytes second.now in
+    requires { HasNames (cow_texts second.now) inherited.old }
+    ensures names { let second = cow_texts second.now in
         OnOk result (names_with second inherited.new ≡ with_text (names_with second inherited.old) name.now) }
-    ensures id { IfOk result (λ id. (index_of name.now (names_with (map cow_str_bytes second.now) inherited.new) ≡ Some id) × (id < 4294967295)) }
-    ensures kept { OnOk result (HasNames (map cow_str_bytes second.now) inherited.new) }
+    ensures id { IfOk result (λ id. (index_of name.now (names_with (cow_texts second.now) inherited.new) ≡ Some id) × (id < 4294967295)) }
+    ensures kept { OnOk result (HasNames (cow_texts second.now) inherited.new) }
     ensures ids { inherited.new.ids.items ≡ inherited.old.ids.items }
     ensures refused { IfErr result (λ e. (e ≢ OutOfMemory) → (e ≡ TooLarge)
-        × (may_be_id (index_of name.now (with_text (names_with (map cow_str_bytes second.now) inherited.old) name.now)) ≡ false)) }
+        × (may_be_id (index_of name.now (with_text (names_with (cow_texts second.now) inherited.old) name.now)) ≡ false)) }
 {
     fill(inherited, second)?;
     if let Some(index) = inherited.places.get(name) {
@@ -117,16 +117,16 @@ pub(crate) fn inherit_id<'n>(
     second: &'n [CowStr<'_>],
     id: Option<u32>,
 ) -> Result<Option<u32>>
-    requires { IsInheriting (map cow_str_bytes first.now) (map cow_str_bytes second.now) inherited.old }
-    ensures names { let name = option_and_then (slice_get (map cow_str_bytes first.now)) id in
-        let second = map cow_str_bytes second.now in
+    requires { IsInheriting (cow_texts first.now) (cow_texts second.now) inherited.old }
+    ensures names { let name = option_and_then (slice_get (cow_texts first.now)) id in
+        let second = cow_texts second.now in
         OnOk result (names_with second inherited.new ≡ with_inherited (names_with second inherited.old) name) }
-    ensures id { let name = option_and_then (slice_get (map cow_str_bytes first.now)) id in
-        IfOk result (λ id. (inherited_index (names_with (map cow_str_bytes second.now) inherited.new) name ≡ id) × (may_be_id id ≡ true)) }
-    ensures kept { OnOk result (IsInheriting (map cow_str_bytes first.now) (map cow_str_bytes second.now) inherited.new) }
-    ensures refused { let name = option_and_then (slice_get (map cow_str_bytes first.now)) id in
+    ensures id { let name = option_and_then (slice_get (cow_texts first.now)) id in
+        IfOk result (λ id. (inherited_index (names_with (cow_texts second.now) inherited.new) name ≡ id) × (may_be_id id ≡ true)) }
+    ensures kept { OnOk result (IsInheriting (cow_texts first.now) (cow_texts second.now) inherited.new) }
+    ensures refused { let name = option_and_then (slice_get (cow_texts first.now)) id in
         IfErr result (λ e. (e ≢ OutOfMemory) → (e ≡ TooLarge)
-        × (may_be_id (inherited_index (with_inherited (names_with (map cow_str_bytes second.now) inherited.old) name) name) ≡ false)) }
+        × (may_be_id (inherited_index (with_inherited (names_with (cow_texts second.now) inherited.old) name) name) ≡ false)) }
 {
     let Some(id) = id else {
         return Ok(None);
@@ -147,8 +147,8 @@ pub(crate) fn inherit_id<'n>(
 pub(crate) fn copied_names<'a>(
     alloc: Global,
     inherited: InheritedNames<'_>,
-) -> std::result::Result<Vec<CowStr<'a>>, AllocError>
-    ensures { IfOk result (λ copies. texts_of copies ≡ map (λ name. name.now) inherited.entry.names.items) }
+) -> Memory<Vec<CowStr<'a>>>
+    ensures { IfOk result (λ copies. texts_of copies ≡ lent_items inherited.entry.names.items) }
 {
     let InheritedNames { names, .. } = inherited;
     let mut copies = Vec::with_capacity(alloc, names.len())?;

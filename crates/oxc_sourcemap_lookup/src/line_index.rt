@@ -1,17 +1,18 @@
 //! The index of the lines of a list of tokens: where the tokens of each line lie.
-ghost use Rattle.std.specs.Prelude.{ℕ, ◌+◌, ◌*◌, ◌^◌, ◌≡◌, ◌≢◌, ◌↔◌, ◌<◌, ◌≤◌, true, IsTrue, length, get_or, option_map, slice_get, IfOk, IfErr, IfSome, IsNone, Ok, Err, Some, None};
-ghost use Rattle.std.specs.List.{All, Contains, prefix_len};
+ghost use Rattle.std.specs.Prelude.{ℕ, ◌+◌, ◌*◌, ◌^◌, ◌≡◌, ◌≢◌, ◌↔◌, ◌<◌, ◌≤◌, true, IsTrue, length, get_or, option_map, slice_get, IfOk, IfSome, IsNone, Ok, Err, Some, None};
+ghost use Rattle.std.specs.List.{All, Contains};
 ghost use Rattle.oxc_sourcemap_tokens.specs.declared.error.Error.{Error};
 ghost use Rattle.oxc_sourcemap_tokens.specs.declared.error.Error.TheVariants.{LineOrder, OutOfMemory};
 ghost use Rattle.oxc_sourcemap_tokens.specs.LineOrder.{IsInLineOrder, first_out_of_order};
-ghost use Rattle.oxc_sourcemap_parts.specs.Sorted.{are_tokens_sorted, token_line, token_column};
-ghost use Rattle.oxc_sourcemap_lookup.specs.Lookup.{on_line, lines_through, pick, clamped_pick};
+ghost use Rattle.oxc_sourcemap_parts.specs.Sorted.{are_tokens_sorted, token_line};
+ghost use Rattle.oxc_sourcemap_lookup.specs.Lookup.{on_line, lines_through, token_for, clamped_token_for};
 ghost use Rattle.oxc_sourcemap_tokens.specs.Token.{last};
 ghost use Rattle.oxc_sourcemap_lookup.specs.LineSpans.{AreStarts, AreSpans, DoLinesRise, AreLines, IsIndexOf};
+ghost use Rattle.oxc_sourcemap_tokens.specs.Results.{FailsBy, Reports};
 
 use crate::lookup::{line_count, line_length, search, search_clamped};
-use oxc_sourcemap_tokens::{Error, Result, Token, line_order_fault};
-use std::alloc::{AllocError, Global};
+use oxc_sourcemap_tokens::{Error, Memory, Result, Token, line_order_fault};
+use std::alloc::Global;
 
 /// Where the tokens of one line lie in the list: from index `start` up to but not including `end`.
 #[derive(Clone, Copy)]
@@ -47,7 +48,7 @@ fn has_few_lines(tokens: &[Token]) -> bool
 }
 
 /// Where each line begins, and where the last one ends; None if the tokens are not in line order.
-fn starts_of(alloc: Global, tokens: &[Token]) -> std::result::Result<Option<Vec<u32>>, AllocError>
+fn starts_of(alloc: Global, tokens: &[Token]) -> Memory<Option<Vec<u32>>>
     requires small { length tokens.now < 2 ^ 32 }
     requires few { lines_through (last tokens.now) ≤ 4 * length tokens.now + 16 }
     ensures starts { IfOk result (λ found. IfSome found (λ starts. AreStarts tokens.now starts.items)) }
@@ -72,7 +73,7 @@ fn starts_of(alloc: Global, tokens: &[Token]) -> std::result::Result<Option<Vec<
 fn spans_of(
     alloc: Global,
     tokens: &[Token],
-) -> std::result::Result<Option<Vec<LineSpan>>, AllocError>
+) -> Memory<Option<Vec<LineSpan>>>
     ensures spans { IfOk result (λ found. IfSome found (λ spans. AreSpans tokens.now spans.items)) }
     ensures out_of_order { IfOk result (λ found. IsNone found → IsInLineOrder tokens.now → ⊥) }
 {
@@ -94,7 +95,7 @@ fn spans_of(
 }
 
 /// Where the lines lie; None if the tokens are not in line order.
-fn lines_of(alloc: Global, tokens: &[Token]) -> std::result::Result<Option<Lines>, AllocError>
+fn lines_of(alloc: Global, tokens: &[Token]) -> Memory<Option<Lines>>
     ensures lines { IfOk result (λ found. IfSome found (λ lines. AreLines tokens.now lines)) }
     ensures out_of_order { IfOk result (λ found. IsNone found → IsInLineOrder tokens.now → ⊥) }
 {
@@ -182,8 +183,8 @@ impl LineIndex {
     /// one, and else with `OutOfMemory` if memory is refused.
     pub fn new(alloc: Global, tokens: &[Token]) -> Result<LineIndex>
         ensures index { IfOk result (λ index. IsIndexOf tokens.now index) }
-        ensures refused { IfErr result (λ e. (e ≢ OutOfMemory) → option_map LineOrder (first_out_of_order tokens.now) ≡ Some e) }
-        ensures fault { (e : Error) → option_map LineOrder (first_out_of_order tokens.now) ≡ Some e → result ≡ Err e }
+        ensures refused { FailsBy (option_map LineOrder (first_out_of_order tokens.now)) result }
+        ensures fault { Reports (option_map LineOrder (first_out_of_order tokens.now)) result }
     {
         if let Ok(Some(lines)) = lines_of(alloc, tokens) {
             return Ok(LineIndex { lines });
@@ -211,7 +212,7 @@ impl LineIndex {
     /// Takes no memory.
     pub fn lookup(&self, tokens: &[Token], line: u32, col: u32) -> Option<Token>
         requires { IsIndexOf tokens.now self.now }
-        ensures found { are_tokens_sorted tokens.now ≡ true → result ≡ pick token_line token_column tokens.now line col }
+        ensures found { are_tokens_sorted tokens.now ≡ true → result ≡ token_for tokens.now line col }
         ensures among { IfSome result (Contains (on_line token_line line tokens.now)) }
     {
         search(self.tokens_near(tokens, line, &mut 0), col, &mut 0)
@@ -220,7 +221,7 @@ impl LineIndex {
     /// As `lookup`, but a position before the first token of its line gives that token.
     pub fn lookup_clamped(&self, tokens: &[Token], line: u32, col: u32) -> Option<Token>
         requires { IsIndexOf tokens.now self.now }
-        ensures found { are_tokens_sorted tokens.now ≡ true → result ≡ clamped_pick token_line token_column tokens.now line col }
+        ensures found { are_tokens_sorted tokens.now ≡ true → result ≡ clamped_token_for tokens.now line col }
         ensures among { IfSome result (Contains (on_line token_line line tokens.now)) }
     {
         search_clamped(self.tokens_near(tokens, line, &mut 0), col)

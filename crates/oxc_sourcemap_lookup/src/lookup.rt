@@ -1,17 +1,18 @@
 //! Lookup tables over slices of tokens, and lookups on a line. (In the Rust crate these stand in the module `sourcemap`.)
-ghost use Rattle.std.specs.Prelude.{◌≡◌, ◌≢◌, ◌↔◌, ◌==◌, ℕ, ◌+◌, ◌<◌, ◌≤◌, nat_lt, true, false, IsTrue, length, take, map, option_map, slice_get, IfOk, IfErr, IfSome, IsNone, Ok, Err, Some, None, [], if◌then◌else◌};
+ghost use Rattle.std.specs.Prelude.{◌≡◌, ◌↔◌, ◌==◌, ◌+◌, ◌<◌, ◌≤◌, nat_lt, true, false, IsTrue, length, take, slice_get, IfOk, IfSome, IsNone, Ok, Err, Some, None, [], if◌then◌else◌};
 ghost use Rattle.std.specs.Option.{option_map_or};
 ghost use Rattle.std.specs.List.{Contains, prefix_len};
 ghost use Rattle.oxc_sourcemap_tokens.specs.declared.error.Error.{Error};
 ghost use Rattle.oxc_sourcemap_tokens.specs.declared.error.Error.TheVariants.{OutOfMemory};
 ghost use Rattle.oxc_sourcemap_tokens.specs.LineOrder.{IsInLineOrder};
-ghost use Rattle.oxc_sourcemap_parts.specs.Sorted.{are_tokens_sorted, token_line, token_column};
+ghost use Rattle.oxc_sourcemap_parts.specs.Sorted.{token_column};
 ghost use Rattle.oxc_sourcemap_lookup.specs.Digits.{binary_digits};
-ghost use Rattle.oxc_sourcemap_lookup.specs.Lookup.{at, clamped_at, pick, clamped_pick, no_column_goes_back, lines_through, tokens_by_line, table_fault, line_table, slice_of};
+ghost use Rattle.oxc_sourcemap_lookup.specs.Lookup.{at, clamped_at, no_column_goes_back, lines_through, tokens_by_line, table_fault, line_table, slice_of};
 ghost use Rattle.oxc_sourcemap_tokens.specs.Token.{last};
+ghost use Rattle.oxc_sourcemap_tokens.specs.Results.{Answers, Reports, lent_items};
 
-use oxc_sourcemap_tokens::{Error, Result, Token, line_order_fault};
-use std::alloc::{AllocError, Global};
+use oxc_sourcemap_tokens::{Error, Memory, Result, Token, line_order_fault};
+use std::alloc::Global;
 
 /// How many lines there are up to that of the last token.
 pub(crate) fn line_count(tokens: &[Token]) -> u64
@@ -73,8 +74,8 @@ fn begins_before(tokens: &[Token], line: u64) -> bool
 fn cut_by_line<'s>(
     alloc: Global,
     tokens: &'s [Token],
-) -> std::result::Result<Option<Vec<&'s [Token]>>, AllocError>
-    ensures cut { IfOk result (λ cut. IfSome cut (λ table. IsInLineOrder tokens.now × (map (λ s. s.now) table.items ≡ tokens_by_line tokens.now))) }
+) -> Memory<Option<Vec<&'s [Token]>>>
+    ensures cut { IfOk result (λ cut. IfSome cut (λ table. IsInLineOrder tokens.now × (lent_items table.items ≡ tokens_by_line tokens.now))) }
     ensures out_of_order { IfOk result (λ cut. IsNone cut → IsInLineOrder tokens.now → ⊥) }
 {
     let lines = line_count(tokens);
@@ -97,7 +98,7 @@ fn cut_by_line<'s>(
 
 /// The tokens that a table has for a line: none past its end.
 pub fn slice_of<'t>(lookup_table: &[&'t [Token]], line: u32) -> &'t [Token]
-    ensures { result.now ≡ slice_of (map (λ s. s.now) lookup_table.now) line }
+    ensures { result.now ≡ slice_of (lent_items lookup_table.now) line }
 {
     match lookup_table.get(line as usize) {
         Some(tokens) => tokens,
@@ -178,9 +179,8 @@ pub fn search_clamped(line: &[Token], col: u32) -> Option<Token>
 /// Fails with `LineOrder(i)` for the first token whose line is smaller than that of the token before, and with
 /// `OutOfMemory` if memory is refused. The first is reported wherever it holds.
 pub fn lookup_table(alloc: Global, tokens: &[Token]) -> Result<Vec<&[Token]>>
-    ensures table { IfOk result (λ table. line_table tokens.now ≡ Ok (map (λ s. s.now) table.items)) }
-    ensures refused { IfErr result (λ e. (e ≢ OutOfMemory) → line_table tokens.now ≡ Err e) }
-    ensures fault { (e : Error) → table_fault tokens.now ≡ Some e → result ≡ Err e }
+    ensures table { Answers (λ table. lent_items table.items) result (line_table tokens.now) }
+    ensures fault { Reports (table_fault tokens.now) result }
 {
     if let Ok(Some(table)) = cut_by_line(alloc, tokens) {
         return Ok(table);

@@ -1,10 +1,10 @@
 //! Composition of maps: a map from generated to intermediate code and one from intermediate to original code, made one
 //! map from generated to original code.
-ghost use Rattle.std.specs.Prelude.{◌≡◌, ◌≢◌, true, Some, IfOk, IfErr, Ok, Err};
-ghost use Rattle.oxc_sourcemap_tokens.specs.declared.error.Error.{Error};
+ghost use Rattle.std.specs.Prelude.{◌≡◌, ◌≢◌, true, IfOk, IfErr, Ok, Err};
 ghost use Rattle.oxc_sourcemap_tokens.specs.declared.error.Error.TheVariants.{OutOfMemory};
 ghost use Rattle.oxc_sourcemap_parts.specs.Sorted.{are_tokens_sorted};
 ghost use Rattle.oxc_sourcemap_lookup.specs.Composed.{composition, composition_fault, SomeComposition, NoColumnGoesBack};
+ghost use Rattle.oxc_sourcemap_tokens.specs.Results.{Reports};
 
 use crate::sourcemap::SourceMap;
 use oxc_sourcemap_lookup::compose_parts;
@@ -43,7 +43,7 @@ impl<'a> SourceMap<'a> {
         ensures refused { NoColumnGoesBack input.entry.tokens → IfErr result (λ e. (e ≢ OutOfMemory) → composition self.entry input.entry ≡ Err e) }
         ensures any_map { IfOk result (λ map. SomeComposition self.entry input.entry (Ok map)) }
         ensures any_refused { IfErr result (λ e. (e ≢ OutOfMemory) → SomeComposition self.entry input.entry (Err e)) }
-        ensures fault { (e : Error) → composition_fault self.entry input.entry ≡ Some e → result ≡ Err e }
+        ensures fault { Reports (composition_fault self.entry input.entry) result }
 
         // True of every list, and stated here for callers that need it.
         ensures sorted_goes_on { are_tokens_sorted input.entry.tokens ≡ true → NoColumnGoesBack input.entry.tokens }

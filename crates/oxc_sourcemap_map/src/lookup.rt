@@ -1,15 +1,14 @@
 //! The lookups of `SourceMap` by generated position. (In the Rust crate these calls stand in the module `sourcemap`.)
-ghost use Rattle.std.specs.Prelude.{◌≡◌, ◌≢◌, ℕ, ◌+◌, ◌<◌, ◌≤◌, true, length, map, option_map, IfOk, IfErr, IfSome, IsNone, Ok, Err, Some, []};
+ghost use Rattle.std.specs.Prelude.{◌≡◌, ◌+◌, ◌<◌, ◌≤◌, true, length, map, option_map, IfSome, IsNone, Some, []};
 ghost use Rattle.std.specs.List.{Contains};
-ghost use Rattle.oxc_sourcemap_tokens.specs.declared.error.Error.{Error};
-ghost use Rattle.oxc_sourcemap_tokens.specs.declared.error.Error.TheVariants.{OutOfMemory};
-ghost use Rattle.oxc_sourcemap_parts.specs.Sorted.{are_tokens_sorted, token_line, token_column};
+ghost use Rattle.oxc_sourcemap_parts.specs.Sorted.{token_column};
 ghost use Rattle.oxc_sourcemap_parts.specs.DecodedMap.{decoded_map_of};
 ghost use Rattle.oxc_sourcemap_lookup.specs.Digits.{binary_digits};
-ghost use Rattle.oxc_sourcemap_lookup.specs.Lookup.{at, clamped_at, pick, clamped_pick, no_column_goes_back};
+ghost use Rattle.oxc_sourcemap_lookup.specs.Lookup.{at, clamped_at, no_column_goes_back, token_for, clamped_token_for, IfOwnTable};
 ghost use Rattle.oxc_sourcemap_lookup.specs.Lookup.{table_fault, line_table, slice_of};
 ghost use Rattle.oxc_sourcemap_lookup.specs.Trace.{trace, clamped_trace};
 ghost use Rattle.oxc_sourcemap_map.specs.View.{view_of, seen_in, view_original};
+ghost use Rattle.oxc_sourcemap_tokens.specs.Results.{Answers, Reports, lent_items};
 
 use crate::source_view_token::SourceViewToken;
 use crate::sourcemap::SourceMap;
@@ -32,9 +31,8 @@ impl<'a> SourceMap<'a> {
     /// `OutOfMemory` if memory is refused; the table takes a slice for each line, with tokens or without. The first is
     /// reported wherever it holds.
     pub fn generate_lookup_table(&self, alloc: Global) -> Result<Vec<&[Token]>>
-        ensures table { IfOk result (λ table. line_table self.now.tokens ≡ Ok (map (λ s. s.now) table.items)) }
-        ensures refused { IfErr result (λ e. (e ≢ OutOfMemory) → line_table self.now.tokens ≡ Err e) }
-        ensures fault { (e : Error) → table_fault self.now.tokens ≡ Some e → result ≡ Err e }
+        ensures table { Answers (λ table. lent_items table.items) result (line_table self.now.tokens) }
+        ensures fault { Reports (table_fault self.now.tokens) result }
     {
         lookup_table(alloc, self.parts.tokens.as_slice())
     }
@@ -59,11 +57,10 @@ impl<'a> SourceMap<'a> {
     /// Pass the table that `generate_lookup_table` makes of this map: only the table is read, so the table of another map
     /// gives tokens of that map. Takes no memory.
     pub fn lookup_token(&self, lookup_table: &[&[Token]], line: u32, col: u32) -> Option<Token>
-        ensures found { let tokens = slice_of (map (λ s. s.now) lookup_table.now) line in
+        ensures found { let tokens = slice_of (lent_items lookup_table.now) line in
             no_column_goes_back token_column tokens ≡ true → result ≡ at token_column tokens col }
-        ensures among { IfSome result (Contains (slice_of (map (λ s. s.now) lookup_table.now) line)) }
-        ensures own_table { are_tokens_sorted self.now.tokens ≡ true → line_table self.now.tokens ≡ Ok (map (λ s. s.now) lookup_table.now)
-            → result ≡ pick token_line token_column self.now.tokens line col }
+        ensures among { IfSome result (Contains (slice_of (lent_items lookup_table.now) line)) }
+        ensures own_table { IfOwnTable self.now.tokens (lent_items lookup_table.now) (result ≡ token_for self.now.tokens line col) }
     {
         search(slice_of(lookup_table, line), col, &mut 0)
     }
@@ -75,15 +72,13 @@ impl<'a> SourceMap<'a> {
         line: u32,
         col: u32,
     ) -> Option<SourceViewToken<'_, 'a>>
-        ensures found { let tokens = slice_of (map (λ s. s.now) lookup_table.now) line in
+        ensures found { let tokens = slice_of (lent_items lookup_table.now) line in
             no_column_goes_back token_column tokens ≡ true
             → option_map view_of result ≡ option_map (seen_in self.now) (at token_column tokens col) }
-        ensures among { let tokens = slice_of (map (λ s. s.now) lookup_table.now) line in
+        ensures among { let tokens = slice_of (lent_items lookup_table.now) line in
             IfSome result (λ view. ((view_of view).map ≡ self.now) × Contains tokens (view_of view).token) }
-        ensures own_table { are_tokens_sorted self.now.tokens ≡ true → line_table self.now.tokens ≡ Ok (map (λ s. s.now) lookup_table.now)
-            → option_map view_of result ≡ option_map (seen_in self.now) (pick token_line token_column self.now.tokens line col) }
-        ensures traced { are_tokens_sorted self.now.tokens ≡ true → line_table self.now.tokens ≡ Ok (map (λ s. s.now) lookup_table.now)
-            → option_map view_original (option_map view_of result) ≡ trace (decoded_map_of self.now) line col }
+        ensures own_table { IfOwnTable self.now.tokens (lent_items lookup_table.now) (option_map view_of result ≡ option_map (seen_in self.now) (token_for self.now.tokens line col)) }
+        ensures traced { IfOwnTable self.now.tokens (lent_items lookup_table.now) (option_map view_original (option_map view_of result) ≡ trace (decoded_map_of self.now) line col) }
     {
         self.seen(self.lookup_token(lookup_table, line, col))
     }
@@ -96,12 +91,11 @@ impl<'a> SourceMap<'a> {
         line: u32,
         col: u32,
     ) -> Option<Token>
-        ensures found { let tokens = slice_of (map (λ s. s.now) lookup_table.now) line in
+        ensures found { let tokens = slice_of (lent_items lookup_table.now) line in
             no_column_goes_back token_column tokens ≡ true → result ≡ clamped_at token_column tokens col }
-        ensures among { IfSome result (Contains (slice_of (map (λ s. s.now) lookup_table.now) line)) }
-        ensures own_table { are_tokens_sorted self.now.tokens ≡ true → line_table self.now.tokens ≡ Ok (map (λ s. s.now) lookup_table.now)
-            → result ≡ clamped_pick token_line token_column self.now.tokens line col }
-        ensures clamped { IsNone result → slice_of (map (λ s. s.now) lookup_table.now) line ≡ [] }
+        ensures among { IfSome result (Contains (slice_of (lent_items lookup_table.now) line)) }
+        ensures own_table { IfOwnTable self.now.tokens (lent_items lookup_table.now) (result ≡ clamped_token_for self.now.tokens line col) }
+        ensures clamped { IsNone result → slice_of (lent_items lookup_table.now) line ≡ [] }
     {
         search_clamped(slice_of(lookup_table, line), col)
     }
@@ -113,16 +107,14 @@ impl<'a> SourceMap<'a> {
         line: u32,
         col: u32,
     ) -> Option<SourceViewToken<'_, 'a>>
-        ensures found { let tokens = slice_of (map (λ s. s.now) lookup_table.now) line in
+        ensures found { let tokens = slice_of (lent_items lookup_table.now) line in
             no_column_goes_back token_column tokens ≡ true
             → option_map view_of result ≡ option_map (seen_in self.now) (clamped_at token_column tokens col) }
-        ensures among { let tokens = slice_of (map (λ s. s.now) lookup_table.now) line in
+        ensures among { let tokens = slice_of (lent_items lookup_table.now) line in
             IfSome result (λ view. ((view_of view).map ≡ self.now) × Contains tokens (view_of view).token) }
-        ensures own_table { are_tokens_sorted self.now.tokens ≡ true → line_table self.now.tokens ≡ Ok (map (λ s. s.now) lookup_table.now)
-            → option_map view_of result ≡ option_map (seen_in self.now) (clamped_pick token_line token_column self.now.tokens line col) }
-        ensures traced { are_tokens_sorted self.now.tokens ≡ true → line_table self.now.tokens ≡ Ok (map (λ s. s.now) lookup_table.now)
-            → option_map view_original (option_map view_of result) ≡ clamped_trace (decoded_map_of self.now) line col }
-        ensures clamped { IsNone result → slice_of (map (λ s. s.now) lookup_table.now) line ≡ [] }
+        ensures own_table { IfOwnTable self.now.tokens (lent_items lookup_table.now) (option_map view_of result ≡ option_map (seen_in self.now) (clamped_token_for self.now.tokens line col)) }
+        ensures traced { IfOwnTable self.now.tokens (lent_items lookup_table.now) (option_map view_original (option_map view_of result) ≡ clamped_trace (decoded_map_of self.now) line col) }
+        ensures clamped { IsNone result → slice_of (lent_items lookup_table.now) line ≡ [] }
     {
         self.seen(self.lookup_token_approx(lookup_table, line, col))
     }

@@ -1,28 +1,28 @@
 //! A map in a type without a lifetime.
 ghost use mir.Syntax.{static};
-ghost use Rattle.std.specs.Prelude.{◌≡◌, ◌≢◌, ℕ, List, [], map, option_map, slice_get, string_bytes, IfOk, IfErr, IfSome, IsNone, Ok, Err, Some, OnOk, OnErr, ◌↔◌, true};
+ghost use Rattle.std.specs.Prelude.{◌≡◌, ◌≢◌, List, [], map, option_map, slice_get, string_bytes, IfOk, IfErr, IfSome, IsNone, Ok, Err, Some, OnOk, OnErr, ◌↔◌, true};
 ghost use Rattle.std.specs.Borrow.{Lends, sem};
 ghost use Rattle.std.specs.Iterator.{IsFinite, Drains};
 ghost use Rattle.std.specs.List.{Contains};
 ghost use Rattle.oxc_sourcemap_tokens.specs.declared.error.Error.TheVariants.{OutOfMemory};
-ghost use Rattle.oxc_sourcemap_tokens.specs.declared.error.Error.{Error};
 ghost use Rattle.oxc_sourcemap_tokens.specs.Token.{AreInBounds};
 ghost use Rattle.oxc_sourcemap_tokens.specs.LineOrder.{IsInLineOrder};
 ghost use Rattle.oxc_sourcemap_json.specs.Json.{json_record};
 ghost use Rattle.oxc_sourcemap_parts.specs.Views.{record_of_parts, empty_record};
-ghost use Rattle.oxc_sourcemap_parts.specs.Sorted.{are_tokens_sorted, token_line, token_column};
+ghost use Rattle.oxc_sourcemap_parts.specs.Sorted.{are_tokens_sorted, token_column};
 ghost use Rattle.oxc_sourcemap_parts.specs.Sound.{IsSound};
 ghost use Rattle.oxc_sourcemap_parts.specs.DecodedMap.{decoded_map_of};
 ghost use Rattle.oxc_sourcemap_decode.specs.Decoded.{decoded, json_fault};
 ghost use Rattle.oxc_sourcemap_encode.specs.Encoded.{encoded};
 ghost use Rattle.oxc_sourcemap_decode.specs.ReadMap.{read_map, read_decoded_map};
 ghost use Rattle.oxc_sourcemap_encode.specs.JsonText.{map_text, map_url};
-ghost use Rattle.oxc_sourcemap_lookup.specs.Lookup.{at, clamped_at, pick, clamped_pick, no_column_goes_back, table_fault, line_table, slice_of};
+ghost use Rattle.oxc_sourcemap_lookup.specs.Lookup.{at, clamped_at, no_column_goes_back, table_fault, line_table, slice_of, token_for, clamped_token_for, IfOwnTable};
 ghost use Rattle.oxc_sourcemap_lookup.specs.Composed.{composition, composition_fault, SomeComposition, NoColumnGoesBack};
 ghost use Rattle.oxc_sourcemap_lookup.specs.Trace.{trace, clamped_trace};
 ghost use Rattle.oxc_sourcemap_map.specs.View.{view_of, seen_in, view_original, content_at, source_and_content_at};
 ghost use Rattle.oxc_sourcemap_map.specs.contracts.owned_sourcemap.OwnedSourceMap.{the_row};
 ghost use Rattle.oxc_sourcemap_map.specs.contracts.sourcemap.SourceMap.{the_row as map_row};
+ghost use Rattle.oxc_sourcemap_tokens.specs.Results.{Answers, OnlyMemory, Reports, lent_items};
 
 use crate::source_view_token::SourceViewToken;
 use crate::sourcemap::SourceMap;
@@ -63,7 +63,7 @@ impl OwnedSourceMap {
     /// The map with nothing in it. Fails only with `OutOfMemory`.
     pub fn empty(alloc: Global) -> Result<OwnedSourceMap>
         ensures map { IfOk result (λ map. map ≡ empty_record) }
-        ensures refused { IfErr result (λ e. e ≡ OutOfMemory) }
+        ensures refused { OnlyMemory result }
     {
         Ok(OwnedSourceMap::new(SourceMap::empty(alloc)?))
     }
@@ -71,7 +71,7 @@ impl OwnedSourceMap {
     /// A map equal to this one. Fails only with `OutOfMemory`.
     pub fn clone(&self, alloc: Global) -> Result<OwnedSourceMap>
         ensures map { IfOk result (λ map. map ≡ self.now) }
-        ensures refused { IfErr result (λ e. e ≡ OutOfMemory) }
+        ensures refused { OnlyMemory result }
     {
         Ok(OwnedSourceMap::new(self.inner.clone(alloc)?))
     }
@@ -100,9 +100,8 @@ impl OwnedSourceMap {
 
     /// Makes a map of a `JSONSourceMap`, as `SourceMap::from_json` does, and fails as that does.
     pub fn from_json(alloc: Global, value: JSONSourceMap) -> Result<OwnedSourceMap>
-        ensures map { IfOk result (λ map. decoded (json_record value) ≡ Ok map) }
-        ensures refused { IfErr result (λ e. (e ≢ OutOfMemory) → decoded (json_record value) ≡ Err e) }
-        ensures fault { (e : Error) → json_fault (json_record value) ≡ Some e → result ≡ Err e }
+        ensures map { Answers (λ map. map) result (decoded (json_record value)) }
+        ensures fault { Reports (json_fault (json_record value)) result }
     {
         Ok(OwnedSourceMap::new(SourceMap::from_json(alloc, value)?))
     }
@@ -120,8 +119,7 @@ impl OwnedSourceMap {
 
     /// Makes a `JSONSourceMap` of this map, as `SourceMap::to_json` does, and fails as that does.
     pub fn to_json(&self, alloc: Global) -> Result<JSONSourceMap>
-        ensures json { IfOk result (λ json. encoded self.now ≡ Ok (json_record json)) }
-        ensures refused { IfErr result (λ e. (e ≢ OutOfMemory) → encoded self.now ≡ Err e) }
+        ensures json { Answers json_record result (encoded self.now) }
 
         // True of every map, and stated here for callers that need it.
         ensures in_bounds { OnOk result (AreInBounds self.now.tokens) }
@@ -131,16 +129,14 @@ impl OwnedSourceMap {
 
     /// Writes the JSON text of this map, as `SourceMap::to_json_string` does, and fails as that does.
     pub fn to_json_string(&self, alloc: Global) -> Result<String>
-        ensures text { IfOk result (λ text. map_text self.now ≡ Ok (string_bytes text)) }
-        ensures refused { IfErr result (λ e. (e ≢ OutOfMemory) → map_text self.now ≡ Err e) }
+        ensures { Answers string_bytes result (map_text self.now) }
     {
         self.inner.to_json_string(alloc)
     }
 
     /// Writes the data URL of the JSON text of this map, as `SourceMap::to_data_url` does, and fails as that does.
     pub fn to_data_url(&self, alloc: Global) -> Result<String>
-        ensures url { IfOk result (λ url. map_url self.now ≡ Ok (string_bytes url)) }
-        ensures refused { IfErr result (λ e. (e ≢ OutOfMemory) → map_url self.now ≡ Err e) }
+        ensures { Answers string_bytes result (map_url self.now) }
     {
         self.inner.to_data_url(alloc)
     }
@@ -152,7 +148,7 @@ impl OwnedSourceMap {
         ensures refused { NoColumnGoesBack input.tokens → IfErr result (λ e. (e ≢ OutOfMemory) → composition self input ≡ Err e) }
         ensures any_map { IfOk result (λ map. SomeComposition self input (Ok map)) }
         ensures any_refused { IfErr result (λ e. (e ≢ OutOfMemory) → SomeComposition self input (Err e)) }
-        ensures fault { (e : Error) → composition_fault self input ≡ Some e → result ≡ Err e }
+        ensures fault { Reports (composition_fault self input) result }
 
         // True of every list, and stated here for callers that need it.
         ensures sorted_goes_on { are_tokens_sorted input.tokens ≡ true → NoColumnGoesBack input.tokens }
@@ -162,7 +158,7 @@ impl OwnedSourceMap {
 
     /// The name of the generated file.
     pub fn get_file(&self) -> Option<&str>
-        ensures { option_map (λ file. file.now) result ≡ self.now.file }
+        ensures { option_lent_items result ≡ self.now.file }
     {
         self.inner.get_file()
     }
@@ -171,7 +167,7 @@ impl OwnedSourceMap {
     /// was.
     pub fn set_file(&mut self, alloc: Global, file: &str) -> Result<()>
         ensures set { OnOk result (self.new ≡ record self.old { file = Some file.now }) }
-        ensures refused { IfErr result (λ e. e ≡ OutOfMemory) }
+        ensures refused { OnlyMemory result }
         ensures unchanged { OnErr result (self.new ≡ self.old) }
     {
         self.inner.set_file(alloc, file)
@@ -179,14 +175,14 @@ impl OwnedSourceMap {
 
     /// The source root, which consumers prepend to each source. `get_source` and `get_sources` return sources without it.
     pub fn get_source_root(&self) -> Option<&str>
-        ensures { option_map (λ root. root.now) result ≡ self.now.source_root }
+        ensures { option_lent_items result ≡ self.now.source_root }
     {
         self.inner.get_source_root()
     }
 
     /// The indices of third-party sources, which debuggers may skip.
     pub fn get_ignore_list(&self) -> Option<&[u32]>
-        ensures { option_map (λ list. list.now) result ≡ self.now.ignore_list }
+        ensures { option_lent_items result ≡ self.now.ignore_list }
     {
         self.inner.get_ignore_list()
     }
@@ -200,7 +196,7 @@ impl OwnedSourceMap {
 
     /// The id that ties this map to its generated code.
     pub fn get_debug_id(&self) -> Option<&str>
-        ensures { option_map (λ id. id.now) result ≡ self.now.debug_id }
+        ensures { option_lent_items result ≡ self.now.debug_id }
     {
         self.inner.get_debug_id()
     }
@@ -208,7 +204,7 @@ impl OwnedSourceMap {
     /// Sets the debug id to a copy of this string. Fails only with `OutOfMemory`; the map is then as it was.
     pub fn set_debug_id(&mut self, alloc: Global, debug_id: &str) -> Result<()>
         ensures set { OnOk result (self.new ≡ record self.old { debug_id = Some debug_id.now }) }
-        ensures refused { IfErr result (λ e. e ≡ OutOfMemory) }
+        ensures refused { OnlyMemory result }
         ensures unchanged { OnErr result (self.new ≡ self.old) }
     {
         self.inner.set_debug_id(alloc, debug_id)
@@ -243,7 +239,7 @@ impl OwnedSourceMap {
         requires ends { IsFinite (I.remaining sources) }
         ensures set { OnOk result ((items : List S) × Drains I.next_gives sources items
             × (self.new ≡ record self.old { sources = map S.text items })) }
-        ensures refused { IfErr result (λ e. e ≡ OutOfMemory) }
+        ensures refused { OnlyMemory result }
         ensures unchanged { OnErr result (self.new ≡ self.old) }
     {
         self.inner.set_sources(alloc, sources)
@@ -265,7 +261,7 @@ impl OwnedSourceMap {
     ) -> Result<()>
         ensures set { let contents = map (option_map (λ content. content.now)) source_contents.entry.items in
             OnOk result (self.new ≡ record self.old { source_contents = contents }) }
-        ensures refused { IfErr result (λ e. e ≡ OutOfMemory) }
+        ensures refused { OnlyMemory result }
         ensures unchanged { OnErr result (self.new ≡ self.old) }
     {
         self.inner.set_source_contents(alloc, source_contents)
@@ -273,21 +269,21 @@ impl OwnedSourceMap {
 
     /// The name with this id. None if there is none.
     pub fn get_name(&self, id: u32) -> Option<&str>
-        ensures { option_map (λ name. name.now) result ≡ slice_get self.now.names id }
+        ensures { option_lent_items result ≡ slice_get self.now.names id }
     {
         self.inner.get_name(id)
     }
 
     /// The source with this id. None if there is none.
     pub fn get_source(&self, id: u32) -> Option<&str>
-        ensures { option_map (λ source. source.now) result ≡ slice_get self.now.sources id }
+        ensures { option_lent_items result ≡ slice_get self.now.sources id }
     {
         self.inner.get_source(id)
     }
 
     /// The content listed for the source with this id. None if none is listed, or it is not known.
     pub fn get_source_content(&self, id: u32) -> Option<&str>
-        ensures { option_map (λ content. content.now) result ≡ content_at self.now.source_contents id }
+        ensures { option_lent_items result ≡ content_at self.now.source_contents id }
     {
         self.inner.get_source_content(id)
     }
@@ -334,9 +330,8 @@ impl OwnedSourceMap {
     /// `OutOfMemory` if memory is refused; the table takes a slice for each line, with tokens or without. The first is
     /// reported wherever it holds.
     pub fn generate_lookup_table(&self, alloc: Global) -> Result<Vec<&[Token]>>
-        ensures table { IfOk result (λ table. line_table self.now.tokens ≡ Ok (map (λ s. s.now) table.items)) }
-        ensures refused { IfErr result (λ e. (e ≢ OutOfMemory) → line_table self.now.tokens ≡ Err e) }
-        ensures fault { (e : Error) → table_fault self.now.tokens ≡ Some e → result ≡ Err e }
+        ensures table { Answers (λ table. lent_items table.items) result (line_table self.now.tokens) }
+        ensures fault { Reports (table_fault self.now.tokens) result }
     {
         self.inner.generate_lookup_table(alloc)
     }
@@ -347,11 +342,10 @@ impl OwnedSourceMap {
     /// Pass the table that `generate_lookup_table` makes of this map: only the table is read, so the table of another map
     /// gives tokens of that map. Takes no memory.
     pub fn lookup_token(&self, lookup_table: &[&[Token]], line: u32, col: u32) -> Option<Token>
-        ensures found { let tokens = slice_of (map (λ s. s.now) lookup_table.now) line in
+        ensures found { let tokens = slice_of (lent_items lookup_table.now) line in
             no_column_goes_back token_column tokens ≡ true → result ≡ at token_column tokens col }
-        ensures among { IfSome result (Contains (slice_of (map (λ s. s.now) lookup_table.now) line)) }
-        ensures own_table { are_tokens_sorted self.now.tokens ≡ true → line_table self.now.tokens ≡ Ok (map (λ s. s.now) lookup_table.now)
-            → result ≡ pick token_line token_column self.now.tokens line col }
+        ensures among { IfSome result (Contains (slice_of (lent_items lookup_table.now) line)) }
+        ensures own_table { IfOwnTable self.now.tokens (lent_items lookup_table.now) (result ≡ token_for self.now.tokens line col) }
     {
         self.inner.lookup_token(lookup_table, line, col)
     }
@@ -363,15 +357,13 @@ impl OwnedSourceMap {
         line: u32,
         col: u32,
     ) -> Option<SourceViewToken<'_, 'static>>
-        ensures found { let tokens = slice_of (map (λ s. s.now) lookup_table.now) line in
+        ensures found { let tokens = slice_of (lent_items lookup_table.now) line in
             no_column_goes_back token_column tokens ≡ true
             → option_map view_of result ≡ option_map (seen_in self.now) (at token_column tokens col) }
-        ensures among { let tokens = slice_of (map (λ s. s.now) lookup_table.now) line in
+        ensures among { let tokens = slice_of (lent_items lookup_table.now) line in
             IfSome result (λ view. ((view_of view).map ≡ self.now) × Contains tokens (view_of view).token) }
-        ensures own_table { are_tokens_sorted self.now.tokens ≡ true → line_table self.now.tokens ≡ Ok (map (λ s. s.now) lookup_table.now)
-            → option_map view_of result ≡ option_map (seen_in self.now) (pick token_line token_column self.now.tokens line col) }
-        ensures traced { are_tokens_sorted self.now.tokens ≡ true → line_table self.now.tokens ≡ Ok (map (λ s. s.now) lookup_table.now)
-            → option_map view_original (option_map view_of result) ≡ trace (decoded_map_of self.now) line col }
+        ensures own_table { IfOwnTable self.now.tokens (lent_items lookup_table.now) (option_map view_of result ≡ option_map (seen_in self.now) (token_for self.now.tokens line col)) }
+        ensures traced { IfOwnTable self.now.tokens (lent_items lookup_table.now) (option_map view_original (option_map view_of result) ≡ trace (decoded_map_of self.now) line col) }
     {
         self.inner.lookup_source_view_token(lookup_table, line, col)
     }
@@ -384,12 +376,11 @@ impl OwnedSourceMap {
         line: u32,
         col: u32,
     ) -> Option<Token>
-        ensures found { let tokens = slice_of (map (λ s. s.now) lookup_table.now) line in
+        ensures found { let tokens = slice_of (lent_items lookup_table.now) line in
             no_column_goes_back token_column tokens ≡ true → result ≡ clamped_at token_column tokens col }
-        ensures among { IfSome result (Contains (slice_of (map (λ s. s.now) lookup_table.now) line)) }
-        ensures own_table { are_tokens_sorted self.now.tokens ≡ true → line_table self.now.tokens ≡ Ok (map (λ s. s.now) lookup_table.now)
-            → result ≡ clamped_pick token_line token_column self.now.tokens line col }
-        ensures clamped { IsNone result → slice_of (map (λ s. s.now) lookup_table.now) line ≡ [] }
+        ensures among { IfSome result (Contains (slice_of (lent_items lookup_table.now) line)) }
+        ensures own_table { IfOwnTable self.now.tokens (lent_items lookup_table.now) (result ≡ clamped_token_for self.now.tokens line col) }
+        ensures clamped { IsNone result → slice_of (lent_items lookup_table.now) line ≡ [] }
     {
         self.inner.lookup_token_approx(lookup_table, line, col)
     }
@@ -401,16 +392,14 @@ impl OwnedSourceMap {
         line: u32,
         col: u32,
     ) -> Option<SourceViewToken<'_, 'static>>
-        ensures found { let tokens = slice_of (map (λ s. s.now) lookup_table.now) line in
+        ensures found { let tokens = slice_of (lent_items lookup_table.now) line in
             no_column_goes_back token_column tokens ≡ true
             → option_map view_of result ≡ option_map (seen_in self.now) (clamped_at token_column tokens col) }
-        ensures among { let tokens = slice_of (map (λ s. s.now) lookup_table.now) line in
+        ensures among { let tokens = slice_of (lent_items lookup_table.now) line in
             IfSome result (λ view. ((view_of view).map ≡ self.now) × Contains tokens (view_of view).token) }
-        ensures own_table { are_tokens_sorted self.now.tokens ≡ true → line_table self.now.tokens ≡ Ok (map (λ s. s.now) lookup_table.now)
-            → option_map view_of result ≡ option_map (seen_in self.now) (clamped_pick token_line token_column self.now.tokens line col) }
-        ensures traced { are_tokens_sorted self.now.tokens ≡ true → line_table self.now.tokens ≡ Ok (map (λ s. s.now) lookup_table.now)
-            → option_map view_original (option_map view_of result) ≡ clamped_trace (decoded_map_of self.now) line col }
-        ensures clamped { IsNone result → slice_of (map (λ s. s.now) lookup_table.now) line ≡ [] }
+        ensures own_table { IfOwnTable self.now.tokens (lent_items lookup_table.now) (option_map view_of result ≡ option_map (seen_in self.now) (clamped_token_for self.now.tokens line col)) }
+        ensures traced { IfOwnTable self.now.tokens (lent_items lookup_table.now) (option_map view_original (option_map view_of result) ≡ clamped_trace (decoded_map_of self.now) line col) }
+        ensures clamped { IsNone result → slice_of (lent_items lookup_table.now) line ≡ [] }
     {
         self.inner
             .lookup_source_view_token_approx(lookup_table, line, col)
@@ -453,7 +442,7 @@ impl<'a> SourceMap<'a> {
     /// The same map, borrowing nothing, in a type without a lifetime: `into_owned`; fails as that does.
     pub fn into_owned_sourcemap(self, alloc: Global) -> Result<OwnedSourceMap>
         ensures map { IfOk result (λ map. map ≡ self.entry) }
-        ensures refused { IfErr result (λ e. e ≡ OutOfMemory) }
+        ensures refused { OnlyMemory result }
     {
         Ok(OwnedSourceMap::new(self.into_owned(alloc)?))
     }

@@ -1,23 +1,21 @@
 //! The map and its parts.
-ghost use Rattle.std.specs.Prelude.{◌≡◌, ◌≢◌, ◌↔◌, ◌<◌, ℕ, List, map, option_map, slice_get, IsTrue, true, IfSome, string_bytes, IfOk, IfErr, Ok, Err, Some, None, OnOk, OnErr};
+ghost use Rattle.std.specs.Prelude.{◌≡◌, ◌≢◌, ◌↔◌, ◌<◌, List, map, option_map, slice_get, IsTrue, true, string_bytes, IfOk, IfErr, Ok, Err, Some, None, OnOk, OnErr};
 ghost use Rattle.std.specs.Iterator.{IsFinite, Drains};
 ghost use Rattle.std.specs.Box.{boxed_slice_items};
-ghost use Rattle.oxc_sourcemap_tokens.specs.declared.error.Error.{Error};
 ghost use Rattle.oxc_sourcemap_tokens.specs.declared.error.Error.TheVariants.{OutOfMemory};
-ghost use Rattle.std.specs.List.{AllByRecursion};
-ghost use Rattle.oxc_sourcemap_tokens.specs.Chunks.{ChunksFit};
 ghost use Rattle.oxc_sourcemap_tokens.specs.Token.{AreInBounds};
 ghost use Rattle.oxc_sourcemap_tokens.specs.LineOrder.{IsInLineOrder};
 ghost use Rattle.oxc_sourcemap_json.specs.Json.{json_record};
-ghost use Rattle.oxc_sourcemap_parts.specs.Views.{text_of, texts_of, contents_of, chunks_of, ids_of, record_of_parts, empty_record};
-ghost use Rattle.oxc_sourcemap_parts.specs.Sorted.{are_tokens_sorted, may_precede, token_line, token_column};
-ghost use Rattle.oxc_sourcemap_parts.specs.Sound.{IsInRange, IsSound};
+ghost use Rattle.oxc_sourcemap_parts.specs.Views.{text_of, texts_of, contents_of, chunks_of, record_of_parts, empty_record};
+ghost use Rattle.oxc_sourcemap_parts.specs.Sorted.{are_tokens_sorted};
+ghost use Rattle.oxc_sourcemap_parts.specs.Sound.{IsSound};
 ghost use Rattle.oxc_sourcemap_decode.specs.Decoded.{decoded, json_fault};
 ghost use Rattle.oxc_sourcemap_encode.specs.Encoded.{encoded};
 ghost use Rattle.oxc_sourcemap_parts.specs.DecodedMap.{decoded_map_of};
 ghost use Rattle.oxc_sourcemap_decode.specs.ReadMap.{read_map, read_decoded_map};
 ghost use Rattle.oxc_sourcemap_encode.specs.JsonText.{map_text, map_url};
 ghost use Rattle.oxc_sourcemap_map.specs.View.{view_of, seen_in, content_at, source_and_content_at};
+ghost use Rattle.oxc_sourcemap_tokens.specs.Results.{Answers, OnlyMemory, Reports};
 
 use crate::source_view_token::SourceViewToken;
 use crate::view_tokens::ViewTokens;
@@ -93,16 +91,15 @@ impl<'a> SourceMap<'a> {
     /// The map with nothing in it. Fails only with `OutOfMemory`.
     pub fn empty(alloc: Global) -> Result<SourceMap<'a>>
         ensures map { IfOk result (λ map. map ≡ empty_record) }
-        ensures refused { IfErr result (λ e. e ≡ OutOfMemory) }
+        ensures refused { OnlyMemory result }
     {
         Ok(SourceMap::from_parts(SourceMapParts::empty(alloc)?))
     }
 
     /// Makes a map of a `JSONSourceMap`, as `decode` does, and fails as that does; the value is then dropped.
     pub fn from_json(alloc: Global, value: JSONSourceMap) -> Result<SourceMap<'static>>
-        ensures map { IfOk result (λ map. decoded (json_record value) ≡ Ok map) }
-        ensures refused { IfErr result (λ e. (e ≢ OutOfMemory) → decoded (json_record value) ≡ Err e) }
-        ensures fault { (e : Error) → json_fault (json_record value) ≡ Some e → result ≡ Err e }
+        ensures map { Answers (λ map. map) result (decoded (json_record value)) }
+        ensures fault { Reports (json_fault (json_record value)) result }
     {
         Ok(SourceMap::from_parts(decode_parts(alloc, value)?))
     }
@@ -130,8 +127,7 @@ impl<'a> SourceMap<'a> {
 
     /// Makes a `JSONSourceMap` of this map, as `encode` does, and fails as that does.
     pub fn to_json(&self, alloc: Global) -> Result<JSONSourceMap>
-        ensures json { IfOk result (λ json. encoded self.now ≡ Ok (json_record json)) }
-        ensures refused { IfErr result (λ e. (e ≢ OutOfMemory) → encoded self.now ≡ Err e) }
+        ensures json { Answers json_record result (encoded self.now) }
 
         // True of every map, and stated here for callers that need it.
         ensures in_bounds { OnOk result (AreInBounds self.now.tokens) }
@@ -142,8 +138,7 @@ impl<'a> SourceMap<'a> {
     /// Writes the JSON text of this map, as `encode_to_string` does. Fails as `encode_mappings` does, in this order: with
     /// `LineOrder`, `BadChunks`, `TooLarge`, or with `OutOfMemory` if memory is refused.
     pub fn to_json_string(&self, alloc: Global) -> Result<String>
-        ensures text { IfOk result (λ text. map_text self.now ≡ Ok (string_bytes text)) }
-        ensures refused { IfErr result (λ e. (e ≢ OutOfMemory) → map_text self.now ≡ Err e) }
+        ensures { Answers string_bytes result (map_text self.now) }
     {
         encode_parts_to_string(alloc, &self.parts)
     }
@@ -151,8 +146,7 @@ impl<'a> SourceMap<'a> {
     /// Writes the data URL (RFC 2397) of the JSON text of this map: `data:application/json;charset=utf-8;base64,` and the
     /// text in padded base64 (RFC 4648). Fails as `to_json_string` does.
     pub fn to_data_url(&self, alloc: Global) -> Result<String>
-        ensures url { IfOk result (λ url. map_url self.now ≡ Ok (string_bytes url)) }
-        ensures refused { IfErr result (λ e. (e ≢ OutOfMemory) → map_url self.now ≡ Err e) }
+        ensures { Answers string_bytes result (map_url self.now) }
     {
         encode_parts_to_data_url(alloc, &self.parts)
     }
@@ -160,7 +154,7 @@ impl<'a> SourceMap<'a> {
     /// A map equal to this one. A borrowed string stays borrowed. Fails only with `OutOfMemory`.
     pub fn clone(&self, alloc: Global) -> Result<SourceMap<'a>>
         ensures map { IfOk result (λ map. map ≡ self.now) }
-        ensures refused { IfErr result (λ e. e ≡ OutOfMemory) }
+        ensures refused { OnlyMemory result }
     {
         Ok(SourceMap {
             parts: self.parts.clone(alloc)?,
@@ -171,7 +165,7 @@ impl<'a> SourceMap<'a> {
     /// map is then dropped.
     pub fn into_owned(self, alloc: Global) -> Result<SourceMap<'static>>
         ensures map { IfOk result (λ map. map ≡ self.entry) }
-        ensures refused { IfErr result (λ e. e ≡ OutOfMemory) }
+        ensures refused { OnlyMemory result }
     {
         Ok(SourceMap {
             parts: owned_parts(alloc, self.parts)?,
@@ -195,7 +189,7 @@ impl<'a> SourceMap<'a> {
 
     /// The name of the generated file.
     pub fn get_file(&self) -> Option<&str>
-        ensures { option_map (λ file. file.now) result ≡ self.now.file }
+        ensures { option_lent_items result ≡ self.now.file }
     {
         self.parts.file.as_deref()
     }
@@ -204,7 +198,7 @@ impl<'a> SourceMap<'a> {
     /// was.
     pub fn set_file(&mut self, alloc: Global, file: &str) -> Result<()>
         ensures set { OnOk result (self.new ≡ record self.old { file = Some file.now }) }
-        ensures refused { IfErr result (λ e. e ≡ OutOfMemory) }
+        ensures refused { OnlyMemory result }
         ensures unchanged { OnErr result (self.new ≡ self.old) }
     {
         self.parts.file = Some(CowStr::Owned(String::from_str(alloc, file)?));
@@ -213,14 +207,14 @@ impl<'a> SourceMap<'a> {
 
     /// The source root, which consumers prepend to each source. `get_source` and `get_sources` return sources without it.
     pub fn get_source_root(&self) -> Option<&str>
-        ensures { option_map (λ root. root.now) result ≡ self.now.source_root }
+        ensures { option_lent_items result ≡ self.now.source_root }
     {
         self.parts.source_root.as_deref()
     }
 
     /// The indices of third-party sources, which debuggers may skip.
     pub fn get_ignore_list(&self) -> Option<&[u32]>
-        ensures { option_map (λ list. list.now) result ≡ self.now.ignore_list }
+        ensures { option_lent_items result ≡ self.now.ignore_list }
     {
         self.parts.ignore_list.as_deref()
     }
@@ -235,7 +229,7 @@ impl<'a> SourceMap<'a> {
     /// Sets the debug id to a copy of this string. Fails only with `OutOfMemory`; the map is then as it was.
     pub fn set_debug_id(&mut self, alloc: Global, debug_id: &str) -> Result<()>
         ensures set { OnOk result (self.new ≡ record self.old { debug_id = Some debug_id.now }) }
-        ensures refused { IfErr result (λ e. e ≡ OutOfMemory) }
+        ensures refused { OnlyMemory result }
         ensures unchanged { OnErr result (self.new ≡ self.old) }
     {
         self.parts.debug_id = Some(CowStr::Owned(String::from_str(alloc, debug_id)?));
@@ -244,7 +238,7 @@ impl<'a> SourceMap<'a> {
 
     /// The id that ties this map to its generated code.
     pub fn get_debug_id(&self) -> Option<&str>
-        ensures { option_map (λ id. id.now) result ≡ self.now.debug_id }
+        ensures { option_lent_items result ≡ self.now.debug_id }
     {
         self.parts.debug_id.as_deref()
     }
@@ -271,7 +265,7 @@ impl<'a> SourceMap<'a> {
         requires ends { IsFinite (I.remaining sources) }
         ensures set { OnOk result ((items : List S) × Drains I.next_gives sources items
             × (self.new ≡ record self.old { sources = map S.text items })) }
-        ensures refused { IfErr result (λ e. e ≡ OutOfMemory) }
+        ensures refused { OnlyMemory result }
         ensures unchanged { OnErr result (self.new ≡ self.old) }
     {
         self.parts.sources = stored_texts(alloc, sources)?;
@@ -294,7 +288,7 @@ impl<'a> SourceMap<'a> {
     ) -> Result<()>
         ensures set { let contents = map (option_map (λ content. content.now)) source_contents.entry.items in
             OnOk result (self.new ≡ record self.old { source_contents = contents }) }
-        ensures refused { IfErr result (λ e. e ≡ OutOfMemory) }
+        ensures refused { OnlyMemory result }
         ensures unchanged { OnErr result (self.new ≡ self.old) }
     {
         self.parts.source_contents = stored_contents(alloc, source_contents)?;
@@ -338,21 +332,21 @@ impl<'a> SourceMap<'a> {
 
     /// The name with this id. None if there is none.
     pub fn get_name(&self, id: u32) -> Option<&str>
-        ensures { option_map (λ name. name.now) result ≡ slice_get self.now.names id }
+        ensures { option_lent_items result ≡ slice_get self.now.names id }
     {
         Some(self.parts.names.get(id as usize)?.as_str())
     }
 
     /// The source with this id. None if there is none.
     pub fn get_source(&self, id: u32) -> Option<&str>
-        ensures { option_map (λ source. source.now) result ≡ slice_get self.now.sources id }
+        ensures { option_lent_items result ≡ slice_get self.now.sources id }
     {
         Some(self.parts.sources.get(id as usize)?.as_str())
     }
 
     /// The content listed for the source with this id. None if none is listed, or it is not known.
     pub fn get_source_content(&self, id: u32) -> Option<&str>
-        ensures { option_map (λ content. content.now) result ≡ content_at self.now.source_contents id }
+        ensures { option_lent_items result ≡ content_at self.now.source_contents id }
     {
         self.parts.source_contents.get(id as usize)?.as_deref()
     }

@@ -1,8 +1,8 @@
 //! Reading the `mappings` text.
 ghost use Rattle.std.specs.Box.{boxed_slice_items};
-ghost use Rattle.std.specs.Prelude.{ℕ, List, ◌≡◌, ◌≢◌, ◌⊎◌, ◌+◌, ◌*◌, ◌%◌, ◌^◌, ◌<◌, ◌≤◌, ◌-◌, ◌++◌, length, ◌∷◌, [], drop, replicate, not, ℤ, pos, nat_abs, ◌+ℤ◌};
+ghost use Rattle.std.specs.Prelude.{ℕ, List, ◌≡◌, ◌⊎◌, ◌+◌, ◌*◌, ◌%◌, ◌^◌, ◌<◌, ◌≤◌, ◌-◌, ◌++◌, length, ◌∷◌, [], drop, replicate, not, ℤ, pos, nat_abs, ◌+ℤ◌};
 ghost use Rattle.std.specs.Prelude.{set, true, false, min, is_some, IfSome, IfNone, OnOk, IfOk, IfErr, Option, Some, None, Result, Ok, Err};
-ghost use Rattle.oxc_sourcemap_tokens.specs.declared.error.Error.TheVariants.{OutOfMemory, TooLarge};
+ghost use Rattle.oxc_sourcemap_tokens.specs.declared.error.Error.TheVariants.{TooLarge};
 ghost use Rattle.oxc_sourcemap_mappings.specs.Number.{digit, payload, signed};
 ghost use Rattle.oxc_sourcemap_mappings.specs.Places.{nothing_before, place};
 ghost use Rattle.oxc_sourcemap_mappings.specs.Faults.{digit_fault, range_fault, is_id_below, low_bits};
@@ -10,6 +10,7 @@ ghost use Rattle.oxc_sourcemap_mappings.specs.Faults.{source_fault, place_fault,
 ghost use Rattle.oxc_sourcemap_mappings.specs.Reading.{token_at, segment_result, reading};
 ghost use Rattle.oxc_sourcemap_mappings.specs.Decoding.{ends_segment, front_digits, front_segment, segments_after, is_over, IsNumberAt};
 ghost use Rattle.oxc_sourcemap_mappings.specs.Decoding.{AreFieldsOf, AreSmall, value, place_of, source_moved, moved, moved_by};
+ghost use Rattle.oxc_sourcemap_tokens.specs.Results.{Answers};
 
 use oxc_sourcemap_tokens::{Error, Result, Token};
 use std::alloc::Global;
@@ -490,8 +491,7 @@ pub fn decode_mappings(
     names: usize,
     sources: usize,
 ) -> Result<BoxedSlice<Token>>
-    ensures tokens { IfOk result (λ tokens. reading text.now names sources ≡ Ok (boxed_slice_items tokens)) }
-    ensures fault { IfErr result (λ e. (e ≢ OutOfMemory) → reading text.now names sources ≡ Err e) }
+    ensures { Answers boxed_slice_items result (reading text.now names sources) }
 {
     let mut rest = text.as_bytes();
     let mut tokens = Vec::with_capacity(alloc, segment_count(rest))?;

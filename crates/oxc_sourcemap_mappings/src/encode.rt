@@ -1,7 +1,6 @@
 //! Writing the `mappings` text.
-ghost use Rattle.std.specs.Prelude.{◌≡◌, ◌≢◌, ◌↔◌, ◌+◌, ◌-◌, ◌*◌, ◌/◌, ◌%◌, ◌^◌, ◌<◌, ◌≤◌, ◌++◌, ◌==◌, ◌∷◌, [], length, min, replicate, string_bytes, OnOk, OnErr, IfErr, IfOk, IsTrue, Option, Some, None, Err, if◌then◌else◌, nat_le, take, flat_map};
+ghost use Rattle.std.specs.Prelude.{◌≡◌, ◌↔◌, ◌+◌, ◌-◌, ◌*◌, ◌/◌, ◌%◌, ◌^◌, ◌<◌, ◌≤◌, ◌++◌, ◌==◌, ◌∷◌, [], length, min, replicate, string_bytes, OnOk, OnErr, IfOk, IsTrue, Option, Some, None, Err, if◌then◌else◌, nat_le, take, flat_map};
 ghost use Rattle.oxc_sourcemap_tokens.specs.declared.error.Error.{Error};
-ghost use Rattle.oxc_sourcemap_tokens.specs.declared.error.Error.TheVariants.{OutOfMemory};
 ghost use Rattle.oxc_sourcemap_tokens.specs.Token.{AreInBounds, last_line};
 ghost use Rattle.oxc_sourcemap_mappings.specs.Canonical.{letter, vlq_text, raw_delta, delta_text, canonical, Extends};
 ghost use Rattle.oxc_sourcemap_tokens.specs.LineOrder.{back_from};
@@ -10,12 +9,9 @@ ghost use Rattle.oxc_sourcemap_mappings.specs.Pieces.{piece, piece_fault, writin
 ghost use Rattle.oxc_sourcemap_tokens.specs.Steps.{state_of};
 ghost use Rattle.oxc_sourcemap_mappings.specs.Encoding.{text_from, OnlyAdds, line_marks, marks_of, column_from, fields_text, raw_at, first_letter, second_letter, rank_of, offset_of, deltas_text, AreSingle};
 ghost use Rattle.std.specs.List.{AllByRecursion};
+ghost use Rattle.oxc_sourcemap_tokens.specs.Results.{OnlyMemory, FailsBy, Reports, Pushes};
 
-use oxc_sourcemap_tokens::{
-    Error, Previous, Result, Token, TokenChunk, chunk_fault, line_back_from, line_order_fault,
-    next_chunk, tokens_of,
-};
-use std::alloc::AllocError;
+use oxc_sourcemap_tokens::{Error, Memory, Previous, Result, Token, TokenChunk, chunk_fault, line_back_from, line_order_fault, next_chunk, tokens_of};
 
 /// How many bytes of the text are gathered before they are appended to it.
 const BLOCK: usize = 1024;
@@ -311,26 +307,26 @@ fn place_token(
 // After an `Err` of a call `push_`, a beginning of what it adds may stand in `out`, and nothing else has changed.
 
 /// Adds ASCII characters.
-fn push_bytes(out: &mut String, bytes: &[u8]) -> std::result::Result<(), AllocError>
+fn push_bytes(out: &mut String, bytes: &[u8]) -> Memory<()>
     requires { AllByRecursion (λ b. b < 128) bytes.now }
-    ensures ok { OnOk result (string_bytes out.new ≡ string_bytes out.old ++ bytes.now) }
+    ensures ok { Pushes result out.old out.new bytes.now }
     ensures adds { OnlyAdds (string_bytes out.old) (string_bytes out.new) }
 {
     out.push_str(std::str::from_utf8(bytes).unwrap())
 }
 
 /// Adds an ASCII character.
-fn push_ascii(out: &mut String, mark: char) -> std::result::Result<(), AllocError>
+fn push_ascii(out: &mut String, mark: char) -> Memory<()>
     requires { mark < 128 }
-    ensures ok { OnOk result (string_bytes out.new ≡ string_bytes out.old ++ mark ∷ []) }
+    ensures ok { Pushes result out.old out.new (mark ∷ []) }
     ensures adds { OnlyAdds (string_bytes out.old) (string_bytes out.new) }
 {
     out.push(mark)
 }
 
 /// Adds this many `;`.
-fn push_semicolons(out: &mut String, count: u32) -> std::result::Result<(), AllocError>
-    ensures ok { OnOk result (string_bytes out.new ≡ string_bytes out.old ++ replicate count 59) }
+fn push_semicolons(out: &mut String, count: u32) -> Memory<()>
+    ensures ok { Pushes result out.old out.new (replicate count 59) }
     ensures adds { OnlyAdds (string_bytes out.old) (string_bytes out.new) }
 {
     for i in 0..count {
@@ -345,7 +341,7 @@ fn push_gathered(
     out: &mut String,
     gathered: &[u8],
     lines: u32,
-) -> std::result::Result<u32, AllocError>
+) -> Memory<u32>
     requires { AllByRecursion (λ b. b < 128) gathered.now }
     ensures ok { IfOk result (λ left. string_bytes out.new ≡ (string_bytes out.old ++ gathered.now) ++ replicate (lines - left) 59) }
     ensures left { IfOk result (λ left. left ≡ min lines 8) }
@@ -364,7 +360,7 @@ fn make_room(
     buf: &[u8],
     len: usize,
     lines: u32,
-) -> std::result::Result<(usize, u32), AllocError>
+) -> Memory<(usize, u32)>
     requires within { len ≤ length buf.now }
     requires plain { AllByRecursion (λ b. b < 128) (take len buf.now) }
     ensures ok { IfOk result (λ r. string_bytes out.new ++ take r.0 buf.now ≡ (string_bytes out.old ++ take len buf.now) ++ replicate (lines - r.1) 59) }
@@ -388,9 +384,9 @@ fn push_tokens(
     at_start: bool,
     header: Previous,
     tokens: &[Token],
-) -> std::result::Result<(), AllocError>
+) -> Memory<()>
     requires { back_from header.dst_line 0 tokens.now ≡ None }
-    ensures ok { OnOk result (string_bytes out.new ≡ string_bytes out.old ++ text_from at_start (state_of header) tokens.now) }
+    ensures ok { Pushes result out.old out.new (text_from at_start (state_of header) tokens.now) }
     ensures adds { OnlyAdds (string_bytes out.old) (string_bytes out.new) }
 {
     out.reserve(tokens.len().saturating_mul(6))?;
@@ -431,10 +427,10 @@ fn fault_of_chunk(tokens: &[Token], chunk: &TokenChunk) -> Option<Error>
 ///   or, at `start`, than that of the header;
 /// - `OutOfMemory` if memory is refused.
 pub fn encode_chunk(tokens: &[Token], chunk: &TokenChunk, out: &mut String) -> Result<()>
-    ensures text { OnOk result (string_bytes out.new ≡ string_bytes out.old ++ piece tokens.now chunk.now) }
+    ensures text { Pushes result out.old out.new (piece tokens.now chunk.now) }
     ensures clean { OnOk result (piece_fault tokens.now chunk.now ≡ None) }
-    ensures fault { IfErr result (λ e. (e ≢ OutOfMemory) → piece_fault tokens.now chunk.now ≡ Some e) }
-    ensures reported { (e : Error) → piece_fault tokens.now chunk.now ≡ Some e → result ≡ Err e }
+    ensures fault { FailsBy (piece_fault tokens.now chunk.now) result }
+    ensures reported { Reports (piece_fault tokens.now chunk.now) result }
     ensures unchanged { OnErr result (string_bytes out.new ≡ string_bytes out.old) }
 
     // True of every list of tokens, and stated here for callers that need it.
@@ -460,8 +456,8 @@ pub fn encode_chunk(tokens: &[Token], chunk: &TokenChunk, out: &mut String) -> R
 /// Adds the pieces of chunks that are written, one after the other. After an `Err` the first of them may stand in `out`.
 fn push_chunks(out: &mut String, tokens: &[Token], chunks: &[TokenChunk]) -> Result<()>
     requires { AllByRecursion (λ c. piece_fault tokens.now c ≡ None) chunks.now }
-    ensures ok { OnOk result (string_bytes out.new ≡ string_bytes out.old ++ flat_map (piece tokens.now) chunks.now) }
-    ensures memory { IfErr result (λ e. e ≡ OutOfMemory) }
+    ensures ok { Pushes result out.old out.new (flat_map (piece tokens.now) chunks.now) }
+    ensures memory { OnlyMemory result }
     ensures adds { OnlyAdds (string_bytes out.old) (string_bytes out.new) }
 {
     for chunk in chunks {
@@ -489,10 +485,10 @@ fn fault_of(tokens: &[Token], chunks: &[TokenChunk]) -> Option<Error>
 
 /// Appends the text of tokens in these chunks.
 fn encode_chunks(tokens: &[Token], chunks: &[TokenChunk], out: &mut String) -> Result<()>
-    ensures text { OnOk result (string_bytes out.new ≡ string_bytes out.old ++ canonical tokens.now) }
+    ensures text { Pushes result out.old out.new (canonical tokens.now) }
     ensures clean { OnOk result (writing_fault tokens.now (Some chunks.now) ≡ None) }
-    ensures fault { IfErr result (λ e. (e ≢ OutOfMemory) → writing_fault tokens.now (Some chunks.now) ≡ Some e) }
-    ensures reported { (e : Error) → writing_fault tokens.now (Some chunks.now) ≡ Some e → result ≡ Err e }
+    ensures fault { FailsBy (writing_fault tokens.now (Some chunks.now)) result }
+    ensures reported { Reports (writing_fault tokens.now (Some chunks.now)) result }
     ensures in_bounds { OnOk result (AreInBounds tokens.now) }
     ensures unchanged { OnErr result (string_bytes out.new ≡ string_bytes out.old) }
 {
@@ -522,10 +518,10 @@ fn fault_of_long(tokens: &[Token]) -> Error
 
 /// Appends the text of tokens without chunks, in one chunk of them all: their line order is tested there.
 fn encode_whole(tokens: &[Token], out: &mut String) -> Result<()>
-    ensures text { OnOk result (string_bytes out.new ≡ string_bytes out.old ++ canonical tokens.now) }
+    ensures text { Pushes result out.old out.new (canonical tokens.now) }
     ensures clean { OnOk result (writing_fault tokens.now None ≡ None) }
-    ensures fault { IfErr result (λ e. (e ≢ OutOfMemory) → writing_fault tokens.now None ≡ Some e) }
-    ensures reported { (e : Error) → writing_fault tokens.now None ≡ Some e → result ≡ Err e }
+    ensures fault { FailsBy (writing_fault tokens.now None) result }
+    ensures reported { Reports (writing_fault tokens.now None) result }
     ensures in_bounds { OnOk result (AreInBounds tokens.now) }
     ensures unchanged { OnErr result (string_bytes out.new ≡ string_bytes out.old) }
 {
@@ -552,10 +548,10 @@ pub fn encode_mappings(
     chunks: Option<&[TokenChunk]>,
     out: &mut String,
 ) -> Result<()>
-    ensures text { OnOk result (string_bytes out.new ≡ string_bytes out.old ++ canonical tokens.now) }
+    ensures text { Pushes result out.old out.new (canonical tokens.now) }
     ensures clean { OnOk result (writing_fault tokens.now (lent_chunks chunks.entry) ≡ None) }
-    ensures fault { IfErr result (λ e. (e ≢ OutOfMemory) → writing_fault tokens.now (lent_chunks chunks.entry) ≡ Some e) }
-    ensures reported { (e : Error) → writing_fault tokens.now (lent_chunks chunks.entry) ≡ Some e → result ≡ Err e }
+    ensures fault { FailsBy (writing_fault tokens.now (lent_chunks chunks.entry)) result }
+    ensures reported { Reports (writing_fault tokens.now (lent_chunks chunks.entry)) result }
 
     // True of every list of tokens, and stated here for callers that need it.
     ensures in_bounds { OnOk result (AreInBounds tokens.now) }

@@ -12,6 +12,10 @@ use Rattle.oxc_sourcemap_parts.specs.declared.parts.SourceMapParts.{SourceMapPar
 abbrev pub text_of : Option (CowStr Global) → Option Text
 text_of text = option_map cow_str_bytes text
 
+-- strings
+abbrev pub cow_texts : List (CowStr Global) → List Text
+cow_texts texts = map cow_str_bytes texts
+
 -- names or sources
 abbrev pub texts_of : Vec (CowStr Global) Global → List Text
 texts_of texts = map cow_str_bytes texts.items

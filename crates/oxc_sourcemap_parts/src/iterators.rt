@@ -4,7 +4,7 @@ ghost use Rattle.std.specs.Prelude.{◌≡◌, map, option_map, length, IfSome, 
 ghost use Rattle.std.specs.Iterator.{YieldsFirst, YieldsFirstBy, item_count, UpTo};
 ghost use Rattle.std.specs.Iterator.SizeHint.{IsWithinCount};
 ghost use Rattle.std.specs.Cow.{cow_str_bytes};
-ghost use Rattle.oxc_sourcemap_parts.specs.Views.{text_of};
+ghost use Rattle.oxc_sourcemap_parts.specs.Views.{text_of, cow_texts};
 
 use oxc_sourcemap_tokens::Token;
 use std::borrow::CowStr;
@@ -31,7 +31,7 @@ impl<'s, 'd> Model for Names<'s, 'd> {
 
 /// An iterator over these names.
 pub fn names_in<'s, 'd>(names: &'s [CowStr<'d>]) -> Names<'s, 'd>
-    ensures { result ≡ map cow_str_bytes names.now }
+    ensures { result ≡ cow_texts names.now }
 {
     Names {
         names: names.iter(),
@@ -85,7 +85,7 @@ impl<'s, 'd> Model for Sources<'s, 'd> {
 
 /// An iterator over these sources.
 pub fn sources_in<'s, 'd>(sources: &'s [CowStr<'d>]) -> Sources<'s, 'd>
-    ensures { result ≡ map cow_str_bytes sources.now }
+    ensures { result ≡ cow_texts sources.now }
 {
     Sources {
         sources: sources.iter(),

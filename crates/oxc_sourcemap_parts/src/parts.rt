@@ -1,14 +1,14 @@
 //! The parts of a map: its nine fields.
-ghost use Rattle.std.specs.Prelude.{◌≡◌, IfOk, IfErr};
-ghost use Rattle.oxc_sourcemap_tokens.specs.declared.error.Error.TheVariants.{OutOfMemory};
+ghost use Rattle.std.specs.Prelude.{◌≡◌, IfOk};
 ghost use Rattle.oxc_sourcemap_parts.specs.Views.{text_of, texts_of, contents_of, record_of_parts, empty_record};
+ghost use Rattle.oxc_sourcemap_tokens.specs.Results.{OnlyMemory};
 
 use crate::texts::{
     cloned_chunks, cloned_contents, cloned_ids, cloned_text, cloned_texts, detached_contents,
     detached_text, detached_texts,
 };
-use oxc_sourcemap_tokens::{Result, Token, TokenChunk};
-use std::alloc::{AllocError, Global};
+use oxc_sourcemap_tokens::{Memory, Result, Token, TokenChunk};
+use std::alloc::Global;
 use std::borrow::CowStr;
 use std::boxed::BoxedSlice;
 
@@ -39,7 +39,7 @@ impl<'a> SourceMapParts<'a> {
     /// The parts of a map with nothing in it. Fails only with `OutOfMemory`.
     pub fn empty(alloc: Global) -> Result<SourceMapParts<'a>>
         ensures parts { IfOk result (λ parts. record_of_parts parts ≡ empty_record) }
-        ensures refused { IfErr result (λ e. e ≡ OutOfMemory) }
+        ensures refused { OnlyMemory result }
     {
         Ok(SourceMapParts {
             file: None,
@@ -57,7 +57,7 @@ impl<'a> SourceMapParts<'a> {
     /// Parts equal to these. A borrowed string stays borrowed. Fails only with `OutOfMemory`.
     pub fn clone(&self, alloc: Global) -> Result<SourceMapParts<'a>>
         ensures parts { IfOk result (λ parts. record_of_parts parts ≡ record_of_parts self.now) }
-        ensures refused { IfErr result (λ e. e ≡ OutOfMemory) }
+        ensures refused { OnlyMemory result }
     {
         let tokens = self.tokens.as_slice().to_vec(alloc)?;
         let token_chunks = cloned_chunks(alloc, &self.token_chunks)?;
@@ -95,7 +95,7 @@ struct Lists<'a> {
 }
 
 /// Clones of the strings of these parts that stand alone.
-fn cloned_single<'a>(parts: &SourceMapParts<'a>) -> std::result::Result<Single<'a>, AllocError>
+fn cloned_single<'a>(parts: &SourceMapParts<'a>) -> Memory<Single<'a>>
     ensures file { IfOk result (λ texts. text_of texts.file ≡ text_of parts.now.file) }
     ensures source_root { IfOk result (λ texts. text_of texts.source_root ≡ text_of parts.now.source_root) }
     ensures debug_id { IfOk result (λ texts. text_of texts.debug_id ≡ text_of parts.now.debug_id) }
@@ -111,7 +111,7 @@ fn cloned_single<'a>(parts: &SourceMapParts<'a>) -> std::result::Result<Single<'
 fn cloned_lists<'a>(
     alloc: Global,
     parts: &SourceMapParts<'a>,
-) -> std::result::Result<Lists<'a>, AllocError>
+) -> Memory<Lists<'a>>
     ensures names { IfOk result (λ lists. texts_of lists.names ≡ texts_of parts.now.names) }
     ensures sources { IfOk result (λ lists. texts_of lists.sources ≡ texts_of parts.now.sources) }
     ensures contents { IfOk result (λ lists. contents_of lists.contents ≡ contents_of parts.now.source_contents) }
@@ -127,7 +127,7 @@ fn cloned_lists<'a>(
 fn detached_single(
     alloc: Global,
     texts: Single<'_>,
-) -> std::result::Result<Single<'static>, AllocError>
+) -> Memory<Single<'static>>
     ensures file { IfOk result (λ detached. text_of detached.file ≡ text_of texts.entry.file) }
     ensures source_root { IfOk result (λ detached. text_of detached.source_root ≡ text_of texts.entry.source_root) }
     ensures debug_id { IfOk result (λ detached. text_of detached.debug_id ≡ text_of texts.entry.debug_id) }
@@ -143,7 +143,7 @@ fn detached_single(
 fn detached_lists(
     alloc: Global,
     lists: Lists<'_>,
-) -> std::result::Result<Lists<'static>, AllocError>
+) -> Memory<Lists<'static>>
     ensures names { IfOk result (λ detached. texts_of detached.names ≡ texts_of lists.entry.names) }
     ensures sources { IfOk result (λ detached. texts_of detached.sources ≡ texts_of lists.entry.sources) }
     ensures contents { IfOk result (λ detached. contents_of detached.contents ≡ contents_of lists.entry.contents) }
@@ -159,7 +159,7 @@ fn detached_lists(
 /// parts are then dropped.
 pub fn owned_parts(alloc: Global, parts: SourceMapParts<'_>) -> Result<SourceMapParts<'static>>
     ensures parts { IfOk result (λ owned. record_of_parts owned ≡ record_of_parts parts.entry) }
-    ensures refused { IfErr result (λ e. e ≡ OutOfMemory) }
+    ensures refused { OnlyMemory result }
 {
     let texts = Single {
         file: parts.file,

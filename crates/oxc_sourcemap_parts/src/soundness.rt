@@ -1,5 +1,5 @@
 //! Whether tokens are sorted, and whether a map is sound.
-ghost use Rattle.std.specs.Prelude.{◌≡◌, ◌↔◌, ◌<◌, ℕ, IsTrue, IfSome};
+ghost use Rattle.std.specs.Prelude.{◌≡◌, ◌↔◌, ◌<◌, IsTrue, IfSome};
 ghost use Rattle.std.specs.List.{AllByRecursion};
 ghost use Rattle.oxc_sourcemap_tokens.specs.LineOrder.{IsInLineOrder};
 ghost use Rattle.oxc_sourcemap_tokens.specs.Chunks.{ChunksFit};

@@ -2,9 +2,9 @@
 ghost use Rattle.std.specs.Prelude.{◌≡◌, List, map, option_map, IfOk};
 ghost use Rattle.std.specs.Iterator.{IsFinite, Drains};
 ghost use Rattle.std.specs.Cow.{cow_str_bytes};
-ghost use Rattle.oxc_sourcemap_parts.specs.Views.{text_of, texts_of, contents_of, chunks_of, ids_of};
+ghost use Rattle.oxc_sourcemap_parts.specs.Views.{text_of, texts_of, contents_of, chunks_of, ids_of, cow_texts};
 
-use oxc_sourcemap_tokens::TokenChunk;
+use oxc_sourcemap_tokens::{Memory, TokenChunk};
 use std::alloc::{AllocError, Global};
 use std::borrow::CowStr;
 use std::convert::AsStr;
@@ -29,7 +29,7 @@ pub fn stored_contents<'a>(
 /// A clone of a string, if there is one. A borrowed string stays borrowed.
 pub fn cloned_text<'a>(
     text: &Option<CowStr<'a>>,
-) -> std::result::Result<Option<CowStr<'a>>, AllocError>
+) -> Memory<Option<CowStr<'a>>>
     ensures { IfOk result (λ clone. text_of clone ≡ text_of text.now) }
 {
     match text {
@@ -42,8 +42,8 @@ pub fn cloned_text<'a>(
 pub fn cloned_texts<'a>(
     alloc: Global,
     texts: &[CowStr<'a>],
-) -> std::result::Result<Vec<CowStr<'a>>, AllocError>
-    ensures { IfOk result (λ clones. texts_of clones ≡ map cow_str_bytes texts.now) }
+) -> Memory<Vec<CowStr<'a>>>
+    ensures { IfOk result (λ clones. texts_of clones ≡ cow_texts texts.now) }
 {
     let mut clones = Vec::with_capacity(alloc, texts.len())?;
     for text in texts {
@@ -70,7 +70,7 @@ pub fn cloned_contents<'a>(
 pub fn cloned_chunks(
     alloc: Global,
     chunks: &Option<Vec<TokenChunk>>,
-) -> std::result::Result<Option<Vec<TokenChunk>>, AllocError>
+) -> Memory<Option<Vec<TokenChunk>>>
     ensures { IfOk result (λ clone. chunks_of clone ≡ chunks_of chunks.now) }
 {
     match chunks {
@@ -83,7 +83,7 @@ pub fn cloned_chunks(
 pub fn cloned_ids(
     alloc: Global,
     list: &Option<Vec<u32>>,
-) -> std::result::Result<Option<Vec<u32>>, AllocError>
+) -> Memory<Option<Vec<u32>>>
     ensures { IfOk result (λ clone. ids_of clone ≡ ids_of list.now) }
 {
     match list {
@@ -96,7 +96,7 @@ pub fn cloned_ids(
 pub fn detached_text(
     alloc: Global,
     text: Option<CowStr<'_>>,
-) -> std::result::Result<Option<CowStr<'static>>, AllocError>
+) -> Memory<Option<CowStr<'static>>>
     ensures { IfOk result (λ detached. text_of detached ≡ text_of text.entry) }
 {
     match text {
@@ -109,7 +109,7 @@ pub fn detached_text(
 pub fn detached_texts(
     alloc: Global,
     texts: Vec<CowStr<'_>>,
-) -> std::result::Result<Vec<CowStr<'static>>, AllocError>
+) -> Memory<Vec<CowStr<'static>>>
     ensures { IfOk result (λ detached. texts_of detached ≡ texts_of texts.entry) }
 {
     let mut detached = Vec::with_capacity(alloc, texts.len())?;
@@ -137,7 +137,7 @@ pub fn detached_contents(
 pub fn stored_texts<'a, S: AsStr, I: Iterator<Item = S>>(
     alloc: Global,
     texts: I,
-) -> std::result::Result<Vec<CowStr<'a>>, AllocError>
+) -> Memory<Vec<CowStr<'a>>>
 where
     S: Drop,
     requires can { I.can_next texts }

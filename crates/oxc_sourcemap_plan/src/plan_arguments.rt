@@ -1,10 +1,12 @@
 //! The arguments of a plan, and its inputs.
-ghost use Rattle.std.specs.Prelude.{◌≡◌, ◌≢◌, ◌≤◌, ◌<◌, ◌+◌, ◌∷◌, [], false, length, map, string_bytes, Ok, Err, option_map, slice_get, MatchOption, IfOk, IfErr, IfSome};
+ghost use Rattle.std.specs.Prelude.{◌≡◌, ◌≢◌, ◌≤◌, ◌<◌, ◌+◌, ◌∷◌, [], false, length, map, string_bytes, Ok, Err, slice_get, MatchOption, IfOk, IfErr, IfSome};
 ghost use Rattle.oxc_sourcemap_plan.specs.Refusals.{out_of_memory, is_of_port};
 ghost use Rattle.oxc_sourcemap_plan.specs.Depth.{depth};
 ghost use Rattle.oxc_sourcemap_plan.specs.Outcome.{outcome_of, outcome};
 ghost use Rattle.oxc_sourcemap_plan.specs.PlanInputs.{inputs_of};
 ghost use Rattle.oxc_sourcemap_plan.specs.PlanArguments.{parsed_number, parsed_line, parsed_position, parsed_input, parsed_join, parsed_part, parsed_plan};
+ghost use Rattle.oxc_sourcemap_tokens.specs.Results.{Gives, lent_items};
+ghost use Rattle.oxc_sourcemap_join.specs.Joined.{position};
 
 use crate::numbers::read_number;
 use crate::plan::Plan;
@@ -35,7 +37,7 @@ fn first_text(input: &str) -> (&str, Option<&str>)
 
 /// The texts of an input, separated by lines that are exactly `---`. They are parts of the input, and nothing of it is copied.
 pub fn inputs_of<'t>(alloc: Global, input: &'t str) -> Result<Vec<&'t str>, AllocError>
-    ensures { IfOk result (λ inputs. map (λ text. text.now) inputs.items ≡ inputs_of input.now) }
+    ensures { IfOk result (λ inputs. lent_items inputs.items ≡ inputs_of input.now) }
 {
     let mut inputs = Vec::new(alloc);
     let mut rest = input;
@@ -51,8 +53,7 @@ pub fn inputs_of<'t>(alloc: Global, input: &'t str) -> Result<Vec<&'t str>, Allo
 
 /// The number that the first argument says, and the arguments after it.
 fn take_number<'w>(arguments: &'w [String]) -> Result<(u32, &'w [String]), RunError>
-    ensures number { IfOk result (λ r. parsed_number (map string_bytes arguments.now) ≡ Ok (r.0, map string_bytes r.1.now)) }
-    ensures refused { IfErr result (λ e. parsed_number (map string_bytes arguments.now) ≡ Err e) }
+    ensures number { Gives (λ r. r.0, map string_bytes r.1.now) result (parsed_number (map string_bytes arguments.now)) }
     ensures causes { IfErr result (λ e. is_of_port e ≡ false) }
 {
     let Some((argument, others)) = arguments.split_first() else {
@@ -66,8 +67,7 @@ fn take_number<'w>(arguments: &'w [String]) -> Result<(u32, &'w [String]), RunEr
 
 /// The line and the column that the first two arguments say, and the arguments after them.
 fn take_position<'w>(arguments: &'w [String]) -> Result<(u32, u32, &'w [String]), RunError>
-    ensures position { IfOk result (λ r. parsed_position (map string_bytes arguments.now) ≡ Ok (record { line = r.0; column = r.1 }, map string_bytes r.2.now)) }
-    ensures refused { IfErr result (λ e. parsed_position (map string_bytes arguments.now) ≡ Err e) }
+    ensures position { Gives (λ r. position r.0 r.1, map string_bytes r.2.now) result (parsed_position (map string_bytes arguments.now)) }
     ensures causes { IfErr result (λ e. is_of_port e ≡ false) }
 {
     let (line, after) = take_number(arguments)?;
@@ -77,16 +77,16 @@ fn take_position<'w>(arguments: &'w [String]) -> Result<(u32, u32, &'w [String])
 
 /// The input with this number, from 0.
 fn input_at<'t>(inputs: &'t [&'t str], number: u32) -> Option<&'t str>
-    ensures { option_map (λ text. text.now) result ≡ slice_get (map (λ text. text.now) inputs.now) number }
+    ensures { option_lent_items result ≡ slice_get (lent_items inputs.now) number }
 {
     inputs.get(number as usize).copied()
 }
 
 /// The part that an argument `@K` says: read input K.
 fn read_input<'t>(inputs: &'t [&'t str], argument: &str) -> Result<Plan<'t>, RunError>
-    ensures part { IfOk result (λ plan. parsed_input (map (λ text. text.now) inputs.now) argument.now ≡ Ok (outcome_of plan)) }
+    ensures part { IfOk result (λ plan. parsed_input (lent_items inputs.now) argument.now ≡ Ok (outcome_of plan)) }
     ensures depth { IfOk result (λ plan. depth plan ≡ 1) }
-    ensures refused { IfErr result (λ e. parsed_input (map (λ text. text.now) inputs.now) argument.now ≡ Err e) }
+    ensures refused { IfErr result (λ e. parsed_input (lent_items inputs.now) argument.now ≡ Err e) }
     ensures causes { IfErr result (λ e. is_of_port e ≡ false) }
 {
     let Some(digits) = argument.strip_prefix('@') else {
@@ -109,9 +109,9 @@ fn read_part<'t, 'w>(
     arguments: &'w [String],
     room: u32,
 ) -> Result<(Plan<'t>, &'w [String]), RunError>
-    ensures part { IfOk result (λ r. parsed_part (map (λ text. text.now) inputs.now) room (map string_bytes arguments.now) ≡ Ok (outcome_of r.0, map string_bytes r.1.now)) }
+    ensures part { IfOk result (λ r. parsed_part (lent_items inputs.now) room (map string_bytes arguments.now) ≡ Ok (outcome_of r.0, map string_bytes r.1.now)) }
     ensures depth { IfOk result (λ r. depth r.0 ≤ room) }
-    ensures refused { IfErr result (λ e. (e ≢ out_of_memory) → parsed_part (map (λ text. text.now) inputs.now) room (map string_bytes arguments.now) ≡ Err e) }
+    ensures refused { IfErr result (λ e. (e ≢ out_of_memory) → parsed_part (lent_items inputs.now) room (map string_bytes arguments.now) ≡ Err e) }
     ensures causes { IfErr result (λ e. is_of_port e ≡ false) }
 {
     let Some((argument, others)) = arguments.split_first() else {
@@ -147,9 +147,9 @@ fn read_join<'t, 'w>(
     arguments: &'w [String],
     room: u32,
 ) -> Result<(Plan<'t>, &'w [String]), RunError>
-    ensures part { IfOk result (λ r. parsed_join (parsed_part (map (λ text. text.now) inputs.now) room) parsed_line (map string_bytes arguments.now) ≡ Ok (outcome_of r.0, map string_bytes r.1.now)) }
+    ensures part { IfOk result (λ r. parsed_join (parsed_part (lent_items inputs.now) room) parsed_line (map string_bytes arguments.now) ≡ Ok (outcome_of r.0, map string_bytes r.1.now)) }
     ensures depth { IfOk result (λ r. depth r.0 ≤ room + 1) }
-    ensures refused { IfErr result (λ e. (e ≢ out_of_memory) → parsed_join (parsed_part (map (λ text. text.now) inputs.now) room) parsed_line (map string_bytes arguments.now) ≡ Err e) }
+    ensures refused { IfErr result (λ e. (e ≢ out_of_memory) → parsed_join (parsed_part (lent_items inputs.now) room) parsed_line (map string_bytes arguments.now) ≡ Err e) }
     ensures causes { IfErr result (λ e. is_of_port e ≡ false) }
 {
     let (count, after) = take_number(arguments)?;
@@ -173,9 +173,9 @@ fn read_join_at<'t, 'w>(
     arguments: &'w [String],
     room: u32,
 ) -> Result<(Plan<'t>, &'w [String]), RunError>
-    ensures part { IfOk result (λ r. parsed_join (parsed_part (map (λ text. text.now) inputs.now) room) parsed_position (map string_bytes arguments.now) ≡ Ok (outcome_of r.0, map string_bytes r.1.now)) }
+    ensures part { IfOk result (λ r. parsed_join (parsed_part (lent_items inputs.now) room) parsed_position (map string_bytes arguments.now) ≡ Ok (outcome_of r.0, map string_bytes r.1.now)) }
     ensures depth { IfOk result (λ r. depth r.0 ≤ room + 1) }
-    ensures refused { IfErr result (λ e. (e ≢ out_of_memory) → parsed_join (parsed_part (map (λ text. text.now) inputs.now) room) parsed_position (map string_bytes arguments.now) ≡ Err e) }
+    ensures refused { IfErr result (λ e. (e ≢ out_of_memory) → parsed_join (parsed_part (lent_items inputs.now) room) parsed_position (map string_bytes arguments.now) ≡ Err e) }
     ensures causes { IfErr result (λ e. is_of_port e ≡ false) }
 {
     let (count, after) = take_number(arguments)?;
@@ -204,8 +204,8 @@ pub fn read_plan<'t>(
     inputs: &'t [&'t str],
     arguments: &[String],
 ) -> Result<Plan<'t>, RunError>
-    ensures plan { IfOk result (λ plan. parsed_plan (map (λ text. text.now) inputs.now) (map string_bytes arguments.now) ≡ Ok (outcome plan)) }
-    ensures refused { IfErr result (λ e. (e ≢ out_of_memory) → parsed_plan (map (λ text. text.now) inputs.now) (map string_bytes arguments.now) ≡ Err e) }
+    ensures plan { IfOk result (λ plan. parsed_plan (lent_items inputs.now) (map string_bytes arguments.now) ≡ Ok (outcome plan)) }
+    ensures refused { IfErr result (λ e. (e ≢ out_of_memory) → parsed_plan (lent_items inputs.now) (map string_bytes arguments.now) ≡ Err e) }
     ensures causes { IfErr result (λ e. is_of_port e ≡ false) }
 {
     let (plan, rest) = read_part(alloc, inputs, arguments, 64)?;

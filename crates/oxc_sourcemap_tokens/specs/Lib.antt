@@ -1,4 +1,5 @@
 pub mod Refusals
+pub mod Results
 pub mod Messages
 pub mod PlanMessages
 pub mod Token

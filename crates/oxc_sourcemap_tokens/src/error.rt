@@ -1,5 +1,5 @@
 //! Errors and their messages.
-ghost use Rattle.std.specs.Prelude.{◌≡◌, Some, option_map};
+ghost use Rattle.std.specs.Prelude.{◌≡◌, Some};
 ghost use Rattle.oxc_sourcemap_tokens.specs.Messages.{key_of, json_fault_text, error_text};
 ghost use Rattle.oxc_sourcemap_tokens.specs.Refusals.{refusal_of_json};
 ghost use Rattle.oxc_sourcemap_tokens.specs.declared.error.Error.TheVariants.{OutOfMemory};
@@ -94,10 +94,13 @@ pub enum Field {
 /// A `Result` with the `Error` of this library.
 pub type Result<T> = std::result::Result<T, Error>;
 
+/// The result of a call that fails for want of memory alone.
+pub type Memory<T> = std::result::Result<T, AllocError>;
+
 impl Field {
     /// The key of the field in the JSON object, and None for the object itself.
     fn key(self) -> Option<&'static str>
-        ensures { option_map (λ key. key.now) result ≡ key_of self }
+        ensures { option_lent_items result ≡ key_of self }
     {
         match self {
             Field::Object => None,

@@ -10,7 +10,7 @@ mod state;
 mod token;
 
 pub use chunks::{chunk_fault, next_chunk, tokens_of};
-pub use error::{Error, Field, JsonFault, Result};
+pub use error::{Error, Field, JsonFault, Memory, Result};
 pub use order::{line_back_from, line_order_fault};
 pub use plan_error::PlanError;
 pub use state::Previous;

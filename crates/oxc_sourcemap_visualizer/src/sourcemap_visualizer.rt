@@ -1,5 +1,5 @@
 //! A map shown beside its generated code and sources, for people who test source maps.
-ghost use Rattle.std.specs.Prelude.{◌≡◌, ◌≢◌, ◌++◌, ℕ, List, [], map, option_map, string_bytes, codes, Some, None, IfOk, IfErr, IfSome, OnOk, Ok, Err};
+ghost use Rattle.std.specs.Prelude.{◌≡◌, ℕ, List, [], map, option_map, string_bytes, Some, None, IfOk, IfSome, OnOk, Ok};
 ghost use Rattle.std.specs.Fmt.{AppendsText};
 ghost use Rattle.std.specs.Option.{option_or};
 ghost use Rattle.oxc_sourcemap_tokens.specs.declared.error.Error.TheVariants.{OutOfMemory};
@@ -7,12 +7,13 @@ ghost use Rattle.oxc_sourcemap_parts.specs.Record.{Text};
 ghost use Rattle.oxc_sourcemap_visualizer.specs.Link.{counted, map_link};
 ghost use Rattle.oxc_sourcemap_visualizer.specs.TextLines.{units_of, lines_of, text_lines};
 ghost use Rattle.oxc_sourcemap_visualizer.specs.VisualText.{is_within, dst_end, src_end, is_on_source_line, between, part_text, position_text, mark, heading, invalid_text, parts_text, mapping_text, shown, shown_source, visual_token_text, tokens_text, visual_text};
+ghost use Rattle.oxc_sourcemap_tokens.specs.Results.{Answers, OnlyMemory, Pushes};
 
 use crate::text_lines::{Lines, utf16_units};
 use base64::engine::general_purpose::STANDARD;
 use oxc_sourcemap_map::SourceMap;
 use oxc_sourcemap_parts::Contents;
-use oxc_sourcemap_tokens::{Error, Result, Token};
+use oxc_sourcemap_tokens::{Error, Memory, Result, Token};
 use std::alloc::{AllocError, Global};
 use std::fmt::Write;
 use std::marker::Model;
@@ -48,8 +49,7 @@ impl<'a, 'sm> SourcemapVisualizer<'a, 'sm> {
     /// `OutOfMemory` if memory is refused.
     #[tactic(auto, unfolding(crate::specs::Link::map_link))]
     pub fn get_url(&self, alloc: Global) -> Result<String>
-        ensures url { IfOk result (λ url. map_link self.now.code self.now.map ≡ Ok (string_bytes url)) }
-        ensures refused { IfErr result (λ e. (e ≢ OutOfMemory) → map_link self.now.code self.now.map ≡ Err e) }
+        ensures { Answers string_bytes result (map_link self.now.code self.now.map) }
     {
         let json = self.sourcemap.to_json_string(alloc)?;
         let mut parts = String::new(alloc);
@@ -75,7 +75,7 @@ impl<'a, 'sm> SourcemapVisualizer<'a, 'sm> {
     #[tactic(auto, unfolding(crate::specs::VisualText::visual_text))]
     pub fn get_text(&self, alloc: Global) -> Result<String>
         ensures text { IfOk result (λ text. IfSome (visual_text self.now.code self.now.map) (λ shown. string_bytes text ≡ shown)) }
-        ensures refused { IfErr result (λ e. e ≡ OutOfMemory) }
+        ensures refused { OnlyMemory result }
     {
         let contents = self.sourcemap.get_source_contents();
         if contents.len() == 0 {
@@ -93,8 +93,8 @@ impl<'a, 'sm> SourcemapVisualizer<'a, 'sm> {
 
 /// Appends the number of bytes of a text in decimal, a zero byte, and the text.
 fn push_counted(text: &str, out: &mut String) -> Result<()>
-    ensures text { OnOk result (string_bytes out.new ≡ string_bytes out.old ++ counted text.now) }
-    ensures refused { IfErr result (λ e. e ≡ OutOfMemory) }
+    ensures text { Pushes result out.old out.new (counted text.now) }
+    ensures refused { OnlyMemory result }
 {
     write!(out, "{}\0{text}", text.len()).map_err(|_| Error::OutOfMemory)
 }
@@ -120,8 +120,8 @@ fn cut_contents<'u>(
 fn units_where_known(
     alloc: Global,
     content: Option<&str>,
-) -> std::result::Result<Option<Vec<u16>>, AllocError>
-    ensures { IfOk result (λ units. option_map (λ units. units.items) units ≡ option_map units_of (option_map (λ text. text.now) content.entry)) }
+) -> Memory<Option<Vec<u16>>>
+    ensures { IfOk result (λ units. option_map (λ units. units.items) units ≡ option_map units_of (option_lent_items content.entry)) }
 {
     match content {
         Some(text) => Ok(Some(utf16_units(alloc, text)?)),
@@ -194,7 +194,7 @@ fn between(line: &[u16], a: usize, b: usize) -> &[u16]
 /// surrogate pair.
 fn push_part(alloc: Global, units: &[u16], out: &mut String) -> Result<()>
     ensures text { OnOk result (AppendsText (string_bytes out.old) (string_bytes out.new) (part_text units.now)) }
-    ensures refused { IfErr result (λ e. e ≡ OutOfMemory) }
+    ensures refused { OnlyMemory result }
 {
     let mut part = String::from_utf16_lossy(alloc, units)?;
     part.retain(|ch| ch != '\r');
@@ -203,16 +203,16 @@ fn push_part(alloc: Global, units: &[u16], out: &mut String) -> Result<()>
 
 /// Appends `(line:column)`.
 fn push_position(line: u32, col: u32, out: &mut String) -> Result<()>
-    ensures text { OnOk result (string_bytes out.new ≡ string_bytes out.old ++ position_text line col) }
-    ensures refused { IfErr result (λ e. e ≡ OutOfMemory) }
+    ensures text { Pushes result out.old out.new (position_text line col) }
+    ensures refused { OnlyMemory result }
 {
     write!(out, "({line}:{col})").map_err(|_| Error::OutOfMemory)
 }
 
 /// Appends the mark of a position that is not there, or nothing.
 fn push_mark(is_valid: bool, out: &mut String) -> Result<()>
-    ensures text { OnOk result (string_bytes out.new ≡ string_bytes out.old ++ mark is_valid) }
-    ensures refused { IfErr result (λ e. e ≡ OutOfMemory) }
+    ensures text { Pushes result out.old out.new (mark is_valid) }
+    ensures refused { OnlyMemory result }
 {
     if is_valid {
         return Ok(());
@@ -227,8 +227,8 @@ fn push_invalid(
     is_dst_valid: bool,
     out: &mut String,
 ) -> Result<()>
-    ensures text { OnOk result (string_bytes out.new ≡ string_bytes out.old ++ invalid_text is_src_valid is_dst_valid token.now) }
-    ensures refused { IfErr result (λ e. e ≡ OutOfMemory) }
+    ensures text { Pushes result out.old out.new (invalid_text is_src_valid is_dst_valid token.now) }
+    ensures refused { OnlyMemory result }
 {
     push_position(token.get_src_line(), token.get_src_col(), out)?;
     push_mark(is_src_valid, out)?;
@@ -247,7 +247,7 @@ fn push_parts(
     out: &mut String,
 ) -> Result<()>
     ensures text { OnOk result (AppendsText (string_bytes out.old) (string_bytes out.new) (parts_text token.now src.now dst.now)) }
-    ensures refused { IfErr result (λ e. e ≡ OutOfMemory) }
+    ensures refused { OnlyMemory result }
 {
     push_position(token.get_src_line(), token.get_src_col(), out)?;
     out.push(' ')?;
@@ -271,7 +271,7 @@ fn push_mapping(
     out: &mut String,
 ) -> Result<()>
     ensures text { OnOk result (AppendsText (string_bytes out.old) (string_bytes out.new) (mapping_text src.now dst.now id token.now after.now)) }
-    ensures refused { IfErr result (λ e. e ≡ OutOfMemory) }
+    ensures refused { OnlyMemory result }
 {
     let (src_col, dst_col) = (token.get_src_col(), token.get_dst_col());
     let is_src_valid = is_within(src, token.get_src_line(), src_col);
@@ -294,8 +294,8 @@ fn push_mapping(
 
 /// Appends the line of a source, unless it is the last one that was printed.
 fn push_heading(last: Option<&str>, source: &str, out: &mut String) -> Result<()>
-    ensures text { OnOk result (string_bytes out.new ≡ string_bytes out.old ++ heading (option_map (λ text. text.now) last.entry) source.now) }
-    ensures refused { IfErr result (λ e. e ≡ OutOfMemory) }
+    ensures text { Pushes result out.old out.new (heading (option_lent_items last.entry) source.now) }
+    ensures refused { OnlyMemory result }
 {
     if last == Some(source) {
         return Ok(());
@@ -319,7 +319,7 @@ impl<'s, 'u, 'sm> Printer<'s, 'u, 'sm> {
         sourcemap: &'s SourceMap<'sm>,
         contents: &'u [Option<Vec<u16>>],
         code: &'u [u16],
-    ) -> std::result::Result<Printer<'s, 'u, 'sm>, AllocError>
+    ) -> Memory<Printer<'s, 'u, 'sm>>
         ensures sourcemap { IfOk result (λ printer. printer.sourcemap.now ≡ sourcemap.now) }
         ensures sources { IfOk result (λ printer. printer.sources.items ≡ map (option_map (λ units. lines_of units.items)) contents.now) }
         ensures code { IfOk result (λ printer. printer.code ≡ lines_of code.now) }
@@ -354,9 +354,9 @@ impl<'s, 'u, 'sm> Printer<'s, 'u, 'sm> {
     ) -> Result<Option<&'s str>>
         requires { self.now.sources.items ≡ map (option_map text_lines) self.now.sourcemap.now.source_contents }
         ensures text { OnOk result (AppendsText (string_bytes out.old) (string_bytes out.new)
-            (visual_token_text self.now.code (option_map (λ text. text.now) last.entry) token.now after.now token.now.source_id (shown self.now.sourcemap.now token.now))) }
-        ensures last { IfOk result (λ source. option_map (λ text. text.now) source ≡ option_or (shown_source self.now.sourcemap.now token.now) (option_map (λ text. text.now) last.entry)) }
-        ensures refused { IfErr result (λ e. e ≡ OutOfMemory) }
+            (visual_token_text self.now.code (option_lent_items last.entry) token.now after.now token.now.source_id (shown self.now.sourcemap.now token.now))) }
+        ensures last { IfOk result (λ source. option_lent_items source ≡ option_or (shown_source self.now.sourcemap.now token.now) (option_lent_items last.entry)) }
+        ensures refused { OnlyMemory result }
     {
         let Some((id, source, lines)) = self.shown(token) else {
             return Ok(last);
@@ -370,7 +370,7 @@ impl<'s, 'u, 'sm> Printer<'s, 'u, 'sm> {
     fn push_tokens(&self, tokens: &[Token], out: &mut String) -> Result<()>
         requires { self.now.sources.items ≡ map (option_map text_lines) self.now.sourcemap.now.source_contents }
         ensures text { OnOk result (AppendsText (string_bytes out.old) (string_bytes out.new) (tokens_text self.now.code self.now.sourcemap.now [] tokens.now)) }
-        ensures refused { IfErr result (λ e. e ≡ OutOfMemory) }
+        ensures refused { OnlyMemory result }
     {
         let mut last = None;
         for (i, token) in tokens.iter().enumerate() {

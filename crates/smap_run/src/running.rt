@@ -13,6 +13,7 @@ ghost use Rattle.oxc_sourcemap.specs.Evaluated.{IsFailure};
 ghost use Rattle.oxc_sourcemap_plan.specs.PlanInputs.{inputs_of};
 ghost use Rattle.oxc_sourcemap_plan.specs.PlanArguments.{parsed_plan};
 ghost use Rattle.smap_run.specs.Request.{request_of};
+ghost use Rattle.oxc_sourcemap_tokens.specs.Results.{Answers};
 
 use crate::arguments::Command;
 use crate::port::Port;
@@ -101,8 +102,7 @@ fn rewrite_mappings(alloc: Global, text: &str, names: u32, sources: u32) -> Resu
 
 /// The JSON text of the map that a JSON text says.
 fn normalise(alloc: Global, text: &str) -> Result<String, Error>
-    ensures text { IfOk result (λ out. normalised text.now ≡ Ok (string_bytes out)) }
-    ensures refused { IfErr result (λ e. (e ≢ OutOfMemory) → normalised text.now ≡ Err e) }
+    ensures { Answers string_bytes result (normalised text.now) }
 {
     let map = SourceMap::from_json_string(alloc, text)?;
     map.to_json_string(alloc)
@@ -110,8 +110,7 @@ fn normalise(alloc: Global, text: &str) -> Result<String, Error>
 
 /// The data URL of the map that a JSON text says.
 fn data_url(alloc: Global, text: &str) -> Result<String, Error>
-    ensures url { IfOk result (λ out. normalised_url text.now ≡ Ok (string_bytes out)) }
-    ensures refused { IfErr result (λ e. (e ≢ OutOfMemory) → normalised_url text.now ≡ Err e) }
+    ensures { Answers string_bytes result (normalised_url text.now) }
 {
     let map = SourceMap::from_json_string(alloc, text)?;
     map.to_data_url(alloc)

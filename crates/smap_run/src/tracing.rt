@@ -1,5 +1,5 @@
 //! What a map says of a generated position, as a line of text.
-ghost use Rattle.std.specs.Prelude.{◌≡◌, ◌≢◌, ◌++◌, true, option_map, string_bytes, Some, IfOk, IfErr, OnOk, Ok, Err};
+ghost use Rattle.std.specs.Prelude.{◌≡◌, ◌≢◌, true, option_map, string_bytes, Some, IfOk, IfErr, Ok, Err};
 ghost use Rattle.oxc_sourcemap.specs.Error.TheVariants.{OutOfMemory};
 ghost use Rattle.oxc_sourcemap.specs.LineOrder.{IsInLineOrder};
 ghost use Rattle.oxc_sourcemap.specs.Sorted.{are_tokens_sorted};
@@ -8,6 +8,7 @@ ghost use Rattle.oxc_sourcemap.specs.Trace.{trace};
 ghost use Rattle.oxc_sourcemap.specs.View.{view_of, seen_in, view_original};
 ghost use Rattle.oxc_sourcemap.specs.PlanError.TheVariants.{Map};
 ghost use Rattle.smap_run.specs.Traced.{number_part, name_part, original_text, trace_text, traced_of, traced};
+ghost use Rattle.oxc_sourcemap_tokens.specs.Results.{OnlyMemory, Pushes};
 
 use oxc_sourcemap::{Error, PlanError, SourceMap, SourceViewToken, Token, push_json_string};
 use oxc_sourcemap_lookup::LineIndex;
@@ -15,8 +16,8 @@ use std::alloc::Global;
 
 /// Appends a colon and a number.
 fn push_number(alloc: Global, number: u32, out: &mut String) -> Result<(), Error>
-    ensures text { OnOk result (string_bytes out.new ≡ string_bytes out.old ++ number_part number) }
-    ensures refused { IfErr result (λ e. e ≡ OutOfMemory) }
+    ensures text { Pushes result out.old out.new (number_part number) }
+    ensures refused { OnlyMemory result }
 {
     out.push(':')?;
     out.push_str(number.to_string(alloc)?.as_str())?;
@@ -25,8 +26,8 @@ fn push_number(alloc: Global, number: u32, out: &mut String) -> Result<(), Error
 
 /// Appends a space and a name, where there is one.
 fn push_name(name: Option<&str>, out: &mut String) -> Result<(), Error>
-    ensures text { OnOk result (string_bytes out.new ≡ string_bytes out.old ++ name_part (option_map (λ text. text.now) name.entry)) }
-    ensures refused { IfErr result (λ e. e ≡ OutOfMemory) }
+    ensures text { Pushes result out.old out.new (name_part (option_lent_items name.entry)) }
+    ensures refused { OnlyMemory result }
 {
     let Some(name) = name else {
         return Ok(());
@@ -43,8 +44,8 @@ fn original_text(
     col: u32,
     name: Option<&str>,
 ) -> Result<String, Error>
-    ensures text { IfOk result (λ out. string_bytes out ≡ original_text source.now line col (option_map (λ text. text.now) name.entry)) }
-    ensures refused { IfErr result (λ e. e ≡ OutOfMemory) }
+    ensures text { IfOk result (λ out. string_bytes out ≡ original_text source.now line col (option_lent_items name.entry)) }
+    ensures refused { OnlyMemory result }
 {
     let mut out = String::new(alloc);
     push_json_string(source, &mut out)?;
@@ -57,7 +58,7 @@ fn original_text(
 /// The text of a token that was found.
 fn token_text(alloc: Global, view: &SourceViewToken<'_, '_>) -> Result<String, Error>
     ensures text { IfOk result (λ out. string_bytes out ≡ trace_text (Some (view_original (view_of view.now)))) }
-    ensures refused { IfErr result (λ e. e ≡ OutOfMemory) }
+    ensures refused { OnlyMemory result }
 {
     let (source, line, col, name) = view.to_tuple();
     match source {

@@ -11,6 +11,7 @@ ghost use Rattle.oxc_sourcemap_builders.specs.Building.{with_name, with_name_at,
 ghost use Rattle.oxc_sourcemap_tokens.specs.Results.{OnlyMemory};
 
 use oxc_sourcemap_map::{OwnedSourceMap, SourceMap};
+use oxc_sourcemap_parts::owned_text;
 use oxc_sourcemap_tokens::{Error, Memory, Result, Token, TokenChunk};
 use std::alloc::Global;
 use std::borrow::CowStr;
@@ -78,13 +79,6 @@ fn next_id(count: usize) -> Result<u32>
         return Err(Error::TooLarge);
     }
     Ok(count as u32)
-}
-
-/// A copy of a string.
-fn copied<'a>(alloc: Global, text: &str) -> Memory<CowStr<'a>>
-    ensures { IfOk result (λ copy. cow_str_bytes copy ≡ text.now) }
-{
-    Ok(CowStr::Owned(String::from_str(alloc, text)?))
 }
 
 /// Adds a path and a content, or neither.
@@ -156,8 +150,8 @@ impl<'a> SourceMapBuilder<'a> {
             return Ok(*known);
         }
         let id = next_id(self.names.len())?;
-        let key = copied(self.alloc, name)?;
-        let copy = copied(self.alloc, name)?;
+        let key = owned_text(self.alloc, name)?;
+        let copy = owned_text(self.alloc, name)?;
         self.push_name(key, copy, id)?;
         Ok(id)
     }
@@ -221,9 +215,9 @@ impl<'a> SourceMapBuilder<'a> {
             return Ok(*known);
         }
         let id = next_id(self.sources.len())?;
-        let key = copied(self.alloc, path)?;
-        let listed = copied(self.alloc, path)?;
-        let text = copied(self.alloc, content)?;
+        let key = owned_text(self.alloc, path)?;
+        let listed = owned_text(self.alloc, path)?;
+        let text = owned_text(self.alloc, content)?;
         self.push_given(key, listed, text, id)?;
         Ok(id)
     }
@@ -277,8 +271,8 @@ impl<'a> SourceMapBuilder<'a> {
         ensures unchanged { OnErr result (self.new ≡ self.old) }
     {
         let new_id = next_id(self.sources.len())?;
-        let path = copied(self.alloc, path)?;
-        let content = copied(self.alloc, content)?;
+        let path = owned_text(self.alloc, path)?;
+        let content = owned_text(self.alloc, content)?;
         push_source(&mut self.sources, &mut self.source_contents, path, content)?;
         Ok(new_id)
     }
@@ -330,7 +324,7 @@ impl<'a> SourceMapBuilder<'a> {
         ensures refused { OnlyMemory result }
         ensures unchanged { OnErr result (self.new ≡ self.old) }
     {
-        self.file = Some(copied(self.alloc, file)?);
+        self.file = Some(owned_text(self.alloc, file)?);
         Ok(())
     }
 

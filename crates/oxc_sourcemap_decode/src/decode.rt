@@ -7,11 +7,11 @@ ghost use Rattle.oxc_sourcemap_json.specs.Json.{json_record, json_contents};
 ghost use Rattle.oxc_sourcemap_decode.specs.Decoded.{decoded, json_fault, first_not_below};
 ghost use Rattle.oxc_sourcemap_tokens.specs.Results.{Answers, Reports};
 
-use crate::json_source_map::JSONSourceMap;
+use oxc_sourcemap_json::JSONSourceMap;
 use oxc_sourcemap_mappings::decode_mappings;
-use oxc_sourcemap_parts::SourceMapParts;
+use oxc_sourcemap_parts::{SourceMapParts, from_optional_strings, from_string, from_strings};
 use oxc_sourcemap_tokens::{Error, JsonFault, Memory, Result};
-use std::alloc::{AllocError, Global};
+use std::alloc::Global;
 use std::borrow::CowStr;
 
 /// The first id that is not below a count.
@@ -26,70 +26,43 @@ fn first_id_not_below(count: usize, ids: &[u32]) -> Option<u32>
     None
 }
 
-/// An optional string, moved.
-fn owned(text: Option<String>) -> Option<CowStr<'static>>
-    ensures { text_of result ≡ option_map string_bytes text }
-{
-    match text {
-        Some(text) => Some(CowStr::Owned(text)),
-        None => None,
-    }
-}
-
-/// Strings, moved.
-fn owned_texts(
-    alloc: Global,
-    texts: Vec<String>,
-) -> Memory<Vec<CowStr<'static>>>
-    ensures { IfOk result (λ owned. texts_of owned ≡ map string_bytes texts.items) }
-{
-    let mut moved = Vec::with_capacity(alloc, texts.len())?;
-    for text in texts {
-        moved.push(CowStr::Owned(text))?;
-    }
-    Ok(moved)
-}
-
-/// Contents, moved, or the empty list.
-fn owned_contents(
+/// Contents as those of a map; a list that is missing is the empty one.
+fn from_contents(
     alloc: Global,
     contents: Option<Vec<Option<String>>>,
-) -> std::result::Result<Vec<Option<CowStr<'static>>>, AllocError>
-    ensures { IfOk result (λ owned. contents_of owned ≡ unwrap_or (json_contents contents) []) }
+) -> Memory<Vec<Option<CowStr<'static>>>>
+    ensures { IfOk result (λ strings. contents_of strings ≡ unwrap_or (json_contents contents) []) }
 {
-    let Some(contents) = contents else {
-        return Ok(Vec::new(alloc));
-    };
-    let mut moved = Vec::with_capacity(alloc, contents.len())?;
-    for content in contents {
-        moved.push(owned(content))?;
+    match contents {
+        Some(contents) => from_optional_strings(alloc, contents),
+        None => Ok(Vec::new(alloc)),
     }
-    Ok(moved)
 }
 
 /// The lists of strings of a map.
 #[derive(Drop)]
-struct Lists {
+struct TextLists {
     names: Vec<CowStr<'static>>,
     sources: Vec<CowStr<'static>>,
     contents: Vec<Option<CowStr<'static>>>,
 }
 
-/// Lists of strings, moved.
-fn owned_lists(
+/// The lists of strings of a JSON source map as those of a map.
+fn from_lists(
     alloc: Global,
     names: Vec<String>,
     sources: Vec<String>,
     contents: Option<Vec<Option<String>>>,
-) -> Memory<Lists>
+) -> Memory<TextLists>
     ensures names { IfOk result (λ lists. texts_of lists.names ≡ map string_bytes names.items) }
     ensures sources { IfOk result (λ lists. texts_of lists.sources ≡ map string_bytes sources.items) }
-    ensures contents { IfOk result (λ lists. contents_of lists.contents ≡ unwrap_or (json_contents contents) []) }
+    ensures contents { IfOk result (λ lists.
+        contents_of lists.contents ≡ unwrap_or (json_contents contents) []) }
 {
-    Ok(Lists {
-        names: owned_texts(alloc, names)?,
-        sources: owned_texts(alloc, sources)?,
-        contents: owned_contents(alloc, contents)?,
+    Ok(TextLists {
+        names: from_strings(alloc, names)?,
+        sources: from_strings(alloc, sources)?,
+        contents: from_contents(alloc, contents)?,
     })
 }
 
@@ -128,16 +101,16 @@ pub fn decode_parts(alloc: Global, json: JSONSourceMap) -> Result<SourceMapParts
         json.names.len(),
         json.sources.len(),
     )?;
-    let lists = owned_lists(alloc, json.names, json.sources, json.sources_content)?;
+    let lists = from_lists(alloc, json.names, json.sources, json.sources_content)?;
     Ok(SourceMapParts {
-        file: owned(json.file),
+        file: from_string(json.file),
         names: lists.names,
-        source_root: owned(json.source_root),
+        source_root: from_string(json.source_root),
         sources: lists.sources,
         source_contents: lists.contents,
         tokens,
         token_chunks: None,
         ignore_list: json.ignore_list,
-        debug_id: owned(json.debug_id),
+        debug_id: from_string(json.debug_id),
     })
 }

@@ -15,34 +15,10 @@ ghost use Rattle.oxc_sourcemap_tokens.specs.Results.{Answers};
 
 use oxc_sourcemap_json::JSONSourceMap;
 use oxc_sourcemap_mappings::encode_mappings;
-use oxc_sourcemap_parts::SourceMapParts;
+use oxc_sourcemap_parts::{SourceMapParts, clone_ids, to_optional_strings, to_string, to_strings};
 use oxc_sourcemap_tokens::{Memory, Result, TokenChunk};
-use std::alloc::{AllocError, Global};
+use std::alloc::Global;
 use std::borrow::CowStr;
-
-/// A copy of a text that may be there.
-fn copied(
-    alloc: Global,
-    text: &Option<CowStr<'_>>,
-) -> Memory<Option<String>>
-    ensures { IfOk result (λ copy. option_map string_bytes copy ≡ text_of text.now) }
-{
-    match text {
-        Some(text) => Ok(Some(String::from_str(alloc, text.as_str())?)),
-        None => Ok(None),
-    }
-}
-
-/// Copies of texts.
-fn copied_texts(alloc: Global, texts: &[CowStr<'_>]) -> Memory<Vec<String>>
-    ensures { IfOk result (λ copies. map string_bytes copies.items ≡ cow_texts texts.now) }
-{
-    let mut copies = Vec::with_capacity(alloc, texts.len())?;
-    for text in texts {
-        copies.push(String::from_str(alloc, text.as_str())?)?;
-    }
-    Ok(copies)
-}
 
 /// Whether there is some content in a list.
 pub(crate) fn has_content(contents: &[Option<CowStr<'_>>]) -> bool
@@ -57,33 +33,16 @@ pub(crate) fn has_content(contents: &[Option<CowStr<'_>>]) -> bool
 }
 
 /// Copies of contents, where there is some content among them.
-fn copied_contents(
+fn to_contents(
     alloc: Global,
     contents: &[Option<CowStr<'_>>],
-) -> std::result::Result<Option<Vec<Option<String>>>, AllocError>
-    ensures { IfOk result (λ copies. json_contents copies ≡ written_contents (map (option_map cow_str_bytes) contents.now)) }
+) -> Memory<Option<Vec<Option<String>>>>
+    ensures { IfOk result (λ strings. json_contents strings ≡ written_contents (map text_of contents.now)) }
 {
     if !has_content(contents) {
         return Ok(None);
     }
-    let mut copies = Vec::with_capacity(alloc, contents.len())?;
-    for content in contents {
-        copies.push(copied(alloc, content)?)?;
-    }
-    Ok(Some(copies))
-}
-
-/// A copy of an ignore list that may be there.
-fn copied_ids(
-    alloc: Global,
-    list: &Option<Vec<u32>>,
-) -> Memory<Option<Vec<u32>>>
-    ensures { IfOk result (λ copy. ids_of copy ≡ ids_of list.now) }
-{
-    match list {
-        Some(list) => Ok(Some(list.as_slice().to_vec(alloc)?)),
-        None => Ok(None),
-    }
+    Ok(Some(to_optional_strings(alloc, contents)?))
 }
 
 /// The chunks of a map, borrowed.
@@ -124,13 +83,13 @@ pub fn encode_parts(alloc: Global, parts: &SourceMapParts<'_>) -> Result<JSONSou
     let mappings = mappings_of(alloc, parts)?;
     Ok(JSONSourceMap {
         version: 3,
-        file: copied(alloc, &parts.file)?,
+        file: to_string(alloc, &parts.file)?,
         mappings,
-        source_root: copied(alloc, &parts.source_root)?,
-        sources: copied_texts(alloc, parts.sources.as_slice())?,
-        sources_content: copied_contents(alloc, parts.source_contents.as_slice())?,
-        names: copied_texts(alloc, parts.names.as_slice())?,
-        debug_id: copied(alloc, &parts.debug_id)?,
-        ignore_list: copied_ids(alloc, &parts.ignore_list)?,
+        source_root: to_string(alloc, &parts.source_root)?,
+        sources: to_strings(alloc, parts.sources.as_slice())?,
+        sources_content: to_contents(alloc, parts.source_contents.as_slice())?,
+        names: to_strings(alloc, parts.names.as_slice())?,
+        debug_id: to_string(alloc, &parts.debug_id)?,
+        ignore_list: clone_ids(alloc, &parts.ignore_list)?,
     })
 }

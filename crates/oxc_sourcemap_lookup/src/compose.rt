@@ -11,10 +11,10 @@ ghost use Rattle.oxc_sourcemap_lookup.specs.InheritedNames.{with_inherited, inhe
 ghost use Rattle.oxc_sourcemap_lookup.specs.Inherited.{names_with, IsInheriting};
 ghost use Rattle.oxc_sourcemap_tokens.specs.Results.{FailsBy, Reports};
 
-use crate::inherited_names::{InheritedNames, copied_names, inherit_id, no_names};
+use crate::inherited_names::{InheritedNames, owned_names, inherit_id, no_names};
 use crate::line_index::LineIndex;
 use crate::lookup::search_clamped;
-use oxc_sourcemap_parts::{SourceMapParts, detached_text};
+use oxc_sourcemap_parts::{SourceMapParts, into_owned_text};
 use oxc_sourcemap_tokens::{Error, Result, Token};
 use std::alloc::Global;
 use std::borrow::CowStr;
@@ -98,7 +98,7 @@ fn composed_tokens<'a>(
         let found = target(index, input, token, &mut near);
         composed.push(composed_token(&mut inherited, first, second, token, found)?)?;
     }
-    let names = copied_names(alloc, inherited)?;
+    let names = owned_names(alloc, inherited)?;
     Ok((composed, names))
 }
 
@@ -139,8 +139,8 @@ fn compose_into(
         &index,
     )?;
     second.names.append(&mut names)?;
-    second.file = detached_text(alloc, first.file.take())?;
-    second.debug_id = detached_text(alloc, first.debug_id.take())?;
+    second.file = into_owned_text(alloc, first.file.take())?;
+    second.debug_id = into_owned_text(alloc, first.debug_id.take())?;
     second.tokens = tokens.into_boxed_slice();
     second.token_chunks = None;
     Ok(())

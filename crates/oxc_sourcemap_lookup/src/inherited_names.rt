@@ -9,6 +9,7 @@ ghost use Rattle.oxc_sourcemap_lookup.specs.InheritedNames.{with_inherited, inhe
 ghost use Rattle.oxc_sourcemap_lookup.specs.Inherited.{names_with, HasPlaces, HasNames, IsInheriting};
 ghost use Rattle.oxc_sourcemap_tokens.specs.Results.{lent_items};
 
+use oxc_sourcemap_parts::owned_text;
 use oxc_sourcemap_tokens::{Error, Memory, Result};
 use std::alloc::Global;
 use std::borrow::CowStr;
@@ -143,17 +144,17 @@ pub(crate) fn inherit_id<'n>(
     Ok(Some(id))
 }
 
-/// Copies of the names that were inherited.
-pub(crate) fn copied_names<'a>(
+/// Owned copies of the names that were inherited.
+pub(crate) fn owned_names<'a>(
     alloc: Global,
     inherited: InheritedNames<'_>,
 ) -> Memory<Vec<CowStr<'a>>>
-    ensures { IfOk result (λ copies. texts_of copies ≡ lent_items inherited.entry.names.items) }
+    ensures { IfOk result (λ owned. texts_of owned ≡ lent_items inherited.entry.names.items) }
 {
     let InheritedNames { names, .. } = inherited;
-    let mut copies = Vec::with_capacity(alloc, names.len())?;
+    let mut owned = Vec::with_capacity(alloc, names.len())?;
     for name in names {
-        copies.push(CowStr::Owned(String::from_str(alloc, name)?))?;
+        owned.push(owned_text(alloc, name)?)?;
     }
-    Ok(copies)
+    Ok(owned)
 }

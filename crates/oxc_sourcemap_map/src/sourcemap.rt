@@ -24,7 +24,7 @@ use oxc_sourcemap_encode::{encode_parts, encode_parts_to_data_url, encode_parts_
 use oxc_sourcemap_json::JSONSourceMap;
 use oxc_sourcemap_parts::{
     Contents, Names, SourceMapParts, Sources, Tokens, are_sorted, are_sound, contents_in, names_in,
-    owned_parts, sources_in, stored_contents, stored_texts, tokens_in,
+    owned_parts, sources_in, owned_contents, owned_texts, tokens_in,
 };
 use oxc_sourcemap_tokens::{Result, Token, TokenChunk};
 use std::alloc::Global;
@@ -268,7 +268,7 @@ impl<'a> SourceMap<'a> {
         ensures refused { OnlyMemory result }
         ensures unchanged { OnErr result (self.new ≡ self.old) }
     {
-        self.parts.sources = stored_texts(alloc, sources)?;
+        self.parts.sources = owned_texts(alloc, sources)?;
         Ok(())
     }
 
@@ -291,7 +291,7 @@ impl<'a> SourceMap<'a> {
         ensures refused { OnlyMemory result }
         ensures unchanged { OnErr result (self.new ≡ self.old) }
     {
-        self.parts.source_contents = stored_contents(alloc, source_contents)?;
+        self.parts.source_contents = owned_contents(alloc, source_contents)?;
         Ok(())
     }
 

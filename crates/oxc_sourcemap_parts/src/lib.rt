@@ -8,11 +8,15 @@
 mod iterators;
 mod parts;
 mod soundness;
-mod texts;
+mod strings;
+
 
 pub use iterators::{
     Contents, Names, Sources, Tokens, contents_in, names_in, sources_in, tokens_in,
 };
 pub use parts::{SourceMapParts, owned_parts};
 pub use soundness::{are_sorted, are_sound};
-pub use texts::{detached_text, stored_contents, stored_texts};
+pub use strings::{
+    clone_ids, from_optional_strings, from_string, from_strings, into_owned_text, owned_contents, owned_text,
+    owned_texts, to_optional_strings, to_string, to_strings,
+};

@@ -3,9 +3,9 @@ ghost use Rattle.std.specs.Prelude.{◌≡◌, IfOk};
 ghost use Rattle.oxc_sourcemap_parts.specs.Views.{text_of, texts_of, contents_of, record_of_parts, empty_record};
 ghost use Rattle.oxc_sourcemap_tokens.specs.Results.{OnlyMemory};
 
-use crate::texts::{
-    cloned_chunks, cloned_contents, cloned_ids, cloned_text, cloned_texts, detached_contents,
-    detached_text, detached_texts,
+use crate::strings::{
+    clone_chunks, clone_contents, clone_ids, clone_text, clone_texts, into_owned_contents,
+    into_owned_text, into_owned_texts,
 };
 use oxc_sourcemap_tokens::{Memory, Result, Token, TokenChunk};
 use std::alloc::Global;
@@ -60,10 +60,10 @@ impl<'a> SourceMapParts<'a> {
         ensures refused { OnlyMemory result }
     {
         let tokens = self.tokens.as_slice().to_vec(alloc)?;
-        let token_chunks = cloned_chunks(alloc, &self.token_chunks)?;
-        let ignore_list = cloned_ids(alloc, &self.ignore_list)?;
-        let texts = cloned_single(self)?;
-        let lists = cloned_lists(alloc, self)?;
+        let token_chunks = clone_chunks(alloc, &self.token_chunks)?;
+        let ignore_list = clone_ids(alloc, &self.ignore_list)?;
+        let texts = clone_single(self)?;
+        let lists = clone_lists(alloc, self)?;
         Ok(SourceMapParts {
             file: texts.file,
             names: lists.names,
@@ -88,70 +88,70 @@ struct Single<'a> {
 
 /// The lists of strings of a map.
 #[derive(Drop)]
-struct Lists<'a> {
+struct TextLists<'a> {
     names: Vec<CowStr<'a>>,
     sources: Vec<CowStr<'a>>,
     contents: Vec<Option<CowStr<'a>>>,
 }
 
 /// Clones of the strings of these parts that stand alone.
-fn cloned_single<'a>(parts: &SourceMapParts<'a>) -> Memory<Single<'a>>
+fn clone_single<'a>(parts: &SourceMapParts<'a>) -> Memory<Single<'a>>
     ensures file { IfOk result (λ texts. text_of texts.file ≡ text_of parts.now.file) }
     ensures source_root { IfOk result (λ texts. text_of texts.source_root ≡ text_of parts.now.source_root) }
     ensures debug_id { IfOk result (λ texts. text_of texts.debug_id ≡ text_of parts.now.debug_id) }
 {
     Ok(Single {
-        file: cloned_text(&parts.file)?,
-        source_root: cloned_text(&parts.source_root)?,
-        debug_id: cloned_text(&parts.debug_id)?,
+        file: clone_text(&parts.file)?,
+        source_root: clone_text(&parts.source_root)?,
+        debug_id: clone_text(&parts.debug_id)?,
     })
 }
 
 /// Clones of the lists of strings of these parts.
-fn cloned_lists<'a>(
+fn clone_lists<'a>(
     alloc: Global,
     parts: &SourceMapParts<'a>,
-) -> Memory<Lists<'a>>
+) -> Memory<TextLists<'a>>
     ensures names { IfOk result (λ lists. texts_of lists.names ≡ texts_of parts.now.names) }
     ensures sources { IfOk result (λ lists. texts_of lists.sources ≡ texts_of parts.now.sources) }
     ensures contents { IfOk result (λ lists. contents_of lists.contents ≡ contents_of parts.now.source_contents) }
 {
-    Ok(Lists {
-        names: cloned_texts(alloc, parts.names.as_slice())?,
-        sources: cloned_texts(alloc, parts.sources.as_slice())?,
-        contents: cloned_contents(alloc, parts.source_contents.as_slice())?,
+    Ok(TextLists {
+        names: clone_texts(alloc, parts.names.as_slice())?,
+        sources: clone_texts(alloc, parts.sources.as_slice())?,
+        contents: clone_contents(alloc, parts.source_contents.as_slice())?,
     })
 }
 
 /// The same strings, borrowing nothing.
-fn detached_single(
+fn into_owned_single(
     alloc: Global,
     texts: Single<'_>,
 ) -> Memory<Single<'static>>
-    ensures file { IfOk result (λ detached. text_of detached.file ≡ text_of texts.entry.file) }
-    ensures source_root { IfOk result (λ detached. text_of detached.source_root ≡ text_of texts.entry.source_root) }
-    ensures debug_id { IfOk result (λ detached. text_of detached.debug_id ≡ text_of texts.entry.debug_id) }
+    ensures file { IfOk result (λ owned. text_of owned.file ≡ text_of texts.entry.file) }
+    ensures source_root { IfOk result (λ owned. text_of owned.source_root ≡ text_of texts.entry.source_root) }
+    ensures debug_id { IfOk result (λ owned. text_of owned.debug_id ≡ text_of texts.entry.debug_id) }
 {
     Ok(Single {
-        file: detached_text(alloc, texts.file)?,
-        source_root: detached_text(alloc, texts.source_root)?,
-        debug_id: detached_text(alloc, texts.debug_id)?,
+        file: into_owned_text(alloc, texts.file)?,
+        source_root: into_owned_text(alloc, texts.source_root)?,
+        debug_id: into_owned_text(alloc, texts.debug_id)?,
     })
 }
 
 /// The same lists, borrowing nothing.
-fn detached_lists(
+fn into_owned_lists(
     alloc: Global,
-    lists: Lists<'_>,
-) -> Memory<Lists<'static>>
-    ensures names { IfOk result (λ detached. texts_of detached.names ≡ texts_of lists.entry.names) }
-    ensures sources { IfOk result (λ detached. texts_of detached.sources ≡ texts_of lists.entry.sources) }
-    ensures contents { IfOk result (λ detached. contents_of detached.contents ≡ contents_of lists.entry.contents) }
+    lists: TextLists<'_>,
+) -> Memory<TextLists<'static>>
+    ensures names { IfOk result (λ owned. texts_of owned.names ≡ texts_of lists.entry.names) }
+    ensures sources { IfOk result (λ owned. texts_of owned.sources ≡ texts_of lists.entry.sources) }
+    ensures contents { IfOk result (λ owned. contents_of owned.contents ≡ contents_of lists.entry.contents) }
 {
-    Ok(Lists {
-        names: detached_texts(alloc, lists.names)?,
-        sources: detached_texts(alloc, lists.sources)?,
-        contents: detached_contents(alloc, lists.contents)?,
+    Ok(TextLists {
+        names: into_owned_texts(alloc, lists.names)?,
+        sources: into_owned_texts(alloc, lists.sources)?,
+        contents: into_owned_contents(alloc, lists.contents)?,
     })
 }
 
@@ -166,13 +166,13 @@ pub fn owned_parts(alloc: Global, parts: SourceMapParts<'_>) -> Result<SourceMap
         source_root: parts.source_root,
         debug_id: parts.debug_id,
     };
-    let lists = Lists {
+    let lists = TextLists {
         names: parts.names,
         sources: parts.sources,
         contents: parts.source_contents,
     };
-    let texts = detached_single(alloc, texts)?;
-    let lists = detached_lists(alloc, lists)?;
+    let texts = into_owned_single(alloc, texts)?;
+    let lists = into_owned_lists(alloc, lists)?;
     Ok(SourceMapParts {
         file: texts.file,
         names: lists.names,

@@ -14,7 +14,7 @@ use base64::engine::general_purpose::STANDARD;
 use oxc_sourcemap_map::SourceMap;
 use oxc_sourcemap_parts::Contents;
 use oxc_sourcemap_tokens::{Error, Memory, Result, Token};
-use std::alloc::{AllocError, Global};
+use std::alloc::Global;
 use std::fmt::Write;
 use std::marker::Model;
 
@@ -103,7 +103,7 @@ fn push_counted(text: &str, out: &mut String) -> Result<()>
 fn cut_contents<'u>(
     alloc: Global,
     contents: &'u [Option<Vec<u16>>],
-) -> std::result::Result<Vec<Option<Lines<'u>>>, AllocError>
+) -> Memory<Vec<Option<Lines<'u>>>>
     ensures { IfOk result (λ lines. lines.items ≡ map (option_map (λ units. lines_of units.items)) contents.now) }
 {
     let mut lines = Vec::with_capacity(alloc, contents.len())?;
@@ -133,7 +133,7 @@ fn units_where_known(
 fn content_units(
     alloc: Global,
     contents: Contents<'_, '_>,
-) -> std::result::Result<Vec<Option<Vec<u16>>>, AllocError>
+) -> Memory<Vec<Option<Vec<u16>>>>
     ensures { IfOk result (λ units. map (option_map (λ units. units.items)) units.items ≡ map (option_map units_of) contents.entry) }
 {
     let mut units = Vec::with_capacity(alloc, contents.len())?;

@@ -1,6 +1,6 @@
 use Rattle.std.proofs.Common.{◌≡◌, map, take}
 use Rattle.std.specs.Cow.{cow_str_bytes}
-use Rattle.oxc_sourcemap_parts.proofs.texts.cloned_texts.Given as goal
+use Rattle.oxc_sourcemap_parts.proofs.strings.clone_texts.Given as goal
 
 abbrev pub invariant-loop-text : goal.invariant-loop-text
 invariant-loop-text l = map cow_str_bytes l.clones.items ≡ map cow_str_bytes (take l.text-index l.texts)

@@ -1,6 +1,6 @@
 use Rattle.std.proofs.Common.{◌≡◌, map, take, option_map}
 use Rattle.std.specs.Cow.{cow_str_bytes}
-use Rattle.oxc_sourcemap_parts.proofs.texts.cloned_contents.Given as goal
+use Rattle.oxc_sourcemap_parts.proofs.strings.clone_contents.Given as goal
 
 abbrev pub invariant-loop-content : goal.invariant-loop-content
 invariant-loop-content l = map (option_map cow_str_bytes) l.clones.items ≡ map (option_map cow_str_bytes) (take l.content-index l.contents)

@@ -1,6 +1,0 @@
-use Rattle.std.proofs.Common.{◌≡◌, map, take, string_bytes, option_map}
-use Rattle.std.specs.Cow.{cow_str_bytes}
-use Rattle.oxc_sourcemap_encode.proofs.encode.copied_contents.Given as goal
-
-abbrev pub invariant-loop-content : goal.invariant-loop-content
-invariant-loop-content l = map (option_map string_bytes) l.copies.items ≡ map (option_map cow_str_bytes) (take l.content-index l.contents)

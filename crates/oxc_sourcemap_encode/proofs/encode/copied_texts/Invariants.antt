@@ -1,6 +1,0 @@
-use Rattle.std.proofs.Common.{◌≡◌, map, take, string_bytes}
-use Rattle.std.specs.Cow.{cow_str_bytes}
-use Rattle.oxc_sourcemap_encode.proofs.encode.copied_texts.Given as goal
-
-abbrev pub invariant-loop-text : goal.invariant-loop-text
-invariant-loop-text l = map string_bytes l.copies.items ≡ map cow_str_bytes (take l.text-index l.texts)

@@ -4,7 +4,7 @@ use Rattle.std.specs.Borrow.{Bor}
 use Rattle.std.proofs.Math.Nat.{add-zero}
 use Rattle.std.proofs.lemmas.List.{take_more, map-append, append-nil}
 use Rattle.oxc_sourcemap.specs.Record.{MapRecord}
-use Rattle.oxc_sourcemap.specs.Joined.{Offset, at_line, at_lines, added, nothing_joined, joined, lent_maps, IsWithinLimits}
+use Rattle.oxc_sourcemap.specs.Joined.{Position, at_line, at_lines, added, nothing_joined, joined, lent_maps, IsWithinLimits}
 use Rattle.oxc_sourcemap.specs.Error.{Error}
 use Rattle.oxc_sourcemap.specs.Error.TheVariants.{OutOfMemory, TooLarge}
 use Rattle.oxc_sourcemap.specs.JoinLaws.{JoinOneMore, JoinsAssociative, Group, groups_joined, maps_of, without_chunks}
@@ -30,16 +30,16 @@ with-lines ms = map (λ m. (m.0.now, m.1)) ms
 
 at-lines-are : (ms : List (Bor MapRecord × ℕ)) → at_lines (with-lines ms) ≡ lent_maps ms
 at-lines-are [] = refl
-at-lines-are (m ∷ ms) = ap (λ (xs : List (MapRecord × Offset)). (m.0.now, at_line m.1) ∷ xs) (at-lines-are ms)
+at-lines-are (m ∷ ms) = ap (λ (xs : List (MapRecord × Position)). (m.0.now, at_line m.1) ∷ xs) (at-lines-are ms)
 
 -- a map of a group at line 0
-abbrev at-sum : MapRecord × ℕ → MapRecord × Offset
+abbrev at-sum : MapRecord × ℕ → MapRecord × Position
 at-sum m = (m.0, at_line (m.1 + 0))
 
 raised-by-nothing : (ms : List (Bor MapRecord × ℕ)) → map at-sum (with-lines ms) ≡ lent_maps ms
 raised-by-nothing [] = refl
 raised-by-nothing (m ∷ ms) =
-    ap (λ (k : ℕ). (m.0.now, at_line k) ∷ map at-sum (with-lines ms)) (add-zero m.1) ∙ ap (λ (xs : List (MapRecord × Offset)). (m.0.now, at_line m.1) ∷ xs) (raised-by-nothing ms)
+    ap (λ (k : ℕ). (m.0.now, at_line k) ∷ map at-sum (with-lines ms)) (add-zero m.1) ∙ ap (λ (xs : List (MapRecord × Position)). (m.0.now, at_line m.1) ∷ xs) (raised-by-nothing ms)
 
 in-one : (ms first second : List (Bor MapRecord × ℕ)) → first ++ second ≡ ms → lent_maps first ++ (lent_maps second ++ []) ≡ lent_maps ms
 in-one ms first second e =
@@ -52,8 +52,8 @@ pub two-groups : JoinsAssociative → (ms front back : List (Bor MapRecord × �
 two-groups law ms front back e first second r r' r'' p q n a b =
     let groups : List Group = (with-lines front, 0) ∷ (with-lines back, 0) ∷ [] in
     let each : maps_of groups ≡ lent_maps front ++ (lent_maps back ++ []) =
-    ap (λ (xs : List (MapRecord × Offset)). xs ++ (map at-sum (with-lines back) ++ [])) (raised-by-nothing front)
-    ∙ ap (λ (xs : List (MapRecord × Offset)). lent_maps front ++ (xs ++ [])) (raised-by-nothing back) in
+    ap (λ (xs : List (MapRecord × Position)). xs ++ (map at-sum (with-lines back) ++ [])) (raised-by-nothing front)
+    ∙ ap (λ (xs : List (MapRecord × Position)). lent_maps front ++ (xs ++ [])) (raised-by-nothing back) in
     let p' : first ≡ joined (at_lines (with-lines front)) = p ∙ sym (ap joined (at-lines-are front)) in
     let q' : second ≡ joined (at_lines (with-lines back)) = q ∙ sym (ap joined (at-lines-are back)) in
     let adds : r'' ≡ added (added nothing_joined first (at_line 0)) second (at_line 0) = b ∙ ap (λ x. added x second (at_line 0)) (a ∙ ap (λ x. added x first (at_line 0)) n) in

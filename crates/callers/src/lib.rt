@@ -38,7 +38,7 @@ use std::alloc::Global;
 pub fn read_sorted(alloc: Global, text: &str) -> std::result::Result<SourceMap<'static>, PlanError>
     ensures meaning { IfOk result (λ map. read_meaning (read_map text.now) ≡ Ok (decoded_map_of map)) }
     ensures sound { IfOk result IsSound }
-    ensures refused { IfErr result (λ e. (e ≢ Map OutOfMemory) → read_meaning (read_map text.now) ≡ Err e) }
+    ensures error { IfErr result (λ e. (e ≢ Map OutOfMemory) → read_meaning (read_map text.now) ≡ Err e) }
 {
     let map = SourceMap::from_json_string(alloc, text)?;
     if !map.is_sorted() {
@@ -70,7 +70,7 @@ pub fn look_up<'m, 'data>(
     col: u32,
 ) -> std::result::Result<Option<SourceViewToken<'m, 'data>>, PlanError>
     ensures traced { IfOk result (λ view. option_map view_original (option_map view_of view) ≡ trace (decoded_map_of map.now) line col) }
-    ensures refused { IfErr result (λ e. (e ≢ Map OutOfMemory) → (e ≡ Unsorted) × (are_tokens_sorted map.now.tokens ≡ false)) }
+    ensures error { IfErr result (λ e. (e ≢ Map OutOfMemory) → (e ≡ Unsorted) × (are_tokens_sorted map.now.tokens ≡ false)) }
 {
     if !map.is_sorted() {
         return Err(PlanError::Unsorted);
@@ -99,7 +99,7 @@ pub fn one_token<'a>(
       ignore_list = None;
       debug_id = None;
     }) }
-    ensures refused { OnlyMemory result }
+    ensures error { OnlyMemory result }
 {
     let mut builder = SourceMapBuilder::empty(alloc);
     let source_id = builder.add_source_and_content(path, content)?;
@@ -131,7 +131,7 @@ pub fn join_one_by_one<'a>(
     maps: &[(&'a SourceMap<'_>, u32)],
 ) -> Result<SourceMap<'a>>
     ensures map { IfOk result (λ map. map ≡ joined (lent_maps maps.now)) }
-    ensures refused { IfErr result (λ e. (e ≢ OutOfMemory) → (e ≡ TooLarge) × ((n : ℕ) × ¬ (IsWithinLimits (joined (lent_maps (take n maps.now)))))) }
+    ensures error { IfErr result (λ e. (e ≢ OutOfMemory) → (e ≡ TooLarge) × ((n : ℕ) × ¬ (IsWithinLimits (joined (lent_maps (take n maps.now)))))) }
 {
     joins_associative();
     let mut builder = ConcatSourceMapBuilder::empty(alloc);
@@ -146,7 +146,7 @@ pub fn join_one_by_one<'a>(
 pub fn join_halves<'a>(alloc: Global, maps: &[(&'a SourceMap<'_>, u32)]) -> Result<SourceMap<'a>>
     ensures map { IfOk result (λ map. without_chunks map ≡ without_chunks (joined (lent_maps maps.now))) }
     ensures decoded_map { IfOk result (λ map. decoded_map_of map ≡ decoded_map_of (joined (lent_maps maps.now))) }
-    ensures refused { IfErr result (λ e. (e ≡ OutOfMemory) ⊎ (e ≡ TooLarge)) }
+    ensures error { IfErr result (λ e. (e ≡ OutOfMemory) ⊎ (e ≡ TooLarge)) }
 {
     joins_associative();
     let (front, back) = maps.split_at(maps.len() / 2);
@@ -166,7 +166,7 @@ pub fn compose_left<'c>(
     third: &SourceMap<'c>,
 ) -> Result<SourceMap<'c>>
     ensures map { IfOk result (λ map. IsSound second.now → IsSound third.now → grouped_left first.now second.now third.now ≡ Ok map) }
-    ensures refused { IfErr result (λ e. IsSound second.now → IsSound third.now → (e ≢ OutOfMemory) → grouped_left first.now second.now third.now ≡ Err e) }
+    ensures error { IfErr result (λ e. IsSound second.now → IsSound third.now → (e ≢ OutOfMemory) → grouped_left first.now second.now third.now ≡ Err e) }
 {
     let earlier = first.clone(alloc)?.compose(alloc, second.clone(alloc)?)?;
     let composed = earlier.compose(alloc, third.clone(alloc)?)?;
@@ -181,7 +181,7 @@ pub fn compose_right<'c>(
     third: &SourceMap<'c>,
 ) -> Result<SourceMap<'c>>
     ensures map { IfOk result (λ map. IsSound second.now → IsSound third.now → grouped_right first.now second.now third.now ≡ Ok map) }
-    ensures refused { IfErr result (λ e. IsSound second.now → IsSound third.now → (e ≢ OutOfMemory) → grouped_right first.now second.now third.now ≡ Err e) }
+    ensures error { IfErr result (λ e. IsSound second.now → IsSound third.now → (e ≢ OutOfMemory) → grouped_right first.now second.now third.now ≡ Err e) }
 {
     composition_associative();
     let later = second.clone(alloc)?.compose(alloc, third.clone(alloc)?)?;
@@ -202,7 +202,7 @@ pub fn compose_both_ways<'c>(
 ) -> Result<(SourceMap<'c>, SourceMap<'c>)>
     ensures same_meaning { IfOk result (λ maps. IsSound first.now → IsSound second.now → IsSound third.now
         → decoded_map_of maps.0 ≡ decoded_map_of maps.1) }
-    ensures refused { IfErr result (λ e. IsSound first.now → IsSound second.now → IsSound third.now → (e ≢ OutOfMemory) → (e ≢ TooLarge)
+    ensures error { IfErr result (λ e. IsSound first.now → IsSound second.now → IsSound third.now → (e ≢ OutOfMemory) → (e ≢ TooLarge)
         → IsSeveralSources (grouped_left first.now second.now third.now)
         × (IsSeveralSources (grouped_right first.now second.now third.now) ⊎ (grouped_right first.now second.now third.now ≡ Err TooLarge))) }
     ensures only_memory { IfErr result (λ e. IsSound first.now → IsSound second.now → IsSound third.now

@@ -42,7 +42,7 @@ pub fn decode(alloc: Global, json: JSONSourceMap) -> Result<SourceMap<'static>>
 /// `file_from_value`, then with `BadJson(Shape(Sections))` if `sections` is not a list, then with the first error of a section.
 /// Each section is read and joined before the next one is looked at, and fails with the first of these in this order:
 /// - `BadJson(Shape(Sections))` if it is not an object;
-/// - `BadJson(Shape(Offset))` if its `offset` is not an object whose `line` and `column` are whole numbers of 0 to 4294967295;
+/// - `BadJson(Shape(Position))` if its `offset` is not an object whose `line` and `column` are whole numbers of 0 to 4294967295;
 /// - `SectionOrder(k)` if its offset is before that of the section before it, or before the last token so far, where k is the
 ///   index of this section, from 0;
 /// - `BadJson(Shape(Map))` if its `map` is not an object, or is an indexed map itself;
@@ -55,7 +55,7 @@ pub fn decode_value(alloc: Global, value: &Value) -> Result<SourceMap<'static>>
     ensures map { IfOk result (λ map. read_value (view value.now) ≡ Ok map) }
     ensures sound { IfOk result (λ map. IsSound map ↔ (are_tokens_sorted map.tokens ≡ true)) }
     ensures in_line_order { IfOk result (λ map. IsInLineOrder map.tokens) }
-    ensures refused { IfErr result (λ e. (e ≢ OutOfMemory) → read_value (view value.now) ≡ Err e) }
+    ensures error { IfErr result (λ e. (e ≢ OutOfMemory) → read_value (view value.now) ≡ Err e) }
 {
     Ok(SourceMap::from_parts(decode_parts_from_value(alloc, value)?))
 }
@@ -73,7 +73,7 @@ pub fn decode_from_string(alloc: Global, text: &str) -> Result<SourceMap<'static
     ensures map { IfOk result (λ map. read_map text.now ≡ Ok map) }
     ensures sound { IfOk result (λ map. IsSound map ↔ (are_tokens_sorted map.tokens ≡ true)) }
     ensures in_line_order { IfOk result (λ map. IsInLineOrder map.tokens) }
-    ensures refused { IfErr result (λ e. (e ≢ OutOfMemory) → read_map text.now ≡ Err e) }
+    ensures error { IfErr result (λ e. (e ≢ OutOfMemory) → read_map text.now ≡ Err e) }
 {
     SourceMap::from_json_string(alloc, text)
 }

@@ -5,9 +5,9 @@ ghost use Rattle.oxc_sourcemap_tokens.specs.Chunks.{ChunksFit};
 ghost use Rattle.oxc_sourcemap_join.specs.Joined.{at_line, at_lines, added, nothing_joined, joined, lent_maps, IsWithinLimits, position};
 ghost use Rattle.oxc_sourcemap_tokens.specs.Results.{OnlyMemory};
 
-use oxc_sourcemap_join::JoinedParts;
+use oxc_sourcemap_join::{JoinedParts, Lengths};
 use oxc_sourcemap_map::{OwnedSourceMap, SourceMap, parts_of};
-use oxc_sourcemap_tokens::Result;
+use oxc_sourcemap_tokens::{Position, Result};
 use std::alloc::Global;
 use std::marker::Model;
 
@@ -51,7 +51,7 @@ impl<'a> ConcatSourceMapBuilder<'a> {
         token_chunks_len: usize,
     ) -> Result<ConcatSourceMapBuilder<'a>>
         ensures builder { IfOk result (λ builder. builder ≡ nothing_joined) }
-        ensures refused { OnlyMemory result }
+        ensures error { OnlyMemory result }
     {
         let parts = JoinedParts::with_capacity(
             alloc,
@@ -69,7 +69,7 @@ impl<'a> ConcatSourceMapBuilder<'a> {
         ensures joined { OnOk result (self.new ≡ added self.old sourcemap.now (at_line line_offset)) }
         ensures limits { OnOk result (IsWithinLimits (added self.old sourcemap.now (at_line line_offset))) }
         ensures too_large { IsErrOf result TooLarge ↔ ¬ (IsWithinLimits (added self.old sourcemap.now (at_line line_offset))) }
-        ensures refused { IfErr result (λ e. (e ≡ OutOfMemory) ⊎ (e ≡ TooLarge)) }
+        ensures error { IfErr result (λ e. (e ≡ OutOfMemory) ⊎ (e ≡ TooLarge)) }
         ensures unchanged { OnErr result (self.new ≡ self.old) }
     {
         self.add_sourcemap_at(sourcemap, line_offset, 0)
@@ -98,10 +98,11 @@ impl<'a> ConcatSourceMapBuilder<'a> {
         ensures joined { OnOk result (self.new ≡ added self.old sourcemap.now (position line column)) }
         ensures limits { OnOk result (IsWithinLimits (added self.old sourcemap.now (position line column))) }
         ensures too_large { IsErrOf result TooLarge ↔ ¬ (IsWithinLimits (added self.old sourcemap.now (position line column))) }
-        ensures refused { IfErr result (λ e. (e ≡ OutOfMemory) ⊎ (e ≡ TooLarge)) }
+        ensures error { IfErr result (λ e. (e ≡ OutOfMemory) ⊎ (e ≡ TooLarge)) }
         ensures unchanged { OnErr result (self.new ≡ self.old) }
     {
-        self.parts.add_lent(parts_of(sourcemap), line, column)
+        self.parts
+            .add_lent(parts_of(sourcemap), Position { line, column })
     }
 
     /// Adds a map after the others as `add_sourcemap` does, with the same result, but moves its strings and drops the rest
@@ -110,7 +111,7 @@ impl<'a> ConcatSourceMapBuilder<'a> {
         ensures joined { OnOk result (self.new ≡ added self.old sourcemap.entry (at_line line_offset)) }
         ensures limits { OnOk result (IsWithinLimits (added self.old sourcemap.entry (at_line line_offset))) }
         ensures too_large { IsErrOf result TooLarge ↔ ¬ (IsWithinLimits (added self.old sourcemap.entry (at_line line_offset))) }
-        ensures refused { IfErr result (λ e. (e ≡ OutOfMemory) ⊎ (e ≡ TooLarge)) }
+        ensures error { IfErr result (λ e. (e ≡ OutOfMemory) ⊎ (e ≡ TooLarge)) }
         ensures unchanged { OnErr result (self.new ≡ self.old) }
     {
         self.add_sourcemap_owned_at(sourcemap, line_offset, 0)
@@ -127,10 +128,11 @@ impl<'a> ConcatSourceMapBuilder<'a> {
         ensures joined { OnOk result (self.new ≡ added self.old sourcemap.entry (position line column)) }
         ensures limits { OnOk result (IsWithinLimits (added self.old sourcemap.entry (position line column))) }
         ensures too_large { IsErrOf result TooLarge ↔ ¬ (IsWithinLimits (added self.old sourcemap.entry (position line column))) }
-        ensures refused { IfErr result (λ e. (e ≡ OutOfMemory) ⊎ (e ≡ TooLarge)) }
+        ensures error { IfErr result (λ e. (e ≡ OutOfMemory) ⊎ (e ≡ TooLarge)) }
         ensures unchanged { OnErr result (self.new ≡ self.old) }
     {
-        self.parts.add_moved(sourcemap.into_parts(), line, column)
+        self.parts
+            .add_moved(sourcemap.into_parts(), Position { line, column })
     }
 
     /// A builder of the join of these maps, each with its line offset, added in order as `add_sourcemap` does. Their
@@ -144,10 +146,10 @@ impl<'a> ConcatSourceMapBuilder<'a> {
     ) -> Result<ConcatSourceMapBuilder<'a>>
         ensures joined { IfOk result (λ builder. builder ≡ joined (lent_maps sourcemap_and_line_offsets.now)) }
         ensures limits { IfOk result IsWithinLimits }
-        ensures refused { IfErr result (λ e. (e ≡ OutOfMemory) ⊎ ((e ≡ TooLarge) × ¬ (IsWithinLimits (joined (lent_maps sourcemap_and_line_offsets.now))))) }
+        ensures error { IfErr result (λ e. (e ≡ OutOfMemory) ⊎ ((e ≡ TooLarge) × ¬ (IsWithinLimits (joined (lent_maps sourcemap_and_line_offsets.now))))) }
     {
         let lengths = lent_lengths(sourcemap_and_line_offsets);
-        let mut builder = lengths.builder(alloc, sourcemap_and_line_offsets.len())?;
+        let mut builder = with_room(alloc, lengths, sourcemap_and_line_offsets.len())?;
         for (sourcemap, line_offset) in sourcemap_and_line_offsets {
             builder.add_sourcemap(sourcemap, *line_offset)?;
         }
@@ -162,10 +164,10 @@ impl<'a> ConcatSourceMapBuilder<'a> {
     ) -> Result<ConcatSourceMapBuilder<'a>>
         ensures joined { IfOk result (λ builder. builder ≡ joined (at_lines sourcemap_and_line_offsets.entry.items)) }
         ensures limits { IfOk result IsWithinLimits }
-        ensures refused { IfErr result (λ e. (e ≡ OutOfMemory) ⊎ ((e ≡ TooLarge) × ¬ (IsWithinLimits (joined (at_lines sourcemap_and_line_offsets.entry.items))))) }
+        ensures error { IfErr result (λ e. (e ≡ OutOfMemory) ⊎ ((e ≡ TooLarge) × ¬ (IsWithinLimits (joined (at_lines sourcemap_and_line_offsets.entry.items))))) }
     {
         let lengths = owned_lengths(sourcemap_and_line_offsets.as_slice());
-        let mut builder = lengths.builder(alloc, sourcemap_and_line_offsets.len())?;
+        let mut builder = with_room(alloc, lengths, sourcemap_and_line_offsets.len())?;
         for (sourcemap, line_offset) in sourcemap_and_line_offsets {
             builder.add_sourcemap_owned(sourcemap, line_offset)?;
         }
@@ -178,7 +180,7 @@ impl<'a> ConcatSourceMapBuilder<'a> {
         ensures map { IfOk result (λ map. map ≡ self.entry) }
         ensures fits { IfOk result (λ map. IfSome map.token_chunks (ChunksFit map.tokens)) }
         ensures limits { IfOk result IsWithinLimits }
-        ensures refused { OnlyMemory result }
+        ensures error { OnlyMemory result }
     {
         Ok(SourceMap::from_parts(self.parts.into_parts()))
     }
@@ -189,63 +191,76 @@ impl<'a> ConcatSourceMapBuilder<'a> {
         ensures map { IfOk result (λ map. map ≡ self.entry) }
         ensures fits { IfOk result (λ map. IfSome map.token_chunks (ChunksFit map.tokens)) }
         ensures limits { IfOk result IsWithinLimits }
-        ensures refused { OnlyMemory result }
+        ensures error { OnlyMemory result }
     {
         let alloc = self.alloc;
         self.into_sourcemap()?.into_owned_sourcemap(alloc)
     }
 }
 
-/// How many names, sources and tokens some maps have, up to the largest count there is.
-#[derive(Clone, Copy)]
-struct Lengths {
-    names: usize,
-    sources: usize,
-    tokens: usize,
+/// A builder of the join of maps, each at the position where its code begins. Their strings are moved.
+///
+/// Room is taken first for all of them (`OutOfMemory`); then the first error of an add is returned. The builder and all maps
+/// are then dropped.
+pub fn join_owned<'a>(
+    alloc: Global,
+    maps: Vec<(SourceMap<'a>, Position)>,
+) -> Result<ConcatSourceMapBuilder<'a>>
+    ensures joined { IfOk result (λ builder. builder ≡ joined maps.entry.items) }
+    ensures limits { IfOk result IsWithinLimits }
+    ensures error { IfErr result (λ e. (e ≡ OutOfMemory)
+        ⊎ ((e ≡ TooLarge) × ¬ (IsWithinLimits (joined maps.entry.items)))) }
+{
+    let mut builder = with_room(alloc, owned_lengths(maps.as_slice()), maps.len())?;
+    for (map, position) in maps {
+        builder.add_sourcemap_owned_at(map, position.line, position.column)?;
+    }
+    Ok(builder)
 }
 
-impl Lengths {
-    /// Those of no maps.
-    fn none() -> Lengths {
-        Lengths {
-            names: 0,
-            sources: 0,
-            tokens: 0,
-        }
-    }
-
-    /// Those of one map more.
-    fn and(self, sourcemap: &SourceMap<'_>) -> Lengths {
-        Lengths {
-            names: self.names.saturating_add(sourcemap.get_names().len()),
-            sources: self.sources.saturating_add(sourcemap.get_sources().len()),
-            tokens: self.tokens.saturating_add(sourcemap.get_tokens().len()),
-        }
-    }
-
-    /// A builder with room for so much, and for this many chunks.
-    fn builder<'a>(self, alloc: Global, chunks: usize) -> Result<ConcatSourceMapBuilder<'a>>
-        ensures builder { IfOk result (λ builder. builder ≡ nothing_joined) }
-        ensures refused { OnlyMemory result }
-    {
-        ConcatSourceMapBuilder::with_capacity(alloc, self.names, self.sources, self.tokens, chunks)
+/// The lengths of maps together with one map more, each up to the largest count there is.
+fn with_lengths(lengths: Lengths, sourcemap: &SourceMap<'_>) -> Lengths {
+    Lengths {
+        names: lengths.names.saturating_add(sourcemap.get_names().len()),
+        sources: lengths
+            .sources
+            .saturating_add(sourcemap.get_sources().len()),
+        tokens: lengths.tokens.saturating_add(sourcemap.get_tokens().len()),
     }
 }
 
 /// The lengths of maps that are borrowed.
 fn lent_lengths(maps: &[(&SourceMap<'_>, u32)]) -> Lengths {
-    let mut lengths = Lengths::none();
+    let mut lengths = Lengths::default();
     for (sourcemap, _) in maps {
-        lengths = lengths.and(sourcemap);
+        lengths = with_lengths(lengths, sourcemap);
     }
     lengths
 }
 
-/// The lengths of maps that are taken.
-fn owned_lengths(maps: &[(SourceMap<'_>, u32)]) -> Lengths {
-    let mut lengths = Lengths::none();
+/// The lengths of maps that are owned, each beside where it begins.
+fn owned_lengths<P>(maps: &[(SourceMap<'_>, P)]) -> Lengths {
+    let mut lengths = Lengths::default();
     for (sourcemap, _) in maps {
-        lengths = lengths.and(sourcemap);
+        lengths = with_lengths(lengths, sourcemap);
     }
     lengths
+}
+
+/// A builder with room for maps of these lengths, and for this many chunks.
+fn with_room<'a>(
+    alloc: Global,
+    lengths: Lengths,
+    chunks: usize,
+) -> Result<ConcatSourceMapBuilder<'a>>
+    ensures builder { IfOk result (λ builder. builder ≡ nothing_joined) }
+    ensures error { OnlyMemory result }
+{
+    ConcatSourceMapBuilder::with_capacity(
+        alloc,
+        lengths.names,
+        lengths.sources,
+        lengths.tokens,
+        chunks,
+    )
 }

@@ -73,7 +73,7 @@ impl<'a> Model for SourceMapBuilder<'a> {
 fn next_id(count: usize) -> Result<u32>
     ensures id { IfOk result (λ id. id ≡ count) }
     ensures too_large { IsErrOf result TooLarge ↔ (4294967295 ≤ count) }
-    ensures refused { IfErr result (λ e. e ≡ TooLarge) }
+    ensures error { IfErr result (λ e. e ≡ TooLarge) }
 {
     if count >= 4294967295 {
         return Err(Error::TooLarge);
@@ -127,7 +127,7 @@ impl<'a> SourceMapBuilder<'a> {
         ensures added { IfOk result (λ id. (self.new, id) ≡ with_name self.old name.now) }
         ensures too_large { IsErrOf result TooLarge
             ↔ (IsNone (index_of name.now self.old.map.names) × (4294967295 ≤ length self.old.map.names)) }
-        ensures refused { IfErr result (λ e. (e ≡ OutOfMemory) ⊎ (e ≡ TooLarge)) }
+        ensures error { IfErr result (λ e. (e ≡ OutOfMemory) ⊎ (e ≡ TooLarge)) }
         ensures unchanged { OnErr result (self.new ≡ self.old) }
     {
         if let Some(id) = self.name_ids.get(name) {
@@ -143,7 +143,7 @@ impl<'a> SourceMapBuilder<'a> {
         ensures added { IfOk result (λ id. (self.new, id) ≡ with_name self.old name.now) }
         ensures too_large { IsErrOf result TooLarge
             ↔ (IsNone (index_of name.now self.old.map.names) × (4294967295 ≤ length self.old.map.names)) }
-        ensures refused { IfErr result (λ e. (e ≡ OutOfMemory) ⊎ (e ≡ TooLarge)) }
+        ensures error { IfErr result (λ e. (e ≡ OutOfMemory) ⊎ (e ≡ TooLarge)) }
         ensures unchanged { OnErr result (self.new ≡ self.old) }
     {
         if let Some(known) = self.name_ids.get(name) {
@@ -157,12 +157,7 @@ impl<'a> SourceMapBuilder<'a> {
     }
 
     /// Adds a name that is new, and the same string as its key, or neither.
-    fn push_name(
-        &mut self,
-        key: CowStr<'a>,
-        name: CowStr<'a>,
-        id: u32,
-    ) -> Memory<()>
+    fn push_name(&mut self, key: CowStr<'a>, name: CowStr<'a>, id: u32) -> Memory<()>
         requires same { cow_str_bytes key ≡ cow_str_bytes name }
         requires new { index_of (cow_str_bytes name) self.old.map.names ≡ None }
         requires id { (id ≡ length self.old.map.names) × (id < 4294967295) }
@@ -187,7 +182,7 @@ impl<'a> SourceMapBuilder<'a> {
         ensures added { IfOk result (λ id. (self.new, id) ≡ with_path self.old path.now content.now) }
         ensures too_large { IsErrOf result TooLarge
             ↔ (IsNone (fin.get self.old.given path.now) × (4294967295 ≤ length self.old.map.sources)) }
-        ensures refused { IfErr result (λ e. (e ≡ OutOfMemory) ⊎ (e ≡ TooLarge)) }
+        ensures error { IfErr result (λ e. (e ≡ OutOfMemory) ⊎ (e ≡ TooLarge)) }
         ensures unchanged { OnErr result (self.new ≡ self.old) }
     {
         if let Some(id) = self.given.get(path) {
@@ -208,7 +203,7 @@ impl<'a> SourceMapBuilder<'a> {
         ensures added { IfOk result (λ id. (self.new, id) ≡ with_path self.old path.now content.now) }
         ensures too_large { IsErrOf result TooLarge
             ↔ (IsNone (fin.get self.old.given path.now) × (4294967295 ≤ length self.old.map.sources)) }
-        ensures refused { IfErr result (λ e. (e ≡ OutOfMemory) ⊎ (e ≡ TooLarge)) }
+        ensures error { IfErr result (λ e. (e ≡ OutOfMemory) ⊎ (e ≡ TooLarge)) }
         ensures unchanged { OnErr result (self.new ≡ self.old) }
     {
         if let Some(known) = self.given.get(path) {
@@ -250,7 +245,7 @@ impl<'a> SourceMapBuilder<'a> {
     pub fn set_source_and_content(&mut self, path: &'a str, content: &'a str) -> Result<u32>
         ensures added { IfOk result (λ id. (self.new, id) ≡ with_another_source self.old path.now content.now) }
         ensures too_large { IsErrOf result TooLarge ↔ (4294967295 ≤ length self.old.map.sources) }
-        ensures refused { IfErr result (λ e. (e ≡ OutOfMemory) ⊎ (e ≡ TooLarge)) }
+        ensures error { IfErr result (λ e. (e ≡ OutOfMemory) ⊎ (e ≡ TooLarge)) }
         ensures unchanged { OnErr result (self.new ≡ self.old) }
     {
         let last = next_id(self.sources.len())?;
@@ -267,7 +262,7 @@ impl<'a> SourceMapBuilder<'a> {
     pub fn set_source_and_content_copied(&mut self, path: &str, content: &str) -> Result<u32>
         ensures added { IfOk result (λ id. (self.new, id) ≡ with_another_source self.old path.now content.now) }
         ensures too_large { IsErrOf result TooLarge ↔ (4294967295 ≤ length self.old.map.sources) }
-        ensures refused { IfErr result (λ e. (e ≡ OutOfMemory) ⊎ (e ≡ TooLarge)) }
+        ensures error { IfErr result (λ e. (e ≡ OutOfMemory) ⊎ (e ≡ TooLarge)) }
         ensures unchanged { OnErr result (self.new ≡ self.old) }
     {
         let new_id = next_id(self.sources.len())?;
@@ -303,7 +298,7 @@ impl<'a> SourceMapBuilder<'a> {
             } ∷ [];
           };
         }) }
-        ensures refused { OnlyMemory result }
+        ensures error { OnlyMemory result }
         ensures unchanged { OnErr result (self.new ≡ self.old) }
     {
         self.tokens.push(Token::new(dst_line, dst_col, src_line, src_col, src_id, name_id))?;
@@ -321,7 +316,7 @@ impl<'a> SourceMapBuilder<'a> {
     /// was.
     pub fn set_file_copied(&mut self, file: &str) -> Result<()>
         ensures set { OnOk result (self.new ≡ record self.old { map = record self.old.map { file = Some file.now } }) }
-        ensures refused { OnlyMemory result }
+        ensures error { OnlyMemory result }
         ensures unchanged { OnErr result (self.new ≡ self.old) }
     {
         self.file = Some(owned_text(self.alloc, file)?);
@@ -340,7 +335,7 @@ impl<'a> SourceMapBuilder<'a> {
     pub fn into_sourcemap(self) -> Result<SourceMap<'a>>
         ensures map { IfOk result (λ map. map ≡ self.entry.map) }
         ensures nothing_else { IfOk result (λ map. (map.source_root ≡ None) × (map.ignore_list ≡ None) × (map.debug_id ≡ None)) }
-        ensures refused { OnlyMemory result }
+        ensures error { OnlyMemory result }
     {
         Ok(SourceMap::new(
             self.file,
@@ -358,7 +353,7 @@ impl<'a> SourceMapBuilder<'a> {
     pub fn into_owned_sourcemap(self) -> Result<OwnedSourceMap>
         ensures map { IfOk result (λ map. map ≡ self.entry.map) }
         ensures nothing_else { IfOk result (λ map. (map.source_root ≡ None) × (map.ignore_list ≡ None) × (map.debug_id ≡ None)) }
-        ensures refused { OnlyMemory result }
+        ensures error { OnlyMemory result }
     {
         let alloc = self.alloc;
         self.into_sourcemap()?.into_owned_sourcemap(alloc)

@@ -35,11 +35,12 @@ ghost use Rattle.oxc_sourcemap_lookup.specs.Lookup.{token_for, clamped_token_for
 
 use crate::plans::evaluate_bytes;
 use oxc_sourcemap_handles::{
-    Asked, Counts, Fault, Handle, Place, Position, Text, TokenNumbers, add_name, add_source,
-    add_token, answered, answered_all, compose, counts, data_url, finish, ignored, is_sorted, join,
-    json, noted, placed, put_builder, put_map, put_text, read, set_file, text_of_map, token,
-    traced, traced_all, write_message, written_text,
+    Asked, Counts, Fault, Handle, Place, Text, TokenNumbers, add_name, add_source, add_token,
+    answered, answered_all, compose, counts, data_url, finish, ignored, is_sorted, join, json,
+    noted, placed, put_builder, put_map, put_text, read, set_file, text_of_map, token, traced,
+    traced_all, write_message, written_text,
 };
+use oxc_sourcemap_tokens::Position;
 use std::alloc::Global;
 
 /// Puts the map of a JSON text into a handle.
@@ -52,7 +53,7 @@ pub extern "C" fn smap_from_json_string(
 ) -> u32
     ensures map { result ≡ 0 → HoldsMap map.new.held (λ m. read_map json.now ≡ Ok m) }
     ensures not_refused { result ≡ 0 → fault.new ≡ no_fault }
-    ensures refused { result ≢ 0 → (map.new.held ≡ map.old.held) × IsRefusedAs result fault.new (IsReadRefusal json.now) }
+    ensures error { result ≢ 0 → (map.new.held ≡ map.old.held) × IsRefusedAs result fault.new (IsReadRefusal json.now) }
 {
     put_map(alloc, read(alloc, json), map, fault)
 }
@@ -70,7 +71,7 @@ pub extern "C" fn smap_compose(
     ensures any_map { result ≡ 0 → HoldsMap map.new.held (λ m. HoldsMap first.old.held (λ a. HoldsMap input.old.held (λ b. SomeComposition a b (Ok m)))) }
     ensures map { result ≡ 0 → HoldsMap map.new.held (λ m. HoldsMap first.old.held (λ a. HoldsMap input.old.held (λ b. NoColumnGoesBack b.tokens → composition a b ≡ Ok m))) }
     ensures not_refused { result ≡ 0 → fault.new ≡ no_fault }
-    ensures refused { result ≢ 0 → (map.new.held ≡ map.old.held)
+    ensures error { result ≢ 0 → (map.new.held ≡ map.old.held)
         × IsRefusedAs result fault.new (IsCompositionRefusal (held_map first.old.held) (held_map input.old.held)) }
 {
     let composed = compose(alloc, first, input);
@@ -89,7 +90,7 @@ pub extern "C" fn smap_join(
     ensures emptied { All (λ h. h.held ≡ None) maps.new }
     ensures map { result ≡ 0 → HoldsMap map.new.held (IsJoinOf (all_held maps.old) offsets.now) }
     ensures not_refused { result ≡ 0 → fault.new ≡ no_fault }
-    ensures refused { result ≢ 0 → (map.new.held ≡ map.old.held) × IsRefusedAs result fault.new (IsJoinRefusal (all_held maps.old) offsets.now) }
+    ensures error { result ≢ 0 → (map.new.held ≡ map.old.held) × IsRefusedAs result fault.new (IsJoinRefusal (all_held maps.old) offsets.now) }
 {
     let joined = join(alloc, maps, offsets);
     put_map(alloc, joined, map, fault)
@@ -106,7 +107,7 @@ pub extern "C" fn smap_evaluate(
 ) -> u32
     ensures map { result ≡ 0 → HoldsMap map.new.held (IsPlanMap (plan_of words.now texts.now)) }
     ensures not_refused { result ≡ 0 → fault.new ≡ no_fault }
-    ensures refused { result ≢ 0 → (map.new.held ≡ map.old.held) × IsRefusedAs result fault.new (IsPlanRefusal words.now texts.now) }
+    ensures error { result ≢ 0 → (map.new.held ≡ map.old.held) × IsRefusedAs result fault.new (IsPlanRefusal words.now texts.now) }
 {
     put_map(alloc, evaluate_bytes(alloc, words, texts), map, fault)
 }
@@ -122,7 +123,7 @@ pub extern "C" fn smap_to_json_string(
     ensures kept { map.new.held ≡ map.old.held }
     ensures text { result ≡ 0 → HoldsWritten map_text map.old.held string.new.held }
     ensures not_refused { result ≡ 0 → fault.new ≡ no_fault }
-    ensures refused { result ≢ 0 → (string.new.held ≡ string.old.held) × IsRefusedAs result fault.new (IsWritingRefusal map_text (held_map map.old.held)) }
+    ensures error { result ≢ 0 → (string.new.held ≡ string.old.held) × IsRefusedAs result fault.new (IsWritingRefusal map_text (held_map map.old.held)) }
 {
     let written = json(alloc, map);
     put_text(alloc, written, string, fault)
@@ -139,7 +140,7 @@ pub extern "C" fn smap_to_data_url(
     ensures kept { map.new.held ≡ map.old.held }
     ensures text { result ≡ 0 → HoldsWritten map_url map.old.held string.new.held }
     ensures not_refused { result ≡ 0 → fault.new ≡ no_fault }
-    ensures refused { result ≢ 0 → (string.new.held ≡ string.old.held) × IsRefusedAs result fault.new (IsWritingRefusal map_url (held_map map.old.held)) }
+    ensures error { result ≢ 0 → (string.new.held ≡ string.old.held) × IsRefusedAs result fault.new (IsWritingRefusal map_url (held_map map.old.held)) }
 {
     let written = data_url(alloc, map);
     put_text(alloc, written, string, fault)
@@ -299,7 +300,7 @@ pub extern "C" fn smap_trace(
     ensures traced { result ≡ 0 → HoldsMap map.old.held (λ m. IsInLineOrder m.tokens × IsTrace m (token_for m.tokens line column) (trace (decoded_map_of m) line column) place.new) }
     ensures kept { map.new.held ≡ map.old.held }
     ensures not_refused { result ≡ 0 → fault.new ≡ no_fault }
-    ensures refused { result ≢ 0 → (place.new ≡ place.old) × IsRefused result fault.new (IsTraceRefusal (held_map map.old.held)) }
+    ensures error { result ≢ 0 → (place.new ≡ place.old) × IsRefused result fault.new (IsTraceRefusal (held_map map.old.held)) }
 {
     let at = Position { line, column };
     placed(traced(alloc, map, at, false), place, fault)
@@ -318,7 +319,7 @@ pub extern "C" fn smap_trace_clamped(
     ensures traced { result ≡ 0 → HoldsMap map.old.held (λ m. IsInLineOrder m.tokens × IsTrace m (clamped_token_for m.tokens line column) (clamped_trace (decoded_map_of m) line column) place.new) }
     ensures kept { map.new.held ≡ map.old.held }
     ensures not_refused { result ≡ 0 → fault.new ≡ no_fault }
-    ensures refused { result ≢ 0 → (place.new ≡ place.old) × IsRefused result fault.new (IsTraceRefusal (held_map map.old.held)) }
+    ensures error { result ≢ 0 → (place.new ≡ place.old) × IsRefused result fault.new (IsTraceRefusal (held_map map.old.held)) }
 {
     let at = Position { line, column };
     placed(traced(alloc, map, at, true), place, fault)
@@ -337,7 +338,7 @@ pub extern "C" fn smap_trace_all(
     ensures traced { result ≡ 0 → HoldsMap map.old.held (AreTracesOf false positions.now places.new) }
     ensures kept { map.new.held ≡ map.old.held }
     ensures not_refused { result ≡ 0 → fault.new ≡ no_fault }
-    ensures refused { result ≢ 0 → (places.new ≡ places.old)
+    ensures error { result ≢ 0 → (places.new ≡ places.old)
         × IsRefused result fault.new (IsTraceAllRefusal positions.now places.old (held_map map.old.held)) }
 {
     answered_all(traced_all(alloc, map, positions, places, false), fault)
@@ -355,7 +356,7 @@ pub extern "C" fn smap_trace_all_clamped(
     ensures traced { result ≡ 0 → HoldsMap map.old.held (AreTracesOf true positions.now places.new) }
     ensures kept { map.new.held ≡ map.old.held }
     ensures not_refused { result ≡ 0 → fault.new ≡ no_fault }
-    ensures refused { result ≢ 0 → (places.new ≡ places.old)
+    ensures error { result ≢ 0 → (places.new ≡ places.old)
         × IsRefused result fault.new (IsTraceAllRefusal positions.now places.old (held_map map.old.held)) }
 {
     answered_all(traced_all(alloc, map, positions, places, true), fault)
@@ -376,7 +377,7 @@ pub extern "C" fn smap_message(alloc: Global, fault: &Fault, out: &mut [u8]) -> 
 pub extern "C" fn smap_builder_new(alloc: Global, builder: &mut Handle, fault: &mut Fault) -> u32
     ensures built { result ≡ 0 → held_builder builder.new.held ≡ Some nothing_built }
     ensures not_refused { result ≡ 0 → fault.new ≡ no_fault }
-    ensures refused { result ≢ 0 → (builder.new.held ≡ builder.old.held) × IsRefusedAs result fault.new (λ r. ⊥) }
+    ensures error { result ≢ 0 → (builder.new.held ≡ builder.old.held) × IsRefusedAs result fault.new (λ r. ⊥) }
 {
     put_builder(alloc, builder, fault)
 }
@@ -392,7 +393,7 @@ pub extern "C" fn smap_builder_add_name(
 ) -> u32
     ensures added { result ≡ 0 → Builds builder.old.held builder.new.held (λ b c. (c, id.new) ≡ with_name b name.now) }
     ensures not_refused { result ≡ 0 → fault.new ≡ no_fault }
-    ensures refused { result ≢ 0 → (builder.new.held ≡ builder.old.held) × (id.new ≡ id.old)
+    ensures error { result ≢ 0 → (builder.new.held ≡ builder.old.held) × (id.new ≡ id.old)
         × IsRefusedAs result fault.new (IsNameRefusal builder.old.held name.now) }
     ensures too_large { MatchOption (held_builder builder.old.held) ⊤ (λ b. IsUtf8 name.now → NameHasNoId name.now b → result ≡ code_of (of_map TooLarge)) }
 {
@@ -411,7 +412,7 @@ pub extern "C" fn smap_builder_add_source_and_content(
 ) -> u32
     ensures added { result ≡ 0 → Builds builder.old.held builder.new.held (λ b c. (c, id.new) ≡ with_path b path.now content.now) }
     ensures not_refused { result ≡ 0 → fault.new ≡ no_fault }
-    ensures refused { result ≢ 0 → (builder.new.held ≡ builder.old.held) × (id.new ≡ id.old)
+    ensures error { result ≢ 0 → (builder.new.held ≡ builder.old.held) × (id.new ≡ id.old)
         × IsRefusedAs result fault.new (IsSourceRefusal builder.old.held path.now content.now) }
     ensures too_large { MatchOption (held_builder builder.old.held) ⊤ (λ b. IsUtf8 path.now → IsUtf8 content.now → SourceHasNoId path.now b
         → result ≡ code_of (of_map TooLarge)) }
@@ -429,7 +430,7 @@ pub extern "C" fn smap_builder_add_token(
 ) -> u32
     ensures added { result ≡ 0 → Builds builder.old.held builder.new.held (λ b c. c ≡ with_token b (token_of token.now)) }
     ensures not_refused { result ≡ 0 → fault.new ≡ no_fault }
-    ensures refused { result ≢ 0 → (builder.new.held ≡ builder.old.held) × IsRefusedAs result fault.new (IsBuilderRefusal builder.old.held) }
+    ensures error { result ≢ 0 → (builder.new.held ≡ builder.old.held) × IsRefusedAs result fault.new (IsBuilderRefusal builder.old.held) }
 {
     let mut none = 0;
     noted(add_token(alloc, builder, *token), &mut none, fault)
@@ -445,7 +446,7 @@ pub extern "C" fn smap_builder_set_file(
 ) -> u32
     ensures set { result ≡ 0 → Builds builder.old.held builder.new.held (λ b c. c ≡ with_file b file.now) }
     ensures not_refused { result ≡ 0 → fault.new ≡ no_fault }
-    ensures refused { result ≢ 0 → (builder.new.held ≡ builder.old.held) × IsRefusedAs result fault.new (IsFileRefusal builder.old.held file.now) }
+    ensures error { result ≢ 0 → (builder.new.held ≡ builder.old.held) × IsRefusedAs result fault.new (IsFileRefusal builder.old.held file.now) }
 {
     let mut none = 0;
     noted(set_file(alloc, builder, file), &mut none, fault)
@@ -463,7 +464,7 @@ pub extern "C" fn smap_builder_finish(
     ensures map { result ≡ 0 → HoldsMap map.new.held (λ m. MatchOption (held_builder builder.old.held) ⊥ (λ b. m ≡ b.map)) }
     ensures nothing_else { result ≡ 0 → HoldsMap map.new.held (λ m. (m.source_root ≡ None) × (m.ignore_list ≡ None) × (m.debug_id ≡ None)) }
     ensures not_refused { result ≡ 0 → fault.new ≡ no_fault }
-    ensures refused { result ≢ 0 → (map.new.held ≡ map.old.held) × IsRefusedAs result fault.new (IsBuilderRefusal builder.old.held) }
+    ensures error { result ≢ 0 → (map.new.held ≡ map.old.held) × IsRefusedAs result fault.new (IsBuilderRefusal builder.old.held) }
 {
     let built = finish(alloc, builder);
     put_map(alloc, built, map, fault)

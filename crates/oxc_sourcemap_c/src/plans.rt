@@ -33,7 +33,7 @@ fn refusal_of(error: RunError) -> Refusal
 /// The map of the plan that words say over texts.
 fn evaluated(alloc: Global, words: &str, texts: &str) -> Result<OwnedSourceMap, Refusal>
     ensures map { IfOk result (IsPlanMap (plan_of words.now texts.now)) }
-    ensures refused { IfErr result (λ r. (r ≢ out_of_memory) → IsPlanFailure (plan_of words.now texts.now) r) }
+    ensures error { IfErr result (λ r. (r ≢ out_of_memory) → IsPlanFailure (plan_of words.now texts.now) r) }
 {
     let inputs = inputs_of(alloc, texts)?;
     let words = words_of(alloc, words)?;
@@ -46,7 +46,7 @@ fn evaluated(alloc: Global, words: &str, texts: &str) -> Result<OwnedSourceMap, 
 /// The map of the plan that the words say over the texts.
 pub fn evaluate_bytes(alloc: Global, words: &[u8], texts: &[u8]) -> Result<OwnedSourceMap, Refusal>
     ensures map { IfOk result (IsPlanMap (plan_of words.now texts.now)) }
-    ensures refused { IfErr result (λ r. (r ≢ out_of_memory) → IsPlanRefusal words.now texts.now r) }
+    ensures error { IfErr result (λ r. (r ≢ out_of_memory) → IsPlanRefusal words.now texts.now r) }
 {
     let words = text_of(words)?;
     let texts = text_of(texts)?;

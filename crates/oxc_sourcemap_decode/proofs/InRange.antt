@@ -6,7 +6,8 @@ use Rattle.std.proofs.lemmas.List.{length-append}
 use Rattle.oxc_sourcemap_tokens.specs.Token.{TokenRecord, last}
 use Rattle.oxc_sourcemap_parts.specs.Record.{MapRecord}
 use Rattle.oxc_sourcemap_parts.specs.Sound.{IsInRange, AreIdsInRange}
-use Rattle.oxc_sourcemap_join.specs.Joined.{Offset, raised_id, shifted, is_same_token, without_repeat, raised_ignore_list, appended_ignore_lists, added}
+use Rattle.oxc_sourcemap_tokens.specs.declared.position.Position.{Position}
+use Rattle.oxc_sourcemap_join.specs.Joined.{raised_id, shifted, is_same_token, without_repeat, raised_ignore_list, appended_ignore_lists, added}
 
 both : {A : Type 0} (P : A → Type 0) (xs ys : List A) → AllByRecursion P xs → AllByRecursion P ys → AllByRecursion P (xs ++ ys)
 both P [] ys h k = k
@@ -25,7 +26,7 @@ tokens-wider ns ss ms rs n s [] h = tt
 tokens-wider ns ss ms rs n s (t ∷ ts) h =
     (record { source_id = id-wider t.source_id ss rs s h.0.source_id; name_id = id-wider t.name_id ns ms n h.0.name_id }, tokens-wider ns ss ms rs n s ts h.1)
 
-tokens-shifted : (names sources : ℕ) (offset : Offset) (ns ss ms rs : ℕ) → names + ns ≤ ms → sources + ss ≤ rs → (ts : List TokenRecord)
+tokens-shifted : (names sources : ℕ) (offset : Position) (ns ss ms rs : ℕ) → names + ns ≤ ms → sources + ss ≤ rs → (ts : List TokenRecord)
     → AllByRecursion (IsInRange ns ss) ts → AllByRecursion (IsInRange ms rs) (map (shifted names sources offset) ts)
 tokens-shifted names sources offset ns ss ms rs n s [] h = tt
 tokens-shifted names sources offset ns ss ms rs n s (t ∷ ts) h = (
@@ -53,7 +54,7 @@ lists-appended (Some xs) None k a c b l m h g = list-wider a b l xs h
 lists-appended None (Some ys) k a c b l m h g = list-raised k c b m ys g
 lists-appended (Some xs) (Some ys) k a c b l m h g = both (λ id. id < b) xs _ (list-wider a b l xs h) (list-raised k c b m ys g)
 
-pub added-in-range : (r m : MapRecord) (offset : Offset) → AreIdsInRange r → AreIdsInRange m → AreIdsInRange (added r m offset)
+pub added-in-range : (r m : MapRecord) (offset : Position) → AreIdsInRange r → AreIdsInRange m → AreIdsInRange (added r m offset)
 added-in-range r m offset h k =
     let names = length-append r.names m.names in
     let sources = length-append r.sources m.sources in

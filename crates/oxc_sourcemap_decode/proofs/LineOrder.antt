@@ -5,7 +5,8 @@ use Rattle.std.proofs.lemmas.Bool.{cases_lt}
 use Rattle.std.proofs.lemmas.Bool.Decides.{nat_tests}
 use Rattle.oxc_sourcemap_tokens.specs.Token.{TokenRecord, last_line, last}
 use Rattle.oxc_sourcemap_tokens.specs.LineOrder.{first_out_of_order, back_from}
-use Rattle.oxc_sourcemap_join.specs.Joined.{Offset, shifted, without_repeat}
+use Rattle.oxc_sourcemap_tokens.specs.declared.position.Position.{Position}
+use Rattle.oxc_sourcemap_join.specs.Joined.{shifted, without_repeat}
 use Rattle.oxc_sourcemap_decode.specs.Sections.{position_of, may_follow}
 
 -- generated lines never go back, from this line on
@@ -37,7 +38,7 @@ runs-append : (line : ℕ) (ts us : List TokenRecord) → RunsFrom line ts → R
 runs-append line [] us h k = k
 runs-append line (t ∷ ts) us h k = (h.0, runs-append t.dst_line ts us h.1 k)
 
-runs-shifted : (names sources : ℕ) (offset : Offset) (line : ℕ) (ts : List TokenRecord) → RunsFrom line ts
+runs-shifted : (names sources : ℕ) (offset : Position) (line : ℕ) (ts : List TokenRecord) → RunsFrom line ts
     → RunsFrom (line + offset.line) (map (shifted names sources offset) ts)
 runs-shifted names sources offset line [] h = tt
 runs-shifted names sources offset line (t ∷ ts) h = (omega (arith, h.0), runs-shifted names sources offset t.dst_line ts h.1)
@@ -50,24 +51,24 @@ runs-without same (Some x) line (u ∷ us) h =
     elim (same x u) as (λ b. RunsFrom line (cond b us (u ∷ us))) [ true ↦ runs-lower line u.dst_line us h.0 h.1 | false ↦ h ]
 
 -- ---- the last token is not after a place
-line-of : (t : TokenRecord) (place : Offset) → may_follow (Some (position_of t)) place ≡ true → t.dst_line ≤ place.line
+line-of : (t : TokenRecord) (place : Position) → may_follow (Some (position_of t)) place ≡ true → t.dst_line ≤ place.line
 line-of t place h =
     elim (cases_lt place.line t.dst_line) [
       | inl l ↦ (let before : nat_lt t.dst_line place.line ≡ false = grind (arith, nat_tests) in let other : (t.dst_line == place.line) ≡ false = grind (arith, nat_tests) in let k = rw (before, other) at h in cc)
       | inr g ↦ g
     ]
 
-ends-at : (line : ℕ) (t : TokenRecord) (ts : List TokenRecord) (place : Offset) → may_follow (option_map position_of (last (t ∷ ts))) place ≡ true
+ends-at : (line : ℕ) (t : TokenRecord) (ts : List TokenRecord) (place : Position) → may_follow (option_map position_of (last (t ∷ ts))) place ≡ true
     → last_line line (t ∷ ts) ≤ place.line
 ends-at line t [] place h = line-of t place h
 ends-at line t (u ∷ ts) place h = ends-at t.dst_line u ts place h
 
-ends-by : (ts : List TokenRecord) (place : Offset) → may_follow (option_map position_of (last ts)) place ≡ true → last_line 0 ts ≤ place.line
+ends-by : (ts : List TokenRecord) (place : Position) → may_follow (option_map position_of (last ts)) place ≡ true → last_line 0 ts ≤ place.line
 ends-by [] place h = omega arith
 ends-by (t ∷ ts) place h = ends-at 0 t ts place h
 
 -- tokens of a map at a place that is not before the last token
-pub runs-joined : (same : TokenRecord → TokenRecord → Bool) (names sources : ℕ) (place : Offset) (ts us : List TokenRecord) → RunsFrom 0 ts → RunsFrom 0 us
+pub runs-joined : (same : TokenRecord → TokenRecord → Bool) (names sources : ℕ) (place : Position) (ts us : List TokenRecord) → RunsFrom 0 ts → RunsFrom 0 us
     → may_follow (option_map position_of (last ts)) place ≡ true
     → RunsFrom 0 (ts ++ without_repeat same (last ts) (map (shifted names sources place) us))
 runs-joined same names sources place ts us h k b =

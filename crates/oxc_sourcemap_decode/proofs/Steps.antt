@@ -9,7 +9,8 @@ use Rattle.oxc_sourcemap_tokens.specs.Refusals.{unless}
 use Rattle.oxc_sourcemap_parts.specs.Record.{MapRecord}
 use Rattle.oxc_sourcemap_tokens.specs.Token.{last}
 use Rattle.oxc_sourcemap_json.specs.Shape.{◌>>=◌}
-use Rattle.oxc_sourcemap_join.specs.Joined.{Offset, added, nothing_joined, added_all, joined, IsWithinLimits}
+use Rattle.oxc_sourcemap_tokens.specs.declared.position.Position.{Position}
+use Rattle.oxc_sourcemap_join.specs.Joined.{added, nothing_joined, added_all, joined, IsWithinLimits}
 use Rattle.oxc_sourcemap_join.proofs.Joining.{added_all-append, fitting_chunks}
 use Rattle.oxc_sourcemap_join.proofs.Adding.{front-within, nothing-within}
 use Rattle.oxc_sourcemap_decode.specs.Section.{place_in}
@@ -19,10 +20,10 @@ use Rattle.oxc_sourcemap_decode.proofs.Limits.{limits_decided}
 
 -- a map at its offset
 abbrev pub Placed : Type 0
-Placed = MapRecord × Offset
+Placed = MapRecord × Position
 
 -- with one map more
-pub joined-more : (front : List Placed) (m : MapRecord) (place : Offset) → joined (front ++ (m, place) ∷ []) ≡ added (joined front) m place
+pub joined-more : (front : List Placed) (m : MapRecord) (place : Position) → joined (front ++ (m, place) ∷ []) ≡ added (joined front) m place
 joined-more front m place = added_all-append nothing_joined front ((m, place) ∷ [])
 
 pub last-more : {A : Type 0} (xs : List A) (x : A) → last (xs ++ x ∷ []) ≡ Some x
@@ -35,7 +36,7 @@ pub chunk-count : (front : List Placed) → length (unwrap_or (joined front).tok
 chunk-count front = let f = fitting_chunks front in ap (λ o. length (unwrap_or o [])) f.has ∙ f.count
 
 -- a place at which no section may begin
-pub out-of-order : (front : List Placed) (d : Data) (place : Offset) (j : MapRecord) (before : Option Offset) (count : ℕ) → j ≡ joined front
+pub out-of-order : (front : List Placed) (d : Data) (place : Position) (j : MapRecord) (before : Option Position) (count : ℕ) → j ≡ joined front
     → before ≡ option_map (λ s. s.1) (last front) → count ≡ length (unwrap_or j.token_chunks []) → place_in d ≡ Ok place
     → (may_follow before place && may_follow (option_map position_of (last j.tokens)) place) ≡ false → place_after front d ≡ Err (SectionOrder count)
 out-of-order front d place j before count i b n e h =
@@ -44,7 +45,7 @@ out-of-order front d place j before count i b n e h =
     ap (λ o. may_follow o place && may_follow (option_map position_of (last (joined front).tokens)) place) (sym b)
     ∙ ap (λ o. may_follow before place && may_follow o place) (sym lasts) ∙ h in
     let number : length front ≡ count = sym (n ∙ ap (λ (r : MapRecord). length (unwrap_or r.token_chunks [])) i ∙ chunk-count front) in
-    ap (λ (r : Result Offset Error). r >>= in_order front) e
+    ap (λ (r : Result Position Error). r >>= in_order front) e
     ∙ ap (λ t. cond t (Ok place) (Err (SectionOrder (length front)))) begun
     ∙ ap (λ k. Err (SectionOrder k)) number
 
@@ -54,18 +55,18 @@ ended front fault = record { maps = front; fault = Some fault }
 
 refused-place : (front : List Placed) (d : Data) (ds : Items) (e : Error) → place_after front d ≡ Err e → sections_after front (item d ds) ≡ ended front e
 refused-place front d ds e h =
-    ap (λ (r : Result Offset Error). onto_section front (λ s. sections_after (front ++ s ∷ []) ds) (r >>= (λ place. section_map d >>= (λ m. Ok (m, place))))) h
+    ap (λ (r : Result Position Error). onto_section front (λ s. sections_after (front ++ s ∷ []) ds) (r >>= (λ place. section_map d >>= (λ m. Ok (m, place))))) h
 
-refused-map : (front : List Placed) (d : Data) (ds : Items) (place : Offset) (e : Error) → place_after front d ≡ Ok place → section_map d ≡ Err e
+refused-map : (front : List Placed) (d : Data) (ds : Items) (place : Position) (e : Error) → place_after front d ≡ Ok place → section_map d ≡ Err e
     → sections_after front (item d ds) ≡ ended front e
 refused-map front d ds place e h g =
-    ap (λ (r : Result Offset Error). onto_section front (λ s. sections_after (front ++ s ∷ []) ds) (r >>= (λ place. section_map d >>= (λ m. Ok (m, place))))) h
+    ap (λ (r : Result Position Error). onto_section front (λ s. sections_after (front ++ s ∷ []) ds) (r >>= (λ place. section_map d >>= (λ m. Ok (m, place))))) h
     ∙ ap (λ (r : Result MapRecord Error). onto_section front (λ s. sections_after (front ++ s ∷ []) ds) (r >>= (λ m. Ok (m, place)))) g
 
-taken : (front : List Placed) (d : Data) (ds : Items) (place : Offset) (m : MapRecord) → place_after front d ≡ Ok place → section_map d ≡ Ok m
+taken : (front : List Placed) (d : Data) (ds : Items) (place : Position) (m : MapRecord) → place_after front d ≡ Ok place → section_map d ≡ Ok m
     → sections_after front (item d ds) ≡ sections_after (front ++ (m, place) ∷ []) ds
 taken front d ds place m h g =
-    ap (λ (r : Result Offset Error). onto_section front (λ s. sections_after (front ++ s ∷ []) ds) (r >>= (λ place. section_map d >>= (λ m. Ok (m, place))))) h
+    ap (λ (r : Result Position Error). onto_section front (λ s. sections_after (front ++ s ∷ []) ds) (r >>= (λ place. section_map d >>= (λ m. Ok (m, place))))) h
     ∙ ap (λ (r : Result MapRecord Error). onto_section front (λ s. sections_after (front ++ s ∷ []) ds) (r >>= (λ m. Ok (m, place)))) g
 
 -- ---- all of them
@@ -94,7 +95,7 @@ too-large front items n =
 
 -- ---- the sections so far
 -- of all of these sections some are left; the join of the others is this map, and the last of them begins there
-pub record SoFar (all left : Items) (j : MapRecord) (before : Option Offset) : Type 0 where
+pub record SoFar (all left : Items) (j : MapRecord) (before : Option Position) : Type 0 where
   pub front : List Placed
   pub is_join : j ≡ joined front
   pub is_before : before ≡ option_map (λ s. s.1) (last front)
@@ -105,30 +106,30 @@ pub none-so-far : (all : Items) → SoFar all all nothing_joined None
 none-so-far all = record { front = []; is_join = refl; is_before = refl; same = refl; within = nothing-within }
 
 -- what is said of the offset of the next section
-abbrev pub SaysOfPlace : MapRecord → Option Offset → Data → Result Offset Error → Type 0
+abbrev pub SaysOfPlace : MapRecord → Option Position → Data → Result Position Error → Type 0
 SaysOfPlace j before d answer = (front : List Placed) → j ≡ joined front → before ≡ option_map (λ s. s.1) (last front) → place_after front d ≡ answer
 
-module _ (all : Items) (d : Data) (ds : Items) (j : MapRecord) (before : Option Offset) (s : SoFar all (item d ds) j before) where
+module _ (all : Items) (d : Data) (ds : Items) (j : MapRecord) (before : Option Position) (s : SoFar all (item d ds) j before) where
   pub place-refused : (e : Error) → SaysOfPlace j before d (Err e) → joined_sections (all_sections all) ≡ Err e
   place-refused e h =
       ap joined_sections (s.same ∙ refused-place s.front d ds e (h s.front s.is_join s.is_before)) ∙ is-answer s.front (Some e) s.within
 
-  pub map-refused : (place : Offset) (e : Error) → SaysOfPlace j before d (Ok place) → section_map d ≡ Err e → joined_sections (all_sections all) ≡ Err e
+  pub map-refused : (place : Position) (e : Error) → SaysOfPlace j before d (Ok place) → section_map d ≡ Err e → joined_sections (all_sections all) ≡ Err e
   map-refused place e h g =
       ap joined_sections (s.same ∙ refused-map s.front d ds place e (h s.front s.is_join s.is_before) g) ∙ is-answer s.front (Some e) s.within
 
-  next : (place : Offset) (m : MapRecord) → SaysOfPlace j before d (Ok place) → section_map d ≡ Ok m → all_sections all ≡ sections_after (s.front ++ (m, place) ∷ []) ds
+  next : (place : Position) (m : MapRecord) → SaysOfPlace j before d (Ok place) → section_map d ≡ Ok m → all_sections all ≡ sections_after (s.front ++ (m, place) ∷ []) ds
   next place m h g = s.same ∙ taken s.front d ds place m (h s.front s.is_join s.is_before) g
 
-  is-next : (place : Offset) (m : MapRecord) → added j m place ≡ joined (s.front ++ (m, place) ∷ [])
+  is-next : (place : Position) (m : MapRecord) → added j m place ≡ joined (s.front ++ (m, place) ∷ [])
   is-next place m = ap (λ r. added r m place) s.is_join ∙ sym (joined-more s.front m place)
 
-  pub add-refused : (place : Offset) (m : MapRecord) → SaysOfPlace j before d (Ok place) → section_map d ≡ Ok m → ¬ (IsWithinLimits (added j m place))
+  pub add-refused : (place : Position) (m : MapRecord) → SaysOfPlace j before d (Ok place) → section_map d ≡ Ok m → ¬ (IsWithinLimits (added j m place))
       → joined_sections (all_sections all) ≡ Err TooLarge
   add-refused place m h g n =
       ap joined_sections (next place m h g) ∙ too-large (s.front ++ (m, place) ∷ []) ds (λ w. n (subst IsWithinLimits (sym (is-next place m)) w))
 
-  pub more-so-far : (place : Offset) (m : MapRecord) → SaysOfPlace j before d (Ok place) → section_map d ≡ Ok m → IsWithinLimits (added j m place)
+  pub more-so-far : (place : Position) (m : MapRecord) → SaysOfPlace j before d (Ok place) → section_map d ≡ Ok m → IsWithinLimits (added j m place)
       → SoFar all ds (added j m place) (Some place)
   more-so-far place m h g w = record {
     front = s.front ++ (m, place) ∷ [];
@@ -138,7 +139,7 @@ module _ (all : Items) (d : Data) (ds : Items) (j : MapRecord) (before : Option 
     within = subst IsWithinLimits (is-next place m) w;
   }
 
-pub all-joined : (all : Items) (j : MapRecord) (before : Option Offset) → SoFar all no_items j before → joined_sections (all_sections all) ≡ Ok j
+pub all-joined : (all : Items) (j : MapRecord) (before : Option Position) → SoFar all no_items j before → joined_sections (all_sections all) ≡ Ok j
 all-joined all j before s = ap joined_sections s.same ∙ is-answer s.front None s.within ∙ ap (λ r. Ok r) (sym s.is_join)
 
 pub none-left : {A : Type 0} (xs : List A) → length xs ≡ 0 → xs ≡ []

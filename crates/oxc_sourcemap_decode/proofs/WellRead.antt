@@ -18,7 +18,8 @@ use Rattle.oxc_sourcemap_json.specs.Json.{JsonRecord}
 use Rattle.oxc_sourcemap_json.specs.Shape.{◌>>=◌, shape, file_of}
 use Rattle.oxc_sourcemap_decode.specs.Decoded.{decoded}
 use Rattle.oxc_sourcemap_decode.proofs.ReadSound.{IsWellRead as IsWellDecoded, decoded-well}
-use Rattle.oxc_sourcemap_join.specs.Joined.{Offset, is_same_token, added, nothing_joined, joined, IsWithinLimits}
+use Rattle.oxc_sourcemap_tokens.specs.declared.position.Position.{Position}
+use Rattle.oxc_sourcemap_join.specs.Joined.{is_same_token, added, nothing_joined, joined, IsWithinLimits}
 use Rattle.oxc_sourcemap_decode.specs.Section.{is_indexed, place_in, map_in}
 use Rattle.oxc_sourcemap_decode.specs.Sections.{Sections, position_of, may_follow, may_begin, in_order, place_after, section_map, section_after, onto_section, sections_after, all_sections, joined_sections}
 use Rattle.oxc_sourcemap_decode.specs.JoinLimits.{is_within_limits}
@@ -60,11 +61,11 @@ record IsGood (front : List Placed) : Type 0 where
   in_range : AreIdsInRange (joined front)
   order : RunsFrom 0 (joined front).tokens
 
-where-begun : (b : Bool) (place p : Offset) (fault : Error) → cond b (Ok place) (Err fault) ≡ Ok p → (b ≡ true) × (place ≡ p)
+where-begun : (b : Bool) (place p : Position) (fault : Error) → cond b (Ok place) (Err fault) ≡ Ok p → (b ≡ true) × (place ≡ p)
 where-begun true place p fault e = (refl, cc)
 where-begun false place p fault e = cc
 
-good-more : (front : List Placed) (m : MapRecord) (place : Offset) → IsGood front → IsWellRead m → may_begin front place ≡ true → IsGood (front ++ (m, place) ∷ [])
+good-more : (front : List Placed) (m : MapRecord) (place : Position) → IsGood front → IsWellRead m → may_begin front place ≡ true → IsGood (front ++ (m, place) ∷ [])
 good-more front m place g w b =
     let is = sym (joined-more front m place) in
     let r = joined front in

@@ -4,4 +4,3 @@ pub mod JoinLimits
 pub mod Sections
 pub mod ReadMap
 pub mod ReadLaws
-pub mod Reading

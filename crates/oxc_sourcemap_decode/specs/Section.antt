@@ -6,7 +6,7 @@ use Rattle.serde_json.specs.Find.{get, as_object}
 use Rattle.oxc_sourcemap_tokens.specs.declared.error.Error.{Error}
 use Rattle.oxc_sourcemap_tokens.specs.declared.error.Field.TheVariants.{Sections, Offset as OffsetField, Map as MapField}
 use Rattle.oxc_sourcemap_json.specs.Shape.{◌>>=◌, or_misshapen, present, as_id}
-use Rattle.oxc_sourcemap_join.specs.Joined.{Offset}
+use Rattle.oxc_sourcemap_tokens.specs.declared.position.Position.{Position}
 
 -- A value is an indexed map if its `sections` is there and is not null.
 abbrev pub is_indexed : Data → Bool
@@ -17,11 +17,11 @@ abbrev pub number_at : List ℕ → Data → Option ℕ
 number_at key d = option_and_then as_id (get key d)
 
 -- a place: a line and a column
-abbrev pub as_place : Data → Option Offset
+abbrev pub as_place : Data → Option Position
 as_place d = option_and_then (λ line. option_map (λ column. record { line = line; column = column }) (number_at (codes "column") d)) (number_at (codes "line") d)
 
 -- where a section, which is an object, begins
-abbrev pub place_in : Data → Result Offset Error
+abbrev pub place_in : Data → Result Position Error
 place_in d = do
   members ← or_misshapen Sections (as_object d)
   or_misshapen OffsetField (option_and_then as_place (get (codes "offset") d))

@@ -10,31 +10,32 @@ use Rattle.oxc_sourcemap_parts.specs.Record.{Text, MapRecord}
 use Rattle.oxc_sourcemap_parts.specs.Sorted.{may_precede}
 use Rattle.oxc_sourcemap_json.specs.Shape.{◌>>=◌, shape}
 use Rattle.oxc_sourcemap_decode.specs.Decoded.{decoded}
-use Rattle.oxc_sourcemap_join.specs.Joined.{Offset, joined}
+use Rattle.oxc_sourcemap_tokens.specs.declared.position.Position.{Position}
+use Rattle.oxc_sourcemap_join.specs.Joined.{joined}
 use Rattle.oxc_sourcemap_decode.specs.Section.{place_in, map_in}
 use Rattle.oxc_sourcemap_decode.specs.JoinLimits.{is_within_limits}
 
 -- the generated position of a token
-abbrev pub position_of : TokenRecord → Offset
+abbrev pub position_of : TokenRecord → Position
 position_of t = record { line = t.dst_line; column = t.dst_col }
 
 -- a place is not before another one, where there is one
-abbrev pub may_follow : Option Offset → Offset → Bool
+abbrev pub may_follow : Option Position → Position → Bool
 may_follow None place = true
-may_follow (Some before) place = may_precede (λ (p : Offset). p.line) (λ (p : Offset). p.column) before place
+may_follow (Some before) place = may_precede (λ (p : Position). p.line) (λ (p : Position). p.column) before place
 
 -- A section may begin at a place if that is not before the offset of the section in front of it, and not before the last token
 -- of the sections in front of it. Equal places are allowed.
-abbrev pub may_begin : List (MapRecord × Offset) → Offset → Bool
+abbrev pub may_begin : List (MapRecord × Position) → Position → Bool
 may_begin front place =
     may_follow (option_map (λ s. s.1) (last front)) place && may_follow (option_map position_of (last (joined front).tokens)) place
 
 -- the place, where a section may begin there
-abbrev pub in_order : List (MapRecord × Offset) → Offset → Result Offset Error
+abbrev pub in_order : List (MapRecord × Position) → Position → Result Position Error
 in_order front place = if may_begin front place then Ok place else Err (SectionOrder (length front))
 
 -- where a section after those in front of it begins
-abbrev pub place_after : List (MapRecord × Offset) → Data → Result Offset Error
+abbrev pub place_after : List (MapRecord × Position) → Data → Result Position Error
 place_after front d = place_in d >>= in_order front
 
 -- the map of a section, or its first fault
@@ -45,7 +46,7 @@ section_map d = do
   decoded fields
 
 -- A section after those in front of it: its map and where that begins, or its first fault.
-abbrev pub section_after : List (MapRecord × Offset) → Data → Result (MapRecord × Offset) Error
+abbrev pub section_after : List (MapRecord × Position) → Data → Result (MapRecord × Position) Error
 section_after front d = do
   place ← place_after front d
   map ← section_map d
@@ -53,16 +54,16 @@ section_after front d = do
 
 -- what was read of sections: the maps in front of the first fault, each at its offset, and that fault
 pub record Sections : Type 0 where
-  pub maps : List (MapRecord × Offset)
+  pub maps : List (MapRecord × Position)
   pub fault : Option Error
 
 -- what follows a section that was read, or the end at a fault
-abbrev pub onto_section : List (MapRecord × Offset) → (MapRecord × Offset → Sections) → Result (MapRecord × Offset) Error → Sections
+abbrev pub onto_section : List (MapRecord × Position) → (MapRecord × Position → Sections) → Result (MapRecord × Position) Error → Sections
 onto_section front more (Ok s) = more s
 onto_section front more (Err fault) = record { maps = front; fault = Some fault }
 
 -- these sections, after those in front of them
-abbrev pub sections_after : List (MapRecord × Offset) → Items → Sections
+abbrev pub sections_after : List (MapRecord × Position) → Items → Sections
 sections_after front no_items = record { maps = front; fault = None }
 sections_after front (item d ds) = onto_section front (λ s. sections_after (front ++ s ∷ []) ds) (section_after front d)
 

@@ -1,25 +1,17 @@
 //! Where sections begin.
-ghost use Rattle.std.specs.Prelude.{◌≡◌, ◌&&◌, List, option_map, Ok, Err};
+ghost use Rattle.std.specs.Prelude.{◌≡◌, ◌&&◌, List, option_map};
 ghost use Rattle.serde_json.specs.View.{view};
 ghost use Rattle.oxc_sourcemap_parts.specs.Record.{MapRecord};
 ghost use Rattle.oxc_sourcemap_tokens.specs.Token.{last};
-ghost use Rattle.oxc_sourcemap_join.specs.Joined.{Offset, joined};
+ghost use Rattle.oxc_sourcemap_tokens.specs.declared.position.Position.{Position};
+ghost use Rattle.oxc_sourcemap_join.specs.Joined.{joined};
 ghost use Rattle.oxc_sourcemap_decode.specs.Section.{number_at, as_place, place_in};
 ghost use Rattle.oxc_sourcemap_decode.specs.Sections.{position_of, may_follow, place_after};
-ghost use Rattle.oxc_sourcemap_decode.specs.Reading.{offset_of};
-ghost use Rattle.oxc_sourcemap_tokens.specs.Results.{Gives};
 
 use oxc_sourcemap_join::JoinedParts;
 use oxc_sourcemap_json::read_id;
-use oxc_sourcemap_tokens::{Error, Field, JsonFault, Result, Token};
+use oxc_sourcemap_tokens::{Error, Field, JsonFault, Position, Result, Token};
 use serde_json::Value;
-
-/// A line and a column of generated code.
-#[derive(Clone, Copy)]
-pub(crate) struct Place {
-    pub(crate) line: u32,
-    pub(crate) column: u32,
-}
 
 /// The whole number of 0 to 4294967295 at a key.
 fn number_at(value: &Value, key: &str) -> Option<u32>
@@ -28,18 +20,18 @@ fn number_at(value: &Value, key: &str) -> Option<u32>
     read_id(value.get(key)?)
 }
 
-/// The place that a value says, if it is an object with a line and a column.
-fn as_place(value: &Value) -> Option<Place>
-    ensures { option_map offset_of result ≡ as_place (view value.now) }
+/// The position that a value has, if it is an object with a line and a column.
+fn as_place(value: &Value) -> Option<Position>
+    ensures { result ≡ as_place (view value.now) }
 {
     let line = number_at(value, "line")?;
     let column = number_at(value, "column")?;
-    Some(Place { line, column })
+    Some(Position { line, column })
 }
 
 /// The offset of a section.
-fn place_in(section: &Value) -> Result<Place>
-    ensures { Gives offset_of result (place_in (view section.now)) }
+fn place_in(section: &Value) -> Result<Position>
+    ensures { result ≡ place_in (view section.now) }
 {
     if !section.is_object() {
         return Err(Error::BadJson(JsonFault::Shape(Field::Sections)));
@@ -51,18 +43,18 @@ fn place_in(section: &Value) -> Result<Place>
 }
 
 /// The generated position of a token.
-fn position_of(token: Token) -> Place
-    ensures { offset_of result ≡ position_of token }
+fn position_of(token: Token) -> Position
+    ensures { result ≡ position_of token }
 {
-    Place {
+    Position {
         line: token.get_dst_line(),
         column: token.get_dst_col(),
     }
 }
 
-/// Whether a place is not before another one, where there is one.
-fn may_follow(before: Option<Place>, place: Place) -> bool
-    ensures { result ≡ may_follow (option_map offset_of before) (offset_of place) }
+/// Whether a position is not before another one, where there is one.
+fn may_follow(before: Option<Position>, place: Position) -> bool
+    ensures { result ≡ may_follow before place }
 {
     match before {
         Some(before) => {
@@ -73,16 +65,16 @@ fn may_follow(before: Option<Place>, place: Place) -> bool
 }
 
 /// The position of the last token of a join.
-fn last_position(so_far: &JoinedParts<'_>) -> Option<Place>
-    ensures { option_map offset_of result ≡ option_map position_of (last so_far.now.tokens) }
+fn last_position(so_far: &JoinedParts<'_>) -> Option<Position>
+    ensures { result ≡ option_map position_of (last so_far.now.tokens) }
 {
     so_far.last_token().map(position_of)
 }
 
 /// Whether a section may begin at a place, after those that are joined, the last of which begins at `before`.
-fn may_begin(so_far: &JoinedParts<'_>, before: Option<Place>, place: Place) -> bool
-    ensures { result ≡ (may_follow (option_map offset_of before) (offset_of place)
-        && may_follow (option_map position_of (last so_far.now.tokens)) (offset_of place)) }
+fn may_begin(so_far: &JoinedParts<'_>, before: Option<Position>, place: Position) -> bool
+    ensures { result ≡ (may_follow before place
+        && may_follow (option_map position_of (last so_far.now.tokens)) place) }
 {
     may_follow(before, place) && may_follow(last_position(so_far), place)
 }
@@ -91,12 +83,12 @@ fn may_begin(so_far: &JoinedParts<'_>, before: Option<Place>, place: Place) -> b
 /// is before that, or before the last token so far.
 pub(crate) fn place_after(
     so_far: &JoinedParts<'_>,
-    before: Option<Place>,
+    before: Option<Position>,
     section: &Value,
-) -> Result<Place>
-    ensures { Gives offset_of result ((front : List (MapRecord × Offset)) → so_far.now ≡ joined front
-        → option_map offset_of before ≡ option_map (λ s. s.1) (last front)
-        → place_after front (view section.now)) }
+) -> Result<Position>
+    ensures { (front : List (MapRecord × Position)) → so_far.now ≡ joined front
+        → before ≡ option_map (λ s. s.1) (last front)
+        → result ≡ place_after front (view section.now) }
 {
     let place = place_in(section)?;
     if !may_begin(so_far, before, place) {

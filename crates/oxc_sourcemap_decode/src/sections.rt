@@ -12,12 +12,11 @@ ghost use Rattle.oxc_sourcemap_tokens.specs.Results.{Answers};
 use crate::decode::decode_parts;
 use crate::place::place_after;
 use oxc_sourcemap_join::JoinedParts;
-use oxc_sourcemap_json::{JSONSourceMap, file_from_value, json_of};
-use oxc_sourcemap_parts::SourceMapParts;
+use oxc_sourcemap_json::{file_from_value, json_of};
+use oxc_sourcemap_parts::{SourceMapParts, from_string};
 use oxc_sourcemap_tokens::{Error, Field, JsonFault, Result};
 use serde_json::Value;
 use std::alloc::Global;
-use std::borrow::CowStr;
 
 /// A member of a value, moved out of it. The rest of the value is dropped.
 fn into_member(value: Value, key: &str) -> Option<Value>
@@ -46,22 +45,8 @@ fn is_plain(value: &Value) -> bool
     !is_indexed(value) && value.is_object()
 }
 
-/// The map of a section, borrowed.
-fn lent_map(alloc: Global, section: &Value) -> Result<SourceMapParts<'static>>
-    ensures { Answers record_of_parts result (section_map (view section.now)) }
-{
-    let Some(map) = section.get("map") else {
-        return Err(Error::BadJson(JsonFault::Shape(Field::Map)));
-    };
-    if !is_plain(map) {
-        return Err(Error::BadJson(JsonFault::Shape(Field::Map)));
-    }
-    let json = JSONSourceMap::from_value(alloc, map)?;
-    decode_parts(alloc, json)
-}
-
-/// The map of a section, whose strings are moved.
-fn moved_map(alloc: Global, section: Value) -> Result<SourceMapParts<'static>>
+/// The map of a section, which is read when those before it are joined.
+fn decode_section(alloc: Global, section: Value) -> Result<SourceMapParts<'static>>
     ensures { Answers record_of_parts result (section_map (view section)) }
 {
     let Some(map) = into_member(section, "map") else {
@@ -74,31 +59,16 @@ fn moved_map(alloc: Global, section: Value) -> Result<SourceMapParts<'static>>
     decode_parts(alloc, json)
 }
 
-/// The join of sections, each read when the ones before it are joined.
-fn join_lent(alloc: Global, sections: &[Value]) -> Result<JoinedParts<'static>>
-    ensures { Answers (λ joined. joined) result (joined_sections (all_sections (items_view sections.now))) }
-{
-    let mut joined = JoinedParts::empty(alloc);
-    let mut before = None;
-    for section in sections {
-        let place = place_after(&joined, before, section)?;
-        let parts = lent_map(alloc, section)?;
-        joined.add_moved(parts, place.line, place.column)?;
-        before = Some(place);
-    }
-    Ok(joined)
-}
-
-/// The join of sections whose strings are moved, as `join_lent` makes it. Each section is dropped when it is joined.
-fn join_moved(alloc: Global, sections: Vec<Value>) -> Result<JoinedParts<'static>>
+/// The join of sections, each read when the ones before it are joined, and then dropped.
+fn join_sections(alloc: Global, sections: Vec<Value>) -> Result<JoinedParts<'static>>
     ensures { Answers (λ joined. joined) result (joined_sections (all_sections (items_view sections.items))) }
 {
     let mut joined = JoinedParts::empty(alloc);
     let mut before = None;
     for section in sections {
         let place = place_after(&joined, before, &section)?;
-        let parts = moved_map(alloc, section)?;
-        joined.add_moved(parts, place.line, place.column)?;
+        let parts = decode_section(alloc, section)?;
+        joined.add_moved(parts, place)?;
         before = Some(place);
     }
     Ok(joined)
@@ -109,35 +79,20 @@ fn indexed_parts(joined: JoinedParts<'static>, file: Option<String>) -> SourceMa
     ensures { record_of_parts result ≡ indexed_record (option_map string_bytes file) joined.entry }
 {
     let mut parts = joined.into_parts();
-    parts.file = match file {
-        Some(file) => Some(CowStr::Owned(file)),
-        None => None,
-    };
+    parts.file = from_string(file);
     parts.token_chunks = None;
     parts
 }
 
-/// The parts of the map that an indexed map says.
-fn lent_indexed(alloc: Global, value: &Value) -> Result<SourceMapParts<'static>>
-    ensures { Answers record_of_parts result (map_said (indexed_said (file_of (view value.now)) (sections_in (view value.now)))) }
-{
-    let file = file_from_value(alloc, value)?;
-    let Some(sections) = value.get("sections").and_then(Value::as_array) else {
-        return Err(Error::BadJson(JsonFault::Shape(Field::Sections)));
-    };
-    let joined = join_lent(alloc, sections.as_slice())?;
-    Ok(indexed_parts(joined, file))
-}
-
-/// The parts of the map that an indexed map says, whose strings are moved.
-fn moved_indexed(alloc: Global, value: Value) -> Result<SourceMapParts<'static>>
+/// The parts of the map of an indexed map.
+fn decode_indexed(alloc: Global, value: Value) -> Result<SourceMapParts<'static>>
     ensures { Answers record_of_parts result (map_said (indexed_said (file_of (view value)) (sections_in (view value)))) }
 {
     let file = file_from_value(alloc, &value)?;
     let Some(Value::Array(sections)) = into_member(value, "sections") else {
         return Err(Error::BadJson(JsonFault::Shape(Field::Sections)));
     };
-    let joined = join_moved(alloc, sections)?;
+    let joined = join_sections(alloc, sections)?;
     Ok(indexed_parts(joined, file))
 }
 
@@ -157,24 +112,19 @@ fn moved_indexed(alloc: Global, value: Value) -> Result<SourceMapParts<'static>>
 /// - `TooLarge` if the join with this section would be past the limits of `JoinedParts::add_moved`.
 ///
 /// `OutOfMemory` if memory is refused, which may be before a fault is met.
-#[tactic(auto, unfolding(crate::specs::ReadMap::read_value))]
 pub fn decode_parts_from_value(alloc: Global, value: &Value) -> Result<SourceMapParts<'static>>
     ensures { Answers record_of_parts result (read_value (view value.now)) }
 {
-    if is_indexed(value) {
-        return lent_indexed(alloc, value);
-    }
-    let json = JSONSourceMap::from_value(alloc, value)?;
-    decode_parts(alloc, json)
+    decode_owned_value(alloc, value.clone()?)
 }
 
-/// What `decode_parts_from_value` gives, but the strings of the value are moved.
+/// The parts of the map of a JSON value, as `decode_parts_from_value` reads them; its strings are moved.
 #[tactic(auto, unfolding(crate::specs::ReadMap::read_value))]
-fn moved_value(alloc: Global, value: Value) -> Result<SourceMapParts<'static>>
+fn decode_owned_value(alloc: Global, value: Value) -> Result<SourceMapParts<'static>>
     ensures { Answers record_of_parts result (read_value (view value)) }
 {
     if is_indexed(&value) {
-        return moved_indexed(alloc, value);
+        return decode_indexed(alloc, value);
     }
     let json = json_of(alloc, value)?;
     decode_parts(alloc, json)
@@ -194,5 +144,5 @@ pub fn decode_parts_from_string(alloc: Global, text: &str) -> Result<SourceMapPa
     ensures { Answers record_of_parts result (read_map text.now) }
 {
     let value = Value::from_str(alloc, text)?;
-    moved_value(alloc, value)
+    decode_owned_value(alloc, value)
 }

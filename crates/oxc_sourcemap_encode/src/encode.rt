@@ -61,7 +61,7 @@ pub(crate) fn chunks_of<'p>(parts: &'p SourceMapParts<'_>) -> Option<&'p [TokenC
 fn mappings_of(alloc: Global, parts: &SourceMapParts<'_>) -> Result<String>
     ensures text { let r = record_of_parts parts.now in IfOk result (λ text. string_bytes text ≡ canonical r.tokens) }
     ensures clean { let r = record_of_parts parts.now in OnOk result (writing_fault r.tokens r.token_chunks ≡ None) }
-    ensures refused { let r = record_of_parts parts.now in IfErr result (λ e. (e ≢ OutOfMemory) → writing_fault r.tokens r.token_chunks ≡ Some e) }
+    ensures error { let r = record_of_parts parts.now in IfErr result (λ e. (e ≢ OutOfMemory) → writing_fault r.tokens r.token_chunks ≡ Some e) }
     ensures in_bounds { OnOk result (AreInBounds (record_of_parts parts.now).tokens) }
 {
     let mut mappings = String::new(alloc);

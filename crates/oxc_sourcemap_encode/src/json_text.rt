@@ -23,7 +23,7 @@ use std::borrow::CowStr;
 /// Appends a comma, a key and a colon.
 fn push_key(key: &str, out: &mut String) -> Result<()>
     ensures text { Pushes result out.old out.new (codes ",\"" ++ (key.now ++ codes "\":")) }
-    ensures refused { OnlyMemory result }
+    ensures error { OnlyMemory result }
 {
     out.push_str(",\"")?;
     out.push_str(key)?;
@@ -35,7 +35,7 @@ fn push_key(key: &str, out: &mut String) -> Result<()>
 #[tactic(auto, unfolding(crate::specs::JsonText::json_list))]
 fn push_texts(texts: &[CowStr<'_>], out: &mut String) -> Result<()>
     ensures text { Pushes result out.old out.new (json_list json_string (cow_texts texts.now)) }
-    ensures refused { OnlyMemory result }
+    ensures error { OnlyMemory result }
 {
     out.push('[')?;
     let mut is_first = true;
@@ -53,7 +53,7 @@ fn push_texts(texts: &[CowStr<'_>], out: &mut String) -> Result<()>
 /// Appends a content, or `null` where it is not known.
 fn push_content(content: &Option<CowStr<'_>>, out: &mut String) -> Result<()>
     ensures text { Pushes result out.old out.new (content_text (text_of content.now)) }
-    ensures refused { OnlyMemory result }
+    ensures error { OnlyMemory result }
 {
     match content {
         Some(content) => push_json_string(content.as_str(), out),
@@ -65,7 +65,7 @@ fn push_content(content: &Option<CowStr<'_>>, out: &mut String) -> Result<()>
 #[tactic(auto, unfolding(crate::specs::JsonText::json_list))]
 fn push_contents(contents: &[Option<CowStr<'_>>], out: &mut String) -> Result<()>
     ensures text { Pushes result out.old out.new (json_list content_text (map text_of contents.now)) }
-    ensures refused { OnlyMemory result }
+    ensures error { OnlyMemory result }
 {
     out.push('[')?;
     let mut is_first = true;
@@ -84,7 +84,7 @@ fn push_contents(contents: &[Option<CowStr<'_>>], out: &mut String) -> Result<()
 #[tactic(auto, unfolding(crate::specs::JsonText::json_list))]
 fn push_ids(alloc: Global, ids: &[u32], out: &mut String) -> Result<()>
     ensures text { Pushes result out.old out.new (json_list decimal ids.now) }
-    ensures refused { OnlyMemory result }
+    ensures error { OnlyMemory result }
 {
     out.push('[')?;
     let mut is_first = true;
@@ -103,7 +103,7 @@ fn push_ids(alloc: Global, ids: &[u32], out: &mut String) -> Result<()>
 #[tactic(auto, unfolding(crate::specs::JsonText::field_text, crate::specs::JsonText::optional_field))]
 fn push_optional_text(key: &str, text: &Option<CowStr<'_>>, out: &mut String) -> Result<()>
     ensures text { Pushes result out.old out.new (optional_field key.now json_string (text_of text.now)) }
-    ensures refused { OnlyMemory result }
+    ensures error { OnlyMemory result }
 {
     let Some(text) = text else {
         return Ok(());
@@ -120,7 +120,7 @@ fn push_optional_contents(
     out: &mut String,
 ) -> Result<()>
     ensures text { Pushes result out.old out.new (optional_field key.now (json_list content_text) (written_contents (map text_of contents.now))) }
-    ensures refused { OnlyMemory result }
+    ensures error { OnlyMemory result }
 {
     if !has_content(contents) {
         return Ok(());
@@ -138,7 +138,7 @@ fn push_optional_ids(
     out: &mut String,
 ) -> Result<()>
     ensures text { Pushes result out.old out.new (optional_field key.now (json_list decimal) (ids_of list.now)) }
-    ensures refused { OnlyMemory result }
+    ensures error { OnlyMemory result }
 {
     let Some(list) = list else {
         return Ok(());
@@ -151,7 +151,7 @@ fn push_optional_ids(
 #[tactic(auto, unfolding(crate::specs::JsonText::field_text))]
 fn push_texts_field(key: &str, texts: &[CowStr<'_>], out: &mut String) -> Result<()>
     ensures text { Pushes result out.old out.new (field_text key.now (json_list json_string (cow_texts texts.now))) }
-    ensures refused { OnlyMemory result }
+    ensures error { OnlyMemory result }
 {
     push_key(key, out)?;
     push_texts(texts, out)
@@ -162,7 +162,7 @@ fn push_texts_field(key: &str, texts: &[CowStr<'_>], out: &mut String) -> Result
 fn push_mappings(parts: &SourceMapParts<'_>, out: &mut String) -> Result<()>
     ensures text { let r = record_of_parts parts.now in Pushes result out.old out.new (field_text (codes "mappings") (json_string (canonical r.tokens))) }
     ensures clean { let r = record_of_parts parts.now in OnOk result (writing_fault r.tokens r.token_chunks ≡ None) }
-    ensures refused { let r = record_of_parts parts.now in IfErr result (λ e. (e ≢ OutOfMemory) → writing_fault r.tokens r.token_chunks ≡ Some e) }
+    ensures error { let r = record_of_parts parts.now in IfErr result (λ e. (e ≢ OutOfMemory) → writing_fault r.tokens r.token_chunks ≡ Some e) }
 {
     out.push_str(",\"mappings\":\"")?;
     encode_mappings(parts.tokens.as_slice(), chunks_of(parts), out)?;
@@ -178,7 +178,7 @@ fn push_head(
     out: &mut String,
 ) -> Result<()>
     ensures text { Pushes result out.old out.new (head_text (text_of file.now) (text_of source_root.now)) }
-    ensures refused { OnlyMemory result }
+    ensures error { OnlyMemory result }
 {
     out.push_str("{\"version\":3")?;
     push_optional_text("file", file, out)?;
@@ -197,7 +197,7 @@ fn push_lists(
     out: &mut String,
 ) -> Result<()>
     ensures text { Pushes result out.old out.new (lists_text (cow_texts names.now) (cow_texts sources.now) (written_contents (map text_of contents.now)) (ids_of ignore_list.now)) }
-    ensures refused { OnlyMemory result }
+    ensures error { OnlyMemory result }
 {
     push_texts_field("names", names, out)?;
     push_texts_field("sources", sources, out)?;
@@ -211,7 +211,7 @@ fn push_lists(
 fn push_tail(parts: &SourceMapParts<'_>, out: &mut String) -> Result<()>
     ensures text { let r = record_of_parts parts.now in Pushes result out.old out.new (tail_text (canonical r.tokens) r.debug_id) }
     ensures clean { let r = record_of_parts parts.now in OnOk result (writing_fault r.tokens r.token_chunks ≡ None) }
-    ensures refused { let r = record_of_parts parts.now in IfErr result (λ e. (e ≢ OutOfMemory) → writing_fault r.tokens r.token_chunks ≡ Some e) }
+    ensures error { let r = record_of_parts parts.now in IfErr result (λ e. (e ≢ OutOfMemory) → writing_fault r.tokens r.token_chunks ≡ Some e) }
 {
     push_mappings(parts, out)?;
     push_optional_text("debugId", &parts.debug_id, out)?;
@@ -223,7 +223,7 @@ fn push_tail(parts: &SourceMapParts<'_>, out: &mut String) -> Result<()>
 fn push_object(alloc: Global, parts: &SourceMapParts<'_>, out: &mut String) -> Result<()>
     ensures text { Pushes result out.old out.new (json_text (encoded_record (record_of_parts parts.now))) }
     ensures clean { let r = record_of_parts parts.now in OnOk result (writing_fault r.tokens r.token_chunks ≡ None) }
-    ensures refused { let r = record_of_parts parts.now in IfErr result (λ e. (e ≢ OutOfMemory) → writing_fault r.tokens r.token_chunks ≡ Some e) }
+    ensures error { let r = record_of_parts parts.now in IfErr result (λ e. (e ≢ OutOfMemory) → writing_fault r.tokens r.token_chunks ≡ Some e) }
 {
     push_head(&parts.file, &parts.source_root, out)?;
     push_lists(

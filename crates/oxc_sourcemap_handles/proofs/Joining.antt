@@ -3,28 +3,27 @@ use Rattle.std.proofs.Common.{◌≡◌, ℕ, ◌+◌, ◌<◌, List, [], ◌∷
 use Rattle.std.specs.Option.{option_and_then}
 use Rattle.std.proofs.lemmas.List.{append_assoc, append-nil, drop_more, drop-set-lt, map-append}
 use Rattle.oxc_sourcemap_parts.specs.Record.{MapRecord}
-use Rattle.oxc_sourcemap_join.specs.Joined.{Offset, at_positions}
+use Rattle.oxc_sourcemap_tokens.specs.declared.position.Position.{Position}
 use Rattle.oxc_sourcemap_handles.specs.declared.held.Held.{Held}
 use Rattle.oxc_sourcemap_handles.specs.declared.handle.Handle.{Handle}
-use Rattle.oxc_sourcemap_handles.specs.declared.text.Position.{Position}
 use Rattle.oxc_sourcemap_handles.specs.declared.refusal.Refusal.{Refusal}
 use Rattle.oxc_sourcemap_handles.proofs.Composing.{Taken}
 use Rattle.oxc_sourcemap_handles.specs.Holding.{held_map}
-use Rattle.oxc_sourcemap_handles.specs.Joins.{all_held, offset_of, placed_maps}
+use Rattle.oxc_sourcemap_handles.specs.Joins.{all_held, placed_maps}
 
 -- some maps, and those after them
-abbrev pub after : List (MapRecord × Offset) → Option (List (MapRecord × Offset)) → Option (List (MapRecord × Offset))
+abbrev pub after : List (MapRecord × Position) → Option (List (MapRecord × Position)) → Option (List (MapRecord × Position))
 after done rest = option_map (λ ms. done ++ ms) rest
 
-after_one : (done : List (MapRecord × Offset)) (m : MapRecord × Offset) (rest : Option (List (MapRecord × Offset))) → after done (option_map (λ ms. m ∷ ms) rest) ≡ after (done ++ m ∷ []) rest
+after_one : (done : List (MapRecord × Position)) (m : MapRecord × Position) (rest : Option (List (MapRecord × Position))) → after done (option_map (λ ms. m ∷ ms) rest) ≡ after (done ++ m ∷ []) rest
 after_one done m None = refl
 after_one done m (Some ms) = ap (λ xs. Some xs) (sym (append_assoc done (m ∷ []) ms))
 
 -- one handle more is taken
-pub one_more : (done : List (MapRecord × Offset)) (h : Option Held) (hs : List (Option Held)) (p : Position) (ps : List Position) (m : MapRecord) → held_map h ≡ Some m
-    → after done (placed_maps (h ∷ hs) (p ∷ ps)) ≡ after (done ++ (m, offset_of p) ∷ []) (placed_maps hs ps)
+pub one_more : (done : List (MapRecord × Position)) (h : Option Held) (hs : List (Option Held)) (p : Position) (ps : List Position) (m : MapRecord) → held_map h ≡ Some m
+    → after done (placed_maps (h ∷ hs) (p ∷ ps)) ≡ after (done ++ (m, p) ∷ []) (placed_maps hs ps)
 one_more done h hs p ps m e =
-    ap (λ o. after done (option_and_then (λ m. option_map (λ ms. (m, offset_of p) ∷ ms) (placed_maps hs ps)) o)) e ∙ after_one done (m, offset_of p) (placed_maps hs ps)
+    ap (λ o. after done (option_and_then (λ m. option_map (λ ms. (m, p) ∷ ms) (placed_maps hs ps)) o)) e ∙ after_one done (m, p) (placed_maps hs ps)
 
 -- a handle that held a map, from which it was taken
 pub held_taken : (h : Option MapRecord) (taken : Result MapRecord Refusal) (m : MapRecord) → Taken h taken → taken ≡ Ok m → h ≡ Some m
@@ -32,18 +31,17 @@ held_taken None taken m t e = cc (t, e)
 held_taken (Some x) taken m t e = cc (t, e)
 
 -- one handle more is taken, at its index
-pub taken_more : (whole : Option (List (MapRecord × Offset))) (items more : List (MapRecord × ℕ × ℕ)) (hs : List Handle) (ps : List Position) (i : ℕ) (h new : Handle) (m : MapRecord) (d : Position)
-    → whole ≡ after (at_positions items) (placed_maps (all_held (drop i hs)) (drop i ps)) → i < length hs → i < length ps → h ≡ get_or hs i h → held_map h.held ≡ Some m
-    → more ≡ items ++ (m, (get_or ps i d).line, (get_or ps i d).column) ∷ []
-    → whole ≡ after (at_positions more) (placed_maps (all_held (drop (i + 1) (slice_set hs i new))) (drop (i + 1) ps))
+pub taken_more : (whole : Option (List (MapRecord × Position))) (items more : List (MapRecord × Position)) (hs : List Handle) (ps : List Position) (i : ℕ) (h new : Handle) (m : MapRecord) (d : Position)
+    → whole ≡ after items (placed_maps (all_held (drop i hs)) (drop i ps)) → i < length hs → i < length ps → h ≡ get_or hs i h → held_map h.held ≡ Some m
+    → more ≡ items ++ (m, get_or ps i d) ∷ []
+    → whole ≡ after more (placed_maps (all_held (drop (i + 1) (slice_set hs i new))) (drop (i + 1) ps))
 taken_more whole items more hs ps i h new m d so_far a b is held grown =
     let p = get_or ps i d in
     let front : drop i hs ≡ h ∷ drop (i + 1) hs = drop_more hs i h a ∙ ap (λ x. x ∷ drop (i + 1) hs) (sym is) in
     let kept : drop (i + 1) (slice_set hs i new) ≡ drop (i + 1) hs = drop-set-lt (i + 1) hs i new (omega arith) in
-    let listed : at_positions more ≡ at_positions items ++ (m, offset_of p) ∷ [] = ap at_positions grown ∙ map-append (λ x. (x.0, record { line = x.1; column = x.2 })) items ((m, p.line, p.column) ∷ []) in
     so_far
-    ∙ ap (λ xs. after (at_positions items) (placed_maps (all_held xs) (drop i ps))) front
-    ∙ ap (λ xs. after (at_positions items) (placed_maps (h.held ∷ all_held (drop (i + 1) hs)) xs)) (drop_more ps i d b)
-    ∙ one_more (at_positions items) h.held (all_held (drop (i + 1) hs)) p (drop (i + 1) ps) m held
-    ∙ ap (λ xs. after xs (placed_maps (all_held (drop (i + 1) hs)) (drop (i + 1) ps))) (sym listed)
-    ∙ ap (λ xs. after (at_positions more) (placed_maps (all_held xs) (drop (i + 1) ps))) (sym kept)
+    ∙ ap (λ xs. after items (placed_maps (all_held xs) (drop i ps))) front
+    ∙ ap (λ xs. after items (placed_maps (h.held ∷ all_held (drop (i + 1) hs)) xs)) (drop_more ps i d b)
+    ∙ one_more items h.held (all_held (drop (i + 1) hs)) p (drop (i + 1) ps) m held
+    ∙ ap (λ xs. after xs (placed_maps (all_held (drop (i + 1) hs)) (drop (i + 1) ps))) (sym grown)
+    ∙ ap (λ xs. after more (placed_maps (all_held xs) (drop (i + 1) ps))) (sym kept)

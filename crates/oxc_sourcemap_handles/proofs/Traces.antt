@@ -13,7 +13,7 @@ use Rattle.oxc_sourcemap_lookup.specs.declared.line_index.Lines.{Lines}
 use Rattle.oxc_sourcemap_lookup.specs.declared.line_index.Lines.TheVariants.{Starts, Spans}
 use Rattle.oxc_sourcemap_map.proofs.Picks.{traced, clamped_traced}
 use Rattle.oxc_sourcemap_handles.specs.declared.text.Place.{Place}
-use Rattle.oxc_sourcemap_handles.specs.declared.text.Position.{Position}
+use Rattle.oxc_sourcemap_tokens.specs.declared.position.Position.{Position}
 use Rattle.oxc_sourcemap_handles.specs.Places.{IsPlace, HasIds}
 use Rattle.oxc_sourcemap_handles.specs.Traces.{found_at, traced_at, IsTraceOf}
 

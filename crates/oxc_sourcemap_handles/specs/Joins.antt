@@ -3,10 +3,10 @@ use Rattle.std.specs.Prelude.{◌≡◌, ◌≢◌, ◌⊎◌, ℕ, List, [], �
 use Rattle.std.specs.Option.{option_and_then}
 use Rattle.oxc_sourcemap_tokens.specs.declared.error.Error.TheVariants.{TooLarge}
 use Rattle.oxc_sourcemap_parts.specs.Record.{MapRecord}
-use Rattle.oxc_sourcemap_join.specs.Joined.{Offset, joined, IsWithinLimits}
+use Rattle.oxc_sourcemap_tokens.specs.declared.position.Position.{Position}
+use Rattle.oxc_sourcemap_join.specs.Joined.{joined, IsWithinLimits}
 use Rattle.oxc_sourcemap_handles.specs.declared.handle.Handle.{Handle}
 use Rattle.oxc_sourcemap_handles.specs.declared.held.Held.{Held}
-use Rattle.oxc_sourcemap_handles.specs.declared.text.Position.{Position}
 use Rattle.oxc_sourcemap_handles.specs.declared.refusal.Refusal.{Refusal}
 use Rattle.oxc_sourcemap_handles.specs.declared.refusal.Refusal.TheVariants.{EmptyHandle, Lengths}
 use Rattle.oxc_sourcemap_handles.specs.Holding.{held_map}
@@ -16,14 +16,11 @@ use Rattle.oxc_sourcemap_handles.specs.Refusals.{of_map}
 abbrev pub all_held : List Handle → List (Option Held)
 all_held handles = map (λ h. h.held) handles
 
-abbrev pub offset_of : Position → Offset
-offset_of p = record { line = p.line; column = p.column }
-
 -- the maps that handles hold, each at its offset; none if one of them holds no map, or has no offset
-abbrev pub placed_maps : List (Option Held) → List Position → Option (List (MapRecord × Offset))
+abbrev pub placed_maps : List (Option Held) → List Position → Option (List (MapRecord × Position))
 placed_maps [] ps = Some []
 placed_maps (h ∷ hs) [] = None
-placed_maps (h ∷ hs) (p ∷ ps) = option_and_then (λ m. option_map (λ ms. (m, offset_of p) ∷ ms) (placed_maps hs ps)) (held_map h)
+placed_maps (h ∷ hs) (p ∷ ps) = option_and_then (λ m. option_map (λ ms. (m, p) ∷ ms) (placed_maps hs ps)) (held_map h)
 
 -- a map is the join of the maps that these handles hold
 abbrev pub IsJoinOf : List (Option Held) → List Position → MapRecord → Type 0

@@ -13,7 +13,7 @@ use Rattle.oxc_sourcemap_handles.specs.declared.refusal.Refusal.{Refusal}
 use Rattle.oxc_sourcemap_handles.specs.declared.refusal.Refusal.TheVariants.{EmptyHandle, Lengths}
 use Rattle.oxc_sourcemap_handles.specs.declared.held.Held.{Held}
 use Rattle.oxc_sourcemap_handles.specs.declared.text.Place.{Place}
-use Rattle.oxc_sourcemap_handles.specs.declared.text.Position.{Position}
+use Rattle.oxc_sourcemap_tokens.specs.declared.position.Position.{Position}
 use Rattle.oxc_sourcemap_handles.specs.Refusals.{of_map}
 use Rattle.oxc_sourcemap_handles.specs.Holding.{held_map}
 use Rattle.oxc_sourcemap_handles.specs.Indexed.{IsOutOfOrder}

@@ -18,7 +18,7 @@ pub enum Asked {
 impl Asked {
     /// This text of a map; none where it has none.
     pub(crate) fn text_in(self, map: &OwnedSourceMap) -> Option<&str>
-        ensures { option_lent_items result ≡ text_at map.now self }
+        ensures { lent_item result ≡ text_at map.now self }
     {
         match self {
             Asked::Name(id) => map.get_name(id),

@@ -47,9 +47,9 @@ fn id_of(number: u32) -> Option<u32>
 fn push_token(
     builder: &mut SourceMapBuilder<'static>,
     token: TokenNumbers,
-) -> oxc_sourcemap_error::Result<u32>
+) -> oxc_sourcemap_tokens::Result<u32>
     ensures made { IfOk result (λ id. (builder.new, id) ≡ stepped builder.old (Mapping token)) }
-    ensures refused { OnlyMemory result }
+    ensures error { OnlyMemory result }
     ensures unchanged { OnErr result (builder.new ≡ builder.old) }
 {
     builder.add_token(
@@ -66,9 +66,9 @@ fn push_token(
 fn copy_file(
     builder: &mut SourceMapBuilder<'static>,
     file: &str,
-) -> oxc_sourcemap_error::Result<u32>
+) -> oxc_sourcemap_tokens::Result<u32>
     ensures made { IfOk result (λ id. (builder.new, id) ≡ stepped builder.old (File file.entry)) }
-    ensures refused { OnlyMemory result }
+    ensures error { OnlyMemory result }
     ensures unchanged { OnErr result (builder.new ≡ builder.old) }
 {
     builder.set_file_copied(file)?;
@@ -76,9 +76,12 @@ fn copy_file(
 }
 
 /// Makes a step, and returns the id of what it adds, or 0.
-fn make(builder: &mut SourceMapBuilder<'static>, step: Step<'_>) -> oxc_sourcemap_error::Result<u32>
+fn make(
+    builder: &mut SourceMapBuilder<'static>,
+    step: Step<'_>,
+) -> oxc_sourcemap_tokens::Result<u32>
     ensures made { IfOk result (λ id. (builder.new, id) ≡ stepped builder.old step.entry) }
-    ensures refused { IfErr result (λ e. (e ≢ OutOfMemory) → (e ≡ TooLarge) × HasNoId step.entry builder.old) }
+    ensures error { IfErr result (λ e. (e ≢ OutOfMemory) → (e ≡ TooLarge) × HasNoId step.entry builder.old) }
     ensures too_large { HasNoId step.entry builder.old → result ≡ Err TooLarge }
     ensures unchanged { OnErr result (builder.new ≡ builder.old) }
 {
@@ -92,7 +95,7 @@ fn make(builder: &mut SourceMapBuilder<'static>, step: Step<'_>) -> oxc_sourcema
 
 fn make_held(held: &mut Held, step: Step<'_>) -> Result<u32, Refusal>
     ensures made { IfOk result (λ id. Builds (Some held.old) (Some held.new) (λ b c. (c, id) ≡ stepped b step.entry)) }
-    ensures refused { IfErr result (λ r. (r ≢ out_of_memory) → IsAddRefusal (Some held.old) (HasNoId step.entry) r) }
+    ensures error { IfErr result (λ r. (r ≢ out_of_memory) → IsAddRefusal (Some held.old) (HasNoId step.entry) r) }
     ensures too_large { MatchOption (held_builder (Some held.old)) ⊤ (λ b. HasNoId step.entry b → result ≡ Err (of_map TooLarge)) }
     ensures unchanged { OnErr result (held.new ≡ held.old) }
 {
@@ -105,7 +108,7 @@ fn make_held(held: &mut Held, step: Step<'_>) -> Result<u32, Refusal>
 /// The same in the builder of a handle.
 fn make_in(alloc: Global, handle: &mut Handle, step: Step<'_>) -> Result<u32, Refusal>
     ensures made { IfOk result (λ id. Builds handle.old.held handle.new.held (λ b c. (c, id) ≡ stepped b step.entry)) }
-    ensures refused { IfErr result (λ r. (r ≢ out_of_memory) → IsAddRefusal handle.old.held (HasNoId step.entry) r) }
+    ensures error { IfErr result (λ r. (r ≢ out_of_memory) → IsAddRefusal handle.old.held (HasNoId step.entry) r) }
     ensures too_large { MatchOption (held_builder handle.old.held) ⊤ (λ b. HasNoId step.entry b → result ≡ Err (of_map TooLarge)) }
     ensures unchanged { OnErr result (handle.new.held ≡ handle.old.held) }
 {
@@ -123,7 +126,7 @@ fn make_in(alloc: Global, handle: &mut Handle, step: Step<'_>) -> Result<u32, Re
 /// Adds a name to the builder in a handle.
 pub fn add_name(alloc: Global, handle: &mut Handle, name: &[u8]) -> Result<u32, Refusal>
     ensures added { IfOk result (λ id. Builds handle.old.held handle.new.held (λ b c. (c, id) ≡ with_name b name.now)) }
-    ensures refused { IfErr result (λ r. (r ≢ out_of_memory) → IsNameRefusal handle.old.held name.now r) }
+    ensures error { IfErr result (λ r. (r ≢ out_of_memory) → IsNameRefusal handle.old.held name.now r) }
     ensures too_large { MatchOption (held_builder handle.old.held) ⊤ (λ b. IsUtf8 name.now → NameHasNoId name.now b → result ≡ Err (of_map TooLarge)) }
     ensures unchanged { OnErr result (handle.new.held ≡ handle.old.held) }
 {
@@ -139,7 +142,7 @@ pub fn add_source(
     content: &[u8],
 ) -> Result<u32, Refusal>
     ensures added { IfOk result (λ id. Builds handle.old.held handle.new.held (λ b c. (c, id) ≡ with_path b path.now content.now)) }
-    ensures refused { IfErr result (λ r. (r ≢ out_of_memory) → IsSourceRefusal handle.old.held path.now content.now r) }
+    ensures error { IfErr result (λ r. (r ≢ out_of_memory) → IsSourceRefusal handle.old.held path.now content.now r) }
     ensures too_large { MatchOption (held_builder handle.old.held) ⊤ (λ b. IsUtf8 path.now → IsUtf8 content.now → SourceHasNoId path.now b
         → result ≡ Err (of_map TooLarge)) }
     ensures unchanged { OnErr result (handle.new.held ≡ handle.old.held) }
@@ -152,7 +155,7 @@ pub fn add_source(
 /// Sets the file of the builder in a handle.
 pub fn set_file(alloc: Global, handle: &mut Handle, file: &[u8]) -> Result<u32, Refusal>
     ensures set { IfOk result (λ id. Builds handle.old.held handle.new.held (λ b c. c ≡ with_file b file.now)) }
-    ensures refused { IfErr result (λ r. (r ≢ out_of_memory) → IsFileRefusal handle.old.held file.now r) }
+    ensures error { IfErr result (λ r. (r ≢ out_of_memory) → IsFileRefusal handle.old.held file.now r) }
     ensures unchanged { OnErr result (handle.new.held ≡ handle.old.held) }
 {
     let file = text_of(file)?;
@@ -162,7 +165,7 @@ pub fn set_file(alloc: Global, handle: &mut Handle, file: &[u8]) -> Result<u32, 
 /// Adds a token to the builder in a handle.
 pub fn add_token(alloc: Global, handle: &mut Handle, token: TokenNumbers) -> Result<u32, Refusal>
     ensures added { IfOk result (λ id. Builds handle.old.held handle.new.held (λ b c. c ≡ with_token b (token_of token))) }
-    ensures refused { IfErr result (λ r. (r ≢ out_of_memory) → IsBuilderRefusal handle.old.held r) }
+    ensures error { IfErr result (λ r. (r ≢ out_of_memory) → IsBuilderRefusal handle.old.held r) }
     ensures unchanged { OnErr result (handle.new.held ≡ handle.old.held) }
 {
     make_in(alloc, handle, Step::Mapping(token))
@@ -173,7 +176,7 @@ pub fn finish(alloc: Global, handle: &mut Handle) -> Result<OwnedSourceMap, Refu
     ensures emptied { handle.new.held ≡ None }
     ensures map { IfOk result (λ map. MatchOption (held_builder handle.old.held) ⊥ (λ b. map ≡ b.map)) }
     ensures nothing_else { IfOk result (λ map. (map.source_root ≡ None) × (map.ignore_list ≡ None) × (map.debug_id ≡ None)) }
-    ensures refused { IfErr result (λ r. (r ≢ out_of_memory) → IsBuilderRefusal handle.old.held r) }
+    ensures error { IfErr result (λ r. (r ≢ out_of_memory) → IsBuilderRefusal handle.old.held r) }
 {
     match handle.take(alloc) {
         Some(held) => match Box::into_inner(held) {
@@ -187,7 +190,7 @@ pub fn finish(alloc: Global, handle: &mut Handle) -> Result<OwnedSourceMap, Refu
 /// A builder with nothing in it, in a box.
 fn new_builder(alloc: Global) -> Result<Box<Held>, Refusal>
     ensures built { IfOk result (λ held. held_builder (Some held.value) ≡ Some nothing_built) }
-    ensures refused { IfErr result (λ r. r ≡ out_of_memory) }
+    ensures error { IfErr result (λ r. r ≡ out_of_memory) }
 {
     let builder = SourceMapBuilder::empty(alloc);
     Ok(Box::new(alloc, Held::Building(builder))?)
@@ -196,7 +199,7 @@ fn new_builder(alloc: Global) -> Result<Box<Held>, Refusal>
 /// Puts a builder with nothing in it into a handle, whose builder is then dropped, and returns the code.
 pub fn put_builder(alloc: Global, handle: &mut Handle, fault: &mut Fault) -> u32
     ensures built { result ≡ 0 → (held_builder handle.new.held ≡ Some nothing_built) × (fault.new ≡ no_fault) }
-    ensures refused { result ≢ 0 → (handle.new.held ≡ handle.old.held) × IsRefusedAs result fault.new (λ r. ⊥) }
+    ensures error { result ≢ 0 → (handle.new.held ≡ handle.old.held) × IsRefusedAs result fault.new (λ r. ⊥) }
 {
     let made = new_builder(alloc);
     put(alloc, made, handle, fault)

@@ -8,11 +8,11 @@ ghost use Rattle.oxc_sourcemap_handles.specs.Indexed.{IsOutOfOrder};
 ghost use Rattle.oxc_sourcemap_handles.specs.Traces.{found_at, IsTraceOf, AreTracesOf};
 ghost use Rattle.oxc_sourcemap_tokens.specs.Results.{OnlyMemory};
 
-use crate::text::{Place, Position};
+use crate::text::Place;
 use oxc_sourcemap_builders::SourceMapBuilder;
 use oxc_sourcemap_lookup::LineIndex;
 use oxc_sourcemap_map::OwnedSourceMap;
-use oxc_sourcemap_tokens::{Error, Result, Token};
+use oxc_sourcemap_tokens::{Error, Position, Result, Token};
 use std::alloc::Global;
 use std::marker::Model;
 
@@ -38,7 +38,7 @@ impl LoadedMap {
     /// The map with the index of its lines. Fails only with `OutOfMemory`.
     pub fn new(alloc: Global, map: OwnedSourceMap) -> Result<LoadedMap>
         ensures map { IfOk result (λ loaded. loaded ≡ map) }
-        ensures refused { OnlyMemory result }
+        ensures error { OnlyMemory result }
     {
         match LineIndex::new(alloc, map.get_tokens().as_slice()) {
             Err(Error::OutOfMemory) => Err(Error::OutOfMemory),
@@ -64,7 +64,7 @@ impl LoadedMap {
     /// The index of the lines. Fails with `LineOrder` where the tokens are not in line order.
     fn index(&self) -> Result<&LineIndex>
         ensures index { IfOk result (λ index. IsIndexOf self.now.tokens index.now) }
-        ensures refused { IfErr result (IsOutOfOrder self.now.tokens) }
+        ensures error { IfErr result (IsOutOfOrder self.now.tokens) }
     {
         match &self.index {
             Ok(index) => Ok(index),
@@ -97,7 +97,7 @@ impl LoadedMap {
     /// order.
     pub fn trace(&self, at: Position, clamped: bool) -> Result<Place>
         ensures place { IfOk result (λ place. IsInLineOrder self.now.tokens × IsTraceOf clamped self.now at place) }
-        ensures refused { IfErr result (IsOutOfOrder self.now.tokens) }
+        ensures error { IfErr result (IsOutOfOrder self.now.tokens) }
     {
         let index = self.index()?;
         Ok(self.place_of(index, at, clamped))
@@ -112,7 +112,7 @@ impl LoadedMap {
     ) -> Result<()>
         requires { length positions.now ≡ length places.old }
         ensures places { OnOk result (AreTracesOf clamped positions.now places.new self.now) }
-        ensures refused { IfErr result (IsOutOfOrder self.now.tokens) }
+        ensures error { IfErr result (IsOutOfOrder self.now.tokens) }
         ensures unchanged { OnErr result (places.new ≡ places.old) }
     {
         let index = self.index()?;

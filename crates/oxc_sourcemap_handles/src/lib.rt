@@ -28,5 +28,5 @@ pub use lookups::{
 pub use messages::write_message;
 pub use operations::{compose, put_map, put_text, read};
 pub use refusal::Refusal;
-pub use text::{Counts, Place, Position, Text, TokenNumbers};
+pub use text::{Counts, Place, Text, TokenNumbers};
 pub use utf8::text_of;

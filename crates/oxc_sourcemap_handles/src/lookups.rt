@@ -15,7 +15,8 @@ use crate::handle::Handle;
 use crate::held::Held;
 use crate::operations::{map_in, text_in};
 use crate::refusal::Refusal;
-use crate::text::{Counts, Place, Position, Text, TokenNumbers};
+use crate::text::{Counts, Place, Text, TokenNumbers};
+use oxc_sourcemap_tokens::Position;
 use std::alloc::Global;
 
 /// Writes what was found, or leaves what was there, and returns the code.
@@ -264,7 +265,7 @@ fn traced_all_in(
 ) -> Result<(), Refusal>
     requires { length positions.now ≡ length places.old }
     ensures places { OnOk result (HoldsMap (Some held.now) (AreTracesOf clamped positions.now places.new)) }
-    ensures refused { IfErr result (IsTraceRefusal (held_map (Some held.now))) }
+    ensures error { IfErr result (IsTraceRefusal (held_map (Some held.now))) }
     ensures unchanged { OnErr result (places.new ≡ places.old) }
 {
     match map_in(held) {
@@ -282,7 +283,7 @@ pub fn traced_all(
     clamped: bool,
 ) -> Result<(), Refusal>
     ensures places { OnOk result (HoldsMap handle.old.held (AreTracesOf clamped positions.now places.new)) }
-    ensures refused { IfErr result (IsTraceAllRefusal positions.now places.old (held_map handle.old.held)) }
+    ensures error { IfErr result (IsTraceAllRefusal positions.now places.old (held_map handle.old.held)) }
     ensures unchanged { OnErr result (places.new ≡ places.old) }
     ensures kept { handle.new.held ≡ handle.old.held }
 {

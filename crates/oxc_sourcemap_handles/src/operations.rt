@@ -19,7 +19,7 @@ use std::alloc::Global;
 /// The map of a JSON text.
 pub fn read(alloc: Global, json: &[u8]) -> Result<OwnedSourceMap, Refusal>
     ensures map { IfOk result (λ map. read_map json.now ≡ Ok map) }
-    ensures refused { IfErr result (λ r. (r ≢ out_of_memory) → IsReadRefusal json.now r) }
+    ensures error { IfErr result (λ r. (r ≢ out_of_memory) → IsReadRefusal json.now r) }
 {
     let text = text_of(json)?;
     Ok(OwnedSourceMap::from_json_string(alloc, text)?)
@@ -48,7 +48,7 @@ pub fn compose(
     ensures emptied { (first.new.held ≡ None) × (input.new.held ≡ None) }
     ensures any_map { IfOk result (λ map. HoldsMap first.old.held (λ a. HoldsMap input.old.held (λ b. SomeComposition a b (Ok map)))) }
     ensures map { IfOk result (λ map. HoldsMap first.old.held (λ a. HoldsMap input.old.held (λ b. NoColumnGoesBack b.tokens → composition a b ≡ Ok map))) }
-    ensures refused { IfErr result (λ r. (r ≢ out_of_memory) → IsCompositionRefusal (held_map first.old.held) (held_map input.old.held) r) }
+    ensures error { IfErr result (λ r. (r ≢ out_of_memory) → IsCompositionRefusal (held_map first.old.held) (held_map input.old.held) r) }
 {
     let first = take_map(alloc, first);
     let input = take_map(alloc, input);
@@ -58,7 +58,7 @@ pub fn compose(
 /// A handle's map in a box, with its index.
 fn boxed(alloc: Global, map: OwnedSourceMap) -> Result<Box<Held>, Refusal>
     ensures map { IfOk result (λ held. held_map (Some held.value) ≡ Some map) }
-    ensures refused { IfErr result (λ r. r ≡ out_of_memory) }
+    ensures error { IfErr result (λ r. r ≡ out_of_memory) }
 {
     let loaded = LoadedMap::new(alloc, map)?;
     Ok(Box::new(alloc, Held::Map(loaded))?)
@@ -72,7 +72,7 @@ pub fn put_map(
     fault: &mut Fault,
 ) -> u32
     ensures map { result ≡ 0 → MatchResult made (λ map. (held_map handle.new.held ≡ Some map) × (fault.new ≡ no_fault)) (λ _. ⊥) }
-    ensures refused { result ≢ 0 → (handle.new.held ≡ handle.old.held) × IsRefusedAs result fault.new (λ r. made ≡ Err r) }
+    ensures error { result ≢ 0 → (handle.new.held ≡ handle.old.held) × IsRefusedAs result fault.new (λ r. made ≡ Err r) }
 {
     let held = match made {
         Ok(map) => boxed(alloc, map),
@@ -89,7 +89,7 @@ pub fn put_text(
     fault: &mut Fault,
 ) -> u32
     ensures text { result ≡ 0 → MatchResult written (λ text. (held_text handle.new.held ≡ Some (string_bytes text)) × (fault.new ≡ no_fault)) (λ _. ⊥) }
-    ensures refused { result ≢ 0 → (handle.new.held ≡ handle.old.held) × IsRefusedAs result fault.new (λ r. written ≡ Err r) }
+    ensures error { result ≢ 0 → (handle.new.held ≡ handle.old.held) × IsRefusedAs result fault.new (λ r. written ≡ Err r) }
 {
     let held = match written {
         Ok(text) => match Box::new(alloc, Held::Written(text)) {
@@ -109,7 +109,7 @@ pub(crate) fn put(
     fault: &mut Fault,
 ) -> u32
     ensures held { result ≡ 0 → MatchResult made (λ held. (handle.new.held ≡ Some held.value) × (fault.new ≡ no_fault)) (λ _. ⊥) }
-    ensures refused { result ≢ 0 → (handle.new.held ≡ handle.old.held) × MatchResult made (λ _. ⊥) (λ r. (fault.new ≡ fault_of r) × (result ≡ code_of r)) }
+    ensures error { result ≢ 0 → (handle.new.held ≡ handle.old.held) × MatchResult made (λ _. ⊥) (λ r. (fault.new ≡ fault_of r) × (result ≡ code_of r)) }
 {
     match made {
         Ok(held) => {
@@ -127,7 +127,7 @@ pub(crate) fn put(
 
 /// The map that is held.
 pub fn map_in(held: &Held) -> Option<&LoadedMap>
-    ensures { option_lent_items result ≡ held_map (Some held.now) }
+    ensures { lent_item result ≡ held_map (Some held.now) }
 {
     match held {
         Held::Map(loaded) => Some(loaded),
@@ -137,7 +137,7 @@ pub fn map_in(held: &Held) -> Option<&LoadedMap>
 
 /// The text that is held.
 pub fn text_in(held: &Held) -> Option<&str>
-    ensures { option_lent_items result ≡ held_text (Some held.now) }
+    ensures { lent_item result ≡ held_text (Some held.now) }
 {
     match held {
         Held::Written(text) => Some(text.as_str()),

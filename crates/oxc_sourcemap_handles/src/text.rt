@@ -28,7 +28,7 @@ impl Text {
 
     /// An empty text where there is none.
     fn of_option(text: Option<&str>) -> Text
-        ensures { result.len ≡ length (unwrap_or (option_lent_items text.entry) []) }
+        ensures { result.len ≡ length (unwrap_or (lent_item text.entry) []) }
     {
         match text {
             Some(text) => Text::of(text.as_bytes()),
@@ -102,14 +102,6 @@ impl Counts {
             },
         }
     }
-}
-
-/// A generated position, and where the code of a map begins in the code of a join.
-#[repr(C)]
-#[derive(Clone, Copy)]
-pub struct Position {
-    pub line: u32,
-    pub column: u32,
 }
 
 /// What a map says of a generated position. The kind is 0 for no token, 1 for an unmapped one, 2 for an original position and

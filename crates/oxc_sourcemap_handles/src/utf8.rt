@@ -7,7 +7,7 @@ use crate::refusal::Refusal;
 /// The text that bytes are in UTF-8.
 pub fn text_of(bytes: &[u8]) -> Result<&str, Refusal>
     ensures text { IfOk result (λ text. (text.now ≡ bytes.now) × IsUtf8 bytes.now) }
-    ensures refused { IfErr result (IsNotText bytes.now) }
+    ensures error { IfErr result (IsNotText bytes.now) }
 {
     match std::str::from_utf8(bytes) {
         Ok(text) => Ok(text),

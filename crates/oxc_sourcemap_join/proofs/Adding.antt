@@ -11,8 +11,9 @@ use Rattle.oxc_sourcemap_tokens.specs.Token.{TokenRecord, IsInBounds, AreInBound
 use Rattle.oxc_sourcemap_tokens.specs.State.{state_at}
 use Rattle.oxc_sourcemap_tokens.specs.Chunks.{chunk_from, ChunksFit}
 use Rattle.oxc_sourcemap_parts.specs.Record.{Text, MapRecord}
-use Rattle.oxc_sourcemap_join.specs.Joined.{Offset, fitted, shifted, is_same_token, without_repeat, raised_ignore_list, appended_ignore_lists, added, added_tokens, added_chunk, added_ignore_list, nothing_joined, added_all, AreEntriesInBounds, IsWithinLimits}
-use Rattle.oxc_sourcemap_join.specs.Joining.{IsJoin, offset_of, all_shifted, IsAddition}
+use Rattle.oxc_sourcemap_tokens.specs.declared.position.Position.{Position}
+use Rattle.oxc_sourcemap_join.specs.Joined.{fitted, shifted, is_same_token, without_repeat, raised_ignore_list, appended_ignore_lists, added, added_tokens, added_chunk, added_ignore_list, nothing_joined, added_all, AreEntriesInBounds, IsWithinLimits}
+use Rattle.oxc_sourcemap_join.specs.Joining.{IsJoin, all_shifted, IsAddition}
 use Rattle.oxc_sourcemap_join.specs.declared.joined_parts.Shift.{Shift}
 use Rattle.oxc_sourcemap_join.specs.declared.joined_parts.Addition.{Addition}
 use Rattle.oxc_sourcemap_join.proofs.Fitted.{length-fitted, fitted-more}
@@ -21,14 +22,14 @@ use Rattle.oxc_sourcemap_join.proofs.Moving.{repeat-in-bounds, kept-in-bounds, l
 use Rattle.oxc_sourcemap_join.proofs.IgnoreLists.{appended-in-bounds, front-in-bounds}
 
 -- tokens, moved, by what the join has and the offset
-shifted-by : (r : MapRecord) (offset : Offset) (s : Shift) → s.names ≡ length r.names → s.sources ≡ length r.sources → offset_of s ≡ offset → (ts : List TokenRecord)
+shifted-by : (r : MapRecord) (offset : Position) (s : Shift) → s.names ≡ length r.names → s.sources ≡ length r.sources → s.position ≡ offset → (ts : List TokenRecord)
     → all_shifted s ts ≡ map (shifted (length r.names) (length r.sources) offset) ts
 shifted-by r offset s n o l ts =
-    ap (λ k. map (shifted k s.sources (offset_of s)) ts) n ∙ ap (λ k. map (shifted (length r.names) k (offset_of s)) ts) o
+    ap (λ k. map (shifted k s.sources s.position) ts) n ∙ ap (λ k. map (shifted (length r.names) k s.position) ts) o
     ∙ ap (λ k. map (shifted (length r.names) (length r.sources) k) ts) l
 
 -- where a join is within limits, all tokens of the map, moved, are in bounds
-pub moved-in-bounds : (r m : MapRecord) (offset : Offset) (s : Shift) → s.names ≡ length r.names → s.sources ≡ length r.sources → offset_of s ≡ offset
+pub moved-in-bounds : (r m : MapRecord) (offset : Position) (s : Shift) → s.names ≡ length r.names → s.sources ≡ length r.sources → s.position ≡ offset
     → AreInBounds r.tokens → IsWithinLimits (added r m offset) → AreInBounds (all_shifted s m.tokens)
 moved-in-bounds r m offset s n o l h w =
     repeat-in-bounds r.tokens (all_shifted s m.tokens)
@@ -38,7 +39,7 @@ after-each : {A : Type 0} (P : A → Type 0) (xs ys : List A) → AllByRecursion
 after-each P [] ys h = h
 after-each P (x ∷ xs) ys h = after-each P xs ys h.1
 
-module _ (r m : MapRecord) (offset : Offset) (s : Shift) (passed : ℕ) (n : s.names ≡ length r.names) (o : s.sources ≡ length r.sources) (l : offset_of s ≡ offset)
+module _ (r m : MapRecord) (offset : Position) (s : Shift) (passed : ℕ) (n : s.names ≡ length r.names) (o : s.sources ≡ length r.sources) (l : s.position ≡ offset)
     (k : all_shifted s (drop passed m.tokens) ≡ without_repeat is_same_token (last r.tokens) (all_shifted s m.tokens)) where
   -- the tokens of the join, by what is kept
   pub added-tokens : added_tokens r m offset ≡ r.tokens ++ all_shifted s (drop passed m.tokens)
@@ -47,7 +48,7 @@ module _ (r m : MapRecord) (offset : Offset) (s : Shift) (passed : ℕ) (n : s.n
   pub added-count : passed ≤ length m.tokens → length (added_tokens r m offset) ≡ length r.tokens + (length m.tokens - passed)
   added-count p =
       ap length added-tokens ∙ length-append r.tokens (all_shifted s (drop passed m.tokens))
-      ∙ ap (λ i. length r.tokens + i) (length-mapped (shifted s.names s.sources (offset_of s)) (drop passed m.tokens) ∙ length-drop passed m.tokens)
+      ∙ ap (λ i. length r.tokens + i) (length-mapped (shifted s.names s.sources s.position) (drop passed m.tokens) ∙ length-drop passed m.tokens)
 
   pub addition-is : (chunk : TokenChunk) → AreInBounds r.tokens → AreEntriesInBounds r.ignore_list → AreEntriesInBounds (raised_ignore_list s.sources m.ignore_list)
       → length r.names + length m.names ≤ 4294967295 → length r.sources + length m.sources ≤ 4294967295
@@ -75,12 +76,12 @@ after : {A : Type 0} (P : A → Type 0) (xs ys : List A) → All P (xs ++ ys) �
 after P xs ys h = All-from_recursion P ys (after-each P xs ys (recursion_from_All P (xs ++ ys) h))
 
 -- the tokens that are kept, moved, are in bounds
-pub kept-are-in-bounds : (r m : MapRecord) (offset : Offset) (a : Addition) → IsAddition r m offset a → AreInBounds (all_shifted a.shift (drop a.passed m.tokens))
+pub kept-are-in-bounds : (r m : MapRecord) (offset : Position) (a : Addition) → IsAddition r m offset a → AreInBounds (all_shifted a.shift (drop a.passed m.tokens))
 kept-are-in-bounds r m offset a h =
     subst AreInBounds (sym h.kept) (after IsInBounds r.tokens (without_repeat is_same_token (last r.tokens) (all_shifted a.shift m.tokens))
     (subst (λ us. AreInBounds (r.tokens ++ without_repeat is_same_token (last r.tokens) us)) (sym (shifted-by r offset a.shift h.names h.sources h.offset m.tokens)) h.within.in_bounds))
 
-module _ (r m : MapRecord) (offset : Offset) (a : Addition) (h : IsAddition r m offset a) (chunks : List TokenChunk) (has : r.token_chunks ≡ Some chunks)
+module _ (r m : MapRecord) (offset : Position) (a : Addition) (h : IsAddition r m offset a) (chunks : List TokenChunk) (has : r.token_chunks ≡ Some chunks)
     (each : length r.sources ≡ length r.source_contents)
     (ns ss : List Text) (cs : List (Option Text)) (ts : List TokenRecord) (ks : List TokenChunk) (is : Option (List ℕ))
     (en : ns ≡ r.names ++ m.names) (es : ss ≡ r.sources ++ m.sources) (ec : cs ≡ r.source_contents ++ fitted (length m.sources) m.source_contents)
@@ -124,7 +125,7 @@ glued {xs = xs} {ys = ys} {us = us} {vs = vs} p q = ap (λ zs. zs ++ us) p ∙ a
 
 -- ---- many maps
 -- what is before more adds is within limits where all is
-pub front-within : (r : MapRecord) (ms : List (MapRecord × Offset)) → IsWithinLimits (added_all r ms) → IsWithinLimits r
+pub front-within : (r : MapRecord) (ms : List (MapRecord × Position)) → IsWithinLimits (added_all r ms) → IsWithinLimits r
 front-within r ms w =
     let f = added_all-continues r ms in
     record {
@@ -139,7 +140,7 @@ pub nothing-within : IsWithinLimits nothing_joined
 nothing-within = record { names = omega arith; sources = omega arith; tokens = omega arith; in_bounds = All-from_recursion IsInBounds [] tt; ignore_list = tt }
 
 -- a refusal of an add, as the refusal of all adds
-pub refusal-of-all : (r m : MapRecord) (offset : Offset) (ms rest : List (MapRecord × Offset)) (all : MapRecord) → added_all r ms ≡ all → ms ≡ (m, offset) ∷ rest → (e : Error)
+pub refusal-of-all : (r m : MapRecord) (offset : Position) (ms rest : List (MapRecord × Position)) (all : MapRecord) → added_all r ms ≡ all → ms ≡ (m, offset) ∷ rest → (e : Error)
     → (e ≡ OutOfMemory) ⊎ (e ≡ TooLarge) → (e ≡ TooLarge → ¬ (IsWithinLimits (added r m offset))) → (e ≡ OutOfMemory) ⊎ ((e ≡ TooLarge) × ¬ (IsWithinLimits all))
 refusal-of-all r m offset ms rest all p q e (inl o) h = inl o
 refusal-of-all r m offset ms rest all p q e (inr l) h =

@@ -3,7 +3,8 @@ use Rattle.std.proofs.Common.{ℕ, ◌<◌, List, [], ◌∷◌, ◌++◌, lengt
 use Rattle.std.specs.List.{AllByRecursion}
 use Rattle.std.proofs.lemmas.List.Elements.{All-append, All-from_recursion, recursion_from_All}
 use Rattle.oxc_sourcemap_parts.specs.Record.{MapRecord}
-use Rattle.oxc_sourcemap_join.specs.Joined.{Offset, raised_ignore_list, appended_ignore_lists, added, added_all, AreEntriesInBounds, IsWithinLimits}
+use Rattle.oxc_sourcemap_tokens.specs.declared.position.Position.{Position}
+use Rattle.oxc_sourcemap_join.specs.Joined.{raised_ignore_list, appended_ignore_lists, added, added_all, AreEntriesInBounds, IsWithinLimits}
 use Rattle.oxc_sourcemap_join.specs.Joining.{IsAddition}
 use Rattle.oxc_sourcemap_join.specs.declared.joined_parts.Addition.{Addition}
 
@@ -35,14 +36,14 @@ appended-right (Some xs) (Some ys) h =
     All-from_recursion P ys (after-each P xs ys (recursion_from_All P (xs ++ ys) h))
 
 -- where a join is within limits, the entries of the map's ignore list, raised, are in bounds
-pub raised-in-bounds : (r m : MapRecord) (offset : Offset) → IsWithinLimits (added r m offset) → AreEntriesInBounds (raised_ignore_list (length r.sources) m.ignore_list)
+pub raised-in-bounds : (r m : MapRecord) (offset : Position) → IsWithinLimits (added r m offset) → AreEntriesInBounds (raised_ignore_list (length r.sources) m.ignore_list)
 raised-in-bounds r m offset w = appended-right r.ignore_list (raised_ignore_list (length r.sources) m.ignore_list) w.ignore_list
 
-pub addition-in-bounds : (r m : MapRecord) (offset : Offset) (a : Addition) → IsAddition r m offset a → AreEntriesInBounds (raised_ignore_list a.shift.sources m.ignore_list)
+pub addition-in-bounds : (r m : MapRecord) (offset : Position) (a : Addition) → IsAddition r m offset a → AreEntriesInBounds (raised_ignore_list a.shift.sources m.ignore_list)
 addition-in-bounds r m offset a h = subst (λ n. AreEntriesInBounds (raised_ignore_list n m.ignore_list)) (sym h.sources) (raised-in-bounds r m offset h.within)
 
 -- what is before more adds has its entries in bounds where all has
-pub front-in-bounds : (r : MapRecord) (ms : List (MapRecord × Offset)) → AreEntriesInBounds (added_all r ms).ignore_list → AreEntriesInBounds r.ignore_list
+pub front-in-bounds : (r : MapRecord) (ms : List (MapRecord × Position)) → AreEntriesInBounds (added_all r ms).ignore_list → AreEntriesInBounds r.ignore_list
 front-in-bounds r [] h = h
 front-in-bounds r (m ∷ ms) h =
     appended-left r.ignore_list (raised_ignore_list (length r.sources) m.0.ignore_list) (front-in-bounds (added r m.0 m.1) ms h)

@@ -8,7 +8,8 @@ use Rattle.oxc_sourcemap_tokens.specs.Token.{TokenRecord, last}
 use Rattle.oxc_sourcemap_tokens.specs.State.{state_at, state_after, initial}
 use Rattle.oxc_sourcemap_tokens.specs.Chunks.{ChunksFitFrom, ChunksFit, chunk_from}
 use Rattle.oxc_sourcemap_parts.specs.Record.{MapRecord}
-use Rattle.oxc_sourcemap_join.specs.Joined.{Offset, shifted, is_same_token, without_repeat, added_chunk, added, nothing_joined, added_all, joined}
+use Rattle.oxc_sourcemap_tokens.specs.declared.position.Position.{Position}
+use Rattle.oxc_sourcemap_join.specs.Joined.{shifted, is_same_token, without_repeat, added_chunk, added, nothing_joined, added_all, joined}
 
 -- the state at an index does not see what stands from there on
 state-front : (xs zs : List TokenRecord) (i : ℕ) → i ≤ length xs → state_at xs i ≡ state_at (xs ++ zs) i
@@ -26,7 +27,7 @@ fit-more xs zs index (c ∷ cs) h =
     (record { starts = f.starts; ordered = o; within = omega arith; true_header = f.true_header ∙ state-front xs zs c.start (omega arith) }, fit-more xs zs c.end cs h.1)
 
 -- where the chunks of a join fit, they do so after one more map
-pub fit-added : (r m : MapRecord) (offset : Offset) → ChunksFit r.tokens (unwrap_or r.token_chunks []) → ChunksFit (added r m offset).tokens (unwrap_or (added r m offset).token_chunks [])
+pub fit-added : (r m : MapRecord) (offset : Position) → ChunksFit r.tokens (unwrap_or r.token_chunks []) → ChunksFit (added r m offset).tokens (unwrap_or (added r m offset).token_chunks [])
 fit-added r m offset h = fit-more r.tokens (without_repeat is_same_token (last r.tokens) (map (shifted (length r.names) (length r.sources) offset) m.tokens)) 0 (unwrap_or r.token_chunks []) h
 
 -- a record with chunks, so many, which fit
@@ -36,7 +37,7 @@ pub record HasFitting (r : MapRecord) (number : ℕ) : Type 0 where
   pub count : length chunks ≡ number
   pub fit : ChunksFit r.tokens chunks
 
-fitting-added : (r m : MapRecord) (offset : Offset) (number : ℕ) → HasFitting r number → HasFitting (added r m offset) (number + 1)
+fitting-added : (r m : MapRecord) (offset : Position) (number : ℕ) → HasFitting r number → HasFitting (added r m offset) (number + 1)
 fitting-added r m offset number f =
     let old : unwrap_or r.token_chunks [] ≡ f.chunks = ap (λ o. unwrap_or o []) f.has in
     record {
@@ -46,14 +47,14 @@ fitting-added r m offset number f =
       fit = fit-added r m offset (subst (ChunksFit r.tokens) (sym old) f.fit);
     }
 
-fitting-added_all : (r : MapRecord) (ms : List (MapRecord × Offset)) (number : ℕ) → HasFitting r number → HasFitting (added_all r ms) (number + length ms)
+fitting-added_all : (r : MapRecord) (ms : List (MapRecord × Position)) (number : ℕ) → HasFitting r number → HasFitting (added_all r ms) (number + length ms)
 fitting-added_all r [] number f = subst (HasFitting r) (omega arith) f
 fitting-added_all r (m ∷ ms) number f =
     let e : number + 1 + length ms ≡ number + length (m ∷ ms) = omega arith in
     subst (HasFitting (added_all (added r m.0 m.1) ms)) e (fitting-added_all (added r m.0 m.1) ms (number + 1) (fitting-added r m.0 m.1 number f))
 
 -- after any adds there is a chunk for each, and the chunks fit
-pub fitting_chunks : (ms : List (MapRecord × Offset)) → HasFitting (joined ms) (length ms)
+pub fitting_chunks : (ms : List (MapRecord × Position)) → HasFitting (joined ms) (length ms)
 fitting_chunks ms =
     let e : 0 + length ms ≡ length ms = omega arith in
     subst (HasFitting (joined ms)) e (fitting-added_all nothing_joined ms 0 (record { chunks = []; has = refl; count = refl; fit = refl }))
@@ -61,7 +62,7 @@ fitting_chunks ms =
 if-some : (tokens : List TokenRecord) (o : Option (List TokenChunk)) (cs : List TokenChunk) → o ≡ Some cs → ChunksFit tokens cs → IfSome o (ChunksFit tokens)
 if-some tokens o cs e h = rw e h
 
-pub chunks_joined : (ms : List (MapRecord × Offset)) → IfSome (joined ms).token_chunks (ChunksFit (joined ms).tokens)
+pub chunks_joined : (ms : List (MapRecord × Position)) → IfSome (joined ms).token_chunks (ChunksFit (joined ms).tokens)
 chunks_joined ms = let f = fitting_chunks ms in if-some (joined ms).tokens (joined ms).token_chunks f.chunks f.has f.fit
 
 -- ---- fronts
@@ -91,14 +92,14 @@ pub record Continues (r s : MapRecord) : Type 0 where
   pub sources : IsFront r.sources s.sources
   pub tokens : IsFront r.tokens s.tokens
 
-pub added-continues : (r m : MapRecord) (offset : Offset) → Continues r (added r m offset)
+pub added-continues : (r m : MapRecord) (offset : Position) → Continues r (added r m offset)
 added-continues r m offset = record {
   names = (m.names, refl);
   sources = (m.sources, refl);
   tokens = (without_repeat is_same_token (last r.tokens) (map (shifted (length r.names) (length r.sources) offset) m.tokens), refl);
 }
 
-pub added_all-continues : (r : MapRecord) (ms : List (MapRecord × Offset)) → Continues r (added_all r ms)
+pub added_all-continues : (r : MapRecord) (ms : List (MapRecord × Position)) → Continues r (added_all r ms)
 added_all-continues r [] = record { names = front-self r.names; sources = front-self r.sources; tokens = front-self r.tokens }
 added_all-continues r (m ∷ ms) =
     let s = added r m.0 m.1 in
@@ -106,9 +107,9 @@ added_all-continues r (m ∷ ms) =
     let g = added_all-continues s ms in
     record { names = front-more _ _ _ f.names g.names; sources = front-more _ _ _ f.sources g.sources; tokens = front-more _ _ _ f.tokens g.tokens }
 
-pub added_all-append : (r : MapRecord) (ms ns : List (MapRecord × Offset)) → added_all r (ms ++ ns) ≡ added_all (added_all r ms) ns
+pub added_all-append : (r : MapRecord) (ms ns : List (MapRecord × Position)) → added_all r (ms ++ ns) ≡ added_all (added_all r ms) ns
 added_all-append r [] ns = refl
 added_all-append r (m ∷ ms) ns = added_all-append (added r m.0 m.1) ms ns
 
-pub joined-continues : (ms ns : List (MapRecord × Offset)) → Continues (joined ms) (joined (ms ++ ns))
+pub joined-continues : (ms ns : List (MapRecord × Position)) → Continues (joined ms) (joined (ms ++ ns))
 joined-continues ms ns = subst (Continues (joined ms)) (sym (added_all-append nothing_joined ms ns)) (added_all-continues (joined ms) ns)

@@ -6,7 +6,7 @@ use Rattle.std.proofs.lemmas.List.{drop_more}
 use Rattle.std.proofs.lemmas.List.Elements.{All-from_recursion, recursion_from_All}
 use Rattle.oxc_sourcemap_tokens.specs.Token.{TokenRecord, IsInBounds, AreInBounds}
 use Rattle.oxc_sourcemap_join.specs.Joined.{raised_id, shifted_column, shifted}
-use Rattle.oxc_sourcemap_join.specs.Joining.{offset_of, all_shifted, above, moving_column, greatest}
+use Rattle.oxc_sourcemap_join.specs.Joining.{all_shifted, above, moving_column, greatest}
 use Rattle.oxc_sourcemap_join.specs.declared.joined_parts.Shift.{Shift}
 
 greatest-below : (given : TokenRecord → ℕ) (most n m : ℕ) (ts : List TokenRecord) → (greatest given most ts + n < m) ↔ ((most + n < m) × AllByRecursion (λ t. given t + n < m) ts)
@@ -32,23 +32,23 @@ id-out : (n : ℕ) (o : Option ℕ) → n < 4294967296 → IfSome (raised_id n o
 id-out n None f h = omega (arith, f)
 id-out n (Some i) f h = omega (arith, h)
 
-column-in : (s : Shift) (t : TokenRecord) → t.dst_col < 4294967296 → moving_column t + s.columns < 4294967296 → shifted_column (offset_of s) t.dst_line t.dst_col < 4294967296
+column-in : (s : Shift) (t : TokenRecord) → t.dst_col < 4294967296 → moving_column t + s.position.column < 4294967296 → shifted_column s.position t.dst_line t.dst_col < 4294967296
 column-in s t b h =
-    elim (t.dst_line == 0) as (λ q. cond q t.dst_col 0 + s.columns < 4294967296 → cond q (t.dst_col + s.columns) t.dst_col < 4294967296) [ true ↦ (λ k. k) | false ↦ (λ k. b) ] h
+    elim (t.dst_line == 0) as (λ q. cond q t.dst_col 0 + s.position.column < 4294967296 → cond q (t.dst_col + s.position.column) t.dst_col < 4294967296) [ true ↦ (λ k. k) | false ↦ (λ k. b) ] h
 
-column-out : (s : Shift) (t : TokenRecord) → s.columns < 4294967296 → shifted_column (offset_of s) t.dst_line t.dst_col < 4294967296 → moving_column t + s.columns < 4294967296
+column-out : (s : Shift) (t : TokenRecord) → s.position.column < 4294967296 → shifted_column s.position t.dst_line t.dst_col < 4294967296 → moving_column t + s.position.column < 4294967296
 column-out s t f h =
-    elim (t.dst_line == 0) as (λ q. cond q (t.dst_col + s.columns) t.dst_col < 4294967296 → cond q t.dst_col 0 + s.columns < 4294967296) [ true ↦ (λ k. k) | false ↦ (λ k. omega (arith, f)) ] h
+    elim (t.dst_line == 0) as (λ q. cond q (t.dst_col + s.position.column) t.dst_col < 4294967296 → cond q t.dst_col 0 + s.position.column < 4294967296) [ true ↦ (λ k. k) | false ↦ (λ k. omega (arith, f)) ] h
 
 -- ---- all tokens
 module _ (s : Shift) where
-  column-level : s.columns ≡ 0 → (ts : List TokenRecord) → AllByRecursion IsInBounds ts → AllByRecursion (λ t. moving_column t + s.columns < 4294967296) ts
+  column-level : s.position.column ≡ 0 → (ts : List TokenRecord) → AllByRecursion IsInBounds ts → AllByRecursion (λ t. moving_column t + s.position.column < 4294967296) ts
   column-level e [] b = tt
   column-level e (t ∷ ts) b =
-      (elim (t.dst_line == 0) as (λ q. cond q t.dst_col 0 + s.columns < 4294967296) [ true ↦ (let f = b.0.dst_col in omega (arith, e, f)) | false ↦ omega (arith, e) ], column-level e ts b.1)
+      (elim (t.dst_line == 0) as (λ q. cond q t.dst_col 0 + s.position.column < 4294967296) [ true ↦ (let f = b.0.dst_col in omega (arith, e, f)) | false ↦ omega (arith, e) ], column-level e ts b.1)
 
-  all-in : (ts : List TokenRecord) → AllByRecursion IsInBounds ts → AllByRecursion (λ t. t.dst_line + s.lines < 4294967296) ts → AllByRecursion (λ t. above t.source_id + s.sources < 4294967296) ts
-      → AllByRecursion (λ t. above t.name_id + s.names < 4294967296) ts → AllByRecursion (λ t. moving_column t + s.columns < 4294967296) ts → AllByRecursion IsInBounds (all_shifted s ts)
+  all-in : (ts : List TokenRecord) → AllByRecursion IsInBounds ts → AllByRecursion (λ t. t.dst_line + s.position.line < 4294967296) ts → AllByRecursion (λ t. above t.source_id + s.sources < 4294967296) ts
+      → AllByRecursion (λ t. above t.name_id + s.names < 4294967296) ts → AllByRecursion (λ t. moving_column t + s.position.column < 4294967296) ts → AllByRecursion IsInBounds (all_shifted s ts)
   all-in [] b l o n c = tt
   all-in (t ∷ ts) b l o n c = (
     record {
@@ -62,33 +62,33 @@ module _ (s : Shift) where
     all-in ts b.1 l.1 o.1 n.1 c.1,
   )
 
-  all-out : (P : TokenRecord → Type 0) → ((t : TokenRecord) → IsInBounds (shifted s.names s.sources (offset_of s) t) → P t) → (ts : List TokenRecord) → AllByRecursion IsInBounds (all_shifted s ts) → AllByRecursion P ts
+  all-out : (P : TokenRecord → Type 0) → ((t : TokenRecord) → IsInBounds (shifted s.names s.sources s.position t) → P t) → (ts : List TokenRecord) → AllByRecursion IsInBounds (all_shifted s ts) → AllByRecursion P ts
   all-out P f [] h = tt
   all-out P f (t ∷ ts) h = (f t h.0, all-out P f ts h.1)
 
   -- the greatest column is in bounds where nothing is added to it
-  pub level-columns : (ts : List TokenRecord) → AreInBounds ts → s.columns ≡ 0 → greatest moving_column 0 ts + s.columns < 4294967296
+  pub level-columns : (ts : List TokenRecord) → AreInBounds ts → s.position.column ≡ 0 → greatest moving_column 0 ts + s.position.column < 4294967296
   level-columns ts b e =
-      let each : AllByRecursion (λ t. moving_column t + s.columns < 4294967296) ts = column-level e ts (recursion_from_All IsInBounds ts b) in
-      (greatest-below moving_column 0 s.columns 4294967296 ts).1 (omega (arith, e), each)
+      let each : AllByRecursion (λ t. moving_column t + s.position.column < 4294967296) ts = column-level e ts (recursion_from_All IsInBounds ts b) in
+      (greatest-below moving_column 0 s.position.column 4294967296 ts).1 (omega (arith, e), each)
 
   -- all tokens are in bounds, moved, where the greatest numbers are
-  pub in-reach : (ts : List TokenRecord) → AreInBounds ts → greatest (λ t. t.dst_line) 0 ts + s.lines < 4294967296 → greatest (λ t. above t.source_id) 0 ts + s.sources < 4294967296
-      → greatest (λ t. above t.name_id) 0 ts + s.names < 4294967296 → greatest moving_column 0 ts + s.columns < 4294967296 → AreInBounds (all_shifted s ts)
+  pub in-reach : (ts : List TokenRecord) → AreInBounds ts → greatest (λ t. t.dst_line) 0 ts + s.position.line < 4294967296 → greatest (λ t. above t.source_id) 0 ts + s.sources < 4294967296
+      → greatest (λ t. above t.name_id) 0 ts + s.names < 4294967296 → greatest moving_column 0 ts + s.position.column < 4294967296 → AreInBounds (all_shifted s ts)
   in-reach ts b l o n c =
       All-from_recursion IsInBounds (all_shifted s ts) (all-in ts (recursion_from_All IsInBounds ts b)
-      ((greatest-below (λ t. t.dst_line) 0 s.lines 4294967296 ts).0 l).1
+      ((greatest-below (λ t. t.dst_line) 0 s.position.line 4294967296 ts).0 l).1
       ((greatest-below (λ t. above t.source_id) 0 s.sources 4294967296 ts).0 o).1
       ((greatest-below (λ t. above t.name_id) 0 s.names 4294967296 ts).0 n).1
-      ((greatest-below moving_column 0 s.columns 4294967296 ts).0 c).1)
+      ((greatest-below moving_column 0 s.position.column 4294967296 ts).0 c).1)
 
   -- and the greatest numbers are where all tokens are
   module _ (ts : List TokenRecord) (h : AreInBounds (all_shifted s ts)) where
     all-moved : AllByRecursion IsInBounds (all_shifted s ts)
     all-moved = recursion_from_All IsInBounds (all_shifted s ts) h
 
-    pub line-in-reach : s.lines < 4294967296 → greatest (λ t. t.dst_line) 0 ts + s.lines < 4294967296
-    line-in-reach f = (greatest-below (λ t. t.dst_line) 0 s.lines 4294967296 ts).1 (omega (arith, f), all-out (λ t. t.dst_line + s.lines < 4294967296) (λ t b. b.dst_line) ts all-moved)
+    pub line-in-reach : s.position.line < 4294967296 → greatest (λ t. t.dst_line) 0 ts + s.position.line < 4294967296
+    line-in-reach f = (greatest-below (λ t. t.dst_line) 0 s.position.line 4294967296 ts).1 (omega (arith, f), all-out (λ t. t.dst_line + s.position.line < 4294967296) (λ t b. b.dst_line) ts all-moved)
 
     pub source-in-reach : s.sources < 4294967296 → greatest (λ t. above t.source_id) 0 ts + s.sources < 4294967296
     source-in-reach f =
@@ -98,6 +98,6 @@ module _ (s : Shift) where
     name-in-reach f =
         (greatest-below (λ t. above t.name_id) 0 s.names 4294967296 ts).1 (omega (arith, f), all-out (λ t. above t.name_id + s.names < 4294967296) (λ t b. id-out s.names t.name_id f b.name_id) ts all-moved)
 
-    pub column-in-reach : s.columns < 4294967296 → greatest moving_column 0 ts + s.columns < 4294967296
+    pub column-in-reach : s.position.column < 4294967296 → greatest moving_column 0 ts + s.position.column < 4294967296
     column-in-reach f =
-        (greatest-below moving_column 0 s.columns 4294967296 ts).1 (omega (arith, f), all-out (λ t. moving_column t + s.columns < 4294967296) (λ t b. column-out s t f b.dst_col) ts all-moved)
+        (greatest-below moving_column 0 s.position.column 4294967296 ts).1 (omega (arith, f), all-out (λ t. moving_column t + s.position.column < 4294967296) (λ t b. column-out s t f b.dst_col) ts all-moved)

@@ -5,7 +5,8 @@ use Rattle.oxc_sourcemap_tokens.specs.Token.{TokenRecord}
 use Rattle.oxc_sourcemap_parts.specs.Record.{MapRecord}
 use Rattle.oxc_sourcemap_parts.specs.Sorted.{are_tokens_sorted}
 use Rattle.oxc_sourcemap_parts.specs.Views.{empty_record}
-use Rattle.oxc_sourcemap_join.specs.Joined.{Offset, at_lines, shifted, joined}
+use Rattle.oxc_sourcemap_tokens.specs.declared.position.Position.{Position}
+use Rattle.oxc_sourcemap_join.specs.Joined.{at_lines, shifted, joined}
 
 -- generated line and column, source line and column, source id, name id
 abbrev token : ℕ → ℕ → ℕ → ℕ → Option ℕ → Option ℕ → TokenRecord
@@ -91,7 +92,7 @@ joins-an_entry_past_the_limit : (joined_at_lines ((ignoring (codes "a.js" ∷ []
 joins-an_entry_past_the_limit = refl
 
 -- ---- joins at a line and a column
-abbrev at : ℕ → ℕ → Offset
+abbrev at : ℕ → ℕ → Position
 at line column = record { line = line; column = column }
 
 -- AAAA,IAAI with a.js, and AAAA;AACA with b.js

@@ -1,8 +1,9 @@
--- Joins: several maps as one, each at its offset, its ids raised to where its names and sources are listed.
+-- Joins: several maps as one, each at the position where its code begins, its ids raised to where its names and sources are listed.
 use Rattle.std.specs.Prelude.{ℕ, zero, suc, ◌+◌, Bool, true, false, ◌&&◌, ◌≤◌, ◌<◌, List, [], ◌∷◌, ◌++◌, map, length, Option, Some, None, if◌then◌else◌, ◌==◌}
 use Rattle.std.specs.Borrow.{Bor}
 use Rattle.std.specs.List.{All}
 use Rattle.std.specs.Option.{IfSome, option_map, unwrap_or}
+use Rattle.oxc_sourcemap_tokens.specs.declared.position.Position.{Position}
 use Rattle.oxc_sourcemap_tokens.specs.declared.token.TokenChunk.{TokenChunk}
 use Rattle.oxc_sourcemap_tokens.specs.Token.{TokenRecord, AreInBounds, last}
 use Rattle.oxc_sourcemap_tokens.specs.State.{state_at}
@@ -19,33 +20,28 @@ fitted (suc n) (content ∷ contents) = content ∷ fitted n contents
 abbrev pub raised_id : ℕ → Option ℕ → Option ℕ
 raised_id number id = option_map (λ i. i + number) id
 
--- where the code of a map begins in the code of a join
-pub record Offset : Type 0 where
-  pub line : ℕ
-  pub column : ℕ
-
 -- this line and column
-abbrev pub position : ℕ → ℕ → Offset
+abbrev pub position : ℕ → ℕ → Position
 position line column = record { line = line; column = column }
 
 -- At the beginning of a line: joins at lines alone are joins at these offsets.
-abbrev pub at_line : ℕ → Offset
+abbrev pub at_line : ℕ → Position
 at_line line = record { line = line; column = 0 }
 
 -- items, each at the beginning of a line
-abbrev pub at_lines : {A : Type 0} → List (A × ℕ) → List (A × Offset)
+abbrev pub at_lines : {A : Type 0} → List (A × ℕ) → List (A × Position)
 at_lines items = map (λ i. (i.0, at_line i.1)) items
 
 -- items, each at a line and a column
-abbrev pub at_positions : {A : Type 0} → List (A × ℕ × ℕ) → List (A × Offset)
+abbrev pub at_positions : {A : Type 0} → List (A × ℕ × ℕ) → List (A × Position)
 at_positions items = map (λ i. (i.0, record { line = i.1; column = i.2 })) items
 
 -- The generated column of a place on this line, at an offset: line 0 begins at the offset's column, all others at column 0.
-abbrev pub shifted_column : Offset → ℕ → ℕ → ℕ
+abbrev pub shifted_column : Position → ℕ → ℕ → ℕ
 shifted_column offset line column = if line == 0 then column + offset.column else column
 
 -- a token of a map whose names and sources stand after so many others, at its offset
-abbrev pub shifted : ℕ → ℕ → Offset → TokenRecord → TokenRecord
+abbrev pub shifted : ℕ → ℕ → Position → TokenRecord → TokenRecord
 shifted names sources offset t = record t {
   dst_line = t.dst_line + offset.line;
   dst_col = shifted_column offset t.dst_line t.dst_col;
@@ -82,11 +78,11 @@ abbrev pub seamed : {A : Type 0} → (A → A → Bool) → List A → List A �
 seamed same xs ys = xs ++ without_repeat same (last xs) ys
 
 -- the tokens of a join, and after them those of a map
-abbrev pub added_tokens : MapRecord → MapRecord → Offset → List TokenRecord
+abbrev pub added_tokens : MapRecord → MapRecord → Position → List TokenRecord
 added_tokens r m offset = seamed is_same_token r.tokens (map (shifted (length r.names) (length r.sources) offset) m.tokens)
 
 -- the chunk of what is added: its header is the state after all tokens so far
-abbrev pub added_chunk : MapRecord → MapRecord → Offset → TokenChunk
+abbrev pub added_chunk : MapRecord → MapRecord → Position → TokenChunk
 added_chunk r m offset = chunk_from (state_at r.tokens (length r.tokens)) (length r.tokens) (length (added_tokens r m offset))
 
 -- an ignore list with each entry raised by a number; none stays none
@@ -105,7 +101,7 @@ added_ignore_list r m = appended_ignore_lists r.ignore_list (raised_ignore_list 
 
 -- A join, and a map after it. The join has one content for each source and a chunk for each map. It has none of these: file,
 -- source root, debug id.
-abbrev pub added : MapRecord → MapRecord → Offset → MapRecord
+abbrev pub added : MapRecord → MapRecord → Position → MapRecord
 added r m offset = record {
   file = None;
   names = r.names ++ m.names;
@@ -133,16 +129,16 @@ nothing_joined = record {
 }
 
 -- a join, and after it these maps, each at its offset
-abbrev pub added_all : MapRecord → List (MapRecord × Offset) → MapRecord
+abbrev pub added_all : MapRecord → List (MapRecord × Position) → MapRecord
 added_all r [] = r
 added_all r (m ∷ ms) = added_all (added r m.0 m.1) ms
 
 -- the join of these maps, each at its offset
-abbrev pub joined : List (MapRecord × Offset) → MapRecord
+abbrev pub joined : List (MapRecord × Position) → MapRecord
 joined maps = added_all nothing_joined maps
 
 -- borrowed maps, each at the beginning of a line
-abbrev pub lent_maps : List (Bor MapRecord × ℕ) → List (MapRecord × Offset)
+abbrev pub lent_maps : List (Bor MapRecord × ℕ) → List (MapRecord × Position)
 lent_maps maps = map (λ m. (m.0.now, at_line m.1)) maps
 
 -- each entry of an ignore list that may be there is 0 to 4294967294

@@ -4,7 +4,8 @@ use Rattle.oxc_sourcemap_tokens.specs.Token.{TokenRecord, AreInBounds, last}
 use Rattle.oxc_sourcemap_tokens.specs.declared.token.TokenChunk.{TokenChunk}
 use Rattle.oxc_sourcemap_tokens.specs.Chunks.{ChunksFit}
 use Rattle.oxc_sourcemap_parts.specs.Record.{Text, MapRecord}
-use Rattle.oxc_sourcemap_join.specs.Joined.{Offset, shifted, is_same_token, without_repeat, added_chunk, added, AreEntriesInBounds, IsWithinLimits}
+use Rattle.oxc_sourcemap_tokens.specs.declared.position.Position.{Position}
+use Rattle.oxc_sourcemap_join.specs.Joined.{shifted, is_same_token, without_repeat, added_chunk, added, AreEntriesInBounds, IsWithinLimits}
 use Rattle.oxc_sourcemap_join.specs.declared.joined_parts.Shift.{Shift}
 use Rattle.oxc_sourcemap_join.specs.declared.joined_parts.Addition.{Addition}
 
@@ -19,13 +20,9 @@ pub record IsJoin (ns ss : List Text) (cs : List (Option Text)) (ts : List Token
   pub fit : ChunksFit ts chunks
   pub entries : AreEntriesInBounds ignore_list
 
--- the offset to which a map is moved
-abbrev pub offset_of : Shift → Offset
-offset_of s = record { line = s.lines; column = s.columns }
-
 -- tokens, moved
 abbrev pub all_shifted : Shift → List TokenRecord → List TokenRecord
-all_shifted s tokens = map (shifted s.names s.sources (offset_of s)) tokens
+all_shifted s tokens = map (shifted s.names s.sources s.position) tokens
 
 -- one more than an id, and 0 for none
 abbrev pub above : Option ℕ → ℕ
@@ -43,10 +40,10 @@ greatest given most (t ∷ ts) = greatest given (max most (given t)) ts
 
 -- What is worked out for a map after a join: how its tokens are moved, how many of them are passed over before, and the
 -- chunk of the others.
-pub record IsAddition (r m : MapRecord) (place : Offset) (a : Addition) : Type 0 where
+pub record IsAddition (r m : MapRecord) (place : Position) (a : Addition) : Type 0 where
   pub names : a.shift.names ≡ length r.names
   pub sources : a.shift.sources ≡ length r.sources
-  pub offset : offset_of a.shift ≡ place
+  pub position : a.shift.position ≡ place
   pub passed : a.passed ≤ length m.tokens
   pub kept : all_shifted a.shift (drop a.passed m.tokens) ≡ without_repeat is_same_token (last r.tokens) (all_shifted a.shift m.tokens)
   pub chunk : a.chunk ≡ added_chunk r m place

@@ -8,14 +8,12 @@ ghost use Rattle.oxc_sourcemap_tokens.specs.declared.error.Error.TheVariants.{Ou
 ghost use Rattle.oxc_sourcemap_tokens.specs.Token.{IsInBounds, AreInBounds, last};
 ghost use Rattle.oxc_sourcemap_tokens.specs.Chunks.{ChunksFit};
 ghost use Rattle.oxc_sourcemap_parts.specs.Views.{texts_of, contents_of, ids_of, record_of_parts};
-ghost use Rattle.oxc_sourcemap_join.specs.Joined.{fitted, raised_id, shifted_column, shifted, is_same_token, without_repeat, raised_ignore_list, appended_ignore_lists, added, nothing_joined, AreEntriesInBounds, IsWithinLimits, position};
-ghost use Rattle.oxc_sourcemap_join.specs.Joining.{offset_of, all_shifted, above, moving_column, greatest, IsAddition};
+ghost use Rattle.oxc_sourcemap_join.specs.Joined.{fitted, raised_id, shifted_column, shifted, is_same_token, without_repeat, raised_ignore_list, appended_ignore_lists, added, nothing_joined, AreEntriesInBounds, IsWithinLimits};
+ghost use Rattle.oxc_sourcemap_join.specs.Joining.{all_shifted, above, moving_column, greatest, IsAddition};
 ghost use Rattle.oxc_sourcemap_tokens.specs.Results.{OnlyMemory};
 
-use oxc_sourcemap_parts::{
-    Contents, Names, SourceMapParts, Sources, contents_in, names_in, sources_in,
-};
-use oxc_sourcemap_tokens::{Error, Memory, Result, Token, TokenChunk, next_chunk};
+use oxc_sourcemap_parts::{Contents, SourceMapParts, Texts, contents_in, texts_in};
+use oxc_sourcemap_tokens::{Error, Memory, Position, Result, Token, TokenChunk, next_chunk};
 use std::alloc::Global;
 use std::borrow::CowStr;
 use std::marker::Model;
@@ -23,14 +21,13 @@ use std::marker::Model;
 /// The largest count of names, sources or tokens of a join.
 const MAX_COUNT: usize = 4294967295;
 
-/// How the tokens of a map are moved to their place in a join: the numbers of names and sources before, the lines, and the
-/// columns of its line 0.
+/// How the tokens of a map are moved in a join: its ids are raised by the numbers of names and sources before it, and its code
+/// begins at a position.
 #[derive(Clone, Copy)]
 struct Shift {
     names: u32,
     sources: u32,
-    lines: u32,
-    columns: u32,
+    position: Position,
 }
 
 /// Whether an id raised by a number is at most 4294967294; none is.
@@ -137,11 +134,11 @@ fn is_in_reach(greatest: u32, number: u32) -> bool
 impl Shift {
     /// The generated column of the moved token.
     fn column(&self, token: &Token) -> u64
-        ensures { result ≡ shifted_column (offset_of self.now) token.now.dst_line token.now.dst_col }
+        ensures { result ≡ shifted_column self.now.position token.now.dst_line token.now.dst_col }
     {
         let column = u64::from(token.get_dst_col());
-        if self.columns != 0 && token.get_dst_line() == 0 {
-            column + u64::from(self.columns)
+        if self.position.column != 0 && token.get_dst_line() == 0 {
+            column + u64::from(self.position.column)
         } else {
             column
         }
@@ -149,9 +146,9 @@ impl Shift {
 
     /// Whether tokens of these greatest numbers are in bounds, moved, but for their columns.
     fn fits_reach(self, reach: Reach) -> bool
-        ensures { IsTrue result ↔ ((reach.line + self.lines < 4294967296) × (reach.source + self.sources < 4294967296) × (reach.name + self.names < 4294967296)) }
+        ensures { IsTrue result ↔ ((reach.line + self.position.line < 4294967296) × (reach.source + self.sources < 4294967296) × (reach.name + self.names < 4294967296)) }
     {
-        is_in_reach(reach.line, self.lines)
+        is_in_reach(reach.line, self.position.line)
             && is_in_reach(reach.source, self.sources)
             && is_in_reach(reach.name, self.names)
     }
@@ -159,9 +156,9 @@ impl Shift {
     /// Whether the columns of these tokens are in bounds, moved.
     fn fits_columns(self, tokens: &[Token]) -> bool
         requires { AreInBounds tokens.now }
-        ensures { IsTrue result ↔ (greatest moving_column 0 tokens.now + self.columns < 4294967296) }
+        ensures { IsTrue result ↔ (greatest moving_column 0 tokens.now + self.position.column < 4294967296) }
     {
-        self.columns == 0 || is_in_reach(column_reach(tokens), self.columns)
+        self.position.column == 0 || is_in_reach(column_reach(tokens), self.position.column)
     }
 
     /// Whether all of the moved tokens are in bounds. It compares the greatest numbers alone, so that the loops over the
@@ -174,7 +171,7 @@ impl Shift {
 
     /// Whether all entries of an ignore list, raised by the number of sources before, are at most 4294967294.
     fn fits_ignore_list(&self, list: Option<&[u32]>) -> bool
-        ensures { IsTrue result ↔ AreEntriesInBounds (raised_ignore_list self.now.sources (option_lent_items list.entry)) }
+        ensures { IsTrue result ↔ AreEntriesInBounds (raised_ignore_list self.now.sources (lent_item list.entry)) }
     {
         match list {
             Some(ids) => are_raisable(ids, self.sources),
@@ -184,11 +181,11 @@ impl Shift {
 
     /// The moved token.
     fn moved(&self, token: &Token) -> Token
-        requires { IsInBounds (shifted self.now.names self.now.sources (offset_of self.now) token.now) }
-        ensures { result ≡ shifted self.now.names self.now.sources (offset_of self.now) token.now }
+        requires { IsInBounds (shifted self.now.names self.now.sources self.now.position token.now) }
+        ensures { result ≡ shifted self.now.names self.now.sources self.now.position token.now }
     {
         Token::new(
-            token.get_dst_line() + self.lines,
+            token.get_dst_line() + self.position.line,
             self.column(token) as u32,
             token.get_src_line(),
             token.get_src_col(),
@@ -229,8 +226,8 @@ impl Shift {
         list: &mut Option<Vec<u32>>,
         added: Option<&[u32]>,
     ) -> Memory<()>
-        requires { AreEntriesInBounds (raised_ignore_list self.now.sources (option_lent_items added)) }
-        ensures added { OnOk result (ids_of list.new ≡ appended_ignore_lists (ids_of list.old) (raised_ignore_list self.now.sources (option_lent_items added.entry))) }
+        requires { AreEntriesInBounds (raised_ignore_list self.now.sources (lent_item added)) }
+        ensures added { OnOk result (ids_of list.new ≡ appended_ignore_lists (ids_of list.old) (raised_ignore_list self.now.sources (lent_item added.entry))) }
         ensures unchanged { OnErr result (ids_of list.new ≡ ids_of list.old) }
     {
         let Some(added) = added else {
@@ -260,12 +257,12 @@ struct Addition {
     chunk: TokenChunk,
 }
 
-/// How many names, sources and tokens a map adds to a join.
-#[derive(Clone, Copy)]
-struct Counts {
-    names: usize,
-    sources: usize,
-    tokens: usize,
+/// How many names, sources and tokens there are in a map, or in several.
+#[derive(Clone, Copy, Default)]
+pub struct Lengths {
+    pub names: usize,
+    pub sources: usize,
+    pub tokens: usize,
 }
 
 /// Takes room in the lists of a join for this many names, sources with their contents, and tokens, and for a chunk.
@@ -275,47 +272,35 @@ fn make_room<'a>(
     contents: &mut Vec<Option<CowStr<'a>>>,
     tokens: &mut Vec<Token>,
     chunks: &mut Vec<TokenChunk>,
-    counts: Counts,
+    lengths: Lengths,
 ) -> Memory<()>
     ensures names { names.new.items ≡ names.old.items }
     ensures sources { sources.new.items ≡ sources.old.items }
     ensures contents { contents.new.items ≡ contents.old.items }
     ensures tokens { tokens.new.items ≡ tokens.old.items }
     ensures chunks { chunks.new.items ≡ chunks.old.items }
-    ensures room_for_names { OnOk result (vec_len names.new + counts.names ≤ vec_capacity names.new) }
-    ensures room_for_sources { OnOk result (vec_len sources.new + counts.sources ≤ vec_capacity sources.new) }
-    ensures room_for_contents { OnOk result (vec_len contents.new + counts.sources ≤ vec_capacity contents.new) }
-    ensures room_for_tokens { OnOk result (vec_len tokens.new + counts.tokens ≤ vec_capacity tokens.new) }
+    ensures room_for_names { OnOk result (vec_len names.new + lengths.names ≤ vec_capacity names.new) }
+    ensures room_for_sources { OnOk result (vec_len sources.new + lengths.sources ≤ vec_capacity sources.new) }
+    ensures room_for_contents { OnOk result (vec_len contents.new + lengths.sources ≤ vec_capacity contents.new) }
+    ensures room_for_tokens { OnOk result (vec_len tokens.new + lengths.tokens ≤ vec_capacity tokens.new) }
     ensures room_for_chunk { OnOk result (vec_len chunks.new + 1 ≤ vec_capacity chunks.new) }
 {
-    names.reserve(counts.names)?;
-    sources.reserve(counts.sources)?;
-    contents.reserve(counts.sources)?;
-    tokens.reserve(counts.tokens)?;
+    names.reserve(lengths.names)?;
+    sources.reserve(lengths.sources)?;
+    contents.reserve(lengths.sources)?;
+    tokens.reserve(lengths.tokens)?;
     chunks.reserve(1)
 }
 
 // Each of these calls `push_` is made where there is room for what it adds.
 
-/// Adds names, borrowed.
-fn push_names<'a>(texts: &mut Vec<CowStr<'a>>, lent: Names<'a, '_>)
+/// Adds texts, borrowed.
+fn push_texts<'a>(texts: &mut Vec<CowStr<'a>>, lent: Texts<'a, '_>)
     requires { vec_len texts.old + length lent ≤ vec_capacity texts.old }
     ensures { texts_of texts.new ≡ texts_of texts.old ++ lent.entry }
 {
-    for name in lent {
-        let pushed: std::result::Result<_, _> = texts.push(CowStr::Borrowed(name));
-        pushed.unwrap();
-    }
-}
-
-/// Adds sources, borrowed.
-fn push_sources<'a>(texts: &mut Vec<CowStr<'a>>, lent: Sources<'a, '_>)
-    requires { vec_len texts.old + length lent ≤ vec_capacity texts.old }
-    ensures { texts_of texts.new ≡ texts_of texts.old ++ lent.entry }
-{
-    for source in lent {
-        let pushed: std::result::Result<_, _> = texts.push(CowStr::Borrowed(source));
-        pushed.unwrap();
+    for text in lent {
+        texts.push_reserved(CowStr::Borrowed(text));
     }
 }
 
@@ -325,8 +310,7 @@ fn push_unknown<'a>(contents: &mut Vec<Option<CowStr<'a>>>, count: usize)
     ensures { contents_of contents.new ≡ contents_of contents.old ++ replicate count None }
 {
     for i in 0..count {
-        let pushed: std::result::Result<_, _> = contents.push(None);
-        pushed.unwrap();
+        contents.push_reserved(None);
     }
 }
 
@@ -340,7 +324,8 @@ fn lent_content<'a>(content: Option<Option<&'a str>>) -> Option<CowStr<'a>>
     }
 }
 
-/// Adds this many contents: these, borrowed, and padded with unknown ones or cut.
+/// Keeps borrowed contents at the index of their source: a map may list fewer or more contents than sources, and the next map's
+/// would else follow at the wrong index. So many are added, padded with unknown ones or cut.
 fn push_lent_fitted<'a>(
     contents: &mut Vec<Option<CowStr<'a>>>,
     mut lent: Contents<'a, '_>,
@@ -350,12 +335,11 @@ fn push_lent_fitted<'a>(
     ensures { contents_of contents.new ≡ contents_of contents.old ++ fitted count lent.entry }
 {
     for id in 0..count {
-        let pushed: std::result::Result<_, _> = contents.push(lent_content(lent.next()));
-        pushed.unwrap();
+        contents.push_reserved(lent_content(lent.next()));
     }
 }
 
-/// Adds this many contents: these, moved, and padded with unknown ones or cut.
+/// Keeps moved contents at the index of their source, as `push_lent_fitted` does with borrowed ones.
 fn push_fitted<'a>(
     contents: &mut Vec<Option<CowStr<'a>>>,
     mut added: Vec<Option<CowStr<'a>>>,
@@ -408,12 +392,11 @@ fn push_raised(list: &mut Vec<u32>, added: &[u32], number: u32)
     ensures { list.new.items ≡ list.old.items ++ map (λ id. id + number) added.now }
 {
     for id in added {
-        let pushed: std::result::Result<_, _> = list.push(*id + number);
-        pushed.unwrap();
+        list.push_reserved(*id + number);
     }
 }
 
-/// The parts of the join of some maps, each at a line and a column of the joined code. The strings of maps that are lent are
+/// The parts of the join of some maps, each at a position of the joined code. The strings of maps that are lent are
 /// borrowed for `'a`, those of maps that are moved are moved: an add copies no string.
 ///
 /// An add that fails leaves the join as it was. Whether the result is sorted is not checked here.
@@ -476,7 +459,7 @@ impl<'a> JoinedParts<'a> {
         token_chunks_len: usize,
     ) -> Result<JoinedParts<'a>>
         ensures parts { IfOk result (λ parts. parts ≡ nothing_joined) }
-        ensures refused { OnlyMemory result }
+        ensures error { OnlyMemory result }
     {
         Ok(JoinedParts {
             alloc,
@@ -504,15 +487,14 @@ impl<'a> JoinedParts<'a> {
     }
 
     /// What an add of this map takes, None where it would pass a limit.
-    fn addition(&self, parts: &SourceMapParts<'_>, line: u32, column: u32) -> Option<Addition>
-        ensures fits { IfSome result (λ a. IsAddition self.now (record_of_parts parts.now) (position line column) a) }
-        ensures too_large { result ≡ None → ¬ (IsWithinLimits (added self.now (record_of_parts parts.now) (position line column))) }
+    fn addition(&self, parts: &SourceMapParts<'_>, position: Position) -> Option<Addition>
+        ensures fits { IfSome result (λ a. IsAddition self.now (record_of_parts parts.now) position a) }
+        ensures too_large { result ≡ None → ¬ (IsWithinLimits (added self.now (record_of_parts parts.now) position)) }
     {
         let shift = Shift {
             names: self.names.len() as u32,
             sources: self.sources.len() as u32,
-            lines: line,
-            columns: column,
+            position,
         };
         let tokens = parts.tokens.as_slice();
         if parts.names.len() > MAX_COUNT - self.names.len()
@@ -542,20 +524,20 @@ impl<'a> JoinedParts<'a> {
         })
     }
 
-    /// Appends a map whose code begins at this line and column of the joined code (docs/FORMAT.md, "Joins"). Lines and columns
-    /// count from 0; columns are in UTF-16 code units. The strings of the map are lent.
+    /// Appends a map whose code begins at this position of the joined code (docs/FORMAT.md, "Joins"). The strings of the map are
+    /// borrowed.
     ///
     /// Fails with `TooLarge` if there would be more than 4294967295 names, sources or tokens, a line or a column above
     /// 4294967295, or an id or an entry of the ignore list above 4294967294, then with `OutOfMemory` if memory is refused;
     /// the join is then as it was.
-    pub fn add_lent(&mut self, parts: &'a SourceMapParts<'_>, line: u32, column: u32) -> Result<()>
-        ensures joined { OnOk result (self.new ≡ added self.old (record_of_parts parts.now) (position line column)) }
-        ensures limits { OnOk result (IsWithinLimits (added self.old (record_of_parts parts.now) (position line column))) }
-        ensures too_large { IsErrOf result TooLarge ↔ ¬ (IsWithinLimits (added self.old (record_of_parts parts.now) (position line column))) }
-        ensures refused { IfErr result (λ e. (e ≡ OutOfMemory) ⊎ (e ≡ TooLarge)) }
+    pub fn add_lent(&mut self, parts: &'a SourceMapParts<'_>, position: Position) -> Result<()>
+        ensures joined { OnOk result (self.new ≡ added self.old (record_of_parts parts.now) position) }
+        ensures limits { OnOk result (IsWithinLimits (added self.old (record_of_parts parts.now) position)) }
+        ensures too_large { IsErrOf result TooLarge ↔ ¬ (IsWithinLimits (added self.old (record_of_parts parts.now) position)) }
+        ensures error { IfErr result (λ e. (e ≡ OutOfMemory) ⊎ (e ≡ TooLarge)) }
         ensures unchanged { OnErr result (self.new ≡ self.old) }
     {
-        let Some(addition) = self.addition(parts, line, column) else {
+        let Some(addition) = self.addition(parts, position) else {
             return Err(Error::TooLarge);
         };
         let kept = &parts.tokens.as_slice()[addition.passed..];
@@ -566,7 +548,7 @@ impl<'a> JoinedParts<'a> {
             &mut self.source_contents,
             &mut self.tokens,
             &mut self.token_chunks,
-            Counts {
+            Lengths {
                 names: parts.names.len(),
                 sources: source_count,
                 tokens: kept.len(),
@@ -575,29 +557,28 @@ impl<'a> JoinedParts<'a> {
         let shift = addition.shift;
         let ignored = parts.ignore_list.as_deref();
         shift.add_ignore_list(self.alloc, &mut self.ignore_list, ignored)?;
-        push_names(&mut self.names, names_in(parts.names.as_slice()));
-        push_sources(&mut self.sources, sources_in(parts.sources.as_slice()));
+        push_texts(&mut self.names, texts_in(parts.names.as_slice()));
+        push_texts(&mut self.sources, texts_in(parts.sources.as_slice()));
         push_lent_fitted(
             &mut self.source_contents,
             contents_in(parts.source_contents.as_slice()),
             source_count,
         );
         push_moved(&mut self.tokens, shift, kept);
-        let pushed: std::result::Result<_, _> = self.token_chunks.push(addition.chunk);
-        pushed.unwrap();
+        self.token_chunks.push_reserved(addition.chunk);
         Ok(())
     }
 
     /// Appends a map as `add_lent` does, with the same result, but moves its strings and drops the rest of it. Fails as that
     /// does; the join is then as it was, and the map is dropped.
-    pub fn add_moved(&mut self, parts: SourceMapParts<'a>, line: u32, column: u32) -> Result<()>
-        ensures joined { OnOk result (self.new ≡ added self.old (record_of_parts parts.entry) (position line column)) }
-        ensures limits { OnOk result (IsWithinLimits (added self.old (record_of_parts parts.entry) (position line column))) }
-        ensures too_large { IsErrOf result TooLarge ↔ ¬ (IsWithinLimits (added self.old (record_of_parts parts.entry) (position line column))) }
-        ensures refused { IfErr result (λ e. (e ≡ OutOfMemory) ⊎ (e ≡ TooLarge)) }
+    pub fn add_moved(&mut self, parts: SourceMapParts<'a>, position: Position) -> Result<()>
+        ensures joined { OnOk result (self.new ≡ added self.old (record_of_parts parts.entry) position) }
+        ensures limits { OnOk result (IsWithinLimits (added self.old (record_of_parts parts.entry) position)) }
+        ensures too_large { IsErrOf result TooLarge ↔ ¬ (IsWithinLimits (added self.old (record_of_parts parts.entry) position)) }
+        ensures error { IfErr result (λ e. (e ≡ OutOfMemory) ⊎ (e ≡ TooLarge)) }
         ensures unchanged { OnErr result (self.new ≡ self.old) }
     {
-        let Some(addition) = self.addition(&parts, line, column) else {
+        let Some(addition) = self.addition(&parts, position) else {
             return Err(Error::TooLarge);
         };
         let SourceMapParts {
@@ -616,7 +597,7 @@ impl<'a> JoinedParts<'a> {
             &mut self.source_contents,
             &mut self.tokens,
             &mut self.token_chunks,
-            Counts {
+            Lengths {
                 names: names.len(),
                 sources: count,
                 tokens: kept.len(),
@@ -629,8 +610,7 @@ impl<'a> JoinedParts<'a> {
         self.sources.append(&mut sources).unwrap();
         push_fitted(&mut self.source_contents, source_contents, count);
         push_moved(&mut self.tokens, shift, kept);
-        let pushed: std::result::Result<_, _> = self.token_chunks.push(addition.chunk);
-        pushed.unwrap();
+        self.token_chunks.push_reserved(addition.chunk);
         Ok(())
     }
 

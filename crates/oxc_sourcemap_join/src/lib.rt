@@ -1,8 +1,6 @@
-//! Joins: the parts of maps as one, each map at its line and column.
-//!
-//! The joins of maps, in `oxc_sourcemap_concat`, stand on this crate. Users name the crate `oxc_sourcemap`.
+//! Joins: the parts of maps as one, each map at its line and column. Part of `oxc_sourcemap`.
 #![tactic(auto)]
 
 mod joined_parts;
 
-pub use joined_parts::JoinedParts;
+pub use joined_parts::{JoinedParts, Lengths};

@@ -97,6 +97,10 @@ version_three n = if n == 3 then Ok n else Err (BadJson (Version n))
 abbrev pub version_in : Data → Result ℕ Error
 version_in d = or_misshapen VersionField (as_id d) >>= version_three
 
+-- the version of an object: a member that must be there
+abbrev pub version_of : Option Data → Result ℕ Error
+version_of member = required VersionField version_in member
+
 -- the list of names: a missing one is empty, and null is misshapen
 abbrev pub names_of : Option Data → Result (List (List ℕ)) Error
 names_of None = Ok []
@@ -111,14 +115,14 @@ ignore_list_of None older = optional (ids_in GoogleIgnoreList) older
 abbrev pub file_of : Data → Result (Option (List ℕ)) Error
 file_of d = do
   members ← or_misshapen Object (as_object d)
-  version ← required VersionField version_in (get (codes "version") d)
+  version ← version_of (get (codes "version") d)
   optional (text_in File) (present (get (codes "file") d))
 
 -- the fields of a JSON value, or its first fault
 unfoldable pub shape : Data → Result JsonRecord Error
 shape d = do
   members ← or_misshapen Object (as_object d)
-  version ← required VersionField version_in (get (codes "version") d)
+  version ← version_of (get (codes "version") d)
   file ← optional (text_in File) (present (get (codes "file") d))
   mappings ← required Mappings (text_in Mappings) (get (codes "mappings") d)
   source_root ← optional (text_in SourceRoot) (present (get (codes "sourceRoot") d))

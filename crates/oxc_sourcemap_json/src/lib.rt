@@ -3,9 +3,9 @@
 #![tactic(auto)]
 
 mod json_source_map;
-mod moved;
+mod members;
 mod shape;
 
 pub use json_source_map::JSONSourceMap;
-pub use moved::json_of;
+pub use members::json_of;
 pub use shape::{file_from_value, read_id};

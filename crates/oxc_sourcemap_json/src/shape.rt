@@ -1,20 +1,22 @@
 //! The shape of a source map as a JSON value.
-ghost use Rattle.std.specs.Prelude.{◌≡◌, map, option_map, string_bytes, codes, Ok, Err, Some, None, Option};
+ghost use Rattle.std.specs.Prelude.{◌≡◌, option_map, string_bytes};
 ghost use Rattle.serde_json.specs.View.{view};
 ghost use Rattle.serde_json.specs.Find.{get};
-ghost use Rattle.oxc_sourcemap_tokens.specs.declared.error.Field.TheVariants.{Version as VersionField, Mappings, Sources, SourcesContent};
-ghost use Rattle.oxc_sourcemap_json.specs.Json.{json_record, json_contents};
-ghost use Rattle.oxc_sourcemap_json.specs.Shape.{present, optional, required, text_in, texts_in, contents_in, ids_in, version_in, names_of, ignore_list_of, as_id, file_of, shape};
 ghost use Rattle.oxc_sourcemap_tokens.specs.Results.{Answers};
+ghost use Rattle.oxc_sourcemap_json.specs.Json.{json_record, json_ids};
+ghost use Rattle.oxc_sourcemap_json.specs.Members.{lent_member};
+ghost use Rattle.oxc_sourcemap_json.specs.Shape.{present, optional, text_in, ids_in, version_of};
+ghost use Rattle.oxc_sourcemap_json.specs.Shape.{ignore_list_of, as_id, file_of, shape};
 
 use crate::json_source_map::JSONSourceMap;
+use crate::members::json_of;
 use oxc_sourcemap_tokens::{Error, Field, JsonFault, Result};
 use serde_json::Value;
 use std::alloc::Global;
 
 /// A member that is there and is not null.
 fn present(member: Option<&Value>) -> Option<&Value>
-    ensures { option_map (λ value. view value.now) result ≡ present (option_map (λ value. view value.now) member.entry) }
+    ensures { lent_member result ≡ present (lent_member member.entry) }
 {
     let value = member?;
     if value.is_null() { None } else { Some(value) }
@@ -28,23 +30,6 @@ fn read_text(alloc: Global, member: &Value, field: Field) -> Result<String>
         return Err(Error::BadJson(JsonFault::Shape(field)));
     };
     Ok(String::from_str(alloc, text)?)
-}
-
-/// A list of texts.
-fn read_texts(alloc: Global, member: &Value, field: Field) -> Result<Vec<String>>
-    ensures { Answers (λ texts. map string_bytes texts.items) result (texts_in field (view member.now)) }
-{
-    let Some(items) = member.as_array() else {
-        return Err(Error::BadJson(JsonFault::Shape(field)));
-    };
-    let mut texts = Vec::new(alloc);
-    for item in items {
-        let Some(text) = item.as_str() else {
-            return Err(Error::BadJson(JsonFault::Shape(field)));
-        };
-        texts.push(String::from_str(alloc, text)?)?;
-    }
-    Ok(texts)
 }
 
 /// A whole number of 0 to 4294967295.
@@ -75,29 +60,9 @@ fn read_ids(alloc: Global, member: &Value, field: Field) -> Result<Vec<u32>>
     Ok(ids)
 }
 
-/// A list of texts and nulls.
-fn read_contents(alloc: Global, member: &Value, field: Field) -> Result<Vec<Option<String>>>
-    ensures { Answers (λ contents. map (option_map string_bytes) contents.items) result (contents_in field (view member.now)) }
-{
-    let Some(items) = member.as_array() else {
-        return Err(Error::BadJson(JsonFault::Shape(field)));
-    };
-    let mut contents = Vec::new(alloc);
-    for item in items {
-        if item.is_null() {
-            contents.push(None)?;
-        } else if let Some(text) = item.as_str() {
-            contents.push(Some(String::from_str(alloc, text)?))?;
-        } else {
-            return Err(Error::BadJson(JsonFault::Shape(field)));
-        }
-    }
-    Ok(contents)
-}
-
 /// The version, which must be 3.
 pub(crate) fn read_version(member: Option<&Value>) -> Result<u32>
-    ensures { result ≡ required VersionField version_in (option_map (λ value. view value.now) member.entry) }
+    ensures { result ≡ version_of (lent_member member.entry) }
 {
     let Some(version) = member.and_then(read_id) else {
         return Err(Error::BadJson(JsonFault::Shape(Field::Version)));
@@ -110,52 +75,13 @@ pub(crate) fn read_version(member: Option<&Value>) -> Result<u32>
 
 /// A text that may be missing or null.
 fn optional_text(alloc: Global, value: &Value, key: &str, field: Field) -> Result<Option<String>>
-    ensures { Answers (option_map string_bytes) result (optional (text_in field) (present (get key.now (view value.now)))) }
+    ensures { Answers (option_map string_bytes) result
+        (optional (text_in field) (present (get key.now (view value.now)))) }
 {
     let Some(member) = present(value.get(key)) else {
         return Ok(None);
     };
     Ok(Some(read_text(alloc, member, field)?))
-}
-
-/// The mappings, which must be there.
-fn read_mappings(alloc: Global, value: &Value) -> Result<String>
-    ensures { Answers string_bytes result (required Mappings (text_in Mappings) (get (codes "mappings") (view value.now))) }
-{
-    let Some(member) = value.get("mappings") else {
-        return Err(Error::BadJson(JsonFault::Shape(Field::Mappings)));
-    };
-    read_text(alloc, member, Field::Mappings)
-}
-
-/// The sources, which must be there.
-fn read_sources(alloc: Global, value: &Value) -> Result<Vec<String>>
-    ensures { Answers (λ texts. map string_bytes texts.items) result (required Sources (texts_in Sources) (get (codes "sources") (view value.now))) }
-{
-    let Some(member) = value.get("sources") else {
-        return Err(Error::BadJson(JsonFault::Shape(Field::Sources)));
-    };
-    read_texts(alloc, member, Field::Sources)
-}
-
-/// The contents of sources, which may be missing or null.
-fn read_sources_content(alloc: Global, value: &Value) -> Result<Option<Vec<Option<String>>>>
-    ensures { Answers json_contents result (optional (contents_in SourcesContent) (present (get (codes "sourcesContent") (view value.now)))) }
-{
-    let Some(member) = present(value.get("sourcesContent")) else {
-        return Ok(None);
-    };
-    Ok(Some(read_contents(alloc, member, Field::SourcesContent)?))
-}
-
-/// The names, which may be missing but not null.
-fn read_names(alloc: Global, value: &Value) -> Result<Vec<String>>
-    ensures { Answers (λ texts. map string_bytes texts.items) result (names_of (get (codes "names") (view value.now))) }
-{
-    match value.get("names") {
-        Some(member) => read_texts(alloc, member, Field::Names),
-        None => Ok(Vec::new(alloc)),
-    }
 }
 
 /// The ignore list: where it is missing or null, the one of the older key, which may be missing or null, too.
@@ -164,7 +90,8 @@ pub(crate) fn read_either_list(
     member: Option<&Value>,
     older: Option<&Value>,
 ) -> Result<Option<Vec<u32>>>
-    ensures { Answers (option_map (λ list. list.items)) result (ignore_list_of (present (option_map (λ value. view value.now) member.entry)) (present (option_map (λ value. view value.now) older.entry))) }
+    ensures { Answers json_ids result
+        (ignore_list_of (present (lent_member member.entry)) (present (lent_member older.entry))) }
 {
     if let Some(list) = present(member) {
         return Ok(Some(read_ids(alloc, list, Field::IgnoreList)?));
@@ -173,17 +100,6 @@ pub(crate) fn read_either_list(
         return Ok(None);
     };
     Ok(Some(read_ids(alloc, list, Field::GoogleIgnoreList)?))
-}
-
-/// The ignore list of a value.
-fn read_ignore_list(alloc: Global, value: &Value) -> Result<Option<Vec<u32>>>
-    ensures { Answers (option_map (λ list. list.items)) result (ignore_list_of (present (get (codes "ignoreList") (view value.now))) (present (get (codes "x_google_ignoreList") (view value.now)))) }
-{
-    read_either_list(
-        alloc,
-        value.get("ignoreList"),
-        value.get("x_google_ignoreList"),
-    )
 }
 
 /// The file of a JSON value that is a source map, indexed or not (docs/FORMAT.md, "The shape of a JSON value"); None if it
@@ -206,7 +122,7 @@ pub fn file_from_value(alloc: Global, value: &Value) -> Result<Option<String>>
 
 impl JSONSourceMap {
     /// The fields of a JSON value (docs/FORMAT.md, "The shape of a JSON value"; ECMA-426, "Source map format"). Keys that
-    /// are not listed here are passed over.
+    /// are not listed here are passed over. The value is cloned, and its strings are moved out of the clone.
     ///
     /// Fails with `BadJson` for the first of these in this order, and with `OutOfMemory` if memory is refused:
     /// - `Shape(Object)` unless the value is an object;
@@ -224,24 +140,6 @@ impl JSONSourceMap {
     pub fn from_value(alloc: Global, value: &Value) -> Result<JSONSourceMap>
         ensures { Answers json_record result (shape (view value.now)) }
     {
-        let file = file_from_value(alloc, value)?;
-        let mappings = read_mappings(alloc, value)?;
-        let source_root = optional_text(alloc, value, "sourceRoot", Field::SourceRoot)?;
-        let sources = read_sources(alloc, value)?;
-        let sources_content = read_sources_content(alloc, value)?;
-        let names = read_names(alloc, value)?;
-        let debug_id = optional_text(alloc, value, "debugId", Field::DebugId)?;
-        let ignore_list = read_ignore_list(alloc, value)?;
-        Ok(JSONSourceMap {
-            version: 3,
-            file,
-            mappings,
-            source_root,
-            sources,
-            sources_content,
-            names,
-            debug_id,
-            ignore_list,
-        })
+        json_of(alloc, value.clone()?)
     }
 }

@@ -7,7 +7,8 @@ use Rattle.oxc_sourcemap_tokens.specs.Token.{TokenRecord}
 use Rattle.oxc_sourcemap_parts.specs.Record.{Text, MapRecord}
 use Rattle.oxc_sourcemap_parts.specs.Sound.{IsInRange}
 use Rattle.oxc_sourcemap_parts.specs.DecodedMap.{DecodedSource, sources_of, name_of, mapping_of, decoded_map_of}
-use Rattle.oxc_sourcemap_join.specs.Joined.{Offset, fitted, is_same_token, seamed, raised_ignore_list, appended_ignore_lists, joined}
+use Rattle.oxc_sourcemap_tokens.specs.declared.position.Position.{Position}
+use Rattle.oxc_sourcemap_join.specs.Joined.{fitted, is_same_token, seamed, raised_ignore_list, appended_ignore_lists, joined}
 use Rattle.oxc_sourcemap_join.proofs.SameToken.{decides_token}
 use Rattle.oxc_sourcemap_join.proofs.Fitted.{length-fitted}
 use Rattle.oxc_sourcemap_laws.specs.Repeats.{without_repeats, is_same_mapping, EqualUpToRepeats}
@@ -62,14 +63,14 @@ entry-is : (ss : List DecodedSource) (ns : List Text) (m : TokenRecord) (q : Opt
     → mapping_of ss ns m ≡ record { dst_line = m.dst_line; dst_col = m.dst_col; original = option_map (λ s. record { source = s; src_line = m.src_line; src_col = m.src_col; name = n }) q }
 entry-is ss ns m q n e f = rw (← e, ← f)
 
-entry-left : (ss ss' : List DecodedSource) (ns ns' : List Text) (offset : Offset) (m : TokenRecord) → IsInRange (length ns) (length ss) m → mapping_of (ss ++ ss') (ns ++ ns') (raised offset m) ≡ lowered offset (mapping_of ss ns m)
+entry-left : (ss ss' : List DecodedSource) (ns ns' : List Text) (offset : Position) (m : TokenRecord) → IsInRange (length ns) (length ss) m → mapping_of (ss ++ ss') (ns ++ ns') (raised offset m) ≡ lowered offset (mapping_of ss ns m)
 entry-left ss ss' ns ns' offset m h = entry-is (ss ++ ss') (ns ++ ns') (raised offset m) _ _ (get-left ss ss' m.source_id h.source_id) (get-left ns ns' m.name_id h.name_id)
 
 entry-right : (ss ss' : List DecodedSource) (ns ns' : List Text) (m : TokenRecord) → mapping_of (ss ++ ss') (ns ++ ns') (after (length ns) (length ss) m) ≡ mapping_of ss' ns' m
 entry-right ss ss' ns ns' m = entry-is (ss ++ ss') (ns ++ ns') (after (length ns) (length ss) m) _ _ (get-right ss ss' m.source_id) (get-right ns ns' m.name_id)
 
 -- the decoded map of a map and of what stands after it
-module _ (m : MapRecord) (offset : Offset) (r : MapRecord) (h : AllByRecursion (IsInRange (length m.names) (length m.sources)) m.tokens) where
+module _ (m : MapRecord) (offset : Position) (r : MapRecord) (h : AllByRecursion (IsInRange (length m.names) (length m.sources)) m.tokens) where
   pub together_sources : (decoded_map_of (together (alone m offset) r)).sources ≡ sources_of m.sources m.source_contents ++ sources_of r.sources r.source_contents
   together_sources = sources_of-append m.sources r.sources (fitted (length m.sources) m.source_contents) r.source_contents (length-fitted (length m.sources) m.source_contents) ∙ ap (λ ss. ss ++ sources_of r.sources r.source_contents) (sources_of-fitted m.sources m.source_contents)
 
@@ -98,28 +99,28 @@ module _ (m : MapRecord) (offset : Offset) (r : MapRecord) (h : AllByRecursion (
       ∙ unseamed is_same_token decides_token (λ zs. without_repeats is_same_mapping (map f zs)) (blind_map is_same_mapping decides_entry f) xs ys
       ∙ ap (without_repeats is_same_mapping) (map-append f xs ys ∙ ap (λ zs. zs ++ map f ys) left_entries ∙ ap (λ zs. map (lowered offset) (map (mapping_of ss m.names) m.tokens) ++ zs) right_entries)
 
-all_sources : (ms : List (MapRecord × Offset)) → (decoded_map_of (all_together ms)).sources ≡ (joined_decoded_maps (decoded_maps_of ms)).sources
+all_sources : (ms : List (MapRecord × Position)) → (decoded_map_of (all_together ms)).sources ≡ (joined_decoded_maps (decoded_maps_of ms)).sources
 all_sources [] = refl
 all_sources (m ∷ ms) = sources_of-append m.0.sources (all_together ms).sources (fitted (length m.0.sources) m.0.source_contents) (all_together ms).source_contents (length-fitted (length m.0.sources) m.0.source_contents) ∙ ap (λ ss. ss ++ sources_of (all_together ms).sources (all_together ms).source_contents) (sources_of-fitted m.0.sources m.0.source_contents) ∙ ap (λ ss. sources_of m.0.sources m.0.source_contents ++ ss) (all_sources ms)
 
-all_entries : (ms : List (MapRecord × Offset)) → AreAllInRange ms → without_repeats is_same_mapping (decoded_map_of (all_together ms)).mappings ≡ without_repeats is_same_mapping (joined_decoded_maps (decoded_maps_of ms)).mappings
+all_entries : (ms : List (MapRecord × Position)) → AreAllInRange ms → without_repeats is_same_mapping (decoded_map_of (all_together ms)).mappings ≡ without_repeats is_same_mapping (joined_decoded_maps (decoded_maps_of ms)).mappings
 all_entries [] h = refl
 all_entries (m ∷ ms) h =
     together_entries m.0 m.1 (all_together ms) h.0
     ∙ without_repeats_append is_same_mapping decides_entry (map (lowered m.1) (decoded_map_of m.0).mappings) (map (lowered m.1) (decoded_map_of m.0).mappings) _ _ refl (all_entries ms h.1)
 
-pub metadata : (ms : List (MapRecord × Offset)) → ((all_together ms).file ≡ None) × ((all_together ms).source_root ≡ None) × ((all_together ms).debug_id ≡ None)
+pub metadata : (ms : List (MapRecord × Position)) → ((all_together ms).file ≡ None) × ((all_together ms).source_root ≡ None) × ((all_together ms).debug_id ≡ None)
 metadata [] = (refl, refl, refl)
 metadata (m ∷ ms) = (refl, refl, refl)
 
-all_ignore_lists : (ms : List (MapRecord × Offset)) → (all_together ms).ignore_list ≡ joined_ignore_lists (decoded_maps_of ms)
+all_ignore_lists : (ms : List (MapRecord × Position)) → (all_together ms).ignore_list ≡ joined_ignore_lists (decoded_maps_of ms)
 all_ignore_lists [] = refl
 all_ignore_lists (m ∷ ms) =
     ap (λ l. appended_ignore_lists m.0.ignore_list (raised_ignore_list (length m.0.sources) l)) (all_ignore_lists ms)
     ∙ ap (λ n. appended_ignore_lists m.0.ignore_list (raised_ignore_list n (joined_ignore_lists (decoded_maps_of ms)))) (sym (length-sources_of m.0.sources m.0.source_contents))
 
 -- the decoded map of a join is equal up to repeats to the join of the decoded maps, where ids are in range
-pub decoded_map_joined : (ms : List (MapRecord × Offset)) → AreAllInRange ms → EqualUpToRepeats (decoded_map_of (joined ms)) (joined_decoded_maps (decoded_maps_of ms))
+pub decoded_map_joined : (ms : List (MapRecord × Position)) → AreAllInRange ms → EqualUpToRepeats (decoded_map_of (joined ms)) (joined_decoded_maps (decoded_maps_of ms))
 decoded_map_joined ms h =
     let d = metadata ms in
     subst (λ r. EqualUpToRepeats (decoded_map_of r) (joined_decoded_maps (decoded_maps_of ms))) (sym (joined-is ms))

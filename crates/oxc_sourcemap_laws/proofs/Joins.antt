@@ -7,7 +7,8 @@ use Rattle.std.proofs.lemmas.List.{append-nil, length-append, map-append}
 use Rattle.oxc_sourcemap_tokens.specs.declared.token.TokenChunk.{TokenChunk}
 use Rattle.oxc_sourcemap_tokens.specs.Token.{TokenRecord}
 use Rattle.oxc_sourcemap_parts.specs.Record.{Text, MapRecord}
-use Rattle.oxc_sourcemap_join.specs.Joined.{Offset, at_line, at_lines, shifted_column, fitted, shifted, is_same_id, is_same_token, seamed, raised_ignore_list, appended_ignore_lists, added_tokens, added_ignore_list, added, nothing_joined, added_all, joined}
+use Rattle.oxc_sourcemap_tokens.specs.declared.position.Position.{Position}
+use Rattle.oxc_sourcemap_join.specs.Joined.{at_line, at_lines, shifted_column, fitted, shifted, is_same_id, is_same_token, seamed, raised_ignore_list, appended_ignore_lists, added_tokens, added_ignore_list, added, nothing_joined, added_all, joined}
 use Rattle.oxc_sourcemap_join.proofs.SameToken.{decides_token}
 use Rattle.oxc_sourcemap_join.proofs.Fitted.{length-fitted, fitted-exact, fitted-more}
 use Rattle.oxc_sourcemap_laws.specs.JoinLaws.{Group, groups_joined, maps_of, without_chunks}
@@ -19,14 +20,14 @@ pub record_by : (a : MapRecord) (x0 : Option Text) (x1 : List Text) (x2 : Option
 record_by a x0 x1 x2 x3 x4 x5 x6 x7 x8 e0 e1 e2 e3 e4 e5 e6 e7 e8 = rw (← e0, ← e1, ← e2, ← e3, ← e4, ← e5, ← e6, ← e7, ← e8)
 
 -- at an offset
-abbrev pub raised : Offset → TokenRecord → TokenRecord
+abbrev pub raised : Position → TokenRecord → TokenRecord
 raised offset m = record m { dst_line = m.dst_line + offset.line; dst_col = shifted_column offset m.dst_line m.dst_col }
 
 -- after so many names and sources
 abbrev pub after : ℕ → ℕ → TokenRecord → TokenRecord
 after names sources m = record m { source_id = option_map (λ i. i + sources) m.source_id; name_id = option_map (λ i. i + names) m.name_id }
 
-shifted-is : (names sources : ℕ) (offset : Offset) (m : TokenRecord) → shifted names sources offset m ≡ after names sources (raised offset m)
+shifted-is : (names sources : ℕ) (offset : Position) (m : TokenRecord) → shifted names sources offset m ≡ after names sources (raised offset m)
 shifted-is names sources offset m = refl
 
 abbrev pub parts : Option (List ℕ) → List Text → List Text → List (Option Text) → List TokenRecord → MapRecord
@@ -37,13 +38,13 @@ abbrev pub together : MapRecord → MapRecord → MapRecord
 together a b = parts (added_ignore_list a b) (a.names ++ b.names) (a.sources ++ b.sources) (a.source_contents ++ b.source_contents) (seamed is_same_token a.tokens (map (after (length a.names) (length a.sources)) b.tokens))
 
 -- a map by itself, at an offset
-abbrev pub alone : MapRecord → Offset → MapRecord
+abbrev pub alone : MapRecord → Position → MapRecord
 alone m offset = parts m.ignore_list m.names m.sources (fitted (length m.sources) m.source_contents) (map (raised offset) m.tokens)
 
 abbrev pub empty : MapRecord
 empty = parts None [] [] [] []
 
-abbrev pub all_together : List (MapRecord × Offset) → MapRecord
+abbrev pub all_together : List (MapRecord × Position) → MapRecord
 all_together [] = empty
 all_together (m ∷ ms) = together (alone m.0 m.1) (all_together ms)
 
@@ -153,11 +154,11 @@ nothing_together a =
     ap (parts (added_ignore_list empty a) a.names a.sources a.source_contents) (map_self _ after-zero a.tokens)
     ∙ ap (λ l. parts l a.names a.sources a.source_contents a.tokens) (appended-nothing (raised_ignore_list 0 a.ignore_list) ∙ list-zero a.ignore_list)
 
-pub all_plain : (ms : List (MapRecord × Offset)) → together empty (all_together ms) ≡ all_together ms
+pub all_plain : (ms : List (MapRecord × Position)) → together empty (all_together ms) ≡ all_together ms
 all_plain [] = refl
 all_plain (m ∷ ms) = nothing_together (all_together (m ∷ ms))
 
-pub all_append : (ms ns : List (MapRecord × Offset)) → all_together (ms ++ ns) ≡ together (all_together ms) (all_together ns)
+pub all_append : (ms ns : List (MapRecord × Position)) → all_together (ms ++ ns) ≡ together (all_together ms) (all_together ns)
 all_append [] ns = sym (all_plain ns)
 all_append (m ∷ ms) ns = ap (together (alone m.0 m.1)) (all_append ms ns) ∙ sym (together_assoc (alone m.0 m.1) (all_together ms) (all_together ns))
 
@@ -169,23 +170,23 @@ pub record IsExact (r : MapRecord) : Type 0 where
   pub source_root : r.source_root ≡ None
   pub debug_id : r.debug_id ≡ None
 
-pub exact_added : (r m : MapRecord) (offset : Offset) → IsExact (added r m offset)
+pub exact_added : (r m : MapRecord) (offset : Position) → IsExact (added r m offset)
 exact_added r m offset = record { source_contents = length-fitted (length (r.sources ++ m.sources)) (r.source_contents ++ m.source_contents); file = refl; source_root = refl; debug_id = refl }
 
-pub exact_added_all : (r : MapRecord) (ms : List (MapRecord × Offset)) → IsExact r → IsExact (added_all r ms)
+pub exact_added_all : (r : MapRecord) (ms : List (MapRecord × Position)) → IsExact r → IsExact (added_all r ms)
 exact_added_all r [] x = x
 exact_added_all r (m ∷ ms) x = exact_added_all (added r m.0 m.1) ms (exact_added r m.0 m.1)
 
-pub exact_joined : (ms : List (MapRecord × Offset)) → IsExact (joined ms)
+pub exact_joined : (ms : List (MapRecord × Position)) → IsExact (joined ms)
 exact_joined ms = exact_added_all nothing_joined ms (record { source_contents = refl; file = refl; source_root = refl; debug_id = refl })
 
-added-is : (r m : MapRecord) (offset : Offset) → IsExact r → without_chunks (added r m offset) ≡ together r (alone m offset)
+added-is : (r m : MapRecord) (offset : Position) → IsExact r → without_chunks (added r m offset) ≡ together r (alone m offset)
 added-is r m offset x =
     let e4 : fitted (length (r.sources ++ m.sources)) (r.source_contents ++ m.source_contents) ≡ r.source_contents ++ fitted (length m.sources) m.source_contents = ap (λ n. fitted n (r.source_contents ++ m.source_contents)) (length-append r.sources m.sources) ∙ fitted-more r.sources m.sources r.source_contents m.source_contents (sym x.source_contents) in
     let e5 : added_tokens r m offset ≡ seamed is_same_token r.tokens (map (after (length r.names) (length r.sources)) (map (raised offset) m.tokens)) = ap (seamed is_same_token r.tokens) (sym (map_twice _ _ _ (λ x. refl) m.tokens)) in
     record_by _ _ _ _ _ _ _ _ _ _ refl refl refl refl e4 e5 refl refl refl
 
-pub added_all-is : (r : MapRecord) (ms : List (MapRecord × Offset)) → IsExact r → without_chunks (added_all r ms) ≡ together r (all_together ms)
+pub added_all-is : (r : MapRecord) (ms : List (MapRecord × Position)) → IsExact r → without_chunks (added_all r ms) ≡ together r (all_together ms)
 added_all-is r [] x = record_by _ _ _ _ _ _ _ _ _ _ x.file (sym (append-nil r.names)) x.source_root (sym (append-nil r.sources)) (sym (append-nil r.source_contents)) (sym (seamed_nil is_same_token decides_token r.tokens)) refl refl x.debug_id
 added_all-is r (m ∷ ms) x =
     added_all-is (added r m.0 m.1) ms (exact_added r m.0 m.1)
@@ -193,11 +194,11 @@ added_all-is r (m ∷ ms) x =
     ∙ together_assoc r (alone m.0 m.1) (all_together ms)
 
 -- a join, in all but its chunks
-pub joined-is : (ms : List (MapRecord × Offset)) → without_chunks (joined ms) ≡ all_together ms
+pub joined-is : (ms : List (MapRecord × Position)) → without_chunks (joined ms) ≡ all_together ms
 joined-is ms = added_all-is nothing_joined ms (record { source_contents = refl; file = refl; source_root = refl; debug_id = refl }) ∙ all_plain ms
 
 -- ---- groups
-abbrev pub raise_all : Offset → MapRecord → MapRecord
+abbrev pub raise_all : Position → MapRecord → MapRecord
 raise_all offset r = record r { tokens = map (raised offset) r.tokens }
 
 raise_together : (number : ℕ) (a b : MapRecord) → together (raise_all (at_line number) a) (raise_all (at_line number) b) ≡ raise_all (at_line number) (together a b)
@@ -218,7 +219,7 @@ raised_group offset (m ∷ ms) =
     ∙ ap (together (raise_all (at_line offset) (alone m.0 (at_line m.1)))) (raised_group offset ms)
     ∙ raise_together offset (alone m.0 (at_line m.1)) (all_together (at_lines ms))
 
-alone_joined : (ms : List (MapRecord × Offset)) (offset : Offset) → alone (joined ms) offset ≡ raise_all offset (without_chunks (joined ms))
+alone_joined : (ms : List (MapRecord × Position)) (offset : Position) → alone (joined ms) offset ≡ raise_all offset (without_chunks (joined ms))
 alone_joined ms offset =
     let r = joined ms in
     let x = exact_joined ms in
@@ -236,9 +237,9 @@ pub joins_associative : (gs : List Group) → without_chunks (joined (groups_joi
 joins_associative gs = joined-is (groups_joined gs) ∙ groups gs ∙ sym (joined-is (maps_of gs))
 
 -- one map more
-added-last : (r : MapRecord) (ms : List (MapRecord × Offset)) (m : MapRecord) (offset : Offset) → added_all r (ms ++ (m, offset) ∷ []) ≡ added (added_all r ms) m offset
+added-last : (r : MapRecord) (ms : List (MapRecord × Position)) (m : MapRecord) (offset : Position) → added_all r (ms ++ (m, offset) ∷ []) ≡ added (added_all r ms) m offset
 added-last r [] m offset = refl
 added-last r (x ∷ ms) m offset = added-last (added r x.0 x.1) ms m offset
 
-pub one_more : (ms : List (MapRecord × Offset)) (m : MapRecord) (offset : Offset) → joined (ms ++ (m, offset) ∷ []) ≡ added (joined ms) m offset
+pub one_more : (ms : List (MapRecord × Position)) (m : MapRecord) (offset : Position) → joined (ms ++ (m, offset) ∷ []) ≡ added (joined ms) m offset
 one_more ms m offset = added-last nothing_joined ms m offset

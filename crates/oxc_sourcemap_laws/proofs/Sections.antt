@@ -7,7 +7,8 @@ use Rattle.oxc_sourcemap_tokens.specs.Refusals.{unless}
 use Rattle.oxc_sourcemap_parts.specs.Record.{Text, MapRecord}
 use Rattle.oxc_sourcemap_parts.specs.DecodedMap.{DecodedMap, decoded_map_of}
 use Rattle.oxc_sourcemap_json.specs.Shape.{◌>>=◌}
-use Rattle.oxc_sourcemap_join.specs.Joined.{Offset, joined}
+use Rattle.oxc_sourcemap_tokens.specs.declared.position.Position.{Position}
+use Rattle.oxc_sourcemap_join.specs.Joined.{joined}
 use Rattle.oxc_sourcemap_decode.specs.Sections.{Sections, joined_sections}
 use Rattle.oxc_sourcemap_decode.specs.JoinLimits.{is_within_limits}
 use Rattle.oxc_sourcemap_decode.specs.ReadMap.{indexed, indexed_record, map_said}
@@ -17,15 +18,15 @@ use Rattle.oxc_sourcemap_laws.specs.JoinLaws.{AreAllInRange}
 use Rattle.oxc_sourcemap_laws.specs.SectionLaws.{decoded_map_of_sections, ValueOfSections, TextOfSections}
 use Rattle.oxc_sourcemap_laws.proofs.JoinDecodedMaps.{decoded_map_joined}
 
-pub all-in-range : (ms : List (MapRecord × Offset)) → AllByRecursion (λ m. IsWellRead m.0) ms → AreAllInRange ms
+pub all-in-range : (ms : List (MapRecord × Position)) → AllByRecursion (λ m. IsWellRead m.0) ms → AreAllInRange ms
 all-in-range [] h = tt
 all-in-range (m ∷ ms) h = (h.0.in_range.tokens, all-in-range ms h.1)
 
-pub record FromSections (fault : Option Error) (ms : List (MapRecord × Offset)) (r : MapRecord) : Type 0 where
+pub record FromSections (fault : Option Error) (ms : List (MapRecord × Position)) (r : MapRecord) : Type 0 where
   pub no_fault : fault ≡ None
   pub is_join : joined ms ≡ r
 
-pub from-sections : (b : Bool) (fault : Option Error) (ms : List (MapRecord × Offset)) (r : MapRecord) → cond b (unless fault (Ok (joined ms))) (Err TooLarge) ≡ Ok r → FromSections fault ms r
+pub from-sections : (b : Bool) (fault : Option Error) (ms : List (MapRecord × Position)) (r : MapRecord) → cond b (unless fault (Ok (joined ms))) (Err TooLarge) ≡ Ok r → FromSections fault ms r
 from-sections true None ms r e = record { no_fault = refl; is_join = cc }
 from-sections true (Some f) ms r e = cc
 from-sections false fault ms r e = cc

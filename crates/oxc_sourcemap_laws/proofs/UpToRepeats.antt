@@ -6,7 +6,8 @@ use Rattle.oxc_sourcemap_parts.specs.DecodedMap.{DecodedSource, DecodedMapping, 
 use Rattle.oxc_sourcemap_lookup.specs.Trace.{trace, clamped_trace}
 use Rattle.oxc_sourcemap_parts.specs.DecodedMap.{mapping_line, mapping_column}
 use Rattle.oxc_sourcemap_laws.specs.Repeats.{without_repeats, is_same_mapping, decoded_map_without_repeats, EqualUpToRepeats, EqualButForMappings, is_sorted_decoded_map}
-use Rattle.oxc_sourcemap_join.specs.Joined.{Offset, raised_ignore_list, appended_ignore_lists}
+use Rattle.oxc_sourcemap_tokens.specs.declared.position.Position.{Position}
+use Rattle.oxc_sourcemap_join.specs.Joined.{raised_ignore_list, appended_ignore_lists}
 use Rattle.oxc_sourcemap_laws.specs.JoinedDecodedMaps.{lowered, joined_ignore_lists, joined_decoded_maps}
 use Rattle.oxc_sourcemap_laws.specs.JoinLaws.{AreEqualUpToRepeats}
 use Rattle.oxc_sourcemap_laws.proofs.DroppingRepeats.{unseen, up_to_repeats_by, blind_map, blind_without_repeats, without_repeats_append, pick_up_to_repeats, clamped_pick_up_to_repeats, sorted_up_to_repeats}
@@ -55,13 +56,13 @@ without_repeats_is_up_to_repeats s = ap (λ es. record s { mappings = es }) (wit
 pub map_up_to_repeats : (f : DecodedMapping → DecodedMapping) (xs ys : List DecodedMapping) → without_repeats is_same_mapping xs ≡ without_repeats is_same_mapping ys → without_repeats is_same_mapping (map f xs) ≡ without_repeats is_same_mapping (map f ys)
 map_up_to_repeats f xs ys e = up_to_repeats_by is_same_mapping decides_entry (λ zs. without_repeats is_same_mapping (map f zs)) (blind_map is_same_mapping decides_entry f) xs ys e
 
-pub joined_sources : (ss ts : List (DecodedMap × Offset)) → AreEqualUpToRepeats ss ts → (joined_decoded_maps ss).sources ≡ (joined_decoded_maps ts).sources
+pub joined_sources : (ss ts : List (DecodedMap × Position)) → AreEqualUpToRepeats ss ts → (joined_decoded_maps ss).sources ≡ (joined_decoded_maps ts).sources
 joined_sources [] [] h = refl
 joined_sources [] (t ∷ ts) h = absurd h
 joined_sources (s ∷ ss) [] h = absurd h
 joined_sources (s ∷ ss) (t ∷ ts) h = ap (λ x. x ++ flat_map (λ s. s.0.sources) ss) (matches s.0 t.0 h.0.0).rest.sources ∙ ap (λ x. t.0.sources ++ x) (joined_sources ss ts h.1)
 
-pub joined_lists : (ss ts : List (DecodedMap × Offset)) → AreEqualUpToRepeats ss ts → joined_ignore_lists ss ≡ joined_ignore_lists ts
+pub joined_lists : (ss ts : List (DecodedMap × Position)) → AreEqualUpToRepeats ss ts → joined_ignore_lists ss ≡ joined_ignore_lists ts
 joined_lists [] [] h = refl
 joined_lists [] (t ∷ ts) h = absurd h
 joined_lists (s ∷ ss) [] h = absurd h
@@ -71,7 +72,7 @@ joined_lists (s ∷ ss) (t ∷ ts) h =
     ∙ ap (λ qs. appended_ignore_lists t.0.ignore_list (raised_ignore_list (length qs) (joined_ignore_lists ss))) same.sources
     ∙ ap (λ l. appended_ignore_lists t.0.ignore_list (raised_ignore_list (length t.0.sources) l)) (joined_lists ss ts h.1)
 
-pub joined_entries : (ss ts : List (DecodedMap × Offset)) → AreEqualUpToRepeats ss ts → without_repeats is_same_mapping (joined_decoded_maps ss).mappings ≡ without_repeats is_same_mapping (joined_decoded_maps ts).mappings
+pub joined_entries : (ss ts : List (DecodedMap × Position)) → AreEqualUpToRepeats ss ts → without_repeats is_same_mapping (joined_decoded_maps ss).mappings ≡ without_repeats is_same_mapping (joined_decoded_maps ts).mappings
 joined_entries [] [] h = refl
 joined_entries [] (t ∷ ts) h = absurd h
 joined_entries (s ∷ ss) [] h = absurd h
@@ -80,5 +81,5 @@ joined_entries (s ∷ ss) (t ∷ ts) h =
     (map_up_to_repeats (lowered s.1) s.0.mappings t.0.mappings (matches s.0 t.0 h.0.0).mappings ∙ ap (λ n. without_repeats is_same_mapping (map (lowered n) t.0.mappings)) h.0.1)
     (joined_entries ss ts h.1)
 
-pub joined_up_to_repeats : (ss ts : List (DecodedMap × Offset)) → AreEqualUpToRepeats ss ts → EqualUpToRepeats (joined_decoded_maps ss) (joined_decoded_maps ts)
+pub joined_up_to_repeats : (ss ts : List (DecodedMap × Position)) → AreEqualUpToRepeats ss ts → EqualUpToRepeats (joined_decoded_maps ss) (joined_decoded_maps ts)
 joined_up_to_repeats ss ts h = up_to_repeats _ _ (record { rest = record { file = refl; source_root = refl; debug_id = refl; ignore_list = joined_lists ss ts h; sources = joined_sources ss ts h }; mappings = joined_entries ss ts h })

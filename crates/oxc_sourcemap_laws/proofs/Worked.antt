@@ -5,7 +5,8 @@ use Rattle.oxc_sourcemap_parts.specs.Record.{Text, MapRecord}
 use Rattle.oxc_sourcemap_parts.specs.Views.{empty_record}
 use Rattle.oxc_sourcemap_parts.specs.DecodedMap.{DecodedMapping, decoded_map_of}
 use Rattle.oxc_sourcemap_lookup.specs.Trace.{trace}
-use Rattle.oxc_sourcemap_join.specs.Joined.{Offset, at_line, at_lines, joined, shifted}
+use Rattle.oxc_sourcemap_tokens.specs.declared.position.Position.{Position}
+use Rattle.oxc_sourcemap_join.specs.Joined.{at_line, at_lines, joined, shifted}
 use Rattle.oxc_sourcemap_laws.specs.Repeats.{decoded_map_without_repeats, EqualUpToRepeats, is_sorted_decoded_map}
 use Rattle.oxc_sourcemap_laws.specs.JoinedDecodedMaps.{joined_decoded_maps}
 use Rattle.oxc_sourcemap_laws.specs.JoinLaws.{decoded_maps_of, Group, groups_joined, maps_of, without_chunks}
@@ -83,7 +84,7 @@ groups-with_ignore_lists = refl
 
 -- ---- at a line and a column
 -- the second map begins where the first one ends, and its line 1 at column 0
-abbrev side_by_side : List (MapRecord × Offset)
+abbrev side_by_side : List (MapRecord × Position)
 side_by_side = (plain [] (token 0 4 0 0 None None ∷ []), at_line 0) ∷ (plain [] (token 0 0 0 0 None None ∷ token 0 3 0 0 None None ∷ token 1 2 0 0 None None ∷ []), record { line = 0; column = 4 }) ∷ []
 
 joins-side_by_side : (joined side_by_side).tokens ≡ token 0 4 0 0 None None ∷ token 0 7 0 0 None None ∷ token 1 2 0 0 None None ∷ []

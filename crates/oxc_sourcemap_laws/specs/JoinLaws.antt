@@ -8,7 +8,8 @@ use Rattle.oxc_sourcemap_parts.specs.Sorted.{are_tokens_sorted}
 use Rattle.oxc_sourcemap_parts.specs.Sound.{IsInRange, IsSound}
 use Rattle.oxc_sourcemap_parts.specs.DecodedMap.{DecodedMapping, DecodedMap, decoded_map_of}
 use Rattle.oxc_sourcemap_lookup.specs.Trace.{trace, clamped_trace}
-use Rattle.oxc_sourcemap_join.specs.Joined.{Offset, at_line, at_lines, added, joined}
+use Rattle.oxc_sourcemap_tokens.specs.declared.position.Position.{Position}
+use Rattle.oxc_sourcemap_join.specs.Joined.{at_line, at_lines, added, joined}
 use Rattle.oxc_sourcemap_laws.specs.Repeats.{decoded_map_without_repeats, EqualUpToRepeats, is_sorted_decoded_map}
 use Rattle.oxc_sourcemap_laws.specs.JoinedDecodedMaps.{joined_decoded_maps}
 
@@ -40,26 +41,26 @@ TestsAgree = (test : List DecodedMapping → Bool) → IsBlindToRepeats test
 
 -- ---- joins of decoded maps
 -- each decoded map is equal up to repeats to the other list's, and at the same offset
-abbrev pub AreEqualUpToRepeats : List (DecodedMap × Offset) → List (DecodedMap × Offset) → Type 0
+abbrev pub AreEqualUpToRepeats : List (DecodedMap × Position) → List (DecodedMap × Position) → Type 0
 AreEqualUpToRepeats ss ts = AllZip (λ s t. EqualUpToRepeats s.0 t.0 × (s.1 ≡ t.1)) ss ts
 
 -- Joins of decoded maps that are equal up to repeats are equal up to repeats.
 abbrev pub JoinKeepsEqualUpToRepeats : Type 0
-JoinKeepsEqualUpToRepeats = (ss ts : List (DecodedMap × Offset)) → AreEqualUpToRepeats ss ts
+JoinKeepsEqualUpToRepeats = (ss ts : List (DecodedMap × Position)) → AreEqualUpToRepeats ss ts
     → EqualUpToRepeats (joined_decoded_maps ss) (joined_decoded_maps ts)
 
 -- ---- joins of maps
 -- the source ids and name ids of each map are in range
-abbrev pub AreAllInRange : List (MapRecord × Offset) → Type 0
+abbrev pub AreAllInRange : List (MapRecord × Position) → Type 0
 AreAllInRange ms = AllByRecursion (λ m. AllByRecursion (IsInRange (length m.0.names) (length m.0.sources)) m.0.tokens) ms
 
 -- the decoded map of each map, at its offset
-abbrev pub decoded_maps_of : List (MapRecord × Offset) → List (DecodedMap × Offset)
+abbrev pub decoded_maps_of : List (MapRecord × Position) → List (DecodedMap × Position)
 decoded_maps_of ms = map (λ m. (decoded_map_of m.0, m.1)) ms
 
 -- Where ids are in range, the decoded map of a join is equal up to repeats to the join of the decoded maps.
 abbrev pub DecodedMapOfJoin : Type 0
-DecodedMapOfJoin = (ms : List (MapRecord × Offset)) → AreAllInRange ms
+DecodedMapOfJoin = (ms : List (MapRecord × Position)) → AreAllInRange ms
     → EqualUpToRepeats (decoded_map_of (joined ms)) (joined_decoded_maps (decoded_maps_of ms))
 
 -- a sound map whose decoded map is equal up to repeats to this one
@@ -68,36 +69,36 @@ pub record StandsFor (r : MapRecord) (s : DecodedMap) : Type 0 where
   pub up_to_repeats : EqualUpToRepeats (decoded_map_of r) s
 
 -- each map stands for the decoded map in the other list, at the same offset
-abbrev pub AllStandFor : List (MapRecord × Offset) → List (DecodedMap × Offset) → Type 0
+abbrev pub AllStandFor : List (MapRecord × Position) → List (DecodedMap × Position) → Type 0
 AllStandFor ms ss = AllZip (λ m s. StandsFor m.0 s.0 × (m.1 ≡ s.1)) ms ss
 
 -- A join of maps that stand for decoded maps is sorted exactly where the join of the decoded maps is, and then stands for it.
 abbrev pub JoinStandsFor : Type 0
-JoinStandsFor = (ms : List (MapRecord × Offset)) (ss : List (DecodedMap × Offset)) → AllStandFor ms ss
+JoinStandsFor = (ms : List (MapRecord × Position)) (ss : List (DecodedMap × Position)) → AllStandFor ms ss
     → (are_tokens_sorted (joined ms).tokens ≡ is_sorted_decoded_map (joined_decoded_maps ss))
     × (is_sorted_decoded_map (joined_decoded_maps ss) ≡ true → StandsFor (joined ms) (joined_decoded_maps ss))
 
 -- the entries of the ignore list of each map are in range
-abbrev pub AreIgnoreListsInRange : List (MapRecord × Offset) → Type 0
+abbrev pub AreIgnoreListsInRange : List (MapRecord × Position) → Type 0
 AreIgnoreListsInRange ms = AllByRecursion (λ m. IfSome m.0.ignore_list (AllByRecursion (λ id. id < length m.0.sources))) ms
 
 -- The ids of a join are in range where those of its maps are, even where it is not sorted: the ids of its tokens, and the
 -- entries of its ignore list.
 abbrev pub JoinInRange : Type 0
-JoinInRange = (ms : List (MapRecord × Offset)) →
+JoinInRange = (ms : List (MapRecord × Position)) →
     (AreAllInRange ms → AllByRecursion (IsInRange (length (joined ms).names) (length (joined ms).sources)) (joined ms).tokens)
     × (AreIgnoreListsInRange ms → IfSome (joined ms).ignore_list (AllByRecursion (λ id. id < length (joined ms).sources)))
 
 -- The names of a join are those of its maps, in order.
 abbrev pub JoinNames : Type 0
-JoinNames = (ms : List (MapRecord × Offset)) → (joined ms).names ≡ flat_map (λ m. m.0.names) ms
+JoinNames = (ms : List (MapRecord × Position)) → (joined ms).names ≡ flat_map (λ m. m.0.names) ms
 
 -- A join has no more tokens than its maps together.
 abbrev pub JoinTokens : Type 0
-JoinTokens = (ms : List (MapRecord × Offset)) → length (joined ms).tokens ≤ length (flat_map (λ m. m.0.tokens) ms)
+JoinTokens = (ms : List (MapRecord × Position)) → length (joined ms).tokens ≤ length (flat_map (λ m. m.0.tokens) ms)
 
 -- a join has chunks, one for each map, and they fit its tokens
-pub record HasFittingChunks (ms : List (MapRecord × Offset)) : Type 0 where
+pub record HasFittingChunks (ms : List (MapRecord × Position)) : Type 0 where
   pub chunks : List TokenChunk
   pub has : (joined ms).token_chunks ≡ Some chunks
   pub count : length chunks ≡ length ms
@@ -105,11 +106,11 @@ pub record HasFittingChunks (ms : List (MapRecord × Offset)) : Type 0 where
 
 -- So has every join, of whatever maps.
 abbrev pub JoinChunksFit : Type 0
-JoinChunksFit = (ms : List (MapRecord × Offset)) → HasFittingChunks ms
+JoinChunksFit = (ms : List (MapRecord × Position)) → HasFittingChunks ms
 
 -- Joining one map more is adding it to the join of the others.
 abbrev pub JoinOneMore : Type 0
-JoinOneMore = (ms : List (MapRecord × Offset)) (m : MapRecord) (offset : Offset)
+JoinOneMore = (ms : List (MapRecord × Position)) (m : MapRecord) (offset : Position)
     → joined (ms ++ (m, offset) ∷ []) ≡ added (joined ms) m offset
 
 -- ---- groups
@@ -118,11 +119,11 @@ abbrev pub Group : Type 0
 Group = List (MapRecord × ℕ) × ℕ
 
 -- each group joined, at the beginning of its line
-abbrev pub groups_joined : List Group → List (MapRecord × Offset)
+abbrev pub groups_joined : List Group → List (MapRecord × Position)
 groups_joined groups = map (λ g. (joined (at_lines g.0), at_line g.1)) groups
 
 -- the maps of all groups, each at the beginning of the line that is the sum of its two
-abbrev pub maps_of : List Group → List (MapRecord × Offset)
+abbrev pub maps_of : List Group → List (MapRecord × Position)
 maps_of groups = flat_map (λ g. map (λ m. (m.0, at_line (m.1 + g.1))) g.0) groups
 
 -- a map, but for its chunks

@@ -106,7 +106,7 @@ pub fn composition_associative()
     ensures decoded_maps { DecodedMapsAssociative }
     ensures composed_maps { ComposedMapsAssociative }
     ensures associative { CompositionAssociative }
-    ensures refused { GroupingsRefusedTogether }
+    ensures error { GroupingsRefusedTogether }
     ensures answered { GroupingsAnswered }
     ensures tell { GroupingsTell }
     ensures in_range { CompositionInRange }

@@ -11,7 +11,7 @@ ghost use Rattle.oxc_sourcemap_lookup.specs.InheritedNames.{with_inherited, inhe
 ghost use Rattle.oxc_sourcemap_lookup.specs.Inherited.{names_with, IsInheriting};
 ghost use Rattle.oxc_sourcemap_tokens.specs.Results.{FailsBy, Reports};
 
-use crate::inherited_names::{InheritedNames, owned_names, inherit_id, no_names};
+use crate::inherited_names::{InheritedNames, inherit_id, no_names, owned_names};
 use crate::line_index::LineIndex;
 use crate::lookup::search_clamped;
 use oxc_sourcemap_parts::{SourceMapParts, into_owned_text};
@@ -36,7 +36,7 @@ fn composed_token<'n>(
     ensures id { let name = inherited_name (cow_texts first.now) (target_of token.now found) in
         OnOk result (may_be_id (inherited_index (names_with (cow_texts second.now) inherited.new) name) ≡ true) }
     ensures kept { OnOk result (IsInheriting (cow_texts first.now) (cow_texts second.now) inherited.new) }
-    ensures refused { let name = inherited_name (cow_texts first.now) (target_of token.now found) in
+    ensures error { let name = inherited_name (cow_texts first.now) (target_of token.now found) in
         IfErr result (λ e. (e ≢ OutOfMemory) → (e ≡ TooLarge)
         × (may_be_id (inherited_index (with_inherited (names_with (cow_texts second.now) inherited.old) name) name) ≡ false)) }
 {
@@ -87,7 +87,7 @@ fn composed_tokens<'a>(
         × (names ++ texts_of made.1 ≡ composed_names olds names ls)
         × (made.0.items ≡ map (composed_token olds (names ++ texts_of made.1)) ls)
         × (are_ids olds (names ++ texts_of made.1) ls ≡ true)) }
-    ensures refused { let olds = cow_texts first.now in let names = cow_texts second.now in
+    ensures error { let olds = cow_texts first.now in let names = cow_texts second.now in
         IfErr result (λ e. (e ≢ OutOfMemory) → (e ≡ TooLarge) × (ls : List Target) × AreTargets tokens.now input.now ls
         × (are_ids olds (composed_names olds names ls) ls ≡ false)) }
 {
@@ -110,7 +110,7 @@ fn input_index(
     second: &SourceMapParts<'_>,
 ) -> Result<LineIndex>
     ensures index { IfOk result (λ index. (composition_fault (record_of_parts first.now) (record_of_parts second.now) ≡ None) × IsIndexOf (boxed_slice_items second.now.tokens) index) }
-    ensures refused { FailsBy (composition_fault (record_of_parts first.now) (record_of_parts second.now)) result }
+    ensures error { FailsBy (composition_fault (record_of_parts first.now) (record_of_parts second.now)) result }
     ensures fault { Reports (composition_fault (record_of_parts first.now) (record_of_parts second.now)) result }
 {
     if first.sources.len() > 1 {
@@ -126,7 +126,7 @@ fn compose_into(
     second: &mut SourceMapParts<'_>,
 ) -> Result<()>
     ensures made { OnOk result (SomeComposition (record_of_parts first.old) (record_of_parts second.old) (Ok (record_of_parts second.new))) }
-    ensures refused { IfErr result (λ e. (e ≢ OutOfMemory) → SomeComposition (record_of_parts first.old) (record_of_parts second.old) (Err e)) }
+    ensures error { IfErr result (λ e. (e ≢ OutOfMemory) → SomeComposition (record_of_parts first.old) (record_of_parts second.old) (Err e)) }
     ensures fault { Reports (composition_fault (record_of_parts first.old) (record_of_parts second.old)) result }
 {
     let index = input_index(alloc, first, second)?;
@@ -158,7 +158,7 @@ pub fn compose_parts<'input>(
 ) -> Result<SourceMapParts<'input>>
     ensures map { let a = record_of_parts first.entry in let b = record_of_parts second.entry in
         NoColumnGoesBack b.tokens → IfOk result (λ parts. composition a b ≡ Ok (record_of_parts parts)) }
-    ensures refused { let a = record_of_parts first.entry in let b = record_of_parts second.entry in
+    ensures error { let a = record_of_parts first.entry in let b = record_of_parts second.entry in
         NoColumnGoesBack b.tokens → IfErr result (λ e. (e ≢ OutOfMemory) → composition a b ≡ Err e) }
     ensures any_map { IfOk result (λ parts. SomeComposition (record_of_parts first.entry) (record_of_parts second.entry) (Ok (record_of_parts parts))) }
     ensures any_refused { IfErr result (λ e. (e ≢ OutOfMemory) → SomeComposition (record_of_parts first.entry) (record_of_parts second.entry) (Err e)) }

@@ -44,10 +44,7 @@ pub(crate) fn no_names<'n>(
 }
 
 /// Gives each name its place.
-fn fill_places<'n>(
-    places: &mut HashMap<&'n str, usize>,
-    names: &'n [CowStr<'_>],
-) -> Memory<()>
+fn fill_places<'n>(places: &mut HashMap<&'n str, usize>, names: &'n [CowStr<'_>]) -> Memory<()>
     requires { places.old.entries ≡ [] }
     ensures { OnOk result (HasPlaces (cow_texts names.now) places.new) }
 {
@@ -59,10 +56,7 @@ fn fill_places<'n>(
 }
 
 /// Fills the map of places, unless it is filled.
-fn fill<'n>(
-    inherited: &mut InheritedNames<'n>,
-    second: &'n [CowStr<'_>],
-) -> Memory<()>
+fn fill<'n>(inherited: &mut InheritedNames<'n>, second: &'n [CowStr<'_>]) -> Memory<()>
     requires { HasNames (cow_texts second.now) inherited.old }
     ensures places { OnOk result (HasPlaces (names_with (cow_texts second.now) inherited.new) inherited.new.places) }
     ensures names { inherited.new.names.items ≡ inherited.old.names.items }
@@ -97,7 +91,7 @@ fn inherit_name<'n>(
     ensures id { IfOk result (λ id. (index_of name.now (names_with (cow_texts second.now) inherited.new) ≡ Some id) × (id < 4294967295)) }
     ensures kept { OnOk result (HasNames (cow_texts second.now) inherited.new) }
     ensures ids { inherited.new.ids.items ≡ inherited.old.ids.items }
-    ensures refused { IfErr result (λ e. (e ≢ OutOfMemory) → (e ≡ TooLarge)
+    ensures error { IfErr result (λ e. (e ≢ OutOfMemory) → (e ≡ TooLarge)
         × (may_be_id (index_of name.now (with_text (names_with (cow_texts second.now) inherited.old) name.now)) ≡ false)) }
 {
     fill(inherited, second)?;
@@ -125,7 +119,7 @@ pub(crate) fn inherit_id<'n>(
     ensures id { let name = option_and_then (slice_get (cow_texts first.now)) id in
         IfOk result (λ id. (inherited_index (names_with (cow_texts second.now) inherited.new) name ≡ id) × (may_be_id id ≡ true)) }
     ensures kept { OnOk result (IsInheriting (cow_texts first.now) (cow_texts second.now) inherited.new) }
-    ensures refused { let name = option_and_then (slice_get (cow_texts first.now)) id in
+    ensures error { let name = option_and_then (slice_get (cow_texts first.now)) id in
         IfErr result (λ e. (e ≢ OutOfMemory) → (e ≡ TooLarge)
         × (may_be_id (inherited_index (with_inherited (names_with (cow_texts second.now) inherited.old) name) name) ≡ false)) }
 {

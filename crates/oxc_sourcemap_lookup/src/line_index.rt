@@ -70,10 +70,7 @@ fn starts_of(alloc: Global, tokens: &[Token]) -> Memory<Option<Vec<u32>>>
 }
 
 /// The spans of the lines that have tokens; None if the tokens are not in line order.
-fn spans_of(
-    alloc: Global,
-    tokens: &[Token],
-) -> Memory<Option<Vec<LineSpan>>>
+fn spans_of(alloc: Global, tokens: &[Token]) -> Memory<Option<Vec<LineSpan>>>
     ensures spans { IfOk result (λ found. IfSome found (λ spans. AreSpans tokens.now spans.items)) }
     ensures out_of_order { IfOk result (λ found. IsNone found → IsInLineOrder tokens.now → ⊥) }
 {
@@ -183,7 +180,7 @@ impl LineIndex {
     /// one, and else with `OutOfMemory` if memory is refused.
     pub fn new(alloc: Global, tokens: &[Token]) -> Result<LineIndex>
         ensures index { IfOk result (λ index. IsIndexOf tokens.now index) }
-        ensures refused { FailsBy (option_map LineOrder (first_out_of_order tokens.now)) result }
+        ensures error { FailsBy (option_map LineOrder (first_out_of_order tokens.now)) result }
         ensures fault { Reports (option_map LineOrder (first_out_of_order tokens.now)) result }
     {
         if let Ok(Some(lines)) = lines_of(alloc, tokens) {

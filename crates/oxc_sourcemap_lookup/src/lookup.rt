@@ -71,10 +71,7 @@ fn begins_before(tokens: &[Token], line: u64) -> bool
 }
 
 /// The tokens of each line; None if the tokens are not in line order.
-fn cut_by_line<'s>(
-    alloc: Global,
-    tokens: &'s [Token],
-) -> Memory<Option<Vec<&'s [Token]>>>
+fn cut_by_line<'s>(alloc: Global, tokens: &'s [Token]) -> Memory<Option<Vec<&'s [Token]>>>
     ensures cut { IfOk result (λ cut. IfSome cut (λ table. IsInLineOrder tokens.now × (lent_items table.items ≡ tokens_by_line tokens.now))) }
     ensures out_of_order { IfOk result (λ cut. IsNone cut → IsInLineOrder tokens.now → ⊥) }
 {

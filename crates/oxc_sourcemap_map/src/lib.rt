@@ -1,8 +1,5 @@
-//! `SourceMap`, borrowing or owned: its fields, views of its tokens, and its calls that read, write, look up and compose,
-//! which call the crates below.
-//!
-//! The builder of joins, in `oxc_sourcemap_concat`, stands on this crate; for it `parts_of` is public here. Users name the
-//! crate `oxc_sourcemap`.
+//! `SourceMap` and `OwnedSourceMap`, with views of their tokens: thin calls over the crates that read, write, look up and
+//! compose parts. Part of `oxc_sourcemap`, but for `parts_of`, which is for the crates between.
 #![tactic(auto)]
 
 mod compose;

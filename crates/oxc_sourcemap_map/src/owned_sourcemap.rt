@@ -63,7 +63,7 @@ impl OwnedSourceMap {
     /// The map with nothing in it. Fails only with `OutOfMemory`.
     pub fn empty(alloc: Global) -> Result<OwnedSourceMap>
         ensures map { IfOk result (λ map. map ≡ empty_record) }
-        ensures refused { OnlyMemory result }
+        ensures error { OnlyMemory result }
     {
         Ok(OwnedSourceMap::new(SourceMap::empty(alloc)?))
     }
@@ -71,7 +71,7 @@ impl OwnedSourceMap {
     /// A map equal to this one. Fails only with `OutOfMemory`.
     pub fn clone(&self, alloc: Global) -> Result<OwnedSourceMap>
         ensures map { IfOk result (λ map. map ≡ self.now) }
-        ensures refused { OnlyMemory result }
+        ensures error { OnlyMemory result }
     {
         Ok(OwnedSourceMap::new(self.inner.clone(alloc)?))
     }
@@ -112,7 +112,7 @@ impl OwnedSourceMap {
         ensures decoded_map { IfOk result (λ map. read_decoded_map text.now ≡ Ok (decoded_map_of map)) }
         ensures sound { IfOk result (λ map. IsSound map ↔ (are_tokens_sorted map.tokens ≡ true)) }
         ensures in_line_order { IfOk result (λ map. IsInLineOrder map.tokens) }
-        ensures refused { IfErr result (λ e. (e ≢ OutOfMemory) → read_map text.now ≡ Err e) }
+        ensures error { IfErr result (λ e. (e ≢ OutOfMemory) → read_map text.now ≡ Err e) }
     {
         Ok(OwnedSourceMap::new(SourceMap::from_json_string(alloc, text)?))
     }
@@ -145,7 +145,7 @@ impl OwnedSourceMap {
     /// `SourceMap::compose` does, and fails as that does; both maps are then dropped.
     pub fn compose(self, alloc: Global, input: OwnedSourceMap) -> Result<OwnedSourceMap>
         ensures map { NoColumnGoesBack input.tokens → IfOk result (λ map. composition self input ≡ Ok map) }
-        ensures refused { NoColumnGoesBack input.tokens → IfErr result (λ e. (e ≢ OutOfMemory) → composition self input ≡ Err e) }
+        ensures error { NoColumnGoesBack input.tokens → IfErr result (λ e. (e ≢ OutOfMemory) → composition self input ≡ Err e) }
         ensures any_map { IfOk result (λ map. SomeComposition self input (Ok map)) }
         ensures any_refused { IfErr result (λ e. (e ≢ OutOfMemory) → SomeComposition self input (Err e)) }
         ensures fault { Reports (composition_fault self input) result }
@@ -158,7 +158,7 @@ impl OwnedSourceMap {
 
     /// The name of the generated file.
     pub fn get_file(&self) -> Option<&str>
-        ensures { option_lent_items result ≡ self.now.file }
+        ensures { lent_item result ≡ self.now.file }
     {
         self.inner.get_file()
     }
@@ -167,7 +167,7 @@ impl OwnedSourceMap {
     /// was.
     pub fn set_file(&mut self, alloc: Global, file: &str) -> Result<()>
         ensures set { OnOk result (self.new ≡ record self.old { file = Some file.now }) }
-        ensures refused { OnlyMemory result }
+        ensures error { OnlyMemory result }
         ensures unchanged { OnErr result (self.new ≡ self.old) }
     {
         self.inner.set_file(alloc, file)
@@ -175,14 +175,14 @@ impl OwnedSourceMap {
 
     /// The source root, which consumers prepend to each source. `get_source` and `get_sources` return sources without it.
     pub fn get_source_root(&self) -> Option<&str>
-        ensures { option_lent_items result ≡ self.now.source_root }
+        ensures { lent_item result ≡ self.now.source_root }
     {
         self.inner.get_source_root()
     }
 
     /// The indices of third-party sources, which debuggers may skip.
     pub fn get_ignore_list(&self) -> Option<&[u32]>
-        ensures { option_lent_items result ≡ self.now.ignore_list }
+        ensures { lent_item result ≡ self.now.ignore_list }
     {
         self.inner.get_ignore_list()
     }
@@ -196,7 +196,7 @@ impl OwnedSourceMap {
 
     /// The id that ties this map to its generated code.
     pub fn get_debug_id(&self) -> Option<&str>
-        ensures { option_lent_items result ≡ self.now.debug_id }
+        ensures { lent_item result ≡ self.now.debug_id }
     {
         self.inner.get_debug_id()
     }
@@ -204,7 +204,7 @@ impl OwnedSourceMap {
     /// Sets the debug id to a copy of this string. Fails only with `OutOfMemory`; the map is then as it was.
     pub fn set_debug_id(&mut self, alloc: Global, debug_id: &str) -> Result<()>
         ensures set { OnOk result (self.new ≡ record self.old { debug_id = Some debug_id.now }) }
-        ensures refused { OnlyMemory result }
+        ensures error { OnlyMemory result }
         ensures unchanged { OnErr result (self.new ≡ self.old) }
     {
         self.inner.set_debug_id(alloc, debug_id)
@@ -239,7 +239,7 @@ impl OwnedSourceMap {
         requires ends { IsFinite (I.remaining sources) }
         ensures set { OnOk result ((items : List S) × Drains I.next_gives sources items
             × (self.new ≡ record self.old { sources = map S.text items })) }
-        ensures refused { OnlyMemory result }
+        ensures error { OnlyMemory result }
         ensures unchanged { OnErr result (self.new ≡ self.old) }
     {
         self.inner.set_sources(alloc, sources)
@@ -261,7 +261,7 @@ impl OwnedSourceMap {
     ) -> Result<()>
         ensures set { let contents = map (option_map (λ content. content.now)) source_contents.entry.items in
             OnOk result (self.new ≡ record self.old { source_contents = contents }) }
-        ensures refused { OnlyMemory result }
+        ensures error { OnlyMemory result }
         ensures unchanged { OnErr result (self.new ≡ self.old) }
     {
         self.inner.set_source_contents(alloc, source_contents)
@@ -269,21 +269,21 @@ impl OwnedSourceMap {
 
     /// The name with this id. None if there is none.
     pub fn get_name(&self, id: u32) -> Option<&str>
-        ensures { option_lent_items result ≡ slice_get self.now.names id }
+        ensures { lent_item result ≡ slice_get self.now.names id }
     {
         self.inner.get_name(id)
     }
 
     /// The source with this id. None if there is none.
     pub fn get_source(&self, id: u32) -> Option<&str>
-        ensures { option_lent_items result ≡ slice_get self.now.sources id }
+        ensures { lent_item result ≡ slice_get self.now.sources id }
     {
         self.inner.get_source(id)
     }
 
     /// The content listed for the source with this id. None if none is listed, or it is not known.
     pub fn get_source_content(&self, id: u32) -> Option<&str>
-        ensures { option_lent_items result ≡ content_at self.now.source_contents id }
+        ensures { lent_item result ≡ content_at self.now.source_contents id }
     {
         self.inner.get_source_content(id)
     }
@@ -442,7 +442,7 @@ impl<'a> SourceMap<'a> {
     /// The same map, borrowing nothing, in a type without a lifetime: `into_owned`; fails as that does.
     pub fn into_owned_sourcemap(self, alloc: Global) -> Result<OwnedSourceMap>
         ensures map { IfOk result (λ map. map ≡ self.entry) }
-        ensures refused { OnlyMemory result }
+        ensures error { OnlyMemory result }
     {
         Ok(OwnedSourceMap::new(self.into_owned(alloc)?))
     }

@@ -68,7 +68,7 @@ impl<'sm, 'data> SourceViewToken<'sm, 'data> {
 
     /// The name. None if the token has no name id, or the map no such name.
     pub fn get_name(&self) -> Option<&'sm str>
-        ensures { option_lent_items result ≡ view_name (view_of self.now) }
+        ensures { lent_item result ≡ view_name (view_of self.now) }
     {
         let sourcemap = self.sourcemap;
         sourcemap.get_name(self.get_name_id()?)
@@ -76,7 +76,7 @@ impl<'sm, 'data> SourceViewToken<'sm, 'data> {
 
     /// The source. None if the token has no source id, or the map no such source.
     pub fn get_source(&self) -> Option<&'sm str>
-        ensures { option_lent_items result ≡ view_source (view_of self.now) }
+        ensures { lent_item result ≡ view_source (view_of self.now) }
     {
         let sourcemap = self.sourcemap;
         sourcemap.get_source(self.get_source_id()?)
@@ -85,7 +85,7 @@ impl<'sm, 'data> SourceViewToken<'sm, 'data> {
     /// The content that the map lists at the token's source id, also past the last source. None if the token has no source
     /// id, or the map lists no content there.
     pub fn get_source_content(&self) -> Option<&'sm str>
-        ensures { option_lent_items result ≡ view_content (view_of self.now) }
+        ensures { lent_item result ≡ view_content (view_of self.now) }
     {
         let sourcemap = self.sourcemap;
         sourcemap.get_source_content(self.get_source_id()?)
@@ -101,15 +101,15 @@ impl<'sm, 'data> SourceViewToken<'sm, 'data> {
 
     /// The source, the source line, the source column and the name.
     pub fn to_tuple(&self) -> (Option<&'sm str>, u32, u32, Option<&'sm str>)
-        ensures source { option_lent_items result.0 ≡ view_source (view_of self.now) }
+        ensures source { lent_item result.0 ≡ view_source (view_of self.now) }
         ensures line { result.1 ≡ (view_of self.now).token.src_line }
         ensures column { result.2 ≡ (view_of self.now).token.src_col }
-        ensures name { option_lent_items result.3 ≡ view_name (view_of self.now) }
+        ensures name { lent_item result.3 ≡ view_name (view_of self.now) }
 
         // The same, in the words of decoded maps: what the token points to, and no source where it points to nothing.
-        ensures original { MatchOption (view_original (view_of self.now)) (option_lent_items result.0 ≡ None) (λ original.
-            (option_lent_items result.0 ≡ Some original.source.path) × (result.1 ≡ original.src_line) × (result.2 ≡ original.src_col)
-            × (option_lent_items result.3 ≡ original.name)) }
+        ensures original { MatchOption (view_original (view_of self.now)) (lent_item result.0 ≡ None) (λ original.
+            (lent_item result.0 ≡ Some original.source.path) × (result.1 ≡ original.src_line) × (result.2 ≡ original.src_col)
+            × (lent_item result.3 ≡ original.name)) }
     {
         (
             self.get_source(),

@@ -23,8 +23,8 @@ use oxc_sourcemap_decode::{decode_parts, decode_parts_from_string};
 use oxc_sourcemap_encode::{encode_parts, encode_parts_to_data_url, encode_parts_to_string};
 use oxc_sourcemap_json::JSONSourceMap;
 use oxc_sourcemap_parts::{
-    Contents, Names, SourceMapParts, Sources, Tokens, are_sorted, are_sound, contents_in, names_in,
-    owned_parts, sources_in, owned_contents, owned_texts, tokens_in,
+    Contents, Names, SourceMapParts, Sources, Tokens, are_sorted, are_sound, contents_in,
+    owned_contents, owned_contents, owned_parts, owned_texts, tokens_in,
 };
 use oxc_sourcemap_tokens::{Result, Token, TokenChunk};
 use std::alloc::Global;
@@ -91,7 +91,7 @@ impl<'a> SourceMap<'a> {
     /// The map with nothing in it. Fails only with `OutOfMemory`.
     pub fn empty(alloc: Global) -> Result<SourceMap<'a>>
         ensures map { IfOk result (λ map. map ≡ empty_record) }
-        ensures refused { OnlyMemory result }
+        ensures error { OnlyMemory result }
     {
         Ok(SourceMap::from_parts(SourceMapParts::empty(alloc)?))
     }
@@ -120,7 +120,7 @@ impl<'a> SourceMap<'a> {
         ensures decoded_map { IfOk result (λ map. read_decoded_map text.now ≡ Ok (decoded_map_of map)) }
         ensures sound { IfOk result (λ map. IsSound map ↔ (are_tokens_sorted map.tokens ≡ true)) }
         ensures in_line_order { IfOk result (λ map. IsInLineOrder map.tokens) }
-        ensures refused { IfErr result (λ e. (e ≢ OutOfMemory) → read_map text.now ≡ Err e) }
+        ensures error { IfErr result (λ e. (e ≢ OutOfMemory) → read_map text.now ≡ Err e) }
     {
         Ok(SourceMap::from_parts(decode_parts_from_string(alloc, text)?))
     }
@@ -154,7 +154,7 @@ impl<'a> SourceMap<'a> {
     /// A map equal to this one. A borrowed string stays borrowed. Fails only with `OutOfMemory`.
     pub fn clone(&self, alloc: Global) -> Result<SourceMap<'a>>
         ensures map { IfOk result (λ map. map ≡ self.now) }
-        ensures refused { OnlyMemory result }
+        ensures error { OnlyMemory result }
     {
         Ok(SourceMap {
             parts: self.parts.clone(alloc)?,
@@ -165,7 +165,7 @@ impl<'a> SourceMap<'a> {
     /// map is then dropped.
     pub fn into_owned(self, alloc: Global) -> Result<SourceMap<'static>>
         ensures map { IfOk result (λ map. map ≡ self.entry) }
-        ensures refused { OnlyMemory result }
+        ensures error { OnlyMemory result }
     {
         Ok(SourceMap {
             parts: owned_parts(alloc, self.parts)?,
@@ -189,7 +189,7 @@ impl<'a> SourceMap<'a> {
 
     /// The name of the generated file.
     pub fn get_file(&self) -> Option<&str>
-        ensures { option_lent_items result ≡ self.now.file }
+        ensures { lent_item result ≡ self.now.file }
     {
         self.parts.file.as_deref()
     }
@@ -198,7 +198,7 @@ impl<'a> SourceMap<'a> {
     /// was.
     pub fn set_file(&mut self, alloc: Global, file: &str) -> Result<()>
         ensures set { OnOk result (self.new ≡ record self.old { file = Some file.now }) }
-        ensures refused { OnlyMemory result }
+        ensures error { OnlyMemory result }
         ensures unchanged { OnErr result (self.new ≡ self.old) }
     {
         self.parts.file = Some(CowStr::Owned(String::from_str(alloc, file)?));
@@ -207,14 +207,14 @@ impl<'a> SourceMap<'a> {
 
     /// The source root, which consumers prepend to each source. `get_source` and `get_sources` return sources without it.
     pub fn get_source_root(&self) -> Option<&str>
-        ensures { option_lent_items result ≡ self.now.source_root }
+        ensures { lent_item result ≡ self.now.source_root }
     {
         self.parts.source_root.as_deref()
     }
 
     /// The indices of third-party sources, which debuggers may skip.
     pub fn get_ignore_list(&self) -> Option<&[u32]>
-        ensures { option_lent_items result ≡ self.now.ignore_list }
+        ensures { lent_item result ≡ self.now.ignore_list }
     {
         self.parts.ignore_list.as_deref()
     }
@@ -229,7 +229,7 @@ impl<'a> SourceMap<'a> {
     /// Sets the debug id to a copy of this string. Fails only with `OutOfMemory`; the map is then as it was.
     pub fn set_debug_id(&mut self, alloc: Global, debug_id: &str) -> Result<()>
         ensures set { OnOk result (self.new ≡ record self.old { debug_id = Some debug_id.now }) }
-        ensures refused { OnlyMemory result }
+        ensures error { OnlyMemory result }
         ensures unchanged { OnErr result (self.new ≡ self.old) }
     {
         self.parts.debug_id = Some(CowStr::Owned(String::from_str(alloc, debug_id)?));
@@ -238,7 +238,7 @@ impl<'a> SourceMap<'a> {
 
     /// The id that ties this map to its generated code.
     pub fn get_debug_id(&self) -> Option<&str>
-        ensures { option_lent_items result ≡ self.now.debug_id }
+        ensures { lent_item result ≡ self.now.debug_id }
     {
         self.parts.debug_id.as_deref()
     }
@@ -247,7 +247,7 @@ impl<'a> SourceMap<'a> {
     pub fn get_names(&self) -> Names<'_, 'a>
         ensures { result ≡ self.now.names }
     {
-        names_in(self.parts.names.as_slice())
+        texts_in(self.parts.names.as_slice())
     }
 
     /// Sets the sources to copies of these strings. Tokens, contents and the ignore list stay as they are, so ids may then
@@ -265,7 +265,7 @@ impl<'a> SourceMap<'a> {
         requires ends { IsFinite (I.remaining sources) }
         ensures set { OnOk result ((items : List S) × Drains I.next_gives sources items
             × (self.new ≡ record self.old { sources = map S.text items })) }
-        ensures refused { OnlyMemory result }
+        ensures error { OnlyMemory result }
         ensures unchanged { OnErr result (self.new ≡ self.old) }
     {
         self.parts.sources = owned_texts(alloc, sources)?;
@@ -276,7 +276,7 @@ impl<'a> SourceMap<'a> {
     pub fn get_sources(&self) -> Sources<'_, 'a>
         ensures { result ≡ self.now.sources }
     {
-        sources_in(self.parts.sources.as_slice())
+        texts_in(self.parts.sources.as_slice())
     }
 
     /// Sets the contents of sources to copies of these strings, None if a content is not known. There may be fewer or
@@ -288,7 +288,7 @@ impl<'a> SourceMap<'a> {
     ) -> Result<()>
         ensures set { let contents = map (option_map (λ content. content.now)) source_contents.entry.items in
             OnOk result (self.new ≡ record self.old { source_contents = contents }) }
-        ensures refused { OnlyMemory result }
+        ensures error { OnlyMemory result }
         ensures unchanged { OnErr result (self.new ≡ self.old) }
     {
         self.parts.source_contents = owned_contents(alloc, source_contents)?;
@@ -332,21 +332,21 @@ impl<'a> SourceMap<'a> {
 
     /// The name with this id. None if there is none.
     pub fn get_name(&self, id: u32) -> Option<&str>
-        ensures { option_lent_items result ≡ slice_get self.now.names id }
+        ensures { lent_item result ≡ slice_get self.now.names id }
     {
         Some(self.parts.names.get(id as usize)?.as_str())
     }
 
     /// The source with this id. None if there is none.
     pub fn get_source(&self, id: u32) -> Option<&str>
-        ensures { option_lent_items result ≡ slice_get self.now.sources id }
+        ensures { lent_item result ≡ slice_get self.now.sources id }
     {
         Some(self.parts.sources.get(id as usize)?.as_str())
     }
 
     /// The content listed for the source with this id. None if none is listed, or it is not known.
     pub fn get_source_content(&self, id: u32) -> Option<&str>
-        ensures { option_lent_items result ≡ content_at self.now.source_contents id }
+        ensures { lent_item result ≡ content_at self.now.source_contents id }
     {
         self.parts.source_contents.get(id as usize)?.as_deref()
     }

@@ -11,7 +11,10 @@ ghost use Rattle.oxc_sourcemap_mappings.specs.Encoding.{text_from, OnlyAdds, lin
 ghost use Rattle.std.specs.List.{AllByRecursion};
 ghost use Rattle.oxc_sourcemap_tokens.specs.Results.{OnlyMemory, FailsBy, Reports, Pushes};
 
-use oxc_sourcemap_tokens::{Error, Memory, Previous, Result, Token, TokenChunk, chunk_fault, line_back_from, line_order_fault, next_chunk, tokens_of};
+use oxc_sourcemap_tokens::{
+    Error, Memory, Previous, Result, Token, TokenChunk, chunk_fault, line_back_from,
+    line_order_fault, next_chunk, tokens_of,
+};
 
 /// How many bytes of the text are gathered before they are appended to it.
 const BLOCK: usize = 1024;
@@ -337,11 +340,7 @@ fn push_semicolons(out: &mut String, count: u32) -> Memory<()>
 
 /// Adds the characters that are gathered, and of so many `;` all but 8. How many of these are left.
 #[cold]
-fn push_gathered(
-    out: &mut String,
-    gathered: &[u8],
-    lines: u32,
-) -> Memory<u32>
+fn push_gathered(out: &mut String, gathered: &[u8], lines: u32) -> Memory<u32>
     requires { AllByRecursion (λ b. b < 128) gathered.now }
     ensures ok { IfOk result (λ left. string_bytes out.new ≡ (string_bytes out.old ++ gathered.now) ++ replicate (lines - left) 59) }
     ensures left { IfOk result (λ left. left ≡ min lines 8) }
@@ -355,12 +354,7 @@ fn push_gathered(
 
 /// Makes room in the buffer, the first `len` bytes of which are gathered, for a token so many lines further down. How many
 /// are gathered then, and how many of the lines are not yet marked.
-fn make_room(
-    out: &mut String,
-    buf: &[u8],
-    len: usize,
-    lines: u32,
-) -> Memory<(usize, u32)>
+fn make_room(out: &mut String, buf: &[u8], len: usize, lines: u32) -> Memory<(usize, u32)>
     requires within { len ≤ length buf.now }
     requires plain { AllByRecursion (λ b. b < 128) (take len buf.now) }
     ensures ok { IfOk result (λ r. string_bytes out.new ++ take r.0 buf.now ≡ (string_bytes out.old ++ take len buf.now) ++ replicate (lines - r.1) 59) }
@@ -379,12 +373,7 @@ fn make_room(
 }
 
 /// Adds tokens in line order after a state.
-fn push_tokens(
-    out: &mut String,
-    at_start: bool,
-    header: Previous,
-    tokens: &[Token],
-) -> Memory<()>
+fn push_tokens(out: &mut String, at_start: bool, header: Previous, tokens: &[Token]) -> Memory<()>
     requires { back_from header.dst_line 0 tokens.now ≡ None }
     ensures ok { Pushes result out.old out.new (text_from at_start (state_of header) tokens.now) }
     ensures adds { OnlyAdds (string_bytes out.old) (string_bytes out.new) }

@@ -1,7 +1,5 @@
 //! The `mappings` text of a source map of version 3 (ECMA-426, "Mappings structure"): read into tokens, and written from
-//! them.
-//!
-//! Users name the crate `oxc_sourcemap`, which re-exports what is meant for them.
+//! them. Part of `oxc_sourcemap`.
 #![tactic(auto)]
 
 mod decode;

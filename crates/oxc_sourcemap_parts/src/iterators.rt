@@ -11,96 +11,48 @@ use std::borrow::CowStr;
 use std::marker::Model;
 use std::slice;
 
-/// The names of a map, in order of their ids.
+/// The names or the sources of a map, in order of their ids.
 #[derive(Drop)]
-pub struct Names<'s, 'd> {
-    names: slice::Iter<'s, CowStr<'d>>,
+pub struct Texts<'s, 'd> {
+    texts: slice::Iter<'s, CowStr<'d>>,
 }
 
-impl<'s, 'd> Model for Names<'s, 'd> {
-    ghost use Rattle.std.specs.Prelude.{List, map};
-    ghost use Rattle.std.specs.Slice.Iter.{iter_rest};
-    ghost use Rattle.std.specs.Cow.{cow_str_bytes};
-    ghost use Rattle.oxc_sourcemap_parts.specs.Record.{Text};
-
-    // The names that are left.
-    ghost Value = { List Text };
-
-    ghost view = { λ it. map cow_str_bytes (iter_rest it.names) };
-}
-
-/// An iterator over these names.
-pub fn names_in<'s, 'd>(names: &'s [CowStr<'d>]) -> Names<'s, 'd>
-    ensures { result ≡ cow_texts names.now }
-{
-    Names {
-        names: names.iter(),
-    }
-}
-
-impl<'s, 'd> Iterator for Names<'s, 'd> {
-    type Item = &'s str;
-
-    ghost next_gives = { YieldsFirstBy (λ name. name.now) (λ left. left) };
-
-    ghost remaining = { item_count (λ left. left) };
-
-    fn next(&mut self) -> Option<&'s str> {
-        Some(self.names.next()?.as_str())
-    }
-
-    fn size_hint(&self) -> (usize, Option<usize>)
-        ensures lower { IsWithinCount result.0 (item_count (λ left. left) self.now) }
-        ensures upper { IfSome result.1 (UpTo (item_count (λ left. left) self.now)) }
-        ensures exact { result ≡ (length self.now, Some (length self.now)) }
-    {
-        let len = self.len();
-        (len, Some(len))
-    }
-}
-
-impl<'s, 'd> ExactSizeIterator for Names<'s, 'd> {
-    fn len(&self) -> usize {
-        self.names.len()
-    }
-}
+/// The names of a map, in order of their ids.
+pub type Names<'s, 'd> = Texts<'s, 'd>;
 
 /// The sources of a map, in order of their ids.
-#[derive(Drop)]
-pub struct Sources<'s, 'd> {
-    sources: slice::Iter<'s, CowStr<'d>>,
-}
+pub type Sources<'s, 'd> = Texts<'s, 'd>;
 
-impl<'s, 'd> Model for Sources<'s, 'd> {
-    ghost use Rattle.std.specs.Prelude.{List, map};
+impl<'s, 'd> Model for Texts<'s, 'd> {
+    ghost use Rattle.std.specs.Prelude.{List};
     ghost use Rattle.std.specs.Slice.Iter.{iter_rest};
-    ghost use Rattle.std.specs.Cow.{cow_str_bytes};
     ghost use Rattle.oxc_sourcemap_parts.specs.Record.{Text};
+    ghost use Rattle.oxc_sourcemap_parts.specs.Views.{cow_texts};
 
-    // The sources that are left.
+    // The texts that are left.
     ghost Value = { List Text };
 
-    ghost view = { λ it. map cow_str_bytes (iter_rest it.sources) };
+    ghost view = { λ it. cow_texts (iter_rest it.texts) };
 }
 
-/// An iterator over these sources.
-pub fn sources_in<'s, 'd>(sources: &'s [CowStr<'d>]) -> Sources<'s, 'd>
-    ensures { result ≡ cow_texts sources.now }
+/// An iterator over these texts.
+pub fn texts_in<'s, 'd>(texts: &'s [CowStr<'d>]) -> Texts<'s, 'd>
+    ensures { result ≡ cow_texts texts.now }
 {
-    Sources {
-        sources: sources.iter(),
+    Texts {
+        texts: texts.iter(),
     }
 }
 
-impl<'s, 'd> Iterator for Sources<'s, 'd> {
+impl<'s, 'd> Iterator for Texts<'s, 'd> {
     type Item = &'s str;
 
-    ghost next_gives = { YieldsFirstBy (λ source. source.now) (λ left. left) };
+    ghost next_gives = { YieldsFirstBy (λ text. text.now) (λ left. left) };
 
     ghost remaining = { item_count (λ left. left) };
 
     fn next(&mut self) -> Option<&'s str> {
-        Some(self.sources.next()?.as_str())
+        Some(self.texts.next()?.as_str())
     }
 
     fn size_hint(&self) -> (usize, Option<usize>)
@@ -113,9 +65,9 @@ impl<'s, 'd> Iterator for Sources<'s, 'd> {
     }
 }
 
-impl<'s, 'd> ExactSizeIterator for Sources<'s, 'd> {
+impl<'s, 'd> ExactSizeIterator for Texts<'s, 'd> {
     fn len(&self) -> usize {
-        self.sources.len()
+        self.texts.len()
     }
 }
 

@@ -39,7 +39,7 @@ impl<'a> SourceMapParts<'a> {
     /// The parts of a map with nothing in it. Fails only with `OutOfMemory`.
     pub fn empty(alloc: Global) -> Result<SourceMapParts<'a>>
         ensures parts { IfOk result (λ parts. record_of_parts parts ≡ empty_record) }
-        ensures refused { OnlyMemory result }
+        ensures error { OnlyMemory result }
     {
         Ok(SourceMapParts {
             file: None,
@@ -57,7 +57,7 @@ impl<'a> SourceMapParts<'a> {
     /// Parts equal to these. A borrowed string stays borrowed. Fails only with `OutOfMemory`.
     pub fn clone(&self, alloc: Global) -> Result<SourceMapParts<'a>>
         ensures parts { IfOk result (λ parts. record_of_parts parts ≡ record_of_parts self.now) }
-        ensures refused { OnlyMemory result }
+        ensures error { OnlyMemory result }
     {
         let tokens = self.tokens.as_slice().to_vec(alloc)?;
         let token_chunks = clone_chunks(alloc, &self.token_chunks)?;
@@ -108,10 +108,7 @@ fn clone_single<'a>(parts: &SourceMapParts<'a>) -> Memory<Single<'a>>
 }
 
 /// Clones of the lists of strings of these parts.
-fn clone_lists<'a>(
-    alloc: Global,
-    parts: &SourceMapParts<'a>,
-) -> Memory<TextLists<'a>>
+fn clone_lists<'a>(alloc: Global, parts: &SourceMapParts<'a>) -> Memory<TextLists<'a>>
     ensures names { IfOk result (λ lists. texts_of lists.names ≡ texts_of parts.now.names) }
     ensures sources { IfOk result (λ lists. texts_of lists.sources ≡ texts_of parts.now.sources) }
     ensures contents { IfOk result (λ lists. contents_of lists.contents ≡ contents_of parts.now.source_contents) }
@@ -124,10 +121,7 @@ fn clone_lists<'a>(
 }
 
 /// The same strings, borrowing nothing.
-fn into_owned_single(
-    alloc: Global,
-    texts: Single<'_>,
-) -> Memory<Single<'static>>
+fn into_owned_single(alloc: Global, texts: Single<'_>) -> Memory<Single<'static>>
     ensures file { IfOk result (λ owned. text_of owned.file ≡ text_of texts.entry.file) }
     ensures source_root { IfOk result (λ owned. text_of owned.source_root ≡ text_of texts.entry.source_root) }
     ensures debug_id { IfOk result (λ owned. text_of owned.debug_id ≡ text_of texts.entry.debug_id) }
@@ -140,10 +134,7 @@ fn into_owned_single(
 }
 
 /// The same lists, borrowing nothing.
-fn into_owned_lists(
-    alloc: Global,
-    lists: TextLists<'_>,
-) -> Memory<TextLists<'static>>
+fn into_owned_lists(alloc: Global, lists: TextLists<'_>) -> Memory<TextLists<'static>>
     ensures names { IfOk result (λ owned. texts_of owned.names ≡ texts_of lists.entry.names) }
     ensures sources { IfOk result (λ owned. texts_of owned.sources ≡ texts_of lists.entry.sources) }
     ensures contents { IfOk result (λ owned. contents_of owned.contents ≡ contents_of lists.entry.contents) }
@@ -159,7 +150,7 @@ fn into_owned_lists(
 /// parts are then dropped.
 pub fn owned_parts(alloc: Global, parts: SourceMapParts<'_>) -> Result<SourceMapParts<'static>>
     ensures parts { IfOk result (λ owned. record_of_parts owned ≡ record_of_parts parts.entry) }
-    ensures refused { OnlyMemory result }
+    ensures error { OnlyMemory result }
 {
     let texts = Single {
         file: parts.file,

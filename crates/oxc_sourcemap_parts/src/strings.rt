@@ -54,9 +54,7 @@ pub fn owned_contents<'a>(
 }
 
 /// A clone of a string, if there is one. A borrowed string stays borrowed.
-pub fn clone_text<'a>(
-    text: &Option<CowStr<'a>>,
-) -> Memory<Option<CowStr<'a>>>
+pub fn clone_text<'a>(text: &Option<CowStr<'a>>) -> Memory<Option<CowStr<'a>>>
     ensures { IfOk result (λ clone. text_of clone ≡ text_of text.now) }
 {
     match text {
@@ -66,10 +64,7 @@ pub fn clone_text<'a>(
 }
 
 /// Clones of strings.
-pub fn clone_texts<'a>(
-    alloc: Global,
-    texts: &[CowStr<'a>],
-) -> Memory<Vec<CowStr<'a>>>
+pub fn clone_texts<'a>(alloc: Global, texts: &[CowStr<'a>]) -> Memory<Vec<CowStr<'a>>>
     ensures { IfOk result (λ clones. texts_of clones ≡ cow_texts texts.now) }
 {
     let mut clones = Vec::with_capacity(alloc, texts.len())?;
@@ -107,10 +102,7 @@ pub fn clone_chunks(
 }
 
 /// A clone of an ignore list, if there is one.
-pub fn clone_ids(
-    alloc: Global,
-    list: &Option<Vec<u32>>,
-) -> Memory<Option<Vec<u32>>>
+pub fn clone_ids(alloc: Global, list: &Option<Vec<u32>>) -> Memory<Option<Vec<u32>>>
     ensures { IfOk result (λ clone. ids_of clone ≡ ids_of list.now) }
 {
     match list {
@@ -120,10 +112,7 @@ pub fn clone_ids(
 }
 
 /// A string that borrows nothing: an owned one is moved, a borrowed one copied.
-pub fn into_owned_text(
-    alloc: Global,
-    text: Option<CowStr<'_>>,
-) -> Memory<Option<CowStr<'static>>>
+pub fn into_owned_text(alloc: Global, text: Option<CowStr<'_>>) -> Memory<Option<CowStr<'static>>>
     ensures { IfOk result (λ owned. text_of owned ≡ text_of text.entry) }
 {
     match text {
@@ -133,10 +122,7 @@ pub fn into_owned_text(
 }
 
 /// Strings that borrow nothing, as `into_owned_text` makes them.
-pub fn into_owned_texts(
-    alloc: Global,
-    texts: Vec<CowStr<'_>>,
-) -> Memory<Vec<CowStr<'static>>>
+pub fn into_owned_texts(alloc: Global, texts: Vec<CowStr<'_>>) -> Memory<Vec<CowStr<'static>>>
     ensures { IfOk result (λ owned. texts_of owned ≡ texts_of texts.entry) }
 {
     let mut owned = Vec::with_capacity(alloc, texts.len())?;

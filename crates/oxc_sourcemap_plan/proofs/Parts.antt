@@ -3,7 +3,8 @@ use Rattle.std.proofs.Common.{◌≡◌, ℕ, ◌+◌, ◌<◌, ◌≤◌, List,
 use Rattle.std.specs.Result.{IfErr, IsErrAnd}
 use Rattle.std.proofs.lemmas.List.{take_more, drop_more, take-append-drop, map-append}
 use Rattle.oxc_sourcemap_parts.specs.Record.{MapRecord}
-use Rattle.oxc_sourcemap_join.specs.Joined.{Offset, at_line}
+use Rattle.oxc_sourcemap_tokens.specs.declared.position.Position.{Position}
+use Rattle.oxc_sourcemap_join.specs.Joined.{at_line}
 use Rattle.oxc_sourcemap_plan.specs.declared.plan.Plan.{Plan}
 use Rattle.oxc_sourcemap_tokens.specs.declared.plan_error.PlanError.{PlanError}
 use Rattle.oxc_sourcemap_plan.specs.Depth.{deepest}
@@ -29,33 +30,32 @@ pub part_below_deepest : {A : Type 0} (f : A → ℕ) (ps : List A) (i : ℕ) (p
 part_below_deepest f ps i p l q = subst (λ xs. f p ≤ deepest (map f xs)) (sym (around ps i p l q)) (below_deepest f (take i ps) (drop (i + 1) ps) p)
 
 -- one part more
-one_more : (ms : List (MapRecord × Offset)) (ps : List (Plan × Offset)) (m : MapRecord × Offset) (p : Plan × Offset) → AllRealize ms (outcomes ps) → Realizes m.0 (outcome_of p.0) → m.1 ≡ p.1 → AllRealize (ms ++ m ∷ []) (outcomes (ps ++ p ∷ []))
+one_more : (ms : List (MapRecord × Position)) (ps : List (Plan × Position)) (m : MapRecord × Position) (p : Plan × Position) → AllRealize ms (outcomes ps) → Realizes m.0 (outcome_of p.0) → m.1 ≡ p.1 → AllRealize (ms ++ m ∷ []) (outcomes (ps ++ p ∷ []))
 one_more [] [] m p h g e = ((g, e), tt)
 one_more [] (q ∷ ps) m p h g e = absurd h
 one_more (n ∷ ms) [] m p h g e = absurd h
 one_more (n ∷ ms) (q ∷ ps) m p h g e = (h.0, one_more ms ps m p h.1 g e)
 
--- maps and parts as they are stored, and the offset of each
-module _ {A B : Type 0} (map_at : B → MapRecord × Offset) (part_at : A → Plan × Offset) where
-  pub more_given : (ms : List B) (ps : List A) (i : ℕ) (m : B) (p : A) → i < length ps → p ≡ get_or ps i p → AllRealize (map map_at ms) (outcomes (map part_at (take i ps)))
-      → Realizes (map_at m).0 (outcome_of (part_at p).0) → (map_at m).1 ≡ (part_at p).1 → AllRealize (map map_at (ms ++ m ∷ [])) (outcomes (map part_at (take (i + 1) ps)))
+-- parts as they are stored, each with where its code begins
+module _ {A : Type 0} (part_at : A → Plan × Position) where
+  pub more_given : (ms : List (MapRecord × Position)) (ps : List A) (i : ℕ) (m : MapRecord × Position) (p : A) → i < length ps → p ≡ get_or ps i p → AllRealize ms (outcomes (map part_at (take i ps)))
+      → Realizes m.0 (outcome_of (part_at p).0) → m.1 ≡ (part_at p).1 → AllRealize (ms ++ m ∷ []) (outcomes (map part_at (take (i + 1) ps)))
   more_given ms ps i m p l e h g o =
       let next : take (i + 1) ps ≡ take i ps ++ p ∷ [] = take_more ps i p l ∙ ap (λ q. take i ps ++ q ∷ []) (sym e) in
       let parts : map part_at (take (i + 1) ps) ≡ map part_at (take i ps) ++ part_at p ∷ [] = ap (map part_at) next ∙ map-append part_at (take i ps) (p ∷ []) in
-      subst (λ xs. AllRealize xs (outcomes (map part_at (take (i + 1) ps)))) (sym (map-append map_at ms (m ∷ [])))
-      (subst (λ qs. AllRealize (map map_at ms ++ map_at m ∷ []) (outcomes qs)) (sym parts) (one_more (map map_at ms) (map part_at (take i ps)) (map_at m) (part_at p) h g o))
+      subst (λ qs. AllRealize (ms ++ m ∷ []) (outcomes qs)) (sym parts) (one_more ms (map part_at (take i ps)) m (part_at p) h g o)
 
-  pub part_refused : (ms : List B) (ps : List A) (i : ℕ) (p : A) (e : PlanError) → i < length ps → p ≡ get_or ps i p → AllRealize (map map_at ms) (outcomes (map part_at (take i ps)))
+  pub part_refused : (ms : List (MapRecord × Position)) (ps : List A) (i : ℕ) (p : A) (e : PlanError) → i < length ps → p ≡ get_or ps i p → AllRealize ms (outcomes (map part_at (take i ps)))
       → FailsAs e (outcome_of (part_at p).0) → FailsAs e (join_outcome (outcomes (map part_at ps)))
   part_refused ms ps i p e l q h r =
       let t : map part_at ps ≡ map part_at (take i ps) ++ part_at p ∷ map part_at (drop (i + 1) ps) = ap (map part_at) (around ps i p l q) ∙ map-append part_at (take i ps) (p ∷ drop (i + 1) ps) in
-      part_refuses (map map_at ms) (outcomes (map part_at (take i ps))) (outcomes (map part_at (drop (i + 1) ps))) (outcome_of (part_at p).0) (part_at p).1 e h r (outcomes (map part_at ps))
-      (ap outcomes t ∙ map-append (λ (p : Plan × Offset). (outcome_of p.0, p.1)) (map part_at (take i ps)) (part_at p ∷ map part_at (drop (i + 1) ps)))
+      part_refuses ms (outcomes (map part_at (take i ps))) (outcomes (map part_at (drop (i + 1) ps))) (outcome_of (part_at p).0) (part_at p).1 e h r (outcomes (map part_at ps))
+      (ap outcomes t ∙ map-append (λ (p : Plan × Position). (outcome_of p.0, p.1)) (map part_at (take i ps)) (part_at p ∷ map part_at (drop (i + 1) ps)))
 
 -- parts of a join at lines
-abbrev pub at_its_line : {A : Type 0} → A × ℕ → A × Offset
+abbrev pub at_its_line : {A : Type 0} → A × ℕ → A × Position
 at_its_line item = (item.0, at_line item.1)
 
 -- parts of a join at lines and columns
-abbrev pub at_its_position : {A : Type 0} → A × ℕ × ℕ → A × Offset
+abbrev pub at_its_position : {A : Type 0} → A × ℕ × ℕ → A × Position
 at_its_position item = (item.0, record { line = item.1; column = item.2 })

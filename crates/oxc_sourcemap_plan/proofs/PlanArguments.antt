@@ -10,7 +10,7 @@ use Rattle.std.proofs.lemmas.Bool.Decides.{nat_tests}
 use Rattle.oxc_sourcemap_decode.specs.ReadMap.{said_in}
 use Rattle.oxc_sourcemap_plan.specs.Numbers.{number_of}
 use Rattle.oxc_sourcemap_plan.specs.Depth.{deepest}
-use Rattle.oxc_sourcemap_join.specs.Joined.{Offset}
+use Rattle.oxc_sourcemap_tokens.specs.declared.position.Position.{Position}
 use Rattle.oxc_sourcemap_plan.specs.declared.run_error.RunError.{RunError}
 use Rattle.oxc_sourcemap_plan.specs.declared.run_error.RunError.TheVariants.{Arguments, NoText}
 use Rattle.oxc_sourcemap_plan.specs.Outcome.{Outcome, read_outcome, rewrite_outcome, join_outcome, composition_outcome}
@@ -61,37 +61,37 @@ module _ (inputs : List Text) (part : List Text → Parsed Outcome) (argument : 
   named-text a b c d = rw (differ argument (codes "rewrite") a, differ argument (codes "join") b, differ argument (codes "joinat") c, differ argument (codes "compose") d) refl
 
 -- ---- parts of a join, as far as they have come
-module _ (part : List Text → Parsed Outcome) (offset : List Text → Parsed Offset) where
+module _ (part : List Text → Parsed Outcome) (offset : List Text → Parsed Position) where
   -- what is left of the parts, after some
-  abbrev pub left_after : List (Outcome × Offset) → ℕ → List Text → Parsed (List (Outcome × Offset))
+  abbrev pub left_after : List (Outcome × Position) → ℕ → List Text → Parsed (List (Outcome × Position))
   left_after done n arguments = then_parsed (parsed_parts part offset n arguments) (λ others rest. Ok (done ++ others, rest))
 
   next-part : (count i : ℕ) (arguments : List Text) → i < count → parsed_parts part offset (count - i) arguments ≡ parsed_parts part offset (suc (count - (i + 1))) arguments
   next-part count i arguments l = let e : count - i ≡ suc (count - (i + 1)) = omega arith in ap (λ n. parsed_parts part offset n arguments) e
 
-  pushed : (done : List (Outcome × Offset)) (p : Outcome × Offset) (others : Parsed (List (Outcome × Offset)))
+  pushed : (done : List (Outcome × Position)) (p : Outcome × Position) (others : Parsed (List (Outcome × Position)))
       → then_parsed (then_parsed others (λ os rest. Ok (p ∷ os, rest))) (λ os rest. Ok (done ++ os, rest)) ≡ then_parsed others (λ os rest. Ok ((done ++ p ∷ []) ++ os, rest))
   pushed done p (Ok r) = ap (λ os. Ok (os, r.1)) (sym (append_assoc done (p ∷ []) r.0))
   pushed done p (Err e) = refl
 
-  after-part : (done : List (Outcome × Offset)) (count i : ℕ) (arguments : List Text) → i < count → (read : Parsed Outcome) → part arguments ≡ read
+  after-part : (done : List (Outcome × Position)) (count i : ℕ) (arguments : List Text) → i < count → (read : Parsed Outcome) → part arguments ≡ read
       → left_after done (count - i) arguments ≡ then_parsed (then_parsed read (λ o after. then_parsed (offset after) (λ place left. then_parsed (parsed_parts part offset (count - (i + 1)) left) (λ others rest. Ok ((o, place) ∷ others, rest))))) (λ others rest. Ok (done ++ others, rest))
   after-part done count i arguments l read e =
       ap (λ r. then_parsed r (λ others rest. Ok (done ++ others, rest)))
       (next-part count i arguments l ∙ ap (λ r. then_parsed r (λ o after. then_parsed (offset after) (λ place left. then_parsed (parsed_parts part offset (count - (i + 1)) left) (λ others rest. Ok ((o, place) ∷ others, rest))))) e)
 
   -- a part that is refused
-  pub part-refused : (done : List (Outcome × Offset)) (count i : ℕ) (arguments : List Text) (e : RunError) → i < count → part arguments ≡ Err e → left_after done (count - i) arguments ≡ Err e
+  pub part-refused : (done : List (Outcome × Position)) (count i : ℕ) (arguments : List Text) (e : RunError) → i < count → part arguments ≡ Err e → left_after done (count - i) arguments ≡ Err e
   part-refused done count i arguments e l h = after-part done count i arguments l (Err e) h
 
   -- an offset that is refused
-  pub offset-refused : (done : List (Outcome × Offset)) (count i : ℕ) (arguments after : List Text) (o : Outcome) (e : RunError) → i < count → part arguments ≡ Ok (o, after) → offset after ≡ Err e → left_after done (count - i) arguments ≡ Err e
+  pub offset-refused : (done : List (Outcome × Position)) (count i : ℕ) (arguments after : List Text) (o : Outcome) (e : RunError) → i < count → part arguments ≡ Ok (o, after) → offset after ≡ Err e → left_after done (count - i) arguments ≡ Err e
   offset-refused done count i arguments after o e l h k =
       after-part done count i arguments l (Ok (o, after)) h
       ∙ ap (λ r. then_parsed (then_parsed r (λ place left. then_parsed (parsed_parts part offset (count - (i + 1)) left) (λ others rest. Ok ((o, place) ∷ others, rest)))) (λ others rest. Ok (done ++ others, rest))) k
 
   -- one part more
-  pub part-more : (done : List (Outcome × Offset)) (count i : ℕ) (arguments after left : List Text) (o : Outcome) (place : Offset) → i < count → part arguments ≡ Ok (o, after) → offset after ≡ Ok (place, left)
+  pub part-more : (done : List (Outcome × Position)) (count i : ℕ) (arguments after left : List Text) (o : Outcome) (place : Position) → i < count → part arguments ≡ Ok (o, after) → offset after ≡ Ok (place, left)
       → left_after done (count - i) arguments ≡ left_after (done ++ (o, place) ∷ []) (count - (i + 1)) left
   part-more done count i arguments after left o place l h k =
       after-part done count i arguments l (Ok (o, after)) h
@@ -99,13 +99,13 @@ module _ (part : List Text → Parsed Outcome) (offset : List Text → Parsed Of
       ∙ pushed done (o, place) (parsed_parts part offset (count - (i + 1)) left)
 
   -- all parts
-  pub parts-end : (done : List (Outcome × Offset)) (count i : ℕ) (arguments : List Text) → count ≤ i → left_after done (count - i) arguments ≡ Ok (done, arguments)
+  pub parts-end : (done : List (Outcome × Position)) (count i : ℕ) (arguments : List Text) → count ≤ i → left_after done (count - i) arguments ≡ Ok (done, arguments)
   parts-end done count i arguments l =
       let none : count - i ≡ 0 = omega arith in
       ap (λ k. left_after done k arguments) none ∙ ap (λ os. Ok (os, arguments)) (append-nil done)
 
   -- a join, from its parts
-  pub join-of-parts : (arguments after : List Text) (n : ℕ) (read : Parsed (List (Outcome × Offset))) → parsed_number arguments ≡ Ok (n, after) → parsed_parts part offset n after ≡ read
+  pub join-of-parts : (arguments after : List Text) (n : ℕ) (read : Parsed (List (Outcome × Position))) → parsed_number arguments ≡ Ok (n, after) → parsed_parts part offset n after ≡ read
       → parsed_join part offset arguments ≡ then_parsed read (λ parts left. Ok (join_outcome parts, left))
   join-of-parts arguments after n read e f =
       ap (λ r. then_parsed r (λ n after. then_parsed (parsed_parts part offset n after) (λ parts left. Ok (join_outcome parts, left)))) e

@@ -13,7 +13,8 @@ use Rattle.oxc_sourcemap_parts.specs.Sorted.{are_tokens_sorted}
 use Rattle.oxc_sourcemap_parts.specs.Sound.{IsSound}
 use Rattle.oxc_sourcemap_parts.specs.DecodedMap.{DecodedMap, mapping_of, sources_of, decoded_map_of}
 use Rattle.oxc_sourcemap_json.specs.Shape.{◌>>=◌}
-use Rattle.oxc_sourcemap_join.specs.Joined.{Offset, nothing_joined, joined, IsWithinLimits}
+use Rattle.oxc_sourcemap_tokens.specs.declared.position.Position.{Position}
+use Rattle.oxc_sourcemap_join.specs.Joined.{nothing_joined, joined, IsWithinLimits}
 use Rattle.oxc_sourcemap_decode.specs.Sections.{Sections, joined_sections}
 use Rattle.oxc_sourcemap_decode.specs.JoinLimits.{is_within_limits}
 use Rattle.oxc_sourcemap_decode.specs.ReadMap.{Said, plain, indexed, indexed_record, map_said, said_in, read_map}
@@ -33,7 +34,7 @@ use Rattle.oxc_sourcemap_plan.specs.Realizes.{Realizes, FailsAs}
 use Rattle.oxc_sourcemap_plan.proofs.KnownNames.{among-self}
 use Rattle.oxc_sourcemap_plan.proofs.Realizing.{CountsFit, counts-fit, same-sources, contents-added, Stays, stays-of, JoinLaws, within_of, plain_gives, plain_unsorted, unless_memory}
 
-lists-in-range : (ms : List (MapRecord × Offset)) → AllByRecursion (λ m. IsWellRead m.0) ms → AreIgnoreListsInRange ms
+lists-in-range : (ms : List (MapRecord × Position)) → AllByRecursion (λ m. IsWellRead m.0) ms → AreIgnoreListsInRange ms
 lists-in-range [] h = tt
 lists-in-range (m ∷ ms) h = (h.0.in_range.ignore_list, lists-in-range ms h.1)
 
@@ -41,12 +42,12 @@ stay : (ts : List TokenRecord) → AllByRecursion IsInBounds ts → AllByRecursi
 stay [] h = tt
 stay (t ∷ ts) h = (stays-of t h.0, stay ts h.1)
 
-all-stay : (ms : List (MapRecord × Offset)) → AllByRecursion (λ m. IsWellRead m.0) ms → AllByRecursion (λ m. AllByRecursion Stays m.0.tokens) ms
+all-stay : (ms : List (MapRecord × Position)) → AllByRecursion (λ m. IsWellRead m.0) ms → AllByRecursion (λ m. AllByRecursion Stays m.0.tokens) ms
 all-stay [] h = tt
 all-stay (m ∷ ms) h = (stay m.0.tokens (recursion_from_All IsInBounds m.0.tokens h.0.in_bounds), all-stay ms h.1)
 
 -- a join of decoded maps has as many mappings as their maps have tokens
-count-mappings : (ms : List (MapRecord × Offset)) → length (flat_map (λ m. m.0.tokens) ms) ≡ length (joined_decoded_maps (decoded_maps_of ms)).mappings
+count-mappings : (ms : List (MapRecord × Position)) → length (flat_map (λ m. m.0.tokens) ms) ≡ length (joined_decoded_maps (decoded_maps_of ms)).mappings
 count-mappings [] = refl
 count-mappings (m ∷ ms) =
     let h = count-mappings ms in
@@ -57,7 +58,7 @@ count-mappings (m ∷ ms) =
     let d = length-map m.0.tokens (mapping_of (sources_of m.0.sources m.0.source_contents) m.0.names) in
     omega arith
 
-module _ (laws : JoinLaws) (file : Option Text) (ms : List (MapRecord × Offset)) (well : AllByRecursion (λ m. IsWellRead m.0) ms) where
+module _ (laws : JoinLaws) (file : Option Text) (ms : List (MapRecord × Position)) (well : AllByRecursion (λ m. IsWellRead m.0) ms) where
   same : EqualUpToRepeats (decoded_map_of (joined ms)) (joined_decoded_maps (decoded_maps_of ms))
   same = laws.decoded_map ms (all-in-range ms well)
 

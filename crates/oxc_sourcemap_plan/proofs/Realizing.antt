@@ -20,7 +20,8 @@ use Rattle.oxc_sourcemap_decode.specs.Decoded.{decoded}
 use Rattle.oxc_sourcemap_encode.specs.Encoded.{encoded, encoded_record, written_contents}
 use Rattle.oxc_sourcemap_mappings.specs.Pieces.{writing_fault}
 use Rattle.oxc_sourcemap_laws.specs.MapLaws.{SoundIsWritten, SoundIsTooLarge, SoundReadsBack, SoundStaysSound, rewritten}
-use Rattle.oxc_sourcemap_join.specs.Joined.{Offset, is_same_token, without_repeat, shifted, added, added_all, nothing_joined, joined, AreEntriesInBounds, IsWithinLimits}
+use Rattle.oxc_sourcemap_tokens.specs.declared.position.Position.{Position}
+use Rattle.oxc_sourcemap_join.specs.Joined.{is_same_token, without_repeat, shifted, added, added_all, nothing_joined, joined, AreEntriesInBounds, IsWithinLimits}
 use Rattle.oxc_sourcemap_join.proofs.Fitted.{length-fitted}
 use Rattle.oxc_sourcemap_tokens.specs.Refusals.{unless}
 use Rattle.oxc_sourcemap_lookup.specs.Composed.{targets, composed_names, composed, are_ids, composition}
@@ -168,7 +169,7 @@ pub record Stays (t : TokenRecord) : Type 0 where
 pub stays-of : (t : TokenRecord) → IsInBounds t → Stays t
 stays-of t b = record { src_line = b.src_line; src_col = b.src_col }
 
-stays-shifted : (names sources : ℕ) (offset : Offset) (ts : List TokenRecord) → AllByRecursion Stays ts → AllByRecursion Stays (map (shifted names sources offset) ts)
+stays-shifted : (names sources : ℕ) (offset : Position) (ts : List TokenRecord) → AllByRecursion Stays ts → AllByRecursion Stays (map (shifted names sources offset) ts)
 stays-shifted names sources offset [] h = tt
 stays-shifted names sources offset (t ∷ ts) h = (record { src_line = h.0.src_line; src_col = h.0.src_col }, stays-shifted names sources offset ts h.1)
 
@@ -177,10 +178,10 @@ stays-without None ts h = h
 stays-without (Some x) [] h = tt
 stays-without (Some x) (t ∷ ts) h = elim (is_same_token x t) as (λ b. AllByRecursion Stays (cond b ts (t ∷ ts))) [ true ↦ h.1 | false ↦ h ]
 
-AllStay : List (MapRecord × Offset) → Type 0
+AllStay : List (MapRecord × Position) → Type 0
 AllStay ms = AllByRecursion (λ m. AllByRecursion Stays m.0.tokens) ms
 
-stays-added : (r : MapRecord) (ms : List (MapRecord × Offset)) → AllByRecursion Stays r.tokens → AllByRecursion (λ m. AllByRecursion Stays m.0.tokens) ms → AllByRecursion Stays (added_all r ms).tokens
+stays-added : (r : MapRecord) (ms : List (MapRecord × Position)) → AllByRecursion Stays r.tokens → AllByRecursion (λ m. AllByRecursion Stays m.0.tokens) ms → AllByRecursion Stays (added_all r ms).tokens
 stays-added r [] h k = h
 stays-added r (m ∷ ms) h k =
     stays-added (added r m.0 m.1) ms
@@ -188,8 +189,8 @@ stays-added r (m ∷ ms) h k =
     k.1
 
 -- the decoded maps of parts that all give maps
-record Joint (ms : List (MapRecord × Offset)) (os : List (Outcome × Offset)) : Type 0 where
-  decoded_maps : List (DecodedMap × Offset)
+record Joint (ms : List (MapRecord × Position)) (os : List (Outcome × Position)) : Type 0 where
+  decoded_maps : List (DecodedMap × Position)
   mean : all_decoded_maps (meanings os) ≡ Ok decoded_maps
   stand : AllStandFor ms decoded_maps
   in_range : AreAllInRange ms
@@ -199,7 +200,7 @@ record Joint (ms : List (MapRecord × Offset)) (os : List (Outcome × Offset)) :
   names : length (flat_map (λ m. m.0.names) ms) ≤ length (names_of_all os)
   known : are_among (names_of_all os) (flat_map (λ m. m.0.names) ms) ≡ true
 
-joint : (ms : List (MapRecord × Offset)) (os : List (Outcome × Offset)) → AllRealize ms os → Joint ms os
+joint : (ms : List (MapRecord × Position)) (os : List (Outcome × Position)) → AllRealize ms os → Joint ms os
 joint [] [] h = record { decoded_maps = []; mean = refl; stand = h; in_range = tt; lists_in_range = tt; stay = tt; tokens = omega arith; names = omega arith; known = refl }
 joint [] (o ∷ os) h = absurd h
 joint (m ∷ ms) [] h = absurd h
@@ -231,7 +232,7 @@ join-fits r names s e =
     (counts-fit names s q.0, q.1)
 
 -- that joins are within the limits, by the decoded maps of their parts
-room-of : (ms : List (MapRecord × Offset)) (os : List (Outcome × Offset)) (j : Joint ms os) → (join_outcome os).is_within_limits ≡ true → CountsFit (names_of_all os) (joined_decoded_maps j.decoded_maps) × (are_positions_within_limits (joined_decoded_maps j.decoded_maps).mappings ≡ true)
+room-of : (ms : List (MapRecord × Position)) (os : List (Outcome × Position)) (j : Joint ms os) → (join_outcome os).is_within_limits ≡ true → CountsFit (names_of_all os) (joined_decoded_maps j.decoded_maps) × (are_positions_within_limits (joined_decoded_maps j.decoded_maps).mappings ≡ true)
 room-of ms os j e = join-fits (are_all_within_limits os) (names_of_all os) (joined_decoded_maps j.decoded_maps) (ap (λ q. are_all_within_limits os && is_join_within_limits (names_of_all os) q) (sym j.mean) ∙ e)
 
 blind-positions : (front : List DecodedMapping) (e : DecodedMapping) (after : List DecodedMapping) → are_positions_within_limits (front ++ e ∷ e ∷ after) ≡ are_positions_within_limits (front ++ e ∷ after)
@@ -258,19 +259,19 @@ entries-below None n l h = tt
 entries-below (Some ids) n l h = All-from_recursion (λ id. id < 4294967295) ids (all-weaker (λ id. id < n) (λ id. id < 4294967295) (λ id b. omega arith) ids h)
 
 -- the decoded map of a join of maps that stand for decoded maps
-up_to_repeats-each : (ms : List (MapRecord × Offset)) (ss : List (DecodedMap × Offset)) → AllStandFor ms ss → AreEqualUpToRepeats (decoded_maps_of ms) ss
+up_to_repeats-each : (ms : List (MapRecord × Position)) (ss : List (DecodedMap × Position)) → AllStandFor ms ss → AreEqualUpToRepeats (decoded_maps_of ms) ss
 up_to_repeats-each [] [] h = h
 up_to_repeats-each [] (s ∷ ss) h = absurd h
 up_to_repeats-each (m ∷ ms) [] h = absurd h
 up_to_repeats-each (m ∷ ms) (s ∷ ss) h = ((h.0.0.up_to_repeats, h.0.1), up_to_repeats-each ms ss h.1)
 
 -- a join has one content for each source
-pub contents-added : (r : MapRecord) (ms : List (MapRecord × Offset)) → length r.source_contents ≡ length r.sources → length (added_all r ms).source_contents ≡ length (added_all r ms).sources
+pub contents-added : (r : MapRecord) (ms : List (MapRecord × Position)) → length r.source_contents ≡ length r.sources → length (added_all r ms).source_contents ≡ length (added_all r ms).sources
 contents-added r [] e = e
 contents-added r (m ∷ ms) e = contents-added (added r m.0 m.1) ms (length-fitted (length (r.sources ++ m.0.sources)) (r.source_contents ++ m.0.source_contents))
 
 -- the maps of parts that all give maps
-records-of : (ms : List (MapRecord × Offset)) (os : List (Outcome × Offset)) → AllRealize ms os → all_records os ≡ Some ms
+records-of : (ms : List (MapRecord × Position)) (os : List (Outcome × Position)) → AllRealize ms os → all_records os ≡ Some ms
 records-of [] [] h = refl
 records-of [] (o ∷ os) h = absurd h
 records-of (m ∷ ms) [] h = absurd h
@@ -293,7 +294,7 @@ pub join_laws : TestsAgree → JoinKeepsEqualUpToRepeats → DecodedMapOfJoin �
 join_laws a b c d e f g = record { tests = a; keeps = b; decoded_map = c; range = d; stands = e; names = f; tokens = g }
 
 -- A join is within limits where a decoded map is that it is equal up to repeats to, with at least as many names and mappings.
-pub within_of : (laws : JoinLaws) (ms : List (MapRecord × Offset)) (s : DecodedMap) (all : List Text) → EqualUpToRepeats (decoded_map_of (joined ms)) s
+pub within_of : (laws : JoinLaws) (ms : List (MapRecord × Position)) (s : DecodedMap) (all : List Text) → EqualUpToRepeats (decoded_map_of (joined ms)) s
     → AreAllInRange ms → AreIgnoreListsInRange ms → AllByRecursion (λ m. AllByRecursion Stays m.0.tokens) ms
     → length (flat_map (λ m. m.0.tokens) ms) ≤ length s.mappings → length (flat_map (λ m. m.0.names) ms) ≤ length all
     → CountsFit all s → are_positions_within_limits s.mappings ≡ true → IsWithinLimits (joined ms)
@@ -316,7 +317,7 @@ within_of laws ms s all al range lists stays jt jn fits within =
       ignore_list = entries-below (joined ms).ignore_list (length (joined ms).sources) bs ((laws.range ms).1 lists);
     }
 
-module _ (laws : JoinLaws) (ms : List (MapRecord × Offset)) (os : List (Outcome × Offset)) (h : AllRealize ms os) where
+module _ (laws : JoinLaws) (ms : List (MapRecord × Position)) (os : List (Outcome × Position)) (h : AllRealize ms os) where
   means-of : (join_outcome os).meaning ≡ join_meaning (Ok (joint ms os h).decoded_maps)
   means-of = ap join_meaning (joint ms os h).mean
 
@@ -363,19 +364,19 @@ module _ (laws : JoinLaws) (ms : List (MapRecord × Offset)) (os : List (Outcome
   ]
 
 -- ---- a part of a join that is refused
-decoded_maps-refused : (ms : List (MapRecord × Offset)) (os ps : List (Outcome × Offset)) (o : Outcome) (n : Offset) (e : PlanError) → AllRealize ms os → o.meaning ≡ Err e → all_decoded_maps (meanings (os ++ (o, n) ∷ ps)) ≡ Err e
+decoded_maps-refused : (ms : List (MapRecord × Position)) (os ps : List (Outcome × Position)) (o : Outcome) (n : Position) (e : PlanError) → AllRealize ms os → o.meaning ≡ Err e → all_decoded_maps (meanings (os ++ (o, n) ∷ ps)) ≡ Err e
 decoded_maps-refused [] [] ps o n e h q = ap (λ r. onto_decoded_maps r n (all_decoded_maps (meanings ps))) q
 decoded_maps-refused [] (p ∷ os) ps o n e h q = absurd h
 decoded_maps-refused (m ∷ ms) [] ps o n e h q = absurd h
 decoded_maps-refused (m ∷ ms) (p ∷ os) ps o n e h q = ap (λ r. onto_decoded_maps r p.1 (all_decoded_maps (meanings (os ++ (o, n) ∷ ps)))) h.0.0.means ∙ ap (onto_decoded_maps (Ok h.0.0.decoded_map) p.1) (decoded_maps-refused ms os ps o n e h.1 q)
 
-no-room-part : (os ps : List (Outcome × Offset)) (o : Outcome) (n : Offset) → o.is_within_limits ≡ false → are_all_within_limits (os ++ (o, n) ∷ ps) ≡ false
+no-room-part : (os ps : List (Outcome × Position)) (o : Outcome) (n : Position) → o.is_within_limits ≡ false → are_all_within_limits (os ++ (o, n) ∷ ps) ≡ false
 no-room-part [] ps o n q = and_left _ _ q
 no-room-part (p ∷ os) ps o n q = and_right _ _ (no-room-part os ps o n q)
 
-pub part_refuses : (ms : List (MapRecord × Offset)) (os ps : List (Outcome × Offset)) (o : Outcome) (n : Offset) (e : PlanError) → AllRealize ms os → FailsAs e o → (all : List (Outcome × Offset)) → all ≡ os ++ (o, n) ∷ ps → FailsAs e (join_outcome all)
+pub part_refuses : (ms : List (MapRecord × Position)) (os ps : List (Outcome × Position)) (o : Outcome) (n : Position) (e : PlanError) → AllRealize ms os → FailsAs e o → (all : List (Outcome × Position)) → all ≡ os ++ (o, n) ∷ ps → FailsAs e (join_outcome all)
 part_refuses ms os ps o n e h r all q =
-    subst (λ (xs : List (Outcome × Offset)). FailsAs e (join_outcome xs)) (sym q) (elim r [
+    subst (λ (xs : List (Outcome × Position)). FailsAs e (join_outcome xs)) (sym q) (elim r [
       | inl m ↦ inl m
       | inr t ↦ elim t [
         | inl k ↦ inr (inl (ap join_meaning (decoded_maps-refused ms os ps o n e h k)))

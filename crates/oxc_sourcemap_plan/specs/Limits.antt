@@ -3,7 +3,7 @@ use Rattle.std.specs.Prelude.{Bool, true, ◌&&◌, List, length, Result, Ok, Er
 use Rattle.std.specs.List.{list_all}
 use Rattle.oxc_sourcemap_parts.specs.Record.{Text}
 use Rattle.oxc_sourcemap_parts.specs.DecodedMap.{DecodedMapping, DecodedMap}
-use Rattle.oxc_sourcemap_join.specs.Joined.{Offset}
+use Rattle.oxc_sourcemap_tokens.specs.declared.position.Position.{Position}
 use Rattle.oxc_sourcemap_laws.specs.JoinedDecodedMaps.{joined_decoded_maps}
 use Rattle.oxc_sourcemap_tokens.specs.declared.plan_error.PlanError.{PlanError}
 use Rattle.oxc_sourcemap_plan.specs.Meaning.{Meaning}
@@ -26,7 +26,7 @@ is_part_within_limits names (Err e) = true
 is_part_within_limits names (Ok s) = are_counts_within_limits names s
 
 -- a join with these names, of these decoded maps; it counts also where it is not sorted
-abbrev pub is_join_within_limits : List Text → Result (List (DecodedMap × Offset)) PlanError → Bool
+abbrev pub is_join_within_limits : List Text → Result (List (DecodedMap × Position)) PlanError → Bool
 is_join_within_limits names (Err e) = true
 is_join_within_limits names (Ok decoded_maps) =
     are_counts_within_limits names (joined_decoded_maps decoded_maps) && are_positions_within_limits (joined_decoded_maps decoded_maps).mappings

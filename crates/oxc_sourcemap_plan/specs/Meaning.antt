@@ -5,7 +5,7 @@ use Rattle.oxc_sourcemap_tokens.specs.declared.error.Error.TheVariants.{SeveralS
 use Rattle.oxc_sourcemap_parts.specs.Record.{Text, MapRecord}
 use Rattle.oxc_sourcemap_parts.specs.Sorted.{are_tokens_sorted}
 use Rattle.oxc_sourcemap_parts.specs.DecodedMap.{DecodedMap, decoded_map_of}
-use Rattle.oxc_sourcemap_join.specs.Joined.{Offset}
+use Rattle.oxc_sourcemap_tokens.specs.declared.position.Position.{Position}
 use Rattle.oxc_sourcemap_laws.specs.Repeats.{is_sorted_decoded_map}
 use Rattle.oxc_sourcemap_laws.specs.JoinedDecodedMaps.{joined_decoded_maps}
 use Rattle.oxc_sourcemap_laws.specs.ComposedDecodedMaps.{composed_decoded_maps}
@@ -27,19 +27,19 @@ indexed_meaning file (Some fault) s = Err (Map fault)
 indexed_meaning file None s = if is_sorted_decoded_map s then Ok (record s { file = file }) else Err Unsorted
 
 -- a decoded map at its offset, before others; the first refusal stands
-abbrev pub onto_decoded_maps : Meaning → Offset → Result (List (DecodedMap × Offset)) PlanError
-    → Result (List (DecodedMap × Offset)) PlanError
+abbrev pub onto_decoded_maps : Meaning → Position → Result (List (DecodedMap × Position)) PlanError
+    → Result (List (DecodedMap × Position)) PlanError
 onto_decoded_maps (Err e) offset others = Err e
 onto_decoded_maps (Ok s) offset (Err e) = Err e
 onto_decoded_maps (Ok s) offset (Ok others) = Ok ((s, offset) ∷ others)
 
 -- the decoded maps of all parts of a join, each at its offset, or the first refusal of a part
-abbrev pub all_decoded_maps : List (Meaning × Offset) → Result (List (DecodedMap × Offset)) PlanError
+abbrev pub all_decoded_maps : List (Meaning × Position) → Result (List (DecodedMap × Position)) PlanError
 all_decoded_maps [] = Ok []
 all_decoded_maps (part ∷ parts) = onto_decoded_maps part.0 part.1 (all_decoded_maps parts)
 
 -- A join of parts: the join of their decoded maps, where that is sorted.
-abbrev pub join_meaning : Result (List (DecodedMap × Offset)) PlanError → Meaning
+abbrev pub join_meaning : Result (List (DecodedMap × Position)) PlanError → Meaning
 join_meaning (Err e) = Err e
 join_meaning (Ok decoded_maps) =
     if is_sorted_decoded_map (joined_decoded_maps decoded_maps) then Ok (joined_decoded_maps decoded_maps) else Err Unsorted

@@ -7,7 +7,8 @@ use Rattle.oxc_sourcemap_parts.specs.Record.{Text, MapRecord}
 use Rattle.oxc_sourcemap_parts.specs.DecodedMap.{DecodedMap}
 use Rattle.oxc_sourcemap_laws.specs.MapLaws.{rewritten}
 use Rattle.oxc_sourcemap_lookup.specs.Composed.{composed}
-use Rattle.oxc_sourcemap_join.specs.Joined.{Offset, at_lines, at_positions, joined}
+use Rattle.oxc_sourcemap_tokens.specs.declared.position.Position.{Position}
+use Rattle.oxc_sourcemap_join.specs.Joined.{at_lines, at_positions, joined}
 use Rattle.oxc_sourcemap_decode.specs.Sections.{Sections}
 use Rattle.oxc_sourcemap_decode.specs.ReadMap.{Said, plain, indexed, indexed_record, said_in}
 use Rattle.oxc_sourcemap_laws.specs.JoinedDecodedMaps.{joined_decoded_maps}
@@ -71,12 +72,12 @@ map_of_sections None r = Some r
 map_of_sections (Some fault) r = None
 
 -- the names of sections, in order
-abbrev pub names_of_sections : List (MapRecord × Offset) → List Text
+abbrev pub names_of_sections : List (MapRecord × Position) → List Text
 names_of_sections maps = flat_map (λ m. m.0.names) maps
 
 -- An indexed map with this file, by the fault of its sections and those in front of it. It counts what the join of these counts,
 -- whatever it means.
-abbrev pub sections_outcome : Option Text → Option Error → List (MapRecord × Offset) → Outcome
+abbrev pub sections_outcome : Option Text → Option Error → List (MapRecord × Position) → Outcome
 sections_outcome file fault maps = record {
   meaning = indexed_meaning file fault (joined_decoded_maps (decoded_maps_of maps));
   map_record = map_of_sections fault (indexed_record file (joined maps));
@@ -96,28 +97,28 @@ abbrev pub rewrite_outcome : Outcome → Outcome
 rewrite_outcome part = record part { map_record = option_map rewritten part.map_record; is_rewritten = true }
 
 -- what the parts of a join mean, each at its offset
-abbrev pub meanings : List (Outcome × Offset) → List (Meaning × Offset)
+abbrev pub meanings : List (Outcome × Position) → List (Meaning × Position)
 meanings parts = map (λ p. (p.0.meaning, p.1)) parts
 
 -- the maps of all parts of a join, each at its offset
-abbrev pub all_records : List (Outcome × Offset) → Option (List (MapRecord × Offset))
+abbrev pub all_records : List (Outcome × Position) → Option (List (MapRecord × Position))
 all_records [] = Some []
 all_records (p ∷ parts) = option_and_then (λ m. option_map (λ ms. (m, p.1) ∷ ms) (all_records parts)) p.0.map_record
 
 -- the names of all parts of a join, in order
-abbrev pub names_of_all : List (Outcome × Offset) → List Text
+abbrev pub names_of_all : List (Outcome × Position) → List Text
 names_of_all parts = flat_map (λ p. p.0.names) parts
 
 -- how many sources a join of these decoded maps has
-abbrev pub joined_source_count : Result (List (DecodedMap × Offset)) PlanError → ℕ
+abbrev pub joined_source_count : Result (List (DecodedMap × Position)) PlanError → ℕ
 joined_source_count (Err e) = 0
 joined_source_count (Ok decoded_maps) = length (joined_decoded_maps decoded_maps).sources
 
 -- all parts of a join are within the limits
-abbrev pub are_all_within_limits : List (Outcome × Offset) → Bool
+abbrev pub are_all_within_limits : List (Outcome × Position) → Bool
 are_all_within_limits parts = list_all (λ p. p.0.is_within_limits) parts
 
-abbrev pub join_outcome : List (Outcome × Offset) → Outcome
+abbrev pub join_outcome : List (Outcome × Position) → Outcome
 join_outcome parts = record {
   meaning = join_meaning (all_decoded_maps (meanings parts));
   map_record = option_map joined (all_records parts);
@@ -151,7 +152,7 @@ abbrev pub outcome_of : Plan → Outcome
 outcome_of = fold-Plan Outcome outcome_step
 
 -- the outcomes of the parts of a join, each at its offset
-abbrev pub outcomes : List (Plan × Offset) → List (Outcome × Offset)
+abbrev pub outcomes : List (Plan × Position) → List (Outcome × Position)
 outcomes parts = map (λ p. (outcome_of p.0, p.1)) parts
 
 -- what is refused before anything is read

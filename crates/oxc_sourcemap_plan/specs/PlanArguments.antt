@@ -3,7 +3,8 @@ use Rattle.std.specs.Prelude.{ℕ, zero, suc, List, [], ◌∷◌, codes, slice_
 use Rattle.std.specs.Str.{bytes_eq}
 use Rattle.oxc_sourcemap_parts.specs.Record.{Text}
 use Rattle.oxc_sourcemap_decode.specs.ReadMap.{said_in}
-use Rattle.oxc_sourcemap_join.specs.Joined.{Offset, at_line}
+use Rattle.oxc_sourcemap_tokens.specs.declared.position.Position.{Position}
+use Rattle.oxc_sourcemap_join.specs.Joined.{at_line}
 use Rattle.oxc_sourcemap_tokens.specs.declared.plan_error.PlanError.TheVariants.{TooDeep}
 use Rattle.oxc_sourcemap_plan.specs.declared.run_error.RunError.{RunError}
 use Rattle.oxc_sourcemap_plan.specs.declared.run_error.RunError.TheVariants.{Plan, Arguments, NoText}
@@ -48,18 +49,18 @@ with_rest (Ok o) arguments = Ok (o, arguments)
 with_rest (Err fault) arguments = Err fault
 
 -- where a part of a join begins: a line
-abbrev pub parsed_line : List Text → Parsed Offset
+abbrev pub parsed_line : List Text → Parsed Position
 parsed_line arguments = then_parsed (parsed_number arguments) (λ line left. Ok (at_line line, left))
 
 -- where a part of a join begins: a line and a column
-abbrev pub parsed_position : List Text → Parsed Offset
+abbrev pub parsed_position : List Text → Parsed Position
 parsed_position arguments =
     then_parsed (parsed_number arguments) (λ line after. then_parsed (parsed_number after) (λ column left.
     Ok (record { line = line; column = column }, left)))
 
 -- so many parts, each with its offset after it
-abbrev pub parsed_parts : (List Text → Parsed Outcome) → (List Text → Parsed Offset) → ℕ → List Text
-    → Parsed (List (Outcome × Offset))
+abbrev pub parsed_parts : (List Text → Parsed Outcome) → (List Text → Parsed Position) → ℕ → List Text
+    → Parsed (List (Outcome × Position))
 parsed_parts part offset zero arguments = Ok ([], arguments)
 parsed_parts part offset (suc n) arguments =
     then_parsed (part arguments) (λ o after. then_parsed (offset after) (λ place left.
@@ -70,7 +71,7 @@ abbrev pub parsed_rewrite : (List Text → Parsed Outcome) → List Text → Par
 parsed_rewrite part rest = then_parsed (part rest) (λ o left. Ok (rewrite_outcome o, left))
 
 -- N, and N times a part with its offset: the rest of `join` and of `joinat`
-abbrev pub parsed_join : (List Text → Parsed Outcome) → (List Text → Parsed Offset) → List Text → Parsed Outcome
+abbrev pub parsed_join : (List Text → Parsed Outcome) → (List Text → Parsed Position) → List Text → Parsed Outcome
 parsed_join part offset rest =
     then_parsed (parsed_number rest) (λ n after. then_parsed (parsed_parts part offset n after) (λ parts left.
     Ok (join_outcome parts, left)))

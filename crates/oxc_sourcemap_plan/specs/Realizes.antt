@@ -6,7 +6,7 @@ use Rattle.oxc_sourcemap_tokens.specs.Token.{AreInBounds}
 use Rattle.oxc_sourcemap_parts.specs.Record.{MapRecord}
 use Rattle.oxc_sourcemap_parts.specs.DecodedMap.{DecodedMap}
 use Rattle.oxc_sourcemap_laws.specs.MapLaws.{rewritten}
-use Rattle.oxc_sourcemap_join.specs.Joined.{Offset}
+use Rattle.oxc_sourcemap_tokens.specs.declared.position.Position.{Position}
 use Rattle.oxc_sourcemap_laws.specs.JoinLaws.{StandsFor}
 use Rattle.oxc_sourcemap_tokens.specs.declared.plan_error.PlanError.{PlanError}
 use Rattle.oxc_sourcemap_tokens.specs.declared.plan_error.PlanError.TheVariants.{Map}
@@ -33,5 +33,5 @@ abbrev pub FailsAs : PlanError → Outcome → Type 0
 FailsAs e o = (e ≡ Map OutOfMemory) ⊎ IsFailure o e
 
 -- each map is as the outcome in the other list says, at the same offset
-abbrev pub AllRealize : List (MapRecord × Offset) → List (Outcome × Offset) → Type 0
+abbrev pub AllRealize : List (MapRecord × Position) → List (Outcome × Position) → Type 0
 AllRealize ms os = AllZip (λ m o. Realizes m.0 o.0 × (m.1 ≡ o.1)) ms os

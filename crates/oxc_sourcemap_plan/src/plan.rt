@@ -2,7 +2,8 @@
 ghost use Rattle.std.specs.Prelude.{◌≡◌, ◌≤◌, ◌↔◌, ◌⊎◌, List, true, false, IsTrue, IfOk, IfErr};
 ghost use Rattle.oxc_sourcemap_plan.specs.Depth.{depth};
 ghost use Rattle.oxc_sourcemap_plan.specs.Outcome.{Outcome, read_outcome, rewrite_outcome, join_outcome, composition_outcome, outcome_of, outcomes, outcome};
-ghost use Rattle.oxc_sourcemap_join.specs.Joined.{Offset, at_lines, at_positions, joined, IsWithinLimits};
+ghost use Rattle.oxc_sourcemap_tokens.specs.declared.position.Position.{Position};
+ghost use Rattle.oxc_sourcemap_join.specs.Joined.{at_lines, at_positions};
 ghost use Rattle.oxc_sourcemap_plan.specs.Evaluated.{IsEvaluated, IsFailure};
 ghost use Rattle.oxc_sourcemap_plan.specs.Realizes.{Realizes, FailsAs, AllRealize};
 ghost use Rattle.oxc_sourcemap_tokens.specs.declared.error.Error.TheVariants.{OutOfMemory, TooLarge};
@@ -10,10 +11,10 @@ ghost use Rattle.oxc_sourcemap_decode.specs.ReadMap.{said_in};
 ghost use Rattle.oxc_sourcemap_parts.specs.Sorted.{are_tokens_sorted};
 ghost use Rattle.oxc_sourcemap_tokens.specs.declared.plan_error.PlanError.TheVariants.{Map, Unsorted};
 
-use oxc_sourcemap_builders::ConcatSourceMapBuilder;
+use oxc_sourcemap_builders::join_owned;
 use oxc_sourcemap_laws::{canonical_unique, composition_associative, dropping_harmless};
 use oxc_sourcemap_map::{OwnedSourceMap, SourceMap};
-use oxc_sourcemap_tokens::{Error, PlanError};
+use oxc_sourcemap_tokens::{PlanError, Position};
 use std::alloc::Global;
 
 /// What to do with maps, which are given as JSON texts borrowed for `'t`. Lines and columns count from 0; columns are in
@@ -68,7 +69,7 @@ fn is_within_depth(plan: &Plan<'_>, room: u32) -> bool
 /// This map, where its tokens are sorted.
 fn sorted(map: SourceMap<'static>) -> Result<SourceMap<'static>, PlanError>
     ensures map { IfOk result (λ m. (m ≡ map.entry) × (are_tokens_sorted map.entry.tokens ≡ true)) }
-    ensures refused { IfErr result (λ e. (e ≡ Unsorted) × (are_tokens_sorted map.entry.tokens ≡ false)) }
+    ensures error { IfErr result (λ e. (e ≡ Unsorted) × (are_tokens_sorted map.entry.tokens ≡ false)) }
 {
     if map.is_sorted() {
         Ok(map)
@@ -81,7 +82,7 @@ fn sorted(map: SourceMap<'static>) -> Result<SourceMap<'static>, PlanError>
 #[inline(never)]
 fn read(alloc: Global, text: &str) -> Result<SourceMap<'static>, PlanError>
     ensures map { IfOk result (λ map. Realizes map (read_outcome (said_in text.now))) }
-    ensures refused { IfErr result (λ e. FailsAs e (read_outcome (said_in text.now))) }
+    ensures error { IfErr result (λ e. FailsAs e (read_outcome (said_in text.now))) }
 {
     canonical_unique();
     dropping_harmless();
@@ -92,54 +93,26 @@ fn read(alloc: Global, text: &str) -> Result<SourceMap<'static>, PlanError>
 #[inline(never)]
 fn rewrite(alloc: Global, map: &SourceMap<'_>) -> Result<SourceMap<'static>, PlanError>
     ensures map { IfOk result (λ m. (o : Outcome) → Realizes map.now o → Realizes m (rewrite_outcome o)) }
-    ensures refused { IfErr result (λ e. (o : Outcome) → Realizes map.now o → FailsAs e (rewrite_outcome o)) }
+    ensures error { IfErr result (λ e. (o : Outcome) → Realizes map.now o → FailsAs e (rewrite_outcome o)) }
 {
     canonical_unique();
     let json = map.to_json(alloc)?;
     Ok(SourceMap::from_json(alloc, json)?)
 }
 
-/// The join of maps, each at its offset of lines.
+/// The join of maps, each at the position where its code begins.
 #[inline(never)]
 fn join(
     alloc: Global,
-    maps: Vec<(SourceMap<'static>, u32)>,
+    maps: Vec<(SourceMap<'static>, Position)>,
 ) -> Result<SourceMap<'static>, PlanError>
-    ensures map { IfOk result (λ m. (os : List (Outcome × Offset)) → AllRealize (at_lines maps.entry.items) os → Realizes m (join_outcome os)) }
-    ensures refused { IfErr result (λ e. (os : List (Outcome × Offset)) → AllRealize (at_lines maps.entry.items) os → FailsAs e (join_outcome os)) }
+    ensures map { IfOk result (λ m. (os : List (Outcome × Position))
+        → AllRealize maps.entry.items os → Realizes m (join_outcome os)) }
+    ensures error { IfErr result (λ e. (os : List (Outcome × Position))
+        → AllRealize maps.entry.items os → FailsAs e (join_outcome os)) }
 {
     dropping_harmless();
-    let builder = ConcatSourceMapBuilder::from_owned_sourcemaps(alloc, maps)?;
-    sorted(builder.into_sourcemap()?)
-}
-
-/// A builder of the join of maps, each at its line and column.
-fn builder_at(
-    alloc: Global,
-    maps: Vec<(SourceMap<'static>, u32, u32)>,
-) -> oxc_sourcemap_error::Result<ConcatSourceMapBuilder<'static>>
-    ensures joined { IfOk result (λ builder. builder ≡ joined (at_positions maps.entry.items)) }
-    ensures limits { IfOk result IsWithinLimits }
-    ensures refused { IfErr result (λ e. (e ≡ OutOfMemory) ⊎ ((e ≡ TooLarge) × ¬ (IsWithinLimits (joined (at_positions maps.entry.items))))) }
-{
-    let mut builder = ConcatSourceMapBuilder::empty(alloc);
-    for (map, line, column) in maps {
-        builder.add_sourcemap_owned_at(map, line, column)?;
-    }
-    Ok(builder)
-}
-
-/// The join of maps, each at its line and column.
-#[inline(never)]
-fn join_at(
-    alloc: Global,
-    maps: Vec<(SourceMap<'static>, u32, u32)>,
-) -> Result<SourceMap<'static>, PlanError>
-    ensures map { IfOk result (λ m. (os : List (Outcome × Offset)) → AllRealize (at_positions maps.entry.items) os → Realizes m (join_outcome os)) }
-    ensures refused { IfErr result (λ e. (os : List (Outcome × Offset)) → AllRealize (at_positions maps.entry.items) os → FailsAs e (join_outcome os)) }
-{
-    dropping_harmless();
-    let builder = builder_at(alloc, maps)?;
+    let builder = join_owned(alloc, maps)?;
     sorted(builder.into_sourcemap()?)
 }
 
@@ -151,7 +124,7 @@ fn compose(
     second: SourceMap<'static>,
 ) -> Result<SourceMap<'static>, PlanError>
     ensures map { IfOk result (λ m. (p q : Outcome) → Realizes first.entry p → Realizes second.entry q → Realizes m (composition_outcome p q)) }
-    ensures refused { IfErr result (λ e. (p q : Outcome) → Realizes first.entry p → Realizes second.entry q → FailsAs e (composition_outcome p q)) }
+    ensures error { IfErr result (λ e. (p q : Outcome) → Realizes first.entry p → Realizes second.entry q → FailsAs e (composition_outcome p q)) }
 {
     composition_associative();
     Ok(first.compose(alloc, second)?)
@@ -164,7 +137,7 @@ fn compose(
 #[cycle(evaluation)]
 fn evaluate_part(alloc: Global, plan: &Plan<'_>) -> Result<SourceMap<'static>, PlanError>
     ensures map { IfOk result (λ map. Realizes map (outcome_of plan.now)) }
-    ensures refused { IfErr result (λ e. FailsAs e (outcome_of plan.now)) }
+    ensures error { IfErr result (λ e. FailsAs e (outcome_of plan.now)) }
 {
     match plan {
         Plan::Read(text) => read(alloc, text),
@@ -180,7 +153,7 @@ fn evaluate_part(alloc: Global, plan: &Plan<'_>) -> Result<SourceMap<'static>, P
 #[inline(never)]
 fn evaluate_rewrite(alloc: Global, part: &Plan<'_>) -> Result<SourceMap<'static>, PlanError>
     ensures map { IfOk result (λ map. Realizes map (rewrite_outcome (outcome_of part.now))) }
-    ensures refused { IfErr result (λ e. FailsAs e (rewrite_outcome (outcome_of part.now))) }
+    ensures error { IfErr result (λ e. FailsAs e (rewrite_outcome (outcome_of part.now))) }
 {
     let map = evaluate_part(alloc, part)?;
     rewrite(alloc, &map)
@@ -191,12 +164,16 @@ fn evaluate_rewrite(alloc: Global, part: &Plan<'_>) -> Result<SourceMap<'static>
 #[inline(never)]
 fn evaluate_join(alloc: Global, parts: &[(Plan<'_>, u32)]) -> Result<SourceMap<'static>, PlanError>
     ensures map { IfOk result (λ map. Realizes map (join_outcome (outcomes (at_lines parts.now)))) }
-    ensures refused { IfErr result (λ e. FailsAs e (join_outcome (outcomes (at_lines parts.now)))) }
+    ensures error { IfErr result (λ e. FailsAs e (join_outcome (outcomes (at_lines parts.now)))) }
 {
     let mut maps = Vec::new(alloc);
-    for (part, offset) in parts {
+    for (part, line) in parts {
         let map = evaluate_part(alloc, part)?;
-        maps.push((map, *offset))?;
+        let position = Position {
+            line: *line,
+            column: 0,
+        };
+        maps.push((map, position))?;
     }
     join(alloc, maps)
 }
@@ -209,14 +186,18 @@ fn evaluate_join_at(
     parts: &[(Plan<'_>, u32, u32)],
 ) -> Result<SourceMap<'static>, PlanError>
     ensures map { IfOk result (λ map. Realizes map (join_outcome (outcomes (at_positions parts.now)))) }
-    ensures refused { IfErr result (λ e. FailsAs e (join_outcome (outcomes (at_positions parts.now)))) }
+    ensures error { IfErr result (λ e. FailsAs e (join_outcome (outcomes (at_positions parts.now)))) }
 {
     let mut maps = Vec::new(alloc);
     for (part, line, column) in parts {
         let map = evaluate_part(alloc, part)?;
-        maps.push((map, *line, *column))?;
+        let position = Position {
+            line: *line,
+            column: *column,
+        };
+        maps.push((map, position))?;
     }
-    join_at(alloc, maps)
+    join(alloc, maps)
 }
 
 /// The composition of the maps of two parts.
@@ -228,7 +209,7 @@ fn evaluate_composition(
     second: &Plan<'_>,
 ) -> Result<SourceMap<'static>, PlanError>
     ensures map { IfOk result (λ map. Realizes map (composition_outcome (outcome_of first.now) (outcome_of second.now))) }
-    ensures refused { IfErr result (λ e. FailsAs e (composition_outcome (outcome_of first.now) (outcome_of second.now))) }
+    ensures error { IfErr result (λ e. FailsAs e (composition_outcome (outcome_of first.now) (outcome_of second.now))) }
 {
     compose(
         alloc,
@@ -254,7 +235,7 @@ fn evaluate_composition(
 ///   counts as the join of its sections (`is_within_limits`), and with `Map(OutOfMemory)` if memory is refused.
 pub fn evaluate(alloc: Global, plan: &Plan<'_>) -> Result<OwnedSourceMap, PlanError>
     ensures map { IfOk result (λ map. IsEvaluated map (outcome plan.now)) }
-    ensures refused { IfErr result (λ e. (e ≡ Map OutOfMemory) ⊎ IsFailure (outcome plan.now) e) }
+    ensures error { IfErr result (λ e. (e ≡ Map OutOfMemory) ⊎ IsFailure (outcome plan.now) e) }
 {
     dropping_harmless();
     canonical_unique();

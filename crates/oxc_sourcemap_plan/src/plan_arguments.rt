@@ -53,7 +53,7 @@ pub fn inputs_of<'t>(alloc: Global, input: &'t str) -> Result<Vec<&'t str>, Allo
 
 /// The number that the first argument says, and the arguments after it.
 fn take_number<'w>(arguments: &'w [String]) -> Result<(u32, &'w [String]), RunError>
-    ensures number { Gives (λ r. r.0, map string_bytes r.1.now) result (parsed_number (map string_bytes arguments.now)) }
+    ensures number { Gives (λ r. (r.0, map string_bytes r.1.now)) result (parsed_number (map string_bytes arguments.now)) }
     ensures causes { IfErr result (λ e. is_of_port e ≡ false) }
 {
     let Some((argument, others)) = arguments.split_first() else {
@@ -67,7 +67,7 @@ fn take_number<'w>(arguments: &'w [String]) -> Result<(u32, &'w [String]), RunEr
 
 /// The line and the column that the first two arguments say, and the arguments after them.
 fn take_position<'w>(arguments: &'w [String]) -> Result<(u32, u32, &'w [String]), RunError>
-    ensures position { Gives (λ r. position r.0 r.1, map string_bytes r.2.now) result (parsed_position (map string_bytes arguments.now)) }
+    ensures position { Gives (λ r. (position r.0 r.1, map string_bytes r.2.now)) result (parsed_position (map string_bytes arguments.now)) }
     ensures causes { IfErr result (λ e. is_of_port e ≡ false) }
 {
     let (line, after) = take_number(arguments)?;
@@ -77,7 +77,7 @@ fn take_position<'w>(arguments: &'w [String]) -> Result<(u32, u32, &'w [String])
 
 /// The input with this number, from 0.
 fn input_at<'t>(inputs: &'t [&'t str], number: u32) -> Option<&'t str>
-    ensures { option_lent_items result ≡ slice_get (lent_items inputs.now) number }
+    ensures { lent_item result ≡ slice_get (lent_items inputs.now) number }
 {
     inputs.get(number as usize).copied()
 }
@@ -86,7 +86,7 @@ fn input_at<'t>(inputs: &'t [&'t str], number: u32) -> Option<&'t str>
 fn read_input<'t>(inputs: &'t [&'t str], argument: &str) -> Result<Plan<'t>, RunError>
     ensures part { IfOk result (λ plan. parsed_input (lent_items inputs.now) argument.now ≡ Ok (outcome_of plan)) }
     ensures depth { IfOk result (λ plan. depth plan ≡ 1) }
-    ensures refused { IfErr result (λ e. parsed_input (lent_items inputs.now) argument.now ≡ Err e) }
+    ensures error { IfErr result (λ e. parsed_input (lent_items inputs.now) argument.now ≡ Err e) }
     ensures causes { IfErr result (λ e. is_of_port e ≡ false) }
 {
     let Some(digits) = argument.strip_prefix('@') else {
@@ -111,7 +111,7 @@ fn read_part<'t, 'w>(
 ) -> Result<(Plan<'t>, &'w [String]), RunError>
     ensures part { IfOk result (λ r. parsed_part (lent_items inputs.now) room (map string_bytes arguments.now) ≡ Ok (outcome_of r.0, map string_bytes r.1.now)) }
     ensures depth { IfOk result (λ r. depth r.0 ≤ room) }
-    ensures refused { IfErr result (λ e. (e ≢ out_of_memory) → parsed_part (lent_items inputs.now) room (map string_bytes arguments.now) ≡ Err e) }
+    ensures error { IfErr result (λ e. (e ≢ out_of_memory) → parsed_part (lent_items inputs.now) room (map string_bytes arguments.now) ≡ Err e) }
     ensures causes { IfErr result (λ e. is_of_port e ≡ false) }
 {
     let Some((argument, others)) = arguments.split_first() else {
@@ -149,7 +149,7 @@ fn read_join<'t, 'w>(
 ) -> Result<(Plan<'t>, &'w [String]), RunError>
     ensures part { IfOk result (λ r. parsed_join (parsed_part (lent_items inputs.now) room) parsed_line (map string_bytes arguments.now) ≡ Ok (outcome_of r.0, map string_bytes r.1.now)) }
     ensures depth { IfOk result (λ r. depth r.0 ≤ room + 1) }
-    ensures refused { IfErr result (λ e. (e ≢ out_of_memory) → parsed_join (parsed_part (lent_items inputs.now) room) parsed_line (map string_bytes arguments.now) ≡ Err e) }
+    ensures error { IfErr result (λ e. (e ≢ out_of_memory) → parsed_join (parsed_part (lent_items inputs.now) room) parsed_line (map string_bytes arguments.now) ≡ Err e) }
     ensures causes { IfErr result (λ e. is_of_port e ≡ false) }
 {
     let (count, after) = take_number(arguments)?;
@@ -175,7 +175,7 @@ fn read_join_at<'t, 'w>(
 ) -> Result<(Plan<'t>, &'w [String]), RunError>
     ensures part { IfOk result (λ r. parsed_join (parsed_part (lent_items inputs.now) room) parsed_position (map string_bytes arguments.now) ≡ Ok (outcome_of r.0, map string_bytes r.1.now)) }
     ensures depth { IfOk result (λ r. depth r.0 ≤ room + 1) }
-    ensures refused { IfErr result (λ e. (e ≢ out_of_memory) → parsed_join (parsed_part (lent_items inputs.now) room) parsed_position (map string_bytes arguments.now) ≡ Err e) }
+    ensures error { IfErr result (λ e. (e ≢ out_of_memory) → parsed_join (parsed_part (lent_items inputs.now) room) parsed_position (map string_bytes arguments.now) ≡ Err e) }
     ensures causes { IfErr result (λ e. is_of_port e ≡ false) }
 {
     let (count, after) = take_number(arguments)?;
@@ -205,7 +205,7 @@ pub fn read_plan<'t>(
     arguments: &[String],
 ) -> Result<Plan<'t>, RunError>
     ensures plan { IfOk result (λ plan. parsed_plan (lent_items inputs.now) (map string_bytes arguments.now) ≡ Ok (outcome plan)) }
-    ensures refused { IfErr result (λ e. (e ≢ out_of_memory) → parsed_plan (lent_items inputs.now) (map string_bytes arguments.now) ≡ Err e) }
+    ensures error { IfErr result (λ e. (e ≢ out_of_memory) → parsed_plan (lent_items inputs.now) (map string_bytes arguments.now) ≡ Err e) }
     ensures causes { IfErr result (λ e. is_of_port e ≡ false) }
 {
     let (plan, rest) = read_part(alloc, inputs, arguments, 64)?;

@@ -7,13 +7,17 @@ use Rattle.oxc_sourcemap_tokens.specs.declared.error.Error.{Error}
 use Rattle.oxc_sourcemap_tokens.specs.declared.error.Error.TheVariants.{OutOfMemory}
 
 -- The call gives what is defined: its value is the defined one, as `view` sees it, and its error is the defined one.
-abbrev pub Gives : {A B : Type 0} → (A → B) → Result A Error → Result B Error → Type 0
+abbrev pub Gives : {A B E : Type 0} → (A → B) → Result A E → Result B E → Type 0
 Gives view result defined = IfOk result (λ x. defined ≡ Ok (view x)) × IfErr result (λ e. defined ≡ Err e)
+
+-- The call gives what is defined, or fails with this other error.
+abbrev pub GivesBut : {A B E : Type 0} → E → (A → B) → Result A E → Result B E → Type 0
+GivesBut other view result defined =
+    IfOk result (λ x. defined ≡ Ok (view x)) × IfErr result (λ e. (e ≢ other) → defined ≡ Err e)
 
 -- The call gives what is defined, or lacks memory.
 abbrev pub Answers : {A B : Type 0} → (A → B) → Result A Error → Result B Error → Type 0
-Answers view result defined =
-    IfOk result (λ x. defined ≡ Ok (view x)) × IfErr result (λ e. (e ≢ OutOfMemory) → defined ≡ Err e)
+Answers view result defined = GivesBut OutOfMemory view result defined
 
 -- The call fails for want of memory alone.
 abbrev pub OnlyMemory : {A : Type 0} → Result A Error → Type 0

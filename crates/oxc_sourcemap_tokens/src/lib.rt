@@ -6,6 +6,7 @@ mod chunks;
 mod error;
 mod order;
 mod plan_error;
+mod position;
 mod state;
 mod token;
 
@@ -13,5 +14,6 @@ pub use chunks::{chunk_fault, next_chunk, tokens_of};
 pub use error::{Error, Field, JsonFault, Memory, Result};
 pub use order::{line_back_from, line_order_fault};
 pub use plan_error::PlanError;
+pub use position::Position;
 pub use state::Previous;
 pub use token::{Token, TokenChunk};

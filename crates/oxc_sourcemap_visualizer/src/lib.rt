@@ -1,6 +1,4 @@
-//! What a map says of its generated code, as text for people, and as a link that shows it.
-//!
-//! Users name the crate `oxc_sourcemap`, which re-exports `SourcemapVisualizer`.
+//! A map shown beside its generated code, as text for people and as a link. Part of `oxc_sourcemap`.
 #![tactic(auto)]
 
 mod sourcemap_visualizer;

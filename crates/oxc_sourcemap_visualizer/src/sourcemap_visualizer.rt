@@ -75,7 +75,7 @@ impl<'a, 'sm> SourcemapVisualizer<'a, 'sm> {
     #[tactic(auto, unfolding(crate::specs::VisualText::visual_text))]
     pub fn get_text(&self, alloc: Global) -> Result<String>
         ensures text { IfOk result (λ text. IfSome (visual_text self.now.code self.now.map) (λ shown. string_bytes text ≡ shown)) }
-        ensures refused { OnlyMemory result }
+        ensures error { OnlyMemory result }
     {
         let contents = self.sourcemap.get_source_contents();
         if contents.len() == 0 {
@@ -94,7 +94,7 @@ impl<'a, 'sm> SourcemapVisualizer<'a, 'sm> {
 /// Appends the number of bytes of a text in decimal, a zero byte, and the text.
 fn push_counted(text: &str, out: &mut String) -> Result<()>
     ensures text { Pushes result out.old out.new (counted text.now) }
-    ensures refused { OnlyMemory result }
+    ensures error { OnlyMemory result }
 {
     write!(out, "{}\0{text}", text.len()).map_err(|_| Error::OutOfMemory)
 }
@@ -121,7 +121,7 @@ fn units_where_known(
     alloc: Global,
     content: Option<&str>,
 ) -> Memory<Option<Vec<u16>>>
-    ensures { IfOk result (λ units. option_map (λ units. units.items) units ≡ option_map units_of (option_lent_items content.entry)) }
+    ensures { IfOk result (λ units. option_map (λ units. units.items) units ≡ option_map units_of (lent_item content.entry)) }
 {
     match content {
         Some(text) => Ok(Some(utf16_units(alloc, text)?)),
@@ -194,7 +194,7 @@ fn between(line: &[u16], a: usize, b: usize) -> &[u16]
 /// surrogate pair.
 fn push_part(alloc: Global, units: &[u16], out: &mut String) -> Result<()>
     ensures text { OnOk result (AppendsText (string_bytes out.old) (string_bytes out.new) (part_text units.now)) }
-    ensures refused { OnlyMemory result }
+    ensures error { OnlyMemory result }
 {
     let mut part = String::from_utf16_lossy(alloc, units)?;
     part.retain(|ch| ch != '\r');
@@ -204,7 +204,7 @@ fn push_part(alloc: Global, units: &[u16], out: &mut String) -> Result<()>
 /// Appends `(line:column)`.
 fn push_position(line: u32, col: u32, out: &mut String) -> Result<()>
     ensures text { Pushes result out.old out.new (position_text line col) }
-    ensures refused { OnlyMemory result }
+    ensures error { OnlyMemory result }
 {
     write!(out, "({line}:{col})").map_err(|_| Error::OutOfMemory)
 }
@@ -212,7 +212,7 @@ fn push_position(line: u32, col: u32, out: &mut String) -> Result<()>
 /// Appends the mark of a position that is not there, or nothing.
 fn push_mark(is_valid: bool, out: &mut String) -> Result<()>
     ensures text { Pushes result out.old out.new (mark is_valid) }
-    ensures refused { OnlyMemory result }
+    ensures error { OnlyMemory result }
 {
     if is_valid {
         return Ok(());
@@ -228,7 +228,7 @@ fn push_invalid(
     out: &mut String,
 ) -> Result<()>
     ensures text { Pushes result out.old out.new (invalid_text is_src_valid is_dst_valid token.now) }
-    ensures refused { OnlyMemory result }
+    ensures error { OnlyMemory result }
 {
     push_position(token.get_src_line(), token.get_src_col(), out)?;
     push_mark(is_src_valid, out)?;
@@ -247,7 +247,7 @@ fn push_parts(
     out: &mut String,
 ) -> Result<()>
     ensures text { OnOk result (AppendsText (string_bytes out.old) (string_bytes out.new) (parts_text token.now src.now dst.now)) }
-    ensures refused { OnlyMemory result }
+    ensures error { OnlyMemory result }
 {
     push_position(token.get_src_line(), token.get_src_col(), out)?;
     out.push(' ')?;
@@ -271,7 +271,7 @@ fn push_mapping(
     out: &mut String,
 ) -> Result<()>
     ensures text { OnOk result (AppendsText (string_bytes out.old) (string_bytes out.new) (mapping_text src.now dst.now id token.now after.now)) }
-    ensures refused { OnlyMemory result }
+    ensures error { OnlyMemory result }
 {
     let (src_col, dst_col) = (token.get_src_col(), token.get_dst_col());
     let is_src_valid = is_within(src, token.get_src_line(), src_col);
@@ -294,8 +294,8 @@ fn push_mapping(
 
 /// Appends the line of a source, unless it is the last one that was printed.
 fn push_heading(last: Option<&str>, source: &str, out: &mut String) -> Result<()>
-    ensures text { Pushes result out.old out.new (heading (option_lent_items last.entry) source.now) }
-    ensures refused { OnlyMemory result }
+    ensures text { Pushes result out.old out.new (heading (lent_item last.entry) source.now) }
+    ensures error { OnlyMemory result }
 {
     if last == Some(source) {
         return Ok(());
@@ -354,9 +354,9 @@ impl<'s, 'u, 'sm> Printer<'s, 'u, 'sm> {
     ) -> Result<Option<&'s str>>
         requires { self.now.sources.items ≡ map (option_map text_lines) self.now.sourcemap.now.source_contents }
         ensures text { OnOk result (AppendsText (string_bytes out.old) (string_bytes out.new)
-            (visual_token_text self.now.code (option_lent_items last.entry) token.now after.now token.now.source_id (shown self.now.sourcemap.now token.now))) }
-        ensures last { IfOk result (λ source. option_lent_items source ≡ option_or (shown_source self.now.sourcemap.now token.now) (option_lent_items last.entry)) }
-        ensures refused { OnlyMemory result }
+            (visual_token_text self.now.code (lent_item last.entry) token.now after.now token.now.source_id (shown self.now.sourcemap.now token.now))) }
+        ensures last { IfOk result (λ source. lent_item source ≡ option_or (shown_source self.now.sourcemap.now token.now) (lent_item last.entry)) }
+        ensures error { OnlyMemory result }
     {
         let Some((id, source, lines)) = self.shown(token) else {
             return Ok(last);
@@ -370,7 +370,7 @@ impl<'s, 'u, 'sm> Printer<'s, 'u, 'sm> {
     fn push_tokens(&self, tokens: &[Token], out: &mut String) -> Result<()>
         requires { self.now.sources.items ≡ map (option_map text_lines) self.now.sourcemap.now.source_contents }
         ensures text { OnOk result (AppendsText (string_bytes out.old) (string_bytes out.new) (tokens_text self.now.code self.now.sourcemap.now [] tokens.now)) }
-        ensures refused { OnlyMemory result }
+        ensures error { OnlyMemory result }
     {
         let mut last = None;
         for (i, token) in tokens.iter().enumerate() {

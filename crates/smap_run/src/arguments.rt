@@ -65,7 +65,7 @@ fn read_command<'w>(name: &str, arguments: &'w [String]) -> Option<Command<'w>>
 /// Fails with `Arguments` for all others. It takes no memory.
 pub fn read_words<'w>(arguments: &'w [String]) -> Result<Command<'w>, RunError>
     ensures command { IfOk result (λ command. command_of (map string_bytes arguments.now) ≡ Some (request_of command)) }
-    ensures refused { IfErr result (λ e. (e ≡ RunError.Arguments) × (command_of (map string_bytes arguments.now) ≡ None)) }
+    ensures error { IfErr result (λ e. (e ≡ RunError.Arguments) × (command_of (map string_bytes arguments.now) ≡ None)) }
 {
     let Some((name, arguments)) = arguments.split_first() else {
         return Err(RunError::Arguments);

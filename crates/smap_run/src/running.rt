@@ -91,7 +91,7 @@ fn without_last_line_feed(text: &str) -> &str
 /// The canonical text of a mappings text.
 fn rewrite_mappings(alloc: Global, text: &str, names: u32, sources: u32) -> Result<String, RunError>
     ensures text { IfOk result (λ out. mappings_answer (reading text.now names sources) ≡ Ok (string_bytes out)) }
-    ensures refused { IfErr result (λ e. (e ≢ out_of_memory) → mappings_answer (reading text.now names sources) ≡ Err e) }
+    ensures error { IfErr result (λ e. (e ≢ out_of_memory) → mappings_answer (reading text.now names sources) ≡ Err e) }
     ensures causes { IfErr result (λ e. is_of_port e ≡ false) }
 {
     let tokens = decode_mappings(alloc, text, names as usize, sources as usize)?;
@@ -119,7 +119,7 @@ fn data_url(alloc: Global, text: &str) -> Result<String, Error>
 /// The JSON text of the map of a plan.
 fn evaluated_text(alloc: Global, plan: &Plan<'_>) -> Result<String, PlanError>
     ensures text { IfOk result (λ out. IsPlanAnswer (Ok (outcome plan.now)) (string_bytes out)) }
-    ensures refused { IfErr result (λ e. (e ≢ Map OutOfMemory) → IsFailure (outcome plan.now) e) }
+    ensures error { IfErr result (λ e. (e ≢ Map OutOfMemory) → IsFailure (outcome plan.now) e) }
 {
     canonical_unique();
     let map = evaluate(alloc, plan)?;
@@ -129,7 +129,7 @@ fn evaluated_text(alloc: Global, plan: &Plan<'_>) -> Result<String, PlanError>
 /// The JSON text of the map of the plan that these arguments say, over the maps of an input.
 fn plan_text(alloc: Global, input: &str, arguments: &[String]) -> Result<String, RunError>
     ensures text { IfOk result (λ out. IsPlanAnswer (parsed_plan (inputs_of input.now) (map string_bytes arguments.now)) (string_bytes out)) }
-    ensures refused { IfErr result (λ e. (e ≢ out_of_memory) → IsPlanRefusal (parsed_plan (inputs_of input.now) (map string_bytes arguments.now)) e) }
+    ensures error { IfErr result (λ e. (e ≢ out_of_memory) → IsPlanRefusal (parsed_plan (inputs_of input.now) (map string_bytes arguments.now)) e) }
     ensures causes { IfErr result (λ e. is_of_port e ≡ false) }
 {
     let inputs = inputs_of(alloc, input)?;
@@ -140,7 +140,7 @@ fn plan_text(alloc: Global, input: &str, arguments: &[String]) -> Result<String,
 /// What a command answers to an input.
 fn answer(alloc: Global, command: &Command<'_>, input: Vec<u8>) -> Result<String, RunError>
     ensures text { IfOk result (λ out. IsUtf8 input.items × IsAnswer (request_of command.now) input.items (string_bytes out)) }
-    ensures refused { IfErr result (λ e. (e ≢ out_of_memory) → Refuses (request_of command.now) input.items e) }
+    ensures error { IfErr result (λ e. (e ≢ out_of_memory) → Refuses (request_of command.now) input.items e) }
     ensures causes { IfErr result (λ e. is_of_port e ≡ false) }
 {
     let Ok(text) = String::from_utf8(input) else {
@@ -190,7 +190,7 @@ pub fn run<R: Read, W: Write>(
     ensures written { OnOk result (IfSome (R.remaining reader.old.inner) (λ input.
         (out : List ℕ) × IsUtf8 input × IsAnswer (request_of command.now) input out
         × Appends (W.contents writer.old.inner) (W.contents writer.new.inner) (out ++ 10 ∷ []))) }
-    ensures refused { IfErr result (λ e. (e ≢ out_of_memory) → (e ≢ RunError.Read) → (e ≢ RunError.Write)
+    ensures error { IfErr result (λ e. (e ≢ out_of_memory) → (e ≢ RunError.Read) → (e ≢ RunError.Write)
         → IfSome (R.remaining reader.old.inner) (λ input. Refuses (request_of command.now) input e)) }
     ensures nothing_written { IfErr result (λ e. (e ≢ RunError.Write) → Keeps (W.contents writer.old.inner) (W.contents writer.new.inner)) }
     ensures begun { IsErrOf result RunError.Write → IfSome (R.remaining reader.old.inner) (λ input.

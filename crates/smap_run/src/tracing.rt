@@ -17,7 +17,7 @@ use std::alloc::Global;
 /// Appends a colon and a number.
 fn push_number(alloc: Global, number: u32, out: &mut String) -> Result<(), Error>
     ensures text { Pushes result out.old out.new (number_part number) }
-    ensures refused { OnlyMemory result }
+    ensures error { OnlyMemory result }
 {
     out.push(':')?;
     out.push_str(number.to_string(alloc)?.as_str())?;
@@ -26,8 +26,8 @@ fn push_number(alloc: Global, number: u32, out: &mut String) -> Result<(), Error
 
 /// Appends a space and a name, where there is one.
 fn push_name(name: Option<&str>, out: &mut String) -> Result<(), Error>
-    ensures text { Pushes result out.old out.new (name_part (option_lent_items name.entry)) }
-    ensures refused { OnlyMemory result }
+    ensures text { Pushes result out.old out.new (name_part (lent_item name.entry)) }
+    ensures error { OnlyMemory result }
 {
     let Some(name) = name else {
         return Ok(());
@@ -44,8 +44,8 @@ fn original_text(
     col: u32,
     name: Option<&str>,
 ) -> Result<String, Error>
-    ensures text { IfOk result (λ out. string_bytes out ≡ original_text source.now line col (option_lent_items name.entry)) }
-    ensures refused { OnlyMemory result }
+    ensures text { IfOk result (λ out. string_bytes out ≡ original_text source.now line col (lent_item name.entry)) }
+    ensures error { OnlyMemory result }
 {
     let mut out = String::new(alloc);
     push_json_string(source, &mut out)?;
@@ -58,7 +58,7 @@ fn original_text(
 /// The text of a token that was found.
 fn token_text(alloc: Global, view: &SourceViewToken<'_, '_>) -> Result<String, Error>
     ensures text { IfOk result (λ out. string_bytes out ≡ trace_text (Some (view_original (view_of view.now)))) }
-    ensures refused { OnlyMemory result }
+    ensures error { OnlyMemory result }
 {
     let (source, line, col, name) = view.to_tuple();
     match source {
@@ -73,7 +73,7 @@ fn token_at(alloc: Global, map: &SourceMap<'_>, line: u32, col: u32) -> Result<O
     requires sorted { are_tokens_sorted map.now.tokens ≡ true }
     requires in_line_order { IsInLineOrder map.now.tokens }
     ensures found { IfOk result (λ token. option_map view_original (option_map (seen_in map.now) token) ≡ trace (decoded_map_of map.now) line col) }
-    ensures refused { IfErr result (λ e. (e ≢ OutOfMemory) → ⊥) }
+    ensures error { IfErr result (λ e. (e ≢ OutOfMemory) → ⊥) }
 {
     let tokens = map.get_tokens().as_slice();
     let index = LineIndex::new(alloc, tokens)?;
@@ -84,7 +84,7 @@ fn token_at(alloc: Global, map: &SourceMap<'_>, line: u32, col: u32) -> Result<O
 fn trace_in(alloc: Global, map: &SourceMap<'_>, line: u32, col: u32) -> Result<String, PlanError>
     requires in_line_order { IsInLineOrder map.now.tokens }
     ensures text { IfOk result (λ out. traced_of (Ok map.now) line col ≡ Ok (string_bytes out)) }
-    ensures refused { IfErr result (λ e. (e ≢ Map OutOfMemory) → traced_of (Ok map.now) line col ≡ Err e) }
+    ensures error { IfErr result (λ e. (e ≢ Map OutOfMemory) → traced_of (Ok map.now) line col ≡ Err e) }
 {
     if !map.is_sorted() {
         return Err(PlanError::Unsorted);
@@ -103,7 +103,7 @@ fn trace_in(alloc: Global, map: &SourceMap<'_>, line: u32, col: u32) -> Result<S
 /// and with `Map(OutOfMemory)` if memory is refused.
 pub fn trace(alloc: Global, text: &str, line: u32, col: u32) -> Result<String, PlanError>
     ensures text { IfOk result (λ out. traced text.now line col ≡ Ok (string_bytes out)) }
-    ensures refused { IfErr result (λ e. (e ≢ Map OutOfMemory) → traced text.now line col ≡ Err e) }
+    ensures error { IfErr result (λ e. (e ≢ Map OutOfMemory) → traced text.now line col ≡ Err e) }
 {
     let map = SourceMap::from_json_string(alloc, text)?;
     trace_in(alloc, &map, line, col)

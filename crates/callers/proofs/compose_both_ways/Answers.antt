@@ -3,14 +3,14 @@ use Rattle.callers.proofs.Errors.{carried}
 use Rattle.callers.proofs.Composing.{refused-left, refused-right, never-left, never-right}
 use Rattle.callers.proofs.compose_both_ways.Goals as goal
 
-pub returns-in_err-left-clause-refused : goal.returns-in_err-left-clause-refused
-returns-in_err-left-clause-refused c =
+pub returns-in_err-left-clause-error : goal.returns-in_err-left-clause-error
+returns-in_err-left-clause-error c =
     let law = c.composition_associative.ensures in
     let a = c.args.first.now in
     let b = c.args.second.now in
     let d = c.args.third.now in
     carried c.from_residual.result c.in_err-left.field-0.0 _ c.from_residual.ensures.1
-    (λ sa sb sc n t. refused-left law.tell a b d sa sb sc c.in_err-left.field-0.0 (c.in_err-left.ensures.refused sb sc n) t)
+    (λ sa sb sc n t. refused-left law.tell a b d sa sb sc c.in_err-left.field-0.0 (c.in_err-left.ensures.error sb sc n) t)
 
 pub returns-in_err-left-clause-only_memory : goal.returns-in_err-left-clause-only_memory
 returns-in_err-left-clause-only_memory c =
@@ -19,16 +19,16 @@ returns-in_err-left-clause-only_memory c =
     let b = c.args.second.now in
     let d = c.args.third.now in
     carried c.from_residual.result c.in_err-left.field-0.0 _ c.from_residual.ensures.1
-    (λ sa sb sc one two few. only-memory _ (λ n. never-left law.answered law.names law.too_large a b d sa sb sc one two few c.in_err-left.field-0.0 (c.in_err-left.ensures.refused sb sc n)))
+    (λ sa sb sc one two few. only-memory _ (λ n. never-left law.answered law.names law.too_large a b d sa sb sc one two few c.in_err-left.field-0.0 (c.in_err-left.ensures.error sb sc n)))
 
-pub returns-in_err-right-clause-refused : goal.returns-in_err-right-clause-refused
-returns-in_err-right-clause-refused c =
+pub returns-in_err-right-clause-error : goal.returns-in_err-right-clause-error
+returns-in_err-right-clause-error c =
     let law = c.composition_associative.ensures in
     let a = c.args.first.now in
     let b = c.args.second.now in
     let d = c.args.third.now in
     carried c.from_residual-in_err-right.result c.in_err-right.field-0.0 _ c.from_residual-in_err-right.ensures.1
-    (λ sa sb sc n t. absurd (t (refused-right law.tell a b d sa sb sc c.in_err-right.field-0.0 c.in_ok-left.left (c.in_ok-left.ensures.map sb sc) (c.in_err-right.ensures.refused sb sc n))))
+    (λ sa sb sc n t. absurd (t (refused-right law.tell a b d sa sb sc c.in_err-right.field-0.0 c.in_ok-left.left (c.in_ok-left.ensures.map sb sc) (c.in_err-right.ensures.error sb sc n))))
 
 pub returns-in_err-right-clause-only_memory : goal.returns-in_err-right-clause-only_memory
 returns-in_err-right-clause-only_memory c =
@@ -37,7 +37,7 @@ returns-in_err-right-clause-only_memory c =
     let b = c.args.second.now in
     let d = c.args.third.now in
     carried c.from_residual-in_err-right.result c.in_err-right.field-0.0 _ c.from_residual-in_err-right.ensures.1
-    (λ sa sb sc one two few. only-memory _ (λ n. never-right law.answered law.names law.too_large a b d sa sb sc one two few c.in_err-right.field-0.0 (c.in_err-right.ensures.refused sb sc n)))
+    (λ sa sb sc one two few. only-memory _ (λ n. never-right law.answered law.names law.too_large a b d sa sb sc one two few c.in_err-right.field-0.0 (c.in_err-right.ensures.error sb sc n)))
 
 pub returns-clause-same_meaning : goal.returns-clause-same_meaning
 returns-clause-same_meaning c =

@@ -3,8 +3,8 @@ use Rattle.callers.proofs.Errors.{carried}
 use Rattle.callers.proofs.Composing.{is-sorted-copy, left-is, left-refused}
 use Rattle.callers.proofs.compose_left.Goals as goal
 
-pub returns-in_err-earlier-clause-refused : goal.returns-in_err-earlier-clause-refused
-returns-in_err-earlier-clause-refused c =
+pub returns-in_err-earlier-clause-error : goal.returns-in_err-earlier-clause-error
+returns-in_err-earlier-clause-error c =
     let call = c.in_err-earlier.ensures in
     let b' = c.in_ok-clone-2.ensures.map in
     carried c.from_residual-in_err-earlier.result c.in_err-earlier.field-0.0 _ c.from_residual-in_err-earlier.ensures.1
@@ -21,8 +21,8 @@ returns-clause-map c =
     λ sb sc. left-is c.args.first.now c.args.second.now c.args.third.now _ _ _ a' b' c' c.in_ok-earlier.earlier _ (earlier.map (earlier.sorted_goes_on (is-sorted-copy c.args.second.now _ b' sb)))
     (call.map (call.sorted_goes_on (is-sorted-copy c.args.third.now _ c' sc)))
 
-pub returns-in_err-composed-clause-refused : goal.returns-in_err-composed-clause-refused
-returns-in_err-composed-clause-refused c =
+pub returns-in_err-composed-clause-error : goal.returns-in_err-composed-clause-error
+returns-in_err-composed-clause-error c =
     let a' = c.in_ok-clone.ensures.map in
     let b' = c.in_ok-clone-2.ensures.map in
     let c' = c.in_ok-clone-3.ensures.map in

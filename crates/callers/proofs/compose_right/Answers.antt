@@ -3,8 +3,8 @@ use Rattle.callers.proofs.Errors.{carried}
 use Rattle.callers.proofs.Composing.{is-sorted-copy, right-is, right-refused, later-sorted}
 use Rattle.callers.proofs.compose_right.Goals as goal
 
-pub returns-in_err-later-clause-refused : goal.returns-in_err-later-clause-refused
-returns-in_err-later-clause-refused c =
+pub returns-in_err-later-clause-error : goal.returns-in_err-later-clause-error
+returns-in_err-later-clause-error c =
     let call = c.in_err-later.ensures in
     let c' = c.in_ok-clone-2.ensures.map in
     carried c.from_residual-in_err-later.result c.in_err-later.field-0.0 _ c.from_residual-in_err-later.ensures.1
@@ -21,8 +21,8 @@ returns-clause-map c =
     λ sb sc. right-is c.args.first.now c.args.second.now c.args.third.now _ _ _ a' b' c' c.in_ok-later.later _ (later.map (later.sorted_goes_on (is-sorted-copy c.args.third.now _ c' sc)))
     (call.map (call.sorted_goes_on (later-sorted c.args.first.now c.args.second.now c.args.third.now _ _ _ a' b' c' c.composition_associative.ensures.stands_for sb sc c.in_ok-later.later (later.map (later.sorted_goes_on (is-sorted-copy c.args.third.now _ c' sc))))))
 
-pub returns-in_err-composed-clause-refused : goal.returns-in_err-composed-clause-refused
-returns-in_err-composed-clause-refused c =
+pub returns-in_err-composed-clause-error : goal.returns-in_err-composed-clause-error
+returns-in_err-composed-clause-error c =
     let b' = c.in_ok-clone.ensures.map in
     let c' = c.in_ok-clone-2.ensures.map in
     let a' = c.in_ok-clone-3.ensures.map in

@@ -6,8 +6,8 @@ use Rattle.callers.proofs.Errors.{carried}
 use Rattle.callers.proofs.Building.{name-fits, built-is}
 use Rattle.callers.proofs.one_token.Goals as goal
 
-pub returns-in_err-name_id-clause-refused : goal.returns-in_err-name_id-clause-refused
-returns-in_err-name_id-clause-refused c =
+pub returns-in_err-name_id-clause-error : goal.returns-in_err-name_id-clause-error
+returns-in_err-name_id-clause-error c =
     let first = c.in_ok-source_id.ensures.added ∙ ap (λ (b : Built). with_path b c.args.path.now c.args.content.now) c.empty-builder.ensures in
     let call = c.in_err-name_id.ensures in
     carried c.from_residual-in_err-name_id.result c.in_err-name_id.field-0.0 _ c.from_residual-in_err-name_id.ensures.1

@@ -9,7 +9,7 @@ returns-clause-map c =
     subst (λ x. IfOk c.evaluated.result (IsPlanMap x)) (ap (λ w. plan_of w c.in_ok-texts.texts.now) c.in_ok-words.ensures.text.0 ∙ ap (plan_of c.args.words.now) c.in_ok-texts.ensures.text.0)
     c.evaluated.ensures.map
 
-pub returns-clause-refused : goal.returns-clause-refused
-returns-clause-refused c =
+pub returns-clause-error : goal.returns-clause-error
+returns-clause-error c =
     refused_of_bytes c.args.words.now c.args.texts.now c.in_ok-words.words.now c.in_ok-texts.texts.now c.evaluated.result c.in_ok-words.ensures.text.0 c.in_ok-texts.ensures.text.0
-    c.in_ok-words.ensures.text.1 c.in_ok-texts.ensures.text.1 c.evaluated.ensures.refused
+    c.in_ok-words.ensures.text.1 c.in_ok-texts.ensures.text.1 c.evaluated.ensures.error

@@ -8,13 +8,13 @@ use Rattle.oxc_sourcemap_c.specs.Plans.{plan_of, words_of}
 use Rattle.oxc_sourcemap_c.proofs.Planned.{map_of_plan, failure_of_plan, words_refused}
 use Rattle.oxc_sourcemap_c.proofs.plans.evaluated.Goals as goal
 
-pub returns-in_err-evaluate-in-Ok-clause-refused : goal.returns-in_err-evaluate-in-Ok-clause-refused
-returns-in_err-evaluate-in-Ok-clause-refused c =
+pub returns-in_err-evaluate-in-Ok-clause-error : goal.returns-in_err-evaluate-in-Ok-clause-error
+returns-in_err-evaluate-in-Ok-clause-error c =
     let texts : inputs_of c.args.texts.now ≡ map (λ text. text.now) c.as_slice.result.now = sym (ap (map (λ text. text.now)) c.as_slice.ensures.value ∙ c.in_ok-inputs.ensures) in
     let words : words_of c.args.words.now ≡ map string_bytes c.as_slice-2.result.now = sym (ap (map string_bytes) c.as_slice-2.ensures.value ∙ c.in_ok-words.ensures) in
     let read : plan_of c.args.words.now c.args.texts.now ≡ Ok (outcome c.in-Ok.plan) = ap (λ ts. parsed_plan ts (words_of c.args.words.now)) texts ∙ ap (parsed_plan (map (λ text. text.now) c.as_slice.result.now)) words ∙ c.in-Ok.ensures.plan in
     carried_error c.from_residual-in_err-evaluate-in-Ok.result (Plan c.in_err-evaluate-in-Ok.field-0.0) _ c.from_residual-in_err-evaluate-in-Ok.ensures.1
-    (λ n. failure_of_plan (plan_of c.args.words.now c.args.texts.now) (outcome c.in-Ok.plan) c.in_err-evaluate-in-Ok.field-0.0 read c.in_err-evaluate-in-Ok.ensures.refused n)
+    (λ n. failure_of_plan (plan_of c.args.words.now c.args.texts.now) (outcome c.in-Ok.plan) c.in_err-evaluate-in-Ok.field-0.0 read c.in_err-evaluate-in-Ok.ensures.error n)
 
 pub returns-in-Ok-clause-map : goal.returns-in-Ok-clause-map
 returns-in-Ok-clause-map c =
@@ -23,9 +23,9 @@ returns-in-Ok-clause-map c =
     let read : plan_of c.args.words.now c.args.texts.now ≡ Ok (outcome c.in-Ok.plan) = ap (λ ts. parsed_plan ts (words_of c.args.words.now)) texts ∙ ap (parsed_plan (map (λ text. text.now) c.as_slice.result.now)) words ∙ c.in-Ok.ensures.plan in
     map_of_plan (plan_of c.args.words.now c.args.texts.now) (outcome c.in-Ok.plan) _ read c.in_ok-evaluate-in-Ok.ensures.map
 
-pub returns-clause-refused : goal.returns-clause-refused
-returns-clause-refused c =
+pub returns-clause-error : goal.returns-clause-error
+returns-clause-error c =
     let texts : inputs_of c.args.texts.now ≡ map (λ text. text.now) c.as_slice.result.now = sym (ap (map (λ text. text.now)) c.as_slice.ensures.value ∙ c.in_ok-inputs.ensures) in
     let words : words_of c.args.words.now ≡ map string_bytes c.as_slice-2.result.now = sym (ap (map string_bytes) c.as_slice-2.ensures.value ∙ c.in_ok-words.ensures) in
     words_refused (plan_of c.args.words.now c.args.texts.now) c.in-Err.error _ c.refusal_of.ensures
-    (λ n. ap (λ ts. parsed_plan ts (words_of c.args.words.now)) texts ∙ ap (parsed_plan (map (λ text. text.now) c.as_slice.result.now)) words ∙ c.in-Err.ensures.refused n)
+    (λ n. ap (λ ts. parsed_plan ts (words_of c.args.words.now)) texts ∙ ap (parsed_plan (map (λ text. text.now) c.as_slice.result.now)) words ∙ c.in-Err.ensures.error n)

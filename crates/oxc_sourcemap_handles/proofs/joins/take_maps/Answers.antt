@@ -7,6 +7,6 @@ use Rattle.oxc_sourcemap_handles.proofs.joins.take_maps.Goals as goal
 
 pub loop-i-preserved : goal.loop-i-preserved
 loop-i-preserved c =
-    taken_more (placed_maps (all_held c.args.handles.now) c.args.offsets.now) c.loop-i.maps.items c.push.new.self.items c.loop-i.handles c.args.offsets.now c.loop-i.i c.index-handles-i.result c.take_map.new.handle
+    taken_more (placed_maps (all_held c.args.handles.now) c.args.positions.now) c.loop-i.maps.items c.push.new.self.items c.loop-i.handles c.args.positions.now c.loop-i.i c.index-handles-i.result c.take_map.new.handle
     c.into_inner-map.result _ c.loop-i.invariant (omega arith) (omega arith) c.index-handles-i.is
     (ap (λ (h : Handle). held_map h.held) c.index-handles-i.is ∙ held_taken (held_map (get_or c.loop-i.handles c.loop-i.i c.index-handles-i.result).held) c.take_map.result c.in_ok-take_map.field-0 c.take_map.ensures.map c.in_ok-take_map.was ∙ ap (λ m. Some m) (sym c.into_inner-map.ensures)) c.in_ok-push.ensures.items

@@ -8,21 +8,21 @@ use Rattle.oxc_sourcemap_lookup.specs.Composed.{composition_fault, composed_toke
 use Rattle.oxc_sourcemap_lookup.proofs.Compositions.{at_fault, too_large, is_composed}
 use Rattle.oxc_sourcemap_lookup.proofs.compose.compose_into.Goals as goal
 
-pub returns-in_err-index-clause-refused : goal.returns-in_err-index-clause-refused
-returns-in_err-index-clause-refused c =
+pub returns-in_err-index-clause-error : goal.returns-in_err-index-clause-error
+returns-in_err-index-clause-error c =
     let a = record_of_parts c.args.first.now in
     let b = record_of_parts c.args.second.now in
     let p = err_from_is_err_and c.from_residual.result c.from_residual.ensures.1 in
-    rw (p.1, p.2) (λ other. at_fault a b _ (c.in_err-index.ensures.refused other))
+    rw (p.1, p.2) (λ other. at_fault a b _ (c.in_err-index.ensures.error other))
 
-pub returns-in_err-tokens-clause-refused : goal.returns-in_err-tokens-clause-refused
-returns-in_err-tokens-clause-refused c =
+pub returns-in_err-tokens-clause-error : goal.returns-in_err-tokens-clause-error
+returns-in_err-tokens-clause-error c =
     let a = record_of_parts c.args.first.now in
     let b = record_of_parts c.args.second.now in
     let well : composition_fault a b ≡ None = c.in_ok-index.ensures.index.0 in
     let p = err_from_is_err_and c.from_residual-in_err-tokens.result c.from_residual-in_err-tokens.ensures.1 in
     rw (p.1, p.2) (λ other.
-    let r = rw (c.as_slice.ensures.value, c.as_slice-2.ensures.value, c.as_slice-3.ensures.value, c.as_slice-4.ensures.value) at c.in_err-tokens.ensures.refused other in
+    let r = rw (c.as_slice.ensures.value, c.as_slice-2.ensures.value, c.as_slice-3.ensures.value, c.as_slice-4.ensures.value) at c.in_err-tokens.ensures.error other in
     rw r.0 (too_large a b well r.1 r.2 r.3))
 
 pub returns-clause-made : goal.returns-clause-made

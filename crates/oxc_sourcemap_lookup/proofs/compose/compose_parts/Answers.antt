@@ -3,10 +3,10 @@ use Rattle.oxc_sourcemap_parts.specs.Views.{record_of_parts}
 use Rattle.oxc_sourcemap_lookup.proofs.Compositions.{exact, exact_refusal}
 use Rattle.oxc_sourcemap_lookup.proofs.compose.compose_parts.Goals as goal
 
-pub returns-in_err-compose_into-clause-refused : goal.returns-in_err-compose_into-clause-refused
-returns-in_err-compose_into-clause-refused c = λ g.
+pub returns-in_err-compose_into-clause-error : goal.returns-in_err-compose_into-clause-error
+returns-in_err-compose_into-clause-error c = λ g.
     let p = err_from_is_err_and c.from_residual.result c.from_residual.ensures.1 in
-    exact_refusal (record_of_parts c.args.first) (record_of_parts c.args.second) c.from_residual.result g (rw (p.1, p.2) (λ other. c.in_err-compose_into.ensures.refused other))
+    exact_refusal (record_of_parts c.args.first) (record_of_parts c.args.second) c.from_residual.result g (rw (p.1, p.2) (λ other. c.in_err-compose_into.ensures.error other))
 
 pub returns-clause-map : goal.returns-clause-map
 returns-clause-map c = λ g. exact (record_of_parts c.args.first) (record_of_parts c.args.second) _ g c.in_ok-compose_into.ensures.made

@@ -29,14 +29,14 @@ loop-token-preserved c =
       kept = c.in_ok-composed_token.ensures.kept;
     }
 
-pub returns-in_err-composed_token-clause-refused : goal.returns-in_err-composed_token-clause-refused
-returns-in_err-composed_token-clause-refused c =
+pub returns-in_err-composed_token-clause-error : goal.returns-in_err-composed_token-clause-error
+returns-in_err-composed_token-clause-error c =
     let l = target_of c.token-item.result c.target-found.result in
     let is : IsTarget (line_of c.args.input.now l.token) l = c.target-found.ensures in
     let all : take c.loop-token.token-index c.args.tokens.now ++ c.token-item.result ∷ drop (c.loop-token.token-index + 1) c.args.tokens.now ≡ c.args.tokens.now = grind (arith, common_steps) in
     let p = err_from_is_err_and c.from_residual-in_err-composed_token.result c.from_residual-in_err-composed_token.ensures.1 in
     rw (p.1, p.2) (λ other.
-    let r = c.in_err-composed_token.ensures.refused other in
+    let r = c.in_err-composed_token.ensures.error other in
     let past = past-all _ _ _ _ _ _ l _ _ c.loop-token.invariant.made all is r.1 in
     (r.0, past.0, past.1, past.2))
 

@@ -27,8 +27,8 @@ returns-in-Some-index-clause-id c =
     let r = c.requires.ids i c.in-Some-index.known name at known in
     (ap (λ id. inherited_index names (option_and_then (slice_get first) id)) c.in-Some.is ∙ ap (inherited_index names) at ∙ r.0, grind (arith, r.1))
 
-pub returns-in_err-id-clause-refused : goal.returns-in_err-id-clause-refused
-returns-in_err-id-clause-refused c =
+pub returns-in_err-id-clause-error : goal.returns-in_err-id-clause-error
+returns-in_err-id-clause-error c =
     let first = map cow_str_bytes c.args.first.now in
     let names = names_with (map cow_str_bytes c.args.second.now) c.args.inherited.now in
     let at : option_and_then (slice_get first) c.args.id ≡ Some c.as_str.result.now =
@@ -36,7 +36,7 @@ returns-in_err-id-clause-refused c =
     ∙ ap (λ t. Some t) (sym c.as_str.ensures.value) in
     let p = err_from_is_err_and c.from_residual.result c.from_residual.ensures.1 in
     subst (λ (o : Option Text). IfErr c.from_residual.result (λ e. (e ≢ OutOfMemory) → (e ≡ TooLarge) × (may_be_id (inherited_index (with_inherited names o) o) ≡ false))) (sym at)
-    (rw (p.1, p.2) (λ other. c.in_err-id.ensures.refused other))
+    (rw (p.1, p.2) (λ other. c.in_err-id.ensures.error other))
 
 pub returns-clause-names : goal.returns-clause-names
 returns-clause-names c =

@@ -17,8 +17,8 @@ returns-in-Some-clause-id c =
     sym (c.in_ok-fill.ensures.places c.args.name.now) ∙ sym c.get.ensures.value ∙ ap (option_map (λ x. x.now)) c.in-Some.is in
     grind (arith, common_steps, index)
 
-pub returns-in-Some-clause-refused : goal.returns-in-Some-clause-refused
-returns-in-Some-clause-refused c =
+pub returns-in-Some-clause-error : goal.returns-in-Some-clause-error
+returns-in-Some-clause-error c =
     let second = map cow_str_bytes c.args.second.now in
     let same : names_with second c.fill.new.inherited ≡ names_with second c.args.inherited.now = ap (λ names. second ++ map (λ t. t.now) names) c.fill.ensures.names in
     let index : index_of c.args.name.now (names_with second c.args.inherited.now) ≡ Some c.in-Some.index.now =
@@ -26,8 +26,8 @@ returns-in-Some-clause-refused c =
     let with = index-with c.args.name.now (names_with second c.args.inherited.now) in
     grind (arith, common_steps, index, with)
 
-pub returns-in_err-id-clause-refused : goal.returns-in_err-id-clause-refused
-returns-in_err-id-clause-refused c =
+pub returns-in_err-id-clause-error : goal.returns-in_err-id-clause-error
+returns-in_err-id-clause-error c =
     let second = map cow_str_bytes c.args.second.now in
     let old = names_with second c.args.inherited.now in
     let same : names_with second c.fill.new.inherited ≡ old = ap (λ names. second ++ map (λ t. t.now) names) c.fill.ensures.names in

@@ -1,7 +1,7 @@
 use Rattle.std.proofs.Common.{◌+◌, refl, sym, subst, arith, take}
 use Rattle.std.proofs.lemmas.Grind.{common_steps}
 use Rattle.std.proofs.lemmas.Result.{IfOk-weaker, IfErr-weaker}
-use Rattle.oxc_sourcemap_join.specs.Joined.{at_lines, at_positions}
+use Rattle.oxc_sourcemap_join.specs.Joined.{position, at_line, at_lines, at_positions}
 use Rattle.oxc_sourcemap_plan.specs.Depth.{depth}
 use Rattle.oxc_sourcemap_plan.specs.Outcome.{outcome_of, outcomes, join_outcome, composition_outcome}
 use Rattle.oxc_sourcemap_plan.specs.Realizes.{Realizes, FailsAs, AllRealize}
@@ -21,64 +21,64 @@ evaluate_part-returns-in-Join-clause-map t c =
     let o = outcome_parts c.args.plan.now c.in-Join.parts c.as_slice.result.now c.in-Join.is c.as_slice.ensures.value in
     IfOk-weaker c.evaluate_join.result _ _ (λ m g. subst (Realizes m) (sym o) g) c.evaluate_join.ensures.map
 
-pub evaluate_part-returns-in-Join-clause-refused : goal.evaluate_part-returns-in-Join-clause-refused
-evaluate_part-returns-in-Join-clause-refused t c =
+pub evaluate_part-returns-in-Join-clause-error : goal.evaluate_part-returns-in-Join-clause-error
+evaluate_part-returns-in-Join-clause-error t c =
     let o = outcome_parts c.args.plan.now c.in-Join.parts c.as_slice.result.now c.in-Join.is c.as_slice.ensures.value in
-    IfErr-weaker c.evaluate_join.result _ _ (λ e g. subst (FailsAs e) (sym o) g) c.evaluate_join.ensures.refused
+    IfErr-weaker c.evaluate_join.result _ _ (λ e g. subst (FailsAs e) (sym o) g) c.evaluate_join.ensures.error
 
 pub evaluate_part-returns-in-JoinAt-clause-map : goal.evaluate_part-returns-in-JoinAt-clause-map
 evaluate_part-returns-in-JoinAt-clause-map t c =
     let o = outcome_parts_at c.args.plan.now c.in-JoinAt.parts c.as_slice-in-JoinAt.result.now c.in-JoinAt.is c.as_slice-in-JoinAt.ensures.value in
     IfOk-weaker c.evaluate_join_at.result _ _ (λ m g. subst (Realizes m) (sym o) g) c.evaluate_join_at.ensures.map
 
-pub evaluate_part-returns-in-JoinAt-clause-refused : goal.evaluate_part-returns-in-JoinAt-clause-refused
-evaluate_part-returns-in-JoinAt-clause-refused t c =
+pub evaluate_part-returns-in-JoinAt-clause-error : goal.evaluate_part-returns-in-JoinAt-clause-error
+evaluate_part-returns-in-JoinAt-clause-error t c =
     let o = outcome_parts_at c.args.plan.now c.in-JoinAt.parts c.as_slice-in-JoinAt.result.now c.in-JoinAt.is c.as_slice-in-JoinAt.ensures.value in
-    IfErr-weaker c.evaluate_join_at.result _ _ (λ e g. subst (FailsAs e) (sym o) g) c.evaluate_join_at.ensures.refused
+    IfErr-weaker c.evaluate_join_at.result _ _ (λ e g. subst (FailsAs e) (sym o) g) c.evaluate_join_at.ensures.error
 
 pub evaluate_join-evaluate_part-requires : goal.evaluate_join-evaluate_part-requires
 evaluate_join-evaluate_part-requires t c =
     grind (arith, common_steps, part_below_deepest (λ p. depth p.0) c.args.parts.now c.loop-part.part-index c.loop-part-item.result c.loop-part-test.true c.loop-part-item.is)
 
-pub evaluate_join-returns-in_err-map-clause-refused : goal.evaluate_join-returns-in_err-map-clause-refused
-evaluate_join-returns-in_err-map-clause-refused t c =
+pub evaluate_join-returns-in_err-map-clause-error : goal.evaluate_join-returns-in_err-map-clause-error
+evaluate_join-returns-in_err-map-clause-error t c =
     let parts = c.args.parts.now in
-    let r = part_refused at_its_line at_its_line c.loop-part.maps.items parts c.loop-part.part-index c.loop-part-item.result c.in_err-map.field-0.0 c.loop-part-test.true c.loop-part-item.is c.loop-part.invariant c.in_err-map.ensures.refused in
+    let r = part_refused at_its_line c.loop-part.maps.items parts c.loop-part.part-index c.loop-part-item.result c.in_err-map.field-0.0 c.loop-part-test.true c.loop-part-item.is c.loop-part.invariant c.in_err-map.ensures.error in
     from_err c.from_residual.result _ _ c.from_residual.ensures.1 (λ e h. subst (λ e. FailsAs e (join_outcome (outcomes (at_lines parts)))) (sym h) r)
 
 pub evaluate_join-loop-part-preserved : goal.evaluate_join-loop-part-preserved
 evaluate_join-loop-part-preserved t c =
     let parts = c.args.parts.now in
     let i = c.loop-part.part-index in
-    subst (λ ms. AllRealize (at_lines ms) (outcomes (at_lines (take (i + 1) parts)))) (sym c.in_ok-push.ensures.items)
-    (more_given at_its_line at_its_line c.loop-part.maps.items parts i (c.in_ok-map.map, c.loop-part-item.result.1) c.loop-part-item.result c.loop-part-test.true c.loop-part-item.is c.loop-part.invariant c.in_ok-map.ensures.map refl)
+    subst (λ ms. AllRealize ms (outcomes (at_lines (take (i + 1) parts)))) (sym c.in_ok-push.ensures.items)
+    (more_given at_its_line c.loop-part.maps.items parts i (c.in_ok-map.map, at_line c.loop-part-item.result.1) c.loop-part-item.result c.loop-part-test.true c.loop-part-item.is c.loop-part.invariant c.in_ok-map.ensures.map refl)
 
 pub evaluate_join_at-evaluate_part-requires : goal.evaluate_join_at-evaluate_part-requires
 evaluate_join_at-evaluate_part-requires t c =
     grind (arith, common_steps, part_below_deepest (λ p. depth p.0) c.args.parts.now c.loop-part.part-index c.loop-part-item.result c.loop-part-test.true c.loop-part-item.is)
 
-pub evaluate_join_at-returns-in_err-map-clause-refused : goal.evaluate_join_at-returns-in_err-map-clause-refused
-evaluate_join_at-returns-in_err-map-clause-refused t c =
+pub evaluate_join_at-returns-in_err-map-clause-error : goal.evaluate_join_at-returns-in_err-map-clause-error
+evaluate_join_at-returns-in_err-map-clause-error t c =
     let parts = c.args.parts.now in
-    let r = part_refused at_its_position at_its_position c.loop-part.maps.items parts c.loop-part.part-index c.loop-part-item.result c.in_err-map.field-0.0 c.loop-part-test.true c.loop-part-item.is c.loop-part.invariant c.in_err-map.ensures.refused in
+    let r = part_refused at_its_position c.loop-part.maps.items parts c.loop-part.part-index c.loop-part-item.result c.in_err-map.field-0.0 c.loop-part-test.true c.loop-part-item.is c.loop-part.invariant c.in_err-map.ensures.error in
     from_err c.from_residual.result _ _ c.from_residual.ensures.1 (λ e h. subst (λ e. FailsAs e (join_outcome (outcomes (at_positions parts)))) (sym h) r)
 
 pub evaluate_join_at-loop-part-preserved : goal.evaluate_join_at-loop-part-preserved
 evaluate_join_at-loop-part-preserved t c =
     let parts = c.args.parts.now in
     let i = c.loop-part.part-index in
-    subst (λ ms. AllRealize (at_positions ms) (outcomes (at_positions (take (i + 1) parts)))) (sym c.in_ok-push.ensures.items)
-    (more_given at_its_position at_its_position c.loop-part.maps.items parts i (c.in_ok-map.map, c.loop-part-item.result.1, c.loop-part-item.result.2) c.loop-part-item.result c.loop-part-test.true c.loop-part-item.is c.loop-part.invariant c.in_ok-map.ensures.map refl)
+    subst (λ ms. AllRealize ms (outcomes (at_positions (take (i + 1) parts)))) (sym c.in_ok-push.ensures.items)
+    (more_given at_its_position c.loop-part.maps.items parts i (c.in_ok-map.map, position c.loop-part-item.result.1 c.loop-part-item.result.2) c.loop-part-item.result c.loop-part-test.true c.loop-part-item.is c.loop-part.invariant c.in_ok-map.ensures.map refl)
 
-pub evaluate_composition-returns-in_err-evaluate_part-2-clause-refused : goal.evaluate_composition-returns-in_err-evaluate_part-2-clause-refused
-evaluate_composition-returns-in_err-evaluate_part-2-clause-refused t c =
+pub evaluate_composition-returns-in_err-evaluate_part-2-clause-error : goal.evaluate_composition-returns-in_err-evaluate_part-2-clause-error
+evaluate_composition-returns-in_err-evaluate_part-2-clause-error t c =
     let first = outcome_of c.args.first.now in
     let second = outcome_of c.args.second.now in
     from_err c.from_residual-in_err-evaluate_part-2.result _ _ c.from_residual-in_err-evaluate_part-2.ensures.1
-    (λ e h. subst (λ e. FailsAs e (composition_outcome first second)) (sym h) (second_refuses c.in_ok-evaluate_part.field-0 first second c.in_err-evaluate_part-2.field-0.0 c.in_ok-evaluate_part.ensures.map c.in_err-evaluate_part-2.ensures.refused))
+    (λ e h. subst (λ e. FailsAs e (composition_outcome first second)) (sym h) (second_refuses c.in_ok-evaluate_part.field-0 first second c.in_err-evaluate_part-2.field-0.0 c.in_ok-evaluate_part.ensures.map c.in_err-evaluate_part-2.ensures.error))
 
 pub evaluate_rewrite-returns-clause-map : goal.evaluate_rewrite-returns-clause-map
 evaluate_rewrite-returns-clause-map t c = IfOk-weaker c.rewrite.result _ _ (λ m realizes. realizes (outcome_of c.args.part.now) c.in_ok-map.ensures.map) c.rewrite.ensures.map
 
-pub evaluate_rewrite-returns-clause-refused : goal.evaluate_rewrite-returns-clause-refused
-evaluate_rewrite-returns-clause-refused t c = IfErr-weaker c.rewrite.result _ _ (λ e fails. fails (outcome_of c.args.part.now) c.in_ok-map.ensures.map) c.rewrite.ensures.refused
+pub evaluate_rewrite-returns-clause-error : goal.evaluate_rewrite-returns-clause-error
+evaluate_rewrite-returns-clause-error t c = IfErr-weaker c.rewrite.result _ _ (λ e fails. fails (outcome_of c.args.part.now) c.in_ok-map.ensures.map) c.rewrite.ensures.error

@@ -21,7 +21,7 @@ abbrev pub decreases-evaluate_composition : goal.decreases-evaluate_composition
 decreases-evaluate_composition l = max (depth l.first.now) (depth l.second.now) + max (depth l.first.now) (depth l.second.now) + 1
 
 abbrev pub invariant-evaluate_join-loop-part : goal.invariant-evaluate_join-loop-part
-invariant-evaluate_join-loop-part l = AllRealize (at_lines l.maps.items) (outcomes (at_lines (take l.part-index l.parts)))
+invariant-evaluate_join-loop-part l = AllRealize l.maps.items (outcomes (at_lines (take l.part-index l.parts)))
 
 abbrev pub invariant-evaluate_join_at-loop-part : goal.invariant-evaluate_join_at-loop-part
-invariant-evaluate_join_at-loop-part l = AllRealize (at_positions l.maps.items) (outcomes (at_positions (take l.part-index l.parts)))
+invariant-evaluate_join_at-loop-part l = AllRealize l.maps.items (outcomes (at_positions (take l.part-index l.parts)))

@@ -5,8 +5,8 @@ use Rattle.oxc_sourcemap_plan.proofs.Realizing.{compose_laws, compose_gives, com
 use Rattle.oxc_sourcemap_plan.proofs.Parts.{from_err}
 use Rattle.oxc_sourcemap_plan.proofs.plan.compose.Goals as goal
 
-pub returns-in_err-compose-clause-refused : goal.returns-in_err-compose-clause-refused
-returns-in_err-compose-clause-refused c =
+pub returns-in_err-compose-clause-error : goal.returns-in_err-compose-clause-error
+returns-in_err-compose-clause-error c =
     let law = c.composition_associative.ensures in
     let laws = compose_laws law.stands_for law.names law.tokens law.too_large law.in_bounds in
     let call = c.in_err-compose.ensures in

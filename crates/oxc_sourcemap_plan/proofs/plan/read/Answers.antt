@@ -8,12 +8,12 @@ use Rattle.oxc_sourcemap_plan.proofs.Reading.{read_gives, read_unsorted, read_re
 use Rattle.oxc_sourcemap_plan.proofs.Parts.{from_err}
 use Rattle.oxc_sourcemap_plan.proofs.plan.read.Goals as goal
 
-pub returns-in_err-from_json_string-clause-refused : goal.returns-in_err-from_json_string-clause-refused
-returns-in_err-from_json_string-clause-refused c =
+pub returns-in_err-from_json_string-clause-error : goal.returns-in_err-from_json_string-clause-error
+returns-in_err-from_json_string-clause-error c =
     let law = c.dropping_harmless.ensures in
     let laws = join_laws law.tests_agree law.joins_up_to_repeats law.decoded_map_of_join law.in_range law.stands_for law.names law.tokens in
     from_err c.from_residual.result _ _ c.from_residual.ensures.1 (λ e h. subst (λ x. FailsAs x (read_outcome (said_in c.args.text.now))) (sym h)
-    (read_refused laws c.args.text.now c.in_err-from_json_string.field-0.0 c.in_err-from_json_string.ensures.refused))
+    (read_refused laws c.args.text.now c.in_err-from_json_string.field-0.0 c.in_err-from_json_string.ensures.error))
 
 pub returns-clause-map : goal.returns-clause-map
 returns-clause-map c =
@@ -25,11 +25,11 @@ returns-clause-map c =
     IfOk-weaker c.sorted.result _ _ (λ m h. subst (λ x. Realizes x (read_outcome (said_in text))) (sym h.0)
     (read_gives laws text r call.map (c.canonical_unique.ensures.read_is_in_bounds text r call.map) (call.sound.1 h.1) h.1)) c.sorted.ensures.map
 
-pub returns-clause-refused : goal.returns-clause-refused
-returns-clause-refused c =
+pub returns-clause-error : goal.returns-clause-error
+returns-clause-error c =
     let text = c.args.text.now in
     let law = c.dropping_harmless.ensures in
     let laws = join_laws law.tests_agree law.joins_up_to_repeats law.decoded_map_of_join law.in_range law.stands_for law.names law.tokens in
     let r = c.in_ok-from_json_string.field-0 in
     IfErr-weaker c.sorted.result _ _ (λ e h. subst (λ x. FailsAs x (read_outcome (said_in text))) (sym h.0)
-    (read_unsorted laws text r c.in_ok-from_json_string.ensures.map h.1)) c.sorted.ensures.refused
+    (read_unsorted laws text r c.in_ok-from_json_string.ensures.map h.1)) c.sorted.ensures.error

@@ -11,14 +11,14 @@ use Rattle.oxc_sourcemap_plan.proofs.Plans.{outcomes-lines-pushed, outcomes-posi
 use Rattle.oxc_sourcemap_plan.proofs.PlanArguments.{named-start, named-rewrite, named-join, named-join_at, named-compose, named-text, left_after, part-refused, offset-refused, part-more, parts-end, join-of-parts, deepest-pushed}
 use Rattle.oxc_sourcemap_plan.proofs.plan_arguments.+part.Goals as goal
 
-pub read_part-returns-in_err-part-in-rewrite-clause-refused : goal.read_part-returns-in_err-part-in-rewrite-clause-refused
-read_part-returns-in_err-part-in-rewrite-clause-refused t c =
+pub read_part-returns-in_err-part-in-rewrite-clause-error : goal.read_part-returns-in_err-part-in-rewrite-clause-error
+read_part-returns-in_err-part-in-rewrite-clause-error t c =
     let start = named-start (map (λ text. text.now) c.args.inputs.now) c.args.room c.args.arguments.now c.in-Some.argument.now c.in-Some.others.now c.as_str.result.now c.if-room-eq0.false c.in-Some.ensures.cases.0 c.as_str.ensures.value in
     let part = parsed_part (map (λ text. text.now) c.args.inputs.now) (c.args.room - 1) in
     let others = map string_bytes c.in-Some.others.now in
     let T = map (λ text. text.now) c.args.inputs.now in
     from_err c.from_residual.result _ _ c.from_residual.ensures.1 (λ e h n. start ∙ named-rewrite T part c.as_str.result.now others c.in-rewrite.is
-    ∙ ap (λ r. then_parsed r (λ o left. Ok (rewrite_outcome o, left))) (c.in_err-part-in-rewrite.ensures.refused (λ q. n (h ∙ q))) ∙ ap Err (sym h))
+    ∙ ap (λ r. then_parsed r (λ o left. Ok (rewrite_outcome o, left))) (c.in_err-part-in-rewrite.ensures.error (λ q. n (h ∙ q))) ∙ ap Err (sym h))
 
 pub read_part-returns-in_ok-new-in-rewrite-clause-part : goal.read_part-returns-in_ok-new-in-rewrite-clause-part
 read_part-returns-in_ok-new-in-rewrite-clause-part t c =
@@ -30,34 +30,34 @@ read_part-returns-in_ok-new-in-rewrite-clause-part t c =
     ∙ ap (λ r. then_parsed r (λ o left. Ok (rewrite_outcome o, left))) c.in_ok-part-in-rewrite.ensures.part
     ∙ ap (λ o. Ok (o, map string_bytes c.in_ok-part-in-rewrite.rest.now)) (sym (outcome_rewrite c.in_ok-new-in-rewrite.field-0 ∙ ap (λ p. rewrite_outcome (outcome_of p)) c.in_ok-new-in-rewrite.ensures.ok))
 
-pub read_part-returns-in_err-first-in-compose-clause-refused : goal.read_part-returns-in_err-first-in-compose-clause-refused
-read_part-returns-in_err-first-in-compose-clause-refused t c =
+pub read_part-returns-in_err-first-in-compose-clause-error : goal.read_part-returns-in_err-first-in-compose-clause-error
+read_part-returns-in_err-first-in-compose-clause-error t c =
     let start = named-start (map (λ text. text.now) c.args.inputs.now) c.args.room c.args.arguments.now c.in-Some.argument.now c.in-Some.others.now c.as_str.result.now c.if-room-eq0.false c.in-Some.ensures.cases.0 c.as_str.ensures.value in
     let part = parsed_part (map (λ text. text.now) c.args.inputs.now) (c.args.room - 1) in
     let others = map string_bytes c.in-Some.others.now in
     let T = map (λ text. text.now) c.args.inputs.now in
     from_err c.from_residual-in_err-first-in-compose.result _ _ c.from_residual-in_err-first-in-compose.ensures.1 (λ e h n. start ∙ named-compose T part c.as_str.result.now others c.in-compose.is
-    ∙ ap (λ r. then_parsed r (λ first after. then_parsed (part after) (λ second left. Ok (composition_outcome first second, left)))) (c.in_err-first-in-compose.ensures.refused (λ q. n (h ∙ q))) ∙ ap Err (sym h))
+    ∙ ap (λ r. then_parsed r (λ first after. then_parsed (part after) (λ second left. Ok (composition_outcome first second, left)))) (c.in_err-first-in-compose.ensures.error (λ q. n (h ∙ q))) ∙ ap Err (sym h))
 
-pub read_part-returns-in_err-second-in-compose-clause-refused : goal.read_part-returns-in_err-second-in-compose-clause-refused
-read_part-returns-in_err-second-in-compose-clause-refused t c =
+pub read_part-returns-in_err-second-in-compose-clause-error : goal.read_part-returns-in_err-second-in-compose-clause-error
+read_part-returns-in_err-second-in-compose-clause-error t c =
     let start = named-start (map (λ text. text.now) c.args.inputs.now) c.args.room c.args.arguments.now c.in-Some.argument.now c.in-Some.others.now c.as_str.result.now c.if-room-eq0.false c.in-Some.ensures.cases.0 c.as_str.ensures.value in
     let part = parsed_part (map (λ text. text.now) c.args.inputs.now) (c.args.room - 1) in
     let others = map string_bytes c.in-Some.others.now in
     let T = map (λ text. text.now) c.args.inputs.now in
     from_err c.from_residual-in_err-second-in-compose.result _ _ c.from_residual-in_err-second-in-compose.ensures.1 (λ e h n. start ∙ named-compose T part c.as_str.result.now others c.in-compose.is
     ∙ ap (λ r. then_parsed r (λ first after. then_parsed (part after) (λ second left. Ok (composition_outcome first second, left)))) c.in_ok-first-in-compose.ensures.part
-    ∙ ap (λ r. then_parsed r (λ second left. Ok (composition_outcome (outcome_of c.in_ok-first-in-compose.first) second, left))) (c.in_err-second-in-compose.ensures.refused (λ q. n (h ∙ q))) ∙ ap Err (sym h))
+    ∙ ap (λ r. then_parsed r (λ second left. Ok (composition_outcome (outcome_of c.in_ok-first-in-compose.first) second, left))) (c.in_err-second-in-compose.ensures.error (λ q. n (h ∙ q))) ∙ ap Err (sym h))
 
-pub read_part-returns-in_err-read_input-in_default-as_str-clause-refused : goal.read_part-returns-in_err-read_input-in_default-as_str-clause-refused
-read_part-returns-in_err-read_input-in_default-as_str-clause-refused t c =
+pub read_part-returns-in_err-read_input-in_default-as_str-clause-error : goal.read_part-returns-in_err-read_input-in_default-as_str-clause-error
+read_part-returns-in_err-read_input-in_default-as_str-clause-error t c =
     let start = named-start (map (λ text. text.now) c.args.inputs.now) c.args.room c.args.arguments.now c.in-Some.argument.now c.in-Some.others.now c.as_str.result.now c.if-room-eq0.false c.in-Some.ensures.cases.0 c.as_str.ensures.value in
     let part = parsed_part (map (λ text. text.now) c.args.inputs.now) (c.args.room - 1) in
     let others = map string_bytes c.in-Some.others.now in
     let T = map (λ text. text.now) c.args.inputs.now in
     from_err c.from_residual-in_err-read_input-in_default-as_str.result _ _ c.from_residual-in_err-read_input-in_default-as_str.ensures.1 (λ e h n. start
     ∙ named-text T part c.as_str.result.now others c.in_default-as_str.not-rewrite c.in_default-as_str.not-join c.in_default-as_str.not-joinat c.in_default-as_str.not-compose
-    ∙ ap (λ r. with_rest r others) c.in_err-read_input-in_default-as_str.ensures.refused ∙ ap Err (sym h))
+    ∙ ap (λ r. with_rest r others) c.in_err-read_input-in_default-as_str.ensures.error ∙ ap Err (sym h))
 
 pub read_part-returns-in_ok-new-in-compose-2-clause-part : goal.read_part-returns-in_ok-new-in-compose-2-clause-part
 read_part-returns-in_ok-new-in-compose-2-clause-part t c =
@@ -80,13 +80,13 @@ read_part-returns-in-join-clause-part t c =
     let T = map (λ text. text.now) c.args.inputs.now in
     IfOk-weaker c.read_join.result _ _ (λ r h. start ∙ named-join T part c.as_str.result.now others c.in-join.is ∙ h) c.read_join.ensures.part
 
-pub read_part-returns-in-join-clause-refused : goal.read_part-returns-in-join-clause-refused
-read_part-returns-in-join-clause-refused t c =
+pub read_part-returns-in-join-clause-error : goal.read_part-returns-in-join-clause-error
+read_part-returns-in-join-clause-error t c =
     let start = named-start (map (λ text. text.now) c.args.inputs.now) c.args.room c.args.arguments.now c.in-Some.argument.now c.in-Some.others.now c.as_str.result.now c.if-room-eq0.false c.in-Some.ensures.cases.0 c.as_str.ensures.value in
     let part = parsed_part (map (λ text. text.now) c.args.inputs.now) (c.args.room - 1) in
     let others = map string_bytes c.in-Some.others.now in
     let T = map (λ text. text.now) c.args.inputs.now in
-    IfErr-weaker c.read_join.result _ _ (λ e h n. start ∙ named-join T part c.as_str.result.now others c.in-join.is ∙ h n) c.read_join.ensures.refused
+    IfErr-weaker c.read_join.result _ _ (λ e h n. start ∙ named-join T part c.as_str.result.now others c.in-join.is ∙ h n) c.read_join.ensures.error
 
 pub read_part-returns-in-joinat-clause-part : goal.read_part-returns-in-joinat-clause-part
 read_part-returns-in-joinat-clause-part t c =
@@ -96,31 +96,31 @@ read_part-returns-in-joinat-clause-part t c =
     let T = map (λ text. text.now) c.args.inputs.now in
     IfOk-weaker c.read_join_at.result _ _ (λ r h. start ∙ named-join_at T part c.as_str.result.now others c.in-joinat.is ∙ h) c.read_join_at.ensures.part
 
-pub read_part-returns-in-joinat-clause-refused : goal.read_part-returns-in-joinat-clause-refused
-read_part-returns-in-joinat-clause-refused t c =
+pub read_part-returns-in-joinat-clause-error : goal.read_part-returns-in-joinat-clause-error
+read_part-returns-in-joinat-clause-error t c =
     let start = named-start (map (λ text. text.now) c.args.inputs.now) c.args.room c.args.arguments.now c.in-Some.argument.now c.in-Some.others.now c.as_str.result.now c.if-room-eq0.false c.in-Some.ensures.cases.0 c.as_str.ensures.value in
     let part = parsed_part (map (λ text. text.now) c.args.inputs.now) (c.args.room - 1) in
     let others = map string_bytes c.in-Some.others.now in
     let T = map (λ text. text.now) c.args.inputs.now in
-    IfErr-weaker c.read_join_at.result _ _ (λ e h n. start ∙ named-join_at T part c.as_str.result.now others c.in-joinat.is ∙ h n) c.read_join_at.ensures.refused
+    IfErr-weaker c.read_join_at.result _ _ (λ e h n. start ∙ named-join_at T part c.as_str.result.now others c.in-joinat.is ∙ h n) c.read_join_at.ensures.error
 
-pub read_join-returns-in_err-part-clause-refused : goal.read_join-returns-in_err-part-clause-refused
-read_join-returns-in_err-part-clause-refused t c =
+pub read_join-returns-in_err-part-clause-error : goal.read_join-returns-in_err-part-clause-error
+read_join-returns-in_err-part-clause-error t c =
     let part = parsed_part (map (λ text. text.now) c.args.inputs.now) c.args.room in
     let done = outcomes (at_lines c.loop-i.parts.items) in
     from_err c.from_residual-in_err-part.result _ _ c.from_residual-in_err-part.ensures.1 (λ e h n.
     join-of-parts part parsed_line (map string_bytes c.args.arguments.now) _ c.in_ok-count.count _ c.in_ok-count.ensures.number
-    (c.loop-i.invariant.0 ∙ part-refused part parsed_line done c.in_ok-count.count c.loop-i.i (map string_bytes c.loop-i.rest.now) c.in_err-part.field-0.0 c.loop-i-test.true (c.in_err-part.ensures.refused (λ q. n (h ∙ q))))
+    (c.loop-i.invariant.0 ∙ part-refused part parsed_line done c.in_ok-count.count c.loop-i.i (map string_bytes c.loop-i.rest.now) c.in_err-part.field-0.0 c.loop-i-test.true (c.in_err-part.ensures.error (λ q. n (h ∙ q))))
     ∙ ap Err (sym h))
 
-pub read_join-returns-in_err-line-clause-refused : goal.read_join-returns-in_err-line-clause-refused
-read_join-returns-in_err-line-clause-refused t c =
+pub read_join-returns-in_err-line-clause-error : goal.read_join-returns-in_err-line-clause-error
+read_join-returns-in_err-line-clause-error t c =
     let part = parsed_part (map (λ text. text.now) c.args.inputs.now) c.args.room in
     let done = outcomes (at_lines c.loop-i.parts.items) in
     from_err c.from_residual-in_err-line.result _ _ c.from_residual-in_err-line.ensures.1 (λ e h n.
     join-of-parts part parsed_line (map string_bytes c.args.arguments.now) _ c.in_ok-count.count _ c.in_ok-count.ensures.number
     (c.loop-i.invariant.0 ∙ offset-refused part parsed_line done c.in_ok-count.count c.loop-i.i (map string_bytes c.loop-i.rest.now) _ (outcome_of c.in_ok-part.part) c.in_err-line.field-0.0 c.loop-i-test.true c.in_ok-part.ensures.part
-    (ap (λ r. then_parsed r (λ line left. Ok (at_line line, left))) c.in_err-line.ensures.refused))
+    (ap (λ r. then_parsed r (λ line left. Ok (at_line line, left))) c.in_err-line.ensures.error))
     ∙ ap Err (sym h))
 
 pub read_join-loop-i-preserved : goal.read_join-loop-i-preserved
@@ -145,23 +145,23 @@ read_join-returns-clause-part t c =
     (c.loop-i.invariant.0 ∙ parts-end part parsed_line done c.in_ok-count.count c.loop-i.i (map string_bytes c.loop-i.rest.now) (let f = c.loop-i-test.false in omega (arith, f)))
     ∙ ap (λ o. Ok (o, map string_bytes c.loop-i.rest.now)) (sym (outcome_join c.loop-i.parts))
 
-pub read_join_at-returns-in_err-part-clause-refused : goal.read_join_at-returns-in_err-part-clause-refused
-read_join_at-returns-in_err-part-clause-refused t c =
+pub read_join_at-returns-in_err-part-clause-error : goal.read_join_at-returns-in_err-part-clause-error
+read_join_at-returns-in_err-part-clause-error t c =
     let part = parsed_part (map (λ text. text.now) c.args.inputs.now) c.args.room in
     let done = outcomes (at_positions c.loop-i.parts.items) in
     from_err c.from_residual-in_err-part.result _ _ c.from_residual-in_err-part.ensures.1 (λ e h n.
     join-of-parts part parsed_position (map string_bytes c.args.arguments.now) _ c.in_ok-count.count _ c.in_ok-count.ensures.number
-    (c.loop-i.invariant.0 ∙ part-refused part parsed_position done c.in_ok-count.count c.loop-i.i (map string_bytes c.loop-i.rest.now) c.in_err-part.field-0.0 c.loop-i-test.true (c.in_err-part.ensures.refused (λ q. n (h ∙ q))))
+    (c.loop-i.invariant.0 ∙ part-refused part parsed_position done c.in_ok-count.count c.loop-i.i (map string_bytes c.loop-i.rest.now) c.in_err-part.field-0.0 c.loop-i-test.true (c.in_err-part.ensures.error (λ q. n (h ∙ q))))
     ∙ ap Err (sym h))
 
-pub read_join_at-returns-in_err-line-clause-refused : goal.read_join_at-returns-in_err-line-clause-refused
-read_join_at-returns-in_err-line-clause-refused t c =
+pub read_join_at-returns-in_err-line-clause-error : goal.read_join_at-returns-in_err-line-clause-error
+read_join_at-returns-in_err-line-clause-error t c =
     let part = parsed_part (map (λ text. text.now) c.args.inputs.now) c.args.room in
     let done = outcomes (at_positions c.loop-i.parts.items) in
     from_err c.from_residual-in_err-line.result _ _ c.from_residual-in_err-line.ensures.1 (λ e h n.
     join-of-parts part parsed_position (map string_bytes c.args.arguments.now) _ c.in_ok-count.count _ c.in_ok-count.ensures.number
     (c.loop-i.invariant.0 ∙ offset-refused part parsed_position done c.in_ok-count.count c.loop-i.i (map string_bytes c.loop-i.rest.now) _ (outcome_of c.in_ok-part.part) c.in_err-line.field-0.0 c.loop-i-test.true c.in_ok-part.ensures.part
-    (c.in_err-line.ensures.refused))
+    (c.in_err-line.ensures.error))
     ∙ ap Err (sym h))
 
 pub read_join_at-loop-i-preserved : goal.read_join_at-loop-i-preserved

@@ -4,5 +4,5 @@ use Rattle.oxc_sourcemap_plan.specs.PlanArguments.{whole}
 use Rattle.oxc_sourcemap_plan.proofs.PlanArguments.{whole-left}
 use Rattle.oxc_sourcemap_plan.proofs.plan_arguments.read_plan.Goals as goal
 
-pub returns-clause-refused : goal.returns-clause-refused
-returns-clause-refused c = λ n. ap whole c.in_ok-plan.ensures.part ∙ whole-left (outcome_of c.in_ok-plan.plan) c.in_ok-plan.rest.now (λ e. let l = c.in_default.len_at_least in omega (arith, e, l))
+pub returns-clause-error : goal.returns-clause-error
+returns-clause-error c = λ n. ap whole c.in_ok-plan.ensures.part ∙ whole-left (outcome_of c.in_ok-plan.plan) c.in_ok-plan.rest.now (λ e. let l = c.in_default.len_at_least in omega (arith, e, l))

@@ -16,12 +16,12 @@ returns-in-Plan-clause-text c =
           (subst (λ text. IsPlanAnswer (parsed_plan (inputs_of text) (map string_bytes c.in-Plan.arguments.now)) (string_bytes out)) s h),
     )) c.plan_text.ensures.text
 
-pub returns-in-Plan-clause-refused : goal.returns-in-Plan-clause-refused
-returns-in-Plan-clause-refused c =
+pub returns-in-Plan-clause-error : goal.returns-in-Plan-clause-error
+returns-in-Plan-clause-error c =
     let u : IsUtf8 c.args.input.items = search rules in
     let s : c.as_str-in-Plan.result.now ≡ c.args.input.items = search rules in
     IfErr-weaker c.plan_text.result _ _ (λ e h n. inr (
       u,
       subst (λ command. IsRefusal (request_of command) c.args.input.items e) (sym c.in-Plan.is)
           (subst (λ text. IsPlanRefusal (parsed_plan (inputs_of text) (map string_bytes c.in-Plan.arguments.now)) e) s (h n)),
-    )) c.plan_text.ensures.refused
+    )) c.plan_text.ensures.error

@@ -7,11 +7,11 @@ use Rattle.oxc_sourcemap_plan.proofs.Parts.{from_err}
 use Rattle.smap_run.proofs.PlanAnswers.{some_weaker, of_err}
 use Rattle.smap_run.proofs.running.run.Goals as goal
 
-pub returns-in_err-out-clause-refused : goal.returns-in_err-out-clause-refused
-returns-in_err-out-clause-refused g c =
+pub returns-in_err-out-clause-error : goal.returns-in_err-out-clause-error
+returns-in_err-out-clause-error g c =
     let asked = request_of c.args.command.now in
     from_err c.from_residual-in_err-out.result _ _ c.from_residual-in_err-out.ensures.1 (λ e h n r w. some_weaker (g.R.Read.remaining c.args.reader.now.inner) _ _ (λ input same. subst (λ i. Refuses asked i e) same
-    (subst (λ f. Refuses asked c.in_ok-input.input.items f) (sym h) (c.in_err-out.ensures.refused (λ q. n (h ∙ q))))) c.in_ok-input.ensures.bytes)
+    (subst (λ f. Refuses asked c.in_ok-input.input.items f) (sym h) (c.in_err-out.ensures.error (λ q. n (h ∙ q))))) c.in_ok-input.ensures.bytes)
 
 pub returns-clause-begun : goal.returns-clause-begun
 returns-clause-begun g c = λ w.

@@ -1,6 +1,6 @@
 use Rattle.std.proofs.Common.{ℕ, ◌<◌, arith}
 use Rattle.oxc_sourcemap_handles.specs.declared.text.Place.{Place}
-use Rattle.oxc_sourcemap_handles.specs.declared.text.Position.{Position}
+use Rattle.oxc_sourcemap_tokens.specs.declared.position.Position.{Position}
 use Rattle.oxc_sourcemap_handles.specs.Traces.{IsTraceOf}
 use Rattle.oxc_sourcemap_handles.proofs.Traces.{all_zip, index_order}
 use Rattle.oxc_sourcemap_handles.proofs.held.LoadedMap.trace_all.Goals as goal

@@ -1,6 +1,6 @@
 use Rattle.std.proofs.Common.{◌≡◌, ℕ, ◌<◌, get_or}
 use Rattle.oxc_sourcemap_handles.specs.declared.text.Place.{Place}
-use Rattle.oxc_sourcemap_handles.specs.declared.text.Position.{Position}
+use Rattle.oxc_sourcemap_tokens.specs.declared.position.Position.{Position}
 use Rattle.oxc_sourcemap_handles.specs.Traces.{IsTraceOf}
 use Rattle.oxc_sourcemap_handles.proofs.held.LoadedMap.trace_all.Given as goal
 

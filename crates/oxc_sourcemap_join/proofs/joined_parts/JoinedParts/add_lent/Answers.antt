@@ -17,13 +17,13 @@ push_moved-requires-clause-in_bounds c =
     let a = c.in-Some.addition in
     let tokens : c.as_slice.result.now ≡ (record_of_parts c.args.parts.now).tokens = c.as_slice.ensures.value in
     let kept = all-after-some a.passed c.as_slice.result.now ∙ ap (drop a.passed) tokens in
-    subst AreInBounds (ap (all_shifted a.shift) (sym kept)) (kept-are-in-bounds c.args.self.now (record_of_parts c.args.parts.now) (record { line = c.args.line; column = c.args.column }) a c.in-Some.ensures.fits)
+    subst AreInBounds (ap (all_shifted a.shift) (sym kept)) (kept-are-in-bounds c.args.self.now (record_of_parts c.args.parts.now) c.args.position a c.in-Some.ensures.fits)
 
 pub add_ignore_list-requires : goal.add_ignore_list-requires
 add_ignore_list-requires c =
     let a = c.in-Some.addition in
     let list = c.as_deref-ignored.ensures.value in
-    subst AreEntriesInBounds (ap (raised_ignore_list a.shift.sources) (sym (list))) (addition-in-bounds c.args.self.now (record_of_parts c.args.parts.now) (record { line = c.args.line; column = c.args.column }) a c.in-Some.ensures.fits)
+    subst AreEntriesInBounds (ap (raised_ignore_list a.shift.sources) (sym (list))) (addition-in-bounds c.args.self.now (record_of_parts c.args.parts.now) c.args.position a c.in-Some.ensures.fits)
 
 -- what the builder's lists become
 module _ (c : After-unwrap) where
@@ -63,10 +63,10 @@ module _ (c : After-unwrap) where
 
 pub invariant_of-self-2 : goal.invariant_of-self-2
 invariant_of-self-2 c =
-    join-is c.args.self.now (record_of_parts c.args.parts.now) (record { line = c.args.line; column = c.args.column }) c.in-Some.addition c.in-Some.ensures.fits c.self.inside.token_chunks.items (has c) (each c)
+    join-is c.args.self.now (record_of_parts c.args.parts.now) c.args.position c.in-Some.addition c.in-Some.ensures.fits c.self.inside.token_chunks.items (has c) (each c)
     _ _ _ _ _ _ (names c) (sources c) (contents c) (tokens c) (chunks c) (entries c) (fit c)
 
 pub returns-clause-joined : goal.returns-clause-joined
 returns-clause-joined c =
-    added-is c.args.self.now (record_of_parts c.args.parts.now) (record { line = c.args.line; column = c.args.column }) c.in-Some.addition c.in-Some.ensures.fits c.self.inside.token_chunks.items (has c) (each c)
+    added-is c.args.self.now (record_of_parts c.args.parts.now) c.args.position c.in-Some.addition c.in-Some.ensures.fits c.self.inside.token_chunks.items (has c) (each c)
     _ _ _ _ _ _ (names c) (sources c) (contents c) (tokens c) (chunks c) (entries c)

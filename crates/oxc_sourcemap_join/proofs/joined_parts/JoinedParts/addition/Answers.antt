@@ -46,7 +46,7 @@ returns-then-len-clause-too_large c = λ e w.
           let sources : c.len-2.result ≡ length r.sources = omega (arith, ap (λ x. length x.sources) c.self.view_is, length-mapped cow_str_bytes c.self.inside.sources.items, c.len-2.ensures) in
           let shift : Shift = record { names = c.len.result; sources = c.len-2.result; lines = c.args.line; columns = c.args.column } in
           let tokens : c.as_slice-tokens.result.now ≡ m.tokens = c.as_slice-tokens.ensures.value in
-          let bounds = moved-in-bounds r m (record { line = c.args.line; column = c.args.column }) shift names sources refl (subst AreInBounds (ap (λ x. x.tokens) c.self.view_is) c.self.invariant.in_bounds) w in
+          let bounds = moved-in-bounds r m c.args.position shift names sources refl (subst AreInBounds (ap (λ x. x.tokens) c.self.view_is) c.self.invariant.in_bounds) w in
           let fits : b.fits_all.result ≡ true = b.fits_all.ensures.1 (subst AreInBounds (ap (all_shifted shift) (sym tokens)) bounds) in
           let not : b.fits_all.result ≡ false = b.if-not-fits_all.true in
           absurd cc)
@@ -58,7 +58,7 @@ returns-then-not-fits_ignore_list-clause-too_large c = λ e w.
     let m = record_of_parts c.args.parts.now in
     let sources : c.len-2.result ≡ length r.sources = omega (arith, ap (λ x. length x.sources) c.self.view_is, length-mapped cow_str_bytes c.self.inside.sources.items, c.len-2.ensures) in
     let list = ap (raised_ignore_list c.len-2.result) (sym c.as_deref.ensures.value) in
-    let raised = subst (λ n. AreEntriesInBounds (raised_ignore_list n m.ignore_list)) (sym sources) (raised-in-bounds r m (record { line = c.args.line; column = c.args.column }) w) in
+    let raised = subst (λ n. AreEntriesInBounds (raised_ignore_list n m.ignore_list)) (sym sources) (raised-in-bounds r m c.args.position w) in
     let fits : c.fits_ignore_list.result ≡ true = c.fits_ignore_list.ensures.1 (subst AreEntriesInBounds list raised) in
     let not : c.fits_ignore_list.result ≡ false = c.if-not-fits_ignore_list.true in
     absurd cc
@@ -78,7 +78,7 @@ returns-clause-fits c =
     ∙ ap (λ ts. without_repeat is_same_token (last r.tokens) (all_shifted shift ts)) tokens in
     let end : c.len-6.result + (length c.as_slice-tokens.result.now - c.passed_over-passed.result) ≡ length r.tokens + (length m.tokens - c.passed_over-passed.result) =
     omega (arith, c.len-6.ensures, ap length tokens, ap length so_far, c.as_slice.ensures.len) in
-    addition-is r m (record { line = c.args.line; column = c.args.column }) shift c.passed_over-passed.result names sources refl kept c.next_chunk-chunk.result
+    addition-is r m c.args.position shift c.passed_over-passed.result names sources refl kept c.next_chunk-chunk.result
     (subst AreInBounds (ap (λ x. x.tokens) c.self.view_is) c.self.invariant.in_bounds)
     (subst AreEntriesInBounds (ap (λ x. x.ignore_list) c.self.view_is) c.self.invariant.entries)
     (subst AreEntriesInBounds (ap (raised_ignore_list c.len-2.result) c.as_deref.ensures.value) (c.fits_ignore_list.ensures.0 c.if-not-fits_ignore_list.false))

@@ -2,14 +2,13 @@ use Rattle.std.proofs.Common.{◌<◌, arith, length, sym, ap, subst, ◌∙◌}
 use Rattle.std.proofs.lemmas.List.{length-set}
 use Rattle.oxc_sourcemap_tokens.specs.Token.{IsInBounds}
 use Rattle.oxc_sourcemap_join.specs.Joined.{shifted}
-use Rattle.oxc_sourcemap_join.specs.Joining.{offset_of}
 use Rattle.oxc_sourcemap_join.proofs.Moving.{all-mapped-at, not-yet-moved, moved-next, rest-next}
 use Rattle.oxc_sourcemap_join.proofs.joined_parts.Shift.move_all.Goals as goal
 
 pub moved-requires : goal.moved-requires
 moved-requires c =
     let s = c.args.self in
-    let f = shifted s.names s.sources (offset_of s) in
+    let f = shifted s.names s.sources s.position in
     let l = c.loop-token in
     let xs = c.args.tokens.now in
     let t = c.token-item.result in
@@ -19,7 +18,7 @@ moved-requires c =
 pub loop-token-preserved : goal.loop-token-preserved
 loop-token-preserved c =
     let s = c.args.self in
-    let f = shifted s.names s.sources (offset_of s) in
+    let f = shifted s.names s.sources s.position in
     let l = c.loop-token in
     let xs = c.args.tokens.now in
     let t = c.token-item.result in

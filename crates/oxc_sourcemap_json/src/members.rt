@@ -1,11 +1,12 @@
-//! The shape of a source map as an owned JSON value: strings are moved, and never copied.
+//! The members of a source map, moved out of a JSON value: strings are moved, and never copied.
 ghost use Rattle.std.specs.Prelude.{◌≡◌, ℕ, List, map, option_map, string_bytes, codes, false, Ok, Err, Some, None};
 ghost use Rattle.std.specs.Str.{bytes_eq};
-ghost use Rattle.serde_json.specs.View.{view, members_view};
-ghost use Rattle.serde_json.specs.Find.{get_member};
+ghost use Rattle.serde_json.specs.View.{view};
 ghost use Rattle.oxc_sourcemap_tokens.specs.declared.error.Field.TheVariants.{Mappings, Sources, SourcesContent};
-ghost use Rattle.oxc_sourcemap_json.specs.Json.{json_record, json_contents};
-ghost use Rattle.oxc_sourcemap_json.specs.Shape.{present, optional, required, text_in, texts_in, as_content, contents_in, names_of, shape};
+ghost use Rattle.oxc_sourcemap_json.specs.Json.{json_record, json_texts, json_content_list, json_contents};
+ghost use Rattle.oxc_sourcemap_json.specs.Members.{lent_member, member_in};
+ghost use Rattle.oxc_sourcemap_json.specs.Shape.{present, optional, required, text_in, texts_in};
+ghost use Rattle.oxc_sourcemap_json.specs.Shape.{as_content, contents_in, names_of, shape};
 ghost use Rattle.oxc_sourcemap_tokens.specs.Results.{Gives, Answers};
 
 use crate::json_source_map::JSONSourceMap;
@@ -16,8 +17,9 @@ use std::alloc::Global;
 
 /// A member, moved out of an object. The other members stay.
 fn take(object: &mut Map<String, Value>, key: &str) -> Option<Value>
-    ensures member { option_map view result ≡ get_member key.now (members_view object.old.entries) }
-    ensures others { (other : List ℕ) → bytes_eq other key.now ≡ false → get_member other (members_view object.new.entries) ≡ get_member other (members_view object.old.entries) }
+    ensures member { option_map view result ≡ member_in key.now object.old.entries }
+    ensures others { (other : List ℕ) → bytes_eq other key.now ≡ false
+        → member_in other object.new.entries ≡ member_in other object.old.entries }
 {
     object.remove(key)
 }
@@ -39,16 +41,16 @@ struct Members {
 
 /// The members of a source map, moved out of an object. All others are dropped.
 fn members_of(mut object: Map<String, Value>) -> Members
-    ensures version { option_map view result.version ≡ get_member (codes "version") (members_view object.entries) }
-    ensures file { option_map view result.file ≡ get_member (codes "file") (members_view object.entries) }
-    ensures mappings { option_map view result.mappings ≡ get_member (codes "mappings") (members_view object.entries) }
-    ensures source_root { option_map view result.source_root ≡ get_member (codes "sourceRoot") (members_view object.entries) }
-    ensures sources { option_map view result.sources ≡ get_member (codes "sources") (members_view object.entries) }
-    ensures sources_content { option_map view result.sources_content ≡ get_member (codes "sourcesContent") (members_view object.entries) }
-    ensures names { option_map view result.names ≡ get_member (codes "names") (members_view object.entries) }
-    ensures debug_id { option_map view result.debug_id ≡ get_member (codes "debugId") (members_view object.entries) }
-    ensures ignore_list { option_map view result.ignore_list ≡ get_member (codes "ignoreList") (members_view object.entries) }
-    ensures older_ignore_list { option_map view result.older_ignore_list ≡ get_member (codes "x_google_ignoreList") (members_view object.entries) }
+    ensures version { option_map view result.version ≡ member_in (codes "version") object.entries }
+    ensures file { option_map view result.file ≡ member_in (codes "file") object.entries }
+    ensures mappings { option_map view result.mappings ≡ member_in (codes "mappings") object.entries }
+    ensures source_root { option_map view result.source_root ≡ member_in (codes "sourceRoot") object.entries }
+    ensures sources { option_map view result.sources ≡ member_in (codes "sources") object.entries }
+    ensures sources_content { option_map view result.sources_content ≡ member_in (codes "sourcesContent") object.entries }
+    ensures names { option_map view result.names ≡ member_in (codes "names") object.entries }
+    ensures debug_id { option_map view result.debug_id ≡ member_in (codes "debugId") object.entries }
+    ensures ignore_list { option_map view result.ignore_list ≡ member_in (codes "ignoreList") object.entries }
+    ensures older_ignore_list { option_map view result.older_ignore_list ≡ member_in (codes "x_google_ignoreList") object.entries }
 {
     let version = take(&mut object, "version");
     let file = take(&mut object, "file");
@@ -74,16 +76,6 @@ fn members_of(mut object: Map<String, Value>) -> Members
     }
 }
 
-/// A member that may be there, borrowed.
-fn borrowed(member: &Option<Value>) -> Option<&Value>
-    ensures { option_map (λ value. view value.now) result ≡ option_map view member.now }
-{
-    match member {
-        Some(value) => Some(value),
-        None => None,
-    }
-}
-
 /// A member that is there and is not null.
 fn present(member: Option<Value>) -> Option<Value>
     ensures { option_map view result ≡ present (option_map view member) }
@@ -95,7 +87,7 @@ fn present(member: Option<Value>) -> Option<Value>
 }
 
 /// A text.
-fn moved_text(member: Value, field: Field) -> Result<String>
+fn text_of(member: Value, field: Field) -> Result<String>
     ensures { Gives string_bytes result (text_in field (view member)) }
 {
     match member {
@@ -105,21 +97,21 @@ fn moved_text(member: Value, field: Field) -> Result<String>
 }
 
 /// A list of texts.
-fn moved_texts(alloc: Global, member: Value, field: Field) -> Result<Vec<String>>
-    ensures { Answers (λ texts. map string_bytes texts.items) result (texts_in field (view member)) }
+fn texts_of(alloc: Global, member: Value, field: Field) -> Result<Vec<String>>
+    ensures { Answers json_texts result (texts_in field (view member)) }
 {
     let Value::Array(items) = member else {
         return Err(Error::BadJson(JsonFault::Shape(field)));
     };
     let mut texts = Vec::with_capacity(alloc, items.len())?;
     for item in items {
-        texts.push(moved_text(item, field)?)?;
+        texts.push(text_of(item, field)?)?;
     }
     Ok(texts)
 }
 
 /// A content: a text, or null where it is not known.
-fn moved_content(item: Value) -> Option<Option<String>>
+fn content_of(item: Value) -> Option<Option<String>>
     ensures { option_map (option_map string_bytes) result ≡ as_content (view item) }
 {
     match item {
@@ -130,15 +122,15 @@ fn moved_content(item: Value) -> Option<Option<String>>
 }
 
 /// A list of texts and nulls.
-fn moved_contents(alloc: Global, member: Value, field: Field) -> Result<Vec<Option<String>>>
-    ensures { Answers (λ contents. map (option_map string_bytes) contents.items) result (contents_in field (view member)) }
+fn contents_of(alloc: Global, member: Value, field: Field) -> Result<Vec<Option<String>>>
+    ensures { Answers json_content_list result (contents_in field (view member)) }
 {
     let Value::Array(items) = member else {
         return Err(Error::BadJson(JsonFault::Shape(field)));
     };
     let mut contents = Vec::with_capacity(alloc, items.len())?;
     for item in items {
-        let Some(content) = moved_content(item) else {
+        let Some(content) = content_of(item) else {
             return Err(Error::BadJson(JsonFault::Shape(field)));
         };
         contents.push(content)?;
@@ -148,59 +140,58 @@ fn moved_contents(alloc: Global, member: Value, field: Field) -> Result<Vec<Opti
 
 /// A text that may be missing or null.
 fn optional_text(member: Option<Value>, field: Field) -> Result<Option<String>>
-    ensures { Gives (option_map string_bytes) result (optional (text_in field) (present (option_map view member))) }
+    ensures { Gives (option_map string_bytes) result
+        (optional (text_in field) (present (option_map view member))) }
 {
     match present(member) {
-        Some(value) => Ok(Some(moved_text(value, field)?)),
+        Some(value) => Ok(Some(text_of(value, field)?)),
         None => Ok(None),
     }
 }
 
 /// The mappings, which must be there.
-fn moved_mappings(member: Option<Value>) -> Result<String>
+fn mappings_of(member: Option<Value>) -> Result<String>
     ensures { Gives string_bytes result (required Mappings (text_in Mappings) (option_map view member)) }
 {
     match member {
-        Some(value) => moved_text(value, Field::Mappings),
+        Some(value) => text_of(value, Field::Mappings),
         None => Err(Error::BadJson(JsonFault::Shape(Field::Mappings))),
     }
 }
 
 /// The sources, which must be there.
-fn moved_sources(alloc: Global, member: Option<Value>) -> Result<Vec<String>>
-    ensures { Answers (λ texts. map string_bytes texts.items) result (required Sources (texts_in Sources) (option_map view member)) }
+fn sources_of(alloc: Global, member: Option<Value>) -> Result<Vec<String>>
+    ensures { Answers json_texts result (required Sources (texts_in Sources) (option_map view member)) }
 {
     match member {
-        Some(value) => moved_texts(alloc, value, Field::Sources),
+        Some(value) => texts_of(alloc, value, Field::Sources),
         None => Err(Error::BadJson(JsonFault::Shape(Field::Sources))),
     }
 }
 
 /// The contents of sources, which may be missing or null.
-fn moved_sources_content(
-    alloc: Global,
-    member: Option<Value>,
-) -> Result<Option<Vec<Option<String>>>>
-    ensures { Answers json_contents result (optional (contents_in SourcesContent) (present (option_map view member))) }
+fn sources_content_of(alloc: Global, member: Option<Value>) -> Result<Option<Vec<Option<String>>>>
+    ensures { Answers json_contents result
+        (optional (contents_in SourcesContent) (present (option_map view member))) }
 {
     match present(member) {
-        Some(value) => Ok(Some(moved_contents(alloc, value, Field::SourcesContent)?)),
+        Some(value) => Ok(Some(contents_of(alloc, value, Field::SourcesContent)?)),
         None => Ok(None),
     }
 }
 
 /// The names, which may be missing but not null.
-fn moved_names(alloc: Global, member: Option<Value>) -> Result<Vec<String>>
-    ensures { Answers (λ texts. map string_bytes texts.items) result (names_of (option_map view member)) }
+fn names_of(alloc: Global, member: Option<Value>) -> Result<Vec<String>>
+    ensures { Answers json_texts result (names_of (option_map view member)) }
 {
     match member {
-        Some(value) => moved_texts(alloc, value, Field::Names),
+        Some(value) => texts_of(alloc, value, Field::Names),
         None => Ok(Vec::new(alloc)),
     }
 }
 
-/// The fields of an owned JSON value: what `JSONSourceMap::from_value` makes of it, but its strings are moved. The rest of
-/// the value is dropped. Fails as that call does.
+/// The fields of an owned JSON value, as `JSONSourceMap::from_value` reads them; its strings are moved, and the rest of the
+/// value is dropped. Fails as that call does.
 #[tactic(auto, unfolding(crate::specs::Shape::shape))]
 pub fn json_of(alloc: Global, value: Value) -> Result<JSONSourceMap>
     ensures { Answers json_record result (shape (view value)) }
@@ -209,18 +200,18 @@ pub fn json_of(alloc: Global, value: Value) -> Result<JSONSourceMap>
         return Err(Error::BadJson(JsonFault::Shape(Field::Object)));
     };
     let mut members = members_of(object);
-    let version = read_version(borrowed(&members.version))?;
+    let version = read_version(members.version.as_ref())?;
     let file = optional_text(members.file.take(), Field::File)?;
-    let mappings = moved_mappings(members.mappings.take())?;
+    let mappings = mappings_of(members.mappings.take())?;
     let source_root = optional_text(members.source_root.take(), Field::SourceRoot)?;
-    let sources = moved_sources(alloc, members.sources.take())?;
-    let sources_content = moved_sources_content(alloc, members.sources_content.take())?;
-    let names = moved_names(alloc, members.names.take())?;
+    let sources = sources_of(alloc, members.sources.take())?;
+    let sources_content = sources_content_of(alloc, members.sources_content.take())?;
+    let names = names_of(alloc, members.names.take())?;
     let debug_id = optional_text(members.debug_id.take(), Field::DebugId)?;
     let ignore_list = read_either_list(
         alloc,
-        borrowed(&members.ignore_list),
-        borrowed(&members.older_ignore_list),
+        members.ignore_list.as_ref(),
+        members.older_ignore_list.as_ref(),
     )?;
     Ok(JSONSourceMap {
         version,

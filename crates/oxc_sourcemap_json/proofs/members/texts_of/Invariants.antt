@@ -2,7 +2,7 @@ use Rattle.std.proofs.Common.{◌≡◌, length, map, string_bytes}
 use Rattle.std.specs.Vec.Iter.{into_iter_items, into_iter_len}
 use Rattle.serde_json.specs.Find.{as_str}
 use Rattle.oxc_sourcemap_json.proofs.Moving.{AreAll}
-use Rattle.oxc_sourcemap_json.proofs.moved.moved_texts.Given as goal
+use Rattle.oxc_sourcemap_json.proofs.members.texts_of.Given as goal
 
 abbrev pub invariant-loop-item : goal.invariant-loop-item
 invariant-loop-item l =

@@ -3,7 +3,7 @@ use Rattle.serde_json.specs.Find.{get_member}
 use Rattle.serde_json.specs.View.{view, members_view}
 use Rattle.serde_json.proofs.Views.{view-lookup}
 use Rattle.oxc_sourcemap_json.proofs.Moving.{others_stay}
-use Rattle.oxc_sourcemap_json.proofs.moved.take.Goals as goal
+use Rattle.oxc_sourcemap_json.proofs.members.take.Goals as goal
 
 pub returns-clause-member : goal.returns-clause-member
 returns-clause-member c = ap (option_map view) c.remove.ensures.value ∙ view-lookup c.args.key.now c.args.object.now.entries

@@ -1,8 +1,8 @@
 //! Reading the parts of a map from a JSON source map.
-ghost use Rattle.std.specs.Prelude.{◌≡◌, map, option_map, string_bytes, IfOk, Ok, Err, Some, []};
+ghost use Rattle.std.specs.Prelude.{◌≡◌, map, string_bytes, IfOk, Ok, Err, Some, []};
 ghost use Rattle.std.specs.Option.{unwrap_or};
 ghost use Rattle.oxc_sourcemap_tokens.specs.declared.error.Error.{Error};
-ghost use Rattle.oxc_sourcemap_parts.specs.Views.{text_of, texts_of, contents_of, record_of_parts};
+ghost use Rattle.oxc_sourcemap_parts.specs.Views.{texts_of, contents_of, record_of_parts};
 ghost use Rattle.oxc_sourcemap_json.specs.Json.{json_record, json_contents};
 ghost use Rattle.oxc_sourcemap_decode.specs.Decoded.{decoded, json_fault, first_not_below};
 ghost use Rattle.oxc_sourcemap_tokens.specs.Results.{Answers, Reports};

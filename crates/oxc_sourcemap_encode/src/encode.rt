@@ -8,7 +8,7 @@ ghost use Rattle.oxc_sourcemap_tokens.specs.Token.{AreInBounds};
 ghost use Rattle.oxc_sourcemap_mappings.specs.Canonical.{canonical};
 ghost use Rattle.oxc_sourcemap_tokens.specs.Chunks.{lent_chunks};
 ghost use Rattle.oxc_sourcemap_mappings.specs.Pieces.{writing_fault};
-ghost use Rattle.oxc_sourcemap_parts.specs.Views.{text_of, ids_of, record_of_parts, cow_texts};
+ghost use Rattle.oxc_sourcemap_parts.specs.Views.{text_of, record_of_parts};
 ghost use Rattle.oxc_sourcemap_json.specs.Json.{json_record, json_contents};
 ghost use Rattle.oxc_sourcemap_encode.specs.Encoded.{encoded, written_contents};
 ghost use Rattle.oxc_sourcemap_tokens.specs.Results.{Answers};

@@ -1,6 +1,7 @@
 //! Texts of a map, by what is asked for.
 ghost use Rattle.std.specs.Prelude.{◌≡◌};
 ghost use Rattle.oxc_sourcemap_handles.specs.Answers.{text_at};
+ghost use Rattle.oxc_sourcemap_tokens.specs.Results.{lent_item};
 
 use oxc_sourcemap_map::OwnedSourceMap;
 

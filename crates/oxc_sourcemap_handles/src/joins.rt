@@ -1,8 +1,7 @@
 //! Joins of what handles hold.
-ghost use Rattle.std.specs.Prelude.{◌≡◌, ◌≢◌, ◌⊎◌, None, Some, length, IfOk, IfErr};
+ghost use Rattle.std.specs.Prelude.{◌≡◌, ◌≢◌, None, Some, length, IfOk, IfErr};
 ghost use Rattle.std.specs.List.{All};
-ghost use Rattle.oxc_sourcemap_tokens.specs.declared.error.Error.TheVariants.{OutOfMemory, TooLarge};
-ghost use Rattle.oxc_sourcemap_join.specs.Joined.{at_positions, joined, IsWithinLimits};
+ghost use Rattle.oxc_sourcemap_join.specs.Joined.{joined};
 ghost use Rattle.oxc_sourcemap_handles.specs.declared.refusal.Refusal.TheVariants.{EmptyHandle};
 ghost use Rattle.oxc_sourcemap_handles.specs.Refusals.{out_of_memory};
 ghost use Rattle.oxc_sourcemap_handles.specs.Joins.{all_held, placed_maps, IsJoinOf, IsJoinRefusal};

@@ -7,6 +7,7 @@ ghost use Rattle.oxc_sourcemap_handles.specs.Refusals.{out_of_memory};
 ghost use Rattle.oxc_sourcemap_handles.specs.Codes.{fault_of, code_of, no_fault};
 ghost use Rattle.oxc_sourcemap_handles.specs.Holding.{held_map, held_text, HoldsMap};
 ghost use Rattle.oxc_sourcemap_handles.specs.Answers.{IsReadRefusal, IsCompositionRefusal, IsRefusedAs};
+ghost use Rattle.oxc_sourcemap_tokens.specs.Results.{lent_item};
 
 use crate::fault::Fault;
 use crate::handle::Handle;

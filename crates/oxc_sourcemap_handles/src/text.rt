@@ -4,6 +4,7 @@ ghost use Rattle.std.specs.Option.{unwrap_or};
 ghost use Rattle.std.specs.Ptr.{as_ptr};
 ghost use Rattle.oxc_sourcemap_map.specs.View.{view_of, view_original, seen_in};
 ghost use Rattle.oxc_sourcemap_handles.specs.Places.{IsPlace, HasIds, number_or_none, numbers_of, counts_of};
+ghost use Rattle.oxc_sourcemap_tokens.specs.Results.{lent_item};
 
 use oxc_sourcemap_map::{OwnedSourceMap, SourceMap, SourceViewToken};
 use oxc_sourcemap_tokens::Token;

@@ -8,9 +8,9 @@ ghost use Rattle.oxc_sourcemap_tokens.specs.declared.error.Error.TheVariants.{Ou
 ghost use Rattle.oxc_sourcemap_tokens.specs.Token.{IsInBounds, AreInBounds, last};
 ghost use Rattle.oxc_sourcemap_tokens.specs.Chunks.{ChunksFit};
 ghost use Rattle.oxc_sourcemap_parts.specs.Views.{texts_of, contents_of, ids_of, record_of_parts};
-ghost use Rattle.oxc_sourcemap_join.specs.Joined.{fitted, raised_id, shifted_column, shifted, is_same_token, without_repeat, raised_ignore_list, appended_ignore_lists, added, nothing_joined, AreEntriesInBounds, IsWithinLimits};
+ghost use Rattle.oxc_sourcemap_join.specs.Joined.{fitted, raised_id, shifted_column, shifted, is_same_token, without_repeat, raised_ignore_list, appended_ignore_lists, added, nothing_joined, AreEntriesInBounds, IsWithinLimits, position};
 ghost use Rattle.oxc_sourcemap_join.specs.Joining.{all_shifted, above, moving_column, greatest, IsAddition};
-ghost use Rattle.oxc_sourcemap_tokens.specs.Results.{OnlyMemory};
+ghost use Rattle.oxc_sourcemap_tokens.specs.Results.{OnlyMemory, lent_item};
 
 use oxc_sourcemap_parts::{Contents, SourceMapParts, Texts, contents_in, texts_in};
 use oxc_sourcemap_tokens::{Error, Memory, Position, Result, Token, TokenChunk, next_chunk};

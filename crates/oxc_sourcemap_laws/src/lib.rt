@@ -92,7 +92,7 @@ pub fn joins_associative()
 ///   decoded map, as records without limits (`composed_maps`), and as results, if both succeed (`associative`). The lists
 ///   of names may differ.
 /// - Unless a grouping fails with `TooLarge`, both fail with `SeveralSources` or neither does; their numbers may differ
-///   (`refused`). If the first and the second map have at most one source, both succeed (`answered`). If one grouping
+///   (`fail_together`). If the first and the second map have at most one source, both succeed (`answered`). If one grouping
 ///   succeeds, the other succeeds with the same decoded map or fails with `TooLarge`; if one fails with `SeveralSources`,
 ///   the other fails with `SeveralSources` or `TooLarge` (`tell`).
 /// - The ids of a composed map are in range if those of the second map are (`in_range`). Its names are names of the two
@@ -106,7 +106,7 @@ pub fn composition_associative()
     ensures decoded_maps { DecodedMapsAssociative }
     ensures composed_maps { ComposedMapsAssociative }
     ensures associative { CompositionAssociative }
-    ensures error { GroupingsRefusedTogether }
+    ensures fail_together { GroupingsRefusedTogether }
     ensures answered { GroupingsAnswered }
     ensures tell { GroupingsTell }
     ensures in_range { CompositionInRange }

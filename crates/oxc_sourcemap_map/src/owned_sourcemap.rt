@@ -22,7 +22,7 @@ ghost use Rattle.oxc_sourcemap_lookup.specs.Trace.{trace, clamped_trace};
 ghost use Rattle.oxc_sourcemap_map.specs.View.{view_of, seen_in, view_original, content_at, source_and_content_at};
 ghost use Rattle.oxc_sourcemap_map.specs.contracts.owned_sourcemap.OwnedSourceMap.{the_row};
 ghost use Rattle.oxc_sourcemap_map.specs.contracts.sourcemap.SourceMap.{the_row as map_row};
-ghost use Rattle.oxc_sourcemap_tokens.specs.Results.{Answers, OnlyMemory, Reports, lent_items};
+ghost use Rattle.oxc_sourcemap_tokens.specs.Results.{Answers, OnlyMemory, Reports, lent_items, lent_item};
 
 use crate::source_view_token::SourceViewToken;
 use crate::sourcemap::SourceMap;

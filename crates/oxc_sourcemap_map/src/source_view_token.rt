@@ -1,6 +1,7 @@
 //! A token together with its map. (In the Rust crate it stands in the module `token`.)
 ghost use Rattle.std.specs.Prelude.{◌≡◌, option_map, MatchOption, Some, None};
 ghost use Rattle.oxc_sourcemap_map.specs.View.{view_of, seen_in, view_name, view_source, view_content, view_source_and_content, view_original};
+ghost use Rattle.oxc_sourcemap_tokens.specs.Results.{lent_item};
 
 use crate::sourcemap::SourceMap;
 use oxc_sourcemap_tokens::Token;

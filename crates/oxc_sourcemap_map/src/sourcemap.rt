@@ -15,7 +15,7 @@ ghost use Rattle.oxc_sourcemap_parts.specs.DecodedMap.{decoded_map_of};
 ghost use Rattle.oxc_sourcemap_decode.specs.ReadMap.{read_map, read_decoded_map};
 ghost use Rattle.oxc_sourcemap_encode.specs.JsonText.{map_text, map_url};
 ghost use Rattle.oxc_sourcemap_map.specs.View.{view_of, seen_in, content_at, source_and_content_at};
-ghost use Rattle.oxc_sourcemap_tokens.specs.Results.{Answers, OnlyMemory, Reports};
+ghost use Rattle.oxc_sourcemap_tokens.specs.Results.{Answers, OnlyMemory, Reports, lent_item};
 
 use crate::source_view_token::SourceViewToken;
 use crate::view_tokens::ViewTokens;

@@ -3,7 +3,6 @@
 ghost use Rattle.std.specs.Prelude.{◌≡◌, map, option_map, length, IfSome, Some};
 ghost use Rattle.std.specs.Iterator.{YieldsFirst, YieldsFirstBy, item_count, UpTo};
 ghost use Rattle.std.specs.Iterator.SizeHint.{IsWithinCount};
-ghost use Rattle.std.specs.Cow.{cow_str_bytes};
 ghost use Rattle.oxc_sourcemap_parts.specs.Views.{text_of, cow_texts};
 
 use oxc_sourcemap_tokens::Token;

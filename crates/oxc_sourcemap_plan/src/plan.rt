@@ -6,7 +6,7 @@ ghost use Rattle.oxc_sourcemap_tokens.specs.declared.position.Position.{Position
 ghost use Rattle.oxc_sourcemap_join.specs.Joined.{at_lines, at_positions};
 ghost use Rattle.oxc_sourcemap_plan.specs.Evaluated.{IsEvaluated, IsFailure};
 ghost use Rattle.oxc_sourcemap_plan.specs.Realizes.{Realizes, FailsAs, AllRealize};
-ghost use Rattle.oxc_sourcemap_tokens.specs.declared.error.Error.TheVariants.{OutOfMemory, TooLarge};
+ghost use Rattle.oxc_sourcemap_tokens.specs.declared.error.Error.TheVariants.{OutOfMemory};
 ghost use Rattle.oxc_sourcemap_decode.specs.ReadMap.{said_in};
 ghost use Rattle.oxc_sourcemap_parts.specs.Sorted.{are_tokens_sorted};
 ghost use Rattle.oxc_sourcemap_tokens.specs.declared.plan_error.PlanError.TheVariants.{Map, Unsorted};

@@ -5,7 +5,7 @@ ghost use Rattle.oxc_sourcemap_plan.specs.Depth.{depth};
 ghost use Rattle.oxc_sourcemap_plan.specs.Outcome.{outcome_of, outcome};
 ghost use Rattle.oxc_sourcemap_plan.specs.PlanInputs.{inputs_of};
 ghost use Rattle.oxc_sourcemap_plan.specs.PlanArguments.{parsed_number, parsed_line, parsed_position, parsed_input, parsed_join, parsed_part, parsed_plan};
-ghost use Rattle.oxc_sourcemap_tokens.specs.Results.{Gives, lent_items};
+ghost use Rattle.oxc_sourcemap_tokens.specs.Results.{Gives, lent_items, lent_item};
 ghost use Rattle.oxc_sourcemap_join.specs.Joined.{position};
 
 use crate::numbers::read_number;

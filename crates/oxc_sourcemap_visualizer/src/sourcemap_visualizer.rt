@@ -7,7 +7,7 @@ ghost use Rattle.oxc_sourcemap_parts.specs.Record.{Text};
 ghost use Rattle.oxc_sourcemap_visualizer.specs.Link.{counted, map_link};
 ghost use Rattle.oxc_sourcemap_visualizer.specs.TextLines.{units_of, lines_of, text_lines};
 ghost use Rattle.oxc_sourcemap_visualizer.specs.VisualText.{is_within, dst_end, src_end, is_on_source_line, between, part_text, position_text, mark, heading, invalid_text, parts_text, mapping_text, shown, shown_source, visual_token_text, tokens_text, visual_text};
-ghost use Rattle.oxc_sourcemap_tokens.specs.Results.{Answers, OnlyMemory, Pushes};
+ghost use Rattle.oxc_sourcemap_tokens.specs.Results.{Answers, OnlyMemory, Pushes, lent_item};
 
 use crate::text_lines::{Lines, utf16_units};
 use base64::engine::general_purpose::STANDARD;

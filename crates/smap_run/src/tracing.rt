@@ -8,7 +8,7 @@ ghost use Rattle.oxc_sourcemap.specs.Trace.{trace};
 ghost use Rattle.oxc_sourcemap.specs.View.{view_of, seen_in, view_original};
 ghost use Rattle.oxc_sourcemap.specs.PlanError.TheVariants.{Map};
 ghost use Rattle.smap_run.specs.Traced.{number_part, name_part, original_text, trace_text, traced_of, traced};
-ghost use Rattle.oxc_sourcemap_tokens.specs.Results.{OnlyMemory, Pushes};
+ghost use Rattle.oxc_sourcemap_tokens.specs.Results.{OnlyMemory, Pushes, lent_item};
 
 use oxc_sourcemap::{Error, PlanError, SourceMap, SourceViewToken, Token, push_json_string};
 use oxc_sourcemap_lookup::LineIndex;

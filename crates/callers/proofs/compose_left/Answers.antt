@@ -9,7 +9,7 @@ returns-in_err-earlier-clause-error c =
     let b' = c.in_ok-clone-2.ensures.map in
     carried c.from_residual-in_err-earlier.result c.in_err-earlier.field-0.0 _ c.from_residual-in_err-earlier.ensures.1
     (λ sb sc n. left-refused c.args.first.now c.args.second.now c.args.third.now _ _ c.args.third.now c.in_ok-clone.ensures.map b' refl c.in_err-earlier.field-0.0
-    (call.refused (call.sorted_goes_on (is-sorted-copy c.args.second.now _ b' sb)) n))
+    (call.error (call.sorted_goes_on (is-sorted-copy c.args.second.now _ b' sb)) n))
 
 pub returns-clause-map : goal.returns-clause-map
 returns-clause-map c =
@@ -30,4 +30,4 @@ returns-in_err-composed-clause-error c =
     let call = c.in_err-composed.ensures in
     carried c.from_residual-in_err-composed.result c.in_err-composed.field-0.0 _ c.from_residual-in_err-composed.ensures.1
     (λ sb sc n. left-is c.args.first.now c.args.second.now c.args.third.now _ _ _ a' b' c' c.in_ok-earlier.earlier _ (earlier.map (earlier.sorted_goes_on (is-sorted-copy c.args.second.now _ b' sb)))
-    (call.refused (call.sorted_goes_on (is-sorted-copy c.args.third.now _ c' sc)) n))
+    (call.error (call.sorted_goes_on (is-sorted-copy c.args.third.now _ c' sc)) n))

@@ -9,7 +9,7 @@ returns-in_err-later-clause-error c =
     let c' = c.in_ok-clone-2.ensures.map in
     carried c.from_residual-in_err-later.result c.in_err-later.field-0.0 _ c.from_residual-in_err-later.ensures.1
     (λ sb sc n. right-refused c.args.first.now c.args.second.now c.args.third.now c.args.first.now _ _ refl c.in_ok-clone.ensures.map c' c.in_err-later.field-0.0
-    (call.refused (call.sorted_goes_on (is-sorted-copy c.args.third.now _ c' sc)) n))
+    (call.error (call.sorted_goes_on (is-sorted-copy c.args.third.now _ c' sc)) n))
 
 pub returns-clause-map : goal.returns-clause-map
 returns-clause-map c =
@@ -30,4 +30,4 @@ returns-in_err-composed-clause-error c =
     let call = c.in_err-composed.ensures in
     carried c.from_residual-in_err-composed.result c.in_err-composed.field-0.0 _ c.from_residual-in_err-composed.ensures.1
     (λ sb sc n. right-is c.args.first.now c.args.second.now c.args.third.now _ _ _ a' b' c' c.in_ok-later.later _ (later.map (later.sorted_goes_on (is-sorted-copy c.args.third.now _ c' sc)))
-    (call.refused (call.sorted_goes_on (later-sorted c.args.first.now c.args.second.now c.args.third.now _ _ _ a' b' c' c.composition_associative.ensures.stands_for sb sc c.in_ok-later.later (later.map (later.sorted_goes_on (is-sorted-copy c.args.third.now _ c' sc))))) n))
+    (call.error (call.sorted_goes_on (later-sorted c.args.first.now c.args.second.now c.args.third.now _ _ _ a' b' c' c.composition_associative.ensures.stands_for sb sc c.in_ok-later.later (later.map (later.sorted_goes_on (is-sorted-copy c.args.third.now _ c' sc))))) n))

@@ -11,7 +11,7 @@ returns-in_err-name_id-clause-error c =
     let first = c.in_ok-source_id.ensures.added ∙ ap (λ (b : Built). with_path b c.args.path.now c.args.content.now) c.empty-builder.ensures in
     let call = c.in_err-name_id.ensures in
     carried c.from_residual-in_err-name_id.result c.in_err-name_id.field-0.0 _ c.from_residual-in_err-name_id.ensures.1
-    (name-fits _ _ c.args.path.now c.args.content.now first c.in_err-name_id.field-0.0 call.refused (λ t. call.too_large.0 (ap (λ x. Err x) t)))
+    (name-fits _ _ c.args.path.now c.args.content.now first c.in_err-name_id.field-0.0 call.error (λ t. call.too_large.0 (ap (λ x. Err x) t)))
 
 pub returns-clause-map : goal.returns-clause-map
 returns-clause-map c =

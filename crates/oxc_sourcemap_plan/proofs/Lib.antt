@@ -6,7 +6,7 @@ pub mod Reading
 pub mod Parts
 pub mod Answering
 mod Worked
-pub mod Numbers
+pub mod Digits
 pub mod PlanInputs
 pub mod PlanArguments
 mod WorkedArguments

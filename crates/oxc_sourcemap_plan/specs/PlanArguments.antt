@@ -1,10 +1,10 @@
 -- The plan that arguments say, by its outcome. They are read from the left, up to the first fault.
-use Rattle.std.specs.Prelude.{ℕ, zero, suc, List, [], ◌∷◌, codes, slice_get, Option, Some, None, Result, Ok, Err, if◌then◌else◌, ◌==◌}
+use Rattle.std.specs.Prelude.{ℕ, zero, suc, Bool, true, false, List, [], ◌∷◌, codes, slice_get, Option, Some, None, Result, Ok, Err, if◌then◌else◌, ◌==◌}
 use Rattle.std.specs.Str.{bytes_eq}
 use Rattle.oxc_sourcemap_parts.specs.Record.{Text}
 use Rattle.oxc_sourcemap_decode.specs.ReadMap.{said_in}
 use Rattle.oxc_sourcemap_tokens.specs.declared.position.Position.{Position}
-use Rattle.oxc_sourcemap_join.specs.Joined.{at_line}
+use Rattle.oxc_sourcemap_join.specs.Joined.{position, at_line}
 use Rattle.oxc_sourcemap_tokens.specs.declared.plan_error.PlanError.TheVariants.{TooDeep}
 use Rattle.oxc_sourcemap_plan.specs.declared.run_error.RunError.{RunError}
 use Rattle.oxc_sourcemap_plan.specs.declared.run_error.RunError.TheVariants.{Plan, Arguments, NoText}
@@ -56,9 +56,14 @@ parsed_line arguments = then_parsed (parsed_number arguments) (λ line left. Ok 
 abbrev pub parsed_position : List Text → Parsed Position
 parsed_position arguments =
     then_parsed (parsed_number arguments) (λ line after. then_parsed (parsed_number after) (λ column left.
-    Ok (record { line = line; column = column }, left)))
+    Ok (position line column, left)))
 
--- so many parts, each with its offset after it
+-- where a part of a join begins: a line, and a column if it has one
+abbrev pub parsed_beginning : Bool → List Text → Parsed Position
+parsed_beginning false = parsed_line
+parsed_beginning true = parsed_position
+
+-- so many parts, each with where it begins after it
 abbrev pub parsed_parts : (List Text → Parsed Outcome) → (List Text → Parsed Position) → ℕ → List Text
     → Parsed (List (Outcome × Position))
 parsed_parts part offset zero arguments = Ok ([], arguments)
@@ -85,8 +90,8 @@ parsed_composition part rest =
 abbrev pub parsed_by : List Text → (List Text → Parsed Outcome) → Text → List Text → Parsed Outcome
 parsed_by inputs part argument rest =
     if bytes_eq argument (codes "rewrite") then parsed_rewrite part rest
-    else if bytes_eq argument (codes "join") then parsed_join part parsed_line rest
-    else if bytes_eq argument (codes "joinat") then parsed_join part parsed_position rest
+    else if bytes_eq argument (codes "join") then parsed_join part (parsed_beginning false) rest
+    else if bytes_eq argument (codes "joinat") then parsed_join part (parsed_beginning true) rest
     else if bytes_eq argument (codes "compose") then parsed_composition part rest
     else with_rest (parsed_input inputs argument) rest
 

@@ -4,15 +4,14 @@ ghost use Rattle.oxc_sourcemap_plan.specs.Refusals.{out_of_memory, is_of_port};
 ghost use Rattle.oxc_sourcemap_plan.specs.Depth.{depth};
 ghost use Rattle.oxc_sourcemap_plan.specs.Outcome.{outcome_of, outcome};
 ghost use Rattle.oxc_sourcemap_plan.specs.PlanInputs.{inputs_of};
-ghost use Rattle.oxc_sourcemap_plan.specs.PlanArguments.{parsed_number, parsed_line, parsed_position, parsed_input, parsed_join, parsed_part, parsed_plan};
+ghost use Rattle.oxc_sourcemap_plan.specs.PlanArguments.{parsed_number, parsed_beginning, parsed_input, parsed_join, parsed_part, parsed_plan};
 ghost use Rattle.oxc_sourcemap_tokens.specs.Results.{Gives, lent_items, lent_item};
-ghost use Rattle.oxc_sourcemap_join.specs.Joined.{position};
 
 use crate::numbers::read_number;
 use crate::plan::Plan;
 use crate::run_error::RunError;
-use oxc_sourcemap_tokens::PlanError;
-use std::alloc::{AllocError, Global};
+use oxc_sourcemap_tokens::{Memory, PlanError, Position};
+use std::alloc::Global;
 
 /// The text before the first line that is exactly `---`, and what comes after that line. If there is no such line, the text is
 /// the whole input, and nothing comes after it.
@@ -36,7 +35,7 @@ fn first_text(input: &str) -> (&str, Option<&str>)
 }
 
 /// The texts of an input, separated by lines that are exactly `---`. They are parts of the input, and nothing of it is copied.
-pub fn inputs_of<'t>(alloc: Global, input: &'t str) -> Result<Vec<&'t str>, AllocError>
+pub fn inputs_of<'t>(alloc: Global, input: &'t str) -> Memory<Vec<&'t str>>
     ensures { IfOk result (λ inputs. lent_items inputs.items ≡ inputs_of input.now) }
 {
     let mut inputs = Vec::new(alloc);
@@ -65,14 +64,22 @@ fn take_number<'w>(arguments: &'w [String]) -> Result<(u32, &'w [String]), RunEr
     }
 }
 
-/// The line and the column that the first two arguments say, and the arguments after them.
-fn take_position<'w>(arguments: &'w [String]) -> Result<(u32, u32, &'w [String]), RunError>
-    ensures position { Gives (λ r. (position r.0 r.1, map string_bytes r.2.now)) result (parsed_position (map string_bytes arguments.now)) }
+/// Where a part of a join begins, by the first arguments: a line, and a column if it has one, else column 0; and the arguments
+/// after these.
+fn take_position<'w>(
+    arguments: &'w [String],
+    has_column: bool,
+) -> Result<(Position, &'w [String]), RunError>
+    ensures position { Gives (λ r. (r.0, map string_bytes r.1.now)) result
+        (parsed_beginning has_column (map string_bytes arguments.now)) }
     ensures causes { IfErr result (λ e. is_of_port e ≡ false) }
 {
     let (line, after) = take_number(arguments)?;
+    if !has_column {
+        return Ok((Position { line, column: 0 }, after));
+    }
     let (column, rest) = take_number(after)?;
-    Ok((line, column, rest))
+    Ok((Position { line, column }, rest))
 }
 
 /// The input with this number, from 0.
@@ -125,8 +132,8 @@ fn read_part<'t, 'w>(
             let (part, rest) = read_part(alloc, inputs, others, room - 1)?;
             Ok((Plan::Rewrite(Box::new(alloc, part)?), rest))
         }
-        "join" => read_join(alloc, inputs, others, room - 1),
-        "joinat" => read_join_at(alloc, inputs, others, room - 1),
+        "join" => read_join(alloc, inputs, others, room - 1, false),
+        "joinat" => read_join(alloc, inputs, others, room - 1, true),
         "compose" => {
             let (first, middle) = read_part(alloc, inputs, others, room - 1)?;
             let (second, rest) = read_part(alloc, inputs, middle, room - 1)?;
@@ -139,17 +146,23 @@ fn read_part<'t, 'w>(
     }
 }
 
-/// The join that arguments say after `join`: a number, and as many parts, at most `room` levels deep, each with its line.
+/// The join after `join` or `joinat`: a number, and as many parts, at most `room` levels deep, each with where it begins. A join at
+/// lines is one at these lines and column 0.
 #[cycle(part)]
 fn read_join<'t, 'w>(
     alloc: Global,
     inputs: &'t [&'t str],
     arguments: &'w [String],
     room: u32,
+    has_column: bool,
 ) -> Result<(Plan<'t>, &'w [String]), RunError>
-    ensures part { IfOk result (λ r. parsed_join (parsed_part (lent_items inputs.now) room) parsed_line (map string_bytes arguments.now) ≡ Ok (outcome_of r.0, map string_bytes r.1.now)) }
+    ensures part { IfOk result (λ r.
+        parsed_join (parsed_part (lent_items inputs.now) room) (parsed_beginning has_column) (map string_bytes arguments.now)
+        ≡ Ok (outcome_of r.0, map string_bytes r.1.now)) }
     ensures depth { IfOk result (λ r. depth r.0 ≤ room + 1) }
-    ensures error { IfErr result (λ e. (e ≢ out_of_memory) → parsed_join (parsed_part (lent_items inputs.now) room) parsed_line (map string_bytes arguments.now) ≡ Err e) }
+    ensures error { IfErr result (λ e. (e ≢ out_of_memory) →
+        parsed_join (parsed_part (lent_items inputs.now) room) (parsed_beginning has_column) (map string_bytes arguments.now)
+        ≡ Err e) }
     ensures causes { IfErr result (λ e. is_of_port e ≡ false) }
 {
     let (count, after) = take_number(arguments)?;
@@ -157,34 +170,8 @@ fn read_join<'t, 'w>(
     let mut rest = after;
     for i in 0..count {
         let (part, left) = read_part(alloc, inputs, rest, room)?;
-        let (line, left) = take_number(left)?;
-        parts.push((part, line))?;
-        rest = left;
-    }
-    Ok((Plan::Join(parts), rest))
-}
-
-/// The join that arguments say after `joinat`: a number, and as many parts, at most `room` levels deep, each with its line
-/// and its column.
-#[cycle(part)]
-fn read_join_at<'t, 'w>(
-    alloc: Global,
-    inputs: &'t [&'t str],
-    arguments: &'w [String],
-    room: u32,
-) -> Result<(Plan<'t>, &'w [String]), RunError>
-    ensures part { IfOk result (λ r. parsed_join (parsed_part (lent_items inputs.now) room) parsed_position (map string_bytes arguments.now) ≡ Ok (outcome_of r.0, map string_bytes r.1.now)) }
-    ensures depth { IfOk result (λ r. depth r.0 ≤ room + 1) }
-    ensures error { IfErr result (λ e. (e ≢ out_of_memory) → parsed_join (parsed_part (lent_items inputs.now) room) parsed_position (map string_bytes arguments.now) ≡ Err e) }
-    ensures causes { IfErr result (λ e. is_of_port e ≡ false) }
-{
-    let (count, after) = take_number(arguments)?;
-    let mut parts = Vec::new(alloc);
-    let mut rest = after;
-    for i in 0..count {
-        let (part, left) = read_part(alloc, inputs, rest, room)?;
-        let (line, column, left) = take_position(left)?;
-        parts.push((part, line, column))?;
+        let (position, left) = take_position(left, has_column)?;
+        parts.push((part, position.line, position.column))?;
         rest = left;
     }
     Ok((Plan::JoinAt(parts), rest))

@@ -117,10 +117,7 @@ fn cut_contents<'u>(
 }
 
 /// The UTF-16 units of a content, None where it is not known.
-fn units_where_known(
-    alloc: Global,
-    content: Option<&str>,
-) -> Memory<Option<Vec<u16>>>
+fn units_where_known(alloc: Global, content: Option<&str>) -> Memory<Option<Vec<u16>>>
     ensures { IfOk result (λ units. option_map (λ units. units.items) units ≡ option_map units_of (lent_item content.entry)) }
 {
     match content {
@@ -130,10 +127,7 @@ fn units_where_known(
 }
 
 /// The UTF-16 units of each content, None where it is not known.
-fn content_units(
-    alloc: Global,
-    contents: Contents<'_, '_>,
-) -> Memory<Vec<Option<Vec<u16>>>>
+fn content_units(alloc: Global, contents: Contents<'_, '_>) -> Memory<Vec<Option<Vec<u16>>>>
     ensures { IfOk result (λ units. map (option_map (λ units. units.items)) units.items ≡ map (option_map units_of) contents.entry) }
 {
     let mut units = Vec::with_capacity(alloc, contents.len())?;

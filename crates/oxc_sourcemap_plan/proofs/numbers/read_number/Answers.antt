@@ -1,6 +1,6 @@
 use Rattle.std.proofs.Common.{◌∙◌, lit<}
 use Rattle.std.proofs.lemmas.Str.Pattern.{starts_char}
-use Rattle.oxc_sourcemap_plan.proofs.Numbers.{number_of-parse}
+use Rattle.oxc_sourcemap_plan.proofs.Digits.{number_of-parse}
 use Rattle.oxc_sourcemap_plan.proofs.numbers.read_number.Goals as goal
 
 pub returns : goal.returns

@@ -5,7 +5,7 @@ use Rattle.oxc_sourcemap_plan.specs.declared.plan.Plan.{Plan}
 use Rattle.oxc_sourcemap_join.specs.Joined.{at_line, at_lines, at_positions}
 use Rattle.oxc_sourcemap_plan.specs.Depth.{depth, deepest}
 use Rattle.oxc_sourcemap_plan.specs.Outcome.{outcome_of, outcomes, rewrite_outcome, composition_outcome}
-use Rattle.oxc_sourcemap_plan.specs.PlanArguments.{then_parsed, parsed_line, parsed_position, parsed_part, with_rest}
+use Rattle.oxc_sourcemap_plan.specs.PlanArguments.{then_parsed, parsed_beginning, parsed_part, with_rest}
 use Rattle.oxc_sourcemap_plan.proofs.Parts.{from_err}
 use Rattle.oxc_sourcemap_plan.proofs.Plans.{outcomes-lines-pushed, outcomes-positions-pushed, depth_join, depth_join_at, outcome_rewrite, outcome_join, outcome_join_at, outcome_compose}
 use Rattle.oxc_sourcemap_plan.proofs.PlanArguments.{named-start, named-rewrite, named-join, named-join_at, named-compose, named-text, left_after, part-refused, offset-refused, part-more, parts-end, join-of-parts, deepest-pushed}
@@ -94,7 +94,7 @@ read_part-returns-in-joinat-clause-part t c =
     let part = parsed_part (map (λ text. text.now) c.args.inputs.now) (c.args.room - 1) in
     let others = map string_bytes c.in-Some.others.now in
     let T = map (λ text. text.now) c.args.inputs.now in
-    IfOk-weaker c.read_join_at.result _ _ (λ r h. start ∙ named-join_at T part c.as_str.result.now others c.in-joinat.is ∙ h) c.read_join_at.ensures.part
+    IfOk-weaker c.read_join.result _ _ (λ r h. start ∙ named-join_at T part c.as_str.result.now others c.in-joinat.is ∙ h) c.read_join.ensures.part
 
 pub read_part-returns-in-joinat-clause-error : goal.read_part-returns-in-joinat-clause-error
 read_part-returns-in-joinat-clause-error t c =
@@ -102,92 +102,48 @@ read_part-returns-in-joinat-clause-error t c =
     let part = parsed_part (map (λ text. text.now) c.args.inputs.now) (c.args.room - 1) in
     let others = map string_bytes c.in-Some.others.now in
     let T = map (λ text. text.now) c.args.inputs.now in
-    IfErr-weaker c.read_join_at.result _ _ (λ e h n. start ∙ named-join_at T part c.as_str.result.now others c.in-joinat.is ∙ h n) c.read_join_at.ensures.error
+    IfErr-weaker c.read_join.result _ _ (λ e h n. start ∙ named-join_at T part c.as_str.result.now others c.in-joinat.is ∙ h n) c.read_join.ensures.error
 
 pub read_join-returns-in_err-part-clause-error : goal.read_join-returns-in_err-part-clause-error
 read_join-returns-in_err-part-clause-error t c =
     let part = parsed_part (map (λ text. text.now) c.args.inputs.now) c.args.room in
-    let done = outcomes (at_lines c.loop-i.parts.items) in
+    let done = outcomes (at_positions c.loop-i.parts.items) in
     from_err c.from_residual-in_err-part.result _ _ c.from_residual-in_err-part.ensures.1 (λ e h n.
-    join-of-parts part parsed_line (map string_bytes c.args.arguments.now) _ c.in_ok-count.count _ c.in_ok-count.ensures.number
-    (c.loop-i.invariant.0 ∙ part-refused part parsed_line done c.in_ok-count.count c.loop-i.i (map string_bytes c.loop-i.rest.now) c.in_err-part.field-0.0 c.loop-i-test.true (c.in_err-part.ensures.error (λ q. n (h ∙ q))))
+    join-of-parts part (parsed_beginning c.args.has_column) (map string_bytes c.args.arguments.now) _ c.in_ok-count.count _ c.in_ok-count.ensures.number.0
+    (c.loop-i.invariant.0 ∙ part-refused part (parsed_beginning c.args.has_column) done c.in_ok-count.count c.loop-i.i (map string_bytes c.loop-i.rest.now) c.in_err-part.field-0.0 c.loop-i-test.true (c.in_err-part.ensures.error (λ q. n (h ∙ q))))
     ∙ ap Err (sym h))
 
-pub read_join-returns-in_err-line-clause-error : goal.read_join-returns-in_err-line-clause-error
-read_join-returns-in_err-line-clause-error t c =
+pub read_join-returns-in_err-position-clause-error : goal.read_join-returns-in_err-position-clause-error
+read_join-returns-in_err-position-clause-error t c =
     let part = parsed_part (map (λ text. text.now) c.args.inputs.now) c.args.room in
-    let done = outcomes (at_lines c.loop-i.parts.items) in
-    from_err c.from_residual-in_err-line.result _ _ c.from_residual-in_err-line.ensures.1 (λ e h n.
-    join-of-parts part parsed_line (map string_bytes c.args.arguments.now) _ c.in_ok-count.count _ c.in_ok-count.ensures.number
-    (c.loop-i.invariant.0 ∙ offset-refused part parsed_line done c.in_ok-count.count c.loop-i.i (map string_bytes c.loop-i.rest.now) _ (outcome_of c.in_ok-part.part) c.in_err-line.field-0.0 c.loop-i-test.true c.in_ok-part.ensures.part
-    (ap (λ r. then_parsed r (λ line left. Ok (at_line line, left))) c.in_err-line.ensures.error))
+    let done = outcomes (at_positions c.loop-i.parts.items) in
+    from_err c.from_residual-in_err-position.result _ _ c.from_residual-in_err-position.ensures.1 (λ e h n.
+    join-of-parts part (parsed_beginning c.args.has_column) (map string_bytes c.args.arguments.now) _ c.in_ok-count.count _ c.in_ok-count.ensures.number.0
+    (c.loop-i.invariant.0 ∙ offset-refused part (parsed_beginning c.args.has_column) done c.in_ok-count.count c.loop-i.i (map string_bytes c.loop-i.rest.now) _ (outcome_of c.in_ok-part.part) c.in_err-position.field-0.0 c.loop-i-test.true c.in_ok-part.ensures.part
+    c.in_err-position.ensures.position.1)
     ∙ ap Err (sym h))
 
 pub read_join-loop-i-preserved : goal.read_join-loop-i-preserved
 read_join-loop-i-preserved t c =
     let part = parsed_part (map (λ text. text.now) c.args.inputs.now) c.args.room in
     let count = c.in_ok-count.count in
-    let done = outcomes (at_lines c.loop-i.parts.items) in
-    let p : Plan × ℕ = (c.in_ok-part.part, c.in_ok-line.line) in
-    let new = ap (λ (xs : List (Plan × ℕ)). outcomes (at_lines xs)) c.in_ok-push.ensures.items ∙ outcomes-lines-pushed c.loop-i.parts.items p in
-    let deep = ap (map (λ (p : Plan × ℕ). depth p.0)) c.in_ok-push.ensures.items ∙ map-append (λ (p : Plan × ℕ). depth p.0) c.loop-i.parts.items (p ∷ []) in (
+    let done = outcomes (at_positions c.loop-i.parts.items) in
+    let p : Plan × ℕ × ℕ = (c.in_ok-part.part, c.in_ok-position.position.line, c.in_ok-position.position.column) in
+    let new = ap (λ (xs : List (Plan × ℕ × ℕ)). outcomes (at_positions xs)) c.in_ok-push.ensures.items ∙ outcomes-positions-pushed c.loop-i.parts.items p in
+    let deep = ap (map (λ (p : Plan × ℕ × ℕ). depth p.0)) c.in_ok-push.ensures.items ∙ map-append (λ (p : Plan × ℕ × ℕ). depth p.0) c.loop-i.parts.items (p ∷ []) in (
       c.loop-i.invariant.0
-          ∙ part-more part parsed_line done count c.loop-i.i (map string_bytes c.loop-i.rest.now) _ (map string_bytes c.in_ok-line.left.now) (outcome_of c.in_ok-part.part) (at_line c.in_ok-line.line) c.loop-i-test.true c.in_ok-part.ensures.part (ap (λ r. then_parsed r (λ line left. Ok (at_line line, left))) c.in_ok-line.ensures.number)
-          ∙ ap (λ xs. left_after part parsed_line xs (count - (c.loop-i.i + 1)) (map string_bytes c.in_ok-line.left.now)) (sym new),
-      subst (λ ds. deepest ds ≤ c.args.room) (sym deep) (deepest-pushed (map (λ (p : Plan × ℕ). depth p.0) c.loop-i.parts.items) (depth c.in_ok-part.part) c.args.room c.loop-i.invariant.1 c.in_ok-part.ensures.depth),
+          ∙ part-more part (parsed_beginning c.args.has_column) done count c.loop-i.i (map string_bytes c.loop-i.rest.now) _ (map string_bytes c.in_ok-position.left.now) (outcome_of c.in_ok-part.part) c.in_ok-position.position c.loop-i-test.true c.in_ok-part.ensures.part c.in_ok-position.ensures.position.0
+          ∙ ap (λ xs. left_after part (parsed_beginning c.args.has_column) xs (count - (c.loop-i.i + 1)) (map string_bytes c.in_ok-position.left.now)) (sym new),
+      subst (λ ds. deepest ds ≤ c.args.room) (sym deep) (deepest-pushed (map (λ (p : Plan × ℕ × ℕ). depth p.0) c.loop-i.parts.items) (depth c.in_ok-part.part) c.args.room c.loop-i.invariant.1 c.in_ok-part.ensures.depth),
     )
 
 pub read_join-returns-clause-part : goal.read_join-returns-clause-part
 read_join-returns-clause-part t c =
     let part = parsed_part (map (λ text. text.now) c.args.inputs.now) c.args.room in
-    let done = outcomes (at_lines c.loop-i.parts.items) in
-    join-of-parts part parsed_line (map string_bytes c.args.arguments.now) _ c.in_ok-count.count _ c.in_ok-count.ensures.number
-    (c.loop-i.invariant.0 ∙ parts-end part parsed_line done c.in_ok-count.count c.loop-i.i (map string_bytes c.loop-i.rest.now) (let f = c.loop-i-test.false in omega (arith, f)))
-    ∙ ap (λ o. Ok (o, map string_bytes c.loop-i.rest.now)) (sym (outcome_join c.loop-i.parts))
-
-pub read_join_at-returns-in_err-part-clause-error : goal.read_join_at-returns-in_err-part-clause-error
-read_join_at-returns-in_err-part-clause-error t c =
-    let part = parsed_part (map (λ text. text.now) c.args.inputs.now) c.args.room in
     let done = outcomes (at_positions c.loop-i.parts.items) in
-    from_err c.from_residual-in_err-part.result _ _ c.from_residual-in_err-part.ensures.1 (λ e h n.
-    join-of-parts part parsed_position (map string_bytes c.args.arguments.now) _ c.in_ok-count.count _ c.in_ok-count.ensures.number
-    (c.loop-i.invariant.0 ∙ part-refused part parsed_position done c.in_ok-count.count c.loop-i.i (map string_bytes c.loop-i.rest.now) c.in_err-part.field-0.0 c.loop-i-test.true (c.in_err-part.ensures.error (λ q. n (h ∙ q))))
-    ∙ ap Err (sym h))
-
-pub read_join_at-returns-in_err-line-clause-error : goal.read_join_at-returns-in_err-line-clause-error
-read_join_at-returns-in_err-line-clause-error t c =
-    let part = parsed_part (map (λ text. text.now) c.args.inputs.now) c.args.room in
-    let done = outcomes (at_positions c.loop-i.parts.items) in
-    from_err c.from_residual-in_err-line.result _ _ c.from_residual-in_err-line.ensures.1 (λ e h n.
-    join-of-parts part parsed_position (map string_bytes c.args.arguments.now) _ c.in_ok-count.count _ c.in_ok-count.ensures.number
-    (c.loop-i.invariant.0 ∙ offset-refused part parsed_position done c.in_ok-count.count c.loop-i.i (map string_bytes c.loop-i.rest.now) _ (outcome_of c.in_ok-part.part) c.in_err-line.field-0.0 c.loop-i-test.true c.in_ok-part.ensures.part
-    (c.in_err-line.ensures.error))
-    ∙ ap Err (sym h))
-
-pub read_join_at-loop-i-preserved : goal.read_join_at-loop-i-preserved
-read_join_at-loop-i-preserved t c =
-    let part = parsed_part (map (λ text. text.now) c.args.inputs.now) c.args.room in
-    let count = c.in_ok-count.count in
-    let done = outcomes (at_positions c.loop-i.parts.items) in
-    let p : Plan × ℕ × ℕ = (c.in_ok-part.part, c.in_ok-line.line, c.in_ok-line.column) in
-    let new = ap (λ (xs : List (Plan × ℕ × ℕ)). outcomes (at_positions xs)) c.in_ok-push.ensures.items ∙ outcomes-positions-pushed c.loop-i.parts.items p in
-    let deep = ap (map (λ (p : Plan × ℕ × ℕ). depth p.0)) c.in_ok-push.ensures.items ∙ map-append (λ (p : Plan × ℕ × ℕ). depth p.0) c.loop-i.parts.items (p ∷ []) in (
-      c.loop-i.invariant.0
-          ∙ part-more part parsed_position done count c.loop-i.i (map string_bytes c.loop-i.rest.now) _ (map string_bytes c.in_ok-line.left.now) (outcome_of c.in_ok-part.part) (record { line = c.in_ok-line.line; column = c.in_ok-line.column }) c.loop-i-test.true c.in_ok-part.ensures.part (c.in_ok-line.ensures.position)
-          ∙ ap (λ xs. left_after part parsed_position xs (count - (c.loop-i.i + 1)) (map string_bytes c.in_ok-line.left.now)) (sym new),
-      subst (λ ds. deepest ds ≤ c.args.room) (sym deep) (deepest-pushed (map (λ (p : Plan × ℕ × ℕ). depth p.0) c.loop-i.parts.items) (depth c.in_ok-part.part) c.args.room c.loop-i.invariant.1 c.in_ok-part.ensures.depth),
-    )
-
-pub read_join_at-returns-clause-part : goal.read_join_at-returns-clause-part
-read_join_at-returns-clause-part t c =
-    let part = parsed_part (map (λ text. text.now) c.args.inputs.now) c.args.room in
-    let done = outcomes (at_positions c.loop-i.parts.items) in
-    join-of-parts part parsed_position (map string_bytes c.args.arguments.now) _ c.in_ok-count.count _ c.in_ok-count.ensures.number
-    (c.loop-i.invariant.0 ∙ parts-end part parsed_position done c.in_ok-count.count c.loop-i.i (map string_bytes c.loop-i.rest.now) (let f = c.loop-i-test.false in omega (arith, f)))
+    join-of-parts part (parsed_beginning c.args.has_column) (map string_bytes c.args.arguments.now) _ c.in_ok-count.count _ c.in_ok-count.ensures.number.0
+    (c.loop-i.invariant.0 ∙ parts-end part (parsed_beginning c.args.has_column) done c.in_ok-count.count c.loop-i.i (map string_bytes c.loop-i.rest.now) (let f = c.loop-i-test.false in omega (arith, f)))
     ∙ ap (λ o. Ok (o, map string_bytes c.loop-i.rest.now)) (sym (outcome_join_at c.loop-i.parts))
 
 pub read_join-returns-clause-depth : goal.read_join-returns-clause-depth
-read_join-returns-clause-depth t c = let d = depth_join c.loop-i.parts in let i = c.loop-i.invariant.1 in omega (arith, d, i)
-
-pub read_join_at-returns-clause-depth : goal.read_join_at-returns-clause-depth
-read_join_at-returns-clause-depth t c = let d = depth_join_at c.loop-i.parts in let i = c.loop-i.invariant.1 in omega (arith, d, i)
+read_join-returns-clause-depth t c = let d = depth_join_at c.loop-i.parts in let i = c.loop-i.invariant.1 in omega (arith, d, i)

@@ -1,7 +1,7 @@
 use Rattle.std.proofs.Common.{◌≡◌, ◌≤◌, ◌-◌, ◌+◌, map, string_bytes}
 use Rattle.oxc_sourcemap_plan.specs.Depth.{depth, deepest}
-use Rattle.oxc_sourcemap_join.specs.Joined.{at_lines, at_positions}
-use Rattle.oxc_sourcemap_plan.specs.PlanArguments.{parsed_line, parsed_position, parsed_parts, parsed_part}
+use Rattle.oxc_sourcemap_join.specs.Joined.{at_positions}
+use Rattle.oxc_sourcemap_plan.specs.PlanArguments.{parsed_beginning, parsed_parts, parsed_part}
 use Rattle.oxc_sourcemap_plan.specs.Outcome.{outcomes}
 use Rattle.oxc_sourcemap_plan.proofs.PlanArguments.{left_after}
 use Rattle.oxc_sourcemap_plan.proofs.plan_arguments.+part.Given as goal
@@ -12,17 +12,8 @@ decreases-read_part l = l.room + l.room
 abbrev pub decreases-read_join : goal.decreases-read_join
 decreases-read_join l = l.room + l.room + 1
 
-abbrev pub decreases-read_join_at : goal.decreases-read_join_at
-decreases-read_join_at l = l.room + l.room + 1
-
 abbrev pub invariant-read_join-loop-i : goal.invariant-read_join-loop-i
 invariant-read_join-loop-i l =
-    (parsed_parts (parsed_part (map (λ text. text.now) l.inputs) l.room) parsed_line l.count (map string_bytes l.initial.rest)
-    ≡ left_after (parsed_part (map (λ text. text.now) l.inputs) l.room) parsed_line (outcomes (at_lines l.parts.items)) (l.count - l.i) (map string_bytes l.rest))
-    × (deepest (map (λ p. depth p.0) l.parts.items) ≤ l.room)
-
-abbrev pub invariant-read_join_at-loop-i : goal.invariant-read_join_at-loop-i
-invariant-read_join_at-loop-i l =
-    (parsed_parts (parsed_part (map (λ text. text.now) l.inputs) l.room) parsed_position l.count (map string_bytes l.initial.rest)
-    ≡ left_after (parsed_part (map (λ text. text.now) l.inputs) l.room) parsed_position (outcomes (at_positions l.parts.items)) (l.count - l.i) (map string_bytes l.rest))
+    (parsed_parts (parsed_part (map (λ text. text.now) l.inputs) l.room) (parsed_beginning l.has_column) l.count (map string_bytes l.initial.rest)
+    ≡ left_after (parsed_part (map (λ text. text.now) l.inputs) l.room) (parsed_beginning l.has_column) (outcomes (at_positions l.parts.items)) (l.count - l.i) (map string_bytes l.rest))
     × (deepest (map (λ p. depth p.0) l.parts.items) ≤ l.room)

@@ -1,5 +1,5 @@
 #!/usr/bin/env python3
-"""Compares `smap` with peers on the maps that make_maps.py made, and prints the tables of docs/REAL_MAPS.md.
+"""Compares `smap` with peers on the maps that make_maps.py made, and prints the tables of docs/FIGURES.md.
 
     tools/compare_maps.py [--smap PROGRAM] [--positions N] [--only maps|traces|compositions|joins] FOLDER
 

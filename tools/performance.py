@@ -1,5 +1,5 @@
 #!/usr/bin/env python3
-"""Measures the library on the maps that make_maps.py made, and prints the tables of docs/PERFORMANCE.md.
+"""Measures the library on the maps that make_maps.py made, and prints the tables of docs/FIGURES.md.
 
     tools/performance.py [--rounds N] [--beside PROGRAM] [--whole PROGRAM] [--smap PROGRAM] [--only TABLE] [--into FILE] FOLDER
 

@@ -1,7 +1,7 @@
 //! Source maps of version 3 (ECMA-426): a port of the Rust crate `oxc_sourcemap`, with each call proved to meet its
 //! contract.
 //!
-//! Users name this crate alone. Its items stand in the crates below, one for each subject; docs/ARCHITECTURE.md has the map.
+//! Users name this crate alone. Its items come from the crates below it, one for each subject; CONTRIBUTING.md has a table.
 #![tactic(auto)]
 
 mod decoding;

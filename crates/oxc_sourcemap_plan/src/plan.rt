@@ -223,7 +223,7 @@ fn evaluate_composition(
 ///
 /// The map is the one that the definitions of these steps make. At every generated position it has the exact and the clamped
 /// trace that the plan means, and its sources, contents and metadata. `IsEvaluated` lists all that is promised of it,
-/// `outcome` what a plan means (docs/PROMISES.md, "Plans").
+/// `outcome` what a plan means (docs/PROOFS.md, "The theorem").
 ///
 /// Fails with
 /// - `TooDeep` if the plan is deeper than 64, where a text alone is 1 deep, before anything is read;

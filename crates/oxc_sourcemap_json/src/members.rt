@@ -76,6 +76,16 @@ fn members_of(mut object: Map<String, Value>) -> Members
     }
 }
 
+/// A member that may be there, borrowed.
+fn member_ref(member: &Option<Value>) -> Option<&Value>
+    ensures { lent_member result ≡ option_map view member.now }
+{
+    match member {
+        Some(value) => Some(value),
+        None => None,
+    }
+}
+
 /// A member that is there and is not null.
 fn present(member: Option<Value>) -> Option<Value>
     ensures { option_map view result ≡ present (option_map view member) }
@@ -200,7 +210,7 @@ pub fn json_of(alloc: Global, value: Value) -> Result<JSONSourceMap>
         return Err(Error::BadJson(JsonFault::Shape(Field::Object)));
     };
     let mut members = members_of(object);
-    let version = read_version(members.version.as_ref())?;
+    let version = read_version(member_ref(&members.version))?;
     let file = optional_text(members.file.take(), Field::File)?;
     let mappings = mappings_of(members.mappings.take())?;
     let source_root = optional_text(members.source_root.take(), Field::SourceRoot)?;
@@ -210,8 +220,8 @@ pub fn json_of(alloc: Global, value: Value) -> Result<JSONSourceMap>
     let debug_id = optional_text(members.debug_id.take(), Field::DebugId)?;
     let ignore_list = read_either_list(
         alloc,
-        members.ignore_list.as_ref(),
-        members.older_ignore_list.as_ref(),
+        member_ref(&members.ignore_list),
+        member_ref(&members.older_ignore_list),
     )?;
     Ok(JSONSourceMap {
         version,

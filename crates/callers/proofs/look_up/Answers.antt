@@ -18,4 +18,4 @@ pub returns-in_err-table-clause-error : goal.returns-in_err-table-clause-error
 returns-in_err-table-clause-error c =
     let e = c.in_err-table.field-0.0 in
     carried c.from_residual.result (Map e) _ c.from_residual.ensures.1
-    (λ n. absurd (not-refused c.args.map.now.tokens e (c.if-not-is_sorted.ensures.in_line_order refl) (c.in_err-table.ensures.error (λ o. n (ap Map o)))))
+    (λ n. absurd (not-refused c.args.map.now.tokens e (c.if-not-is_sorted.ensures.in_line_order refl) (c.in_err-table.ensures.table.1 (λ o. n (ap Map o)))))

@@ -29,10 +29,13 @@ returns-in_err-line-in-59 c =
     let counts = counts_of c.args.names c.args.sources in
     let p = err_from_is_err_and c.from_residual-in_err-line-in-59.result c.from_residual-in_err-line-in-59.ensures.1 in
     let g : slice_get rest 0 ≡ Some 59 = sym c.in-Some.ensures.value ∙ ap Some c.in-59.is in
-    rw (p.1, p.2) (tt, λ _. sym c.loop-byte.invariant.reading
-    ∙ ap (λ text. onto_all c.loop-byte.tokens.items (gathered (left_outcomes counts c.loop-byte.line (place_of c.loop-byte.sums) text))) (front-byte rest 59 g)
-    ∙ ap (λ os. onto_all c.loop-byte.tokens.items (gathered os)) (left-too_large counts c.loop-byte.line (place_of c.loop-byte.sums) (drop 1 rest) c.in_err-line-in-59.ensures.last.1)
-    ∙ ap Err (sym c.in_err-line-in-59.ensures.last.0))
+    rw (p.1, p.2) (
+      tt,
+      λ _. sym c.loop-byte.invariant.reading
+          ∙ ap (λ text. onto_all c.loop-byte.tokens.items (gathered (left_outcomes counts c.loop-byte.line (place_of c.loop-byte.sums) text))) (front-byte rest 59 g)
+          ∙ ap (λ os. onto_all c.loop-byte.tokens.items (gathered os)) (left-too_large counts c.loop-byte.line (place_of c.loop-byte.sums) (drop 1 rest) c.in_err-line-in-59.ensures.last.1)
+          ∙ ap Err (sym c.in_err-line-in-59.ensures.last.0),
+    )
 
 pub returns-in_err-token-in_default-byte :
     goal.returns-in_err-token-in_default-byte
@@ -43,9 +46,12 @@ returns-in_err-token-in_default-byte c =
     let p = err_from_is_err_and c.from_residual-in_err-token-in_default-byte.result c.from_residual-in_err-token-in_default-byte.ensures.1 in
     let g : slice_get rest 0 ≡ Some c.in-Some.byte.now = sym c.in-Some.ensures.value in
     let m : ends_segment c.in-Some.byte.now ≡ false = grind (arith, nat_tests) in
-    rw (p.1, p.2) (tt, λ _. sym c.loop-byte.invariant.reading
-    ∙ ap (λ os. onto_all c.loop-byte.tokens.items (gathered os)) (left-segment counts c.loop-byte.line place rest (front-filled rest c.in-Some.byte.now g m))
-    ∙ onto_all-fault c.loop-byte.tokens.items _ _ _ c.in_err-token-in_default-byte.ensures.fault)
+    rw (p.1, p.2) (
+      tt,
+      λ _. sym c.loop-byte.invariant.reading
+          ∙ ap (λ os. onto_all c.loop-byte.tokens.items (gathered os)) (left-segment counts c.loop-byte.line place rest (front-filled rest c.in-Some.byte.now g m))
+          ∙ onto_all-fault c.loop-byte.tokens.items _ _ _ c.in_err-token-in_default-byte.ensures.fault,
+    )
 
 pub loop-byte-preserved : goal.loop-byte-preserved
 loop-byte-preserved c =

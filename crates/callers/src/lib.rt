@@ -20,7 +20,7 @@ ghost use Rattle.oxc_sourcemap.specs.ComposeLaws.{grouped_left, grouped_right, I
 ghost use Rattle.oxc_sourcemap.specs.Meaning.{read_meaning};
 ghost use Rattle.oxc_sourcemap.specs.Outcome.{outcome, read_outcome, composition_outcome};
 ghost use Rattle.oxc_sourcemap.specs.Evaluated.{IsEvaluated};
-ghost use Rattle.oxc_sourcemap_tokens.specs.Results.{OnlyMemory};
+ghost use Rattle.oxc_sourcemap.specs.Results.{OnlyMemory};
 
 use oxc_sourcemap::laws::{
     canonical_unique, composition_associative, joins_associative, name_ids_unique,

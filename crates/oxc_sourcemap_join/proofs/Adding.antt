@@ -58,7 +58,7 @@ module _ (r m : MapRecord) (offset : Position) (s : Shift) (passed : ℕ) (n : s
   addition-is chunk b e f nn ss ib p tt c = record {
     names = n;
     sources = o;
-    offset = l;
+    position = l;
     passed = p;
     kept = k;
     chunk = c ∙ ap (chunk_from (state_at r.tokens (length r.tokens)) (length r.tokens)) (sym (added-count p));
@@ -79,7 +79,7 @@ after P xs ys h = All-from_recursion P ys (after-each P xs ys (recursion_from_Al
 pub kept-are-in-bounds : (r m : MapRecord) (offset : Position) (a : Addition) → IsAddition r m offset a → AreInBounds (all_shifted a.shift (drop a.passed m.tokens))
 kept-are-in-bounds r m offset a h =
     subst AreInBounds (sym h.kept) (after IsInBounds r.tokens (without_repeat is_same_token (last r.tokens) (all_shifted a.shift m.tokens))
-    (subst (λ us. AreInBounds (r.tokens ++ without_repeat is_same_token (last r.tokens) us)) (sym (shifted-by r offset a.shift h.names h.sources h.offset m.tokens)) h.within.in_bounds))
+    (subst (λ us. AreInBounds (r.tokens ++ without_repeat is_same_token (last r.tokens) us)) (sym (shifted-by r offset a.shift h.names h.sources h.position m.tokens)) h.within.in_bounds))
 
 module _ (r m : MapRecord) (offset : Position) (a : Addition) (h : IsAddition r m offset a) (chunks : List TokenChunk) (has : r.token_chunks ≡ Some chunks)
     (each : length r.sources ≡ length r.source_contents)
@@ -91,7 +91,7 @@ module _ (r m : MapRecord) (offset : Position) (a : Addition) (h : IsAddition r 
   contents-is = ec ∙ sym (ap (λ n. fitted n (r.source_contents ++ m.source_contents)) (length-append r.sources m.sources) ∙ fitted-more r.sources m.sources r.source_contents m.source_contents each)
 
   tokens-is : ts ≡ added_tokens r m offset
-  tokens-is = et ∙ sym (added-tokens r m offset a.shift a.passed h.names h.sources h.offset h.kept)
+  tokens-is = et ∙ sym (added-tokens r m offset a.shift a.passed h.names h.sources h.position h.kept)
 
   chunks-is : ks ≡ unwrap_or r.token_chunks [] ++ added_chunk r m offset ∷ []
   chunks-is = ek ∙ ap (λ k. chunks ++ k ∷ []) h.chunk ∙ ap (λ o. unwrap_or o [] ++ added_chunk r m offset ∷ []) (sym has)

@@ -4,7 +4,7 @@ ghost use Rattle.std.specs.Str.{bytes_eq};
 ghost use Rattle.serde_json.specs.View.{view};
 ghost use Rattle.oxc_sourcemap_tokens.specs.declared.error.Field.TheVariants.{Mappings, Sources, SourcesContent};
 ghost use Rattle.oxc_sourcemap_json.specs.Json.{json_record, json_texts, json_content_list, json_contents};
-ghost use Rattle.oxc_sourcemap_json.specs.Members.{member_in};
+ghost use Rattle.oxc_sourcemap_json.specs.Members.{lent_member, member_in};
 ghost use Rattle.oxc_sourcemap_json.specs.Shape.{present, optional, required, text_in, texts_in};
 ghost use Rattle.oxc_sourcemap_json.specs.Shape.{as_content, contents_in, names_of, shape};
 ghost use Rattle.oxc_sourcemap_tokens.specs.Results.{Gives, Answers};

@@ -17,7 +17,7 @@ loop-id-preserved c =
     ap (λ n. fitted n c.loop-id.lent) count ∙ fitted-next (option_map (λ text. text.now)) left c.loop-id.lent c.next.new.self c.next.result c.next.ensures.steps
     ∙ ap (λ x. x ∷ more) (sym c.lent_content.ensures) in
     record {
-      items = ap (λ cs. map f cs ++ more) (rw c.unwrap.ensures at c.push-pushed.ensures.items)
+      items = ap (λ cs. map f cs ++ more) c.push_reserved.ensures.items
           ∙ ap (λ cs. cs ++ more) (map-append f front (c.lent_content.result ∷ []))
           ∙ append_assoc (map f front) (f c.lent_content.result ∷ []) more
           ∙ ap (λ cs. map f front ++ cs) (sym next) ∙ c.loop-id.invariant.items;

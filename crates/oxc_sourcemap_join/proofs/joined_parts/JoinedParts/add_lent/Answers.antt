@@ -10,7 +10,7 @@ use Rattle.oxc_sourcemap_join.proofs.Moving.{length-mapped}
 use Rattle.oxc_sourcemap_join.proofs.IgnoreLists.{addition-in-bounds}
 use Rattle.oxc_sourcemap_join.proofs.Adding.{kept-are-in-bounds, added-is, join-is, all-after-some, glued}
 use Rattle.oxc_sourcemap_join.proofs.joined_parts.JoinedParts.add_lent.Goals as goal
-use Rattle.oxc_sourcemap_join.proofs.joined_parts.JoinedParts.add_lent.Goals.{After-unwrap}
+use Rattle.oxc_sourcemap_join.proofs.joined_parts.JoinedParts.add_lent.Goals.{After-push_reserved}
 
 pub push_moved-requires-clause-in_bounds : goal.push_moved-requires-clause-in_bounds
 push_moved-requires-clause-in_bounds c =
@@ -26,12 +26,12 @@ add_ignore_list-requires c =
     subst AreEntriesInBounds (ap (raised_ignore_list a.shift.sources) (sym (list))) (addition-in-bounds c.args.self.now (record_of_parts c.args.parts.now) c.args.position a c.in-Some.ensures.fits)
 
 -- what the builder's lists become
-module _ (c : After-unwrap) where
-  names : texts_of c.push_names.new.texts ≡ c.args.self.now.names ++ (record_of_parts c.args.parts.now).names
-  names = c.push_names.ensures ∙ glued (ap (map cow_str_bytes) c.make_room.ensures.names ∙ ap (λ x. x.names) c.self.view_is) (c.names_in.ensures ∙ ap (map cow_str_bytes) c.as_slice-2.ensures.value)
+module _ (c : After-push_reserved) where
+  names : texts_of c.push_texts.new.texts ≡ c.args.self.now.names ++ (record_of_parts c.args.parts.now).names
+  names = c.push_texts.ensures ∙ glued (ap (map cow_str_bytes) c.make_room.ensures.names ∙ ap (λ x. x.names) c.self.view_is) (c.texts_in.ensures ∙ ap (map cow_str_bytes) c.as_slice-2.ensures.value)
 
-  sources : texts_of c.push_sources.new.texts ≡ c.args.self.now.sources ++ (record_of_parts c.args.parts.now).sources
-  sources = c.push_sources.ensures ∙ glued (ap (map cow_str_bytes) c.make_room.ensures.sources ∙ ap (λ x. x.sources) c.self.view_is) (c.sources_in.ensures ∙ ap (map cow_str_bytes) c.as_slice-3.ensures.value)
+  sources : texts_of c.push_texts-2.new.texts ≡ c.args.self.now.sources ++ (record_of_parts c.args.parts.now).sources
+  sources = c.push_texts-2.ensures ∙ glued (ap (map cow_str_bytes) c.make_room.ensures.sources ∙ ap (λ x. x.sources) c.self.view_is) (c.texts_in-2.ensures ∙ ap (map cow_str_bytes) c.as_slice-3.ensures.value)
 
   count : c.len-source_count.result ≡ length (record_of_parts c.args.parts.now).sources
   count = omega (arith, c.len-source_count.ensures, length-mapped cow_str_bytes c.args.parts.now.sources.items)
@@ -45,8 +45,8 @@ module _ (c : After-unwrap) where
       (ap (all_shifted c.in-Some.addition.shift) (all-after-some c.in-Some.addition.passed c.as_slice.result.now
       ∙ ap (drop c.in-Some.addition.passed) (c.as_slice.ensures.value)))
 
-  chunks : c.push-pushed.new.self.items ≡ c.self.inside.token_chunks.items ++ c.in-Some.addition.chunk ∷ []
-  chunks = (rw c.unwrap.ensures at c.push-pushed.ensures.items) ∙ ap (λ ks. ks ++ c.in-Some.addition.chunk ∷ []) c.make_room.ensures.chunks
+  chunks : c.push_reserved.new.self.items ≡ c.self.inside.token_chunks.items ++ c.in-Some.addition.chunk ∷ []
+  chunks = c.push_reserved.ensures.items ∙ ap (λ ks. ks ++ c.in-Some.addition.chunk ∷ []) c.make_room.ensures.chunks
 
   entries : ids_of c.add_ignore_list.new.list ≡ appended_ignore_lists c.args.self.now.ignore_list (raised_ignore_list c.in-Some.addition.shift.sources (record_of_parts c.args.parts.now).ignore_list)
   entries = c.in_ok-add_ignore_list.ensures.added ∙ ap (λ o. appended_ignore_lists o (raised_ignore_list c.in-Some.addition.shift.sources (option_map (λ ids. ids.now) c.as_deref-ignored.result))) (ap (λ x. x.ignore_list) c.self.view_is)

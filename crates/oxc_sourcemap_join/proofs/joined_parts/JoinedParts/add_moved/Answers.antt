@@ -48,8 +48,8 @@ module _ (c : Joined-parts-28) where
       (ap (all_shifted c.in-Some.addition.shift) (all-after-some c.in-Some.addition.passed c.as_slice.result.now
       ∙ ap (drop c.in-Some.addition.passed) (c.as_slice.ensures.value)))
 
-  chunks : c.push-pushed.new.self.items ≡ c.self.inside.token_chunks.items ++ c.in-Some.addition.chunk ∷ []
-  chunks = (rw c.unwrap-3.ensures at c.push-pushed.ensures.items) ∙ ap (λ ks. ks ++ c.in-Some.addition.chunk ∷ []) c.make_room.ensures.chunks
+  chunks : c.push_reserved.new.self.items ≡ c.self.inside.token_chunks.items ++ c.in-Some.addition.chunk ∷ []
+  chunks = c.push_reserved.ensures.items ∙ ap (λ ks. ks ++ c.in-Some.addition.chunk ∷ []) c.make_room.ensures.chunks
 
   entries : ids_of c.add_ignore_list.new.list ≡ appended_ignore_lists c.args.self.now.ignore_list (raised_ignore_list c.in-Some.addition.shift.sources (record_of_parts c.args.parts).ignore_list)
   entries = c.in_ok-add_ignore_list.ensures.added ∙ ap (λ o. appended_ignore_lists o (raised_ignore_list c.in-Some.addition.shift.sources (option_map (λ ids. ids.now) c.as_deref-list.result))) (ap (λ x. x.ignore_list) c.self.view_is)

@@ -44,7 +44,7 @@ returns-then-len-clause-too_large c = λ e w.
       | then-len-via-else-len+else-len-2+then-not-fits_all b ↦ (
           let names : c.len.result ≡ length r.names = omega (arith, ap (λ x. length x.names) c.self.view_is, length-mapped cow_str_bytes c.self.inside.names.items, c.len.ensures) in
           let sources : c.len-2.result ≡ length r.sources = omega (arith, ap (λ x. length x.sources) c.self.view_is, length-mapped cow_str_bytes c.self.inside.sources.items, c.len-2.ensures) in
-          let shift : Shift = record { names = c.len.result; sources = c.len-2.result; lines = c.args.line; columns = c.args.column } in
+          let shift : Shift = record { names = c.len.result; sources = c.len-2.result; position = c.args.position } in
           let tokens : c.as_slice-tokens.result.now ≡ m.tokens = c.as_slice-tokens.ensures.value in
           let bounds = moved-in-bounds r m c.args.position shift names sources refl (subst AreInBounds (ap (λ x. x.tokens) c.self.view_is) c.self.invariant.in_bounds) w in
           let fits : b.fits_all.result ≡ true = b.fits_all.ensures.1 (subst AreInBounds (ap (all_shifted shift) (sym tokens)) bounds) in
@@ -71,7 +71,7 @@ returns-clause-fits c =
     let so_far : c.as_slice.result.now ≡ r.tokens = c.as_slice.ensures.value ∙ ap (λ x. x.tokens) c.self.view_is in
     let names : c.len.result ≡ length r.names = omega (arith, ap (λ x. length x.names) c.self.view_is, length-mapped cow_str_bytes c.self.inside.names.items, c.len.ensures) in
     let sources : c.len-2.result ≡ length r.sources = omega (arith, ap (λ x. length x.sources) c.self.view_is, length-mapped cow_str_bytes c.self.inside.sources.items, c.len-2.ensures) in
-    let shift : Shift = record { names = c.len.result; sources = c.len-2.result; lines = c.args.line; columns = c.args.column } in
+    let shift : Shift = record { names = c.len.result; sources = c.len-2.result; position = c.args.position } in
     let kept : all_shifted shift (drop c.passed_over-passed.result m.tokens) ≡ without_repeat is_same_token (last r.tokens) (all_shifted shift m.tokens) =
     ap (λ ts. all_shifted shift (drop c.passed_over-passed.result ts)) (sym tokens) ∙ c.passed_over-passed.ensures.kept
     ∙ ap (λ o. without_repeat is_same_token o (all_shifted shift c.as_slice-tokens.result.now)) c.last_token.ensures

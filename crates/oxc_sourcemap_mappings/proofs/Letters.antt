@@ -31,7 +31,7 @@ entry-by f table (suc n) h d lt =
     let both = both_of (get_or table n 0 == f n) (all_by f table n) h in
     elim (cases_eq d n) [ inl same ↦ rw same (eqb-eq _ _ both.0) | inr other ↦ entry-by f table n both.1 d (omega arith) ]
 
--- ASCII, as the contracts of the encoder say it
+-- all bytes are ASCII, in the words of the contracts of the encoder
 abbrev pub ArePlain : List ℕ → Type 0
 ArePlain bytes = AllByRecursion (λ b. b < 128) bytes
 

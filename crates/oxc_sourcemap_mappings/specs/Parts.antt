@@ -24,7 +24,7 @@ is_semicolon byte = byte == 59
 abbrev pub is_comma : ℕ → Bool
 is_comma byte = byte == 44
 
--- not empty
+-- a list that is not empty
 abbrev pub is_filled : List ℕ → Bool
 is_filled [] = false
 is_filled (byte ∷ bytes) = true

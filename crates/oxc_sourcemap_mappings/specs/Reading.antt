@@ -39,12 +39,12 @@ text_results counts line before (l ∷ ls) =
     then line_results counts line before l ++ text_results counts (line + 1) (past_line before l) ls
     else Err TooLarge ∷ []
 
--- this token before a reading
+-- a reading with this token before its tokens
 abbrev pub onto : TokenRecord → Result (List TokenRecord) Error → Result (List TokenRecord) Error
 onto token (Ok tokens) = Ok (token ∷ tokens)
 onto token (Err fault) = Err fault
 
--- all tokens, or the first fault
+-- the tokens of a text from what its segments give, or the first fault
 abbrev pub gathered : List (Result TokenRecord Error) → Result (List TokenRecord) Error
 gathered [] = Ok []
 gathered (Ok token ∷ more) = onto token (gathered more)

@@ -1,4 +1,5 @@
--- The tables of letters are held against the definitions at each digit and each near delta, by computing. And every byte that is written is ASCII.
+-- The tables of letters are compared with the definitions at each digit and each near delta, by computing. And every byte
+-- that is written is ASCII.
 use Rattle.std.proofs.Common.{◌≡◌, ℕ, zero, suc, ◌<◌, Bool, true, false, ◌&&◌, ◌==◌, List, [], ◌∷◌, ◌++◌, map, replicate, get_or, if◌then◌else◌, refl, arith, lit<, Option, Some, None, inl, inr, Result, Ok, Err}
 use Rattle.std.specs.List.{AllByRecursion}
 use Rattle.std.specs.Str.{IsUtf8}

@@ -35,7 +35,7 @@ at column items col =
     let near = in_column column best (not_past column col items) in
     if best == col then first near else last near
 
--- `at`, and the first item in place of none
+-- as `at`, but with the first item in place of none
 abbrev pub clamped_at : {A : Type 0} → (A → ℕ) → List A → ℕ → Option A
 clamped_at column items col = option_or (at column items col) (first items)
 
@@ -86,6 +86,6 @@ token_for tokens line col = pick token_line token_column tokens line col
 abbrev pub clamped_token_for : List TokenRecord → ℕ → ℕ → Option TokenRecord
 clamped_token_for tokens line col = clamped_pick token_line token_column tokens line col
 
--- This holds, if the tokens are sorted and the table is their own.
+-- A statement holds, if the tokens are sorted and the table is their own.
 abbrev pub IfOwnTable : List TokenRecord → List (List TokenRecord) → Type 0 → Type 0
 IfOwnTable tokens table holds = are_tokens_sorted tokens ≡ true → line_table tokens ≡ Ok table → holds

@@ -24,7 +24,7 @@ nothing_before = record { on_line = []; in_text = [] }
 abbrev pub past_segment : Before → Segment → Before
 past_segment before s = record { on_line = before.on_line ++ s ∷ []; in_text = before.in_text ++ s ∷ [] }
 
--- at the start of the next line, with the segments of this one in the text
+-- the segments before the start of the next line: those of this line belong only to the text then
 abbrev pub past_line : Before → List Segment → Before
 past_line before line = record { on_line = []; in_text = before.in_text ++ line }
 

@@ -19,7 +19,8 @@ token_at line size p = record {
   name_id = if has_name size then Some (nat_of p.name_id) else None;
 }
 
--- What a segment gives: its token, unless it has a fault. The segments before it reach one place, and `here` is its own.
+-- What a segment gives: its token, unless it has a fault. The segments before it reach the place `reached`, and `here` is its
+-- own.
 abbrev pub segment_result : Counts → ℕ → Place → Segment → Place → Result TokenRecord Error
 segment_result counts line reached s here = unless (segment_fault counts reached s here) (Ok (token_at line (length s) here))
 

@@ -10,7 +10,7 @@ ghost use Rattle.oxc_sourcemap_parts.specs.Sound.{IsInRange, IsSound};
 use crate::parts::SourceMapParts;
 use oxc_sourcemap_tokens::{Token, TokenChunk, chunk_fault};
 
-/// Whether a token may stand before another in a sorted list.
+/// Whether a token may come before another in a sorted list.
 fn precedes(first: &Token, second: &Token) -> bool
     ensures { result ≡ may_precede token_line token_column first.now second.now }
 {

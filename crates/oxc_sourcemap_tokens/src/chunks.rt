@@ -70,7 +70,7 @@ fn after_chunks(tokens: &[Token], chunks: &[TokenChunk]) -> Previous
 }
 
 /// The next chunk after chunks that fit the tokens: it starts at the end of the tokens, with the state there as its header,
-/// and ends at `end`. It reads tokens of the last chunk only, back from its end to a mapped one and one with a name.
+/// and ends at `end`. It reads only tokens of the last chunk, back from its end to a mapped one and a mapped one with a name.
 pub fn next_chunk(tokens: &[Token], chunks: &[TokenChunk], end: u32) -> TokenChunk
     requires fits { ChunksFit tokens.now chunks.now }
     requires counted { length tokens.now ≤ 4294967295 }

@@ -1,4 +1,4 @@
--- What an add works out is right.
+-- What is worked out for an add is right.
 use Rattle.std.proofs.Common.{◌≡◌, ℕ, ◌+◌, ◌-◌, ◌≤◌, List, [], ◌∷◌, ◌++◌, map, length, take, drop, refl, sym, ap, ◌∙◌, subst, arith, Option, Some, None, ◌⊎◌, inl, inr}
 use Rattle.oxc_sourcemap_tokens.specs.declared.error.Error.{Error}
 use Rattle.oxc_sourcemap_tokens.specs.declared.error.Error.TheVariants.{OutOfMemory, TooLarge}
@@ -21,14 +21,14 @@ use Rattle.oxc_sourcemap_join.proofs.Joining.{fit-added, added_all-continues, le
 use Rattle.oxc_sourcemap_join.proofs.Moving.{repeat-in-bounds, kept-in-bounds, length-mapped}
 use Rattle.oxc_sourcemap_join.proofs.IgnoreLists.{appended-in-bounds, front-in-bounds}
 
--- tokens, moved, by what the join has and the offset
+-- moved tokens, by the lengths of the join and the offset
 shifted-by : (r : MapRecord) (offset : Position) (s : Shift) → s.names ≡ length r.names → s.sources ≡ length r.sources → s.position ≡ offset → (ts : List TokenRecord)
     → all_shifted s ts ≡ map (shifted (length r.names) (length r.sources) offset) ts
 shifted-by r offset s n o l ts =
     ap (λ k. map (shifted k s.sources s.position) ts) n ∙ ap (λ k. map (shifted (length r.names) k s.position) ts) o
     ∙ ap (λ k. map (shifted (length r.names) (length r.sources) k) ts) l
 
--- where a join is within limits, all tokens of the map, moved, are in bounds
+-- if a join with one more map is within limits, all moved tokens of that map are in bounds
 pub moved-in-bounds : (r m : MapRecord) (offset : Position) (s : Shift) → s.names ≡ length r.names → s.sources ≡ length r.sources → s.position ≡ offset
     → AreInBounds r.tokens → IsWithinLimits (added r m offset) → AreInBounds (all_shifted s m.tokens)
 moved-in-bounds r m offset s n o l h w =
@@ -41,7 +41,7 @@ after-each P (x ∷ xs) ys h = after-each P xs ys h.1
 
 module _ (r m : MapRecord) (offset : Position) (s : Shift) (passed : ℕ) (n : s.names ≡ length r.names) (o : s.sources ≡ length r.sources) (l : s.position ≡ offset)
     (k : all_shifted s (drop passed m.tokens) ≡ without_repeat is_same_token (last r.tokens) (all_shifted s m.tokens)) where
-  -- the tokens of the join, by what is kept
+  -- the tokens of the join, by those that are kept
   pub added-tokens : added_tokens r m offset ≡ r.tokens ++ all_shifted s (drop passed m.tokens)
   added-tokens = ap (λ us. r.tokens ++ without_repeat is_same_token (last r.tokens) us) (sym (shifted-by r offset s n o l m.tokens)) ∙ ap (λ us. r.tokens ++ us) (sym k)
 
@@ -75,7 +75,7 @@ module _ (r m : MapRecord) (offset : Position) (s : Shift) (passed : ℕ) (n : s
 after : {A : Type 0} (P : A → Type 0) (xs ys : List A) → All P (xs ++ ys) → All P ys
 after P xs ys h = All-from_recursion P ys (after-each P xs ys (recursion_from_All P (xs ++ ys) h))
 
--- the tokens that are kept, moved, are in bounds
+-- the tokens that are kept are in bounds once they are moved
 pub kept-are-in-bounds : (r m : MapRecord) (offset : Position) (a : Addition) → IsAddition r m offset a → AreInBounds (all_shifted a.shift (drop a.passed m.tokens))
 kept-are-in-bounds r m offset a h =
     subst AreInBounds (sym h.kept) (after IsInBounds r.tokens (without_repeat is_same_token (last r.tokens) (all_shifted a.shift m.tokens))
@@ -99,11 +99,11 @@ module _ (r m : MapRecord) (offset : Position) (a : Addition) (h : IsAddition r 
   entries-is : is ≡ added_ignore_list r m
   entries-is = ei ∙ ap (λ n. appended_ignore_lists r.ignore_list (raised_ignore_list n m.ignore_list)) h.sources
 
-  -- what the lists of a join become is the join with one map more
+  -- the new lists make the join with one more map
   pub added-is : record { file = None; names = ns; source_root = None; sources = ss; source_contents = cs; tokens = ts; token_chunks = Some ks; ignore_list = is; debug_id = None } ≡ added r m offset
   added-is = rw (en, es, contents-is, tokens-is, chunks-is, entries-is) refl
 
-  -- and they are those of a join in the making
+  -- the new lists are those of a join in the making
   pub join-is : ChunksFit r.tokens chunks → IsJoin ns ss cs ts ks is
   join-is f = rw (en, es, contents-is, tokens-is, chunks-is, entries-is) (record {
     names = h.within.names;
@@ -115,16 +115,16 @@ module _ (r m : MapRecord) (offset : Position) (a : Addition) (h : IsAddition r 
     entries = h.within.ignore_list;
   })
 
--- all items after some
+-- as many items as there are after some are all of them
 pub all-after-some : {A : Type 0} (p : ℕ) (xs : List A) → take (length xs - p) (drop p xs) ≡ drop p xs
 all-after-some p xs = take_all (length xs - p) (drop p xs) (omega (arith, length-drop p xs))
 
--- two lists end to end, each as said
+-- lists that are equal, end to end
 pub glued : {A : Type 0} {xs ys us vs : List A} → xs ≡ ys → us ≡ vs → xs ++ us ≡ ys ++ vs
 glued {xs = xs} {ys = ys} {us = us} {vs = vs} p q = ap (λ zs. zs ++ us) p ∙ ap (λ zs. ys ++ zs) q
 
 -- ---- many maps
--- what is before more adds is within limits where all is
+-- a join is within limits if it is so after further adds
 pub front-within : (r : MapRecord) (ms : List (MapRecord × Position)) → IsWithinLimits (added_all r ms) → IsWithinLimits r
 front-within r ms w =
     let f = added_all-continues r ms in
@@ -139,7 +139,7 @@ front-within r ms w =
 pub nothing-within : IsWithinLimits nothing_joined
 nothing-within = record { names = omega arith; sources = omega arith; tokens = omega arith; in_bounds = All-from_recursion IsInBounds [] tt; ignore_list = tt }
 
--- a refusal of an add, as the refusal of all adds
+-- the error of an add, as the error of all adds
 pub refusal-of-all : (r m : MapRecord) (offset : Position) (ms rest : List (MapRecord × Position)) (all : MapRecord) → added_all r ms ≡ all → ms ≡ (m, offset) ∷ rest → (e : Error)
     → (e ≡ OutOfMemory) ⊎ (e ≡ TooLarge) → (e ≡ TooLarge → ¬ (IsWithinLimits (added r m offset))) → (e ≡ OutOfMemory) ⊎ ((e ≡ TooLarge) × ¬ (IsWithinLimits all))
 refusal-of-all r m offset ms rest all p q e (inl o) h = inl o

@@ -18,6 +18,6 @@ fitted-after (c ∷ cs) ds n =
     let e : length (c ∷ cs) + n ≡ suc (length cs + n) = omega arith in
     ap (λ k. fitted k (c ∷ (cs ++ ds))) e ∙ ap (λ es. c ∷ es) (fitted-after cs ds n)
 
--- after as many contents as there are sources, what is added is fitted by itself
+-- after as many contents as sources, the contents that are added are fitted by themselves
 pub fitted-more : {A : Type 0} (rs ms : List A) (rc mc : List (Option Text)) → length rs ≡ length rc → fitted (length rs + length ms) (rc ++ mc) ≡ rc ++ fitted (length ms) mc
 fitted-more rs ms rc mc e = ap (λ n. fitted (n + length ms) (rc ++ mc)) e ∙ fitted-after rc mc (length ms)

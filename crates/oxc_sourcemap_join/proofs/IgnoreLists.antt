@@ -35,14 +35,14 @@ appended-right (Some xs) (Some ys) h =
     let P : ℕ → Type 0 = λ id. id < 4294967295 in
     All-from_recursion P ys (after-each P xs ys (recursion_from_All P (xs ++ ys) h))
 
--- where a join is within limits, the entries of the map's ignore list, raised, are in bounds
+-- if a join with one more map is within limits, the raised entries of that map's ignore list are in bounds
 pub raised-in-bounds : (r m : MapRecord) (offset : Position) → IsWithinLimits (added r m offset) → AreEntriesInBounds (raised_ignore_list (length r.sources) m.ignore_list)
 raised-in-bounds r m offset w = appended-right r.ignore_list (raised_ignore_list (length r.sources) m.ignore_list) w.ignore_list
 
 pub addition-in-bounds : (r m : MapRecord) (offset : Position) (a : Addition) → IsAddition r m offset a → AreEntriesInBounds (raised_ignore_list a.shift.sources m.ignore_list)
 addition-in-bounds r m offset a h = subst (λ n. AreEntriesInBounds (raised_ignore_list n m.ignore_list)) (sym h.sources) (raised-in-bounds r m offset h.within)
 
--- what is before more adds has its entries in bounds where all has
+-- the entries of a join are in bounds if they are so after further adds
 pub front-in-bounds : (r : MapRecord) (ms : List (MapRecord × Position)) → AreEntriesInBounds (added_all r ms).ignore_list → AreEntriesInBounds r.ignore_list
 front-in-bounds r [] h = h
 front-in-bounds r (m ∷ ms) h =

@@ -1,4 +1,4 @@
--- What a join's tokens consist of, and its chunks fit them.
+-- The chunks of a join fit its tokens, and more maps leave what it has.
 use Rattle.std.proofs.Common.{◌≡◌, ℕ, ◌≤◌, List, [], ◌∷◌, ◌++◌, map, length, reverse, refl, sym, ap, ◌∙◌, subst, append_assoc, ◌+◌, arith, Option, Some}
 use Rattle.std.specs.List.{AllByRecursion}
 use Rattle.std.specs.Option.{IfSome, unwrap_or}
@@ -11,7 +11,7 @@ use Rattle.oxc_sourcemap_parts.specs.Record.{MapRecord}
 use Rattle.oxc_sourcemap_tokens.specs.declared.position.Position.{Position}
 use Rattle.oxc_sourcemap_join.specs.Joined.{shifted, is_same_token, without_repeat, added_chunk, added, nothing_joined, added_all, joined}
 
--- the state at an index does not see what stands from there on
+-- the state at an index does not depend on the tokens from there on
 state-front : (xs zs : List TokenRecord) (i : ℕ) → i ≤ length xs → state_at xs i ≡ state_at (xs ++ zs) i
 state-front xs zs i h = ap (λ ys. state_after initial (reverse ys)) (sym (take-append-le i xs zs h))
 
@@ -26,11 +26,11 @@ fit-more xs zs index (c ∷ cs) h =
     let w = f.within in
     (record { starts = f.starts; ordered = o; within = omega arith; true_header = f.true_header ∙ state-front xs zs c.start (omega arith) }, fit-more xs zs c.end cs h.1)
 
--- where the chunks of a join fit, they do so after one more map
+-- if the chunks of a join fit, they do so after one more map
 pub fit-added : (r m : MapRecord) (offset : Position) → ChunksFit r.tokens (unwrap_or r.token_chunks []) → ChunksFit (added r m offset).tokens (unwrap_or (added r m offset).token_chunks [])
 fit-added r m offset h = fit-more r.tokens (without_repeat is_same_token (last r.tokens) (map (shifted (length r.names) (length r.sources) offset) m.tokens)) 0 (unwrap_or r.token_chunks []) h
 
--- a record with chunks, so many, which fit
+-- a map with so many chunks, which fit
 pub record HasFitting (r : MapRecord) (number : ℕ) : Type 0 where
   pub chunks : List TokenChunk
   pub has : r.token_chunks ≡ Some chunks
@@ -53,7 +53,7 @@ fitting-added_all r (m ∷ ms) number f =
     let e : number + 1 + length ms ≡ number + length (m ∷ ms) = omega arith in
     subst (HasFitting (added_all (added r m.0 m.1) ms)) e (fitting-added_all (added r m.0 m.1) ms (number + 1) (fitting-added r m.0 m.1 number f))
 
--- after any adds there is a chunk for each, and the chunks fit
+-- a join has a chunk for each map, and its chunks fit
 pub fitting_chunks : (ms : List (MapRecord × Position)) → HasFitting (joined ms) (length ms)
 fitting_chunks ms =
     let e : 0 + length ms ≡ length ms = omega arith in
@@ -66,7 +66,7 @@ pub chunks_joined : (ms : List (MapRecord × Position)) → IfSome (joined ms).t
 chunks_joined ms = let f = fitting_chunks ms in if-some (joined ms).tokens (joined ms).token_chunks f.chunks f.has f.fit
 
 -- ---- fronts
--- a list stands before another
+-- a list is the front of another
 abbrev pub IsFront : {A : Type 0} → List A → List A → Type 0
 IsFront {A = A} xs ys = (zs : List A) × (ys ≡ xs ++ zs)
 
@@ -86,7 +86,7 @@ all-left P (x ∷ xs) ys h = (h.0, all-left P xs ys h.1)
 pub all-front : {A : Type 0} (P : A → Type 0) (xs ys : List A) → IsFront xs ys → AllByRecursion P ys → AllByRecursion P xs
 all-front P xs ys f h = all-left P xs f.0 (subst (AllByRecursion P) f.1 h)
 
--- what a join has, it still has before after further adds
+-- all lists of a join are fronts of those after further adds
 pub record Continues (r s : MapRecord) : Type 0 where
   pub names : IsFront r.names s.names
   pub sources : IsFront r.sources s.sources

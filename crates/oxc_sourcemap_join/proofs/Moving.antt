@@ -1,4 +1,4 @@
--- Tokens moved to their place in a join, and contents fitted to sources.
+-- Tokens moved to their positions in a join, and contents fitted to sources.
 use Rattle.std.proofs.Common.{◌≡◌, ℕ, zero, suc, ◌+◌, ◌-◌, ◌<◌, List, [], ◌∷◌, ◌++◌, map, length, take, drop, replicate, get_or, refl, sym, ap, ◌∙◌, subst, arith, Option, Some, None, slice_get, true, false, cond}
 use Rattle.std.specs.List.{All, AllByRecursion}
 use Rattle.std.specs.Option.{IfSome, option_map, unwrap_or}
@@ -17,11 +17,11 @@ pub length-mapped : {A B : Type 0} (f : A → B) (xs : List A) → length (map f
 length-mapped f [] = refl
 length-mapped f (x ∷ xs) = ap suc (length-mapped f xs)
 
--- an item of a mapped list
+-- what holds of all items of a mapped list holds of each
 pub all-mapped-at : {A B : Type 0} (P : B → Type 0) (f : A → B) (xs : List A) (i : ℕ) (d : A) → i < length xs → All P (map f xs) → P (f (get_or xs i d))
 all-mapped-at P f xs i d h a = subst P (get_or-map f xs i d (f d) h) (All-get_or P (map f xs) i (f d) (omega (arith, length-mapped f xs)) a)
 
--- ---- tokens moved where they stand
+-- ---- tokens moved in place
 module _ {A : Type 0} (f : A → A) (xs ys : List A) (i : ℕ) (d : A) (h : i < length xs) (l : length ys ≡ length xs) (rest : drop i ys ≡ drop i xs) where
   -- what is not yet moved is as it was
   pub not-yet-moved : get_or ys i d ≡ get_or xs i d
@@ -87,7 +87,7 @@ both-parts : {A : Type 0} (P : A → Type 0) (xs ys : List A) → AllByRecursion
 both-parts P [] ys h = (tt, h)
 both-parts P (x ∷ xs) ys h = let rest = both-parts P xs ys h.1 in ((h.0, rest.0), rest.1)
 
--- each of two parts is in bounds where the whole is
+-- two parts of a list are in bounds if the whole is
 pub parts-in-bounds : (us vs ws : List TokenRecord) → us ++ vs ≡ ws → AreInBounds ws → AreInBounds us × AreInBounds vs
 parts-in-bounds us vs ws e h =
     let both = both-parts IsInBounds us vs (recursion_from_All IsInBounds (us ++ vs) (subst AreInBounds (sym e) h)) in
@@ -107,7 +107,7 @@ with-repeat (Some x) (u ∷ us) h g =
       | false ↦ (λ e k. k)
     ] refl g
 
--- where what is kept after some tokens is in bounds, so is what was left out
+-- if tokens without a repeat are in bounds, so are they with it
 pub repeat-in-bounds : (ts us : List TokenRecord) → AreInBounds (ts ++ without_repeat is_same_token (last ts) us) → AreInBounds ts → AreInBounds us
 repeat-in-bounds ts us g h =
     All-from_recursion IsInBounds us (with-repeat (last ts) us (last-holds IsInBounds ts (recursion_from_All IsInBounds ts h))
@@ -119,11 +119,11 @@ without-in-bounds (Some x) [] h = h
 without-in-bounds (Some x) (u ∷ us) h =
     elim (is_same_token x u) as (λ b. AllByRecursion IsInBounds (cond b us (u ∷ us))) [ true ↦ h.1 | false ↦ h ]
 
--- what is kept is in bounds where all is
+-- tokens in bounds are so without a repeat
 pub kept-in-bounds : (o : Option TokenRecord) (us : List TokenRecord) → AreInBounds us → AreInBounds (without_repeat is_same_token o us)
 kept-in-bounds o us h = All-from_recursion IsInBounds _ (without-in-bounds o us (recursion_from_All IsInBounds us h))
 
--- a first token that is not the one before is kept
+-- a first token that does not equal the one before is kept
 pub first-kept : (f : TokenRecord → TokenRecord) (x : TokenRecord) (ts : List TokenRecord) (t : TokenRecord) → slice_get ts 0 ≡ Some t → is_same_token x (f t) ≡ false
     → map f ts ≡ without_repeat is_same_token (Some x) (map f ts)
 first-kept f x [] t e h = refl

@@ -1,4 +1,4 @@
--- What holds of the greatest numbers of tokens holds of all their numbers.
+-- Tokens are in bounds once they are moved exactly if their greatest numbers are.
 use Rattle.std.proofs.Common.{◌≡◌, ℕ, ◌+◌, ◌<◌, ◌==◌, Bool, true, false, cond, max, List, [], ◌∷◌, map, length, drop, get_or, arith, sym, ap, ◌∙◌, Option, Some, None, ◌↔◌}
 use Rattle.std.specs.List.{All, AllByRecursion}
 use Rattle.std.specs.Option.{IfSome}
@@ -17,7 +17,7 @@ greatest-below given most n m (t ∷ ts) =
       λ h. (let p = h.0 in let q = h.1.0 in rest.1 (omega (arith, p, q), h.1.1)),
     )
 
--- the greatest number so far, with one token more
+-- the greatest number so far, with one more token
 pub greatest-next : (given : TokenRecord → ℕ) (most m : ℕ) (ts : List TokenRecord) (i : ℕ) (t : TokenRecord) → i < length ts → t ≡ get_or ts i t → m ≡ max most (given t)
     → greatest given m (drop (i + 1) ts) ≡ greatest given most (drop i ts)
 greatest-next given most m ts i t h is e =
@@ -66,13 +66,13 @@ module _ (s : Shift) where
   all-out P f [] h = tt
   all-out P f (t ∷ ts) h = (f t h.0, all-out P f ts h.1)
 
-  -- the greatest column is in bounds where nothing is added to it
+  -- the greatest column is in bounds if nothing is added to it
   pub level-columns : (ts : List TokenRecord) → AreInBounds ts → s.position.column ≡ 0 → greatest moving_column 0 ts + s.position.column < 4294967296
   level-columns ts b e =
       let each : AllByRecursion (λ t. moving_column t + s.position.column < 4294967296) ts = column-level e ts (recursion_from_All IsInBounds ts b) in
       (greatest-below moving_column 0 s.position.column 4294967296 ts).1 (omega (arith, e), each)
 
-  -- all tokens are in bounds, moved, where the greatest numbers are
+  -- moved tokens are in bounds if the greatest numbers are
   pub in-reach : (ts : List TokenRecord) → AreInBounds ts → greatest (λ t. t.dst_line) 0 ts + s.position.line < 4294967296 → greatest (λ t. above t.source_id) 0 ts + s.sources < 4294967296
       → greatest (λ t. above t.name_id) 0 ts + s.names < 4294967296 → greatest moving_column 0 ts + s.position.column < 4294967296 → AreInBounds (all_shifted s ts)
   in-reach ts b l o n c =
@@ -82,7 +82,7 @@ module _ (s : Shift) where
       ((greatest-below (λ t. above t.name_id) 0 s.names 4294967296 ts).0 n).1
       ((greatest-below moving_column 0 s.position.column 4294967296 ts).0 c).1)
 
-  -- and the greatest numbers are where all tokens are
+  -- the greatest numbers are in bounds if the moved tokens are
   module _ (ts : List TokenRecord) (h : AreInBounds (all_shifted s ts)) where
     all-moved : AllByRecursion IsInBounds (all_shifted s ts)
     all-moved = recursion_from_All IsInBounds (all_shifted s ts) h

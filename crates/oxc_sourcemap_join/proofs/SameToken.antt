@@ -34,7 +34,7 @@ decides_token a b =
     (decides_and _ _ _ _ (Decides-eqb a.dst_line b.dst_line) (decides_and _ _ _ _ (Decides-eqb a.dst_col b.dst_col) (decides_and _ _ _ _ (Decides-eqb a.src_line b.src_line) (decides_and _ _ _ _ (Decides-eqb a.src_col b.src_col) (decides_and _ _ _ _ (decides_id a.source_id b.source_id) (decides_id a.name_id b.name_id))))))
 
 -- ---- stored tokens
--- ids are the same where their numbers are
+-- ids are the same exactly if their numbers are
 number_of-same : (a b : Option ℕ) → (number_of a == number_of b) ≡ is_same_id a b
 number_of-same None None = refl
 number_of-same None (Some y) = elim (nat_lt y 4294967295) as (λ b. nat_lt y 4294967295 ≡ b → (4294967295 == cond b y (y + 1)) ≡ false) [ true ↦ (λ e. grind (arith, nat_tests)) | false ↦ (λ e. grind (arith, nat_tests)) ] refl
@@ -45,7 +45,7 @@ number_of-same (Some x) (Some y) =
       | false ↦ (λ e. elim (nat_lt y 4294967295) as (λ b. nat_lt y 4294967295 ≡ b → (x + 1 == cond b y (y + 1)) ≡ (x == y)) [ true ↦ (λ f. grind (arith, nat_tests)) | false ↦ (λ f. grind (arith, nat_tests)) ] refl)
     ] refl
 
--- tokens are the same where their stored fields are
+-- tokens are the same exactly if their stored fields are
 pub stored-same : (a b : TokenRecord) →
     (a.dst_line == b.dst_line && (a.dst_col == b.dst_col && (a.src_line == b.src_line && (a.src_col == b.src_col && (number_of a.source_id == number_of b.source_id && number_of a.name_id == number_of b.name_id))))) ≡ is_same_token a b
 stored-same a b = rw (number_of-same a.source_id b.source_id, number_of-same a.name_id b.name_id)

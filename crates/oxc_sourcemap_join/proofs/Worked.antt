@@ -8,12 +8,12 @@ use Rattle.oxc_sourcemap_parts.specs.Views.{empty_record}
 use Rattle.oxc_sourcemap_tokens.specs.declared.position.Position.{Position}
 use Rattle.oxc_sourcemap_join.specs.Joined.{at_lines, shifted, joined}
 
--- generated line and column, source line and column, source id, name id
+-- a token from its generated line and column, source line and column, source id, name id
 abbrev token : ℕ → ℕ → ℕ → ℕ → Option ℕ → Option ℕ → TokenRecord
 token dst_line dst_col src_line src_col source_id name_id =
     record { dst_line = dst_line; dst_col = dst_col; src_line = src_line; src_col = src_col; source_id = source_id; name_id = name_id }
 
--- start and end, then what the header says: generated line and column, source line and column, name id, source id
+-- a chunk from its start, its end, and its header: generated line and column, source line and column, name id, source id
 abbrev chunk : ℕ → ℕ → ℕ → ℕ → ℕ → ℕ → ℕ → ℕ → TokenChunk
 chunk start end dst_line dst_col src_line src_col name_id source_id =
     record { start = start; end = end; prev_dst_line = dst_line; prev_dst_col = dst_col; prev_src_line = src_line; prev_src_col = src_col; prev_name_id = name_id; prev_source_id = source_id }
@@ -26,7 +26,7 @@ plain names sources tokens = record empty_record { names = names; sources = sour
 abbrev joined_at_lines : List (MapRecord × ℕ) → MapRecord
 joined_at_lines maps = joined (at_lines maps)
 
--- the second map has no tokens
+-- a join of two maps, the second without tokens
 abbrev pub one_source_each : MapRecord
 one_source_each = joined_at_lines (
     (plain [] (codes "a.js" ∷ []) (token 0 0 5 3 (Some 0) None ∷ []), 0)
@@ -41,7 +41,7 @@ joins-after_a_map_without_tokens = refl
 joins-with_an_empty_chunk : one_source_each.token_chunks ≡ Some (chunk 0 1 0 0 0 0 0 0 ∷ chunk 1 1 0 0 5 3 0 0 ∷ chunk 1 2 0 0 5 3 0 0 ∷ [])
 joins-with_an_empty_chunk = refl
 
--- an unmapped token with a name, which the header does not count
+-- a join with an unmapped token that has a name, which does not count for the header
 abbrev pub three_names : MapRecord
 three_names = joined_at_lines (
     (plain (codes "x" ∷ codes "y" ∷ codes "z" ∷ []) (codes "a.js" ∷ []) (token 0 0 0 0 (Some 0) (Some 0) ∷ token 0 1 0 0 None (Some 2) ∷ []), 0)
@@ -55,7 +55,7 @@ joins-after_an_unmapped_token_with_a_name = refl
 joins-without_the_name_of_an_unmapped_token : three_names.token_chunks ≡ Some (chunk 0 2 0 0 0 0 0 0 ∷ chunk 2 3 0 1 0 0 0 0 ∷ [])
 joins-without_the_name_of_an_unmapped_token = refl
 
--- the second map's only token repeats the first map's
+-- a join of two maps, where the only token of the second repeats that of the first
 abbrev pub unmapped_twice : MapRecord
 unmapped_twice = joined_at_lines ((plain [] [] (token 0 0 0 0 None None ∷ []), 0) ∷ (plain [] [] (token 0 0 0 0 None None ∷ []), 0) ∷ [])
 
@@ -87,7 +87,7 @@ joins-an_empty_ignore_list = refl
 joins-entries_that_repeat : (joined_at_lines ((ignoring (codes "a.js" ∷ []) None, 0) ∷ (ignoring (codes "b.js" ∷ []) (Some (0 ∷ 0 ∷ [])), 1) ∷ [])).ignore_list ≡ Some (1 ∷ 1 ∷ [])
 joins-entries_that_repeat = refl
 
--- an entry past the last id; such a join is not within limits
+-- an entry of an ignore list past the last id; such a join is not within limits
 joins-an_entry_past_the_limit : (joined_at_lines ((ignoring (codes "a.js" ∷ []) None, 0) ∷ (ignoring [] (Some (4294967294 ∷ [])), 1) ∷ [])).ignore_list ≡ Some (4294967295 ∷ [])
 joins-an_entry_past_the_limit = refl
 
@@ -95,14 +95,14 @@ joins-an_entry_past_the_limit = refl
 abbrev at : ℕ → ℕ → Position
 at line column = record { line = line; column = column }
 
--- AAAA,IAAI with a.js, and AAAA;AACA with b.js
+-- the maps of AAAA,IAAI with a.js (`left`), and of AAAA;AACA with b.js (`right`)
 abbrev left : MapRecord
 left = plain [] (codes "a.js" ∷ []) (token 0 0 0 0 (Some 0) None ∷ token 0 4 0 4 (Some 0) None ∷ [])
 
 abbrev right : MapRecord
 right = plain [] (codes "b.js" ∷ []) (token 0 0 0 0 (Some 0) None ∷ token 1 0 1 0 (Some 0) None ∷ [])
 
--- the second map begins on line 0 of the join, at this column
+-- a join of two maps, where the second begins on line 0, at this column
 abbrev pub side_by_side : ℕ → MapRecord
 side_by_side column = joined ((left, at 0 0) ∷ (right, at 0 column) ∷ [])
 
@@ -114,7 +114,7 @@ joins-at_column_10 = refl
 sorts-at_column_10 : are_tokens_sorted (side_by_side 10).tokens ≡ true
 sorts-at_column_10 = refl
 
--- two maps may meet at one position
+-- a join is sorted, too, if two maps meet at one position
 sorts-at_column_4 : are_tokens_sorted (side_by_side 4).tokens ≡ true
 sorts-at_column_4 = refl
 
@@ -125,6 +125,6 @@ sorts-not_at_column_3 = refl
 shifts-a_column_past_the_limit : shifted 0 0 (at 0 4294967295) (token 0 1 0 0 None None) ≡ token 0 4294967296 0 0 None None
 shifts-a_column_past_the_limit = refl
 
--- below a line, the column of the offset counts for the first line of the map alone
+-- at a lower line, too, the column of the offset counts only for the first line of the map
 shifts-line_0_alone : map (shifted 0 0 (at 7 5)) (token 0 2 0 0 None None ∷ token 1 2 0 0 None None ∷ []) ≡ token 7 7 0 0 None None ∷ token 8 2 0 0 None None ∷ []
 shifts-line_0_alone = refl

@@ -1,4 +1,5 @@
--- Joins: several maps as one, each at the position where its code begins, its ids raised to where its names and sources are listed.
+-- Joins: several maps as one, each at the position where its code begins, its ids raised by the numbers of names and sources
+-- before it.
 use Rattle.std.specs.Prelude.{ℕ, zero, suc, ◌+◌, Bool, true, false, ◌&&◌, ◌≤◌, ◌<◌, List, [], ◌∷◌, ◌++◌, map, length, Option, Some, None, if◌then◌else◌, ◌==◌}
 use Rattle.std.specs.Borrow.{Bor}
 use Rattle.std.specs.List.{All}
@@ -20,11 +21,11 @@ fitted (suc n) (content ∷ contents) = content ∷ fitted n contents
 abbrev pub raised_id : ℕ → Option ℕ → Option ℕ
 raised_id number id = option_map (λ i. i + number) id
 
--- this line and column
+-- the position of this line and column
 abbrev pub position : ℕ → ℕ → Position
 position line column = record { line = line; column = column }
 
--- At the beginning of a line: joins at lines alone are joins at these offsets.
+-- the beginning of a line; joins at lines are joins at these positions
 abbrev pub at_line : ℕ → Position
 at_line line = record { line = line; column = 0 }
 
@@ -36,11 +37,12 @@ at_lines items = map (λ i. (i.0, at_line i.1)) items
 abbrev pub at_positions : {A : Type 0} → List (A × ℕ × ℕ) → List (A × Position)
 at_positions items = map (λ i. (i.0, record { line = i.1; column = i.2 })) items
 
--- The generated column of a place on this line, at an offset: line 0 begins at the offset's column, all others at column 0.
+-- The column in a join of a token on this line of a map: line 0 of the map begins at the column of its offset, all other
+-- lines at column 0. (An offset is the position where the code of a map begins.)
 abbrev pub shifted_column : Position → ℕ → ℕ → ℕ
 shifted_column offset line column = if line == 0 then column + offset.column else column
 
--- a token of a map whose names and sources stand after so many others, at its offset
+-- a token of a map in a join, by the numbers of names and sources before the map, and its offset
 abbrev pub shifted : ℕ → ℕ → Position → TokenRecord → TokenRecord
 shifted names sources offset t = record t {
   dst_line = t.dst_line + offset.line;
@@ -56,7 +58,7 @@ is_same_option same None (Some y) = false
 is_same_option same (Some x) None = false
 is_same_option same (Some x) (Some y) = same x y
 
--- equality of ids, where they are there
+-- equality of ids, or of none, as a test
 abbrev pub is_same_id : Option ℕ → Option ℕ → Bool
 is_same_id a b = is_same_option (λ i j. i == j) a b
 
@@ -66,14 +68,13 @@ is_same_token a b =
     a.dst_line == b.dst_line && (a.dst_col == b.dst_col && (a.src_line == b.src_line
     && (a.src_col == b.src_col && (is_same_id a.source_id b.source_id && is_same_id a.name_id b.name_id))))
 
--- A list after this item, where there is one: without its own first item where the two are the same. No other item is
--- left out.
+-- A list after this item, if there is one: without its own first item if the two are the same. No other item is left out.
 abbrev pub without_repeat : {A : Type 0} → (A → A → Bool) → Option A → List A → List A
 without_repeat same None items = items
 without_repeat same (Some x) [] = []
 without_repeat same (Some x) (item ∷ items) = if same x item then items else item ∷ items
 
--- two lists end to end; where the second begins with the last item of the first, that stands once
+-- two lists end to end; if the second begins with the last item of the first, that is kept only once
 abbrev pub seamed : {A : Type 0} → (A → A → Bool) → List A → List A → List A
 seamed same xs ys = xs ++ without_repeat same (last xs) ys
 
@@ -81,7 +82,7 @@ seamed same xs ys = xs ++ without_repeat same (last xs) ys
 abbrev pub added_tokens : MapRecord → MapRecord → Position → List TokenRecord
 added_tokens r m offset = seamed is_same_token r.tokens (map (shifted (length r.names) (length r.sources) offset) m.tokens)
 
--- the chunk of what is added: its header is the state after all tokens so far
+-- the chunk of the tokens of a map after a join: its header is the state after all tokens so far
 abbrev pub added_chunk : MapRecord → MapRecord → Position → TokenChunk
 added_chunk r m offset = chunk_from (state_at r.tokens (length r.tokens)) (length r.tokens) (length (added_tokens r m offset))
 
@@ -95,7 +96,7 @@ appended_ignore_lists list None = list
 appended_ignore_lists None (Some ids) = Some ids
 appended_ignore_lists (Some front) (Some ids) = Some (front ++ ids)
 
--- the ignore list of a join, and after it that of a map, whose entries name the same sources as before
+-- the ignore list of a join, and after it that of a map, whose entries refer to the same sources as before
 abbrev pub added_ignore_list : MapRecord → MapRecord → Option (List ℕ)
 added_ignore_list r m = appended_ignore_lists r.ignore_list (raised_ignore_list (length r.sources) m.ignore_list)
 
@@ -141,7 +142,7 @@ joined maps = added_all nothing_joined maps
 abbrev pub lent_maps : List (Bor MapRecord × ℕ) → List (MapRecord × Position)
 lent_maps maps = map (λ m. (m.0.now, at_line m.1)) maps
 
--- each entry of an ignore list that may be there is 0 to 4294967294
+-- an ignore list is none, or all its entries are 0 to 4294967294
 abbrev pub AreEntriesInBounds : Option (List ℕ) → Type 0
 AreEntriesInBounds list = IfSome list (All (λ id. id < 4294967295))
 

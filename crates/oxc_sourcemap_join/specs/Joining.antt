@@ -1,4 +1,4 @@
--- How the private steps of a join are seen. No public contract speaks of these.
+-- The private steps of a join. No public contract cites this module.
 use Rattle.std.specs.Prelude.{◌≡◌, ℕ, ◌+◌, ◌≤◌, List, [], ◌∷◌, map, length, drop, max, Option, Some, None, if◌then◌else◌, ◌==◌}
 use Rattle.oxc_sourcemap_tokens.specs.Token.{TokenRecord, AreInBounds, last}
 use Rattle.oxc_sourcemap_tokens.specs.declared.token.TokenChunk.{TokenChunk}
@@ -38,8 +38,8 @@ abbrev pub greatest : (TokenRecord → ℕ) → ℕ → List TokenRecord → ℕ
 greatest given most [] = most
 greatest given most (t ∷ ts) = greatest given (max most (given t)) ts
 
--- What is worked out for a map after a join: how its tokens are moved, how many of them are passed over before, and the
--- chunk of the others.
+-- What is worked out for a map after a join: how its tokens are moved, how many at the front are left out, and the chunk of
+-- the others.
 pub record IsAddition (r m : MapRecord) (place : Position) (a : Addition) : Type 0 where
   pub names : a.shift.names ≡ length r.names
   pub sources : a.shift.sources ≡ length r.sources

@@ -82,7 +82,7 @@ fn above(id: Option<u32>) -> u32
     }
 }
 
-/// The greatest numbers of these tokens.
+/// The greatest line and the greatest ids of tokens.
 fn reach_of(tokens: &[Token]) -> Reach
     ensures line { result.line ≡ greatest (λ t. t.dst_line) 0 tokens.now }
     ensures source { result.source ≡ greatest (λ t. above t.source_id) 0 tokens.now }
@@ -102,7 +102,7 @@ fn reach_of(tokens: &[Token]) -> Reach
     Reach { line, source, name }
 }
 
-/// The column of a token, if it lies on line 0.
+/// The column of a token on line 0, which a join may move; 0 for a token on another line.
 fn moving_column(token: &Token) -> u32
     ensures { result ≡ moving_column token.now }
 {
@@ -113,7 +113,7 @@ fn moving_column(token: &Token) -> u32
     }
 }
 
-/// The greatest column on line 0 of these tokens.
+/// The greatest column of tokens on line 0; 0 if there are none.
 fn column_reach(tokens: &[Token]) -> u32
     ensures { result ≡ greatest moving_column 0 tokens.now }
 {
@@ -124,7 +124,7 @@ fn column_reach(tokens: &[Token]) -> u32
     column
 }
 
-/// Whether the greatest of some numbers, raised by a number, is at most 4294967295.
+/// Whether a number, raised by another, is at most 4294967295.
 fn is_in_reach(greatest: u32, number: u32) -> bool
     ensures { IsTrue result ↔ (greatest + number < 4294967296) }
 {
@@ -132,7 +132,7 @@ fn is_in_reach(greatest: u32, number: u32) -> bool
 }
 
 impl Shift {
-    /// The generated column of the moved token.
+    /// The generated column of a token once it is moved.
     fn column(&self, token: &Token) -> u64
         ensures { result ≡ shifted_column self.now.position token.now.dst_line token.now.dst_col }
     {
@@ -144,7 +144,7 @@ impl Shift {
         }
     }
 
-    /// Whether tokens of these greatest numbers are in bounds, moved, but for their columns.
+    /// Whether tokens with these greatest numbers are in bounds once they are moved, their columns left aside.
     fn fits_reach(self, reach: Reach) -> bool
         ensures { IsTrue result ↔ ((reach.line + self.position.line < 4294967296) × (reach.source + self.sources < 4294967296) × (reach.name + self.names < 4294967296)) }
     {
@@ -153,7 +153,7 @@ impl Shift {
             && is_in_reach(reach.name, self.names)
     }
 
-    /// Whether the columns of these tokens are in bounds, moved.
+    /// Whether the columns of tokens are in bounds once they are moved.
     fn fits_columns(self, tokens: &[Token]) -> bool
         requires { AreInBounds tokens.now }
         ensures { IsTrue result ↔ (greatest moving_column 0 tokens.now + self.position.column < 4294967296) }
@@ -161,8 +161,8 @@ impl Shift {
         self.position.column == 0 || is_in_reach(column_reach(tokens), self.position.column)
     }
 
-    /// Whether all of the moved tokens are in bounds. It compares the greatest numbers alone, so that the loops over the
-    /// tokens have no branch.
+    /// Whether tokens are in bounds once they are moved. It compares only their greatest numbers, so that the loops over them
+    /// have no branch.
     fn fits_all(self, tokens: &[Token]) -> bool
         ensures { IsTrue result ↔ AreInBounds (all_shifted self tokens.now) }
     {
@@ -179,7 +179,7 @@ impl Shift {
         }
     }
 
-    /// The moved token.
+    /// A token with the line, column and ids that it has in the join.
     fn moved(&self, token: &Token) -> Token
         requires { IsInBounds (shifted self.now.names self.now.sources self.now.position token.now) }
         ensures { result ≡ shifted self.now.names self.now.sources self.now.position token.now }
@@ -194,7 +194,7 @@ impl Shift {
         )
     }
 
-    /// Moves tokens where they stand.
+    /// Moves tokens in place.
     fn move_all(self, tokens: &mut [Token])
         requires { AreInBounds (all_shifted self tokens.old) }
         ensures { tokens.new ≡ all_shifted self tokens.old }
@@ -204,7 +204,7 @@ impl Shift {
         }
     }
 
-    /// How many of the first tokens of a map are left out: one if the first, moved, is the same as the last token so far.
+    /// How many tokens of a map are left out: one, the first, if that equals the last token so far once it is moved.
     fn passed_over(&self, last_token: Option<Token>, tokens: &[Token]) -> usize
         requires { AreInBounds (all_shifted self.now tokens.now) }
         ensures kept { all_shifted self.now (drop result tokens.now) ≡ without_repeat is_same_token last_token (all_shifted self.now tokens.now) }
@@ -219,7 +219,7 @@ impl Shift {
     }
 
     /// Adds the ignore list of a map, if it has one, with its entries raised by the number of sources before. Fails only for
-    /// memory; the list is then as it was.
+    /// want of memory; the list is then as it was.
     fn add_ignore_list(
         &self,
         alloc: Global,
@@ -248,8 +248,8 @@ impl Shift {
     }
 }
 
-/// What is worked out before a map is added: how its tokens are moved, how many of them are passed over before, and the
-/// chunk of the others.
+/// What is worked out before a map is added: how its tokens are moved, how many at the front are left out, and the chunk of
+/// the others.
 #[derive(Drop)]
 struct Addition {
     shift: Shift,
@@ -292,7 +292,7 @@ fn make_room<'a>(
     chunks.reserve(1)
 }
 
-// Each of these calls `push_` is made where there is room for what it adds.
+// Functions `push_` need room for what they add: they take no memory.
 
 /// Adds texts, borrowed.
 fn push_texts<'a>(texts: &mut Vec<CowStr<'a>>, lent: Texts<'a, '_>)
@@ -325,7 +325,7 @@ fn lent_content<'a>(content: Option<Option<&'a str>>) -> Option<CowStr<'a>>
 }
 
 /// Keeps borrowed contents at the index of their source: a map may list fewer or more contents than sources, and the next map's
-/// would else follow at the wrong index. So many are added, padded with unknown ones or cut.
+/// would else follow at the wrong index. Adds `count` contents, padded with unknown ones or cut.
 fn push_lent_fitted<'a>(
     contents: &mut Vec<Option<CowStr<'a>>>,
     mut lent: Contents<'a, '_>,
@@ -358,7 +358,7 @@ fn push_fitted<'a>(
 /// How many tokens are copied at once before they are moved: so few that they stay in the cache.
 const BLOCK: usize = 64;
 
-/// Adds tokens, moved: they are copied, and then moved where they stand.
+/// Adds moved tokens: copies them, then moves the copies in place.
 fn push_block(tokens: &mut Vec<Token>, shift: Shift, added: &[Token])
     requires room { vec_len tokens.old + length added.now ≤ vec_capacity tokens.old }
     requires in_bounds { AreInBounds (all_shifted shift added.now) }
@@ -371,7 +371,7 @@ fn push_block(tokens: &mut Vec<Token>, shift: Shift, added: &[Token])
     shift.move_all(&mut tokens.as_mut_slice()[start..]);
 }
 
-/// Adds tokens, moved, in blocks.
+/// Adds moved tokens, in blocks.
 fn push_moved(tokens: &mut Vec<Token>, shift: Shift, added: &[Token])
     requires room { vec_len tokens.old + length added.now ≤ vec_capacity tokens.old }
     requires in_bounds { AreInBounds (all_shifted shift added.now) }
@@ -396,10 +396,10 @@ fn push_raised(list: &mut Vec<u32>, added: &[u32], number: u32)
     }
 }
 
-/// The parts of the join of some maps, each at a position of the joined code. The strings of maps that are lent are
-/// borrowed for `'a`, those of maps that are moved are moved: an add copies no string.
+/// The parts of the join of some maps, each at a position of the joined code. `add_lent` borrows the strings of a map for
+/// `'a`, `add_moved` moves them: neither copies a string.
 ///
-/// An add that fails leaves the join as it was. Whether the result is sorted is not checked here.
+/// An add that fails leaves the join as it was. Whether the result is sorted is not checked.
 #[derive(Drop)]
 pub struct JoinedParts<'a> {
     alloc: Global,
@@ -486,7 +486,7 @@ impl<'a> JoinedParts<'a> {
         self.tokens.as_slice().last().copied()
     }
 
-    /// What an add of this map takes, None where it would pass a limit.
+    /// What is worked out before this map is added; None if the join would pass a limit.
     fn addition(&self, parts: &SourceMapParts<'_>, position: Position) -> Option<Addition>
         ensures fits { IfSome result (λ a. IsAddition self.now (record_of_parts parts.now) position a) }
         ensures too_large { result ≡ None → ¬ (IsWithinLimits (added self.now (record_of_parts parts.now) position)) }
@@ -528,7 +528,7 @@ impl<'a> JoinedParts<'a> {
     /// borrowed.
     ///
     /// Fails with `TooLarge` if there would be more than 4294967295 names, sources or tokens, a line or a column above
-    /// 4294967295, or an id or an entry of the ignore list above 4294967294, then with `OutOfMemory` if memory is refused;
+    /// 4294967295, or an id or an entry of the ignore list above 4294967294, then with `OutOfMemory` for want of memory;
     /// the join is then as it was.
     pub fn add_lent(&mut self, parts: &'a SourceMapParts<'_>, position: Position) -> Result<()>
         ensures joined { OnOk result (self.new ≡ added self.old (record_of_parts parts.now) position) }
@@ -569,8 +569,8 @@ impl<'a> JoinedParts<'a> {
         Ok(())
     }
 
-    /// Appends a map as `add_lent` does, with the same result, but moves its strings and drops the rest of it. Fails as that
-    /// does; the join is then as it was, and the map is dropped.
+    /// Appends a map as `add_lent` does, with the same result, but moves its strings and drops the rest of it. Fails as
+    /// `add_lent` does; the join is then as it was, and the map is dropped.
     pub fn add_moved(&mut self, parts: SourceMapParts<'a>, position: Position) -> Result<()>
         ensures joined { OnOk result (self.new ≡ added self.old (record_of_parts parts.entry) position) }
         ensures limits { OnOk result (IsWithinLimits (added self.old (record_of_parts parts.entry) position)) }

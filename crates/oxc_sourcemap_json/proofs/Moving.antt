@@ -24,13 +24,13 @@ removed_at : (b : Bool) (other name : List ℕ) (e : Entry) (es rest : List Entr
 removed_at true other name e es rest apart here later = sym (member_later other e es (unlike other name (string_bytes e.0) apart here))
 removed_at false other name e es rest apart here later = ap (λ r. match_ordering (slice_cmp nat_cmp other (string_bytes e.0)) r (Some (view e.1)) r) later
 
--- without the entry of one name, an object has the same members at the others
+-- an object without the entry of one name has the same members of other names
 pub others_stay : (other name : List ℕ) (es : List Entry) → bytes_eq other name ≡ false
     → get_member other (members_view (remove_entry (is_at (λ k. slice_cmp nat_cmp name (string_bytes k))) es)) ≡ get_member other (members_view es)
 others_stay other name [] apart = refl
 others_stay other name (e ∷ es) apart = removed_at _ other name e es _ apart refl (others_stay other name es apart)
 
--- the items that were read, before those that are left, are all
+-- the items read so far, and then what is read of those that are left, are all items
 abbrev pub AreAll : {A : Type 0} → (Data → Option A) → List Value → List A → List Value → Type 0
 AreAll read all done left = all_items read (items_view all) ≡ option_map (λ rest. done ++ rest) (all_items read (items_view left))
 
@@ -38,11 +38,11 @@ before_all : {A : Type 0} (o : Option (List A)) → o ≡ option_map (λ rest. [
 before_all None = refl
 before_all (Some xs) = refl
 
--- none were read so far
+-- at first all items are left
 pub all_left : {A : Type 0} (read : Data → Option A) (all : List Value) → AreAll read all [] all
 all_left read all = before_all (all_items read (items_view all))
 
--- none are left
+-- once none are left, all items were read
 pub none_left : {A : Type 0} (read : Data → Option A) (all : List Value) (done : List A) (left : List Value) → length left ≡ 0
     → AreAll read all done left → all_items read (items_view all) ≡ Some done
 none_left read all done [] empty h = h ∙ ap Some (append-nil done)
@@ -53,7 +53,7 @@ moved_on : {A : Type 0} (done : List A) (x : A) (o : Option (List A))
 moved_on done x None = refl
 moved_on done x (Some rest) = ap Some (sym (append_assoc done (x ∷ []) rest))
 
--- the next item was read
+-- one step, if the next item can be read
 pub next_read : {A : Type 0} (read : Data → Option A) (all : List Value) (done : List A) (left : List Value) (v : Value) (x : A) (more : List Value)
     → left ≡ v ∷ more → read (view v) ≡ Some x → AreAll read all done left → AreAll read all (done ++ x ∷ []) more
 next_read read all done left v x more is here h =
@@ -61,7 +61,7 @@ next_read read all done left v x more is here h =
     ∙ ap (λ r. option_map (λ rest. done ++ rest) (onto_read r (all_items read (items_view more)))) here
     ∙ moved_on done x (all_items read (items_view more))
 
--- the next item cannot be read
+-- one step, if the next item cannot be read: nor can the list
 pub next_bad : {A : Type 0} (read : Data → Option A) (all : List Value) (done : List A) (left : List Value) (v : Value) (more : List Value)
     → left ≡ v ∷ more → read (view v) ≡ None → AreAll read all done left → all_items read (items_view all) ≡ None
 next_bad read all done left v more is here h =

@@ -6,7 +6,7 @@ use Rattle.oxc_sourcemap_tokens.specs.declared.error.Field.TheVariants.{Object, 
 use Rattle.oxc_sourcemap_json.specs.Shape.{shape}
 use Rattle.serde_json.specs.Data.{Data, null, number, string, array, object, unsigned, no_items, item, no_members, member}
 
--- a JSON object of version 3 without sources and tokens, and one more member
+-- a JSON object of version 3 without sources and tokens, with one more member
 abbrev object_with : List ℕ → Data → Data
 object_with key value =
     object (member (codes "version") (number (unsigned 3)) (member (codes "sources") (array no_items) (member (codes "mappings") (string []) (member key value no_members))))

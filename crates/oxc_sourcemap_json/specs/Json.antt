@@ -15,19 +15,19 @@ pub record JsonRecord : Type 0 where
   pub debug_id : Option (List ℕ)
   pub ignore_list : Option (List ℕ)
 
--- texts
+-- a list of strings
 abbrev pub json_texts : Vec (String Global) Global → List (List ℕ)
 json_texts texts = map string_bytes texts.items
 
--- contents
+-- a list of contents
 abbrev pub json_content_list : Vec (Option (String Global)) Global → List (Option (List ℕ))
 json_content_list contents = map (option_map string_bytes) contents.items
 
--- the ids that may be there
+-- a list of ids, if there is one
 abbrev pub json_ids : Option (Vec ℕ Global) → Option (List ℕ)
 json_ids list = option_map (λ ids. ids.items) list
 
--- the contents that may be there
+-- a list of contents, if there is one
 abbrev pub json_contents : Option (Vec (Option (String Global)) Global) → Option (List (Option (List ℕ)))
 json_contents contents = option_map (λ list. map (option_map string_bytes) list.items) contents
 

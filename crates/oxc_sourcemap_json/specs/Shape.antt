@@ -10,13 +10,13 @@ use Rattle.oxc_sourcemap_tokens.specs.declared.error.Field.{Field}
 use Rattle.oxc_sourcemap_tokens.specs.declared.error.Field.TheVariants.{Object, Version as VersionField, File, Mappings, SourceRoot, Sources, SourcesContent, Names, DebugId, IgnoreList, GoogleIgnoreList}
 use Rattle.oxc_sourcemap_json.specs.Json.{JsonRecord}
 
--- the second step, where the first gave a value; else the first fault
+-- the second step, if the first gave a value; else the fault of the first
 infixl 10 ◌>>=◌
 abbrev pub ◌>>=◌ : {A B : Type 0} → Result A Error → (A → Result B Error) → Result B Error
 (Ok x) >>= next = next x
 (Err fault) >>= next = Err fault
 
--- the value, or that this field is missing or has the wrong type
+-- the value, or the fault of this field, which is missing or has the wrong type
 abbrev pub or_misshapen : {A : Type 0} → Field → Option A → Result A Error
 or_misshapen field (Some x) = Ok x
 or_misshapen field None = Err (BadJson (Shape field))
@@ -31,18 +31,18 @@ present (Some (string s)) = Some (string s)
 present (Some (array ds)) = Some (array ds)
 present (Some (object ms)) = Some (object ms)
 
--- a value where there is a member, and none where there is none
+-- what is read of a member, and none if there is no member
 abbrev pub optional : {A : Type 0} → (Data → Result A Error) → Option Data → Result (Option A) Error
 optional read None = Ok None
 optional read (Some d) = read d >>= (λ x. Ok (Some x))
 
--- an item before the others, where both were read
+-- an item before the others, if it and they can be read
 abbrev pub onto_read : {A : Type 0} → Option A → Option (List A) → Option (List A)
 onto_read None rest = None
 onto_read (Some x) None = None
 onto_read (Some x) (Some rest) = Some (x ∷ rest)
 
--- all items, where each can be read
+-- all items, if each can be read
 abbrev pub all_items : {A : Type 0} → (Data → Option A) → Items → Option (List A)
 all_items read no_items = Some []
 all_items read (item d ds) = onto_read (read d) (all_items read ds)
@@ -51,7 +51,7 @@ all_items read (item d ds) = onto_read (read d) (all_items read ds)
 abbrev pub as_list : {A : Type 0} → (Data → Option A) → Data → Option (List A)
 as_list read d = option_and_then (all_items read) (as_array d)
 
--- a content: a text, or null where it is not known
+-- a content: a string, or null if it is not known
 abbrev pub as_content : Data → Option (Option (List ℕ))
 as_content null = Some None
 as_content (boolean b) = None
@@ -69,19 +69,19 @@ if_id (Some n) = if nat_lt n 4294967296 then Some n else None
 abbrev pub as_id : Data → Option ℕ
 as_id d = if_id (option_and_then as_u64 (as_number d))
 
--- a text in this field
+-- the string of this field, or its fault
 abbrev pub text_in : Field → Data → Result (List ℕ) Error
 text_in field d = or_misshapen field (as_str d)
 
--- a list of texts in this field
+-- the list of strings of this field, or its fault
 abbrev pub texts_in : Field → Data → Result (List (List ℕ)) Error
 texts_in field d = or_misshapen field (as_list as_str d)
 
--- a list of contents in this field
+-- the list of contents of this field, or its fault
 abbrev pub contents_in : Field → Data → Result (List (Option (List ℕ))) Error
 contents_in field d = or_misshapen field (as_list as_content d)
 
--- a list of whole numbers in this field
+-- the list of whole numbers of this field, or its fault
 abbrev pub ids_in : Field → Data → Result (List ℕ) Error
 ids_in field d = or_misshapen field (as_list as_id d)
 
@@ -106,12 +106,12 @@ abbrev pub names_of : Option Data → Result (List (List ℕ)) Error
 names_of None = Ok []
 names_of (Some d) = texts_in Names d
 
--- the ignore list: where it is missing or null, the one of the older key
+-- the ignore list; if it is missing or null, the one of the older key
 abbrev pub ignore_list_of : Option Data → Option Data → Result (Option (List ℕ)) Error
 ignore_list_of (Some d) older = ids_in IgnoreList d >>= (λ ids. Ok (Some ids))
 ignore_list_of None older = optional (ids_in GoogleIgnoreList) older
 
--- What is looked at first, by itself: the value is an object, its version is 3, and its file is a text, null or missing.
+-- The file by itself, after what is checked before it: that the value is an object, and that its version is 3.
 abbrev pub file_of : Data → Result (Option (List ℕ)) Error
 file_of d = do
   members ← or_misshapen Object (as_object d)

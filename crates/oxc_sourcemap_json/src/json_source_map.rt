@@ -3,7 +3,7 @@
 /// The fields of a source map as its JSON object has them (ECMA-426, "Source map format").
 #[derive(Drop)]
 pub struct JSONSourceMap {
-    /// The version. `decode` refuses all but 3.
+    /// The version. `decode` fails for any but 3.
     pub version: u32,
     /// The name of the generated file.
     pub file: Option<String>,
@@ -20,7 +20,7 @@ pub struct JSONSourceMap {
     pub names: Vec<String>,
     /// An id that ties this map to its generated code.
     pub debug_id: Option<String>,
-    /// The indices of sources that debuggers may pass over, as third-party code. `decode` refuses those that are not below
-    /// the number of sources.
+    /// The indices of sources that debuggers may ignore, as third-party code. `decode` fails for one that is not below the
+    /// number of sources.
     pub ignore_list: Option<Vec<u32>>,
 }

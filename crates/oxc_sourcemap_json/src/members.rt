@@ -96,7 +96,7 @@ fn present(member: Option<Value>) -> Option<Value>
     }
 }
 
-/// A text.
+/// The string of a member, or the fault of its field.
 fn text_of(member: Value, field: Field) -> Result<String>
     ensures { Gives string_bytes result (text_in field (view member)) }
 {
@@ -106,7 +106,7 @@ fn text_of(member: Value, field: Field) -> Result<String>
     }
 }
 
-/// A list of texts.
+/// The strings of a member that is a list of them, or the fault of its field.
 fn texts_of(alloc: Global, member: Value, field: Field) -> Result<Vec<String>>
     ensures { Answers json_texts result (texts_in field (view member)) }
 {
@@ -120,7 +120,7 @@ fn texts_of(alloc: Global, member: Value, field: Field) -> Result<Vec<String>>
     Ok(texts)
 }
 
-/// A content: a text, or null where it is not known.
+/// A content: a string, or null if it is not known; None for any other value.
 fn content_of(item: Value) -> Option<Option<String>>
     ensures { option_map (option_map string_bytes) result ≡ as_content (view item) }
 {
@@ -131,7 +131,7 @@ fn content_of(item: Value) -> Option<Option<String>>
     }
 }
 
-/// A list of texts and nulls.
+/// The contents of a member that is a list of strings and nulls, or the fault of its field.
 fn contents_of(alloc: Global, member: Value, field: Field) -> Result<Vec<Option<String>>>
     ensures { Answers json_content_list result (contents_in field (view member)) }
 {
@@ -148,7 +148,7 @@ fn contents_of(alloc: Global, member: Value, field: Field) -> Result<Vec<Option<
     Ok(contents)
 }
 
-/// A text that may be missing or null.
+/// The string of a member that may be missing or null.
 fn optional_text(member: Option<Value>, field: Field) -> Result<Option<String>>
     ensures { Gives (option_map string_bytes) result
         (optional (text_in field) (present (option_map view member))) }

@@ -22,7 +22,7 @@ fn present(member: Option<&Value>) -> Option<&Value>
     if value.is_null() { None } else { Some(value) }
 }
 
-/// A text.
+/// A copy of the string of a member, or the fault of its field.
 fn read_text(alloc: Global, member: &Value, field: Field) -> Result<String>
     ensures { Answers string_bytes result (text_in field (view member.now)) }
 {
@@ -32,7 +32,7 @@ fn read_text(alloc: Global, member: &Value, field: Field) -> Result<String>
     Ok(String::from_str(alloc, text)?)
 }
 
-/// A whole number of 0 to 4294967295.
+/// The number of a value that is a whole number of 0 to 4294967295, None for any other value.
 pub fn read_id(item: &Value) -> Option<u32>
     ensures { result ≡ as_id (view item.now) }
 {
@@ -43,7 +43,7 @@ pub fn read_id(item: &Value) -> Option<u32>
     Some(number as u32)
 }
 
-/// A list of whole numbers of 0 to 4294967295.
+/// The numbers of a member that is a list of whole numbers of 0 to 4294967295, or the fault of its field.
 fn read_ids(alloc: Global, member: &Value, field: Field) -> Result<Vec<u32>>
     ensures { Answers (λ ids. ids.items) result (ids_in field (view member.now)) }
 {
@@ -73,7 +73,7 @@ pub(crate) fn read_version(member: Option<&Value>) -> Result<u32>
     Ok(version)
 }
 
-/// A text that may be missing or null.
+/// A copy of the string of a member that may be missing or null.
 fn optional_text(alloc: Global, value: &Value, key: &str, field: Field) -> Result<Option<String>>
     ensures { Answers (option_map string_bytes) result
         (optional (text_in field) (present (get key.now (view value.now)))) }
@@ -84,7 +84,7 @@ fn optional_text(alloc: Global, value: &Value, key: &str, field: Field) -> Resul
     Ok(Some(read_text(alloc, member, field)?))
 }
 
-/// The ignore list: where it is missing or null, the one of the older key, which may be missing or null, too.
+/// The ignore list; if it is missing or null, the one of the older key, which may be missing or null, too.
 pub(crate) fn read_either_list(
     alloc: Global,
     member: Option<&Value>,
@@ -105,7 +105,7 @@ pub(crate) fn read_either_list(
 /// The file of a JSON value that is a source map, indexed or not (docs/FORMAT.md, "The shape of a JSON value"); None if it
 /// is null or missing. Only the `version` and the `file` of the value are looked at.
 ///
-/// Fails with `BadJson` for the first of these in this order, and with `OutOfMemory` if memory is refused:
+/// Fails with `BadJson` for the first of these in this order, and with `OutOfMemory` for want of memory:
 /// - `Shape(Object)` unless the value is an object;
 /// - `version`, which has to be 3: `Version(n)` for another whole number n of 0 to 4294967295, `Shape(Version)` for any other
 ///   value, and if it is missing;
@@ -122,9 +122,9 @@ pub fn file_from_value(alloc: Global, value: &Value) -> Result<Option<String>>
 
 impl JSONSourceMap {
     /// The fields of a JSON value (docs/FORMAT.md, "The shape of a JSON value"; ECMA-426, "Source map format"). Keys that
-    /// are not listed here are passed over. The value is cloned, and its strings are moved out of the clone.
+    /// are not listed here are ignored. The value is cloned, and its strings are moved out of the clone.
     ///
-    /// Fails with `BadJson` for the first of these in this order, and with `OutOfMemory` if memory is refused:
+    /// Fails with `BadJson` for the first of these in this order, and with `OutOfMemory` for want of memory:
     /// - `Shape(Object)` unless the value is an object;
     /// - `version`, which has to be 3: `Version(n)` for another whole number n of 0 to 4294967295, `Shape(Version)` for any
     ///   other value, and if it is missing;

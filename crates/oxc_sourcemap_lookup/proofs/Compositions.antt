@@ -8,7 +8,7 @@ use Rattle.oxc_sourcemap_lookup.specs.Composed.{Target, target_in, targets, comp
 use Rattle.oxc_sourcemap_lookup.proofs.Targets.{are_targets, targets-are}
 
 module _ (a b : MapRecord) where
-  -- the refusals
+  -- faults and limits as results
   pub at_fault : (e : Error) → composition_fault a b ≡ Some e → SomeComposition a b (Err e)
   at_fault e f = (targets a b, are_targets b.tokens a.tokens, rw f)
 
@@ -19,7 +19,7 @@ module _ (a b : MapRecord) where
     pub too_large : (ls : List Target) → AreTargets a.tokens b.tokens ls → are_ids a.names (composed_names a.names b.names ls) ls ≡ false → SomeComposition a b (Err TooLarge)
     too_large ls h i = (ls, h, ids-by ls false i)
 
-    -- and the map
+    -- the composed map as a result
     abbrev pub made : Option Text → List Text → List TokenRecord → Option Text → MapRecord
     made file names tokens debug_id = record {
       file = file;
@@ -43,7 +43,7 @@ module _ (a b : MapRecord) where
           ∙ sym (ap (λ x. Ok (made x names tokens debug_id)) f ∙ ap (λ x. Ok (made a.file names tokens x)) d ∙ ap (λ ts. Ok (made a.file names ts a.debug_id)) t ∙ ap (λ ns. Ok (made a.file ns (map (composed_token a.names ns) ls) a.debug_id)) n),
     )
 
-  -- where no columns go back, there is but one answer
+  -- if no columns go back, there is only one result
   pub exact : (answer : Result MapRecord Error) → NoColumnGoesBack b.tokens → SomeComposition a b answer → composition a b ≡ answer
   exact answer g s =
       let is : s.0 ≡ targets a b = targets-are b.tokens s.0 g s.1.1 ∙ ap (map (target_in b.tokens)) s.1.0 in

@@ -23,7 +23,7 @@ masked false n h = and_zero_r n
 half-less : (n : ℕ) → suc n / 2 ≤ n
 half-less n = omega arith
 
--- any limit that is not too low counts all digits
+-- any limit of at least the number counts all digits
 digits-limits : (k m n : ℕ) → n ≤ k → n ≤ m → digits_up_to k n ≡ digits_up_to m n
 digits-limits zero zero n h i = refl
 digits-limits zero (suc m) zero h i = refl
@@ -56,11 +56,11 @@ digits-below (suc d) (suc n) h =
     let half : suc n / 2 < 2 ^ d = omega (arith, h) in
     omega (arith, digits-half (suc n) (omega arith), digits-below d (suc n / 2) half)
 
--- the front of a line up to the first token that is not before the column
+-- how many tokens at the front of a line are before the column
 abbrev pub before : ℕ → List TokenRecord → ℕ
 before col ts = prefix_len (λ t. nat_lt t.dst_col col) ts
 
--- a token before the column lies before that one
+-- a token before the column is among those at the front that are
 pub before-later : (col : ℕ) (ts : List TokenRecord) (m : ℕ) (d : TokenRecord) → no_column_goes_back token_column ts ≡ true → m < length ts → (get_or ts m d).dst_col < col → m < before col ts
 before-later col [] m d g h lt = absurd (omega (arith, h))
 before-later col (t ∷ ts) zero d g h lt = grind (arith, lt)
@@ -69,7 +69,7 @@ before-later col (t ∷ ts) (suc m) d g h lt =
     let first : t.dst_col < col = omega (arith, not_before-at token_column t ts m d (not_before token_column t ts g) (omega (arith, h)), lt) in
     grind (arith, more, first)
 
--- one that is not does not
+-- a token not before the column is not among those at the front that are
 pub before-earlier : (col : ℕ) (ts : List TokenRecord) (m : ℕ) (d : TokenRecord) → m < length ts → col ≤ (get_or ts m d).dst_col → before col ts ≤ m
 before-earlier col [] m d h le = absurd (omega (arith, h))
 before-earlier col (t ∷ ts) zero d h le = grind (arith, le)
@@ -93,7 +93,7 @@ before-front-by : (b : Bool) (col m : ℕ) (t : TokenRecord) (ts : List TokenRec
 before-front-by true col m t ts e more = grind (arith, e, more)
 before-front-by false col m t ts e more = grind (arith, e, more)
 
--- those before the column in the front of a line: all of them, or the whole front
+-- the tokens before the column in a part at the front of a line: all of them, or the whole part
 pub before-front : (col m : ℕ) (ts : List TokenRecord) → before col (take m ts) ≡ (if nat_lt (before col ts) m then before col ts else m)
 before-front col zero ts = grind (arith)
 before-front col (suc m) [] = grind (arith)
@@ -103,7 +103,7 @@ pub chosen : (b : Bool) (n : ℕ) → (if b then n else 0) ≤ n
 chosen true n = omega arith
 chosen false n = omega arith
 
--- where the front ends, once the token in the middle is compared
+-- one step of the halving: how many tokens are before the column, by the token in the middle
 pub halved : (b : Bool) (col : ℕ) (ts : List TokenRecord) (start left half : ℕ) (d : TokenRecord) → nat_lt (get_or ts (start + left - 1) d).dst_col col ≡ b
     → 0 < left → left ≤ suc half → start + left ≤ length ts → no_column_goes_back token_column ts ≡ true
     → start ≤ before col ts → before col ts ≤ start + left + half
@@ -115,7 +115,7 @@ halved false col ts start left half d e some near within g low high =
     let le : col ≤ (get_or ts (start + left - 1) d).dst_col = grind (arith, e) in
     (omega (arith, low), omega (arith, before-earlier col ts (start + left - 1) d (omega (arith, some, within)) le, near, some))
 
--- of the first token that is not before the column and the last one that is: the former where it is at the column
+-- of the first token that is not before the column and the last one that is: the former if it is at the column
 abbrev pub nearer : ℕ → Option TokenRecord → Option TokenRecord → Option TokenRecord
 nearer col None last = last
 nearer col (Some t) last = if t.dst_col == col then Some t else last
@@ -135,7 +135,7 @@ not_before-first : (col : ℕ) (ts : List TokenRecord) (t : TokenRecord) → fir
 not_before-first col [] t e = cc (e)
 not_before-first col (x ∷ ts) t e = not_before-first-by (nat_lt x.dst_col col) col x ts t refl (not_before-first col ts t) e
 
--- the two, where the line is cut at an index
+-- the nearer of the two tokens where a line is cut at an index
 abbrev pub nearer_at : ℕ → Option TokenRecord → List TokenRecord → ℕ → Option TokenRecord
 nearer_at col found ts n = nearer col (first (drop n ts)) (last_or found (take n ts))
 
@@ -161,11 +161,11 @@ walked-nearer : (col : ℕ) (found : Option TokenRecord) (ts : List TokenRecord)
 walked-nearer col found [] = refl
 walked-nearer col found (t ∷ ts) = walked-by (nat_cmp t.dst_col col) col found t ts refl (walked-nearer col (Some t) ts)
 
--- so the lookup answers one of these two
+-- the lookup finds the nearer of the two tokens where the line is cut at the column
 pub at-nearer : (col : ℕ) (ts : List TokenRecord) (n : ℕ) → no_column_goes_back token_column ts ≡ true → n ≡ before col ts → at token_column ts col ≡ nearer_at col None ts n
 at-nearer col ts n g e = sym (walked_is_at col ts g) ∙ walked-nearer col None ts ∙ sym (ap (nearer_at col None ts) e)
 
--- the first token of what is left, at the column or not
+-- ---- the nearer token, by whether the first token of the rest is at the column
 here : (col : ℕ) (t : TokenRecord) (o last : Option TokenRecord) → o ≡ Some t → t.dst_col ≡ col → nearer col o last ≡ Some t
 here col t o last e h = ap (λ p. nearer col p last) e ∙ grind (arith, h)
 
@@ -197,8 +197,8 @@ nearer-through-by false col ts n t lt e le =
     let same : n ≡ n + 0 = omega arith in
     past col t _ _ (first-drop ts n ∙ e) other ∙ ap (λ k. last (take k ts)) same
 
--- The nearer of the two ends the line that is cut before the first token not before the column, or after it where it is at
--- the column.
+-- The nearer of the two tokens is the last of the line cut before the first token not before the column, or after that
+-- token if it is at the column.
 pub nearer-through : (col : ℕ) (ts : List TokenRecord) (n : ℕ) (t : TokenRecord) → slice_get ts n ≡ Some t → col ≤ t.dst_col
     → nearer_at col None ts n ≡ last (take (n + (if nat_lt t.dst_col (col + 1) then 1 else 0)) ts)
 nearer-through col ts n t e le = nearer-through-by (nat_lt t.dst_col (col + 1)) col ts n t refl e le
@@ -207,7 +207,7 @@ nearer-through col ts n t e le = nearer-through-by (nat_lt t.dst_col (col + 1)) 
 pub not_before-get : (col : ℕ) (ts : List TokenRecord) (n : ℕ) (t : TokenRecord) → n ≡ before col ts → slice_get ts n ≡ Some t → col ≤ t.dst_col
 not_before-get col ts n t count e = not_before-first col ts t (sym (ap (λ k. first (drop k ts)) count) ∙ first-drop ts n ∙ e)
 
--- no token after those before the column
+-- the nearer token, if all tokens are before the column
 pub nearer-none : (col : ℕ) (ts : List TokenRecord) (n : ℕ) → slice_get ts n ≡ None → nearer_at col None ts n ≡ last (take n ts)
 nearer-none col ts n e = none_left col _ _ (first-drop ts n ∙ e)
 
@@ -240,8 +240,8 @@ nearer-last-by false true col ts n t front lies g within read here e =
     let more = before-later col ts n t g within (omega (arith, lt, ap token_column read)) in
     nearer-end col ts n t g (omega (arith, last_one, within)) (omega (arith, last_one, more, before-all col ts, within)) lt
 
--- The answer ends the line that is cut after the tokens before the column, all but the last one counted, or after one more
--- where the next is not past the column.
+-- The token found is the last of the line cut after the tokens before the column, the line's last one not counted, or after
+-- one more if the next is not past the column.
 pub nearer-last : (col : ℕ) (ts : List TokenRecord) (n : ℕ) (t : TokenRecord) → no_column_goes_back token_column ts ≡ true → n < length ts → get_or ts n t ≡ t → slice_get ts n ≡ Some t
     → n ≡ before col (take (length ts - 1) ts) → at token_column ts col ≡ last (take (n + (if nat_lt t.dst_col (col + 1) then 1 else 0)) ts)
 nearer-last col ts n t g within read here e =

@@ -13,12 +13,12 @@ use Rattle.oxc_sourcemap_parts.proofs.Places.{index-with, index-stays}
 use Rattle.oxc_sourcemap_lookup.specs.Composed.{Target, target_of, kept_name, inherited_name, inherited_id, composed_names, composed_token, token_through, may_be_id, are_ids}
 use Rattle.oxc_sourcemap_lookup.specs.InheritedNames.{with_inherited, inherited_index}
 
--- texts come in one by one
+-- texts are added one by one
 pub with_texts-append : (xs ys zs : List Text) → with_texts xs (ys ++ zs) ≡ with_texts (with_texts xs ys) zs
 with_texts-append xs [] zs = refl
 with_texts-append xs (y ∷ ys) zs = with_texts-append (with_text xs y) ys zs
 
--- the old texts stand before
+-- the old texts are in front of the added ones
 with_texts-front-at : (o : Option ℕ) (xs : List Text) (y : Text) (ys : List Text) → ((xs : List Text) → (zs : List Text) × (with_texts xs ys ≡ xs ++ zs))
     → (zs : List Text) × (with_texts (with_text_at o xs y) ys ≡ xs ++ zs)
 with_texts-front-at (Some i) xs y ys more = more xs
@@ -28,12 +28,12 @@ pub with_texts-front : (xs ys : List Text) → (zs : List Text) × (with_texts x
 with_texts-front xs [] = ([], sym (append-nil xs))
 with_texts-front xs (y ∷ ys) = with_texts-front-at (index_of y xs) xs y ys (λ xs. with_texts-front xs ys)
 
--- a name that is inherited has a place among these
+-- an inherited name, if there is one, is among these names
 abbrev pub IsPlaced : List Text → Option Text → Type 0
 IsPlaced names None = Unit {0}
 IsPlaced names (Some x) = (i : ℕ) × (index_of x names ≡ Some i)
 
--- so its place stays as it is
+-- an inherited name that is among names keeps its index when more are added
 pub inherited-stays : (names more : List Text) (o : Option Text) → IsPlaced names o → inherited_index (with_texts names more) o ≡ inherited_index names o
 inherited-stays names more None p = refl
 inherited-stays names more (Some x) p = index-stays x p.0 names more p.1 ∙ sym p.1
@@ -57,7 +57,7 @@ names-cons first names l ls = names-cons-of (inherited_name first l) first names
 pub names-append : (first names : List Text) (ls ms : List Target) → composed_names first names (ls ++ ms) ≡ composed_names first (composed_names first names ls) ms
 names-append first names ls ms = ap (with_texts names) (filter_map-append (inherited_name first) ls ms) ∙ with_texts-append names (filter_map (inherited_name first) ls) (filter_map (inherited_name first) ms)
 
--- each name that is inherited has a place in the end
+-- each inherited name is among the composed names
 pub all-placed : (first names : List Text) (ls : List Target) → AllByRecursion (λ l. IsPlaced (composed_names first names ls) (inherited_name first l)) ls
 all-placed first names [] = tt
 all-placed first names (l ∷ ls) =
@@ -80,7 +80,7 @@ module _ (first names more : List Text) where
       ap (λ id. may_be_id id && are_ids first (with_texts names more) ls) (inherited-stays names more (inherited_name first l) p.0)
       ∙ ap (λ b. may_be_id (inherited_id first names l) && b) (ids-stay ls p.1)
 
--- a token keeps such ids
+-- a token keeps an id of at most 4294967294
 pub small-kept : (o : Option ℕ) → IfSome o (λ id. id < 4294967295) → kept_id o ≡ o
 small-kept None h = refl
 small-kept (Some id) h = grind (arith, nat_tests)
@@ -89,12 +89,12 @@ pub id-kept : (o : Option ℕ) → may_be_id o ≡ true → kept_id o ≡ o
 id-kept None h = refl
 id-kept (Some id) h = rw h
 
--- a token that leads to another
+-- the composed token of one that leads to another
 pub token-to : (first names : List Text) (t u : TokenRecord) (found : Option TokenRecord) → found ≡ Some u
     → composed_token first names (target_of t found) ≡ record u { dst_line = t.dst_line; dst_col = t.dst_col; name_id = option_or u.name_id (inherited_index names (kept_name first t u.name_id)) }
 token-to first names t u found e = rw e
 
--- one that leads to a token without a name
+-- the composed token of one that leads to a token without a name
 pub token-to_nameless : (first names : List Text) (t u : TokenRecord) (found : Option TokenRecord) → found ≡ Some u → u.name_id ≡ None
     → composed_token first names (target_of t found) ≡ record u { dst_line = t.dst_line; dst_col = t.dst_col; name_id = inherited_index names (name_of first t) }
 token-to_nameless first names t u found e k =

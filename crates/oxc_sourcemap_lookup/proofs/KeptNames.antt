@@ -10,7 +10,7 @@ use Rattle.oxc_sourcemap_parts.specs.Texts.{index_of, with_text}
 use Rattle.oxc_sourcemap_parts.proofs.Places.{index-push, index-with, index-stays_with}
 use Rattle.oxc_sourcemap_lookup.specs.Composed.{may_be_id}
 
--- the place of a text among one name more
+-- the index of a text among the names up to one more
 pub place_step : {A : Type 0} (f : A → Text) (text : Text) (names : List A) (i : ℕ) (name : A) → i < length names → name ≡ get_or names i name
     → index_of text (map f (take (i + 1) names)) ≡ option_or (index_of text (map f (take i names))) (cond (bytes_eq text (f name)) (Some i) None)
 place_step f text names i name h e =
@@ -40,7 +40,7 @@ resized olds news n k x e h is = is ∙ ap (λ xs. xs ++ replicate (n - k) x) (t
 pub all_up_to_repeats : {X : Type 0} (xs : List X) (n : ℕ) (x : X) → xs ≡ replicate n x → (length xs ≡ n) × ((i : ℕ) (y : X) → slice_get xs i ≡ Some y → x ≡ y)
 all_up_to_repeats xs n x e = (ap length e ∙ length-replicate n x, λ i y f. slice_get-replicate n i x y (sym (ap (λ ys. slice_get ys i) e) ∙ f))
 
--- a name more, at the end
+-- one more inherited name, at the end
 pub names_push : (second : List Text) (names : List (Bor Text)) (name : Bor Text) → second ++ map (λ t. t.now) (names ++ name ∷ []) ≡ (second ++ map (λ t. t.now) names) ++ name.now ∷ []
 names_push second names name = ap (λ ns. second ++ ns) (map-append (λ t. t.now) names (name ∷ [])) ∙ sym (append_assoc second (map (λ t. t.now) names) (name.now ∷ []))
 
@@ -59,7 +59,7 @@ other b (Some i) m h = refl
 other true None m h = absurd (cc (h refl))
 other false None m h = refl
 
--- the map of places with the new name has the places of all names
+-- the map of indices with the new name has the indices of all names
 put-by : (b : Bool) (text name : Text) (names : List Text) (n : ℕ) → bytes_eq name text ≡ b → index_of name names ≡ None → n ≡ length names
     → cond b (Some n) (index_of text names) ≡ option_or (index_of text names) (cond (bytes_eq text name) (Some (length names)) None)
 put-by true text name names n e none count =
@@ -76,7 +76,7 @@ pub not_empty : {K X : Type 0} (test : K → Bool) (es : List (K × X)) (x : X) 
 not_empty test [] x e = absurd (cc (e))
 not_empty test (y ∷ ys) x e = omega arith
 
--- the name at an index, seen as its bytes
+-- the name at an index, as bytes
 pub name_at : {A : Type 0} (f : A → Text) (names : List A) (i : ℕ) (name : A) → i < length names → name ≡ get_or names i name → slice_get (map f names) i ≡ Some (f name)
 name_at f [] i name h e = absurd (omega (arith, h))
 name_at f (y ∷ ys) zero name h e = ap (λ x. Some (f x)) (sym e)
@@ -95,7 +95,7 @@ set-other (y ∷ ys) zero (suc j) x h = refl
 set-other (y ∷ ys) (suc i) zero x h = refl
 set-other (y ∷ ys) (suc i) (suc j) x h = set-other ys i j x (λ e. h (ap suc e))
 
--- each id that is kept is that of its name
+-- each id that is kept is the one of its name
 abbrev pub AreIds : List Text → List Text → List (Option ℕ) → Type 0
 AreIds first names ids = (i id : ℕ) (name : Text) → slice_get first i ≡ Some name → slice_get ids i ≡ Some (Some id) → (index_of name names ≡ Some id) × (id < 4294967295)
 

@@ -37,7 +37,7 @@ spans-none tokens spans e p =
       others = λ n h all. absurd (omega (arith, h));
     }
 
--- a last item, and the others
+-- the items of a list with a new last item
 get_or-init : {X : Type 0} (xs : List X) (x d : X) (k : ℕ) → k < length xs → get_or (xs ++ x ∷ []) k d ≡ get_or xs k d
 get_or-init xs x d k h = get_or-append xs (x ∷ []) d k h
 
@@ -66,14 +66,14 @@ rise-by false spans span i j d e rise before h k =
 rise-push : (spans : List LineSpan) (span : LineSpan) → DoLinesRise spans → All (λ s. s.line < span.line) spans → DoLinesRise (spans ++ span ∷ [])
 rise-push spans span rise before i j d h k = rise-by (nat_lt j (length spans)) spans span i j d refl rise before h k
 
--- the first token left, and those on its line
+-- at least the first token that is left is on its line
 count-some : (line : ℕ) (t : TokenRecord) (ts : List TokenRecord) → t.dst_line ≡ line → 0 < prefix_len (λ t. t.dst_line == line) (t ∷ ts)
 count-some line t ts e = grind (arith, e)
 
 from-first : (next : ℕ) (t : TokenRecord) (ts : List TokenRecord) → IsFrom next (t ∷ ts) → IsFrom t.dst_line (t ∷ ts)
 from-first next t ts p = (omega arith, p.1)
 
--- how many they are, and what comes before them
+-- the tokens on the line of the first one that is left end within the list
 pub counted-within : (tokens rest : List TokenRecord) (start count line : ℕ) → rest ≡ drop start tokens → start < length tokens → count ≡ prefix_len (λ t. t.dst_line == line) rest → start + count ≤ length tokens
 counted-within tokens rest start count line rest_is small counted =
     let most : prefix_len (λ t. t.dst_line == line) rest ≤ length rest = prefix_len-le-length (λ t. t.dst_line == line) rest in
@@ -139,7 +139,7 @@ module _ (tokens rest more : List TokenRecord) (t : TokenRecord) (start next cou
         between (nat_lt n next) n refl below (all-init (λ s. s.line ≢ n) spans span all);
   }
 
--- in the end, all lines are cut off
+-- once no token is left, all lines are cut off
 pub none-from : (next start : ℕ) (tokens : List TokenRecord) → length tokens ≤ start → IsFrom next (drop start tokens)
 none-from next start tokens h = subst (IsFrom next) (sym (drop_of_length-le tokens h)) tt
 

@@ -21,7 +21,7 @@ counts-one n t ts h = sum_by-cons (λ t. cond (nat_lt (token_line t) n) 1 0) t t
 counts-none : (n : ℕ) (t : TokenRecord) (ts : List TokenRecord) → n ≤ t.dst_line → count_before_line n (t ∷ ts) ≡ count_before_line n ts
 counts-none n t ts h = sum_by-cons (λ t. cond (nat_lt (token_line t) n) 1 0) t ts ∙ ap (λ b. cond b 1 0 + count_before_line n ts) (not_before n t h) ∙ omega arith
 
--- nothing lies before the first line
+-- no token lies before a line from which on all do
 pub none-before : (n : ℕ) (ts : List TokenRecord) → IsFrom n ts → count_before_line n ts ≡ 0
 none-before n [] p = refl
 none-before n (t ∷ ts) p = counts-none n t ts p.0 ∙ none-before n ts (IsFrom-le n t.dst_line ts p.0 p.1)
@@ -29,7 +29,7 @@ none-before n (t ∷ ts) p = counts-none n t ts p.0 ∙ none-before n ts (IsFrom
 drop-counted : (k : ℕ) (t : TokenRecord) (ts : List TokenRecord) (m : ℕ) → m ≡ suc k → drop m (t ∷ ts) ≡ drop k ts
 drop-counted k t ts m e = rw e refl
 
--- the tokens left from a line on
+-- without the tokens before a line, a list in line order begins on that line or after it
 from-by : (b : Bool) (n : ℕ) (t : TokenRecord) (ts : List TokenRecord) → nat_lt t.dst_line n ≡ b → IsFrom t.dst_line ts → IsFrom n (drop (count_before_line n ts) ts) → IsFrom n (drop (count_before_line n (t ∷ ts)) (t ∷ ts))
 from-by true n t ts e p more = subst (IsFrom n) (sym (drop-counted (count_before_line n ts) t ts _ (counts-one n t ts (grind (arith, e))))) more
 from-by false n t ts e p more =
@@ -55,7 +55,7 @@ left_on : (n from : ℕ) (ts : List TokenRecord) → IsFrom from ts → on_line 
 left_on n from [] p = refl
 left_on n from (t ∷ ts) p = on-by (nat_lt t.dst_line n) n t ts refl p.1 (left_on n t.dst_line ts p.1)
 
--- those on a line come after those before it, and before all others
+-- the tokens on a line follow those on the lines before it
 next-by : (b s : Bool) (n : ℕ) (t : TokenRecord) (ts : List TokenRecord) → nat_lt t.dst_line n ≡ b → (t.dst_line == n) ≡ s → IsFrom t.dst_line ts
     → count_before_line (n + 1) ts ≡ count_before_line n ts + prefix_len (λ t. t.dst_line == n) (drop (count_before_line n ts) ts)
     → count_before_line (n + 1) (t ∷ ts) ≡ count_before_line n (t ∷ ts) + prefix_len (λ t. t.dst_line == n) (drop (count_before_line n (t ∷ ts)) (t ∷ ts))
@@ -87,7 +87,7 @@ pub counts-next : (n from : ℕ) (ts : List TokenRecord) → IsFrom from ts → 
 counts-next n from [] p = refl
 counts-next n from (t ∷ ts) p = next-by (nat_lt t.dst_line n) (t.dst_line == n) n t ts refl refl p.1 (counts-next n t.dst_line ts p.1)
 
--- so they lie from where their line begins to where the next one does
+-- the tokens on a line lie from where it begins to where the next line does
 on_line-between : (n : ℕ) (ts : List TokenRecord) → first_out_of_order ts ≡ None → take (count_before_line (n + 1) ts - count_before_line n ts) (drop (count_before_line n ts) ts) ≡ on_line token_line n ts
 on_line-between n ts order =
     let p = in_order-from_0 ts order in
@@ -95,7 +95,7 @@ on_line-between n ts order =
     let size : count_before_line (n + 1) ts - count_before_line n ts ≡ prefix_len (λ t. t.dst_line == n) rest = omega (arith, counts-next n 0 ts p) in
     ap (λ k. take k rest) size ∙ front n rest (left_from n 0 ts p) ∙ left_on n 0 ts p
 
--- all lie before the line after the last one
+-- all tokens lie before the line after the last one
 all-before-of : (n : ℕ) (t : TokenRecord) (ts : List TokenRecord) → IsFrom t.dst_line ts → lines_through (last_or (Some t) ts) ≤ n → count_before_line n (t ∷ ts) ≡ length (t ∷ ts)
 all-before-of n t [] p h = counts-one n t [] (omega (arith, h))
 all-before-of n t (u ∷ us) p h = counts-one n t (u ∷ us) (omega (arith, last-reached t (u ∷ us) p, h)) ∙ ap suc (all-before-of n u us p.1 h)
@@ -104,7 +104,7 @@ pub all-before : (n : ℕ) (ts : List TokenRecord) → first_out_of_order ts ≡
 all-before n [] order h = refl
 all-before n (t ∷ ts) order h = all-before-of n t ts (in_order-from_0 (t ∷ ts) order).1 h
 
--- what stands in a list of starts
+-- the entries of a list of starts
 module _ (tokens : List TokenRecord) (starts : List ℕ) (are : AreStarts tokens starts) where
   how_many : length starts ≡ lines_through (last tokens) + 1
   how_many = ap length are.each ∙ length-map-range_with_len (λ n. count_before_line n tokens) 0 (lines_through (last tokens) + 1)

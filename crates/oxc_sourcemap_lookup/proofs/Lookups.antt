@@ -9,12 +9,12 @@ use Rattle.oxc_sourcemap_tokens.specs.Token.{TokenRecord, last}
 use Rattle.oxc_sourcemap_parts.specs.Sorted.{token_column}
 use Rattle.oxc_sourcemap_lookup.specs.Lookup.{first, greatest, not_past, in_column, at, no_column_goes_back}
 
--- what a walk over what is left of a line answers, where the last token passed is this one
+-- what a walk over the rest of a line finds, after this token
 abbrev pub walked : ℕ → Option TokenRecord → List TokenRecord → Option TokenRecord
 walked col found [] = found
 walked col found (t ∷ ts) = match_ordering (nat_cmp t.dst_col col) (walked col (Some t) ts) (Some t) found
 
--- what stands after x has no smaller column
+-- no item of a list has a smaller column than x
 abbrev pub AreNotBefore : {A : Type 0} → (A → ℕ) → A → List A → Type 0
 AreNotBefore column x ys = AllByRecursion (λ y. column x ≤ column y) ys
 
@@ -77,7 +77,7 @@ all-not_past : {A : Type 0} (column : A → ℕ) (col least : ℕ) (xs : List A)
 all-not_past column col least [] all = all
 all-not_past column col least (x ∷ xs) all = all-not_past-of (nat_le (column x) col) column col least x xs (all-not_past column col least xs all.1) all.0
 
--- the nearest of items whose columns are not past the asked one
+-- the nearest of items whose columns are not past the given one
 abbrev at_among : {A : Type 0} → (A → ℕ) → ℕ → List A → Option A
 at_among column col items =
     let best = greatest column items in
@@ -102,7 +102,8 @@ front_among column col x (y ∷ ys) h all =
 here_among : {A : Type 0} (column : A → ℕ) (col : ℕ) (x : A) (rest : List A) → column x ≡ col → greatest column rest ≤ col → at_among column col (x ∷ rest) ≡ Some x
 here_among column col x rest h le = grind (arith, h, le)
 
--- where columns go on: an item before the asked column gives way, one at it is the answer, and one past it ends the search
+-- if columns do not go back: an item before the given column counts only if no later one does, one at it is found, and one
+-- past it ends the search
 at-front : {A : Type 0} (column : A → ℕ) (col : ℕ) (x : A) (ys : List A) → column x < col → AreNotBefore column x ys → at column (x ∷ ys) col ≡ option_or (at column ys col) (Some x)
 at-front column col x ys h all =
     let passes : not_past column col (x ∷ ys) ≡ x ∷ not_past column col ys = grind (arith, h) in

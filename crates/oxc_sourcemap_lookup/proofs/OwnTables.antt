@@ -11,7 +11,7 @@ use Rattle.oxc_sourcemap_lookup.specs.Lookup.{on_line, lines_through, tokens_by_
 use Rattle.oxc_sourcemap_parts.proofs.Order.{sorted-head}
 use Rattle.oxc_sourcemap_lookup.proofs.Tables.{IsFrom, in_order-from_0}
 
--- a slice_of of a table that is made line by line
+-- a row of a table that is made line by line
 row-of : {X : Type 0} (f : ℕ → X) (a n i : ℕ) (d : X) → i < n → unwrap_or (slice_get (map f (range_with_len a n)) i) d ≡ f (a + i)
 row-of f a zero i d h = absurd (omega (arith, h))
 row-of f a (suc n) zero d h = ap f (omega arith)
@@ -22,7 +22,7 @@ row-past f a zero i d h = grind (arith, h)
 row-past f a (suc n) zero d h = absurd (omega (arith, h))
 row-past f a (suc n) (suc i) d h = row-past f (a + 1) n i d (omega (arith, h))
 
--- nothing lies after the last token's line
+-- in a list in line order, no line is after the last token's
 pub last-reached : (t : TokenRecord) (ts : List TokenRecord) → IsFrom t.dst_line ts → t.dst_line < lines_through (last_or (Some t) ts)
 last-reached t [] p = omega arith
 last-reached t (u ∷ us) p = omega (arith, p.0, last-reached u us p.1)
@@ -38,7 +38,7 @@ pub none-after : (n : ℕ) (ts : List TokenRecord) → first_out_of_order ts ≡
 none-after n [] p h = refl
 none-after n (t ∷ ts) p h = on_line-after n t ts (in_order-from_0 (t ∷ ts) p).1 h
 
--- so where the lines up to the last token's are cut off, nothing is left
+-- once the lines up to the last token's are cut off, nothing is left
 pub none-left : (line : ℕ) (rest tokens : List TokenRecord) → first_out_of_order tokens ≡ None → lines_through (last tokens) ≤ line → IsFrom line rest
     → ((n : ℕ) → line ≤ n → on_line token_line n rest ≡ on_line token_line n tokens) → rest ≡ []
 none-left line [] tokens order h p same = refl
@@ -65,7 +65,7 @@ own_row n tokens table h =
     let is = table-is-by (first_out_of_order tokens) tokens table h in
     sym (ap (λ t. slice_of t n) is.1) ∙ row-by_line n tokens is.0
 
--- a sorted list's columns go on on each line
+-- on no line of a sorted list do columns go back
 precede-twice : (x y z : TokenRecord) → may_precede token_line token_column x y ≡ true → may_precede token_line token_column y z ≡ true → may_precede token_line token_column x z ≡ true
 precede-twice x y z h k = grind (arith, h, k)
 
@@ -111,7 +111,7 @@ pub line_goes_on : (n : ℕ) (ts : List TokenRecord) → are_tokens_sorted ts �
 line_goes_on n [] h = refl
 line_goes_on n (t ∷ ts) h = goes_on-by (t.dst_line == n) n t ts refl (sorted-precedes t ts h) (line_goes_on n ts (sorted-tail t ts h))
 
--- so an answer that stands where columns go on stands for a sorted map's own table
+-- what holds of a row whose columns do not go back holds of a row of a sorted map's own table
 pub own_table : {A : Type 0} (F : List TokenRecord → A) (answer : A) (n : ℕ) (tokens : List TokenRecord) (table : List (List TokenRecord))
     → (no_column_goes_back token_column (slice_of table n) ≡ true → answer ≡ F (slice_of table n))
     → are_tokens_sorted tokens ≡ true → line_table tokens ≡ Ok table → answer ≡ F (on_line token_line n tokens)

@@ -16,7 +16,7 @@ pub last_at : {A : Type 0} (xs : List A) → last xs ≡ slice_get xs (length xs
 last_at [] = refl
 last_at (x ∷ xs) = last_or-at x xs ∙ ap (slice_get (x ∷ xs)) (omega arith)
 
--- no token lies on a line before that of the token before, nor before this one
+-- tokens in line order, none of them before this line
 abbrev pub IsFrom : ℕ → List TokenRecord → Type 0
 IsFrom from [] = Unit {0}
 IsFrom from (t ∷ ts) = (from ≤ t.dst_line) × IsFrom t.dst_line ts
@@ -37,7 +37,7 @@ from-in_order from [] p = refl
 from-in_order from (t ∷ []) p = refl
 from-in_order from (t ∷ u ∷ us) p = grind (arith, p.1.0, from-in_order t.dst_line (u ∷ us) p.1)
 
--- so the first one does not lie before that line
+-- the first of tokens in line order from a line on does not lie before that line
 pub not_begins_before : (line : ℕ) (ts : List TokenRecord) → IsFrom line ts → option_map_or (λ t. nat_lt t.dst_line line) (slice_get ts 0) false ≡ true → ⊥
 not_begins_before line [] p e = cc (e)
 not_begins_before line (t ∷ ts) p e =
@@ -54,12 +54,12 @@ pub IsFrom-le : (a b : ℕ) (ts : List TokenRecord) → a ≤ b → IsFrom b ts 
 IsFrom-le a b [] h p = p
 IsFrom-le a b (t ∷ ts) h p = (omega (arith, h, p.0), p.1)
 
--- nothing lies on a line before the first one
+-- tokens in line order from a line on have none on the lines before it
 pub on_line-before : (n from : ℕ) (ts : List TokenRecord) → IsFrom from ts → n < from → on_line token_line n ts ≡ []
 on_line-before n from [] p h = refl
 on_line-before n from (t ∷ ts) p h = grind (arith, p.0, h, on_line-before n t.dst_line ts p.1)
 
--- the front is the line
+-- the tokens at the front that lie on the line are all that do
 pub front : (line : ℕ) (ts : List TokenRecord) → IsFrom line ts → take (prefix_len (λ t. t.dst_line == line) ts) ts ≡ on_line token_line line ts
 front line [] p = refl
 front line (t ∷ ts) p =
@@ -72,12 +72,12 @@ left_at : (b : Bool) (line n : ℕ) (t : TokenRecord) (ts : List TokenRecord) �
 left_at true line n t ts e p more = rw (drop-one n (1 + n) t ts (omega arith)) more
 left_at false line n t ts e p more = (grind (arith, e, p.0), p.1)
 
--- what is left begins after the line
+-- once the tokens on the line are cut off, the others lie after it
 pub left : (line : ℕ) (ts : List TokenRecord) → IsFrom line ts → IsFrom (line + 1) (drop (prefix_len (λ t. t.dst_line == line) ts) ts)
 left line [] p = p
 left line (t ∷ ts) p = left_at (t.dst_line == line) line (prefix_len (λ t. t.dst_line == line) ts) t ts refl p (left line ts (IsFrom-le line t.dst_line ts p.0 p.1))
 
--- what begins on the line is in order if what is left is
+-- tokens are in line order from a line on if those after its front are from the next line on
 joined_at : (b : Bool) (line n : ℕ) (t : TokenRecord) (ts : List TokenRecord) → (t.dst_line == line) ≡ b → (IsFrom (line + 1) (drop n ts) → IsFrom line ts) → IsFrom (line + 1) (drop (cond b (1 + n) 0) (t ∷ ts)) → IsFrom line (t ∷ ts)
 joined_at true line n t ts e more p =
     let same : t.dst_line ≡ line = grind (arith, e) in
@@ -88,7 +88,7 @@ pub joined : (line : ℕ) (ts : List TokenRecord) → IsFrom (line + 1) (drop (p
 joined line [] p = tt
 joined line (t ∷ ts) p = joined_at (t.dst_line == line) line (prefix_len (λ t. t.dst_line == line) ts) t ts refl (joined line ts) p
 
--- and has all tokens of other lines
+-- without the tokens on the line, a list has the same tokens on later lines
 pub others : (n line : ℕ) (ts : List TokenRecord) → line < n → on_line token_line n (drop (prefix_len (λ t. t.dst_line == line) ts) ts) ≡ on_line token_line n ts
 others n line [] h = refl
 others n line (t ∷ ts) h =
@@ -96,7 +96,7 @@ others n line (t ∷ ts) h =
     let one = drop-one k (1 + k) t ts in
     grind (arith, one, h, others n line ts h)
 
--- one number more
+-- one more row of a table
 pub rows-push : {X : Type 0} (f : ℕ → X) (a n : ℕ) → map f (range_with_len a (suc n)) ≡ map f (range_with_len a n) ++ f (a + n) ∷ []
 rows-push f a zero = ap (λ i. f i ∷ []) (omega arith)
 rows-push f a (suc n) = ap (λ rows. f a ∷ rows) (rows-push f (a + 1) n ∙ ap (λ i. map f (range_with_len (a + 1) n) ++ f i ∷ []) (omega arith))

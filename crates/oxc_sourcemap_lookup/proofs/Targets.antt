@@ -14,7 +14,7 @@ use Rattle.oxc_sourcemap_lookup.specs.InheritedNames.{with_inherited, inherited_
 use Rattle.oxc_sourcemap_lookup.specs.Composed.{Target, target_of, if_mapped, found_on, line_of, target_in, inherited_name, inherited_id, composed_names, composed_token, may_be_id, are_ids, MayFind, IsTarget, AreTargets}
 use Rattle.oxc_sourcemap_lookup.proofs.InheritedNames.{IsPlaced, inherited-stays, placed-inherited, names-cons, names-append, all-placed, tokens-stay, ids-stay}
 
--- what is looked up is of the list
+-- what holds of all items holds of one that a lookup finds
 module _ {A : Type 0} (P : A → Type 0) where
   filter-all : (p : A → Bool) (xs : List A) → AllByRecursion P xs → AllByRecursion P (filter p xs)
   filter-all p [] h = tt
@@ -66,7 +66,7 @@ if_some-first : {A : Type 0} (P Q : A → Type 0) (o : Option A) → IfSome o (�
 if_some-first P Q None h = tt
 if_some-first P Q (Some x) h = h.0
 
--- so what holds of all tokens holds of the one that a token leads to
+-- what holds of all tokens holds of the one that a token leads to
 pub found-all : (P : TokenRecord → Type 0) (bs : List TokenRecord) (t : TokenRecord) → AllByRecursion P bs → IfSome (found_on (line_of bs t) t) P
 found-all P bs t h =
     if_some-first P (λ u. is_mapped u ≡ true) (found_on (line_of bs t) t)
@@ -85,7 +85,7 @@ clamped-none (Some t) line e = cc (e)
 clamped-none None [] e = refl
 clamped-none None (t ∷ line) e = cc (e)
 
--- what the clamped lookup finds it may find
+-- the token of `clamped_at` is one that a clamped lookup may find
 may_find : (line : List TokenRecord) (col : ℕ) → MayFind line col (clamped_at token_column line col)
 may_find line col = record {
   exact = λ _. refl;
@@ -113,7 +113,7 @@ targets-append ts us bs ls ms h k = (
   all-append _ ls ms h.1 k.1,
 )
 
--- what is made of some tokens, with the names that have come to be
+-- the tokens composed so far, with the names so far
 pub record Made (olds old : List Text) (ts bs : List TokenRecord) (now : List Text) (made : List TokenRecord) : Type 0 where
   pub ls : List Target
   pub targets : AreTargets ts bs ls
@@ -124,11 +124,11 @@ pub record Made (olds old : List Text) (ts bs : List TokenRecord) (now : List Te
 pub made-none : (olds old : List Text) (bs : List TokenRecord) → Made olds old [] bs old []
 made-none olds old bs = record { ls = []; targets = (refl, tt); names = refl; tokens = refl; ids = refl }
 
--- a last lead
+-- the composed names with one more target
 names-last : (olds old : List Text) (ls : List Target) (l : Target) → composed_names olds old (ls ++ l ∷ []) ≡ with_inherited (composed_names olds old ls) (inherited_name olds l)
 names-last olds old ls l = names-append olds old ls (l ∷ []) ∙ names-cons olds (composed_names olds old ls) l []
 
--- the inherited names, as texts that come in
+-- an inherited name, as a list of texts to add
 abbrev inherited_texts : Option Text → List Text
 inherited_texts None = []
 inherited_texts (Some x) = x ∷ []
@@ -161,7 +161,7 @@ made-more olds old ts us bs now next made mores l m u h n t i =
       ids = list_all-append (λ l. may_be_id (inherited_id olds next l)) m.ls (l ∷ []) ∙ ap (λ b. b && (may_be_id (inherited_id olds next l) && true)) ids ∙ and-true (may_be_id (inherited_id olds next l)) ∙ i;
     }
 
--- one name is past the ids, whatever comes after it
+-- a name past the last id stays past it, whatever names are added
 past-stays : (names more : List Text) (o : Option Text) → IsPlaced names o → may_be_id (inherited_index names o) ≡ false → may_be_id (inherited_index (with_texts names more) o) ≡ false
 past-stays names more o p h = ap may_be_id (inherited-stays names more o p) ∙ h
 
@@ -186,7 +186,7 @@ past-all olds old ts bs now made l more all m u h p =
       list_all-append (λ l. may_be_id (inherited_id olds names l)) m.ls (l ∷ rest) ∙ and-false (are_ids olds names m.ls) (may_be_id (inherited_id olds names l)) (are_ids olds names rest) past,
     )
 
--- where columns go on, a target is the one of the clamped lookup
+-- on a line whose columns do not go back, the target is that of `clamped_at`
 found-is : (line : List TokenRecord) (l : Target) → IsTarget line l → no_column_goes_back token_column line ≡ true → l.found ≡ found_on line l.token
 found-is line l h g =
     let here = option_and_then if_mapped (clamped_at token_column line l.token.src_col) in

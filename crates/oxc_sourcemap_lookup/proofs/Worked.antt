@@ -12,7 +12,7 @@ use Rattle.oxc_sourcemap_lookup.specs.Lookup.{pick, clamped_pick, line_table}
 use Rattle.oxc_sourcemap_lookup.specs.LineSpans.{AreStarts}
 use Rattle.oxc_sourcemap_lookup.specs.Trace.{trace}
 
--- generated line and column, source line and column, source id, name id
+-- a token from its generated line and column, source line and column, source id, name id
 abbrev token : ℕ → ℕ → ℕ → ℕ → Option ℕ → Option ℕ → TokenRecord
 token dst_line dst_col src_line src_col source_id name_id =
     record { dst_line = dst_line; dst_col = dst_col; src_line = src_line; src_col = src_col; source_id = source_id; name_id = name_id }

@@ -6,7 +6,7 @@ use Rattle.oxc_sourcemap_parts.specs.Record.{Text, MapRecord}
 use Rattle.oxc_sourcemap_parts.specs.Views.{empty_record}
 use Rattle.oxc_sourcemap_lookup.specs.Composed.{composed, composition}
 
--- generated line and column, source line and column, source id, name id
+-- a token from its generated line and column, source line and column, source id, name id
 abbrev token : ℕ → ℕ → ℕ → ℕ → Option ℕ → Option ℕ → TokenRecord
 token dst_line dst_col src_line src_col source_id name_id =
     record { dst_line = dst_line; dst_col = dst_col; src_line = src_line; src_col = src_col; source_id = source_id; name_id = name_id }
@@ -30,7 +30,7 @@ composes-names_of_both :
     ≡ Ok (one_source (codes "y" ∷ codes "x" ∷ []) (token 0 0 4 4 (Some 0) (Some 0) ∷ token 0 3 5 5 (Some 0) (Some 1) ∷ []))
 composes-names_of_both = refl
 
--- three steps, grouped in both ways
+-- ---- three maps, composed in both groupings
 abbrev map_a : MapRecord
 map_a = one_source (codes "p" ∷ []) (token 0 0 0 1 (Some 0) (Some 0) ∷ [])
 

@@ -31,7 +31,7 @@ if_mapped t = if is_mapped t then Some t else None
 abbrev pub found_on : List TokenRecord → TokenRecord → Option TokenRecord
 found_on line t = option_and_then (λ _. option_and_then if_mapped (clamped_at token_column line t.src_col)) t.source_id
 
--- the tokens of a second map that a token leads into
+-- the tokens of a second map on the line of a token's source position
 abbrev pub line_of : List TokenRecord → TokenRecord → List TokenRecord
 line_of bs t = on_line token_line t.src_line bs
 
@@ -41,7 +41,7 @@ target_in bs t = target_of t (found_on (line_of bs t) t)
 abbrev pub targets : MapRecord → MapRecord → List Target
 targets a b = map (target_in b.tokens) a.tokens
 
--- The name that a token takes along to the one that it leads to: none where that has a name of its own.
+-- The name that a token passes on to the one that it leads to: none if that has a name id of its own.
 abbrev pub kept_name : List Text → TokenRecord → Option ℕ → Option Text
 kept_name names t (Some id) = None
 kept_name names t None = name_of names t
@@ -58,8 +58,8 @@ composed_names first second ls = with_texts second (filter_map (inherited_name f
 abbrev pub inherited_id : List Text → List Text → Target → Option ℕ
 inherited_id first names l = option_and_then (λ name. index_of name names) (inherited_name first l)
 
--- A token stays where it is in generated code. It has the source, the source position and the name of what it leads to; the
--- last may be a name that it takes along.
+-- A token keeps its generated position. It gets the source, the source position and the name of the token that it leads to;
+-- if that has no name, it has this name id.
 abbrev pub token_through : TokenRecord → Option ℕ → Option TokenRecord → TokenRecord
 token_through t name_id None =
     record { dst_line = t.dst_line; dst_col = t.dst_col; src_line = 0; src_col = 0; source_id = None; name_id = None }
@@ -86,16 +86,16 @@ composed_by ls a b = record {
 abbrev pub composed : MapRecord → MapRecord → MapRecord
 composed a b = composed_by (targets a b) a b
 
--- whether a token can have this id, or none
+-- whether a token can have this id: none, or one up to 4294967294
 abbrev pub may_be_id : Option ℕ → Bool
 may_be_id None = true
 may_be_id (Some id) = nat_lt id 4294967295
 
--- whether all names inherited from the first map have such ids
+-- whether tokens can have the ids of all names inherited from the first map
 abbrev pub are_ids : List Text → List Text → List Target → Bool
 are_ids first names ls = list_all (λ l. may_be_id (inherited_id first names l)) ls
 
--- Why two maps are not composed: the first has several sources, or the tokens of the second go back in lines.
+-- The fault of two maps to compose: the first has several sources, or the tokens of the second go back in lines.
 abbrev pub composition_fault : MapRecord → MapRecord → Option Error
 composition_fault a b =
     if nat_lt 1 (length a.sources) then Some (SeveralSources (length a.sources))
@@ -106,7 +106,7 @@ abbrev pub composition_by : List Target → MapRecord → MapRecord → Result M
 composition_by ls a b = unless (composition_fault a b)
     (if are_ids a.names (composed_names a.names b.names ls) ls then Ok (composed_by ls a b) else Err TooLarge)
 
--- The composition of two maps: the composed map, or the first error.
+-- The composition of two maps: the composed map, or the first fault.
 abbrev pub composition : MapRecord → MapRecord → Result MapRecord Error
 composition a b = composition_by (targets a b) a b
 
@@ -124,11 +124,11 @@ pub record IsTarget (line : List TokenRecord) (l : Target) : Type 0 where
   pub mapped : is_mapped l.token ≡ true
       → (found : Option TokenRecord) × MayFind line l.token.src_col found × (l.found ≡ option_and_then if_mapped found)
 
--- targets of these tokens into those
+-- targets of the tokens of a first map, in order, among the tokens of a second
 abbrev pub AreTargets : List TokenRecord → List TokenRecord → List Target → Type 0
 AreTargets ts bs ls = (map (λ l. l.token) ls ≡ ts) × AllByRecursion (λ l. IsTarget (line_of bs l.token) l) ls
 
--- what some targets of the first map's tokens into the second map's make
+-- a result of the composition, for some targets; there are several only if columns go back on a line of the second map
 abbrev pub SomeComposition : MapRecord → MapRecord → Result MapRecord Error → Type 0
 SomeComposition a b answer = (ls : List Target) × AreTargets a.tokens b.tokens ls × (composition_by ls a b ≡ answer)
 

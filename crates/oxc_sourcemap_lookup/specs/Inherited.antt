@@ -1,4 +1,4 @@
--- What is kept of the names inherited from the first of two maps. No public contract cites it.
+-- What code keeps of the names inherited from the first of two maps. No public contract cites this module.
 use Rattle.std.specs.Prelude.{◌≡◌, ℕ, ◌<◌, List, [], ◌++◌, length, map, slice_get, Some}
 use Rattle.std.specs.Borrow.{Bor}
 use Rattle.std.specs.Str.{bytes_eq}
@@ -12,16 +12,16 @@ use Rattle.oxc_sourcemap_lookup.specs.declared.inherited_names.InheritedNames.{I
 abbrev pub names_with : List Text → InheritedNames → List Text
 names_with second inherited = second ++ map (λ name. name.now) inherited.names.items
 
--- this map has the place of each of these texts, and no other text
+-- this map has the index of each of these texts, and no other text
 abbrev pub HasPlaces : {S : Type 0} → List Text → HashMap (Bor Text) ℕ S → Type 0
 HasPlaces texts places = (text : Text) → hash.get_by (λ key. bytes_eq text key.now) places ≡ index_of text texts
 
--- the map of places is filled, or there are no inherited names
+-- the map of indices is filled, or no name was inherited so far
 pub record HasNames (second : List Text) (inherited : InheritedNames) : Type 0 where
   pub places : 0 < length inherited.places.entries → HasPlaces (names_with second inherited) inherited.places
   pub none : length inherited.places.entries ≡ 0 → inherited.names.items ≡ []
 
--- and each id that a name of the first map has got is that of the name
+-- the map of indices is right, and so is each id that is kept for a name of the first map
 pub record IsInheriting (first second : List Text) (inherited : InheritedNames) : Type 0 where
   pub names : HasNames second inherited
   pub each : length inherited.ids.items ≡ length first

@@ -38,7 +38,7 @@ pub record AreSpans (tokens : List TokenRecord) (spans : List LineSpan) : Type 0
   pub rise : DoLinesRise spans
   pub others : (n : ℕ) → All (λ span. span.line ≢ n) spans → on_line token_line n tokens ≡ []
 
--- either of the two
+-- where the tokens of each line lie, in either form
 abbrev pub AreLines : List TokenRecord → Lines → Type 0
 AreLines tokens (Starts starts) = AreStarts tokens starts.items
 AreLines tokens (Spans spans) = AreSpans tokens spans.items

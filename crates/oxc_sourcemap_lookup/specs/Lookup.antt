@@ -27,15 +27,15 @@ not_past column col items = filter (λ x. nat_le (column x) col) items
 abbrev pub in_column : {A : Type 0} → (A → ℕ) → ℕ → List A → List A
 in_column column col items = filter (λ x. column x == col) items
 
--- Of the items whose column is the greatest one not past the asked one: the first where that is the asked one, else the
--- last. None where there are none.
+-- Of the items whose column is the greatest one not past the given one: the first if that is the given one, else the last.
+-- None if there are no such items.
 abbrev pub at : {A : Type 0} → (A → ℕ) → List A → ℕ → Option A
 at column items col =
     let best = greatest column (not_past column col items) in
     let near = in_column column best (not_past column col items) in
     if best == col then first near else last near
 
--- `at`, and the first item in place of none
+-- as `at`, but with the first item in place of none
 abbrev pub clamped_at : {A : Type 0} → (A → ℕ) → List A → ℕ → Option A
 clamped_at column items col = option_or (at column items col) (first items)
 
@@ -43,10 +43,11 @@ clamped_at column items col = option_or (at column items col) (first items)
 abbrev pub on_line : {A : Type 0} → (A → ℕ) → ℕ → List A → List A
 on_line line n items = filter (λ x. line x == n) items
 
--- `at` and `clamped_at` of the items on a line
+-- `at` of the items on a line
 abbrev pub pick : {A : Type 0} → (A → ℕ) → (A → ℕ) → List A → ℕ → ℕ → Option A
 pick line column items n col = at column (on_line line n items) col
 
+-- `clamped_at` of the items on a line
 abbrev pub clamped_pick : {A : Type 0} → (A → ℕ) → (A → ℕ) → List A → ℕ → ℕ → Option A
 clamped_pick line column items n col = clamped_at column (on_line line n items) col
 
@@ -56,7 +57,7 @@ no_column_goes_back column [] = true
 no_column_goes_back column (x ∷ []) = true
 no_column_goes_back column (x ∷ y ∷ more) = nat_le (column x) (column y) && no_column_goes_back column (y ∷ more)
 
--- how many lines there are up to that of this token, and none without one
+-- how many lines there are up to that of this token; 0 without one
 abbrev pub lines_through : Option TokenRecord → ℕ
 lines_through None = 0
 lines_through (Some t) = t.dst_line + 1
@@ -65,7 +66,7 @@ lines_through (Some t) = t.dst_line + 1
 abbrev pub tokens_by_line : List TokenRecord → List (List TokenRecord)
 tokens_by_line tokens = map (λ n. on_line token_line n tokens) (range_with_len 0 (lines_through (last tokens)))
 
--- Why a list of tokens has no lookup table: one of them lies on a line before that of the token before.
+-- The fault of a list of tokens without a lookup table: one of them lies on a line before that of the token before.
 abbrev pub table_fault : List TokenRecord → Option Error
 table_fault tokens = option_map LineOrder (first_out_of_order tokens)
 
@@ -77,13 +78,14 @@ line_table tokens = unless (table_fault tokens) (Ok (tokens_by_line tokens))
 abbrev pub slice_of : List (List TokenRecord) → ℕ → List TokenRecord
 slice_of table n = unwrap_or (slice_get table n) []
 
--- the token that a position looks up, and the one that it looks up clamped
+-- the token that the lookup of a position finds
 abbrev pub token_for : List TokenRecord → ℕ → ℕ → Option TokenRecord
 token_for tokens line col = pick token_line token_column tokens line col
 
+-- the token that the clamped lookup of a position finds
 abbrev pub clamped_token_for : List TokenRecord → ℕ → ℕ → Option TokenRecord
 clamped_token_for tokens line col = clamped_pick token_line token_column tokens line col
 
--- This holds, if the tokens are sorted and the table is their own.
+-- A statement holds, if the tokens are sorted and the table is their own.
 abbrev pub IfOwnTable : List TokenRecord → List (List TokenRecord) → Type 0 → Type 0
 IfOwnTable tokens table holds = are_tokens_sorted tokens ≡ true → line_table tokens ≡ Ok table → holds

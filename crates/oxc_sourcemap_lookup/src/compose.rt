@@ -19,8 +19,8 @@ use oxc_sourcemap_tokens::{Error, Result, Token};
 use std::alloc::Global;
 use std::borrow::CowStr;
 
-/// The token of the composed map for a token of the first one, and for what that leads to. It may inherit a name of the
-/// first map.
+/// The token of the composed map for a token of the first one and the token that it leads to, if any. It may inherit a name
+/// of the first map.
 fn composed_token<'n>(
     inherited: &mut InheritedNames<'n>,
     first: &'n [CowStr<'_>],
@@ -59,7 +59,7 @@ fn composed_token<'n>(
 }
 
 /// The mapped token that a token leads to, by the clamped lookup of its source position among the tokens of the second map.
-/// Its line is looked for first at `near`, which becomes the place where it was found.
+/// `near` is that of `LineIndex::tokens_near`.
 fn target(index: &LineIndex, input: &[Token], token: &Token, near: &mut usize) -> Option<Token>
     requires { IsIndexOf input.now index.now }
     ensures { IsTarget (line_of input.now token.now) (target_of token.now result) }
@@ -71,8 +71,8 @@ fn target(index: &LineIndex, input: &[Token], token: &Token, near: &mut usize) -
     Some(found)
 }
 
-/// The tokens of the composed map, for the tokens and names of the first map and those of the second; and copies of the
-/// names that come after those of the second.
+/// The tokens of the composed map, from the tokens and names of the two maps, and copies of the names that it has after those
+/// of the second map.
 fn composed_tokens<'a>(
     alloc: Global,
     first: &[CowStr<'_>],
@@ -119,7 +119,7 @@ fn input_index(
     LineIndex::new(alloc, second.tokens.as_slice())
 }
 
-/// Makes the second map the composition of the two. Texts of the first that it keeps are moved.
+/// Turns the second map into the composition of the two. It gets the file and the debug id of the first, moved if owned.
 fn compose_into(
     alloc: Global,
     first: &mut SourceMapParts<'_>,
@@ -146,11 +146,11 @@ fn compose_into(
     Ok(())
 }
 
-/// The composition of the maps of two lists of parts: of the first map, from generated to intermediate code, and the
-/// second, from there to original code. (docs/FORMAT.md, "Composition".)
+/// The composition of two maps, as parts: the first from generated to intermediate code, the second from there to original
+/// code (docs/FORMAT.md, "Composition").
 ///
 /// Fails in this order; both are then dropped: `SeveralSources(n)`, `LineOrder(i)` for the tokens of the second map,
-/// `TooLarge`, and `OutOfMemory` if memory is refused. The first two are reported wherever they hold.
+/// `TooLarge`, and `OutOfMemory` for want of memory. The first two are reported whenever they hold.
 pub fn compose_parts<'input>(
     alloc: Global,
     mut first: SourceMapParts<'_>,

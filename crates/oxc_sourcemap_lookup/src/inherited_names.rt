@@ -15,18 +15,18 @@ use std::alloc::Global;
 use std::borrow::CowStr;
 use std::collections::HashMap;
 
-/// The names inherited from the first map so far, and what is known of names. Texts are borrowed from both maps.
+/// The names inherited from the first map so far, and the ids of names that are known. Names are borrowed from both maps.
 #[derive(Drop)]
 pub(crate) struct InheritedNames<'n> {
     /// The inherited names that the second map does not have, in the order in which they were inherited.
     names: Vec<&'n str>,
     /// The index of each name of the second map, and after these of each of `names`. Empty until a name is inherited.
     places: HashMap<&'n str, usize>,
-    /// The id that each name of the first map has got.
+    /// The id in the composed map of each name of the first map that was inherited.
     ids: Vec<Option<u32>>,
 }
 
-/// No names, where the first map has this many.
+/// No inherited names yet, for two maps with these names.
 pub(crate) fn no_names<'n>(
     alloc: Global,
     first: &[CowStr<'_>],
@@ -43,7 +43,7 @@ pub(crate) fn no_names<'n>(
     })
 }
 
-/// Gives each name its place.
+/// Stores the index of each name, that of the first where names are equal.
 fn fill_places<'n>(places: &mut HashMap<&'n str, usize>, names: &'n [CowStr<'_>]) -> Memory<()>
     requires { places.old.entries ≡ [] }
     ensures { OnOk result (HasPlaces (cow_texts names.now) places.new) }
@@ -55,7 +55,7 @@ fn fill_places<'n>(places: &mut HashMap<&'n str, usize>, names: &'n [CowStr<'_>]
     Ok(())
 }
 
-/// Fills the map of places, unless it is filled.
+/// Stores the indices of the second map's names, unless that is done: it is put off until a name is inherited.
 fn fill<'n>(inherited: &mut InheritedNames<'n>, second: &'n [CowStr<'_>]) -> Memory<()>
     requires { HasNames (cow_texts second.now) inherited.old }
     ensures places { OnOk result (HasPlaces (names_with (cow_texts second.now) inherited.new) inherited.new.places) }
@@ -68,7 +68,7 @@ fn fill<'n>(inherited: &mut InheritedNames<'n>, second: &'n [CowStr<'_>]) -> Mem
     Ok(())
 }
 
-/// The id at this place.
+/// An index as an id; `TooLarge` above 4294967294.
 fn id_at(index: usize) -> Result<u32>
     ensures id { IfOk result (λ id. (id ≡ index) × (id < 4294967295)) }
     ensures too_large { IfErr result (λ e. (e ≡ TooLarge) × (4294967295 ≤ index)) }
@@ -79,7 +79,7 @@ fn id_at(index: usize) -> Result<u32>
     Ok(index as u32)
 }
 
-/// The id of a name: that of the equal one, else that of a new last one.
+/// The id of a name in the composed map: that of an equal name, else that of a new last one.
 fn inherit_name<'n>(
     inherited: &mut InheritedNames<'n>,
     second: &'n [CowStr<'_>],

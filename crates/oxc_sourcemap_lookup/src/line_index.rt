@@ -31,8 +31,8 @@ enum Lines {
     Spans(Vec<LineSpan>),
 }
 
-/// Where the tokens of each line lie in a list of tokens in line order. It takes memory for every line where lines are few
-/// beside tokens, and else for those that have tokens: at most 24 bytes a token, and 68. It borrows nothing.
+/// Where the tokens of each line lie in a list of tokens in line order. It takes memory for every line if there are few lines
+/// for so many tokens, else for those that have tokens: at most 24 bytes a token, and 68. It borrows nothing.
 #[derive(Drop)]
 pub struct LineIndex {
     lines: Lines,
@@ -91,7 +91,7 @@ fn spans_of(alloc: Global, tokens: &[Token]) -> Memory<Option<Vec<LineSpan>>>
     Ok(Some(spans))
 }
 
-/// Where the lines lie; None if the tokens are not in line order.
+/// Where the tokens of each line lie, in one form or the other; None if the tokens are not in line order.
 fn lines_of(alloc: Global, tokens: &[Token]) -> Memory<Option<Lines>>
     ensures lines { IfOk result (λ found. IfSome found (λ lines. AreLines tokens.now lines)) }
     ensures out_of_order { IfOk result (λ found. IsNone found → IsInLineOrder tokens.now → ⊥) }
@@ -142,7 +142,8 @@ fn find(spans: &[LineSpan], line: u32, near: usize) -> Option<usize>
     None
 }
 
-/// The tokens on a line, by the spans of lines. The line is looked for first at `near`, which becomes its place.
+/// The tokens on a line, by the spans of lines. The line is looked for first at the index `near`, which becomes that of its
+/// span.
 fn tokens_by_span<'t>(
     spans: &[LineSpan],
     tokens: &'t [Token],
@@ -176,8 +177,8 @@ fn tokens_by_start<'t>(starts: &[u32], tokens: &'t [Token], line: u32) -> &'t [T
 impl LineIndex {
     /// The index of the lines of tokens, made in one walk over them.
     ///
-    /// Fails with `LineOrder(i)` for the first token whose line is smaller than that of the token before, wherever there is
-    /// one, and else with `OutOfMemory` if memory is refused.
+    /// Fails with `LineOrder(i)` for the first token whose line is smaller than that of the token before, whenever there is
+    /// one, and else, for want of memory, with `OutOfMemory`.
     pub fn new(alloc: Global, tokens: &[Token]) -> Result<LineIndex>
         ensures index { IfOk result (λ index. IsIndexOf tokens.now index) }
         ensures error { FailsBy (option_map LineOrder (first_out_of_order tokens.now)) result }
@@ -192,8 +193,8 @@ impl LineIndex {
         }
     }
 
-    /// The tokens on a line, in order. Where it is found by halving, it is looked for first at `near`, any number, and `near`
-    /// becomes the place where it was found: pass the same variable to calls whose lines are mostly close to one another.
+    /// The tokens on a line, in order. An index that finds lines by halving looks first at `near`, which may be any number and
+    /// becomes where the line was found: pass the same variable to calls whose lines are mostly close to one another.
     pub fn tokens_near<'t>(&self, tokens: &'t [Token], line: u32, near: &mut usize) -> &'t [Token]
         requires { IsIndexOf tokens.now self.now }
         ensures { result.now ≡ on_line token_line line tokens.now }

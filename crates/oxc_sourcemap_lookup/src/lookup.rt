@@ -1,4 +1,4 @@
-//! Lookup tables over slices of tokens, and lookups on a line. (In the Rust crate these stand in the module `sourcemap`.)
+//! Lookup tables over slices of tokens, and lookups on a line. (In the Rust crate they are in the module `sourcemap`.)
 ghost use Rattle.std.specs.Prelude.{◌≡◌, ◌↔◌, ◌==◌, ◌+◌, ◌<◌, ◌≤◌, nat_lt, true, false, IsTrue, length, take, slice_get, IfOk, IfSome, IsNone, Ok, Err, Some, None, [], if◌then◌else◌};
 ghost use Rattle.std.specs.Option.{option_map_or};
 ghost use Rattle.std.specs.List.{Contains, prefix_len};
@@ -31,7 +31,7 @@ fn is_on(token: &Token, line: u64) -> bool
     u64::from(token.get_dst_line()) == line
 }
 
-/// Whether the first four tokens lie on a line: all are compared, without a branch.
+/// Whether the first four tokens lie on a line. All are compared, to have no branch.
 fn are_four_on(tokens: &[Token], line: u64) -> bool
     requires { 4 ≤ length tokens.now }
     ensures { IsTrue result ↔ (prefix_len (λ t. t.dst_line == line) (take 4 tokens.now) ≡ 4) }
@@ -42,14 +42,14 @@ fn are_four_on(tokens: &[Token], line: u64) -> bool
         & is_on(&tokens[3], line)
 }
 
-/// How many tokens at the front lie on a line, one by one.
+/// How many tokens at the front lie on a line, counted one by one.
 fn count_on(tokens: &[Token], line: u64) -> usize
     ensures { result ≡ prefix_len (λ t. t.dst_line == line) tokens.now }
 {
     tokens.iter().take_while(|token| is_on(token, line)).count()
 }
 
-/// How many tokens at the front lie on a line, four by four and then one by one.
+/// How many tokens at the front lie on a line, counted four by four and then one by one.
 pub(crate) fn line_length(tokens: &[Token], line: u64) -> usize
     ensures { result ≡ prefix_len (λ t. t.dst_line == line) tokens.now }
 {
@@ -111,7 +111,7 @@ fn mask_if_less(x: u32, y: u64) -> usize
     (u128::from(x).wrapping_sub(u128::from(y)) >> 64) as usize
 }
 
-/// `count` if a token lies before the column `col`, else 0. A lookup compares columns here alone, and counts each comparison.
+/// `count` if a token lies before the column `col`, else 0. A lookup compares columns only here, and counts each comparison.
 fn compare_column(token: &Token, col: u64, count: usize, steps: &mut u64) -> usize
     requires { steps.old < 18446744073709551615 }
     ensures value { result ≡ (if nat_lt token.now.dst_col col then count else 0) }
@@ -141,11 +141,11 @@ fn count_before(line: &[Token], col: u32, steps: &mut u64) -> usize
     start
 }
 
-/// Looks up a column on one line. The answer is the first token at `col`; if none is there, the last token of the greatest
+/// Looks up a column on one line. The result is the first token at `col`; if none is there, the last token of the greatest
 /// column below `col`; if all are above, None. On a line whose columns go back, it is some token of the line, or None.
 ///
 /// `steps` is set to the number of columns that were compared with `col`: at most as many as the number of tokens has binary
-/// digits, and one more. No memory is taken.
+/// digits, and one more. Takes no memory.
 pub fn search(line: &[Token], col: u32, steps: &mut u64) -> Option<Token>
     ensures found { no_column_goes_back token_column line.now ≡ true → result ≡ at token_column line.now col }
     ensures among { IfSome result (Contains line.now) }
@@ -161,7 +161,7 @@ pub fn search(line: &[Token], col: u32, steps: &mut u64) -> Option<Token>
     line[..end].last().copied()
 }
 
-/// `search`, and the first token in place of None.
+/// As `search`, but with the first token of the line in place of None.
 pub fn search_clamped(line: &[Token], col: u32) -> Option<Token>
     ensures found { no_column_goes_back token_column line.now ≡ true → result ≡ clamped_at token_column line.now col }
     ensures among { IfSome result (Contains line.now) }
@@ -173,8 +173,8 @@ pub fn search_clamped(line: &[Token], col: u32) -> Option<Token>
 /// The lookup table of tokens: for each generated line up to the last token's, the tokens on it, borrowed, in order.
 /// Without tokens it has no slices.
 ///
-/// Fails with `LineOrder(i)` for the first token whose line is smaller than that of the token before, and with
-/// `OutOfMemory` if memory is refused. The first is reported wherever it holds.
+/// Fails with `LineOrder(i)` for the first token whose line is smaller than that of the token before, whenever there is
+/// one, and else, for want of memory, with `OutOfMemory`.
 pub fn lookup_table(alloc: Global, tokens: &[Token]) -> Result<Vec<&[Token]>>
     ensures table { Answers (λ table. lent_items table.items) result (line_table tokens.now) }
     ensures fault { Reports (table_fault tokens.now) result }

@@ -1,4 +1,4 @@
--- What a text reads as is a list in order and in bounds, which carries its source positions.
+-- The tokens of a text are in order and in bounds, and its unmapped tokens have the source position of the state.
 use Rattle.std.proofs.Common.{◌≡◌, ℕ, ◌+◌, ◌<◌, ◌≤◌, true, false, cond, ◌||◌, ◌==◌, nat_lt, nat_le, List, [], ◌∷◌, ◌++◌, length, ℤ, pos, negsuc, min, arith, refl, sym, ap, ◌∙◌, inl, inr, ◌⊎◌, Option, Some, None, Result, Ok, Err, subst}
 use Rattle.std.specs.List.{AllByRecursion}
 use Rattle.std.proofs.lemmas.Bool.{cases_lt, cases_eq}
@@ -175,7 +175,7 @@ ok-token : (o : Option Error) (t u : TokenRecord) → ◌≡◌ {A = Result Toke
 ok-token None t u e = (refl, cc)
 ok-token (Some d) t u e = cc
 
--- the same, of a segment
+-- the token of a segment that is read after a state
 pub segment_result-follows : (names sources line column : ℕ) (s : State) (sg : Segment) (t : TokenRecord) → line < 4294967296 → IsBounded s
     → segment_result (counts_of names sources) line (standing column s) sg (moved_by (standing column s) sg) ≡ Ok t → Follows names sources line s t (moved_by (standing column s) sg)
 segment_result-follows names sources line column s sg t small h e =

@@ -33,7 +33,7 @@ pub digit-vlq_text : (n : ℕ) → map digit (vlq_text n) ≡ digits n n
 unfolding vlq_text
 digit-vlq_text n = map-digit (digits n n) (digits-below n n (omega arith))
 
--- one run
+-- a digit below 32 is a run by itself
 runs-small : (n : ℕ) (rest : List ℕ) → n < 32 → runs (n ∷ rest) ≡ (n ∷ []) ∷ runs rest
 runs-small n rest s = let t : ends_run n ≡ true = grind (arith, nat_tests) in rw t
 
@@ -71,7 +71,7 @@ raw_from-digits (suc f) n exponent h =
 pub number-digits : (n : ℕ) → number (digits n n) ≡ signed n
 number-digits n = let e : raw_from 0 (digits n n) ≡ n = raw_from-digits n n 0 (omega arith) ∙ omega arith in ap signed e
 
--- the run is right
+-- ---- the run of a raw number: not empty, closed, fitting
 pub length-digits-pos : (f n : ℕ) → 0 < length (digits f n)
 length-digits-pos zero n = rw (digits_zero n) (lit< tt)
 length-digits-pos (suc f) n =
@@ -104,7 +104,7 @@ pub digit_fault-digits : (n : ℕ) (more : List (List ℕ)) → n < 34359738368 
 unfolding digit_fault
 digit_fault-digits n more h = rw (is_fitting-digits n h, is_open-digits n n (omega arith))
 
--- what a delta_text says
+-- the number of the delta a - b, added to b, is a
 pub raw_delta-says : (a b : ℕ) → pos b +ℤ signed (raw_delta a b) ≡ pos a
 raw_delta-says a b =
     elim (cases_lt a b) [

@@ -18,7 +18,7 @@ use Rattle.oxc_sourcemap_mappings.specs.Decoding.{ends_segment, front_digits, fr
 
 -- ---- the outcomes of a text, the place carried along
 
--- those of a line, after this place
+-- the outcomes of the segments of a line, after this place
 abbrev pub along : Counts → ℕ → Place → List Segment → List (Result TokenRecord Error)
 along c line p [] = []
 along c line p (s ∷ more) = segment_result c line p s (moved_by p s) ∷ along c line (moved_by p s) more
@@ -27,7 +27,7 @@ abbrev pub moved_by_all : Place → List Segment → Place
 moved_by_all p [] = p
 moved_by_all p (s ∷ more) = moved_by_all (moved_by p s) more
 
--- those of some lines, the first of which has this number
+-- the outcomes of some lines, the first of which has this number
 abbrev pub along_lines : Counts → ℕ → Place → List (List Segment) → List (Result TokenRecord Error)
 along_lines c line p [] = []
 along_lines c line p (l ∷ ls) =
@@ -55,7 +55,7 @@ place-past : (b : Before) (s : Segment) → place (past_segment b s) ≡ moved_b
 place-past b s =
     rw (sum-last of_any_size 0 b.on_line s, sum-last has_source 1 b.in_text s, sum-last has_source 2 b.in_text s, sum-last has_source 3 b.in_text s, sum-last has_name 4 b.in_text s)
 
--- some segments more
+-- the segments before, with some more on the line
 abbrev past_all : Before → List Segment → Before
 past_all b ss = record { on_line = b.on_line ++ ss; in_text = b.in_text ++ ss }
 
@@ -105,7 +105,7 @@ pub reading-is : (text : List ℕ) (names sources : ℕ) → reading text names 
 reading-is text names sources =
     reading-lines text names sources ∙ ap gathered (along_lines-parts (counts_of names sources) 0 (place nothing_before) (slice_split is_semicolon text) (omega arith))
 
--- after a `;`
+-- what is left after a `;`
 pub left-semicolon : (c : Counts) (line : ℕ) (p : Place) (text : List ℕ) → line + 1 < 4294967296 → left_outcomes c line p (59 ∷ text) ≡ left_outcomes c (line + 1) (at_line_start p) text
 left-semicolon c line p text h = along_lines-parts c (line + 1) p (slice_split is_semicolon text) h
 
@@ -124,7 +124,7 @@ lines-too_large c line p (b ∷ bs) t =
 pub left-too_large : (c : Counts) (line : ℕ) (p : Place) (text : List ℕ) → line ≡ 4294967295 → left_outcomes c line p (59 ∷ text) ≡ Err TooLarge ∷ []
 left-too_large c line p text e = let t : nat_lt (line + 1) 4294967296 ≡ false = grind (arith, nat_tests) in lines-too_large c (line + 1) p text t
 
--- after a `,`
+-- what is left after a `,`
 parts-comma : (c : Counts) (line : ℕ) (p : Place) (parts : List (List ℕ)) → along_parts c line p (onto_first 44 parts) ≡ along_parts c line p parts
 parts-comma c line p [] = refl
 parts-comma c line p (l ∷ ls) = refl
@@ -132,7 +132,7 @@ parts-comma c line p (l ∷ ls) = refl
 pub left-comma : (c : Counts) (line : ℕ) (p : Place) (text : List ℕ) → left_outcomes c line p (44 ∷ text) ≡ left_outcomes c line p text
 left-comma c line p text = parts-comma c line p (slice_split is_semicolon text)
 
--- after a `,`, if one stands there
+-- what is left after a `,`, if there is one
 pub left-after : (c : Counts) (line : ℕ) (p : Place) (text rest : List ℕ) → (text ≡ rest) ⊎ (text ≡ 44 ∷ rest) → left_outcomes c line p text ≡ left_outcomes c line p rest
 left-after c line p text rest (inl e) = ap (left_outcomes c line p) e
 left-after c line p text rest (inr e) = ap (left_outcomes c line p) e ∙ left-comma c line p rest
@@ -172,7 +172,7 @@ onto_all_first-cons : (bs part : List ℕ) (parts : List (List ℕ)) → onto_al
 onto_all_first-cons [] part parts = refl
 onto_all_first-cons (b ∷ bs) part parts = ap (onto_first b) (onto_all_first-cons bs part parts)
 
--- a byte inside a segment is neither mark
+-- a byte inside a segment is neither `;` nor `,`
 inside : (b : ℕ) → ends_segment b ≡ false → (is_semicolon b ≡ false) × (is_comma b ≡ false)
 inside b e = (grind (arith, nat_tests), grind (arith, nat_tests))
 
@@ -239,7 +239,7 @@ parts-front c line p text (l ∷ ls) f h =
     ap (along_parts c line p) (onto_all_first-cons (front text) l ls)
     ∙ ap (λ ss. along c line p ss ++ along_lines c (line + 1) (moved_by_all p ss) (map segments ls)) (segments-front text l ls f h)
 
--- what a text gives whose first byte lies in a segment
+-- the outcomes of a text that begins with a segment: that of the segment, then those of the rest
 pub left-segment : (c : Counts) (line : ℕ) (p : Place) (text : List ℕ) → is_filled (front text) ≡ true →
     left_outcomes c line p text
     ≡ segment_result c line p (front_segment text) (moved_by p (front_segment text)) ∷ left_outcomes c line (moved_by p (front_segment text)) (drop (length (front_digits text)) text)
@@ -248,7 +248,7 @@ left-segment c line p text f =
     ∙ parts-front c line p text (slice_split is_semicolon (after_front text)) f (after_front-cut text)
     ∙ rw (drop-front text, front_digits-front text)
 
--- a byte before lies in a segment
+-- a text whose first byte belongs to a segment begins with one
 pub front-filled : (text : List ℕ) (b : ℕ) → slice_get text 0 ≡ Some b → ends_segment b ≡ false → is_filled (front text) ≡ true
 front-filled [] b e h = cc
 front-filled (a ∷ text) b e h = let k : a ≡ b = cc in rw (k, h)
@@ -261,9 +261,9 @@ front_digits-filled (b ∷ bs) f =
       | false ↦ (λ e. omega arith)
     ] f
 
--- ---- what the steps of the decoder say of the segment
+-- ---- what the steps of the decoder give for a segment
 
--- what the fields say is what the segment says
+-- a place moved by the fields that were read is the place moved by the segment
 pub moved-moved_by : (p : Place) (s : Segment) (f : Fields) → AreFieldsOf s f → moved p f.count (value f) ≡ moved_by p s
 moved-moved_by p s f a =
     rw (a.count, a.values 0 (omega arith), a.values 1 (omega arith), a.values 2 (omega arith), a.values 3 (omega arith), a.values 4 (omega arith))
@@ -276,7 +276,7 @@ segment_result-fault c line before s p fault h = rw h
 
 -- ---- the tokens so far, and what is left
 
--- these tokens before a reading
+-- a reading with these tokens before its tokens
 abbrev pub onto_all : List TokenRecord → Result (List TokenRecord) Error → Result (List TokenRecord) Error
 onto_all front (Ok ts) = Ok (front ++ ts)
 onto_all front (Err e) = Err e

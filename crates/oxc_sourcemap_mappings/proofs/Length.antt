@@ -47,7 +47,7 @@ pick-lt : (b : Bool) (x y n : ℕ) → x < n → y < n → cond b x y < n
 pick-lt true x y n h k = h
 pick-lt false x y n h k = k
 
--- an id, or what stands in its place
+-- an id, or the number in place of a missing one, is in bounds
 or-lt : (a : Option ℕ) (y : ℕ) → IfSome a (λ n. n < 4294967295) → y < 4294967296 → unwrap_or a y < 4294967296
 or-lt None y h k = k
 or-lt (Some n) y h k = omega arith

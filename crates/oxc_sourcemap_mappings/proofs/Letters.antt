@@ -1,4 +1,5 @@
--- The tables of letters are held against the definitions at each digit and each near delta, by computing. And every byte that is written is ASCII.
+-- The tables of letters are compared with the definitions at each digit and each near delta, by computing. And every byte
+-- that is written is ASCII.
 use Rattle.std.proofs.Common.{◌≡◌, ℕ, zero, suc, ◌<◌, Bool, true, false, ◌&&◌, ◌==◌, List, [], ◌∷◌, ◌++◌, map, replicate, get_or, if◌then◌else◌, refl, arith, lit<, Option, Some, None, inl, inr, Result, Ok, Err}
 use Rattle.std.specs.List.{AllByRecursion}
 use Rattle.std.specs.Str.{IsUtf8}
@@ -31,7 +32,7 @@ entry-by f table (suc n) h d lt =
     let both = both_of (get_or table n 0 == f n) (all_by f table n) h in
     elim (cases_eq d n) [ inl same ↦ rw same (eqb-eq _ _ both.0) | inr other ↦ entry-by f table n both.1 d (omega arith) ]
 
--- ASCII, as the contracts of the encoder say it
+-- all bytes are ASCII, in the words of the contracts of the encoder
 abbrev pub ArePlain : List ℕ → Type 0
 ArePlain bytes = AllByRecursion (λ b. b < 128) bytes
 

@@ -12,11 +12,11 @@ use Rattle.oxc_sourcemap_mappings.specs.Encoding.{line_marks, marks_of, raw_at, 
 use Rattle.oxc_sourcemap_tokens.specs.Steps.{advanced}
 use Rattle.oxc_sourcemap_mappings.proofs.Vlq.{vlq_text_small, vlq_text_large}
 
--- one byte more
+-- one byte more in a buffer
 pub set-placed : (b : List ℕ) (at end x : ℕ) → at < length b → end ≡ at + 1 → take end (set b at x) ≡ take at b ++ x ∷ []
 set-placed b at end x h e = ap (λ n. take n (set b at x)) e ∙ take_more_set b at x h
 
--- a number of one or two digits, with the place of the second written in any case
+-- a number of one or two digits, where the byte of the second is written in any case
 pub one-placed : (b : List ℕ) (at end x y raw : ℕ) → at < length b → end ≡ at + 1 → raw < 32 → x ≡ letter raw → take end (set (set b at x) (at + 1) y) ≡ take at b ++ vlq_text raw
 one-placed b at end x y raw h e s l =
     ap (λ n. take n (set (set b at x) (at + 1) y)) e
@@ -36,25 +36,25 @@ two-placed b at end x y raw g h e s t l m =
 pub two-kept : (b : List ℕ) (at x y : ℕ) → take at (set (set b at x) (at + 1) y) ≡ take at b
 two-kept b at x y = take-set-le at (set b at x) (at + 1) y (omega arith) ∙ take-set-le at b at x (omega arith)
 
--- a digit that others follow
+-- a digit of a number that others follow
 pub digit-placed : (b : List ℕ) (at x raw : ℕ) → at < length b → 32 ≤ raw → x ≡ letter (raw % 32 + 32) → take (at + 1) (set b at x) ++ vlq_text (raw / 32) ≡ take at b ++ vlq_text raw
 digit-placed b at x raw h s l =
     ap (λ xs. xs ++ vlq_text (raw / 32)) (take_more_set b at x h)
     ∙ append_assoc (take at b) (x ∷ []) (vlq_text (raw / 32))
     ∙ ap (λ xs. take at b ++ xs) (ap (λ k. k ∷ vlq_text (raw / 32)) l ∙ sym (vlq_text_large raw s))
 
--- the last
+-- the last digit of a number
 pub last-placed : (b : List ℕ) (at x raw : ℕ) → at < length b → raw < 32 → x ≡ letter raw → take (at + 1) (set b at x) ≡ take at b ++ vlq_text raw
 last-placed b at x raw h s l = take_more_set b at x h ∙ ap (λ xs. take at b ++ xs) (ap (λ k. k ∷ []) l ∙ sym (vlq_text_small raw s))
 
--- the front of what is written at once
+-- bytes that are written at once, of which only the first count
 pub mid-placed : (xs ys : List ℕ) (a k n end : ℕ) → end ≡ a + n → a ≤ length xs → n ≤ length ys → take end (put_mid a k xs ys) ≡ take a xs ++ take n ys
 mid-placed xs ys a k n end e h l =
     let m : end ≡ length (take a xs) + n = omega (arith, length-take-le a xs h) in
     ap (λ j. take j (put_mid a k xs ys)) m ∙ take-append-add (take a xs) (ys ++ post_of a k xs) n
     ∙ ap (λ zs. take a xs ++ zs) (take-append-le n ys (post_of a k xs) l)
 
--- what parts a token from the one before
+-- the separator of a token, by how many lines it lies below the one before
 separator-is : (first : Bool) (s : State) (t : TokenRecord) → s.dst_line ≤ t.dst_line → separator first s t ≡ line_marks first (t.dst_line - s.dst_line)
 unfolding separator
 separator-is first s t h =
@@ -71,7 +71,7 @@ marks-split first lines (suc left) h e =
     let q : (lines == 0) ≡ false = grind (arith, nat_tests) in
     rw (p, q) (replicate-append-replicate (lines - suc left) (suc left) 59 ∙ ap (λ k. replicate k 59) n)
 
--- a token whose lines are marked in two parts
+-- a token some of whose `;` are written ahead
 pub token-parts : (first : Bool) (s : State) (t : TokenRecord) (left : ℕ) → s.dst_line ≤ t.dst_line → left ≤ t.dst_line - s.dst_line → (left ≡ 0 → t.dst_line - s.dst_line ≡ 0) → replicate (t.dst_line - s.dst_line - left) 59 ++ (line_marks first left ++ fields_text (column_from s t) s t) ≡ token_text first s t
 unfolding token_text
 token-parts first s t left h l e =
@@ -102,7 +102,7 @@ comma-placed : (first : Bool) (rest : List ℕ) → take (if first then 0 else 1
 comma-placed true rest = refl
 comma-placed false rest = refl
 
--- the marks, the front of eight
+-- the separator, as the first of eight bytes
 pub marks-placed : (b new : List ℕ) (at k n end lines : ℕ) (first : Bool) → at ≤ length b → new ≡ marks_of lines → n ≡ (if lines == 0 then (if first then 0 else 1) else lines) → end ≡ at + n → lines ≤ 8 → n ≤ 8 → take end (put_mid at k b new) ≡ take at b ++ line_marks first lines
 marks-placed b new at k n end lines first h e m f l l2 =
     mid-placed b new at k n end f h (omega (arith, ap length e))
@@ -166,7 +166,7 @@ near-below r l =
       | inr g ↦ (let q : nat_lt r 127 ≡ false = grind (arith, nat_tests) in rw q (omega arith))
     ]
 
--- the lowest digit
+-- the first character of a number of one digit
 pub lowest-last : (raw : ℕ) → raw < 32 → letter (raw % 32 + (if nat_lt raw 32 then 0 else 32)) ≡ letter raw
 lowest-last raw l =
     let q : nat_lt raw 32 ≡ true = grind (arith, nat_tests) in

@@ -28,12 +28,12 @@ segments-left (b ∷ bs) =
       | false ↦ λ e. segments-left bs
     ] refl
 
--- where a segment stands at the front, one more than after it
+-- in a text that begins with a segment, one more segment begins than after it
 pub segments-token : (text : List ℕ) (b : ℕ) → slice_get text 0 ≡ Some b → ends_segment b ≡ false → segments_after false text ≡ 1 + segments_after false (drop (length (front_digits text)) text)
 segments-token [] b e h = cc
 segments-token (a ∷ text) b e h = let k : a ≡ b = cc in rw (k, h) (ap (λ n. 1 + n) (segments-left text))
 
--- after a `,`
+-- a `,` at the front does not change how many segments begin
 pub segments-comma : (text rest : List ℕ) → (text ≡ rest) ⊎ (text ≡ 44 ∷ rest) → segments_after false rest ≡ segments_after false text
 segments-comma text rest (inl e) = rw e refl
 segments-comma text rest (inr e) = rw e refl

@@ -48,7 +48,7 @@ seg s t = read_all (raws t.source_id t.name_id s t)
 abbrev text_of : State → TokenRecord → List ℕ
 text_of s t = body t.source_id t.name_id s t
 
--- what stands at a standing reads as these tokens
+-- these segments of a line and lines below it, read from this line and place on, are these tokens
 pub record ReadsAs (c : Counts) (line : ℕ) (p : Place) (here : List Segment) (below : List (List Segment)) (ts : List TokenRecord) : Type 0 where
   read : gathered (along c line p here ++ along_lines c (line + 1) (moved_by_all p here) below) ≡ Ok ts
 
@@ -78,7 +78,7 @@ both-below : (a : Option ℕ) (k : ℕ) → IfSome a (λ n. n < k) → IsId a �
 both-below None k x y = tt
 both-below (Some n) k x y = omega arith
 
--- one token further, at a base of the column
+-- one more token before those that are read, on their line
 reads-more : (names sources : ℕ) (s : State) (t : TokenRecord) (ts : List TokenRecord) (here : List Segment) (below : List (List Segment)) → IsBounded s → IsWithin names sources t
     → ReadsAs (counts_of names sources) t.dst_line (standing t.dst_col (advanced s t)) here below ts
     → ReadsAs (counts_of names sources) t.dst_line (standing (base s t) s) (seg s t ∷ here) below (carried_token s t ∷ ts)
@@ -119,7 +119,7 @@ base-same s t e = let k : (t.dst_line == s.dst_line) ≡ true = grind (arith, na
 base-later : (s : State) (t : TokenRecord) → s.dst_line < t.dst_line → base s t ≡ 0
 base-later s t l = let k : (t.dst_line == s.dst_line) ≡ false = grind (arith, nat_tests) in rw k
 
--- on a later line
+-- tokens that are read after some lines without a segment
 reads-later : (c : Counts) (s : State) (line : ℕ) (ts : List TokenRecord) (here : List Segment) (below : List (List Segment)) (column : ℕ) → s.dst_line < line → line < 4294967296
     → ReadsAs c line (standing 0 s) here below ts
     → ReadsAs c s.dst_line (standing column s) [] (replicate (line - s.dst_line - 1) [] ++ (here ∷ below)) ts

@@ -11,7 +11,7 @@ use Rattle.oxc_sourcemap_mappings.specs.Parts.{runs, field}
 use Rattle.oxc_sourcemap_mappings.specs.Faults.{digit_fault}
 use Rattle.oxc_sourcemap_mappings.specs.Decoding.{is_over}
 
--- the fault of these digits, where so many of an open run stand before them
+-- the fault of these digits, after so many digits of an open run
 abbrev pub faults_from : ℕ → List ℕ → Option Error
 faults_from exponent [] = if exponent == 0 then None else Some VlqLeftover
 faults_from exponent (d ∷ ds) =
@@ -19,14 +19,14 @@ faults_from exponent (d ∷ ds) =
     else if ends_run d then faults_from 0 ds
     else faults_from (exponent + 1) ds
 
--- the numbers of these digits, where an open run with this raw number and so many digits stands before them
+-- the numbers of these digits, after an open run with this raw number and so many digits
 abbrev pub numbers_from : ℕ → ℕ → List ℕ → List ℤ
 numbers_from n exponent [] = if exponent == 0 then [] else signed n ∷ []
 numbers_from n exponent (d ∷ ds) =
     if ends_run d then signed (n + (d % 32) * 32 ^ exponent) ∷ numbers_from 0 0 ds
     else numbers_from (n + (d % 32) * 32 ^ exponent) (exponent + 1) ds
 
--- the same, over runs
+-- the numbers of these runs, after an open run with this raw number and so many digits
 abbrev lead_numbers : ℕ → ℕ → List (List ℕ) → List ℤ
 lead_numbers n exponent [] = if exponent == 0 then [] else signed n ∷ []
 lead_numbers n exponent (run ∷ more) = signed (n + raw_from exponent run) ∷ map number more
@@ -146,7 +146,7 @@ faults_from-is exponent (d ∷ ds) =
 pub faults_from-all : (ds : List ℕ) → faults_from 0 ds ≡ digit_fault (runs ds)
 faults_from-all ds = faults_from-is 0 ds ∙ lead_fault-none (runs ds)
 
--- one digit further
+-- one digit further: one that does not fit, one that ends its run, or one that another follows
 pub faults-over : (exponent d : ℕ) (ds : List ℕ) → is_over exponent d ≡ true → faults_from exponent (d ∷ ds) ≡ Some VlqOverflow
 faults-over exponent d ds o = rw o
 
@@ -162,7 +162,7 @@ numbers-end n exponent d ds h = let t : nat_lt d 32 ≡ true = grind (arith, nat
 pub numbers-on : (n exponent d : ℕ) (ds : List ℕ) → 32 ≤ d → numbers_from n exponent (d ∷ ds) ≡ numbers_from (n + payload d * 32 ^ exponent) (exponent + 1) ds
 numbers-on n exponent d ds h = let t : nat_lt d 32 ≡ false = grind (arith, nat_tests) in rw t
 
--- a list that goes on in this way
+-- what is known of a list from what is left after n items
 pub drop-is_cons : {A : Type 0} (xs : List A) (n : ℕ) (d y : A) (ys : List A) → drop n xs ≡ y ∷ ys → (n < length xs) × (get_or xs n d ≡ y) × (drop (n + 1) xs ≡ ys)
 drop-is_cons [] zero d y ys e = cc
 drop-is_cons [] (suc n) d y ys e = cc
@@ -171,14 +171,14 @@ drop-is_cons (x ∷ xs) (suc n) d y ys e =
     let k = drop-is_cons xs n d y ys e in
     (omega arith, k.1, rw (add-one) (rw add-one at k.2))
 
--- what `is_over` lets through
+-- the digits for which `is_over` is false
 pub not-over : (exponent d : ℕ) → is_over exponent d ≡ false → (exponent < 13) × (exponent ≡ 12 → d % 32 < 8)
 not-over exponent d e = (grind (arith, nat_tests), λ h. grind (arith, nat_tests))
 
 pub faults-none : (exponent : ℕ) → 0 < exponent → faults_from exponent [] ≡ Some VlqLeftover
 faults-none exponent h = grind (arith, nat_tests)
 
--- a number kept in its exponent of five
+-- a number stored as one of the five fields
 pub keep-done : (values all : List ℤ) (count : ℕ) (z : ℤ) → length values ≡ 5 → ((k : ℕ) → k < 5 → k < count → get_or values k (pos 0) ≡ get_or all k (pos 0)) → get_or all count (pos 0) ≡ z → (k : ℕ) → k < 5 → k < count + 1 → get_or (set values count z) k (pos 0) ≡ get_or all k (pos 0)
 keep-done values all count z five done is k h l =
     elim (cases_eq k count) [

@@ -17,7 +17,7 @@ use Rattle.oxc_sourcemap_mappings.proofs.Length.{IsBounded}
 use Rattle.oxc_sourcemap_mappings.proofs.Digits.{digit-vlq_text, runs-digits, number-digits, digit_fault-digits, raw_delta-says}
 use Rattle.oxc_sourcemap_mappings.proofs.Texts.{AreInside, inside-vlq_text, inside-append}
 
--- the numbers that a token adds, where it is mapped and where it has a name
+-- what the generated column of a token is relative to
 abbrev pub base : State → TokenRecord → ℕ
 base s t = if t.dst_line == s.dst_line then s.dst_col else 0
 
@@ -46,7 +46,7 @@ pub inside-all : (ns : List ℕ) → AreInside (spell_all ns)
 inside-all [] = tt
 inside-all (n ∷ ns) = inside-append (vlq_text n) (spell_all ns) (inside-vlq_text n) (inside-all ns)
 
--- what a token with these ids adds after its separator
+-- the text of a token with these ids after its separator
 abbrev pub body : Option ℕ → Option ℕ → State → TokenRecord → List ℕ
 body a b s t =
     column_text s t
@@ -62,7 +62,7 @@ pub token_text-is : (first : Bool) (s : State) (t : TokenRecord) → token_text 
 unfolding token_text
 token_text-is first s t = simp append_assoc
 
--- the standing that a state stands for
+-- the place that a state stands for, at this column
 abbrev pub standing : ℕ → State → Place
 standing column s = record { dst_col = pos column; source_id = pos s.source_id; src_line = pos s.src_line; src_col = pos s.src_col; name_id = pos s.name_id }
 

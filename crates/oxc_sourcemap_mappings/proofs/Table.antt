@@ -1,11 +1,11 @@
--- The table of digits is held against the definition at each of the 256 bytes, by computing.
+-- The table of digits is compared with the definition at each of the 256 bytes, by computing.
 use Rattle.std.proofs.Common.{◌≡◌, ℕ, zero, suc, ◌<◌, ◌≤◌, Bool, true, false, ◌&&◌, ◌==◌, nat_lt, nat_le, List, get_or, if◌then◌else◌, refl, arith, inl, inr}
 use Rattle.std.proofs.lemmas.Bool.{cases_eq}
 use Rattle.std.proofs.lemmas.Bool.Decides.{nat_tests}
 use Rattle.oxc_sourcemap_mappings.specs.Number.{digit}
 use Rattle.oxc_sourcemap_mappings.specs.Decoding.{ends_segment}
 
--- an entry is the digit of its byte, or past all digits where the byte is none
+-- an entry is the digit of its byte, or 64 and more if the byte is no digit
 abbrev is_right : ℕ → ℕ → Bool
 is_right byte entry = if ends_segment byte then nat_le 64 entry else (entry == digit byte && nat_lt entry 64)
 

@@ -7,7 +7,7 @@ use Rattle.oxc_sourcemap_mappings.specs.Parts.{Segment, segment, segments, lines
 use Rattle.oxc_sourcemap_mappings.specs.Canonical.{digits, vlq_text, letter}
 use Rattle.oxc_sourcemap_mappings.proofs.Digits.{digits-below}
 
--- neither mark
+-- a byte that is neither `,` nor `;`
 pub record IsInside (b : ℕ) : Type 0 where
   pub comma : (b == 44) ≡ false
   pub semicolon : (b == 59) ≡ false
@@ -31,7 +31,7 @@ pub inside-append : (xs ys : List ℕ) → AreInside xs → AreInside ys → Are
 inside-append [] ys h k = k
 inside-append (x ∷ xs) ys h k = (h.0, inside-append xs ys h.1 k)
 
--- ---- a front without the mark
+-- ---- a front without `,` or `;`
 onto_parts : List ℕ → List (List ℕ) → List (List ℕ)
 onto_parts x [] = x ∷ []
 onto_parts x (p ∷ ps) = (x ++ p) ∷ ps
@@ -75,7 +75,7 @@ segments-front x [] h f o =
 segments-front x (b ∷ bs) h f o =
     rw o (ap (λ ps. map segment (filter is_filled ps)) (split-front (λ b'. b' == 44) x (44 ∷ bs) (inside-no_comma x h)) ∙ rw (append-nil x, f))
 
--- the text is of these lines, and its first is open before
+-- a text of these lines, the first of which begins with no segment of its own
 pub record Splits (text : List ℕ) (here : List Segment) (below : List (List Segment)) : Type 0 where
   pub part : List ℕ
   pub parts : List (List ℕ)
@@ -98,7 +98,7 @@ module _ (text : List ℕ) (here : List Segment) (below : List (List Segment)) (
   front-here : segments (x ++ s.part) ≡ segment x ∷ here
   front-here = segments-front x s.part inside filled s.opens ∙ ap (λ h. segment x ∷ h) s.here_is
 
-  -- before all
+  -- a segment at the front of the text
   pub front-lines : lines (x ++ text) ≡ (segment x ∷ here) ∷ below
   front-lines = rw (front-whole, front-here, s.below_is)
 
@@ -113,6 +113,6 @@ module _ (text : List ℕ) (here : List Segment) (below : List (List Segment)) (
   ends_run-below zero = rw (front-here, s.below_is)
   ends_run-below (suc k) = ap (λ ls. [] ∷ ls) (ends_run-below k)
 
-  -- after one more than so many line ends_run
+  -- a segment at the front of the text, after k + 1 `;`
   pub splits-lines-before : (k : ℕ) → Splits (replicate (suc k) 59 ++ (x ++ text)) [] (replicate k [] ++ ((segment x ∷ here) ∷ below))
   splits-lines-before k = record { part = []; parts = replicate k [] ++ ((x ++ s.part) ∷ s.parts); whole = ap (λ ps. [] ∷ ps) (ends_run-whole k); opens = tt; here_is = refl; below_is = ends_run-below k }

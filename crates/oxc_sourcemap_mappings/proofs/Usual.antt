@@ -8,7 +8,7 @@ use Rattle.oxc_sourcemap_mappings.specs.Parts.{Segment, runs}
 use Rattle.oxc_sourcemap_mappings.specs.Faults.{digit_fault}
 use Rattle.oxc_sourcemap_mappings.specs.Decoding.{ends_segment, front_digits, front_segment, IsNumberAt, AreFieldsOf}
 
--- the digit at a place
+-- the digit at an index of a text
 pub front-at : (text : List ℕ) (i j d : ℕ) → i < length text → j ≡ i + 1 → (ends_segment (get_or text i 0) ≡ false) × (d ≡ digit (get_or text i 0)) → front_digits (drop i text) ≡ d ∷ front_digits (drop j text)
 front-at text i j d h e m =
     let c : drop i text ≡ get_or text i 0 ∷ drop (suc i) text = drop-cons text i 0 h in
@@ -42,7 +42,7 @@ number-1 text at d n e h v s = record {
   small = s;
 }
 
--- one of two digits
+-- a number of two digits
 pub number-2 : (text : List ℕ) (at d c : ℕ) (n : ℤ) → front_digits (drop at text) ≡ d ∷ front_digits (drop (at + 1) text) → front_digits (drop (at + 1) text) ≡ c ∷ front_digits (drop (at + 2) text) → 32 ≤ d → c < 32 → n ≡ signed (d % 32 + c * 32) → nat_abs n < 2 ^ 62 → IsNumberAt text at n 2
 number-2 text at d c n e f l h v s = record {
   run = d ∷ c ∷ [];
@@ -54,7 +54,7 @@ number-2 text at d c n e f l h v s = record {
   small = s;
 }
 
--- one of three digits
+-- a number of three digits
 pub number-3 : (text : List ℕ) (at d c b : ℕ) (n : ℤ) → front_digits (drop at text) ≡ d ∷ front_digits (drop (at + 1) text) → front_digits (drop (at + 1) text) ≡ c ∷ front_digits (drop (at + 2) text) → front_digits (drop (at + 2) text) ≡ b ∷ front_digits (drop (at + 3) text) → 32 ≤ d → 32 ≤ c → b < 32 → n ≡ signed (d % 32 + (c % 32) * 32 + b * 1024) → nat_abs n < 2 ^ 62 → IsNumberAt text at n 3
 number-3 text at d c b n e f g l m h v s = record {
   run = d ∷ c ∷ b ∷ [];
@@ -119,7 +119,7 @@ module _ (text : List ℕ) (a b c d : ℕ) (x y z w : ℤ) (first : IsNumberAt t
   numbers-four : (more : Segment) → map number (first.run ∷ second.run ∷ third.run ∷ fourth.run ∷ more) ≡ x ∷ y ∷ z ∷ w ∷ map number more
   numbers-four more = rw (first.number, second.number, third.number, fourth.number)
 
-  -- four fields
+  -- the fields of a segment of four
   pub fields-four : (f : Fields) → front_digits (drop (a + b + c + d) text) ≡ [] → f.count ≡ 4 → f.values ≡ x ∷ y ∷ z ∷ w ∷ pos 0 ∷ [] → AreFieldsOf (front_segment text) f
   fields-four f ended count values =
       let s : front_segment text ≡ first.run ∷ second.run ∷ third.run ∷ fourth.run ∷ [] = front-four ∙ rw ended in
@@ -130,7 +130,7 @@ module _ (text : List ℕ) (a b c d : ℕ) (x y z w : ℤ) (first : IsNumberAt t
         values = λ k _. ap (λ v. get_or v k (pos 0)) values ∙ padded x y z w k ∙ sym (ap (λ v. get_or v k (pos 0)) n);
       }
 
-  -- five fields
+  -- the fields of a segment of five
   module _ (e : ℕ) (v : ℤ) (fifth : IsNumberAt text (a + b + c + d) v e) where
     front-five : front_segment text ≡ first.run ∷ second.run ∷ third.run ∷ fourth.run ∷ fifth.run ∷ front_segment (drop (a + b + c + d + e) text)
     front-five = front-four ∙ rw fifth.front
@@ -150,7 +150,7 @@ module _ (text : List ℕ) (a b c d : ℕ) (x y z w : ℤ) (first : IsNumberAt t
           values = λ k _. ap (λ q. get_or q k (pos 0)) values ∙ sym (ap (λ q. get_or q k (pos 0)) n);
         }
 
--- `;` behind a text end its last segment as the end of the text does
+-- each `;` behind a text ends its last segment, as the end of the text does
 pub front-ended : (text : List ℕ) (n : ℕ) → front_digits (text ++ replicate n 59) ≡ front_digits text
 front-ended [] zero = refl
 front-ended [] (suc n) = refl

@@ -37,14 +37,14 @@ vlq_text_large n h =
     ap (map letter) (digits_turns n (suc n) n (omega arith) (omega arith) ∙ digits_large n n h)
     ∙ ap (λ ds. letter (n % 32 + 32) ∷ map letter ds) (digits_turns n (n / 32) (n / 32) (omega arith) (omega arith))
 
--- one letter further
+-- one more character of the text of a raw number
 pub vlq_text_more : (out now : List ℕ) (n : ℕ) → 32 ≤ n → now ≡ out ++ letter (n % 32 + 32) ∷ [] → now ++ vlq_text (n / 32) ≡ out ++ vlq_text n
 vlq_text_more out now n h e = rw (e, vlq_text_large n h) (append_assoc out (letter (n % 32 + 32) ∷ []) (vlq_text (n / 32)))
 
 pub vlq_text_last : (out now : List ℕ) (n : ℕ) → n < 32 → now ≡ out ++ letter n ∷ [] → now ≡ out ++ vlq_text n
 vlq_text_last out now n h e = rw (e, vlq_text_small n h)
 
--- what grows twice grows
+-- two ASCII texts, one after the other, are ASCII
 all-append : (xs ys : List ℕ) → AllByRecursion (λ b. b < 128) xs → AllByRecursion (λ b. b < 128) ys → AllByRecursion (λ b. b < 128) (xs ++ ys)
 all-append [] ys h k = k
 all-append (x ∷ xs) ys h k = (h.0, all-append xs ys h.1 k)

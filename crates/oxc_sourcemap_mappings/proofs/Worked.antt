@@ -10,12 +10,12 @@ use Rattle.oxc_sourcemap_mappings.specs.Reading.{reading, text_results, line_res
 use Rattle.oxc_sourcemap_mappings.specs.Canonical.{canonical, text_after, token_text, separator, delta_text, vlq_text, digits, letter}
 use Rattle.oxc_sourcemap_mappings.specs.Pieces.{piece, piece_after, writing_fault}
 
--- generated line and column, source line and column, source id, name id
+-- a token from its generated line and column, source line and column, source id, name id
 abbrev token : ℕ → ℕ → ℕ → ℕ → Option ℕ → Option ℕ → TokenRecord
 token dst_line dst_col src_line src_col source_id name_id =
     record { dst_line = dst_line; dst_col = dst_col; src_line = src_line; src_col = src_col; source_id = source_id; name_id = name_id }
 
--- start and end, and the header in the order of the fields of a chunk
+-- a chunk from its start, its end, and its header in the order of the fields
 abbrev chunk : ℕ → ℕ → ℕ → ℕ → ℕ → ℕ → ℕ → ℕ → TokenChunk
 chunk start end dst_line dst_col src_line src_col name_id source_id =
     record { start = start; end = end; prev_dst_line = dst_line; prev_dst_col = dst_col; prev_src_line = src_line; prev_src_col = src_col; prev_name_id = name_id; prev_source_id = source_id }

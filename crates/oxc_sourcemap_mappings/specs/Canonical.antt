@@ -32,8 +32,8 @@ raw_delta a b = if nat_lt a b then 2 * (b - a) + 1 else 2 * (a - b)
 abbrev pub delta_text : ℕ → ℕ → List ℕ
 delta_text a b = vlq_text (raw_delta a b)
 
--- What stands between a token and the state before it: on a later line one `;` for each line that it is further down, and
--- on the same line a `,`, which the first token of the list goes without.
+-- The separator before a token, after a state: on a later line one `;` for each line that it is further down, and on the
+-- same line a `,`, which the first token of the list goes without.
 unfoldable pub separator : Bool → State → TokenRecord → List ℕ
 separator is_first s t = if t.dst_line == s.dst_line then (if is_first then [] else 44 ∷ []) else replicate (t.dst_line - s.dst_line) 59
 
@@ -54,7 +54,7 @@ name_text s t = option_map_or (λ id. delta_text id s.name_id) (mapped_name t) [
 unfoldable pub token_text : Bool → State → TokenRecord → List ℕ
 token_text is_first s t = separator is_first s t ++ column_text s t ++ source_text s t ++ name_text s t
 
--- no token stands before
+-- there is no token before
 abbrev pub has_none_before : List TokenRecord → Bool
 has_none_before [] = true
 has_none_before (t ∷ ts) = false
@@ -86,7 +86,7 @@ abbrev pub carried_token : State → TokenRecord → TokenRecord
 carried_token s t =
     if is_mapped t then t else record t { src_line = s.src_line; src_col = s.src_col; name_id = None }
 
--- tokens as they come back, after these, the nearest first
+-- tokens as they come back from their text, after the tokens before them, the nearest of these first
 abbrev pub carried_after : List TokenRecord → List TokenRecord → List TokenRecord
 carried_after before [] = []
 carried_after before (t ∷ ts) = carried_token (state_after initial before) t ∷ carried_after (t ∷ before) ts

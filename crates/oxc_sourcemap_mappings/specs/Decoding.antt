@@ -1,5 +1,4 @@
--- How the steps of the decoder are seen, against the sums of `Places` and the faults of `Faults`. No public contract
--- speaks of these.
+-- The steps of the decoder, beside the sums of `Places` and the faults of `Faults`. No public contract cites this module.
 use Rattle.std.specs.Prelude.{◌≡◌, ℕ, ◌+◌, ◌<◌, ◌^◌, Bool, true, false, ◌||◌, ◌&&◌, List, [], ◌∷◌, length, drop, get_or, ℤ, pos, ◌+ℤ◌, nat_abs, None, if◌then◌else◌, nat_lt, ◌==◌}
 use Rattle.oxc_sourcemap_mappings.specs.declared.decode.Fields.{Fields}
 use Rattle.oxc_sourcemap_mappings.specs.declared.decode.Sums.{Sums}
@@ -21,7 +20,7 @@ front_digits (byte ∷ bytes) = if ends_segment byte then [] else digit byte ∷
 abbrev pub front_segment : List ℕ → Segment
 front_segment text = runs (front_digits text)
 
--- how many segments begin in a text that stands after a byte of a segment, or after none
+-- how many segments begin in a text, where the byte before it belongs to a segment or does not
 abbrev pub segments_after : Bool → List ℕ → ℕ
 segments_after is_inside [] = 0
 segments_after is_inside (byte ∷ bytes) =
@@ -29,7 +28,7 @@ segments_after is_inside (byte ∷ bytes) =
     then segments_after false bytes
     else (if is_inside then segments_after true bytes else 1 + segments_after true bytes)
 
--- A number of so many digits stands at this place of a text: its run, which has no fault, and then the rest of the segment
+-- At this index of a text there is a number of so many digits: a run without a fault, and then the rest of the segment.
 pub record IsNumberAt (text : List ℕ) (at : ℕ) (n : ℤ) (len : ℕ) : Type 0 where
   pub run : List ℕ
   pub front : front_segment (drop at text) ≡ run ∷ front_segment (drop (at + len) text)
@@ -58,7 +57,7 @@ pub record AreSmall (f : Fields) : Type 0 where
 abbrev pub value : Fields → ℕ → ℤ
 value f k = get_or f.values k (pos 0)
 
--- the place that the sums of the decoder say
+-- the place that the sums of the decoder stand for
 abbrev pub place_of : Sums → Place
 place_of sums = record {
   dst_col = pos sums.dst_col;

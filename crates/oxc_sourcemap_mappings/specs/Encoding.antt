@@ -1,4 +1,4 @@
--- How the steps of the encoder are seen, against the states of `State`. No public contract speaks of these.
+-- The steps of the encoder, beside the states of `State`. No public contract cites this module.
 use Rattle.std.specs.Prelude.{ℕ, ◌+◌, ◌-◌, ◌*◌, ◌/◌, ◌%◌, ◌<◌, ◌++◌, ◌==◌, nat_lt, Bool, false, List, [], ◌∷◌, replicate, if◌then◌else◌}
 use Rattle.oxc_sourcemap_mappings.specs.declared.encode.Delta.{Delta}
 use Rattle.oxc_sourcemap_mappings.specs.declared.encode.Deltas.{Deltas}
@@ -16,7 +16,7 @@ text_from is_first s (t ∷ ts) = token_text is_first s t ++ text_from false (ad
 abbrev pub OnlyAdds : List ℕ → List ℕ → Type 0
 OnlyAdds old new = (base : List ℕ) → Extends base old → Extends base new
 
--- what parts a token from the one before, which lies so many lines further up
+-- the separator of a token from the one before, which lies so many lines further up
 abbrev pub line_marks : Bool → ℕ → List ℕ
 line_marks is_first lines = if lines == 0 then (if is_first then [] else 44 ∷ []) else replicate lines 59
 
@@ -24,11 +24,11 @@ line_marks is_first lines = if lines == 0 then (if is_first then [] else 44 ∷ 
 abbrev pub column_from : State → TokenRecord → ℕ
 column_from s t = if t.dst_line == s.dst_line then s.dst_col else 0
 
--- a token without what parts it from the one before
+-- the text of a token without its separator
 abbrev pub fields_text : ℕ → State → TokenRecord → List ℕ
 fields_text column s t = delta_text t.dst_col column ++ source_text s t ++ name_text s t
 
--- The first eight bytes of what parts two tokens so many lines apart: where they are on one line, one byte counts.
+-- Eight bytes that begin with the separator of two tokens so many lines apart; on one line, only the first byte counts.
 abbrev pub marks_of : ℕ → List ℕ
 marks_of lines = (if lines == 0 then 44 else 59) ∷ 59 ∷ 59 ∷ 59 ∷ 59 ∷ 59 ∷ 59 ∷ 59 ∷ []
 
@@ -36,10 +36,11 @@ marks_of lines = (if lines == 0 then 44 else 59) ∷ 59 ∷ 59 ∷ 59 ∷ 59 ∷
 abbrev pub raw_at : ℕ → ℕ
 raw_at rank = if nat_lt rank 127 then 2 * (127 - rank) + 1 else 2 * (rank - 127)
 
--- the letters of its digits, of which there are at most two up to 127
+-- the first base64 character of the delta that lies so far above -127, up to 127
 abbrev pub first_letter : ℕ → ℕ
 first_letter rank = letter (raw_at rank % 32 + (if nat_lt (raw_at rank) 32 then 0 else 32))
 
+-- the second base64 character of the delta that lies so far above -127, up to 127, if it has two
 abbrev pub second_letter : ℕ → ℕ
 second_letter rank = letter (raw_at rank / 32)
 
@@ -51,13 +52,13 @@ rank_of d = (d.to + 127 + (18446744073709551616 - d.from)) % 1844674407370955161
 abbrev pub offset_of : Delta → ℕ
 offset_of d = (d.to + 15 + (18446744073709551616 - d.from)) % 18446744073709551616
 
--- four or five deltas
+-- the text of the four or five deltas of a mapped token
 abbrev pub deltas_text : Deltas → List ℕ
 deltas_text d =
     delta_text d.dst_col.to d.dst_col.from ++ delta_text d.source_id.to d.source_id.from ++ delta_text d.src_line.to d.src_line.from ++ delta_text d.src_col.to d.src_col.from
     ++ (if d.has_name then delta_text d.name_id.to d.name_id.from else [])
 
--- each of them lies from -15 to 15
+-- each delta of a mapped token lies from -15 to 15
 pub record AreSingle (d : Deltas) : Type 0 where
   pub dst_col : offset_of d.dst_col < 31
   pub source_id : offset_of d.source_id < 31

@@ -1,4 +1,4 @@
--- What may be wrong with a segment, in the order in which it is asked.
+-- The faults of a segment, in the order in which it is checked.
 use Rattle.std.specs.Prelude.{ℕ, ◌^◌, Bool, false, ◌||◌, [], ◌∷◌, length, ℤ, pos, negsuc, min}
 use Rattle.std.specs.Prelude.{Option, Some, None, if◌then◌else◌, nat_lt, nat_le, ◌==◌}
 use Rattle.std.specs.Int.{int_rem_euclid}
@@ -54,7 +54,7 @@ nat_of (negsuc n) = 0
 abbrev pub low_bits : ℤ → ℕ
 low_bits z = nat_of (int_rem_euclid z (pos (2 ^ 32)))
 
--- Below, `reached` is the place that the segments before this one reach, and `here` is its own.
+-- From here on `reached` is the place that the segments before a segment reach, and `here` is the place of that segment.
 
 -- The fault of the source id, source line and source column. The error of a bad source id holds the source id before it.
 abbrev pub source_fault : Counts → Place → Place → Option Error

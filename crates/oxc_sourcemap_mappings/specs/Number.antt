@@ -1,12 +1,12 @@
 -- Digits, and the numbers that runs of digits spell (ECMA-426, "Base64 VLQ").
 --
--- The standard refuses a byte outside the base64 alphabet and a number past 32 bits. Here such a byte is read as the digit
--- 63, as the Rust crate does, and a run may have 13 digits: raw numbers have at most 63 bits, and numbers 62 and a sign.
+-- In the standard a byte outside the base64 alphabet and a number past 32 bits are errors. Here such a byte is the digit 63,
+-- as in the Rust crate, and a run may have 13 digits: raw numbers have at most 63 bits, and numbers 62 and a sign.
 -- That limit is a choice of this library.
 use Rattle.std.specs.Prelude.{ℕ, ◌+◌, ◌-◌, ◌*◌, ◌/◌, ◌%◌, ◌^◌, Bool, false, ◌&&◌, List, [], ◌∷◌, length, slice_index, ℤ, pos, neg_ℤ, if◌then◌else◌, nat_lt, nat_le, ◌==◌}
 
--- The value of a byte in the base64 alphabet, where `/` is 63, and 63 for every byte outside of it. (`,` and `;` never
--- come here: they part the segments.)
+-- The value of a byte in the base64 alphabet, where `/` is 63, and 63 for every byte outside of it. (It is never asked for
+-- `,` and `;`, which separate segments.)
 unfoldable pub digit : ℕ → ℕ
 digit byte =
     if nat_le 65 byte && nat_le byte 90 then byte - 65
@@ -15,11 +15,11 @@ digit byte =
     else if byte == 43 then 62
     else 63
 
--- a digit below 32 is the last of its run; to one of 32 or more another digit belongs
+-- a digit below 32 is the last of its run; one of 32 or more has the continuation bit, so another follows
 abbrev pub ends_run : ℕ → Bool
 ends_run d = nat_lt d 32
 
--- a digit without the bit that asks for another
+-- a digit without the continuation bit
 abbrev pub payload : ℕ → ℕ
 payload d = d % 32
 
@@ -46,7 +46,7 @@ number run = signed (raw_number run)
 abbrev pub is_fitting : List ℕ → Bool
 is_fitting run = nat_le (length run) 13 && nat_le (payload (slice_index run 12)) 7
 
--- the last digit of a run asks for another
+-- the last digit of a run has the continuation bit
 abbrev pub is_open : List ℕ → Bool
 is_open [] = false
 is_open (d ∷ []) = nat_le 32 d

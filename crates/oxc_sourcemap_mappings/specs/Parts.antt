@@ -20,11 +20,11 @@ segment bytes = runs (map digit bytes)
 abbrev pub is_semicolon : ℕ → Bool
 is_semicolon byte = byte == 59
 
--- `,`, which stands between two segments of a line
+-- `,`, which separates two segments of a line
 abbrev pub is_comma : ℕ → Bool
 is_comma byte = byte == 44
 
--- not empty
+-- a list that is not empty
 abbrev pub is_filled : List ℕ → Bool
 is_filled [] = false
 is_filled (byte ∷ bytes) = true

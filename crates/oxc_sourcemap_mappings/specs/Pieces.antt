@@ -1,4 +1,4 @@
--- What chunks are written as, and why a chunk or a list is not written.
+-- The texts of chunks, and the faults for which a chunk or a list cannot be written.
 use Rattle.std.specs.Prelude.{ℕ, ◌&&◌, List, [], ◌∷◌, ◌++◌, length, Option, Some, None, if◌then◌else◌, nat_lt, nat_le, ◌==◌}
 use Rattle.std.specs.Option.{option_map, option_map_or}
 use Rattle.oxc_sourcemap_tokens.specs.declared.error.Error.{Error}
@@ -12,7 +12,7 @@ use Rattle.oxc_sourcemap_mappings.specs.Faults.{◌orelse◌}
 use Rattle.oxc_sourcemap_mappings.specs.Canonical.{token_text, has_none_before}
 
 -- The text of these tokens of a chunk, after the tokens of the chunk before them, the nearest first. Its header stands for
--- all that lies before the chunk. Only a chunk that starts at index 0 has the first token of all.
+-- all tokens before the chunk. Only a chunk that starts at index 0 has the first token of all.
 unfoldable pub piece_after : TokenChunk → List TokenRecord → List TokenRecord → List ℕ
 piece_after c before [] = []
 piece_after c before (t ∷ ts) =
@@ -22,15 +22,15 @@ piece_after c before (t ∷ ts) =
 unfoldable pub piece : List TokenRecord → TokenChunk → List ℕ
 piece tokens c = piece_after c [] (chunk_tokens tokens c)
 
--- Why a piece is not written: the chunk's range, else the first of its tokens on a line before that of the token before it.
--- For the first token, that is the line of the header.
+-- The fault of a piece: of the chunk's range, else of its first token on a line before that of the token before it. The
+-- chunk's first token is compared with the header.
 abbrev pub piece_fault : List TokenRecord → TokenChunk → Option Error
 piece_fault tokens c =
     if nat_le c.start c.end && nat_le c.end (length tokens)
     then option_map (λ i. LineOrder i) (back_from c.prev_dst_line c.start (chunk_tokens tokens c))
     else Some (BadChunks 0)
 
--- why a list is not written: its line order, then its chunks, then its length
+-- the fault of a list that is to be written: of its line order, then of its chunks, then of its length
 abbrev pub writing_fault : List TokenRecord → Option (List TokenChunk) → Option Error
 writing_fault tokens chunks =
     option_map (λ i. LineOrder i) (first_out_of_order tokens)

@@ -7,7 +7,7 @@ abbrev pub field_sum : (ℕ → Bool) → ℕ → List Segment → ℤ
 field_sum test k [] = pos 0
 field_sum test k (s ∷ ss) = if test (length s) then field_sum test k ss +ℤ field k s else field_sum test k ss
 
--- lets segments of every size pass
+-- the test that segments of every size pass
 abbrev pub of_any_size : ℕ → Bool
 of_any_size size = true
 
@@ -20,15 +20,15 @@ pub record Before : Type 0 where
 abbrev pub nothing_before : Before
 nothing_before = record { on_line = []; in_text = [] }
 
--- with one segment more on the line
+-- these segments, with one more on the line
 abbrev pub past_segment : Before → Segment → Before
 past_segment before s = record { on_line = before.on_line ++ s ∷ []; in_text = before.in_text ++ s ∷ [] }
 
--- at the start of the next line, with the segments of this one in the text
+-- the segments before the start of the next line: those of this line belong only to the text then
 abbrev pub past_line : Before → List Segment → Before
 past_line before line = record { on_line = []; in_text = before.in_text ++ line }
 
--- Where a segment points to. Whether these numbers are in range is asked by its faults.
+-- Where a segment points to. Numbers out of range are faults of the segment (`Faults`).
 pub record Place : Type 0 where
   pub dst_col : ℤ
   pub source_id : ℤ
@@ -36,7 +36,7 @@ pub record Place : Type 0 where
   pub src_col : ℤ
   pub name_id : ℤ
 
--- The place that some segments reach. That of a segment is the one that is reached past it.
+-- The place that some segments reach. The place of a segment is the one that the segments up to it reach.
 abbrev pub place : Before → Place
 place before = record {
   dst_col = field_sum of_any_size 0 before.on_line;

@@ -19,7 +19,8 @@ token_at line size p = record {
   name_id = if has_name size then Some (nat_of p.name_id) else None;
 }
 
--- What a segment gives: its token, unless it has a fault. The segments before it reach one place, and `here` is its own.
+-- What a segment gives: its token, unless it has a fault. The segments before it reach the place `reached`, and `here` is its
+-- own.
 abbrev pub segment_result : Counts → ℕ → Place → Segment → Place → Result TokenRecord Error
 segment_result counts line reached s here = unless (segment_fault counts reached s here) (Ok (token_at line (length s) here))
 
@@ -39,12 +40,12 @@ text_results counts line before (l ∷ ls) =
     then line_results counts line before l ++ text_results counts (line + 1) (past_line before l) ls
     else Err TooLarge ∷ []
 
--- this token before a reading
+-- a reading with this token before its tokens
 abbrev pub onto : TokenRecord → Result (List TokenRecord) Error → Result (List TokenRecord) Error
 onto token (Ok tokens) = Ok (token ∷ tokens)
 onto token (Err fault) = Err fault
 
--- all tokens, or the first fault
+-- the tokens of a text from what its segments give, or the first fault
 abbrev pub gathered : List (Result TokenRecord Error) → Result (List TokenRecord) Error
 gathered [] = Ok []
 gathered (Ok token ∷ more) = onto token (gathered more)

@@ -31,7 +31,7 @@ ReadsBack = (names sources : ℕ) (tokens : List TokenRecord)
     → IsOrderedInBounds tokens → AllByRecursion (AreWrittenIdsBelow names sources) tokens
     → (reading (canonical tokens) names sources ≡ Ok (carried tokens)) × (as_written (carried tokens) ≡ as_written tokens)
 
--- What a text reads as is in line order and in bounds, and written and read again it is the same.
+-- The tokens of a text are in line order and in bounds, and the same once they are written and read again.
 abbrev pub ReadsAgain : Type 0
 ReadsAgain = (text : List ℕ) (names sources : ℕ) (tokens : List TokenRecord) → reading text names sources ≡ Ok tokens
     → IsOrderedInBounds tokens × (reading (canonical tokens) names sources ≡ Ok tokens)

@@ -19,11 +19,11 @@ use std::boxed::BoxedSlice;
 /// The fields of one segment.
 #[derive(Drop)]
 struct Fields {
-    /// The first five, 0 where there are fewer.
+    /// The first five numbers, 0 where there are fewer.
     values: [i64; 5],
-    /// How many there are.
+    /// How many numbers the segment has.
     count: usize,
-    /// How many bytes spell them.
+    /// How many bytes the segment takes.
     len: usize,
 }
 
@@ -61,7 +61,7 @@ fn mapping_of(byte: u8) -> u8
     DIGITS[byte as usize]
 }
 
-/// The digit at this place of a text, None at a `,`, a `;` and the end.
+/// The digit at an index of a text; None at a `,`, a `;` and the end.
 #[inline(always)]
 fn digit_at(text: &[u8], at: usize) -> Option<u8>
     ensures end { IfNone result (front_digits (drop at text.now) ≡ []) }
@@ -72,7 +72,7 @@ fn digit_at(text: &[u8], at: usize) -> Option<u8>
     if entry < 64 { Some(entry) } else { None }
 }
 
-/// The number of a raw number: its half, negative where it is odd.
+/// The number that a raw number stands for: its half, negative if it is odd.
 #[inline(always)]
 fn signed_of(raw: u64) -> i64
     requires { raw < 2 ^ 63 }
@@ -83,14 +83,14 @@ fn signed_of(raw: u64) -> i64
     if raw % 2 == 1 { -magnitude } else { magnitude }
 }
 
-/// Whether a digit at this exponent, counted from 0, makes a run that does not fit.
+/// Whether this digit, at this exponent of 32, makes a run that does not fit.
 fn is_too_far(exponent: u32, digit: u8) -> bool
     ensures { result ≡ is_over exponent digit }
 {
     exponent > 12 || (exponent == 12 && digit % 32 > 7)
 }
 
-/// The raw number with one more digit, at this exponent.
+/// A raw number with one more digit, at this exponent of 32.
 fn raised(raw: u64, exponent: u32, digit: u8) -> u64
     requires exponent { is_over exponent digit ≡ false }
     requires raw { raw < 32 ^ exponent }
@@ -101,7 +101,7 @@ fn raised(raw: u64, exponent: u32, digit: u8) -> u64
     raw + (u64::from(digit % 32) << (5 * exponent))
 }
 
-/// Keeps a field, where it is one of the first five.
+/// Stores field k if it is one of the first five. Of further ones only the number counts.
 fn keep(values: &mut [i64; 5], k: usize, number: i64)
     ensures { values.new ≡ set values.old k number }
 {
@@ -110,8 +110,7 @@ fn keep(values: &mut [i64; 5], k: usize, number: i64)
     }
 }
 
-/// The number at this place of a text and how many digits it has. None where it has more than three, and where none stands
-/// there.
+/// The number at an index of a text, and how many digits it has; None if it has more than three, or if there is none.
 #[inline(always)]
 fn number_at(text: &[u8], at: usize) -> Option<(i64, usize)>
     requires { at + 3 ≤ length text.now }
@@ -141,8 +140,8 @@ fn number_at(text: &[u8], at: usize) -> Option<(i64, usize)>
     Some((signed_of(raw), 3))
 }
 
-/// The fields of the segment at the front of a text, where it has four or five, each of one to three digits. It is read at
-/// once, without a loop; None for every other segment.
+/// The fields of the segment at the front of a text, if it has four or five, each of one to three digits; None for every
+/// other segment. For speed it is read without a loop.
 #[inline(always)]
 fn usual_segment(text: &[u8]) -> Option<Fields>
     requires { 16 ≤ length text.now }
@@ -211,7 +210,7 @@ fn any_segment(text: &[u8]) -> Result<Fields>
     Ok(Fields { values, count, len })
 }
 
-/// A text of fewer than 16 bytes with `;` behind it, which ends its last segment as the end of the text does.
+/// A text of fewer than 16 bytes, filled up with `;`, which end its last segment as the end of the text does.
 fn with_end(text: &[u8]) -> [u8; 16]
     requires { length text.now < 16 }
     ensures { result ≡ text.now ++ replicate (16 - length text.now) 59 }
@@ -221,7 +220,7 @@ fn with_end(text: &[u8]) -> [u8; 16]
     window
 }
 
-/// `usual_segment` near the end of a text.
+/// `usual_segment` for a text of fewer than 16 bytes, which is filled up.
 #[cold]
 fn usual_last_segment(text: &[u8]) -> Option<Fields>
     requires { length text.now < 16 }
@@ -253,7 +252,7 @@ fn read_segment(text: &[u8]) -> Result<Fields>
     }
 }
 
-/// A line or column moved by a field, where it stays within 0 to 4294967295.
+/// A line or column moved by a field; an error if it leaves 0 to 4294967295.
 #[inline(always)]
 fn moved_within(sum: u32, by: i64) -> Result<u32>
     requires { nat_abs by < 2 ^ 62 }
@@ -271,7 +270,7 @@ fn moved_within(sum: u32, by: i64) -> Result<u32>
     Ok(moved as u32)
 }
 
-/// An id moved by a field, where it stays below the count.
+/// An id moved by a field; None if it is negative, not below the count, or 4294967295.
 #[inline(always)]
 fn moved_below(id: u32, by: i64, count: usize) -> Option<u32>
     requires { nat_abs by < 2 ^ 62 }
@@ -329,7 +328,7 @@ impl Sums {
         Ok(())
     }
 
-    /// The token of a segment, and the sums moved by it. After an `Err` some of them are moved.
+    /// Moves the sums by the fields of a segment, and makes its token. After an `Err` some of them are moved.
     #[tactic(auto, unfolding(crate::specs::Faults::place_fault))]
     #[inline(always)]
     fn step(&mut self, line: u32, fields: &Fields, names: usize, sources: usize) -> Result<Token>
@@ -364,8 +363,8 @@ impl Sums {
         }
     }
 
-    /// The token of the segment at the front of a text and the number of its bytes, and the sums moved by it. After an
-    /// `Err` some of them are moved.
+    /// Reads the segment at the front of a text: moves the sums by it, and gives its token and the number of its bytes. After
+    /// an `Err` some of the sums are moved.
     #[inline(always)]
     fn read_token(
         &mut self,
@@ -428,8 +427,8 @@ fn is_in_segment(byte: u8) -> bool
     (byte != b',') & (byte != b';')
 }
 
-/// How many segments begin in at most 255 bytes. `is_inside` tells whether a segment reaches to their front, and then whether
-/// one reaches to their end. Counted in eight bits and without a branch, which lets the compiler look at many bytes at once.
+/// How many segments begin in at most 255 bytes. `is_inside` is whether the byte before them belongs to a segment, and then
+/// whether their last byte does. Counted in eight bits and without a branch, which lets the compiler take many bytes at once.
 fn segments_in_block(block: &[u8], is_inside: &mut bool) -> u8
     requires { length block.now ≤ 255 }
     ensures { (rest : List ℕ) → segments_after is_inside.old (block.now ++ rest) ≡ result + segments_after is_inside.new rest }
@@ -458,7 +457,7 @@ fn segment_count(text: &[u8]) -> usize
     count + usize::from(segments_in_block(rest, &mut is_inside))
 }
 
-/// The text after a `,`, where it begins with one.
+/// The text without the `,` at its front, if it has one.
 #[inline(always)]
 fn after_comma(text: &[u8]) -> &[u8]
     ensures { (text.now ≡ result.now) ⊎ (text.now ≡ 44 ∷ result.now) }
@@ -476,7 +475,7 @@ fn after_comma(text: &[u8]) -> &[u8]
 /// Empty segments are skipped. A segment of one field is an unmapped token, with the source line and column reached so far.
 /// A byte outside the base64 alphabet is a digit of value 63.
 ///
-/// Fails with the first error in the text, or, if memory is refused, with `OutOfMemory`. Line 4294967296 is `TooLarge` at
+/// Fails with the first error in the text, or, for want of memory, with `OutOfMemory`. Line 4294967296 is `TooLarge` at
 /// the `;` that begins it. In a segment these are checked in this order:
 /// - each number: `VlqOverflow` for a 14th digit or a 13th with a payload above 7, `VlqLeftover` if the last digit has the
 ///   continuation bit;

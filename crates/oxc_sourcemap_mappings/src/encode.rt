@@ -31,21 +31,21 @@ fn letter_of(digit: u8) -> u8
     LETTERS[digit as usize]
 }
 
-/// The first characters of the deltas from -127 to 127.
+/// The first base64 character of each delta from -127 to 127.
 static NEAR_FIRST: [u8; 255] = *b"\
     /97531zxvtrpnljh/97531zxvtrpnljh/97531zxvtrpnljh/97531zxvtrpnljh\
     /97531zxvtrpnljh/97531zxvtrpnljh/97531zxvtrpnljhfdbZXVTRPNLJHFDA\
     CEGIKMOQSUWYacegikmoqsuwy02468+gikmoqsuwy02468+gikmoqsuwy02468+g\
     ikmoqsuwy02468+gikmoqsuwy02468+gikmoqsuwy02468+gikmoqsuwy02468+";
 
-/// Their second characters. That of a delta of one character has no meaning.
+/// The second base64 character of each delta from -127 to 127; without meaning for -15 to 15, which have only one.
 static NEAR_SECOND: [u8; 255] = *b"\
     HHHHHHHHHHHHHHHHGGGGGGGGGGGGGGGGFFFFFFFFFFFFFFFFEEEEEEEEEEEEEEEE\
     DDDDDDDDDDDDDDDDCCCCCCCCCCCCCCCCBBBBBBBBBBBBBBBBAAAAAAAAAAAAAAAA\
     AAAAAAAAAAAAAAABBBBBBBBBBBBBBBBCCCCCCCCCCCCCCCCDDDDDDDDDDDDDDDDE\
     EEEEEEEEEEEEEEEFFFFFFFFFFFFFFFFGGGGGGGGGGGGGGGGHHHHHHHHHHHHHHHH";
 
-/// The first character of the delta that lies so far above -127.
+/// The first base64 character of the delta `rank - 127`.
 #[inline(always)]
 fn first_of(rank: u64) -> u8
     requires { rank < 255 }
@@ -54,7 +54,7 @@ fn first_of(rank: u64) -> u8
     NEAR_FIRST[rank as usize]
 }
 
-/// The second character of that delta, if it has two.
+/// The second base64 character of the delta `rank - 127`; without meaning if the delta has only one (`has_second`).
 fn second_of(rank: u64) -> u8
     requires { rank < 255 }
     ensures { result ≡ second_letter rank }
@@ -62,7 +62,7 @@ fn second_of(rank: u64) -> u8
     NEAR_SECOND[rank as usize]
 }
 
-/// Whether it has two.
+/// Whether the delta `rank - 127` has two base64 characters, as all but -15 to 15 have.
 fn has_second(rank: u64) -> bool
     requires { rank < 255 }
     ensures { result ≡ nat_le 32 (raw_at rank) }
@@ -70,10 +70,10 @@ fn has_second(rank: u64) -> bool
     rank < 112 || rank > 142
 }
 
-// A call `place_` writes into `buf` from index `at` on, and answers the index after what it wrote. What stands from there
-// on has no meaning.
+// A function `place_` writes into `buf` from index `at` on, and returns the index after what it wrote. The bytes from there
+// on have no meaning.
 
-/// Places the delta that lies so far above -127.
+/// Places the delta `rank - 127`, in one or two characters.
 #[inline(always)]
 fn place_near(buf: &mut [u8], at: usize, rank: u64) -> usize
     requires room { at + 2 ≤ length buf.old }
@@ -128,7 +128,7 @@ impl Delta {
         Self { to, from }
     }
 
-    /// How far it lies above -127: below 255 for those up to 127, and for no others.
+    /// How far the delta lies above -127, in 64 bits: below 255 for deltas from -127 to 127, and for no others.
     #[inline(always)]
     fn rank(self) -> u64
         ensures value { result ≡ rank_of self }
@@ -137,7 +137,7 @@ impl Delta {
         (u64::from(self.to) + 127).wrapping_sub(u64::from(self.from))
     }
 
-    /// How far it lies above -15: below 31 for those up to 15, which are single digits.
+    /// How far the delta lies above -15, in 64 bits: below 31 for deltas from -15 to 15, which are single digits.
     #[inline(always)]
     fn offset(self) -> u64
         ensures value { result ≡ offset_of self }
@@ -146,7 +146,7 @@ impl Delta {
         (u64::from(self.to) + 15).wrapping_sub(u64::from(self.from))
     }
 
-    /// Its character, where it is a single digit.
+    /// The character of a delta that is a single digit.
     #[inline(always)]
     fn letter(self) -> u8
         requires { offset_of self < 31 }
@@ -156,7 +156,7 @@ impl Delta {
         first_of(self.offset() + 112)
     }
 
-    /// Places it.
+    /// Places the delta.
     #[inline(always)]
     fn place(self, buf: &mut [u8], at: usize) -> usize
         requires room { at + 7 ≤ length buf.old }
@@ -173,7 +173,7 @@ impl Delta {
     }
 }
 
-/// The deltas of a mapped token. That of the name is read only where there is one.
+/// The deltas of a mapped token. Without a name, `name_id` is no part of its text.
 #[derive(Drop)]
 struct Deltas {
     dst_col: Delta,
@@ -185,7 +185,7 @@ struct Deltas {
 }
 
 impl Deltas {
-    /// Whether each is a single digit.
+    /// Whether each delta is a single digit.
     fn are_single(&self) -> bool
         ensures { IsTrue result ↔ AreSingle self.now }
     {
@@ -194,7 +194,7 @@ impl Deltas {
         source.max(columns).max(self.name_id.offset()) < 31
     }
 
-    /// Places four or five single digits at once.
+    /// Places four or five deltas that are single digits, at once.
     fn place_single(&self, buf: &mut [u8], at: usize) -> usize
         requires room { at + 35 ≤ length buf.old }
         requires single { AreSingle self.now }
@@ -212,7 +212,7 @@ impl Deltas {
         at + 4 + usize::from(self.has_name)
     }
 
-    /// Places them one after the other.
+    /// Places four or five deltas, one after the other.
     fn place_each(&self, buf: &mut [u8], at: usize) -> usize
         requires room { at + 35 ≤ length buf.old }
         ensures bytes { take result buf.new ≡ take at buf.old ++ deltas_text self.now }
@@ -227,7 +227,7 @@ impl Deltas {
     }
 }
 
-/// Places the fields of a token, whose generated column is written from `column`.
+/// Places the fields of a token, its generated column relative to `column`.
 fn place_fields(buf: &mut [u8], at: usize, column: u32, previous: &Previous, token: &Token) -> usize
     requires room { at + 35 ≤ length buf.old }
     ensures bytes { take result buf.new ≡ take at buf.old ++ fields_text column (state_of previous.now) token.now }
@@ -253,7 +253,8 @@ fn place_fields(buf: &mut [u8], at: usize, column: u32, previous: &Previous, tok
     }
 }
 
-/// The mark of a token so many lines below the one before it, and then `;`.
+/// Eight bytes that begin with the separator of a token `lines` lines below the one before it: a `,` on the same line, else
+/// a `;` for each line. `marks_len` has how many of them count.
 fn marks_for(lines: u32) -> [u8; 8]
     ensures { result ≡ marks_of lines }
 {
@@ -264,7 +265,7 @@ fn marks_for(lines: u32) -> [u8; 8]
     }
 }
 
-/// How many of them part the two tokens.
+/// How many bytes of `marks_for` separate a token from the one before it.
 fn marks_len(is_first: bool, lines: u32) -> usize
     ensures { result ≡ (if lines == 0 then (if is_first then 0 else 1) else lines) }
 {
@@ -275,7 +276,7 @@ fn marks_len(is_first: bool, lines: u32) -> usize
     }
 }
 
-/// Places what parts a token from the one before it, which lies so many lines further up.
+/// Places the separator of a token that lies `lines` lines below the one before it.
 fn place_separator(buf: &mut [u8], at: usize, is_first: bool, lines: u32) -> usize
     requires room { at + 8 ≤ length buf.old }
     requires few { lines ≤ 8 }
@@ -286,7 +287,8 @@ fn place_separator(buf: &mut [u8], at: usize, is_first: bool, lines: u32) -> usi
     at + marks_len(is_first, lines)
 }
 
-/// Places a token that lies so many lines below the one before it, where all but so many lines are marked already.
+/// Places a token with its separator. `lines` counts the `;` that are still to be written; it is 0 only for a token on the
+/// line of the one before it.
 fn place_token(
     buf: &mut [u8],
     at: usize,
@@ -307,7 +309,7 @@ fn place_token(
     place_fields(buf, start, column, previous, token)
 }
 
-// After an `Err` of a call `push_`, a beginning of what it adds may stand in `out`, and nothing else has changed.
+// After an `Err` of a function `push_`, `out` may end with the beginning of what it adds, and has not changed otherwise.
 
 /// Adds ASCII characters.
 fn push_bytes(out: &mut String, bytes: &[u8]) -> Memory<()>
@@ -338,7 +340,7 @@ fn push_semicolons(out: &mut String, count: u32) -> Memory<()>
     Ok(())
 }
 
-/// Adds the characters that are gathered, and of so many `;` all but 8. How many of these are left.
+/// Adds the gathered characters, and all but the last 8 of `lines` `;`. Returns how many `;` are left.
 #[cold]
 fn push_gathered(out: &mut String, gathered: &[u8], lines: u32) -> Memory<u32>
     requires { AllByRecursion (λ b. b < 128) gathered.now }
@@ -352,8 +354,8 @@ fn push_gathered(out: &mut String, gathered: &[u8], lines: u32) -> Memory<u32>
     Ok(left)
 }
 
-/// Makes room in the buffer, the first `len` bytes of which are gathered, for a token so many lines further down. How many
-/// are gathered then, and how many of the lines are not yet marked.
+/// Makes room in the buffer, whose first `len` bytes are gathered, for a token `lines` lines further down. Returns how many
+/// bytes are gathered then, and how many `;` are still to be written.
 fn make_room(out: &mut String, buf: &[u8], len: usize, lines: u32) -> Memory<(usize, u32)>
     requires within { len ≤ length buf.now }
     requires plain { AllByRecursion (λ b. b < 128) (take len buf.now) }
@@ -372,7 +374,7 @@ fn make_room(out: &mut String, buf: &[u8], len: usize, lines: u32) -> Memory<(us
     Ok((0, left))
 }
 
-/// Adds tokens in line order after a state.
+/// Adds the text of tokens in line order, written from the state `header`.
 fn push_tokens(out: &mut String, at_start: bool, header: Previous, tokens: &[Token]) -> Memory<()>
     requires { back_from header.dst_line 0 tokens.now ≡ None }
     ensures ok { Pushes result out.old out.new (text_from at_start (state_of header) tokens.now) }
@@ -393,7 +395,7 @@ fn push_tokens(out: &mut String, at_start: bool, header: Previous, tokens: &[Tok
     push_bytes(out, &buf[..len])
 }
 
-/// Why a chunk is not written.
+/// The fault for which a chunk cannot be written, if it has one.
 fn fault_of_chunk(tokens: &[Token], chunk: &TokenChunk) -> Option<Error>
     ensures fault { result ≡ piece_fault tokens.now chunk.now }
     ensures in_bounds { result ≡ None → AreInBounds (chunk_tokens tokens.now chunk.now) }
@@ -414,7 +416,7 @@ fn fault_of_chunk(tokens: &[Token], chunk: &TokenChunk) -> Option<Error>
 /// - `BadChunks(0)` if the chunk ends before it starts, or past the tokens;
 /// - `LineOrder(i)` for the first token i of the chunk whose generated line is smaller than that of the token before it,
 ///   or, at `start`, than that of the header;
-/// - `OutOfMemory` if memory is refused.
+/// - `OutOfMemory` for want of memory.
 pub fn encode_chunk(tokens: &[Token], chunk: &TokenChunk, out: &mut String) -> Result<()>
     ensures text { Pushes result out.old out.new (piece tokens.now chunk.now) }
     ensures clean { OnOk result (piece_fault tokens.now chunk.now ≡ None) }
@@ -442,7 +444,7 @@ pub fn encode_chunk(tokens: &[Token], chunk: &TokenChunk, out: &mut String) -> R
     }
 }
 
-/// Adds the pieces of chunks that are written, one after the other. After an `Err` the first of them may stand in `out`.
+/// Adds the pieces of chunks without faults, one after the other. After an `Err` the first pieces may be in `out`.
 fn push_chunks(out: &mut String, tokens: &[Token], chunks: &[TokenChunk]) -> Result<()>
     requires { AllByRecursion (λ c. piece_fault tokens.now c ≡ None) chunks.now }
     ensures ok { Pushes result out.old out.new (flat_map (piece tokens.now) chunks.now) }
@@ -455,7 +457,7 @@ fn push_chunks(out: &mut String, tokens: &[Token], chunks: &[TokenChunk]) -> Res
     Ok(())
 }
 
-/// Why tokens with these chunks are not written.
+/// The fault for which tokens with these chunks cannot be written, if there is one.
 fn fault_of(tokens: &[Token], chunks: &[TokenChunk]) -> Option<Error>
     ensures fault { result ≡ writing_fault tokens.now (Some chunks.now) }
     ensures in_bounds { result ≡ None → AreInBounds tokens.now }
@@ -472,7 +474,7 @@ fn fault_of(tokens: &[Token], chunks: &[TokenChunk]) -> Option<Error>
     None
 }
 
-/// Appends the text of tokens in these chunks.
+/// Appends the text of tokens, chunk by chunk.
 fn encode_chunks(tokens: &[Token], chunks: &[TokenChunk], out: &mut String) -> Result<()>
     ensures text { Pushes result out.old out.new (canonical tokens.now) }
     ensures clean { OnOk result (writing_fault tokens.now (Some chunks.now) ≡ None) }
@@ -494,7 +496,7 @@ fn encode_chunks(tokens: &[Token], chunks: &[TokenChunk], out: &mut String) -> R
     }
 }
 
-/// Why more tokens than can be counted are not written.
+/// The fault of a list of more than 4294967295 tokens: its line order comes first.
 fn fault_of_long(tokens: &[Token]) -> Error
     requires { 4294967295 < length tokens.now }
     ensures { writing_fault tokens.now None ≡ Some result }
@@ -505,7 +507,7 @@ fn fault_of_long(tokens: &[Token]) -> Error
     }
 }
 
-/// Appends the text of tokens without chunks, in one chunk of them all: their line order is tested there.
+/// Appends the text of tokens as one chunk of them all. `encode_chunk` tests their line order.
 fn encode_whole(tokens: &[Token], out: &mut String) -> Result<()>
     ensures text { Pushes result out.old out.new (canonical tokens.now) }
     ensures clean { OnOk result (writing_fault tokens.now None ≡ None) }
@@ -531,7 +533,7 @@ fn encode_whole(tokens: &[Token], out: &mut String) -> Result<()>
 /// - `LineOrder(i)` for the first token i whose generated line is smaller than that of the token before it;
 /// - `BadChunks(k)` if chunks do not fit; k is that of `chunk_fault`;
 /// - `TooLarge` for more than 4294967295 tokens;
-/// - `OutOfMemory` if memory is refused.
+/// - `OutOfMemory` for want of memory.
 pub fn encode_mappings(
     tokens: &[Token],
     chunks: Option<&[TokenChunk]>,

@@ -1,4 +1,4 @@
--- Sorted lists, looked at from the front on.
+-- Sorted lists, tested from the front on.
 use Rattle.std.proofs.Common.{◌≡◌, ℕ, ◌+◌, ◌-◌, ◌<◌, ◌≤◌, true, List, [], ◌∷◌, length, get_or, drop, arith, refl, ap, ◌∙◌, length-drop}
 use Rattle.std.proofs.lemmas.List.{drop_more}
 use Rattle.std.specs.Prelude.{None}

@@ -1,4 +1,4 @@
--- Places of texts in lists.
+-- Indices of texts in lists.
 use Rattle.std.proofs.Common.{◌≡◌, refl, ap, ◌∙◌, sym, ℕ, suc, ◌+◌, ◌-◌, ◌≤◌, Bool, true, false, cond, List, [], ◌∷◌, ◌++◌, length, get_or, Option, Some, None, arith}
 use Rattle.std.proofs.lemmas.Slice.Eq.{bytes_eq-Decides}
 use Rattle.std.specs.List.{position_from}
@@ -18,11 +18,11 @@ position-append t i (x ∷ xs) ys =
 itself : (x : Text) → bytes_eq x x ≡ true
 itself x = (bytes_eq-Decides x x).1 refl
 
--- a text more, at the end: it has the last place, and the others keep theirs
+-- one more text at the end: it has the last index, and the others keep theirs
 pub index-push : (x : Text) (xs : List Text) (y : Text) → index_of x (xs ++ y ∷ []) ≡ option_or (index_of x xs) (cond (bytes_eq x y) (Some (length xs)) None)
 index-push x xs y = position-append (bytes_eq x) 0 xs (y ∷ []) ∙ ap (λ n. option_or (index_of x xs) (cond (bytes_eq x y) (Some n) None)) (omega arith)
 
--- a text is where it was, or after the others
+-- the index of a text in the list with it: the old one, or the last
 index-at : (o : Option ℕ) (x : Text) (xs : List Text) → index_of x xs ≡ o → index_of x (with_text_at o xs x) ≡ Some (unwrap_or o (length xs))
 index-at (Some i) x xs e = e
 index-at None x xs e = index-push x xs x ∙ ap (λ o. option_or o (cond (bytes_eq x x) (Some (length xs)) None)) e ∙ ap (λ b. cond b (Some (length xs)) None) (itself x)
@@ -33,7 +33,7 @@ index-last x xs e = index-at None x xs e
 pub index-with : (x : Text) (xs : List Text) → index_of x (with_text xs x) ≡ Some (unwrap_or (index_of x xs) (length xs))
 index-with x xs = index-at (index_of x xs) x xs refl
 
--- what is there stays where it is
+-- a text of a list keeps its index when others are appended
 pub index-front : (x : Text) (i : ℕ) (xs ys : List Text) → index_of x xs ≡ Some i → index_of x (xs ++ ys) ≡ Some i
 index-front x i xs ys e = position-append (bytes_eq x) 0 xs ys ∙ ap (λ o. option_or o (position_from (bytes_eq x) (0 + length xs) ys)) e
 
@@ -48,7 +48,7 @@ pub index-stays : (x : Text) (i : ℕ) (xs ys : List Text) → index_of x xs ≡
 index-stays x i xs [] e = e
 index-stays x i xs (y ∷ ys) e = index-stays x i (with_text xs y) ys (index-stays_with x i xs y e)
 
--- a text is equal to the one at its place
+-- a text is equal to the one at its index
 abbrev IsAt : Text → ℕ → ℕ → List Text → Type 0
 IsAt x k i xs = (k ≤ i) × (bytes_eq x (get_or xs (i - k) []) ≡ true)
 
@@ -67,7 +67,7 @@ at_place : (x : Text) (k i : ℕ) (xs : List Text) → position_from (bytes_eq x
 at_place x k i [] e = absurd (cc (e))
 at_place x k i (y ∷ ys) e = at_place-by (bytes_eq x y) x k i y ys refl e (at_place x (k + 1) i ys)
 
--- so texts that share a place are equal
+-- texts of one index are equal
 pub same_place : (x y : Text) (i : ℕ) (xs : List Text) → index_of x xs ≡ Some i → index_of y xs ≡ Some i → x ≡ y
 same_place x y i xs e f =
     let t = get_or xs (i - 0) [] in

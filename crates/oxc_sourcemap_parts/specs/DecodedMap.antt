@@ -23,10 +23,11 @@ pub record DecodedMapping : Type 0 where
   pub dst_col : ℕ
   pub original : Option OriginalPosition
 
--- the generated line and column of a mapping
+-- the generated line of a mapping
 abbrev pub mapping_line : DecodedMapping → ℕ
 mapping_line e = e.dst_line
 
+-- the generated column of a mapping
 abbrev pub mapping_column : DecodedMapping → ℕ
 mapping_column e = e.dst_col
 
@@ -39,14 +40,14 @@ pub record DecodedMap : Type 0 where
   pub sources : List DecodedSource
   pub mappings : List DecodedMapping
 
--- Each source with the content listed for it. A content that is not listed is none, and one after the last source is not
--- looked at.
+-- Each source with the content listed for it. A content that is not listed is none, and one after the last source is
+-- ignored.
 abbrev pub sources_of : List Text → List (Option Text) → List DecodedSource
 sources_of [] contents = []
 sources_of (path ∷ paths) [] = record { path = path; content = None } ∷ sources_of paths []
 sources_of (path ∷ paths) (content ∷ contents) = record { path = path; content = content } ∷ sources_of paths contents
 
--- the name that a token names
+-- the name of a token, or none if it has no id, or one out of range
 abbrev pub name_of : List Text → TokenRecord → Option Text
 name_of names t = option_and_then (slice_get names) t.name_id
 
@@ -54,7 +55,7 @@ name_of names t = option_and_then (slice_get names) t.name_id
 abbrev pub original_at : List Text → TokenRecord → DecodedSource → OriginalPosition
 original_at names t source = record { source = source; src_line = t.src_line; src_col = t.src_col; name = name_of names t }
 
--- what a token points to
+-- what a token points to, or none if it has no source id, or one out of range
 abbrev pub original_of : List DecodedSource → List Text → TokenRecord → Option OriginalPosition
 original_of sources names t = option_map (original_at names t) (option_and_then (slice_get sources) t.source_id)
 

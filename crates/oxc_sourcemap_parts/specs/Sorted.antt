@@ -2,11 +2,11 @@
 use Rattle.std.specs.Prelude.{ℕ, Bool, true, ◌&&◌, ◌||◌, List, [], ◌∷◌, nat_lt, nat_le, ◌==◌}
 use Rattle.oxc_sourcemap_tokens.specs.Token.{TokenRecord}
 
--- an item may stand before another: on a line before it, or on its line and not after its column
+-- an item may come before another: on a line before it, or on its line and not after its column
 abbrev pub may_precede : {A : Type 0} → (A → ℕ) → (A → ℕ) → A → A → Bool
 may_precede line column x y = nat_lt (line x) (line y) || (line x == line y && nat_le (column x) (column y))
 
--- each item may stand before the next one
+-- each item may come before the next one
 abbrev pub is_sorted_by : {A : Type 0} → (A → ℕ) → (A → ℕ) → List A → Bool
 is_sorted_by line column [] = true
 is_sorted_by line column (x ∷ []) = true

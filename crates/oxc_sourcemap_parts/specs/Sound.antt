@@ -11,7 +11,7 @@ pub record IsInRange (names sources : ℕ) (t : TokenRecord) : Type 0 where
   pub source_id : IfSome t.source_id (λ id. id < sources)
   pub name_id : IfSome t.name_id (λ id. id < names)
 
--- all ids of tokens and all entries of the ignore list name something
+-- all ids of tokens and all entries of the ignore list are in range
 pub record AreIdsInRange (r : MapRecord) : Type 0 where
   pub tokens : AllByRecursion (IsInRange (length r.names) (length r.sources)) r.tokens
   pub ignore_list : IfSome r.ignore_list (AllByRecursion (λ id. id < length r.sources))

@@ -1,4 +1,4 @@
--- How stored strings, lists and parts are seen.
+-- What stored strings, lists and parts stand for.
 use Rattle.std.specs.Prelude.{ℕ, List, [], Option, None, map, option_map, Vec}
 use Rattle.std.specs.declared.alloc.Global.{Global}
 use Rattle.std.specs.declared.borrow.CowStr.{CowStr}
@@ -12,15 +12,15 @@ use Rattle.oxc_sourcemap_parts.specs.declared.parts.SourceMapParts.{SourceMapPar
 abbrev pub text_of : Option (CowStr Global) → Option Text
 text_of text = option_map cow_str_bytes text
 
--- strings
+-- a slice of strings
 abbrev pub cow_texts : List (CowStr Global) → List Text
 cow_texts texts = map cow_str_bytes texts
 
--- names or sources
+-- a list of names or sources
 abbrev pub texts_of : Vec (CowStr Global) Global → List Text
 texts_of texts = map cow_str_bytes texts.items
 
--- contents of sources
+-- a list of contents
 abbrev pub contents_of : Vec (Option (CowStr Global)) Global → List (Option Text)
 contents_of contents = map (option_map cow_str_bytes) contents.items
 

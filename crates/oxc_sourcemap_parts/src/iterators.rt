@@ -1,5 +1,5 @@
-//! The named iterators over the lists of a map. Each gives the items in order and then None, tells exactly how many are
-//! left, and takes no memory.
+//! The named iterators over the lists of a map. Each gives the items in order and then None, has the exact number of items
+//! left as its length, and takes no memory.
 ghost use Rattle.std.specs.Prelude.{◌≡◌, map, option_map, length, IfSome, Some};
 ghost use Rattle.std.specs.Iterator.{YieldsFirst, YieldsFirstBy, item_count, UpTo};
 ghost use Rattle.std.specs.Iterator.SizeHint.{IsWithinCount};
@@ -34,7 +34,7 @@ impl<'s, 'd> Model for Texts<'s, 'd> {
     ghost view = { λ it. cow_texts (iter_rest it.texts) };
 }
 
-/// An iterator over these texts.
+/// An iterator over names or sources.
 pub fn texts_in<'s, 'd>(texts: &'s [CowStr<'d>]) -> Texts<'s, 'd>
     ensures { result ≡ cow_texts texts.now }
 {
@@ -88,7 +88,7 @@ impl<'s, 'd> Model for Contents<'s, 'd> {
     ghost view = { λ it. map text_of (iter_rest it.contents) };
 }
 
-/// An iterator over these contents.
+/// An iterator over contents of sources.
 pub fn contents_in<'s, 'd>(contents: &'s [Option<CowStr<'d>>]) -> Contents<'s, 'd>
     ensures { result ≡ map text_of contents.now }
 {
@@ -177,7 +177,7 @@ impl<'s> ExactSizeIterator for Tokens<'s> {
     }
 }
 
-/// An iterator over these tokens.
+/// An iterator over tokens.
 pub fn tokens_in(tokens: &[Token]) -> Tokens<'_>
     ensures { result ≡ tokens.now }
 {

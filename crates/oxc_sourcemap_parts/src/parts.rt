@@ -29,7 +29,7 @@ pub struct SourceMapParts<'a> {
     pub tokens: BoxedSlice<Token>,
     /// The chunks in which the tokens are written, if any.
     pub token_chunks: Option<Vec<TokenChunk>>,
-    /// The indices of sources that debuggers may pass over, as third-party code.
+    /// The indices of sources that debuggers may ignore, as third-party code.
     pub ignore_list: Option<Vec<u32>>,
     /// An id that ties this map to its generated code.
     pub debug_id: Option<CowStr<'a>>,
@@ -78,7 +78,7 @@ impl<'a> SourceMapParts<'a> {
     }
 }
 
-/// The strings of a map that stand alone.
+/// The strings of a map that are in no list.
 #[derive(Drop)]
 struct Single<'a> {
     file: Option<CowStr<'a>>,
@@ -94,7 +94,7 @@ struct TextLists<'a> {
     contents: Vec<Option<CowStr<'a>>>,
 }
 
-/// Clones of the strings of these parts that stand alone.
+/// Clones of the file, source root and debug id of these parts.
 fn clone_single<'a>(parts: &SourceMapParts<'a>) -> Memory<Single<'a>>
     ensures file { IfOk result (λ texts. text_of texts.file ≡ text_of parts.now.file) }
     ensures source_root { IfOk result (λ texts. text_of texts.source_root ≡ text_of parts.now.source_root) }
@@ -120,7 +120,7 @@ fn clone_lists<'a>(alloc: Global, parts: &SourceMapParts<'a>) -> Memory<TextList
     })
 }
 
-/// The same strings, borrowing nothing.
+/// File, source root and debug id, made to borrow nothing.
 fn into_owned_single(alloc: Global, texts: Single<'_>) -> Memory<Single<'static>>
     ensures file { IfOk result (λ owned. text_of owned.file ≡ text_of texts.entry.file) }
     ensures source_root { IfOk result (λ owned. text_of owned.source_root ≡ text_of texts.entry.source_root) }
@@ -133,7 +133,7 @@ fn into_owned_single(alloc: Global, texts: Single<'_>) -> Memory<Single<'static>
     })
 }
 
-/// The same lists, borrowing nothing.
+/// Names, sources and contents, made to borrow nothing.
 fn into_owned_lists(alloc: Global, lists: TextLists<'_>) -> Memory<TextLists<'static>>
     ensures names { IfOk result (λ owned. texts_of owned.names ≡ texts_of lists.entry.names) }
     ensures sources { IfOk result (λ owned. texts_of owned.sources ≡ texts_of lists.entry.sources) }
@@ -146,8 +146,8 @@ fn into_owned_lists(alloc: Global, lists: TextLists<'_>) -> Memory<TextLists<'st
     })
 }
 
-/// The same parts, borrowing nothing: owned strings are moved, borrowed ones copied. Fails only with `OutOfMemory`; the
-/// parts are then dropped.
+/// Parts equal to these that borrow nothing: owned strings are moved, borrowed ones copied. Fails only with `OutOfMemory`;
+/// the parts are then dropped.
 pub fn owned_parts(alloc: Global, parts: SourceMapParts<'_>) -> Result<SourceMapParts<'static>>
     ensures parts { IfOk result (λ owned. record_of_parts owned ≡ record_of_parts parts.entry) }
     ensures error { OnlyMemory result }

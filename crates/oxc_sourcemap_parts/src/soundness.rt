@@ -10,7 +10,7 @@ ghost use Rattle.oxc_sourcemap_parts.specs.Sound.{IsInRange, IsSound};
 use crate::parts::SourceMapParts;
 use oxc_sourcemap_tokens::{Token, TokenChunk, chunk_fault};
 
-/// Whether a token may stand before another in a sorted list.
+/// Whether a token may come before another in a sorted list.
 fn precedes(first: &Token, second: &Token) -> bool
     ensures { result ≡ may_precede token_line token_column first.now second.now }
 {
@@ -47,7 +47,7 @@ fn is_in_range(token: &Token, names: usize, sources: usize) -> bool
     is_source_there && is_name_there
 }
 
-/// Whether this holds of all tokens.
+/// Whether the ids of all tokens, where they have them, are below these counts.
 fn are_in_range(tokens: &[Token], names: usize, sources: usize) -> bool
     ensures { IsTrue result ↔ AllByRecursion (IsInRange names sources) tokens.now }
 {
@@ -71,7 +71,7 @@ fn are_below(ids: &[u32], count: usize) -> bool
     true
 }
 
-/// Whether this holds of a list that may be there.
+/// Whether an ignore list is absent, or all its ids are below a count.
 fn is_list_below(list: &Option<Vec<u32>>, count: usize) -> bool
     ensures { IsTrue result ↔ IfSome (ids_of list.now) (AllByRecursion (λ id. id < count)) }
 {
@@ -81,7 +81,7 @@ fn is_list_below(list: &Option<Vec<u32>>, count: usize) -> bool
     }
 }
 
-/// Whether chunks that may be there fit the tokens.
+/// Whether chunks are absent or fit the tokens.
 fn do_chunks_fit(tokens: &[Token], chunks: &Option<Vec<TokenChunk>>) -> bool
     ensures { IsTrue result ↔ IfSome (chunks_of chunks.now) (ChunksFit tokens.now) }
 {
@@ -91,8 +91,8 @@ fn do_chunks_fit(tokens: &[Token], chunks: &Option<Vec<TokenChunk>>) -> bool
     }
 }
 
-/// Whether the map of these parts is sound: its tokens are sorted, its ids and its ignore list refer to what is there, and
-/// its chunks are absent or fit.
+/// Whether the map of these parts is sound: its tokens are sorted, its ids and the entries of its ignore list are in range,
+/// and its chunks are absent or fit.
 pub fn are_sound(parts: &SourceMapParts<'_>) -> bool
     ensures { IsTrue result ↔ IsSound (record_of_parts parts.now) }
 {

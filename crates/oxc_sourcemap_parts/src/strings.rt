@@ -1,5 +1,5 @@
-//! The strings of a map, made owned, cloned, and moved between `String` and `CowStr`. Each call that takes memory fails for want of
-//! it alone.
+//! The strings of a map: made owned, cloned, and turned from `String` to `CowStr` and back. A call that takes memory fails only
+//! for want of it.
 ghost use Rattle.std.specs.Prelude.{◌≡◌, List, map, option_map, string_bytes, IfOk};
 ghost use Rattle.std.specs.Iterator.{IsFinite, Drains};
 ghost use Rattle.std.specs.Cow.{cow_str_bytes};
@@ -167,7 +167,7 @@ pub fn from_strings(alloc: Global, texts: Vec<String>) -> Memory<Vec<CowStr<'sta
     Ok(strings)
 }
 
-/// Each `String` that is there as a content.
+/// Contents made of `String`s; unknown ones stay unknown.
 pub fn from_optional_strings(
     alloc: Global,
     contents: Vec<Option<String>>,
@@ -202,7 +202,7 @@ pub fn to_strings(alloc: Global, texts: &[CowStr<'_>]) -> Memory<Vec<String>>
     Ok(strings)
 }
 
-/// A copy of each content that is there as a `String`.
+/// Copies of contents as `String`s; unknown ones stay unknown.
 pub fn to_optional_strings(
     alloc: Global,
     contents: &[Option<CowStr<'_>>],

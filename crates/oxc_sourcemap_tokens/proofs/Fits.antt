@@ -30,14 +30,14 @@ take-split m n ts h = let e : n ≡ m + (n - m) = omega arith in ap (λ k. take 
 pub drop-split : (m n : ℕ) (ts : List TokenRecord) → m ≤ n → drop m ts ≡ take (n - m) (drop m ts) ++ drop n ts
 drop-split m n ts h = let e : m + (n - m) ≡ n = omega arith in sym (take-append-drop (n - m) (drop m ts)) ∙ ap (λ xs. take (n - m) (drop m ts) ++ xs) (drop-drop (n - m) m ts ∙ ap (λ k. drop k ts) e)
 
--- the standing of the first token doesn't matter where the list is in order
+-- the index of the first token doesn't matter if the list is in order
 pub back-shift : (line i j : ℕ) (ts : List TokenRecord) → back_from line i ts ≡ None → back_from line j ts ≡ None
 back-shift line i j [] e = refl
 back-shift line i j (t ∷ ts) e =
     let q = in_order (nat_lt t.dst_line line) i _ e in
     rw q.0 (back-shift t.dst_line (i + 1) (j + 1) ts q.1)
 
--- ---- fitting by tests
+-- ---- chunks that fit, by tests
 pub andb : (a b : Bool) → (a && b) ≡ true → (a ≡ true) × (b ≡ true)
 andb true b e = (refl, e)
 andb false b e = cc
@@ -127,7 +127,7 @@ first_misfit-fits ts cs o e = (
   λ h. ap is_some (e ∙ first_misfit_from-fits ts 0 0 cs h),
 )
 
--- ---- what fits is written
+-- ---- chunks that fit are in line order
 back_from-append : (line i : ℕ) (xs ys : List TokenRecord) (s : State) → s.dst_line ≡ line → back_from line i (xs ++ ys) ≡ None →
     (back_from line i xs ≡ None) × (back_from (advanced_all s xs).dst_line (i + length xs) ys ≡ None)
 back_from-append line i [] ys s e h = (refl, rw e (back-shift line i (i + 0) ys h))
@@ -166,7 +166,7 @@ pub last-fits : (ts : List TokenRecord) (cs : List TokenChunk) (c : TokenChunk) 
 last-fits ts [] c h e = cc
 last-fits ts (x ∷ cs) c h e = last-fits-at ts 0 (length (x ∷ cs) - 1) (x ∷ cs) c h (omega arith) e
 
--- what stands after the last chunk is what stands after all tokens
+-- the state after the last chunk is the state after all tokens
 pub after-last : (ts : List TokenRecord) (c : TokenChunk) → ChunkFits ts c.start c → c.end ≡ length ts → advanced_all (header c) (chunk_tokens ts c) ≡ state_at ts (length ts)
 after-last ts c f e =
     ap (λ s. advanced_all s (chunk_tokens ts c)) (f.true_header ∙ state_at-is ts c.start)

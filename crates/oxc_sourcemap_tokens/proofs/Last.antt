@@ -20,7 +20,7 @@ last_given-append : {A : Type 0} (given : TokenRecord → Option A) (ts : List T
 last_given-append given [] t = sym (or-none (given t))
 last_given-append given (u ∷ ts) t = ap (λ o. option_or o (given u)) (last_given-append given ts t) ∙ or-again (given t) (last_given given ts) (given u)
 
--- with one more token in front of what is looked at already
+-- the search, with the token at index i and the tokens before it
 last_given-step : {A : Type 0} (given : TokenRecord → Option A) (ts : List TokenRecord) (n i : ℕ) (d : TokenRecord) → n ≡ suc i → i < length ts →
     last_given given (take n ts) ≡ option_or (given (get_or ts i d)) (last_given given (take i ts))
 last_given-step given ts n i d e h = ap (λ k. last_given given (take k ts)) e ∙ ap (last_given given) (take-suc ts i d h) ∙ last_given-append given (take i ts) (get_or ts i d)
@@ -33,7 +33,7 @@ miss-or : {A : Type 0} (o r : Option A) → is_some o ≡ false → option_or o 
 miss-or None r e = refl
 miss-or (Some x) r e = cc
 
--- what the token at the end of what is left gives
+-- one step of the search: the last token that is left gives something, or the search goes on before it
 module _ {A : Type 0} (given : TokenRecord → Option A) (ts : List TokenRecord) (left i : ℕ) (t : TokenRecord) (o : Option A) (next : left ≡ suc i) (h : i < length ts) (is : t ≡ get_or ts i t) (gives : o ≡ given t)
     (rest : last_given given (take left ts) ≡ last_given given ts) where
   with-it : last_given given ts ≡ option_or o (last_given given (take i ts))

@@ -1,4 +1,4 @@
--- Chunks: parts of a list of tokens, each written from a header of its own, which stands for all that lies before.
+-- Chunks: parts of a list of tokens, each written from a header of its own, which stands for all tokens before it.
 use Rattle.std.specs.Prelude.{◌≡◌, ℕ, ◌+◌, ◌-◌, ◌≤◌, Bool, ◌&&◌, List, [], ◌∷◌, length, Option, Some, None, if◌then◌else◌, nat_le, ◌==◌, take, drop}
 use Rattle.std.specs.Borrow.{Bor}
 use Rattle.std.specs.Option.{option_map}
@@ -6,7 +6,7 @@ use Rattle.oxc_sourcemap_tokens.specs.declared.token.TokenChunk.{TokenChunk}
 use Rattle.oxc_sourcemap_tokens.specs.Token.{TokenRecord}
 use Rattle.oxc_sourcemap_tokens.specs.State.{State, state_at}
 
--- the state that a chunk says it starts from
+-- the header of a chunk, as a state
 abbrev pub header : TokenChunk → State
 header c = record {
   dst_line = c.prev_dst_line;
@@ -61,7 +61,7 @@ abbrev pub is_fitting_chunk : List TokenRecord → ℕ → TokenChunk → Bool
 is_fitting_chunk tokens index c =
     c.start == index && (nat_le c.start c.end && (nat_le c.end (length tokens) && is_same_state (header c) (state_at tokens c.start)))
 
--- the first misfit, from this index of the tokens and chunk k on
+-- the first chunk that does not fit, of chunks from k on, the first of which has to start at this index
 abbrev pub first_misfit_from : List TokenRecord → ℕ → ℕ → List TokenChunk → Option ℕ
 first_misfit_from tokens index k [] = if index == length tokens then None else Some k
 first_misfit_from tokens index k (c ∷ cs) = if is_fitting_chunk tokens index c then first_misfit_from tokens c.end (k + 1) cs else Some k

@@ -10,7 +10,7 @@ first_out_of_order (t ∷ []) = None
 first_out_of_order (t ∷ u ∷ ts) =
     if nat_lt u.dst_line t.dst_line then Some 1 else option_map (λ i. i + 1) (first_out_of_order (u ∷ ts))
 
--- The same for tokens that stand after a token on this line, the first of them at index i.
+-- The index of the first token whose generated line goes back, where the first has index i and follows a token on this line.
 abbrev pub back_from : ℕ → ℕ → List TokenRecord → Option ℕ
 back_from line i [] = None
 back_from line i (t ∷ ts) = if nat_lt t.dst_line line then Some i else back_from t.dst_line (i + 1) ts

@@ -1,4 +1,4 @@
--- The texts of refusals, as bytes.
+-- The messages of errors, as bytes.
 use Rattle.std.specs.Prelude.{ℕ, List, ◌++◌, codes, Option, Some, None}
 use Rattle.std.specs.Fmt.{decimal}
 use Rattle.oxc_sourcemap_tokens.specs.declared.error.Field.{Field}
@@ -25,12 +25,12 @@ key_of Sections = Some (codes "sections")
 key_of Offset = Some (codes "offset")
 key_of Map = Some (codes "map")
 
--- that the value is no object, or that the field of this key is missing or has the wrong type
+-- the message for a value that is no object, or for the field of this key, missing or of the wrong type
 abbrev pub shape_text : Option (List ℕ) → List ℕ
 shape_text None = codes "the value is not an object"
 shape_text (Some key) = codes "field " ++ key ++ codes " is missing or has the wrong type"
 
--- why a text or a JSON value is not a source map
+-- the message for a text or a JSON value that is not a source map
 abbrev pub json_fault_text : JsonFault → List ℕ
 json_fault_text Reading = codes "the text is not JSON"
 json_fault_text (Shape field) = shape_text (key_of field)

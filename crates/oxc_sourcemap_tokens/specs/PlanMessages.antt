@@ -1,4 +1,4 @@
--- The texts of what the evaluation of a plan refuses, as bytes.
+-- The messages of the errors of plans, as bytes.
 use Rattle.std.specs.Prelude.{ℕ, List, codes}
 use Rattle.oxc_sourcemap_tokens.specs.Messages.{error_text}
 use Rattle.oxc_sourcemap_tokens.specs.declared.plan_error.PlanError.{PlanError}

@@ -1,4 +1,4 @@
--- Answers and their faults.
+-- Faults as errors.
 use Rattle.std.specs.Prelude.{◌≡◌, Option, Some, None, Result, Err}
 use Rattle.serde_json.specs.declared.error.Error as json
 use Rattle.serde_json.specs.Errors.{IsMemory}
@@ -6,11 +6,11 @@ use Rattle.oxc_sourcemap_tokens.specs.declared.error.Error.{Error}
 use Rattle.oxc_sourcemap_tokens.specs.declared.error.Error.TheVariants.{BadJson, OutOfMemory}
 use Rattle.oxc_sourcemap_tokens.specs.declared.error.JsonFault.TheVariants.{Reading}
 
--- an answer, unless there is a fault
+-- this result, unless there is a fault
 abbrev pub unless : {A : Type 0} → Option Error → Result A Error → Result A Error
 unless None answer = answer
 unless (Some fault) answer = Err fault
 
--- Which refusal a failure of `serde_json` becomes: lack of memory stays that, and every other cause is that no value is read
+-- What an error of `serde_json` becomes: `OutOfMemory` for want of memory, and `BadJson(Reading)` for every other cause.
 abbrev pub refusal_of_json : json.Error → Error → Type 0
 refusal_of_json cause e = (IsMemory cause → e ≡ OutOfMemory) × (¬ (IsMemory cause) → e ≡ BadJson Reading)

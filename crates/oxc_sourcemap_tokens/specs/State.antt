@@ -1,4 +1,4 @@
--- What a token is written against: the state at its index of a list.
+-- The state at an index of a list, which the deltas of the token there start from.
 use Rattle.std.specs.Prelude.{ℕ, List, [], ◌∷◌, Option, Some, reverse, take}
 use Rattle.std.specs.Option.{unwrap_or}
 use Rattle.oxc_sourcemap_tokens.specs.Token.{TokenRecord, mapped_name, beside_source}
@@ -16,7 +16,7 @@ pub record State : Type 0 where
 abbrev pub initial : State
 initial = record { dst_line = 0; dst_col = 0; source_id = 0; src_line = 0; src_col = 0; name_id = 0 }
 
--- The number of the nearest token that gives one, else the default. The tokens before stand the nearest first.
+-- The number that the nearest token with one gives, else the default. The list has the nearest token first.
 abbrev pub nearest : (TokenRecord → Option ℕ) → ℕ → List TokenRecord → ℕ
 nearest given default [] = default
 nearest given default (t ∷ before) = unwrap_or (given t) (nearest given default before)

@@ -1,12 +1,12 @@
--- How the state that is carried from token to token is seen, against the states of `State`. No public contract speaks of
--- these but those of `Previous`, which the encoder carries.
+-- The state as code carries it from token to token, beside the states of `State`. Of public contracts only those of
+-- `Previous` cite this module.
 use Rattle.std.specs.Prelude.{ℕ, List, [], ◌∷◌, Option, None}
 use Rattle.std.specs.Option.{unwrap_or, option_map, option_or}
 use Rattle.oxc_sourcemap_tokens.specs.declared.state.Previous.{Previous}
 use Rattle.oxc_sourcemap_tokens.specs.Token.{TokenRecord, mapped_name, beside_source}
 use Rattle.oxc_sourcemap_tokens.specs.State.{State}
 
--- the state that is carried
+-- the state that a `Previous` stands for
 abbrev pub state_of : Previous → State
 state_of p = record { dst_line = p.dst_line; dst_col = p.dst_col; source_id = p.source_id; src_line = p.src_line; src_col = p.src_col; name_id = p.name_id }
 
@@ -30,7 +30,7 @@ advanced_all s (t ∷ ts) = advanced_all (advanced s t) ts
 abbrev pub source_given : TokenRecord → Option (ℕ × ℕ × ℕ)
 source_given t = option_map (λ id. (id, t.src_line, t.src_col)) t.source_id
 
--- what the last of these tokens that gives something gives
+-- what the last token for which `given` is not none gives
 abbrev pub last_given : {A : Type 0} → (TokenRecord → Option A) → List TokenRecord → Option A
 last_given given [] = None
 last_given given (t ∷ ts) = option_or (last_given given ts) (given t)

@@ -16,7 +16,7 @@ pub record TokenRecord : Type 0 where
 abbrev pub id_of : ℕ → Option ℕ
 id_of n = if nat_lt n 4294967295 then Some n else None
 
--- the id that a token keeps of the one that it is given
+-- the id of a token that is made with this one
 abbrev pub kept_id : Option ℕ → Option ℕ
 kept_id None = None
 kept_id (Some n) = id_of n
@@ -46,7 +46,7 @@ pub record IsInBounds (t : TokenRecord) : Type 0 where
   pub source_id : IfSome t.source_id (λ n. n < 4294967295)
   pub name_id : IfSome t.name_id (λ n. n < 4294967295)
 
--- all of these are
+-- all of these tokens are in bounds
 abbrev pub AreInBounds : List TokenRecord → Type 0
 AreInBounds tokens = All IsInBounds tokens
 
@@ -55,6 +55,6 @@ abbrev pub last_line : ℕ → List TokenRecord → ℕ
 last_line line [] = line
 last_line line (t ∷ ts) = last_line t.dst_line ts
 
--- the last item
+-- the last item, or none
 abbrev pub last : {A : Type 0} → List A → Option A
 last items = last_or None items

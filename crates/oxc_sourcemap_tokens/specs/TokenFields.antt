@@ -15,7 +15,7 @@ pub record FieldsFit (a : Inside) : Type 0 where
   pub source_id : a.source_id < 4294967296
   pub name_id : a.name_id < 4294967296
 
--- what the stored fields say
+-- the record that stored fields stand for
 abbrev pub record_of : Inside → TokenRecord
 record_of a = record {
   dst_line = a.dst_line;
@@ -26,7 +26,7 @@ record_of a = record {
   name_id = id_of a.name_id;
 }
 
--- A number that says an id. No two ids have the same one, so that equal fields say equal records.
+-- A number that stands for an id, another for each id, so that equal fields stand for equal records.
 abbrev pub number_of : Option ℕ → ℕ
 number_of None = 4294967295
 number_of (Some n) = if nat_lt n 4294967295 then n else n + 1

@@ -58,7 +58,7 @@ pub fn tokens_of<'t>(tokens: &'t [Token], chunk: &TokenChunk) -> &'t [Token]
     &tokens[chunk.start as usize..chunk.end as usize]
 }
 
-/// What stands after all of the tokens, by the last of these chunks, which fit them.
+/// The state after all tokens, found from the last of the chunks, which fit them.
 fn after_chunks(tokens: &[Token], chunks: &[TokenChunk]) -> Previous
     requires { ChunksFit tokens.now chunks.now }
     ensures { state_of result ≡ state_at tokens.now (length tokens.now) }
@@ -69,8 +69,8 @@ fn after_chunks(tokens: &[Token], chunks: &[TokenChunk]) -> Previous
     }
 }
 
-/// The chunk after these, which fit the tokens: it starts at the end of the tokens, with the state there for its header,
-/// and ends at `end`. It looks at tokens of the last chunk alone, back from its end until one gives a source and one a name.
+/// The next chunk after chunks that fit the tokens: it starts at the end of the tokens, with the state there as its header,
+/// and ends at `end`. It reads only tokens of the last chunk, back from its end to a mapped one and a mapped one with a name.
 pub fn next_chunk(tokens: &[Token], chunks: &[TokenChunk], end: u32) -> TokenChunk
     requires fits { ChunksFit tokens.now chunks.now }
     requires counted { length tokens.now ≤ 4294967295 }

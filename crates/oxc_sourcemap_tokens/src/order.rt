@@ -5,8 +5,8 @@ ghost use Rattle.oxc_sourcemap_tokens.specs.LineOrder.{first_out_of_order, back_
 
 use crate::token::Token;
 
-/// The index of the first token whose generated line is smaller than that of the token before. Before the first
-/// stands `line`, and its own index is `first`.
+/// The index of the first token whose generated line is smaller than that of the token before. The first token has the
+/// index `first`, and its line is compared with `line`.
 pub fn line_back_from(line: u32, first: usize, tokens: &[Token]) -> Option<usize>
     requires { first + length tokens.now < 2 ^ 64 }
     ensures place { result ≡ back_from line first tokens.now }
@@ -22,8 +22,8 @@ pub fn line_back_from(line: u32, first: usize, tokens: &[Token]) -> Option<usize
     None
 }
 
-/// The index of the first token whose generated line is smaller than that of the token before, which `LineOrder` tells;
-/// None where there is none. It takes no memory.
+/// The index of the first token whose generated line is smaller than that of the token before, as in `LineOrder`; None if
+/// there is none. Takes no memory.
 pub fn line_order_fault(tokens: &[Token]) -> Option<usize>
     ensures place { result ≡ first_out_of_order tokens.now }
     ensures in_bounds { result ≡ None → AreInBounds tokens.now }

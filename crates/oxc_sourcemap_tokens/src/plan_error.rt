@@ -1,4 +1,4 @@
-//! Why a plan is not evaluated.
+//! The errors of plans.
 ghost use Rattle.std.specs.Prelude.{◌≡◌, Some};
 ghost use Rattle.oxc_sourcemap_tokens.specs.declared.error.Error.TheVariants.{OutOfMemory};
 ghost use Rattle.oxc_sourcemap_tokens.specs.declared.plan_error.PlanError.TheVariants.{Map};
@@ -8,7 +8,7 @@ use crate::error::Error;
 use std::alloc::{AllocError, AllocFailed};
 use std::fmt;
 
-/// Why a plan is not evaluated, or a position not traced.
+/// The error of a call that evaluates a plan, or that traces a position through one.
 #[derive(Clone, Copy, Debug, PartialEq, Eq)]
 pub enum PlanError {
     /// An operation on a map failed with this error.

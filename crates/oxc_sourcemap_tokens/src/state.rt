@@ -1,4 +1,4 @@
-//! What a token is written against, carried from token to token.
+//! The state that the deltas of a token start from, carried from token to token.
 ghost use Rattle.std.specs.Prelude.{◌≡◌};
 ghost use Rattle.oxc_sourcemap_tokens.specs.Token.{mapped_name};
 ghost use Rattle.oxc_sourcemap_tokens.specs.State.{initial};
@@ -7,8 +7,8 @@ ghost use Rattle.oxc_sourcemap_tokens.specs.Steps.{state_of, advanced, advanced_
 
 use crate::token::{Token, TokenChunk};
 
-/// What the next token is written against: the generated position before, the source position of the nearest mapped
-/// token there, and the nearest name id of a mapped token. For the encoder, in the crate above.
+/// The state before a token, which its deltas start from (docs/FORMAT.md, "Chunks"): the generated position of the token
+/// before, the source id and source position of the nearest mapped token before, and the nearest name id of a mapped one.
 #[derive(Clone, Copy, Drop)]
 pub struct Previous {
     /// The generated line.
@@ -26,7 +26,7 @@ pub struct Previous {
 }
 
 impl Previous {
-    /// What the first token of a list is written against.
+    /// The state before the first token of a list: all 0.
     pub fn new() -> Self
         ensures { state_of result ≡ initial }
     {
@@ -40,7 +40,7 @@ impl Previous {
         }
     }
 
-    /// What the first token of a chunk is written against: the chunk's header.
+    /// The state that a chunk is written from: its header.
     pub fn header_of(chunk: &TokenChunk) -> Self
         ensures { state_of result ≡ header chunk.now }
     {
@@ -54,7 +54,7 @@ impl Previous {
         }
     }
 
-    /// What the token after this one is written against.
+    /// The state after one more token.
     pub fn after(&self, token: &Token) -> Self
         ensures { state_of result ≡ advanced (state_of self.now) token.now }
     {
@@ -126,7 +126,7 @@ fn last_name(tokens: &[Token]) -> Option<u32>
     None
 }
 
-/// The state after these tokens, from this state before them. It looks back from their end for what they give.
+/// The state after these tokens, from the state before them. It searches back from their end, so as to read few of them.
 pub(crate) fn after_all(previous: Previous, tokens: &[Token]) -> Previous
     ensures { state_of result ≡ advanced_all (state_of previous) tokens.now }
 {

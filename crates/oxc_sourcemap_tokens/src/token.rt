@@ -10,8 +10,8 @@ const INVALID_ID: u32 = 4294967295;
 /// One mapping: a generated position, and the source position and name it maps to. Lines and columns count from 0, columns
 /// in UTF-16 code units.
 ///
-/// A token without a source id is unmapped, and its source position and name have no meaning; `==` compares all six fields
-/// all the same.
+/// A token without a source id is unmapped, and its source position and name have no meaning; `==` compares all six fields,
+/// even so.
 #[derive(Clone, Copy, Debug, PartialEq, Eq)]
 pub struct Token {
     dst_line: u32,
@@ -72,7 +72,7 @@ impl Token {
     pub fn get_dst_line(&self) -> u32
         ensures value { result ≡ self.now.dst_line }
 
-        // True of every token, and stated here once, for callers that need it.
+        // True of every token; stated for callers that need it.
         ensures in_bounds { IsInBounds self.now }
     {
         self.dst_line

@@ -3,7 +3,7 @@ use Rattle.oxc_sourcemap_mappings.specs.Decoding.{front_digits}
 use Rattle.oxc_sourcemap_mappings.proofs.Runs.{faults_from, numbers_from}
 use Rattle.oxc_sourcemap_mappings.proofs.decode.any_segment.Given as goal
 
--- what the digits that are left say after those that were read is what all digits of the segment say
+-- the faults and numbers of all digits of the segment are those of the digits that are left, after those that were read
 abbrev pub invariant-loop-digit : goal.invariant-loop-digit
 invariant-loop-digit l = record {
   faults : faults_from l.exponent (front_digits (drop l.len l.text)) ≡ faults_from 0 (front_digits l.text);

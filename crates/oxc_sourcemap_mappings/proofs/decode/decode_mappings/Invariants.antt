@@ -6,7 +6,7 @@ use Rattle.oxc_sourcemap_mappings.specs.Decoding.{place_of, segments_after}
 use Rattle.oxc_sourcemap_mappings.proofs.Left.{left_outcomes, onto_all}
 use Rattle.oxc_sourcemap_mappings.proofs.decode.decode_mappings.Given as goal
 
--- the tokens so far, and then what the text that is left gives, are what the whole text gives
+-- the reading of the whole text is that of the text that is left, with the tokens so far before it
 abbrev pub invariant-loop-byte : goal.invariant-loop-byte
 invariant-loop-byte l = record {
   reading : onto_all l.tokens.items (gathered (left_outcomes (counts_of l.names l.sources) l.line (place_of l.sums) l.rest))

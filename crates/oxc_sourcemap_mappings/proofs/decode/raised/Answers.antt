@@ -3,7 +3,7 @@ use Rattle.oxc_sourcemap_mappings.proofs.Powers.{power_within, payload_within, s
 use Rattle.oxc_sourcemap_mappings.proofs.Runs.{not-over}
 use Rattle.oxc_sourcemap_mappings.proofs.decode.raised.Goals as goal
 
--- what is added
+-- the shifted payload, which the raw number is raised by
 added : (c : goal.After-from) → (c.from.result * 2 ^ (5 * c.args.exponent)) % 18446744073709551616 ≡ (c.args.digit % 32) * 32 ^ c.args.exponent
 added c =
     let o = not-over c.args.exponent c.args.digit c.requires.exponent in

@@ -5,7 +5,7 @@ use Rattle.oxc_sourcemap_tokens.specs.Steps.{state_of}
 use Rattle.oxc_sourcemap_mappings.specs.Encoding.{text_from, OnlyAdds}
 use Rattle.oxc_sourcemap_mappings.proofs.encode.push_tokens.Given as goal
 
--- what is in the text, and then what is in the buffer, is written
+-- the text of all tokens is what `out` and the buffer have, and then the text of the tokens that are left
 abbrev pub invariant-loop-token : goal.invariant-loop-token
 invariant-loop-token l = record {
   bytes : (string_bytes l.out ++ take l.len l.buf) ++ text_from l.is_first (state_of l.previous) (drop l.token-index l.tokens)

@@ -26,7 +26,7 @@ add_ignore_list-requires c =
     let list = c.as_deref-list.ensures.value in
     subst AreEntriesInBounds (ap (raised_ignore_list a.shift.sources) (sym (list))) (addition-in-bounds c.args.self.now (record_of_parts c.args.parts) c.args.position a c.in-Some.ensures.fits)
 
--- what the builder's lists become
+-- the new lists of the join
 module _ (c : Joined-parts-28) where
   names : texts_of c.append.new.self ≡ c.args.self.now.names ++ (record_of_parts c.args.parts).names
   names = ap (map cow_str_bytes) (rw c.unwrap.ensures at c.append.ensures.items) ∙ map-append cow_str_bytes c.make_room.new.names.items c.args.parts.names.items

@@ -25,17 +25,10 @@ add_ignore_list-requires c =
     let list = c.as_deref-ignored.ensures.value in
     subst AreEntriesInBounds (ap (raised_ignore_list a.shift.sources) (sym (list))) (addition-in-bounds c.args.self.now (record_of_parts c.args.parts.now) c.args.position a c.in-Some.ensures.fits)
 
-<<<<<<< HEAD
--- what the builder's lists become
+-- the new lists of the join
 module _ (c : After-push_reserved) where
   names : texts_of c.push_texts.new.texts ≡ c.args.self.now.names ++ (record_of_parts c.args.parts.now).names
   names = c.push_texts.ensures ∙ glued (ap (map cow_str_bytes) c.make_room.ensures.names ∙ ap (λ x. x.names) c.self.view_is) (c.texts_in.ensures ∙ ap (map cow_str_bytes) c.as_slice-2.ensures.value)
-=======
--- the new lists of the join
-module _ (c : After-unwrap) where
-  names : texts_of c.push_names.new.texts ≡ c.args.self.now.names ++ (record_of_parts c.args.parts.now).names
-  names = c.push_names.ensures ∙ glued (ap (map cow_str_bytes) c.make_room.ensures.names ∙ ap (λ x. x.names) c.self.view_is) (c.names_in.ensures ∙ ap (map cow_str_bytes) c.as_slice-2.ensures.value)
->>>>>>> 853e9b26d2f5af933ed4ca16c43d6a19daa563d0
 
   sources : texts_of c.push_texts-2.new.texts ≡ c.args.self.now.sources ++ (record_of_parts c.args.parts.now).sources
   sources = c.push_texts-2.ensures ∙ glued (ap (map cow_str_bytes) c.make_room.ensures.sources ∙ ap (λ x. x.sources) c.self.view_is) (c.texts_in-2.ensures ∙ ap (map cow_str_bytes) c.as_slice-3.ensures.value)

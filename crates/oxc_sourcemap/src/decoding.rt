@@ -25,7 +25,7 @@ use std::alloc::Global;
 /// - `BadSourceReference(id)` for the first entry of the ignore list that is not below the number of sources;
 /// - the errors of `decode_mappings`, with the numbers of names and sources.
 ///
-/// Also `OutOfMemory` if memory is refused, which may be before an error of the mappings is found.
+/// Also `OutOfMemory` for want of memory, which may be before an error of the mappings is found.
 pub fn decode(alloc: Global, json: JSONSourceMap) -> Result<SourceMap<'static>>
     ensures map { Answers (λ map. map) result (decoded (json_record json)) }
     ensures fault { Reports (json_fault (json_record json)) result }
@@ -49,7 +49,7 @@ pub fn decode(alloc: Global, json: JSONSourceMap) -> Result<SourceMap<'static>>
 /// - the errors of `JSONSourceMap::from_value` and of `decode` for its `map`;
 /// - `TooLarge` if the join with its map would be too large, as for `ConcatSourceMapBuilder::add_sourcemap_at`.
 ///
-/// Also `OutOfMemory` if memory is refused, which may be before another error is found.
+/// Also `OutOfMemory` for want of memory, which may be before another error is found.
 #[tactic(auto, using(oxc_sourcemap_decode::proofs::WellRead::value_sound, oxc_sourcemap_decode::proofs::WellRead::value_in_order))]
 pub fn decode_value(alloc: Global, value: &Value) -> Result<SourceMap<'static>>
     ensures map { IfOk result (λ map. read_value (view value.now) ≡ Ok map) }
@@ -68,7 +68,7 @@ pub fn decode_value(alloc: Global, value: &Value) -> Result<SourceMap<'static>>
 ///   after the value, or one that nests deeper than 127;
 /// - the errors of `decode_value`.
 ///
-/// Also `OutOfMemory` if memory is refused, which may be before another error is found.
+/// Also `OutOfMemory` for want of memory, which may be before another error is found.
 pub fn decode_from_string(alloc: Global, text: &str) -> Result<SourceMap<'static>>
     ensures map { IfOk result (λ map. read_map text.now ≡ Ok map) }
     ensures sound { IfOk result (λ map. IsSound map ↔ (are_tokens_sorted map.tokens ≡ true)) }

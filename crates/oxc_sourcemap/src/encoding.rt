@@ -15,7 +15,7 @@ use std::alloc::Global;
 /// any content is left out; any other is written whole. Chunks change nothing, but have to fit.
 ///
 /// Fails as `encode_mappings` does for the tokens and chunks: `LineOrder(i)`, `BadChunks(k)`, `TooLarge`, in this order;
-/// and with `OutOfMemory` if memory is refused.
+/// and with `OutOfMemory` for want of memory.
 pub fn encode(alloc: Global, sourcemap: &SourceMap<'_>) -> Result<JSONSourceMap>
     ensures json { Answers json_record result (encoded sourcemap.now) }
 

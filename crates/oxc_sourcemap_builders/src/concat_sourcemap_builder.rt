@@ -87,7 +87,7 @@ impl<'a> ConcatSourceMapBuilder<'a> {
     ///   so far; an empty list counts as a list.
     ///
     /// Fails with `TooLarge` if there would be more than 4294967295 names, sources or tokens, a line or a column above
-    /// 4294967295, or an id or an entry of the ignore list above 4294967294, then with `OutOfMemory` if memory is refused;
+    /// 4294967295, or an id or an entry of the ignore list above 4294967294, then with `OutOfMemory` for want of memory;
     /// the builder is then as it was.
     pub fn add_sourcemap_at(
         &mut self,

@@ -121,7 +121,7 @@ impl<'a> SourceMapBuilder<'a> {
 
     /// Adds a name and returns its id. A name that was added before keeps its id.
     ///
-    /// Fails with `TooLarge` if the new id would be 4294967295, then with `OutOfMemory` if memory is refused; the builder
+    /// Fails with `TooLarge` if the new id would be 4294967295, then with `OutOfMemory` for want of memory; the builder
     /// is then as it was.
     pub fn add_name(&mut self, name: &'a str) -> Result<u32>
         ensures added { IfOk result (λ id. (self.new, id) ≡ with_name self.old name.now) }
@@ -176,7 +176,7 @@ impl<'a> SourceMapBuilder<'a> {
     /// Adds a source with its content and returns its id. A path that this call has added before keeps its id and its first
     /// content; sources added by `set_source_and_content` are ignored.
     ///
-    /// Fails with `TooLarge` if the new id would be 4294967295, then with `OutOfMemory` if memory is refused; the builder
+    /// Fails with `TooLarge` if the new id would be 4294967295, then with `OutOfMemory` for want of memory; the builder
     /// is then as it was.
     pub fn add_source_and_content(&mut self, path: &'a str, content: &'a str) -> Result<u32>
         ensures added { IfOk result (λ id. (self.new, id) ≡ with_path self.old path.now content.now) }
@@ -240,7 +240,7 @@ impl<'a> SourceMapBuilder<'a> {
     /// Appends a source with its content, even if there is one of this path, and returns the new id. It replaces nothing,
     /// and `add_source_and_content` does not find it.
     ///
-    /// Fails with `TooLarge` if the new id would be 4294967295, then with `OutOfMemory` if memory is refused; the builder
+    /// Fails with `TooLarge` if the new id would be 4294967295, then with `OutOfMemory` for want of memory; the builder
     /// is then as it was.
     pub fn set_source_and_content(&mut self, path: &'a str, content: &'a str) -> Result<u32>
         ensures added { IfOk result (λ id. (self.new, id) ≡ with_another_source self.old path.now content.now) }

@@ -46,7 +46,7 @@ impl<'a, 'sm> SourcemapVisualizer<'a, 'sm> {
     /// is written in decimal and ended by a zero byte.
     ///
     /// Fails as `SourceMap::to_json_string` does: `LineOrder(i)`, `BadChunks(k)`, `TooLarge`, in this order, and
-    /// `OutOfMemory` if memory is refused.
+    /// `OutOfMemory` for want of memory.
     #[tactic(auto, unfolding(crate::specs::Link::map_link))]
     pub fn get_url(&self, alloc: Global) -> Result<String>
         ensures { Answers string_bytes result (map_link self.now.code self.now.map) }

@@ -20,7 +20,7 @@ use std::alloc::Global;
 /// Makes the map of a JSON source map. Its strings are moved; if it has no list of contents, the map's is empty. The map has
 /// no chunks.
 ///
-/// Fails in this order, and the value is then dropped:
+/// Fails with the first of these in this order, and the value is then dropped:
 /// - `BadJson(Version(n))` for a version n other than 3;
 /// - `BadSourceReference(id)` for the first entry of the ignore list that is not below the number of sources;
 /// - the errors of `decode_mappings`, with the numbers of names and sources.
@@ -42,7 +42,7 @@ pub fn decode(alloc: Global, json: JSONSourceMap) -> Result<SourceMap<'static>>
 /// `file_from_value`, then with `BadJson(Shape(Sections))` if `sections` is not a list, then with the first error of a section.
 /// Each section is read and joined before the next one is looked at, and fails with the first of these in this order:
 /// - `BadJson(Shape(Sections))` if it is not an object;
-/// - `BadJson(Shape(Position))` if its `offset` is not an object whose `line` and `column` are whole numbers of 0 to 4294967295;
+/// - `BadJson(Shape(Offset))` if its `offset` is not an object whose `line` and `column` are whole numbers of 0 to 4294967295;
 /// - `SectionOrder(k)` if its offset is before that of the section before it, or before the last token so far, where k is the
 ///   index of this section, from 0;
 /// - `BadJson(Shape(Map))` if its `map` is not an object, or is an indexed map itself;

@@ -20,7 +20,7 @@ use Rattle.oxc_sourcemap_laws.proofs.Same.{decides_entry}
 use Rattle.oxc_sourcemap_laws.proofs.UpToRepeats.{up_to_repeats}
 use Rattle.oxc_sourcemap_laws.proofs.Joins.{raised, after, together, alone, all_together, joined-is, map_twice}
 
--- ---- places in appended lists
+-- ---- indices in appended lists
 pub slice_get-left : {A : Type 0} (xs ys : List A) (i : ℕ) → i < length xs → slice_get (xs ++ ys) i ≡ slice_get xs i
 slice_get-left [] ys i h = absurd (omega arith)
 slice_get-left (x ∷ xs) ys zero h = refl
@@ -69,7 +69,7 @@ entry-left ss ss' ns ns' offset m h = entry-is (ss ++ ss') (ns ++ ns') (raised o
 entry-right : (ss ss' : List DecodedSource) (ns ns' : List Text) (m : TokenRecord) → mapping_of (ss ++ ss') (ns ++ ns') (after (length ns) (length ss) m) ≡ mapping_of ss' ns' m
 entry-right ss ss' ns ns' m = entry-is (ss ++ ss') (ns ++ ns') (after (length ns) (length ss) m) _ _ (get-right ss ss' m.source_id) (get-right ns ns' m.name_id)
 
--- the decoded map of a map and of what stands after it
+-- the decoded map of a map and of what follows it
 module _ (m : MapRecord) (offset : Position) (r : MapRecord) (h : AllByRecursion (IsInRange (length m.names) (length m.sources)) m.tokens) where
   pub together_sources : (decoded_map_of (together (alone m offset) r)).sources ≡ sources_of m.sources m.source_contents ++ sources_of r.sources r.source_contents
   together_sources = sources_of-append m.sources r.sources (fitted (length m.sources) m.source_contents) r.source_contents (length-fitted (length m.sources) m.source_contents) ∙ ap (λ ss. ss ++ sources_of r.sources r.source_contents) (sources_of-fitted m.sources m.source_contents)

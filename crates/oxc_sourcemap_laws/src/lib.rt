@@ -17,7 +17,7 @@ ghost use Rattle.oxc_sourcemap_laws.specs.JoinLaws.{RepeatsHarmless, TracesAgree
 ///   exactly if they are equal as written (`unique`).
 /// - The text of such a list is read without error, with counts above its ids, and gives a list equal as written; an
 ///   unmapped token comes back with the source line and column reached there (`reads_back`).
-/// - What a text reads as is in line order and in bounds, and written and read again it is the same (`reads_again`).
+/// - The tokens of a text are in line order and in bounds, and written and read again they are the same (`reads_again`).
 /// - The parts of fitting chunks, one after the other, are the text (`in_pieces`).
 /// - A sound map of at most 4294967295 tokens is written (`sound_is_written`), one of more is `TooLarge`
 ///   (`sound_is_too_large`). What is written is read as a map with the same decoded map (its ids looked up), the same

@@ -59,7 +59,7 @@ fn decode_section(alloc: Global, section: Value) -> Result<SourceMapParts<'stati
     decode_parts(alloc, json)
 }
 
-/// The join of sections. Each is read and joined before the next one is looked at, so only one of their maps is in memory.
+/// The join of sections. Each is read, joined and dropped before the next one is looked at, so the first bad one is reported.
 fn join_sections(alloc: Global, sections: Vec<Value>) -> Result<JoinedParts<'static>>
     ensures { Answers (λ joined. joined) result (joined_sections (all_sections (items_view sections.items))) }
 {

@@ -6,7 +6,7 @@ use Rattle.std.specs.Char.{digit_char}
 abbrev pub hex_escape : ℕ → List ℕ
 hex_escape b = codes "\\u00" ++ digit_char (b / 16) ∷ digit_char (b % 16) ∷ []
 
--- A byte as it stands in a JSON string: `\"`, `\\`, `\b`, `\t`, `\n`, `\f` and `\r` for the bytes that have an escape of
+-- A byte as a JSON string has it: `\"`, `\\`, `\b`, `\t`, `\n`, `\f` and `\r` for the bytes that have an escape of
 -- their own, `\u00` and two digits for every other byte below 32, and every byte above as itself.
 unfoldable pub escaped : ℕ → List ℕ
 escaped b =

@@ -50,7 +50,7 @@ fn push_texts(texts: &[CowStr<'_>], out: &mut String) -> Result<()>
     Ok(())
 }
 
-/// Appends a content, or `null` where it is not known.
+/// Appends a content, or `null` if it is not known.
 fn push_content(content: &Option<CowStr<'_>>, out: &mut String) -> Result<()>
     ensures text { Pushes result out.old out.new (content_text (text_of content.now)) }
     ensures error { OnlyMemory result }
@@ -238,13 +238,8 @@ fn push_object(alloc: Global, parts: &SourceMapParts<'_>, out: &mut String) -> R
     Ok(())
 }
 
-/// The JSON text of a map, without spaces and in the order `version`, `file`, `sourceRoot`, `names`, `sources`,
-/// `sourcesContent`, `ignoreList`, `mappings`, `debugId`: what `encode_parts` gives, as text. `names`, `sources` and
-/// `mappings` are always there, `sourcesContent` if some content is known, and the others if the map has them. The
-/// `mappings` are the canonical text of the tokens. Chunks change nothing but have to fit.
-///
-/// Fails as `encode_parts` does: with `LineOrder(i)`, `BadChunks(k)`, `TooLarge`, in this order; and with `OutOfMemory` for
-/// want of memory.
+/// The JSON text of a map: what `encode_parts` gives, as text. `encode_to_string` of `oxc_sourcemap` has the order of its
+/// members and which of them are there. Fails as `encode_parts` does.
 #[tactic(auto, unfolding(crate::specs::JsonText::map_text))]
 pub fn encode_parts_to_string(alloc: Global, parts: &SourceMapParts<'_>) -> Result<String>
     ensures { Answers string_bytes result (map_text (record_of_parts parts.now)) }

@@ -119,7 +119,7 @@ all_ignore_lists (m ∷ ms) =
     ap (λ l. appended_ignore_lists m.0.ignore_list (raised_ignore_list (length m.0.sources) l)) (all_ignore_lists ms)
     ∙ ap (λ n. appended_ignore_lists m.0.ignore_list (raised_ignore_list n (joined_ignore_lists (decoded_maps_of ms)))) (sym (length-sources_of m.0.sources m.0.source_contents))
 
--- the decoded map of a join is equal up to repeats to the join of the decoded maps, where ids are in range
+-- the decoded map of a join is equal up to repeats to the join of the decoded maps, if ids are in range
 pub decoded_map_joined : (ms : List (MapRecord × Position)) → AreAllInRange ms → EqualUpToRepeats (decoded_map_of (joined ms)) (joined_decoded_maps (decoded_maps_of ms))
 decoded_map_joined ms h =
     let d = metadata ms in

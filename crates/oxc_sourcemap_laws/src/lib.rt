@@ -44,7 +44,7 @@ pub fn canonical_unique()
 /// the last token so far.
 /// - Dropping repeats changes no trace, exact or clamped, at any line and column, and a decoded map is sorted exactly if it
 ///   is sorted without its repeats (`repeats`). So decoded maps that are equal up to repeats have the same traces
-///   (`traces_agree`), and the same result of every test of mappings that does not see repeats (`tests_agree`).
+///   (`traces_agree`), and the same result of every test of mappings that repeats do not change (`tests_agree`).
 /// - Joins of decoded maps that are equal up to repeats are equal up to repeats (`joins_up_to_repeats`).
 /// - If the ids of all maps are in range, the decoded map of their join equals, up to repeats, the join of their decoded
 ///   maps (`decoded_map_of_join`), and the ids of the join are in range, sorted or not, with its ignore list if those of

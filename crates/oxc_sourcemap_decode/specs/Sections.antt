@@ -57,7 +57,7 @@ pub record Sections : Type 0 where
   pub maps : List (MapRecord × Position)
   pub fault : Option Error
 
--- the sections from one on that was read; a fault ends them
+-- the sections after one that was read; if it has a fault, they end in front of it
 abbrev pub onto_section : List (MapRecord × Position) → (MapRecord × Position → Sections) → Result (MapRecord × Position) Error → Sections
 onto_section front more (Ok s) = more s
 onto_section front more (Err fault) = record { maps = front; fault = Some fault }

@@ -97,7 +97,7 @@ pub record TellsOf (answer other : Result MapRecord Error) : Type 0 where
       → (other ≡ Err TooLarge) ⊎ ((n : MapRecord) × (other ≡ Ok n) × (decoded_map_of m ≡ decoded_map_of n))
   pub of_several : IsSeveralSources answer → (other ≡ Err TooLarge) ⊎ IsSeveralSources other
 
--- The result of each grouping of sound maps restricts the other as `TellsOf` has it.
+-- `TellsOf` holds of the two groupings of sound maps, either way round.
 abbrev pub GroupingsTell : Type 0
 GroupingsTell = (a b c : MapRecord) → IsSound a → IsSound b → IsSound c
     → TellsOf (grouped_left a b c) (grouped_right a b c) × TellsOf (grouped_right a b c) (grouped_left a b c)

@@ -229,10 +229,11 @@ fn evaluate_composition(
 /// - `TooDeep` if the plan is deeper than 64, where a text alone is 1 deep, before anything is read;
 /// - else the first of these, from left to right: `Map(e)` if a text cannot be read as a source map, with the error `e` of
 ///   `SourceMap::from_json_string`; `Unsorted` if the map of a text or of a join is not sorted; `Map(SeveralSources(n))` if
-///   the first map of a composition has n sources and n is above 1;
-/// - it may fail instead with `Map(TooLarge)` if some part has more than 4294967295 names (of all texts read for it), sources
-///   or mappings (repeated ones included), each counted by itself, or a joined line or column above that, where an indexed map
-///   counts as the join of its sections (`is_within_limits`), and with `Map(OutOfMemory)` for want of memory.
+///   the first map of a composition has n sources and n is above 1.
+///
+/// It may fail instead with `Map(TooLarge)` if some part has more than 4294967295 names (of all texts read for it), sources or
+/// mappings (repeated ones included), each counted by itself, or a joined line or column above that, where an indexed map
+/// counts as the join of its sections (`is_within_limits`), and with `Map(OutOfMemory)` for want of memory.
 pub fn evaluate(alloc: Global, plan: &Plan<'_>) -> Result<OwnedSourceMap, PlanError>
     ensures map { IfOk result (λ map. IsEvaluated map (outcome plan.now)) }
     ensures error { IfErr result (λ e. (e ≡ Map OutOfMemory) ⊎ IsFailure (outcome plan.now) e) }

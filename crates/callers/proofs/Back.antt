@@ -18,7 +18,7 @@ no-fault : (o : Option Error) (r : MapRecord) (j : JsonRecord) → unless o (Ok 
 no-fault None r j e = refl
 no-fault (Some fault) r j e = cc
 
--- what a call that wrote a map says is what is written of it
+-- the JSON source map that was written of a map is the encoded one
 written-is : (r : MapRecord) (j : JsonRecord) → encoded r ≡ Ok j → encoded_record r ≡ j
 written-is r j e =
     let clean = no-fault (writing_fault r.tokens r.token_chunks) r j e in
@@ -37,7 +37,7 @@ module _ (r : MapRecord) (j : JsonRecord) (w : encoded r ≡ Ok j) (k : ComesBac
 pub not-refused : (r : MapRecord) (e : Error) → encoded r ≡ Ok (encoded_record r) → encoded r ≡ Err e → ⊥
 not-refused r e w h = cc
 
--- what holds of a value that is there, and what follows from it
+-- a property of a value, if there is one, may be weakened
 pub if_ok : {A E : Type 0} (P Q : A → Type 0) (r : Result A E) → ((x : A) → P x → Q x) → IfOk r P → IfOk r Q
 if_ok P Q (Ok x) f h = f x h
 if_ok P Q (Err e) f h = h
@@ -46,7 +46,7 @@ pub if_err : {A E : Type 0} (P Q : E → Type 0) (r : Result A E) → ((e : E) �
 if_err P Q (Ok x) f h = h
 if_err P Q (Err e) f h = f e h
 
--- a refusal that is no other is lack of memory
+-- an error that is no other one is want of memory
 pub only-memory : (e : Error) → ((e ≢ OutOfMemory) → ⊥) → e ≡ OutOfMemory
 only-memory VlqLeftover h = absurd (h (λ q. cc))
 only-memory VlqNoValues h = absurd (h (λ q. cc))

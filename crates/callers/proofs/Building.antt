@@ -37,7 +37,7 @@ memory-left : (e : Error) (n : ℕ) {A : Type 0} → n ≡ 0 → (e ≡ OutOfMem
 memory-left e n z (inl o) h = o
 memory-left e n z (inr t) h = absurd (let past = (h t).1 in omega arith)
 
--- So the name is not refused for its id.
+-- so the id of the name is not too large
 pub name-fits : (b : Built) (i : ℕ) (path content : Text) → (b, i) ≡ with_path nothing_built path content → (e : Error) {A : Type 0}
     → (e ≡ OutOfMemory) ⊎ (e ≡ TooLarge) → (e ≡ TooLarge → A × (4294967295 ≤ length b.map.names)) → e ≡ OutOfMemory
 name-fits b i path content first e refused large = memory-left e (length b.map.names) (no-names b i path content first) refused large

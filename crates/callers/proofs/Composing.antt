@@ -15,7 +15,7 @@ use Rattle.oxc_sourcemap.specs.Composed.{targets, composed, composed_names, are_
 use Rattle.oxc_sourcemap.specs.ComposeLaws.{then_with, with_then, grouped_left, grouped_right, CompositionStandsFor, IsSeveralSources, IsAnswered, GroupingsTell, GroupingsAnswered, CompositionNames, CompositionTooLarge}
 
 -- ---- one composition
--- an answer that is a map is the composed map
+-- a composition that gives a map gives the composed map
 composed-if : (fault : Option Error) (fit : Bool) (r m : MapRecord) → unless fault (if fit then Ok r else Err TooLarge) ≡ Ok m → m ≡ r
 composed-if None true r m e = cc
 composed-if None false r m e = cc
@@ -89,7 +89,7 @@ left-expected-by a b c e sb sc (Err f) p q = subst IsExpected (cc) (expected a b
 left-expected : (a b c : MapRecord) (e : Error) → IsSound b → IsSound c → grouped_left a b c ≡ Err e → IsExpected e
 left-expected a b c e sb sc h = left-expected-by a b c e sb sc (composition a b) refl h
 
--- Where the three maps together have at most as many names as there are ids, no grouping is too large.
+-- If the three maps together have at most as many names as there are ids, no grouping is too large.
 module _ (names : CompositionNames) (large : CompositionTooLarge) (a b c : MapRecord) (few : length a.names + length b.names + length c.names ≤ 4294967295) where
   left-fits-by : (r : Result MapRecord Error) → composition a b ≡ r → then_with r c ≡ Err TooLarge → ⊥
   left-fits-by (Ok ab) p q =
@@ -124,7 +124,7 @@ swapped (inl a) = inr a
 swapped (inr b) = inl b
 
 module _ (tell : GroupingsTell) (a b c : MapRecord) (sa : IsSound a) (sb : IsSound b) (sc : IsSound c) where
-  -- the first order is refused
+  -- the errors that follow if the first order fails
   pub refused-left : (e : Error) → grouped_left a b c ≡ Err e → e ≢ TooLarge → Refuses a b c
   refused-left e h n =
       let several = several-of (grouped_left a b c) e (left-expected a b c e sb sc h) n h in
@@ -134,7 +134,7 @@ module _ (tell : GroupingsTell) (a b c : MapRecord) (sa : IsSound a) (sb : IsSou
   other-is e left h (inl t) = cc
   other-is e left h (inr m) = absurd (let q = m.1 in cc)
 
-  -- where the first order gives a map, the second is refused only with `TooLarge`
+  -- if the first order gives a map, the second fails only with `TooLarge`
   pub refused-right : (e : Error) (left : MapRecord) → grouped_left a b c ≡ Ok left → grouped_right a b c ≡ Err e → e ≡ TooLarge
   refused-right e left l h = other-is e left h ((tell a b c sa sb sc).0.of_map left l)
 
@@ -143,7 +143,7 @@ not-answered answer e m h = let q = m.1 in cc
 
 module _ (answered : GroupingsAnswered) (names : CompositionNames) (large : CompositionTooLarge) (a b c : MapRecord) (sa : IsSound a) (sb : IsSound b) (sc : IsSound c)
     (one : length a.sources ≤ 1) (two : length b.sources ≤ 1) (few : length a.names + length b.names + length c.names ≤ 4294967295) where
-  -- with one source each, and not too many names, no order is refused
+  -- with one source each, and not too many names, no order fails
   pub never-left : (e : Error) → grouped_left a b c ≡ Err e → ⊥
   never-left e h =
       not-answered (grouped_left a b c) e (answered a b c sa sb sc (left-fits names large a b c few) (right-fits names large a b c few) one two).0 h

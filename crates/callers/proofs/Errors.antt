@@ -1,4 +1,4 @@
--- What a `?` carries on, and what holds of a result under two premises.
+-- What holds of an error that a `?` returns, and of a result under two premises.
 use Rattle.std.proofs.Common.{◌≡◌, Result, Ok, Err, sym, subst}
 use Rattle.std.specs.Result.{IfOk, IfErr, IsErrAnd}
 
@@ -7,7 +7,7 @@ pub carried : {T E : Type 0} (result : Result T E) (e : E) (P : E → Type 0) �
 carried (Ok x) e P same p = tt
 carried (Err x) e P same p = subst P (sym same) p
 
--- what holds of a value that is there follows from what holds of it under two premises
+-- what holds of a value follows from what holds of it under two premises
 pub ok-given : {T E S U : Type 0} (P Q : T → Type 0) (r : Result T E) → (S → U → IfOk r P) → ((x : T) → S → U → P x → Q x) → IfOk r (λ x. S → U → Q x)
 ok-given P Q (Ok x) f g = λ s u. g x s u (f s u)
 ok-given P Q (Err e) f g = tt

@@ -16,7 +16,7 @@ one-map-more law ms i m h e =
     let front : take (i + 1) ms ≡ take i ms ++ m ∷ [] = take_more ms i m h ∙ ap (λ x. take i ms ++ x ∷ []) (sym e) in
     ap (λ xs. joined (lent_maps xs)) front ∙ ap joined (map-append (λ x. (x.0.now, at_line x.1)) (take i ms) (m ∷ [])) ∙ law (lent_maps (take i ms)) m.0.now (at_line m.1)
 
--- An add that is too large: the join of the maps up to this one is.
+-- if an add is past a limit, so is the join of the maps up to this one
 pub past-limit : JoinOneMore → (ms : List (Bor MapRecord × ℕ)) (i : ℕ) (m : Bor MapRecord × ℕ) → i < length ms → m ≡ get_or ms i m
     → (r : MapRecord) → r ≡ joined (lent_maps (take i ms)) → (e : Error) → (e ≡ OutOfMemory) ⊎ (e ≡ TooLarge) → (e ≡ TooLarge → ¬ (IsWithinLimits (added r m.0.now (at_line m.1))))
     → e ≢ OutOfMemory → (e ≡ TooLarge) × ((n : ℕ) × ¬ (IsWithinLimits (joined (lent_maps (take n ms)))))

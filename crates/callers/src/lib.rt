@@ -1,5 +1,5 @@
-//! Callers of the library. Each is proved from the contracts of the public calls and the laws alone, and stands in
-//! docs/CALLING.md.
+//! Examples of callers of the library, each proved from the contracts of the public calls and the laws alone.
+//! docs/CALLING.md shows them.
 #![tactic(auto)]
 
 ghost use Rattle.std.specs.Prelude.{◌≡◌, ◌≢◌, ◌≤◌, ◌+◌, ◌⊎◌, ◌↔◌, ◌∷◌, [], ℕ, length, take, option_map, string_bytes, false, IfOk, IfErr, OnOk, OnErr, Ok, Err, Some, None};
@@ -33,8 +33,8 @@ use std::alloc::Global;
 
 /// Reads a map from its JSON text. Its decoded map is the one that the text means.
 ///
-/// Fails with `Map(e)` if the text says no map, then with `Unsorted` if the map is not sorted, and with `Map(OutOfMemory)` if
-/// memory is refused.
+/// Fails with `Map(e)` if the text cannot be read as a map, then with `Unsorted` if the map is not sorted, and with
+/// `Map(OutOfMemory)` for want of memory.
 pub fn read_sorted(alloc: Global, text: &str) -> std::result::Result<SourceMap<'static>, PlanError>
     ensures meaning { IfOk result (λ map. read_meaning (read_map text.now) ≡ Ok (decoded_map_of map)) }
     ensures sound { IfOk result IsSound }
@@ -60,7 +60,7 @@ pub fn rewrite(alloc: Global, map: &SourceMap<'_>) -> Result<SourceMap<'static>>
     SourceMap::from_json(alloc, json)
 }
 
-/// Looks up a generated position. What the view points to is the trace of the map at this position.
+/// Looks up a generated position of a map. What the view points to is the trace of the map at this position.
 ///
 /// Fails with `Unsorted` if the map is not sorted, and else only with `Map(OutOfMemory)`.
 pub fn look_up<'m, 'data>(
@@ -124,7 +124,7 @@ pub fn add_two_names<'a>(
 
 /// Joins maps one by one, each at the line of the joined code where it begins. The map is the join of them all.
 ///
-/// Fails with `TooLarge` if the join of the first of them, up to one that is added, exceeds a limit, and else only with
+/// Fails with `TooLarge` if the join of the first maps, up to some one of them, is past a limit, and else only with
 /// `OutOfMemory`.
 pub fn join_one_by_one<'a>(
     alloc: Global,
@@ -141,8 +141,8 @@ pub fn join_one_by_one<'a>(
     builder.into_sourcemap()
 }
 
-/// Joins the same maps in two groups: the first half, the second half, and then these two. But for its chunks the map is the
-/// join of them all, so it means the same. Fails only with `TooLarge` and `OutOfMemory`.
+/// Joins maps in two groups: the first half, the second half, and then these two. But for its chunks the map is the join of
+/// them all, so it means the same. Fails only with `TooLarge` and `OutOfMemory`.
 pub fn join_halves<'a>(alloc: Global, maps: &[(&'a SourceMap<'_>, u32)]) -> Result<SourceMap<'a>>
     ensures map { IfOk result (λ map. without_chunks map ≡ without_chunks (joined (lent_maps maps.now))) }
     ensures decoded_map { IfOk result (λ map. decoded_map_of map ≡ decoded_map_of (joined (lent_maps maps.now))) }
@@ -191,9 +191,9 @@ pub fn compose_right<'c>(
 
 /// Composes three sound maps in both orders. Both maps have the same decoded map.
 ///
-/// If the error is neither `TooLarge` nor `OutOfMemory`, both orders are refused because a map has several sources, or the
-/// other is `TooLarge`. If the first two maps have at most one source each, and the three at most 4294967295 names, this fails
-/// only with `OutOfMemory`.
+/// If the error is neither `TooLarge` nor `OutOfMemory`, both orders fail because a map has several sources, or the other
+/// fails with `TooLarge`. If the first two maps have at most one source each, and the three at most 4294967295 names, this
+/// fails only with `OutOfMemory`.
 pub fn compose_both_ways<'c>(
     alloc: Global,
     first: &SourceMap<'_>,
@@ -229,7 +229,7 @@ pub fn minified_map(
     evaluate(alloc, &Plan::Compose(first, second))
 }
 
-/// Evaluates a plan, and writes the JSON text of its map. It is that of a map with all that `evaluate` promises.
+/// Evaluates a plan, and writes the JSON text of its map, which has all that `evaluate` promises.
 pub fn evaluated_text(alloc: Global, plan: &Plan<'_>) -> std::result::Result<String, PlanError>
     ensures { IfOk result (λ text. (map : MapRecord) × IsEvaluated map (outcome plan.now) × (map_text map ≡ Ok (string_bytes text))) }
 {
@@ -237,7 +237,7 @@ pub fn evaluated_text(alloc: Global, plan: &Plan<'_>) -> std::result::Result<Str
     Ok(map.to_json_string(alloc)?)
 }
 
-/// Sets the file of the map inside, through `as_source_map_mut`. The owned map then has it, and nothing else has changed.
+/// Sets the file of an owned map through `as_source_map_mut`. The owned map then has it, and nothing else has changed.
 pub fn rename(alloc: Global, map: &mut OwnedSourceMap, file: &str) -> Result<()>
     ensures kept { OnOk result (map.new ≡ record map.old { file = Some file.now }) }
     ensures unchanged { OnErr result (map.new ≡ map.old) }
@@ -245,7 +245,7 @@ pub fn rename(alloc: Global, map: &mut OwnedSourceMap, file: &str) -> Result<()>
     map.as_source_map_mut().set_file(alloc, file)
 }
 
-/// Sets the ignore list of the map inside, through `DerefMut`. The owned map then has it, and nothing else has changed.
+/// Sets the ignore list of an owned map through `DerefMut`. The owned map then has it, and nothing else has changed.
 pub fn ignore(map: &mut OwnedSourceMap, ignore_list: Vec<u32>)
     ensures { map.new ≡ record map.old { ignore_list = Some ignore_list.items } }
 {
@@ -253,7 +253,7 @@ pub fn ignore(map: &mut OwnedSourceMap, ignore_list: Vec<u32>)
     inside.set_ignore_list(ignore_list);
 }
 
-/// The number of names, by going over them.
+/// The number of names of an owned map, counted by the iterator over them.
 pub fn name_count(map: &OwnedSourceMap) -> usize
     ensures { result ≡ length map.now.names }
 {

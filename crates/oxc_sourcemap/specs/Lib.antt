@@ -1,4 +1,4 @@
--- What the contracts of this crate's items speak of.
+-- The definitions that the contracts of this crate's items cite.
 pub use Rattle.oxc_sourcemap_tokens.specs.declared.error.Error
 pub use Rattle.oxc_sourcemap_tokens.specs.declared.error.JsonFault
 pub use Rattle.oxc_sourcemap_tokens.specs.declared.error.Field

@@ -20,12 +20,12 @@ use std::alloc::Global;
 /// Makes the map of a JSON source map. Its strings are moved; if it has no list of contents, the map's is empty. The map has
 /// no chunks.
 ///
-/// Fails in this order, and the value is then dropped:
+/// Fails with the first of these in this order, and the value is then dropped:
 /// - `BadJson(Version(n))` for a version n other than 3;
 /// - `BadSourceReference(id)` for the first entry of the ignore list that is not below the number of sources;
 /// - the errors of `decode_mappings`, with the numbers of names and sources.
 ///
-/// Also `OutOfMemory` if memory is refused, which may be before an error of the mappings is found.
+/// Also `OutOfMemory` for want of memory, which may be before an error of the mappings is found.
 pub fn decode(alloc: Global, json: JSONSourceMap) -> Result<SourceMap<'static>>
     ensures map { Answers (λ map. map) result (decoded (json_record json)) }
     ensures fault { Reports (json_fault (json_record json)) result }
@@ -42,14 +42,14 @@ pub fn decode(alloc: Global, json: JSONSourceMap) -> Result<SourceMap<'static>>
 /// `file_from_value`, then with `BadJson(Shape(Sections))` if `sections` is not a list, then with the first error of a section.
 /// Each section is read and joined before the next one is looked at, and fails with the first of these in this order:
 /// - `BadJson(Shape(Sections))` if it is not an object;
-/// - `BadJson(Shape(Position))` if its `offset` is not an object whose `line` and `column` are whole numbers of 0 to 4294967295;
+/// - `BadJson(Shape(Offset))` if its `offset` is not an object whose `line` and `column` are whole numbers of 0 to 4294967295;
 /// - `SectionOrder(k)` if its offset is before that of the section before it, or before the last token so far, where k is the
 ///   index of this section, from 0;
 /// - `BadJson(Shape(Map))` if its `map` is not an object, or is an indexed map itself;
 /// - the errors of `JSONSourceMap::from_value` and of `decode` for its `map`;
 /// - `TooLarge` if the join with its map would be too large, as for `ConcatSourceMapBuilder::add_sourcemap_at`.
 ///
-/// Also `OutOfMemory` if memory is refused, which may be before another error is found.
+/// Also `OutOfMemory` for want of memory, which may be before another error is found.
 #[tactic(auto, using(oxc_sourcemap_decode::proofs::WellRead::value_sound, oxc_sourcemap_decode::proofs::WellRead::value_in_order))]
 pub fn decode_value(alloc: Global, value: &Value) -> Result<SourceMap<'static>>
     ensures map { IfOk result (λ map. read_value (view value.now) ≡ Ok map) }
@@ -68,7 +68,7 @@ pub fn decode_value(alloc: Global, value: &Value) -> Result<SourceMap<'static>>
 ///   after the value, or one that nests deeper than 127;
 /// - the errors of `decode_value`.
 ///
-/// Also `OutOfMemory` if memory is refused, which may be before another error is found.
+/// Also `OutOfMemory` for want of memory, which may be before another error is found.
 pub fn decode_from_string(alloc: Global, text: &str) -> Result<SourceMap<'static>>
     ensures map { IfOk result (λ map. read_map text.now ≡ Ok map) }
     ensures sound { IfOk result (λ map. IsSound map ↔ (are_tokens_sorted map.tokens ≡ true)) }

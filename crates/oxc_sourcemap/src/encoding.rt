@@ -11,11 +11,11 @@ use oxc_sourcemap_map::SourceMap;
 use oxc_sourcemap_tokens::Result;
 use std::alloc::Global;
 
-/// Makes the JSON source map of a map: copies of its fields, and the canonical text of its tokens. A list of contents without
-/// any content is left out; any other is written whole. Chunks change nothing, but have to fit.
+/// Makes the JSON source map of a map: copies of its fields, and the canonical text of its tokens. A list of contents that are
+/// all unknown is left out; any other is written whole. Chunks change nothing, but have to fit.
 ///
-/// Fails as `encode_mappings` does for the tokens and chunks: `LineOrder(i)`, `BadChunks(k)`, `TooLarge`, in this order;
-/// and with `OutOfMemory` if memory is refused.
+/// Fails as `encode_mappings` does for the tokens and chunks: with `LineOrder(i)`, `BadChunks(k)`, `TooLarge`, in this order;
+/// and with `OutOfMemory` for want of memory.
 pub fn encode(alloc: Global, sourcemap: &SourceMap<'_>) -> Result<JSONSourceMap>
     ensures json { Answers json_record result (encoded sourcemap.now) }
 
@@ -27,11 +27,11 @@ pub fn encode(alloc: Global, sourcemap: &SourceMap<'_>) -> Result<JSONSourceMap>
 
 /// Writes the JSON text of a map, without spaces and in the order `version`, `file`, `sourceRoot`, `names`, `sources`,
 /// `sourcesContent`, `ignoreList`, `mappings`, `debugId`. `names`, `sources` and `mappings` are always there,
-/// `sourcesContent` if there is some content, and the others if the map has them. The `mappings` are the canonical text of
+/// `sourcesContent` if some content is known, and the others if the map has them. The `mappings` are the canonical text of
 /// the tokens. Chunks change nothing, but have to fit.
 ///
-/// Fails as `encode` does: `LineOrder(i)`, `BadChunks(k)`, `TooLarge`, in this order, and `OutOfMemory` if memory is
-/// refused.
+/// Fails as `encode` does: with `LineOrder(i)`, `BadChunks(k)`, `TooLarge`, in this order, and with `OutOfMemory` for want of
+/// memory.
 pub fn encode_to_string(alloc: Global, sourcemap: &SourceMap<'_>) -> Result<String>
     ensures { Answers string_bytes result (map_text sourcemap.now) }
 {

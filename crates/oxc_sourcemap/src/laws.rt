@@ -1,5 +1,5 @@
-//! Laws over the definitions. Each is a function without parameters, answer or body: its contract is the law, and a
-//! caller learns it by calling the function.
+//! Laws of the definitions. Each is a function without parameters, result or body: its contract is the law, and a caller
+//! gets it by calling the function.
 
 pub use oxc_sourcemap_builders::name_ids_unique;
 pub use oxc_sourcemap_laws::{

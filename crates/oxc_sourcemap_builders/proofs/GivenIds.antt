@@ -1,4 +1,4 @@
--- The ids given to paths, and those of names, as hashed maps have them.
+-- The ids given to paths, and those of names, as hash maps have them.
 use Rattle.std.proofs.Common.{◌≡◌, ◌∙◌, ap, sym, ℕ, cond, List, [], ◌∷◌, ◌++◌, map, length, Some, None, refl, arith}
 use Rattle.std.proofs.lemmas.List.{map-append, length-map}
 use Rattle.std.specs.Option.{option_or}
@@ -28,7 +28,7 @@ find_given path (e ∷ es) = grind (arith, is_eq-slice_cmp, find_given path es)
 pub get_given : (es : List (CowStr Global × ℕ)) (path : Text) → fin.get (ids_of es) path ≡ lookup (λ k. bytes_eq path (cow_str_bytes k)) es
 get_given es path = fin.get-from_entries nat_list_cmp_total (map (λ e. (cow_str_bytes e.0, e.1)) es) path ∙ find_given path es
 
--- the ids after one more is given
+-- the ids given to paths after one more is given
 pub given_more : (es fs : List (CowStr Global × ℕ)) (path : Text) (id : ℕ)
     → ((q : Text) → lookup (λ k. bytes_eq q (cow_str_bytes k)) fs ≡ update bytes_eq (λ ds. lookup (λ k. bytes_eq ds (cow_str_bytes k)) es) path (Some id) q) → ids_of fs ≡ fin.insert (ids_of es) path id
 given_more es fs path id h =
@@ -42,7 +42,7 @@ pub given_same : (es fs : List (CowStr Global × ℕ)) → ((q : Text) → looku
 given_same es fs h =
     fin.same_map nat_list_cmp_total (fin.slice_cmp-IsAntisymmetric fin.nat_cmp-IsAntisymmetric) _ _ (λ q. get_given fs q ∙ h q ∙ sym (get_given es q))
 
--- the place of a text, where there is one name more
+-- the index of a text among one name more
 pub place_more : (text : Text) (names : List (CowStr Global)) (name : CowStr Global)
     → index_of text (map cow_str_bytes (names ++ name ∷ [])) ≡ option_or (index_of text (map cow_str_bytes names)) (cond (bytes_eq text (cow_str_bytes name)) (Some (length names)) None)
 place_more text names name =

@@ -8,7 +8,7 @@ use Rattle.oxc_sourcemap_builders.specs.Built.{Built}
 use Rattle.oxc_sourcemap_builders.specs.Building.{with_name, with_name_at, with_path_at}
 use Rattle.oxc_sourcemap_builders.specs.NameLaws.{Call, AddName, AddSource, SetSource, AddToken, SetFile, SetChunks, after_call, after_calls, EqualIdsForEqualNames}
 
--- the id of a name is its place
+-- the id of a name that was added is its index
 placed-at : (o : Option ℕ) (b : Built) (name : Text) → index_of name b.map.names ≡ o → index_of name (with_name_at b name o).0.map.names ≡ Some (with_name_at b name o).1
 placed-at (Some id) b name e = e
 placed-at None b name e = index-last name b.map.names e
@@ -16,7 +16,7 @@ placed-at None b name e = index-last name b.map.names e
 placed : (b : Built) (name : Text) → index_of name (with_name b name).0.map.names ≡ Some (with_name b name).1
 placed b name = placed-at (index_of name b.map.names) b name refl
 
--- which no call changes
+-- no call changes the index of a name
 stays-with_name : (o : Option ℕ) (b : Built) (other name : Text) (id : ℕ) → index_of name b.map.names ≡ Some id → index_of name (with_name_at b other o).0.map.names ≡ Some id
 stays-with_name (Some i) b other name id e = e
 stays-with_name None b other name id e = index-front name id b.map.names (other ∷ []) e

@@ -3,7 +3,7 @@ use Rattle.std.specs.Prelude.{◌≡◌, refl, [], ◌∷◌, codes}
 use Rattle.oxc_sourcemap_builders.specs.Built.{Built, nothing_built}
 use Rattle.oxc_sourcemap_builders.specs.Building.{with_name, with_another_source}
 
--- the builder after an answer
+-- a builder with the names foo and bar
 abbrev foo_bar : Built
 foo_bar = (with_name (with_name nothing_built (codes "foo")).0 (codes "bar")).0
 

@@ -1,11 +1,11 @@
--- What the calls of a builder make of it, and the ids that they answer.
+-- A builder after a call, and the id that the call returns.
 use Rattle.std.specs.Prelude.{ℕ, [], ◌∷◌, ◌++◌, length, Option, Some, None}
 use Rattle.std.specs.FinMap as fin
 use Rattle.oxc_sourcemap_parts.specs.Record.{Text, MapRecord}
 use Rattle.oxc_sourcemap_parts.specs.Texts.{index_of}
 use Rattle.oxc_sourcemap_builders.specs.Built.{Built}
 
--- A name: the id of the equal one, else a new last one.
+-- a builder to which a name is added: an equal name keeps its id, given here if there is one; else it is the new last one
 abbrev pub with_name_at : Built → Text → Option ℕ → Built × ℕ
 with_name_at b name (Some id) = (b, id)
 with_name_at b name None = (record b { map = record b.map { names = b.map.names ++ name ∷ [] } }, length b.map.names)
@@ -17,11 +17,12 @@ with_name b name = with_name_at b name (index_of name b.map.names)
 abbrev pub with_source : MapRecord → Text → Text → MapRecord
 with_source r path content = record r { sources = r.sources ++ path ∷ []; source_contents = r.source_contents ++ Some content ∷ [] }
 
--- a new last source; the ids given to paths stay as they are
+-- a builder with a new last source; the ids given to paths stay as they are
 abbrev pub with_another_source : Built → Text → Text → Built × ℕ
 with_another_source b path content = (record b { map = with_source b.map path content }, length b.map.sources)
 
--- A source by its path: the id that was given to the path, else a new last source, whose id is then given to the path.
+-- a builder to which a source is added by its path: a path that was given an id keeps it; else the source is the new last one,
+-- and its id is given to the path
 abbrev pub with_path_at : Built → Text → Text → Option ℕ → Built × ℕ
 with_path_at b path content (Some id) = (b, id)
 with_path_at b path content None =

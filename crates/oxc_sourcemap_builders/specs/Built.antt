@@ -1,4 +1,4 @@
--- What contracts see of a builder.
+-- A builder, as contracts see it.
 use Rattle.std.specs.Prelude.{◌≡◌, ℕ, [], Vec}
 use Rattle.std.specs.Cow.{cow_str_bytes}
 use Rattle.std.specs.Str.{bytes_eq}
@@ -18,7 +18,7 @@ use Rattle.oxc_sourcemap_parts.specs.Views.{texts_of, empty_record}
 abbrev pub Ids : Type 0
 Ids = fin.FinMap (slice_cmp nat_cmp) ℕ
 
--- the code of these ids, which a model asks for
+-- the code of the ids given to paths, which a model has to have
 abbrev pub ids_code : Coded Ids
 ids_code = fin.code (coded_list coded_ℕ) coded_ℕ
 
@@ -31,6 +31,6 @@ pub record Built : Type 0 where
 abbrev pub nothing_built : Built
 nothing_built = record { map = empty_record; given = fin.from_entries [] }
 
--- This map has the place of each text among these, and no other text. No public contract cites it.
+-- The hash map has the index of each text among these, and no other text. No public contract cites it.
 abbrev pub HasPlaces : {S : Type 0} → Vec (CowStr Global) Global → HashMap (CowStr Global) ℕ S → Type 0
 HasPlaces texts ids = (text : Text) → hash.get_by (λ key. bytes_eq text (cow_str_bytes key)) ids ≡ index_of text (texts_of texts)

@@ -6,7 +6,7 @@ use Rattle.oxc_sourcemap_parts.specs.Record.{Text}
 use Rattle.oxc_sourcemap_builders.specs.Built.{Built}
 use Rattle.oxc_sourcemap_builders.specs.Building.{with_name, with_another_source, with_path}
 
--- A call that may change a builder, and is not refused. (A refused one leaves it as it was.)
+-- A call that may change a builder, and does not fail. (One that fails leaves the builder as it was.)
 pub data Call : Type 0 where
   AddName : (name : Text) → Call
   AddSource : (path content : Text) → Call
@@ -29,7 +29,7 @@ abbrev pub after_calls : Built → List Call → Built
 after_calls b [] = b
 after_calls b (call ∷ calls) = after_calls (after_call b call) calls
 
--- Two names that are added to a builder, with any calls between, get the same id exactly where they are equal.
+-- Two names that are added to a builder, with any calls between, get the same id exactly if they are equal.
 abbrev pub EqualIdsForEqualNames : Type 0
 EqualIdsForEqualNames =
     (b : Built) (name other : Text) (calls : List Call)

@@ -87,7 +87,7 @@ impl<'a> ConcatSourceMapBuilder<'a> {
     ///   so far; an empty list counts as a list.
     ///
     /// Fails with `TooLarge` if there would be more than 4294967295 names, sources or tokens, a line or a column above
-    /// 4294967295, or an id or an entry of the ignore list above 4294967294, then with `OutOfMemory` if memory is refused;
+    /// 4294967295, or an id or an entry of the ignore list above 4294967294, then with `OutOfMemory` for want of memory;
     /// the builder is then as it was.
     pub fn add_sourcemap_at(
         &mut self,
@@ -156,8 +156,8 @@ impl<'a> ConcatSourceMapBuilder<'a> {
         Ok(builder)
     }
 
-    /// The builder of the join of these maps as `from_sourcemaps` makes it, but of maps whose strings are moved. Fails as
-    /// that does; the builder and all maps are then dropped.
+    /// A builder of the join of these maps, as `from_sourcemaps` makes it, but their strings are moved. Fails as that does; the
+    /// builder and all maps are then dropped.
     pub fn from_owned_sourcemaps(
         alloc: Global,
         sourcemap_and_line_offsets: Vec<(SourceMap<'a>, u32)>,
@@ -218,7 +218,8 @@ pub fn join_owned<'a>(
     Ok(builder)
 }
 
-/// The lengths of maps together with one map more, each up to the largest count there is.
+/// The lengths of maps with those of one map more added. A sum too large for `usize` is its largest value: it is only asked
+/// for as room.
 fn with_lengths(lengths: Lengths, sourcemap: &SourceMap<'_>) -> Lengths {
     Lengths {
         names: lengths.names.saturating_add(sourcemap.get_names().len()),
@@ -229,7 +230,7 @@ fn with_lengths(lengths: Lengths, sourcemap: &SourceMap<'_>) -> Lengths {
     }
 }
 
-/// The lengths of maps that are borrowed.
+/// The lengths of borrowed maps, summed.
 fn lent_lengths(maps: &[(&SourceMap<'_>, u32)]) -> Lengths {
     let mut lengths = Lengths::default();
     for (sourcemap, _) in maps {
@@ -238,7 +239,7 @@ fn lent_lengths(maps: &[(&SourceMap<'_>, u32)]) -> Lengths {
     lengths
 }
 
-/// The lengths of maps that are owned, each beside where it begins.
+/// The lengths of owned maps, each beside where it begins, summed.
 fn owned_lengths<P>(maps: &[(SourceMap<'_>, P)]) -> Lengths {
     let mut lengths = Lengths::default();
     for (sourcemap, _) in maps {

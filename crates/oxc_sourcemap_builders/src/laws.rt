@@ -1,9 +1,8 @@
 //! The law on the ids of names.
 ghost use Rattle.oxc_sourcemap_builders.specs.NameLaws.{EqualIdsForEqualNames};
 
-/// Two names that are added to one builder get the same id exactly where they are equal, whatever is called between the two
-/// adds. A function without parameters, answer or body: its contract is the law, and a caller learns it by calling the
-/// function.
+/// Two names that are added to one builder get the same id exactly if they are equal, whatever is called between the two adds.
+/// A function without parameters, result or body: its contract is the law, and a caller gets it by calling the function.
 pub fn name_ids_unique()
     ensures { EqualIdsForEqualNames }
 {}

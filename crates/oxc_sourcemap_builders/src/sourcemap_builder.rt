@@ -65,7 +65,7 @@ impl<'a> Model for SourceMapBuilder<'a> {
       given = fin.from_entries (map (λ entry. (cow_str_bytes entry.0, entry.1)) b.given.entries);
     } };
 
-    // So an index of a name is an id, and the one that the map has for it.
+    // So the index of a name fits in a `u32`, and `name_ids` has it.
     ghost invariant = { λ b. (length b.names.items ≤ 4294967295) × HasPlaces b.names b.name_ids };
 }
 
@@ -81,7 +81,7 @@ fn next_id(count: usize) -> Result<u32>
     Ok(count as u32)
 }
 
-/// Adds a path and a content, or neither.
+/// Adds a path and a content, or neither for want of memory.
 fn push_source<'a>(
     sources: &mut Vec<CowStr<'a>>,
     contents: &mut Vec<Option<CowStr<'a>>>,
@@ -121,7 +121,7 @@ impl<'a> SourceMapBuilder<'a> {
 
     /// Adds a name and returns its id. A name that was added before keeps its id.
     ///
-    /// Fails with `TooLarge` if the new id would be 4294967295, then with `OutOfMemory` if memory is refused; the builder
+    /// Fails with `TooLarge` if the new id would be 4294967295, then with `OutOfMemory` for want of memory; the builder
     /// is then as it was.
     pub fn add_name(&mut self, name: &'a str) -> Result<u32>
         ensures added { IfOk result (λ id. (self.new, id) ≡ with_name self.old name.now) }
@@ -138,7 +138,7 @@ impl<'a> SourceMapBuilder<'a> {
         Ok(id)
     }
 
-    /// The same as `add_name`, with copies of the name where it is new.
+    /// As `add_name`, but a new name is copied.
     pub fn add_name_copied(&mut self, name: &str) -> Result<u32>
         ensures added { IfOk result (λ id. (self.new, id) ≡ with_name self.old name.now) }
         ensures too_large { IsErrOf result TooLarge
@@ -156,7 +156,7 @@ impl<'a> SourceMapBuilder<'a> {
         Ok(id)
     }
 
-    /// Adds a name that is new, and the same string as its key, or neither.
+    /// Adds a new name and the same string as its key, or neither for want of memory.
     fn push_name(&mut self, key: CowStr<'a>, name: CowStr<'a>, id: u32) -> Memory<()>
         requires same { cow_str_bytes key ≡ cow_str_bytes name }
         requires new { index_of (cow_str_bytes name) self.old.map.names ≡ None }
@@ -176,7 +176,7 @@ impl<'a> SourceMapBuilder<'a> {
     /// Adds a source with its content and returns its id. A path that this call has added before keeps its id and its first
     /// content; sources added by `set_source_and_content` are ignored.
     ///
-    /// Fails with `TooLarge` if the new id would be 4294967295, then with `OutOfMemory` if memory is refused; the builder
+    /// Fails with `TooLarge` if the new id would be 4294967295, then with `OutOfMemory` for want of memory; the builder
     /// is then as it was.
     pub fn add_source_and_content(&mut self, path: &'a str, content: &'a str) -> Result<u32>
         ensures added { IfOk result (λ id. (self.new, id) ≡ with_path self.old path.now content.now) }
@@ -198,7 +198,7 @@ impl<'a> SourceMapBuilder<'a> {
         Ok(id)
     }
 
-    /// The same as `add_source_and_content`, with copies of the path and the content where the path is new.
+    /// As `add_source_and_content`, but a new path and its content are copied.
     pub fn add_source_and_content_copied(&mut self, path: &str, content: &str) -> Result<u32>
         ensures added { IfOk result (λ id. (self.new, id) ≡ with_path self.old path.now content.now) }
         ensures too_large { IsErrOf result TooLarge
@@ -217,7 +217,7 @@ impl<'a> SourceMapBuilder<'a> {
         Ok(id)
     }
 
-    /// Adds a source and its content, and gives the id to its path, or nothing.
+    /// Adds a source and its content, and gives the id to its path, or does nothing for want of memory.
     fn push_given(
         &mut self,
         key: CowStr<'a>,
@@ -240,7 +240,7 @@ impl<'a> SourceMapBuilder<'a> {
     /// Appends a source with its content, even if there is one of this path, and returns the new id. It replaces nothing,
     /// and `add_source_and_content` does not find it.
     ///
-    /// Fails with `TooLarge` if the new id would be 4294967295, then with `OutOfMemory` if memory is refused; the builder
+    /// Fails with `TooLarge` if the new id would be 4294967295, then with `OutOfMemory` for want of memory; the builder
     /// is then as it was.
     pub fn set_source_and_content(&mut self, path: &'a str, content: &'a str) -> Result<u32>
         ensures added { IfOk result (λ id. (self.new, id) ≡ with_another_source self.old path.now content.now) }
@@ -258,7 +258,7 @@ impl<'a> SourceMapBuilder<'a> {
         Ok(last)
     }
 
-    /// The same as `set_source_and_content`, with copies of the path and the content.
+    /// As `set_source_and_content`, but the path and the content are copied.
     pub fn set_source_and_content_copied(&mut self, path: &str, content: &str) -> Result<u32>
         ensures added { IfOk result (λ id. (self.new, id) ≡ with_another_source self.old path.now content.now) }
         ensures too_large { IsErrOf result TooLarge ↔ (4294967295 ≤ length self.old.map.sources) }
@@ -273,7 +273,7 @@ impl<'a> SourceMapBuilder<'a> {
     }
 
     /// Appends a token, as `Token::new` makes it: unmapped if `src_id` is None, without a name if `name_id` is None. Nothing
-    /// is checked, ids neither. Add tokens in the order of their generated positions, since writing a map whose lines
+    /// is checked, not even ids. Add tokens in the order of their generated positions, since writing a map whose lines
     /// decrease fails with `LineOrder`, and lookups expect sorted columns.
     ///
     /// Fails only with `OutOfMemory`; the builder is then as it was.

@@ -1,4 +1,4 @@
--- Plans of words and texts.
+-- The errors and maps of plans of words and texts.
 use Rattle.std.proofs.Common.{◌≡◌, ◌≢◌, ◌⊎◌, inl, inr, Result, Ok, Err, refl, sym, ap, subst, ◌∙◌}
 use Rattle.oxc_sourcemap_tokens.specs.declared.error.Error.TheVariants.{OutOfMemory}
 use Rattle.oxc_sourcemap_tokens.specs.declared.plan_error.PlanError.{PlanError}
@@ -25,7 +25,7 @@ failure_of_plan read o p e told n = subst (λ x. IsPlanFailure x (Plan p)) (sym 
 pub words_refused : (read : Result Outcome RunError) (e : RunError) (r : Refusal) → r ≡ refusal_of_run e → (e ≢ run_out_of_memory → read ≡ Err e) → r ≢ out_of_memory → IsPlanFailure read r
 words_refused read e r is told n = subst (λ x. IsPlanFailure x r) (sym (told (λ q. n (is ∙ ap refusal_of_run q)))) is
 
--- words and texts that are read from bytes
+-- an error of words and texts that were read from bytes
 pub refused_of_bytes : (words texts w t : Text) (result : Result MapRecord Refusal) → w ≡ words → t ≡ texts → IsUtf8 words → IsUtf8 texts
     → IfErr result (λ r. r ≢ out_of_memory → IsPlanFailure (plan_of w t) r) → IfErr result (λ r. r ≢ out_of_memory → IsPlanRefusal words texts r)
 refused_of_bytes words texts w t (Ok m) e f u v is = tt

@@ -1,4 +1,4 @@
--- What exports answer: a code, and a fault that tells more.
+-- The results of exports: a code, and the numbers of an error.
 use Rattle.std.specs.Prelude.{◌≡◌, ℕ, Option, Some, None, Result, Ok, Err, MatchOption}
 use Rattle.oxc_sourcemap_tokens.specs.declared.error.Error.{Error}
 use Rattle.oxc_sourcemap_parts.specs.Record.{Text, MapRecord}
@@ -12,11 +12,11 @@ use Rattle.oxc_sourcemap_handles.specs.declared.text.Text.{Text as LentText}
 use Rattle.oxc_sourcemap_handles.specs.Holding.{held_map, held_text, HoldsMap}
 use Rattle.oxc_sourcemap_handles.specs.Answers.{HasLength}
 
--- A call that takes no memory is refused: its code and its fault are those of one of these refusals.
+-- A call that takes no memory fails: its code and its fault are those of one of these errors.
 abbrev pub IsRefused : ℕ → Fault → (Refusal → Type 0) → Type 0
 IsRefused code f These = (r : Refusal) × (f ≡ fault_of r) × (code ≡ code_of r) × These r
 
--- why what a handle holds is not written
+-- an error of writing what a handle holds
 abbrev pub IsWritingRefusal : (MapRecord → Result Text Error) → Option MapRecord → Refusal → Type 0
 IsWritingRefusal write None r = r ≡ EmptyHandle
 IsWritingRefusal write (Some m) r = (e : Error) × (write m ≡ Err e) × (r ≡ of_map e)
@@ -25,11 +25,11 @@ IsWritingRefusal write (Some m) r = (e : Error) × (write m ≡ Err e) × (r ≡
 abbrev pub HoldsWritten : (MapRecord → Result Text Error) → Option Held → Option Held → Type 0
 HoldsWritten write map text = HoldsMap map (λ m. MatchOption (held_text text) ⊥ (λ t. write m ≡ Ok t))
 
--- what a call answers that lends the text in a handle
+-- the result of asking for the text in a handle: the code of an empty handle, or 0 and the text
 abbrev pub HoldsText : ℕ → Option Held → LentText → Type 0
 HoldsText code held lent = MatchOption (held_text held) (code ≡ code_of EmptyHandle) (λ text. (code ≡ 0) × HasLength lent text)
 
--- What a lookup in what a handle holds answers: the code of what is missing, or 0 and what is found.
+-- the result of a lookup in what a handle holds: the code of what is missing, or 0 and what is found
 abbrev pub Found : {B : Type 0} → ℕ → Option Held → (MapRecord → Option B) → (B → Type 0) → Type 0
 Found code held ask That =
     MatchOption (held_map held) (code ≡ code_of EmptyHandle) (λ m. MatchOption (ask m) (code ≡ code_of NoEntry) (λ found. (code ≡ 0) × That found))

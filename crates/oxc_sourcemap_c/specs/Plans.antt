@@ -1,4 +1,4 @@
--- Plans: words separated by single spaces, over texts that lines of exactly `---` part.
+-- Plans: words separated by single spaces, over texts separated by lines of exactly `---`.
 use Rattle.std.specs.Prelude.{◌≡◌, ◌==◌, ◌⊎◌, ℕ, List, Result, Ok, Err, IsUtf8}
 use Rattle.std.specs.List.{slice_split}
 use Rattle.oxc_sourcemap_parts.specs.Record.{Text, MapRecord}
@@ -13,15 +13,15 @@ use Rattle.oxc_sourcemap_handles.specs.declared.refusal.Refusal.{Refusal}
 use Rattle.oxc_sourcemap_handles.specs.declared.refusal.Refusal.TheVariants.{Plan, Words, NoText}
 use Rattle.oxc_sourcemap_handles.specs.Refusals.{IsNotText}
 
--- the words of a plan: what stands between spaces
+-- the words of a plan: what is between spaces
 abbrev pub words_of : Text → List Text
 words_of text = slice_split (λ b. b == 32) text
 
--- the outcome of the plan that words say over texts, or why they say none
+-- the outcome of the plan of these words over these texts, or the first fault of the words
 abbrev pub plan_of : Text → Text → Result Outcome RunError
 plan_of words texts = parsed_plan (inputs_of texts) (words_of words)
 
--- an error of a plan: all but a missing text and an error of evaluation say that the words are no plan
+-- the error for C of an error of a plan: all but a missing text and an error of evaluation become `Words`
 abbrev pub refusal_of_run : RunError → Refusal
 refusal_of_run (PlanFails error) = Plan error
 refusal_of_run Read = Words
@@ -30,17 +30,17 @@ refusal_of_run Utf8 = Words
 refusal_of_run Arguments = Words
 refusal_of_run (NoInput k) = NoText k
 
--- the map of a plan is as its outcome says
+-- the map of a plan is as `IsEvaluated` promises for its outcome
 abbrev pub IsPlanMap : Result Outcome RunError → MapRecord → Type 0
 IsPlanMap (Err e) m = ⊥
 IsPlanMap (Ok o) m = IsEvaluated m o
 
--- why a plan is not evaluated: the first fault of its words, or of its evaluation
+-- an error of a plan: the first fault of its words, or an error of its evaluation
 abbrev pub IsPlanFailure : Result Outcome RunError → Refusal → Type 0
 IsPlanFailure (Err e) r = r ≡ refusal_of_run e
 IsPlanFailure (Ok o) r = (p : PlanError) × IsFailure o p × (r ≡ Plan p)
 
--- why words and texts give no map
+-- an error of words and texts in bytes: one is not UTF-8, or their plan fails
 abbrev pub IsPlanRefusal : List ℕ → List ℕ → Refusal → Type 0
 IsPlanRefusal words texts r =
     IsNotText words r ⊎ ((IsUtf8 words × IsNotText texts r) ⊎ (IsUtf8 words × IsUtf8 texts × IsPlanFailure (plan_of words texts) r))

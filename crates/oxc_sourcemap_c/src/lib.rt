@@ -1,7 +1,7 @@
 //! The library for C: opaque handles, numbers, and texts as pointers with lengths (`bindings/c/oxc_sourcemap.h`).
 //!
-//! A call returns 0, or the code of a refusal (`fault_of`). Handles that a call does not take are as they were after each
-//! refusal.
+//! A call returns 0, or the code of its error (`fault_of`). A call that fails leaves handles as they were, but for those that it
+//! takes.
 #![tactic(auto)]
 
 mod plans;
@@ -96,7 +96,7 @@ pub extern "C" fn smap_join(
     put_map(alloc, joined, map, fault)
 }
 
-/// Puts the map of the plan that words say over texts into a handle.
+/// Puts the map of a plan into a handle. The words of the plan are separated by spaces, its texts by lines of exactly `---`.
 #[unsafe(no_mangle)]
 pub extern "C" fn smap_evaluate(
     alloc: Global,
@@ -112,7 +112,7 @@ pub extern "C" fn smap_evaluate(
     put_map(alloc, evaluate_bytes(alloc, words, texts), map, fault)
 }
 
-/// Puts the JSON text of the map in a handle into another.
+/// Puts the JSON text of the map in a handle into another handle.
 #[unsafe(no_mangle)]
 pub extern "C" fn smap_to_json_string(
     alloc: Global,
@@ -129,7 +129,7 @@ pub extern "C" fn smap_to_json_string(
     put_text(alloc, written, string, fault)
 }
 
-/// Puts the data URL of the map in a handle into another.
+/// Puts the data URL of the map in a handle into another handle.
 #[unsafe(no_mangle)]
 pub extern "C" fn smap_to_data_url(
     alloc: Global,
@@ -146,7 +146,7 @@ pub extern "C" fn smap_to_data_url(
     put_text(alloc, written, string, fault)
 }
 
-/// Lends the text in a handle.
+/// The text in a handle, borrowed.
 #[unsafe(no_mangle)]
 pub extern "C" fn smap_get_text(alloc: Global, string: &mut Handle, text: &mut Text) -> u32
     ensures found { HoldsText result string.old.held text.new }
@@ -172,7 +172,7 @@ pub extern "C" fn smap_free_string(alloc: Global, string: &mut Handle)
     drop(string.take(alloc));
 }
 
-/// How many tokens, names, sources, contents and ignored sources the map in a handle has.
+/// The numbers of tokens, names, sources, contents and ignored sources of the map in a handle.
 #[unsafe(no_mangle)]
 pub extern "C" fn smap_get_counts(alloc: Global, map: &mut Handle, out: &mut Counts) -> u32
     ensures found { Found result map.old.held (λ m. Some (counts_of m)) (λ counts. out.new ≡ counts) }
@@ -192,7 +192,7 @@ pub extern "C" fn smap_is_sorted(alloc: Global, map: &mut Handle, out: &mut u32)
     answered(is_sorted(alloc, map), out)
 }
 
-/// Lends the name with this id.
+/// The name with this id in the map in a handle, borrowed.
 #[unsafe(no_mangle)]
 pub extern "C" fn smap_get_name(alloc: Global, map: &mut Handle, id: u32, text: &mut Text) -> u32
     ensures found { Found result map.old.held (λ m. slice_get m.names id) (HasLength text.new) }
@@ -202,7 +202,7 @@ pub extern "C" fn smap_get_name(alloc: Global, map: &mut Handle, id: u32, text: 
     answered(text_of_map(alloc, map, Asked::Name(id)), text)
 }
 
-/// Lends the source with this id.
+/// The source with this id in the map in a handle, borrowed.
 #[unsafe(no_mangle)]
 pub extern "C" fn smap_get_source(alloc: Global, map: &mut Handle, id: u32, text: &mut Text) -> u32
     ensures found { Found result map.old.held (λ m. slice_get m.sources id) (HasLength text.new) }
@@ -212,7 +212,7 @@ pub extern "C" fn smap_get_source(alloc: Global, map: &mut Handle, id: u32, text
     answered(text_of_map(alloc, map, Asked::Source(id)), text)
 }
 
-/// Lends the content listed for the source with this id.
+/// The content listed for the source with this id in the map in a handle, borrowed.
 #[unsafe(no_mangle)]
 pub extern "C" fn smap_get_source_content(
     alloc: Global,
@@ -227,7 +227,7 @@ pub extern "C" fn smap_get_source_content(
     answered(text_of_map(alloc, map, Asked::SourceContent(id)), text)
 }
 
-/// Lends the name of the generated file.
+/// The name of the generated file of the map in a handle, borrowed.
 #[unsafe(no_mangle)]
 pub extern "C" fn smap_get_file(alloc: Global, map: &mut Handle, text: &mut Text) -> u32
     ensures found { Found result map.old.held (λ m. m.file) (HasLength text.new) }
@@ -237,7 +237,7 @@ pub extern "C" fn smap_get_file(alloc: Global, map: &mut Handle, text: &mut Text
     answered(text_of_map(alloc, map, Asked::File), text)
 }
 
-/// Lends the source root.
+/// The source root of the map in a handle, borrowed.
 #[unsafe(no_mangle)]
 pub extern "C" fn smap_get_source_root(alloc: Global, map: &mut Handle, text: &mut Text) -> u32
     ensures found { Found result map.old.held (λ m. m.source_root) (HasLength text.new) }
@@ -247,7 +247,7 @@ pub extern "C" fn smap_get_source_root(alloc: Global, map: &mut Handle, text: &m
     answered(text_of_map(alloc, map, Asked::SourceRoot), text)
 }
 
-/// Lends the debug id.
+/// The debug id of the map in a handle, borrowed.
 #[unsafe(no_mangle)]
 pub extern "C" fn smap_get_debug_id(alloc: Global, map: &mut Handle, text: &mut Text) -> u32
     ensures found { Found result map.old.held (λ m. m.debug_id) (HasLength text.new) }
@@ -287,7 +287,7 @@ pub extern "C" fn smap_get_token(
     answered(token(alloc, map, index), out)
 }
 
-/// What the map in a handle says of a generated line and column.
+/// The trace of the map in a handle at a generated line and column.
 #[unsafe(no_mangle)]
 pub extern "C" fn smap_trace(
     alloc: Global,
@@ -306,7 +306,8 @@ pub extern "C" fn smap_trace(
     placed(traced(alloc, map, at, false), place, fault)
 }
 
-/// The same, where the first token of a line stands in for none.
+/// The clamped trace of the map in a handle at a generated line and column: before the first token of a line, it is that of the
+/// first token.
 #[unsafe(no_mangle)]
 pub extern "C" fn smap_trace_clamped(
     alloc: Global,
@@ -325,8 +326,8 @@ pub extern "C" fn smap_trace_clamped(
     placed(traced(alloc, map, at, true), place, fault)
 }
 
-/// What the map in a handle says of generated positions: in each place what `smap_trace` says of the position at its index.
-/// Refused if there are not as many places as positions. No place is written on any refusal.
+/// The traces of the map in a handle at generated positions, each at the index of its position and as `smap_trace` gives it.
+/// Fails if there are not as many places as positions. On an error no place is written.
 #[unsafe(no_mangle)]
 pub extern "C" fn smap_trace_all(
     alloc: Global,
@@ -344,7 +345,8 @@ pub extern "C" fn smap_trace_all(
     answered_all(traced_all(alloc, map, positions, places, false), fault)
 }
 
-/// The same, where the first token of a line stands in for none.
+/// The clamped traces of the map in a handle at generated positions, each as `smap_trace_clamped` gives it; else as
+/// `smap_trace_all`.
 #[unsafe(no_mangle)]
 pub extern "C" fn smap_trace_all_clamped(
     alloc: Global,
@@ -362,8 +364,8 @@ pub extern "C" fn smap_trace_all_clamped(
     answered_all(traced_all(alloc, map, positions, places, true), fault)
 }
 
-/// Writes as much of the message of a fault as there is room for, and returns the length of the whole; 0 for want of memory,
-/// and for a fault that is none.
+/// Writes as much of the message of an error, given by its numbers, as there is room for, and returns the length of the whole;
+/// 0 for want of memory, and if no error has these numbers.
 #[unsafe(no_mangle)]
 pub extern "C" fn smap_message(alloc: Global, fault: &Fault, out: &mut [u8]) -> usize
     ensures message { (r : Refusal) → IsSmall r → fault.now ≡ fault_of r → IsMessage (refusal_text r) out.old out.new result }
@@ -452,7 +454,7 @@ pub extern "C" fn smap_builder_set_file(
     noted(set_file(alloc, builder, file), &mut none, fault)
 }
 
-/// Puts the map that the builder in a handle has built into another. The builder's handle is then empty.
+/// Puts the map that the builder in a handle has built into another handle. The builder's handle is then empty.
 #[unsafe(no_mangle)]
 pub extern "C" fn smap_builder_finish(
     alloc: Global,

@@ -1,4 +1,4 @@
-//! Plans: their words and their texts.
+//! Plans as words and texts in bytes.
 ghost use Rattle.std.specs.Prelude.{◌≡◌, ◌≢◌, map, string_bytes, IfOk, IfErr};
 ghost use Rattle.oxc_sourcemap_handles.specs.Refusals.{out_of_memory};
 ghost use Rattle.oxc_sourcemap_c.specs.Plans.{words_of, plan_of, refusal_of_run, IsPlanMap, IsPlanFailure, IsPlanRefusal};
@@ -8,7 +8,7 @@ use oxc_sourcemap_map::OwnedSourceMap;
 use oxc_sourcemap_plan::{RunError, evaluate, inputs_of, read_plan};
 use std::alloc::{AllocError, Global};
 
-/// The words of a text.
+/// The words of a text, which spaces separate.
 fn words_of(alloc: Global, text: &str) -> Result<Vec<String>, AllocError>
     ensures { IfOk result (λ words. map string_bytes words.items ≡ words_of text.now) }
 {
@@ -19,7 +19,7 @@ fn words_of(alloc: Global, text: &str) -> Result<Vec<String>, AllocError>
     Ok(words)
 }
 
-/// The refusal that stands for an error of reading or evaluating a plan.
+/// The error for C of an error of reading or evaluating a plan.
 fn refusal_of(error: RunError) -> Refusal
     ensures { result ≡ refusal_of_run error }
 {
@@ -30,7 +30,7 @@ fn refusal_of(error: RunError) -> Refusal
     }
 }
 
-/// The map of the plan that words say over texts.
+/// The map of the plan of these words, over these texts.
 fn evaluated(alloc: Global, words: &str, texts: &str) -> Result<OwnedSourceMap, Refusal>
     ensures map { IfOk result (IsPlanMap (plan_of words.now texts.now)) }
     ensures error { IfErr result (λ r. (r ≢ out_of_memory) → IsPlanFailure (plan_of words.now texts.now) r) }
@@ -43,7 +43,7 @@ fn evaluated(alloc: Global, words: &str, texts: &str) -> Result<OwnedSourceMap, 
     }
 }
 
-/// The map of the plan that the words say over the texts.
+/// The map of the plan of these words, over these texts, both given as bytes.
 pub fn evaluate_bytes(alloc: Global, words: &[u8], texts: &[u8]) -> Result<OwnedSourceMap, Refusal>
     ensures map { IfOk result (IsPlanMap (plan_of words.now texts.now)) }
     ensures error { IfErr result (λ r. (r ≢ out_of_memory) → IsPlanRefusal words.now texts.now r) }

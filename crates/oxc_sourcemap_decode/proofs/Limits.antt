@@ -1,4 +1,4 @@
--- The test of limits decides them.
+-- The test of limits (`JoinLimits`) decides `IsWithinLimits`.
 use Rattle.std.proofs.Common.{ℕ, ◌<◌, ◌≤◌, nat_lt, List, length, refl, arith, Option, Some, None}
 use Rattle.std.specs.Bool.{Decides}
 use Rattle.std.specs.List.{list_all}

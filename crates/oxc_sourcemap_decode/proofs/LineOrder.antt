@@ -9,7 +9,7 @@ use Rattle.oxc_sourcemap_tokens.specs.declared.position.Position.{Position}
 use Rattle.oxc_sourcemap_join.specs.Joined.{shifted, without_repeat}
 use Rattle.oxc_sourcemap_decode.specs.Sections.{position_of, may_follow}
 
--- generated lines never go back, from this line on
+-- the generated lines of these tokens never go back, and none is before this line
 abbrev pub RunsFrom : ℕ → List TokenRecord → Type 0
 RunsFrom line [] = ⊤
 RunsFrom line (t ∷ ts) = (line ≤ t.dst_line) × RunsFrom t.dst_line ts
@@ -50,7 +50,7 @@ runs-without same (Some x) line [] h = h
 runs-without same (Some x) line (u ∷ us) h =
     elim (same x u) as (λ b. RunsFrom line (cond b us (u ∷ us))) [ true ↦ runs-lower line u.dst_line us h.0 h.1 | false ↦ h ]
 
--- ---- the last token is not after a place
+-- ---- the last token is not after a position
 line-of : (t : TokenRecord) (place : Position) → may_follow (Some (position_of t)) place ≡ true → t.dst_line ≤ place.line
 line-of t place h =
     elim (cases_lt place.line t.dst_line) [
@@ -67,7 +67,7 @@ ends-by : (ts : List TokenRecord) (place : Position) → may_follow (option_map 
 ends-by [] place h = omega arith
 ends-by (t ∷ ts) place h = ends-at 0 t ts place h
 
--- tokens of a map at a place that is not before the last token
+-- a join is in line order if its next map is joined at a position that is not before its last token
 pub runs-joined : (same : TokenRecord → TokenRecord → Bool) (names sources : ℕ) (place : Position) (ts us : List TokenRecord) → RunsFrom 0 ts → RunsFrom 0 us
     → may_follow (option_map position_of (last ts)) place ≡ true
     → RunsFrom 0 (ts ++ without_repeat same (last ts) (map (shifted names sources place) us))

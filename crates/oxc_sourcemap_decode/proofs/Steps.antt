@@ -22,7 +22,7 @@ use Rattle.oxc_sourcemap_decode.proofs.Limits.{limits_decided}
 abbrev pub Placed : Type 0
 Placed = MapRecord × Position
 
--- with one map more
+-- the join with one more map
 pub joined-more : (front : List Placed) (m : MapRecord) (place : Position) → joined (front ++ (m, place) ∷ []) ≡ added (joined front) m place
 joined-more front m place = added_all-append nothing_joined front ((m, place) ∷ [])
 
@@ -35,7 +35,7 @@ last-more (y ∷ z ∷ ys) x = last-more (z ∷ ys) x
 pub chunk-count : (front : List Placed) → length (unwrap_or (joined front).token_chunks []) ≡ length front
 chunk-count front = let f = fitting_chunks front in ap (λ o. length (unwrap_or o [])) f.has ∙ f.count
 
--- a place at which no section may begin
+-- a section whose offset is out of order
 pub out-of-order : (front : List Placed) (d : Data) (place : Position) (j : MapRecord) (before : Option Position) (count : ℕ) → j ≡ joined front
     → before ≡ option_map (λ s. s.1) (last front) → count ≡ length (unwrap_or j.token_chunks []) → place_in d ≡ Ok place
     → (may_follow before place && may_follow (option_map position_of (last j.tokens)) place) ≡ false → place_after front d ≡ Err (SectionOrder count)
@@ -69,8 +69,8 @@ taken front d ds place m h g =
     ap (λ (r : Result Position Error). onto_section front (λ s. sections_after (front ++ s ∷ []) ds) (r >>= (λ place. section_map d >>= (λ m. Ok (m, place))))) h
     ∙ ap (λ (r : Result MapRecord Error). onto_section front (λ s. sections_after (front ++ s ∷ []) ds) (r >>= (λ m. Ok (m, place)))) g
 
--- ---- all of them
--- what is read after some sections begins with these
+-- ---- all sections
+-- reading more sections keeps the maps in front
 begins : (front : List Placed) (items : Items) → (more : List Placed) × ((sections_after front items).maps ≡ front ++ more)
 begins front no_items = ([], sym (append-nil front))
 begins front (item d ds) =
@@ -82,7 +82,7 @@ begins front (item d ds) =
 is-answer : (front : List Placed) (fault : Option Error) → IsWithinLimits (joined front) → joined_sections (record { maps = front; fault = fault }) ≡ unless fault (Ok (joined front))
 is-answer front fault w = ap (λ b. cond b (unless fault (Ok (joined front))) (Err TooLarge)) ((limits_decided (joined front)).1 w)
 
--- where the join of the sections so far is too large, so is that of all
+-- if the join of the sections so far is past the limits, so is that of all
 too-large : (front : List Placed) (items : Items) → ¬ (IsWithinLimits (joined front)) → joined_sections (sections_after front items) ≡ Err TooLarge
 too-large front items n =
     let found = sections_after front items in
@@ -94,7 +94,7 @@ too-large front items n =
     ] refl
 
 -- ---- the sections so far
--- of all of these sections some are left; the join of the others is this map, and the last of them begins there
+-- the sections of a list before those that are left: their join is `j`, and the last of them begins at `before`
 pub record SoFar (all left : Items) (j : MapRecord) (before : Option Position) : Type 0 where
   pub front : List Placed
   pub is_join : j ≡ joined front
@@ -105,7 +105,7 @@ pub record SoFar (all left : Items) (j : MapRecord) (before : Option Position) :
 pub none-so-far : (all : Items) → SoFar all all nothing_joined None
 none-so-far all = record { front = []; is_join = refl; is_before = refl; same = refl; within = nothing-within }
 
--- what is said of the offset of the next section
+-- the contract of `place_after`: its result for the section after those with this join
 abbrev pub SaysOfPlace : MapRecord → Option Position → Data → Result Position Error → Type 0
 SaysOfPlace j before d answer = (front : List Placed) → j ≡ joined front → before ≡ option_map (λ s. s.1) (last front) → place_after front d ≡ answer
 

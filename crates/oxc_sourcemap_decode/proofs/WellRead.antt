@@ -1,4 +1,4 @@
--- A map that is read has its ids in range and no chunks, and its tokens are in bounds and in line order.
+-- The map of a JSON text or value has its ids in range and no chunks, and its tokens are in bounds and in line order.
 use Rattle.std.proofs.Common.{◌≡◌, ◌↔◌, ℕ, ◌&&◌, Bool, true, false, cond, List, [], ◌∷◌, ◌++◌, length, refl, sym, ap, ◌∙◌, subst, Option, Some, None, option_map, Result, Ok, Err}
 use Rattle.std.proofs.lemmas.Bool.{and_parts}
 use Rattle.std.specs.List.{AllByRecursion}
@@ -56,7 +56,7 @@ section-well : (d : Data) (m : MapRecord) → section_map d ≡ Ok m → IsWellR
 section-well d m e = let g = given (map_in d) (λ v. shape v >>= decoded) m e in plain-well (shape g.value) m g.second
 
 -- ---- sections
--- what holds of the join of sections so far
+-- the join of these maps has its ids in range and its tokens in line order
 record IsGood (front : List Placed) : Type 0 where
   in_range : AreIdsInRange (joined front)
   order : RunsFrom 0 (joined front).tokens
@@ -196,7 +196,7 @@ read_in_bounds text r e = (read_well text r e).in_bounds
 pub read_in_order : (text : Text) (r : MapRecord) → read_map text ≡ Ok r → IsInLineOrder r.tokens
 read_in_order text r e = runs-order 0 r.tokens (read_well text r e).order
 
--- ---- the same of a value
+-- ---- a map that is read from a JSON value
 pub value_is_said : (d : Data) → read_value d ≡ map_said (said_by d)
 unfolding read_value
 value_is_said d = refl

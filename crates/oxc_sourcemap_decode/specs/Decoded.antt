@@ -1,4 +1,4 @@
--- The map that a JSON source map says, or why it says none.
+-- The map of a JSON source map, or its first fault.
 use Rattle.std.specs.Prelude.{ℕ, List, [], ◌∷◌, length, Option, Some, None, option_map, Result, Ok, Err, if◌then◌else◌, nat_lt, ◌==◌}
 use Rattle.std.specs.Option.{option_map_or, unwrap_or}
 use Rattle.oxc_sourcemap_tokens.specs.declared.error.Error.{Error}
@@ -19,7 +19,7 @@ first_not_below count (id ∷ ids) = if nat_lt id count then first_not_below cou
 abbrev pub ignore_list_fault : JsonRecord → Option ℕ
 ignore_list_fault j = option_map_or (first_not_below (length j.sources)) j.ignore_list None
 
--- the map of these fields and tokens, without chunks; contents that are missing are the empty list
+-- the map of these fields and tokens, without chunks; a missing list of contents is an empty one
 abbrev pub decoded_record : JsonRecord → List TokenRecord → MapRecord
 decoded_record j tokens = record {
   file = j.file;
@@ -38,12 +38,12 @@ abbrev pub with_tokens : JsonRecord → Result (List TokenRecord) Error → Resu
 with_tokens j (Ok tokens) = Ok (decoded_record j tokens)
 with_tokens j (Err fault) = Err fault
 
--- What is wrong with a JSON source map besides its mappings: a version other than 3, or else an entry of the ignore list that
--- is out of range.
+-- The first fault of a JSON source map besides those of its mappings: a version other than 3, or else an entry of the ignore
+-- list that is out of range.
 abbrev pub json_fault : JsonRecord → Option Error
 json_fault j =
     if j.version == 3 then option_map BadSourceReference (ignore_list_fault j) else Some (BadJson (Version j.version))
 
--- The map of a JSON source map, unless something is wrong with it, or with its mappings.
+-- The map of a JSON source map, or its first fault; those of its mappings come last.
 abbrev pub decoded : JsonRecord → Result MapRecord Error
 decoded j = unless (json_fault j) (with_tokens j (reading j.mappings (length j.names) (length j.sources)))

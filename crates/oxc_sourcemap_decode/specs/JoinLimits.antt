@@ -1,4 +1,4 @@
--- Whether a map is within limits, as a test: what `IsWithinLimits` of the join crate says.
+-- Whether a map is within the limits of joins, as a test: `IsWithinLimits` of `oxc_sourcemap_join` as a `Bool`.
 use Rattle.std.specs.Prelude.{ℕ, Bool, true, ◌&&◌, List, length, Option, Some, None, nat_lt}
 use Rattle.std.specs.List.{list_all}
 use Rattle.oxc_sourcemap_tokens.specs.Token.{TokenRecord}
@@ -15,7 +15,7 @@ is_token_in_bounds t =
     nat_lt t.dst_line 4294967296 && (nat_lt t.dst_col 4294967296 && (nat_lt t.src_line 4294967296
     && (nat_lt t.src_col 4294967296 && (is_id_in_bounds t.source_id && is_id_in_bounds t.name_id))))
 
--- the entries of an ignore list that may be there are at most 4294967294
+-- the entries of an ignore list, if there is one, are at most 4294967294
 abbrev pub are_entries_in_bounds : Option (List ℕ) → Bool
 are_entries_in_bounds None = true
 are_entries_in_bounds (Some ids) = list_all (λ id. nat_lt id 4294967295) ids

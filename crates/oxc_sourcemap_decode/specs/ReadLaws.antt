@@ -5,10 +5,10 @@ use Rattle.oxc_sourcemap_tokens.specs.LineOrder.{IsInLineOrder}
 use Rattle.oxc_sourcemap_parts.specs.Record.{Text, MapRecord}
 use Rattle.oxc_sourcemap_decode.specs.ReadMap.{read_map}
 
--- The tokens of a map that a JSON text says are in bounds.
+-- The tokens of the map of a JSON text are in bounds.
 abbrev pub ReadIsInBounds : Type 0
 ReadIsInBounds = (text : Text) (r : MapRecord) → read_map text ≡ Ok r → AreInBounds r.tokens
 
--- They are in line order.
+-- The tokens of the map of a JSON text are in line order.
 abbrev pub ReadIsInLineOrder : Type 0
 ReadIsInLineOrder = (text : Text) (r : MapRecord) → read_map text ≡ Ok r → IsInLineOrder r.tokens

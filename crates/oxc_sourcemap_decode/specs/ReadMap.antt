@@ -1,4 +1,4 @@
--- The map that a JSON value or a JSON text says, or why it says none.
+-- The map of a JSON value or a JSON text, or its first fault.
 use Rattle.std.specs.Prelude.{codes, List, Option, Some, None, Result, Ok, Err, if◌then◌else◌}
 use Rattle.std.specs.Option.{option_and_then}
 use Rattle.serde_json.specs.Data.{Data, Items}
@@ -16,12 +16,12 @@ use Rattle.oxc_sourcemap_join.specs.Joined.{joined}
 use Rattle.oxc_sourcemap_decode.specs.Section.{is_indexed}
 use Rattle.oxc_sourcemap_decode.specs.Sections.{Sections, all_sections, joined_sections}
 
--- What a JSON value says: a map, or a fault; or, of an indexed map whose `sections` is a list, its file and its sections.
+-- How a JSON value is read: as a map or a fault; or, if it is an indexed map with a list of sections, as a file and sections.
 pub data Said : Type 0 where
   plain : Result MapRecord Error → Said
   indexed : Option Text → Sections → Said
 
--- the list of sections
+-- the list of sections of a value
 abbrev pub sections_in : Data → Result Items Error
 sections_in d = or_misshapen SectionsField (option_and_then as_array (get (codes "sections") d))
 
@@ -31,7 +31,7 @@ indexed_said (Err fault) items = plain (Err fault)
 indexed_said (Ok file) (Err fault) = plain (Err fault)
 indexed_said (Ok file) (Ok items) = indexed file (all_sections items)
 
--- what a value says
+-- a JSON value, as it is read
 abbrev pub said_by : Data → Said
 said_by d = if is_indexed d then indexed_said (file_of d) (sections_in d) else plain (shape d >>= decoded)
 
@@ -39,29 +39,29 @@ said_by d = if is_indexed d then indexed_said (file_of d) (sections_in d) else p
 abbrev pub indexed_record : Option Text → MapRecord → MapRecord
 indexed_record file r = record r { file = file; token_chunks = None }
 
--- the map of what is said, or the first fault
+-- the map of a value, as it was read, or its first fault
 abbrev pub map_said : Said → Result MapRecord Error
 map_said (plain answer) = answer
 map_said (indexed file found) = joined_sections found >>= (λ r. Ok (indexed_record file r))
 
--- The map that a JSON value says, or its first fault.
+-- The map of a JSON value, or its first fault.
 unfoldable pub read_value : Data → Result MapRecord Error
 read_value d = map_said (said_by d)
 
--- what the value that was read says, if one was
+-- the value of a JSON text, as it is read; none if the text is not JSON
 abbrev pub said_of : Option Data → Said
 said_of None = plain (Err (BadJson Reading))
 said_of (Some d) = said_by d
 
--- what a JSON text says
+-- a JSON text, as it is read
 abbrev pub said_in : Text → Said
 said_in text = said_of (read text)
 
--- The map that a JSON text says, or its first fault: the text is not JSON, the value has not the shape of a source map, or its
--- fields say no map.
+-- The map of a JSON text, or its first fault: the text is not JSON, the value has not the shape of a source map, or a field has
+-- a fault.
 unfoldable pub read_map : Text → Result MapRecord Error
 read_map text = map_said (said_in text)
 
--- the decoded map of the map that a JSON text says, or its first fault
+-- the decoded map of a JSON text, or its first fault
 abbrev pub read_decoded_map : Text → Result DecodedMap Error
 read_decoded_map text = read_map text >>= (λ r. Ok (decoded_map_of r))

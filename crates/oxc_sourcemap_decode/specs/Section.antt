@@ -12,15 +12,15 @@ use Rattle.oxc_sourcemap_tokens.specs.declared.position.Position.{Position}
 abbrev pub is_indexed : Data → Bool
 is_indexed d = is_some (present (get (codes "sections") d))
 
--- a whole number of 0 to 4294967295 at this key
+-- the whole number of 0 to 4294967295 at a key of a value
 abbrev pub number_at : List ℕ → Data → Option ℕ
 number_at key d = option_and_then as_id (get key d)
 
--- a place: a line and a column
+-- a value as a position: an object with a line and a column
 abbrev pub as_place : Data → Option Position
 as_place d = option_and_then (λ line. option_map (λ column. record { line = line; column = column }) (number_at (codes "column") d)) (number_at (codes "line") d)
 
--- where a section, which is an object, begins
+-- the offset of a section, which has to be an object
 abbrev pub place_in : Data → Result Position Error
 place_in d = do
   members ← or_misshapen Sections (as_object d)
@@ -30,7 +30,7 @@ place_in d = do
 abbrev pub is_plain : Data → Bool
 is_plain d = not (is_indexed d) && is_some (as_object d)
 
--- such an object
+-- a value as the map of a section: an object that is not an indexed map
 abbrev pub as_plain : Data → Option Data
 as_plain d = if is_plain d then Some d else None
 

@@ -19,22 +19,22 @@ use Rattle.oxc_sourcemap_decode.specs.JoinLimits.{is_within_limits}
 abbrev pub position_of : TokenRecord → Position
 position_of t = record { line = t.dst_line; column = t.dst_col }
 
--- a place is not before another one, where there is one
+-- a position is not before another one, if there is another one
 abbrev pub may_follow : Option Position → Position → Bool
 may_follow None place = true
 may_follow (Some before) place = may_precede (λ (p : Position). p.line) (λ (p : Position). p.column) before place
 
--- A section may begin at a place if that is not before the offset of the section in front of it, and not before the last token
--- of the sections in front of it. Equal places are allowed.
+-- A section may begin at a position that is not before the offset of the section in front of it, and not before the last token
+-- of the sections in front of it. Equal positions are allowed.
 abbrev pub may_begin : List (MapRecord × Position) → Position → Bool
 may_begin front place =
     may_follow (option_map (λ s. s.1) (last front)) place && may_follow (option_map position_of (last (joined front).tokens)) place
 
--- the place, where a section may begin there
+-- the position, if a section may begin there
 abbrev pub in_order : List (MapRecord × Position) → Position → Result Position Error
 in_order front place = if may_begin front place then Ok place else Err (SectionOrder (length front))
 
--- where a section after those in front of it begins
+-- the offset of a section after those in front of it, or its first fault
 abbrev pub place_after : List (MapRecord × Position) → Data → Result Position Error
 place_after front d = place_in d >>= in_order front
 
@@ -45,19 +45,19 @@ section_map d = do
   fields ← shape value
   decoded fields
 
--- A section after those in front of it: its map and where that begins, or its first fault.
+-- a section after those in front of it: its map and its offset, or its first fault
 abbrev pub section_after : List (MapRecord × Position) → Data → Result (MapRecord × Position) Error
 section_after front d = do
   place ← place_after front d
   map ← section_map d
   Ok (map, place)
 
--- what was read of sections: the maps in front of the first fault, each at its offset, and that fault
+-- the sections of an indexed map, as they were read: the maps in front of the first fault, each at its offset, and that fault
 pub record Sections : Type 0 where
   pub maps : List (MapRecord × Position)
   pub fault : Option Error
 
--- what follows a section that was read, or the end at a fault
+-- the sections after one that was read; if it has a fault, they end in front of it
 abbrev pub onto_section : List (MapRecord × Position) → (MapRecord × Position → Sections) → Result (MapRecord × Position) Error → Sections
 onto_section front more (Ok s) = more s
 onto_section front more (Err fault) = record { maps = front; fault = Some fault }
@@ -71,7 +71,7 @@ sections_after front (item d ds) = onto_section front (λ s. sections_after (fro
 abbrev pub all_sections : Items → Sections
 all_sections items = sections_after [] items
 
--- The join of the sections. It is too large if the sections in front of the first fault make a join that is; else the fault
--- stands.
+-- The join of sections. If the maps in front of the first fault make a join past the limits, its fault is `TooLarge`; else it is
+-- the first fault of the sections, if there is one.
 abbrev pub joined_sections : Sections → Result MapRecord Error
 joined_sections found = if is_within_limits (joined found.maps) then unless found.fault (Ok (joined found.maps)) else Err TooLarge

@@ -26,7 +26,7 @@ fn first_id_not_below(count: usize, ids: &[u32]) -> Option<u32>
     None
 }
 
-/// Contents as those of a map; a list that is missing is the empty one.
+/// The contents of a JSON source map as those of a map; a missing list is an empty one.
 fn from_contents(
     alloc: Global,
     contents: Option<Vec<Option<String>>>,
@@ -66,7 +66,7 @@ fn from_lists(
     })
 }
 
-/// What is wrong with a JSON source map besides its mappings, if anything is.
+/// The first fault of a JSON source map besides those of its mappings.
 fn json_fault(json: &JSONSourceMap) -> Option<Error>
     ensures { result ≡ json_fault (json_record json.now) }
 {
@@ -78,16 +78,16 @@ fn json_fault(json: &JSONSourceMap) -> Option<Error>
     Some(Error::BadSourceReference(id))
 }
 
-/// The parts of the map that a JSON source map says. Its strings are moved, and contents that are missing are the empty
-/// list; it has no chunks.
+/// The parts of the map of a JSON source map. Its strings are moved, a missing list of contents is an empty one, and it has
+/// no chunks.
 ///
-/// Fails in this order, and the value is then dropped:
+/// Fails with the first of these in this order, and the value is then dropped:
 /// - `BadJson(Version(n))` for a version n other than 3;
 /// - `BadSourceReference(id)` for the first entry of the ignore list that is not below the number of sources;
-/// - what `decode_mappings` refuses, with the numbers of names and sources.
+/// - the errors of `decode_mappings`, with the numbers of names and sources.
 ///
-/// The first two are found before any memory is asked for, and reported wherever they hold. `OutOfMemory` if memory is
-/// refused, which may be before a fault of the mappings is met.
+/// The first two are found before any memory is asked for. Also `OutOfMemory` for want of memory, which may be before an
+/// error of the mappings is found.
 pub fn decode_parts(alloc: Global, json: JSONSourceMap) -> Result<SourceMapParts<'static>>
     ensures map { Answers record_of_parts result (decoded (json_record json)) }
     ensures fault { Reports (json_fault (json_record json)) result }

@@ -1,4 +1,4 @@
-//! Where sections begin.
+//! The offsets of sections, and whether they are in order.
 ghost use Rattle.std.specs.Prelude.{◌≡◌, ◌&&◌, List, option_map};
 ghost use Rattle.serde_json.specs.View.{view};
 ghost use Rattle.oxc_sourcemap_parts.specs.Record.{MapRecord};
@@ -13,14 +13,14 @@ use oxc_sourcemap_json::read_id;
 use oxc_sourcemap_tokens::{Error, Field, JsonFault, Position, Result, Token};
 use serde_json::Value;
 
-/// The whole number of 0 to 4294967295 at a key.
+/// The whole number of 0 to 4294967295 at a key of a value.
 fn number_at(value: &Value, key: &str) -> Option<u32>
     ensures { result ≡ number_at key.now (view value.now) }
 {
     read_id(value.get(key)?)
 }
 
-/// The position that a value has, if it is an object with a line and a column.
+/// A value as a position, if it is an object with a line and a column.
 fn as_place(value: &Value) -> Option<Position>
     ensures { result ≡ as_place (view value.now) }
 {
@@ -52,7 +52,7 @@ fn position_of(token: Token) -> Position
     }
 }
 
-/// Whether a position is not before another one, where there is one.
+/// Whether a position is not before another one, if there is another one.
 fn may_follow(before: Option<Position>, place: Position) -> bool
     ensures { result ≡ may_follow before place }
 {
@@ -71,7 +71,7 @@ fn last_position(so_far: &JoinedParts<'_>) -> Option<Position>
     so_far.last_token().map(position_of)
 }
 
-/// Whether a section may begin at a place, after those that are joined, the last of which begins at `before`.
+/// Whether a section may begin at a position, after the joined ones, the last of which begins at `before`.
 fn may_begin(so_far: &JoinedParts<'_>, before: Option<Position>, place: Position) -> bool
     ensures { result ≡ (may_follow before place
         && may_follow (option_map position_of (last so_far.now.tokens)) place) }
@@ -79,8 +79,8 @@ fn may_begin(so_far: &JoinedParts<'_>, before: Option<Position>, place: Position
     may_follow(before, place) && may_follow(last_position(so_far), place)
 }
 
-/// The offset of the section after those that are joined, the last of which begins at `before`. Fails if it has none, or if it
-/// is before that, or before the last token so far.
+/// The offset of the section after the joined ones, the last of which begins at `before`. Fails if the section has none, or
+/// one that is before `before` or before the last joined token.
 pub(crate) fn place_after(
     so_far: &JoinedParts<'_>,
     before: Option<Position>,

@@ -1,4 +1,4 @@
-//! Sections, read one behind the other into a join, and the map of a JSON value and a JSON text.
+//! The map of a JSON text or value; the sections of an indexed map are read one after the other into a join.
 ghost use Rattle.std.specs.Prelude.{◌≡◌, option_map, string_bytes, Ok, Err};
 ghost use Rattle.serde_json.specs.View.{view, items_view};
 ghost use Rattle.serde_json.specs.Find.{get};
@@ -45,7 +45,7 @@ fn is_plain(value: &Value) -> bool
     !is_indexed(value) && value.is_object()
 }
 
-/// The map of a section, which is read when those before it are joined.
+/// The parts of the map of a section.
 fn decode_section(alloc: Global, section: Value) -> Result<SourceMapParts<'static>>
     ensures { Answers record_of_parts result (section_map (view section)) }
 {
@@ -59,7 +59,7 @@ fn decode_section(alloc: Global, section: Value) -> Result<SourceMapParts<'stati
     decode_parts(alloc, json)
 }
 
-/// The join of sections, each read when the ones before it are joined, and then dropped.
+/// The join of sections. Each is read, joined and dropped before the next one is looked at, so the first bad one is reported.
 fn join_sections(alloc: Global, sections: Vec<Value>) -> Result<JoinedParts<'static>>
     ensures { Answers (λ joined. joined) result (joined_sections (all_sections (items_view sections.items))) }
 {
@@ -84,7 +84,7 @@ fn indexed_parts(joined: JoinedParts<'static>, file: Option<String>) -> SourceMa
     parts
 }
 
-/// The parts of the map of an indexed map.
+/// The parts of the map that an indexed map stands for.
 fn decode_indexed(alloc: Global, value: Value) -> Result<SourceMapParts<'static>>
     ensures { Answers record_of_parts result (map_said (indexed_said (file_of (view value)) (sections_in (view value)))) }
 {
@@ -96,29 +96,15 @@ fn decode_indexed(alloc: Global, value: Value) -> Result<SourceMapParts<'static>
     Ok(indexed_parts(joined, file))
 }
 
-/// The parts of the map that a JSON value says. A value whose `sections` is there and is not null is an indexed map: the join
-/// of the maps of its sections, each at its offset, with the file of the value and without chunks. Of its other keys only
-/// `version` and `file` are looked at. Any other value is read by `JSONSourceMap::from_value` and `decode_parts`.
-///
-/// An indexed map fails with what `file_from_value` refuses, then with `BadJson(Shape(Sections))` unless `sections` is a list,
-/// then with the first fault of a section. Each section is read and joined before the next one is looked at, and fails with
-/// the first of these in this order:
-/// - `BadJson(Shape(Sections))` unless it is an object;
-/// - `BadJson(Shape(Offset))` unless `offset` is an object whose `line` and `column` are whole numbers of 0 to 4294967295;
-/// - `SectionOrder(k)`, where k is its index, if its offset is before that of the section before it, or before the last token
-///   so far;
-/// - `BadJson(Shape(Map))` unless `map` is an object whose own `sections` is missing or null;
-/// - what `JSONSourceMap::from_value` and `decode_parts` refuse for the map;
-/// - `TooLarge` if the join with this section would be past the limits of `JoinedParts::add_moved`.
-///
-/// `OutOfMemory` if memory is refused, which may be before a fault is met.
+/// The parts of the map of a JSON value, which may be an indexed map. `decode_value` of `oxc_sourcemap` has the rules and the
+/// errors in their order.
 pub fn decode_parts_from_value(alloc: Global, value: &Value) -> Result<SourceMapParts<'static>>
     ensures { Answers record_of_parts result (read_value (view value.now)) }
 {
     decode_owned_value(alloc, value.clone()?)
 }
 
-/// The parts of the map of a JSON value, as `decode_parts_from_value` reads them; its strings are moved.
+/// The parts of the map of a JSON value, whose strings are moved.
 #[tactic(auto, unfolding(crate::specs::ReadMap::read_value))]
 fn decode_owned_value(alloc: Global, value: Value) -> Result<SourceMapParts<'static>>
     ensures { Answers record_of_parts result (read_value (view value)) }
@@ -130,15 +116,8 @@ fn decode_owned_value(alloc: Global, value: Value) -> Result<SourceMapParts<'sta
     decode_parts(alloc, json)
 }
 
-/// The parts of the map that a JSON text says: `serde_json` reads the text, and `decode_parts_from_value` the value. All its
-/// strings are owned, and none is copied but the file of an indexed map.
-///
-/// Fails in this order:
-/// - `BadJson(Reading)` where `serde_json` reads no value, as for a text that is not JSON, one with more than white
-///   space after the value, and one that nests deeper than 127;
-/// - what `decode_parts_from_value` refuses.
-///
-/// `OutOfMemory` if memory is refused, which may be before a fault is met.
+/// The parts of the map of a JSON text. `decode_from_string` of `oxc_sourcemap` has the errors in their order. All strings
+/// are owned, and none is copied but the file of an indexed map.
 #[tactic(auto, unfolding(crate::specs::ReadMap::read_map, crate::specs::ReadMap::read_value))]
 pub fn decode_parts_from_string(alloc: Global, text: &str) -> Result<SourceMapParts<'static>>
     ensures { Answers record_of_parts result (read_map text.now) }

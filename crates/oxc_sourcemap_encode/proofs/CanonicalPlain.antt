@@ -8,7 +8,7 @@ use Rattle.oxc_sourcemap_tokens.specs.State.{State, initial, state_after}
 use Rattle.oxc_sourcemap_mappings.specs.Canonical.{letter, vlq_text, delta_text, separator, column_text, source_text, token_text, has_none_before, text_after, canonical}
 use Rattle.oxc_sourcemap_encode.specs.JsonString.{escaped}
 
--- a text that stands in a JSON string as it is
+-- a text that a JSON string has as it is
 abbrev Stays : List ℕ → Type 0
 Stays bs = flat_map escaped bs ≡ bs
 

@@ -78,6 +78,6 @@ pub nothing_left : (bs out : List ℕ) → slice_get bs 0 ≡ None → out ++ fl
 nothing_left [] out e = append-nil out
 nothing_left (b ∷ bs) out e = cc
 
--- ---- what stays opened
+-- ---- a text that was opened stays opened
 pub opened-more : (base old x new : List ℕ) → Opened base old → new ≡ old ++ x → Opened base new
 opened-more base old x new o e = (o.0 ++ x, e ∙ ap (λ bs. bs ++ x) o.1 ∙ append_assoc base (34 ∷ o.0) x)

@@ -45,7 +45,7 @@ json_text_in_parts j =
     (optional_field (codes "ignoreList") (json_list decimal) j.ignore_list)
     (tail_text j.mappings j.debug_id)
 
--- three parts of a map that are added one after the other are its text
+-- if the three parts are added one after the other, the JSON text of the map is added
 pub object_added : (r : MapRecord) (mappings old t1 t2 t3 : List ℕ)
     → t1 ≡ old ++ head_text r.file r.source_root
     → t2 ≡ t1 ++ lists_text r.names r.sources (written_contents r.source_contents) r.ignore_list

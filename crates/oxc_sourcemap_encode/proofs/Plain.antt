@@ -60,14 +60,14 @@ split text i n = ap (prefix_len is_plain) (chunk-drop i n text) ∙ prefix_len-a
 first_marked : (text : List ℕ) (i n : ℕ) → i + n ≤ length text → n ≤ 64 → cond (eqb (mask_l (map needs_escape (chunk i n text))) 0) n (count_trailing_zeros 64 (mask_l (map needs_escape (chunk i n text)))) ≡ prefix_len is_plain (chunk i n text)
 first_marked text i n room few = first_set_mask_l needs_escape (chunk i n text) n (length-chunk i n text room) few
 
--- a block without a mark is passed over
+-- a block without a mark belongs to the run
 pub block_plain : (text : List ℕ) (i n : ℕ) → i + n ≤ length text → n ≤ 64 → mask_l (map needs_escape (chunk i n text)) ≡ 0 → prefix_len is_plain (drop i text) ≡ n + prefix_len is_plain (drop (i + n) text)
 block_plain text i n room few none =
     let long = length-chunk i n text room in
     let all : prefix_len is_plain (chunk i n text) ≡ length (chunk i n text) = sym (first_marked text i n room few) ∙ ap (λ b. cond b n (count_trailing_zeros 64 (mask_l (map needs_escape (chunk i n text))))) (eq-eqb _ _ none) ∙ sym long in
     split text i n ∙ ap (λ b. cond b (length (chunk i n text) + prefix_len is_plain (drop (i + n) text)) (prefix_len is_plain (chunk i n text))) (eq-eqb _ _ all) ∙ ap (λ k. k + prefix_len is_plain (drop (i + n) text)) long
 
--- in any other, the run ends at the first mark
+-- in a block with a mark, the run ends at the first mark
 pub block_stops : (text : List ℕ) (i n : ℕ) → i + n ≤ length text → n ≤ 64 → (mask_l (map needs_escape (chunk i n text)) ≡ 0 → ⊥) → prefix_len is_plain (drop i text) ≡ count_trailing_zeros 64 (mask_l (map needs_escape (chunk i n text)))
 block_stops text i n room few some =
     split text i n ∙ ap (λ b. cond b (length (chunk i n text) + prefix_len is_plain (drop (i + n) text)) (prefix_len is_plain (chunk i n text))) (ne_eqb _ _ (λ e. some (none_marked (chunk i n text) e)))

@@ -1,4 +1,4 @@
--- The JSON source map of a map, or why it has none.
+-- The JSON source map of a map, or the fault of its tokens and chunks.
 use Rattle.std.specs.Prelude.{List, Option, Some, None, Result, Ok, if◌then◌else◌}
 use Rattle.std.specs.List.{list_any}
 use Rattle.std.specs.Option.{is_some}
@@ -9,7 +9,7 @@ use Rattle.oxc_sourcemap_mappings.specs.Canonical.{canonical}
 use Rattle.oxc_sourcemap_mappings.specs.Pieces.{writing_fault}
 use Rattle.oxc_sourcemap_parts.specs.Record.{Text, MapRecord}
 
--- the list of contents, where there is some content in it
+-- the list of contents, if some content is known
 abbrev pub written_contents : List (Option Text) → Option (List (Option Text))
 written_contents contents = if list_any is_some contents then Some contents else None
 

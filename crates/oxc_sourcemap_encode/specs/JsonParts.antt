@@ -4,13 +4,13 @@ use Rattle.oxc_sourcemap_encode.specs.JsonString.{json_string}
 use Rattle.oxc_sourcemap_parts.specs.Record.{Text}
 use Rattle.oxc_sourcemap_encode.specs.JsonText.{json_list, content_text, field_text, optional_field}
 
--- the version, the file and the source root
+-- the beginning of the object: the version, the file and the source root
 unfoldable pub head_text : Option Text → Option Text → Text
 head_text file source_root =
     codes "{\"version\":3"
     ++ (optional_field (codes "file") json_string file ++ optional_field (codes "sourceRoot") json_string source_root)
 
--- the four lists
+-- the lists of names, sources and contents, and the ignore list
 unfoldable pub lists_text : List Text → List Text → Option (List (Option Text)) → Option (List ℕ) → Text
 lists_text names sources contents ignore_list =
     field_text (codes "names") (json_list json_string names)
@@ -18,7 +18,7 @@ lists_text names sources contents ignore_list =
     ++ (optional_field (codes "sourcesContent") (json_list content_text) contents
     ++ optional_field (codes "ignoreList") (json_list decimal) ignore_list))
 
--- the mappings, the debug id, and the end
+-- the mappings, the debug id, and the end of the object
 unfoldable pub tail_text : Text → Option Text → Text
 tail_text mappings debug_id =
     field_text (codes "mappings") (json_string mappings)

@@ -6,7 +6,7 @@ use Rattle.std.specs.Char.{digit_char}
 abbrev pub hex_escape : ℕ → List ℕ
 hex_escape b = codes "\\u00" ++ digit_char (b / 16) ∷ digit_char (b % 16) ∷ []
 
--- A byte as it stands in a JSON string: `\"`, `\\`, `\b`, `\t`, `\n`, `\f` and `\r` for the bytes that have an escape of
+-- A byte as a JSON string has it: `\"`, `\\`, `\b`, `\t`, `\n`, `\f` and `\r` for the bytes that have an escape of
 -- their own, `\u00` and two digits for every other byte below 32, and every byte above as itself.
 unfoldable pub escaped : ℕ → List ℕ
 escaped b =
@@ -24,9 +24,9 @@ escaped b =
 unfoldable pub json_string : List ℕ → List ℕ
 json_string text = 34 ∷ flat_map escaped text ++ 34 ∷ []
 
--- How the steps of the writer are seen. No public contract speaks of these.
+-- The rest of this module is for the steps of the writer; no public contract cites it.
 
--- the base, a quote, and what may follow
+-- the new text is the base, a quote, and any more
 abbrev pub Opened : List ℕ → List ℕ → Type 0
 Opened base new = (more : List ℕ) × (new ≡ base ++ 34 ∷ more)
 
@@ -34,6 +34,6 @@ Opened base new = (more : List ℕ) × (new ≡ base ++ 34 ∷ more)
 abbrev pub StaysOpened : List ℕ → List ℕ → Type 0
 StaysOpened old new = (base : List ℕ) → Opened base old → Opened base new
 
--- the old text, or that text opened: the old one can be had again by a cut
+-- the new text is the old one, or the old one opened: a cut gives the old one again
 abbrev pub Begins : List ℕ → List ℕ → Type 0
 Begins old new = (new ≡ old) ⊎ Opened old new

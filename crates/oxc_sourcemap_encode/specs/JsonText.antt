@@ -11,11 +11,11 @@ use Rattle.oxc_sourcemap_json.specs.Shape.{◌>>=◌}
 use Rattle.oxc_sourcemap_parts.specs.Record.{Text, MapRecord}
 use Rattle.oxc_sourcemap_encode.specs.Encoded.{encoded}
 
--- a list in brackets, its items parted by commas
+-- a list in brackets, its items separated by commas
 unfoldable pub json_list : {A : Type 0} → (A → Text) → List A → Text
 json_list write items = codes "[" ++ (join_by write (codes ",") items ++ codes "]")
 
--- a content: a string, or `null` where it is not known
+-- a content: a string, or `null` if it is not known
 abbrev pub content_text : Option Text → Text
 content_text None = codes "null"
 content_text (Some content) = json_string content
@@ -24,7 +24,7 @@ content_text (Some content) = json_string content
 unfoldable pub field_text : Text → Text → Text
 field_text key value = codes ",\"" ++ (key ++ (codes "\":" ++ value))
 
--- a field that is there exactly where there is a value
+-- a field that is there exactly if there is a value
 unfoldable pub optional_field : {A : Type 0} → Text → (A → Text) → Option A → Text
 optional_field key write value = option_map_or (λ x. field_text key (write x)) value []
 

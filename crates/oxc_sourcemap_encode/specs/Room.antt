@@ -1,4 +1,4 @@
--- Room for the JSON text of a map. Only private clauses speak of it.
+-- Room for the JSON text of a map. Only private clauses cite this module.
 use Rattle.std.specs.Prelude.{ℕ, ◌+◌, ◌≤◌, Option, length, min}
 use Rattle.std.specs.Option.{option_map_or}
 use Rattle.std.specs.Cow.{cow_str_bytes}
@@ -13,6 +13,6 @@ string_room text = length (cow_str_bytes text) + 3
 abbrev pub content_room : Option (CowStr Global) → ℕ
 content_room content = option_map_or string_room content 5
 
--- room for at least so many bytes, or for as many as a number of 64 bits can say
+-- room for at least this many bytes, or for as many as a number of 64 bits can count
 abbrev pub IsRoomFor : ℕ → ℕ → Type 0
 IsRoomFor needed room = min needed 18446744073709551615 ≤ room

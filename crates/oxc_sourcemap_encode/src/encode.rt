@@ -20,7 +20,7 @@ use oxc_sourcemap_tokens::{Memory, Result, TokenChunk};
 use std::alloc::Global;
 use std::borrow::CowStr;
 
-/// Whether there is some content in a list.
+/// Whether a list has some known content.
 pub(crate) fn has_content(contents: &[Option<CowStr<'_>>]) -> bool
     ensures { result ≡ list_any is_some (map (option_map cow_str_bytes) contents.now) }
 {
@@ -32,7 +32,7 @@ pub(crate) fn has_content(contents: &[Option<CowStr<'_>>]) -> bool
     false
 }
 
-/// Copies of contents, where there is some content among them.
+/// Copies of contents; none if no content is known.
 fn to_contents(
     alloc: Global,
     contents: &[Option<CowStr<'_>>],
@@ -69,11 +69,11 @@ fn mappings_of(alloc: Global, parts: &SourceMapParts<'_>) -> Result<String>
     Ok(mappings)
 }
 
-/// The JSON source map of a map: copies of its fields, and its tokens in their canonical text. A list of contents without
-/// any content is left out; any other is written whole. Chunks change nothing but have to fit.
+/// The JSON source map of a map: copies of its fields, and its tokens in their canonical text. A list of contents that are
+/// all unknown is left out; any other is written whole. Chunks change nothing but have to fit.
 ///
-/// Fails as `encode_mappings` does for the tokens and chunks: `LineOrder(i)`, `BadChunks(k)`, `TooLarge`, in this order;
-/// and with `OutOfMemory` if memory is refused.
+/// Fails as `encode_mappings` does for the tokens and chunks: with `LineOrder(i)`, `BadChunks(k)`, `TooLarge`, in this order;
+/// and with `OutOfMemory` for want of memory.
 pub fn encode_parts(alloc: Global, parts: &SourceMapParts<'_>) -> Result<JSONSourceMap>
     ensures json { Answers json_record result (encoded (record_of_parts parts.now)) }
 

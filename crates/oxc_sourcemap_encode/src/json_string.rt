@@ -65,7 +65,7 @@ fn hex_digit(digit: u8) -> char
     }
 }
 
-// After an `Err` of these calls `push_`, too, a beginning of what they add may stand in `out`.
+// The calls `push_` below here leave `out` with a beginning of what they add if they fail; `push_json_string` cuts it off.
 
 /// Adds the escape of a control character by its number.
 fn push_hex_escape(out: &mut String, code: u8) -> Memory<()>
@@ -96,7 +96,7 @@ fn push_escape(out: &mut String, byte: u8) -> Memory<()>
     }
 }
 
-/// Adds the run at the front of a text that needs no escape, as one slice. Gives the rest of the text.
+/// Adds the run at the front of a text that needs no escape, as one slice. Returns the rest of the text.
 fn push_run<'t>(out: &mut String, text: &'t str) -> Memory<&'t str>
     ensures ok { IfOk result (λ rest. string_bytes out.new ++ flat_map escaped rest.now ≡ string_bytes out.old ++ flat_map escaped text.now) }
     ensures stops { IfOk result (λ rest. IfSome (slice_get rest.now 0) (λ byte. needs_escape byte ≡ true)) }
@@ -108,7 +108,7 @@ fn push_run<'t>(out: &mut String, text: &'t str) -> Memory<&'t str>
     Ok(rest)
 }
 
-/// Adds the bytes of a text as they stand in a JSON string.
+/// Adds the bytes of a text, escaped as in a JSON string.
 fn push_escaped(out: &mut String, text: &str) -> Memory<()>
     ensures ok { Pushes result out.old out.new (flat_map escaped text.now) }
     ensures opened { StaysOpened (string_bytes out.old) (string_bytes out.new) }

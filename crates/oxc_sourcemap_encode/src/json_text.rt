@@ -50,7 +50,7 @@ fn push_texts(texts: &[CowStr<'_>], out: &mut String) -> Result<()>
     Ok(())
 }
 
-/// Appends a content, or `null` where it is not known.
+/// Appends a content, or `null` if it is not known.
 fn push_content(content: &Option<CowStr<'_>>, out: &mut String) -> Result<()>
     ensures text { Pushes result out.old out.new (content_text (text_of content.now)) }
     ensures error { OnlyMemory result }
@@ -99,7 +99,7 @@ fn push_ids(alloc: Global, ids: &[u32], out: &mut String) -> Result<()>
     Ok(())
 }
 
-/// Appends a field with a text, where there is one.
+/// Appends a field with a text, if there is one.
 #[tactic(auto, unfolding(crate::specs::JsonText::field_text, crate::specs::JsonText::optional_field))]
 fn push_optional_text(key: &str, text: &Option<CowStr<'_>>, out: &mut String) -> Result<()>
     ensures text { Pushes result out.old out.new (optional_field key.now json_string (text_of text.now)) }
@@ -112,7 +112,7 @@ fn push_optional_text(key: &str, text: &Option<CowStr<'_>>, out: &mut String) ->
     push_json_string(text.as_str(), out)
 }
 
-/// Appends a field with contents, where there is some content among them.
+/// Appends a field with contents, if one of them is known.
 #[tactic(auto, unfolding(crate::specs::JsonText::field_text, crate::specs::JsonText::optional_field))]
 fn push_optional_contents(
     key: &str,
@@ -129,7 +129,7 @@ fn push_optional_contents(
     push_contents(contents, out)
 }
 
-/// Appends a field with numbers, where there are any.
+/// Appends a field with a list of numbers, if there is one.
 #[tactic(auto, unfolding(crate::specs::JsonText::field_text, crate::specs::JsonText::optional_field))]
 fn push_optional_ids(
     alloc: Global,
@@ -170,7 +170,7 @@ fn push_mappings(parts: &SourceMapParts<'_>, out: &mut String) -> Result<()>
     Ok(())
 }
 
-/// Appends the beginning of the object, up to the root of sources.
+/// Appends the beginning of the object, up to the source root.
 #[tactic(auto, unfolding(crate::specs::JsonParts::head_text))]
 fn push_head(
     file: &Option<CowStr<'_>>,
@@ -238,13 +238,8 @@ fn push_object(alloc: Global, parts: &SourceMapParts<'_>, out: &mut String) -> R
     Ok(())
 }
 
-/// The JSON text of a map, without spaces and in the order `version`, `file`, `sourceRoot`, `names`, `sources`,
-/// `sourcesContent`, `ignoreList`, `mappings`, `debugId`: what `encode_parts` gives, as text. `names`, `sources` and
-/// `mappings` are always there, `sourcesContent` where there is some content, and the others where the map has them. The
-/// `mappings` are the canonical text of the tokens. Chunks change nothing but have to fit.
-///
-/// Fails as `encode_parts` does: `LineOrder(i)`, `BadChunks(k)`, `TooLarge`, in this order, and `OutOfMemory` if memory is
-/// refused.
+/// The JSON text of a map: what `encode_parts` gives, as text. `encode_to_string` of `oxc_sourcemap` has the order of its
+/// members and which of them are there. Fails as `encode_parts` does.
 #[tactic(auto, unfolding(crate::specs::JsonText::map_text))]
 pub fn encode_parts_to_string(alloc: Global, parts: &SourceMapParts<'_>) -> Result<String>
     ensures { Answers string_bytes result (map_text (record_of_parts parts.now)) }

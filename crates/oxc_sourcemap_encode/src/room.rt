@@ -1,4 +1,4 @@
-//! Room for the JSON text of a map, taken once.
+//! Room for the JSON text of a map, taken once, so that a large text is not moved while it is written.
 ghost use Rattle.std.specs.Prelude.{◌+◌};
 ghost use Rattle.std.specs.List.{sum_by};
 ghost use Rattle.oxc_sourcemap_encode.specs.Room.{string_room, content_room, IsRoomFor};

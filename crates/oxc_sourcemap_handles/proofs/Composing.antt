@@ -9,7 +9,7 @@ use Rattle.oxc_sourcemap_handles.specs.declared.refusal.Refusal.TheVariants.{Emp
 use Rattle.oxc_sourcemap_handles.specs.Refusals.{of_map}
 use Rattle.oxc_sourcemap_handles.specs.Answers.{IsCompositionRefusal}
 
--- what is taken out of a handle
+-- the result of taking a map out of a handle that held this
 abbrev pub Taken : Option MapRecord → Result MapRecord Refusal → Type 0
 Taken held taken = MatchOption held (taken ≡ Err EmptyHandle) (λ m. taken ≡ Ok m)
 

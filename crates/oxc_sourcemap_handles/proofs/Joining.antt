@@ -11,7 +11,7 @@ use Rattle.oxc_sourcemap_handles.proofs.Composing.{Taken}
 use Rattle.oxc_sourcemap_handles.specs.Holding.{held_map}
 use Rattle.oxc_sourcemap_handles.specs.Joins.{all_held, placed_maps}
 
--- some maps, and those after them
+-- the maps that are done, and those after them
 abbrev pub after : List (MapRecord × Position) → Option (List (MapRecord × Position)) → Option (List (MapRecord × Position))
 after done rest = option_map (λ ms. done ++ ms) rest
 
@@ -19,7 +19,7 @@ after_one : (done : List (MapRecord × Position)) (m : MapRecord × Position) (r
 after_one done m None = refl
 after_one done m (Some ms) = ap (λ xs. Some xs) (sym (append_assoc done (m ∷ []) ms))
 
--- one handle more is taken
+-- the maps after one more is taken out of its handle
 pub one_more : (done : List (MapRecord × Position)) (h : Option Held) (hs : List (Option Held)) (p : Position) (ps : List Position) (m : MapRecord) → held_map h ≡ Some m
     → after done (placed_maps (h ∷ hs) (p ∷ ps)) ≡ after (done ++ (m, p) ∷ []) (placed_maps hs ps)
 one_more done h hs p ps m e =
@@ -30,7 +30,7 @@ pub held_taken : (h : Option MapRecord) (taken : Result MapRecord Refusal) (m : 
 held_taken None taken m t e = cc (t, e)
 held_taken (Some x) taken m t e = cc (t, e)
 
--- one handle more is taken, at its index
+-- the maps after one more is taken out of the handle at an index
 pub taken_more : (whole : Option (List (MapRecord × Position))) (items more : List (MapRecord × Position)) (hs : List Handle) (ps : List Position) (i : ℕ) (h new : Handle) (m : MapRecord) (d : Position)
     → whole ≡ after items (placed_maps (all_held (drop i hs)) (drop i ps)) → i < length hs → i < length ps → h ≡ get_or hs i h → held_map h.held ≡ Some m
     → more ≡ items ++ (m, get_or ps i d) ∷ []

@@ -1,4 +1,4 @@
--- Calls that want of memory alone refuses.
+-- Calls that fail only for want of memory.
 use Rattle.std.proofs.Common.{◌≡◌, ℕ, Result, Ok, Err, IfErr, MatchResult}
 use Rattle.oxc_sourcemap_handles.specs.declared.refusal.Refusal.{Refusal}
 use Rattle.oxc_sourcemap_handles.specs.declared.fault.Fault.{Fault}

@@ -1,4 +1,4 @@
--- The numbers of a refusal say that refusal.
+-- The error with the numbers of an error is that error.
 use Rattle.std.proofs.Common.{◌≡◌, Some, refl, ap}
 use Rattle.std.proofs.Math.Nat.{mod-eq_of_lt}
 use Rattle.oxc_sourcemap_tokens.specs.declared.error.Field.{Field}

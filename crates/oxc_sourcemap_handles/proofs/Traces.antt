@@ -1,4 +1,4 @@
--- A place that says what the token says that is found at a position is the trace of the position.
+-- A `Place` made of the token that is found at a position is the trace at that position.
 use Rattle.std.proofs.Common.{◌≡◌, Bool, true, false, ℕ, ◌<◌, suc, List, [], ◌∷◌, length, get_or, Option, option_map, ap, subst, ◌∙◌, arith}
 use Rattle.std.specs.List.{AllZip}
 use Rattle.oxc_sourcemap_parts.specs.Sorted.{are_tokens_sorted}
@@ -22,12 +22,12 @@ place_traced : (p : Place) (m r : MapRecord) (token found : Option TokenRecord) 
 place_traced p m r token found there same is traces =
     subst (IsPlace p) (ap (λ x. option_map view_original (option_map (seen_in x) token)) same ∙ ap (λ o. option_map view_original (option_map (seen_in r) o)) is ∙ traces)
 
--- what the token that is found says is what the map says
+-- what the token that is found points to is the trace of the map
 found_traced : (clamped : Bool) (r : MapRecord) (at : Position) → option_map view_original (option_map (seen_in r) (found_at clamped r at)) ≡ traced_at clamped r at
 found_traced false r at = traced r at.line at.column
 found_traced true r at = clamped_traced r at.line at.column
 
--- a place that says what a token says is the trace, where the token is the one that is found
+-- a `Place` made of a token is the trace, if the token is the one that is found
 pub is_trace : (clamped : Bool) (p : Place) (m r : MapRecord) (token : Option TokenRecord) (at : Position) → m ≡ r → (are_tokens_sorted r.tokens ≡ true → token ≡ found_at clamped r at)
     → IsPlace p (option_map view_original (option_map (seen_in m) token)) → HasIds p token → IsTraceOf clamped r at p
 is_trace clamped p m r token at same is place ids = record {
@@ -35,7 +35,7 @@ is_trace clamped p m r token at same is place ids = record {
   ids = λ sorted. subst (HasIds p) (is sorted) ids;
 }
 
--- what holds at each index holds place by place
+-- two lists of one length are related item by item if they are so at each index
 pub all_zip : {A B : Type 0} (R : A → B → Type 0) (xs : List A) (ys : List B) → length xs ≡ length ys
     → ((k : ℕ) (a : A) (b : B) → k < length xs → R (get_or xs k a) (get_or ys k b)) → AllZip R xs ys
 all_zip R [] [] e each = tt

@@ -1,4 +1,4 @@
--- What calls answer of what handles hold, and what they refuse.
+-- The results and errors of calls on what handles hold.
 use Rattle.std.specs.Prelude.{◌≡◌, ◌≢◌, ℕ, List, ◌⊎◌, Option, Some, None, Result, Ok, Err, MatchOption, MatchResult, IsUtf8, slice_get, length, Bool, true, false}
 use Rattle.std.specs.Option.{option_and_then}
 use Rattle.std.specs.Str.Lossy.{utf8_valid_len}
@@ -18,16 +18,16 @@ use Rattle.oxc_sourcemap_handles.specs.Refusals.{out_of_memory, of_map}
 use Rattle.oxc_sourcemap_handles.specs.Codes.{fault_of, code_of}
 use Rattle.oxc_sourcemap_handles.specs.Holding.{held_map}
 
--- A call is refused: its code and its fault are those of one refusal, which is lack of memory or one of these.
+-- A call fails: its code and its fault are those of one error, which is want of memory or one of these.
 abbrev pub IsRefusedAs : ℕ → Fault → (Refusal → Type 0) → Type 0
 IsRefusedAs code f These = (r : Refusal) × (f ≡ fault_of r) × (code ≡ code_of r) × (r ≢ out_of_memory → These r)
 
--- why bytes are not read: they are not UTF-8, or their text says no map
+-- an error of reading bytes: they are not UTF-8, or their text has an error
 abbrev pub IsReadRefusal : List ℕ → Refusal → Type 0
 IsReadRefusal bytes r =
     (¬ (IsUtf8 bytes) × (r ≡ NotUtf8 (utf8_valid_len bytes))) ⊎ (IsUtf8 bytes × (e : Error) × (read_map bytes ≡ Err e) × (r ≡ of_map e))
 
--- why what two handles hold is not composed: one holds no map, or the maps have no composition
+-- an error of composing what two handles hold: one holds no map, or the maps have no composition
 abbrev pub IsCompositionRefusal : Option MapRecord → Option MapRecord → Refusal → Type 0
 IsCompositionRefusal (Some a) (Some b) r = (e : Error) × SomeComposition a b (Err e) × (r ≡ of_map e)
 IsCompositionRefusal (Some a) None r = r ≡ EmptyHandle
@@ -42,13 +42,13 @@ text_at m File = m.file
 text_at m SourceRoot = m.source_root
 text_at m DebugId = m.debug_id
 
--- What a lookup in what a handle holds answers: `EmptyHandle`, `NoEntry`, or what is found.
+-- the result of a lookup in what a handle holds: `EmptyHandle`, `NoEntry`, or what is found
 abbrev pub IsFound : {A B : Type 0} → Result A Refusal → Option Held → (MapRecord → Option B) → (A → B → Type 0) → Type 0
 IsFound answer held ask Is =
     MatchOption (held_map held) (answer ≡ Err EmptyHandle)
     (λ m. MatchOption (ask m) (answer ≡ Err NoEntry) (λ found. MatchResult answer (λ x. Is x found) (λ _. ⊥)))
 
--- a text that is lent has the length of this one
+-- a borrowed text has the length of this one
 abbrev pub HasLength : LentText → Text → Type 0
 HasLength lent text = lent.len ≡ length text
 
@@ -56,8 +56,8 @@ HasLength lent text = lent.len ≡ length text
 abbrev pub ignored_at : MapRecord → ℕ → Option ℕ
 ignored_at m i = option_and_then (λ ids. slice_get ids i) m.ignore_list
 
--- What a handle's map is written as, where this is how maps are written: `EmptyHandle` if it has none, an error of writing, or
--- lack of memory.
+-- the result of writing a handle's map by `write`: its text, `EmptyHandle` if it holds no map, an error of writing, or want of
+-- memory
 abbrev pub IsWrittenAs : {S : Type 0} → (S → Text) → Result S Refusal → Option Held → (MapRecord → Result Text Error) → Type 0
 IsWrittenAs bytes answer held write =
     MatchOption (held_map held) (answer ≡ Err EmptyHandle) (λ m. MatchResult answer (λ text. write m ≡ Ok (bytes text))

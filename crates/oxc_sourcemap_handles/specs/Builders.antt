@@ -1,4 +1,4 @@
--- What calls make of the builders that handles hold, and what they refuse.
+-- Calls on the builders that handles hold, and their errors.
 use Rattle.std.specs.Prelude.{◌≡◌, ◌≤◌, ◌⊎◌, ℕ, List, [], ◌∷◌, ◌++◌, length, Option, Some, IsNone, MatchOption, IsUtf8}
 use Rattle.std.specs.FinMap as fin
 use Rattle.oxc_sourcemap_tokens.specs.declared.error.Error.TheVariants.{TooLarge}
@@ -32,35 +32,35 @@ with_token b token = record b { map = record b.map { tokens = b.map.tokens ++ to
 abbrev pub with_file : Built → Text → Built
 with_file b file = record b { map = record b.map { file = Some file } }
 
--- a handle holds a builder before a call and one after it, of which this holds
+-- a handle holds a builder before a call and one after it, and this holds of the two
 abbrev pub Builds : Option Held → Option Held → (Built → Built → Type 0) → Type 0
 Builds old new P = MatchOption (held_builder old) ⊥ (λ b. MatchOption (held_builder new) ⊥ (λ c. P b c))
 
--- a name that is new would have an id that is too large
+-- the name is new, and its id would be too large
 abbrev pub NameHasNoId : Text → Built → Type 0
 NameHasNoId name b = IsNone (index_of name b.map.names) × (4294967295 ≤ length b.map.names)
 
--- the same of a source whose path is new
+-- the path of a source is new, and the id of the source would be too large
 abbrev pub SourceHasNoId : Text → Built → Type 0
 SourceHasNoId path b = IsNone (fin.get b.given path) × (4294967295 ≤ length b.map.sources)
 
--- why nothing is added to a builder: the handle holds none, or the new id would be too large
+-- an error of adding to a builder: the handle holds none, or the new id would be too large
 abbrev pub IsAddRefusal : Option Held → (Built → Type 0) → Refusal → Type 0
 IsAddRefusal held IsTooMany r = MatchOption (held_builder held) (r ≡ EmptyHandle) (λ b. (r ≡ of_map TooLarge) × IsTooMany b)
 
--- why a call on a builder is refused that needs no id: the handle holds none
+-- an error of a call on a builder that needs no id: the handle holds none
 abbrev pub IsBuilderRefusal : Option Held → Refusal → Type 0
 IsBuilderRefusal held r = MatchOption (held_builder held) (r ≡ EmptyHandle) (λ b. ⊥)
 
--- why bytes are not added as a name
+-- an error of adding bytes as a name
 abbrev pub IsNameRefusal : Option Held → List ℕ → Refusal → Type 0
 IsNameRefusal held name r = IsNotText name r ⊎ (IsUtf8 name × IsAddRefusal held (NameHasNoId name) r)
 
--- why bytes are not added as a source and its content
+-- an error of adding bytes as a source and its content
 abbrev pub IsSourceRefusal : Option Held → List ℕ → List ℕ → Refusal → Type 0
 IsSourceRefusal held path content r =
     IsNotText path r ⊎ ((IsUtf8 path × IsNotText content r) ⊎ (IsUtf8 path × IsUtf8 content × IsAddRefusal held (SourceHasNoId path) r))
 
--- why bytes are not set as the file
+-- an error of setting bytes as the file
 abbrev pub IsFileRefusal : Option Held → List ℕ → Refusal → Type 0
 IsFileRefusal held file r = IsNotText file r ⊎ (IsUtf8 file × IsBuilderRefusal held r)

@@ -1,4 +1,4 @@
--- The numbers of refusals. `fault_of` is the definition of codes; `refusal_of` goes back.
+-- The numbers of errors. `fault_of` is the definition of codes; `refusal_of` goes back.
 use Rattle.std.specs.Prelude.{ℕ, ◌%◌, ◌<◌, Option, Some, None, option_map, if◌then◌else◌, ◌==◌}
 use Rattle.oxc_sourcemap_tokens.specs.declared.error.Field.{Field}
 use Rattle.oxc_sourcemap_tokens.specs.declared.error.Field.TheVariants.{Object, Version as VersionField, File, Mappings, SourceRoot, Sources, SourcesContent, Names, DebugId, IgnoreList, GoogleIgnoreList, Sections, Offset, Map as MapField}
@@ -12,7 +12,7 @@ use Rattle.oxc_sourcemap_handles.specs.declared.refusal.Refusal.{Refusal}
 use Rattle.oxc_sourcemap_handles.specs.declared.refusal.Refusal.TheVariants.{Plan, Words, NoText, EmptyHandle, NotUtf8, Lengths, NoEntry}
 use Rattle.oxc_sourcemap_handles.specs.declared.fault.Fault.{Fault}
 
--- a code with a number to tell, about no field
+-- the numbers of an error that carries this number and is about no field
 abbrev pub fault : ℕ → ℕ → Fault
 fault code detail = record { code = code; field = 0; detail = detail }
 
@@ -57,7 +57,7 @@ fault_of_plan_error (Map error) = fault_of_error error
 fault_of_plan_error Unsorted = fault 15 0
 fault_of_plan_error TooDeep = fault 16 0
 
--- the numbers of a refusal
+-- the numbers of an error
 abbrev pub fault_of : Refusal → Fault
 fault_of (Plan error) = fault_of_plan_error error
 fault_of Words = fault 17 0
@@ -67,11 +67,11 @@ fault_of (NotUtf8 n) = fault 101 n
 fault_of Lengths = fault 102 0
 fault_of NoEntry = fault 103 0
 
--- the code of a refusal, which is not 0
+-- the code of an error, which is not 0
 abbrev pub code_of : Refusal → ℕ
 code_of r = (fault_of r).code
 
--- what a call that is not refused says
+-- the numbers of a call without an error
 abbrev pub no_fault : Fault
 no_fault = fault 0 0
 
@@ -94,7 +94,7 @@ field_of n =
     else if n == 13 then Some MapField
     else None
 
--- the error of the library that numbers say; a detail that stands for a 32-bit number counts by its low 32 bits
+-- the error of the library with these numbers; of a detail that is a 32-bit number, the low 32 bits count
 abbrev pub error_of : Fault → Option Error
 error_of f =
     if f.code == 1 then Some VlqLeftover
@@ -114,7 +114,7 @@ error_of f =
     else if f.code == 19 then Some (SectionOrder f.detail)
     else None
 
--- the refusal that numbers say
+-- the error with these numbers
 abbrev pub refusal_of : Fault → Option Refusal
 refusal_of f =
     if f.code == 15 then Some (Plan Unsorted)
@@ -127,7 +127,7 @@ refusal_of f =
     else if f.code == 103 then Some NoEntry
     else option_map (λ error. Plan (Map error)) (error_of f)
 
--- the number that an error tells, where it takes 32 bits
+-- the number that an error carries, if it is one of 32 bits
 abbrev pub short_number_of_error : Error → ℕ
 short_number_of_error VlqLeftover = 0
 short_number_of_error VlqNoValues = 0
@@ -156,6 +156,6 @@ short_number_of (NotUtf8 n) = 0
 short_number_of Lengths = 0
 short_number_of NoEntry = 0
 
--- a refusal as the library makes it: what takes 32 bits is below 2^32
+-- an error as the library makes it: a number of 32 bits is below 2^32
 abbrev pub IsSmall : Refusal → Type 0
 IsSmall r = short_number_of r < 4294967296

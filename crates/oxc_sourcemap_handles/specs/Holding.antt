@@ -1,5 +1,5 @@
--- What contracts see of a handle: the map, the text or the builder that it holds. Rattle sees one type of handle where C sees
--- three, so a handle may also hold what a call does not take.
+-- A handle, as contracts see it: the map, the text or the builder that it holds. Rattle has one type of handle and C has three,
+-- so a handle may also hold what a call does not take.
 use Rattle.std.specs.Prelude.{◌≡◌, Option, Some, None, string_bytes, MatchOption}
 use Rattle.oxc_sourcemap_parts.specs.Record.{Text, MapRecord}
 use Rattle.oxc_sourcemap_builders.specs.Built.{Built}

@@ -7,11 +7,11 @@ use Rattle.oxc_sourcemap_tokens.specs.LineOrder.{first_out_of_order}
 use Rattle.oxc_sourcemap_lookup.specs.declared.line_index.LineIndex.{LineIndex}
 use Rattle.oxc_sourcemap_lookup.specs.LineSpans.{IsIndexOf}
 
--- why tokens have no index of their lines
+-- the error of making the index of the lines of tokens
 abbrev pub IsOutOfOrder : List TokenRecord → Error → Type 0
 IsOutOfOrder tokens e = option_map LineOrder (first_out_of_order tokens) ≡ Some e
 
--- the index of the lines of tokens, or why they have none
+-- the index of the lines of tokens, or the error of making it
 abbrev pub IsIndexed : List TokenRecord → Result LineIndex Error → Type 0
 IsIndexed tokens (Ok index) = IsIndexOf tokens index
 IsIndexed tokens (Err e) = IsOutOfOrder tokens e

@@ -1,4 +1,4 @@
--- Joins of what handles hold.
+-- Joins of the maps that handles hold.
 use Rattle.std.specs.Prelude.{◌≡◌, ◌≢◌, ◌⊎◌, ℕ, List, [], ◌∷◌, map, length, Option, Some, None, option_map, MatchOption}
 use Rattle.std.specs.Option.{option_and_then}
 use Rattle.oxc_sourcemap_tokens.specs.declared.error.Error.TheVariants.{TooLarge}
@@ -26,8 +26,8 @@ placed_maps (h ∷ hs) (p ∷ ps) = option_and_then (λ m. option_map (λ ms. (m
 abbrev pub IsJoinOf : List (Option Held) → List Position → MapRecord → Type 0
 IsJoinOf hs ps m = (length hs ≡ length ps) × MatchOption (placed_maps hs ps) ⊥ (λ ms. m ≡ joined ms)
 
--- why maps in handles are not joined: there are not as many offsets as handles, a handle holds no map, or the join passes a
--- limit
+-- an error of joining the maps in handles: there are not as many offsets as handles, a handle holds no map, or the join is past
+-- a limit
 abbrev pub IsJoinRefusal : List (Option Held) → List Position → Refusal → Type 0
 IsJoinRefusal hs ps r =
     ((r ≡ Lengths) × (length hs ≢ length ps)) ⊎ ((length hs ≡ length ps) × MatchOption (placed_maps hs ps) (r ≡ EmptyHandle)

@@ -1,4 +1,4 @@
--- What C reads of a traced position, of a token and of a map's counts.
+-- A trace, a token and the counts of a map, as C reads them.
 use Rattle.std.specs.Prelude.{◌≡◌, ℕ, List, [], length, Option, Some, None}
 use Rattle.std.specs.Option.{unwrap_or}
 use Rattle.oxc_sourcemap_tokens.specs.Token.{TokenRecord}
@@ -8,7 +8,7 @@ use Rattle.oxc_sourcemap_handles.specs.declared.text.Place.{Place}
 use Rattle.oxc_sourcemap_handles.specs.declared.text.TokenNumbers.{TokenNumbers}
 use Rattle.oxc_sourcemap_handles.specs.declared.text.Counts.{Counts}
 
--- an id, and 4294967295 for none
+-- an id as a number, 4294967295 for none
 abbrev pub number_or_none : Option ℕ → ℕ
 number_or_none id = unwrap_or id 4294967295
 
@@ -23,12 +23,12 @@ numbers_of t = record {
   name_id = number_or_none t.name_id;
 }
 
--- 2 for an original position without a name, 3 for one with a name
+-- the kind of a trace by its name: 2 for an original position without a name, 3 for one with a name
 abbrev pub kind_of : Option Text → ℕ
 kind_of None = 2
 kind_of (Some name) = 3
 
--- A place says an original position. Of its source and its name it says the lengths.
+-- A `Place` has an original position. Of its source and its name only the lengths are specified.
 pub record IsOriginal (p : Place) (o : OriginalPosition) : Type 0 where
   pub kind : p.kind ≡ kind_of o.name
   pub line : p.line ≡ o.src_line
@@ -36,13 +36,13 @@ pub record IsOriginal (p : Place) (o : OriginalPosition) : Type 0 where
   pub source : p.source.len ≡ length o.source.path
   pub name : p.name.len ≡ length (unwrap_or o.name [])
 
--- a place says what was traced: nothing, an unmapped token, or an original position
+-- a `Place` has a trace: nothing, an unmapped token, or an original position
 abbrev pub IsPlace : Place → Option (Option OriginalPosition) → Type 0
 IsPlace p None = p.kind ≡ 0
 IsPlace p (Some None) = p.kind ≡ 1
 IsPlace p (Some (Some o)) = IsOriginal p o
 
--- a place has the ids of the token that was found, and none where there is none
+-- a `Place` has the ids of the token that was found, and none if there is none
 abbrev pub HasIds : Place → Option TokenRecord → Type 0
 HasIds p None = (p.source_id ≡ 4294967295) × (p.name_id ≡ 4294967295)
 HasIds p (Some t) = (p.source_id ≡ number_or_none t.source_id) × (p.name_id ≡ number_or_none t.name_id)

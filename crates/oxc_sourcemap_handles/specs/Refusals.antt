@@ -1,4 +1,4 @@
--- The texts of refusals, as bytes, and the refusals that stand for an error.
+-- The messages of errors, as bytes, and the errors of calls on maps as errors of calls for C.
 use Rattle.std.specs.Prelude.{◌≡◌, ℕ, List, ◌++◌, codes, decimal, IsUtf8}
 use Rattle.std.specs.Str.Lossy.{utf8_valid_len}
 use Rattle.oxc_sourcemap_tokens.specs.declared.error.Error.{Error}
@@ -21,10 +21,10 @@ refusal_text NoEntry = codes "There is no such entry"
 abbrev pub of_map : Error → Refusal
 of_map e = Plan (Map e)
 
--- lack of memory
+-- want of memory
 abbrev pub out_of_memory : Refusal
 out_of_memory = Plan (Map OutOfMemory)
 
--- bytes are not UTF-8, and the refusal says where
+-- bytes are not UTF-8, and the error has the number of bytes before the first bad one
 abbrev pub IsNotText : List ℕ → Refusal → Type 0
 IsNotText bytes r = ¬ (IsUtf8 bytes) × (r ≡ NotUtf8 (utf8_valid_len bytes))

@@ -1,4 +1,4 @@
--- How private steps of calls on builders are seen; no public contract cites it.
+-- The private steps of calls on builders. No public contract cites this module.
 use Rattle.std.specs.Prelude.{◌≡◌, ℕ, List, Option, Some}
 use Rattle.oxc_sourcemap_builders.specs.Built.{Built}
 use Rattle.oxc_sourcemap_builders.specs.Building.{with_name, with_path}
@@ -6,7 +6,7 @@ use Rattle.oxc_sourcemap_handles.specs.declared.builders.Step.{Step}
 use Rattle.oxc_sourcemap_handles.specs.declared.builders.Step.TheVariants.{Name, Source, File, Mapping}
 use Rattle.oxc_sourcemap_handles.specs.Builders.{with_file, with_token, token_of, NameHasNoId, SourceHasNoId}
 
--- What a step makes of a builder, and the id that it answers: 0 where it adds nothing that has one.
+-- a builder after a step, and the id that the step returns: 0 if it adds nothing that has one
 abbrev pub stepped : Built → Step → Built × ℕ
 stepped b (Name name) = with_name b name.now
 stepped b (Source path content) = with_path b path.now content.now

@@ -1,4 +1,4 @@
--- What a handle's map says of generated positions.
+-- The traces of a handle's map at generated positions.
 use Rattle.std.specs.Prelude.{◌≡◌, ◌≢◌, ◌⊎◌, ℕ, Bool, true, false, List, length, Option, Some, None, Result, Err, MatchOption, MatchResult}
 use Rattle.std.specs.List.{AllZip}
 use Rattle.oxc_sourcemap_tokens.specs.declared.error.Error.{Error}
@@ -19,7 +19,7 @@ use Rattle.oxc_sourcemap_handles.specs.Holding.{held_map}
 use Rattle.oxc_sourcemap_handles.specs.Indexed.{IsOutOfOrder}
 use Rattle.oxc_sourcemap_handles.specs.Places.{IsPlace, HasIds}
 
--- A place is what was traced, where the tokens of the map are sorted, and the token that was found has its ids.
+-- If the tokens of the map are sorted, the `Place` has this trace and the ids of the token that was found.
 pub record IsTrace (m : MapRecord) (found : Option TokenRecord) (traced : Option (Option OriginalPosition)) (p : Place) : Type 0 where
   pub place : are_tokens_sorted m.tokens ≡ true → IsPlace p traced
   pub ids : are_tokens_sorted m.tokens ≡ true → HasIds p found
@@ -29,34 +29,34 @@ abbrev pub found_at : Bool → MapRecord → Position → Option TokenRecord
 found_at false m at = pick token_line token_column m.tokens at.line at.column
 found_at true m at = clamped_pick token_line token_column m.tokens at.line at.column
 
--- what a map says of a position: clamped, or else exact
+-- the trace of a map at a position: clamped, or else exact
 abbrev pub traced_at : Bool → MapRecord → Position → Option (Option OriginalPosition)
 traced_at false m at = trace (decoded_map_of m) at.line at.column
 traced_at true m at = clamped_trace (decoded_map_of m) at.line at.column
 
--- a place is the trace of a position
+-- a `Place` is the trace of a map at a position
 abbrev pub IsTraceOf : Bool → MapRecord → Position → Place → Type 0
 IsTraceOf clamped m at p = IsTrace m (found_at clamped m at) (traced_at clamped m at) p
 
--- the tokens are in line order, there are as many places as positions, and each place is the trace of the position at its index
+-- the tokens are in line order, there are as many traces as positions, and each is the trace at the position of its index
 abbrev pub AreTracesOf : Bool → List Position → List Place → MapRecord → Type 0
 AreTracesOf clamped positions places m = IsInLineOrder m.tokens × AllZip (IsTraceOf clamped m) positions places
 
--- a map is not traced if its tokens are not in line order
+-- an error of tracing a map: its tokens are not in line order
 abbrev pub IsUntraced : MapRecord → Refusal → Type 0
 IsUntraced m r = (e : Error) × IsOutOfOrder m.tokens e × (r ≡ of_map e)
 
--- What a handle's map, whose tokens are in line order, says of a generated position, or why it says nothing.
+-- the result of tracing a handle's map at a position: the trace, `EmptyHandle`, or an error of line order
 abbrev pub IsTraced : Bool → Result Place Refusal → Option Held → Position → Type 0
 IsTraced clamped answer held at =
     MatchOption (held_map held) (answer ≡ Err EmptyHandle) (λ m. MatchResult answer (λ p. IsInLineOrder m.tokens × IsTraceOf clamped m at p) (IsUntraced m))
 
--- why what a handle holds is not traced
+-- an error of tracing what a handle holds
 abbrev pub IsTraceRefusal : Option MapRecord → Refusal → Type 0
 IsTraceRefusal None r = r ≡ EmptyHandle
 IsTraceRefusal (Some m) r = IsUntraced m r
 
--- the same of many positions: there may also be another number of places
+-- an error of tracing what a handle holds at many positions: there may also be another number of traces than of positions
 abbrev pub IsTraceAllRefusal : List Position → List Place → Option MapRecord → Refusal → Type 0
 IsTraceAllRefusal positions places held r =
     ((r ≡ Lengths) × (length positions ≢ length places)) ⊎ ((length positions ≡ length places) × IsTraceRefusal held r)

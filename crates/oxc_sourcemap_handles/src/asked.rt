@@ -1,4 +1,4 @@
-//! Texts of a map, by what is asked for.
+//! The texts of a map that a call may ask for.
 ghost use Rattle.std.specs.Prelude.{◌≡◌};
 ghost use Rattle.oxc_sourcemap_handles.specs.Answers.{text_at};
 ghost use Rattle.oxc_sourcemap_tokens.specs.Results.{lent_item};
@@ -17,7 +17,7 @@ pub enum Asked {
 }
 
 impl Asked {
-    /// This text of a map; none where it has none.
+    /// The text of a map that is asked for. None if the map has no such text.
     pub(crate) fn text_in(self, map: &OwnedSourceMap) -> Option<&str>
         ensures { lent_item result ≡ text_at map.now self }
     {

@@ -1,4 +1,4 @@
-//! What exports do with the builders that handles hold.
+//! Calls on the builders that handles hold.
 ghost use Rattle.std.specs.Prelude.{◌≡◌, ◌≢◌, ⊤, None, Some, Err, IsUtf8, IfOk, IfErr, OnErr, MatchOption, MatchResult};
 ghost use Rattle.oxc_sourcemap_tokens.specs.declared.error.Error.TheVariants.{OutOfMemory, TooLarge};
 ghost use Rattle.oxc_sourcemap_tokens.specs.Token.{id_of};
@@ -24,7 +24,7 @@ use oxc_sourcemap_builders::SourceMapBuilder;
 use oxc_sourcemap_map::OwnedSourceMap;
 use std::alloc::Global;
 
-/// What a call does to a builder.
+/// What a call adds to a builder, or sets in it.
 #[derive(Clone, Copy)]
 pub enum Step<'t> {
     Name(&'t str),
@@ -33,7 +33,7 @@ pub enum Step<'t> {
     Mapping(TokenNumbers),
 }
 
-/// The id of a number; 4294967295 stands for none.
+/// A number as an id; 4294967295 stands for none.
 fn id_of(number: u32) -> Option<u32>
     ensures { result ≡ id_of number }
 {
@@ -75,7 +75,7 @@ fn copy_file(
     Ok(0)
 }
 
-/// Makes a step, and returns the id of what it adds, or 0.
+/// Makes a step in a builder, and returns the id of what it adds, or 0.
 fn make(
     builder: &mut SourceMapBuilder<'static>,
     step: Step<'_>,
@@ -105,7 +105,7 @@ fn make_held(held: &mut Held, step: Step<'_>) -> Result<u32, Refusal>
     }
 }
 
-/// The same in the builder of a handle.
+/// Makes a step in the builder of a handle, and returns the id of what it adds, or 0.
 fn make_in(alloc: Global, handle: &mut Handle, step: Step<'_>) -> Result<u32, Refusal>
     ensures made { IfOk result (λ id. Builds handle.old.held handle.new.held (λ b c. (c, id) ≡ stepped b step.entry)) }
     ensures error { IfErr result (λ r. (r ≢ out_of_memory) → IsAddRefusal handle.old.held (HasNoId step.entry) r) }
@@ -187,7 +187,7 @@ pub fn finish(alloc: Global, handle: &mut Handle) -> Result<OwnedSourceMap, Refu
     }
 }
 
-/// A builder with nothing in it, in a box.
+/// A box with a builder with nothing in it.
 fn new_builder(alloc: Global) -> Result<Box<Held>, Refusal>
     ensures built { IfOk result (λ held. held_builder (Some held.value) ≡ Some nothing_built) }
     ensures error { IfErr result (λ r. r ≡ out_of_memory) }
@@ -196,7 +196,7 @@ fn new_builder(alloc: Global) -> Result<Box<Held>, Refusal>
     Ok(Box::new(alloc, Held::Building(builder))?)
 }
 
-/// Puts a builder with nothing in it into a handle, whose builder is then dropped, and returns the code.
+/// Puts a builder with nothing in it into a handle, whose old builder is then dropped, and returns the code.
 pub fn put_builder(alloc: Global, handle: &mut Handle, fault: &mut Fault) -> u32
     ensures built { result ≡ 0 → (held_builder handle.new.held ≡ Some nothing_built) × (fault.new ≡ no_fault) }
     ensures error { result ≢ 0 → (handle.new.held ≡ handle.old.held) × IsRefusedAs result fault.new (λ r. ⊥) }
@@ -205,7 +205,7 @@ pub fn put_builder(alloc: Global, handle: &mut Handle, fault: &mut Fault) -> u32
     put(alloc, made, handle, fault)
 }
 
-/// Writes the id that was answered, and why there is none, and returns the code.
+/// Writes the id that was made, or nothing on an error, and the numbers of the error, and returns the code.
 pub fn noted(answer: Result<u32, Refusal>, out: &mut u32, fault: &mut Fault) -> u32
     ensures { MatchResult answer (λ id. (result ≡ 0) × (out.new ≡ id) × (fault.new ≡ no_fault))
         (λ r. (result ≡ code_of r) × (out.new ≡ out.old) × (fault.new ≡ fault_of r)) }

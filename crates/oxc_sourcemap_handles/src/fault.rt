@@ -1,11 +1,12 @@
-//! Refusals as numbers.
+//! Errors as numbers.
 ghost use Rattle.std.specs.Prelude.{◌≡◌, ◌%◌};
 ghost use Rattle.oxc_sourcemap_handles.specs.Codes.{fault_of, fault_of_error, fault_of_plan_error, fault_of_json, number_of_field, no_fault, refusal_of, error_of, field_of};
 
 use crate::refusal::Refusal;
 use oxc_sourcemap_tokens::{Error, Field, JsonFault, PlanError};
 
-/// A refusal: a code, which of the fields of a JSON source map it is about, and the number that it tells. The code 0 is none.
+/// The numbers of an error: its code, the number of the field of a JSON source map that it is about, and the number that it
+/// carries. The code 0 is for no error.
 #[repr(C)]
 #[derive(Clone, Copy)]
 pub struct Fault {
@@ -60,7 +61,7 @@ fn field_of(number: u32) -> Option<Field>
 }
 
 impl Fault {
-    /// No refusal.
+    /// The numbers of no error.
     pub fn none() -> Fault
         ensures { result ≡ no_fault }
     {
@@ -121,7 +122,7 @@ impl Fault {
         }
     }
 
-    /// The numbers of a refusal.
+    /// The numbers of an error.
     pub fn of(refusal: Refusal) -> Fault
         ensures { result ≡ fault_of refusal }
     {
@@ -136,7 +137,7 @@ impl Fault {
         }
     }
 
-    /// The error of the library that these numbers say, where they say one.
+    /// The error of the library with these numbers. None if there is none.
     fn error(&self, number: u32, index: usize) -> Option<Error>
         requires number { number ≡ self.now.detail % 4294967296 }
         requires index { index ≡ self.now.detail }
@@ -162,7 +163,7 @@ impl Fault {
         }
     }
 
-    /// The refusal that these numbers say, where they say one.
+    /// The error with these numbers. None if there is none.
     pub fn refusal(&self) -> Option<Refusal>
         ensures { result ≡ refusal_of self.now }
     {

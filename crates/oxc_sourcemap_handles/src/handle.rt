@@ -64,7 +64,7 @@ impl Handle {
         *self = Handle::full(Loose::of(held));
     }
 
-    /// What this handle holds, taken out of it. The handle is then empty.
+    /// The box that this handle holds, taken out of it. The handle is then empty.
     pub fn take(&mut self, alloc: Global) -> Option<Box<Held>>
         ensures was { option_map (λ b. b.value) result ≡ self.old.held }
         ensures emptied { self.new.held ≡ None }

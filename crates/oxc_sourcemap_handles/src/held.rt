@@ -16,7 +16,7 @@ use oxc_sourcemap_tokens::{Error, Position, Result, Token};
 use std::alloc::Global;
 use std::marker::Model;
 
-/// A map, and the index of its lines, or why it has none. It borrows nothing.
+/// A map, and the index of its lines, or the error of making that. It borrows nothing.
 #[derive(Drop)]
 pub struct LoadedMap {
     map: OwnedSourceMap,
@@ -54,14 +54,14 @@ impl LoadedMap {
         map
     }
 
-    /// The map.
+    /// The map, borrowed.
     pub fn map(&self) -> &OwnedSourceMap
         ensures { result.now ≡ self.now }
     {
         &self.map
     }
 
-    /// The index of the lines. Fails with `LineOrder` where the tokens are not in line order.
+    /// The index of the lines. Fails with `LineOrder` if the tokens are not in line order.
     fn index(&self) -> Result<&LineIndex>
         ensures index { IfOk result (λ index. IsIndexOf self.now.tokens index.now) }
         ensures error { IfErr result (IsOutOfOrder self.now.tokens) }
@@ -85,7 +85,7 @@ impl LoadedMap {
         index.lookup(tokens, at.line, at.column)
     }
 
-    /// What the map says of a generated position, found by this index.
+    /// The trace of the map at a generated position, found by this index.
     fn place_of(&self, index: &LineIndex, at: Position, clamped: bool) -> Place
         requires { IsIndexOf self.now.tokens index.now }
         ensures { IsTraceOf clamped self.now at result }
@@ -93,7 +93,7 @@ impl LoadedMap {
         Place::of(self.find(index, at, clamped), self.map.as_source_map())
     }
 
-    /// What the map says of a generated position, clamped as in `find`. Fails with `LineOrder` where the tokens are not in line
+    /// The trace of the map at a generated position, clamped as in `find`. Fails with `LineOrder` if the tokens are not in line
     /// order.
     pub fn trace(&self, at: Position, clamped: bool) -> Result<Place>
         ensures place { IfOk result (λ place. IsInLineOrder self.now.tokens × IsTraceOf clamped self.now at place) }
@@ -103,7 +103,8 @@ impl LoadedMap {
         Ok(self.place_of(index, at, clamped))
     }
 
-    /// The same of many positions, each answered at its index. Fails as `trace`, and writes nothing then.
+    /// The traces of the map at many positions, each at the index of its position. Fails as `trace` does, and writes nothing
+    /// then.
     pub fn trace_all(
         &self,
         positions: &[Position],

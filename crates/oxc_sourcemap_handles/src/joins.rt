@@ -1,4 +1,4 @@
-//! Joins of what handles hold.
+//! Joins of the maps that handles hold.
 ghost use Rattle.std.specs.Prelude.{◌≡◌, ◌≢◌, None, Some, length, IfOk, IfErr};
 ghost use Rattle.std.specs.List.{All};
 ghost use Rattle.oxc_sourcemap_join.specs.Joined.{joined};
@@ -14,7 +14,7 @@ use oxc_sourcemap_map::{OwnedSourceMap, SourceMap};
 use oxc_sourcemap_tokens::Position;
 use std::alloc::Global;
 
-/// The maps in handles, each with its position. They are taken out of the handles up to the first that holds none.
+/// The maps in handles, each with its position. They are taken out of the handles, up to the first one that holds no map.
 fn take_maps(
     alloc: Global,
     handles: &mut [Handle],

@@ -1,4 +1,4 @@
-//! What handles of the library for C hold, what its exports do with that, and the codes and messages of errors.
+//! The handles of the library for C, the calls on what they hold, and the codes and messages of errors.
 //! `oxc_sourcemap_c` alone uses this crate.
 #![tactic(auto)]
 

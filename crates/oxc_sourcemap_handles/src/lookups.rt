@@ -1,4 +1,4 @@
-//! What exports look up in what handles hold. Each takes the box out of its handle, looks into it and puts it back.
+//! Lookups in what handles hold. Each call takes the box out of its handle, looks into it and puts it back.
 ghost use Rattle.std.specs.Prelude.{◌≡◌, Some, None, Ok, Err, length, slice_get, string_bytes, IfErr, OnOk, OnErr, MatchOption, MatchResult};
 ghost use Rattle.oxc_sourcemap_encode.specs.JsonText.{map_text, map_url};
 ghost use Rattle.oxc_sourcemap_parts.specs.Sorted.{are_tokens_sorted};
@@ -19,7 +19,7 @@ use crate::text::{Counts, Place, Text, TokenNumbers};
 use oxc_sourcemap_tokens::Position;
 use std::alloc::Global;
 
-/// Writes what was found, or leaves what was there, and returns the code.
+/// Writes what was found, or nothing on an error, and returns the code.
 pub fn answered<T: Drop>(answer: Result<T, Refusal>, out: &mut T) -> u32
     ensures { MatchResult answer (λ found. (result ≡ 0) × (out.new ≡ found)) (λ r. (result ≡ code_of r) × (out.new ≡ out.old)) }
 {
@@ -32,7 +32,7 @@ pub fn answered<T: Drop>(answer: Result<T, Refusal>, out: &mut T) -> u32
     }
 }
 
-/// The same of a place, with a fault that tells why there is none.
+/// Writes the trace that was found, or nothing on an error, and the numbers of the error, and returns the code.
 pub fn placed(answer: Result<Place, Refusal>, place: &mut Place, fault: &mut Fault) -> u32
     ensures { MatchResult answer (λ found. (result ≡ 0) × (place.new ≡ found) × (fault.new ≡ no_fault)) (λ r. (result ≡ code_of r) × (place.new ≡ place.old) × (fault.new ≡ fault_of r)) }
 {
@@ -49,7 +49,7 @@ pub fn placed(answer: Result<Place, Refusal>, place: &mut Place, fault: &mut Fau
     }
 }
 
-/// The code of an answer that is written already, with a fault that tells why there is none.
+/// The code of a result whose traces are written already. Writes the numbers of the error.
 pub fn answered_all(answer: Result<(), Refusal>, fault: &mut Fault) -> u32
     ensures { MatchResult answer (λ _. (result ≡ 0) × (fault.new ≡ no_fault)) (λ r. (result ≡ code_of r) × (fault.new ≡ fault_of r)) }
 {
@@ -237,7 +237,7 @@ fn traced_in(held: &Held, at: Position, clamped: bool) -> Result<Place, Refusal>
     }
 }
 
-/// What the map in a handle says of a position, exactly or clamped.
+/// The trace of the map in a handle at a generated position, exact or clamped.
 pub fn traced(
     alloc: Global,
     handle: &mut Handle,
@@ -274,7 +274,7 @@ fn traced_all_in(
     }
 }
 
-/// What the map in a handle says of many positions, exactly or clamped.
+/// Writes the traces of the map in a handle at many generated positions, exact or clamped, and nothing on an error.
 pub fn traced_all(
     alloc: Global,
     handle: &mut Handle,

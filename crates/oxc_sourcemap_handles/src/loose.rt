@@ -1,11 +1,11 @@
-//! A box as its pointer.
+//! A box taken apart, as C keeps it.
 ghost use Rattle.std.specs.Prelude.{◌≡◌};
 ghost use Rattle.std_alloc.specs.Box.Ownership.{box_owns};
 
 use std::alloc::Allocator;
 use std::marker::Model;
 
-/// The pointer of a box, and what is there.
+/// The pointer of a box, with the ownership of what it points to.
 pub(crate) struct Loose<T, A: Allocator> {
     pub(crate) at: *mut T,
     pub(crate) alloc: A,

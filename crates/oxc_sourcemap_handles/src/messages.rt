@@ -1,4 +1,4 @@
-//! The messages of refusals.
+//! The messages of errors.
 ghost use Rattle.std.specs.Prelude.{◌≡◌, MatchOption};
 ghost use Rattle.oxc_sourcemap_handles.specs.Refusals.{refusal_text};
 ghost use Rattle.oxc_sourcemap_handles.specs.Codes.{refusal_of};
@@ -16,7 +16,7 @@ fn copy_to(text: &[u8], out: &mut [u8])
     out[..count].copy_from_slice(&text[..count]);
 }
 
-/// Writes as much of a message as there is room for, and returns its whole length; 0 for want of memory.
+/// Writes as much of the message of an error as there is room for, and returns its whole length; 0 for want of memory.
 fn write_text(alloc: Global, refusal: Refusal, out: &mut [u8]) -> usize
     ensures { IsMessage (refusal_text refusal) out.old out.new result }
 {
@@ -29,7 +29,8 @@ fn write_text(alloc: Global, refusal: Refusal, out: &mut [u8]) -> usize
     }
 }
 
-/// The same of the refusal that a fault says; 0 where it says none.
+/// Writes as much of the message of the error with these numbers as there is room for, and returns its whole length; 0 for
+/// want of memory, and if there is no such error.
 pub fn write_message(alloc: Global, fault: &Fault, out: &mut [u8]) -> usize
     ensures { MatchOption (refusal_of fault.now) ((result ≡ 0) × (out.new ≡ out.old)) (λ r. IsMessage (refusal_text r) out.old out.new result) }
 {

@@ -1,4 +1,4 @@
-//! What exports do with what handles hold.
+//! Reading, composing, and putting results into handles.
 ghost use Rattle.std.specs.Prelude.{◌≡◌, ◌≢◌, map, Some, None, Ok, Err, string_bytes, IfOk, IfErr, MatchOption, MatchResult};
 ghost use Rattle.oxc_sourcemap_decode.specs.ReadMap.{read_map};
 ghost use Rattle.oxc_sourcemap_lookup.specs.Composed.{composition, SomeComposition, NoColumnGoesBack};
@@ -56,7 +56,7 @@ pub fn compose(
     Ok(first?.compose(alloc, input?)?)
 }
 
-/// A handle's map in a box, with its index.
+/// A map in a box for a handle, with its index.
 fn boxed(alloc: Global, map: OwnedSourceMap) -> Result<Box<Held>, Refusal>
     ensures map { IfOk result (λ held. held_map (Some held.value) ≡ Some map) }
     ensures error { IfErr result (λ r. r ≡ out_of_memory) }
@@ -65,7 +65,7 @@ fn boxed(alloc: Global, map: OwnedSourceMap) -> Result<Box<Held>, Refusal>
     Ok(Box::new(alloc, Held::Map(loaded))?)
 }
 
-/// Puts a map that was made into a handle, whose map is then dropped, and returns the code.
+/// Puts a map that was made into a handle, whose old map is then dropped, and returns the code.
 pub fn put_map(
     alloc: Global,
     made: Result<OwnedSourceMap, Refusal>,
@@ -82,7 +82,7 @@ pub fn put_map(
     put(alloc, held, handle, fault)
 }
 
-/// Puts a text that was written into a handle, whose text is then dropped, and returns the code.
+/// Puts a text that was written into a handle, whose old text is then dropped, and returns the code.
 pub fn put_text(
     alloc: Global,
     written: Result<String, Refusal>,
@@ -102,7 +102,7 @@ pub fn put_text(
     put(alloc, held, handle, fault)
 }
 
-/// Puts what was made into a handle, or leaves the handle as it is, and returns the code.
+/// Puts what was made into a handle, or on an error leaves the handle as it is, and returns the code.
 pub(crate) fn put(
     alloc: Global,
     made: Result<Box<Held>, Refusal>,
@@ -126,7 +126,7 @@ pub(crate) fn put(
     }
 }
 
-/// The map that is held.
+/// The map that a box of a handle holds, if it holds one.
 pub fn map_in(held: &Held) -> Option<&LoadedMap>
     ensures { lent_item result ≡ held_map (Some held.now) }
 {
@@ -136,7 +136,7 @@ pub fn map_in(held: &Held) -> Option<&LoadedMap>
     }
 }
 
-/// The text that is held.
+/// The text that a box of a handle holds, if it holds one.
 pub fn text_in(held: &Held) -> Option<&str>
     ensures { lent_item result ≡ held_text (Some held.now) }
 {

@@ -1,4 +1,4 @@
-//! Why a call is refused.
+//! The errors of calls of the library for C.
 ghost use Rattle.std.specs.Prelude.{◌≡◌, Some};
 ghost use Rattle.oxc_sourcemap_tokens.specs.declared.error.Error.TheVariants.{OutOfMemory};
 ghost use Rattle.oxc_sourcemap_tokens.specs.declared.plan_error.PlanError.TheVariants.{Map};
@@ -9,12 +9,12 @@ use oxc_sourcemap_tokens::{Error, PlanError};
 use std::alloc::{AllocError, AllocFailed};
 use std::fmt;
 
-/// Why a call is refused. Nothing but a refused request for memory is said by two of these.
+/// The error of a call of the library for C.
 #[derive(Clone, Copy, Debug, PartialEq, Eq)]
 pub enum Refusal {
     /// A call on a map or the evaluation of a plan failed with this error.
     Plan(PlanError),
-    /// The words say no plan.
+    /// The words are no plan.
     Words,
     /// The words name a text that is not there.
     NoText(u32),
@@ -22,14 +22,14 @@ pub enum Refusal {
     EmptyHandle,
     /// The bytes are not UTF-8; so many at the beginning are.
     NotUtf8(usize),
-    /// There are not as many offsets as maps, or not as many places as positions.
+    /// There are not as many offsets as maps, or not as many traces as positions.
     Lengths,
-    /// There is no entry of this index, or it is not known.
+    /// There is no entry at this index, or it is not known.
     NoEntry,
 }
 
 impl Refusal {
-    /// A request for memory was refused.
+    /// The error for want of memory.
     pub fn memory() -> Refusal
         ensures { result ≡ out_of_memory }
     {

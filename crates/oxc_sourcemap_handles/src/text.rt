@@ -1,4 +1,4 @@
-//! What is lent to C: bytes, and structs of numbers and bytes.
+//! What C reads: borrowed bytes, and structs of numbers and borrowed bytes.
 ghost use Rattle.std.specs.Prelude.{◌≡◌, [], length, option_map, Option, Some};
 ghost use Rattle.std.specs.Option.{unwrap_or};
 ghost use Rattle.std.specs.Ptr.{as_ptr};
@@ -9,7 +9,7 @@ ghost use Rattle.oxc_sourcemap_tokens.specs.Results.{lent_item};
 use oxc_sourcemap_map::{OwnedSourceMap, SourceMap, SourceViewToken};
 use oxc_sourcemap_tokens::Token;
 
-/// Bytes of what a handle holds, for C alone: nothing here reads them.
+/// Bytes borrowed from what a handle holds, for C alone: nothing here reads them.
 #[repr(C)]
 #[derive(Drop)]
 pub struct Text {
@@ -27,7 +27,7 @@ impl Text {
         Text { at, len }
     }
 
-    /// An empty text where there is none.
+    /// A text, or an empty one if there is none.
     fn of_option(text: Option<&str>) -> Text
         ensures { result.len ≡ length (unwrap_or (lent_item text.entry) []) }
     {
@@ -38,7 +38,7 @@ impl Text {
     }
 }
 
-/// An id, and 4294967295 for none.
+/// An id as a number, 4294967295 for none.
 fn number_or_none(id: Option<u32>) -> u32
     ensures { result ≡ number_or_none id }
 {
@@ -105,8 +105,8 @@ impl Counts {
     }
 }
 
-/// What a map says of a generated position. The kind is 0 for no token, 1 for an unmapped one, 2 for an original position and
-/// 3 for one with a name. Texts that are not there are empty, and ids 4294967295.
+/// The trace of a map at a generated position. The kind is 0 for no token, 1 for an unmapped one, 2 for an original position and
+/// 3 for one with a name. A missing text is empty, a missing id 4294967295.
 #[repr(C)]
 #[derive(Drop)]
 pub struct Place {
@@ -120,7 +120,7 @@ pub struct Place {
 }
 
 impl Place {
-    /// No token.
+    /// The trace if no token was found.
     fn nowhere() -> Place
         ensures { (result.kind ≡ 0) × (result.source_id ≡ 4294967295) × (result.name_id ≡ 4294967295) }
     {
@@ -135,7 +135,7 @@ impl Place {
         }
     }
 
-    /// What a token that was found says.
+    /// The trace of a token that was found, as a view of its map.
     fn of_view(view: &SourceViewToken<'_, '_>) -> Place
         ensures place { IsPlace result (Some (view_original (view_of view.now))) }
         ensures ids { HasIds result (Some (view_of view.now).token) }
@@ -157,7 +157,7 @@ impl Place {
         }
     }
 
-    /// What the token that was found at a position says.
+    /// The trace by the token that was found at a position, if one was.
     pub(crate) fn of(token: Option<Token>, map: &SourceMap<'static>) -> Place
         ensures place { IsPlace result (option_map view_original (option_map (seen_in map.now) token)) }
         ensures ids { HasIds result token }

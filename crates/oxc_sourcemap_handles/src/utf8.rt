@@ -1,10 +1,10 @@
-//! Texts in bytes.
+//! Bytes as texts.
 ghost use Rattle.std.specs.Prelude.{◌≡◌, IfOk, IfErr, IsUtf8};
 ghost use Rattle.oxc_sourcemap_handles.specs.Refusals.{IsNotText};
 
 use crate::refusal::Refusal;
 
-/// The text that bytes are in UTF-8.
+/// Bytes as a text. Fails with `NotUtf8` if they are not UTF-8.
 pub fn text_of(bytes: &[u8]) -> Result<&str, Refusal>
     ensures text { IfOk result (λ text. (text.now ≡ bytes.now) × IsUtf8 bytes.now) }
     ensures error { IfErr result (IsNotText bytes.now) }

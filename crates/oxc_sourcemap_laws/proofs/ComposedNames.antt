@@ -12,7 +12,7 @@ use Rattle.oxc_sourcemap_parts.specs.Texts.{index_of, with_text_at, with_text, w
 use Rattle.oxc_sourcemap_lookup.specs.Composed.{Target, kept_name, inherited_name, targets, composed}
 use Rattle.oxc_sourcemap_parts.proofs.Places.{index-last, index-front}
 
--- a text that stands in a list
+-- a text that is in a list
 abbrev IsOf : List Text → Text → Type 0
 IsOf names x = (i : ℕ) × (index_of x names ≡ Some i)
 
@@ -76,7 +76,7 @@ missing-less x names (o ∷ os) =
       | Some i ↦ (λ e. rw (index-front o i names (x ∷ []) e) h)
     ] refl
 
--- one that was missing and now is there
+-- a name that was missing and now is there
 missing-here : (x : Text) (names os : List Text) (k j : ℕ) → index_of x names ≡ None → position_from (bytes_eq x) k os ≡ Some j → missing (names ++ x ∷ []) os < missing names os
 missing-here x names [] k j e f = absurd (cc (f))
 missing-here x names (o ∷ os) k j e f =
@@ -109,14 +109,14 @@ grown : (names os xs : List Text) → AllByRecursion (IsOf os) xs → length (wi
 grown names os [] h = omega arith
 grown names os (x ∷ xs) h = grown-at (index_of x names) names os x xs refl h.0 (λ ns. grown ns os xs h.1)
 
--- no more names than both maps have
+-- a composed map has no more names than both maps together
 pub names-most : (a b : MapRecord) → length (composed a b).names ≤ length a.names + length b.names
 names-most a b =
     let g = grown b.names a.names (filter_map (inherited_name a.names) (targets a b)) (all-taken a.names (targets a b)) in
     let m = missing-most b.names a.names in
     omega (arith, g, m)
 
--- and none but theirs
+-- a composed map has no names but those of the two maps
 module _ (test : Text → Bool) where
   tested-at : (p : Option ℕ) (names : List Text) (x : Text) → list_all test names ≡ true → test x ≡ true → list_all test (with_text_at p names x) ≡ true
   tested-at (Some i) names x h k = h

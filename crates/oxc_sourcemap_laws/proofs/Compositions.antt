@@ -27,7 +27,7 @@ use Rattle.oxc_sourcemap_laws.proofs.JoinDecodedMaps.{map_within, length-sources
 use Rattle.oxc_sourcemap_laws.proofs.JoinStands.{all_weaker}
 use Rattle.oxc_sourcemap_laws.proofs.Joins.{map_same, map_twice}
 
--- ---- equal up to repeats decoded maps
+-- ---- decoded maps that are equal up to repeats
 found_up_to_repeats : (bs cs : List DecodedMapping) → without_repeats is_same_mapping bs ≡ without_repeats is_same_mapping cs → (o : OriginalPosition) → found_original bs o ≡ found_original cs o
 found_up_to_repeats bs cs e o = ap (option_and_then (λ e. e.original)) (clamped_pick_up_to_repeats is_same_mapping decides_entry mapping_line mapping_column bs cs o.src_line o.src_col e)
 
@@ -65,7 +65,7 @@ named-twice : (n k : Option Text) (o : Option OriginalPosition) → option_map (
 named-twice n k None = refl
 named-twice n k (Some p) = ap (λ q. Some (record p { name = q })) (sym (or-assoc p.name k n))
 
--- what stands at a index of the intermediate code, seen through
+-- a mapping of the intermediate code, followed through two maps
 through-both : (cs : List DecodedMapping) (o : OriginalPosition) (q : Option DecodedMapping)
     → option_and_then (original_through cs) (option_map (named_by o) (option_and_then (λ e. e.original) q)) ≡ option_map (named_by o) (option_and_then (λ e. e.original) (option_map (composed_mapping cs) q))
 through-both cs o None = refl
@@ -87,8 +87,8 @@ decoded_maps_associative a b c =
     ap (λ es. record { file = a.file; source_root = c.source_root; debug_id = a.debug_id; ignore_list = c.ignore_list; sources = c.sources; mappings = es })
     (map_twice (composed_mapping b.mappings) (composed_mapping c.mappings) (composed_mapping (map (composed_mapping c.mappings) b.mappings)) (entry-assoc b.mappings c.mappings) a.mappings)
 
--- ---- places of names
--- a index where a text was found, counted from where the search began
+-- ---- indices of names
+-- the index where a text was found, counted from where the search began
 record Place (x : Text) (k : ℕ) (ns : List Text) (i : ℕ) : Type 0 where
   pub j : ℕ
   pub is : i ≡ k + j
@@ -136,7 +136,7 @@ module _ (ss ts : List DecodedSource) (ns zs olds : List Text) (t : TokenRecord)
   abbrev made : Option TokenRecord → TokenRecord
   made found = composed_token olds (ns ++ zs) (target_of t found)
 
-  -- a token found, by its fields
+  -- a token that was found, by its fields
   found-token : (fl fc sl sc : ℕ) (so sn : Option ℕ) (s : DecodedSource) → IfSome so (λ i. i < length ts) → IfSome sn (λ i. i < length ns)
       → IsPlaced (ns ++ zs) (inherited_name olds (target_of t (if_mapped (record { dst_line = fl; dst_col = fc; src_line = sl; src_col = sc; source_id = so; name_id = sn }))))
       → mapping_of ts (ns ++ zs) (made (if_mapped (record { dst_line = fl; dst_col = fc; src_line = sl; src_col = sc; source_id = so; name_id = sn })))

@@ -1,4 +1,4 @@
--- What does not see an item that stands twice in a row does not see dropping repeats.
+-- A function to which an item twice in a row counts once is not changed by dropping repeats.
 use Rattle.std.proofs.Common.{◌≡◌, ℕ, Bool, true, false, cond, List, [], ◌∷◌, ◌++◌, map, refl, sym, ap, ◌∙◌, append_assoc, max, arith, ◌&&◌, ◌||◌, ◌==◌, nat_lt, nat_le, Option, Some, None}
 use Rattle.std.specs.List.{filter, last_or}
 use Rattle.std.specs.Option.{option_or}
@@ -24,7 +24,7 @@ module _ {A : Type 0} (same : A → A → Bool) (decides : (x y : A) → Decides
         | false ↦ (λ q. unseen_after (λ ys. F (e ∷ ys)) (λ ps. l (e ∷ ps)) x xs)
       ] refl
 
-  -- what doesn't see repeats doesn't see dropping repeats
+  -- a function that is blind to repeats is not changed by dropping them
   pub unseen : {B : Type 0} (F : List A → B) → IsBlind F → (xs : List A) → F (without_repeats same xs) ≡ F xs
   unseen F l [] = refl
   unseen F l (x ∷ xs) = unseen_after F l x xs
@@ -94,7 +94,7 @@ blind_sorted line column [] e xs = ap (λ b. b && is_sorted_by line column (e �
 blind_sorted line column (p ∷ []) e xs = ap (λ b. may_precede line column p e && (b && is_sorted_by line column (e ∷ xs))) (before-itself (line e) (column e))
 blind_sorted line column (p ∷ q ∷ ps) e xs = ap (λ b. may_precede line column p q && b) (blind_sorted line column (q ∷ ps) e xs)
 
--- looking up doesn't see dropping repeats
+-- looking up is not changed by dropping repeats
 module _ {A : Type 0} (same : A → A → Bool) (decides : (x y : A) → Decides (same x y) (x ≡ y)) (line column : A → ℕ) (xs ys : List A) where
   pub filter_up_to_repeats : (p : A → Bool) → without_repeats same xs ≡ without_repeats same ys → without_repeats same (filter p xs) ≡ without_repeats same (filter p ys)
   filter_up_to_repeats p = up_to_repeats_by same decides (λ zs. without_repeats same (filter p zs)) (blind_filter same decides p) xs ys

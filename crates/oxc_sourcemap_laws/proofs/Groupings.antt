@@ -1,4 +1,4 @@
--- The two groupings of a composition of three maps, and their refusals.
+-- The two groupings of a composition of three maps, and their errors.
 use Rattle.std.proofs.Common.{◌≡◌, ◌≢◌, ◌↔◌, ◌⊎◌, inl, inr, ℕ, ◌+◌, ◌≤◌, ◌<◌, Bool, true, false, cond, ◌&&◌, List, [], ◌∷◌, length, refl, sym, ap, ◌∙◌, arith, nat_lt, Option, Some, None, option_map, Result, Ok, Err}
 use Rattle.std.proofs.lemmas.Bool.Decides.{nat_tests}
 use Rattle.std.specs.Option.{option_and_then}
@@ -58,7 +58,7 @@ pub groupings_agree : (a b c : MapRecord) → IsSound a → IsSound b → IsSoun
 groupings_agree a b c x y z left right e f =
     ap decoded_map_of (left-is (composition a b) a b c left refl e) ∙ records_associative a b c x y z ∙ sym (ap decoded_map_of (right-is (composition b c) a b c right refl f))
 
--- what both groupings are
+-- the results of both groupings
 record BothRefused (a b c : MapRecord) : Type 0 where
   pub left : IsSeveralSources (grouped_left a b c)
   pub right : IsSeveralSources (grouped_right a b c)
@@ -121,7 +121,7 @@ module _ (a b c : MapRecord) (y : IsSound b) (z : IsSound c) (x : IsSound a) (n 
       let g = both-given e f in
       ((composed (composed a b) c, g.left), (composed a (composed b c), g.right))
 
-  -- ---- what one grouping says of the other
+  -- ---- what follows from one grouping for the other
   either-by : (p q : Bool) → is_many a ≡ p → is_many b ≡ q → BothRefused a b c ⊎ BothGiven a b c
   either-by true q e f = inl (refused-first e)
   either-by false true e f = inl (refused-second e f)

@@ -20,7 +20,7 @@ use Rattle.oxc_sourcemap_laws.proofs.Same.{decides_entry}
 use Rattle.oxc_sourcemap_laws.proofs.UpToRepeats.{up_to_repeats}
 use Rattle.oxc_sourcemap_laws.proofs.Joins.{raised, after, together, alone, all_together, joined-is, map_twice}
 
--- ---- places in appended lists
+-- ---- indices in appended lists
 pub slice_get-left : {A : Type 0} (xs ys : List A) (i : ℕ) → i < length xs → slice_get (xs ++ ys) i ≡ slice_get xs i
 slice_get-left [] ys i h = absurd (omega arith)
 slice_get-left (x ∷ xs) ys zero h = refl
@@ -69,7 +69,7 @@ entry-left ss ss' ns ns' offset m h = entry-is (ss ++ ss') (ns ++ ns') (raised o
 entry-right : (ss ss' : List DecodedSource) (ns ns' : List Text) (m : TokenRecord) → mapping_of (ss ++ ss') (ns ++ ns') (after (length ns) (length ss) m) ≡ mapping_of ss' ns' m
 entry-right ss ss' ns ns' m = entry-is (ss ++ ss') (ns ++ ns') (after (length ns) (length ss) m) _ _ (get-right ss ss' m.source_id) (get-right ns ns' m.name_id)
 
--- the decoded map of a map and of what stands after it
+-- the decoded map of a map and of what follows it
 module _ (m : MapRecord) (offset : Position) (r : MapRecord) (h : AllByRecursion (IsInRange (length m.names) (length m.sources)) m.tokens) where
   pub together_sources : (decoded_map_of (together (alone m offset) r)).sources ≡ sources_of m.sources m.source_contents ++ sources_of r.sources r.source_contents
   together_sources = sources_of-append m.sources r.sources (fitted (length m.sources) m.source_contents) r.source_contents (length-fitted (length m.sources) m.source_contents) ∙ ap (λ ss. ss ++ sources_of r.sources r.source_contents) (sources_of-fitted m.sources m.source_contents)
@@ -119,7 +119,7 @@ all_ignore_lists (m ∷ ms) =
     ap (λ l. appended_ignore_lists m.0.ignore_list (raised_ignore_list (length m.0.sources) l)) (all_ignore_lists ms)
     ∙ ap (λ n. appended_ignore_lists m.0.ignore_list (raised_ignore_list n (joined_ignore_lists (decoded_maps_of ms)))) (sym (length-sources_of m.0.sources m.0.source_contents))
 
--- the decoded map of a join is equal up to repeats to the join of the decoded maps, where ids are in range
+-- the decoded map of a join is equal up to repeats to the join of the decoded maps, if ids are in range
 pub decoded_map_joined : (ms : List (MapRecord × Position)) → AreAllInRange ms → EqualUpToRepeats (decoded_map_of (joined ms)) (joined_decoded_maps (decoded_maps_of ms))
 decoded_map_joined ms h =
     let d = metadata ms in

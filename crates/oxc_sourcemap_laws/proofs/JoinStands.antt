@@ -53,7 +53,7 @@ range_all (m ∷ ms) h = range_together (alone m.0 m.1) (all_together ms) (all_m
 pub range_joined : (ms : List (MapRecord × Position)) → AreAllInRange ms → AllByRecursion (IsInRange (length (joined ms).names) (length (joined ms).sources)) (joined ms).tokens
 range_joined ms h = subst (λ (r : MapRecord). AllByRecursion (IsInRange (length r.names) (length r.sources)) r.tokens) (sym (joined-is ms)) (range_all ms h)
 
--- the entries of two lists, of maps with so many sources
+-- the entries of two ignore lists, appended, of maps with so many sources
 all_append : {A : Type 0} (P : A → Type 0) (xs ys : List A) → AllByRecursion P xs → AllByRecursion P ys → AllByRecursion P (xs ++ ys)
 all_append P [] ys h k = k
 all_append P (x ∷ xs) ys h k = (h.0, all_append P xs ys h.1 k)

@@ -19,11 +19,11 @@ pub record_by : (a : MapRecord) (x0 : Option Text) (x1 : List Text) (x2 : Option
     → a ≡ record { file = x0; names = x1; source_root = x2; sources = x3; source_contents = x4; tokens = x5; token_chunks = x6; ignore_list = x7; debug_id = x8 }
 record_by a x0 x1 x2 x3 x4 x5 x6 x7 x8 e0 e1 e2 e3 e4 e5 e6 e7 e8 = rw (← e0, ← e1, ← e2, ← e3, ← e4, ← e5, ← e6, ← e7, ← e8)
 
--- at an offset
+-- a token at an offset
 abbrev pub raised : Position → TokenRecord → TokenRecord
 raised offset m = record m { dst_line = m.dst_line + offset.line; dst_col = shifted_column offset m.dst_line m.dst_col }
 
--- after so many names and sources
+-- a token after so many names and sources
 abbrev pub after : ℕ → ℕ → TokenRecord → TokenRecord
 after names sources m = record m { source_id = option_map (λ i. i + sources) m.source_id; name_id = option_map (λ i. i + names) m.name_id }
 
@@ -127,7 +127,7 @@ list-zero : (a : Option (List ℕ)) → raised_ignore_list 0 a ≡ a
 list-zero None = refl
 list-zero (Some xs) = ap (λ us. Some us) (map_self (λ i. i + 0) (λ i. omega arith) xs)
 
--- three lists, with so many sources in the first map, so many in the second, and so many in both
+-- three ignore lists, with `n` sources in the first map, `m` in the second, and `k` in both
 lists-assoc : (a b c : Option (List ℕ)) (n m k : ℕ) → m + n ≡ k
     → appended_ignore_lists (appended_ignore_lists a (raised_ignore_list n b)) (raised_ignore_list k c) ≡ appended_ignore_lists a (raised_ignore_list n (appended_ignore_lists b (raised_ignore_list m c)))
 lists-assoc a b c n m k e =
@@ -193,7 +193,7 @@ added_all-is r (m ∷ ms) x =
     ∙ ap (λ q. together q (all_together ms)) (added-is r m.0 m.1 x)
     ∙ together_assoc r (alone m.0 m.1) (all_together ms)
 
--- a join, in all but its chunks
+-- a join, but for its chunks
 pub joined-is : (ms : List (MapRecord × Position)) → without_chunks (joined ms) ≡ all_together ms
 joined-is ms = added_all-is nothing_joined ms (record { source_contents = refl; file = refl; source_root = refl; debug_id = refl }) ∙ all_plain ms
 

@@ -38,7 +38,7 @@ sorted-order (t ∷ u ∷ ts) s =
     let n : nat_lt u.dst_line t.dst_line ≡ false = grind (arith, nat_tests, both.0) in
     rw (n, sorted-order (u ∷ ts) both.1)
 
--- ---- it is written
+-- ---- a sound map is written
 
 no-misfit : (ts : List TokenRecord) (chunks : Option (List TokenChunk)) → IfSome chunks (ChunksFit ts) → option_map_or (λ cs. option_map (λ k. BadChunks k) (first_misfit ts cs)) chunks None ≡ None
 no-misfit ts None h = refl
@@ -49,7 +49,7 @@ no-fault ts chunks o f l =
     let n : nat_lt 4294967295 (length ts) ≡ false = grind (arith, nat_tests) in
     rw (o, no-misfit ts chunks f, n)
 
--- ---- it is read
+-- ---- what was written is read
 
 none-not-below : (count : ℕ) (ids : List ℕ) → AllByRecursion (λ id. id < count) ids → first_not_below count ids ≡ None
 none-not-below count [] h = refl
@@ -70,7 +70,7 @@ are-within names sources (t ∷ ts) r b = (
   are-within names sources ts r.1 b.1,
 )
 
--- ---- it means the same
+-- ---- what was read means the same
 
 carried-entry : (sources : List DecodedSource) (names : List Text) (s : State) (t : TokenRecord) → mapping_of sources names (carried_token s t) ≡ mapping_of sources names t
 carried-entry sources names s t =

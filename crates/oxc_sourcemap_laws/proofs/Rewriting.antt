@@ -15,7 +15,7 @@ use Rattle.oxc_sourcemap_laws.specs.MapLaws.{StaysSound}
 use Rattle.oxc_sourcemap_laws.proofs.ReadsBack.{beside-in, carried-mappings, same-decoded_map}
 use Rattle.oxc_sourcemap_decode.proofs.ReadSound.{carried-name}
 
--- tokens are sorted exactly where their mappings are
+-- tokens are sorted exactly if their mappings are
 pub sorted-tokens : (ss : List DecodedSource) (ns : List Text) (ts : List TokenRecord) → is_sorted_by mapping_line mapping_column (map (mapping_of ss ns) ts) ≡ are_tokens_sorted ts
 sorted-tokens ss ns [] = refl
 sorted-tokens ss ns (t ∷ []) = refl

@@ -61,7 +61,7 @@ module _ {A : Type 0} (same : A → A → Bool) (decides : (x y : A) → Decides
   stitched_all P [] ys h k = k
   stitched_all P (x ∷ xs) ys h k = (h.0, after_all P x xs ys h.1 k)
 
-  -- what does not see repeats does not see what a seam leaves out
+  -- a function that is blind to repeats is not changed by what a seam leaves out
   unstitched_after : {B : Type 0} (F : List A → B) → IsBlind F → (x : A) (xs ys : List A) → F (x ∷ stitched_after same x xs ys) ≡ F (x ∷ (xs ++ ys))
   unstitched_after F l x [] [] = refl
   unstitched_after F l x [] (y ∷ ys) =
@@ -89,7 +89,7 @@ module _ {A B : Type 0} (same : A → A → Bool) (other : B → B → Bool) (f 
   stitched-map [] ys = refl
   stitched-map (x ∷ xs) ys = ap (λ us. f x ∷ us) (after-map x xs ys)
 
--- ---- the same of `seamed`
+-- ---- `seamed` and repeats
 module _ {A : Type 0} (same : A → A → Bool) (decides : (x y : A) → Decides (same x y) (x ≡ y)) where
   pub seamed_assoc : (xs ys zs : List A) → seamed same (seamed same xs ys) zs ≡ seamed same xs (seamed same ys zs)
   seamed_assoc xs ys zs =

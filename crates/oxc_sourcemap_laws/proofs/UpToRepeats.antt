@@ -13,7 +13,7 @@ use Rattle.oxc_sourcemap_laws.specs.JoinLaws.{AreEqualUpToRepeats}
 use Rattle.oxc_sourcemap_laws.proofs.DroppingRepeats.{unseen, up_to_repeats_by, blind_map, blind_without_repeats, without_repeats_append, pick_up_to_repeats, clamped_pick_up_to_repeats, sorted_up_to_repeats}
 use Rattle.oxc_sourcemap_laws.proofs.Same.{decides_entry}
 
--- equal up to repeats decoded maps agree in all but their mappings, and in their without repeats mappings
+-- decoded maps that are equal up to repeats agree in all but their mappings, and in their mappings without repeats
 pub record Matches (s t : DecodedMap) : Type 0 where
   pub rest : EqualButForMappings s t
   pub mappings : without_repeats is_same_mapping s.mappings ≡ without_repeats is_same_mapping t.mappings
@@ -37,7 +37,7 @@ pub up_to_repeats : (s t : DecodedMap) → Matches s t → EqualUpToRepeats s t
 up_to_repeats s t m =
     decoded_map_by (decoded_map_without_repeats s) t.file t.source_root t.debug_id t.ignore_list t.sources (without_repeats is_same_mapping t.mappings) m.rest.file m.rest.source_root m.rest.debug_id m.rest.ignore_list m.rest.sources m.mappings
 
--- dropping repeats a without repeats list
+-- dropping repeats twice is dropping them once
 pub without_repeats_twice : (xs : List DecodedMapping) → without_repeats is_same_mapping (without_repeats is_same_mapping xs) ≡ without_repeats is_same_mapping xs
 without_repeats_twice xs = unseen is_same_mapping decides_entry (without_repeats is_same_mapping) (blind_without_repeats is_same_mapping decides_entry) xs
 

@@ -11,7 +11,7 @@ use Rattle.oxc_sourcemap_laws.specs.Repeats.{decoded_map_without_repeats, EqualU
 use Rattle.oxc_sourcemap_laws.specs.JoinedDecodedMaps.{joined_decoded_maps}
 use Rattle.oxc_sourcemap_laws.specs.JoinLaws.{decoded_maps_of, Group, groups_joined, maps_of, without_chunks}
 
--- generated line and column, source line and column, source id, name id
+-- a token: generated line and column, source line and column, source id, name id
 abbrev token : ℕ → ℕ → ℕ → ℕ → Option ℕ → Option ℕ → TokenRecord
 token dst_line dst_col src_line src_col source_id name_id =
     record { dst_line = dst_line; dst_col = dst_col; src_line = src_line; src_col = src_col; source_id = source_id; name_id = name_id }
@@ -24,7 +24,7 @@ plain sources tokens = record empty_record { sources = sources; tokens = tokens 
 abbrev unmapped : ℕ → ℕ → DecodedMapping
 unmapped dst_line dst_col = record { dst_line = dst_line; dst_col = dst_col; original = None }
 
--- the second map begins, moved down, with the last token of the first
+-- the first token of the second map, moved down, equals the last token of the first
 abbrev a_seam : List (MapRecord × ℕ)
 a_seam = (plain [] (token 0 0 0 0 None None ∷ token 2 3 0 0 None None ∷ []), 0) ∷ (plain [] (token 0 3 0 0 None None ∷ token 1 9 0 0 None None ∷ []), 2) ∷ []
 
@@ -50,7 +50,7 @@ joins-sorted = refl
 joins-not_sorted : is_sorted_decoded_map (joined_decoded_maps (decoded_maps_of (at_lines ((plain [] (token 0 4 0 0 None None ∷ []), 0) ∷ (plain [] (token 0 0 0 0 None None ∷ []), 0) ∷ [])))) ≡ false
 joins-not_sorted = refl
 
--- two groups; the only token of the second one's map is left out
+-- two groups; the only token of the second group's map is left out
 abbrev two_groups : List Group
 two_groups = (a_seam, 1) ∷ ((plain [] (token 0 9 0 0 None None ∷ []), 1) ∷ [], 3) ∷ []
 
@@ -72,7 +72,7 @@ shifts-the_last_id = refl
 abbrev ignoring : Option (List ℕ) → MapRecord
 ignoring list = record (plain ((0 ∷ []) ∷ []) []) { ignore_list = list }
 
--- the first map and the third have one entry each
+-- three maps; the ignore lists of the first and the third have one entry each
 abbrev some_ignored : List (MapRecord × ℕ)
 some_ignored = (ignoring (Some (0 ∷ [])), 0) ∷ (ignoring None, 1) ∷ (ignoring (Some (0 ∷ [])), 2) ∷ []
 

@@ -17,12 +17,12 @@ use Rattle.oxc_sourcemap_laws.specs.JoinLaws.{StandsFor}
 abbrev pub AreSourceIdsInRange : MapRecord → Type 0
 AreSourceIdsInRange a = AllByRecursion (λ t. IfSome t.source_id (λ id. id < length a.sources)) a.tokens
 
--- the source ids and name ids are
+-- the source ids and name ids of a map's tokens are in range
 abbrev pub AreTokensInRange : MapRecord → Type 0
 AreTokensInRange b = AllByRecursion (IsInRange (length b.names) (length b.sources)) b.tokens
 
--- Where the source ids of the first map and all ids of the second one's tokens are in range, the decoded map of the composed
--- map is the composition of the decoded maps.
+-- If the source ids of the first map and all ids of the second one's tokens are in range, the decoded map of the composed map
+-- is the composition of the decoded maps.
 abbrev pub DecodedMapOfComposition : Type 0
 DecodedMapOfComposition = (a b : MapRecord) → AreSourceIdsInRange a → AreTokensInRange b
     → decoded_map_of (composed a b) ≡ composed_decoded_maps (decoded_map_of a) (decoded_map_of b)
@@ -43,7 +43,7 @@ DecodedMapsAssociative = (s t u : DecodedMap)
     → composed_decoded_maps (composed_decoded_maps s t) u ≡ composed_decoded_maps s (composed_decoded_maps t u)
 
 -- ---- maps
--- What is composed with a third map, and what a first map is composed with; a refusal stands.
+-- a result composed with a map, and (`with_then`) a map composed with a result; an error stays
 abbrev pub then_with : Result MapRecord Error → MapRecord → Result MapRecord Error
 then_with (Ok ab) c = composition ab c
 then_with (Err e) c = Err e
@@ -64,13 +64,13 @@ abbrev pub ComposedMapsAssociative : Type 0
 ComposedMapsAssociative = (a b c : MapRecord) → IsSound a → IsSound b → IsSound c
     → decoded_map_of (composed (composed a b) c) ≡ decoded_map_of (composed a (composed b c))
 
--- The groupings of sound maps have equal decoded maps, where both give a map.
+-- The two groupings of sound maps have equal decoded maps, if both give a map.
 abbrev pub CompositionAssociative : Type 0
 CompositionAssociative = (a b c : MapRecord) → IsSound a → IsSound b → IsSound c
     → (left right : MapRecord) → grouped_left a b c ≡ Ok left → grouped_right a b c ≡ Ok right
     → decoded_map_of left ≡ decoded_map_of right
 
--- a refusal of a transformation map with several sources
+-- the result is the error of a transformation map with several sources
 abbrev pub IsSeveralSources : Result MapRecord Error → Type 0
 IsSeveralSources answer = (n : ℕ) × (answer ≡ Err (SeveralSources n))
 
@@ -80,48 +80,48 @@ GroupingsRefusedTogether = (a b c : MapRecord) → IsSound a → IsSound b → I
     → grouped_left a b c ≢ Err TooLarge → grouped_right a b c ≢ Err TooLarge
     → IsSeveralSources (grouped_left a b c) ↔ IsSeveralSources (grouped_right a b c)
 
--- an answer that is a map
+-- the result is a map
 abbrev pub IsAnswered : Result MapRecord Error → Type 0
 IsAnswered answer = (m : MapRecord) × (answer ≡ Ok m)
 
--- Unless one of them is `TooLarge`, both groupings are answered where the first and the second map have at most one source.
+-- Unless one of them is `TooLarge`, both groupings give a map if the first and the second map have at most one source.
 abbrev pub GroupingsAnswered : Type 0
 GroupingsAnswered = (a b c : MapRecord) → IsSound a → IsSound b → IsSound c
     → grouped_left a b c ≢ Err TooLarge → grouped_right a b c ≢ Err TooLarge
     → length a.sources ≤ 1 → length b.sources ≤ 1 → IsAnswered (grouped_left a b c) × IsAnswered (grouped_right a b c)
 
--- What one answer says of another. If it is a map, the other is a map with the same decoded map, or `TooLarge`; if it is
--- `SeveralSources`, the other is so, too, or `TooLarge`.
+-- What follows from one result for the other. If the one is a map, the other is a map with the same decoded map, or `TooLarge`;
+-- if it is `SeveralSources`, the other is so, too, or `TooLarge`.
 pub record TellsOf (answer other : Result MapRecord Error) : Type 0 where
   pub of_map : (m : MapRecord) → answer ≡ Ok m
       → (other ≡ Err TooLarge) ⊎ ((n : MapRecord) × (other ≡ Ok n) × (decoded_map_of m ≡ decoded_map_of n))
   pub of_several : IsSeveralSources answer → (other ≡ Err TooLarge) ⊎ IsSeveralSources other
 
--- So each grouping of sound maps tells of the other.
+-- `TellsOf` holds of the two groupings of sound maps, either way round.
 abbrev pub GroupingsTell : Type 0
 GroupingsTell = (a b c : MapRecord) → IsSound a → IsSound b → IsSound c
     → TellsOf (grouped_left a b c) (grouped_right a b c) × TellsOf (grouped_right a b c) (grouped_left a b c)
 
 -- ---- names, tokens and ids
--- The ids of a composed map are in range where those of the second map are.
+-- The ids of a composed map are in range if those of the second map are.
 abbrev pub CompositionInRange : Type 0
 CompositionInRange = (a b : MapRecord) → AreIdsInRange b → AreIdsInRange (composed a b)
 
--- It has as many tokens as the first map.
+-- A composed map has as many tokens as the first map.
 abbrev pub CompositionTokens : Type 0
 CompositionTokens = (a b : MapRecord) → length (composed a b).tokens ≡ length a.tokens
 
--- What a test says of all names of the two maps it says of its names, and it has no more than they have together.
+-- A test that holds of all names of the two maps holds of those of the composed map, which has no more than they have together.
 abbrev pub CompositionNames : Type 0
 CompositionNames = (a b : MapRecord) →
     ((test : Text → Bool) → list_all test a.names ≡ true → list_all test b.names ≡ true → list_all test (composed a b).names ≡ true)
     × (length (composed a b).names ≤ length a.names + length b.names)
 
--- Where an id is too large, the two maps have more names than there are ids.
+-- If an id of a composed map is too large, the two maps have more names than there are ids.
 abbrev pub CompositionTooLarge : Type 0
 CompositionTooLarge = (a b : MapRecord) → composition a b ≡ Err TooLarge → 4294967295 < length a.names + length b.names
 
--- Where the tokens of both maps are in bounds, those of the composed map are, if there is one.
+-- If the tokens of both maps are in bounds, so are those of the composed map, if there is one.
 abbrev pub CompositionInBounds : Type 0
 CompositionInBounds = (a b m : MapRecord) → AreInBounds a.tokens → AreInBounds b.tokens
     → composition a b ≡ Ok m → AreInBounds m.tokens

@@ -25,16 +25,16 @@ RepeatsHarmless = (s : DecodedMap)
     → HaveSameTraces (decoded_map_without_repeats s) s
     × (is_sorted_decoded_map (decoded_map_without_repeats s) ≡ is_sorted_decoded_map s)
 
--- So decoded maps that are equal up to repeats have the same traces.
+-- Decoded maps that are equal up to repeats have the same traces.
 abbrev pub TracesAgree : Type 0
 TracesAgree = (s t : DecodedMap) → EqualUpToRepeats s t → HaveSameTraces s t
 
--- a test of lists of mappings that does not tell a mapping that stands twice in a row from one that stands there once
+-- a test of lists of mappings whose result stays the same if a mapping is listed twice in a row instead of once
 abbrev pub IsBlindToRepeats : (List DecodedMapping → Bool) → Type 0
 IsBlindToRepeats test = (front : List DecodedMapping) (e : DecodedMapping) (after : List DecodedMapping)
     → test (front ++ e ∷ e ∷ after) ≡ test (front ++ e ∷ after)
 
--- Such a test has one answer for decoded maps that are equal up to repeats.
+-- A test that is blind to repeats has one result for decoded maps that are equal up to repeats.
 abbrev pub TestsAgree : Type 0
 TestsAgree = (test : List DecodedMapping → Bool) → IsBlindToRepeats test
     → (s t : DecodedMap) → EqualUpToRepeats s t → test s.mappings ≡ test t.mappings
@@ -58,7 +58,7 @@ AreAllInRange ms = AllByRecursion (λ m. AllByRecursion (IsInRange (length m.0.n
 abbrev pub decoded_maps_of : List (MapRecord × Position) → List (DecodedMap × Position)
 decoded_maps_of ms = map (λ m. (decoded_map_of m.0, m.1)) ms
 
--- Where ids are in range, the decoded map of a join is equal up to repeats to the join of the decoded maps.
+-- If ids are in range, the decoded map of a join is equal up to repeats to the join of the decoded maps.
 abbrev pub DecodedMapOfJoin : Type 0
 DecodedMapOfJoin = (ms : List (MapRecord × Position)) → AreAllInRange ms
     → EqualUpToRepeats (decoded_map_of (joined ms)) (joined_decoded_maps (decoded_maps_of ms))
@@ -72,7 +72,7 @@ pub record StandsFor (r : MapRecord) (s : DecodedMap) : Type 0 where
 abbrev pub AllStandFor : List (MapRecord × Position) → List (DecodedMap × Position) → Type 0
 AllStandFor ms ss = AllZip (λ m s. StandsFor m.0 s.0 × (m.1 ≡ s.1)) ms ss
 
--- A join of maps that stand for decoded maps is sorted exactly where the join of the decoded maps is, and then stands for it.
+-- A join of maps that stand for decoded maps is sorted exactly if the join of the decoded maps is, and then stands for it.
 abbrev pub JoinStandsFor : Type 0
 JoinStandsFor = (ms : List (MapRecord × Position)) (ss : List (DecodedMap × Position)) → AllStandFor ms ss
     → (are_tokens_sorted (joined ms).tokens ≡ is_sorted_decoded_map (joined_decoded_maps ss))
@@ -82,8 +82,8 @@ JoinStandsFor = (ms : List (MapRecord × Position)) (ss : List (DecodedMap × Po
 abbrev pub AreIgnoreListsInRange : List (MapRecord × Position) → Type 0
 AreIgnoreListsInRange ms = AllByRecursion (λ m. IfSome m.0.ignore_list (AllByRecursion (λ id. id < length m.0.sources))) ms
 
--- The ids of a join are in range where those of its maps are, even where it is not sorted: the ids of its tokens, and the
--- entries of its ignore list.
+-- The ids of a join are in range if those of its maps are, even if it is not sorted: the ids of its tokens, and the entries of
+-- its ignore list.
 abbrev pub JoinInRange : Type 0
 JoinInRange = (ms : List (MapRecord × Position)) →
     (AreAllInRange ms → AllByRecursion (IsInRange (length (joined ms).names) (length (joined ms).sources)) (joined ms).tokens)
@@ -104,7 +104,7 @@ pub record HasFittingChunks (ms : List (MapRecord × Position)) : Type 0 where
   pub count : length chunks ≡ length ms
   pub fit : ChunksFit (joined ms).tokens chunks
 
--- So has every join, of whatever maps.
+-- Every join has fitting chunks, whatever its maps are.
 abbrev pub JoinChunksFit : Type 0
 JoinChunksFit = (ms : List (MapRecord × Position)) → HasFittingChunks ms
 
@@ -114,7 +114,7 @@ JoinOneMore = (ms : List (MapRecord × Position)) (m : MapRecord) (offset : Posi
     → joined (ms ++ (m, offset) ∷ []) ≡ added (joined ms) m offset
 
 -- ---- groups
--- maps at lines, and the line of them all
+-- a group: maps, each at a line of the group, and the line where the group begins
 abbrev pub Group : Type 0
 Group = List (MapRecord × ℕ) × ℕ
 
@@ -122,7 +122,7 @@ Group = List (MapRecord × ℕ) × ℕ
 abbrev pub groups_joined : List Group → List (MapRecord × Position)
 groups_joined groups = map (λ g. (joined (at_lines g.0), at_line g.1)) groups
 
--- the maps of all groups, each at the beginning of the line that is the sum of its two
+-- the maps of all groups, each at the beginning of a line: the sum of its line in the group and the group's line
 abbrev pub maps_of : List Group → List (MapRecord × Position)
 maps_of groups = flat_map (λ g. map (λ m. (m.0, at_line (m.1 + g.1))) g.0) groups
 
@@ -130,8 +130,8 @@ maps_of groups = flat_map (λ g. map (λ m. (m.0, at_line (m.1 + g.1))) g.0) gro
 abbrev pub without_chunks : MapRecord → MapRecord
 without_chunks r = record r { token_chunks = None }
 
--- Joining groups and then the groups is joining all maps, but for the chunks. All of them begin lines: at other columns,
--- where a map goes depends on whether it begins on line 0 of its group.
+-- Joining maps in groups and then the groups is joining all maps, but for the chunks. All of them begin lines: at other columns
+-- the position of a map depends on whether it begins on line 0 of its group.
 abbrev pub JoinsAssociative : Type 0
 JoinsAssociative = (groups : List Group)
     → without_chunks (joined (groups_joined groups)) ≡ without_chunks (joined (maps_of groups))

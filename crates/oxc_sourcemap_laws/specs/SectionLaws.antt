@@ -18,7 +18,7 @@ abbrev pub ValueOfSections : Type 0
 ValueOfSections = (d : Data) (file : Option Text) (found : Sections) (r : MapRecord) → said_by d ≡ indexed file found → read_value d ≡ Ok r
     → EqualUpToRepeats (decoded_map_of r) (decoded_map_of_sections file found)
 
--- So is that of one that is read from a text.
+-- The decoded map of an indexed map that is read from a text is equal up to repeats to that of its sections.
 abbrev pub TextOfSections : Type 0
 TextOfSections = (text : Text) (file : Option Text) (found : Sections) (r : MapRecord) → said_in text ≡ indexed file found → read_map text ≡ Ok r
     → EqualUpToRepeats (decoded_map_of r) (decoded_map_of_sections file found)

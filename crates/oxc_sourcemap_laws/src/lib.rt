@@ -17,7 +17,7 @@ ghost use Rattle.oxc_sourcemap_laws.specs.JoinLaws.{RepeatsHarmless, TracesAgree
 ///   exactly if they are equal as written (`unique`).
 /// - The text of such a list is read without error, with counts above its ids, and gives a list equal as written; an
 ///   unmapped token comes back with the source line and column reached there (`reads_back`).
-/// - What a text reads as is in line order and in bounds, and written and read again it is the same (`reads_again`).
+/// - The tokens of a text are in line order and in bounds, and written and read again they are the same (`reads_again`).
 /// - The parts of fitting chunks, one after the other, are the text (`in_pieces`).
 /// - A sound map of at most 4294967295 tokens is written (`sound_is_written`), one of more is `TooLarge`
 ///   (`sound_is_too_large`). What is written is read as a map with the same decoded map (its ids looked up), the same
@@ -44,7 +44,7 @@ pub fn canonical_unique()
 /// the last token so far.
 /// - Dropping repeats changes no trace, exact or clamped, at any line and column, and a decoded map is sorted exactly if it
 ///   is sorted without its repeats (`repeats`). So decoded maps that are equal up to repeats have the same traces
-///   (`traces_agree`), and the same result of every test of mappings that does not see repeats (`tests_agree`).
+///   (`traces_agree`), and the same result of every test of mappings that repeats do not change (`tests_agree`).
 /// - Joins of decoded maps that are equal up to repeats are equal up to repeats (`joins_up_to_repeats`).
 /// - If the ids of all maps are in range, the decoded map of their join equals, up to repeats, the join of their decoded
 ///   maps (`decoded_map_of_join`), and the ids of the join are in range, sorted or not, with its ignore list if those of

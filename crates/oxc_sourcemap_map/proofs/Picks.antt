@@ -1,4 +1,4 @@
--- What a view of a token says, against the decoded map of its map.
+-- Views of tokens, in the words of the decoded map.
 use Rattle.std.proofs.Common.{◌≡◌, ℕ, List, [], ◌∷◌, refl, sym, ap, ◌∙◌, Option, Some, None, zero, suc, slice_get, MatchOption}
 use Rattle.std.specs.Option.{option_map, option_and_then}
 use Rattle.oxc_sourcemap_parts.specs.Record.{Text, MapRecord}
@@ -14,7 +14,7 @@ twice : {A B C : Type 0} (g : B → C) (f : A → B) (o : Option A) → option_m
 twice g f None = refl
 twice g f (Some x) = refl
 
--- what a map's decoded map says of a position is what its token found there points to
+-- the trace of a decoded map at a position is what the token found there in the map points to
 pub traced : (r : MapRecord) (line col : ℕ) → option_map view_original (option_map (seen_in r) (pick token_line token_column r.tokens line col)) ≡ trace (decoded_map_of r) line col
 traced r line col =
     let f = mapping_of (sources_of r.sources r.source_contents) r.names in
@@ -27,7 +27,7 @@ clamped_traced r line col =
     twice view_original (seen_in r) _
     ∙ sym (ap (option_map (λ e. e.original)) (clamped_pick-map f mapping_line mapping_column r.tokens line col) ∙ twice (λ e. e.original) f _)
 
--- the paths of sources are those listed
+-- the paths of decoded sources are those listed in the map
 source-path : (paths : List Text) (contents : List (Option Text)) (i : ℕ) → option_map (λ s. s.path) (slice_get (sources_of paths contents) i) ≡ slice_get paths i
 source-path [] contents i = refl
 source-path (path ∷ paths) [] zero = refl
@@ -35,7 +35,7 @@ source-path (path ∷ paths) [] (suc i) = source-path paths [] i
 source-path (path ∷ paths) (content ∷ contents) zero = refl
 source-path (path ∷ paths) (content ∷ contents) (suc i) = source-path paths contents i
 
--- what a view's texts say is what its token points to
+-- the strings of a view are those of the original position
 abbrev SaysOrigin : ViewRecord → Option Text → Option OriginalPosition → Type 0
 SaysOrigin v source original = MatchOption original (source ≡ None) (λ o. (source ≡ Some o.source.path) × (v.token.src_line ≡ o.src_line) × (v.token.src_col ≡ o.src_col) × (view_name v ≡ o.name))
 

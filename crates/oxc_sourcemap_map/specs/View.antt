@@ -19,15 +19,15 @@ view_of v = record { token = v.token; map = v.sourcemap.now }
 abbrev pub seen_in : MapRecord → TokenRecord → ViewRecord
 seen_in r t = record { token = t; map = r }
 
--- the content listed at an index, where there is one and it is known
+-- the content listed at an index, if there is one and it is known
 abbrev pub content_at : List (Option Text) → ℕ → Option Text
 content_at contents i = option_and_then (λ content. content) (slice_get contents i)
 
--- the source at an index, and its content, where both are there
+-- the source at an index, and its content, if both are there
 abbrev pub source_and_content_at : MapRecord → ℕ → Option (Text × Text)
 source_and_content_at r i = option_zip (slice_get r.sources i) (content_at r.source_contents i)
 
--- what the ids of a view name: the name, the source, its content, and both of these
+-- ---- what the ids of a view's token name in its map: the name, the source, its content, and both of these
 abbrev pub view_name : ViewRecord → Option Text
 view_name v = name_of v.map.names v.token
 
@@ -40,6 +40,6 @@ view_content v = option_and_then (content_at v.map.source_contents) v.token.sour
 abbrev pub view_source_and_content : ViewRecord → Option (Text × Text)
 view_source_and_content v = option_zip (view_source v) (view_content v)
 
--- what its token points to there
+-- the original position that the token of a view points to in its map
 abbrev pub view_original : ViewRecord → Option OriginalPosition
 view_original v = original_of (sources_of v.map.sources v.map.source_contents) v.map.names v.token

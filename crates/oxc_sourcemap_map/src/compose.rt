@@ -1,5 +1,5 @@
-//! Composition of maps: a map from generated to intermediate code and one from intermediate to original code, made one
-//! map from generated to original code.
+//! Composition: of a map from generated to intermediate code and one from intermediate to original code, one map from
+//! generated to original code is made.
 ghost use Rattle.std.specs.Prelude.{◌≡◌, ◌≢◌, true, IfOk, IfErr, Ok, Err};
 ghost use Rattle.oxc_sourcemap_tokens.specs.declared.error.Error.TheVariants.{OutOfMemory};
 ghost use Rattle.oxc_sourcemap_parts.specs.Sorted.{are_tokens_sorted};
@@ -15,8 +15,8 @@ impl<'a> SourceMap<'a> {
     /// Composes this map, from generated to intermediate code, with `input`, from there to original code, into one map from
     /// generated to original code (docs/FORMAT.md, "Composition").
     ///
-    /// Each token of this map gives one at the same generated position, in the same order. Its source position is looked up
-    /// in `input` by the clamped lookup (`lookup_token_approx`):
+    /// Each token of this map gives one token at the same generated position, in the same order. Its source position is looked
+    /// up in `input` by the clamped lookup (`lookup_token_approx`):
     /// - If the token of this map or the token found is unmapped, or none is found, the result is unmapped, with source
     ///   position 0:0 and no name.
     /// - Else the result has the source id, source position and name of the token found; if that has no name, the name of
@@ -30,9 +30,9 @@ impl<'a> SourceMap<'a> {
     /// - `SeveralSources(n)` if this map has n sources, and n is above 1;
     /// - `LineOrder(i)` for the first token i of `input` whose line is smaller than that of the token before it;
     /// - `TooLarge` if a name from this map would have an id above 4294967294;
-    /// - `OutOfMemory` if memory is refused.
+    /// - `OutOfMemory` for want of memory.
     ///
-    /// The first two are reported wherever they hold, even if memory is refused.
+    /// The first two are returned even if memory runs out.
     #[tactic(auto, using(oxc_sourcemap_lookup::proofs::OwnTables::line_goes_on))]
     pub fn compose<'input>(
         self,
@@ -45,7 +45,7 @@ impl<'a> SourceMap<'a> {
         ensures any_refused { IfErr result (λ e. (e ≢ OutOfMemory) → SomeComposition self.entry input.entry (Err e)) }
         ensures fault { Reports (composition_fault self.entry input.entry) result }
 
-        // True of every list, and stated here for callers that need it.
+        // True of every list of tokens, and stated here for callers that need it.
         ensures sorted_goes_on { are_tokens_sorted input.entry.tokens ≡ true → NoColumnGoesBack input.entry.tokens }
     {
         let parts = compose_parts(alloc, self.parts, input.parts)?;

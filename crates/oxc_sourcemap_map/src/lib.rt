@@ -1,5 +1,5 @@
 //! `SourceMap` and `OwnedSourceMap`, with views of their tokens: thin calls over the crates that read, write, look up and
-//! compose parts. Part of `oxc_sourcemap`, but for `parts_of`, which is for the crates between.
+//! compose parts. Part of `oxc_sourcemap`, but for `parts_of`, which is only for crates of this library.
 #![tactic(auto)]
 
 mod compose;

@@ -1,4 +1,4 @@
-//! The lookups of `SourceMap` by generated position. (In the Rust crate these calls stand in the module `sourcemap`.)
+//! The lookups of `SourceMap` by generated position. (The Rust crate has these calls in the module `sourcemap`.)
 ghost use Rattle.std.specs.Prelude.{◌≡◌, ◌+◌, ◌<◌, ◌≤◌, true, length, map, option_map, IfSome, IsNone, Some, []};
 ghost use Rattle.std.specs.List.{Contains};
 ghost use Rattle.oxc_sourcemap_parts.specs.Sorted.{token_column};
@@ -17,7 +17,7 @@ use oxc_sourcemap_tokens::{Result, Token};
 use std::alloc::Global;
 
 impl<'a> SourceMap<'a> {
-    /// A token that may be there, as a view of this map.
+    /// A token, if there is one, as a view of this map.
     pub(crate) fn seen(&self, token: Option<Token>) -> Option<SourceViewToken<'_, 'a>>
         ensures { option_map view_of result ≡ option_map (seen_in self.now) token }
     {
@@ -28,8 +28,8 @@ impl<'a> SourceMap<'a> {
     /// order. Without tokens it has no slices.
     ///
     /// Fails with `LineOrder(i)` for the first token whose line is smaller than that of the token before, and with
-    /// `OutOfMemory` if memory is refused; the table takes a slice for each line, with tokens or without. The first is
-    /// reported wherever it holds.
+    /// `OutOfMemory` for want of memory; the table takes a slice for each line, with tokens or without. The first is returned
+    /// even if memory runs out.
     pub fn generate_lookup_table(&self, alloc: Global) -> Result<Vec<&[Token]>>
         ensures table { Answers (λ table. lent_items table.items) result (line_table self.now.tokens) }
         ensures fault { Reports (table_fault self.now.tokens) result }
@@ -37,11 +37,11 @@ impl<'a> SourceMap<'a> {
         lookup_table(alloc, self.parts.tokens.as_slice())
     }
 
-    /// Looks up a column on one line. The answer is the first token at `col`; if none is there, the last token of the greatest
+    /// Looks up a column on one line. The result is the first token at `col`; if none is there, the last token of the greatest
     /// column below `col`; if all are above, None. On a line whose columns go back, it is some token of the line, or None.
     ///
-    /// `steps` is set to the number of columns that were compared with `col`: at most as many as the number of tokens has
-    /// binary digits, and one more. Takes no memory.
+    /// `steps` is set to the number of columns that were compared with `col`, which is at most one more than the number of
+    /// binary digits of the number of tokens. Takes no memory.
     pub fn search(line: &[Token], col: u32, steps: &mut u64) -> Option<Token>
         ensures found { no_column_goes_back token_column line.now ≡ true → result ≡ at token_column line.now col }
         ensures among { IfSome result (Contains line.now) }
@@ -65,7 +65,7 @@ impl<'a> SourceMap<'a> {
         search(slice_of(lookup_table, line), col, &mut 0)
     }
 
-    /// The token of `lookup_token`, as a view of this map. Takes no memory.
+    /// The token that `lookup_token` finds, as a view of this map. Takes no memory.
     pub fn lookup_source_view_token(
         &self,
         lookup_table: &[&[Token]],
@@ -100,7 +100,7 @@ impl<'a> SourceMap<'a> {
         search_clamped(slice_of(lookup_table, line), col)
     }
 
-    /// The token of `lookup_token_approx`, as a view of this map. Takes no memory.
+    /// The token that `lookup_token_approx` finds, as a view of this map. Takes no memory.
     pub fn lookup_source_view_token_approx(
         &self,
         lookup_table: &[&[Token]],

@@ -150,7 +150,7 @@ impl OwnedSourceMap {
         ensures any_refused { IfErr result (λ e. (e ≢ OutOfMemory) → SomeComposition self input (Err e)) }
         ensures fault { Reports (composition_fault self input) result }
 
-        // True of every list, and stated here for callers that need it.
+        // True of every list of tokens, and stated here for callers that need it.
         ensures sorted_goes_on { are_tokens_sorted input.tokens ≡ true → NoColumnGoesBack input.tokens }
     {
         Ok(OwnedSourceMap::new(self.inner.compose(alloc, input.inner)?))
@@ -327,8 +327,8 @@ impl OwnedSourceMap {
     /// order. Without tokens it has no slices.
     ///
     /// Fails with `LineOrder(i)` for the first token whose line is smaller than that of the token before, and with
-    /// `OutOfMemory` if memory is refused; the table takes a slice for each line, with tokens or without. The first is
-    /// reported wherever it holds.
+    /// `OutOfMemory` for want of memory; the table takes a slice for each line, with tokens or without. The first is returned
+    /// even if memory runs out.
     pub fn generate_lookup_table(&self, alloc: Global) -> Result<Vec<&[Token]>>
         ensures table { Answers (λ table. lent_items table.items) result (line_table self.now.tokens) }
         ensures fault { Reports (table_fault self.now.tokens) result }
@@ -350,7 +350,7 @@ impl OwnedSourceMap {
         self.inner.lookup_token(lookup_table, line, col)
     }
 
-    /// The token of `lookup_token`, as a view of this map. Takes no memory.
+    /// The token that `lookup_token` finds, as a view of this map. Takes no memory.
     pub fn lookup_source_view_token(
         &self,
         lookup_table: &[&[Token]],
@@ -385,7 +385,7 @@ impl OwnedSourceMap {
         self.inner.lookup_token_approx(lookup_table, line, col)
     }
 
-    /// The token of `lookup_token_approx`, as a view of this map. Takes no memory.
+    /// The token that `lookup_token_approx` finds, as a view of this map. Takes no memory.
     pub fn lookup_source_view_token_approx(
         &self,
         lookup_table: &[&[Token]],
@@ -439,7 +439,7 @@ impl From<OwnedSourceMap> for SourceMap<'static> {
 }
 
 impl<'a> SourceMap<'a> {
-    /// The same map, borrowing nothing, in a type without a lifetime: `into_owned`; fails as that does.
+    /// The same map, borrowing nothing, in a type without a lifetime. Fails as `into_owned` does.
     pub fn into_owned_sourcemap(self, alloc: Global) -> Result<OwnedSourceMap>
         ensures map { IfOk result (λ map. map ≡ self.entry) }
         ensures error { OnlyMemory result }
@@ -460,7 +460,7 @@ impl Deref for OwnedSourceMap {
 }
 
 impl DerefMut for OwnedSourceMap {
-    /// The wrapped map, to be changed: what is written to it is what this map then holds.
+    /// The wrapped map, for changes: what is written to it is what this map then holds.
     fn deref_mut(&mut self) -> &mut SourceMap<'static>
         ensures* writes_back { sem 𝓛 (Lends the_row (map_row (record { mir = static; lft = [] })) self.entry result (λ w. w)) }
         ensures value { result.now ≡ self.old }

@@ -1,4 +1,4 @@
-//! A token together with its map. (In the Rust crate it stands in the module `token`.)
+//! A token together with its map. (The Rust crate has it in the module `token`.)
 ghost use Rattle.std.specs.Prelude.{◌≡◌, option_map, MatchOption, Some, None};
 ghost use Rattle.oxc_sourcemap_map.specs.View.{view_of, seen_in, view_name, view_source, view_content, view_source_and_content, view_original};
 ghost use Rattle.oxc_sourcemap_tokens.specs.Results.{lent_item};
@@ -107,7 +107,7 @@ impl<'sm, 'data> SourceViewToken<'sm, 'data> {
         ensures column { result.2 ≡ (view_of self.now).token.src_col }
         ensures name { lent_item result.3 ≡ view_name (view_of self.now) }
 
-        // The same, in the words of decoded maps: what the token points to, and no source where it points to nothing.
+        // The tuple, in the words of decoded maps: what the token points to, and no source if it points to nothing.
         ensures original { MatchOption (view_original (view_of self.now)) (lent_item result.0 ≡ None) (λ original.
             (lent_item result.0 ≡ Some original.source.path) × (result.1 ≡ original.src_line) × (result.2 ≡ original.src_col)
             × (lent_item result.3 ≡ original.name)) }

@@ -1,4 +1,4 @@
-//! The map and its parts.
+//! The type of a map, without its lookups and composition.
 ghost use Rattle.std.specs.Prelude.{◌≡◌, ◌≢◌, ◌↔◌, ◌<◌, List, map, option_map, slice_get, IsTrue, true, string_bytes, IfOk, IfErr, Ok, Err, Some, None, OnOk, OnErr};
 ghost use Rattle.std.specs.Iterator.{IsFinite, Drains};
 ghost use Rattle.std.specs.Box.{boxed_slice_items};
@@ -105,12 +105,7 @@ impl<'a> SourceMap<'a> {
     }
 
     /// Reads a map from its JSON text, as `decode_from_string` does: a map by itself, or the sections of an indexed map, joined.
-    /// All its strings are owned.
-    ///
-    /// Fails with the first of these, in the order that `decode_from_string` documents: `BadJson` for the text and its fields,
-    /// `SectionOrder` for the offset of a section, `BadSourceReference` for the ignore list, then `VlqOverflow`, `VlqLeftover`,
-    /// `BadSegmentSize`, `BadSourceReference`, `BadNameReference` or `TooLarge` for the mappings, and `TooLarge` for a join of
-    /// sections; or with `OutOfMemory` if memory is refused.
+    /// All its strings are owned. Fails as `decode_from_string` does.
     ///
     /// Its ids are in range, its tokens in line order, and it has no chunks, so it is sound exactly if it is sorted. A text may
     /// list the columns of a line in any order; `is_sorted` checks that.
@@ -135,8 +130,7 @@ impl<'a> SourceMap<'a> {
         encode_parts(alloc, &self.parts)
     }
 
-    /// Writes the JSON text of this map, as `encode_to_string` does. Fails as `encode_mappings` does, in this order: with
-    /// `LineOrder`, `BadChunks`, `TooLarge`, or with `OutOfMemory` if memory is refused.
+    /// Writes the JSON text of this map, as `encode_to_string` does, and fails as that does.
     pub fn to_json_string(&self, alloc: Global) -> Result<String>
         ensures { Answers string_bytes result (map_text self.now) }
     {
@@ -376,7 +370,7 @@ impl<'a> SourceMap<'a> {
     }
 }
 
-/// The parts of a map, borrowed.
+/// The parts of a map, borrowed, so that other crates of the library can call what takes parts.
 pub fn parts_of<'m, 'a>(map: &'m SourceMap<'a>) -> &'m SourceMapParts<'a>
     ensures { record_of_parts result.now ≡ map.now }
 {
@@ -386,7 +380,7 @@ pub fn parts_of<'m, 'a>(map: &'m SourceMap<'a>) -> &'m SourceMapParts<'a>
 impl<'a> From<SourceMapParts<'a>> for SourceMap<'a> {
     ghost from_gives = { λ parts map. map ≡ record_of_parts parts };
 
-    /// The map of these parts, as `from_parts`.
+    /// The map of these parts, as `from_parts` makes it.
     fn from(parts: SourceMapParts<'a>) -> SourceMap<'a> {
         SourceMap::from_parts(parts)
     }

@@ -22,7 +22,7 @@ impl<'s, 'd> Model for ViewTokens<'s, 'd> {
     ghost use Rattle.std.specs.Slice.Iter.{iter_rest};
     ghost use Rattle.oxc_sourcemap_map.specs.View.{ViewRecord, seen_in};
 
-    // The views that are left.
+    // The value of an iterator is the list of views that it has yet to give.
     ghost Value = { List ViewRecord };
 
     ghost view = { λ it. map (seen_in it.sourcemap.now) (iter_rest it.rest) };

@@ -1,4 +1,4 @@
--- From what an evaluation gives to what is promised of its map.
+-- A map that realizes the outcome of a plan is as `IsEvaluated` promises.
 use Rattle.std.proofs.Common.{◌≡◌, ℕ, ◌≤◌, true, cond, nat_le, Ok, sym, ap, ◌∙◌, subst, arith}
 use Rattle.std.proofs.lemmas.Bool.Decides.{nat_tests}
 use Rattle.oxc_sourcemap_parts.specs.Record.{MapRecord}

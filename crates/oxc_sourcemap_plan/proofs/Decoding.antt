@@ -1,4 +1,4 @@
--- What is read, from the map that comes of it.
+-- The tokens of a map that was read, as its mappings text has them.
 use Rattle.std.proofs.Common.{◌≡◌, true, false, nat_lt, List, [], ◌∷◌, length, refl, ap, arith, Option, Some, None, Result, Ok, Err}
 use Rattle.std.proofs.lemmas.Bool.{and_parts}
 use Rattle.std.proofs.lemmas.Bool.Decides.{nat_tests}
@@ -21,7 +21,7 @@ after-fault : (o : Option Error) (q : Result MapRecord Error) (r : MapRecord) �
 after-fault None q r e = e
 after-fault (Some fault) q r e = absurd (cc (e))
 
--- the tokens of a map that was read are what its mappings text reads as
+-- the tokens of a map that was read are those of its mappings text
 pub decoded-reading : (j : JsonRecord) (r : MapRecord) → decoded j ≡ Ok r → reading j.mappings (length j.names) (length j.sources) ≡ Ok r.tokens
 decoded-reading j r e = tokens-read j (reading j.mappings (length j.names) (length j.sources)) r (after-fault (json_fault j) _ r e)
 

@@ -32,12 +32,12 @@ both-true : (a b : Bool) → (a && b) ≡ true → (a ≡ true) × (b ≡ true)
 both-true true b e = (refl, e)
 both-true false b e = cc
 
--- an argument with a sign before is no number
+-- an argument that begins with a plus sign is no number
 pub number_of-plus : (argument : List ℕ) → get_or argument 0 0 ≡ 43 → number_of argument ≡ None
 number_of-plus [] e = refl
 number_of-plus (b ∷ bs) e = rw e refl
 
--- what `parse` answers to an argument without a sign
+-- the result of `parse` for an argument without a plus sign
 pub number_of-parse : {E : Type 0} (argument : List ℕ) (r : Result ℕ E) → get_or argument 0 0 ≢ 43 → OkIff r (IsNumeral 10 (without_leading_plus argument) × (digits_value 10 (without_leading_plus argument) < 2 ^ 32)) (digits_value 10 (without_leading_plus argument)) → result_ok r ≡ number_of argument
 number_of-parse argument (Ok x) n h =
     let plain = without_leading_plus_none argument n in

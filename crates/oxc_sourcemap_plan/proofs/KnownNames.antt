@@ -1,4 +1,4 @@
--- Names among names, and lists of which a test holds.
+-- Lists of names that are among other names, and lists of which a test holds.
 use Rattle.std.proofs.Common.{◌≡◌, Bool, true, false, ◌||◌, List, [], ◌∷◌, ◌++◌, refl, ◌∙◌}
 use Rattle.std.specs.List.{list_all, AllByRecursion}
 use Rattle.std.specs.Str.{bytes_eq}

@@ -12,7 +12,7 @@ use Rattle.oxc_sourcemap_plan.specs.Outcome.{outcome_of, outcomes, join_outcome}
 use Rattle.oxc_sourcemap_plan.specs.Realizes.{Realizes, FailsAs, AllRealize}
 use Rattle.oxc_sourcemap_plan.proofs.Realizing.{part_refuses}
 
--- what a `?` hands on
+-- the error that a `?` returns
 pub from_err : {X E : Type 0} (r : Result X E) (P Q : E → Type 0) → IsErrAnd r P → ((e : E) → P e → Q e) → IfErr r Q
 from_err (Ok x) P Q h f = tt
 from_err (Err e) P Q h f = f e h
@@ -29,14 +29,14 @@ below_deepest f (x ∷ xs) ys p = grind (arith, below_deepest f xs ys p)
 pub part_below_deepest : {A : Type 0} (f : A → ℕ) (ps : List A) (i : ℕ) (p : A) → i < length ps → p ≡ get_or ps i p → f p ≤ deepest (map f ps)
 part_below_deepest f ps i p l q = subst (λ xs. f p ≤ deepest (map f xs)) (sym (around ps i p l q)) (below_deepest f (take i ps) (drop (i + 1) ps) p)
 
--- one part more
+-- the maps of parts, with one part more
 one_more : (ms : List (MapRecord × Position)) (ps : List (Plan × Position)) (m : MapRecord × Position) (p : Plan × Position) → AllRealize ms (outcomes ps) → Realizes m.0 (outcome_of p.0) → m.1 ≡ p.1 → AllRealize (ms ++ m ∷ []) (outcomes (ps ++ p ∷ []))
 one_more [] [] m p h g e = ((g, e), tt)
 one_more [] (q ∷ ps) m p h g e = absurd h
 one_more (n ∷ ms) [] m p h g e = absurd h
 one_more (n ∷ ms) (q ∷ ps) m p h g e = (h.0, one_more ms ps m p h.1 g e)
 
--- parts as they are stored, each with where its code begins
+-- parts as they are stored, each with its position
 module _ {A : Type 0} (part_at : A → Plan × Position) where
   pub more_given : (ms : List (MapRecord × Position)) (ps : List A) (i : ℕ) (m : MapRecord × Position) (p : A) → i < length ps → p ≡ get_or ps i p → AllRealize ms (outcomes (map part_at (take i ps)))
       → Realizes m.0 (outcome_of (part_at p).0) → m.1 ≡ (part_at p).1 → AllRealize (ms ++ m ∷ []) (outcomes (map part_at (take (i + 1) ps)))
@@ -52,10 +52,10 @@ module _ {A : Type 0} (part_at : A → Plan × Position) where
       part_refuses ms (outcomes (map part_at (take i ps))) (outcomes (map part_at (drop (i + 1) ps))) (outcome_of (part_at p).0) (part_at p).1 e h r (outcomes (map part_at ps))
       (ap outcomes t ∙ map-append (λ (p : Plan × Position). (outcome_of p.0, p.1)) (map part_at (take i ps)) (part_at p ∷ map part_at (drop (i + 1) ps)))
 
--- parts of a join at lines
+-- a part of a join at lines, at column 0 of its line
 abbrev pub at_its_line : {A : Type 0} → A × ℕ → A × Position
 at_its_line item = (item.0, at_line item.1)
 
--- parts of a join at lines and columns
+-- a part of a join at lines and columns, at its position
 abbrev pub at_its_position : {A : Type 0} → A × ℕ × ℕ → A × Position
 at_its_position item = (item.0, record { line = item.1; column = item.2 })

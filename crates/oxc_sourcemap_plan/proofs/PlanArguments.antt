@@ -1,4 +1,4 @@
--- What arguments say, step by step.
+-- Reading arguments, step by step.
 use Rattle.std.proofs.Common.{◌≡◌, ◌≢◌, ℕ, zero, suc, ◌+◌, ◌-◌, ◌<◌, ◌≤◌, String, string_bytes, length, length, true, false, cond, ◌==◌, List, [], ◌∷◌, ◌++◌, map, codes, refl, sym, ap, ◌∙◌, arith, Some, None, Ok, Err, bytes_eq}
 use Rattle.oxc_sourcemap_parts.specs.Record.{Text}
 use Rattle.std.specs.declared.alloc.Global.{Global}
@@ -62,7 +62,7 @@ module _ (inputs : List Text) (part : List Text → Parsed Outcome) (argument : 
 
 -- ---- parts of a join, as far as they have come
 module _ (part : List Text → Parsed Outcome) (offset : List Text → Parsed Position) where
-  -- what is left of the parts, after some
+  -- what is read of the parts that are left, after those that are done
   abbrev pub left_after : List (Outcome × Position) → ℕ → List Text → Parsed (List (Outcome × Position))
   left_after done n arguments = then_parsed (parsed_parts part offset n arguments) (λ others rest. Ok (done ++ others, rest))
 
@@ -80,17 +80,17 @@ module _ (part : List Text → Parsed Outcome) (offset : List Text → Parsed Po
       ap (λ r. then_parsed r (λ others rest. Ok (done ++ others, rest)))
       (next-part count i arguments l ∙ ap (λ r. then_parsed r (λ o after. then_parsed (offset after) (λ place left. then_parsed (parsed_parts part offset (count - (i + 1)) left) (λ others rest. Ok ((o, place) ∷ others, rest))))) e)
 
-  -- a part that is refused
+  -- a part with a fault
   pub part-refused : (done : List (Outcome × Position)) (count i : ℕ) (arguments : List Text) (e : RunError) → i < count → part arguments ≡ Err e → left_after done (count - i) arguments ≡ Err e
   part-refused done count i arguments e l h = after-part done count i arguments l (Err e) h
 
-  -- an offset that is refused
+  -- a position with a fault
   pub offset-refused : (done : List (Outcome × Position)) (count i : ℕ) (arguments after : List Text) (o : Outcome) (e : RunError) → i < count → part arguments ≡ Ok (o, after) → offset after ≡ Err e → left_after done (count - i) arguments ≡ Err e
   offset-refused done count i arguments after o e l h k =
       after-part done count i arguments l (Ok (o, after)) h
       ∙ ap (λ r. then_parsed (then_parsed r (λ place left. then_parsed (parsed_parts part offset (count - (i + 1)) left) (λ others rest. Ok ((o, place) ∷ others, rest)))) (λ others rest. Ok (done ++ others, rest))) k
 
-  -- one part more
+  -- one more part that was read
   pub part-more : (done : List (Outcome × Position)) (count i : ℕ) (arguments after left : List Text) (o : Outcome) (place : Position) → i < count → part arguments ≡ Ok (o, after) → offset after ≡ Ok (place, left)
       → left_after done (count - i) arguments ≡ left_after (done ++ (o, place) ∷ []) (count - (i + 1)) left
   part-more done count i arguments after left o place l h k =
@@ -98,13 +98,13 @@ module _ (part : List Text → Parsed Outcome) (offset : List Text → Parsed Po
       ∙ ap (λ r. then_parsed (then_parsed r (λ place left. then_parsed (parsed_parts part offset (count - (i + 1)) left) (λ others rest. Ok ((o, place) ∷ others, rest)))) (λ others rest. Ok (done ++ others, rest))) k
       ∙ pushed done (o, place) (parsed_parts part offset (count - (i + 1)) left)
 
-  -- all parts
+  -- all parts were read
   pub parts-end : (done : List (Outcome × Position)) (count i : ℕ) (arguments : List Text) → count ≤ i → left_after done (count - i) arguments ≡ Ok (done, arguments)
   parts-end done count i arguments l =
       let none : count - i ≡ 0 = omega arith in
       ap (λ k. left_after done k arguments) none ∙ ap (λ os. Ok (os, arguments)) (append-nil done)
 
-  -- a join, from its parts
+  -- a join, after its parts were read
   pub join-of-parts : (arguments after : List Text) (n : ℕ) (read : Parsed (List (Outcome × Position))) → parsed_number arguments ≡ Ok (n, after) → parsed_parts part offset n after ≡ read
       → parsed_join part offset arguments ≡ then_parsed read (λ parts left. Ok (join_outcome parts, left))
   join-of-parts arguments after n read e f =

@@ -1,4 +1,4 @@
--- The first text of an input, and what comes after its parting line.
+-- The first text of an input, and what comes after the line that separates it from the next.
 use Rattle.std.proofs.Common.{◌≡◌, ◌≢◌, ℕ, ◌<◌, Bool, true, false, cond, ◌==◌, List, [], ◌∷◌, ◌++◌, map, codes, length, drop, refl, sym, ap, ◌∙◌, arith}
 use Rattle.std.specs.List.{All, slice_split, join_with_byte, onto_first}
 use Rattle.std.specs.Cmp.Lexicographic.{bytes_decides}
@@ -30,12 +30,12 @@ split-at p (x ∷ xs) y ys e =
       | false ↦ ap (onto_first x) (split-at p xs y ys e) ∙ onto-front x (slice_split p xs) (slice_split p ys) (split-some p xs)
     ]
 
--- ---- where a parting line stands in a text
+-- ---- the separating lines of a text
 join-front : (x : Text) (xs : List Text) (y : Text) (ys : List Text) → join_with_byte 10 ((x ∷ xs) ++ y ∷ ys) ≡ join_with_byte 10 (x ∷ xs) ++ 10 ∷ join_with_byte 10 (y ∷ ys)
 join-front x [] y ys = refl
 join-front x (z ∷ xs) y ys = ap (λ t. x ++ 10 ∷ t) (join-front z xs y ys) ∙ sym (append_assoc x (10 ∷ join_with_byte 10 (z ∷ xs)) (10 ∷ join_with_byte 10 (y ∷ ys)))
 
--- no line of a text is a parting one: by itself, first, last, or between two others
+-- no line of a text is a separating one: by itself, first, last, or between two others
 abbrev pub HasNone : Text → Type 0
 HasNone text =
     (text ≢ codes "---")
@@ -55,7 +55,7 @@ not-parting line n = false_from_ne_true (is_parting line) (λ t. n ((bytes_decid
 pub not_dashes : (text : Text) → is_parting text ≡ false → text ≢ dashes
 not_dashes text f e = cc (sym f ∙ ap is_parting e)
 
--- lines that hold no parting line, wherever one is looked for
+-- lines among which there is no separating line, wherever one is looked for
 none-left : (lines : List Text) → ((front after : List Text) → lines ≢ front ++ dashes ∷ after) → All (λ line. is_parting line ≡ false) lines
 none-left [] n = All-nil (λ line. is_parting line ≡ false)
 none-left (line ∷ lines) n =
@@ -75,20 +75,20 @@ with-dashes text after lines h e =
     ∙ ap (map (join_with_byte 10)) (slice_split_at is_parting (input_lines text) dashes lines (none-parting text h) refl)
     ∙ ap (λ t. t ∷ map (join_with_byte 10) (slice_split is_parting lines)) (join_with_byte-slice_split 10 text)
 
--- a text with a parting line after it, and then others
+-- a text with a separating line after it, and then others
 pub text_and_more : (input text rest : Text) → input ≡ text ++ (codes "\n---\n" ++ rest) → HasNone text → inputs_of input ≡ text ∷ inputs_of rest
 text_and_more input text rest e h = ap inputs_of e ∙ with-dashes text (codes "---\n" ++ rest) (input_lines rest) h refl
 
--- a text with a parting line after it, which ends the input
+-- a text with a separating line after it, which ends the input
 pub text_and_none : (input text : Text) → input ≡ text ++ codes "\n---" → HasNone text → inputs_of input ≡ text ∷ [] ∷ []
 text_and_none input text e h = ap inputs_of e ∙ with-dashes text dashes [] h refl
 
--- ---- where a search found no parting line
+-- ---- a search that found no separating line
 module _ (input text : Text) (no_first : (rest : Text) → input ≢ codes "---\n" ++ rest) where
   shorter : (front after : Text) → text ≡ front ++ after → 0 < length after → length front < length text
   shorter front after e l = let k = ap length e ∙ length-append front after in omega (arith, k, l)
 
-  -- the text before the first parting line between two others
+  -- the text before the first separating line between two others
   pub none_before : (rest : Text) → input ≡ text ++ (codes "\n---\n" ++ rest)
       → ((i : ℕ) → i < length text → (after : Text) → drop i input ≢ codes "\n---\n" ++ after) → HasNone text
   none_before rest e first =
@@ -100,7 +100,7 @@ module _ (input text : Text) (no_first : (rest : Text) → input ≢ codes "---\
         λ front ys q. stands front (ys ++ (codes "\n---\n" ++ rest)) (shorter front (codes "\n---\n" ++ ys) q (omega arith)) (e ∙ ap (λ t. t ++ (codes "\n---\n" ++ rest)) q ∙ append_assoc front (codes "\n---\n" ++ ys) (codes "\n---\n" ++ rest)),
       )
 
-  -- the text before a parting line that ends the input, where there is none between two others
+  -- the text before a separating line that ends the input, if there is none between two others
   pub none_before_last : input ≡ text ++ codes "\n---" → ((front rest : Text) → input ≢ front ++ (codes "\n---\n" ++ rest)) → HasNone text
   none_before_last e none = (
     λ q. no_first dashes (e ∙ ap (λ t. t ++ codes "\n---") q),

@@ -29,7 +29,7 @@ outcomes-at_lines : (parts : List (Plan × ℕ)) → at_lines (map (λ p. (outco
 outcomes-at_lines [] = refl
 outcomes-at_lines (p ∷ parts) = ap (λ xs. (outcome_of p.0, at_line p.1) ∷ xs) (outcomes-at_lines parts)
 
--- one part more
+-- the outcomes of the parts of a join, with one part more
 pub outcomes-lines-pushed : (parts : List (Plan × ℕ)) (p : Plan × ℕ) → outcomes (at_lines (parts ++ p ∷ [])) ≡ outcomes (at_lines parts) ++ (outcome_of p.0, at_line p.1) ∷ []
 outcomes-lines-pushed [] p = refl
 outcomes-lines-pushed (q ∷ parts) p = ap (λ xs. (outcome_of q.0, at_line q.1) ∷ xs) (outcomes-lines-pushed parts p)

@@ -117,7 +117,7 @@ refused-of : (file : Option Text) (x : Result MapRecord Error) (f : Error) → (
 refused-of file (Ok j) f e = cc
 refused-of file (Err g) f e = cc
 
--- ---- by what is said
+-- ---- by the value that is read
 gives : (laws : JoinLaws) (said : Said) (r : MapRecord) → ((file : Option Text) (found : Sections) → said ≡ indexed file found → AllByRecursion (λ m. IsWellRead m.0) found.maps)
     → map_said said ≡ Ok r → AreInBounds r.tokens → IsSound r → are_tokens_sorted r.tokens ≡ true → Realizes r (read_outcome said)
 gives laws (plain answer) r w e b h s = subst (λ a. Realizes r (plain_outcome a)) (sym e) (plain_gives r b h s)
@@ -154,7 +154,7 @@ refused laws (indexed file found) e w h =
       | false ↦ (λ t k. let f : TooLarge ≡ e = cc (k) in subst (λ x. FailsAs (Map x) (sections_outcome file found.fault found.maps)) f (sections_too_large laws file found.maps (w file found refl) found.fault t))
     ] refl j
 
--- ---- a text
+-- ---- by the text that is read
 pub read_gives : JoinLaws → (text : Text) (r : MapRecord) → read_map text ≡ Ok r → AreInBounds r.tokens → IsSound r → are_tokens_sorted r.tokens ≡ true → Realizes r (read_outcome (said_in text))
 read_gives laws text r e b h s = gives laws (said_in text) r (sections_well text) (sym (read_is_said text) ∙ e) b h s
 

@@ -1,4 +1,4 @@
--- What readings, rewritings, joins and compositions give, by what their parts give.
+-- Readings, rewritings, joins and compositions realize their outcomes if their parts do.
 use Rattle.std.proofs.Common.{is_some, ◌≡◌, ◌≢◌, ℕ, suc, ◌≤◌, ◌<◌, Bool, true, false, cond, ◌&&◌, List, [], ◌∷◌, ◌++◌, map, length, refl, sym, ap, ◌∙◌, subst, arith, nat_le, nat_lt, Option, Some, None, option_map, Result, Ok, Err, inl, inr, ◌⊎◌}
 use Rattle.std.specs.List.{flat_map, list_any, AllByRecursion}
 use Rattle.std.specs.Option.{IfSome, option_map, option_and_then, unwrap_or}
@@ -41,7 +41,7 @@ use Rattle.oxc_sourcemap_plan.specs.Realizes.{Realizes, FailsAs, AllRealize}
 use Rattle.oxc_sourcemap_plan.proofs.KnownNames.{among-left, among-right, among-both, among-self, all-more, all-weaker}
 use Rattle.oxc_sourcemap_plan.proofs.Decoding.{decoded-bounds, sorted-order}
 
--- a refusal is lack of memory or not
+-- an error is want of memory or not
 pub memory_or_not : (e : Error) → (e ≡ OutOfMemory) ⊎ (e ≢ OutOfMemory)
 memory_or_not VlqLeftover = inr (λ q. cc (q))
 memory_or_not VlqNoValues = inr (λ q. cc (q))
@@ -57,7 +57,7 @@ memory_or_not (BadChunks k) = inr (λ q. cc (q))
 memory_or_not (SeveralSources n) = inr (λ q. cc (q))
 memory_or_not (SectionOrder k) = inr (λ q. cc (q))
 
--- what is refused as is meant, where it is not lack of memory
+-- an error may be assumed not to be want of memory, which every outcome allows
 pub unless_memory : (e : Error) (o : Outcome) → ((e ≢ OutOfMemory) → FailsAs (Map e) o) → FailsAs (Map e) o
 unless_memory e o f = elim (memory_or_not e) [ inl m ↦ inl (ap (λ x. Map x) m) | inr n ↦ f n ]
 
@@ -161,7 +161,7 @@ reading_refused back r j e w d o g =
     no-ok-err _ _ (sym b.is_read ∙ ap decoded (written-is (writing_fault r.tokens r.token_chunks) r j w) ∙ d)
 
 -- ---- a join
--- what a move in a join leaves of a token in bounds
+-- what a shift in a join keeps of a token in bounds
 pub record Stays (t : TokenRecord) : Type 0 where
   src_line : t.src_line < 4294967296
   src_col : t.src_col < 4294967296
@@ -231,7 +231,7 @@ join-fits r names s e =
     let q = and_parts (are_counts_within_limits names s) (are_positions_within_limits s.mappings) p.1 in
     (counts-fit names s q.0, q.1)
 
--- that joins are within the limits, by the decoded maps of their parts
+-- joins are within the limits, by the decoded maps of their parts
 room-of : (ms : List (MapRecord × Position)) (os : List (Outcome × Position)) (j : Joint ms os) → (join_outcome os).is_within_limits ≡ true → CountsFit (names_of_all os) (joined_decoded_maps j.decoded_maps) × (are_positions_within_limits (joined_decoded_maps j.decoded_maps).mappings ≡ true)
 room-of ms os j e = join-fits (are_all_within_limits os) (names_of_all os) (joined_decoded_maps j.decoded_maps) (ap (λ q. are_all_within_limits os && is_join_within_limits (names_of_all os) q) (sym j.mean) ∙ e)
 
@@ -293,7 +293,7 @@ pub record JoinLaws : Type 0 where
 pub join_laws : TestsAgree → JoinKeepsEqualUpToRepeats → DecodedMapOfJoin → JoinInRange → JoinStandsFor → JoinNames → JoinTokens → JoinLaws
 join_laws a b c d e f g = record { tests = a; keeps = b; decoded_map = c; range = d; stands = e; names = f; tokens = g }
 
--- A join is within limits where a decoded map is that it is equal up to repeats to, with at least as many names and mappings.
+-- A join is within the limits if a decoded map that it is equal to up to repeats is, with at least as many names and mappings.
 pub within_of : (laws : JoinLaws) (ms : List (MapRecord × Position)) (s : DecodedMap) (all : List Text) → EqualUpToRepeats (decoded_map_of (joined ms)) s
     → AreAllInRange ms → AreIgnoreListsInRange ms → AllByRecursion (λ m. AllByRecursion Stays m.0.tokens) ms
     → length (flat_map (λ m. m.0.tokens) ms) ≤ length s.mappings → length (flat_map (λ m. m.0.names) ms) ≤ length all
@@ -363,7 +363,7 @@ module _ (laws : JoinLaws) (ms : List (MapRecord × Position)) (os : List (Outco
     | inr t ↦ inr (inr (ap (λ e. Map e) t.0, false_from_ne_true _ (λ k. t.1 (join_within k))))
   ]
 
--- ---- a part of a join that is refused
+-- ---- a part of a join that fails
 decoded_maps-refused : (ms : List (MapRecord × Position)) (os ps : List (Outcome × Position)) (o : Outcome) (n : Position) (e : PlanError) → AllRealize ms os → o.meaning ≡ Err e → all_decoded_maps (meanings (os ++ (o, n) ∷ ps)) ≡ Err e
 decoded_maps-refused [] [] ps o n e h q = ap (λ r. onto_decoded_maps r n (all_decoded_maps (meanings ps))) q
 decoded_maps-refused [] (p ∷ os) ps o n e h q = absurd h

@@ -11,7 +11,7 @@ use Rattle.oxc_sourcemap_join.specs.Joined.{at_lines}
 use Rattle.oxc_sourcemap_plan.specs.Meaning.{Meaning}
 use Rattle.oxc_sourcemap_plan.specs.Outcome.{Outcome, plain_outcome, rewrite_outcome, join_outcome, composition_outcome}
 
--- generated line and column, source line and column, source id, name id
+-- a token: generated line and column, source line and column, source id, name id
 abbrev token : ℕ → ℕ → ℕ → ℕ → Option ℕ → Option ℕ → TokenRecord
 token dst_line dst_col src_line src_col source_id name_id =
     record { dst_line = dst_line; dst_col = dst_col; src_line = src_line; src_col = src_col; source_id = source_id; name_id = name_id }
@@ -20,11 +20,11 @@ token dst_line dst_col src_line src_col source_id name_id =
 abbrev plain : List Text → List Text → List TokenRecord → MapRecord
 plain names sources tokens = record empty_record { names = names; sources = sources; tokens = tokens }
 
--- what a text that says this map comes to
+-- the outcome of a text of this map
 abbrev of_map : MapRecord → Outcome
 of_map r = plain_outcome (Ok r)
 
--- a mapping at a position, which points to this one of a source
+-- a mapping at a generated position, which points to a position of a source
 abbrev points : ℕ → ℕ → Text → ℕ → ℕ → Option Text → DecodedMapping
 points line col path src_line src_col name =
     record { dst_line = line; dst_col = col; original = Some (record { source = record { path = path; content = None }; src_line = src_line; src_col = src_col; name = name }) }
@@ -37,7 +37,7 @@ abbrev entries_of : Meaning → List DecodedMapping
 entries_of (Ok s) = s.mappings
 entries_of (Err e) = []
 
--- AAKG,I with a.js, and AAOC with b.js
+-- the maps of the mappings AAKG,I with the source a.js, and AAOC with b.js
 abbrev first_map : MapRecord
 first_map = plain [] (codes "a.js" ∷ []) (token 0 0 5 3 (Some 0) None ∷ token 0 4 5 3 None None ∷ [])
 
@@ -63,7 +63,7 @@ rewrites-a-join : (rewrite_outcome (lines_outcome ((of_map first_map, 0) ∷ (of
     ≡ (lines_outcome ((of_map first_map, 0) ∷ (of_map second_map, 1) ∷ [])).meaning
 rewrites-a-join = refl
 
--- the second map at a line before the first
+-- a join whose second map is at a line before the first
 joins-unsorted : (lines_outcome ((of_map first_map, 1) ∷ (of_map second_map, 0) ∷ [])).meaning ≡ Err Unsorted
 joins-unsorted = refl
 
@@ -74,7 +74,7 @@ bad-part-first = refl
 bad-part-counts-nothing : (lines_outcome ((of_map (plain [] [] (token 1 0 0 0 None None ∷ [])), 4294967295) ∷ (plain_outcome (Err (BadJson Reading)), 0) ∷ [])).is_within_limits ≡ true
 bad-part-counts-nothing = refl
 
--- without that text there is no room
+-- without the text that is no JSON, the line past the last one counts
 no-room : (lines_outcome ((of_map (plain [] [] (token 1 0 0 0 None None ∷ [])), 4294967295) ∷ [])).is_within_limits ≡ false
 no-room = refl
 
@@ -92,7 +92,7 @@ joins-at-a-column = refl
 joins-at-a-column-unsorted : (side_by_side 3).meaning ≡ Err Unsorted
 joins-at-a-column-unsorted = refl
 
--- a column past the last one
+-- a token shifted to a column past the last one
 no-room-for-a-column : (join_outcome ((of_map (plain [] [] (token 0 1 0 0 None None ∷ [])), record { line = 0; column = 4294967295 }) ∷ [])).is_within_limits ≡ false
 no-room-for-a-column = refl
 
@@ -103,6 +103,6 @@ composes : entries_of (composition_outcome
     ≡ points 0 0 (codes "o.ts") 4 4 (Some (codes "y")) ∷ points 0 3 (codes "o.ts") 5 5 (Some (codes "x")) ∷ []
 composes = refl
 
--- compose @0 @0, with two sources
+-- compose @0 @0, of a map with two sources
 several : (composition_outcome (of_map (plain [] (codes "a" ∷ codes "b" ∷ []) [])) (of_map (plain [] (codes "a" ∷ codes "b" ∷ []) []))).meaning ≡ Err (Map (SeveralSources 2))
 several = refl

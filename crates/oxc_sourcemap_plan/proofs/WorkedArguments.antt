@@ -22,7 +22,7 @@ too-deep = refl
 too-deep-bad-argument : parsed_plan one_text (rewrites 63 (codes "join" ∷ codes "1" ∷ codes "part" ∷ [])) ≡ Err (Plan TooDeep)
 too-deep-bad-argument = refl
 
--- one that begins at depth 64 is not
+-- a part that begins at depth 64 is not too deep
 no-text : parsed_plan one_text (rewrites 63 (codes "@9" ∷ [])) ≡ Err (NoText 9)
 no-text = refl
 
@@ -33,7 +33,7 @@ no-argument = refl
 no-argument-at-65 : parsed_plan one_text (rewrites 64 []) ≡ Err Arguments
 no-argument-at-65 = refl
 
--- a missing text is met before an argument that is left over
+-- a missing text is reported before an argument that is left over
 no-text-first : parsed_plan one_text (codes "@1" ∷ codes "@0" ∷ []) ≡ Err (NoText 1)
 no-text-first = refl
 
@@ -56,7 +56,7 @@ too-large = refl
 no-digits : number_of [] ≡ None
 no-digits = refl
 
--- texts are parted by lines of three dashes alone
+-- texts are separated by lines of three dashes alone
 empty-input : inputs_of [] ≡ [] ∷ []
 empty-input = refl
 

@@ -4,7 +4,7 @@ use Rattle.oxc_sourcemap_plan.specs.declared.plan.Plan.{Plan}
 use Rattle.oxc_sourcemap_plan.specs.declared.plan.Plan.TheOpen.{Plan-F}
 use Rattle.oxc_sourcemap_plan.specs.declared.plan.Plan.TheFolds.{fold-Plan}
 
--- the greatest depth among parts of a join, 0 where there are none
+-- the greatest depth among parts of a join, 0 if there are none
 abbrev pub deepest : List ℕ → ℕ
 deepest [] = 0
 deepest (part ∷ parts) = max part (deepest parts)

@@ -1,4 +1,4 @@
--- What is promised of the map that the evaluation of a plan answers.
+-- What is promised of the map that the evaluation of a plan returns, and of its errors.
 use Rattle.std.specs.Prelude.{◌≡◌, ◌≤◌, Bool, true, List, length, Ok, Err, Some, None, false, ◌⊎◌}
 use Rattle.std.specs.List.{list_all, list_any}
 use Rattle.std.specs.Str.{bytes_eq}
@@ -24,7 +24,7 @@ is_among names name = list_any (bytes_eq name) names
 abbrev pub are_among : List Text → List Text → Bool
 are_among names others = list_all (is_among names) others
 
--- A map has no chunks, and its text reads as its very tokens.
+-- A map has no chunks, and its mappings text is read as exactly its tokens.
 pub record IsReadBack (m : MapRecord) : Type 0 where
   pub chunks : m.token_chunks ≡ None
   pub tokens : reading (canonical m.tokens) (length m.names) (length m.sources) ≡ Ok m.tokens
@@ -35,7 +35,7 @@ IsFailure o e = (o.meaning ≡ Err e) ⊎ ((e ≡ Map TooLarge) × (o.is_within_
 
 -- What is promised of the map that an evaluation returns, by the outcome of the plan.
 pub record IsEvaluated (m : MapRecord) (o : Outcome) : Type 0 where
-  -- it is the very map that reading, rewriting, joining and composing make
+  -- it is exactly the map that reading, rewriting, joining and composing make
   pub map_record : o.map_record ≡ Some m
   -- the plan means a decoded map, and the map is sound and means the same but for repeated mappings
   pub decoded_map : DecodedMap
@@ -44,16 +44,16 @@ pub record IsEvaluated (m : MapRecord) (o : Outcome) : Type 0 where
   pub up_to_repeats : EqualUpToRepeats (decoded_map_of m) decoded_map
   pub traces : HaveSameTraces (decoded_map_of m) decoded_map
   pub metadata : EqualButForMappings (decoded_map_of m) decoded_map
-  -- no more tokens than mappings are meant, no more names than the texts have, and no more contents than `o` says
+  -- it has no more tokens than the meant mappings, no more names than the texts, and no more contents than `o` counts
   pub tokens : length m.tokens ≤ length decoded_map.mappings
   pub names : length m.names ≤ length o.names
   pub contents : length m.source_contents ≤ o.contents
   -- each name is a name of one of the texts
   pub known : are_among o.names m.names ≡ true
-  -- after a rewriting, its text reads as its very tokens
+  -- after a rewriting, its mappings text is read as exactly its tokens
   pub rewritten : o.is_rewritten ≡ true → IsReadBack m
   -- it is not too large to be written if all parts are within the limits
   pub within_limits : o.is_within_limits ≡ true → length m.tokens ≤ 4294967295
-  -- it is written then, and comes back
+  -- if it is not too large, it is written; and what is written comes back
   pub written : length m.tokens ≤ 4294967295 → encoded m ≡ Ok (encoded_record m)
   pub comes_back : ComesBack m

@@ -16,16 +16,16 @@ are_counts_within_limits names s = nat_le (length names) 4294967295 && (nat_le (
 abbrev pub is_position_within_limits : DecodedMapping → Bool
 is_position_within_limits e = nat_le e.dst_line 4294967295 && nat_le e.dst_col 4294967295
 
--- those of all mappings are
+-- the lines and columns of all mappings are at most 4294967295
 abbrev pub are_positions_within_limits : List DecodedMapping → Bool
 are_positions_within_limits mappings = list_all is_position_within_limits mappings
 
--- a part with these names and this meaning; what is refused counts nothing
+-- a part with these names and this meaning is within the limits; a part that means an error counts nothing
 abbrev pub is_part_within_limits : List Text → Meaning → Bool
 is_part_within_limits names (Err e) = true
 is_part_within_limits names (Ok s) = are_counts_within_limits names s
 
--- a join with these names, of these decoded maps; it counts also where it is not sorted
+-- a join of these decoded maps, with these names, is within the limits; it counts even if it is not sorted
 abbrev pub is_join_within_limits : List Text → Result (List (DecodedMap × Position)) PlanError → Bool
 is_join_within_limits names (Err e) = true
 is_join_within_limits names (Ok decoded_maps) =

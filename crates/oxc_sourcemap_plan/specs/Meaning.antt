@@ -1,4 +1,4 @@
--- What plans mean: a decoded map, or one refusal. Here by what their parts mean; `Outcome` has the cases.
+-- What plans mean, by what their parts mean: a decoded map, or one error. `Outcome` has the cases of a plan.
 use Rattle.std.specs.Prelude.{List, [], ◌∷◌, length, Option, Some, None, Result, Ok, Err, if◌then◌else◌, nat_lt}
 use Rattle.oxc_sourcemap_tokens.specs.declared.error.Error.{Error}
 use Rattle.oxc_sourcemap_tokens.specs.declared.error.Error.TheVariants.{SeveralSources}
@@ -15,36 +15,36 @@ use Rattle.oxc_sourcemap_tokens.specs.declared.plan_error.PlanError.TheVariants.
 abbrev pub Meaning : Type 0
 Meaning = Result DecodedMap PlanError
 
--- A map that is read by itself: its decoded map, where that is sorted.
+-- the meaning of a map that is read by itself: its decoded map, if that is sorted
 abbrev pub read_meaning : Result MapRecord Error → Meaning
 read_meaning (Err fault) = Err (Map fault)
 read_meaning (Ok r) = if are_tokens_sorted r.tokens then Ok (decoded_map_of r) else Err Unsorted
 
--- An indexed map that is read: the join of the decoded maps of its sections, with its file, where that is sorted; or the fault of
--- a section.
+-- the meaning of an indexed map that is read: the join of the decoded maps of its sections, with its file, if that is sorted; or
+-- the fault of a section
 abbrev pub indexed_meaning : Option Text → Option Error → DecodedMap → Meaning
 indexed_meaning file (Some fault) s = Err (Map fault)
 indexed_meaning file None s = if is_sorted_decoded_map s then Ok (record s { file = file }) else Err Unsorted
 
--- a decoded map at its offset, before others; the first refusal stands
+-- a decoded map at its offset, before others; or the first error
 abbrev pub onto_decoded_maps : Meaning → Position → Result (List (DecodedMap × Position)) PlanError
     → Result (List (DecodedMap × Position)) PlanError
 onto_decoded_maps (Err e) offset others = Err e
 onto_decoded_maps (Ok s) offset (Err e) = Err e
 onto_decoded_maps (Ok s) offset (Ok others) = Ok ((s, offset) ∷ others)
 
--- the decoded maps of all parts of a join, each at its offset, or the first refusal of a part
+-- the decoded maps of all parts of a join, each at its offset, or the first error of a part
 abbrev pub all_decoded_maps : List (Meaning × Position) → Result (List (DecodedMap × Position)) PlanError
 all_decoded_maps [] = Ok []
 all_decoded_maps (part ∷ parts) = onto_decoded_maps part.0 part.1 (all_decoded_maps parts)
 
--- A join of parts: the join of their decoded maps, where that is sorted.
+-- the meaning of a join: the join of the decoded maps of its parts, if that is sorted
 abbrev pub join_meaning : Result (List (DecodedMap × Position)) PlanError → Meaning
 join_meaning (Err e) = Err e
 join_meaning (Ok decoded_maps) =
     if is_sorted_decoded_map (joined_decoded_maps decoded_maps) then Ok (joined_decoded_maps decoded_maps) else Err Unsorted
 
--- A composition of two parts: the composition of their decoded maps, where the first has at most one source.
+-- the meaning of a composition: the composition of the decoded maps of its two parts, if the first has at most one source
 abbrev pub composition_meaning : Meaning → Meaning → Meaning
 composition_meaning (Err e) second = Err e
 composition_meaning (Ok s) (Err e) = Err e

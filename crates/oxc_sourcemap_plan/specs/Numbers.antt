@@ -1,4 +1,4 @@
--- The numbers that words write.
+-- The numbers of arguments.
 use Rattle.std.specs.Prelude.{ℕ, ◌&&◌, Bool, false, List, [], ◌∷◌, Option, Some, None, if◌then◌else◌, nat_lt}
 use Rattle.std.specs.List.{list_all}
 use Rattle.std.specs.Char.{digit_value}
@@ -13,7 +13,7 @@ abbrev pub is_numeral : List ℕ → Bool
 is_numeral [] = false
 is_numeral (byte ∷ bytes) = is_decimal_digit byte && list_all is_decimal_digit bytes
 
--- the number that an argument of decimal digits writes, where it is at most 4294967295
+-- the number of an argument of decimal digits, if it is at most 4294967295
 abbrev pub number_of : List ℕ → Option ℕ
 number_of argument =
     if is_numeral argument && nat_lt (digits_value 10 argument) 4294967296 then Some (digits_value 10 argument) else None

@@ -1,4 +1,4 @@
--- What is said of a plan, by cases on it: what it means, the map itself, and whether it is within the limits.
+-- The outcome of a plan, by cases: what it means, the map itself, what bounds its counts, and whether it is within the limits.
 use Rattle.std.specs.Prelude.{ℕ, Bool, true, false, ◌&&◌, List, [], ◌∷◌, ◌++◌, length, map, Option, Some, None, Result, Ok, Err, if◌then◌else◌, nat_le}
 use Rattle.std.specs.List.{flat_map, list_all}
 use Rattle.std.specs.Option.{option_map, option_and_then}
@@ -25,22 +25,22 @@ use Rattle.oxc_sourcemap_plan.specs.Limits.{is_part_within_limits, is_join_withi
 pub record Outcome : Type 0 where
   -- a decoded map, or the first error
   pub meaning : Meaning
-  -- the map that the steps make, sorted or not and within the limits or not; none if a text says no map
+  -- the map that the steps make, sorted or not and within the limits or not; none if a text has a fault
   pub map_record : Option MapRecord
   -- the names of all texts that are read
   pub names : List Text
-  -- how many contents the map lists at most: as many as the text that is read, as a join has sources, as the second part of a
-  -- composition
+  -- how many contents the map has at most: as many as the text that is read, as the join has sources, or as the second part of
+  -- the composition
   pub contents : ℕ
-  -- At every part names, sources and mappings number at most 4294967295, and no line or column of a join is above that.
-  -- A join counts what all its parts have; a composition the names of both, the sources of the second and the mappings
-  -- of the first. A part that means an error counts nothing; but a join whose parts mean none counts, sorted or not, and an
-  -- indexed map counts as the join of its sections in front of the first fault, whatever it means.
+  -- No part has more than 4294967295 names, sources or mappings, and no join a line or column above that. A join counts what all
+  -- its parts have; a composition the names of both, the sources of the second and the mappings of the first. A part that means
+  -- an error counts nothing; but a join whose parts mean none counts, sorted or not, and an indexed map counts as the join of its
+  -- sections in front of the first fault, whatever it means.
   pub is_within_limits : Bool
-  -- the last thing done is to write and read again
+  -- the last step is a rewriting
   pub is_rewritten : Bool
 
--- the map that is read
+-- the map of a text that is read, if it has no fault
 abbrev pub record_read : Result MapRecord Error → Option MapRecord
 record_read (Err fault) = None
 record_read (Ok r) = Some r
@@ -55,7 +55,7 @@ abbrev pub contents_of_read : Result MapRecord Error → ℕ
 contents_of_read (Err fault) = 0
 contents_of_read (Ok r) = length r.source_contents
 
--- a map that is read by itself
+-- the outcome of a map that is read by itself
 abbrev pub plain_outcome : Result MapRecord Error → Outcome
 plain_outcome read = record {
   meaning = read_meaning read;
@@ -66,7 +66,7 @@ plain_outcome read = record {
   is_rewritten = false;
 }
 
--- the map of sections, unless one has a fault
+-- the map of an indexed map, unless a section has a fault
 abbrev pub map_of_sections : Option Error → MapRecord → Option MapRecord
 map_of_sections None r = Some r
 map_of_sections (Some fault) r = None
@@ -75,8 +75,8 @@ map_of_sections (Some fault) r = None
 abbrev pub names_of_sections : List (MapRecord × Position) → List Text
 names_of_sections maps = flat_map (λ m. m.0.names) maps
 
--- An indexed map with this file, by the fault of its sections and those in front of it. It counts what the join of these counts,
--- whatever it means.
+-- The outcome of an indexed map with this file, by the first fault of its sections and the maps in front of it. It counts what
+-- the join of these maps counts, whatever it means.
 abbrev pub sections_outcome : Option Text → Option Error → List (MapRecord × Position) → Outcome
 sections_outcome file fault maps = record {
   meaning = indexed_meaning file fault (joined_decoded_maps (decoded_maps_of maps));
@@ -87,12 +87,12 @@ sections_outcome file fault maps = record {
   is_rewritten = false;
 }
 
--- a text that is read, by what it says
+-- the outcome of a text that is read
 abbrev pub read_outcome : Said → Outcome
 read_outcome (plain answer) = plain_outcome answer
 read_outcome (indexed file found) = sections_outcome file found.fault found.maps
 
--- a rewriting means what its part means
+-- the outcome of a rewriting, which means what its part means
 abbrev pub rewrite_outcome : Outcome → Outcome
 rewrite_outcome part = record part { map_record = option_map rewritten part.map_record; is_rewritten = true }
 
@@ -155,7 +155,7 @@ outcome_of = fold-Plan Outcome outcome_step
 abbrev pub outcomes : List (Plan × Position) → List (Outcome × Position)
 outcomes parts = map (λ p. (outcome_of p.0, p.1)) parts
 
--- what is refused before anything is read
+-- the outcome of a plan that is too deep, of which nothing is read
 abbrev pub too_deep : Outcome
 too_deep = record { meaning = Err TooDeep; map_record = None; names = []; contents = 0; is_within_limits = true; is_rewritten = false }
 

@@ -1,4 +1,4 @@
--- The plan that arguments say, by its outcome. They are read from the left, up to the first fault.
+-- The plan of arguments, by its outcome. Arguments are read from the left, up to the first fault.
 use Rattle.std.specs.Prelude.{ℕ, zero, suc, Bool, true, false, List, [], ◌∷◌, codes, slice_get, Option, Some, None, Result, Ok, Err, if◌then◌else◌, ◌==◌}
 use Rattle.std.specs.Str.{bytes_eq}
 use Rattle.oxc_sourcemap_parts.specs.Record.{Text}
@@ -11,16 +11,16 @@ use Rattle.oxc_sourcemap_plan.specs.declared.run_error.RunError.TheVariants.{Pla
 use Rattle.oxc_sourcemap_plan.specs.Numbers.{number_of}
 use Rattle.oxc_sourcemap_plan.specs.Outcome.{Outcome, read_outcome, rewrite_outcome, join_outcome, composition_outcome}
 
--- What the first arguments say, and the arguments that are left.
+-- what was read of the first arguments, and the arguments that are left
 abbrev pub Parsed : Type 0 → Type 0
 Parsed A = Result (A × List Text) RunError
 
--- the second step, where the first has no fault; else the first fault
+-- the second step, if the first has no fault; else that fault
 abbrev pub then_parsed : {A B : Type 0} → Parsed A → (A → List Text → Parsed B) → Parsed B
 then_parsed (Ok read) next = next read.0 read.1
 then_parsed (Err fault) next = Err fault
 
--- a number
+-- a number and the arguments after it, or the fault of a bad argument
 abbrev pub number_or_fault : Option ℕ → List Text → Parsed ℕ
 number_or_fault None arguments = Err Arguments
 number_or_fault (Some n) arguments = Ok (n, arguments)
@@ -29,7 +29,7 @@ abbrev pub parsed_number : List Text → Parsed ℕ
 parsed_number [] = Err Arguments
 parsed_number (argument ∷ arguments) = number_or_fault (number_of argument) arguments
 
--- the input with a number
+-- the outcome of reading input `k`, or the fault of a missing one
 abbrev pub read_or_fault : Option Text → ℕ → Result Outcome RunError
 read_or_fault None k = Err (NoText k)
 read_or_fault (Some text) k = Ok (read_outcome (said_in text))
@@ -43,27 +43,27 @@ abbrev pub parsed_input : List Text → Text → Result Outcome RunError
 parsed_input inputs [] = Err Arguments
 parsed_input inputs (byte ∷ digits) = if byte == 64 then read_of_number inputs (number_of digits) else Err Arguments
 
--- what one argument says, and the arguments after it
+-- what was read of one argument, and the arguments after it
 abbrev pub with_rest : Result Outcome RunError → List Text → Parsed Outcome
 with_rest (Ok o) arguments = Ok (o, arguments)
 with_rest (Err fault) arguments = Err fault
 
--- where a part of a join begins: a line
+-- the position of a part of `join`: a line, and column 0
 abbrev pub parsed_line : List Text → Parsed Position
 parsed_line arguments = then_parsed (parsed_number arguments) (λ line left. Ok (at_line line, left))
 
--- where a part of a join begins: a line and a column
+-- the position of a part of `joinat`: a line and a column
 abbrev pub parsed_position : List Text → Parsed Position
 parsed_position arguments =
     then_parsed (parsed_number arguments) (λ line after. then_parsed (parsed_number after) (λ column left.
     Ok (position line column, left)))
 
--- where a part of a join begins: a line, and a column if it has one
+-- the position of a part of a join: a line, and a column if it has one
 abbrev pub parsed_beginning : Bool → List Text → Parsed Position
 parsed_beginning false = parsed_line
 parsed_beginning true = parsed_position
 
--- so many parts, each with where it begins after it
+-- so many parts, each followed by its position
 abbrev pub parsed_parts : (List Text → Parsed Outcome) → (List Text → Parsed Position) → ℕ → List Text
     → Parsed (List (Outcome × Position))
 parsed_parts part offset zero arguments = Ok ([], arguments)
@@ -86,7 +86,7 @@ abbrev pub parsed_composition : (List Text → Parsed Outcome) → List Text →
 parsed_composition part rest =
     then_parsed (part rest) (λ first after. then_parsed (part after) (λ second left. Ok (composition_outcome first second, left)))
 
--- what an argument and those after it say, where this reads the parts of a plan
+-- a plan by its first argument and those after it, if `part` reads the parts of a plan
 abbrev pub parsed_by : List Text → (List Text → Parsed Outcome) → Text → List Text → Parsed Outcome
 parsed_by inputs part argument rest =
     if bytes_eq argument (codes "rewrite") then parsed_rewrite part rest
@@ -95,18 +95,18 @@ parsed_by inputs part argument rest =
     else if bytes_eq argument (codes "compose") then parsed_composition part rest
     else with_rest (parsed_input inputs argument) rest
 
--- A part that may be this many levels deep. An argument where no level is left is too deep.
+-- A part that may be this many levels deep. If no level is left, any argument is too deep.
 abbrev pub parsed_part : List Text → ℕ → List Text → Parsed Outcome
 parsed_part inputs levels [] = Err Arguments
 parsed_part inputs zero (argument ∷ rest) = Err (Plan TooDeep)
 parsed_part inputs (suc levels) (argument ∷ rest) = parsed_by inputs (parsed_part inputs levels) argument rest
 
--- no arguments may be left over
+-- an outcome, if no arguments are left over
 abbrev pub whole : Parsed Outcome → Result Outcome RunError
 whole (Err fault) = Err fault
 whole (Ok (o, [])) = Ok o
 whole (Ok (o, argument ∷ arguments)) = Err Arguments
 
--- The outcome of the plan that these arguments say, over these inputs. Plans of one outcome are not told apart.
+-- The outcome of the plan of these arguments, over these inputs. It does not tell apart two plans of one outcome.
 abbrev pub parsed_plan : List Text → List Text → Result Outcome RunError
 parsed_plan inputs arguments = whole (parsed_part inputs 64 arguments)

@@ -1,4 +1,4 @@
--- How the answers of the private steps of an evaluation stand to the outcomes of parts. No public contract cites this.
+-- The results of the private steps of an evaluation, by the outcomes of parts. No public contract cites this.
 use Rattle.std.specs.Prelude.{◌≡◌, ◌≤◌, true, List, length, Ok, Some, None, ◌⊎◌}
 use Rattle.std.specs.List.{AllZip}
 use Rattle.oxc_sourcemap_tokens.specs.declared.error.Error.TheVariants.{OutOfMemory}
@@ -13,8 +13,8 @@ use Rattle.oxc_sourcemap_tokens.specs.declared.plan_error.PlanError.TheVariants.
 use Rattle.oxc_sourcemap_plan.specs.Outcome.{Outcome}
 use Rattle.oxc_sourcemap_plan.specs.Evaluated.{are_among, IsFailure}
 
--- A map is as an outcome says, seen from inside the evaluation: it stands for the decoded map that is meant, with no more tokens
--- and names than are counted.
+-- A map realizes an outcome, seen from inside the evaluation: it stands for the decoded map that is meant, with no more tokens
+-- and names than the outcome counts.
 pub record Realizes (m : MapRecord) (o : Outcome) : Type 0 where
   pub decoded_map : DecodedMap
   pub means : o.meaning ≡ Ok decoded_map
@@ -28,10 +28,10 @@ pub record Realizes (m : MapRecord) (o : Outcome) : Type 0 where
   pub within_limits : o.is_within_limits ≡ true → length decoded_map.mappings ≤ 4294967295
   pub rewritten : o.is_rewritten ≡ true → (m.token_chunks ≡ None) × ((rewritten m).tokens ≡ m.tokens)
 
--- An error is the one that is meant, or lack of memory, or `TooLarge` if the plan is not within the limits.
+-- An error is the one that is meant, or want of memory, or `TooLarge` if the plan is not within the limits.
 abbrev pub FailsAs : PlanError → Outcome → Type 0
 FailsAs e o = (e ≡ Map OutOfMemory) ⊎ IsFailure o e
 
--- each map is as the outcome in the other list says, at the same offset
+-- each map realizes the outcome at its index in the other list, at the same offset
 abbrev pub AllRealize : List (MapRecord × Position) → List (Outcome × Position) → Type 0
 AllRealize ms os = AllZip (λ m o. Realizes m.0 o.0 × (m.1 ≡ o.1)) ms os

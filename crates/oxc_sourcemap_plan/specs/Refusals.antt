@@ -1,4 +1,4 @@
--- The texts of the program's refusals, as bytes, and the status that it ends with.
+-- The texts of the program's errors, as bytes, and the status that it ends with.
 use Rattle.std.specs.Prelude.{ℕ, Bool, true, false, List, ◌++◌, codes, decimal}
 use Rattle.oxc_sourcemap_tokens.specs.declared.error.Error.TheVariants.{OutOfMemory}
 use Rattle.oxc_sourcemap_tokens.specs.PlanMessages.{plan_error_text}
@@ -14,7 +14,7 @@ run_error_text Utf8 = codes "input is not UTF-8"
 run_error_text Arguments = codes "bad arguments"
 run_error_text (NoText k) = codes "no text " ++ decimal k
 
--- bad arguments end with 2, and all else that is refused with 1
+-- the status of an error: 2 for bad arguments, 1 for all else
 abbrev pub status_of : RunError → ℕ
 status_of (Plan error) = 1
 status_of Read = 1
@@ -23,7 +23,7 @@ status_of Utf8 = 1
 status_of Arguments = 2
 status_of (NoText k) = 1
 
--- lack of memory
+-- want of memory
 abbrev pub out_of_memory : RunError
 out_of_memory = Plan (Map OutOfMemory)
 

@@ -2,7 +2,7 @@
 ghost use Rattle.std.specs.Prelude.{◌≡◌};
 ghost use Rattle.oxc_sourcemap_plan.specs.Numbers.{number_of};
 
-/// The number that an argument spells in decimal digits, if it is at most 4294967295. There is no sign; zeros may come first.
+/// The number of an argument of decimal digits, if it is at most 4294967295. There is no sign; zeros may come first.
 pub fn read_number(argument: &str) -> Option<u32>
     ensures { result ≡ number_of argument.now }
 {

@@ -1,4 +1,4 @@
-//! Plans: readings, rewritings, joins and compositions of maps, and their evaluation.
+//! Plans: pipelines of reading, rewriting, joining and composing maps, and their evaluation.
 ghost use Rattle.std.specs.Prelude.{◌≡◌, ◌≤◌, ◌↔◌, ◌⊎◌, List, true, false, IsTrue, IfOk, IfErr};
 ghost use Rattle.oxc_sourcemap_plan.specs.Depth.{depth};
 ghost use Rattle.oxc_sourcemap_plan.specs.Outcome.{Outcome, read_outcome, rewrite_outcome, join_outcome, composition_outcome, outcome_of, outcomes, outcome};
@@ -25,7 +25,7 @@ pub enum Plan<'t> {
     Read(&'t str),
     /// Write the map of a part as a JSON source map, and read it again.
     Rewrite(Box<Plan<'t>>),
-    /// Join the maps of parts, each at the line of the joined code where its line 0 goes.
+    /// Join the maps of parts, each at the line of the joined code where its code begins, at column 0.
     Join(Vec<(Plan<'t>, u32)>),
     /// Join the maps of parts, each at the line and the column of the joined code where its code begins.
     JoinAt(Vec<(Plan<'t>, u32, u32)>),
@@ -34,7 +34,7 @@ pub enum Plan<'t> {
     Compose(Box<Plan<'t>>, Box<Plan<'t>>),
 }
 
-/// Whether a plan is at most so deep. A plan without parts has depth 1.
+/// Whether a plan is at most `room` levels deep. A plan without parts has one level.
 fn is_within_depth(plan: &Plan<'_>, room: u32) -> bool
     ensures { IsTrue result ↔ (depth plan.now ≤ room) }
 {
@@ -66,7 +66,7 @@ fn is_within_depth(plan: &Plan<'_>, room: u32) -> bool
     }
 }
 
-/// This map, where its tokens are sorted.
+/// This map, or `Unsorted` if its tokens are not sorted.
 fn sorted(map: SourceMap<'static>) -> Result<SourceMap<'static>, PlanError>
     ensures map { IfOk result (λ m. (m ≡ map.entry) × (are_tokens_sorted map.entry.tokens ≡ true)) }
     ensures error { IfErr result (λ e. (e ≡ Unsorted) × (are_tokens_sorted map.entry.tokens ≡ false)) }
@@ -78,7 +78,7 @@ fn sorted(map: SourceMap<'static>) -> Result<SourceMap<'static>, PlanError>
     }
 }
 
-/// The map that a JSON text says.
+/// The map of a JSON text, if it is sorted.
 #[inline(never)]
 fn read(alloc: Global, text: &str) -> Result<SourceMap<'static>, PlanError>
     ensures map { IfOk result (λ map. Realizes map (read_outcome (said_in text.now))) }
@@ -100,7 +100,7 @@ fn rewrite(alloc: Global, map: &SourceMap<'_>) -> Result<SourceMap<'static>, Pla
     Ok(SourceMap::from_json(alloc, json)?)
 }
 
-/// The join of maps, each at the position where its code begins.
+/// The join of maps, each at the position where its code begins, if it is sorted.
 #[inline(never)]
 fn join(
     alloc: Global,
@@ -132,8 +132,8 @@ fn compose(
 
 /// The map of a plan of any depth.
 ///
-/// The stack has a frame of each level of a plan. So that these are small, each kind of part has a function of its own, and
-/// what they call is not inlined.
+/// The stack has a frame for each level of a plan. To keep these small, each kind of part has a function of its own, and
+/// what those call is not inlined.
 #[cycle(evaluation)]
 fn evaluate_part(alloc: Global, plan: &Plan<'_>) -> Result<SourceMap<'static>, PlanError>
     ensures map { IfOk result (λ map. Realizes map (outcome_of plan.now)) }
@@ -218,21 +218,22 @@ fn evaluate_composition(
     )
 }
 
-/// Evaluates a plan: reads, rewrites, joins and composes maps as it says, parts from left to right, all parts of a join before
-/// they are joined.
+/// Evaluates a plan: reads, rewrites, joins and composes maps, parts from left to right, all parts of a join before they are
+/// joined.
 ///
 /// The map is the one that the definitions of these steps make. At every generated position it has the exact and the clamped
-/// trace that the plan means, and its sources, contents and metadata. `IsEvaluated` lists all that is promised of it,
-/// `outcome` what a plan means (docs/PROOFS.md, "The theorem").
+/// trace that the plan means, and it has the sources, contents and metadata that the plan means. `IsEvaluated` lists all that
+/// is promised of it, `outcome` what a plan means (docs/PROOFS.md, "The theorem").
 ///
 /// Fails with
 /// - `TooDeep` if the plan is deeper than 64, where a text alone is 1 deep, before anything is read;
 /// - else the first of these, from left to right: `Map(e)` if a text cannot be read as a source map, with the error `e` of
 ///   `SourceMap::from_json_string`; `Unsorted` if the map of a text or of a join is not sorted; `Map(SeveralSources(n))` if
-///   the first map of a composition has n sources and n is above 1;
-/// - it may fail instead with `Map(TooLarge)` if some part has more than 4294967295 names (of all texts read for it), sources
-///   or mappings (repeated ones included), each counted by itself, or a joined line or column above that, where an indexed map
-///   counts as the join of its sections (`is_within_limits`), and with `Map(OutOfMemory)` if memory is refused.
+///   the first map of a composition has n sources and n is above 1.
+///
+/// It may fail instead with `Map(TooLarge)` if some part has more than 4294967295 names (of all texts read for it), sources or
+/// mappings (repeated ones included), each counted by itself, or a joined line or column above that, where an indexed map
+/// counts as the join of its sections (`is_within_limits`), and with `Map(OutOfMemory)` for want of memory.
 pub fn evaluate(alloc: Global, plan: &Plan<'_>) -> Result<OwnedSourceMap, PlanError>
     ensures map { IfOk result (λ map. IsEvaluated map (outcome plan.now)) }
     ensures error { IfErr result (λ e. (e ≡ Map OutOfMemory) ⊎ IsFailure (outcome plan.now) e) }

@@ -1,4 +1,4 @@
-//! The arguments of a plan, and its inputs.
+//! Plans as arguments, and the texts in an input.
 ghost use Rattle.std.specs.Prelude.{◌≡◌, ◌≢◌, ◌≤◌, ◌<◌, ◌+◌, ◌∷◌, [], false, length, map, string_bytes, Ok, Err, slice_get, MatchOption, IfOk, IfErr, IfSome};
 ghost use Rattle.oxc_sourcemap_plan.specs.Refusals.{out_of_memory, is_of_port};
 ghost use Rattle.oxc_sourcemap_plan.specs.Depth.{depth};
@@ -50,7 +50,7 @@ pub fn inputs_of<'t>(alloc: Global, input: &'t str) -> Memory<Vec<&'t str>>
     }
 }
 
-/// The number that the first argument says, and the arguments after it.
+/// The number of the first argument, and the arguments after it.
 fn take_number<'w>(arguments: &'w [String]) -> Result<(u32, &'w [String]), RunError>
     ensures number { Gives (λ r. (r.0, map string_bytes r.1.now)) result (parsed_number (map string_bytes arguments.now)) }
     ensures causes { IfErr result (λ e. is_of_port e ≡ false) }
@@ -64,8 +64,8 @@ fn take_number<'w>(arguments: &'w [String]) -> Result<(u32, &'w [String]), RunEr
     }
 }
 
-/// Where a part of a join begins, by the first arguments: a line, and a column if it has one, else column 0; and the arguments
-/// after these.
+/// The position of a part of a join, from the first arguments: a line, and a column if it has one, else column 0; and the
+/// arguments after these.
 fn take_position<'w>(
     arguments: &'w [String],
     has_column: bool,
@@ -89,7 +89,7 @@ fn input_at<'t>(inputs: &'t [&'t str], number: u32) -> Option<&'t str>
     inputs.get(number as usize).copied()
 }
 
-/// The part that an argument `@K` says: read input K.
+/// The part of an argument `@K`: read input K.
 fn read_input<'t>(inputs: &'t [&'t str], argument: &str) -> Result<Plan<'t>, RunError>
     ensures part { IfOk result (λ plan. parsed_input (lent_items inputs.now) argument.now ≡ Ok (outcome_of plan)) }
     ensures depth { IfOk result (λ plan. depth plan ≡ 1) }
@@ -146,8 +146,8 @@ fn read_part<'t, 'w>(
     }
 }
 
-/// The join after `join` or `joinat`: a number, and as many parts, at most `room` levels deep, each with where it begins. A join at
-/// lines is one at these lines and column 0.
+/// The join after the argument `join` or `joinat`: a number, and as many parts, at most `room` levels deep, each with its
+/// position. A join at lines is one at these lines and column 0.
 #[cycle(part)]
 fn read_join<'t, 'w>(
     alloc: Global,
@@ -177,15 +177,15 @@ fn read_join<'t, 'w>(
     Ok((Plan::JoinAt(parts), rest))
 }
 
-/// The plan that arguments say, over these inputs: `@K` for input K (from 0), `rewrite P`, `join N` followed by N times
+/// The plan of these arguments, over these inputs: `@K` for input K (from 0), `rewrite P`, `join N` followed by N times
 /// `P LINE`, `joinat N` followed by N times `P LINE COLUMN`, or `compose P P`, each number as `read_number` reads it.
 ///
-/// Arguments are read from the left, and the error is that of the first fault:
+/// Arguments are read from the left, and the first fault is the error:
 /// - `Plan(TooDeep)` for an argument where a part at depth 65 would begin;
 /// - `NoText(K)` for `@K` if there is no such input;
 /// - `Arguments` for any other argument that is bad, missing or left over.
 ///
-/// Also `Plan(Map(OutOfMemory))` if memory is refused.
+/// Also `Plan(Map(OutOfMemory))` for want of memory.
 pub fn read_plan<'t>(
     alloc: Global,
     inputs: &'t [&'t str],

@@ -1,4 +1,4 @@
-//! Why a command fails.
+//! The errors of a command.
 ghost use Rattle.std.specs.Prelude.{◌≡◌, Some};
 ghost use Rattle.oxc_sourcemap_tokens.specs.declared.plan_error.PlanError.TheVariants.{Map};
 ghost use Rattle.oxc_sourcemap_plan.specs.declared.run_error.RunError.TheVariants.{Plan};
@@ -11,7 +11,7 @@ use std::fmt;
 /// Why a command fails.
 #[derive(Clone, Copy, Debug, PartialEq, Eq)]
 pub enum RunError {
-    /// The evaluation of a plan, or a call on a map or a `mappings` text, failed, or memory was refused.
+    /// The evaluation of a plan, or a call on a map or a `mappings` text, failed, or there was no memory.
     Plan(PlanError),
     /// A read failed.
     Read,
@@ -19,7 +19,7 @@ pub enum RunError {
     Write,
     /// The input is not UTF-8.
     Utf8,
-    /// The arguments say no command, or no plan.
+    /// The arguments are not those of a command, or of a plan.
     Arguments,
     /// The arguments of a plan name a text that the input does not have.
     NoText(u32),

@@ -8,7 +8,7 @@ appends_then a b c None p f g = tt
 appends_then a b c (Some x) None f g = tt
 appends_then a b c (Some x) (Some y) f g = g ∙ ap (λ t. t ++ y) f ∙ append_assoc a x y
 
--- a text, a part, a text, a part and a text
+-- what `push_parts` appends: a text, a part, a text, a part and a text
 pub parts-appended : (a b c d e f x y z : List ℕ) (o p : Option (List ℕ)) → b ≡ a ++ x → AppendsText b c o → d ≡ c ++ y → AppendsText d e p → f ≡ e ++ z
     → AppendsText a f (Some x ++? (o ++? (Some y ++? (p ++? Some z))))
 parts-appended a b c d e f x y z o p g h i j k =

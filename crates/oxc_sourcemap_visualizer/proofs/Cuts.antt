@@ -7,7 +7,7 @@ use mathlib.Core.List.{append_assoc}
 use Rattle.oxc_sourcemap_parts.specs.Record.{Text}
 use Rattle.oxc_sourcemap_visualizer.specs.TextLines.{units_of, ends_line, onto_first, lines_of, text_lines}
 
--- units before the first of some lines
+-- these lines, with units put before the first line
 abbrev pub before_first : List ℕ → List (List ℕ) → List (List ℕ)
 before_first units [] = units ∷ []
 before_first units (line ∷ lines) = (units ++ line) ∷ lines
@@ -33,11 +33,11 @@ pub lines-no_end : (unit : ℕ) (after : List ℕ) → ends_line unit after ≡ 
 unfolding lines_of
 lines-no_end unit after e = rw e
 
--- what is left from place i on begins with the unit there
+-- what is left from index i on begins with the unit there
 opened : (units : List ℕ) (i : ℕ) → i < length units → drop i units ≡ get_or units i 0 ∷ drop (i + 1) units
 opened units i h = rw (add-one, drop-cons units i 0 h)
 
--- what is known before place i: the line so far, before the first line of what is left
+-- the lines from the cut on, at index i: the line so far, put before the first line of what is left
 pub cut-further : (units : List ℕ) (i : ℕ) → i < length units → ends_line (get_or units i 0) (drop (i + 1) units) ≡ false
     → before_first (take i units) (lines_of (drop i units)) ≡ before_first (take (i + 1) units) (lines_of (drop (i + 1) units))
 cut-further units i h e =

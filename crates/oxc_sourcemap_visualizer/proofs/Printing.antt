@@ -1,4 +1,4 @@
--- What tokens print, one after the other.
+-- The texts of tokens, one after the other.
 use Rattle.std.proofs.Common.{◌≡◌, ℕ, suc, ◌+◌, ◌<◌, ◌≤◌, List, [], ◌∷◌, length, take, drop, reverse, get_or, refl, sym, add-one}
 use Rattle.std.specs.Fmt.{◌++?◌, AppendsText}
 use Rattle.std.specs.Option.{option_or}
@@ -8,7 +8,7 @@ use Rattle.oxc_sourcemap_tokens.specs.Token.{TokenRecord}
 use Rattle.oxc_sourcemap_parts.specs.Record.{Text, MapRecord}
 use Rattle.oxc_sourcemap_visualizer.specs.VisualText.{shown, shown_source, nearest_source, visual_token_text, tokens_text}
 
--- what stands before the next token: this one, and what stood before it
+-- the tokens before the next one: this one, and those before it
 further-front : (ts : List TokenRecord) (i : ℕ) (t : TokenRecord) → i < length ts → reverse (take (i + 1) ts) ≡ get_or ts i t ∷ reverse (take i ts)
 further-front ts i t h = rw (take_more ts i t h, reverse-append (take i ts) (get_or ts i t ∷ []))
 
@@ -21,7 +21,7 @@ tokens-step : (code : List (List ℕ)) (r : MapRecord) (front after : List Token
 unfolding tokens_text
 tokens-step code r front after t = refl
 
--- what is left at index i: what its token prints, and what is left at the next index
+-- the text that is left at index i: that of its token, and the text that is left at the next index
 pub further-text : (code : List (List ℕ)) (r : MapRecord) (ts : List TokenRecord) (i : ℕ) (t : TokenRecord) → i < length ts
     → tokens_text code r (reverse (take i ts)) (drop i ts)
     ≡ (visual_token_text code (nearest_source r (reverse (take i ts))) (get_or ts i t) (drop (i + 1) ts) (get_or ts i t).source_id (shown r (get_or ts i t))

@@ -39,12 +39,12 @@ shows-line-ends-whole : text_of_copy (codes "aa\r\nbb") (codes "aa\r\nbb") (toke
 unfolding visual_text tokens_text mapping_text lines_of chars utf16_chars encode digits debug_escape
 shows-line-ends-whole = refl
 
--- the smiling face U+1F600 and `x`: the two tokens lie on the two halves of a surrogate pair, so nothing is said
+-- the smiling face U+1F600 and `x`: the two tokens are on the two halves of a surrogate pair, so no text is defined
 says-nothing-past-ascii : text_of_copy (240 ∷ 159 ∷ 152 ∷ 128 ∷ 120 ∷ []) (240 ∷ 159 ∷ 152 ∷ 128 ∷ 120 ∷ []) (token_at 0 0 0 0 (Some 0) ∷ token_at 0 1 0 1 (Some 0) ∷ []) ≡ None
 unfolding visual_text tokens_text mapping_text lines_of chars utf16_chars encode digits debug_escape
 says-nothing-past-ascii = refl
 
--- its `x` alone is ASCII, and stands at column 2
+-- after the surrogate pair of U+1F600, `x` is at column 2, and it alone is printed, which is ASCII
 shows-after-a-pair : text_of_copy (240 ∷ 159 ∷ 152 ∷ 128 ∷ 120 ∷ []) (240 ∷ 159 ∷ 152 ∷ 128 ∷ 120 ∷ []) (token_at 0 2 0 2 (Some 0) ∷ [])
     ≡ Some (codes "- a.js\n(0:2) \"x\" --> (0:2) \"x\"\n")
 unfolding visual_text tokens_text mapping_text lines_of chars utf16_chars encode digits debug_escape

@@ -9,7 +9,7 @@ use Rattle.oxc_sourcemap_parts.specs.Record.{Text}
 abbrev pub units_of : Text → List ℕ
 units_of text = flat_map encode_utf16 (chars text)
 
--- a line feed comes first
+-- these units begin with a line feed
 abbrev pub begins_with_line_feed : List ℕ → Bool
 begins_with_line_feed [] = false
 begins_with_line_feed (unit ∷ units) = unit == 10
@@ -18,12 +18,12 @@ begins_with_line_feed (unit ∷ units) = unit == 10
 abbrev pub ends_line : ℕ → List ℕ → Bool
 ends_line unit after = unit == 10 || unit == 0x2028 || unit == 0x2029 || (unit == 13 && not (begins_with_line_feed after))
 
--- a unit before the first of some lines
+-- these lines, with a unit put before the first line
 abbrev pub onto_first : ℕ → List (List ℕ) → List (List ℕ)
 onto_first unit [] = (unit ∷ []) ∷ []
 onto_first unit (line ∷ lines) = (unit ∷ line) ∷ lines
 
--- the lines of these units, cut after each line end; after the last cut stands one more line, which may be empty
+-- the lines of these units, cut after each line end; what follows the last cut is one more line, which may be empty
 unfoldable pub lines_of : List ℕ → List (List ℕ)
 lines_of [] = [] ∷ []
 lines_of (unit ∷ after) = if ends_line unit after then (unit ∷ []) ∷ lines_of after else onto_first unit (lines_of after)

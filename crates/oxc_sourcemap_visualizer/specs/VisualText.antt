@@ -15,11 +15,11 @@ pub record CodeAndMap : Type 0 where
   pub code : Text
   pub map : MapRecord
 
--- a position lies before the end of its line; a line that is not there has no columns
+-- a position is valid: it is before the end of its line; a line that is not there has no columns
 abbrev pub is_within : List (List ℕ) → ℕ → ℕ → Bool
 is_within lines line col = nat_lt col (length (line_at lines line))
 
--- The generated column at which a token's part ends: that of the next token, where it is on the line, else the line's length.
+-- the generated column at which a token's part ends: that of the next token, if it is on the line, else the line's length
 abbrev pub dst_end : ℕ → TokenRecord → List TokenRecord → ℕ
 dst_end len t [] = len
 dst_end len t (next ∷ more) = if next.dst_line == t.dst_line then next.dst_col else len
@@ -51,17 +51,17 @@ part_text units = debug_str (without_returns (encode_utf8_all (utf16_lossy_chars
 abbrev pub position_text : ℕ → ℕ → Text
 position_text line col = codes "(" ++ (decimal line ++ (codes ":" ++ (decimal col ++ codes ")")))
 
--- the mark of a position that lies in no line
+-- the mark of a position that is not valid
 abbrev pub mark : Bool → Text
 mark is_valid = if is_valid then [] else codes " [invalid]"
 
--- a token that points to or from a position that is not there
+-- the line of a token of which a position is not valid
 abbrev pub invalid_text : Bool → Bool → TokenRecord → Text
 invalid_text is_src_valid is_dst_valid t =
     position_text t.src_line t.src_col ++ (mark is_src_valid
     ++ (codes " --> " ++ (position_text t.dst_line t.dst_col ++ (mark is_dst_valid ++ codes "\n"))))
 
--- a token with the parts of its source line and of its generated line
+-- the line of a token of which both positions are valid, with the parts of its source line and of its generated line
 abbrev pub parts_text : TokenRecord → List ℕ → List ℕ → Option Text
 parts_text t src dst =
     Some (position_text t.src_line t.src_col ++ codes " ") ++? (part_text src
@@ -78,41 +78,40 @@ mapping_text src dst id t after =
     (between dst_line t.dst_col (dst_end (length dst_line) t after))
     else Some (invalid_text (is_within src t.src_line t.src_col) (is_within dst t.dst_line t.dst_col) t)
 
--- what a token points to, where it prints: its source and that source's content, where it has both
+-- the source and the content of a token that is shown: one that has both
 abbrev pub shown : MapRecord → TokenRecord → Option (Text × Text)
 shown r t = option_and_then (source_and_content_at r) t.source_id
 
--- the source of a token that prints
+-- the source of a token that is shown
 abbrev pub shown_source : MapRecord → TokenRecord → Option Text
 shown_source r t = option_map (λ s. s.0) (shown r t)
 
--- the source of the nearest token before that prints; the tokens before stand the nearest first
+-- the source of the nearest shown token before; the tokens before are listed with the nearest first
 abbrev pub nearest_source : MapRecord → List TokenRecord → Option Text
 nearest_source r [] = None
 nearest_source r (t ∷ before) = option_or (shown_source r t) (nearest_source r before)
 
--- The line of a source: it is printed where the source is another than that of the nearest token before that prints, or
--- there is none.
+-- the line of a source, which is printed if the nearest shown token before has another one, or there is none
 abbrev pub heading : Option Text → Text → Text
 heading None source = codes "- " ++ (source ++ codes "\n")
 heading (Some last) source = if bytes_eq last source then [] else codes "- " ++ (source ++ codes "\n")
 
--- what a token prints: nothing, or its source's line and its own
+-- the text of a token: nothing, or the line of its source and its own
 abbrev pub visual_token_text : List (List ℕ) → Option Text → TokenRecord → List TokenRecord → Option ℕ → Option (Text × Text) → Option Text
 visual_token_text code last t after (Some id) (Some s) = Some (heading last s.0) ++? mapping_text (text_lines s.1) code id t after
 visual_token_text code last t after id s = Some []
 
--- what some tokens print, after these before them, the nearest first
+-- the text of some tokens, after those before them, which are listed with the nearest first
 unfoldable pub tokens_text : List (List ℕ) → MapRecord → List TokenRecord → List TokenRecord → Option Text
 tokens_text code r before [] = Some []
 tokens_text code r before (t ∷ after) =
     visual_token_text code (nearest_source r before) t after t.source_id (shown r t) ++? tokens_text code r (t ∷ before) after
 
--- the visual text where there are contents, and where there are none
+-- the visual text for a list of contents: a fixed line if the list is empty
 abbrev pub text_with : List (Option Text) → Option Text → Option Text
 text_with [] text = Some (codes "[no source contents]\n")
 text_with (content ∷ contents) text = text
 
--- The visual text of a code and its map. It is None where some part that is printed is not ASCII.
+-- The visual text of a code and its map. It is None if some part that is printed is not ASCII.
 unfoldable pub visual_text : Text → MapRecord → Option Text
 visual_text code r = text_with r.source_contents (tokens_text (text_lines code) r [] r.tokens)

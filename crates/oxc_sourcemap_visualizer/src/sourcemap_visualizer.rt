@@ -18,7 +18,7 @@ use std::alloc::Global;
 use std::fmt::Write;
 use std::marker::Model;
 
-/// Shows what a map says of a code, for people who test source maps: as a text, or as a link to a page that draws it.
+/// Shows a map beside its generated code, for people who test source maps: as a text, or as a link to a page that draws both.
 #[derive(Drop)]
 pub struct SourcemapVisualizer<'a, 'sm> {
     code: &'a str,
@@ -45,8 +45,8 @@ impl<'a, 'sm> SourcemapVisualizer<'a, 'sm> {
     /// padded base64 of the standard alphabet the code and then the map's JSON text, each after its length in bytes, which
     /// is written in decimal and ended by a zero byte.
     ///
-    /// Fails as `SourceMap::to_json_string` does: `LineOrder(i)`, `BadChunks(k)`, `TooLarge`, in this order, and
-    /// `OutOfMemory` if memory is refused.
+    /// Fails as `SourceMap::to_json_string` does: with `LineOrder(i)`, `BadChunks(k)`, `TooLarge`, in this order, and with
+    /// `OutOfMemory` for want of memory.
     #[tactic(auto, unfolding(crate::specs::Link::map_link))]
     pub fn get_url(&self, alloc: Global) -> Result<String>
         ensures { Answers string_bytes result (map_link self.now.code self.now.map) }
@@ -63,15 +63,15 @@ impl<'a, 'sm> SourcemapVisualizer<'a, 'sm> {
         Ok(url)
     }
 
-    /// The text that shows what each token ties together: `docs/FORMAT.md`, "The visual text". Lines and columns count from
-    /// 0, columns in UTF-16 units.
+    /// The text that shows the source and the generated code of each token: `docs/FORMAT.md`, "The visual text". Lines and
+    /// columns count from 0; columns are in UTF-16 code units.
     ///
-    /// Where all parts of lines that it prints are ASCII, it is exactly that text; past ASCII, which characters the debug
-    /// form of a text escapes is the library's choice. Fails only with `OutOfMemory`.
+    /// If all parts of lines that it prints are ASCII, it is exactly that text; past ASCII, which characters the debug form of
+    /// a string escapes is the choice of std. Fails only with `OutOfMemory`.
     ///
-    /// The code and each content are cut into lines once. A token costs its own parts, and a walk over the tokens after it
-    /// that lie on its source line and not at a greater source column: it is long only where many tokens in a row point to
-    /// one source line and their columns do not grow.
+    /// The code and each content are cut into lines once. A token takes the time of its own parts, and of a walk over the
+    /// tokens after it that are on its source line and not at a greater source column. The walk is long only if many tokens in
+    /// a row point to one source line and their columns do not grow.
     #[tactic(auto, unfolding(crate::specs::VisualText::visual_text))]
     pub fn get_text(&self, alloc: Global) -> Result<String>
         ensures text { IfOk result (λ text. IfSome (visual_text self.now.code self.now.map) (λ shown. string_bytes text ≡ shown)) }
@@ -99,7 +99,7 @@ fn push_counted(text: &str, out: &mut String) -> Result<()>
     write!(out, "{}\0{text}", text.len()).map_err(|_| Error::OutOfMemory)
 }
 
-/// The lines of each content, None where it is not known. They are slices of these units.
+/// The lines of each content, as slices of these units. None for a content that is not known.
 fn cut_contents<'u>(
     alloc: Global,
     contents: &'u [Option<Vec<u16>>],
@@ -116,7 +116,7 @@ fn cut_contents<'u>(
     Ok(lines)
 }
 
-/// The UTF-16 units of a content, None where it is not known.
+/// The UTF-16 units of a content. None if it is not known.
 fn units_where_known(alloc: Global, content: Option<&str>) -> Memory<Option<Vec<u16>>>
     ensures { IfOk result (λ units. option_map (λ units. units.items) units ≡ option_map units_of (lent_item content.entry)) }
 {
@@ -126,7 +126,7 @@ fn units_where_known(alloc: Global, content: Option<&str>) -> Memory<Option<Vec<
     }
 }
 
-/// The UTF-16 units of each content, None where it is not known.
+/// The UTF-16 units of each content. None for a content that is not known.
 fn content_units(alloc: Global, contents: Contents<'_, '_>) -> Memory<Vec<Option<Vec<u16>>>>
     ensures { IfOk result (λ units. map (option_map (λ units. units.items)) units.items ≡ map (option_map units_of) contents.entry) }
 {
@@ -137,7 +137,7 @@ fn content_units(alloc: Global, contents: Contents<'_, '_>) -> Memory<Vec<Option
     Ok(units)
 }
 
-/// Whether a position lies before the end of its line.
+/// Whether a position is before the end of its line.
 fn is_within(lines: &Lines<'_>, line: u32, col: u32) -> bool
     ensures { result ≡ is_within lines.now line col }
 {
@@ -203,7 +203,7 @@ fn push_position(line: u32, col: u32, out: &mut String) -> Result<()>
     write!(out, "({line}:{col})").map_err(|_| Error::OutOfMemory)
 }
 
-/// Appends the mark of a position that is not there, or nothing.
+/// Appends `[invalid]` after a position that is not valid.
 fn push_mark(is_valid: bool, out: &mut String) -> Result<()>
     ensures text { Pushes result out.old out.new (mark is_valid) }
     ensures error { OnlyMemory result }
@@ -214,7 +214,7 @@ fn push_mark(is_valid: bool, out: &mut String) -> Result<()>
     Ok(out.push_str(" [invalid]")?)
 }
 
-/// Appends the line of a token that points to or from a position that is not there.
+/// Appends the line of a token whose source position or generated position is not valid.
 fn push_invalid(
     token: &Token,
     is_src_valid: bool,
@@ -232,7 +232,7 @@ fn push_invalid(
     Ok(out.push('\n')?)
 }
 
-/// Appends the line of a token with these parts of its source line and of its generated line.
+/// Appends the line of a token of which both positions are valid, with these parts of its source line and its generated line.
 fn push_parts(
     alloc: Global,
     token: &Token,
@@ -326,7 +326,7 @@ impl<'s, 'u, 'sm> Printer<'s, 'u, 'sm> {
         })
     }
 
-    /// What a token points to, where it prints: its source id, its source, and the lines of that source's content.
+    /// The source id, the source and the lines of the source's content of a token that is shown; None for any other.
     fn shown(&self, token: &Token) -> Option<(u32, &'s str, &Lines<'u>)>
         requires { self.now.sources.items ≡ map (option_map text_lines) self.now.sourcemap.now.source_contents }
         ensures shown { option_map {U = Text × List (List ℕ)} (λ s. (s.1.now, s.2.now)) result ≡ option_map {U = Text × List (List ℕ)} (λ s. (s.0, text_lines s.1)) (shown self.now.sourcemap.now token.now) }
@@ -338,7 +338,7 @@ impl<'s, 'u, 'sm> Printer<'s, 'u, 'sm> {
         Some((id, source, lines))
     }
 
-    /// Appends what a token prints after the source that was printed last, and answers the one that is then the last.
+    /// Appends the text of a token after that of the tokens before, and returns the source that was then printed last.
     fn push_token(
         &self,
         last: Option<&'s str>,
@@ -360,7 +360,7 @@ impl<'s, 'u, 'sm> Printer<'s, 'u, 'sm> {
         Ok(Some(source))
     }
 
-    /// Appends what the tokens of the map print.
+    /// Appends the text of each token of the map.
     fn push_tokens(&self, tokens: &[Token], out: &mut String) -> Result<()>
         requires { self.now.sources.items ≡ map (option_map text_lines) self.now.sourcemap.now.source_contents }
         ensures text { OnOk result (AppendsText (string_bytes out.old) (string_bytes out.new) (tokens_text self.now.code self.now.sourcemap.now [] tokens.now)) }

@@ -70,7 +70,7 @@ fn is_line_end(units: &[u16], i: usize) -> bool
     }
 }
 
-/// The length of the first line, with its end. None where no line ends.
+/// The length of the first line, with its end. None if no line ends.
 fn first_line_len(units: &[u16]) -> Option<usize>
     ensures cut { IfSome result (λ n. lines_of units.now ≡ take n units.now ∷ lines_of (drop n units.now)) }
     ensures within { IfSome result (λ n. (0 < n) × (n ≤ length units.now)) }

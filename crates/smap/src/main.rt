@@ -1,4 +1,4 @@
-//! `smap`: reads and writes source maps at a shell.
+//! `smap`: reads, joins, composes and writes source maps at a shell (docs/FORMAT.md, "The program").
 //!
 //!     smap mappings NAMES SOURCES < mappings.txt
 //!     smap normalise < bundle.js.map

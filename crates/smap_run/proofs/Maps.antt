@@ -1,4 +1,4 @@
--- What the commands on maps refuse and find, by the map that was read.
+-- The errors and answers of the commands on maps, by the map that was read.
 use Rattle.std.proofs.Common.{◌≡◌, ◌≢◌, ℕ, List, Option, Some, None, Ok, Err, true, option_map, ap, ◌∙◌}
 use Rattle.oxc_sourcemap.specs.Error.{Error}
 use Rattle.oxc_sourcemap.specs.Error.TheVariants.{LineOrder, OutOfMemory}
@@ -30,7 +30,7 @@ order_stands (Some i) fault p e = cc (p)
 pub index_refused : (tokens : List TokenRecord) (fault : Error) → first_out_of_order tokens ≡ None → (fault ≢ OutOfMemory → option_map LineOrder (first_out_of_order tokens) ≡ Some fault) → fault ≢ OutOfMemory → ⊥
 index_refused tokens fault order refused other = order_stands (first_out_of_order tokens) fault order (refused other)
 
--- what is traced by a map's own token
+-- what the token found in a map points to is the trace of the map
 pub traced_token : (r : MapRecord) (tokens : List TokenRecord) (line col : ℕ) (found : Option TokenRecord) → tokens ≡ r.tokens → are_tokens_sorted r.tokens ≡ true
     → (are_tokens_sorted tokens ≡ true → found ≡ pick token_line token_column tokens line col) → option_map view_original (option_map (seen_in r) found) ≡ trace (decoded_map_of r) line col
 traced_token r tokens line col found e sorted is =

@@ -1,9 +1,9 @@
--- A piece that is read behind the bytes that are used.
+-- A piece that is read behind the used bytes.
 use Rattle.std.proofs.Common.{◌≡◌, ℕ, ◌+◌, ◌≤◌, List, ◌++◌, length, take, sym, ap, ◌∙◌}
 use Rattle.std.proofs.Math.Seq.{take-append-add}
 use Rattle.std.proofs.lemmas.List.{append_assoc, length-take-le, take-take, take-append-le}
 
--- the bytes that are used then: those before, and those of the piece
+-- the used bytes after a piece is read: those before, and those of the piece
 pub piece_read : (before piece after more : List ℕ) (used n len : ℕ) → used ≤ length before → n ≤ length piece → used + n ≤ len
     → take (used + n) (take len ((take used before ++ (piece ++ after)) ++ more)) ≡ take used before ++ take n piece
 piece_read before piece after more used n len u p l =

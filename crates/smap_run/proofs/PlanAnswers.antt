@@ -1,4 +1,4 @@
--- What a plan answers, and what it refuses.
+-- The answers and errors of a plan.
 use Rattle.std.proofs.Common.{◌≡◌, ◌≢◌, ℕ, false, List, length, sym, ap, ◌∙◌, subst, arith, Option, Some, None, Result, Ok, Err, inl, inr, ◌⊎◌}
 use Rattle.std.specs.Result.{IsErrOf, OnErr}
 use Rattle.std.specs.Option.{IfSome}

@@ -1,4 +1,4 @@
--- What a command answers to an input.
+-- The answer of a command to an input, and its errors.
 use Rattle.std.specs.Prelude.{◌≡◌, ◌++◌, ℕ, List, Option, Some, None, Result, Ok, Err, ◌⊎◌, IsUtf8}
 use Rattle.std.specs.Io.BufRead.{strip_last}
 use Rattle.std.specs.Io.KnownBytes.{Appends}
@@ -27,45 +27,45 @@ use Rattle.oxc_sourcemap_plan.specs.PlanArguments.{parsed_plan}
 abbrev pub without_line_feed : List ℕ → List ℕ
 without_line_feed text = strip_last 10 text
 
--- the canonical text of a list, or why it is not written
+-- the canonical text of tokens, or the fault of writing them
 abbrev pub written : Option Error → List TokenRecord → Result (List ℕ) RunError
 written None tokens = Ok (canonical tokens)
 written (Some fault) tokens = Err (Plan (Map fault))
 
--- what `mappings` answers to a text that reads so: the canonical text of its tokens
+-- the answer of `mappings` to a text that is read like this: the canonical text of its tokens
 abbrev pub mappings_answer : Result (List TokenRecord) Error → Result (List ℕ) RunError
 mappings_answer (Ok tokens) = written (writing_fault tokens None) tokens
 mappings_answer (Err fault) = Err (Plan (Map fault))
 
--- the JSON text of the map that a JSON text says
+-- the JSON text of the map of a JSON text
 abbrev pub normalised : List ℕ → Result (List ℕ) Error
 normalised text = read_map text >>= map_text
 
--- its data URL
+-- the data URL of the map of a JSON text
 abbrev pub normalised_url : List ℕ → Result (List ℕ) Error
 normalised_url text = read_map text >>= map_url
 
--- a call on a map, whose refusal is the program's
+-- the result of a call on a map, whose error is the program's
 abbrev pub of_map : Result (List ℕ) Error → Result (List ℕ) RunError
 of_map (Ok text) = Ok text
 of_map (Err fault) = Err (Plan (Map fault))
 
--- a text, or a refusal that is the program's
+-- the result of a step of a plan or of `trace`, whose error is the program's
 abbrev pub of_plan : Result (List ℕ) PlanError → Result (List ℕ) RunError
 of_plan (Ok text) = Ok text
 of_plan (Err refusal) = Err (Plan refusal)
 
--- What a plan that arguments name answers: the JSON text of a map that is as its outcome says.
+-- the answer to a plan: the JSON text of a map that is as `IsEvaluated` promises for the plan's outcome
 abbrev pub IsPlanAnswer : Result Outcome RunError → List ℕ → Type 0
 IsPlanAnswer (Err fault) out = ⊥
 IsPlanAnswer (Ok o) out = (m : MapRecord) × IsEvaluated m o × (map_text m ≡ Ok out)
 
--- What it refuses: the first fault of its arguments, what the plan means, or `TooLarge` where it is not within the limits.
+-- an error of a plan: the first fault of its arguments, what the plan means, or `TooLarge` if it is not within the limits
 abbrev pub IsPlanRefusal : Result Outcome RunError → RunError → Type 0
 IsPlanRefusal (Err fault) e = e ≡ fault
 IsPlanRefusal (Ok o) e = (p : PlanError) × (e ≡ Plan p) × IsFailure o p
 
--- What a command answers to a text. One line feed is written after it.
+-- The answer of a command to a text. One line feed is written after it.
 abbrev pub IsAnswer : Request → List ℕ → List ℕ → Type 0
 IsAnswer (Mappings names sources) text out = mappings_answer (reading (without_line_feed text) names sources) ≡ Ok out
 IsAnswer Normalise text out = of_map (normalised text) ≡ Ok out
@@ -73,7 +73,7 @@ IsAnswer Url text out = of_map (normalised_url text) ≡ Ok out
 IsAnswer (Trace line col) text out = of_plan (traced text line col) ≡ Ok out
 IsAnswer (PlanOf arguments) text out = IsPlanAnswer (parsed_plan (inputs_of text) arguments) out
 
--- what it refuses of a text
+-- an error of a command for a text
 abbrev pub IsRefusal : Request → List ℕ → RunError → Type 0
 IsRefusal (Mappings names sources) text e = mappings_answer (reading (without_line_feed text) names sources) ≡ Err e
 IsRefusal Normalise text e = of_map (normalised text) ≡ Err e
@@ -81,10 +81,10 @@ IsRefusal Url text e = of_map (normalised_url text) ≡ Err e
 IsRefusal (Trace line col) text e = of_plan (traced text line col) ≡ Err e
 IsRefusal (PlanOf arguments) text e = IsPlanRefusal (parsed_plan (inputs_of text) arguments) e
 
--- known bytes grow by a beginning of these, perhaps by none of them
+-- what is written, if it is known, grows by a beginning of these bytes, perhaps by none of them
 abbrev pub AppendsBeginning : Option (List ℕ) → Option (List ℕ) → List ℕ → Type 0
 AppendsBeginning old new bytes = (done : List ℕ) × (more : List ℕ) × (done ++ more ≡ bytes) × Appends old new done
 
--- A command refuses an input: it is not UTF-8, or its text is refused.
+-- an error of a command for an input: the input is not UTF-8, or its text has an error
 abbrev pub Refuses : Request → List ℕ → RunError → Type 0
 Refuses request input refusal = ((¬ (IsUtf8 input)) × (refusal ≡ Utf8)) ⊎ (IsUtf8 input × IsRefusal request input refusal)

@@ -1,4 +1,4 @@
--- The arguments after the program's name, and the command that they say.
+-- The arguments after the program's name, and their command.
 use Rattle.std.specs.Prelude.{ℕ, List, [], ◌∷◌, codes, Option, Some, None, if◌then◌else◌}
 use Rattle.std.specs.Option.{option_map, option_zip}
 use Rattle.std.specs.Str.{bytes_eq}
@@ -12,7 +12,7 @@ two_numbers [] = None
 two_numbers (a ∷ []) = None
 two_numbers (a ∷ b ∷ more ∷ arguments) = None
 
--- this request, where no arguments stand after its name
+-- a request, if no arguments follow its name
 abbrev pub without_arguments : Request → List (List ℕ) → Option Request
 without_arguments request [] = Some request
 without_arguments request (argument ∷ arguments) = None

@@ -1,4 +1,4 @@
--- What a command asks for: a command, as contracts see it.
+-- A command, as contracts see it.
 use Rattle.std.specs.Prelude.{ℕ, List, map, string_bytes}
 use Rattle.smap_run.specs.declared.arguments.Command.{Command}
 use Rattle.smap_run.specs.declared.arguments.Command.TheVariants.{Mappings as MappingsCommand, Normalise as NormaliseCommand, Plan as PlanCommand, Trace as TraceCommand, Url as UrlCommand}

@@ -1,4 +1,4 @@
--- What `trace` answers: what a map says of a generated position, as a text.
+-- The answer of `trace`: the trace of a map at a generated position, as a text.
 use Rattle.std.specs.Prelude.{ℕ, [], ◌++◌, codes, decimal, Option, Some, None, Result, Ok, Err, if◌then◌else◌}
 use Rattle.oxc_sourcemap.specs.Error.{Error}
 use Rattle.oxc_sourcemap.specs.Record.{Text, MapRecord}
@@ -14,22 +14,22 @@ use Rattle.oxc_sourcemap.specs.PlanError.TheVariants.{Map, Unsorted}
 abbrev pub number_part : ℕ → Text
 number_part n = codes ":" ++ decimal n
 
--- a space and a name, where there is one
+-- a space and a name, if there is one
 abbrev pub name_part : Option Text → Text
 name_part None = []
 name_part (Some name) = codes " " ++ json_string name
 
--- a source, a source line and column, and a name
+-- the text of an original position: a source, a source line and column, and a name
 abbrev pub original_text : Text → ℕ → ℕ → Option Text → Text
 original_text source line col name = json_string source ++ (number_part line ++ (number_part col ++ name_part name))
 
--- where there is no token, where the token is unmapped, and where it points to a source
+-- the text of a trace: of no token, of an unmapped one, and of one that points to a source
 abbrev pub trace_text : Option (Option OriginalPosition) → Text
 trace_text None = codes "nothing"
 trace_text (Some None) = codes "unmapped"
 trace_text (Some (Some o)) = original_text o.source.path o.src_line o.src_col o.name
 
--- the trace of a map's decoded map, where the map is sorted
+-- the text of the trace of a map that was read, if the map is sorted
 abbrev pub traced_of : Result MapRecord Error → ℕ → ℕ → Result Text PlanError
 traced_of (Ok r) line col = if are_tokens_sorted r.tokens then Ok (trace_text (trace (decoded_map_of r) line col)) else Err Unsorted
 traced_of (Err fault) line col = Err (Map fault)

@@ -8,13 +8,13 @@ use oxc_sourcemap_plan::{RunError, read_number};
 /// What the program is asked to do with its input.
 #[derive(Debug, PartialEq, Eq, Drop)]
 pub enum Command<'w> {
-    /// Read a mappings text, with this many names and sources beside it, and write its canonical text.
+    /// Read a mappings text, for this many names and sources, and write its canonical text.
     Mappings(u32, u32),
     /// Read a map from its JSON text, and write its JSON text.
     Normalise,
-    /// Evaluate the plan that these arguments say over the JSON texts of maps, and write the JSON text of its map.
+    /// Evaluate the plan of these arguments over the JSON texts of maps, and write the JSON text of its map.
     Plan(&'w [String]),
-    /// Read a map from its JSON text, and write what it says of this generated line and column.
+    /// Read a map from its JSON text, and write its trace at this generated line and column.
     Trace(u32, u32),
     /// Read a map from its JSON text, and write its data URL.
     Url,
@@ -30,7 +30,7 @@ fn read_numbers(arguments: &[String]) -> Option<(u32, u32)>
     Some((read_number(a.as_str())?, read_number(b.as_str())?))
 }
 
-/// This command, if no arguments follow its name.
+/// A command, if no arguments follow its name.
 fn without_arguments<'w>(command: Command<'w>, arguments: &[String]) -> Option<Command<'w>>
     ensures { option_map request_of result ≡ without_arguments (request_of command.entry) (map string_bytes arguments.now) }
 {
@@ -62,7 +62,7 @@ fn read_command<'w>(name: &str, arguments: &'w [String]) -> Option<Command<'w>>
 /// The command of the program's arguments: `mappings NAMES SOURCES`, `normalise`, `plan PLAN`, `trace LINE COL` or `url`, each
 /// number as `read_number` reads it. The arguments after `plan` are borrowed as they are, and read by `run`.
 ///
-/// Fails with `Arguments` for all others. It takes no memory.
+/// Fails with `Arguments` for all other arguments. It takes no memory.
 pub fn read_words<'w>(arguments: &'w [String]) -> Result<Command<'w>, RunError>
     ensures command { IfOk result (λ command. command_of (map string_bytes arguments.now) ≡ Some (request_of command)) }
     ensures error { IfErr result (λ e. (e ≡ RunError.Arguments) × (command_of (map string_bytes arguments.now) ≡ None)) }

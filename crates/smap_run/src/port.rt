@@ -46,7 +46,7 @@ impl<T> Port<T> {
 }
 
 impl<T: Read> Read for Port<T> {
-    // What is left to read is what the inner value has left.
+    // A port has left to read what its inner value has left.
     ghost remaining = { λ port. T.remaining port.inner };
 
     fn read(&mut self, buf: &mut [u8]) -> io::Result<usize>
@@ -63,7 +63,7 @@ impl<T: Read> Read for Port<T> {
 }
 
 impl<T: Write> Write for Port<T> {
-    // What was written is what the inner value holds.
+    // What was written to a port is what its inner value holds.
     ghost contents = { λ port. T.contents port.inner };
 
     fn write(&mut self, buf: &[u8]) -> io::Result<usize>

@@ -26,10 +26,10 @@ use oxc_sourcemap_plan::{RunError, inputs_of, read_plan};
 use std::alloc::{AllocError, Global};
 use std::io::{Read, Write};
 
-/// Room for what is read at once.
+/// How much room is made for a read.
 const PIECE: usize = 65536;
 
-/// Makes room for a piece behind the bytes that are used, if there is no room for half of one.
+/// Makes room for a piece behind the used bytes, unless there is room for half of one.
 fn make_room(input: &mut Vec<u8>, used: usize) -> Result<(), AllocError>
     requires { used ≤ vec_len input.old }
     ensures room { OnOk result (used < vec_len input.new) }
@@ -100,7 +100,7 @@ fn rewrite_mappings(alloc: Global, text: &str, names: u32, sources: u32) -> Resu
     Ok(out)
 }
 
-/// The JSON text of the map that a JSON text says.
+/// The JSON text of the map of a JSON text.
 fn normalise(alloc: Global, text: &str) -> Result<String, Error>
     ensures { Answers string_bytes result (normalised text.now) }
 {
@@ -108,7 +108,7 @@ fn normalise(alloc: Global, text: &str) -> Result<String, Error>
     map.to_json_string(alloc)
 }
 
-/// The data URL of the map that a JSON text says.
+/// The data URL of the map of a JSON text.
 fn data_url(alloc: Global, text: &str) -> Result<String, Error>
     ensures { Answers string_bytes result (normalised_url text.now) }
 {
@@ -126,7 +126,7 @@ fn evaluated_text(alloc: Global, plan: &Plan<'_>) -> Result<String, PlanError>
     Ok(map.to_json_string(alloc)?)
 }
 
-/// The JSON text of the map of the plan that these arguments say, over the maps of an input.
+/// The JSON text of the map of the plan of these arguments, over the maps of an input.
 fn plan_text(alloc: Global, input: &str, arguments: &[String]) -> Result<String, RunError>
     ensures text { IfOk result (λ out. IsPlanAnswer (parsed_plan (inputs_of input.now) (map string_bytes arguments.now)) (string_bytes out)) }
     ensures error { IfErr result (λ e. (e ≢ out_of_memory) → IsPlanRefusal (parsed_plan (inputs_of input.now) (map string_bytes arguments.now)) e) }
@@ -137,7 +137,7 @@ fn plan_text(alloc: Global, input: &str, arguments: &[String]) -> Result<String,
     Ok(evaluated_text(alloc, &plan)?)
 }
 
-/// What a command answers to an input.
+/// The answer of a command to an input, without its line feed.
 fn answer(alloc: Global, command: &Command<'_>, input: Vec<u8>) -> Result<String, RunError>
     ensures text { IfOk result (λ out. IsUtf8 input.items × IsAnswer (request_of command.now) input.items (string_bytes out)) }
     ensures error { IfErr result (λ e. (e ≢ out_of_memory) → Refuses (request_of command.now) input.items e) }
@@ -169,18 +169,18 @@ fn answer(alloc: Global, command: &Command<'_>, input: Vec<u8>) -> Result<String
 /// | `Mappings(names, sources)` | a `mappings` text, with one line feed at its end or none | the canonical text of its tokens |
 /// | `Normalise` | the JSON text of a map | its JSON text as `SourceMap::to_json_string` writes it |
 /// | `Plan(arguments)` | JSON texts of maps, separated by lines that are exactly `---` | the JSON text of the map of the plan |
-/// | `Trace(line, col)` | the JSON text of a map | what `trace` says of the generated position |
+/// | `Trace(line, col)` | the JSON text of a map | the text of `trace` for the generated position |
 /// | `Url` | the JSON text of a map | its data URL |
 ///
 /// Fails in this order:
 /// - `Read` if a read fails, and `Utf8` if the input is not UTF-8;
-/// - for a plan, the first fault of its arguments (see `read_plan`), then `Plan(e)` if `evaluate` fails with `e`;
+/// - for a plan, the error of `read_plan` for its arguments, then `Plan(e)` if `evaluate` fails with `e`;
 /// - for other commands, `Plan(Map(e))` if a call on the text fails with `e`, and `Plan(Unsorted)` if the map to be traced is
 ///   not sorted;
 /// - `Write` if a write fails or takes none of some bytes; a beginning of the answer and its line feed is then written, and
 ///   nothing at all before any other error.
 ///
-/// Also `Plan(Map(OutOfMemory))` if memory is refused, or the input has more than 9223372036854775807 bytes.
+/// Also `Plan(Map(OutOfMemory))` for want of memory, or if the input has more than 9223372036854775807 bytes.
 pub fn run<R: Read, W: Write>(
     alloc: Global,
     command: &Command<'_>,

@@ -1,4 +1,4 @@
-//! What a map says of a generated position, as a line of text.
+//! The trace of a map at a generated position, as a line of text.
 ghost use Rattle.std.specs.Prelude.{◌≡◌, ◌≢◌, true, option_map, string_bytes, Some, IfOk, IfErr, Ok, Err};
 ghost use Rattle.oxc_sourcemap.specs.Error.TheVariants.{OutOfMemory};
 ghost use Rattle.oxc_sourcemap.specs.LineOrder.{IsInLineOrder};
@@ -24,7 +24,7 @@ fn push_number(alloc: Global, number: u32, out: &mut String) -> Result<(), Error
     Ok(())
 }
 
-/// Appends a space and a name, where there is one.
+/// Appends a space and a name, if there is one.
 fn push_name(name: Option<&str>, out: &mut String) -> Result<(), Error>
     ensures text { Pushes result out.old out.new (name_part (lent_item name.entry)) }
     ensures error { OnlyMemory result }
@@ -36,7 +36,7 @@ fn push_name(name: Option<&str>, out: &mut String) -> Result<(), Error>
     push_json_string(name, out)
 }
 
-/// The text of a source, a source line and column, and a name.
+/// The text of an original position: a source, a source line and column, and a name.
 fn original_text(
     alloc: Global,
     source: &str,
@@ -80,7 +80,7 @@ fn token_at(alloc: Global, map: &SourceMap<'_>, line: u32, col: u32) -> Result<O
     Ok(index.lookup(tokens, line, col))
 }
 
-/// What `trace` says of a generated position of this map.
+/// The text of the trace of a map at a generated position.
 fn trace_in(alloc: Global, map: &SourceMap<'_>, line: u32, col: u32) -> Result<String, PlanError>
     requires in_line_order { IsInLineOrder map.now.tokens }
     ensures text { IfOk result (λ out. traced_of (Ok map.now) line col ≡ Ok (string_bytes out)) }
@@ -95,12 +95,12 @@ fn trace_in(alloc: Global, map: &SourceMap<'_>, line: u32, col: u32) -> Result<S
     }
 }
 
-/// Looks up a generated line and column in the map of a JSON text, and says what is there: `nothing` if no token is found,
-/// `unmapped` if the token has no source; else its source as a JSON string, `:`, the source line, `:`, the source column,
-/// and, if it has a name, a space and that, as a JSON string too. Lines and columns count from 0.
+/// Looks up a generated line and column in the map of a JSON text. The result is `nothing` if no token is found, `unmapped`
+/// if the token has no source; else its source as a JSON string, `:`, the source line, `:`, the source column, and, if it
+/// has a name, a space and that, as a JSON string too. Lines and columns count from 0; columns are in UTF-16 code units.
 ///
 /// Fails with `Map(e)` if `SourceMap::from_json_string` fails with `e`, then with `Unsorted` if the tokens are not sorted,
-/// and with `Map(OutOfMemory)` if memory is refused.
+/// and with `Map(OutOfMemory)` for want of memory.
 pub fn trace(alloc: Global, text: &str, line: u32, col: u32) -> Result<String, PlanError>
     ensures text { IfOk result (λ out. traced text.now line col ≡ Ok (string_bytes out)) }
     ensures error { IfErr result (λ e. (e ≢ Map OutOfMemory) → traced text.now line col ≡ Err e) }

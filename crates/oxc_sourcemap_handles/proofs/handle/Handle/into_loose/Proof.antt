@@ -1,4 +1,4 @@
--- `into_loose` tests the pointer, and where it is not null what it owns goes with it.
+-- `into_loose` tests the pointer; if it is not null, what it owns goes with it.
 use Rattle.std.proofs.Common.{◌≡◌, List, [], ◌∷◌, ◌++◌, refl, sym, ap, subst, lit<}
 use mir.Val.{Val, vptr, vcons, vnil}
 use base.Logic.{SProp, ent, emp, id⊢}

@@ -6,6 +6,8 @@ mod accessors;
 mod bench;
 mod builder;
 mod composition;
+// The examples of docstrings: `./check tests` writes this module.
+mod examples;
 mod helpers;
 mod hostile;
 mod indexed;

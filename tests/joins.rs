@@ -2,491 +2,400 @@
 use crate::helpers::{is_text, same};
 use crate::rows::{Row, chunks_of, map_of, tokens_of};
 use oxc_sourcemap::{
-    ConcatSourceMapBuilder, Error, Result, SourceMap, SourceMapParts, Token, TokenChunk,
-    encode_chunk,
+    ConcatSourceMapBuilder, Error, Result, SourceMap, Token, TokenChunk, encode_chunk,
 };
 use std::alloc::Global;
 use std::process::Abort;
 
-/// A map of a join, and its offset.
-struct Part {
-    names: &'static [&'static str],
-    sources: &'static [&'static str],
-    contents: &'static [Option<&'static str>],
-    rows: &'static [Row],
-    line_offset: u32,
-}
+/// The JSON texts of maps, each with the line and the column that it is joined at; the JSON text of the joined map; and its
+/// chunks, their numbers in the order of `TokenChunk::new`.
+type Join = (Texts, &'static str, Chunks);
+type Texts = &'static [(&'static str, u32, u32)];
+type Chunks = &'static [[u32; 8]];
 
-/// The maps of a join, the tokens and chunks of the joined map, and its JSON text.
-type Join = (
-    &'static [Part],
-    &'static [Row],
-    &'static [[u32; 8]],
-    &'static str,
-);
-
-/// Names, sources and contents.
-const TEXTS: &[Join] = &[
-    (
-        &[],
-        &[],
-        &[],
-        r#"{"version":3,"names":[],"sources":[],"mappings":""}"#,
-    ),
-    (
-        &[
-            Part {
-                names: &[],
-                sources: &["a.js"],
-                contents: &[],
-                rows: &[],
-                line_offset: 0,
-            },
-            Part {
-                names: &[],
-                sources: &["b.js"],
-                contents: &[Some("B")],
-                rows: &[],
-                line_offset: 1,
-            },
-        ],
-        &[],
-        &[[0, 0, 0, 0, 0, 0, 0, 0], [0, 0, 0, 0, 0, 0, 0, 0]],
-        r#"{"version":3,"names":[],"sources":["a.js","b.js"],"sourcesContent":[null,"B"],"mappings":""}"#,
-    ),
-    (
-        &[
-            Part {
-                names: &[],
-                sources: &["a.js"],
-                contents: &[Some("A"), Some("EXTRA")],
-                rows: &[],
-                line_offset: 0,
-            },
-            Part {
-                names: &[],
-                sources: &["b.js"],
-                contents: &[Some("B")],
-                rows: &[],
-                line_offset: 1,
-            },
-        ],
-        &[],
-        &[[0, 0, 0, 0, 0, 0, 0, 0], [0, 0, 0, 0, 0, 0, 0, 0]],
-        r#"{"version":3,"names":[],"sources":["a.js","b.js"],"sourcesContent":["A","B"],"mappings":""}"#,
-    ),
-    (
-        &[
-            Part {
-                names: &["name_a"],
-                sources: &["a.js"],
-                contents: &[Some("a content")],
-                rows: &[(0, 0, 0, 0, Some(0), Some(0))],
-                line_offset: 0,
-            },
-            Part {
-                names: &["name_b"],
-                sources: &["b.js"],
-                contents: &[Some("b content")],
-                rows: &[(0, 0, 0, 0, Some(0), Some(0))],
-                line_offset: 5,
-            },
-        ],
-        &[
-            (0, 0, 0, 0, Some(0), Some(0)),
-            (5, 0, 0, 0, Some(1), Some(1)),
-        ],
-        &[[0, 1, 0, 0, 0, 0, 0, 0], [1, 2, 0, 0, 0, 0, 0, 0]],
-        r#"{"version":3,"names":["name_a","name_b"],"sources":["a.js","b.js"],"sourcesContent":["a content","b content"],"mappings":"AAAAA;;;;;ACAAC"}"#,
-    ),
-    (
-        &[
-            Part {
-                names: &[],
-                sources: &["a.js"],
-                contents: &[Some("a content")],
-                rows: &[],
-                line_offset: 0,
-            },
-            Part {
-                names: &[],
-                sources: &["b.js"],
-                contents: &[Some("b content")],
-                rows: &[(0, 0, 0, 0, Some(0), None)],
-                line_offset: 0,
-            },
-        ],
-        &[(0, 0, 0, 0, Some(1), None)],
-        &[[0, 0, 0, 0, 0, 0, 0, 0], [0, 1, 0, 0, 0, 0, 0, 0]],
-        r#"{"version":3,"names":[],"sources":["a.js","b.js"],"sourcesContent":["a content","b content"],"mappings":"ACAA"}"#,
-    ),
-    (
-        &[
-            Part {
-                names: &[],
-                sources: &["a.js"],
-                contents: &[],
-                rows: &[(0, 0, 0, 0, Some(0), None)],
-                line_offset: 0,
-            },
-            Part {
-                names: &[],
-                sources: &["b.js"],
-                contents: &[Some("b content")],
-                rows: &[(0, 0, 0, 0, Some(0), None)],
-                line_offset: 1,
-            },
-        ],
-        &[(0, 0, 0, 0, Some(0), None), (1, 0, 0, 0, Some(1), None)],
-        &[[0, 1, 0, 0, 0, 0, 0, 0], [1, 2, 0, 0, 0, 0, 0, 0]],
-        r#"{"version":3,"names":[],"sources":["a.js","b.js"],"sourcesContent":[null,"b content"],"mappings":"AAAA;ACAA"}"#,
-    ),
+/// Names, sources, contents and ignore lists.
+#[rattlefmt::skip]
+const FIELDS: &[Join] = &[
+    (&[],
+     r#"{"version":3,"names":[],"sources":[],"mappings":""}"#,
+     &[]),
+    (&[(r#"{"version":3,"sources":["a.js"],"mappings":""}"#, 0, 0),
+       (r#"{"version":3,"sources":["b.js"],"sourcesContent":["B"],"mappings":""}"#, 1, 0)],
+     r#"{"version":3,"names":[],"sources":["a.js","b.js"],"sourcesContent":[null,"B"],"mappings":""}"#,
+     &[[0; 8], [0; 8]]),
+    (&[(r#"{"version":3,"sources":["a.js"],"sourcesContent":["A","EXTRA"],"mappings":""}"#, 0, 0),
+       (r#"{"version":3,"sources":["b.js"],"sourcesContent":["B"],"mappings":""}"#, 1, 0)],
+     r#"{"version":3,"names":[],"sources":["a.js","b.js"],"sourcesContent":["A","B"],"mappings":""}"#,
+     &[[0; 8], [0; 8]]),
+    (&[(r#"{"version":3,"names":["name_a"],"sources":["a.js"],"sourcesContent":["a content"],"mappings":"AAAAA"}"#, 0, 0),
+       (r#"{"version":3,"names":["name_b"],"sources":["b.js"],"sourcesContent":["b content"],"mappings":"AAAAA"}"#, 5, 0)],
+     r#"{"version":3,"names":["name_a","name_b"],"sources":["a.js","b.js"],"sourcesContent":["a content","b content"],"mappings":"AAAAA;;;;;ACAAC"}"#,
+     &[[0, 1, 0, 0, 0, 0, 0, 0], [1, 2, 0, 0, 0, 0, 0, 0]]),
+    (&[(r#"{"version":3,"sources":["a.js"],"sourcesContent":["a content"],"mappings":""}"#, 0, 0),
+       (r#"{"version":3,"sources":["b.js"],"sourcesContent":["b content"],"mappings":"AAAA"}"#, 0, 0)],
+     r#"{"version":3,"names":[],"sources":["a.js","b.js"],"sourcesContent":["a content","b content"],"mappings":"ACAA"}"#,
+     &[[0; 8], [0, 1, 0, 0, 0, 0, 0, 0]]),
+    (&[(r#"{"version":3,"sources":["a.js"],"mappings":"AAAA"}"#, 0, 0),
+       (r#"{"version":3,"sources":["b.js"],"sourcesContent":["b content"],"mappings":"AAAA"}"#, 1, 0)],
+     r#"{"version":3,"names":[],"sources":["a.js","b.js"],"sourcesContent":[null,"b content"],"mappings":"AAAA;ACAA"}"#,
+     &[[0, 1, 0, 0, 0, 0, 0, 0], [1, 2, 0, 0, 0, 0, 0, 0]]),
+    (&[(r#"{"version":3,"sources":["a.js"],"ignoreList":[0],"mappings":""}"#, 0, 0),
+       (r#"{"version":3,"sources":["b.js","c.js"],"ignoreList":[1],"mappings":""}"#, 0, 0)],
+     r#"{"version":3,"names":[],"sources":["a.js","b.js","c.js"],"ignoreList":[0,2],"mappings":""}"#,
+     &[[0; 8], [0; 8]]),
+    (&[(r#"{"version":3,"sources":["a.js"],"mappings":""}"#, 0, 0),
+       (r#"{"version":3,"sources":["b.js"],"mappings":""}"#, 0, 0)],
+     r#"{"version":3,"names":[],"sources":["a.js","b.js"],"mappings":""}"#,
+     &[[0; 8], [0; 8]]),
+    (&[(r#"{"version":3,"sources":["a.js"],"ignoreList":[],"mappings":""}"#, 0, 0),
+       (r#"{"version":3,"sources":["b.js"],"mappings":""}"#, 0, 0)],
+     r#"{"version":3,"names":[],"sources":["a.js","b.js"],"ignoreList":[],"mappings":""}"#,
+     &[[0; 8], [0; 8]]),
+    (&[(r#"{"version":3,"sources":["a.js"],"mappings":""}"#, 0, 0),
+       (r#"{"version":3,"sources":["b.js"],"ignoreList":[0,0],"mappings":""}"#, 0, 0)],
+     r#"{"version":3,"names":[],"sources":["a.js","b.js"],"ignoreList":[1,1],"mappings":""}"#,
+     &[[0; 8], [0; 8]]),
 ];
 
 /// Tokens at their lines, with and without sources.
+#[rattlefmt::skip]
 const LINES: &[Join] = &[
-    (
-        &[
-            Part {
-                names: &["foo", "foo2"],
-                sources: &["s0"],
-                contents: &[],
-                rows: &[(1, 1, 1, 1, Some(0), Some(0))],
-                line_offset: 0,
-            },
-            Part {
-                names: &["bar"],
-                sources: &["s1"],
-                contents: &[],
-                rows: &[(1, 1, 1, 1, Some(0), Some(0))],
-                line_offset: 2,
-            },
-            Part {
-                names: &["abc"],
-                sources: &["s2"],
-                contents: &[],
-                rows: &[(1, 2, 2, 2, Some(0), Some(0))],
-                line_offset: 2,
-            },
-        ],
-        &[
-            (1, 1, 1, 1, Some(0), Some(0)),
-            (3, 1, 1, 1, Some(1), Some(2)),
-            (3, 2, 2, 2, Some(2), Some(3)),
-        ],
-        &[
-            [0, 1, 0, 0, 0, 0, 0, 0],
-            [1, 2, 1, 1, 1, 1, 0, 0],
-            [2, 3, 3, 1, 1, 1, 2, 1],
-        ],
-        r#"{"version":3,"names":["foo","foo2","bar","abc"],"sources":["s0","s1","s2"],"mappings":";CACCA;;CCAAE,CCCCC"}"#,
-    ),
-    (
-        &[
-            Part {
-                names: &[],
-                sources: &["a"],
-                contents: &[],
-                rows: &[(0, 0, 5, 3, Some(0), None), (0, 4, 0, 0, None, None)],
-                line_offset: 0,
-            },
-            Part {
-                names: &[],
-                sources: &["b"],
-                contents: &[],
-                rows: &[(0, 0, 7, 1, Some(0), None)],
-                line_offset: 1,
-            },
-        ],
-        &[
-            (0, 0, 5, 3, Some(0), None),
-            (0, 4, 0, 0, None, None),
-            (1, 0, 7, 1, Some(1), None),
-        ],
-        &[[0, 2, 0, 0, 0, 0, 0, 0], [2, 3, 0, 4, 5, 3, 0, 0]],
-        r#"{"version":3,"names":[],"sources":["a","b"],"mappings":"AAKG,I;ACEF"}"#,
-    ),
-    (
-        &[
-            Part {
-                names: &[],
-                sources: &[],
-                contents: &[],
-                rows: &[(0, 0, 0, 0, None, None), (2, 3, 0, 0, None, None)],
-                line_offset: 0,
-            },
-            Part {
-                names: &[],
-                sources: &[],
-                contents: &[],
-                rows: &[(0, 3, 0, 0, None, None), (1, 9, 0, 0, None, None)],
-                line_offset: 2,
-            },
-        ],
-        &[
-            (0, 0, 0, 0, None, None),
-            (2, 3, 0, 0, None, None),
-            (3, 9, 0, 0, None, None),
-        ],
-        &[[0, 2, 0, 0, 0, 0, 0, 0], [2, 3, 2, 3, 0, 0, 0, 0]],
-        r#"{"version":3,"names":[],"sources":[],"mappings":"A;;G;S"}"#,
-    ),
+    (&[(r#"{"version":3,"names":["foo","foo2"],"sources":["s0"],"mappings":";CACCA"}"#, 0, 0),
+       (r#"{"version":3,"names":["bar"],"sources":["s1"],"mappings":";CACCA"}"#, 2, 0),
+       (r#"{"version":3,"names":["abc"],"sources":["s2"],"mappings":";EAEEA"}"#, 2, 0)],
+     r#"{"version":3,"names":["foo","foo2","bar","abc"],"sources":["s0","s1","s2"],"mappings":";CACCA;;CCAAE,CCCCC"}"#,
+     &[[0, 1, 0, 0, 0, 0, 0, 0], [1, 2, 1, 1, 1, 1, 0, 0], [2, 3, 3, 1, 1, 1, 2, 1]]),
+    (&[(r#"{"version":3,"sources":["a"],"mappings":"AAKG,I"}"#, 0, 0),
+       (r#"{"version":3,"sources":["b"],"mappings":"AAOC"}"#, 1, 0)],
+     r#"{"version":3,"names":[],"sources":["a","b"],"mappings":"AAKG,I;ACEF"}"#,
+     &[[0, 2, 0, 0, 0, 0, 0, 0], [2, 3, 0, 4, 5, 3, 0, 0]]),
+    (&[(r#"{"version":3,"sources":[],"mappings":"A;;G"}"#, 0, 0),
+       (r#"{"version":3,"sources":[],"mappings":"G;S"}"#, 2, 0)],
+     r#"{"version":3,"names":[],"sources":[],"mappings":"A;;G;S"}"#,
+     &[[0, 2, 0, 0, 0, 0, 0, 0], [2, 3, 2, 3, 0, 0, 0, 0]]),
 ];
 
 /// Where one map ends and the next one begins.
+#[rattlefmt::skip]
 const SEAMS: &[Join] = &[
-    (
-        &[
-            Part {
-                names: &[],
-                sources: &["a"],
-                contents: &[],
-                rows: &[(0, 0, 5, 3, Some(0), None)],
-                line_offset: 0,
-            },
-            Part {
-                names: &[],
-                sources: &["b"],
-                contents: &[],
-                rows: &[],
-                line_offset: 0,
-            },
-            Part {
-                names: &[],
-                sources: &["c"],
-                contents: &[],
-                rows: &[(0, 2, 1, 1, Some(0), None)],
-                line_offset: 1,
-            },
-        ],
-        &[(0, 0, 5, 3, Some(0), None), (1, 2, 1, 1, Some(2), None)],
-        &[
-            [0, 1, 0, 0, 0, 0, 0, 0],
-            [1, 1, 0, 0, 5, 3, 0, 0],
-            [1, 2, 0, 0, 5, 3, 0, 0],
-        ],
-        r#"{"version":3,"names":[],"sources":["a","b","c"],"mappings":"AAKG;EEJF"}"#,
-    ),
-    (
-        &[
-            Part {
-                names: &["p", "q", "r"],
-                sources: &["a"],
-                contents: &[],
-                rows: &[(0, 0, 0, 0, Some(0), Some(0)), (0, 1, 0, 0, None, Some(2))],
-                line_offset: 0,
-            },
-            Part {
-                names: &["s"],
-                sources: &["b"],
-                contents: &[],
-                rows: &[(0, 0, 0, 0, Some(0), Some(0))],
-                line_offset: 1,
-            },
-        ],
-        &[
-            (0, 0, 0, 0, Some(0), Some(0)),
-            (0, 1, 0, 0, None, Some(2)),
-            (1, 0, 0, 0, Some(1), Some(3)),
-        ],
-        &[[0, 2, 0, 0, 0, 0, 0, 0], [2, 3, 0, 1, 0, 0, 0, 0]],
-        r#"{"version":3,"names":["p","q","r","s"],"sources":["a","b"],"mappings":"AAAAA,C;ACAAG"}"#,
-    ),
-    (
-        &[
-            Part {
-                names: &[],
-                sources: &[],
-                contents: &[],
-                rows: &[(0, 0, 0, 0, None, None)],
-                line_offset: 0,
-            },
-            Part {
-                names: &[],
-                sources: &[],
-                contents: &[],
-                rows: &[(0, 0, 0, 0, None, None)],
-                line_offset: 0,
-            },
-        ],
-        &[(0, 0, 0, 0, None, None)],
-        &[[0, 1, 0, 0, 0, 0, 0, 0], [1, 1, 0, 0, 0, 0, 0, 0]],
-        r#"{"version":3,"names":[],"sources":[],"mappings":"A"}"#,
-    ),
-    (
-        &[
-            Part {
-                names: &["name1"],
-                sources: &["file1.js"],
-                contents: &[],
-                rows: &[
-                    (1, 1, 1, 1, Some(0), Some(0)),
-                    (2, 5, 2, 5, Some(0), Some(0)),
-                ],
-                line_offset: 0,
-            },
-            Part {
-                names: &["name2"],
-                sources: &["file2.js"],
-                contents: &[],
-                rows: &[
-                    (2, 5, 2, 5, Some(0), Some(0)),
-                    (3, 10, 3, 10, Some(0), Some(0)),
-                ],
-                line_offset: 0,
-            },
-        ],
-        &[
-            (1, 1, 1, 1, Some(0), Some(0)),
-            (2, 5, 2, 5, Some(0), Some(0)),
-            (2, 5, 2, 5, Some(1), Some(1)),
-            (3, 10, 3, 10, Some(1), Some(1)),
-        ],
-        &[[0, 2, 0, 0, 0, 0, 0, 0], [2, 4, 2, 5, 2, 5, 0, 0]],
-        r#"{"version":3,"names":["name1","name2"],"sources":["file1.js","file2.js"],"mappings":";CACCA;KACIA,ACAAC;UACKA"}"#,
-    ),
+    (&[(r#"{"version":3,"sources":["a"],"mappings":"AAKG"}"#, 0, 0),
+       (r#"{"version":3,"sources":["b"],"mappings":""}"#, 0, 0),
+       (r#"{"version":3,"sources":["c"],"mappings":"EACC"}"#, 1, 0)],
+     r#"{"version":3,"names":[],"sources":["a","b","c"],"mappings":"AAKG;EEJF"}"#,
+     &[[0, 1, 0, 0, 0, 0, 0, 0], [1, 1, 0, 0, 5, 3, 0, 0], [1, 2, 0, 0, 5, 3, 0, 0]]),
+    (&[(r#"{"version":3,"names":["p","q","r"],"sources":["a"],"mappings":"AAAAA,C"}"#, 0, 0),
+       (r#"{"version":3,"names":["s"],"sources":["b"],"mappings":"AAAAA"}"#, 1, 0)],
+     r#"{"version":3,"names":["p","q","r","s"],"sources":["a","b"],"mappings":"AAAAA,C;ACAAG"}"#,
+     &[[0, 2, 0, 0, 0, 0, 0, 0], [2, 3, 0, 1, 0, 0, 0, 0]]),
+    (&[(r#"{"version":3,"sources":[],"mappings":"A"}"#, 0, 0),
+       (r#"{"version":3,"sources":[],"mappings":"A"}"#, 0, 0)],
+     r#"{"version":3,"names":[],"sources":[],"mappings":"A"}"#,
+     &[[0, 1, 0, 0, 0, 0, 0, 0], [1, 1, 0, 0, 0, 0, 0, 0]]),
+    (&[(r#"{"version":3,"names":["name1"],"sources":["file1.js"],"mappings":";CACCA;KACIA"}"#, 0, 0),
+       (r#"{"version":3,"names":["name2"],"sources":["file2.js"],"mappings":";;KAEKA;UACKA"}"#, 0, 0)],
+     r#"{"version":3,"names":["name1","name2"],"sources":["file1.js","file2.js"],"mappings":";CACCA;KACIA,ACAAC;UACKA"}"#,
+     &[[0, 2, 0, 0, 0, 0, 0, 0], [2, 4, 2, 5, 2, 5, 0, 0]]),
 ];
 
-/// Maps, each with its offset.
-type Maps = Vec<(SourceMap<'static>, u32)>;
+/// Maps beside each other on one line.
+#[rattlefmt::skip]
+const SIDE_BY_SIDE: &[Join] = &[
+    (&[(r#"{"version":3,"sources":["a.js"],"mappings":"AAAA,IAAI"}"#, 0, 0),
+       (r#"{"version":3,"sources":["b.js"],"mappings":"AAAA;AACA"}"#, 0, 10)],
+     r#"{"version":3,"names":[],"sources":["a.js","b.js"],"mappings":"AAAA,IAAI,MCAJ;AACA"}"#,
+     &[[0, 2, 0, 0, 0, 0, 0, 0], [2, 4, 0, 4, 0, 4, 0, 0]]),
+    (&[(r#"{"version":3,"sources":["a.js"],"mappings":"AAAA,IAAI"}"#, 0, 0),
+       (r#"{"version":3,"sources":["b.js"],"mappings":"AAAA;AACA"}"#, 0, 4)],
+     r#"{"version":3,"names":[],"sources":["a.js","b.js"],"mappings":"AAAA,IAAI,ACAJ;AACA"}"#,
+     &[[0, 2, 0, 0, 0, 0, 0, 0], [2, 4, 0, 4, 0, 4, 0, 0]]),
+];
 
-/// The maps of a join, each at its offset.
-fn maps_of(alloc: Global, parts: &[Part]) -> Result<Maps> {
+/// Maps whose last one is past the greatest column. The joined map is that of the others.
+#[rattlefmt::skip]
+const TOO_FAR: &[Join] = &[
+    (&[(r#"{"version":3,"sources":["a.js"],"mappings":"AAAA,IAAI"}"#, 0, 0),
+       (r#"{"version":3,"sources":["b.js"],"mappings":"C"}"#, 0, 4294967295)],
+     r#"{"version":3,"names":[],"sources":["a.js"],"mappings":"AAAA,IAAI"}"#,
+     &[[0, 2, 0, 0, 0, 0, 0, 0]]),
+];
+
+/// A map, and the line and the column that it is joined at.
+type Placed = (SourceMap<'static>, u32, u32);
+
+fn maps_of_texts(alloc: Global, texts: Texts) -> Result<Vec<Placed>> {
     let mut maps = Vec::new(alloc);
-    for part in parts {
-        let map = map_of(alloc, part.names, part.sources, part.contents, part.rows)?;
-        maps.push((map, part.line_offset))?;
+    for (text, line, column) in texts {
+        let map = SourceMap::from_json_string(alloc, text)?;
+        maps.push((map, *line, *column))?;
     }
     Ok(maps)
 }
 
-/// The joined map of these maps, which are moved.
-fn joined(alloc: Global, parts: &[Part]) -> Result<SourceMap<'static>> {
-    let maps = maps_of(alloc, parts)?;
-    ConcatSourceMapBuilder::from_owned_sourcemaps(alloc, maps)?.into_sourcemap()
+/// What a joined map has to be, and the error of the maps that are left out of it.
+#[derive(Clone, Copy)]
+struct Wanted<'w> {
+    text: &'w str,
+    tokens: &'w [Token],
+    chunks: Chunks,
+    error: Option<Error>,
 }
 
-/// The JSON text of what was joined.
-fn text_of(alloc: Global, builder: ConcatSourceMapBuilder<'_>) -> Result<String> {
-    builder.into_sourcemap()?.to_json_string(alloc)
-}
-
-/// The same, of the owned map.
-fn owned_text_of(alloc: Global, builder: ConcatSourceMapBuilder<'static>) -> Result<String> {
-    builder.into_owned_sourcemap()?.to_json_string(alloc)
-}
-
-/// The JSON text of the joined map, of maps that are borrowed.
-fn lent_text(alloc: Global, maps: &[(SourceMap<'static>, u32)]) -> Result<String> {
-    let mut lent_maps = Vec::new(alloc);
-    for (map, line_offset) in maps {
-        lent_maps.push((map, *line_offset))?;
-    }
-    let builder = ConcatSourceMapBuilder::from_sourcemaps(alloc, lent_maps.as_slice())?;
-    builder.into_owned_sourcemap()?.to_json_string(alloc)
-}
-
-/// The same, of maps that are made for it.
-fn lent_text_of(alloc: Global, parts: &[Part]) -> Result<String> {
-    let maps = maps_of(alloc, parts)?;
-    lent_text(alloc, maps.as_slice())
-}
-
-/// Passes over a map that is too large.
-fn unless_too_large(added: Result<()>) -> Result<()> {
-    if added == Err(Error::TooLarge) {
-        Ok(())
-    } else {
-        added
-    }
-}
-
-/// Adds maps that are borrowed, one by one, but for those that are too large.
-fn add_each<'m>(
-    builder: &mut ConcatSourceMapBuilder<'m>,
-    maps: &'m [(SourceMap<'static>, u32)],
+fn is_joined(
+    rt: &impl Abort,
+    alloc: Global,
+    way: &str,
+    joined: Result<SourceMap<'_>>,
+    wanted: Wanted<'_>,
 ) -> Result<()> {
-    for (map, line_offset) in maps {
-        unless_too_large(builder.add_sourcemap(map, *line_offset))?;
-    }
+    let joined = joined?;
+    is_text(rt, way, &joined.to_json_string(alloc), Ok(wanted.text));
+    let parts = joined.into_parts();
+    same(rt, way, parts.tokens.as_slice(), wanted.tokens);
+    let chunks = chunks_of(alloc, &Some(wanted.chunks))?;
+    same(rt, way, &parts.token_chunks, &chunks);
     Ok(())
 }
 
-/// The JSON text of the join of maps that are borrowed one by one.
-fn added_text<'m>(alloc: Global, maps: &'m [(SourceMap<'static>, u32)]) -> Result<String> {
+/// The join of maps that are borrowed one by one, and the first error.
+fn lent_each<'m>(
+    alloc: Global,
+    maps: &'m [Placed],
+    add: impl Fn(
+        &mut ConcatSourceMapBuilder<'m>,
+        &'m SourceMap<'static>,
+        u32,
+        u32,
+    ) -> Result<()>,
+) -> Result<(SourceMap<'m>, Option<Error>)> {
     let mut builder: ConcatSourceMapBuilder<'m> = ConcatSourceMapBuilder::empty(alloc);
-    add_each(&mut builder, maps)?;
-    text_of(alloc, builder)
-}
-
-/// The same, of maps that are dropped then.
-fn added_text_of(alloc: Global, maps: Maps) -> Result<String> {
-    added_text(alloc, maps.as_slice())
-}
-
-/// Adds maps that are moved, one by one, but for those that are too large.
-fn move_each(builder: &mut ConcatSourceMapBuilder<'static>, maps: Maps) -> Result<()> {
-    for (map, line_offset) in maps {
-        unless_too_large(builder.add_sourcemap_owned(map, line_offset))?;
+    let mut error = None;
+    for (map, line, column) in maps {
+        error = error.or(add(&mut builder, map, *line, *column).err());
     }
-    Ok(())
+    Ok((builder.into_sourcemap()?, error))
 }
 
-/// The JSON text of the join of maps that are moved one by one.
-fn moved_text(alloc: Global, maps: Maps) -> Result<String> {
+/// The same of maps that are moved.
+fn moved_each(
+    alloc: Global,
+    maps: Vec<Placed>,
+    add: impl Fn(
+        &mut ConcatSourceMapBuilder<'static>,
+        SourceMap<'static>,
+        u32,
+        u32,
+    ) -> Result<()>,
+) -> Result<(SourceMap<'static>, Option<Error>)> {
     let mut builder: ConcatSourceMapBuilder<'static> = ConcatSourceMapBuilder::with_capacity(
         alloc, 1, 1, 1, 1,
     )?;
-    move_each(&mut builder, maps)?;
-    owned_text_of(alloc, builder)
+    let mut error = None;
+    for (map, line, column) in maps {
+        error = error.or(add(&mut builder, map, line, column).err());
+    }
+    Ok((builder.into_owned_sourcemap()?.into_inner(), error))
 }
 
-fn has_tokens_and_chunks(
+/// Asserts what is joined by the calls that take a line and a column.
+fn are_joined_at(
     rt: &impl Abort,
     alloc: Global,
-    found: &SourceMapParts<'_>,
+    make: impl Fn() -> Result<Vec<Placed>>,
+    wanted: Wanted<'_>,
+) -> Result<()> {
+    let maps = make()?;
+    let (joined, error) = lent_each(alloc, maps.as_slice(), |builder, map, line, column| {
+        builder.add_sourcemap_at(map, line, column)
+    })?;
+    same(rt, "lent to a column", error, wanted.error);
+    is_joined(rt, alloc, "lent to a column", Ok(joined), wanted)?;
+    let (joined, error) = moved_each(alloc, maps, |builder, map, line, column| {
+        builder.add_sourcemap_owned_at(map, line, column)
+    })?;
+    same(rt, "moved to a column", error, wanted.error);
+    is_joined(rt, alloc, "moved to a column", Ok(joined), wanted)
+}
+
+/// Asserts what is joined by those that take a line.
+fn are_joined_below(
+    rt: &impl Abort,
+    alloc: Global,
+    make: impl Fn() -> Result<Vec<Placed>>,
+    wanted: Wanted<'_>,
+) -> Result<()> {
+    let maps = make()?;
+    let (joined, error) = lent_each(alloc, maps.as_slice(), |builder, map, line, _| {
+        builder.add_sourcemap(map, line)
+    })?;
+    same(rt, "lent", error, wanted.error);
+    is_joined(rt, alloc, "lent", Ok(joined), wanted)?;
+    let (joined, error) = moved_each(alloc, maps, |builder, map, line, _| {
+        builder.add_sourcemap_owned(map, line)
+    })?;
+    same(rt, "moved", error, wanted.error);
+    is_joined(rt, alloc, "moved", Ok(joined), wanted)
+}
+
+/// The join of maps that are borrowed at once.
+fn lent_at_once(alloc: Global, maps: &[Placed]) -> Result<SourceMap<'static>> {
+    let mut lent_maps = Vec::new(alloc);
+    for (map, line, _) in maps {
+        lent_maps.push((map, *line))?;
+    }
+    let builder = ConcatSourceMapBuilder::from_sourcemaps(alloc, lent_maps.as_slice())?;
+    Ok(builder.into_owned_sourcemap()?.into_inner())
+}
+
+/// The same of maps that are moved.
+fn moved_at_once(alloc: Global, maps: Vec<Placed>) -> Result<SourceMap<'static>> {
+    let mut moved_maps = Vec::new(alloc);
+    for (map, line, _) in maps {
+        moved_maps.push((map, line))?;
+    }
+    ConcatSourceMapBuilder::from_owned_sourcemaps(alloc, moved_maps)?.into_sourcemap()
+}
+
+/// Asserts what is joined at once: a map, or why there is none.
+fn are_joined_at_once(
+    rt: &impl Abort,
+    alloc: Global,
+    make: impl Fn() -> Result<Vec<Placed>>,
+    wanted: Wanted<'_>,
+) -> Result<()> {
+    let maps = make()?;
+    let lent = lent_at_once(alloc, maps.as_slice());
+    let moved = moved_at_once(alloc, maps);
+    if wanted.error.is_some() {
+        same(rt, "at once", [lent.err(), moved.err()], [wanted.error; 2]);
+        return Ok(());
+    }
+    is_joined(rt, alloc, "lent at once", lent, wanted)?;
+    is_joined(rt, alloc, "moved at once", moved, wanted)
+}
+
+/// Asserts what the maps of texts are joined to. The tokens are those that the text of the joined map reads as.
+fn texts_are_joined(
+    rt: &impl Abort,
+    alloc: Global,
     join: &Join,
+    error: Option<Error>,
 ) -> Result<()> {
-    let (_, rows, chunk_rows, text) = *join;
-    let tokens = tokens_of(alloc, rows)?;
-    same(rt, text, found.tokens.as_slice(), tokens.as_slice());
-    let chunks = chunks_of(alloc, &Some(chunk_rows))?;
-    same(rt, text, &found.token_chunks, &chunks);
-    Ok(())
-}
-
-fn moved_maps_are_joined(rt: &impl Abort, alloc: Global, join: &Join) -> Result<()> {
-    let joined = joined(alloc, join.0)?;
-    is_text(rt, "moved", &joined.to_json_string(alloc), Ok(join.3));
-    has_tokens_and_chunks(rt, alloc, &joined.into_parts(), join)
-}
-
-fn maps_are_joined_one_by_one(
-    rt: &impl Abort,
-    alloc: Global,
-    parts: &[Part],
-    text: &str,
-) -> Result<()> {
-    let added = added_text_of(alloc, maps_of(alloc, parts)?);
-    is_text(rt, "added", &added, Ok(text));
-    let moved = moved_text(alloc, maps_of(alloc, parts)?);
-    is_text(rt, "moved one by one", &moved, Ok(text));
-    Ok(())
-}
-
-fn these_are_joined(rt: &impl Abort, alloc: Global, rows: &[Join]) -> Result<()> {
-    for join in rows {
-        moved_maps_are_joined(rt, alloc, join)?;
-        maps_are_joined_one_by_one(rt, alloc, join.0, join.3)?;
-        is_text(rt, "lent", &lent_text_of(alloc, join.0), Ok(join.3));
+    let (texts, text, chunks) = *join;
+    let read = SourceMap::from_json_string(alloc, text)?;
+    let tokens = read.get_tokens().as_slice();
+    let wanted = Wanted { text, tokens, chunks, error };
+    let make = || maps_of_texts(alloc, texts);
+    are_joined_at(rt, alloc, make, wanted)?;
+    if texts.iter().all(|(_, _, column)| *column == 0) {
+        are_joined_below(rt, alloc, make, wanted)?;
+        are_joined_at_once(rt, alloc, make, wanted)?;
     }
     Ok(())
 }
 
 #[test]
 fn maps_are_joined(rt: HostRuntime) -> Result<()> {
-    for rows in [TEXTS, LINES, SEAMS] {
-        these_are_joined(&rt, rt.alloc(), rows)?;
+    for rows in [FIELDS, LINES, SEAMS, SIDE_BY_SIDE] {
+        for join in rows {
+            texts_are_joined(&rt, rt.alloc(), join, None)?;
+        }
+    }
+    Ok(())
+}
+
+#[test]
+fn maps_past_the_greatest_column_are_left_out(rt: HostRuntime) -> Result<()> {
+    for join in TOO_FAR {
+        texts_are_joined(&rt, rt.alloc(), join, Some(Error::TooLarge))?;
+    }
+    Ok(())
+}
+
+/// Names, sources, tokens and ignore list of a map that no JSON text gives, and the line that it is joined at.
+type Part = (
+    &'static [&'static str],
+    &'static [&'static str],
+    &'static [Row],
+    Option<&'static [u32]>,
+    u32,
+);
+
+/// Such maps; the tokens of the joined map, its JSON text, and its chunks.
+type PartsJoin = (&'static [Part], &'static [Row], &'static str, Chunks);
+
+#[rattlefmt::skip]
+const PARTS: &[PartsJoin] = &[
+    // An unmapped token has no source position, and stays so.
+    (&[(&[], &["a"], &[(0, 0, 5, 3, Some(0), None), (0, 4, 0, 0, None, None)], None, 0),
+       (&[], &["b"], &[(0, 0, 7, 1, Some(0), None)], None, 1)],
+     &[(0, 0, 5, 3, Some(0), None), (0, 4, 0, 0, None, None), (1, 0, 7, 1, Some(1), None)],
+     r#"{"version":3,"names":[],"sources":["a","b"],"mappings":"AAKG,I;ACEF"}"#,
+     &[[0, 2, 0, 0, 0, 0, 0, 0], [2, 3, 0, 4, 5, 3, 0, 0]]),
+    // The name of an unmapped token is not written, and does not count for the chunk behind it.
+    (&[(&["p", "q", "r"], &["a"], &[(0, 0, 0, 0, Some(0), Some(0)), (0, 1, 0, 0, None, Some(2))], None, 0),
+       (&["s"], &["b"], &[(0, 0, 0, 0, Some(0), Some(0))], None, 1)],
+     &[(0, 0, 0, 0, Some(0), Some(0)), (0, 1, 0, 0, None, Some(2)), (1, 0, 0, 0, Some(1), Some(3))],
+     r#"{"version":3,"names":["p","q","r","s"],"sources":["a","b"],"mappings":"AAAAA,C;ACAAG"}"#,
+     &[[0, 2, 0, 0, 0, 0, 0, 0], [2, 3, 0, 1, 0, 0, 0, 0]]),
+];
+
+/// Maps whose last one is too large, for a line, a source id or an id of its ignore list. The joined map is that of the others.
+#[rattlefmt::skip]
+const TOO_LARGE: &[PartsJoin] = &[
+    (&[(&[], &[], &[(4294967295, 0, 0, 0, None, None)], None, 1)],
+     &[],
+     r#"{"version":3,"names":[],"sources":[],"mappings":""}"#,
+     &[]),
+    (&[(&[], &["s"], &[], None, 0), (&[], &[], &[(0, 0, 0, 0, Some(4294967294), None)], None, 0)],
+     &[],
+     r#"{"version":3,"names":[],"sources":["s"],"mappings":""}"#,
+     &[[0; 8]]),
+    (&[(&[], &["a.js"], &[], Some(&[0]), 0), (&[], &["b.js"], &[], Some(&[4294967294]), 0)],
+     &[],
+     r#"{"version":3,"names":[],"sources":["a.js"],"ignoreList":[0],"mappings":""}"#,
+     &[[0; 8]]),
+];
+
+fn maps_of_parts(alloc: Global, parts: &[Part]) -> Result<Vec<Placed>> {
+    let mut maps = Vec::new(alloc);
+    for (names, sources, rows, ignored, line) in parts {
+        let mut map = map_of(alloc, *names, *sources, &[], *rows)?;
+        if let Some(ids) = ignored {
+            map.set_ignore_list(ids.to_vec(alloc)?);
+        }
+        maps.push((map, *line, 0))?;
+    }
+    Ok(maps)
+}
+
+/// Asserts what these maps are joined to.
+fn parts_are_joined(
+    rt: &impl Abort,
+    alloc: Global,
+    join: &PartsJoin,
+    error: Option<Error>,
+) -> Result<()> {
+    let (parts, rows, text, chunks) = *join;
+    let tokens = tokens_of(alloc, rows)?;
+    let wanted = Wanted { text, tokens: tokens.as_slice(), chunks, error };
+    let make = || maps_of_parts(alloc, parts);
+    are_joined_at(rt, alloc, make, wanted)?;
+    are_joined_below(rt, alloc, make, wanted)?;
+    are_joined_at_once(rt, alloc, make, wanted)
+}
+
+#[test]
+fn maps_that_no_text_gives_are_joined(rt: HostRuntime) -> Result<()> {
+    for join in PARTS {
+        parts_are_joined(&rt, rt.alloc(), join, None)?;
+    }
+    Ok(())
+}
+
+#[test]
+fn maps_past_a_limit_are_left_out(rt: HostRuntime) -> Result<()> {
+    for join in TOO_LARGE {
+        parts_are_joined(&rt, rt.alloc(), join, Some(Error::TooLarge))?;
     }
     Ok(())
 }
@@ -497,180 +406,8 @@ const URL: &str =
 
 #[test]
 fn the_join_of_no_maps_has_a_url(rt: HostRuntime) -> Result<()> {
-    let joined = joined(rt.alloc(), &[])?;
+    let joined = moved_at_once(rt.alloc(), Vec::new(rt.alloc()))?;
     is_text(&rt, "url", &joined.to_data_url(rt.alloc()), Ok(URL));
-    Ok(())
-}
-
-/// Two maps, the column of the joined line 0 where the second one begins, and the JSON text of the join.
-const SIDE_BY_SIDE: &[(&str, &str, u32, Result<&str>)] = &[
-    (
-        r#"{"version":3,"sources":["a.js"],"mappings":"AAAA,IAAI"}"#,
-        r#"{"version":3,"sources":["b.js"],"mappings":"AAAA;AACA"}"#,
-        10,
-        Ok(
-            r#"{"version":3,"names":[],"sources":["a.js","b.js"],"mappings":"AAAA,IAAI,MCAJ;AACA"}"#,
-        ),
-    ),
-    (
-        r#"{"version":3,"sources":["a.js"],"mappings":"AAAA,IAAI"}"#,
-        r#"{"version":3,"sources":["b.js"],"mappings":"AAAA;AACA"}"#,
-        4,
-        Ok(
-            r#"{"version":3,"names":[],"sources":["a.js","b.js"],"mappings":"AAAA,IAAI,ACAJ;AACA"}"#,
-        ),
-    ),
-    (
-        r#"{"version":3,"sources":["a.js"],"mappings":"AAAA,IAAI"}"#,
-        r#"{"version":3,"sources":["b.js"],"mappings":"C"}"#,
-        4294967295,
-        Err(Error::TooLarge),
-    ),
-];
-
-/// The JSON text of the join of two borrowed maps, the second one at a column of line 0.
-fn lent_side_by_side<'a>(
-    alloc: Global,
-    left: &'a SourceMap<'static>,
-    right: &'a SourceMap<'static>,
-    column: u32,
-) -> Result<String> {
-    let mut builder = ConcatSourceMapBuilder::empty(alloc);
-    builder.add_sourcemap(left, 0)?;
-    builder.add_sourcemap_at(right, 0, column)?;
-    text_of(alloc, builder)
-}
-
-/// Adds two maps that are moved, the second one at a column of line 0.
-fn move_side_by_side(
-    builder: &mut ConcatSourceMapBuilder<'static>,
-    left: SourceMap<'static>,
-    right: SourceMap<'static>,
-    column: u32,
-) -> Result<()> {
-    builder.add_sourcemap_owned_at(left, 0, 0)?;
-    builder.add_sourcemap_owned_at(right, 0, column)
-}
-
-/// The JSON text of the join of two maps that are moved.
-fn moved_side_by_side(
-    alloc: Global,
-    left: SourceMap<'static>,
-    right: SourceMap<'static>,
-    column: u32,
-) -> Result<String> {
-    let mut builder: ConcatSourceMapBuilder<'static> = ConcatSourceMapBuilder::empty(alloc);
-    move_side_by_side(&mut builder, left, right, column)?;
-    owned_text_of(alloc, builder)
-}
-
-#[test]
-fn maps_are_joined_side_by_side(rt: HostRuntime) -> Result<()> {
-    for (left, right, column, want) in SIDE_BY_SIDE {
-        let left = SourceMap::from_json_string(rt.alloc(), left)?;
-        let right = SourceMap::from_json_string(rt.alloc(), right)?;
-        let lent = lent_side_by_side(rt.alloc(), &left, &right, *column);
-        is_text(&rt, "lent", &lent, *want);
-        let moved = moved_side_by_side(rt.alloc(), left, right, *column);
-        is_text(&rt, "moved", &moved, *want);
-    }
-    Ok(())
-}
-
-/// Maps whose last one is refused as too large, for a line and for a source id; and the JSON text of the others.
-const TOO_LARGE: &[(&[Part], &str)] = &[
-    (
-        &[Part {
-            names: &[],
-            sources: &[],
-            contents: &[],
-            rows: &[(4294967295, 0, 0, 0, None, None)],
-            line_offset: 1,
-        }],
-        r#"{"version":3,"names":[],"sources":[],"mappings":""}"#,
-    ),
-    (
-        &[
-            Part {
-                names: &[],
-                sources: &["s"],
-                contents: &[],
-                rows: &[],
-                line_offset: 0,
-            },
-            Part {
-                names: &[],
-                sources: &[],
-                contents: &[],
-                rows: &[(0, 0, 0, 0, Some(4294967294), None)],
-                line_offset: 0,
-            },
-        ],
-        r#"{"version":3,"names":[],"sources":["s"],"mappings":""}"#,
-    ),
-];
-
-/// The lists of maps are refused, and give no map.
-#[test]
-fn joins_past_a_limit_are_refused(rt: HostRuntime) -> Result<()> {
-    for (parts, text) in TOO_LARGE {
-        let refused = joined(rt.alloc(), parts).err();
-        same(&rt, "moved", refused, Some(Error::TooLarge));
-        let refused = lent_text_of(rt.alloc(), parts).err();
-        same(&rt, "lent", refused, Some(Error::TooLarge));
-        maps_are_joined_one_by_one(&rt, rt.alloc(), parts, text)?;
-    }
-    Ok(())
-}
-
-/// The sources and the ignore list of a map.
-type Ignoring = (&'static [&'static str], Option<&'static [u32]>);
-
-/// Maps with and without ignore lists, and the JSON text of their join. A map that is too large is passed over.
-const IGNORE_LISTS: &[(&[Ignoring], &str)] = &[
-    (
-        &[(&["a.js"], Some(&[0])), (&["b.js", "c.js"], Some(&[1]))],
-        r#"{"version":3,"names":[],"sources":["a.js","b.js","c.js"],"ignoreList":[0,2],"mappings":""}"#,
-    ),
-    (
-        &[(&["a.js"], None), (&["b.js"], None)],
-        r#"{"version":3,"names":[],"sources":["a.js","b.js"],"mappings":""}"#,
-    ),
-    (
-        &[(&["a.js"], Some(&[])), (&["b.js"], None)],
-        r#"{"version":3,"names":[],"sources":["a.js","b.js"],"ignoreList":[],"mappings":""}"#,
-    ),
-    (
-        &[(&["a.js"], None), (&["b.js"], Some(&[0, 0]))],
-        r#"{"version":3,"names":[],"sources":["a.js","b.js"],"ignoreList":[1,1],"mappings":""}"#,
-    ),
-    (
-        &[(&["a.js"], Some(&[0])), (&["b.js"], Some(&[4294967294]))],
-        r#"{"version":3,"names":[],"sources":["a.js"],"ignoreList":[0],"mappings":""}"#,
-    ),
-];
-
-/// The maps with these sources and ignore lists, each at offset 0.
-fn ignoring_maps(alloc: Global, parts: &[Ignoring]) -> Result<Maps> {
-    let mut maps = Vec::new(alloc);
-    for (sources, ignored) in parts {
-        let mut map = map_of(alloc, &[], *sources, &[], &[])?;
-        if let Some(ids) = ignored {
-            map.set_ignore_list(ids.to_vec(alloc)?);
-        }
-        maps.push((map, 0))?;
-    }
-    Ok(maps)
-}
-
-#[test]
-fn ignore_lists_are_joined(rt: HostRuntime) -> Result<()> {
-    for (parts, text) in IGNORE_LISTS {
-        let added = added_text_of(rt.alloc(), ignoring_maps(rt.alloc(), *parts)?);
-        is_text(&rt, "added", &added, Ok(*text));
-        let moved = moved_text(rt.alloc(), ignoring_maps(rt.alloc(), *parts)?);
-        is_text(&rt, "moved one by one", &moved, Ok(*text));
-    }
     Ok(())
 }
 
@@ -681,34 +418,18 @@ fn large_map(alloc: Global) -> Result<SourceMap<'static>> {
     map_of(alloc, names.as_slice(), sources.as_slice(), &[], &[])
 }
 
-/// Joins a map, ten lines down, after a large one.
-fn join_after_a_large_map<'m>(
-    alloc: Global,
-    builder: &mut ConcatSourceMapBuilder<'m>,
-    map: &'m SourceMap<'_>,
-) -> Result<()> {
-    builder.add_sourcemap_owned(large_map(alloc)?, 7)?;
-    builder.add_sourcemap(map, 10)
-}
-
-fn joined_after_a_large_map<'m>(alloc: Global, map: &'m SourceMap<'_>) -> Result<SourceMap<'m>> {
-    let mut builder: ConcatSourceMapBuilder<'m> = ConcatSourceMapBuilder::empty(alloc);
-    join_after_a_large_map(alloc, &mut builder, map)?;
-    builder.into_sourcemap()
-}
-
-fn tokens_are_moved(rt: &impl Abort, joined: &SourceMap<'_>) {
-    let first = Token::new(11, 2, 3, 4, Some(105), Some(1006));
-    same(rt, "first", joined.get_token(0), Some(first));
-    let second = Token::new(12, 0, 0, 0, None, None);
-    same(rt, "second", joined.get_token(1), Some(second));
-}
-
 #[test]
 fn tokens_after_a_large_map_are_moved(rt: HostRuntime) -> Result<()> {
     let rows = [(1, 2, 3, 4, Some(5), Some(6)), (2, 0, 0, 0, None, None)];
     let map = map_of(rt.alloc(), &[], &[], &[], rows.as_slice())?;
-    tokens_are_moved(&rt, &joined_after_a_large_map(rt.alloc(), &map)?);
+    let mut builder = ConcatSourceMapBuilder::empty(rt.alloc());
+    builder.add_sourcemap_owned(large_map(rt.alloc())?, 7)?;
+    builder.add_sourcemap(&map, 10)?;
+    let joined = builder.into_sourcemap()?;
+    let first = Token::new(11, 2, 3, 4, Some(105), Some(1006));
+    same(&rt, "first", joined.get_token(0), Some(first));
+    let second = Token::new(12, 0, 0, 0, None, None);
+    same(&rt, "second", joined.get_token(1), Some(second));
     Ok(())
 }
 
@@ -719,7 +440,7 @@ const PIECES: &[([u32; 8], Result<&str>)] = &[
     ([2, 4, 0, 0, 0, 0, 0, 0], Err(Error::BadChunks(0))),
 ];
 
-/// Asserts what a chunk is written as, or why it is not. Nothing is added to the text where it is refused.
+/// Asserts what a chunk is written as, or why it is not. Nothing is added to the text then.
 pub fn a_piece_is_written(
     rt: &impl Abort,
     alloc: Global,
@@ -729,7 +450,7 @@ pub fn a_piece_is_written(
 ) -> Result<()> {
     let mut out = String::from_str(alloc, "kept")?;
     let written = encode_chunk(tokens, chunk, &mut out);
-    same(rt, "refusal", written.err(), want.err());
+    same(rt, "error", written.err(), want.err());
     let added = out.as_str().strip_prefix("kept");
     same(rt, "piece", added, Some(want.unwrap_or("")));
     Ok(())

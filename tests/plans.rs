@@ -8,152 +8,124 @@ use smap_run::{RunError, inputs_of, read_plan};
 use std::alloc::{AllocError, Global};
 use std::process::Abort;
 
-/// The texts of two maps, after each other.
-const JOINED: &str =
-    "{\"version\":3,\"sources\":[\"a.js\"],\"mappings\":\"AAKG,I\"}\n---\n{\"version\":3,\"sources\":[\"b.js\"],\"mappings\":\"AAOC\"}";
-/// The map of their join, the second one line down.
+/// Two maps, and their join, the second one a line down.
+const A: &str = r#"{"version":3,"sources":["a.js"],"mappings":"AAKG,I"}"#;
+const B: &str = r#"{"version":3,"sources":["b.js"],"mappings":"AAOC"}"#;
 const JOIN: &str = r#"{"version":3,"names":[],"sources":["a.js","b.js"],"mappings":"AAKG,I;ACEF"}"#;
 
-/// The texts of two maps, after each other. The first one's tokens are at columns 0 and 4 of line 0, the second one's at
-/// column 0 of lines 0 and 1.
-const SIDE_BY_SIDE: &str =
-    "{\"version\":3,\"sources\":[\"a.js\"],\"mappings\":\"AAAA,IAAI\"}\n---\n{\"version\":3,\"sources\":[\"b.js\"],\"mappings\":\"AAAA;AACA\"}";
+/// Tokens at the columns 0 and 4 of line 0, and tokens at column 0 of the lines 0 and 1.
+const LEFT: &str = r#"{"version":3,"sources":["a.js"],"mappings":"AAAA,IAAI"}"#;
+const RIGHT: &str = r#"{"version":3,"sources":["b.js"],"mappings":"AAAA;AACA"}"#;
 
 const UNSORTED: &str = r#"{"version":3,"sources":[],"mappings":"G,D"}"#;
 
-/// The words of a plan, its input, and the JSON text or the refusal that are answered.
+/// The words of a plan, its texts, and the JSON text or the error that is answered.
 type PlanRow = (
-    &'static [&'static str],
     &'static str,
+    &'static [&'static str],
     Result<&'static str, RunError>,
 );
 
 /// Plans of a map.
+#[rattlefmt::skip]
 const MADE: &[PlanRow] = &[
-    (
-        &["compose", "@0", "@1"],
-        "{\"version\":3,\"names\":[\"x\"],\"sources\":[\"m.js\"],\"mappings\":\"AAAAA,GAASA\"}\n---\n{\"version\":3,\"names\":[\"y\"],\"sources\":[\"o.ts\"],\"mappings\":\"AAIIA,QACC\"}",
-        Ok(r#"{"version":3,"names":["y","x"],"sources":["o.ts"],"mappings":"AAIIA,GACCC"}"#),
-    ),
-    (&["join", "2", "@0", "0", "@1", "1"], JOINED, Ok(JOIN)),
-    (
-        &["rewrite", "join", "2", "@0", "0", "@1", "1"],
-        JOINED,
-        Ok(JOIN),
-    ),
-    (
-        &["join", "2", "@0", "0", "join", "1", "@1", "1", "0"],
-        JOINED,
-        Ok(JOIN),
-    ),
-    (
-        &["join", "2", "@0", "0", "@1", "1"],
-        "{\"version\":3,\"sources\":[\"a.js\"],\"mappings\":\"AAAA\",\"ignoreList\":[0]}\n---\n{\"version\":3,\"sources\":[\"b.js\",\"c.js\"],\"mappings\":\"ACAA\",\"ignoreList\":[1]}",
-        Ok(
-            r#"{"version":3,"names":[],"sources":["a.js","b.js","c.js"],"ignoreList":[0,2],"mappings":"AAAA;AEAA"}"#,
-        ),
-    ),
-    (
-        &["joinat", "2", "@0", "0", "0", "@1", "0", "10"],
-        SIDE_BY_SIDE,
-        Ok(
-            r#"{"version":3,"names":[],"sources":["a.js","b.js"],"mappings":"AAAA,IAAI,MCAJ;AACA"}"#,
-        ),
-    ),
-    (
-        &["join", "0"],
-        "",
-        Ok(r#"{"version":3,"names":[],"sources":[],"mappings":""}"#),
-    ),
+    ("compose @0 @1",
+     &[r#"{"version":3,"names":["x"],"sources":["m.js"],"mappings":"AAAAA,GAASA"}"#,
+       r#"{"version":3,"names":["y"],"sources":["o.ts"],"mappings":"AAIIA,QACC"}"#],
+     Ok(r#"{"version":3,"names":["y","x"],"sources":["o.ts"],"mappings":"AAIIA,GACCC"}"#)),
+    ("join 2 @0 0 @1 1", &[A, B], Ok(JOIN)),
+    ("rewrite join 2 @0 0 @1 1", &[A, B], Ok(JOIN)),
+    ("join 2 @0 0 join 1 @1 1 0", &[A, B], Ok(JOIN)),
+    ("join 2 @0 0 @1 1",
+     &[r#"{"version":3,"sources":["a.js"],"mappings":"AAAA","ignoreList":[0]}"#,
+       r#"{"version":3,"sources":["b.js","c.js"],"mappings":"ACAA","ignoreList":[1]}"#],
+     Ok(r#"{"version":3,"names":[],"sources":["a.js","b.js","c.js"],"ignoreList":[0,2],"mappings":"AAAA;AEAA"}"#)),
+    ("joinat 2 @0 0 0 @1 0 10",
+     &[LEFT, RIGHT],
+     Ok(r#"{"version":3,"names":[],"sources":["a.js","b.js"],"mappings":"AAAA,IAAI,MCAJ;AACA"}"#)),
+    ("join 0", &[], Ok(r#"{"version":3,"names":[],"sources":[],"mappings":""}"#)),
 ];
 
-/// Plans that are refused, for their maps.
-const REFUSED: &[PlanRow] = &[
-    (
-        &["joinat", "2", "@0", "0", "0", "@1", "0", "3"],
-        SIDE_BY_SIDE,
-        Err(RunError::Plan(PlanError::Unsorted)),
-    ),
-    (
-        &["joinat", "1", "@0", "0", "4294967295"],
-        r#"{"version":3,"sources":[],"mappings":"C"}"#,
-        Err(RunError::Plan(PlanError::Map(Error::TooLarge))),
-    ),
-    (&["@0"], UNSORTED, Err(RunError::Plan(PlanError::Unsorted))),
-    (
-        &["join", "2", "@0", "1", "@1", "0"],
-        JOINED,
-        Err(RunError::Plan(PlanError::Unsorted)),
-    ),
-    (
-        &["compose", "@0", "@0"],
-        r#"{"version":3,"sources":["a","b"],"mappings":""}"#,
-        Err(RunError::Plan(PlanError::Map(Error::SeveralSources(2)))),
-    ),
-    (
-        &["join", "1", "@0", "4294967295"],
-        r#"{"version":3,"sources":[],"mappings":";A"}"#,
-        Err(RunError::Plan(PlanError::Map(Error::TooLarge))),
-    ),
+/// Plans whose maps have an error.
+#[rattlefmt::skip]
+const FAULTY: &[PlanRow] = &[
+    ("joinat 2 @0 0 0 @1 0 3", &[LEFT, RIGHT], Err(RunError::Plan(PlanError::Unsorted))),
+    ("joinat 1 @0 0 4294967295",
+     &[r#"{"version":3,"sources":[],"mappings":"C"}"#],
+     Err(RunError::Plan(PlanError::Map(Error::TooLarge)))),
+    ("@0", &[UNSORTED], Err(RunError::Plan(PlanError::Unsorted))),
+    ("join 2 @0 1 @1 0", &[A, B], Err(RunError::Plan(PlanError::Unsorted))),
+    ("compose @0 @0",
+     &[r#"{"version":3,"sources":["a","b"],"mappings":""}"#],
+     Err(RunError::Plan(PlanError::Map(Error::SeveralSources(2))))),
+    ("join 1 @0 4294967295",
+     &[r#"{"version":3,"sources":[],"mappings":";A"}"#],
+     Err(RunError::Plan(PlanError::Map(Error::TooLarge)))),
     // All parts of a join are evaluated before the first is added.
-    (
-        &["join", "2", "@0", "4294967295", "@1", "0"],
-        "{\"version\":3,\"sources\":[],\"mappings\":\";A\"}\n---\n{",
-        Err(RunError::Plan(PlanError::Map(Error::BadJson(JsonFault::Reading)))),
-    ),
+    ("join 2 @0 4294967295 @1 0",
+     &[r#"{"version":3,"sources":[],"mappings":";A"}"#, "{"],
+     Err(RunError::Plan(PlanError::Map(Error::BadJson(JsonFault::Reading))))),
 ];
 
 /// Words and inputs that are no plan.
+#[rattlefmt::skip]
 const MISREAD: &[PlanRow] = &[
-    (
-        &["joinat", "1", "@0", "0"],
-        SIDE_BY_SIDE,
-        Err(RunError::Arguments),
-    ),
+    ("joinat 1 @0 0", &[LEFT, RIGHT], Err(RunError::Arguments)),
     // A line of three dashes and a carriage return parts no texts.
-    (&["@1"], "{}\n---\r\n{}", Err(RunError::NoText(1))),
-    (&["@1"], UNSORTED, Err(RunError::NoText(1))),
-    (&["join", "1", "@0"], UNSORTED, Err(RunError::Arguments)),
-    (&["@0", "@0"], "{}", Err(RunError::Arguments)),
-    (&["@"], "{}", Err(RunError::Arguments)),
-    (&[], "{}", Err(RunError::Arguments)),
+    ("@1", &["{}\n---\r\n{}"], Err(RunError::NoText(1))),
+    ("@1", &[UNSORTED], Err(RunError::NoText(1))),
+    ("join 1 @0", &[UNSORTED], Err(RunError::Arguments)),
+    ("@0 @0", &["{}"], Err(RunError::Arguments)),
+    ("@", &["{}"], Err(RunError::Arguments)),
+    ("", &["{}"], Err(RunError::Arguments)),
 ];
 
 fn plans() -> [&'static [PlanRow]; 3] {
-    [MADE, REFUSED, MISREAD]
+    [MADE, FAULTY, MISREAD]
 }
 
-/// The JSON text of the map of a plan.
-fn text_of(alloc: Global, plan: &Plan<'_>) -> Result<String, RunError> {
-    Ok(evaluate(alloc, plan)?.to_json_string(alloc)?)
+/// The input of these texts.
+fn input_of(alloc: Global, texts: &[&str]) -> Result<String, AllocError> {
+    let mut input = String::new(alloc);
+    for text in texts {
+        if !input.is_empty() {
+            input.push_str("\n---\n")?;
+        }
+        input.push_str(text)?;
+    }
+    Ok(input)
+}
+
+/// The words before the first plan, and those of the plan.
+fn words_of<'w>(
+    alloc: Global,
+    first: &[&'w str],
+    plan: &'w str,
+) -> Result<Vec<&'w str>, AllocError> {
+    let mut words = first.to_vec(alloc)?;
+    if !plan.is_empty() {
+        for word in plan.split(' ') {
+            words.push(word)?;
+        }
+    }
+    Ok(words)
 }
 
 /// The JSON text of the map of the plan that words name.
 fn evaluated(alloc: Global, words: &[String], input: &str) -> Result<String, RunError> {
     let texts = inputs_of(alloc, input)?;
     let plan = read_plan(alloc, texts.as_slice(), words)?;
-    text_of(alloc, &plan)
+    Ok(evaluate(alloc, &plan)?.to_json_string(alloc)?)
 }
 
-/// Asserts that the plan that words name gives this JSON text, or is refused so.
-fn is_evaluated_to(
-    rt: &impl Abort,
-    alloc: Global,
-    words: &[&str],
-    input: &str,
-    want: Result<&str, RunError>,
-) -> Result<(), AllocError> {
-    let words = strings(alloc, words)?;
-    match &evaluated(alloc, words.as_slice(), input) {
-        Ok(text) => same(rt, input, Ok(text.as_str()), want),
-        Err(refusal) => same(rt, input, Err(*refusal), want),
-    }
-    Ok(())
-}
-
-fn these_are_evaluated(rt: &impl Abort, alloc: Global, rows: &[PlanRow]) -> Result<(), AllocError> {
-    for (words, input, want) in rows {
-        is_evaluated_to(rt, alloc, words, input, *want)?;
+fn is_evaluated(rt: &impl Abort, alloc: Global, row: &PlanRow) -> Result<(), AllocError> {
+    let (plan, texts, want) = *row;
+    let words = words_of(alloc, &[], plan)?;
+    let words = strings(alloc, words.as_slice())?;
+    let input = input_of(alloc, texts)?;
+    match &evaluated(alloc, words.as_slice(), input.as_str()) {
+        Ok(text) => same(rt, plan, Ok(text.as_str()), want),
+        Err(error) => same(rt, plan, Err(*error), want),
     }
     Ok(())
 }
@@ -161,31 +133,21 @@ fn these_are_evaluated(rt: &impl Abort, alloc: Global, rows: &[PlanRow]) -> Resu
 #[test]
 fn plans_are_evaluated(rt: HostRuntime) -> Result<(), AllocError> {
     for rows in plans() {
-        these_are_evaluated(&rt, rt.alloc(), rows)?;
+        for row in rows {
+            is_evaluated(&rt, rt.alloc(), row)?;
+        }
     }
     Ok(())
 }
 
-/// The words after `plan`.
-fn is_run_to(
-    rt: &impl Abort,
-    alloc: Global,
-    words: &[&str],
-    input: &str,
-    want: Result<&str, RunError>,
-) -> Result<(), AllocError> {
-    let mut all = vec![in alloc; "plan"]?;
-    all.extend_from_slice(words)?;
+/// The program is run with the words after `plan`.
+fn is_run(rt: &impl Abort, alloc: Global, row: &PlanRow) -> Result<(), AllocError> {
+    let (plan, texts, want) = *row;
+    let words = words_of(alloc, &["plan"], plan)?;
+    let input = input_of(alloc, texts)?;
     match want {
-        Ok(text) => answers_line(rt, alloc, all.as_slice(), input, text),
-        Err(refusal) => answers(rt, alloc, all.as_slice(), input.as_bytes(), Err(refusal)),
-    }
-    Ok(())
-}
-
-fn these_are_run(rt: &impl Abort, alloc: Global, rows: &[PlanRow]) -> Result<(), AllocError> {
-    for (words, input, want) in rows {
-        is_run_to(rt, alloc, words, input, *want)?;
+        Ok(text) => answers_line(rt, alloc, words.as_slice(), input.as_str(), text),
+        Err(error) => answers(rt, alloc, words.as_slice(), input.as_bytes(), Err(error)),
     }
     Ok(())
 }
@@ -193,7 +155,9 @@ fn these_are_run(rt: &impl Abort, alloc: Global, rows: &[PlanRow]) -> Result<(),
 #[test]
 fn plans_are_run(rt: HostRuntime) -> Result<(), AllocError> {
     for rows in plans() {
-        these_are_run(&rt, rt.alloc(), rows)?;
+        for row in rows {
+            is_run(&rt, rt.alloc(), row)?;
+        }
     }
     Ok(())
 }
@@ -210,12 +174,12 @@ fn rewrites(alloc: Global, count: u32) -> Result<Vec<&'static str>, AllocError> 
 
 #[test]
 fn a_plan_is_at_most_64_deep(rt: HostRuntime) -> Result<(), AllocError> {
-    for (count, refusal) in [
+    for (count, error) in [
         (63, RunError::NoText(9)),
         (64, RunError::Plan(PlanError::TooDeep)),
     ] {
         let words = rewrites(rt.alloc(), count)?;
-        answers(&rt, rt.alloc(), words.as_slice(), b"{}", Err(refusal));
+        answers(&rt, rt.alloc(), words.as_slice(), b"{}", Err(error));
     }
     Ok(())
 }

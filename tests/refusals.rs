@@ -2,18 +2,10 @@
 //! in turn, alone and with all that come after it. The call then has to fail with `OutOfMemory`, to leave what it was lent as it
 //! was, and to give all of its memory back. A call that takes no memory, or that reports a fault which comes before want of
 //! memory, has to do so in each of these runs.
-mod builders;
 mod calls;
+mod changes;
 mod commands;
-mod ended;
 mod faults;
-mod fields;
 mod fixtures;
-mod indexed;
-mod joins;
-mod lists;
-mod made;
 mod memory;
-mod owned;
 mod takes_none;
-mod texts;

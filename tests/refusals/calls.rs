@@ -1,505 +1,284 @@
-//! The calls of the library and of the program's library, a test each.
-use super::builders::{
-    Add, add_to_builder, finish_builder, finish_builder_owned, set_file_copied,
+//! Calls that give something.
+use crate::helpers::same;
+use super::fixtures::{
+    INPUT_TEXT, LENT_TEXT, TEXT, full_json, full_map, full_owned_map, full_value, is_json, is_map,
+    lent_map, lent_parts,
 };
-use super::commands::{
-    Order, make_port, read_arguments, read_arguments_of_plan, run_command, split_input,
-    trace_position,
+use super::memory::{nothing, refuse_each};
+use oxc_sourcemap::{
+    ConcatSourceMapBuilder, JSONSourceMap, OwnedSourceMap, Plan, Result, SourceMap,
+    SourcemapVisualizer, Token,
 };
-use super::faults::{
-    IGNORED, VERSION, compose_faulty, join_faulty, make_faulty_table, read_faulty, write_faulty,
-};
-use super::fields::{Setter, set_field, set_owned_field};
-use super::indexed::{read_file, read_indexed};
-use super::joins::{
-    Join, add_to_join, finish_join, finish_join_owned, join_lent, join_moved, take_room,
-};
-use super::lists::{make_table, read_mappings};
-use super::made::{
-    Make, MakeJson, clone_parts, compose, make_json, make_map, own_texts, read_json, read_value,
-};
-use super::memory::{reports, takes, takes_none, takes_several};
-use super::owned::{
-    clone_owned, compose_owned, evaluate_join_at, evaluate_plan, own, read_owned_json,
-    read_owned_text,
-};
-use super::takes_none::{
-    convert_errors, convert_errors_of_plans, get_fields, get_owned_fields, lend, look_up,
-    make_empty, make_of_fields, make_token, make_values, view, walk, walk_owned, wrap,
-};
-use super::texts::{Append, Text, append_text, write_text};
+use serde_json::Value;
+use std::alloc::Global;
+use std::process::Abort;
 
-#[test]
-fn decode_mappings(rt: HostRuntime) {
-    takes(&rt, || read_mappings(&rt));
+fn is_text(rt: &(impl Abort + AllocGlobal), text: String, wanted: &str) {
+    same(rt, "text", text.as_str(), wanted);
 }
 
-#[test]
-fn encode_mappings(rt: HostRuntime) {
-    takes_several(&rt, || append_text(&rt, Append::Mappings));
-}
+const URL: &str =
+    "data:application/json;charset=utf-8;base64,eyJ2ZXJzaW9uIjozLCJmaWxlIjoib3V0LmpzIiwic291cmNlUm9vdCI6InJvb3QiLCJuYW1lcyI6WyJuMCIsIm4xIl0sInNvdXJjZXMiOlsiYS5qcyIsImIuanMiXSwic291cmNlc0NvbnRlbnQiOlsiQSIsbnVsbF0sImlnbm9yZUxpc3QiOlsxXSwibWFwcGluZ3MiOiJBQUFBQSxDQ0FDQyxDIiwiZGVidWdJZCI6ImRiZyJ9";
 
-#[test]
-fn encode_mappings_in_chunks(rt: HostRuntime) {
-    takes_several(&rt, || append_text(&rt, Append::MappingsInChunks));
-}
-
-#[test]
-fn encode_chunk(rt: HostRuntime) {
-    takes_several(&rt, || append_text(&rt, Append::Chunk));
-}
-
-#[test]
-fn push_json_string(rt: HostRuntime) {
-    takes(&rt, || append_text(&rt, Append::JsonString));
-}
+/// The link that shows the code `ab` with a line feed beside the map, and the visual text of both.
+const LINK: &str =
+    "https://evanw.github.io/source-map-visualization/#MwBhYgoxODMAeyJ2ZXJzaW9uIjozLCJmaWxlIjoib3V0LmpzIiwic291cmNlUm9vdCI6InJvb3QiLCJuYW1lcyI6WyJuMCIsIm4xIl0sInNvdXJjZXMiOlsiYS5qcyIsImIuanMiXSwic291cmNlc0NvbnRlbnQiOlsiQSIsbnVsbF0sImlnbm9yZUxpc3QiOlsxXSwibWFwcGluZ3MiOiJBQUFBQSxDQ0FDQyxDIiwiZGVidWdJZCI6ImRiZyJ9";
+const SHOWN: &str = "- a.js\n(0:0) \"A\" --> (0:0) \"a\"\n";
 
 #[test]
 fn encode_to_string(rt: HostRuntime) {
-    takes(&rt, || write_text(&rt, Text::EncodeToString));
+    refuse_each(&rt, full_map, |alloc, map| oxc_sourcemap::encode_to_string(alloc, &map), |text| is_text(&rt, text, TEXT));
 }
 
 #[test]
 fn source_map_to_json_string(rt: HostRuntime) {
-    takes(&rt, || write_text(&rt, Text::ToJsonString));
+    refuse_each(&rt, full_map, |alloc, map| map.to_json_string(alloc), |text| is_text(&rt, text, TEXT));
 }
 
 #[test]
 fn owned_source_map_to_json_string(rt: HostRuntime) {
-    takes(&rt, || write_text(&rt, Text::OwnedToJsonString));
+    refuse_each(&rt, full_owned_map, |alloc, map| map.to_json_string(alloc), |text| is_text(&rt, text, TEXT));
 }
 
 #[test]
 fn source_map_to_data_url(rt: HostRuntime) {
-    takes(&rt, || write_text(&rt, Text::ToDataUrl));
+    refuse_each(&rt, full_map, |alloc, map| map.to_data_url(alloc), |url| is_text(&rt, url, URL));
 }
 
 #[test]
 fn owned_source_map_to_data_url(rt: HostRuntime) {
-    takes(&rt, || write_text(&rt, Text::OwnedToDataUrl));
+    refuse_each(&rt, full_owned_map, |alloc, map| map.to_data_url(alloc), |url| is_text(&rt, url, URL));
 }
 
 #[test]
 fn sourcemap_visualizer_get_url(rt: HostRuntime) {
-    takes(&rt, || write_text(&rt, Text::GetUrl));
+    refuse_each(&rt, full_map, |alloc, map| SourcemapVisualizer::new("ab\n", &map).get_url(alloc), |url| is_text(&rt, url, LINK));
 }
 
 #[test]
 fn sourcemap_visualizer_get_text(rt: HostRuntime) {
-    takes(&rt, || write_text(&rt, Text::GetText));
+    refuse_each(&rt, full_map, |alloc, map| SourcemapVisualizer::new("ab\n", &map).get_text(alloc), |text| is_text(&rt, text, SHOWN));
 }
 
 #[test]
 fn json_source_map_from_value(rt: HostRuntime) {
-    takes(&rt, || make_json(&rt, MakeJson::FromValue));
+    refuse_each(&rt, full_value, |alloc, value| JSONSourceMap::from_value(alloc, &value), |json| is_json(&rt, json, TEXT));
 }
 
 #[test]
 fn encode(rt: HostRuntime) {
-    takes(&rt, || make_json(&rt, MakeJson::Encode));
+    refuse_each(&rt, full_map, |alloc, map| oxc_sourcemap::encode(alloc, &map), |json| is_json(&rt, json, TEXT));
 }
 
 #[test]
 fn source_map_to_json(rt: HostRuntime) {
-    takes(&rt, || make_json(&rt, MakeJson::ToJson));
+    refuse_each(&rt, full_map, |alloc, map| map.to_json(alloc), |json| is_json(&rt, json, TEXT));
 }
 
 #[test]
 fn owned_source_map_to_json(rt: HostRuntime) {
-    takes(&rt, || make_json(&rt, MakeJson::OwnedToJson));
+    refuse_each(&rt, full_owned_map, |alloc, map| map.to_json(alloc), |json| is_json(&rt, json, TEXT));
 }
 
 #[test]
 fn decode_from_string(rt: HostRuntime) {
-    takes(&rt, || make_map(&rt, Make::DecodeFromString));
+    refuse_each(&rt, nothing, |alloc, ()| oxc_sourcemap::decode_from_string(alloc, TEXT), |map| is_map(&rt, &map, TEXT));
 }
 
 #[test]
 fn source_map_from_json_string(rt: HostRuntime) {
-    takes(&rt, || make_map(&rt, Make::FromJsonString));
-}
-
-#[test]
-fn decode_from_string_of_an_indexed_map(rt: HostRuntime) {
-    takes(&rt, || read_indexed(&rt, true));
-}
-
-#[test]
-fn decode_value_of_an_indexed_map(rt: HostRuntime) {
-    takes(&rt, || read_indexed(&rt, false));
-}
-
-#[test]
-fn decode_value_of_a_map_by_itself(rt: HostRuntime) {
-    takes(&rt, || read_value(&rt));
-}
-
-#[test]
-fn file_from_value(rt: HostRuntime) {
-    takes(&rt, || read_file(&rt));
-}
-
-#[test]
-fn source_map_clone(rt: HostRuntime) {
-    takes(&rt, || make_map(&rt, Make::Clone));
-}
-
-#[test]
-fn source_map_parts_clone(rt: HostRuntime) {
-    takes(&rt, || clone_parts(&rt));
-}
-
-#[test]
-fn decode(rt: HostRuntime) {
-    takes(&rt, || read_json(&rt, true));
-}
-
-#[test]
-fn source_map_from_json(rt: HostRuntime) {
-    takes(&rt, || read_json(&rt, false));
-}
-
-#[test]
-fn source_map_into_owned(rt: HostRuntime) {
-    takes(&rt, || own_texts(&rt));
-}
-
-#[test]
-fn source_map_into_owned_sourcemap(rt: HostRuntime) {
-    takes(&rt, || own(&rt));
-}
-
-#[test]
-fn source_map_compose(rt: HostRuntime) {
-    takes(&rt, || compose(&rt));
-}
-
-#[test]
-fn owned_source_map_compose(rt: HostRuntime) {
-    takes(&rt, || compose_owned(&rt));
+    refuse_each(&rt, nothing, |alloc, ()| SourceMap::from_json_string(alloc, TEXT), |map| is_map(&rt, &map, TEXT));
 }
 
 #[test]
 fn owned_source_map_from_json_string(rt: HostRuntime) {
-    takes(&rt, || read_owned_text(&rt));
+    refuse_each(&rt, nothing, |alloc, ()| OwnedSourceMap::from_json_string(alloc, TEXT), |map| is_map(&rt, &map, TEXT));
+}
+
+#[test]
+fn decode(rt: HostRuntime) {
+    refuse_each(&rt, full_json, |alloc, json| oxc_sourcemap::decode(alloc, json), |map| is_map(&rt, &map, TEXT));
+}
+
+#[test]
+fn source_map_from_json(rt: HostRuntime) {
+    refuse_each(&rt, full_json, |alloc, json| SourceMap::from_json(alloc, json), |map| is_map(&rt, &map, TEXT));
 }
 
 #[test]
 fn owned_source_map_from_json(rt: HostRuntime) {
-    takes(&rt, || read_owned_json(&rt));
+    refuse_each(&rt, full_json, |alloc, json| OwnedSourceMap::from_json(alloc, json), |map| is_map(&rt, &map, TEXT));
+}
+
+#[test]
+fn decode_value_of_a_map_by_itself(rt: HostRuntime) {
+    refuse_each(&rt, full_value, |alloc, value| oxc_sourcemap::decode_value(alloc, &value), |map| is_map(&rt, &map, TEXT));
+}
+
+/// An indexed map of two sections, each with a source and a name of its own.
+const INDEXED_TEXT: &str =
+    r#"{"version":3,"file":"out.js","sections":[{"offset":{"line":0,"column":2},"map":{"version":3,"names":["n0"],"sources":["a.js"],"sourcesContent":["A"],"mappings":"AAAAA"}},{"offset":{"line":1,"column":0},"map":{"version":3,"names":["n1"],"sources":["b.js"],"ignoreList":[0],"mappings":"AAAAA"}}]}"#;
+
+/// The join of the sections.
+const SECTIONS_TEXT: &str =
+    r#"{"version":3,"file":"out.js","names":["n0","n1"],"sources":["a.js","b.js"],"sourcesContent":["A",null],"ignoreList":[1],"mappings":"EAAAA;ACAAC"}"#;
+
+fn indexed_value(alloc: Global) -> Result<Value> {
+    Ok(Value::from_str(alloc, INDEXED_TEXT)?)
+}
+
+#[test]
+fn decode_from_string_of_an_indexed_map(rt: HostRuntime) {
+    refuse_each(&rt, nothing, |alloc, ()| oxc_sourcemap::decode_from_string(alloc, INDEXED_TEXT), |map| is_map(&rt, &map, SECTIONS_TEXT));
+}
+
+#[test]
+fn decode_value_of_an_indexed_map(rt: HostRuntime) {
+    refuse_each(&rt, indexed_value, |alloc, value| oxc_sourcemap::decode_value(alloc, &value), |map| is_map(&rt, &map, SECTIONS_TEXT));
+}
+
+#[test]
+fn file_from_value(rt: HostRuntime) {
+    refuse_each(&rt, indexed_value, |alloc, value| oxc_sourcemap::file_from_value(alloc, &value), |file| same(&rt, "file", file.as_deref(), Some("out.js")));
+}
+
+#[test]
+fn source_map_clone(rt: HostRuntime) {
+    refuse_each(&rt, full_map, |alloc, map| map.clone(alloc), |copy| is_map(&rt, &copy, TEXT));
 }
 
 #[test]
 fn owned_source_map_clone(rt: HostRuntime) {
-    takes(&rt, || clone_owned(&rt));
+    refuse_each(&rt, full_owned_map, |alloc, map| map.clone(alloc), |copy| is_map(&rt, &copy, TEXT));
 }
+
+#[test]
+fn source_map_parts_clone(rt: HostRuntime) {
+    refuse_each(&rt, lent_parts, |alloc, parts| parts.clone(alloc), |copy| is_map(&rt, &SourceMap::from_parts(copy), LENT_TEXT));
+}
+
+#[test]
+fn source_map_into_owned(rt: HostRuntime) {
+    refuse_each(&rt, lent_map, |alloc, map| map.into_owned(alloc), |owned| is_map(&rt, &owned, LENT_TEXT));
+}
+
+#[test]
+fn source_map_into_owned_sourcemap(rt: HostRuntime) {
+    refuse_each(&rt, lent_map, |alloc, map| map.into_owned_sourcemap(alloc), |owned| is_map(&rt, &owned, LENT_TEXT));
+}
+
+/// A map that gives its token a name, and the map that it is composed with.
+fn two_maps(alloc: Global) -> Result<(SourceMap<'static>, SourceMap<'static>)> {
+    Ok((lent_map(alloc)?, SourceMap::from_json_string(alloc, INPUT_TEXT)?))
+}
+
+fn two_owned_maps(alloc: Global) -> Result<(OwnedSourceMap, OwnedSourceMap)> {
+    let (map, input) = two_maps(alloc)?;
+    Ok((OwnedSourceMap::new(map), OwnedSourceMap::new(input)))
+}
+
+/// What they compose to.
+const COMPOSED: &str =
+    r#"{"version":3,"file":"f.js","sourceRoot":"root","names":["n0","n1","n"],"sources":["a.js","b.js"],"sourcesContent":["A",null],"ignoreList":[1],"mappings":"AAAAE"}"#;
+
+#[test]
+fn source_map_compose(rt: HostRuntime) {
+    refuse_each(&rt, two_maps, |alloc, (map, input)| map.compose(alloc, input), |map| is_map(&rt, &map, COMPOSED));
+}
+
+#[test]
+fn owned_source_map_compose(rt: HostRuntime) {
+    refuse_each(&rt, two_owned_maps, |alloc, (map, input)| map.compose(alloc, input), |map| is_map(&rt, &map, COMPOSED));
+}
+
+/// A plan with each kind of step: the first two maps are joined, each on a line, and composed with the last one.
+fn plan(alloc: Global) -> Result<Plan<'static>> {
+    let first = Plan::Rewrite(Box::new(alloc, Plan::Read(LENT_TEXT))?);
+    let empty = Plan::JoinAt(Vec::new(alloc));
+    let joined = Plan::Join(vec![in alloc; (first, 0), (empty, 1)]?);
+    let read = Plan::Read(INPUT_TEXT);
+    Ok(Plan::Compose(Box::new(alloc, joined)?, Box::new(alloc, read)?))
+}
+
+const EVALUATED: &str =
+    r#"{"version":3,"sourceRoot":"root","names":["n0","n1","n"],"sources":["a.js","b.js"],"sourcesContent":["A",null],"ignoreList":[1],"mappings":"AAAAE"}"#;
 
 #[test]
 fn evaluate(rt: HostRuntime) {
-    takes(&rt, || evaluate_plan(&rt));
+    refuse_each(&rt, plan, |alloc, plan| oxc_sourcemap::evaluate(alloc, &plan), |map| is_map(&rt, &map, EVALUATED));
 }
+
+/// A plan that joins a map with itself, at columns.
+fn plan_at_columns(alloc: Global) -> Result<Plan<'static>> {
+    let first = (Plan::Read(LENT_TEXT), 0, 2);
+    let second = (Plan::Read(LENT_TEXT), 0, 5);
+    Ok(Plan::JoinAt(vec![in alloc; first, second]?))
+}
+
+const JOINED_AT: &str =
+    r#"{"version":3,"names":["n","n"],"sources":["a.js","a.js"],"sourcesContent":["A","A"],"mappings":"EAAAA,GCAAC"}"#;
 
 #[test]
 fn evaluate_of_a_join_at_columns(rt: HostRuntime) {
-    takes(&rt, || evaluate_join_at(&rt));
+    refuse_each(&rt, plan_at_columns, |alloc, plan| oxc_sourcemap::evaluate(alloc, &plan), |map| is_map(&rt, &map, JOINED_AT));
+}
+
+fn are_read(rt: &(impl Abort + AllocGlobal), tokens: &[Token]) {
+    let first = Token::new(0, 0, 0, 0, Some(0), Some(0));
+    let last = Token::new(1, 9, 0, 0, None, None);
+    same(rt, "tokens", (tokens.len(), tokens.first(), tokens.last()), (11, Some(&first), Some(&last)));
 }
 
 #[test]
-fn source_map_set_file(rt: HostRuntime) {
-    takes(&rt, || set_field(&rt, Setter::File));
+fn decode_mappings(rt: HostRuntime) {
+    refuse_each(&rt, nothing, |alloc, ()| oxc_sourcemap::decode_mappings(alloc, "AAAAA,C;C,C,C,C,C,C,C,C,C", 1, 1), |tokens| are_read(&rt, tokens.as_slice()));
 }
 
-#[test]
-fn source_map_set_debug_id(rt: HostRuntime) {
-    takes(&rt, || set_field(&rt, Setter::DebugId));
-}
-
-#[test]
-fn source_map_set_sources(rt: HostRuntime) {
-    takes(&rt, || set_field(&rt, Setter::Sources));
-}
-
-#[test]
-fn source_map_set_source_contents(rt: HostRuntime) {
-    takes(&rt, || set_field(&rt, Setter::SourceContents));
-}
-
-#[test]
-fn owned_source_map_set_file(rt: HostRuntime) {
-    takes(&rt, || set_owned_field(&rt, Setter::File));
-}
-
-#[test]
-fn owned_source_map_set_debug_id(rt: HostRuntime) {
-    takes(&rt, || set_owned_field(&rt, Setter::DebugId));
-}
-
-#[test]
-fn owned_source_map_set_sources(rt: HostRuntime) {
-    takes(&rt, || set_owned_field(&rt, Setter::Sources));
-}
-
-#[test]
-fn owned_source_map_set_source_contents(rt: HostRuntime) {
-    takes(&rt, || set_owned_field(&rt, Setter::SourceContents));
+/// The number of tokens of the one line of a table.
+fn tokens_of_line(table: &[&[Token]]) -> Option<usize> {
+    match table {
+        [line] => Some(line.len()),
+        _ => None,
+    }
 }
 
 #[test]
 fn source_map_generate_lookup_table(rt: HostRuntime) {
-    takes(&rt, || make_table(&rt, false));
+    refuse_each(&rt, full_map, |alloc, map| map.generate_lookup_table(alloc).map(|table| tokens_of_line(table.as_slice())), |tokens| same(&rt, "tokens", tokens, Some(3)));
 }
 
 #[test]
 fn owned_source_map_generate_lookup_table(rt: HostRuntime) {
-    takes(&rt, || make_table(&rt, true));
+    refuse_each(&rt, full_owned_map, |alloc, map| map.generate_lookup_table(alloc).map(|table| tokens_of_line(table.as_slice())), |tokens| same(&rt, "tokens", tokens, Some(3)));
 }
 
-#[test]
-fn source_map_builder_add_name(rt: HostRuntime) {
-    takes(&rt, || add_to_builder(&rt, Add::Name));
+fn is_joined(rt: &(impl Abort + AllocGlobal), builder: ConcatSourceMapBuilder<'_>, text: &str) {
+    let map = builder.into_sourcemap().expect(rt, "a joined map");
+    is_map(rt, &map, text);
 }
 
-#[test]
-fn source_map_builder_add_source_and_content(rt: HostRuntime) {
-    takes(&rt, || add_to_builder(&rt, Add::Source));
-}
-
-#[test]
-fn source_map_builder_set_source_and_content(rt: HostRuntime) {
-    takes(&rt, || add_to_builder(&rt, Add::OtherSource));
-}
-
-#[test]
-fn source_map_builder_add_token(rt: HostRuntime) {
-    takes(&rt, || add_to_builder(&rt, Add::Token));
-}
-
-#[test]
-fn source_map_builder_add_name_copied(rt: HostRuntime) {
-    takes(&rt, || add_to_builder(&rt, Add::NameCopied));
-}
-
-#[test]
-fn source_map_builder_add_source_and_content_copied(rt: HostRuntime) {
-    takes(&rt, || add_to_builder(&rt, Add::SourceCopied));
-}
-
-#[test]
-fn source_map_builder_set_source_and_content_copied(rt: HostRuntime) {
-    takes(&rt, || add_to_builder(&rt, Add::OtherSourceCopied));
-}
-
-#[test]
-fn source_map_builder_set_file_copied(rt: HostRuntime) {
-    takes(&rt, || set_file_copied(&rt));
-}
-
-#[test]
-fn source_map_builder_into_owned_sourcemap(rt: HostRuntime) {
-    takes(&rt, || finish_builder_owned(&rt));
-}
-
-#[test]
-fn concat_source_map_builder_add_sourcemap(rt: HostRuntime) {
-    takes(&rt, || add_to_join(&rt, Join::Lent));
-}
-
-#[test]
-fn concat_source_map_builder_add_sourcemap_at(rt: HostRuntime) {
-    takes(&rt, || add_to_join(&rt, Join::LentAt));
-}
-
-#[test]
-fn concat_source_map_builder_add_sourcemap_owned(rt: HostRuntime) {
-    takes(&rt, || add_to_join(&rt, Join::Moved));
-}
-
-#[test]
-fn concat_source_map_builder_add_sourcemap_owned_at(rt: HostRuntime) {
-    takes(&rt, || add_to_join(&rt, Join::MovedAt));
-}
+/// The join of a map with itself, on the lines 0 and 1.
+const TWICE: &str =
+    r#"{"version":3,"names":["n","n"],"sources":["a.js","a.js"],"sourcesContent":["A","A"],"mappings":"AAAAA;ACAAC"}"#;
 
 #[test]
 fn concat_source_map_builder_with_capacity(rt: HostRuntime) {
-    takes(&rt, || take_room(&rt));
+    let empty = r#"{"version":3,"names":[],"sources":[],"mappings":""}"#;
+    refuse_each(&rt, nothing, |alloc, ()| ConcatSourceMapBuilder::with_capacity(alloc, 1, 2, 3, 4), |builder| is_joined(&rt, builder, empty));
 }
 
 #[test]
-fn concat_source_map_builder_from_sourcemaps(rt: HostRuntime) {
-    takes(&rt, || join_lent(&rt));
+fn concat_source_map_builder_from_sourcemaps(rt: HostRuntime) -> Result<()> {
+    let map = lent_map(rt.alloc())?;
+    refuse_each(&rt, nothing, |alloc, ()| ConcatSourceMapBuilder::from_sourcemaps(alloc, &[(&map, 0), (&map, 1)]), |builder| is_joined(&rt, builder, TWICE));
+    Ok(())
+}
+
+fn twice(alloc: Global) -> Result<Vec<(SourceMap<'static>, u32)>> {
+    Ok(vec![in alloc; (lent_map(alloc)?, 0), (lent_map(alloc)?, 1)]?)
 }
 
 #[test]
 fn concat_source_map_builder_from_owned_sourcemaps(rt: HostRuntime) {
-    takes(&rt, || join_moved(&rt));
-}
-
-#[test]
-fn concat_source_map_builder_into_owned_sourcemap(rt: HostRuntime) {
-    takes(&rt, || finish_join_owned(&rt));
-}
-
-#[test]
-fn inputs_of(rt: HostRuntime) {
-    takes(&rt, || split_input(&rt));
-}
-
-#[test]
-fn read_plan(rt: HostRuntime) {
-    takes(&rt, || read_arguments_of_plan(&rt));
-}
-
-#[test]
-fn trace(rt: HostRuntime) {
-    takes(&rt, || trace_position(&rt));
-}
-
-#[test]
-fn run_mappings(rt: HostRuntime) {
-    takes(&rt, || run_command(&rt, Order::Mappings));
-}
-
-#[test]
-fn run_normalise(rt: HostRuntime) {
-    takes(&rt, || run_command(&rt, Order::Normalise));
-}
-
-#[test]
-fn run_url(rt: HostRuntime) {
-    takes(&rt, || run_command(&rt, Order::Url));
-}
-
-#[test]
-fn run_trace(rt: HostRuntime) {
-    takes(&rt, || run_command(&rt, Order::Trace));
-}
-
-#[test]
-fn run_plan(rt: HostRuntime) {
-    takes(&rt, || run_command(&rt, Order::Plan));
-}
-
-#[test]
-fn getters_of_source_map(rt: HostRuntime) {
-    takes_none(&rt, || get_fields(&rt));
-}
-
-#[test]
-fn getters_of_owned_source_map(rt: HostRuntime) {
-    takes_none(&rt, || get_owned_fields(&rt));
-}
-
-#[test]
-fn iterators_is_sorted_is_sound(rt: HostRuntime) {
-    takes_none(&rt, || walk(&rt));
-}
-
-#[test]
-fn lookups_and_search(rt: HostRuntime) {
-    takes_none(&rt, || look_up(&rt));
-}
-
-#[test]
-fn wrapping_and_unwrapping(rt: HostRuntime) {
-    takes_none(&rt, || wrap(&rt));
-}
-
-#[test]
-fn source_map_builder_into_sourcemap(rt: HostRuntime) {
-    takes_none(&rt, || finish_builder(&rt));
-}
-
-#[test]
-fn concat_source_map_builder_into_sourcemap(rt: HostRuntime) {
-    takes_none(&rt, || finish_join(&rt));
-}
-
-#[test]
-fn empty_maps_and_builders(rt: HostRuntime) {
-    takes_none(&rt, || make_empty(&rt));
-}
-
-#[test]
-fn chunk_fault(rt: HostRuntime) {
-    takes_none(&rt, || make_values(&rt));
-}
-
-#[test]
-fn ports_and_status(rt: HostRuntime) {
-    takes_none(&rt, || make_port(&rt));
-}
-
-#[test]
-fn read_words(rt: HostRuntime) {
-    takes_none(&rt, || read_arguments(&rt));
-}
-
-#[test]
-fn iterators_of_owned_source_map(rt: HostRuntime) {
-    takes_none(&rt, || walk_owned(&rt));
-}
-
-#[test]
-fn views_of_tokens(rt: HostRuntime) {
-    takes_none(&rt, || view(&rt));
-}
-
-#[test]
-fn token_new_and_getters(rt: HostRuntime) {
-    takes_none(&rt, || make_token(&rt));
-}
-
-#[test]
-fn source_map_new(rt: HostRuntime) {
-    takes_none(&rt, || make_of_fields(&rt));
-}
-
-#[test]
-fn deref_and_deref_mut_of_owned_source_map(rt: HostRuntime) {
-    takes_none(&rt, || lend(&rt));
-}
-
-#[test]
-fn from_of_errors(rt: HostRuntime) {
-    takes_none(&rt, || convert_errors(&rt));
-}
-
-#[test]
-fn from_of_errors_of_plans_and_commands(rt: HostRuntime) {
-    takes_none(&rt, || convert_errors_of_plans(&rt));
-}
-
-#[test]
-fn line_order_and_bad_chunks_of_writing(rt: HostRuntime) {
-    reports(&rt, || write_faulty(&rt));
-}
-
-#[test]
-fn line_order_of_generate_lookup_table(rt: HostRuntime) {
-    reports(&rt, || make_faulty_table(&rt));
-}
-
-#[test]
-fn version_of_from_json(rt: HostRuntime) {
-    reports(&rt, || read_faulty(&rt, 4, VERSION));
-}
-
-#[test]
-fn ignore_list_of_from_json(rt: HostRuntime) {
-    reports(&rt, || read_faulty(&rt, 3, IGNORED));
-}
-
-#[test]
-fn several_sources_of_compose(rt: HostRuntime) {
-    reports(&rt, || compose_faulty(&rt, true));
-}
-
-#[test]
-fn line_order_of_compose(rt: HostRuntime) {
-    reports(&rt, || compose_faulty(&rt, false));
-}
-
-#[test]
-fn too_large_of_add_sourcemap(rt: HostRuntime) {
-    reports(&rt, || join_faulty(&rt));
+    refuse_each(&rt, twice, |alloc, maps| ConcatSourceMapBuilder::from_owned_sourcemaps(alloc, maps), |builder| is_joined(&rt, builder, TWICE));
 }

@@ -1,13 +1,17 @@
-//! Makes calls while requests for memory are refused, and judges how they end.
-use oxc_sourcemap::{Error, PlanError};
+//! Makes calls while requests for memory are refused.
+//!
+//! What a call is made on is made anew for each run, by `make`, whose requests are not counted. `look` asserts what the call gave.
+use oxc_sourcemap::{Error, PlanError, Result};
+use smap_run::RunError;
+use std::alloc::Global;
 use std::process::Abort;
 
 // tools/refuse.c stands between the tests and the allocator of C. Requests are counted from `begin_call` to `end_call`, from 1.
 unsafe extern "C" {
     /// A call begins: from here on requests are counted, and may be refused.
-    pub safe fn begin_call();
+    safe fn begin_call();
     /// The call has ended.
-    pub safe fn end_call();
+    safe fn end_call();
     /// Of the calls from here on, the requests from number `first` to `last` are refused.
     safe fn refuse_requests(first: u64, last: u64);
     /// How many requests the last call made.
@@ -18,94 +22,122 @@ unsafe extern "C" {
     safe fn blocks_in_use() -> u64;
 }
 
-/// How a call ended.
-#[derive(Clone, Copy, Debug, PartialEq, Eq)]
-pub enum Ended {
-    /// It gave what it has to give.
-    Passed,
-    /// It was refused memory, and what it was lent is as it was.
-    Refused,
-    /// Neither.
-    Wrong,
-}
-
-/// Whether a call gave what it has to.
-pub fn passed_if(is_right: bool) -> Ended {
-    if is_right {
-        Ended::Passed
-    } else {
-        Ended::Wrong
-    }
-}
-
-/// How a call ended that failed, where what it was lent is as it was.
-pub fn failed(error: Error) -> Ended {
-    if error == Error::OutOfMemory {
-        Ended::Refused
-    } else {
-        Ended::Wrong
-    }
-}
-
-/// The same of `evaluate`.
-pub fn plan_failed(error: PlanError) -> Ended {
-    match error {
-        PlanError::Map(error) => failed(error),
-        _ => Ended::Wrong,
-    }
-}
-
-/// Makes a call whose requests from number `first` to `last` are refused, and asserts how it ends and that it gives all of its
-/// memory back. What fails before or after the call itself is wrong.
-fn make<E: Drop>(
-    rt: &impl Abort,
-    call: impl Fn() -> Result<Ended, E>,
-    first: u64,
-    last: u64,
-    wanted: Ended,
-) {
-    let before = blocks_in_use();
-    refuse_requests(first, last);
-    let ended = call().unwrap_or(Ended::Wrong);
-    assert_eq!(rt; ended, wanted, "requests {first} to {last} are refused");
-    assert_eq!(rt; blocks_in_use(), before, "requests {first} to {last} are refused");
-}
-
-/// Makes a call that passes where no request is refused, and ends like this wherever one is. Returns how many it makes.
-fn refuse_each<E: Drop>(
-    rt: &impl Abort,
-    call: impl Fn() -> Result<Ended, E>,
-    wanted: Ended,
-) -> u64 {
-    make(rt, &call, 0, 0, Ended::Passed);
+/// Runs without a refused request, and then with each request of the call refused, alone and with all after it. Asserts that
+/// each run gives all of its memory back. Returns how many requests the call makes.
+fn run_each(rt: &(impl Abort + AllocGlobal), run: impl Fn()) -> u64 {
+    let run_once = |first: u64, last: u64| {
+        let before = blocks_in_use();
+        refuse_requests(first, last);
+        run();
+        assert_eq!(rt; blocks_in_use(), before, "requests {first} to {last} are refused");
+    };
+    run_once(0, 0);
     let requests = requests_made();
     for number in 1..=requests {
-        make(rt, &call, number, number, wanted);
+        run_once(number, number);
         assert_eq!(rt; requests_refused(), 1, "request {number}");
-        make(rt, &call, number, u64::MAX, wanted);
+        run_once(number, u64::MAX);
     }
     requests
 }
 
-/// Asserts that a call takes memory, and is refused wherever a request is.
-pub fn takes<E: Drop>(rt: &impl Abort, call: impl Fn() -> Result<Ended, E>) {
-    let requests = refuse_each(rt, call, Ended::Refused);
+/// What a call gave. There is nothing if a request was refused, and the error is then `OutOfMemory`.
+fn given<T: Drop, E: Drop>(rt: &(impl Abort + AllocGlobal), made: std::result::Result<T, E>) -> Option<T>
+where
+    RunError: From<E>,
+{
+    let refused = requests_refused();
+    match made {
+        Ok(given) => {
+            assert_eq!(rt; refused, 0, "a call gave something, and this many requests were refused");
+            Some(given)
+        }
+        Err(error) => {
+            assert!(rt; refused > 0, "a call failed, and no request was refused");
+            assert_eq!(rt; RunError::from(error), RunError::Plan(PlanError::Map(Error::OutOfMemory)));
+            None
+        }
+    }
+}
+
+/// Asserts that a call takes memory, and fails with `OutOfMemory` wherever a request is refused.
+pub fn refuse_each<G: Drop, T: Drop, E: Drop>(
+    rt: &(impl Abort + AllocGlobal),
+    make: impl Fn(Global) -> Result<G>,
+    call: impl Fn(Global, G) -> std::result::Result<T, E>,
+    look: impl Fn(T),
+) where
+    RunError: From<E>,
+{
+    let requests = run_each(rt, || {
+        let on = make(rt.alloc()).expect(rt, "what the call is made on");
+        begin_call();
+        let made = call(rt.alloc(), on);
+        end_call();
+        if let Some(given) = given(rt, made) {
+            look(given);
+        }
+    });
     assert!(rt; requests > 0, "no request");
 }
 
-/// The same of a call that makes several requests, so that a later one is refused where something is done already.
-pub fn takes_several<E: Drop>(rt: &impl Abort, call: impl Fn() -> Result<Ended, E>) {
-    let requests = refuse_each(rt, call, Ended::Refused);
-    assert!(rt; requests > 1, "requests: {requests}");
+/// The same of a call that changes what it is lent. `look` asserts how that is after the call, and is told whether the call
+/// passed; wherever a request was refused it did not, and has changed nothing. Returns how many requests the call makes.
+pub fn refuse_each_change<L: Drop, G: Drop, T: Drop, E: Drop>(
+    rt: &(impl Abort + AllocGlobal),
+    make: impl Fn(Global) -> Result<(L, G)>,
+    call: impl Fn(Global, &mut L, G) -> std::result::Result<T, E>,
+    look: impl Fn(L, bool),
+) -> u64
+where
+    RunError: From<E>,
+{
+    let requests = run_each(rt, || {
+        let (mut lent, on) = make(rt.alloc()).expect(rt, "what the call is made on");
+        begin_call();
+        let made = call(rt.alloc(), &mut lent, on);
+        end_call();
+        let has_passed = given(rt, made).is_some();
+        look(lent, has_passed);
+    });
+    assert!(rt; requests > 0, "no request");
+    requests
 }
 
-/// Asserts that a call, or several, take no memory.
-pub fn takes_none<E: Drop>(rt: &impl Abort, call: impl Fn() -> Result<Ended, E>) {
-    let requests = refuse_each(rt, call, Ended::Passed);
+/// Asserts that a call takes no memory.
+pub fn takes_none<G: Drop, T: Drop>(
+    rt: &(impl Abort + AllocGlobal),
+    make: impl Fn(Global) -> Result<G>,
+    call: impl Fn(Global, G) -> T,
+    look: impl Fn(T),
+) {
+    let requests = run_each(rt, || {
+        let on = make(rt.alloc()).expect(rt, "what the call is made on");
+        begin_call();
+        let made = call(rt.alloc(), on);
+        end_call();
+        look(made);
+    });
     assert_eq!(rt; requests, 0, "requests");
 }
 
-/// Asserts that a call reports a fault, also wherever a request is refused.
-pub fn reports<E: Drop>(rt: &impl Abort, call: impl Fn() -> Result<Ended, E>) {
-    let _ = refuse_each(rt, call, Ended::Passed);
+/// Asserts that a call reports an error, also wherever a request is refused.
+pub fn reports<G: Drop, T: Drop>(
+    rt: &(impl Abort + AllocGlobal),
+    make: impl Fn(Global) -> Result<G>,
+    call: impl Fn(Global, G) -> Result<T>,
+    error: Error,
+) {
+    let _ = run_each(rt, || {
+        let on = make(rt.alloc()).expect(rt, "what the call is made on");
+        begin_call();
+        let made = call(rt.alloc(), on);
+        end_call();
+        assert_eq!(rt; made.err(), Some(error));
+    });
+}
+
+/// What a call is made on that needs nothing.
+pub fn nothing(_alloc: Global) -> Result<()> {
+    Ok(())
 }

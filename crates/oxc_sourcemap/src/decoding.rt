@@ -20,6 +20,15 @@ use std::alloc::Global;
 /// Makes the map of a JSON source map. Its strings are moved; if it has no list of contents, the map's is empty. The map has
 /// no chunks.
 ///
+/// ```rust
+/// use oxc_sourcemap::{JSONSourceMap, decode};
+/// use serde_json::Value;
+///
+/// let value = Value::from_str(alloc, r#"{"version":3,"sources":["a.js"],"mappings":"AAAA,I"}"#)?;
+/// let map = decode(alloc, JSONSourceMap::from_value(alloc, &value)?)?;
+/// assert_eq!(rt; map.get_tokens().len(), 2);
+/// ```
+///
 /// Fails with the first of these in this order, and the value is then dropped:
 /// - `BadJson(Version(n))` for a version n other than 3;
 /// - `BadSourceReference(id)` for the first entry of the ignore list that is not below the number of sources;
@@ -37,6 +46,18 @@ pub fn decode(alloc: Global, json: JSONSourceMap) -> Result<SourceMap<'static>>
 /// map"): the maps of its sections are joined, each at its offset, and the joined map gets the file of the value. Any other
 /// value is read by `JSONSourceMap::from_value` and `decode`. All strings of the map are owned. The map has no chunks, its ids
 /// are in range, and its tokens are in line order, so it is sound exactly if it is sorted.
+///
+/// ```rust
+/// use oxc_sourcemap::decode_value;
+/// use serde_json::Value;
+///
+/// let text = r#"{"version":3,"sections":[
+///     {"offset":{"line":0,"column":0},"map":{"version":3,"sources":["a.js"],"mappings":"AAAA"}},
+///     {"offset":{"line":2,"column":0},"map":{"version":3,"sources":["b.js"],"mappings":"AAAA"}}]}"#;
+/// let map = decode_value(alloc, &Value::from_str(alloc, text)?)?;
+/// let text = r#"{"version":3,"names":[],"sources":["a.js","b.js"],"mappings":"AAAA;;ACAA"}"#;
+/// assert_eq!(rt; map.to_json_string(alloc)?.as_str(), text);
+/// ```
 ///
 /// Of the keys beside the `sections` of an indexed map, only `version` and `file` are looked at. It fails with the errors of
 /// `file_from_value`, then with `BadJson(Shape(Sections))` if `sections` is not a list, then with the first error of a section.
@@ -62,6 +83,15 @@ pub fn decode_value(alloc: Global, value: &Value) -> Result<SourceMap<'static>>
 
 /// Reads the map of a JSON text: `serde_json` reads the text, and the value is read as `decode_value` reads it. All strings of
 /// the map are owned.
+///
+/// ```rust
+/// use oxc_sourcemap::{Error, JsonFault, decode_from_string};
+///
+/// let map = decode_from_string(alloc, r#"{"version":3,"sources":["a.js"],"mappings":"AAAA"}"#)?;
+/// assert_eq!(rt; map.get_source(0), Some("a.js"));
+/// let fault = decode_from_string(alloc, r#"{"version":4}"#).err();
+/// assert_eq!(rt; fault, Some(Error::BadJson(JsonFault::Version(4))));
+/// ```
 ///
 /// Fails in this order:
 /// - `BadJson(Reading)` if `serde_json` reads no value, as for a text that is not JSON, one with more than white space

@@ -14,6 +14,15 @@ use std::alloc::Global;
 /// Makes the JSON source map of a map: copies of its fields, and the canonical text of its tokens. A list of contents that are
 /// all unknown is left out; any other is written whole. Chunks change nothing, but have to fit.
 ///
+/// ```rust
+/// use oxc_sourcemap::{SourceMap, encode};
+///
+/// let map = SourceMap::from_json_string(alloc, r#"{"version":3,"sources":["a.js"],"mappings":"AAAA"}"#)?;
+/// let json = encode(alloc, &map)?;
+/// assert_eq!(rt; json.mappings.as_str(), "AAAA");
+/// assert!(rt; json.sources_content.is_none());
+/// ```
+///
 /// Fails as `encode_mappings` does for the tokens and chunks: with `LineOrder(i)`, `BadChunks(k)`, `TooLarge`, in this order;
 /// and with `OutOfMemory` for want of memory.
 pub fn encode(alloc: Global, sourcemap: &SourceMap<'_>) -> Result<JSONSourceMap>
@@ -29,6 +38,14 @@ pub fn encode(alloc: Global, sourcemap: &SourceMap<'_>) -> Result<JSONSourceMap>
 /// `sourcesContent`, `ignoreList`, `mappings`, `debugId`. `names`, `sources` and `mappings` are always there,
 /// `sourcesContent` if some content is known, and the others if the map has them. The `mappings` are the canonical text of
 /// the tokens. Chunks change nothing, but have to fit.
+///
+/// ```rust
+/// use oxc_sourcemap::{SourceMap, encode_to_string};
+///
+/// let map = SourceMap::from_json_string(alloc, r#"{"mappings":"AAAA","version":3,"sources":["a.js"]}"#)?;
+/// let text = r#"{"version":3,"names":[],"sources":["a.js"],"mappings":"AAAA"}"#;
+/// assert_eq!(rt; encode_to_string(alloc, &map)?.as_str(), text);
+/// ```
 ///
 /// Fails as `encode` does: with `LineOrder(i)`, `BadChunks(k)`, `TooLarge`, in this order, and with `OutOfMemory` for want of
 /// memory.

@@ -14,6 +14,19 @@ use std::marker::Model;
 /// Joins maps into one, each at a line and a column of the joined code. The strings of borrowed maps are borrowed for `'a`,
 /// those of owned maps are moved: adding a map copies no string.
 ///
+/// ```rust
+/// use oxc_sourcemap::{ConcatSourceMapBuilder, SourceMap};
+///
+/// let a = SourceMap::from_json_string(alloc, r#"{"version":3,"sources":["a.js"],"mappings":"AAAA"}"#)?;
+/// let b = SourceMap::from_json_string(alloc, r#"{"version":3,"sources":["b.js"],"mappings":"AAAA"}"#)?;
+/// let mut builder = ConcatSourceMapBuilder::empty(alloc);
+/// builder.add_sourcemap(&a, 0)?;
+/// builder.add_sourcemap(&b, 2)?;
+/// let map = builder.into_sourcemap()?;
+/// let text = r#"{"version":3,"names":[],"sources":["a.js","b.js"],"mappings":"AAAA;;ACAA"}"#;
+/// assert_eq!(rt; map.to_json_string(alloc)?.as_str(), text);
+/// ```
+///
 /// An add that fails leaves the builder as it was. Whether the result is sorted is not checked here; `SourceMap::is_sorted`
 /// does.
 #[derive(Drop)]

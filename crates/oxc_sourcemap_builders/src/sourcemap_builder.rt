@@ -21,6 +21,18 @@ use std::marker::Model;
 /// Builds a map call by call. Strings are borrowed for `'a`, except those given to the calls that end in `_copied`: of these
 /// the builder keeps copies. A builder whose strings are all copied is a `SourceMapBuilder<'static>`.
 ///
+/// ```rust
+/// use oxc_sourcemap::SourceMapBuilder;
+///
+/// let mut builder = SourceMapBuilder::empty(alloc);
+/// let source = builder.add_source_and_content("a.js", "let x;")?;
+/// let name = builder.add_name("x")?;
+/// builder.add_token(0, 4, 0, 4, Some(source), Some(name))?;
+/// let map = builder.into_sourcemap()?;
+/// let text = r#"{"version":3,"names":["x"],"sources":["a.js"],"sourcesContent":["let x;"],"mappings":"IAAIA"}"#;
+/// assert_eq!(rt; map.to_json_string(alloc)?.as_str(), text);
+/// ```
+///
 /// Ids are counted from 0, in the order in which names and sources come. Lines and columns count from 0; columns are in
 /// UTF-16 code units. An add that fails leaves the builder unchanged, and an `into_` call that fails drops it.
 #[derive(Drop)]

@@ -137,6 +137,14 @@ fn push_quoted(out: &mut String, text: &str) -> Memory<()>
 /// `\r` for the characters that have such an escape, and `\u00` with two lower-case hexadecimal digits for every other
 /// character below U+0020. All other characters are written as they are.
 ///
+/// ```rust
+/// use oxc_sourcemap::push_json_string;
+///
+/// let mut out = String::new(alloc);
+/// push_json_string("a\"b\n", &mut out)?;
+/// assert_eq!(rt; out.as_str(), r#""a\"b\n""#);
+/// ```
+///
 /// Fails only with `OutOfMemory`; `out` is then as it was.
 pub fn push_json_string(text: &str, out: &mut String) -> Result<()>
     ensures text { Pushes result out.old out.new (json_string text.now) }

@@ -1,6 +1,16 @@
 //! The fields of a source map as its JSON object has them.
 
 /// The fields of a source map as its JSON object has them (ECMA-426, "Source map format").
+///
+/// ```rust
+/// use oxc_sourcemap::JSONSourceMap;
+/// use serde_json::Value;
+///
+/// let value = Value::from_str(alloc, r#"{"version":3,"sources":["a.js"],"mappings":"AAAA"}"#)?;
+/// let json = JSONSourceMap::from_value(alloc, &value)?;
+/// assert_eq!(rt; json.mappings.as_str(), "AAAA");
+/// assert!(rt; json.names.is_empty() && json.file.is_none());
+/// ```
 #[derive(Drop)]
 pub struct JSONSourceMap {
     /// The version. `decode` fails for any but 3.

@@ -105,6 +105,14 @@ pub(crate) fn read_either_list(
 /// The file of a JSON value that is a source map, indexed or not (docs/FORMAT.md, "The shape of a JSON value"); None if it
 /// is null or missing. Only the `version` and the `file` of the value are looked at.
 ///
+/// ```rust
+/// use oxc_sourcemap::file_from_value;
+/// use serde_json::Value;
+///
+/// let value = Value::from_str(alloc, r#"{"version":3,"file":"out.js","sections":[]}"#)?;
+/// assert_eq!(rt; file_from_value(alloc, &value)?.as_deref(), Some("out.js"));
+/// ```
+///
 /// Fails with `BadJson` for the first of these in this order, and with `OutOfMemory` for want of memory:
 /// - `Shape(Object)` unless the value is an object;
 /// - `version`, which has to be 3: `Version(n)` for another whole number n of 0 to 4294967295, `Shape(Version)` for any other

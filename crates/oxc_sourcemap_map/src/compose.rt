@@ -15,6 +15,18 @@ impl<'a> SourceMap<'a> {
     /// Composes this map, from generated to intermediate code, with `input`, from there to original code, into one map from
     /// generated to original code (docs/FORMAT.md, "Composition").
     ///
+    /// ```rust
+    /// use oxc_sourcemap::SourceMap;
+    ///
+    /// // Line 0 of out.js comes from line 1 of mid.js, and that from line 2 and column 2 of main.ts.
+    /// let text = r#"{"version":3,"file":"out.js","sources":["mid.js"],"mappings":"AACA"}"#;
+    /// let map = SourceMap::from_json_string(alloc, text)?;
+    /// let text = r#"{"version":3,"sources":["main.ts"],"mappings":";AAEE"}"#;
+    /// let input = SourceMap::from_json_string(alloc, text)?;
+    /// let text = r#"{"version":3,"file":"out.js","names":[],"sources":["main.ts"],"mappings":"AAEE"}"#;
+    /// assert_eq!(rt; map.compose(alloc, input)?.to_json_string(alloc)?.as_str(), text);
+    /// ```
+    ///
     /// Each token of this map gives one token at the same generated position, in the same order. Its source position is looked
     /// up in `input` by the clamped lookup (`lookup_token_approx`):
     /// - If the token of this map or the token found is unmapped, or none is found, the result is unmapped, with source

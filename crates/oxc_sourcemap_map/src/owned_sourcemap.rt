@@ -37,6 +37,17 @@ use std::ops::{Deref, DerefMut};
 
 /// A map that borrows nothing, in a type without a lifetime: a `SourceMap<'static>`, for fields that keep a map.
 ///
+/// ```rust
+/// use oxc_sourcemap::OwnedSourceMap;
+///
+/// let text = r#"{"version":3,"sources":["a.js"],"mappings":"AAAA"}"#;
+/// let mut map = OwnedSourceMap::from_json_string(alloc, text)?;
+/// map.set_file(alloc, "out.js")?;
+/// let text = r#"{"version":3,"file":"out.js","names":[],"sources":["a.js"],"mappings":"AAAA"}"#;
+/// assert_eq!(rt; map.to_json_string(alloc)?.as_str(), text);
+/// assert!(rt; map.is_sound());
+/// ```
+///
 /// Its calls return what those of `SourceMap` return, and fail as those do. Calls that are not listed here, such as
 /// `is_sound`, are reached through `Deref`.
 #[derive(Drop)]

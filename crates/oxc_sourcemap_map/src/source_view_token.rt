@@ -9,6 +9,17 @@ use oxc_sourcemap_tokens::Token;
 /// A token, and the map that its ids are looked up in. Strings that it returns borrow from the map, for `'sm`; `'data` is
 /// the lifetime of what the map itself borrows.
 ///
+/// ```rust
+/// use oxc_sourcemap::{SourceMap, SourceViewToken, Token};
+///
+/// let text = r#"{"version":3,"sources":["a.js"],"names":["x"],"mappings":"AAAA,IAAIA"}"#;
+/// let map = SourceMap::from_json_string(alloc, text)?;
+/// let view = SourceViewToken::new(Token::new(0, 4, 0, 4, Some(0), Some(0)), &map);
+/// assert_eq!(rt; view.get_source(), Some("a.js"));
+/// assert_eq!(rt; view.get_name(), Some("x"));
+/// assert_eq!(rt; view.get_source_content(), None);
+/// ```
+///
 /// An id that is missing or out of range names nothing, except that a content may be listed past the last source. Lines and
 /// columns count from 0; columns are in UTF-16 code units. No call takes memory.
 #[derive(Clone, Copy)]

@@ -35,6 +35,16 @@ use std::marker::Model;
 
 /// A source map of version 3. Its strings are borrowed for `'a` or owned.
 ///
+/// ```rust
+/// use oxc_sourcemap::SourceMap;
+///
+/// let text = r#"{"version":3,"sources":["a.js"],"names":["x"],"mappings":"AAAA,IAAIA"}"#;
+/// let map = SourceMap::from_json_string(alloc, text)?;
+/// let table = map.generate_lookup_table(alloc)?;
+/// let view = map.lookup_source_view_token(table.as_slice(), 0, 5);
+/// assert_eq!(rt; view.map(|token| token.to_tuple()), Some((Some("a.js"), 0, 4, Some("x"))));
+/// ```
+///
 /// `new` and `from_parts` do not validate: tokens may be out of order, refer to sources and names that are not there, and
 /// have chunks that do not fit. `is_sorted` and `is_sound` check that.
 #[derive(Drop)]

@@ -472,6 +472,14 @@ fn after_comma(text: &[u8]) -> &[u8]
 /// structure"). `names` and `sources` are the lengths of the lists that its ids refer to; more than 4294967295 are taken as
 /// 4294967295.
 ///
+/// ```rust
+/// use oxc_sourcemap::{Token, decode_mappings};
+///
+/// let tokens = decode_mappings(alloc, "AAKG,I", 0, 1)?;
+/// let wanted = [Token::new(0, 0, 5, 3, Some(0), None), Token::new(0, 4, 5, 3, None, None)];
+/// assert_eq!(rt; tokens.as_slice(), wanted.as_slice());
+/// ```
+///
 /// Empty segments are skipped. A segment of one field is an unmapped token, with the source line and column reached so far.
 /// A byte outside the base64 alphabet is a digit of value 63.
 ///

@@ -412,6 +412,15 @@ fn fault_of_chunk(tokens: &[Token], chunk: &TokenChunk) -> Option<Error>
 /// the header of the chunk, which is taken as it is, right or wrong. No `,` comes before the token at index 0. The parts of
 /// chunks that fit, one after the other, are the canonical text.
 ///
+/// ```rust
+/// use oxc_sourcemap::{Token, TokenChunk, encode_chunk};
+///
+/// let tokens = [Token::new(0, 0, 5, 3, Some(0), None), Token::new(1, 0, 5, 4, Some(0), None)];
+/// let mut out = String::new(alloc);
+/// encode_chunk(&tokens, &TokenChunk::new(1, 2, 0, 0, 5, 3, 0, 0), &mut out)?;
+/// assert_eq!(rt; out.as_str(), ";AAAC");
+/// ```
+///
 /// Fails in this order, with `out` as it was:
 /// - `BadChunks(0)` if the chunk ends before it starts, or past the tokens;
 /// - `LineOrder(i)` for the first token i of the chunk whose generated line is smaller than that of the token before it,
@@ -525,6 +534,16 @@ fn encode_whole(tokens: &[Token], out: &mut String) -> Result<()>
 
 /// Appends the canonical `mappings` text of the tokens to `out` (docs/FORMAT.md, "Writing"; ECMA-426, "Mappings
 /// structure"): at most 36 bytes for each token, and one for each line before the last.
+///
+/// ```rust
+/// use oxc_sourcemap::{Error, Token, encode_mappings};
+///
+/// let tokens = [Token::new(0, 0, 5, 3, Some(0), None), Token::new(1, 0, 5, 4, Some(0), None)];
+/// let mut out = String::new(alloc);
+/// encode_mappings(&tokens, None, &mut out)?;
+/// assert_eq!(rt; out.as_str(), "AAKG;AAAC");
+/// assert_eq!(rt; encode_mappings(&[tokens[1], tokens[0]], None, &mut out), Err(Error::LineOrder(1)));
+/// ```
 ///
 /// Columns may decrease on a line. An unmapped token is written without its source position and name. Chunks do not change
 /// the text; they only have to fit, so pass None if you have none.

@@ -13,6 +13,15 @@ use std::borrow::CowStr;
 use std::boxed::BoxedSlice;
 
 /// The nine fields of a map, for taking it apart and putting it together.
+///
+/// ```rust
+/// use oxc_sourcemap::{SourceMap, SourceMapParts, Token};
+///
+/// let mut parts = SourceMapParts::empty(alloc)?;
+/// parts.tokens = vec![in alloc; Token::new(0, 1, 0, 0, None, None)]?.into_boxed_slice();
+/// let map = SourceMap::from_parts(parts);
+/// assert_eq!(rt; map.to_json(alloc)?.mappings.as_str(), "C");
+/// ```
 #[derive(Drop)]
 pub struct SourceMapParts<'a> {
     /// The name of the generated file.

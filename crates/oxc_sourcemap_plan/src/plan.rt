@@ -19,6 +19,16 @@ use std::alloc::Global;
 
 /// What to do with maps, which are given as JSON texts borrowed for `'t`. Lines and columns count from 0; columns are in
 /// UTF-16 code units.
+///
+/// ```rust
+/// use oxc_sourcemap::{Plan, evaluate};
+///
+/// let a = Plan::Read(r#"{"version":3,"sources":["a.js"],"mappings":"AAAA"}"#);
+/// let b = Plan::Read(r#"{"version":3,"sources":["b.js"],"mappings":"AAAA"}"#);
+/// let plan = Plan::Join(vec![in alloc; (a, 0), (b, 1)]?);
+/// let text = r#"{"version":3,"names":[],"sources":["a.js","b.js"],"mappings":"AAAA;ACAA"}"#;
+/// assert_eq!(rt; evaluate(alloc, &plan)?.to_json_string(alloc)?.as_str(), text);
+/// ```
 #[derive(Drop)]
 pub enum Plan<'t> {
     /// Read a map from its JSON text.
@@ -220,6 +230,16 @@ fn evaluate_composition(
 
 /// Evaluates a plan: reads, rewrites, joins and composes maps, parts from left to right, all parts of a join before they are
 /// joined.
+///
+/// ```rust
+/// use oxc_sourcemap::{Plan, evaluate};
+///
+/// let first = Plan::Read(r#"{"version":3,"sources":["mid.js"],"mappings":"AACA"}"#);
+/// let second = Plan::Read(r#"{"version":3,"sources":["main.ts"],"mappings":";AAEE"}"#);
+/// let plan = Plan::Compose(Box::new(alloc, first)?, Box::new(alloc, second)?);
+/// let text = r#"{"version":3,"names":[],"sources":["main.ts"],"mappings":"AAEE"}"#;
+/// assert_eq!(rt; evaluate(alloc, &plan)?.to_json_string(alloc)?.as_str(), text);
+/// ```
 ///
 /// The map is the one that the definitions of these steps make. At every generated position it has the exact and the clamped
 /// trace that the plan means, and it has the sources, contents and metadata that the plan means. `IsEvaluated` lists all that

@@ -22,6 +22,16 @@ fn is_header_of(chunk: &TokenChunk, previous: &Previous) -> bool
 /// Checks that chunks fit the tokens: None if they do, else the index of the first chunk that does not, or the number of
 /// chunks if only tokens are left over.
 ///
+/// ```rust
+/// use oxc_sourcemap::{Token, TokenChunk, chunk_fault};
+///
+/// let tokens = [Token::new(0, 0, 5, 3, Some(0), None), Token::new(1, 0, 5, 4, Some(0), None)];
+/// let first = TokenChunk::new(0, 1, 0, 0, 0, 0, 0, 0);
+/// let second = TokenChunk::new(1, 2, 0, 0, 5, 3, 0, 0);
+/// assert_eq!(rt; chunk_fault(&tokens, &[first.clone()?]), Some(1));
+/// assert_eq!(rt; chunk_fault(&tokens, &[first, second]), None);
+/// ```
+///
 /// A chunk fits if it begins where the one before it ends (the first at 0), ends neither before it starts nor past the
 /// tokens, and its header is the state there (docs/FORMAT.md, "Chunks"). The tokens may be in any order. Takes no memory.
 pub fn chunk_fault(tokens: &[Token], chunks: &[TokenChunk]) -> Option<usize>

@@ -10,6 +10,15 @@ const INVALID_ID: u32 = 4294967295;
 /// One mapping: a generated position, and the source position and name it maps to. Lines and columns count from 0, columns
 /// in UTF-16 code units.
 ///
+/// ```rust
+/// use oxc_sourcemap::Token;
+///
+/// let token = Token::new(0, 4, 2, 1, Some(0), None);
+/// assert_eq!(rt; (token.get_dst_line(), token.get_dst_col()), (0, 4));
+/// assert_eq!(rt; (token.get_src_line(), token.get_src_col()), (2, 1));
+/// assert_eq!(rt; (token.get_source_id(), token.get_name_id()), (Some(0), None));
+/// ```
+///
 /// A token without a source id is unmapped, and its source position and name have no meaning; `==` compares all six fields,
 /// even so.
 #[derive(Clone, Copy, Debug, PartialEq, Eq)]
@@ -126,6 +135,18 @@ impl Token {
 
 /// A part of a list of tokens, from index `start` up to but not including `end`, and the numbers that its deltas start
 /// from, so that it can be written by itself (`encode_chunk`).
+///
+/// ```rust
+/// use oxc_sourcemap::{Token, TokenChunk, encode_mappings};
+///
+/// let tokens = [Token::new(0, 0, 5, 3, Some(0), None), Token::new(1, 0, 5, 4, Some(0), None)];
+/// let first = TokenChunk::new(0, 1, 0, 0, 0, 0, 0, 0);
+/// // The token before the second chunk is at line 0 and column 0, and maps to line 5 and column 3.
+/// let second = TokenChunk::new(1, 2, 0, 0, 5, 3, 0, 0);
+/// let mut out = String::new(alloc);
+/// encode_mappings(&tokens, Some(&[first, second]), &mut out)?;
+/// assert_eq!(rt; out.as_str(), "AAKG;AAAC");
+/// ```
 ///
 /// These numbers, the `prev_` fields, should be the generated position of the token before `start`, the source id and
 /// source position of the last token before it that is mapped, and the name id of the last one that has a name, each 0 if

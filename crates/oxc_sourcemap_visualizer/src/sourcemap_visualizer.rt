@@ -19,6 +19,15 @@ use std::fmt::Write;
 use std::marker::Model;
 
 /// Shows a map beside its generated code, for people who test source maps: as a text, or as a link to a page that draws both.
+///
+/// ```rust
+/// use oxc_sourcemap::{SourceMap, SourcemapVisualizer};
+///
+/// let text = r#"{"version":3,"sources":["a.js"],"sourcesContent":["let x;"],"mappings":"AAAA"}"#;
+/// let map = SourceMap::from_json_string(alloc, text)?;
+/// let shown = SourcemapVisualizer::new("var x;", &map).get_text(alloc)?;
+/// assert_eq!(rt; shown.as_str(), "- a.js\n(0:0) \"let x;\" --> (0:0) \"var x;\"\n");
+/// ```
 #[derive(Drop)]
 pub struct SourcemapVisualizer<'a, 'sm> {
     code: &'a str,

@@ -99,6 +99,13 @@ fn trace_in(alloc: Global, map: &SourceMap<'_>, line: u32, col: u32) -> Result<S
 /// if the token has no source; else its source as a JSON string, `:`, the source line, `:`, the source column, and, if it
 /// has a name, a space and that, as a JSON string too. Lines and columns count from 0; columns are in UTF-16 code units.
 ///
+/// ```rust
+/// use smap_run::trace;
+///
+/// let text = r#"{"version":3,"sources":["a.js"],"names":["x"],"mappings":"AAAA,IAAIA"}"#;
+/// assert_eq!(rt; trace(alloc, text, 0, 5)?.as_str(), r#""a.js":0:4 "x""#);
+/// ```
+///
 /// Fails with `Map(e)` if `SourceMap::from_json_string` fails with `e`, then with `Unsorted` if the tokens are not sorted,
 /// and with `Map(OutOfMemory)` for want of memory.
 pub fn trace(alloc: Global, text: &str, line: u32, col: u32) -> Result<String, PlanError>

@@ -31,7 +31,7 @@ fn refusal_of(error: RunError) -> Refusal
 }
 
 /// The map of the plan of these words, over these texts.
-fn evaluated(alloc: Global, words: &str, texts: &str) -> Result<OwnedSourceMap, Refusal>
+fn evaluate_words(alloc: Global, words: &str, texts: &str) -> Result<OwnedSourceMap, Refusal>
     ensures map { IfOk result (IsPlanMap (plan_of words.now texts.now)) }
     ensures error { IfErr result (λ r. (r ≢ out_of_memory) → IsPlanFailure (plan_of words.now texts.now) r) }
 {
@@ -50,5 +50,5 @@ pub fn evaluate_bytes(alloc: Global, words: &[u8], texts: &[u8]) -> Result<Owned
 {
     let words = text_of(words)?;
     let texts = text_of(texts)?;
-    evaluated(alloc, words, texts)
+    evaluate_words(alloc, words, texts)
 }

@@ -6,10 +6,10 @@ use Rattle.std.proofs.lemmas.List.{drop_more}
 use Rattle.std.proofs.lemmas.List.Elements.{All-from_recursion, recursion_from_All}
 use Rattle.oxc_sourcemap_tokens.specs.Token.{TokenRecord, IsInBounds, AreInBounds}
 use Rattle.oxc_sourcemap_join.specs.Joined.{raised_id, shifted_column, shifted}
-use Rattle.oxc_sourcemap_join.specs.Joining.{all_shifted, above, moving_column, greatest}
+use Rattle.oxc_sourcemap_join.specs.Joining.{all_shifted, id_limit, moving_column, greatest_of}
 use Rattle.oxc_sourcemap_join.specs.declared.joined_parts.Shift.{Shift}
 
-greatest-below : (given : TokenRecord → ℕ) (most n m : ℕ) (ts : List TokenRecord) → (greatest given most ts + n < m) ↔ ((most + n < m) × AllByRecursion (λ t. given t + n < m) ts)
+greatest-below : (given : TokenRecord → ℕ) (most n m : ℕ) (ts : List TokenRecord) → (greatest_of given most ts + n < m) ↔ ((most + n < m) × AllByRecursion (λ t. given t + n < m) ts)
 greatest-below given most n m [] = (λ h. (h, tt), λ h. h.0)
 greatest-below given most n m (t ∷ ts) =
     let rest = greatest-below given (max most (given t)) n m ts in (
@@ -19,16 +19,16 @@ greatest-below given most n m (t ∷ ts) =
 
 -- the greatest number so far, with one more token
 pub greatest-next : (given : TokenRecord → ℕ) (most m : ℕ) (ts : List TokenRecord) (i : ℕ) (t : TokenRecord) → i < length ts → t ≡ get_or ts i t → m ≡ max most (given t)
-    → greatest given m (drop (i + 1) ts) ≡ greatest given most (drop i ts)
+    → greatest_of given m (drop (i + 1) ts) ≡ greatest_of given most (drop i ts)
 greatest-next given most m ts i t h is e =
-    ap (λ k. greatest given k (drop (i + 1) ts)) (e ∙ ap (λ u. max most (given u)) is) ∙ sym (ap (greatest given most) (drop_more ts i t h))
+    ap (λ k. greatest_of given k (drop (i + 1) ts)) (e ∙ ap (λ u. max most (given u)) is) ∙ sym (ap (greatest_of given most) (drop_more ts i t h))
 
 -- ---- one token
-id-in : (n : ℕ) (o : Option ℕ) → above o + n < 4294967296 → IfSome (raised_id n o) (λ i. i < 4294967295)
+id-in : (n : ℕ) (o : Option ℕ) → id_limit o + n < 4294967296 → IfSome (raised_id n o) (λ i. i < 4294967295)
 id-in n None h = tt
 id-in n (Some i) h = omega (arith, h)
 
-id-out : (n : ℕ) (o : Option ℕ) → n < 4294967296 → IfSome (raised_id n o) (λ i. i < 4294967295) → above o + n < 4294967296
+id-out : (n : ℕ) (o : Option ℕ) → n < 4294967296 → IfSome (raised_id n o) (λ i. i < 4294967295) → id_limit o + n < 4294967296
 id-out n None f h = omega (arith, f)
 id-out n (Some i) f h = omega (arith, h)
 
@@ -47,8 +47,8 @@ module _ (s : Shift) where
   column-level e (t ∷ ts) b =
       (elim (t.dst_line == 0) as (λ q. cond q t.dst_col 0 + s.position.column < 4294967296) [ true ↦ (let f = b.0.dst_col in omega (arith, e, f)) | false ↦ omega (arith, e) ], column-level e ts b.1)
 
-  all-in : (ts : List TokenRecord) → AllByRecursion IsInBounds ts → AllByRecursion (λ t. t.dst_line + s.position.line < 4294967296) ts → AllByRecursion (λ t. above t.source_id + s.sources < 4294967296) ts
-      → AllByRecursion (λ t. above t.name_id + s.names < 4294967296) ts → AllByRecursion (λ t. moving_column t + s.position.column < 4294967296) ts → AllByRecursion IsInBounds (all_shifted s ts)
+  all-in : (ts : List TokenRecord) → AllByRecursion IsInBounds ts → AllByRecursion (λ t. t.dst_line + s.position.line < 4294967296) ts → AllByRecursion (λ t. id_limit t.source_id + s.sources < 4294967296) ts
+      → AllByRecursion (λ t. id_limit t.name_id + s.names < 4294967296) ts → AllByRecursion (λ t. moving_column t + s.position.column < 4294967296) ts → AllByRecursion IsInBounds (all_shifted s ts)
   all-in [] b l o n c = tt
   all-in (t ∷ ts) b l o n c = (
     record {
@@ -67,19 +67,19 @@ module _ (s : Shift) where
   all-out P f (t ∷ ts) h = (f t h.0, all-out P f ts h.1)
 
   -- the greatest column is in bounds if nothing is added to it
-  pub level-columns : (ts : List TokenRecord) → AreInBounds ts → s.position.column ≡ 0 → greatest moving_column 0 ts + s.position.column < 4294967296
+  pub level-columns : (ts : List TokenRecord) → AreInBounds ts → s.position.column ≡ 0 → greatest_of moving_column 0 ts + s.position.column < 4294967296
   level-columns ts b e =
       let each : AllByRecursion (λ t. moving_column t + s.position.column < 4294967296) ts = column-level e ts (recursion_from_All IsInBounds ts b) in
       (greatest-below moving_column 0 s.position.column 4294967296 ts).1 (omega (arith, e), each)
 
   -- moved tokens are in bounds if the greatest numbers are
-  pub in-reach : (ts : List TokenRecord) → AreInBounds ts → greatest (λ t. t.dst_line) 0 ts + s.position.line < 4294967296 → greatest (λ t. above t.source_id) 0 ts + s.sources < 4294967296
-      → greatest (λ t. above t.name_id) 0 ts + s.names < 4294967296 → greatest moving_column 0 ts + s.position.column < 4294967296 → AreInBounds (all_shifted s ts)
+  pub in-reach : (ts : List TokenRecord) → AreInBounds ts → greatest_of (λ t. t.dst_line) 0 ts + s.position.line < 4294967296 → greatest_of (λ t. id_limit t.source_id) 0 ts + s.sources < 4294967296
+      → greatest_of (λ t. id_limit t.name_id) 0 ts + s.names < 4294967296 → greatest_of moving_column 0 ts + s.position.column < 4294967296 → AreInBounds (all_shifted s ts)
   in-reach ts b l o n c =
       All-from_recursion IsInBounds (all_shifted s ts) (all-in ts (recursion_from_All IsInBounds ts b)
       ((greatest-below (λ t. t.dst_line) 0 s.position.line 4294967296 ts).0 l).1
-      ((greatest-below (λ t. above t.source_id) 0 s.sources 4294967296 ts).0 o).1
-      ((greatest-below (λ t. above t.name_id) 0 s.names 4294967296 ts).0 n).1
+      ((greatest-below (λ t. id_limit t.source_id) 0 s.sources 4294967296 ts).0 o).1
+      ((greatest-below (λ t. id_limit t.name_id) 0 s.names 4294967296 ts).0 n).1
       ((greatest-below moving_column 0 s.position.column 4294967296 ts).0 c).1)
 
   -- the greatest numbers are in bounds if the moved tokens are
@@ -87,17 +87,17 @@ module _ (s : Shift) where
     all-moved : AllByRecursion IsInBounds (all_shifted s ts)
     all-moved = recursion_from_All IsInBounds (all_shifted s ts) h
 
-    pub line-in-reach : s.position.line < 4294967296 → greatest (λ t. t.dst_line) 0 ts + s.position.line < 4294967296
+    pub line-in-reach : s.position.line < 4294967296 → greatest_of (λ t. t.dst_line) 0 ts + s.position.line < 4294967296
     line-in-reach f = (greatest-below (λ t. t.dst_line) 0 s.position.line 4294967296 ts).1 (omega (arith, f), all-out (λ t. t.dst_line + s.position.line < 4294967296) (λ t b. b.dst_line) ts all-moved)
 
-    pub source-in-reach : s.sources < 4294967296 → greatest (λ t. above t.source_id) 0 ts + s.sources < 4294967296
+    pub source-in-reach : s.sources < 4294967296 → greatest_of (λ t. id_limit t.source_id) 0 ts + s.sources < 4294967296
     source-in-reach f =
-        (greatest-below (λ t. above t.source_id) 0 s.sources 4294967296 ts).1 (omega (arith, f), all-out (λ t. above t.source_id + s.sources < 4294967296) (λ t b. id-out s.sources t.source_id f b.source_id) ts all-moved)
+        (greatest-below (λ t. id_limit t.source_id) 0 s.sources 4294967296 ts).1 (omega (arith, f), all-out (λ t. id_limit t.source_id + s.sources < 4294967296) (λ t b. id-out s.sources t.source_id f b.source_id) ts all-moved)
 
-    pub name-in-reach : s.names < 4294967296 → greatest (λ t. above t.name_id) 0 ts + s.names < 4294967296
+    pub name-in-reach : s.names < 4294967296 → greatest_of (λ t. id_limit t.name_id) 0 ts + s.names < 4294967296
     name-in-reach f =
-        (greatest-below (λ t. above t.name_id) 0 s.names 4294967296 ts).1 (omega (arith, f), all-out (λ t. above t.name_id + s.names < 4294967296) (λ t b. id-out s.names t.name_id f b.name_id) ts all-moved)
+        (greatest-below (λ t. id_limit t.name_id) 0 s.names 4294967296 ts).1 (omega (arith, f), all-out (λ t. id_limit t.name_id + s.names < 4294967296) (λ t b. id-out s.names t.name_id f b.name_id) ts all-moved)
 
-    pub column-in-reach : s.position.column < 4294967296 → greatest moving_column 0 ts + s.position.column < 4294967296
+    pub column-in-reach : s.position.column < 4294967296 → greatest_of moving_column 0 ts + s.position.column < 4294967296
     column-in-reach f =
         (greatest-below moving_column 0 s.position.column 4294967296 ts).1 (omega (arith, f), all-out (λ t. moving_column t + s.position.column < 4294967296) (λ t b. column-out s t f b.dst_col) ts all-moved)

@@ -25,18 +25,18 @@ abbrev pub all_shifted : Shift → List TokenRecord → List TokenRecord
 all_shifted s tokens = map (shifted s.names s.sources s.position) tokens
 
 -- one more than an id, and 0 for none
-abbrev pub above : Option ℕ → ℕ
-above None = 0
-above (Some id) = id + 1
+abbrev pub id_limit : Option ℕ → ℕ
+id_limit None = 0
+id_limit (Some id) = id + 1
 
 -- the column of a token, if its line is the one that the columns of an offset move
 abbrev pub moving_column : TokenRecord → ℕ
 moving_column t = if t.dst_line == 0 then t.dst_col else 0
 
 -- the greatest of a number and of those that tokens give
-abbrev pub greatest : (TokenRecord → ℕ) → ℕ → List TokenRecord → ℕ
-greatest given most [] = most
-greatest given most (t ∷ ts) = greatest given (max most (given t)) ts
+abbrev pub greatest_of : (TokenRecord → ℕ) → ℕ → List TokenRecord → ℕ
+greatest_of given most [] = most
+greatest_of given most (t ∷ ts) = greatest_of given (max most (given t)) ts
 
 -- What is worked out for a map after a join: how its tokens are moved, how many at the front are left out, and the chunk of
 -- the others.

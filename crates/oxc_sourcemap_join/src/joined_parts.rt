@@ -9,7 +9,7 @@ ghost use Rattle.oxc_sourcemap_tokens.specs.Token.{IsInBounds, AreInBounds, last
 ghost use Rattle.oxc_sourcemap_tokens.specs.Chunks.{ChunksFit};
 ghost use Rattle.oxc_sourcemap_parts.specs.Views.{texts_of, contents_of, ids_of, record_of_parts};
 ghost use Rattle.oxc_sourcemap_join.specs.Joined.{fitted, raised_id, shifted_column, shifted, is_same_token, without_repeat, raised_ignore_list, appended_ignore_lists, added, nothing_joined, AreEntriesInBounds, IsWithinLimits, position};
-ghost use Rattle.oxc_sourcemap_join.specs.Joining.{all_shifted, above, moving_column, greatest, IsAddition};
+ghost use Rattle.oxc_sourcemap_join.specs.Joining.{all_shifted, id_limit, moving_column, greatest_of, IsAddition};
 ghost use Rattle.oxc_sourcemap_tokens.specs.Results.{OnlyMemory, lent_item};
 
 use oxc_sourcemap_parts::{Contents, SourceMapParts, Texts, contents_in, texts_in};
@@ -41,7 +41,7 @@ fn is_id_raisable(id: Option<u32>, number: u32) -> bool
 }
 
 /// An id raised by a number; none stays none.
-fn raised(id: Option<u32>, number: u32) -> Option<u32>
+fn raise_id(id: Option<u32>, number: u32) -> Option<u32>
     requires { IfSome (raised_id number id) (λ i. i < 4294967295) }
     ensures { result ≡ raised_id number id }
 {
@@ -72,9 +72,9 @@ struct Reach {
 }
 
 /// One more than an id, and 0 for none.
-fn above(id: Option<u32>) -> u32
+fn id_limit(id: Option<u32>) -> u32
     requires { IfSome id (λ i. i < 4294967295) }
-    ensures { result ≡ above id }
+    ensures { result ≡ id_limit id }
 {
     match id {
         Some(id) => id + 1,
@@ -84,9 +84,9 @@ fn above(id: Option<u32>) -> u32
 
 /// The greatest line and the greatest ids of tokens.
 fn reach_of(tokens: &[Token]) -> Reach
-    ensures line { result.line ≡ greatest (λ t. t.dst_line) 0 tokens.now }
-    ensures source { result.source ≡ greatest (λ t. above t.source_id) 0 tokens.now }
-    ensures name { result.name ≡ greatest (λ t. above t.name_id) 0 tokens.now }
+    ensures line { result.line ≡ greatest_of (λ t. t.dst_line) 0 tokens.now }
+    ensures source { result.source ≡ greatest_of (λ t. id_limit t.source_id) 0 tokens.now }
+    ensures name { result.name ≡ greatest_of (λ t. id_limit t.name_id) 0 tokens.now }
 
     // True of every list of tokens, and stated here for callers that need it.
     ensures in_bounds { AreInBounds tokens.now }
@@ -96,8 +96,8 @@ fn reach_of(tokens: &[Token]) -> Reach
     let mut name: u32 = 0;
     for token in tokens {
         line = line.max(token.get_dst_line());
-        source = source.max(above(token.get_source_id()));
-        name = name.max(above(token.get_name_id()));
+        source = source.max(id_limit(token.get_source_id()));
+        name = name.max(id_limit(token.get_name_id()));
     }
     Reach { line, source, name }
 }
@@ -115,7 +115,7 @@ fn moving_column(token: &Token) -> u32
 
 /// The greatest column of tokens on line 0; 0 if there are none.
 fn column_reach(tokens: &[Token]) -> u32
-    ensures { result ≡ greatest moving_column 0 tokens.now }
+    ensures { result ≡ greatest_of moving_column 0 tokens.now }
 {
     let mut column: u32 = 0;
     for token in tokens {
@@ -156,7 +156,7 @@ impl Shift {
     /// Whether the columns of tokens are in bounds once they are moved.
     fn fits_columns(self, tokens: &[Token]) -> bool
         requires { AreInBounds tokens.now }
-        ensures { IsTrue result ↔ (greatest moving_column 0 tokens.now + self.position.column < 4294967296) }
+        ensures { IsTrue result ↔ (greatest_of moving_column 0 tokens.now + self.position.column < 4294967296) }
     {
         self.position.column == 0 || is_in_reach(column_reach(tokens), self.position.column)
     }
@@ -180,7 +180,7 @@ impl Shift {
     }
 
     /// A token with the line, column and ids that it has in the join.
-    fn moved(&self, token: &Token) -> Token
+    fn shift(&self, token: &Token) -> Token
         requires { IsInBounds (shifted self.now.names self.now.sources self.now.position token.now) }
         ensures { result ≡ shifted self.now.names self.now.sources self.now.position token.now }
     {
@@ -189,29 +189,29 @@ impl Shift {
             self.column(token) as u32,
             token.get_src_line(),
             token.get_src_col(),
-            raised(token.get_source_id(), self.sources),
-            raised(token.get_name_id(), self.names),
+            raise_id(token.get_source_id(), self.sources),
+            raise_id(token.get_name_id(), self.names),
         )
     }
 
     /// Moves tokens in place.
-    fn move_all(self, tokens: &mut [Token])
+    fn shift_all(self, tokens: &mut [Token])
         requires { AreInBounds (all_shifted self tokens.old) }
         ensures { tokens.new ≡ all_shifted self tokens.old }
     {
         for token in tokens.iter_mut() {
-            *token = self.moved(token);
+            *token = self.shift(token);
         }
     }
 
     /// How many tokens of a map are left out: one, the first, if that equals the last token so far once it is moved.
-    fn passed_over(&self, last_token: Option<Token>, tokens: &[Token]) -> usize
+    fn skip_len(&self, last_token: Option<Token>, tokens: &[Token]) -> usize
         requires { AreInBounds (all_shifted self.now tokens.now) }
         ensures kept { all_shifted self.now (drop result tokens.now) ≡ without_repeat is_same_token last_token (all_shifted self.now tokens.now) }
         ensures within { result ≤ length tokens.now }
     {
         if let (Some(last_token), Some(first)) = (last_token, tokens.first()) {
-            if last_token == self.moved(first) {
+            if last_token == self.shift(first) {
                 return 1;
             }
         }
@@ -368,7 +368,7 @@ fn push_block(tokens: &mut Vec<Token>, shift: Shift, added: &[Token])
 {
     let start = tokens.len();
     tokens.extend_from_slice(added).unwrap();
-    shift.move_all(&mut tokens.as_mut_slice()[start..]);
+    shift.shift_all(&mut tokens.as_mut_slice()[start..]);
 }
 
 /// Adds moved tokens, in blocks.
@@ -506,7 +506,7 @@ impl<'a> JoinedParts<'a> {
         if !shift.fits_ignore_list(parts.ignore_list.as_deref()) {
             return None;
         }
-        let passed = shift.passed_over(self.last_token(), tokens);
+        let passed = shift.skip_len(self.last_token(), tokens);
         let kept = tokens.len() - passed;
         if kept > MAX_COUNT - self.tokens.len() {
             return None;

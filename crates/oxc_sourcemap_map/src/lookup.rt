@@ -18,7 +18,7 @@ use std::alloc::Global;
 
 impl<'a> SourceMap<'a> {
     /// A token, if there is one, as a view of this map.
-    pub(crate) fn seen(&self, token: Option<Token>) -> Option<SourceViewToken<'_, 'a>>
+    pub(crate) fn view_token(&self, token: Option<Token>) -> Option<SourceViewToken<'_, 'a>>
         ensures { option_map view_of result ≡ option_map (seen_in self.now) token }
     {
         Some(SourceViewToken::new(token?, self))
@@ -80,7 +80,7 @@ impl<'a> SourceMap<'a> {
         ensures own_table { IfOwnTable self.now.tokens (lent_items lookup_table.now) (option_map view_of result ≡ option_map (seen_in self.now) (token_for self.now.tokens line col)) }
         ensures traced { IfOwnTable self.now.tokens (lent_items lookup_table.now) (option_map view_original (option_map view_of result) ≡ trace (decoded_map_of self.now) line col) }
     {
-        self.seen(self.lookup_token(lookup_table, line, col))
+        self.view_token(self.lookup_token(lookup_table, line, col))
     }
 
     /// As `lookup_token`, but a position before the first token of its line gives that token (the *clamped* lookup, by
@@ -116,6 +116,6 @@ impl<'a> SourceMap<'a> {
         ensures traced { IfOwnTable self.now.tokens (lent_items lookup_table.now) (option_map view_original (option_map view_of result) ≡ clamped_trace (decoded_map_of self.now) line col) }
         ensures clamped { IsNone result → slice_of (lent_items lookup_table.now) line ≡ [] }
     {
-        self.seen(self.lookup_token_approx(lookup_table, line, col))
+        self.view_token(self.lookup_token_approx(lookup_table, line, col))
     }
 }

@@ -317,7 +317,7 @@ impl<'a> SourceMap<'a> {
     pub fn get_source_view_token(&self, index: u32) -> Option<SourceViewToken<'_, 'a>>
         ensures { option_map view_of result ≡ option_map (seen_in self.now) (slice_get self.now.tokens index) }
     {
-        self.seen(self.get_token(index))
+        self.view_token(self.get_token(index))
     }
 
     /// The tokens, in order.

@@ -91,7 +91,7 @@ fn is_too_far(exponent: u32, digit: u8) -> bool
 }
 
 /// A raw number with one more digit, at this exponent of 32.
-fn raised(raw: u64, exponent: u32, digit: u8) -> u64
+fn with_digit(raw: u64, exponent: u32, digit: u8) -> u64
     requires exponent { is_over exponent digit ≡ false }
     requires raw { raw < 32 ^ exponent }
     ensures value { result ≡ raw + payload digit * 32 ^ exponent }
@@ -192,7 +192,7 @@ fn any_segment(text: &[u8]) -> Result<Fields>
         if is_too_far(exponent, digit) {
             return Err(Error::VlqOverflow);
         }
-        let sum = raised(raw, exponent, digit);
+        let sum = with_digit(raw, exponent, digit);
         if digit < 32 {
             keep(&mut values, count, signed_of(sum));
             count += 1;
@@ -254,7 +254,7 @@ fn read_segment(text: &[u8]) -> Result<Fields>
 
 /// A line or column moved by a field; an error if it leaves 0 to 4294967295.
 #[inline(always)]
-fn moved_within(sum: u32, by: i64) -> Result<u32>
+fn add_within(sum: u32, by: i64) -> Result<u32>
     requires { nat_abs by < 2 ^ 62 }
     ensures value { IfOk result (λ n. pos n ≡ pos sum +ℤ by) }
     ensures clean { IfOk result (λ n. range_fault (pos sum +ℤ by) ≡ None) }
@@ -272,7 +272,7 @@ fn moved_within(sum: u32, by: i64) -> Result<u32>
 
 /// An id moved by a field; None if it is negative, not below the count, or 4294967295.
 #[inline(always)]
-fn moved_below(id: u32, by: i64, count: usize) -> Option<u32>
+fn add_below(id: u32, by: i64, count: usize) -> Option<u32>
     requires { nat_abs by < 2 ^ 62 }
     ensures value { IfSome result (λ n. pos n ≡ pos id +ℤ by) }
     ensures below { is_some result ≡ is_id_below (pos id +ℤ by) (min count 4294967295) }
@@ -319,11 +319,11 @@ impl Sums {
         ensures fault { let here = source_moved (place_of self.old) (value fields.now) in
             IfErr result (λ e. source_fault (counts_of names sources) (place_of self.old) here ≡ Some e) }
     {
-        let Some(source_id) = moved_below(self.source_id, fields.values[1], sources) else {
+        let Some(source_id) = add_below(self.source_id, fields.values[1], sources) else {
             return Err(Error::BadSourceReference(self.source_id));
         };
-        self.src_line = moved_within(self.src_line, fields.values[2])?;
-        self.src_col = moved_within(self.src_col, fields.values[3])?;
+        self.src_line = add_within(self.src_line, fields.values[2])?;
+        self.src_col = add_within(self.src_col, fields.values[3])?;
         self.source_id = source_id;
         Ok(())
     }
@@ -343,7 +343,7 @@ impl Sums {
             let counts = counts_of names sources in
             IfErr result (λ e. place_fault counts (place_of self.old) fields.now.count here ≡ Some e) }
     {
-        self.dst_col = moved_within(self.dst_col, fields.values[0])?;
+        self.dst_col = add_within(self.dst_col, fields.values[0])?;
         match fields.count {
             1 => Ok(self.token(line, None, None)),
             4 => {
@@ -353,7 +353,7 @@ impl Sums {
             5 => {
                 self.move_source(fields, names, sources)?;
                 let by = fields.values[4];
-                let Some(name_id) = moved_below(self.name_id, by, names) else {
+                let Some(name_id) = add_below(self.name_id, by, names) else {
                     return Err(Error::BadNameReference(low_bits_of(self.name_id, by)));
                 };
                 self.name_id = name_id;

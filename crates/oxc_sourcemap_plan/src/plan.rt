@@ -77,7 +77,7 @@ fn is_within_depth(plan: &Plan<'_>, room: u32) -> bool
 }
 
 /// This map, or `Unsorted` if its tokens are not sorted.
-fn sorted(map: SourceMap<'static>) -> Result<SourceMap<'static>, PlanError>
+fn check_sorted(map: SourceMap<'static>) -> Result<SourceMap<'static>, PlanError>
     ensures map { IfOk result (λ m. (m ≡ map.entry) × (are_tokens_sorted map.entry.tokens ≡ true)) }
     ensures error { IfErr result (λ e. (e ≡ Unsorted) × (are_tokens_sorted map.entry.tokens ≡ false)) }
 {
@@ -96,7 +96,7 @@ fn read(alloc: Global, text: &str) -> Result<SourceMap<'static>, PlanError>
 {
     canonical_unique();
     dropping_harmless();
-    sorted(SourceMap::from_json_string(alloc, text)?)
+    check_sorted(SourceMap::from_json_string(alloc, text)?)
 }
 
 /// A map, written and read again.
@@ -123,7 +123,7 @@ fn join(
 {
     dropping_harmless();
     let builder = join_owned(alloc, maps)?;
-    sorted(builder.into_sourcemap()?)
+    check_sorted(builder.into_sourcemap()?)
 }
 
 /// The composition of two maps.

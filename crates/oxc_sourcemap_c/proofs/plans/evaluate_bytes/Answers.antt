@@ -6,10 +6,10 @@ use Rattle.oxc_sourcemap_c.proofs.plans.evaluate_bytes.Goals as goal
 
 pub returns-clause-map : goal.returns-clause-map
 returns-clause-map c =
-    subst (λ x. IfOk c.evaluated.result (IsPlanMap x)) (ap (λ w. plan_of w c.in_ok-texts.texts.now) c.in_ok-words.ensures.text.0 ∙ ap (plan_of c.args.words.now) c.in_ok-texts.ensures.text.0)
-    c.evaluated.ensures.map
+    subst (λ x. IfOk c.evaluate_words.result (IsPlanMap x)) (ap (λ w. plan_of w c.in_ok-texts.texts.now) c.in_ok-words.ensures.text.0 ∙ ap (plan_of c.args.words.now) c.in_ok-texts.ensures.text.0)
+    c.evaluate_words.ensures.map
 
 pub returns-clause-error : goal.returns-clause-error
 returns-clause-error c =
-    refused_of_bytes c.args.words.now c.args.texts.now c.in_ok-words.words.now c.in_ok-texts.texts.now c.evaluated.result c.in_ok-words.ensures.text.0 c.in_ok-texts.ensures.text.0
-    c.in_ok-words.ensures.text.1 c.in_ok-texts.ensures.text.1 c.evaluated.ensures.error
+    refused_of_bytes c.args.words.now c.args.texts.now c.in_ok-words.words.now c.in_ok-texts.texts.now c.evaluate_words.result c.in_ok-words.ensures.text.0 c.in_ok-texts.ensures.text.0
+    c.in_ok-words.ensures.text.1 c.in_ok-texts.ensures.text.1 c.evaluate_words.ensures.error

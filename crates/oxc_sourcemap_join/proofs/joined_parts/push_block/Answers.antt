@@ -5,8 +5,8 @@ use Rattle.oxc_sourcemap_join.specs.Joining.{all_shifted}
 use Rattle.oxc_sourcemap_join.proofs.Adding.{all-after-some}
 use Rattle.oxc_sourcemap_join.proofs.joined_parts.push_block.Goals as goal
 
-pub move_all-requires : goal.move_all-requires
-move_all-requires c =
+pub shift_all-requires : goal.shift_all-requires
+shift_all-requires c =
     let old = c.args.tokens.now.items in
     let all = c.as_mut_slice.result.now in
     let start = c.len-start.result in

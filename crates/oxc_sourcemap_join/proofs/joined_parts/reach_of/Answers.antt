@@ -3,7 +3,7 @@ use Rattle.std.specs.List.{All}
 use Rattle.std.proofs.lemmas.List.{take_all}
 use Rattle.std.proofs.lemmas.List.Elements.{All-more}
 use Rattle.oxc_sourcemap_tokens.specs.Token.{IsInBounds}
-use Rattle.oxc_sourcemap_join.specs.Joining.{above}
+use Rattle.oxc_sourcemap_join.specs.Joining.{id_limit}
 use Rattle.oxc_sourcemap_join.proofs.Reach.{greatest-next}
 use Rattle.oxc_sourcemap_join.proofs.joined_parts.reach_of.Goals as goal
 
@@ -14,10 +14,10 @@ loop-token-preserved c =
     let t = c.token-item.result in
     record {
       line = greatest-next (λ u. u.dst_line) l.line c.max-line.result ts l.token-index t c.loop-token-test.true c.token-item.is (c.max-line.ensures ∙ ap (max l.line) c.get_dst_line.ensures.value) ∙ l.invariant.line;
-      source = greatest-next (λ u. above u.source_id) l.source c.max-source.result ts l.token-index t c.loop-token-test.true c.token-item.is
-          (c.max-source.ensures ∙ ap (max l.source) (c.above.ensures ∙ ap above c.get_source_id.ensures.value)) ∙ l.invariant.source;
-      name = greatest-next (λ u. above u.name_id) l.name c.max-name.result ts l.token-index t c.loop-token-test.true c.token-item.is
-          (c.max-name.ensures ∙ ap (max l.name) (c.above-in-loop-token.ensures ∙ ap above c.get_name_id.ensures.value)) ∙ l.invariant.name;
+      source = greatest-next (λ u. id_limit u.source_id) l.source c.max-source.result ts l.token-index t c.loop-token-test.true c.token-item.is
+          (c.max-source.ensures ∙ ap (max l.source) (c.id_limit.ensures ∙ ap id_limit c.get_source_id.ensures.value)) ∙ l.invariant.source;
+      name = greatest-next (λ u. id_limit u.name_id) l.name c.max-name.result ts l.token-index t c.loop-token-test.true c.token-item.is
+          (c.max-name.ensures ∙ ap (max l.name) (c.id_limit-in-loop-token.ensures ∙ ap id_limit c.get_name_id.ensures.value)) ∙ l.invariant.name;
       in_bounds = All-more IsInBounds ts l.token-index _ c.loop-token-test.true l.invariant.in_bounds (subst IsInBounds c.token-item.is c.get_dst_line.ensures.in_bounds);
     }
 

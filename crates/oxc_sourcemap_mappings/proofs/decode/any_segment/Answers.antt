@@ -25,7 +25,7 @@ loop-digit-preserved c =
       | then-digit-lt32 w ↦ (
           let y = signed (c.loop-digit.raw + (d % 32) * 32 ^ exponent) in
           let h = drop-is_cons all c.loop-digit.count (pos 0) y _ (sym inv.numbers ∙ ap (numbers_from c.loop-digit.raw exponent) next ∙ numbers-end c.loop-digit.raw exponent d more w.if-digit-lt32.true) in
-          let z : w.signed_of.result ≡ y = w.signed_of.ensures.value ∙ ap signed c.raised-sum.ensures.value in
+          let z : w.signed_of.result ≡ y = w.signed_of.ensures.value ∙ ap signed c.with_digit-sum.ensures.value in
           let v : c.if-digit-lt32.values ≡ set c.loop-digit.values c.loop-digit.count w.signed_of.result = w.values-is ∙ w.keep.ensures ∙ ap (set c.loop-digit.values c.loop-digit.count) (to_z-of_z w64 w.signed_of.result (search rules)) in
           record {
             faults = rw w.exponent-is (sym (ap (faults_from exponent) next ∙ faults-end exponent d more free w.if-digit-lt32.true) ∙ inv.faults);
@@ -43,7 +43,7 @@ loop-digit-preserved c =
           })
       | else-digit-lt32 w ↦ record {
         faults = rw w.exponent-is (sym (ap (faults_from exponent) next ∙ faults-on exponent d more free w.if-digit-lt32.false) ∙ inv.faults);
-        numbers = rw (w.raw-is, w.exponent-is, w.count-is, c.raised-sum.ensures.value) (sym (ap (numbers_from c.loop-digit.raw exponent) next ∙ numbers-on c.loop-digit.raw exponent d more w.if-digit-lt32.false) ∙ inv.numbers);
+        numbers = rw (w.raw-is, w.exponent-is, w.count-is, c.with_digit-sum.ensures.value) (sym (ap (numbers_from c.loop-digit.raw exponent) next ∙ numbers-on c.loop-digit.raw exponent d more w.if-digit-lt32.false) ∙ inv.numbers);
         len = omega (arith, ap length next);
         within = omega (arith, c.in-Some.ensures.within);
         count = omega arith;
@@ -53,7 +53,7 @@ loop-digit-preserved c =
         small = rw w.values-is inv.small;
         five = rw w.values-is inv.five;
         exponent = omega (arith, (not-over exponent d free).0);
-        raw = rw (w.raw-is, w.exponent-is) c.raised-sum.ensures.below;
+        raw = rw (w.raw-is, w.exponent-is) c.with_digit-sum.ensures.below;
       }
     ]
 

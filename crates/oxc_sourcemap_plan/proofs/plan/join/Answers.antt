@@ -22,13 +22,13 @@ returns-clause-map c =
     let laws = join_laws law.tests_agree law.joins_up_to_repeats law.decoded_map_of_join law.in_range law.stands_for law.names law.tokens in
     let is : c.in_ok-into_sourcemap.field-0 ≡ joined c.args.maps.items = c.in_ok-into_sourcemap.ensures.map ∙ c.in_ok-builder.ensures.joined in
     let within = subst IsWithinLimits c.in_ok-builder.ensures.joined c.in_ok-builder.ensures.limits in
-    IfOk-weaker c.sorted.result _ _ (λ m h os k. subst (λ x. Realizes x (join_outcome os)) (sym (h.0 ∙ is))
-    (join_gives laws c.args.maps.items os k within (ap (λ (r : MapRecord). are_tokens_sorted r.tokens) (sym is) ∙ h.1))) c.sorted.ensures.map
+    IfOk-weaker c.check_sorted.result _ _ (λ m h os k. subst (λ x. Realizes x (join_outcome os)) (sym (h.0 ∙ is))
+    (join_gives laws c.args.maps.items os k within (ap (λ (r : MapRecord). are_tokens_sorted r.tokens) (sym is) ∙ h.1))) c.check_sorted.ensures.map
 
 pub returns-clause-error : goal.returns-clause-error
 returns-clause-error c =
     let law = c.dropping_harmless.ensures in
     let laws = join_laws law.tests_agree law.joins_up_to_repeats law.decoded_map_of_join law.in_range law.stands_for law.names law.tokens in
     let is : c.in_ok-into_sourcemap.field-0 ≡ joined c.args.maps.items = c.in_ok-into_sourcemap.ensures.map ∙ c.in_ok-builder.ensures.joined in
-    IfErr-weaker c.sorted.result _ _ (λ e h os k. subst (λ x. FailsAs x (join_outcome os)) (sym h.0)
-    (join_unsorted laws c.args.maps.items os k (ap (λ (r : MapRecord). are_tokens_sorted r.tokens) (sym is) ∙ h.1))) c.sorted.ensures.error
+    IfErr-weaker c.check_sorted.result _ _ (λ e h os k. subst (λ x. FailsAs x (join_outcome os)) (sym h.0)
+    (join_unsorted laws c.args.maps.items os k (ap (λ (r : MapRecord). are_tokens_sorted r.tokens) (sym is) ∙ h.1))) c.check_sorted.ensures.error

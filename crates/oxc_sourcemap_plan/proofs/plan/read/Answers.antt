@@ -22,8 +22,8 @@ returns-clause-map c =
     let law = c.dropping_harmless.ensures in
     let laws = join_laws law.tests_agree law.joins_up_to_repeats law.decoded_map_of_join law.in_range law.stands_for law.names law.tokens in
     let r = c.in_ok-from_json_string.field-0 in
-    IfOk-weaker c.sorted.result _ _ (λ m h. subst (λ x. Realizes x (read_outcome (said_in text))) (sym h.0)
-    (read_gives laws text r call.map (c.canonical_unique.ensures.read_is_in_bounds text r call.map) (call.sound.1 h.1) h.1)) c.sorted.ensures.map
+    IfOk-weaker c.check_sorted.result _ _ (λ m h. subst (λ x. Realizes x (read_outcome (said_in text))) (sym h.0)
+    (read_gives laws text r call.map (c.canonical_unique.ensures.read_is_in_bounds text r call.map) (call.sound.1 h.1) h.1)) c.check_sorted.ensures.map
 
 pub returns-clause-error : goal.returns-clause-error
 returns-clause-error c =
@@ -31,5 +31,5 @@ returns-clause-error c =
     let law = c.dropping_harmless.ensures in
     let laws = join_laws law.tests_agree law.joins_up_to_repeats law.decoded_map_of_join law.in_range law.stands_for law.names law.tokens in
     let r = c.in_ok-from_json_string.field-0 in
-    IfErr-weaker c.sorted.result _ _ (λ e h. subst (λ x. FailsAs x (read_outcome (said_in text))) (sym h.0)
-    (read_unsorted laws text r c.in_ok-from_json_string.ensures.map h.1)) c.sorted.ensures.error
+    IfErr-weaker c.check_sorted.result _ _ (λ e h. subst (λ x. FailsAs x (read_outcome (said_in text))) (sym h.0)
+    (read_unsorted laws text r c.in_ok-from_json_string.ensures.map h.1)) c.check_sorted.ensures.error

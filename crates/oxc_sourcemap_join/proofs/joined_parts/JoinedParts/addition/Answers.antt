@@ -72,13 +72,13 @@ returns-clause-fits c =
     let names : c.len.result ≡ length r.names = omega (arith, ap (λ x. length x.names) c.self.view_is, length-mapped cow_str_bytes c.self.inside.names.items, c.len.ensures) in
     let sources : c.len-2.result ≡ length r.sources = omega (arith, ap (λ x. length x.sources) c.self.view_is, length-mapped cow_str_bytes c.self.inside.sources.items, c.len-2.ensures) in
     let shift : Shift = record { names = c.len.result; sources = c.len-2.result; position = c.args.position } in
-    let kept : all_shifted shift (drop c.passed_over-passed.result m.tokens) ≡ without_repeat is_same_token (last r.tokens) (all_shifted shift m.tokens) =
-    ap (λ ts. all_shifted shift (drop c.passed_over-passed.result ts)) (sym tokens) ∙ c.passed_over-passed.ensures.kept
+    let kept : all_shifted shift (drop c.skip_len-passed.result m.tokens) ≡ without_repeat is_same_token (last r.tokens) (all_shifted shift m.tokens) =
+    ap (λ ts. all_shifted shift (drop c.skip_len-passed.result ts)) (sym tokens) ∙ c.skip_len-passed.ensures.kept
     ∙ ap (λ o. without_repeat is_same_token o (all_shifted shift c.as_slice-tokens.result.now)) c.last_token.ensures
     ∙ ap (λ ts. without_repeat is_same_token (last r.tokens) (all_shifted shift ts)) tokens in
-    let end : c.len-6.result + (length c.as_slice-tokens.result.now - c.passed_over-passed.result) ≡ length r.tokens + (length m.tokens - c.passed_over-passed.result) =
+    let end : c.len-6.result + (length c.as_slice-tokens.result.now - c.skip_len-passed.result) ≡ length r.tokens + (length m.tokens - c.skip_len-passed.result) =
     omega (arith, c.len-6.ensures, ap length tokens, ap length so_far, c.as_slice.ensures.len) in
-    addition-is r m c.args.position shift c.passed_over-passed.result names sources refl kept c.next_chunk-chunk.result
+    addition-is r m c.args.position shift c.skip_len-passed.result names sources refl kept c.next_chunk-chunk.result
     (subst AreInBounds (ap (λ x. x.tokens) c.self.view_is) c.self.invariant.in_bounds)
     (subst AreEntriesInBounds (ap (λ x. x.ignore_list) c.self.view_is) c.self.invariant.entries)
     (subst AreEntriesInBounds (ap (raised_ignore_list c.len-2.result) c.as_deref.ensures.value) (c.fits_ignore_list.ensures.0 c.if-not-fits_ignore_list.false))
@@ -101,6 +101,6 @@ returns-clause-fits c =
       length-mapped cow_str_bytes c.args.parts.now.sources.items,
     ))
     (subst AreInBounds (ap (all_shifted shift) tokens) (c.fits_all.ensures.0 c.if-not-fits_all.false))
-    (omega (arith, c.passed_over-passed.ensures.within, ap length tokens))
+    (omega (arith, c.skip_len-passed.ensures.within, ap length tokens))
     (omega (arith, c.if-kept-len.false, c.len-5.ensures, c.len-6.ensures, ap length tokens, ap length so_far))
-    (c.next_chunk-chunk.ensures ∙ ap (λ ts. chunk_from (state_at ts (length ts)) (length ts) (c.len-6.result + (length c.as_slice-tokens.result.now - c.passed_over-passed.result))) so_far ∙ ap (chunk_from (state_at r.tokens (length r.tokens)) (length r.tokens)) end)
+    (c.next_chunk-chunk.ensures ∙ ap (λ ts. chunk_from (state_at ts (length ts)) (length ts) (c.len-6.result + (length c.as_slice-tokens.result.now - c.skip_len-passed.result))) so_far ∙ ap (chunk_from (state_at r.tokens (length r.tokens)) (length r.tokens)) end)

@@ -5,5 +5,5 @@ use Rattle.oxc_sourcemap_map.proofs.sourcemap.SourceMap.lookup_source_view_token
 
 pub returns-clause-traced : goal.returns-clause-traced
 returns-clause-traced c = λ sorted own.
-    ap (option_map view_original) (c.seen.ensures ∙ ap (option_map (seen_in c.args.self.now)) (c.lookup_token.ensures.own_table sorted own))
+    ap (option_map view_original) (c.view_token.ensures ∙ ap (option_map (seen_in c.args.self.now)) (c.lookup_token.ensures.own_table sorted own))
     ∙ traced c.args.self.now c.args.line c.args.col

@@ -3,9 +3,9 @@ use Rattle.std.proofs.lemmas.List.{length-set}
 use Rattle.oxc_sourcemap_tokens.specs.Token.{IsInBounds}
 use Rattle.oxc_sourcemap_join.specs.Joined.{shifted}
 use Rattle.oxc_sourcemap_join.proofs.Moving.{all-mapped-at, not-yet-moved, moved-next, rest-next}
-use Rattle.oxc_sourcemap_join.proofs.joined_parts.Shift.move_all.Goals as goal
+use Rattle.oxc_sourcemap_join.proofs.joined_parts.Shift.shift_all.Goals as goal
 
-pub moved-requires : goal.moved-requires
+pub moved-requires : goal.shift-requires
 moved-requires c =
     let s = c.args.self in
     let f = shifted s.names s.sources s.position in
@@ -24,7 +24,7 @@ loop-token-preserved c =
     let t = c.token-item.result in
     let h : l.token-index < length xs = omega (arith, c.loop-token-test.true, l.invariant.len) in
     record {
-      moved = moved-next f xs l.tokens l.token-index t h l.invariant.len l.invariant.rest c.moved.result c.moved.ensures l.invariant.moved;
-      rest = rest-next f xs l.tokens l.token-index t h l.invariant.len l.invariant.rest c.moved.result;
-      len = length-set l.tokens l.token-index c.moved.result ∙ l.invariant.len;
+      moved = moved-next f xs l.tokens l.token-index t h l.invariant.len l.invariant.rest c.shift.result c.shift.ensures l.invariant.moved;
+      rest = rest-next f xs l.tokens l.token-index t h l.invariant.len l.invariant.rest c.shift.result;
+      len = length-set l.tokens l.token-index c.shift.result ∙ l.invariant.len;
     }

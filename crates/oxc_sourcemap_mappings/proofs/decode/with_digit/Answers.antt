@@ -1,7 +1,7 @@
 use Rattle.std.proofs.Common.{arith, ◌≡◌, ◌+◌, ◌*◌, ◌%◌, ◌^◌, ◌∙◌, refl, ap}
 use Rattle.oxc_sourcemap_mappings.proofs.Powers.{power_within, payload_within, shifted, next-power}
 use Rattle.oxc_sourcemap_mappings.proofs.Runs.{not-over}
-use Rattle.oxc_sourcemap_mappings.proofs.decode.raised.Goals as goal
+use Rattle.oxc_sourcemap_mappings.proofs.decode.with_digit.Goals as goal
 
 -- the shifted payload, which the raw number is raised by
 added : (c : goal.After-from) → (c.from.result * 2 ^ (5 * c.args.exponent)) % 18446744073709551616 ≡ (c.args.digit % 32) * 32 ^ c.args.exponent

@@ -1,6 +1,6 @@
 use Rattle.std.proofs.Common.{◌≡◌, ◌≤◌, length, map, take, drop}
 use Rattle.oxc_sourcemap_join.specs.Joining.{all_shifted}
-use Rattle.oxc_sourcemap_join.proofs.joined_parts.Shift.move_all.Given as goal
+use Rattle.oxc_sourcemap_join.proofs.joined_parts.Shift.shift_all.Given as goal
 
 abbrev pub invariant-loop-token : goal.invariant-loop-token
 invariant-loop-token l = record {

@@ -6,7 +6,7 @@ use Rattle.oxc_sourcemap_plan.specs.PlanArguments.{parsed_plan}
 use Rattle.oxc_sourcemap_tokens.proofs.Carried.{carried_error}
 use Rattle.oxc_sourcemap_c.specs.Plans.{plan_of, words_of}
 use Rattle.oxc_sourcemap_c.proofs.Planned.{map_of_plan, failure_of_plan, words_refused}
-use Rattle.oxc_sourcemap_c.proofs.plans.evaluated.Goals as goal
+use Rattle.oxc_sourcemap_c.proofs.plans.evaluate_words.Goals as goal
 
 pub returns-in_err-evaluate-in-Ok-clause-error : goal.returns-in_err-evaluate-in-Ok-clause-error
 returns-in_err-evaluate-in-Ok-clause-error c =

@@ -2,7 +2,11 @@
 use Rattle.std.proofs.Common.{◌≡◌, ◌≢◌, refl, sym, ap, ◌∙◌, Option, Some, None, Result, Ok, Err}
 use Rattle.std.specs.Result.{IfOk, IfErr}
 use Rattle.oxc_sourcemap.specs.Error.{Error}
-use Rattle.oxc_sourcemap.specs.Error.TheVariants.{VlqLeftover, VlqNoValues, VlqOverflow, BadJson, BadSegmentSize, BadSourceReference, BadNameReference, OutOfMemory, TooLarge, LineOrder, BadChunks, SeveralSources, SectionOrder}
+use Rattle.oxc_sourcemap.specs.Error.TheVariants.{VlqLeftover, VlqNoValues, VlqOverflow, BadJson}
+use Rattle.oxc_sourcemap.specs.Error.TheVariants.{BadSegmentSize, BadSourceReference}
+use Rattle.oxc_sourcemap.specs.Error.TheVariants.{BadNameReference, OutOfMemory, TooLarge}
+use Rattle.oxc_sourcemap.specs.Error.TheVariants.{LineOrder, BadChunks, SeveralSources}
+use Rattle.oxc_sourcemap.specs.Error.TheVariants.{SectionOrder}
 use Rattle.oxc_sourcemap.specs.Json.{JsonRecord}
 use Rattle.oxc_sourcemap.specs.Pieces.{writing_fault}
 use Rattle.oxc_sourcemap.specs.Record.{MapRecord}

@@ -1,5 +1,7 @@
 -- Three maps composed in both orders, by the laws of composition.
-use Rattle.std.proofs.Common.{◌≡◌, ◌≢◌, ℕ, ◌+◌, ◌≤◌, Bool, true, false, List, [], ◌∷◌, length, Option, Some, None, option_map, Result, Ok, Err, refl, sym, ap, ◌∙◌, subst, arith, ◌⊎◌, inl, inr}
+use Rattle.std.proofs.Common.{◌≡◌, ◌≢◌, ℕ, ◌+◌, ◌≤◌, Bool, true, false, List, [], ◌∷◌, length}
+use Rattle.std.proofs.Common.{Option, Some, None, option_map, Result, Ok, Err, refl, sym, ap, ◌∙◌}
+use Rattle.std.proofs.Common.{subst, arith, ◌⊎◌, inl, inr}
 use Rattle.std.proofs.lemmas.Bool.Decides.{nat_tests}
 use Rattle.std.specs.Prelude.{◌&&◌, if◌then◌else◌, nat_lt}
 use Rattle.oxc_sourcemap.specs.Error.{Error}
@@ -11,8 +13,12 @@ use Rattle.oxc_sourcemap.specs.Record.{MapRecord}
 use Rattle.oxc_sourcemap.specs.Sorted.{are_tokens_sorted, may_precede, token_line, token_column}
 use Rattle.oxc_sourcemap.specs.Sound.{IsSound}
 use Rattle.oxc_sourcemap.specs.DecodedMap.{decoded_map_of}
-use Rattle.oxc_sourcemap.specs.Composed.{targets, composed, composed_names, are_ids, composition_fault, composition}
-use Rattle.oxc_sourcemap.specs.ComposeLaws.{then_with, with_then, grouped_left, grouped_right, CompositionStandsFor, IsSeveralSources, IsAnswered, GroupingsTell, GroupingsAnswered, CompositionNames, CompositionTooLarge}
+use Rattle.oxc_sourcemap.specs.Composed.{targets, composed, composed_names, are_ids}
+use Rattle.oxc_sourcemap.specs.Composed.{composition_fault, composition}
+use Rattle.oxc_sourcemap.specs.ComposeLaws.{then_with, with_then, grouped_left, grouped_right}
+use Rattle.oxc_sourcemap.specs.ComposeLaws.{CompositionStandsFor, IsSeveralSources, IsAnswered}
+use Rattle.oxc_sourcemap.specs.ComposeLaws.{GroupingsTell, GroupingsAnswered, CompositionNames}
+use Rattle.oxc_sourcemap.specs.ComposeLaws.{CompositionTooLarge}
 
 -- ---- one composition
 -- a composition that gives a map gives the composed map

@@ -1,13 +1,16 @@
 -- Joins in a loop and in groups, by the laws of joins.
-use Rattle.std.proofs.Common.{◌≡◌, ◌≢◌, ◌⊎◌, inl, inr, ℕ, ◌+◌, ◌<◌, List, [], ◌∷◌, ◌++◌, length, map, take, get_or, refl, sym, ap, ◌∙◌, subst}
+use Rattle.std.proofs.Common.{◌≡◌, ◌≢◌, ◌⊎◌, inl, inr, ℕ, ◌+◌, ◌<◌, List, [], ◌∷◌, ◌++◌, length}
+use Rattle.std.proofs.Common.{map, take, get_or, refl, sym, ap, ◌∙◌, subst}
 use Rattle.std.specs.Borrow.{Bor}
 use Rattle.std.proofs.Math.Nat.{add-zero}
 use Rattle.std.proofs.lemmas.List.{take_more, map-append, append-nil}
 use Rattle.oxc_sourcemap.specs.Record.{MapRecord}
-use Rattle.oxc_sourcemap.specs.Joined.{Position, at_line, at_lines, added, nothing_joined, joined, lent_maps, IsWithinLimits}
+use Rattle.oxc_sourcemap.specs.Joined.{Position, at_line, at_lines, added, nothing_joined, joined}
+use Rattle.oxc_sourcemap.specs.Joined.{lent_maps, IsWithinLimits}
 use Rattle.oxc_sourcemap.specs.Error.{Error}
 use Rattle.oxc_sourcemap.specs.Error.TheVariants.{OutOfMemory, TooLarge}
-use Rattle.oxc_sourcemap.specs.JoinLaws.{JoinOneMore, JoinsAssociative, Group, groups_joined, maps_of, without_chunks}
+use Rattle.oxc_sourcemap.specs.JoinLaws.{JoinOneMore, JoinsAssociative, Group, groups_joined}
+use Rattle.oxc_sourcemap.specs.JoinLaws.{maps_of, without_chunks}
 
 -- the join of the maps up to one more of them
 pub one-map-more : JoinOneMore → (ms : List (Bor MapRecord × ℕ)) (i : ℕ) (m : Bor MapRecord × ℕ) → i < length ms → m ≡ get_or ms i m

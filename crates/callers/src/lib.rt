@@ -2,25 +2,16 @@
 //! docs/CALLING.md shows them.
 #![tactic(auto)]
 
-ghost use Rattle.std.specs.Prelude.{◌≡◌, ◌≢◌, ◌≤◌, ◌+◌, ◌⊎◌, ◌↔◌, ◌∷◌, [], ℕ, length, take, option_map, string_bytes, false, IfOk, IfErr, OnOk, OnErr, Ok, Err, Some, None};
-ghost use Rattle.oxc_sourcemap.specs.Error.TheVariants.{OutOfMemory, TooLarge};
-ghost use Rattle.oxc_sourcemap.specs.PlanError.TheVariants.{Map, Unsorted};
-ghost use Rattle.oxc_sourcemap.specs.Canonical.{as_written};
-ghost use Rattle.oxc_sourcemap.specs.Sorted.{are_tokens_sorted};
-ghost use Rattle.oxc_sourcemap.specs.Sound.{IsSound};
-ghost use Rattle.oxc_sourcemap.specs.DecodedMap.{decoded_map_of};
-ghost use Rattle.oxc_sourcemap.specs.Record.{MapRecord};
-ghost use Rattle.oxc_sourcemap.specs.ReadMap.{read_map, said_in};
-ghost use Rattle.oxc_sourcemap.specs.JsonText.{map_text};
-ghost use Rattle.oxc_sourcemap.specs.Trace.{trace};
-ghost use Rattle.oxc_sourcemap.specs.View.{view_of, view_original};
-ghost use Rattle.oxc_sourcemap.specs.Joined.{joined, lent_maps, IsWithinLimits};
-ghost use Rattle.oxc_sourcemap.specs.JoinLaws.{without_chunks};
-ghost use Rattle.oxc_sourcemap.specs.ComposeLaws.{grouped_left, grouped_right, IsSeveralSources};
-ghost use Rattle.oxc_sourcemap.specs.Meaning.{read_meaning};
-ghost use Rattle.oxc_sourcemap.specs.Outcome.{outcome, read_outcome, composition_outcome};
-ghost use Rattle.oxc_sourcemap.specs.Evaluated.{IsEvaluated};
-ghost use Rattle.oxc_sourcemap.specs.Results.{OnlyMemory};
+ghost use Rattle.std.specs.Prelude.{◌≡◌, ◌≢◌, ◌≤◌, ◌+◌, ◌⊎◌, ◌↔◌, ◌∷◌, [], ℕ, length, take};
+ghost use Rattle.std.specs.Prelude.{option_map, string_bytes, false, IfOk, IfErr, OnOk, OnErr, Ok};
+ghost use Rattle.std.specs.Prelude.{Err, Some, None};
+ghost use Rattle.callers.specs.Words.{OutOfMemory, TooLarge, Map, Unsorted, as_written};
+ghost use Rattle.callers.specs.Words.{are_tokens_sorted, IsSound, decoded_map_of, MapRecord};
+ghost use Rattle.callers.specs.Words.{read_map, said_in, map_text, trace, view_of, view_original};
+ghost use Rattle.callers.specs.Words.{joined, lent_maps, IsWithinLimits, without_chunks};
+ghost use Rattle.callers.specs.Words.{grouped_left, grouped_right, IsSeveralSources, read_meaning};
+ghost use Rattle.callers.specs.Words.{outcome, read_outcome, composition_outcome, IsEvaluated};
+ghost use Rattle.callers.specs.Words.{OnlyMemory};
 
 use oxc_sourcemap::laws::{
     canonical_unique, composition_associative, joins_associative, name_ids_unique,
@@ -36,9 +27,11 @@ use std::alloc::Global;
 /// Fails with `Map(e)` if the text cannot be read as a map, then with `Unsorted` if the map is not sorted, and with
 /// `Map(OutOfMemory)` for want of memory.
 pub fn read_sorted(alloc: Global, text: &str) -> std::result::Result<SourceMap<'static>, PlanError>
-    ensures meaning { IfOk result (λ map. read_meaning (read_map text.now) ≡ Ok (decoded_map_of map)) }
+    ensures meaning { IfOk result (λ map. read_meaning (read_map text.now)
+        ≡ Ok (decoded_map_of map)) }
     ensures sound { IfOk result IsSound }
-    ensures error { IfErr result (λ e. (e ≢ Map OutOfMemory) → read_meaning (read_map text.now) ≡ Err e) }
+    ensures error { IfErr result (λ e. (e ≢ Map OutOfMemory)
+        → read_meaning (read_map text.now) ≡ Err e) }
 {
     let map = SourceMap::from_json_string(alloc, text)?;
     if !map.is_sorted() {
@@ -50,10 +43,13 @@ pub fn read_sorted(alloc: Global, text: &str) -> std::result::Result<SourceMap<'
 /// Writes a map as a JSON source map, and reads it again. A sound map keeps its decoded map, its names, and its tokens as
 /// written; if it has at most 4294967295 tokens, this fails only with `OutOfMemory`.
 pub fn rewrite(alloc: Global, map: &SourceMap<'_>) -> Result<SourceMap<'static>>
-    ensures decoded_map { IfOk result (λ back. IsSound map.now → decoded_map_of back ≡ decoded_map_of map.now) }
+    ensures decoded_map { IfOk result (λ back. IsSound map.now
+        → decoded_map_of back ≡ decoded_map_of map.now) }
     ensures names { IfOk result (λ back. IsSound map.now → back.names ≡ map.now.names) }
-    ensures tokens { IfOk result (λ back. IsSound map.now → as_written back.tokens ≡ as_written map.now.tokens) }
-    ensures only_memory { IfErr result (λ e. IsSound map.now → length map.now.tokens ≤ 4294967295 → e ≡ OutOfMemory) }
+    ensures tokens { IfOk result (λ back. IsSound map.now
+        → as_written back.tokens ≡ as_written map.now.tokens) }
+    ensures only_memory { IfErr result (λ e. IsSound map.now → length map.now.tokens ≤ 4294967295
+        → e ≡ OutOfMemory) }
 {
     canonical_unique();
     let json = map.to_json(alloc)?;
@@ -69,8 +65,10 @@ pub fn look_up<'m, 'data>(
     line: u32,
     col: u32,
 ) -> std::result::Result<Option<SourceViewToken<'m, 'data>>, PlanError>
-    ensures traced { IfOk result (λ view. option_map view_original (option_map view_of view) ≡ trace (decoded_map_of map.now) line col) }
-    ensures error { IfErr result (λ e. (e ≢ Map OutOfMemory) → (e ≡ Unsorted) × (are_tokens_sorted map.now.tokens ≡ false)) }
+    ensures traced { IfOk result (λ view. option_map view_original (option_map view_of view)
+        ≡ trace (decoded_map_of map.now) line col) }
+    ensures error { IfErr result (λ e. (e ≢ Map OutOfMemory)
+        → (e ≡ Unsorted) × (are_tokens_sorted map.now.tokens ≡ false)) }
 {
     if !map.is_sorted() {
         return Err(PlanError::Unsorted);
@@ -131,7 +129,8 @@ pub fn join_one_by_one<'a>(
     maps: &[(&'a SourceMap<'_>, u32)],
 ) -> Result<SourceMap<'a>>
     ensures map { IfOk result (λ map. map ≡ joined (lent_maps maps.now)) }
-    ensures error { IfErr result (λ e. (e ≢ OutOfMemory) → (e ≡ TooLarge) × ((n : ℕ) × ¬ (IsWithinLimits (joined (lent_maps (take n maps.now)))))) }
+    ensures error { IfErr result (λ e. (e ≢ OutOfMemory)
+        → (e ≡ TooLarge) × ((n : ℕ) × ¬ (IsWithinLimits (joined (lent_maps (take n maps.now)))))) }
 {
     joins_associative();
     let mut builder = ConcatSourceMapBuilder::empty(alloc);
@@ -144,8 +143,10 @@ pub fn join_one_by_one<'a>(
 /// Joins maps in two groups: the first half, the second half, and then these two. But for its chunks the map is the join of
 /// them all, so it means the same. Fails only with `TooLarge` and `OutOfMemory`.
 pub fn join_halves<'a>(alloc: Global, maps: &[(&'a SourceMap<'_>, u32)]) -> Result<SourceMap<'a>>
-    ensures map { IfOk result (λ map. without_chunks map ≡ without_chunks (joined (lent_maps maps.now))) }
-    ensures decoded_map { IfOk result (λ map. decoded_map_of map ≡ decoded_map_of (joined (lent_maps maps.now))) }
+    ensures map { IfOk result (λ map. without_chunks map
+        ≡ without_chunks (joined (lent_maps maps.now))) }
+    ensures decoded_map { IfOk result (λ map. decoded_map_of map
+        ≡ decoded_map_of (joined (lent_maps maps.now))) }
     ensures error { IfErr result (λ e. (e ≡ OutOfMemory) ⊎ (e ≡ TooLarge)) }
 {
     joins_associative();
@@ -165,8 +166,10 @@ pub fn compose_left<'c>(
     second: &SourceMap<'_>,
     third: &SourceMap<'c>,
 ) -> Result<SourceMap<'c>>
-    ensures map { IfOk result (λ map. IsSound second.now → IsSound third.now → grouped_left first.now second.now third.now ≡ Ok map) }
-    ensures error { IfErr result (λ e. IsSound second.now → IsSound third.now → (e ≢ OutOfMemory) → grouped_left first.now second.now third.now ≡ Err e) }
+    ensures map { IfOk result (λ map. IsSound second.now → IsSound third.now
+        → grouped_left first.now second.now third.now ≡ Ok map) }
+    ensures error { IfErr result (λ e. IsSound second.now → IsSound third.now → (e ≢ OutOfMemory)
+        → grouped_left first.now second.now third.now ≡ Err e) }
 {
     let earlier = first.clone(alloc)?.compose(alloc, second.clone(alloc)?)?;
     let composed = earlier.compose(alloc, third.clone(alloc)?)?;
@@ -180,8 +183,10 @@ pub fn compose_right<'c>(
     second: &SourceMap<'_>,
     third: &SourceMap<'c>,
 ) -> Result<SourceMap<'c>>
-    ensures map { IfOk result (λ map. IsSound second.now → IsSound third.now → grouped_right first.now second.now third.now ≡ Ok map) }
-    ensures error { IfErr result (λ e. IsSound second.now → IsSound third.now → (e ≢ OutOfMemory) → grouped_right first.now second.now third.now ≡ Err e) }
+    ensures map { IfOk result (λ map. IsSound second.now → IsSound third.now
+        → grouped_right first.now second.now third.now ≡ Ok map) }
+    ensures error { IfErr result (λ e. IsSound second.now → IsSound third.now → (e ≢ OutOfMemory)
+        → grouped_right first.now second.now third.now ≡ Err e) }
 {
     composition_associative();
     let later = second.clone(alloc)?.compose(alloc, third.clone(alloc)?)?;
@@ -200,14 +205,19 @@ pub fn compose_both_ways<'c>(
     second: &SourceMap<'_>,
     third: &SourceMap<'c>,
 ) -> Result<(SourceMap<'c>, SourceMap<'c>)>
-    ensures same_meaning { IfOk result (λ maps. IsSound first.now → IsSound second.now → IsSound third.now
+    ensures same_meaning { IfOk result (λ maps. IsSound first.now → IsSound second.now
+        → IsSound third.now
         → decoded_map_of maps.0 ≡ decoded_map_of maps.1) }
-    ensures error { IfErr result (λ e. IsSound first.now → IsSound second.now → IsSound third.now → (e ≢ OutOfMemory) → (e ≢ TooLarge)
+    ensures error { IfErr result (λ e. IsSound first.now → IsSound second.now → IsSound third.now
+        → (e ≢ OutOfMemory) → (e ≢ TooLarge)
         → IsSeveralSources (grouped_left first.now second.now third.now)
-        × (IsSeveralSources (grouped_right first.now second.now third.now) ⊎ (grouped_right first.now second.now third.now ≡ Err TooLarge))) }
-    ensures only_memory { IfErr result (λ e. IsSound first.now → IsSound second.now → IsSound third.now
+        × (IsSeveralSources (grouped_right first.now second.now third.now)
+        ⊎ (grouped_right first.now second.now third.now ≡ Err TooLarge))) }
+    ensures only_memory { IfErr result (λ e. IsSound first.now → IsSound second.now
+        → IsSound third.now
         → length first.now.sources ≤ 1 → length second.now.sources ≤ 1
-        → length first.now.names + length second.now.names + length third.now.names ≤ 4294967295 → e ≡ OutOfMemory) }
+        → length first.now.names + length second.now.names + length third.now.names ≤ 4294967295
+        → e ≡ OutOfMemory) }
 {
     composition_associative();
     let left = compose_left(alloc, first, second, third)?;
@@ -222,7 +232,9 @@ pub fn minified_map(
     minified: &str,
     compiled: &str,
 ) -> std::result::Result<OwnedSourceMap, PlanError>
-    ensures map { IfOk result (λ map. IsEvaluated map (composition_outcome (read_outcome (said_in minified.now)) (read_outcome (said_in compiled.now)))) }
+    ensures map { IfOk result (λ map. IsEvaluated map
+        (composition_outcome (read_outcome (said_in minified.now))
+        (read_outcome (said_in compiled.now)))) }
 {
     let first = Box::new(alloc, Plan::Read(minified))?;
     let second = Box::new(alloc, Plan::Read(compiled))?;
@@ -231,7 +243,8 @@ pub fn minified_map(
 
 /// Evaluates a plan, and writes the JSON text of its map, which has all that `evaluate` promises.
 pub fn evaluated_text(alloc: Global, plan: &Plan<'_>) -> std::result::Result<String, PlanError>
-    ensures { IfOk result (λ text. (map : MapRecord) × IsEvaluated map (outcome plan.now) × (map_text map ≡ Ok (string_bytes text))) }
+    ensures { IfOk result (λ text. (map : MapRecord) × IsEvaluated map (outcome plan.now)
+        × (map_text map ≡ Ok (string_bytes text))) }
 {
     let map = evaluate(alloc, plan)?;
     Ok(map.to_json_string(alloc)?)

@@ -62,3 +62,4 @@ pub use Rattle.oxc_sourcemap_plan.specs.Meaning
 pub use Rattle.oxc_sourcemap_plan.specs.Limits
 pub use Rattle.oxc_sourcemap_plan.specs.Outcome
 pub use Rattle.oxc_sourcemap_plan.specs.Evaluated
+pub mod Words

@@ -1,14 +1,8 @@
 //! Reading a map from a JSON source map, from a JSON value and from a JSON text.
 ghost use Rattle.std.specs.Prelude.{◌≡◌, ◌≢◌, ◌↔◌, true, IfOk, IfErr, Ok, Err};
-ghost use Rattle.serde_json.specs.View.{view};
-ghost use Rattle.oxc_sourcemap_tokens.specs.declared.error.Error.TheVariants.{OutOfMemory};
-ghost use Rattle.oxc_sourcemap_tokens.specs.LineOrder.{IsInLineOrder};
-ghost use Rattle.oxc_sourcemap_parts.specs.Sorted.{are_tokens_sorted};
-ghost use Rattle.oxc_sourcemap_parts.specs.Sound.{IsSound};
-ghost use Rattle.oxc_sourcemap_json.specs.Json.{json_record};
-ghost use Rattle.oxc_sourcemap_decode.specs.Decoded.{decoded, json_fault};
-ghost use Rattle.oxc_sourcemap_decode.specs.ReadMap.{read_value, read_map};
-ghost use Rattle.oxc_sourcemap_tokens.specs.Results.{Answers, Reports};
+ghost use Rattle.oxc_sourcemap.specs.Words.{view, OutOfMemory, IsInLineOrder, are_tokens_sorted};
+ghost use Rattle.oxc_sourcemap.specs.Words.{IsSound, json_record, decoded, json_fault, read_value};
+ghost use Rattle.oxc_sourcemap.specs.Words.{read_map, Answers, Reports};
 
 use oxc_sourcemap_decode::decode_parts_from_value;
 use oxc_sourcemap_json::JSONSourceMap;

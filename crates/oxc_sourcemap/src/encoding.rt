@@ -1,10 +1,6 @@
 //! Writing a map as a JSON source map and as a JSON text.
 ghost use Rattle.std.specs.Prelude.{string_bytes, OnOk};
-ghost use Rattle.oxc_sourcemap_tokens.specs.Token.{AreInBounds};
-ghost use Rattle.oxc_sourcemap_json.specs.Json.{json_record};
-ghost use Rattle.oxc_sourcemap_encode.specs.Encoded.{encoded};
-ghost use Rattle.oxc_sourcemap_encode.specs.JsonText.{map_text};
-ghost use Rattle.oxc_sourcemap_tokens.specs.Results.{Answers};
+ghost use Rattle.oxc_sourcemap.specs.Words.{AreInBounds, json_record, encoded, map_text, Answers};
 
 use oxc_sourcemap_json::JSONSourceMap;
 use oxc_sourcemap_map::SourceMap;

@@ -1,5 +1,6 @@
 -- The ids given to paths, and those of names, as hash maps have them.
-use Rattle.std.proofs.Common.{◌≡◌, ◌∙◌, ap, sym, ℕ, cond, List, [], ◌∷◌, ◌++◌, map, length, Some, None, refl, arith}
+use Rattle.std.proofs.Common.{◌≡◌, ◌∙◌, ap, sym, ℕ, cond, List, [], ◌∷◌, ◌++◌, map, length, Some}
+use Rattle.std.proofs.Common.{None, refl, arith}
 use Rattle.std.proofs.lemmas.List.{map-append, length-map}
 use Rattle.std.specs.Option.{option_or}
 use Rattle.std.specs.Cow.{cow_str_bytes}

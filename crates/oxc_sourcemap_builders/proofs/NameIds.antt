@@ -6,7 +6,9 @@ use Rattle.oxc_sourcemap_parts.specs.Texts.{index_of}
 use Rattle.oxc_sourcemap_parts.proofs.Places.{index-last, index-front, same_place}
 use Rattle.oxc_sourcemap_builders.specs.Built.{Built}
 use Rattle.oxc_sourcemap_builders.specs.Building.{with_name, with_name_at, with_path_at}
-use Rattle.oxc_sourcemap_builders.specs.NameLaws.{Call, AddName, AddSource, SetSource, AddToken, SetFile, SetChunks, after_call, after_calls, EqualIdsForEqualNames}
+use Rattle.oxc_sourcemap_builders.specs.NameLaws.{Call, AddName, AddSource, SetSource, AddToken}
+use Rattle.oxc_sourcemap_builders.specs.NameLaws.{SetFile, SetChunks, after_call, after_calls}
+use Rattle.oxc_sourcemap_builders.specs.NameLaws.{EqualIdsForEqualNames}
 
 -- the id of a name that was added is its index
 placed-at : (o : Option ℕ) (b : Built) (name : Text) → index_of name b.map.names ≡ o → index_of name (with_name_at b name o).0.map.names ≡ Some (with_name_at b name o).1

@@ -1,3 +1,4 @@
 pub mod Built
 pub mod Building
 pub mod NameLaws
+pub mod Words

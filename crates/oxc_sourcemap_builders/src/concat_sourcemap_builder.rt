@@ -1,9 +1,9 @@
 //! Joining maps into one.
 ghost use Rattle.std.specs.Prelude.{◌≡◌, ◌↔◌, ◌⊎◌, IfSome, IfOk, IfErr, IsErrOf, OnOk, OnErr};
-ghost use Rattle.oxc_sourcemap_tokens.specs.declared.error.Error.TheVariants.{OutOfMemory, TooLarge};
-ghost use Rattle.oxc_sourcemap_tokens.specs.Chunks.{ChunksFit};
-ghost use Rattle.oxc_sourcemap_join.specs.Joined.{at_line, at_lines, added, nothing_joined, joined, lent_maps, IsWithinLimits, position};
-ghost use Rattle.oxc_sourcemap_tokens.specs.Results.{OnlyMemory};
+ghost use Rattle.oxc_sourcemap_builders.specs.Words.{OutOfMemory, TooLarge, ChunksFit, at_line};
+ghost use Rattle.oxc_sourcemap_builders.specs.Words.{at_lines, added, nothing_joined, joined};
+ghost use Rattle.oxc_sourcemap_builders.specs.Words.{lent_maps, IsWithinLimits, position};
+ghost use Rattle.oxc_sourcemap_builders.specs.Words.{OnlyMemory};
 
 use oxc_sourcemap_join::{JoinedParts, Lengths};
 use oxc_sourcemap_map::{OwnedSourceMap, SourceMap, parts_of};
@@ -79,9 +79,12 @@ impl<'a> ConcatSourceMapBuilder<'a> {
     /// Appends a map whose code begins at line `line_offset` (from 0) and column 0 of the joined code, as `add_sourcemap_at`
     /// does, and fails as that does.
     pub fn add_sourcemap(&mut self, sourcemap: &'a SourceMap<'_>, line_offset: u32) -> Result<()>
-        ensures joined { OnOk result (self.new ≡ added self.old sourcemap.now (at_line line_offset)) }
-        ensures limits { OnOk result (IsWithinLimits (added self.old sourcemap.now (at_line line_offset))) }
-        ensures too_large { IsErrOf result TooLarge ↔ ¬ (IsWithinLimits (added self.old sourcemap.now (at_line line_offset))) }
+        ensures joined { OnOk result (self.new
+            ≡ added self.old sourcemap.now (at_line line_offset)) }
+        ensures limits { OnOk result (IsWithinLimits
+            (added self.old sourcemap.now (at_line line_offset))) }
+        ensures too_large { IsErrOf result TooLarge ↔ ¬
+            (IsWithinLimits (added self.old sourcemap.now (at_line line_offset))) }
         ensures error { IfErr result (λ e. (e ≡ OutOfMemory) ⊎ (e ≡ TooLarge)) }
         ensures unchanged { OnErr result (self.new ≡ self.old) }
     {
@@ -108,9 +111,12 @@ impl<'a> ConcatSourceMapBuilder<'a> {
         line: u32,
         column: u32,
     ) -> Result<()>
-        ensures joined { OnOk result (self.new ≡ added self.old sourcemap.now (position line column)) }
-        ensures limits { OnOk result (IsWithinLimits (added self.old sourcemap.now (position line column))) }
-        ensures too_large { IsErrOf result TooLarge ↔ ¬ (IsWithinLimits (added self.old sourcemap.now (position line column))) }
+        ensures joined { OnOk result (self.new
+            ≡ added self.old sourcemap.now (position line column)) }
+        ensures limits { OnOk result (IsWithinLimits
+            (added self.old sourcemap.now (position line column))) }
+        ensures too_large { IsErrOf result TooLarge ↔ ¬
+            (IsWithinLimits (added self.old sourcemap.now (position line column))) }
         ensures error { IfErr result (λ e. (e ≡ OutOfMemory) ⊎ (e ≡ TooLarge)) }
         ensures unchanged { OnErr result (self.new ≡ self.old) }
     {
@@ -121,9 +127,12 @@ impl<'a> ConcatSourceMapBuilder<'a> {
     /// Adds a map after the others as `add_sourcemap` does, with the same result, but moves its strings and drops the rest
     /// of it. Fails as that does; the builder is then as it was, and the map is dropped.
     pub fn add_sourcemap_owned(&mut self, sourcemap: SourceMap<'a>, line_offset: u32) -> Result<()>
-        ensures joined { OnOk result (self.new ≡ added self.old sourcemap.entry (at_line line_offset)) }
-        ensures limits { OnOk result (IsWithinLimits (added self.old sourcemap.entry (at_line line_offset))) }
-        ensures too_large { IsErrOf result TooLarge ↔ ¬ (IsWithinLimits (added self.old sourcemap.entry (at_line line_offset))) }
+        ensures joined { OnOk result (self.new
+            ≡ added self.old sourcemap.entry (at_line line_offset)) }
+        ensures limits { OnOk result (IsWithinLimits
+            (added self.old sourcemap.entry (at_line line_offset))) }
+        ensures too_large { IsErrOf result TooLarge ↔ ¬
+            (IsWithinLimits (added self.old sourcemap.entry (at_line line_offset))) }
         ensures error { IfErr result (λ e. (e ≡ OutOfMemory) ⊎ (e ≡ TooLarge)) }
         ensures unchanged { OnErr result (self.new ≡ self.old) }
     {
@@ -138,9 +147,12 @@ impl<'a> ConcatSourceMapBuilder<'a> {
         line: u32,
         column: u32,
     ) -> Result<()>
-        ensures joined { OnOk result (self.new ≡ added self.old sourcemap.entry (position line column)) }
-        ensures limits { OnOk result (IsWithinLimits (added self.old sourcemap.entry (position line column))) }
-        ensures too_large { IsErrOf result TooLarge ↔ ¬ (IsWithinLimits (added self.old sourcemap.entry (position line column))) }
+        ensures joined { OnOk result (self.new
+            ≡ added self.old sourcemap.entry (position line column)) }
+        ensures limits { OnOk result (IsWithinLimits
+            (added self.old sourcemap.entry (position line column))) }
+        ensures too_large { IsErrOf result TooLarge ↔ ¬
+            (IsWithinLimits (added self.old sourcemap.entry (position line column))) }
         ensures error { IfErr result (λ e. (e ≡ OutOfMemory) ⊎ (e ≡ TooLarge)) }
         ensures unchanged { OnErr result (self.new ≡ self.old) }
     {
@@ -157,9 +169,12 @@ impl<'a> ConcatSourceMapBuilder<'a> {
         alloc: Global,
         sourcemap_and_line_offsets: &[(&'a SourceMap<'_>, u32)],
     ) -> Result<ConcatSourceMapBuilder<'a>>
-        ensures joined { IfOk result (λ builder. builder ≡ joined (lent_maps sourcemap_and_line_offsets.now)) }
+        ensures joined { IfOk result (λ builder. builder
+            ≡ joined (lent_maps sourcemap_and_line_offsets.now)) }
         ensures limits { IfOk result IsWithinLimits }
-        ensures error { IfErr result (λ e. (e ≡ OutOfMemory) ⊎ ((e ≡ TooLarge) × ¬ (IsWithinLimits (joined (lent_maps sourcemap_and_line_offsets.now))))) }
+        ensures error { IfErr result (λ e. (e ≡ OutOfMemory)
+            ⊎ ((e ≡ TooLarge) × ¬ (IsWithinLimits
+            (joined (lent_maps sourcemap_and_line_offsets.now))))) }
     {
         let lengths = lent_lengths(sourcemap_and_line_offsets);
         let mut builder = with_room(alloc, lengths, sourcemap_and_line_offsets.len())?;
@@ -175,9 +190,12 @@ impl<'a> ConcatSourceMapBuilder<'a> {
         alloc: Global,
         sourcemap_and_line_offsets: Vec<(SourceMap<'a>, u32)>,
     ) -> Result<ConcatSourceMapBuilder<'a>>
-        ensures joined { IfOk result (λ builder. builder ≡ joined (at_lines sourcemap_and_line_offsets.entry.items)) }
+        ensures joined { IfOk result (λ builder. builder
+            ≡ joined (at_lines sourcemap_and_line_offsets.entry.items)) }
         ensures limits { IfOk result IsWithinLimits }
-        ensures error { IfErr result (λ e. (e ≡ OutOfMemory) ⊎ ((e ≡ TooLarge) × ¬ (IsWithinLimits (joined (at_lines sourcemap_and_line_offsets.entry.items))))) }
+        ensures error { IfErr result (λ e. (e ≡ OutOfMemory)
+            ⊎ ((e ≡ TooLarge) × ¬ (IsWithinLimits
+            (joined (at_lines sourcemap_and_line_offsets.entry.items))))) }
     {
         let lengths = owned_lengths(sourcemap_and_line_offsets.as_slice());
         let mut builder = with_room(alloc, lengths, sourcemap_and_line_offsets.len())?;

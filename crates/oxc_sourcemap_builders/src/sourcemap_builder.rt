@@ -1,14 +1,12 @@
 //! Building a map call by call.
-ghost use Rattle.std.specs.Prelude.{◌≡◌, ◌↔◌, ◌≤◌, ◌<◌, ◌++◌, ◌∷◌, ◌⊎◌, [], length, Some, None, IsNone, IfOk, IfErr, IsErrOf, OnOk, OnErr};
+ghost use Rattle.std.specs.Prelude.{◌≡◌, ◌↔◌, ◌≤◌, ◌<◌, ◌++◌, ◌∷◌, ◌⊎◌, [], length, Some, None};
+ghost use Rattle.std.specs.Prelude.{IsNone, IfOk, IfErr, IsErrOf, OnOk, OnErr};
 ghost use Rattle.std.specs.Cow.{cow_str_bytes};
 ghost use Rattle.std.specs.FinMap as fin;
-ghost use Rattle.oxc_sourcemap_tokens.specs.declared.error.Error.TheVariants.{OutOfMemory, TooLarge};
-ghost use Rattle.oxc_sourcemap_tokens.specs.Token.{kept_id};
-ghost use Rattle.oxc_sourcemap_parts.specs.Views.{texts_of, contents_of};
-ghost use Rattle.oxc_sourcemap_parts.specs.Texts.{index_of};
-ghost use Rattle.oxc_sourcemap_builders.specs.Built.{nothing_built};
-ghost use Rattle.oxc_sourcemap_builders.specs.Building.{with_name, with_name_at, with_another_source, with_path, with_path_at};
-ghost use Rattle.oxc_sourcemap_tokens.specs.Results.{OnlyMemory};
+ghost use Rattle.oxc_sourcemap_builders.specs.Words.{OutOfMemory, TooLarge, kept_id, texts_of};
+ghost use Rattle.oxc_sourcemap_builders.specs.Words.{contents_of, index_of, nothing_built};
+ghost use Rattle.oxc_sourcemap_builders.specs.Words.{with_name, with_name_at, with_another_source};
+ghost use Rattle.oxc_sourcemap_builders.specs.Words.{with_path, with_path_at, OnlyMemory};
 
 use oxc_sourcemap_map::{OwnedSourceMap, SourceMap};
 use oxc_sourcemap_parts::owned_text;
@@ -100,9 +98,12 @@ fn push_source<'a>(
     path: CowStr<'a>,
     content: CowStr<'a>,
 ) -> Memory<()>
-    ensures sources { OnOk result (texts_of sources.new ≡ texts_of sources.old ++ cow_str_bytes path.entry ∷ []) }
-    ensures contents { OnOk result (contents_of contents.new ≡ contents_of contents.old ++ Some (cow_str_bytes content.entry) ∷ []) }
-    ensures unchanged { OnErr result ((sources.new.items ≡ sources.old.items) × (contents.new.items ≡ contents.old.items)) }
+    ensures sources { OnOk result (texts_of sources.new ≡ texts_of sources.old
+        ++ cow_str_bytes path.entry ∷ []) }
+    ensures contents { OnOk result (contents_of contents.new ≡ contents_of contents.old
+        ++ Some (cow_str_bytes content.entry) ∷ []) }
+    ensures unchanged { OnErr result ((sources.new.items ≡ sources.old.items)
+        × (contents.new.items ≡ contents.old.items)) }
 {
     sources.reserve(1)?;
     contents.reserve(1)?;
@@ -138,7 +139,8 @@ impl<'a> SourceMapBuilder<'a> {
     pub fn add_name(&mut self, name: &'a str) -> Result<u32>
         ensures added { IfOk result (λ id. (self.new, id) ≡ with_name self.old name.now) }
         ensures too_large { IsErrOf result TooLarge
-            ↔ (IsNone (index_of name.now self.old.map.names) × (4294967295 ≤ length self.old.map.names)) }
+            ↔ (IsNone (index_of name.now self.old.map.names)
+            × (4294967295 ≤ length self.old.map.names)) }
         ensures error { IfErr result (λ e. (e ≡ OutOfMemory) ⊎ (e ≡ TooLarge)) }
         ensures unchanged { OnErr result (self.new ≡ self.old) }
     {
@@ -154,7 +156,8 @@ impl<'a> SourceMapBuilder<'a> {
     pub fn add_name_copied(&mut self, name: &str) -> Result<u32>
         ensures added { IfOk result (λ id. (self.new, id) ≡ with_name self.old name.now) }
         ensures too_large { IsErrOf result TooLarge
-            ↔ (IsNone (index_of name.now self.old.map.names) × (4294967295 ≤ length self.old.map.names)) }
+            ↔ (IsNone (index_of name.now self.old.map.names)
+            × (4294967295 ≤ length self.old.map.names)) }
         ensures error { IfErr result (λ e. (e ≡ OutOfMemory) ⊎ (e ≡ TooLarge)) }
         ensures unchanged { OnErr result (self.new ≡ self.old) }
     {
@@ -173,7 +176,8 @@ impl<'a> SourceMapBuilder<'a> {
         requires same { cow_str_bytes key ≡ cow_str_bytes name }
         requires new { index_of (cow_str_bytes name) self.old.map.names ≡ None }
         requires id { (id ≡ length self.old.map.names) × (id < 4294967295) }
-        ensures added { OnOk result (self.new ≡ (with_name_at self.old (cow_str_bytes name.entry) None).0) }
+        ensures added { OnOk result (self.new ≡
+            (with_name_at self.old (cow_str_bytes name.entry) None).0) }
         ensures unchanged { OnErr result (self.new ≡ self.old) }
     {
         self.names.reserve(1)?;
@@ -191,9 +195,11 @@ impl<'a> SourceMapBuilder<'a> {
     /// Fails with `TooLarge` if the new id would be 4294967295, then with `OutOfMemory` for want of memory; the builder
     /// is then as it was.
     pub fn add_source_and_content(&mut self, path: &'a str, content: &'a str) -> Result<u32>
-        ensures added { IfOk result (λ id. (self.new, id) ≡ with_path self.old path.now content.now) }
+        ensures added { IfOk result (λ id. (self.new, id)
+            ≡ with_path self.old path.now content.now) }
         ensures too_large { IsErrOf result TooLarge
-            ↔ (IsNone (fin.get self.old.given path.now) × (4294967295 ≤ length self.old.map.sources)) }
+            ↔ (IsNone (fin.get self.old.given path.now)
+            × (4294967295 ≤ length self.old.map.sources)) }
         ensures error { IfErr result (λ e. (e ≡ OutOfMemory) ⊎ (e ≡ TooLarge)) }
         ensures unchanged { OnErr result (self.new ≡ self.old) }
     {
@@ -212,9 +218,11 @@ impl<'a> SourceMapBuilder<'a> {
 
     /// As `add_source_and_content`, but a new path and its content are copied.
     pub fn add_source_and_content_copied(&mut self, path: &str, content: &str) -> Result<u32>
-        ensures added { IfOk result (λ id. (self.new, id) ≡ with_path self.old path.now content.now) }
+        ensures added { IfOk result (λ id. (self.new, id)
+            ≡ with_path self.old path.now content.now) }
         ensures too_large { IsErrOf result TooLarge
-            ↔ (IsNone (fin.get self.old.given path.now) × (4294967295 ≤ length self.old.map.sources)) }
+            ↔ (IsNone (fin.get self.old.given path.now)
+            × (4294967295 ≤ length self.old.map.sources)) }
         ensures error { IfErr result (λ e. (e ≡ OutOfMemory) ⊎ (e ≡ TooLarge)) }
         ensures unchanged { OnErr result (self.new ≡ self.old) }
     {
@@ -239,7 +247,9 @@ impl<'a> SourceMapBuilder<'a> {
     ) -> Memory<()>
         requires same { cow_str_bytes key ≡ cow_str_bytes path }
         requires id { id ≡ length self.old.map.sources }
-        ensures added { OnOk result (self.new ≡ (with_path_at self.old (cow_str_bytes path.entry) (cow_str_bytes content.entry) None).0) }
+        ensures added { OnOk result (self.new ≡
+            (with_path_at self.old (cow_str_bytes path.entry)
+            (cow_str_bytes content.entry) None).0) }
         ensures unchanged { OnErr result (self.new ≡ self.old) }
     {
         self.given.reserve(1)?;
@@ -255,7 +265,8 @@ impl<'a> SourceMapBuilder<'a> {
     /// Fails with `TooLarge` if the new id would be 4294967295, then with `OutOfMemory` for want of memory; the builder
     /// is then as it was.
     pub fn set_source_and_content(&mut self, path: &'a str, content: &'a str) -> Result<u32>
-        ensures added { IfOk result (λ id. (self.new, id) ≡ with_another_source self.old path.now content.now) }
+        ensures added { IfOk result (λ id. (self.new, id)
+            ≡ with_another_source self.old path.now content.now) }
         ensures too_large { IsErrOf result TooLarge ↔ (4294967295 ≤ length self.old.map.sources) }
         ensures error { IfErr result (λ e. (e ≡ OutOfMemory) ⊎ (e ≡ TooLarge)) }
         ensures unchanged { OnErr result (self.new ≡ self.old) }
@@ -272,7 +283,8 @@ impl<'a> SourceMapBuilder<'a> {
 
     /// As `set_source_and_content`, but the path and the content are copied.
     pub fn set_source_and_content_copied(&mut self, path: &str, content: &str) -> Result<u32>
-        ensures added { IfOk result (λ id. (self.new, id) ≡ with_another_source self.old path.now content.now) }
+        ensures added { IfOk result (λ id. (self.new, id)
+            ≡ with_another_source self.old path.now content.now) }
         ensures too_large { IsErrOf result TooLarge ↔ (4294967295 ≤ length self.old.map.sources) }
         ensures error { IfErr result (λ e. (e ≡ OutOfMemory) ⊎ (e ≡ TooLarge)) }
         ensures unchanged { OnErr result (self.new ≡ self.old) }
@@ -319,7 +331,8 @@ impl<'a> SourceMapBuilder<'a> {
 
     /// Sets the name of the generated file. Cannot fail.
     pub fn set_file(&mut self, file: &'a str)
-        ensures { self.new ≡ record self.old { map = record self.old.map { file = Some file.now } } }
+        ensures { self.new
+            ≡ record self.old { map = record self.old.map { file = Some file.now } } }
     {
         self.file = Some(CowStr::Borrowed(file));
     }
@@ -327,7 +340,8 @@ impl<'a> SourceMapBuilder<'a> {
     /// Sets the name of the generated file to a copy of this one. Fails only with `OutOfMemory`; the builder is then as it
     /// was.
     pub fn set_file_copied(&mut self, file: &str) -> Result<()>
-        ensures set { OnOk result (self.new ≡ record self.old { map = record self.old.map { file = Some file.now } }) }
+        ensures set { OnOk result
+            (self.new ≡ record self.old { map = record self.old.map { file = Some file.now } }) }
         ensures error { OnlyMemory result }
         ensures unchanged { OnErr result (self.new ≡ self.old) }
     {
@@ -337,7 +351,8 @@ impl<'a> SourceMapBuilder<'a> {
 
     /// Sets the chunks in which the tokens are written. Nothing is checked, and it cannot fail.
     pub fn set_token_chunks(&mut self, token_chunks: Vec<TokenChunk>)
-        ensures { self.new ≡ record self.old { map = record self.old.map { token_chunks = Some token_chunks.items } } }
+        ensures { self.new
+            ≡ record self.old { map = record self.old.map { token_chunks = Some token_chunks.items } } }
     {
         self.token_chunks = Some(token_chunks);
     }
@@ -346,7 +361,8 @@ impl<'a> SourceMapBuilder<'a> {
     /// or owned. Takes no memory.
     pub fn into_sourcemap(self) -> Result<SourceMap<'a>>
         ensures map { IfOk result (λ map. map ≡ self.entry.map) }
-        ensures nothing_else { IfOk result (λ map. (map.source_root ≡ None) × (map.ignore_list ≡ None) × (map.debug_id ≡ None)) }
+        ensures nothing_else { IfOk result (λ map. (map.source_root ≡ None)
+            × (map.ignore_list ≡ None) × (map.debug_id ≡ None)) }
         ensures error { OnlyMemory result }
     {
         Ok(SourceMap::new(
@@ -364,7 +380,8 @@ impl<'a> SourceMapBuilder<'a> {
     /// `OutOfMemory`; the builder is then dropped.
     pub fn into_owned_sourcemap(self) -> Result<OwnedSourceMap>
         ensures map { IfOk result (λ map. map ≡ self.entry.map) }
-        ensures nothing_else { IfOk result (λ map. (map.source_root ≡ None) × (map.ignore_list ≡ None) × (map.debug_id ≡ None)) }
+        ensures nothing_else { IfOk result (λ map. (map.source_root ≡ None)
+            × (map.ignore_list ≡ None) × (map.debug_id ≡ None)) }
         ensures error { OnlyMemory result }
     {
         let alloc = self.alloc;

@@ -13,7 +13,8 @@ use Rattle.oxc_sourcemap_plan.specs.Refusals.{out_of_memory as run_out_of_memory
 use Rattle.oxc_sourcemap_handles.specs.declared.refusal.Refusal.{Refusal}
 use Rattle.oxc_sourcemap_handles.specs.declared.refusal.Refusal.TheVariants.{Plan}
 use Rattle.oxc_sourcemap_handles.specs.Refusals.{out_of_memory}
-use Rattle.oxc_sourcemap_c.specs.Plans.{plan_of, refusal_of_run, IsPlanMap, IsPlanFailure, IsPlanRefusal}
+use Rattle.oxc_sourcemap_c.specs.Plans.{plan_of, refusal_of_run, IsPlanMap, IsPlanFailure}
+use Rattle.oxc_sourcemap_c.specs.Plans.{IsPlanRefusal}
 
 pub map_of_plan : (read : Result Outcome RunError) (o : Outcome) (m : MapRecord) → read ≡ Ok o → IsEvaluated m o → IsPlanMap read m
 map_of_plan read o m e is = subst (λ x. IsPlanMap x m) (sym e) is

@@ -6,7 +6,10 @@ use Rattle.oxc_sourcemap_tokens.specs.declared.plan_error.PlanError.{PlanError}
 use Rattle.oxc_sourcemap_plan.specs.Outcome.{Outcome}
 use Rattle.oxc_sourcemap_plan.specs.Evaluated.{IsEvaluated, IsFailure}
 use Rattle.oxc_sourcemap_plan.specs.declared.run_error.RunError.{RunError}
-use Rattle.oxc_sourcemap_plan.specs.declared.run_error.RunError.TheVariants.{Plan as PlanFails, Read, Write, Utf8, Arguments, NoText as NoInput}
+use Rattle.oxc_sourcemap_plan.specs.declared.run_error.RunError.TheVariants.{Plan as PlanFails}
+use Rattle.oxc_sourcemap_plan.specs.declared.run_error.RunError.TheVariants.{Read, Write, Utf8}
+use Rattle.oxc_sourcemap_plan.specs.declared.run_error.RunError.TheVariants.{Arguments}
+use Rattle.oxc_sourcemap_plan.specs.declared.run_error.RunError.TheVariants.{NoText as NoInput}
 use Rattle.oxc_sourcemap_plan.specs.PlanInputs.{inputs_of}
 use Rattle.oxc_sourcemap_plan.specs.PlanArguments.{parsed_plan}
 use Rattle.oxc_sourcemap_handles.specs.declared.refusal.Refusal.{Refusal}

@@ -6,32 +6,26 @@
 
 mod plans;
 
-ghost use Rattle.std.specs.Prelude.{◌≡◌, ◌≢◌, ⊤, true, false, None, Some, Ok, MatchOption, IsUtf8, slice_get};
+ghost use Rattle.std.specs.Prelude.{◌≡◌, ◌≢◌, ⊤, true, false, None, Some, Ok, MatchOption, IsUtf8};
+ghost use Rattle.std.specs.Prelude.{slice_get};
 ghost use Rattle.std.specs.List.{All};
-ghost use Rattle.oxc_sourcemap_tokens.specs.declared.error.Error.TheVariants.{TooLarge};
-ghost use Rattle.oxc_sourcemap_decode.specs.ReadMap.{read_map};
-ghost use Rattle.oxc_sourcemap_encode.specs.JsonText.{map_text, map_url};
-ghost use Rattle.oxc_sourcemap_lookup.specs.Composed.{composition, SomeComposition, NoColumnGoesBack};
-ghost use Rattle.oxc_sourcemap_tokens.specs.LineOrder.{IsInLineOrder};
-ghost use Rattle.oxc_sourcemap_parts.specs.Sorted.{are_tokens_sorted};
-ghost use Rattle.oxc_sourcemap_parts.specs.DecodedMap.{decoded_map_of};
-ghost use Rattle.oxc_sourcemap_lookup.specs.Trace.{trace, clamped_trace};
-ghost use Rattle.oxc_sourcemap_map.specs.View.{content_at};
-ghost use Rattle.oxc_sourcemap_builders.specs.Built.{nothing_built};
-ghost use Rattle.oxc_sourcemap_builders.specs.Building.{with_name, with_path};
-ghost use Rattle.oxc_sourcemap_handles.specs.declared.refusal.Refusal.{Refusal};
-ghost use Rattle.oxc_sourcemap_handles.specs.Refusals.{refusal_text, of_map};
-ghost use Rattle.oxc_sourcemap_handles.specs.Codes.{fault_of, code_of, refusal_of, no_fault, IsSmall};
-ghost use Rattle.oxc_sourcemap_handles.specs.Messages.{IsMessage};
-ghost use Rattle.oxc_sourcemap_handles.specs.Holding.{held_map, held_builder, HoldsMap};
-ghost use Rattle.oxc_sourcemap_handles.specs.Places.{counts_of, numbers_of};
-ghost use Rattle.oxc_sourcemap_handles.specs.Joins.{all_held, IsJoinOf, IsJoinRefusal};
-ghost use Rattle.oxc_sourcemap_handles.specs.Builders.{token_of, with_token, with_file, Builds, NameHasNoId, SourceHasNoId, IsBuilderRefusal, IsNameRefusal, IsSourceRefusal, IsFileRefusal};
-ghost use Rattle.oxc_sourcemap_c.specs.Plans.{plan_of, IsPlanMap, IsPlanRefusal};
-ghost use Rattle.oxc_sourcemap_handles.specs.Answers.{IsRefusedAs, IsReadRefusal, IsCompositionRefusal, HasLength, ignored_at, flag_of};
-ghost use Rattle.oxc_sourcemap_handles.specs.Traces.{IsTrace, IsTraceRefusal, AreTracesOf, IsTraceAllRefusal};
-ghost use Rattle.oxc_sourcemap_c.specs.Exports.{IsRefused, Found, HoldsText, HoldsWritten, IsWritingRefusal};
-ghost use Rattle.oxc_sourcemap_lookup.specs.Lookup.{token_for, clamped_token_for};
+ghost use Rattle.oxc_sourcemap_c.specs.Words.{TooLarge, read_map, map_text, map_url, composition};
+ghost use Rattle.oxc_sourcemap_c.specs.Words.{SomeComposition, NoColumnGoesBack, IsInLineOrder};
+ghost use Rattle.oxc_sourcemap_c.specs.Words.{are_tokens_sorted, decoded_map_of, trace};
+ghost use Rattle.oxc_sourcemap_c.specs.Words.{clamped_trace, content_at, nothing_built, with_name};
+ghost use Rattle.oxc_sourcemap_c.specs.Words.{with_path, Refusal, refusal_text, of_map, fault_of};
+ghost use Rattle.oxc_sourcemap_c.specs.Words.{code_of, refusal_of, no_fault, IsSmall, IsMessage};
+ghost use Rattle.oxc_sourcemap_c.specs.Words.{held_map, held_builder, HoldsMap, counts_of};
+ghost use Rattle.oxc_sourcemap_c.specs.Words.{numbers_of, all_held, IsJoinOf, IsJoinRefusal};
+ghost use Rattle.oxc_sourcemap_c.specs.Words.{token_of, with_token, with_file, Builds, NameHasNoId};
+ghost use Rattle.oxc_sourcemap_c.specs.Words.{SourceHasNoId, IsBuilderRefusal, IsNameRefusal};
+ghost use Rattle.oxc_sourcemap_c.specs.Words.{IsSourceRefusal, IsFileRefusal, plan_of, IsPlanMap};
+ghost use Rattle.oxc_sourcemap_c.specs.Words.{IsPlanRefusal, IsRefusedAs, IsReadRefusal};
+ghost use Rattle.oxc_sourcemap_c.specs.Words.{IsCompositionRefusal, HasLength, ignored_at, flag_of};
+ghost use Rattle.oxc_sourcemap_c.specs.Words.{IsTrace, IsTraceRefusal, AreTracesOf};
+ghost use Rattle.oxc_sourcemap_c.specs.Words.{IsTraceAllRefusal, IsRefused, Found, HoldsText};
+ghost use Rattle.oxc_sourcemap_c.specs.Words.{HoldsWritten, IsWritingRefusal, token_for};
+ghost use Rattle.oxc_sourcemap_c.specs.Words.{clamped_token_for};
 
 use crate::plans::evaluate_bytes;
 use oxc_sourcemap_handles::{
@@ -53,7 +47,8 @@ pub extern "C" fn smap_from_json_string(
 ) -> u32
     ensures map { result ≡ 0 → HoldsMap map.new.held (λ m. read_map json.now ≡ Ok m) }
     ensures not_refused { result ≡ 0 → fault.new ≡ no_fault }
-    ensures error { result ≢ 0 → (map.new.held ≡ map.old.held) × IsRefusedAs result fault.new (IsReadRefusal json.now) }
+    ensures error { result ≢ 0 → (map.new.held ≡ map.old.held)
+        × IsRefusedAs result fault.new (IsReadRefusal json.now) }
 {
     put_map(alloc, read(alloc, json), map, fault)
 }
@@ -68,11 +63,16 @@ pub extern "C" fn smap_compose(
     fault: &mut Fault,
 ) -> u32
     ensures emptied { (first.new.held ≡ None) × (input.new.held ≡ None) }
-    ensures any_map { result ≡ 0 → HoldsMap map.new.held (λ m. HoldsMap first.old.held (λ a. HoldsMap input.old.held (λ b. SomeComposition a b (Ok m)))) }
-    ensures map { result ≡ 0 → HoldsMap map.new.held (λ m. HoldsMap first.old.held (λ a. HoldsMap input.old.held (λ b. NoColumnGoesBack b.tokens → composition a b ≡ Ok m))) }
+    ensures any_map { result ≡ 0 → HoldsMap map.new.held
+        (λ m. HoldsMap first.old.held (λ a. HoldsMap input.old.held
+        (λ b. SomeComposition a b (Ok m)))) }
+    ensures map { result ≡ 0 → HoldsMap map.new.held
+        (λ m. HoldsMap first.old.held (λ a. HoldsMap input.old.held
+        (λ b. NoColumnGoesBack b.tokens → composition a b ≡ Ok m))) }
     ensures not_refused { result ≡ 0 → fault.new ≡ no_fault }
     ensures error { result ≢ 0 → (map.new.held ≡ map.old.held)
-        × IsRefusedAs result fault.new (IsCompositionRefusal (held_map first.old.held) (held_map input.old.held)) }
+        × IsRefusedAs result fault.new (IsCompositionRefusal (held_map first.old.held)
+        (held_map input.old.held)) }
 {
     let composed = compose(alloc, first, input);
     put_map(alloc, composed, map, fault)
@@ -90,7 +90,8 @@ pub extern "C" fn smap_join(
     ensures emptied { All (λ h. h.held ≡ None) maps.new }
     ensures map { result ≡ 0 → HoldsMap map.new.held (IsJoinOf (all_held maps.old) offsets.now) }
     ensures not_refused { result ≡ 0 → fault.new ≡ no_fault }
-    ensures error { result ≢ 0 → (map.new.held ≡ map.old.held) × IsRefusedAs result fault.new (IsJoinRefusal (all_held maps.old) offsets.now) }
+    ensures error { result ≢ 0 → (map.new.held ≡ map.old.held)
+        × IsRefusedAs result fault.new (IsJoinRefusal (all_held maps.old) offsets.now) }
 {
     let joined = join(alloc, maps, offsets);
     put_map(alloc, joined, map, fault)
@@ -107,7 +108,8 @@ pub extern "C" fn smap_evaluate(
 ) -> u32
     ensures map { result ≡ 0 → HoldsMap map.new.held (IsPlanMap (plan_of words.now texts.now)) }
     ensures not_refused { result ≡ 0 → fault.new ≡ no_fault }
-    ensures error { result ≢ 0 → (map.new.held ≡ map.old.held) × IsRefusedAs result fault.new (IsPlanRefusal words.now texts.now) }
+    ensures error { result ≢ 0 → (map.new.held ≡ map.old.held)
+        × IsRefusedAs result fault.new (IsPlanRefusal words.now texts.now) }
 {
     put_map(alloc, evaluate_bytes(alloc, words, texts), map, fault)
 }
@@ -123,7 +125,8 @@ pub extern "C" fn smap_to_json_string(
     ensures kept { map.new.held ≡ map.old.held }
     ensures text { result ≡ 0 → HoldsWritten map_text map.old.held string.new.held }
     ensures not_refused { result ≡ 0 → fault.new ≡ no_fault }
-    ensures error { result ≢ 0 → (string.new.held ≡ string.old.held) × IsRefusedAs result fault.new (IsWritingRefusal map_text (held_map map.old.held)) }
+    ensures error { result ≢ 0 → (string.new.held ≡ string.old.held)
+        × IsRefusedAs result fault.new (IsWritingRefusal map_text (held_map map.old.held)) }
 {
     let written = json(alloc, map);
     put_text(alloc, written, string, fault)
@@ -140,7 +143,8 @@ pub extern "C" fn smap_to_data_url(
     ensures kept { map.new.held ≡ map.old.held }
     ensures text { result ≡ 0 → HoldsWritten map_url map.old.held string.new.held }
     ensures not_refused { result ≡ 0 → fault.new ≡ no_fault }
-    ensures error { result ≢ 0 → (string.new.held ≡ string.old.held) × IsRefusedAs result fault.new (IsWritingRefusal map_url (held_map map.old.held)) }
+    ensures error { result ≢ 0 → (string.new.held ≡ string.old.held)
+        × IsRefusedAs result fault.new (IsWritingRefusal map_url (held_map map.old.held)) }
 {
     let written = data_url(alloc, map);
     put_text(alloc, written, string, fault)
@@ -175,7 +179,8 @@ pub extern "C" fn smap_free_string(alloc: Global, string: &mut Handle)
 /// The numbers of tokens, names, sources, contents and ignored sources of the map in a handle.
 #[unsafe(no_mangle)]
 pub extern "C" fn smap_get_counts(alloc: Global, map: &mut Handle, out: &mut Counts) -> u32
-    ensures found { Found result map.old.held (λ m. Some (counts_of m)) (λ counts. out.new ≡ counts) }
+    ensures found { Found result map.old.held (λ m. Some (counts_of m))
+        (λ counts. out.new ≡ counts) }
     ensures kept { map.new.held ≡ map.old.held }
     ensures unchanged { result ≢ 0 → out.new ≡ out.old }
 {
@@ -185,7 +190,8 @@ pub extern "C" fn smap_get_counts(alloc: Global, map: &mut Handle, out: &mut Cou
 /// Whether the tokens of the map in a handle are sorted: 1 or 0.
 #[unsafe(no_mangle)]
 pub extern "C" fn smap_is_sorted(alloc: Global, map: &mut Handle, out: &mut u32) -> u32
-    ensures found { Found result map.old.held (λ m. Some (flag_of (are_tokens_sorted m.tokens))) (λ is. out.new ≡ is) }
+    ensures found { Found result map.old.held (λ m. Some (flag_of (are_tokens_sorted m.tokens)))
+        (λ is. out.new ≡ is) }
     ensures kept { map.new.held ≡ map.old.held }
     ensures unchanged { result ≢ 0 → out.new ≡ out.old }
 {
@@ -220,7 +226,8 @@ pub extern "C" fn smap_get_source_content(
     id: u32,
     text: &mut Text,
 ) -> u32
-    ensures found { Found result map.old.held (λ m. content_at m.source_contents id) (HasLength text.new) }
+    ensures found { Found result map.old.held (λ m. content_at m.source_contents id)
+        (HasLength text.new) }
     ensures kept { map.new.held ≡ map.old.held }
     ensures unchanged { result ≢ 0 → text.new ≡ text.old }
 {
@@ -280,7 +287,8 @@ pub extern "C" fn smap_get_token(
     index: u32,
     out: &mut TokenNumbers,
 ) -> u32
-    ensures found { Found result map.old.held (λ m. slice_get m.tokens index) (λ token. out.new ≡ numbers_of token) }
+    ensures found { Found result map.old.held (λ m. slice_get m.tokens index)
+        (λ token. out.new ≡ numbers_of token) }
     ensures kept { map.new.held ≡ map.old.held }
     ensures unchanged { result ≢ 0 → out.new ≡ out.old }
 {
@@ -297,10 +305,13 @@ pub extern "C" fn smap_trace(
     place: &mut Place,
     fault: &mut Fault,
 ) -> u32
-    ensures traced { result ≡ 0 → HoldsMap map.old.held (λ m. IsInLineOrder m.tokens × IsTrace m (token_for m.tokens line column) (trace (decoded_map_of m) line column) place.new) }
+    ensures traced { result ≡ 0 → HoldsMap map.old.held
+        (λ m. IsInLineOrder m.tokens × IsTrace m (token_for m.tokens line column)
+        (trace (decoded_map_of m) line column) place.new) }
     ensures kept { map.new.held ≡ map.old.held }
     ensures not_refused { result ≡ 0 → fault.new ≡ no_fault }
-    ensures error { result ≢ 0 → (place.new ≡ place.old) × IsRefused result fault.new (IsTraceRefusal (held_map map.old.held)) }
+    ensures error { result ≢ 0 → (place.new ≡ place.old)
+        × IsRefused result fault.new (IsTraceRefusal (held_map map.old.held)) }
 {
     let at = Position { line, column };
     placed(traced(alloc, map, at, false), place, fault)
@@ -317,10 +328,13 @@ pub extern "C" fn smap_trace_clamped(
     place: &mut Place,
     fault: &mut Fault,
 ) -> u32
-    ensures traced { result ≡ 0 → HoldsMap map.old.held (λ m. IsInLineOrder m.tokens × IsTrace m (clamped_token_for m.tokens line column) (clamped_trace (decoded_map_of m) line column) place.new) }
+    ensures traced { result ≡ 0 → HoldsMap map.old.held
+        (λ m. IsInLineOrder m.tokens × IsTrace m (clamped_token_for m.tokens line column)
+        (clamped_trace (decoded_map_of m) line column) place.new) }
     ensures kept { map.new.held ≡ map.old.held }
     ensures not_refused { result ≡ 0 → fault.new ≡ no_fault }
-    ensures error { result ≢ 0 → (place.new ≡ place.old) × IsRefused result fault.new (IsTraceRefusal (held_map map.old.held)) }
+    ensures error { result ≢ 0 → (place.new ≡ place.old)
+        × IsRefused result fault.new (IsTraceRefusal (held_map map.old.held)) }
 {
     let at = Position { line, column };
     placed(traced(alloc, map, at, true), place, fault)
@@ -336,11 +350,13 @@ pub extern "C" fn smap_trace_all(
     places: &mut [Place],
     fault: &mut Fault,
 ) -> u32
-    ensures traced { result ≡ 0 → HoldsMap map.old.held (AreTracesOf false positions.now places.new) }
+    ensures traced { result ≡ 0 → HoldsMap map.old.held
+        (AreTracesOf false positions.now places.new) }
     ensures kept { map.new.held ≡ map.old.held }
     ensures not_refused { result ≡ 0 → fault.new ≡ no_fault }
     ensures error { result ≢ 0 → (places.new ≡ places.old)
-        × IsRefused result fault.new (IsTraceAllRefusal positions.now places.old (held_map map.old.held)) }
+        × IsRefused result fault.new (IsTraceAllRefusal positions.now places.old
+        (held_map map.old.held)) }
 {
     answered_all(traced_all(alloc, map, positions, places, false), fault)
 }
@@ -355,11 +371,13 @@ pub extern "C" fn smap_trace_all_clamped(
     places: &mut [Place],
     fault: &mut Fault,
 ) -> u32
-    ensures traced { result ≡ 0 → HoldsMap map.old.held (AreTracesOf true positions.now places.new) }
+    ensures traced { result ≡ 0 → HoldsMap map.old.held
+        (AreTracesOf true positions.now places.new) }
     ensures kept { map.new.held ≡ map.old.held }
     ensures not_refused { result ≡ 0 → fault.new ≡ no_fault }
     ensures error { result ≢ 0 → (places.new ≡ places.old)
-        × IsRefused result fault.new (IsTraceAllRefusal positions.now places.old (held_map map.old.held)) }
+        × IsRefused result fault.new (IsTraceAllRefusal positions.now places.old
+        (held_map map.old.held)) }
 {
     answered_all(traced_all(alloc, map, positions, places, true), fault)
 }
@@ -368,8 +386,10 @@ pub extern "C" fn smap_trace_all_clamped(
 /// 0 for want of memory, and if no error has these numbers.
 #[unsafe(no_mangle)]
 pub extern "C" fn smap_message(alloc: Global, fault: &Fault, out: &mut [u8]) -> usize
-    ensures message { (r : Refusal) → IsSmall r → fault.now ≡ fault_of r → IsMessage (refusal_text r) out.old out.new result }
-    ensures cases { MatchOption (refusal_of fault.now) ((result ≡ 0) × (out.new ≡ out.old)) (λ r. IsMessage (refusal_text r) out.old out.new result) }
+    ensures message { (r : Refusal) → IsSmall r → fault.now ≡ fault_of r
+        → IsMessage (refusal_text r) out.old out.new result }
+    ensures cases { MatchOption (refusal_of fault.now) ((result ≡ 0) × (out.new ≡ out.old))
+        (λ r. IsMessage (refusal_text r) out.old out.new result) }
 {
     write_message(alloc, fault, out)
 }
@@ -379,7 +399,8 @@ pub extern "C" fn smap_message(alloc: Global, fault: &Fault, out: &mut [u8]) -> 
 pub extern "C" fn smap_builder_new(alloc: Global, builder: &mut Handle, fault: &mut Fault) -> u32
     ensures built { result ≡ 0 → held_builder builder.new.held ≡ Some nothing_built }
     ensures not_refused { result ≡ 0 → fault.new ≡ no_fault }
-    ensures error { result ≢ 0 → (builder.new.held ≡ builder.old.held) × IsRefusedAs result fault.new (λ r. ⊥) }
+    ensures error { result ≢ 0 → (builder.new.held ≡ builder.old.held)
+        × IsRefusedAs result fault.new (λ r. ⊥) }
 {
     put_builder(alloc, builder, fault)
 }
@@ -393,11 +414,13 @@ pub extern "C" fn smap_builder_add_name(
     id: &mut u32,
     fault: &mut Fault,
 ) -> u32
-    ensures added { result ≡ 0 → Builds builder.old.held builder.new.held (λ b c. (c, id.new) ≡ with_name b name.now) }
+    ensures added { result ≡ 0 → Builds builder.old.held builder.new.held
+        (λ b c. (c, id.new) ≡ with_name b name.now) }
     ensures not_refused { result ≡ 0 → fault.new ≡ no_fault }
     ensures error { result ≢ 0 → (builder.new.held ≡ builder.old.held) × (id.new ≡ id.old)
         × IsRefusedAs result fault.new (IsNameRefusal builder.old.held name.now) }
-    ensures too_large { MatchOption (held_builder builder.old.held) ⊤ (λ b. IsUtf8 name.now → NameHasNoId name.now b → result ≡ code_of (of_map TooLarge)) }
+    ensures too_large { MatchOption (held_builder builder.old.held) ⊤
+        (λ b. IsUtf8 name.now → NameHasNoId name.now b → result ≡ code_of (of_map TooLarge)) }
 {
     noted(add_name(alloc, builder, name), id, fault)
 }
@@ -412,11 +435,13 @@ pub extern "C" fn smap_builder_add_source_and_content(
     id: &mut u32,
     fault: &mut Fault,
 ) -> u32
-    ensures added { result ≡ 0 → Builds builder.old.held builder.new.held (λ b c. (c, id.new) ≡ with_path b path.now content.now) }
+    ensures added { result ≡ 0 → Builds builder.old.held builder.new.held
+        (λ b c. (c, id.new) ≡ with_path b path.now content.now) }
     ensures not_refused { result ≡ 0 → fault.new ≡ no_fault }
     ensures error { result ≢ 0 → (builder.new.held ≡ builder.old.held) × (id.new ≡ id.old)
         × IsRefusedAs result fault.new (IsSourceRefusal builder.old.held path.now content.now) }
-    ensures too_large { MatchOption (held_builder builder.old.held) ⊤ (λ b. IsUtf8 path.now → IsUtf8 content.now → SourceHasNoId path.now b
+    ensures too_large { MatchOption (held_builder builder.old.held) ⊤
+        (λ b. IsUtf8 path.now → IsUtf8 content.now → SourceHasNoId path.now b
         → result ≡ code_of (of_map TooLarge)) }
 {
     noted(add_source(alloc, builder, path, content), id, fault)
@@ -430,9 +455,11 @@ pub extern "C" fn smap_builder_add_token(
     token: &TokenNumbers,
     fault: &mut Fault,
 ) -> u32
-    ensures added { result ≡ 0 → Builds builder.old.held builder.new.held (λ b c. c ≡ with_token b (token_of token.now)) }
+    ensures added { result ≡ 0 → Builds builder.old.held builder.new.held
+        (λ b c. c ≡ with_token b (token_of token.now)) }
     ensures not_refused { result ≡ 0 → fault.new ≡ no_fault }
-    ensures error { result ≢ 0 → (builder.new.held ≡ builder.old.held) × IsRefusedAs result fault.new (IsBuilderRefusal builder.old.held) }
+    ensures error { result ≢ 0 → (builder.new.held ≡ builder.old.held)
+        × IsRefusedAs result fault.new (IsBuilderRefusal builder.old.held) }
 {
     let mut none = 0;
     noted(add_token(alloc, builder, *token), &mut none, fault)
@@ -446,9 +473,11 @@ pub extern "C" fn smap_builder_set_file(
     file: &[u8],
     fault: &mut Fault,
 ) -> u32
-    ensures set { result ≡ 0 → Builds builder.old.held builder.new.held (λ b c. c ≡ with_file b file.now) }
+    ensures set { result ≡ 0 → Builds builder.old.held builder.new.held
+        (λ b c. c ≡ with_file b file.now) }
     ensures not_refused { result ≡ 0 → fault.new ≡ no_fault }
-    ensures error { result ≢ 0 → (builder.new.held ≡ builder.old.held) × IsRefusedAs result fault.new (IsFileRefusal builder.old.held file.now) }
+    ensures error { result ≢ 0 → (builder.new.held ≡ builder.old.held)
+        × IsRefusedAs result fault.new (IsFileRefusal builder.old.held file.now) }
 {
     let mut none = 0;
     noted(set_file(alloc, builder, file), &mut none, fault)
@@ -463,10 +492,13 @@ pub extern "C" fn smap_builder_finish(
     fault: &mut Fault,
 ) -> u32
     ensures emptied { builder.new.held ≡ None }
-    ensures map { result ≡ 0 → HoldsMap map.new.held (λ m. MatchOption (held_builder builder.old.held) ⊥ (λ b. m ≡ b.map)) }
-    ensures nothing_else { result ≡ 0 → HoldsMap map.new.held (λ m. (m.source_root ≡ None) × (m.ignore_list ≡ None) × (m.debug_id ≡ None)) }
+    ensures map { result ≡ 0 → HoldsMap map.new.held
+        (λ m. MatchOption (held_builder builder.old.held) ⊥ (λ b. m ≡ b.map)) }
+    ensures nothing_else { result ≡ 0 → HoldsMap map.new.held
+        (λ m. (m.source_root ≡ None) × (m.ignore_list ≡ None) × (m.debug_id ≡ None)) }
     ensures not_refused { result ≡ 0 → fault.new ≡ no_fault }
-    ensures error { result ≢ 0 → (map.new.held ≡ map.old.held) × IsRefusedAs result fault.new (IsBuilderRefusal builder.old.held) }
+    ensures error { result ≢ 0 → (map.new.held ≡ map.old.held)
+        × IsRefusedAs result fault.new (IsBuilderRefusal builder.old.held) }
 {
     let built = finish(alloc, builder);
     put_map(alloc, built, map, fault)

@@ -1,7 +1,7 @@
 //! Plans as words and texts in bytes.
 ghost use Rattle.std.specs.Prelude.{◌≡◌, ◌≢◌, map, string_bytes, IfOk, IfErr};
-ghost use Rattle.oxc_sourcemap_handles.specs.Refusals.{out_of_memory};
-ghost use Rattle.oxc_sourcemap_c.specs.Plans.{words_of, plan_of, refusal_of_run, IsPlanMap, IsPlanFailure, IsPlanRefusal};
+ghost use Rattle.oxc_sourcemap_c.specs.Words.{out_of_memory, words_of, plan_of, refusal_of_run};
+ghost use Rattle.oxc_sourcemap_c.specs.Words.{IsPlanMap, IsPlanFailure, IsPlanRefusal};
 
 use oxc_sourcemap_handles::{Refusal, text_of};
 use oxc_sourcemap_map::OwnedSourceMap;
@@ -33,7 +33,8 @@ fn refusal_of(error: RunError) -> Refusal
 /// The map of the plan of these words, over these texts.
 fn evaluate_words(alloc: Global, words: &str, texts: &str) -> Result<OwnedSourceMap, Refusal>
     ensures map { IfOk result (IsPlanMap (plan_of words.now texts.now)) }
-    ensures error { IfErr result (λ r. (r ≢ out_of_memory) → IsPlanFailure (plan_of words.now texts.now) r) }
+    ensures error { IfErr result (λ r. (r ≢ out_of_memory)
+        → IsPlanFailure (plan_of words.now texts.now) r) }
 {
     let inputs = inputs_of(alloc, texts)?;
     let words = words_of(alloc, words)?;

@@ -7,7 +7,8 @@ use Rattle.std.proofs.lemmas.Bool.Decides.{Decides-ltb, Decides-and, Decides-lik
 use Rattle.oxc_sourcemap_tokens.specs.Token.{TokenRecord, IsInBounds}
 use Rattle.oxc_sourcemap_parts.specs.Record.{MapRecord}
 use Rattle.oxc_sourcemap_join.specs.Joined.{AreEntriesInBounds, IsWithinLimits}
-use Rattle.oxc_sourcemap_decode.specs.JoinLimits.{is_id_in_bounds, is_token_in_bounds, are_entries_in_bounds, is_within_limits}
+use Rattle.oxc_sourcemap_decode.specs.JoinLimits.{is_id_in_bounds, is_token_in_bounds}
+use Rattle.oxc_sourcemap_decode.specs.JoinLimits.{are_entries_in_bounds, is_within_limits}
 
 id-decided : (o : Option ℕ) → Decides (is_id_in_bounds o) (IfSome o (λ n. n < 4294967295))
 id-decided None = (λ e. tt, λ h. refl)

@@ -1,5 +1,7 @@
 -- Tokens whose generated lines never go back, and their joins.
-use Rattle.std.proofs.Common.{◌≡◌, ℕ, ◌+◌, ◌≤◌, Bool, true, false, cond, nat_lt, List, [], ◌∷◌, ◌++◌, map, refl, arith, inl, inr, ◌==◌, Option, Some, None, option_map}
+use Rattle.std.proofs.Common.{◌≡◌, ℕ, ◌+◌, ◌≤◌, Bool, true, false, cond, nat_lt, List, [], ◌∷◌}
+use Rattle.std.proofs.Common.{◌++◌, map, refl, arith, inl, inr, ◌==◌, Option, Some, None}
+use Rattle.std.proofs.Common.{option_map}
 use Rattle.std.specs.Prelude.{⊤}
 use Rattle.std.proofs.lemmas.Bool.{cases_lt}
 use Rattle.std.proofs.lemmas.Bool.Decides.{nat_tests}

@@ -1,5 +1,7 @@
 -- A map that is decoded has its ids in range and no chunks, and its tokens are in bounds and in line order.
-use Rattle.std.proofs.Common.{◌≡◌, ℕ, ◌<◌, ◌==◌, Bool, true, false, cond, nat_lt, List, [], ◌∷◌, length, get_or, drop, arith, refl, ap, sym, subst, ◌∙◌, inl, inr, Option, Some, None, option_map, Result, Ok, Err}
+use Rattle.std.proofs.Common.{◌≡◌, ℕ, ◌<◌, ◌==◌, Bool, true, false, cond, nat_lt, List, [], ◌∷◌}
+use Rattle.std.proofs.Common.{length, get_or, drop, arith, refl, ap, sym, subst, ◌∙◌, inl, inr}
+use Rattle.std.proofs.Common.{Option, Some, None, option_map, Result, Ok, Err}
 use Rattle.std.specs.List.{AllByRecursion}
 use Rattle.std.specs.Option.{IfSome, is_some, option_map_or}
 use Rattle.std.proofs.lemmas.Bool.{cases_lt}
@@ -18,7 +20,8 @@ use Rattle.oxc_sourcemap_mappings.proofs.Again.{reads_of, bounds_within}
 use Rattle.oxc_sourcemap_mappings.proofs.RoundTrip.{IsWithin, carrying}
 use Rattle.oxc_sourcemap_parts.specs.Record.{MapRecord}
 use Rattle.oxc_sourcemap_parts.specs.Sound.{IsInRange, AreIdsInRange}
-use Rattle.oxc_sourcemap_decode.specs.Decoded.{first_not_below, ignore_list_fault, decoded_record, with_tokens, json_fault, decoded}
+use Rattle.oxc_sourcemap_decode.specs.Decoded.{first_not_below, ignore_list_fault, decoded_record}
+use Rattle.oxc_sourcemap_decode.specs.Decoded.{with_tokens, json_fault, decoded}
 
 -- ---- ids
 

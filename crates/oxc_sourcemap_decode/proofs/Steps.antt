@@ -1,5 +1,7 @@
 -- Sections are read one by one: what is known of those so far, and what each step does to that.
-use Rattle.std.proofs.Common.{◌≡◌, ℕ, ◌&&◌, arith, Bool, true, false, cond, List, [], ◌∷◌, ◌++◌, map, length, refl, sym, ap, ◌∙◌, subst, append_assoc, Option, Some, None, option_map, Result, Ok, Err}
+use Rattle.std.proofs.Common.{◌≡◌, ℕ, ◌&&◌, arith, Bool, true, false, cond, List, [], ◌∷◌, ◌++◌}
+use Rattle.std.proofs.Common.{map, length, refl, sym, ap, ◌∙◌, subst, append_assoc, Option, Some}
+use Rattle.std.proofs.Common.{None, option_map, Result, Ok, Err}
 use Rattle.std.specs.Option.{unwrap_or}
 use Rattle.std.proofs.lemmas.List.{append-nil}
 use Rattle.serde_json.specs.Data.{Data, Items, no_items, item}
@@ -10,11 +12,15 @@ use Rattle.oxc_sourcemap_parts.specs.Record.{MapRecord}
 use Rattle.oxc_sourcemap_tokens.specs.Token.{last}
 use Rattle.oxc_sourcemap_json.specs.Shape.{◌>>=◌}
 use Rattle.oxc_sourcemap_tokens.specs.declared.position.Position.{Position}
-use Rattle.oxc_sourcemap_join.specs.Joined.{added, nothing_joined, added_all, joined, IsWithinLimits}
+use Rattle.oxc_sourcemap_join.specs.Joined.{added, nothing_joined, added_all, joined}
+use Rattle.oxc_sourcemap_join.specs.Joined.{IsWithinLimits}
 use Rattle.oxc_sourcemap_join.proofs.Joining.{added_all-append, fitting_chunks}
 use Rattle.oxc_sourcemap_join.proofs.Adding.{front-within, nothing-within}
 use Rattle.oxc_sourcemap_decode.specs.Section.{place_in}
-use Rattle.oxc_sourcemap_decode.specs.Sections.{Sections, position_of, may_follow, may_begin, in_order, place_after, section_map, section_after, onto_section, sections_after, all_sections, joined_sections}
+use Rattle.oxc_sourcemap_decode.specs.Sections.{Sections, position_of, may_follow, may_begin}
+use Rattle.oxc_sourcemap_decode.specs.Sections.{in_order, place_after, section_map, section_after}
+use Rattle.oxc_sourcemap_decode.specs.Sections.{onto_section, sections_after, all_sections}
+use Rattle.oxc_sourcemap_decode.specs.Sections.{joined_sections}
 use Rattle.oxc_sourcemap_decode.specs.JoinLimits.{is_within_limits}
 use Rattle.oxc_sourcemap_decode.proofs.Limits.{limits_decided}
 

@@ -4,3 +4,4 @@ pub mod JoinLimits
 pub mod Sections
 pub mod ReadMap
 pub mod ReadLaws
+pub mod Words

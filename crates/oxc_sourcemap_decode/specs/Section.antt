@@ -1,10 +1,13 @@
 -- A section of an indexed map (ECMA-426, "Index source map"): where it begins, and its map.
-use Rattle.std.specs.Prelude.{ℕ, List, codes, Bool, not, ◌&&◌, Option, Some, None, Result, Ok, Err, if◌then◌else◌, is_some}
+use Rattle.std.specs.Prelude.{ℕ, List, codes, Bool, not, ◌&&◌, Option, Some, None, Result, Ok, Err}
+use Rattle.std.specs.Prelude.{if◌then◌else◌, is_some}
 use Rattle.std.specs.Option.{option_map, option_and_then}
 use Rattle.serde_json.specs.Data.{Data}
 use Rattle.serde_json.specs.Find.{get, as_object}
 use Rattle.oxc_sourcemap_tokens.specs.declared.error.Error.{Error}
-use Rattle.oxc_sourcemap_tokens.specs.declared.error.Field.TheVariants.{Sections, Offset as OffsetField, Map as MapField}
+use Rattle.oxc_sourcemap_tokens.specs.declared.error.Field.TheVariants.{Sections}
+use Rattle.oxc_sourcemap_tokens.specs.declared.error.Field.TheVariants.{Offset as OffsetField}
+use Rattle.oxc_sourcemap_tokens.specs.declared.error.Field.TheVariants.{Map as MapField}
 use Rattle.oxc_sourcemap_json.specs.Shape.{◌>>=◌, or_misshapen, present, as_id}
 use Rattle.oxc_sourcemap_tokens.specs.declared.position.Position.{Position}
 

@@ -1,11 +1,9 @@
 //! Reading the parts of a map from a JSON source map.
 ghost use Rattle.std.specs.Prelude.{◌≡◌, map, string_bytes, IfOk, Ok, Err, Some, []};
 ghost use Rattle.std.specs.Option.{unwrap_or};
-ghost use Rattle.oxc_sourcemap_tokens.specs.declared.error.Error.{Error};
-ghost use Rattle.oxc_sourcemap_parts.specs.Views.{texts_of, contents_of, record_of_parts};
-ghost use Rattle.oxc_sourcemap_json.specs.Json.{json_record, json_contents};
-ghost use Rattle.oxc_sourcemap_decode.specs.Decoded.{decoded, json_fault, first_not_below};
-ghost use Rattle.oxc_sourcemap_tokens.specs.Results.{Answers, Reports};
+ghost use Rattle.oxc_sourcemap_decode.specs.Words.{Error, texts_of, contents_of, record_of_parts};
+ghost use Rattle.oxc_sourcemap_decode.specs.Words.{json_record, json_contents, decoded, json_fault};
+ghost use Rattle.oxc_sourcemap_decode.specs.Words.{first_not_below, Answers, Reports};
 
 use oxc_sourcemap_json::JSONSourceMap;
 use oxc_sourcemap_mappings::decode_mappings;
@@ -55,7 +53,8 @@ fn from_lists(
     contents: Option<Vec<Option<String>>>,
 ) -> Memory<TextLists>
     ensures names { IfOk result (λ lists. texts_of lists.names ≡ map string_bytes names.items) }
-    ensures sources { IfOk result (λ lists. texts_of lists.sources ≡ map string_bytes sources.items) }
+    ensures sources { IfOk result (λ lists. texts_of lists.sources
+        ≡ map string_bytes sources.items) }
     ensures contents { IfOk result (λ lists.
         contents_of lists.contents ≡ unwrap_or (json_contents contents) []) }
 {

@@ -1,12 +1,8 @@
 //! The offsets of sections, and whether they are in order.
 ghost use Rattle.std.specs.Prelude.{◌≡◌, ◌&&◌, List, option_map};
-ghost use Rattle.serde_json.specs.View.{view};
-ghost use Rattle.oxc_sourcemap_parts.specs.Record.{MapRecord};
-ghost use Rattle.oxc_sourcemap_tokens.specs.Token.{last};
-ghost use Rattle.oxc_sourcemap_tokens.specs.declared.position.Position.{Position};
-ghost use Rattle.oxc_sourcemap_join.specs.Joined.{joined};
-ghost use Rattle.oxc_sourcemap_decode.specs.Section.{number_at, as_place, place_in};
-ghost use Rattle.oxc_sourcemap_decode.specs.Sections.{position_of, may_follow, place_after};
+ghost use Rattle.oxc_sourcemap_decode.specs.Words.{view, MapRecord, last, Position, joined};
+ghost use Rattle.oxc_sourcemap_decode.specs.Words.{number_at, as_place, place_in, position_of};
+ghost use Rattle.oxc_sourcemap_decode.specs.Words.{may_follow, place_after};
 
 use oxc_sourcemap_join::JoinedParts;
 use oxc_sourcemap_json::read_id;

@@ -1,13 +1,10 @@
 //! The map of a JSON text or value; the sections of an indexed map are read one after the other into a join.
 ghost use Rattle.std.specs.Prelude.{◌≡◌, option_map, string_bytes, Ok, Err};
-ghost use Rattle.serde_json.specs.View.{view, items_view};
-ghost use Rattle.serde_json.specs.Find.{get};
-ghost use Rattle.oxc_sourcemap_parts.specs.Views.{record_of_parts};
-ghost use Rattle.oxc_sourcemap_json.specs.Shape.{file_of};
-ghost use Rattle.oxc_sourcemap_decode.specs.Section.{is_indexed, is_plain};
-ghost use Rattle.oxc_sourcemap_decode.specs.Sections.{section_map, all_sections, joined_sections};
-ghost use Rattle.oxc_sourcemap_decode.specs.ReadMap.{sections_in, indexed_said, indexed_record, map_said, read_value, read_map};
-ghost use Rattle.oxc_sourcemap_tokens.specs.Results.{Answers};
+ghost use Rattle.oxc_sourcemap_decode.specs.Words.{view, items_view, get, record_of_parts, file_of};
+ghost use Rattle.oxc_sourcemap_decode.specs.Words.{is_indexed, is_plain, section_map, all_sections};
+ghost use Rattle.oxc_sourcemap_decode.specs.Words.{joined_sections, sections_in, indexed_said};
+ghost use Rattle.oxc_sourcemap_decode.specs.Words.{indexed_record, map_said, read_value, read_map};
+ghost use Rattle.oxc_sourcemap_decode.specs.Words.{Answers};
 
 use crate::decode::decode_parts;
 use crate::place::place_after;
@@ -61,7 +58,8 @@ fn decode_section(alloc: Global, section: Value) -> Result<SourceMapParts<'stati
 
 /// The join of sections. Each is read, joined and dropped before the next one is looked at, so the first bad one is reported.
 fn join_sections(alloc: Global, sections: Vec<Value>) -> Result<JoinedParts<'static>>
-    ensures { Answers (λ joined. joined) result (joined_sections (all_sections (items_view sections.items))) }
+    ensures { Answers (λ joined. joined) result
+        (joined_sections (all_sections (items_view sections.items))) }
 {
     let mut joined = JoinedParts::empty(alloc);
     let mut before = None;
@@ -86,7 +84,8 @@ fn indexed_parts(joined: JoinedParts<'static>, file: Option<String>) -> SourceMa
 
 /// The parts of the map that an indexed map stands for.
 fn decode_indexed(alloc: Global, value: Value) -> Result<SourceMapParts<'static>>
-    ensures { Answers record_of_parts result (map_said (indexed_said (file_of (view value)) (sections_in (view value)))) }
+    ensures { Answers record_of_parts result (map_said
+        (indexed_said (file_of (view value)) (sections_in (view value)))) }
 {
     let file = file_from_value(alloc, &value)?;
     let Some(Value::Array(sections)) = into_member(value, "sections") else {

@@ -1,11 +1,15 @@
 -- No byte of a canonical text needs an escape.
-use Rattle.std.proofs.Common.{◌≡◌, ℕ, zero, suc, Bool, true, false, cond, List, [], ◌∷◌, ◌++◌, map, replicate, flat_map, Option, Some, None, refl, ap, ap₂, ◌∙◌, arith, ◌==◌}
+use Rattle.std.proofs.Common.{◌≡◌, ℕ, zero, suc, Bool, true, false, cond, List, [], ◌∷◌, ◌++◌, map}
+use Rattle.std.proofs.Common.{replicate, flat_map, Option, Some, None, refl, ap, ap₂, ◌∙◌, arith}
+use Rattle.std.proofs.Common.{◌==◌}
 use Rattle.std.specs.Option.{option_map_or}
 use Rattle.std.proofs.lemmas.Bool.Decides.{nat_tests}
 use Rattle.std.proofs.lemmas.Grind.{flat_map-append}
 use Rattle.oxc_sourcemap_tokens.specs.Token.{TokenRecord, mapped_name}
 use Rattle.oxc_sourcemap_tokens.specs.State.{State, initial, state_after}
-use Rattle.oxc_sourcemap_mappings.specs.Canonical.{letter, vlq_text, delta_text, separator, column_text, source_text, token_text, has_none_before, text_after, canonical}
+use Rattle.oxc_sourcemap_mappings.specs.Canonical.{letter, vlq_text, delta_text, separator}
+use Rattle.oxc_sourcemap_mappings.specs.Canonical.{column_text, source_text, token_text}
+use Rattle.oxc_sourcemap_mappings.specs.Canonical.{has_none_before, text_after, canonical}
 use Rattle.oxc_sourcemap_encode.specs.JsonString.{escaped}
 
 -- a text that a JSON string has as it is

@@ -1,12 +1,14 @@
 -- Texts that are added one after the other.
-use Rattle.std.proofs.Common.{◌≡◌, ℕ, List, [], ◌∷◌, ◌++◌, sym, ap, ◌∙◌, append_assoc, codes, decimal}
+use Rattle.std.proofs.Common.{◌≡◌, ℕ, List, [], ◌∷◌, ◌++◌, sym, ap, ◌∙◌, append_assoc, codes}
+use Rattle.std.proofs.Common.{decimal}
 use Rattle.oxc_sourcemap_tokens.specs.Token.{TokenRecord}
 use Rattle.oxc_sourcemap_mappings.specs.Canonical.{canonical}
 use Rattle.oxc_sourcemap_json.specs.Json.{JsonRecord}
 use Rattle.oxc_sourcemap_encode.specs.JsonString.{json_string}
 use Rattle.oxc_sourcemap_parts.specs.Record.{MapRecord}
 use Rattle.oxc_sourcemap_encode.specs.Encoded.{written_contents, record_with}
-use Rattle.oxc_sourcemap_encode.specs.JsonText.{json_list, content_text, field_text, optional_field, json_text}
+use Rattle.oxc_sourcemap_encode.specs.JsonText.{json_list, content_text, field_text, optional_field}
+use Rattle.oxc_sourcemap_encode.specs.JsonText.{json_text}
 use Rattle.oxc_sourcemap_encode.specs.JsonParts.{head_text, lists_text, tail_text}
 use Rattle.oxc_sourcemap_encode.proofs.CanonicalPlain.{canonical_plain}
 

@@ -5,7 +5,8 @@ use Rattle.base64.specs.Rfc4648.{encode_symbols}
 use Rattle.oxc_sourcemap_encode.specs.JsonString.{json_string, escaped}
 use Rattle.oxc_sourcemap_parts.specs.Views.{empty_record}
 use Rattle.oxc_sourcemap_encode.specs.Encoded.{record_with}
-use Rattle.oxc_sourcemap_encode.specs.JsonText.{json_list, field_text, optional_field, json_text, data_url}
+use Rattle.oxc_sourcemap_encode.specs.JsonText.{json_list, field_text, optional_field, json_text}
+use Rattle.oxc_sourcemap_encode.specs.JsonText.{data_url}
 
 writes-no_characters : json_string [] ≡ codes "\"\""
 unfolding json_string

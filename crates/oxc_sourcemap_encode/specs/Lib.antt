@@ -4,3 +4,4 @@ pub mod Encoded
 pub mod JsonText
 pub mod Room
 pub mod JsonParts
+pub mod Words

@@ -1,17 +1,13 @@
 //! Writing the parts of a map as a JSON source map.
-ghost use Rattle.std.specs.Prelude.{◌≡◌, ◌≢◌, map, option_map, string_bytes, IfOk, IfErr, Ok, Some, None, OnOk};
+ghost use Rattle.std.specs.Prelude.{◌≡◌, ◌≢◌, map, option_map, string_bytes, IfOk, IfErr, Ok, Some};
+ghost use Rattle.std.specs.Prelude.{None, OnOk};
 ghost use Rattle.std.specs.Cow.{cow_str_bytes};
 ghost use Rattle.std.specs.List.{list_any};
 ghost use Rattle.std.specs.Option.{is_some};
-ghost use Rattle.oxc_sourcemap_tokens.specs.declared.error.Error.TheVariants.{OutOfMemory};
-ghost use Rattle.oxc_sourcemap_tokens.specs.Token.{AreInBounds};
-ghost use Rattle.oxc_sourcemap_mappings.specs.Canonical.{canonical};
-ghost use Rattle.oxc_sourcemap_tokens.specs.Chunks.{lent_chunks};
-ghost use Rattle.oxc_sourcemap_mappings.specs.Pieces.{writing_fault};
-ghost use Rattle.oxc_sourcemap_parts.specs.Views.{text_of, record_of_parts};
-ghost use Rattle.oxc_sourcemap_json.specs.Json.{json_record, json_contents};
-ghost use Rattle.oxc_sourcemap_encode.specs.Encoded.{encoded, written_contents};
-ghost use Rattle.oxc_sourcemap_tokens.specs.Results.{Answers};
+ghost use Rattle.oxc_sourcemap_encode.specs.Words.{OutOfMemory, AreInBounds, canonical};
+ghost use Rattle.oxc_sourcemap_encode.specs.Words.{lent_chunks, writing_fault, text_of};
+ghost use Rattle.oxc_sourcemap_encode.specs.Words.{record_of_parts, json_record, json_contents};
+ghost use Rattle.oxc_sourcemap_encode.specs.Words.{encoded, written_contents, Answers};
 
 use oxc_sourcemap_json::JSONSourceMap;
 use oxc_sourcemap_mappings::encode_mappings;
@@ -37,7 +33,8 @@ fn to_contents(
     alloc: Global,
     contents: &[Option<CowStr<'_>>],
 ) -> Memory<Option<Vec<Option<String>>>>
-    ensures { IfOk result (λ strings. json_contents strings ≡ written_contents (map text_of contents.now)) }
+    ensures { IfOk result (λ strings. json_contents strings
+        ≡ written_contents (map text_of contents.now)) }
 {
     if !has_content(contents) {
         return Ok(None);
@@ -59,9 +56,12 @@ pub(crate) fn chunks_of<'p>(parts: &'p SourceMapParts<'_>) -> Option<&'p [TokenC
 ///
 /// Fails as `encode_mappings` does for the tokens and chunks.
 fn mappings_of(alloc: Global, parts: &SourceMapParts<'_>) -> Result<String>
-    ensures text { let r = record_of_parts parts.now in IfOk result (λ text. string_bytes text ≡ canonical r.tokens) }
-    ensures clean { let r = record_of_parts parts.now in OnOk result (writing_fault r.tokens r.token_chunks ≡ None) }
-    ensures error { let r = record_of_parts parts.now in IfErr result (λ e. (e ≢ OutOfMemory) → writing_fault r.tokens r.token_chunks ≡ Some e) }
+    ensures text { let r = record_of_parts parts.now in
+        IfOk result (λ text. string_bytes text ≡ canonical r.tokens) }
+    ensures clean { let r = record_of_parts parts.now in
+        OnOk result (writing_fault r.tokens r.token_chunks ≡ None) }
+    ensures error { let r = record_of_parts parts.now in
+        IfErr result (λ e. (e ≢ OutOfMemory) → writing_fault r.tokens r.token_chunks ≡ Some e) }
     ensures in_bounds { OnOk result (AreInBounds (record_of_parts parts.now).tokens) }
 {
     let mut mappings = String::new(alloc);

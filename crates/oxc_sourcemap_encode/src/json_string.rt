@@ -1,11 +1,12 @@
 //! JSON strings.
-ghost use Rattle.std.specs.Prelude.{◌≡◌, ◌++◌, ◌<◌, ◌≤◌, true, length, slice_get, string_bytes, IfOk, OnErr, IfSome, flat_map, map};
+ghost use Rattle.std.specs.Prelude.{◌≡◌, ◌++◌, ◌<◌, ◌≤◌, true, length, slice_get, string_bytes};
+ghost use Rattle.std.specs.Prelude.{IfOk, OnErr, IfSome, flat_map, map};
 ghost use Rattle.std.specs.Char.{digit_char};
 ghost use Rattle.std.specs.List.{prefix_len};
 ghost use Rattle.std.specs.Simd.Lanes.{mask_l};
-ghost use Rattle.oxc_sourcemap_encode.specs.JsonString.{hex_escape, escaped, json_string, StaysOpened, Begins};
-ghost use Rattle.oxc_sourcemap_encode.specs.Plain.{needs_escape, is_plain};
-ghost use Rattle.oxc_sourcemap_tokens.specs.Results.{OnlyMemory, Pushes};
+ghost use Rattle.oxc_sourcemap_encode.specs.Words.{hex_escape, escaped, json_string, StaysOpened};
+ghost use Rattle.oxc_sourcemap_encode.specs.Words.{Begins, needs_escape, is_plain, OnlyMemory};
+ghost use Rattle.oxc_sourcemap_encode.specs.Words.{Pushes};
 
 use oxc_sourcemap_tokens::{Error, Memory, Result};
 use std::simd::prelude::*;
@@ -98,8 +99,10 @@ fn push_escape(out: &mut String, byte: u8) -> Memory<()>
 
 /// Adds the run at the front of a text that needs no escape, as one slice. Returns the rest of the text.
 fn push_run<'t>(out: &mut String, text: &'t str) -> Memory<&'t str>
-    ensures ok { IfOk result (λ rest. string_bytes out.new ++ flat_map escaped rest.now ≡ string_bytes out.old ++ flat_map escaped text.now) }
-    ensures stops { IfOk result (λ rest. IfSome (slice_get rest.now 0) (λ byte. needs_escape byte ≡ true)) }
+    ensures ok { IfOk result (λ rest. string_bytes out.new ++ flat_map escaped rest.now
+        ≡ string_bytes out.old ++ flat_map escaped text.now) }
+    ensures stops { IfOk result (λ rest. IfSome (slice_get rest.now 0)
+        (λ byte. needs_escape byte ≡ true)) }
     ensures shorter { IfOk result (λ rest. length rest.now ≤ length text.now) }
     ensures opened { StaysOpened (string_bytes out.old) (string_bytes out.new) }
 {

@@ -1,14 +1,13 @@
 //! The JSON text of a map, written field by field, and its data URL.
-ghost use Rattle.std.specs.Prelude.{◌≡◌, ◌≢◌, ◌++◌, map, string_bytes, codes, decimal, IfErr, OnOk, Ok, Some, None};
-ghost use Rattle.oxc_sourcemap_tokens.specs.declared.error.Error.TheVariants.{OutOfMemory};
-ghost use Rattle.oxc_sourcemap_mappings.specs.Canonical.{canonical};
-ghost use Rattle.oxc_sourcemap_mappings.specs.Pieces.{writing_fault};
-ghost use Rattle.oxc_sourcemap_encode.specs.JsonString.{json_string};
-ghost use Rattle.oxc_sourcemap_parts.specs.Views.{text_of, ids_of, record_of_parts, cow_texts};
-ghost use Rattle.oxc_sourcemap_encode.specs.Encoded.{written_contents, encoded_record};
-ghost use Rattle.oxc_sourcemap_encode.specs.JsonText.{json_list, content_text, field_text, optional_field, json_text, map_text, map_url};
-ghost use Rattle.oxc_sourcemap_encode.specs.JsonParts.{head_text, lists_text, tail_text};
-ghost use Rattle.oxc_sourcemap_tokens.specs.Results.{Answers, OnlyMemory, Pushes};
+ghost use Rattle.std.specs.Prelude.{◌≡◌, ◌≢◌, ◌++◌, map, string_bytes, codes, decimal, IfErr, OnOk};
+ghost use Rattle.std.specs.Prelude.{Ok, Some, None};
+ghost use Rattle.oxc_sourcemap_encode.specs.Words.{OutOfMemory, canonical, writing_fault};
+ghost use Rattle.oxc_sourcemap_encode.specs.Words.{json_string, text_of, ids_of, record_of_parts};
+ghost use Rattle.oxc_sourcemap_encode.specs.Words.{cow_texts, written_contents, encoded_record};
+ghost use Rattle.oxc_sourcemap_encode.specs.Words.{json_list, content_text, field_text};
+ghost use Rattle.oxc_sourcemap_encode.specs.Words.{optional_field, json_text, map_text, map_url};
+ghost use Rattle.oxc_sourcemap_encode.specs.Words.{head_text, lists_text, tail_text, Answers};
+ghost use Rattle.oxc_sourcemap_encode.specs.Words.{OnlyMemory, Pushes};
 
 use crate::encode::{chunks_of, has_content};
 use crate::json_string::push_json_string;
@@ -64,7 +63,8 @@ fn push_content(content: &Option<CowStr<'_>>, out: &mut String) -> Result<()>
 /// Appends a list of contents.
 #[tactic(auto, unfolding(crate::specs::JsonText::json_list))]
 fn push_contents(contents: &[Option<CowStr<'_>>], out: &mut String) -> Result<()>
-    ensures text { Pushes result out.old out.new (json_list content_text (map text_of contents.now)) }
+    ensures text { Pushes result out.old out.new
+        (json_list content_text (map text_of contents.now)) }
     ensures error { OnlyMemory result }
 {
     out.push('[')?;
@@ -102,7 +102,8 @@ fn push_ids(alloc: Global, ids: &[u32], out: &mut String) -> Result<()>
 /// Appends a field with a text, if there is one.
 #[tactic(auto, unfolding(crate::specs::JsonText::field_text, crate::specs::JsonText::optional_field))]
 fn push_optional_text(key: &str, text: &Option<CowStr<'_>>, out: &mut String) -> Result<()>
-    ensures text { Pushes result out.old out.new (optional_field key.now json_string (text_of text.now)) }
+    ensures text { Pushes result out.old out.new
+        (optional_field key.now json_string (text_of text.now)) }
     ensures error { OnlyMemory result }
 {
     let Some(text) = text else {
@@ -119,7 +120,9 @@ fn push_optional_contents(
     contents: &[Option<CowStr<'_>>],
     out: &mut String,
 ) -> Result<()>
-    ensures text { Pushes result out.old out.new (optional_field key.now (json_list content_text) (written_contents (map text_of contents.now))) }
+    ensures text { Pushes result out.old out.new
+        (optional_field key.now (json_list content_text)
+        (written_contents (map text_of contents.now))) }
     ensures error { OnlyMemory result }
 {
     if !has_content(contents) {
@@ -137,7 +140,8 @@ fn push_optional_ids(
     list: &Option<Vec<u32>>,
     out: &mut String,
 ) -> Result<()>
-    ensures text { Pushes result out.old out.new (optional_field key.now (json_list decimal) (ids_of list.now)) }
+    ensures text { Pushes result out.old out.new
+        (optional_field key.now (json_list decimal) (ids_of list.now)) }
     ensures error { OnlyMemory result }
 {
     let Some(list) = list else {
@@ -150,7 +154,8 @@ fn push_optional_ids(
 /// Appends a field with strings.
 #[tactic(auto, unfolding(crate::specs::JsonText::field_text))]
 fn push_texts_field(key: &str, texts: &[CowStr<'_>], out: &mut String) -> Result<()>
-    ensures text { Pushes result out.old out.new (field_text key.now (json_list json_string (cow_texts texts.now))) }
+    ensures text { Pushes result out.old out.new
+        (field_text key.now (json_list json_string (cow_texts texts.now))) }
     ensures error { OnlyMemory result }
 {
     push_key(key, out)?;
@@ -160,9 +165,13 @@ fn push_texts_field(key: &str, texts: &[CowStr<'_>], out: &mut String) -> Result
 /// Appends the field with the mappings: the canonical text of the tokens, in which no byte needs an escape.
 #[tactic(auto, unfolding(crate::specs::JsonText::field_text, crate::specs::JsonString::json_string))]
 fn push_mappings(parts: &SourceMapParts<'_>, out: &mut String) -> Result<()>
-    ensures text { let r = record_of_parts parts.now in Pushes result out.old out.new (field_text (codes "mappings") (json_string (canonical r.tokens))) }
-    ensures clean { let r = record_of_parts parts.now in OnOk result (writing_fault r.tokens r.token_chunks ≡ None) }
-    ensures error { let r = record_of_parts parts.now in IfErr result (λ e. (e ≢ OutOfMemory) → writing_fault r.tokens r.token_chunks ≡ Some e) }
+    ensures text { let r = record_of_parts parts.now in
+        Pushes result out.old out.new (field_text (codes "mappings")
+        (json_string (canonical r.tokens))) }
+    ensures clean { let r = record_of_parts parts.now in
+        OnOk result (writing_fault r.tokens r.token_chunks ≡ None) }
+    ensures error { let r = record_of_parts parts.now in
+        IfErr result (λ e. (e ≢ OutOfMemory) → writing_fault r.tokens r.token_chunks ≡ Some e) }
 {
     out.push_str(",\"mappings\":\"")?;
     encode_mappings(parts.tokens.as_slice(), chunks_of(parts), out)?;
@@ -177,7 +186,8 @@ fn push_head(
     source_root: &Option<CowStr<'_>>,
     out: &mut String,
 ) -> Result<()>
-    ensures text { Pushes result out.old out.new (head_text (text_of file.now) (text_of source_root.now)) }
+    ensures text { Pushes result out.old out.new
+        (head_text (text_of file.now) (text_of source_root.now)) }
     ensures error { OnlyMemory result }
 {
     out.push_str("{\"version\":3")?;
@@ -196,7 +206,9 @@ fn push_lists(
     ignore_list: &Option<Vec<u32>>,
     out: &mut String,
 ) -> Result<()>
-    ensures text { Pushes result out.old out.new (lists_text (cow_texts names.now) (cow_texts sources.now) (written_contents (map text_of contents.now)) (ids_of ignore_list.now)) }
+    ensures text { Pushes result out.old out.new
+        (lists_text (cow_texts names.now) (cow_texts sources.now)
+        (written_contents (map text_of contents.now)) (ids_of ignore_list.now)) }
     ensures error { OnlyMemory result }
 {
     push_texts_field("names", names, out)?;
@@ -209,9 +221,12 @@ fn push_lists(
 /// Appends the mappings, the debug id, and the end of the object.
 #[tactic(auto, unfolding(crate::specs::JsonParts::tail_text))]
 fn push_tail(parts: &SourceMapParts<'_>, out: &mut String) -> Result<()>
-    ensures text { let r = record_of_parts parts.now in Pushes result out.old out.new (tail_text (canonical r.tokens) r.debug_id) }
-    ensures clean { let r = record_of_parts parts.now in OnOk result (writing_fault r.tokens r.token_chunks ≡ None) }
-    ensures error { let r = record_of_parts parts.now in IfErr result (λ e. (e ≢ OutOfMemory) → writing_fault r.tokens r.token_chunks ≡ Some e) }
+    ensures text { let r = record_of_parts parts.now in
+        Pushes result out.old out.new (tail_text (canonical r.tokens) r.debug_id) }
+    ensures clean { let r = record_of_parts parts.now in
+        OnOk result (writing_fault r.tokens r.token_chunks ≡ None) }
+    ensures error { let r = record_of_parts parts.now in
+        IfErr result (λ e. (e ≢ OutOfMemory) → writing_fault r.tokens r.token_chunks ≡ Some e) }
 {
     push_mappings(parts, out)?;
     push_optional_text("debugId", &parts.debug_id, out)?;
@@ -221,9 +236,12 @@ fn push_tail(parts: &SourceMapParts<'_>, out: &mut String) -> Result<()>
 
 /// Appends the fields of a map as a JSON object.
 fn push_object(alloc: Global, parts: &SourceMapParts<'_>, out: &mut String) -> Result<()>
-    ensures text { Pushes result out.old out.new (json_text (encoded_record (record_of_parts parts.now))) }
-    ensures clean { let r = record_of_parts parts.now in OnOk result (writing_fault r.tokens r.token_chunks ≡ None) }
-    ensures error { let r = record_of_parts parts.now in IfErr result (λ e. (e ≢ OutOfMemory) → writing_fault r.tokens r.token_chunks ≡ Some e) }
+    ensures text { Pushes result out.old out.new
+        (json_text (encoded_record (record_of_parts parts.now))) }
+    ensures clean { let r = record_of_parts parts.now in
+        OnOk result (writing_fault r.tokens r.token_chunks ≡ None) }
+    ensures error { let r = record_of_parts parts.now in
+        IfErr result (λ e. (e ≢ OutOfMemory) → writing_fault r.tokens r.token_chunks ≡ Some e) }
 {
     push_head(&parts.file, &parts.source_root, out)?;
     push_lists(

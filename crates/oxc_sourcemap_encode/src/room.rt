@@ -1,7 +1,7 @@
 //! Room for the JSON text of a map, taken once, so that a large text is not moved while it is written.
 ghost use Rattle.std.specs.Prelude.{◌+◌};
 ghost use Rattle.std.specs.List.{sum_by};
-ghost use Rattle.oxc_sourcemap_encode.specs.Room.{string_room, content_room, IsRoomFor};
+ghost use Rattle.oxc_sourcemap_encode.specs.Words.{string_room, content_room, IsRoomFor};
 
 use oxc_sourcemap_parts::SourceMapParts;
 use std::borrow::CowStr;
@@ -47,7 +47,8 @@ fn contents_room(contents: &[Option<CowStr<'_>>]) -> usize
 
 /// Room for the JSON text of a map. A text with more escapes or longer mappings grows on.
 pub(crate) fn text_room(parts: &SourceMapParts<'_>) -> usize
-    ensures { IsRoomFor (sum_by string_room parts.now.names.items + (sum_by string_room parts.now.sources.items + sum_by content_room parts.now.source_contents.items)) result }
+    ensures { IsRoomFor (sum_by string_room parts.now.names.items +
+        (sum_by string_room parts.now.sources.items + sum_by content_room parts.now.source_contents.items)) result }
 {
     let names = texts_room(parts.names.as_slice());
     let sources = texts_room(parts.sources.as_slice());

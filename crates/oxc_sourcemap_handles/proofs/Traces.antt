@@ -1,5 +1,6 @@
 -- A `Place` made of the token that is found at a position is the trace at that position.
-use Rattle.std.proofs.Common.{◌≡◌, Bool, true, false, ℕ, ◌<◌, suc, List, [], ◌∷◌, length, get_or, Option, option_map, ap, subst, ◌∙◌, arith}
+use Rattle.std.proofs.Common.{◌≡◌, Bool, true, false, ℕ, ◌<◌, suc, List, [], ◌∷◌, length, get_or}
+use Rattle.std.proofs.Common.{Option, option_map, ap, subst, ◌∙◌, arith}
 use Rattle.std.specs.List.{AllZip}
 use Rattle.oxc_sourcemap_parts.specs.Sorted.{are_tokens_sorted}
 use Rattle.oxc_sourcemap_tokens.specs.Token.{TokenRecord}

@@ -12,7 +12,8 @@ use contract.Monad.{fact_use}
 use denote.RawPtr.{Testable, lies_at}
 use Rattle.std_heap.proofs.GlobalToken.{dealloc_token-Testable}
 use types.Logic.{Logic, sem}
-use types.Kit.{given, learn, use1, Item, Goal, Seq, Step, step, ‵, ◌$◌, move, drop, fsplit, fsplit3, fjoin, fjoin3, fpick, fpack, rewrite, feq_i, feq_l}
+use types.Kit.{given, learn, use1, Item, Goal, Seq, Step, step, ‵, ◌$◌, move, drop, fsplit, fsplit3}
+use types.Kit.{fjoin, fjoin3, fpick, fpack, rewrite, feq_i, feq_l}
 use denote.RattleType.{RattleType, Valss}
 use denote.Builtin.{RawPtr}
 use denote.Laws.{Is, Lawful, Typed, shows}

@@ -1,5 +1,7 @@
 -- The results and errors of calls on what handles hold.
-use Rattle.std.specs.Prelude.{◌≡◌, ◌≢◌, ℕ, List, ◌⊎◌, Option, Some, None, Result, Ok, Err, MatchOption, MatchResult, IsUtf8, slice_get, length, Bool, true, false}
+use Rattle.std.specs.Prelude.{◌≡◌, ◌≢◌, ℕ, List, ◌⊎◌, Option, Some, None, Result, Ok, Err}
+use Rattle.std.specs.Prelude.{MatchOption, MatchResult, IsUtf8, slice_get, length, Bool, true}
+use Rattle.std.specs.Prelude.{false}
 use Rattle.std.specs.Option.{option_and_then}
 use Rattle.std.specs.Str.Lossy.{utf8_valid_len}
 use Rattle.oxc_sourcemap_tokens.specs.declared.error.Error.{Error}
@@ -8,12 +10,15 @@ use Rattle.oxc_sourcemap_decode.specs.ReadMap.{read_map}
 use Rattle.oxc_sourcemap_lookup.specs.Composed.{SomeComposition}
 use Rattle.oxc_sourcemap_map.specs.View.{content_at}
 use Rattle.oxc_sourcemap_handles.specs.declared.refusal.Refusal.{Refusal}
-use Rattle.oxc_sourcemap_handles.specs.declared.refusal.Refusal.TheVariants.{EmptyHandle, NotUtf8, NoEntry}
+use Rattle.oxc_sourcemap_handles.specs.declared.refusal.Refusal.TheVariants.{EmptyHandle, NotUtf8}
+use Rattle.oxc_sourcemap_handles.specs.declared.refusal.Refusal.TheVariants.{NoEntry}
 use Rattle.oxc_sourcemap_handles.specs.declared.fault.Fault.{Fault}
 use Rattle.oxc_sourcemap_handles.specs.declared.held.Held.{Held}
 use Rattle.oxc_sourcemap_handles.specs.declared.text.Text.{Text as LentText}
 use Rattle.oxc_sourcemap_handles.specs.declared.asked.Asked.{Asked}
-use Rattle.oxc_sourcemap_handles.specs.declared.asked.Asked.TheVariants.{Name, Source, SourceContent, File, SourceRoot, DebugId}
+use Rattle.oxc_sourcemap_handles.specs.declared.asked.Asked.TheVariants.{Name, Source}
+use Rattle.oxc_sourcemap_handles.specs.declared.asked.Asked.TheVariants.{SourceContent, File}
+use Rattle.oxc_sourcemap_handles.specs.declared.asked.Asked.TheVariants.{SourceRoot, DebugId}
 use Rattle.oxc_sourcemap_handles.specs.Refusals.{out_of_memory, of_map}
 use Rattle.oxc_sourcemap_handles.specs.Codes.{fault_of, code_of}
 use Rattle.oxc_sourcemap_handles.specs.Holding.{held_map}

@@ -1,5 +1,6 @@
 -- Calls on the builders that handles hold, and their errors.
-use Rattle.std.specs.Prelude.{◌≡◌, ◌≤◌, ◌⊎◌, ℕ, List, [], ◌∷◌, ◌++◌, length, Option, Some, IsNone, MatchOption, IsUtf8}
+use Rattle.std.specs.Prelude.{◌≡◌, ◌≤◌, ◌⊎◌, ℕ, List, [], ◌∷◌, ◌++◌, length, Option, Some, IsNone}
+use Rattle.std.specs.Prelude.{MatchOption, IsUtf8}
 use Rattle.std.specs.FinMap as fin
 use Rattle.oxc_sourcemap_tokens.specs.declared.error.Error.TheVariants.{TooLarge}
 use Rattle.oxc_sourcemap_parts.specs.Record.{Text}

@@ -10,3 +10,4 @@ pub mod Answers
 pub mod Joins
 pub mod Steps
 pub mod Builders
+pub mod Words

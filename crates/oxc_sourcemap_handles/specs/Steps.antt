@@ -3,8 +3,10 @@ use Rattle.std.specs.Prelude.{◌≡◌, ℕ, List, Option, Some}
 use Rattle.oxc_sourcemap_builders.specs.Built.{Built}
 use Rattle.oxc_sourcemap_builders.specs.Building.{with_name, with_path}
 use Rattle.oxc_sourcemap_handles.specs.declared.builders.Step.{Step}
-use Rattle.oxc_sourcemap_handles.specs.declared.builders.Step.TheVariants.{Name, Source, File, Mapping}
-use Rattle.oxc_sourcemap_handles.specs.Builders.{with_file, with_token, token_of, NameHasNoId, SourceHasNoId}
+use Rattle.oxc_sourcemap_handles.specs.declared.builders.Step.TheVariants.{Name, Source, File}
+use Rattle.oxc_sourcemap_handles.specs.declared.builders.Step.TheVariants.{Mapping}
+use Rattle.oxc_sourcemap_handles.specs.Builders.{with_file, with_token, token_of, NameHasNoId}
+use Rattle.oxc_sourcemap_handles.specs.Builders.{SourceHasNoId}
 
 -- a builder after a step, and the id that the step returns: 0 if it adds nothing that has one
 abbrev pub stepped : Built → Step → Built × ℕ

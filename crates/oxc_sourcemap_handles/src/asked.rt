@@ -1,7 +1,6 @@
 //! The texts of a map that a call may ask for.
 ghost use Rattle.std.specs.Prelude.{◌≡◌};
-ghost use Rattle.oxc_sourcemap_handles.specs.Answers.{text_at};
-ghost use Rattle.oxc_sourcemap_tokens.specs.Results.{lent_item};
+ghost use Rattle.oxc_sourcemap_handles.specs.Words.{text_at, lent_item};
 
 use oxc_sourcemap_map::OwnedSourceMap;
 

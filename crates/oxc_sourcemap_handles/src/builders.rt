@@ -1,17 +1,14 @@
 //! Calls on the builders that handles hold.
-ghost use Rattle.std.specs.Prelude.{◌≡◌, ◌≢◌, ⊤, None, Some, Err, IsUtf8, IfOk, IfErr, OnErr, MatchOption, MatchResult};
-ghost use Rattle.oxc_sourcemap_tokens.specs.declared.error.Error.TheVariants.{OutOfMemory, TooLarge};
-ghost use Rattle.oxc_sourcemap_tokens.specs.Token.{id_of};
-ghost use Rattle.oxc_sourcemap_builders.specs.Built.{nothing_built};
-ghost use Rattle.oxc_sourcemap_builders.specs.Building.{with_name, with_path};
-ghost use Rattle.oxc_sourcemap_handles.specs.declared.builders.Step.TheVariants.{File, Mapping};
-ghost use Rattle.oxc_sourcemap_handles.specs.Refusals.{out_of_memory, of_map};
-ghost use Rattle.oxc_sourcemap_handles.specs.Codes.{fault_of, code_of, no_fault};
-ghost use Rattle.oxc_sourcemap_handles.specs.Holding.{held_builder};
-ghost use Rattle.oxc_sourcemap_handles.specs.Answers.{IsRefusedAs};
-ghost use Rattle.oxc_sourcemap_handles.specs.Steps.{stepped, HasNoId};
-ghost use Rattle.oxc_sourcemap_handles.specs.Builders.{token_of, with_token, with_file, Builds, NameHasNoId, SourceHasNoId, IsAddRefusal, IsBuilderRefusal, IsNameRefusal, IsSourceRefusal, IsFileRefusal};
-ghost use Rattle.oxc_sourcemap_tokens.specs.Results.{OnlyMemory};
+ghost use Rattle.std.specs.Prelude.{◌≡◌, ◌≢◌, ⊤, None, Some, Err, IsUtf8, IfOk, IfErr, OnErr};
+ghost use Rattle.std.specs.Prelude.{MatchOption, MatchResult};
+ghost use Rattle.oxc_sourcemap_handles.specs.Words.{OutOfMemory, TooLarge, id_of, nothing_built};
+ghost use Rattle.oxc_sourcemap_handles.specs.Words.{with_name, with_path, File, Mapping};
+ghost use Rattle.oxc_sourcemap_handles.specs.Words.{out_of_memory, of_map, fault_of, code_of};
+ghost use Rattle.oxc_sourcemap_handles.specs.Words.{no_fault, held_builder, IsRefusedAs, stepped};
+ghost use Rattle.oxc_sourcemap_handles.specs.Words.{HasNoId, token_of, with_token, with_file};
+ghost use Rattle.oxc_sourcemap_handles.specs.Words.{Builds, NameHasNoId, SourceHasNoId};
+ghost use Rattle.oxc_sourcemap_handles.specs.Words.{IsAddRefusal, IsBuilderRefusal, IsNameRefusal};
+ghost use Rattle.oxc_sourcemap_handles.specs.Words.{IsSourceRefusal, IsFileRefusal, OnlyMemory};
 
 use crate::fault::Fault;
 use crate::handle::Handle;
@@ -81,7 +78,8 @@ fn make(
     step: Step<'_>,
 ) -> oxc_sourcemap_tokens::Result<u32>
     ensures made { IfOk result (λ id. (builder.new, id) ≡ stepped builder.old step.entry) }
-    ensures error { IfErr result (λ e. (e ≢ OutOfMemory) → (e ≡ TooLarge) × HasNoId step.entry builder.old) }
+    ensures error { IfErr result (λ e. (e ≢ OutOfMemory)
+        → (e ≡ TooLarge) × HasNoId step.entry builder.old) }
     ensures too_large { HasNoId step.entry builder.old → result ≡ Err TooLarge }
     ensures unchanged { OnErr result (builder.new ≡ builder.old) }
 {
@@ -94,9 +92,12 @@ fn make(
 }
 
 fn make_held(held: &mut Held, step: Step<'_>) -> Result<u32, Refusal>
-    ensures made { IfOk result (λ id. Builds (Some held.old) (Some held.new) (λ b c. (c, id) ≡ stepped b step.entry)) }
-    ensures error { IfErr result (λ r. (r ≢ out_of_memory) → IsAddRefusal (Some held.old) (HasNoId step.entry) r) }
-    ensures too_large { MatchOption (held_builder (Some held.old)) ⊤ (λ b. HasNoId step.entry b → result ≡ Err (of_map TooLarge)) }
+    ensures made { IfOk result (λ id. Builds (Some held.old) (Some held.new)
+        (λ b c. (c, id) ≡ stepped b step.entry)) }
+    ensures error { IfErr result (λ r. (r ≢ out_of_memory)
+        → IsAddRefusal (Some held.old) (HasNoId step.entry) r) }
+    ensures too_large { MatchOption (held_builder (Some held.old)) ⊤
+        (λ b. HasNoId step.entry b → result ≡ Err (of_map TooLarge)) }
     ensures unchanged { OnErr result (held.new ≡ held.old) }
 {
     match held {
@@ -107,9 +108,12 @@ fn make_held(held: &mut Held, step: Step<'_>) -> Result<u32, Refusal>
 
 /// Makes a step in the builder of a handle, and returns the id of what it adds, or 0.
 fn make_in(alloc: Global, handle: &mut Handle, step: Step<'_>) -> Result<u32, Refusal>
-    ensures made { IfOk result (λ id. Builds handle.old.held handle.new.held (λ b c. (c, id) ≡ stepped b step.entry)) }
-    ensures error { IfErr result (λ r. (r ≢ out_of_memory) → IsAddRefusal handle.old.held (HasNoId step.entry) r) }
-    ensures too_large { MatchOption (held_builder handle.old.held) ⊤ (λ b. HasNoId step.entry b → result ≡ Err (of_map TooLarge)) }
+    ensures made { IfOk result (λ id. Builds handle.old.held handle.new.held
+        (λ b c. (c, id) ≡ stepped b step.entry)) }
+    ensures error { IfErr result (λ r. (r ≢ out_of_memory)
+        → IsAddRefusal handle.old.held (HasNoId step.entry) r) }
+    ensures too_large { MatchOption (held_builder handle.old.held) ⊤
+        (λ b. HasNoId step.entry b → result ≡ Err (of_map TooLarge)) }
     ensures unchanged { OnErr result (handle.new.held ≡ handle.old.held) }
 {
     match handle.take(alloc) {
@@ -125,9 +129,12 @@ fn make_in(alloc: Global, handle: &mut Handle, step: Step<'_>) -> Result<u32, Re
 
 /// Adds a name to the builder in a handle.
 pub fn add_name(alloc: Global, handle: &mut Handle, name: &[u8]) -> Result<u32, Refusal>
-    ensures added { IfOk result (λ id. Builds handle.old.held handle.new.held (λ b c. (c, id) ≡ with_name b name.now)) }
-    ensures error { IfErr result (λ r. (r ≢ out_of_memory) → IsNameRefusal handle.old.held name.now r) }
-    ensures too_large { MatchOption (held_builder handle.old.held) ⊤ (λ b. IsUtf8 name.now → NameHasNoId name.now b → result ≡ Err (of_map TooLarge)) }
+    ensures added { IfOk result (λ id. Builds handle.old.held handle.new.held
+        (λ b c. (c, id) ≡ with_name b name.now)) }
+    ensures error { IfErr result (λ r. (r ≢ out_of_memory)
+        → IsNameRefusal handle.old.held name.now r) }
+    ensures too_large { MatchOption (held_builder handle.old.held) ⊤
+        (λ b. IsUtf8 name.now → NameHasNoId name.now b → result ≡ Err (of_map TooLarge)) }
     ensures unchanged { OnErr result (handle.new.held ≡ handle.old.held) }
 {
     let name = text_of(name)?;
@@ -141,9 +148,12 @@ pub fn add_source(
     path: &[u8],
     content: &[u8],
 ) -> Result<u32, Refusal>
-    ensures added { IfOk result (λ id. Builds handle.old.held handle.new.held (λ b c. (c, id) ≡ with_path b path.now content.now)) }
-    ensures error { IfErr result (λ r. (r ≢ out_of_memory) → IsSourceRefusal handle.old.held path.now content.now r) }
-    ensures too_large { MatchOption (held_builder handle.old.held) ⊤ (λ b. IsUtf8 path.now → IsUtf8 content.now → SourceHasNoId path.now b
+    ensures added { IfOk result (λ id. Builds handle.old.held handle.new.held
+        (λ b c. (c, id) ≡ with_path b path.now content.now)) }
+    ensures error { IfErr result (λ r. (r ≢ out_of_memory)
+        → IsSourceRefusal handle.old.held path.now content.now r) }
+    ensures too_large { MatchOption (held_builder handle.old.held) ⊤
+        (λ b. IsUtf8 path.now → IsUtf8 content.now → SourceHasNoId path.now b
         → result ≡ Err (of_map TooLarge)) }
     ensures unchanged { OnErr result (handle.new.held ≡ handle.old.held) }
 {
@@ -154,8 +164,10 @@ pub fn add_source(
 
 /// Sets the file of the builder in a handle.
 pub fn set_file(alloc: Global, handle: &mut Handle, file: &[u8]) -> Result<u32, Refusal>
-    ensures set { IfOk result (λ id. Builds handle.old.held handle.new.held (λ b c. c ≡ with_file b file.now)) }
-    ensures error { IfErr result (λ r. (r ≢ out_of_memory) → IsFileRefusal handle.old.held file.now r) }
+    ensures set { IfOk result (λ id. Builds handle.old.held handle.new.held
+        (λ b c. c ≡ with_file b file.now)) }
+    ensures error { IfErr result (λ r. (r ≢ out_of_memory)
+        → IsFileRefusal handle.old.held file.now r) }
     ensures unchanged { OnErr result (handle.new.held ≡ handle.old.held) }
 {
     let file = text_of(file)?;
@@ -164,7 +176,8 @@ pub fn set_file(alloc: Global, handle: &mut Handle, file: &[u8]) -> Result<u32, 
 
 /// Adds a token to the builder in a handle.
 pub fn add_token(alloc: Global, handle: &mut Handle, token: TokenNumbers) -> Result<u32, Refusal>
-    ensures added { IfOk result (λ id. Builds handle.old.held handle.new.held (λ b c. c ≡ with_token b (token_of token))) }
+    ensures added { IfOk result (λ id. Builds handle.old.held handle.new.held
+        (λ b c. c ≡ with_token b (token_of token))) }
     ensures error { IfErr result (λ r. (r ≢ out_of_memory) → IsBuilderRefusal handle.old.held r) }
     ensures unchanged { OnErr result (handle.new.held ≡ handle.old.held) }
 {
@@ -174,8 +187,10 @@ pub fn add_token(alloc: Global, handle: &mut Handle, token: TokenNumbers) -> Res
 /// The map that the builder in a handle has built. The handle is then empty.
 pub fn finish(alloc: Global, handle: &mut Handle) -> Result<OwnedSourceMap, Refusal>
     ensures emptied { handle.new.held ≡ None }
-    ensures map { IfOk result (λ map. MatchOption (held_builder handle.old.held) ⊥ (λ b. map ≡ b.map)) }
-    ensures nothing_else { IfOk result (λ map. (map.source_root ≡ None) × (map.ignore_list ≡ None) × (map.debug_id ≡ None)) }
+    ensures map { IfOk result (λ map. MatchOption (held_builder handle.old.held) ⊥
+        (λ b. map ≡ b.map)) }
+    ensures nothing_else { IfOk result (λ map. (map.source_root ≡ None) × (map.ignore_list ≡ None)
+        × (map.debug_id ≡ None)) }
     ensures error { IfErr result (λ r. (r ≢ out_of_memory) → IsBuilderRefusal handle.old.held r) }
 {
     match handle.take(alloc) {
@@ -198,8 +213,10 @@ fn new_builder(alloc: Global) -> Result<Box<Held>, Refusal>
 
 /// Puts a builder with nothing in it into a handle, whose old builder is then dropped, and returns the code.
 pub fn put_builder(alloc: Global, handle: &mut Handle, fault: &mut Fault) -> u32
-    ensures built { result ≡ 0 → (held_builder handle.new.held ≡ Some nothing_built) × (fault.new ≡ no_fault) }
-    ensures error { result ≢ 0 → (handle.new.held ≡ handle.old.held) × IsRefusedAs result fault.new (λ r. ⊥) }
+    ensures built { result ≡ 0 → (held_builder handle.new.held ≡ Some nothing_built)
+        × (fault.new ≡ no_fault) }
+    ensures error { result ≢ 0 → (handle.new.held ≡ handle.old.held)
+        × IsRefusedAs result fault.new (λ r. ⊥) }
 {
     let made = new_builder(alloc);
     put(alloc, made, handle, fault)

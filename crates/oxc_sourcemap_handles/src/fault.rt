@@ -1,6 +1,8 @@
 //! Errors as numbers.
 ghost use Rattle.std.specs.Prelude.{◌≡◌, ◌%◌};
-ghost use Rattle.oxc_sourcemap_handles.specs.Codes.{fault_of, fault_of_error, fault_of_plan_error, fault_of_json, number_of_field, no_fault, refusal_of, error_of, field_of};
+ghost use Rattle.oxc_sourcemap_handles.specs.Words.{fault_of, fault_of_error, fault_of_plan_error};
+ghost use Rattle.oxc_sourcemap_handles.specs.Words.{fault_of_json, number_of_field, no_fault};
+ghost use Rattle.oxc_sourcemap_handles.specs.Words.{refusal_of, error_of, field_of};
 
 use crate::refusal::Refusal;
 use oxc_sourcemap_tokens::{Error, Field, JsonFault, PlanError};

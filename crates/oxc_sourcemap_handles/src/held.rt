@@ -1,12 +1,8 @@
 //! What a handle holds.
 ghost use Rattle.std.specs.Prelude.{◌≡◌, true, length, IfOk, IfErr, OnOk, OnErr};
-ghost use Rattle.oxc_sourcemap_tokens.specs.declared.error.Error.TheVariants.{OutOfMemory};
-ghost use Rattle.oxc_sourcemap_tokens.specs.LineOrder.{IsInLineOrder};
-ghost use Rattle.oxc_sourcemap_parts.specs.Sorted.{are_tokens_sorted};
-ghost use Rattle.oxc_sourcemap_lookup.specs.LineSpans.{IsIndexOf};
-ghost use Rattle.oxc_sourcemap_handles.specs.Indexed.{IsOutOfOrder};
-ghost use Rattle.oxc_sourcemap_handles.specs.Traces.{found_at, IsTraceOf, AreTracesOf};
-ghost use Rattle.oxc_sourcemap_tokens.specs.Results.{OnlyMemory};
+ghost use Rattle.oxc_sourcemap_handles.specs.Words.{OutOfMemory, IsInLineOrder, are_tokens_sorted};
+ghost use Rattle.oxc_sourcemap_handles.specs.Words.{IsIndexOf, IsOutOfOrder, found_at, IsTraceOf};
+ghost use Rattle.oxc_sourcemap_handles.specs.Words.{AreTracesOf, OnlyMemory};
 
 use crate::text::Place;
 use oxc_sourcemap_builders::SourceMapBuilder;
@@ -96,7 +92,8 @@ impl LoadedMap {
     /// The trace of the map at a generated position, clamped as in `find`. Fails with `LineOrder` if the tokens are not in line
     /// order.
     pub fn trace(&self, at: Position, clamped: bool) -> Result<Place>
-        ensures place { IfOk result (λ place. IsInLineOrder self.now.tokens × IsTraceOf clamped self.now at place) }
+        ensures place { IfOk result (λ place. IsInLineOrder self.now.tokens
+            × IsTraceOf clamped self.now at place) }
         ensures error { IfErr result (IsOutOfOrder self.now.tokens) }
     {
         let index = self.index()?;

@@ -1,10 +1,8 @@
 //! Joins of the maps that handles hold.
 ghost use Rattle.std.specs.Prelude.{◌≡◌, ◌≢◌, None, Some, length, IfOk, IfErr};
 ghost use Rattle.std.specs.List.{All};
-ghost use Rattle.oxc_sourcemap_join.specs.Joined.{joined};
-ghost use Rattle.oxc_sourcemap_handles.specs.declared.refusal.Refusal.TheVariants.{EmptyHandle};
-ghost use Rattle.oxc_sourcemap_handles.specs.Refusals.{out_of_memory};
-ghost use Rattle.oxc_sourcemap_handles.specs.Joins.{all_held, placed_maps, IsJoinOf, IsJoinRefusal};
+ghost use Rattle.oxc_sourcemap_handles.specs.Words.{joined, EmptyHandle, out_of_memory, all_held};
+ghost use Rattle.oxc_sourcemap_handles.specs.Words.{placed_maps, IsJoinOf, IsJoinRefusal};
 
 use crate::handle::Handle;
 use crate::operations::take_map;
@@ -21,8 +19,10 @@ fn take_maps(
     positions: &[Position],
 ) -> Result<Vec<(SourceMap<'static>, Position)>, Refusal>
     requires { length handles.old ≡ length positions.now }
-    ensures maps { IfOk result (λ maps. placed_maps (all_held handles.old) positions.now ≡ Some maps.items) }
-    ensures error { IfErr result (λ r. (r ≢ out_of_memory) → (r ≡ EmptyHandle) × (placed_maps (all_held handles.old) positions.now ≡ None)) }
+    ensures maps { IfOk result (λ maps. placed_maps (all_held handles.old) positions.now
+        ≡ Some maps.items) }
+    ensures error { IfErr result (λ r. (r ≢ out_of_memory)
+        → (r ≡ EmptyHandle) × (placed_maps (all_held handles.old) positions.now ≡ None)) }
 {
     let mut maps = Vec::new(alloc);
     for i in 0..handles.len() {
@@ -48,7 +48,8 @@ fn join_taken(
     positions: &[Position],
 ) -> Result<OwnedSourceMap, Refusal>
     ensures map { IfOk result (IsJoinOf (all_held handles.old) positions.now) }
-    ensures error { IfErr result (λ r. (r ≢ out_of_memory) → IsJoinRefusal (all_held handles.old) positions.now r) }
+    ensures error { IfErr result (λ r. (r ≢ out_of_memory)
+        → IsJoinRefusal (all_held handles.old) positions.now r) }
 {
     if handles.len() != positions.len() {
         return Err(Refusal::Lengths);
@@ -65,7 +66,8 @@ pub fn join(
 ) -> Result<OwnedSourceMap, Refusal>
     ensures emptied { All (λ h. h.held ≡ None) handles.new }
     ensures map { IfOk result (IsJoinOf (all_held handles.old) positions.now) }
-    ensures error { IfErr result (λ r. (r ≢ out_of_memory) → IsJoinRefusal (all_held handles.old) positions.now r) }
+    ensures error { IfErr result (λ r. (r ≢ out_of_memory)
+        → IsJoinRefusal (all_held handles.old) positions.now r) }
 {
     let joined = join_taken(alloc, handles, positions);
     empty(alloc, handles);

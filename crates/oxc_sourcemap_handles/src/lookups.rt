@@ -1,13 +1,12 @@
 //! Lookups in what handles hold. Each call takes the box out of its handle, looks into it and puts it back.
-ghost use Rattle.std.specs.Prelude.{◌≡◌, Some, None, Ok, Err, length, slice_get, string_bytes, IfErr, OnOk, OnErr, MatchOption, MatchResult};
-ghost use Rattle.oxc_sourcemap_encode.specs.JsonText.{map_text, map_url};
-ghost use Rattle.oxc_sourcemap_parts.specs.Sorted.{are_tokens_sorted};
-ghost use Rattle.oxc_sourcemap_handles.specs.declared.refusal.Refusal.TheVariants.{EmptyHandle};
-ghost use Rattle.oxc_sourcemap_handles.specs.Codes.{fault_of, code_of, no_fault};
-ghost use Rattle.oxc_sourcemap_handles.specs.Holding.{held_map, held_text, HoldsMap};
-ghost use Rattle.oxc_sourcemap_handles.specs.Places.{counts_of, numbers_of};
-ghost use Rattle.oxc_sourcemap_handles.specs.Answers.{text_at, ignored_at, flag_of, IsFound, HasLength, IsWrittenAs};
-ghost use Rattle.oxc_sourcemap_handles.specs.Traces.{IsTraced, AreTracesOf, IsTraceRefusal, IsTraceAllRefusal};
+ghost use Rattle.std.specs.Prelude.{◌≡◌, Some, None, Ok, Err, length, slice_get, string_bytes};
+ghost use Rattle.std.specs.Prelude.{IfErr, OnOk, OnErr, MatchOption, MatchResult};
+ghost use Rattle.oxc_sourcemap_handles.specs.Words.{map_text, map_url, are_tokens_sorted};
+ghost use Rattle.oxc_sourcemap_handles.specs.Words.{EmptyHandle, fault_of, code_of, no_fault};
+ghost use Rattle.oxc_sourcemap_handles.specs.Words.{held_map, held_text, HoldsMap, counts_of};
+ghost use Rattle.oxc_sourcemap_handles.specs.Words.{numbers_of, text_at, ignored_at, flag_of};
+ghost use Rattle.oxc_sourcemap_handles.specs.Words.{IsFound, HasLength, IsWrittenAs, IsTraced};
+ghost use Rattle.oxc_sourcemap_handles.specs.Words.{AreTracesOf, IsTraceRefusal, IsTraceAllRefusal};
 
 use crate::asked::Asked;
 use crate::fault::Fault;
@@ -21,7 +20,8 @@ use std::alloc::Global;
 
 /// Writes what was found, or nothing on an error, and returns the code.
 pub fn answered<T: Drop>(answer: Result<T, Refusal>, out: &mut T) -> u32
-    ensures { MatchResult answer (λ found. (result ≡ 0) × (out.new ≡ found)) (λ r. (result ≡ code_of r) × (out.new ≡ out.old)) }
+    ensures { MatchResult answer (λ found. (result ≡ 0) × (out.new ≡ found))
+        (λ r. (result ≡ code_of r) × (out.new ≡ out.old)) }
 {
     match answer {
         Ok(found) => {
@@ -34,7 +34,9 @@ pub fn answered<T: Drop>(answer: Result<T, Refusal>, out: &mut T) -> u32
 
 /// Writes the trace that was found, or nothing on an error, and the numbers of the error, and returns the code.
 pub fn placed(answer: Result<Place, Refusal>, place: &mut Place, fault: &mut Fault) -> u32
-    ensures { MatchResult answer (λ found. (result ≡ 0) × (place.new ≡ found) × (fault.new ≡ no_fault)) (λ r. (result ≡ code_of r) × (place.new ≡ place.old) × (fault.new ≡ fault_of r)) }
+    ensures { MatchResult answer (λ found. (result ≡ 0) × (place.new ≡ found)
+        × (fault.new ≡ no_fault)) (λ r. (result ≡ code_of r) × (place.new ≡ place.old)
+        × (fault.new ≡ fault_of r)) }
 {
     match answer {
         Ok(found) => {
@@ -51,7 +53,8 @@ pub fn placed(answer: Result<Place, Refusal>, place: &mut Place, fault: &mut Fau
 
 /// The code of a result whose traces are written already. Writes the numbers of the error.
 pub fn answered_all(answer: Result<(), Refusal>, fault: &mut Fault) -> u32
-    ensures { MatchResult answer (λ _. (result ≡ 0) × (fault.new ≡ no_fault)) (λ r. (result ≡ code_of r) × (fault.new ≡ fault_of r)) }
+    ensures { MatchResult answer (λ _. (result ≡ 0) × (fault.new ≡ no_fault))
+        (λ r. (result ≡ code_of r) × (fault.new ≡ fault_of r)) }
 {
     match answer {
         Ok(()) => {
@@ -93,7 +96,8 @@ pub fn text_of_map(alloc: Global, handle: &mut Handle, asked: Asked) -> Result<T
 }
 
 fn lent_written(held: &Held) -> Result<Text, Refusal>
-    ensures { MatchOption (held_text (Some held.now)) (result ≡ Err EmptyHandle) (λ text. MatchResult result (λ t. HasLength t text) (λ _. ⊥)) }
+    ensures { MatchOption (held_text (Some held.now)) (result ≡ Err EmptyHandle)
+        (λ text. MatchResult result (λ t. HasLength t text) (λ _. ⊥)) }
 {
     match text_in(held) {
         Some(text) => Ok(Text::of(text.as_bytes())),
@@ -103,7 +107,8 @@ fn lent_written(held: &Held) -> Result<Text, Refusal>
 
 /// The text in a handle.
 pub fn written_text(alloc: Global, handle: &mut Handle) -> Result<Text, Refusal>
-    ensures found { MatchOption (held_text handle.old.held) (result ≡ Err EmptyHandle) (λ text. MatchResult result (λ t. HasLength t text) (λ _. ⊥)) }
+    ensures found { MatchOption (held_text handle.old.held) (result ≡ Err EmptyHandle)
+        (λ text. MatchResult result (λ t. HasLength t text) (λ _. ⊥)) }
     ensures kept { handle.new.held ≡ handle.old.held }
 {
     match handle.take(alloc) {
@@ -127,7 +132,8 @@ fn counted(held: &Held) -> Result<Counts, Refusal>
 
 /// The counts of the map in a handle.
 pub fn counts(alloc: Global, handle: &mut Handle) -> Result<Counts, Refusal>
-    ensures found { IsFound result handle.old.held (λ m. Some (counts_of m)) (λ x counts. x ≡ counts) }
+    ensures found { IsFound result handle.old.held (λ m. Some (counts_of m))
+        (λ x counts. x ≡ counts) }
     ensures kept { handle.new.held ≡ handle.old.held }
 {
     match handle.take(alloc) {
@@ -148,7 +154,8 @@ fn flag(is_so: bool) -> u32
 }
 
 fn sorted(held: &Held) -> Result<u32, Refusal>
-    ensures { IsFound result (Some held.now) (λ m. Some (flag_of (are_tokens_sorted m.tokens))) (λ x is. x ≡ is) }
+    ensures { IsFound result (Some held.now) (λ m. Some (flag_of (are_tokens_sorted m.tokens)))
+        (λ x is. x ≡ is) }
 {
     match map_in(held) {
         Some(loaded) => Ok(flag(loaded.map().as_source_map().is_sorted())),
@@ -158,7 +165,8 @@ fn sorted(held: &Held) -> Result<u32, Refusal>
 
 /// Whether the tokens of the map in a handle are sorted.
 pub fn is_sorted(alloc: Global, handle: &mut Handle) -> Result<u32, Refusal>
-    ensures found { IsFound result handle.old.held (λ m. Some (flag_of (are_tokens_sorted m.tokens))) (λ x is. x ≡ is) }
+    ensures found { IsFound result handle.old.held
+        (λ m. Some (flag_of (are_tokens_sorted m.tokens))) (λ x is. x ≡ is) }
     ensures kept { handle.new.held ≡ handle.old.held }
 {
     match handle.take(alloc) {
@@ -188,7 +196,8 @@ fn ignored_in(held: &Held, index: usize) -> Result<u32, Refusal>
 
 /// An entry of the ignore list of the map in a handle.
 pub fn ignored(alloc: Global, handle: &mut Handle, index: usize) -> Result<u32, Refusal>
-    ensures found { IsFound result handle.old.held (λ m. ignored_at m index) (λ x found. x ≡ found) }
+    ensures found { IsFound result handle.old.held (λ m. ignored_at m index)
+        (λ x found. x ≡ found) }
     ensures kept { handle.new.held ≡ handle.old.held }
 {
     match handle.take(alloc) {
@@ -202,7 +211,8 @@ pub fn ignored(alloc: Global, handle: &mut Handle, index: usize) -> Result<u32, 
 }
 
 fn token_in(held: &Held, index: u32) -> Result<TokenNumbers, Refusal>
-    ensures { IsFound result (Some held.now) (λ m. slice_get m.tokens index) (λ x token. x ≡ numbers_of token) }
+    ensures { IsFound result (Some held.now) (λ m. slice_get m.tokens index)
+        (λ x token. x ≡ numbers_of token) }
 {
     let Some(loaded) = map_in(held) else {
         return Err(Refusal::EmptyHandle);
@@ -215,7 +225,8 @@ fn token_in(held: &Held, index: u32) -> Result<TokenNumbers, Refusal>
 
 /// A token of the map in a handle.
 pub fn token(alloc: Global, handle: &mut Handle, index: u32) -> Result<TokenNumbers, Refusal>
-    ensures found { IsFound result handle.old.held (λ m. slice_get m.tokens index) (λ x token. x ≡ numbers_of token) }
+    ensures found { IsFound result handle.old.held (λ m. slice_get m.tokens index)
+        (λ x token. x ≡ numbers_of token) }
     ensures kept { handle.new.held ≡ handle.old.held }
 {
     match handle.take(alloc) {
@@ -264,7 +275,8 @@ fn traced_all_in(
     clamped: bool,
 ) -> Result<(), Refusal>
     requires { length positions.now ≡ length places.old }
-    ensures places { OnOk result (HoldsMap (Some held.now) (AreTracesOf clamped positions.now places.new)) }
+    ensures places { OnOk result (HoldsMap (Some held.now)
+        (AreTracesOf clamped positions.now places.new)) }
     ensures error { IfErr result (IsTraceRefusal (held_map (Some held.now))) }
     ensures unchanged { OnErr result (places.new ≡ places.old) }
 {
@@ -282,8 +294,10 @@ pub fn traced_all(
     places: &mut [Place],
     clamped: bool,
 ) -> Result<(), Refusal>
-    ensures places { OnOk result (HoldsMap handle.old.held (AreTracesOf clamped positions.now places.new)) }
-    ensures error { IfErr result (IsTraceAllRefusal positions.now places.old (held_map handle.old.held)) }
+    ensures places { OnOk result (HoldsMap handle.old.held
+        (AreTracesOf clamped positions.now places.new)) }
+    ensures error { IfErr result (IsTraceAllRefusal positions.now places.old
+        (held_map handle.old.held)) }
     ensures unchanged { OnErr result (places.new ≡ places.old) }
     ensures kept { handle.new.held ≡ handle.old.held }
 {

@@ -1,6 +1,6 @@
 //! A box taken apart, as C keeps it.
 ghost use Rattle.std.specs.Prelude.{◌≡◌};
-ghost use Rattle.std_alloc.specs.Box.Ownership.{box_owns};
+ghost use Rattle.oxc_sourcemap_handles.specs.Words.{box_owns};
 
 use std::alloc::Allocator;
 use std::marker::Model;

@@ -1,8 +1,7 @@
 //! The messages of errors.
 ghost use Rattle.std.specs.Prelude.{◌≡◌, MatchOption};
-ghost use Rattle.oxc_sourcemap_handles.specs.Refusals.{refusal_text};
-ghost use Rattle.oxc_sourcemap_handles.specs.Codes.{refusal_of};
-ghost use Rattle.oxc_sourcemap_handles.specs.Messages.{overwritten, IsMessage};
+ghost use Rattle.oxc_sourcemap_handles.specs.Words.{refusal_text, refusal_of, overwritten};
+ghost use Rattle.oxc_sourcemap_handles.specs.Words.{IsMessage};
 
 use crate::fault::Fault;
 use crate::refusal::Refusal;
@@ -32,7 +31,8 @@ fn write_text(alloc: Global, refusal: Refusal, out: &mut [u8]) -> usize
 /// Writes as much of the message of the error with these numbers as there is room for, and returns its whole length; 0 for
 /// want of memory, and if there is no such error.
 pub fn write_message(alloc: Global, fault: &Fault, out: &mut [u8]) -> usize
-    ensures { MatchOption (refusal_of fault.now) ((result ≡ 0) × (out.new ≡ out.old)) (λ r. IsMessage (refusal_text r) out.old out.new result) }
+    ensures { MatchOption (refusal_of fault.now) ((result ≡ 0) × (out.new ≡ out.old))
+        (λ r. IsMessage (refusal_text r) out.old out.new result) }
 {
     match fault.refusal() {
         Some(refusal) => write_text(alloc, refusal, out),

@@ -1,13 +1,11 @@
 //! Reading, composing, and putting results into handles.
-ghost use Rattle.std.specs.Prelude.{◌≡◌, ◌≢◌, map, Some, None, Ok, Err, string_bytes, IfOk, IfErr, MatchOption, MatchResult};
-ghost use Rattle.oxc_sourcemap_decode.specs.ReadMap.{read_map};
-ghost use Rattle.oxc_sourcemap_lookup.specs.Composed.{composition, SomeComposition, NoColumnGoesBack};
-ghost use Rattle.oxc_sourcemap_handles.specs.declared.refusal.Refusal.TheVariants.{EmptyHandle};
-ghost use Rattle.oxc_sourcemap_handles.specs.Refusals.{out_of_memory};
-ghost use Rattle.oxc_sourcemap_handles.specs.Codes.{fault_of, code_of, no_fault};
-ghost use Rattle.oxc_sourcemap_handles.specs.Holding.{held_map, held_text, HoldsMap};
-ghost use Rattle.oxc_sourcemap_handles.specs.Answers.{IsReadRefusal, IsCompositionRefusal, IsRefusedAs};
-ghost use Rattle.oxc_sourcemap_tokens.specs.Results.{lent_item};
+ghost use Rattle.std.specs.Prelude.{◌≡◌, ◌≢◌, map, Some, None, Ok, Err, string_bytes, IfOk, IfErr};
+ghost use Rattle.std.specs.Prelude.{MatchOption, MatchResult};
+ghost use Rattle.oxc_sourcemap_handles.specs.Words.{read_map, composition, SomeComposition};
+ghost use Rattle.oxc_sourcemap_handles.specs.Words.{NoColumnGoesBack, EmptyHandle, out_of_memory};
+ghost use Rattle.oxc_sourcemap_handles.specs.Words.{fault_of, code_of, no_fault, held_map};
+ghost use Rattle.oxc_sourcemap_handles.specs.Words.{held_text, HoldsMap, IsReadRefusal};
+ghost use Rattle.oxc_sourcemap_handles.specs.Words.{IsCompositionRefusal, IsRefusedAs, lent_item};
 
 use crate::fault::Fault;
 use crate::handle::Handle;
@@ -28,7 +26,8 @@ pub fn read(alloc: Global, json: &[u8]) -> Result<OwnedSourceMap, Refusal>
 
 /// The map in a handle, taken out of it.
 pub fn take_map(alloc: Global, handle: &mut Handle) -> Result<OwnedSourceMap, Refusal>
-    ensures map { MatchOption (held_map handle.old.held) (result ≡ Err EmptyHandle) (λ map. result ≡ Ok map) }
+    ensures map { MatchOption (held_map handle.old.held) (result ≡ Err EmptyHandle)
+        (λ map. result ≡ Ok map) }
     ensures emptied { handle.new.held ≡ None }
 {
     match handle.take(alloc) {
@@ -47,9 +46,13 @@ pub fn compose(
     input: &mut Handle,
 ) -> Result<OwnedSourceMap, Refusal>
     ensures emptied { (first.new.held ≡ None) × (input.new.held ≡ None) }
-    ensures any_map { IfOk result (λ map. HoldsMap first.old.held (λ a. HoldsMap input.old.held (λ b. SomeComposition a b (Ok map)))) }
-    ensures map { IfOk result (λ map. HoldsMap first.old.held (λ a. HoldsMap input.old.held (λ b. NoColumnGoesBack b.tokens → composition a b ≡ Ok map))) }
-    ensures error { IfErr result (λ r. (r ≢ out_of_memory) → IsCompositionRefusal (held_map first.old.held) (held_map input.old.held) r) }
+    ensures any_map { IfOk result (λ map. HoldsMap first.old.held
+        (λ a. HoldsMap input.old.held (λ b. SomeComposition a b (Ok map)))) }
+    ensures map { IfOk result (λ map. HoldsMap first.old.held
+        (λ a. HoldsMap input.old.held (λ b. NoColumnGoesBack b.tokens
+        → composition a b ≡ Ok map))) }
+    ensures error { IfErr result (λ r. (r ≢ out_of_memory)
+        → IsCompositionRefusal (held_map first.old.held) (held_map input.old.held) r) }
 {
     let first = take_map(alloc, first);
     let input = take_map(alloc, input);
@@ -72,8 +75,10 @@ pub fn put_map(
     handle: &mut Handle,
     fault: &mut Fault,
 ) -> u32
-    ensures map { result ≡ 0 → MatchResult made (λ map. (held_map handle.new.held ≡ Some map) × (fault.new ≡ no_fault)) (λ _. ⊥) }
-    ensures error { result ≢ 0 → (handle.new.held ≡ handle.old.held) × IsRefusedAs result fault.new (λ r. made ≡ Err r) }
+    ensures map { result ≡ 0 → MatchResult made
+        (λ map. (held_map handle.new.held ≡ Some map) × (fault.new ≡ no_fault)) (λ _. ⊥) }
+    ensures error { result ≢ 0 → (handle.new.held ≡ handle.old.held)
+        × IsRefusedAs result fault.new (λ r. made ≡ Err r) }
 {
     let held = match made {
         Ok(map) => boxed(alloc, map),
@@ -89,8 +94,11 @@ pub fn put_text(
     handle: &mut Handle,
     fault: &mut Fault,
 ) -> u32
-    ensures text { result ≡ 0 → MatchResult written (λ text. (held_text handle.new.held ≡ Some (string_bytes text)) × (fault.new ≡ no_fault)) (λ _. ⊥) }
-    ensures error { result ≢ 0 → (handle.new.held ≡ handle.old.held) × IsRefusedAs result fault.new (λ r. written ≡ Err r) }
+    ensures text { result ≡ 0 → MatchResult written
+        (λ text. (held_text handle.new.held ≡ Some (string_bytes text)) × (fault.new ≡ no_fault))
+        (λ _. ⊥) }
+    ensures error { result ≢ 0 → (handle.new.held ≡ handle.old.held)
+        × IsRefusedAs result fault.new (λ r. written ≡ Err r) }
 {
     let held = match written {
         Ok(text) => match Box::new(alloc, Held::Written(text)) {
@@ -109,8 +117,10 @@ pub(crate) fn put(
     handle: &mut Handle,
     fault: &mut Fault,
 ) -> u32
-    ensures held { result ≡ 0 → MatchResult made (λ held. (handle.new.held ≡ Some held.value) × (fault.new ≡ no_fault)) (λ _. ⊥) }
-    ensures error { result ≢ 0 → (handle.new.held ≡ handle.old.held) × MatchResult made (λ _. ⊥) (λ r. (fault.new ≡ fault_of r) × (result ≡ code_of r)) }
+    ensures held { result ≡ 0 → MatchResult made
+        (λ held. (handle.new.held ≡ Some held.value) × (fault.new ≡ no_fault)) (λ _. ⊥) }
+    ensures error { result ≢ 0 → (handle.new.held ≡ handle.old.held)
+        × MatchResult made (λ _. ⊥) (λ r. (fault.new ≡ fault_of r) × (result ≡ code_of r)) }
 {
     match made {
         Ok(held) => {

@@ -1,9 +1,7 @@
 //! The errors of calls of the library for C.
 ghost use Rattle.std.specs.Prelude.{◌≡◌, Some};
-ghost use Rattle.oxc_sourcemap_tokens.specs.declared.error.Error.TheVariants.{OutOfMemory};
-ghost use Rattle.oxc_sourcemap_tokens.specs.declared.plan_error.PlanError.TheVariants.{Map};
-ghost use Rattle.oxc_sourcemap_handles.specs.declared.refusal.Refusal.TheVariants.{Plan};
-ghost use Rattle.oxc_sourcemap_handles.specs.Refusals.{refusal_text, out_of_memory};
+ghost use Rattle.oxc_sourcemap_handles.specs.Words.{OutOfMemory, Map, Plan, refusal_text};
+ghost use Rattle.oxc_sourcemap_handles.specs.Words.{out_of_memory};
 
 use oxc_sourcemap_tokens::{Error, PlanError};
 use std::alloc::{AllocError, AllocFailed};

@@ -2,9 +2,9 @@
 ghost use Rattle.std.specs.Prelude.{◌≡◌, [], length, option_map, Option, Some};
 ghost use Rattle.std.specs.Option.{unwrap_or};
 ghost use Rattle.std.specs.Ptr.{as_ptr};
-ghost use Rattle.oxc_sourcemap_map.specs.View.{view_of, view_original, seen_in};
-ghost use Rattle.oxc_sourcemap_handles.specs.Places.{IsPlace, HasIds, number_or_none, numbers_of, counts_of};
-ghost use Rattle.oxc_sourcemap_tokens.specs.Results.{lent_item};
+ghost use Rattle.oxc_sourcemap_handles.specs.Words.{view_of, view_original, seen_in, IsPlace};
+ghost use Rattle.oxc_sourcemap_handles.specs.Words.{HasIds, number_or_none, numbers_of, counts_of};
+ghost use Rattle.oxc_sourcemap_handles.specs.Words.{lent_item};
 
 use oxc_sourcemap_map::{OwnedSourceMap, SourceMap, SourceViewToken};
 use oxc_sourcemap_tokens::Token;
@@ -122,7 +122,8 @@ pub struct Place {
 impl Place {
     /// The trace if no token was found.
     fn nowhere() -> Place
-        ensures { (result.kind ≡ 0) × (result.source_id ≡ 4294967295) × (result.name_id ≡ 4294967295) }
+        ensures { (result.kind ≡ 0) × (result.source_id ≡ 4294967295)
+            × (result.name_id ≡ 4294967295) }
     {
         Place {
             kind: 0,
@@ -159,7 +160,8 @@ impl Place {
 
     /// The trace by the token that was found at a position, if one was.
     pub(crate) fn of(token: Option<Token>, map: &SourceMap<'static>) -> Place
-        ensures place { IsPlace result (option_map view_original (option_map (seen_in map.now) token)) }
+        ensures place { IsPlace result (option_map view_original
+            (option_map (seen_in map.now) token)) }
         ensures ids { HasIds result token }
     {
         match token {

@@ -1,6 +1,6 @@
 //! Bytes as texts.
 ghost use Rattle.std.specs.Prelude.{◌≡◌, IfOk, IfErr, IsUtf8};
-ghost use Rattle.oxc_sourcemap_handles.specs.Refusals.{IsNotText};
+ghost use Rattle.oxc_sourcemap_handles.specs.Words.{IsNotText};
 
 use crate::refusal::Refusal;
 

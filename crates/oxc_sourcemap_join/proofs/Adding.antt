@@ -1,5 +1,6 @@
 -- What is worked out for an add is right.
-use Rattle.std.proofs.Common.{◌≡◌, ℕ, ◌+◌, ◌-◌, ◌≤◌, List, [], ◌∷◌, ◌++◌, map, length, take, drop, refl, sym, ap, ◌∙◌, subst, arith, Option, Some, None, ◌⊎◌, inl, inr}
+use Rattle.std.proofs.Common.{◌≡◌, ℕ, ◌+◌, ◌-◌, ◌≤◌, List, [], ◌∷◌, ◌++◌, map, length, take, drop}
+use Rattle.std.proofs.Common.{refl, sym, ap, ◌∙◌, subst, arith, Option, Some, None, ◌⊎◌, inl, inr}
 use Rattle.oxc_sourcemap_tokens.specs.declared.error.Error.{Error}
 use Rattle.oxc_sourcemap_tokens.specs.declared.error.Error.TheVariants.{OutOfMemory, TooLarge}
 use Rattle.std.specs.List.{AllByRecursion, All}
@@ -12,12 +13,17 @@ use Rattle.oxc_sourcemap_tokens.specs.State.{state_at}
 use Rattle.oxc_sourcemap_tokens.specs.Chunks.{chunk_from, ChunksFit}
 use Rattle.oxc_sourcemap_parts.specs.Record.{Text, MapRecord}
 use Rattle.oxc_sourcemap_tokens.specs.declared.position.Position.{Position}
-use Rattle.oxc_sourcemap_join.specs.Joined.{fitted, shifted, is_same_token, without_repeat, raised_ignore_list, appended_ignore_lists, added, added_tokens, added_chunk, added_ignore_list, nothing_joined, added_all, AreEntriesInBounds, IsWithinLimits}
+use Rattle.oxc_sourcemap_join.specs.Joined.{fitted, shifted, is_same_token, without_repeat}
+use Rattle.oxc_sourcemap_join.specs.Joined.{raised_ignore_list, appended_ignore_lists, added}
+use Rattle.oxc_sourcemap_join.specs.Joined.{added_tokens, added_chunk, added_ignore_list}
+use Rattle.oxc_sourcemap_join.specs.Joined.{nothing_joined, added_all, AreEntriesInBounds}
+use Rattle.oxc_sourcemap_join.specs.Joined.{IsWithinLimits}
 use Rattle.oxc_sourcemap_join.specs.Joining.{IsJoin, all_shifted, IsAddition}
 use Rattle.oxc_sourcemap_join.specs.declared.joined_parts.Shift.{Shift}
 use Rattle.oxc_sourcemap_join.specs.declared.joined_parts.Addition.{Addition}
 use Rattle.oxc_sourcemap_join.proofs.Fitted.{length-fitted, fitted-more}
-use Rattle.oxc_sourcemap_join.proofs.Joining.{fit-added, added_all-continues, length-front, all-front}
+use Rattle.oxc_sourcemap_join.proofs.Joining.{fit-added, added_all-continues, length-front}
+use Rattle.oxc_sourcemap_join.proofs.Joining.{all-front}
 use Rattle.oxc_sourcemap_join.proofs.Moving.{repeat-in-bounds, kept-in-bounds, length-mapped}
 use Rattle.oxc_sourcemap_join.proofs.IgnoreLists.{appended-in-bounds, front-in-bounds}
 

@@ -1,5 +1,6 @@
 -- The chunks of a join fit its tokens, and more maps leave what it has.
-use Rattle.std.proofs.Common.{◌≡◌, ℕ, ◌≤◌, List, [], ◌∷◌, ◌++◌, map, length, reverse, refl, sym, ap, ◌∙◌, subst, append_assoc, ◌+◌, arith, Option, Some}
+use Rattle.std.proofs.Common.{◌≡◌, ℕ, ◌≤◌, List, [], ◌∷◌, ◌++◌, map, length, reverse, refl, sym, ap}
+use Rattle.std.proofs.Common.{◌∙◌, subst, append_assoc, ◌+◌, arith, Option, Some}
 use Rattle.std.specs.List.{AllByRecursion}
 use Rattle.std.specs.Option.{IfSome, unwrap_or}
 use Rattle.std.proofs.lemmas.List.{append-nil, length-append, take-append-le}
@@ -9,7 +10,8 @@ use Rattle.oxc_sourcemap_tokens.specs.State.{state_at, state_after, initial}
 use Rattle.oxc_sourcemap_tokens.specs.Chunks.{ChunksFitFrom, ChunksFit, chunk_from}
 use Rattle.oxc_sourcemap_parts.specs.Record.{MapRecord}
 use Rattle.oxc_sourcemap_tokens.specs.declared.position.Position.{Position}
-use Rattle.oxc_sourcemap_join.specs.Joined.{shifted, is_same_token, without_repeat, added_chunk, added, nothing_joined, added_all, joined}
+use Rattle.oxc_sourcemap_join.specs.Joined.{shifted, is_same_token, without_repeat, added_chunk}
+use Rattle.oxc_sourcemap_join.specs.Joined.{added, nothing_joined, added_all, joined}
 
 -- the state at an index does not depend on the tokens from there on
 state-front : (xs zs : List TokenRecord) (i : ℕ) → i ≤ length xs → state_at xs i ≡ state_at (xs ++ zs) i

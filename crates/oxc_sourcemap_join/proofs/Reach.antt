@@ -1,5 +1,7 @@
 -- Tokens are in bounds once they are moved exactly if their greatest numbers are.
-use Rattle.std.proofs.Common.{◌≡◌, ℕ, ◌+◌, ◌<◌, ◌==◌, Bool, true, false, cond, max, List, [], ◌∷◌, map, length, drop, get_or, arith, sym, ap, ◌∙◌, Option, Some, None, ◌↔◌}
+use Rattle.std.proofs.Common.{◌≡◌, ℕ, ◌+◌, ◌<◌, ◌==◌, Bool, true, false, cond, max, List, [], ◌∷◌}
+use Rattle.std.proofs.Common.{map, length, drop, get_or, arith, sym, ap, ◌∙◌, Option, Some, None}
+use Rattle.std.proofs.Common.{◌↔◌}
 use Rattle.std.specs.List.{All, AllByRecursion}
 use Rattle.std.specs.Option.{IfSome}
 use Rattle.std.proofs.lemmas.List.{drop_more}

@@ -1,6 +1,7 @@
 -- Joins: several maps as one, each at the position where its code begins, its ids raised by the numbers of names and sources
 -- before it.
-use Rattle.std.specs.Prelude.{ℕ, zero, suc, ◌+◌, Bool, true, false, ◌&&◌, ◌≤◌, ◌<◌, List, [], ◌∷◌, ◌++◌, map, length, Option, Some, None, if◌then◌else◌, ◌==◌}
+use Rattle.std.specs.Prelude.{ℕ, zero, suc, ◌+◌, Bool, true, false, ◌&&◌, ◌≤◌, ◌<◌, List, [], ◌∷◌}
+use Rattle.std.specs.Prelude.{◌++◌, map, length, Option, Some, None, if◌then◌else◌, ◌==◌}
 use Rattle.std.specs.Borrow.{Bor}
 use Rattle.std.specs.List.{All}
 use Rattle.std.specs.Option.{IfSome, option_map, unwrap_or}

@@ -1,11 +1,13 @@
 -- The private steps of a join. No public contract cites this module.
-use Rattle.std.specs.Prelude.{◌≡◌, ℕ, ◌+◌, ◌≤◌, List, [], ◌∷◌, map, length, drop, max, Option, Some, None, if◌then◌else◌, ◌==◌}
+use Rattle.std.specs.Prelude.{◌≡◌, ℕ, ◌+◌, ◌≤◌, List, [], ◌∷◌, map, length, drop, max, Option, Some}
+use Rattle.std.specs.Prelude.{None, if◌then◌else◌, ◌==◌}
 use Rattle.oxc_sourcemap_tokens.specs.Token.{TokenRecord, AreInBounds, last}
 use Rattle.oxc_sourcemap_tokens.specs.declared.token.TokenChunk.{TokenChunk}
 use Rattle.oxc_sourcemap_tokens.specs.Chunks.{ChunksFit}
 use Rattle.oxc_sourcemap_parts.specs.Record.{Text, MapRecord}
 use Rattle.oxc_sourcemap_tokens.specs.declared.position.Position.{Position}
-use Rattle.oxc_sourcemap_join.specs.Joined.{shifted, is_same_token, without_repeat, added_chunk, added, AreEntriesInBounds, IsWithinLimits}
+use Rattle.oxc_sourcemap_join.specs.Joined.{shifted, is_same_token, without_repeat, added_chunk}
+use Rattle.oxc_sourcemap_join.specs.Joined.{added, AreEntriesInBounds, IsWithinLimits}
 use Rattle.oxc_sourcemap_join.specs.declared.joined_parts.Shift.{Shift}
 use Rattle.oxc_sourcemap_join.specs.declared.joined_parts.Addition.{Addition}
 

@@ -1,2 +1,3 @@
 pub mod Joined
 pub mod Joining
+pub mod Words

@@ -1,16 +1,20 @@
 //! Joining the parts of maps into those of one.
-ghost use Rattle.std.specs.Prelude.{◌≡◌, ◌↔◌, ◌≤◌, ◌<◌, ◌+◌, ◌++◌, ◌⊎◌, [], map, option_map, length, replicate, drop, Some, None, IsTrue, IfSome, IfOk, IfErr, IsErrOf, OnOk, OnErr, vec_len};
+ghost use Rattle.std.specs.Prelude.{◌≡◌, ◌↔◌, ◌≤◌, ◌<◌, ◌+◌, ◌++◌, ◌⊎◌, [], map, option_map};
+ghost use Rattle.std.specs.Prelude.{length, replicate, drop, Some, None, IsTrue, IfSome, IfOk};
+ghost use Rattle.std.specs.Prelude.{IfErr, IsErrOf, OnOk, OnErr, vec_len};
 ghost use Rattle.std.specs.List.{All};
 ghost use Rattle.std.specs.Vec.{vec_capacity};
 ghost use Rattle.std.specs.Cow.{cow_str_bytes};
 ghost use Rattle.std.specs.Option.{unwrap_or};
-ghost use Rattle.oxc_sourcemap_tokens.specs.declared.error.Error.TheVariants.{OutOfMemory, TooLarge};
-ghost use Rattle.oxc_sourcemap_tokens.specs.Token.{IsInBounds, AreInBounds, last};
-ghost use Rattle.oxc_sourcemap_tokens.specs.Chunks.{ChunksFit};
-ghost use Rattle.oxc_sourcemap_parts.specs.Views.{texts_of, contents_of, ids_of, record_of_parts};
-ghost use Rattle.oxc_sourcemap_join.specs.Joined.{fitted, raised_id, shifted_column, shifted, is_same_token, without_repeat, raised_ignore_list, appended_ignore_lists, added, nothing_joined, AreEntriesInBounds, IsWithinLimits, position};
-ghost use Rattle.oxc_sourcemap_join.specs.Joining.{all_shifted, id_limit, moving_column, greatest_of, IsAddition};
-ghost use Rattle.oxc_sourcemap_tokens.specs.Results.{OnlyMemory, lent_item};
+ghost use Rattle.oxc_sourcemap_join.specs.Words.{OutOfMemory, TooLarge, IsInBounds, AreInBounds};
+ghost use Rattle.oxc_sourcemap_join.specs.Words.{last, ChunksFit, texts_of, contents_of, ids_of};
+ghost use Rattle.oxc_sourcemap_join.specs.Words.{record_of_parts, fitted, raised_id};
+ghost use Rattle.oxc_sourcemap_join.specs.Words.{shifted_column, shifted, is_same_token};
+ghost use Rattle.oxc_sourcemap_join.specs.Words.{without_repeat, raised_ignore_list};
+ghost use Rattle.oxc_sourcemap_join.specs.Words.{appended_ignore_lists, added, nothing_joined};
+ghost use Rattle.oxc_sourcemap_join.specs.Words.{AreEntriesInBounds, IsWithinLimits, position};
+ghost use Rattle.oxc_sourcemap_join.specs.Words.{all_shifted, id_limit, moving_column, greatest_of};
+ghost use Rattle.oxc_sourcemap_join.specs.Words.{IsAddition, OnlyMemory, lent_item};
 
 use oxc_sourcemap_parts::{Contents, SourceMapParts, Texts, contents_in, texts_in};
 use oxc_sourcemap_tokens::{Error, Memory, Position, Result, Token, TokenChunk, next_chunk};
@@ -146,7 +150,8 @@ impl Shift {
 
     /// Whether tokens with these greatest numbers are in bounds once they are moved, their columns left aside.
     fn fits_reach(self, reach: Reach) -> bool
-        ensures { IsTrue result ↔ ((reach.line + self.position.line < 4294967296) × (reach.source + self.sources < 4294967296) × (reach.name + self.names < 4294967296)) }
+        ensures { IsTrue result ↔ ((reach.line + self.position.line < 4294967296)
+            × (reach.source + self.sources < 4294967296) × (reach.name + self.names < 4294967296)) }
     {
         is_in_reach(reach.line, self.position.line)
             && is_in_reach(reach.source, self.sources)
@@ -156,7 +161,8 @@ impl Shift {
     /// Whether the columns of tokens are in bounds once they are moved.
     fn fits_columns(self, tokens: &[Token]) -> bool
         requires { AreInBounds tokens.now }
-        ensures { IsTrue result ↔ (greatest_of moving_column 0 tokens.now + self.position.column < 4294967296) }
+        ensures { IsTrue result ↔
+            (greatest_of moving_column 0 tokens.now + self.position.column < 4294967296) }
     {
         self.position.column == 0 || is_in_reach(column_reach(tokens), self.position.column)
     }
@@ -171,7 +177,8 @@ impl Shift {
 
     /// Whether all entries of an ignore list, raised by the number of sources before, are at most 4294967294.
     fn fits_ignore_list(&self, list: Option<&[u32]>) -> bool
-        ensures { IsTrue result ↔ AreEntriesInBounds (raised_ignore_list self.now.sources (lent_item list.entry)) }
+        ensures { IsTrue result ↔ AreEntriesInBounds
+            (raised_ignore_list self.now.sources (lent_item list.entry)) }
     {
         match list {
             Some(ids) => are_raisable(ids, self.sources),
@@ -181,7 +188,8 @@ impl Shift {
 
     /// A token with the line, column and ids that it has in the join.
     fn shift(&self, token: &Token) -> Token
-        requires { IsInBounds (shifted self.now.names self.now.sources self.now.position token.now) }
+        requires { IsInBounds
+            (shifted self.now.names self.now.sources self.now.position token.now) }
         ensures { result ≡ shifted self.now.names self.now.sources self.now.position token.now }
     {
         Token::new(
@@ -207,7 +215,8 @@ impl Shift {
     /// How many tokens of a map are left out: one, the first, if that equals the last token so far once it is moved.
     fn skip_len(&self, last_token: Option<Token>, tokens: &[Token]) -> usize
         requires { AreInBounds (all_shifted self.now tokens.now) }
-        ensures kept { all_shifted self.now (drop result tokens.now) ≡ without_repeat is_same_token last_token (all_shifted self.now tokens.now) }
+        ensures kept { all_shifted self.now (drop result tokens.now)
+            ≡ without_repeat is_same_token last_token (all_shifted self.now tokens.now) }
         ensures within { result ≤ length tokens.now }
     {
         if let (Some(last_token), Some(first)) = (last_token, tokens.first()) {
@@ -227,7 +236,9 @@ impl Shift {
         added: Option<&[u32]>,
     ) -> Memory<()>
         requires { AreEntriesInBounds (raised_ignore_list self.now.sources (lent_item added)) }
-        ensures added { OnOk result (ids_of list.new ≡ appended_ignore_lists (ids_of list.old) (raised_ignore_list self.now.sources (lent_item added.entry))) }
+        ensures added { OnOk result (ids_of list.new
+            ≡ appended_ignore_lists (ids_of list.old)
+            (raised_ignore_list self.now.sources (lent_item added.entry))) }
         ensures unchanged { OnErr result (ids_of list.new ≡ ids_of list.old) }
     {
         let Some(added) = added else {
@@ -279,10 +290,14 @@ fn make_room<'a>(
     ensures contents { contents.new.items ≡ contents.old.items }
     ensures tokens { tokens.new.items ≡ tokens.old.items }
     ensures chunks { chunks.new.items ≡ chunks.old.items }
-    ensures room_for_names { OnOk result (vec_len names.new + lengths.names ≤ vec_capacity names.new) }
-    ensures room_for_sources { OnOk result (vec_len sources.new + lengths.sources ≤ vec_capacity sources.new) }
-    ensures room_for_contents { OnOk result (vec_len contents.new + lengths.sources ≤ vec_capacity contents.new) }
-    ensures room_for_tokens { OnOk result (vec_len tokens.new + lengths.tokens ≤ vec_capacity tokens.new) }
+    ensures room_for_names { OnOk result
+        (vec_len names.new + lengths.names ≤ vec_capacity names.new) }
+    ensures room_for_sources { OnOk result
+        (vec_len sources.new + lengths.sources ≤ vec_capacity sources.new) }
+    ensures room_for_contents { OnOk result
+        (vec_len contents.new + lengths.sources ≤ vec_capacity contents.new) }
+    ensures room_for_tokens { OnOk result
+        (vec_len tokens.new + lengths.tokens ≤ vec_capacity tokens.new) }
     ensures room_for_chunk { OnOk result (vec_len chunks.new + 1 ≤ vec_capacity chunks.new) }
 {
     names.reserve(lengths.names)?;
@@ -316,7 +331,8 @@ fn push_unknown<'a>(contents: &mut Vec<Option<CowStr<'a>>>, count: usize)
 
 /// A content, borrowed; one that is missing is unknown.
 fn lent_content<'a>(content: Option<Option<&'a str>>) -> Option<CowStr<'a>>
-    ensures { option_map cow_str_bytes result ≡ unwrap_or (option_map (option_map (λ text. text.now)) content.entry) None }
+    ensures { option_map cow_str_bytes result ≡ unwrap_or
+        (option_map (option_map (λ text. text.now)) content.entry) None }
 {
     match content {
         Some(Some(content)) => Some(CowStr::Borrowed(content)),
@@ -346,7 +362,8 @@ fn push_fitted<'a>(
     count: usize,
 )
     requires { vec_len contents.old + count ≤ vec_capacity contents.old }
-    ensures { contents_of contents.new ≡ contents_of contents.old ++ fitted count (contents_of added.entry) }
+    ensures { contents_of contents.new ≡ contents_of contents.old
+        ++ fitted count (contents_of added.entry) }
 {
     added.truncate(count);
     let unknown = count - added.len();
@@ -431,7 +448,9 @@ impl<'a> Model for JoinedParts<'a> {
       debug_id = None;
     } };
 
-    ghost invariant = { λ b. IsJoin (texts_of b.names) (texts_of b.sources) (contents_of b.source_contents) b.tokens.items b.token_chunks.items (ids_of b.ignore_list) };
+    ghost invariant = { λ b. IsJoin (texts_of b.names) (texts_of b.sources)
+        (contents_of b.source_contents) b.tokens.items b.token_chunks.items
+        (ids_of b.ignore_list) };
 }
 
 impl<'a> JoinedParts<'a> {
@@ -488,8 +507,10 @@ impl<'a> JoinedParts<'a> {
 
     /// What is worked out before this map is added; None if the join would pass a limit.
     fn addition(&self, parts: &SourceMapParts<'_>, position: Position) -> Option<Addition>
-        ensures fits { IfSome result (λ a. IsAddition self.now (record_of_parts parts.now) position a) }
-        ensures too_large { result ≡ None → ¬ (IsWithinLimits (added self.now (record_of_parts parts.now) position)) }
+        ensures fits { IfSome result (λ a. IsAddition self.now
+            (record_of_parts parts.now) position a) }
+        ensures too_large { result ≡ None → ¬ (IsWithinLimits
+            (added self.now (record_of_parts parts.now) position)) }
     {
         let shift = Shift {
             names: self.names.len() as u32,
@@ -531,9 +552,12 @@ impl<'a> JoinedParts<'a> {
     /// 4294967295, or an id or an entry of the ignore list above 4294967294, then with `OutOfMemory` for want of memory;
     /// the join is then as it was.
     pub fn add_lent(&mut self, parts: &'a SourceMapParts<'_>, position: Position) -> Result<()>
-        ensures joined { OnOk result (self.new ≡ added self.old (record_of_parts parts.now) position) }
-        ensures limits { OnOk result (IsWithinLimits (added self.old (record_of_parts parts.now) position)) }
-        ensures too_large { IsErrOf result TooLarge ↔ ¬ (IsWithinLimits (added self.old (record_of_parts parts.now) position)) }
+        ensures joined { OnOk result (self.new
+            ≡ added self.old (record_of_parts parts.now) position) }
+        ensures limits { OnOk result (IsWithinLimits
+            (added self.old (record_of_parts parts.now) position)) }
+        ensures too_large { IsErrOf result TooLarge ↔ ¬
+            (IsWithinLimits (added self.old (record_of_parts parts.now) position)) }
         ensures error { IfErr result (λ e. (e ≡ OutOfMemory) ⊎ (e ≡ TooLarge)) }
         ensures unchanged { OnErr result (self.new ≡ self.old) }
     {
@@ -572,9 +596,12 @@ impl<'a> JoinedParts<'a> {
     /// Appends a map as `add_lent` does, with the same result, but moves its strings and drops the rest of it. Fails as
     /// `add_lent` does; the join is then as it was, and the map is dropped.
     pub fn add_moved(&mut self, parts: SourceMapParts<'a>, position: Position) -> Result<()>
-        ensures joined { OnOk result (self.new ≡ added self.old (record_of_parts parts.entry) position) }
-        ensures limits { OnOk result (IsWithinLimits (added self.old (record_of_parts parts.entry) position)) }
-        ensures too_large { IsErrOf result TooLarge ↔ ¬ (IsWithinLimits (added self.old (record_of_parts parts.entry) position)) }
+        ensures joined { OnOk result (self.new
+            ≡ added self.old (record_of_parts parts.entry) position) }
+        ensures limits { OnOk result (IsWithinLimits
+            (added self.old (record_of_parts parts.entry) position)) }
+        ensures too_large { IsErrOf result TooLarge ↔ ¬
+            (IsWithinLimits (added self.old (record_of_parts parts.entry) position)) }
         ensures error { IfErr result (λ e. (e ≡ OutOfMemory) ⊎ (e ≡ TooLarge)) }
         ensures unchanged { OnErr result (self.new ≡ self.old) }
     {

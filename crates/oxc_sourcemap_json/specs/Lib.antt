@@ -1,3 +1,4 @@
 pub mod Json
 pub mod Members
 pub mod Shape
+pub mod Words

@@ -1,13 +1,20 @@
 -- The shape of a source map as a JSON value: its fields, or the first fault in their order (ECMA-426, "Source map format").
-use Rattle.std.specs.Prelude.{ℕ, List, [], ◌∷◌, codes, Option, Some, None, Result, Ok, Err, if◌then◌else◌, nat_lt, ◌==◌}
+use Rattle.std.specs.Prelude.{ℕ, List, [], ◌∷◌, codes, Option, Some, None, Result, Ok, Err}
+use Rattle.std.specs.Prelude.{if◌then◌else◌, nat_lt, ◌==◌}
 use Rattle.std.specs.Option.{option_and_then}
-use Rattle.serde_json.specs.Data.{Data, null, boolean, number, string, array, object, Items, no_items, item}
+use Rattle.serde_json.specs.Data.{Data, null, boolean, number, string, array, object, Items}
+use Rattle.serde_json.specs.Data.{no_items, item}
 use Rattle.serde_json.specs.Find.{get, as_number, as_u64, as_str, as_array, as_object}
 use Rattle.oxc_sourcemap_tokens.specs.declared.error.Error.{Error}
 use Rattle.oxc_sourcemap_tokens.specs.declared.error.Error.TheVariants.{BadJson}
 use Rattle.oxc_sourcemap_tokens.specs.declared.error.JsonFault.TheVariants.{Shape, Version}
 use Rattle.oxc_sourcemap_tokens.specs.declared.error.Field.{Field}
-use Rattle.oxc_sourcemap_tokens.specs.declared.error.Field.TheVariants.{Object, Version as VersionField, File, Mappings, SourceRoot, Sources, SourcesContent, Names, DebugId, IgnoreList, GoogleIgnoreList}
+use Rattle.oxc_sourcemap_tokens.specs.declared.error.Field.TheVariants.{Object}
+use Rattle.oxc_sourcemap_tokens.specs.declared.error.Field.TheVariants.{Version as VersionField}
+use Rattle.oxc_sourcemap_tokens.specs.declared.error.Field.TheVariants.{File, Mappings, SourceRoot}
+use Rattle.oxc_sourcemap_tokens.specs.declared.error.Field.TheVariants.{Sources, SourcesContent}
+use Rattle.oxc_sourcemap_tokens.specs.declared.error.Field.TheVariants.{Names, DebugId, IgnoreList}
+use Rattle.oxc_sourcemap_tokens.specs.declared.error.Field.TheVariants.{GoogleIgnoreList}
 use Rattle.oxc_sourcemap_json.specs.Json.{JsonRecord}
 
 -- the second step, if the first gave a value; else the fault of the first

@@ -1,13 +1,12 @@
 //! The members of a source map, moved out of a JSON value: strings are moved, and never copied.
-ghost use Rattle.std.specs.Prelude.{◌≡◌, ℕ, List, option_map, string_bytes, codes, false, Ok, Err, Some, None};
+ghost use Rattle.std.specs.Prelude.{◌≡◌, ℕ, List, option_map, string_bytes, codes, false, Ok, Err};
+ghost use Rattle.std.specs.Prelude.{Some, None};
 ghost use Rattle.std.specs.Str.{bytes_eq};
-ghost use Rattle.serde_json.specs.View.{view};
-ghost use Rattle.oxc_sourcemap_tokens.specs.declared.error.Field.TheVariants.{Mappings, Sources, SourcesContent};
-ghost use Rattle.oxc_sourcemap_json.specs.Json.{json_record, json_texts, json_content_list, json_contents};
-ghost use Rattle.oxc_sourcemap_json.specs.Members.{lent_member, member_in};
-ghost use Rattle.oxc_sourcemap_json.specs.Shape.{present, optional, required, text_in, texts_in};
-ghost use Rattle.oxc_sourcemap_json.specs.Shape.{as_content, contents_in, names_of, shape};
-ghost use Rattle.oxc_sourcemap_tokens.specs.Results.{Gives, Answers};
+ghost use Rattle.oxc_sourcemap_json.specs.Words.{view, Mappings, Sources, SourcesContent};
+ghost use Rattle.oxc_sourcemap_json.specs.Words.{json_record, json_texts, json_content_list};
+ghost use Rattle.oxc_sourcemap_json.specs.Words.{json_contents, lent_member, member_in, present};
+ghost use Rattle.oxc_sourcemap_json.specs.Words.{optional, required, text_in, texts_in, as_content};
+ghost use Rattle.oxc_sourcemap_json.specs.Words.{contents_in, names_of, shape, Gives, Answers};
 
 use crate::json_source_map::JSONSourceMap;
 use crate::shape::{read_either_list, read_version};
@@ -43,14 +42,20 @@ struct Members {
 fn members_of(mut object: Map<String, Value>) -> Members
     ensures version { option_map view result.version ≡ member_in (codes "version") object.entries }
     ensures file { option_map view result.file ≡ member_in (codes "file") object.entries }
-    ensures mappings { option_map view result.mappings ≡ member_in (codes "mappings") object.entries }
-    ensures source_root { option_map view result.source_root ≡ member_in (codes "sourceRoot") object.entries }
+    ensures mappings { option_map view result.mappings
+        ≡ member_in (codes "mappings") object.entries }
+    ensures source_root { option_map view result.source_root
+        ≡ member_in (codes "sourceRoot") object.entries }
     ensures sources { option_map view result.sources ≡ member_in (codes "sources") object.entries }
-    ensures sources_content { option_map view result.sources_content ≡ member_in (codes "sourcesContent") object.entries }
+    ensures sources_content { option_map view result.sources_content
+        ≡ member_in (codes "sourcesContent") object.entries }
     ensures names { option_map view result.names ≡ member_in (codes "names") object.entries }
-    ensures debug_id { option_map view result.debug_id ≡ member_in (codes "debugId") object.entries }
-    ensures ignore_list { option_map view result.ignore_list ≡ member_in (codes "ignoreList") object.entries }
-    ensures older_ignore_list { option_map view result.older_ignore_list ≡ member_in (codes "x_google_ignoreList") object.entries }
+    ensures debug_id { option_map view result.debug_id
+        ≡ member_in (codes "debugId") object.entries }
+    ensures ignore_list { option_map view result.ignore_list
+        ≡ member_in (codes "ignoreList") object.entries }
+    ensures older_ignore_list { option_map view result.older_ignore_list
+        ≡ member_in (codes "x_google_ignoreList") object.entries }
 {
     let version = take(&mut object, "version");
     let file = take(&mut object, "file");
@@ -161,7 +166,8 @@ fn optional_text(member: Option<Value>, field: Field) -> Result<Option<String>>
 
 /// The mappings, which must be there.
 fn mappings_of(member: Option<Value>) -> Result<String>
-    ensures { Gives string_bytes result (required Mappings (text_in Mappings) (option_map view member)) }
+    ensures { Gives string_bytes result (required Mappings (text_in Mappings)
+        (option_map view member)) }
 {
     match member {
         Some(value) => text_of(value, Field::Mappings),
@@ -171,7 +177,8 @@ fn mappings_of(member: Option<Value>) -> Result<String>
 
 /// The sources, which must be there.
 fn sources_of(alloc: Global, member: Option<Value>) -> Result<Vec<String>>
-    ensures { Answers json_texts result (required Sources (texts_in Sources) (option_map view member)) }
+    ensures { Answers json_texts result (required Sources (texts_in Sources)
+        (option_map view member)) }
 {
     match member {
         Some(value) => texts_of(alloc, value, Field::Sources),

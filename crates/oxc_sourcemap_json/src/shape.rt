@@ -1,12 +1,8 @@
 //! The shape of a source map as a JSON value.
 ghost use Rattle.std.specs.Prelude.{◌≡◌, option_map, string_bytes};
-ghost use Rattle.serde_json.specs.View.{view};
-ghost use Rattle.serde_json.specs.Find.{get};
-ghost use Rattle.oxc_sourcemap_tokens.specs.Results.{Answers};
-ghost use Rattle.oxc_sourcemap_json.specs.Json.{json_record, json_ids};
-ghost use Rattle.oxc_sourcemap_json.specs.Members.{lent_member};
-ghost use Rattle.oxc_sourcemap_json.specs.Shape.{present, optional, text_in, ids_in, version_of};
-ghost use Rattle.oxc_sourcemap_json.specs.Shape.{ignore_list_of, as_id, file_of, shape};
+ghost use Rattle.oxc_sourcemap_json.specs.Words.{view, get, Answers, json_record, json_ids};
+ghost use Rattle.oxc_sourcemap_json.specs.Words.{lent_member, present, optional, text_in, ids_in};
+ghost use Rattle.oxc_sourcemap_json.specs.Words.{version_of, ignore_list_of, as_id, file_of, shape};
 
 use crate::json_source_map::JSONSourceMap;
 use crate::members::json_of;

@@ -1,5 +1,6 @@
 -- The tokens of a composition are in bounds.
-use Rattle.std.proofs.Common.{◌≡◌, ℕ, ◌<◌, Bool, true, false, cond, List, [], ◌∷◌, map, refl, subst, arith, Option, Some, None, Ok, Err}
+use Rattle.std.proofs.Common.{◌≡◌, ℕ, ◌<◌, Bool, true, false, cond, List, [], ◌∷◌, map, refl, subst}
+use Rattle.std.proofs.Common.{arith, Option, Some, None, Ok, Err}
 use Rattle.std.specs.List.{AllByRecursion}
 use Rattle.std.specs.Option.{IfSome, option_or}
 use Rattle.std.proofs.lemmas.Bool.{and_parts}
@@ -10,7 +11,10 @@ use Rattle.oxc_sourcemap_tokens.specs.declared.error.Error.TheVariants.{TooLarge
 use Rattle.oxc_sourcemap_tokens.specs.Token.{TokenRecord, IsInBounds, AreInBounds}
 use Rattle.oxc_sourcemap_parts.specs.Record.{Text, MapRecord}
 use Rattle.oxc_sourcemap_tokens.specs.Refusals.{unless}
-use Rattle.oxc_sourcemap_lookup.specs.Composed.{target_of, target_in, line_of, found_on, targets, inherited_id, composed_names, composed_token, composed, may_be_id, are_ids, composition_fault, composition}
+use Rattle.oxc_sourcemap_lookup.specs.Composed.{target_of, target_in, line_of, found_on, targets}
+use Rattle.oxc_sourcemap_lookup.specs.Composed.{inherited_id, composed_names, composed_token}
+use Rattle.oxc_sourcemap_lookup.specs.Composed.{composed, may_be_id, are_ids, composition_fault}
+use Rattle.oxc_sourcemap_lookup.specs.Composed.{composition}
 use Rattle.oxc_sourcemap_lookup.proofs.Targets.{found-all}
 
 small-id : (id taken : Option ℕ) → IfSome id (λ n. n < 4294967295) → may_be_id taken ≡ true → IfSome (option_or id taken) (λ n. n < 4294967295)

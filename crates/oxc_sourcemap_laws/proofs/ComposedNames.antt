@@ -1,6 +1,8 @@
 -- How many names a composed map has, and whose they are.
-use Rattle.std.proofs.Common.{◌≡◌, ℕ, zero, suc, ◌+◌, ◌≤◌, ◌<◌, Bool, true, false, cond, ◌&&◌, List, [], ◌∷◌, ◌++◌, length, refl, sym, ap, ◌∙◌, arith, Option, Some, None}
-use Rattle.std.specs.List.{slice_get, filter_map, position_from, list_all, AllByRecursion, cons_option}
+use Rattle.std.proofs.Common.{◌≡◌, ℕ, zero, suc, ◌+◌, ◌≤◌, ◌<◌, Bool, true, false, cond, ◌&&◌, List}
+use Rattle.std.proofs.Common.{[], ◌∷◌, ◌++◌, length, refl, sym, ap, ◌∙◌, arith, Option, Some, None}
+use Rattle.std.specs.List.{slice_get, filter_map, position_from, list_all, AllByRecursion}
+use Rattle.std.specs.List.{cons_option}
 use Rattle.std.specs.Option.{option_and_then}
 use Rattle.std.specs.Str.{bytes_eq}
 use Rattle.std.specs.Cmp.Lexicographic.{bytes_decides}
@@ -9,7 +11,8 @@ use Rattle.std.proofs.lemmas.List.Folds.{list_all-append}
 use Rattle.oxc_sourcemap_tokens.specs.Token.{TokenRecord}
 use Rattle.oxc_sourcemap_parts.specs.Record.{Text, MapRecord}
 use Rattle.oxc_sourcemap_parts.specs.Texts.{index_of, with_text_at, with_text, with_texts}
-use Rattle.oxc_sourcemap_lookup.specs.Composed.{Target, kept_name, inherited_name, targets, composed}
+use Rattle.oxc_sourcemap_lookup.specs.Composed.{Target, kept_name, inherited_name, targets}
+use Rattle.oxc_sourcemap_lookup.specs.Composed.{composed}
 use Rattle.oxc_sourcemap_parts.proofs.Places.{index-last, index-front}
 
 -- a text that is in a list

@@ -1,5 +1,7 @@
 -- Composition: its decoded map, its soundness, and its association.
-use Rattle.std.proofs.Common.{◌≡◌, ℕ, zero, suc, ◌+◌, ◌<◌, ◌≤◌, true, false, ◌&&◌, cond, List, [], ◌∷◌, ◌++◌, map, length, refl, sym, ap, subst, ◌∙◌, arith, Option, Some, None}
+use Rattle.std.proofs.Common.{◌≡◌, ℕ, zero, suc, ◌+◌, ◌<◌, ◌≤◌, true, false, ◌&&◌, cond, List, []}
+use Rattle.std.proofs.Common.{◌∷◌, ◌++◌, map, length, refl, sym, ap, subst, ◌∙◌, arith, Option}
+use Rattle.std.proofs.Common.{Some, None}
 use Rattle.std.proofs.lemmas.List.{length-append, length-map}
 use Rattle.std.specs.List.{slice_get, filter_map, position_from, AllByRecursion}
 use Rattle.std.specs.Option.{option_map, option_and_then, option_or, IfSome}
@@ -10,14 +12,22 @@ use Rattle.oxc_sourcemap_parts.specs.Record.{Text, MapRecord}
 use Rattle.oxc_sourcemap_parts.specs.Texts.{index_of}
 use Rattle.oxc_sourcemap_parts.specs.Sorted.{token_line, token_column, may_precede, is_sorted_by}
 use Rattle.oxc_sourcemap_parts.specs.Sound.{IsInRange, AreIdsInRange, IsSound}
-use Rattle.oxc_sourcemap_parts.specs.DecodedMap.{DecodedSource, OriginalPosition, DecodedMapping, DecodedMap, sources_of, name_of, original_at, original_of, mapping_of, decoded_map_of, mapping_line, mapping_column}
+use Rattle.oxc_sourcemap_parts.specs.DecodedMap.{DecodedSource, OriginalPosition, DecodedMapping}
+use Rattle.oxc_sourcemap_parts.specs.DecodedMap.{DecodedMap, sources_of, name_of, original_at}
+use Rattle.oxc_sourcemap_parts.specs.DecodedMap.{original_of, mapping_of, decoded_map_of}
+use Rattle.oxc_sourcemap_parts.specs.DecodedMap.{mapping_line, mapping_column}
 use Rattle.oxc_sourcemap_lookup.specs.Lookup.{clamped_pick}
-use Rattle.oxc_sourcemap_lookup.specs.Composed.{target_of, if_mapped, found_on, line_of, target_in, targets, kept_name, inherited_name, inherited_id, composed_names, composed_token, token_through, composed}
+use Rattle.oxc_sourcemap_lookup.specs.Composed.{target_of, if_mapped, found_on, line_of, target_in}
+use Rattle.oxc_sourcemap_lookup.specs.Composed.{targets, kept_name, inherited_name, inherited_id}
+use Rattle.oxc_sourcemap_lookup.specs.Composed.{composed_names, composed_token, token_through}
+use Rattle.oxc_sourcemap_lookup.specs.Composed.{composed}
 use Rattle.oxc_sourcemap_lookup.proofs.Picks.{clamped_pick-map}
 use Rattle.oxc_sourcemap_lookup.proofs.Targets.{clamped_pick-all, found-all}
 use Rattle.oxc_sourcemap_lookup.proofs.InheritedNames.{IsPlaced, all-placed, with_texts-front}
-use Rattle.oxc_sourcemap_laws.specs.Repeats.{without_repeats, is_same_mapping, decoded_map_without_repeats, EqualUpToRepeats}
-use Rattle.oxc_sourcemap_laws.specs.ComposedDecodedMaps.{found_original, named_by, original_through, composed_mapping, composed_decoded_maps}
+use Rattle.oxc_sourcemap_laws.specs.Repeats.{without_repeats, is_same_mapping}
+use Rattle.oxc_sourcemap_laws.specs.Repeats.{decoded_map_without_repeats, EqualUpToRepeats}
+use Rattle.oxc_sourcemap_laws.specs.ComposedDecodedMaps.{found_original, named_by, original_through}
+use Rattle.oxc_sourcemap_laws.specs.ComposedDecodedMaps.{composed_mapping, composed_decoded_maps}
 use Rattle.oxc_sourcemap_laws.specs.JoinLaws.{StandsFor}
 use Rattle.oxc_sourcemap_laws.specs.ComposeLaws.{AreSourceIdsInRange, AreTokensInRange}
 use Rattle.oxc_sourcemap_laws.proofs.Same.{decides_entry}

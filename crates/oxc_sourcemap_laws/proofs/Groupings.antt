@@ -1,18 +1,31 @@
 -- The two groupings of a composition of three maps, and their errors.
-use Rattle.std.proofs.Common.{◌≡◌, ◌≢◌, ◌↔◌, ◌⊎◌, inl, inr, ℕ, ◌+◌, ◌≤◌, ◌<◌, Bool, true, false, cond, ◌&&◌, List, [], ◌∷◌, length, refl, sym, ap, ◌∙◌, arith, nat_lt, Option, Some, None, option_map, Result, Ok, Err}
+use Rattle.std.proofs.Common.{◌≡◌, ◌≢◌, ◌↔◌, ◌⊎◌, inl, inr, ℕ, ◌+◌, ◌≤◌, ◌<◌, Bool, true, false}
+use Rattle.std.proofs.Common.{cond, ◌&&◌, List, [], ◌∷◌, length, refl, sym, ap, ◌∙◌, arith, nat_lt}
+use Rattle.std.proofs.Common.{Option, Some, None, option_map, Result, Ok, Err}
 use Rattle.std.proofs.lemmas.Bool.Decides.{nat_tests}
 use Rattle.std.specs.Option.{option_and_then}
 use Rattle.oxc_sourcemap_tokens.specs.declared.error.Error.{Error}
-use Rattle.oxc_sourcemap_tokens.specs.declared.error.Error.TheVariants.{VlqLeftover, VlqNoValues, VlqOverflow, BadJson, BadSegmentSize, BadSourceReference, BadNameReference, OutOfMemory, TooLarge, LineOrder, BadChunks, SeveralSources, SectionOrder}
+use Rattle.oxc_sourcemap_tokens.specs.declared.error.Error.TheVariants.{VlqLeftover, VlqNoValues}
+use Rattle.oxc_sourcemap_tokens.specs.declared.error.Error.TheVariants.{VlqOverflow, BadJson}
+use Rattle.oxc_sourcemap_tokens.specs.declared.error.Error.TheVariants.{BadSegmentSize}
+use Rattle.oxc_sourcemap_tokens.specs.declared.error.Error.TheVariants.{BadSourceReference}
+use Rattle.oxc_sourcemap_tokens.specs.declared.error.Error.TheVariants.{BadNameReference}
+use Rattle.oxc_sourcemap_tokens.specs.declared.error.Error.TheVariants.{OutOfMemory, TooLarge}
+use Rattle.oxc_sourcemap_tokens.specs.declared.error.Error.TheVariants.{LineOrder, BadChunks}
+use Rattle.oxc_sourcemap_tokens.specs.declared.error.Error.TheVariants.{SeveralSources}
+use Rattle.oxc_sourcemap_tokens.specs.declared.error.Error.TheVariants.{SectionOrder}
 use Rattle.oxc_sourcemap_tokens.specs.LineOrder.{first_out_of_order}
 use Rattle.oxc_sourcemap_parts.specs.Record.{Text, MapRecord}
 use Rattle.oxc_sourcemap_parts.specs.Texts.{index_of}
 use Rattle.oxc_sourcemap_parts.specs.Sound.{IsSound}
 use Rattle.oxc_sourcemap_parts.specs.DecodedMap.{decoded_map_of}
 use Rattle.oxc_sourcemap_tokens.specs.Refusals.{unless}
-use Rattle.oxc_sourcemap_lookup.specs.Composed.{Target, targets, inherited_name, inherited_id, may_be_id, are_ids, composed_names, composed, composition_fault, composition}
+use Rattle.oxc_sourcemap_lookup.specs.Composed.{Target, targets, inherited_name, inherited_id}
+use Rattle.oxc_sourcemap_lookup.specs.Composed.{may_be_id, are_ids, composed_names, composed}
+use Rattle.oxc_sourcemap_lookup.specs.Composed.{composition_fault, composition}
 use Rattle.oxc_sourcemap_parts.proofs.Order.{sorted_in_order}
-use Rattle.oxc_sourcemap_laws.specs.ComposeLaws.{then_with, with_then, grouped_left, grouped_right, IsSeveralSources, TellsOf}
+use Rattle.oxc_sourcemap_laws.specs.ComposeLaws.{then_with, with_then, grouped_left, grouped_right}
+use Rattle.oxc_sourcemap_laws.specs.ComposeLaws.{IsSeveralSources, TellsOf}
 use Rattle.oxc_sourcemap_laws.proofs.Compositions.{index-below, records_associative, sound_composed}
 use Rattle.oxc_sourcemap_laws.proofs.ComposedNames.{names-most}
 

@@ -1,5 +1,6 @@
 -- The ids of a join, its order, its soundness, and how much it has.
-use Rattle.std.proofs.Common.{◌≡◌, ℕ, ◌+◌, ◌<◌, ◌≤◌, true, List, [], ◌∷◌, ◌++◌, map, length, refl, sym, ap, ◌∙◌, subst, arith, Option, Some, None}
+use Rattle.std.proofs.Common.{◌≡◌, ℕ, ◌+◌, ◌<◌, ◌≤◌, true, List, [], ◌∷◌, ◌++◌, map, length, refl}
+use Rattle.std.proofs.Common.{sym, ap, ◌∙◌, subst, arith, Option, Some, None}
 use Rattle.std.specs.List.{flat_map, AllByRecursion}
 use Rattle.std.specs.Option.{option_map, IfSome}
 use Rattle.std.proofs.lemmas.List.{length-append, length-map}
@@ -8,15 +9,19 @@ use Rattle.oxc_sourcemap_parts.specs.Sorted.{are_tokens_sorted}
 use Rattle.oxc_sourcemap_parts.specs.Sound.{IsInRange}
 use Rattle.oxc_sourcemap_parts.specs.DecodedMap.{DecodedMap, sources_of, decoded_map_of}
 use Rattle.oxc_sourcemap_tokens.specs.declared.position.Position.{Position}
-use Rattle.oxc_sourcemap_join.specs.Joined.{is_same_token, raised_ignore_list, appended_ignore_lists, joined}
+use Rattle.oxc_sourcemap_join.specs.Joined.{is_same_token, raised_ignore_list}
+use Rattle.oxc_sourcemap_join.specs.Joined.{appended_ignore_lists, joined}
 use Rattle.oxc_sourcemap_join.proofs.SameToken.{decides_token}
 use Rattle.oxc_sourcemap_laws.proofs.Rewriting.{sorted-tokens}
 use Rattle.oxc_sourcemap_join.proofs.Joining.{chunks_joined}
 use Rattle.oxc_sourcemap_laws.specs.Repeats.{EqualUpToRepeats, is_sorted_decoded_map}
 use Rattle.oxc_sourcemap_laws.specs.JoinedDecodedMaps.{joined_decoded_maps}
-use Rattle.oxc_sourcemap_laws.specs.JoinLaws.{AreEqualUpToRepeats, AreAllInRange, AreIgnoreListsInRange, decoded_maps_of, StandsFor, AllStandFor}
+use Rattle.oxc_sourcemap_laws.specs.JoinLaws.{AreEqualUpToRepeats, AreAllInRange}
+use Rattle.oxc_sourcemap_laws.specs.JoinLaws.{AreIgnoreListsInRange, decoded_maps_of, StandsFor}
+use Rattle.oxc_sourcemap_laws.specs.JoinLaws.{AllStandFor}
 use Rattle.oxc_sourcemap_laws.proofs.Seams.{seamed_all, length-seamed}
-use Rattle.oxc_sourcemap_laws.proofs.UpToRepeats.{joined_up_to_repeats, sorted_decoded_map_up_to_repeats}
+use Rattle.oxc_sourcemap_laws.proofs.UpToRepeats.{joined_up_to_repeats}
+use Rattle.oxc_sourcemap_laws.proofs.UpToRepeats.{sorted_decoded_map_up_to_repeats}
 use Rattle.oxc_sourcemap_laws.proofs.Joins.{raised, after, together, alone, all_together, joined-is}
 use Rattle.oxc_sourcemap_laws.proofs.JoinDecodedMaps.{decoded_map_joined}
 

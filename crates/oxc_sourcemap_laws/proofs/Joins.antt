@@ -1,5 +1,6 @@
 -- Joins as a monoid, and their decoded maps.
-use Rattle.std.proofs.Common.{◌≡◌, ℕ, ◌+◌, ◌==◌, true, false, cond, List, [], ◌∷◌, ◌++◌, map, length, refl, sym, ap, ◌∙◌, append_assoc, arith, Option, Some, None}
+use Rattle.std.proofs.Common.{◌≡◌, ℕ, ◌+◌, ◌==◌, true, false, cond, List, [], ◌∷◌, ◌++◌, map}
+use Rattle.std.proofs.Common.{length, refl, sym, ap, ◌∙◌, append_assoc, arith, Option, Some, None}
 use Rattle.std.specs.List.{flat_map}
 use Rattle.std.specs.Option.{option_map}
 use Rattle.std.proofs.lemmas.Bool.Decides.{nat_tests}
@@ -8,7 +9,10 @@ use Rattle.oxc_sourcemap_tokens.specs.declared.token.TokenChunk.{TokenChunk}
 use Rattle.oxc_sourcemap_tokens.specs.Token.{TokenRecord}
 use Rattle.oxc_sourcemap_parts.specs.Record.{Text, MapRecord}
 use Rattle.oxc_sourcemap_tokens.specs.declared.position.Position.{Position}
-use Rattle.oxc_sourcemap_join.specs.Joined.{at_line, at_lines, shifted_column, fitted, shifted, is_same_id, is_same_token, seamed, raised_ignore_list, appended_ignore_lists, added_tokens, added_ignore_list, added, nothing_joined, added_all, joined}
+use Rattle.oxc_sourcemap_join.specs.Joined.{at_line, at_lines, shifted_column, fitted, shifted}
+use Rattle.oxc_sourcemap_join.specs.Joined.{is_same_id, is_same_token, seamed, raised_ignore_list}
+use Rattle.oxc_sourcemap_join.specs.Joined.{appended_ignore_lists, added_tokens, added_ignore_list}
+use Rattle.oxc_sourcemap_join.specs.Joined.{added, nothing_joined, added_all, joined}
 use Rattle.oxc_sourcemap_join.proofs.SameToken.{decides_token}
 use Rattle.oxc_sourcemap_join.proofs.Fitted.{length-fitted, fitted-exact, fitted-more}
 use Rattle.oxc_sourcemap_laws.specs.JoinLaws.{Group, groups_joined, maps_of, without_chunks}

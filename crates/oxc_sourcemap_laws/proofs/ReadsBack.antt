@@ -1,5 +1,6 @@
 -- A sound map comes back from what is written of it.
-use Rattle.std.proofs.Common.{◌≡◌, ℕ, ◌<◌, ◌≤◌, Bool, true, false, cond, ◌&&◌, nat_lt, List, [], ◌∷◌, length, map, arith, refl, ap, ◌∙◌, Option, Some, None, Ok, Err}
+use Rattle.std.proofs.Common.{◌≡◌, ℕ, ◌<◌, ◌≤◌, Bool, true, false, cond, ◌&&◌, nat_lt, List, []}
+use Rattle.std.proofs.Common.{◌∷◌, length, map, arith, refl, ap, ◌∙◌, Option, Some, None, Ok, Err}
 use Rattle.std.specs.List.{AllByRecursion, list_any}
 use Rattle.std.specs.Option.{IfSome, is_some, option_map, option_map_or, unwrap_or}
 use Rattle.std.proofs.lemmas.Bool.Decides.{nat_tests}
@@ -15,11 +16,14 @@ use Rattle.oxc_sourcemap_tokens.specs.Chunks.{ChunksFit, first_misfit}
 use Rattle.oxc_sourcemap_mappings.specs.Pieces.{writing_fault}
 use Rattle.oxc_sourcemap_tokens.specs.Steps.{advanced}
 use Rattle.oxc_sourcemap_tokens.proofs.Fits.{first_misfit-none}
-use Rattle.oxc_sourcemap_mappings.proofs.RoundTrip.{IsWithin, round_trip, carrying, carried-is, as_written-of_carried}
+use Rattle.oxc_sourcemap_mappings.proofs.RoundTrip.{IsWithin, round_trip, carrying, carried-is}
+use Rattle.oxc_sourcemap_mappings.proofs.RoundTrip.{as_written-of_carried}
 use Rattle.oxc_sourcemap_parts.specs.Record.{Text, MapRecord}
-use Rattle.oxc_sourcemap_parts.specs.Sorted.{are_tokens_sorted, may_precede, token_line, token_column}
+use Rattle.oxc_sourcemap_parts.specs.Sorted.{are_tokens_sorted, may_precede, token_line}
+use Rattle.oxc_sourcemap_parts.specs.Sorted.{token_column}
 use Rattle.oxc_sourcemap_parts.specs.Sound.{IsInRange, IsSound}
-use Rattle.oxc_sourcemap_parts.specs.DecodedMap.{DecodedSource, mapping_of, sources_of, decoded_map_of}
+use Rattle.oxc_sourcemap_parts.specs.DecodedMap.{DecodedSource, mapping_of, sources_of}
+use Rattle.oxc_sourcemap_parts.specs.DecodedMap.{decoded_map_of}
 use Rattle.oxc_sourcemap_decode.specs.Decoded.{first_not_below}
 use Rattle.oxc_sourcemap_tokens.specs.Refusals.{unless}
 use Rattle.oxc_sourcemap_encode.specs.Encoded.{written_contents, encoded, encoded_record}

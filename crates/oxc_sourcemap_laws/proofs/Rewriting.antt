@@ -1,5 +1,6 @@
 -- What comes back of a sound map is sound.
-use Rattle.std.proofs.Common.{◌≡◌, ℕ, ◌<◌, ◌&&◌, suc, cond, List, [], ◌∷◌, map, length, refl, sym, ap, ◌∙◌, subst, Option, Some, None, true, false}
+use Rattle.std.proofs.Common.{◌≡◌, ℕ, ◌<◌, ◌&&◌, suc, cond, List, [], ◌∷◌, map, length, refl, sym}
+use Rattle.std.proofs.Common.{ap, ◌∙◌, subst, Option, Some, None, true, false}
 use Rattle.std.specs.List.{AllByRecursion}
 use Rattle.std.specs.Option.{IfSome, is_some}
 use Rattle.oxc_sourcemap_tokens.specs.Token.{TokenRecord}
@@ -8,9 +9,11 @@ use Rattle.oxc_sourcemap_mappings.specs.Canonical.{carried, carried_token}
 use Rattle.oxc_sourcemap_tokens.specs.Steps.{advanced}
 use Rattle.oxc_sourcemap_mappings.proofs.RoundTrip.{carrying, carried-is}
 use Rattle.oxc_sourcemap_parts.specs.Record.{Text, MapRecord}
-use Rattle.oxc_sourcemap_parts.specs.Sorted.{may_precede, is_sorted_by, are_tokens_sorted, token_line, token_column}
+use Rattle.oxc_sourcemap_parts.specs.Sorted.{may_precede, is_sorted_by, are_tokens_sorted}
+use Rattle.oxc_sourcemap_parts.specs.Sorted.{token_line, token_column}
 use Rattle.oxc_sourcemap_parts.specs.Sound.{IsInRange, IsSound}
-use Rattle.oxc_sourcemap_parts.specs.DecodedMap.{DecodedSource, mapping_of, mapping_line, mapping_column}
+use Rattle.oxc_sourcemap_parts.specs.DecodedMap.{DecodedSource, mapping_of, mapping_line}
+use Rattle.oxc_sourcemap_parts.specs.DecodedMap.{mapping_column}
 use Rattle.oxc_sourcemap_laws.specs.MapLaws.{StaysSound}
 use Rattle.oxc_sourcemap_laws.proofs.ReadsBack.{beside-in, carried-mappings, same-decoded_map}
 use Rattle.oxc_sourcemap_decode.proofs.ReadSound.{carried-name}

@@ -1,5 +1,6 @@
 -- The decoded map of an indexed map that is read, by those of its sections.
-use Rattle.std.proofs.Common.{◌≡◌, Bool, true, false, cond, List, [], ◌∷◌, refl, sym, ap, ◌∙◌, subst, Option, Some, None, Result, Ok, Err}
+use Rattle.std.proofs.Common.{◌≡◌, Bool, true, false, cond, List, [], ◌∷◌, refl, sym, ap, ◌∙◌}
+use Rattle.std.proofs.Common.{subst, Option, Some, None, Result, Ok, Err}
 use Rattle.std.specs.List.{AllByRecursion}
 use Rattle.oxc_sourcemap_tokens.specs.declared.error.Error.{Error}
 use Rattle.oxc_sourcemap_tokens.specs.declared.error.Error.TheVariants.{TooLarge}
@@ -12,10 +13,12 @@ use Rattle.oxc_sourcemap_join.specs.Joined.{joined}
 use Rattle.oxc_sourcemap_decode.specs.Sections.{Sections, joined_sections}
 use Rattle.oxc_sourcemap_decode.specs.JoinLimits.{is_within_limits}
 use Rattle.oxc_sourcemap_decode.specs.ReadMap.{indexed, indexed_record, map_said}
-use Rattle.oxc_sourcemap_decode.proofs.WellRead.{IsWellRead, sections_well, value_sections_well, read_is_said, value_is_said}
+use Rattle.oxc_sourcemap_decode.proofs.WellRead.{IsWellRead, sections_well, value_sections_well}
+use Rattle.oxc_sourcemap_decode.proofs.WellRead.{read_is_said, value_is_said}
 use Rattle.oxc_sourcemap_laws.specs.Repeats.{EqualUpToRepeats}
 use Rattle.oxc_sourcemap_laws.specs.JoinLaws.{AreAllInRange}
-use Rattle.oxc_sourcemap_laws.specs.SectionLaws.{decoded_map_of_sections, ValueOfSections, TextOfSections}
+use Rattle.oxc_sourcemap_laws.specs.SectionLaws.{decoded_map_of_sections, ValueOfSections}
+use Rattle.oxc_sourcemap_laws.specs.SectionLaws.{TextOfSections}
 use Rattle.oxc_sourcemap_laws.proofs.JoinDecodedMaps.{decoded_map_joined}
 
 pub all-in-range : (ms : List (MapRecord × Position)) → AllByRecursion (λ m. IsWellRead m.0) ms → AreAllInRange ms

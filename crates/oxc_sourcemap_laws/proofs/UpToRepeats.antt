@@ -5,12 +5,19 @@ use Rattle.std.specs.Option.{option_map}
 use Rattle.oxc_sourcemap_parts.specs.DecodedMap.{DecodedSource, DecodedMapping, DecodedMap}
 use Rattle.oxc_sourcemap_lookup.specs.Trace.{trace, clamped_trace}
 use Rattle.oxc_sourcemap_parts.specs.DecodedMap.{mapping_line, mapping_column}
-use Rattle.oxc_sourcemap_laws.specs.Repeats.{without_repeats, is_same_mapping, decoded_map_without_repeats, EqualUpToRepeats, EqualButForMappings, is_sorted_decoded_map}
+use Rattle.oxc_sourcemap_laws.specs.Repeats.{without_repeats, is_same_mapping}
+use Rattle.oxc_sourcemap_laws.specs.Repeats.{decoded_map_without_repeats, EqualUpToRepeats}
+use Rattle.oxc_sourcemap_laws.specs.Repeats.{EqualButForMappings, is_sorted_decoded_map}
 use Rattle.oxc_sourcemap_tokens.specs.declared.position.Position.{Position}
 use Rattle.oxc_sourcemap_join.specs.Joined.{raised_ignore_list, appended_ignore_lists}
-use Rattle.oxc_sourcemap_laws.specs.JoinedDecodedMaps.{lowered, joined_ignore_lists, joined_decoded_maps}
+use Rattle.oxc_sourcemap_laws.specs.JoinedDecodedMaps.{lowered, joined_ignore_lists}
+use Rattle.oxc_sourcemap_laws.specs.JoinedDecodedMaps.{joined_decoded_maps}
 use Rattle.oxc_sourcemap_laws.specs.JoinLaws.{AreEqualUpToRepeats}
-use Rattle.oxc_sourcemap_laws.proofs.DroppingRepeats.{unseen, up_to_repeats_by, blind_map, blind_without_repeats, without_repeats_append, pick_up_to_repeats, clamped_pick_up_to_repeats, sorted_up_to_repeats}
+use Rattle.oxc_sourcemap_laws.proofs.DroppingRepeats.{unseen, up_to_repeats_by, blind_map}
+use Rattle.oxc_sourcemap_laws.proofs.DroppingRepeats.{blind_without_repeats, without_repeats_append}
+use Rattle.oxc_sourcemap_laws.proofs.DroppingRepeats.{pick_up_to_repeats}
+use Rattle.oxc_sourcemap_laws.proofs.DroppingRepeats.{clamped_pick_up_to_repeats}
+use Rattle.oxc_sourcemap_laws.proofs.DroppingRepeats.{sorted_up_to_repeats}
 use Rattle.oxc_sourcemap_laws.proofs.Same.{decides_entry}
 
 -- decoded maps that are equal up to repeats agree in all but their mappings, and in their mappings without repeats

@@ -7,9 +7,11 @@ use Rattle.oxc_sourcemap_parts.specs.DecodedMap.{DecodedMapping, decoded_map_of}
 use Rattle.oxc_sourcemap_lookup.specs.Trace.{trace}
 use Rattle.oxc_sourcemap_tokens.specs.declared.position.Position.{Position}
 use Rattle.oxc_sourcemap_join.specs.Joined.{at_line, at_lines, joined, shifted}
-use Rattle.oxc_sourcemap_laws.specs.Repeats.{decoded_map_without_repeats, EqualUpToRepeats, is_sorted_decoded_map}
+use Rattle.oxc_sourcemap_laws.specs.Repeats.{decoded_map_without_repeats, EqualUpToRepeats}
+use Rattle.oxc_sourcemap_laws.specs.Repeats.{is_sorted_decoded_map}
 use Rattle.oxc_sourcemap_laws.specs.JoinedDecodedMaps.{joined_decoded_maps}
-use Rattle.oxc_sourcemap_laws.specs.JoinLaws.{decoded_maps_of, Group, groups_joined, maps_of, without_chunks}
+use Rattle.oxc_sourcemap_laws.specs.JoinLaws.{decoded_maps_of, Group, groups_joined, maps_of}
+use Rattle.oxc_sourcemap_laws.specs.JoinLaws.{without_chunks}
 
 -- a token: generated line and column, source line and column, source id, name id
 abbrev token : ℕ → ℕ → ℕ → ℕ → Option ℕ → Option ℕ → TokenRecord

@@ -1,7 +1,9 @@
 -- The texts of the worked examples of joins, computed by the definitions themselves.
 use Rattle.std.specs.Prelude.{◌≡◌, refl, codes}
-use Rattle.oxc_sourcemap_mappings.specs.Canonical.{canonical, text_after, token_text, separator, vlq_text, digits, letter}
-use Rattle.oxc_sourcemap_join.proofs.Worked.{one_source_each, three_names, unmapped_twice, side_by_side}
+use Rattle.oxc_sourcemap_mappings.specs.Canonical.{canonical, text_after, token_text, separator}
+use Rattle.oxc_sourcemap_mappings.specs.Canonical.{vlq_text, digits, letter}
+use Rattle.oxc_sourcemap_join.proofs.Worked.{one_source_each, three_names, unmapped_twice}
+use Rattle.oxc_sourcemap_join.proofs.Worked.{side_by_side}
 
 writes-after_a_map_without_tokens : canonical one_source_each.tokens ≡ codes "AAKG;EEJF"
 unfolding canonical text_after token_text separator vlq_text digits letter

@@ -5,3 +5,4 @@ pub mod JoinLaws
 pub mod SectionLaws
 pub mod ComposedDecodedMaps
 pub mod ComposeLaws
+pub mod Words

@@ -4,12 +4,22 @@
 //! Users find them in the module `laws` of the crate `oxc_sourcemap`.
 #![tactic(auto)]
 
-ghost use Rattle.oxc_sourcemap_mappings.specs.TextLaws.{CanonicalUnique, ReadsBack, ReadsAgain, InPieces};
-ghost use Rattle.oxc_sourcemap_laws.specs.MapLaws.{SoundIsWritten, SoundIsTooLarge, SoundReadsBack, SoundStaysSound};
-ghost use Rattle.oxc_sourcemap_decode.specs.ReadLaws.{ReadIsInBounds, ReadIsInLineOrder};
-ghost use Rattle.oxc_sourcemap_laws.specs.SectionLaws.{ValueOfSections, TextOfSections};
-ghost use Rattle.oxc_sourcemap_laws.specs.ComposeLaws.{DecodedMapOfComposition, CompositionKeepsEqualUpToRepeats, CompositionStandsFor, DecodedMapsAssociative, ComposedMapsAssociative, CompositionAssociative, GroupingsRefusedTogether, GroupingsAnswered, GroupingsTell, CompositionInRange, CompositionNames, CompositionTokens, CompositionTooLarge, CompositionInBounds};
-ghost use Rattle.oxc_sourcemap_laws.specs.JoinLaws.{RepeatsHarmless, TracesAgree, TestsAgree, JoinKeepsEqualUpToRepeats, DecodedMapOfJoin, JoinStandsFor, JoinInRange, JoinNames, JoinTokens, JoinChunksFit, JoinsAssociative, JoinOneMore};
+ghost use Rattle.oxc_sourcemap_laws.specs.Words.{CanonicalUnique, ReadsBack, ReadsAgain, InPieces};
+ghost use Rattle.oxc_sourcemap_laws.specs.Words.{SoundIsWritten, SoundIsTooLarge, SoundReadsBack};
+ghost use Rattle.oxc_sourcemap_laws.specs.Words.{SoundStaysSound, ReadIsInBounds};
+ghost use Rattle.oxc_sourcemap_laws.specs.Words.{ReadIsInLineOrder, ValueOfSections};
+ghost use Rattle.oxc_sourcemap_laws.specs.Words.{TextOfSections, DecodedMapOfComposition};
+ghost use Rattle.oxc_sourcemap_laws.specs.Words.{CompositionKeepsEqualUpToRepeats};
+ghost use Rattle.oxc_sourcemap_laws.specs.Words.{CompositionStandsFor, DecodedMapsAssociative};
+ghost use Rattle.oxc_sourcemap_laws.specs.Words.{ComposedMapsAssociative, CompositionAssociative};
+ghost use Rattle.oxc_sourcemap_laws.specs.Words.{GroupingsRefusedTogether, GroupingsAnswered};
+ghost use Rattle.oxc_sourcemap_laws.specs.Words.{GroupingsTell, CompositionInRange};
+ghost use Rattle.oxc_sourcemap_laws.specs.Words.{CompositionNames, CompositionTokens};
+ghost use Rattle.oxc_sourcemap_laws.specs.Words.{CompositionTooLarge, CompositionInBounds};
+ghost use Rattle.oxc_sourcemap_laws.specs.Words.{RepeatsHarmless, TracesAgree, TestsAgree};
+ghost use Rattle.oxc_sourcemap_laws.specs.Words.{JoinKeepsEqualUpToRepeats, DecodedMapOfJoin};
+ghost use Rattle.oxc_sourcemap_laws.specs.Words.{JoinStandsFor, JoinInRange, JoinNames, JoinTokens};
+ghost use Rattle.oxc_sourcemap_laws.specs.Words.{JoinChunksFit, JoinsAssociative, JoinOneMore};
 
 /// The `mappings` text of a list is unique, and reading undoes writing. Lists are *equal as written* if they differ only in
 /// what texts leave out: the source position and name of unmapped tokens.

@@ -1,10 +1,14 @@
 -- From targets to the composed map.
-use Rattle.std.proofs.Common.{◌≡◌, sym, ap, subst, ◌∙◌, Bool, true, false, cond, List, map, Option, Some, None, Result, Ok, Err, ◌≢◌, IfErr}
+use Rattle.std.proofs.Common.{◌≡◌, sym, ap, subst, ◌∙◌, Bool, true, false, cond, List, map, Option}
+use Rattle.std.proofs.Common.{Some, None, Result, Ok, Err, ◌≢◌, IfErr}
 use Rattle.oxc_sourcemap_tokens.specs.declared.error.Error.{Error}
 use Rattle.oxc_sourcemap_tokens.specs.declared.error.Error.TheVariants.{TooLarge, OutOfMemory}
 use Rattle.oxc_sourcemap_tokens.specs.Token.{TokenRecord}
 use Rattle.oxc_sourcemap_parts.specs.Record.{Text, MapRecord}
-use Rattle.oxc_sourcemap_lookup.specs.Composed.{Target, target_in, targets, composed_names, composed_token, composed_by, are_ids, composition_fault, composition_by, composition, AreTargets, SomeComposition, NoColumnGoesBack}
+use Rattle.oxc_sourcemap_lookup.specs.Composed.{Target, target_in, targets, composed_names}
+use Rattle.oxc_sourcemap_lookup.specs.Composed.{composed_token, composed_by, are_ids}
+use Rattle.oxc_sourcemap_lookup.specs.Composed.{composition_fault, composition_by, composition}
+use Rattle.oxc_sourcemap_lookup.specs.Composed.{AreTargets, SomeComposition, NoColumnGoesBack}
 use Rattle.oxc_sourcemap_lookup.proofs.Targets.{are_targets, targets-are}
 
 module _ (a b : MapRecord) where

@@ -1,5 +1,8 @@
 -- Halving a line, and how many columns are then compared.
-use Rattle.std.proofs.Common.{◌≡◌, refl, sym, ap, ◌∙◌, ℕ, zero, suc, ◌+◌, ◌^◌, ◌-◌, ◌/◌, ◌<◌, ◌≤◌, true, false, List, [], ◌∷◌, length, take, drop, get_or, slice_get, option_map, Bor, Option, Some, None, nat_cmp, nat_lt, ◌==◌, ◌≢◌, arith, if◌then◌else◌, bit_and, Bool}
+use Rattle.std.proofs.Common.{◌≡◌, refl, sym, ap, ◌∙◌, ℕ, zero, suc, ◌+◌, ◌^◌, ◌-◌, ◌/◌, ◌<◌, ◌≤◌}
+use Rattle.std.proofs.Common.{true, false, List, [], ◌∷◌, length, take, drop, get_or, slice_get}
+use Rattle.std.proofs.Common.{option_map, Bor, Option, Some, None, nat_cmp, nat_lt, ◌==◌, ◌≢◌}
+use Rattle.std.proofs.Common.{arith, if◌then◌else◌, bit_and, Bool}
 use Rattle.std.proofs.lemmas.Nat.{and-not, and_comm}
 use Rattle.std.specs.Int.Bits.{and_zero_l, and_zero_r}
 use Rattle.std.proofs.lemmas.List.Sums.{prefix_len-le-length}
@@ -13,7 +16,8 @@ use Rattle.oxc_sourcemap_parts.specs.Sorted.{token_column}
 use Rattle.oxc_sourcemap_lookup.specs.Digits.{digits_up_to, binary_digits}
 use Rattle.oxc_sourcemap_lookup.specs.Lookup.{first, at, no_column_goes_back}
 use Rattle.oxc_sourcemap_lookup.proofs.Tables.{last_at}
-use Rattle.oxc_sourcemap_lookup.proofs.Lookups.{walked, walked_is_at, goes_on, not_before, not_before-at}
+use Rattle.oxc_sourcemap_lookup.proofs.Lookups.{walked, walked_is_at, goes_on, not_before}
+use Rattle.oxc_sourcemap_lookup.proofs.Lookups.{not_before-at}
 
 -- what a mask of all binary digits, or of none, leaves of a number
 pub masked : (b : Bool) (n : ℕ) → n < 2 ^ 64 → bit_and n (if b then 18446744073709551615 else 0) ≡ (if b then n else 0)

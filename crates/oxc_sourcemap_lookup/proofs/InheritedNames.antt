@@ -1,5 +1,6 @@
 -- Names that are inherited from another map.
-use Rattle.std.proofs.Common.{◌≡◌, refl, sym, ap, subst, ◌∙◌, ℕ, ◌<◌, true, ◌&&◌, List, [], ◌∷◌, ◌++◌, map, length, Option, Some, None, arith, append_assoc}
+use Rattle.std.proofs.Common.{◌≡◌, refl, sym, ap, subst, ◌∙◌, ℕ, ◌<◌, true, ◌&&◌, List, [], ◌∷◌}
+use Rattle.std.proofs.Common.{◌++◌, map, length, Option, Some, None, arith, append_assoc}
 use Rattle.std.proofs.lemmas.List.{append-nil}
 use Rattle.std.proofs.lemmas.List.Elements.{filter_map-append}
 use Rattle.std.specs.List.{filter_map, AllByRecursion}
@@ -10,7 +11,9 @@ use Rattle.oxc_sourcemap_parts.specs.Record.{Text}
 use Rattle.oxc_sourcemap_parts.specs.DecodedMap.{name_of}
 use Rattle.oxc_sourcemap_parts.specs.Texts.{index_of, with_text_at, with_text, with_texts}
 use Rattle.oxc_sourcemap_parts.proofs.Places.{index-with, index-stays}
-use Rattle.oxc_sourcemap_lookup.specs.Composed.{Target, target_of, kept_name, inherited_name, inherited_id, composed_names, composed_token, token_through, may_be_id, are_ids}
+use Rattle.oxc_sourcemap_lookup.specs.Composed.{Target, target_of, kept_name, inherited_name}
+use Rattle.oxc_sourcemap_lookup.specs.Composed.{inherited_id, composed_names, composed_token}
+use Rattle.oxc_sourcemap_lookup.specs.Composed.{token_through, may_be_id, are_ids}
 use Rattle.oxc_sourcemap_lookup.specs.InheritedNames.{with_inherited, inherited_index}
 
 -- texts are added one by one

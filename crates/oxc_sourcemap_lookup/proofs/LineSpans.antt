@@ -1,5 +1,8 @@
 -- Cutting the spans of lines off a list in line order, one by one.
-use Rattle.std.proofs.Common.{◌≡◌, ◌≢◌, ℕ, ◌+◌, ◌-◌, ◌<◌, ◌≤◌, ◌==◌, nat_lt, Bool, true, false, List, [], ◌∷◌, ◌++◌, length, take, drop, get_or, slice_get, option_map, Some, None, refl, sym, ap, subst, ◌∙◌, arith, length-append, length-drop, length-take}
+use Rattle.std.proofs.Common.{◌≡◌, ◌≢◌, ℕ, ◌+◌, ◌-◌, ◌<◌, ◌≤◌, ◌==◌, nat_lt, Bool, true, false}
+use Rattle.std.proofs.Common.{List, [], ◌∷◌, ◌++◌, length, take, drop, get_or, slice_get}
+use Rattle.std.proofs.Common.{option_map, Some, None, refl, sym, ap, subst, ◌∙◌, arith}
+use Rattle.std.proofs.Common.{length-append, length-drop, length-take}
 use Rattle.std.proofs.Math.ListN.{get_or-append, drop_of_length-le}
 use Rattle.std.proofs.Math.Seq.{get_or-append_seam}
 use Rattle.std.proofs.lemmas.List.{drop-drop}
@@ -14,7 +17,8 @@ use Rattle.oxc_sourcemap_parts.specs.Sorted.{token_line}
 use Rattle.oxc_sourcemap_lookup.specs.declared.line_index.LineSpan.{LineSpan}
 use Rattle.oxc_sourcemap_lookup.specs.Lookup.{on_line}
 use Rattle.oxc_sourcemap_lookup.specs.LineSpans.{IsSpan, DoLinesRise, AreSpans}
-use Rattle.oxc_sourcemap_lookup.proofs.Tables.{IsFrom, IsFrom-le, on_line-before, front, left, others, joined}
+use Rattle.oxc_sourcemap_lookup.proofs.Tables.{IsFrom, IsFrom-le, on_line-before, front, left}
+use Rattle.oxc_sourcemap_lookup.proofs.Tables.{others, joined}
 
 -- the spans of the tokens before `start`, where what is left begins on line `next` or after it
 pub record AreSpansTo (tokens : List TokenRecord) (start next : ℕ) (spans : List LineSpan) : Type 0 where

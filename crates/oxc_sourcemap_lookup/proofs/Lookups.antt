@@ -1,5 +1,7 @@
 -- The walk over a line, and what it finds.
-use Rattle.std.proofs.Common.{◌≡◌, refl, ℕ, zero, suc, length, get_or, ◌<◌, ◌≤◌, Bool, true, false, cond, List, [], ◌∷◌, Option, Some, None, nat_cmp, nat_le, ◌==◌, max, arith, ap, ◌∙◌, sym, is_some, if◌then◌else◌}
+use Rattle.std.proofs.Common.{◌≡◌, refl, ℕ, zero, suc, length, get_or, ◌<◌, ◌≤◌, Bool, true, false}
+use Rattle.std.proofs.Common.{cond, List, [], ◌∷◌, Option, Some, None, nat_cmp, nat_le, ◌==◌, max}
+use Rattle.std.proofs.Common.{arith, ap, ◌∙◌, sym, is_some, if◌then◌else◌}
 use Rattle.std.specs.Option.{option_or}
 use Rattle.std.specs.Ordering.{match_ordering}
 use Rattle.std.specs.declared.cmp.Ordering.{Ordering}
@@ -7,7 +9,8 @@ use Rattle.std.specs.declared.cmp.Ordering.TheVariants.{Less, Equal, Greater}
 use Rattle.std.specs.List.{last_or, AllByRecursion}
 use Rattle.oxc_sourcemap_tokens.specs.Token.{TokenRecord, last}
 use Rattle.oxc_sourcemap_parts.specs.Sorted.{token_column}
-use Rattle.oxc_sourcemap_lookup.specs.Lookup.{first, greatest, not_past, in_column, at, no_column_goes_back}
+use Rattle.oxc_sourcemap_lookup.specs.Lookup.{first, greatest, not_past, in_column, at}
+use Rattle.oxc_sourcemap_lookup.specs.Lookup.{no_column_goes_back}
 
 -- what a walk over the rest of a line finds, after this token
 abbrev pub walked : ℕ → Option TokenRecord → List TokenRecord → Option TokenRecord

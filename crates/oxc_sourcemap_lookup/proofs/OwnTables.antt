@@ -1,13 +1,17 @@
 -- The rows of a map's own lookup table.
-use Rattle.std.proofs.Common.{◌≡◌, ℕ, zero, suc, ◌+◌, ◌≤◌, ◌<◌, ◌==◌, nat_lt, List, [], ◌∷◌, map, slice_get, refl, arith, Bool, true, false, cond, ap, ◌∙◌, sym, Option, Some, None, option_map, Ok}
+use Rattle.std.proofs.Common.{◌≡◌, ℕ, zero, suc, ◌+◌, ◌≤◌, ◌<◌, ◌==◌, nat_lt, List, [], ◌∷◌, map}
+use Rattle.std.proofs.Common.{slice_get, refl, arith, Bool, true, false, cond, ap, ◌∙◌, sym, Option}
+use Rattle.std.proofs.Common.{Some, None, option_map, Ok}
 use Rattle.std.specs.List.{last_or, range_with_len, AllByRecursion}
 use Rattle.std.specs.Option.{unwrap_or}
 use Rattle.oxc_sourcemap_tokens.specs.declared.error.Error.TheVariants.{LineOrder}
 use Rattle.oxc_sourcemap_tokens.specs.Refusals.{unless}
 use Rattle.oxc_sourcemap_tokens.specs.Token.{TokenRecord, last}
 use Rattle.oxc_sourcemap_tokens.specs.LineOrder.{first_out_of_order}
-use Rattle.oxc_sourcemap_parts.specs.Sorted.{token_line, token_column, may_precede, are_tokens_sorted}
-use Rattle.oxc_sourcemap_lookup.specs.Lookup.{on_line, lines_through, tokens_by_line, line_table, slice_of, no_column_goes_back}
+use Rattle.oxc_sourcemap_parts.specs.Sorted.{token_line, token_column, may_precede}
+use Rattle.oxc_sourcemap_parts.specs.Sorted.{are_tokens_sorted}
+use Rattle.oxc_sourcemap_lookup.specs.Lookup.{on_line, lines_through, tokens_by_line, line_table}
+use Rattle.oxc_sourcemap_lookup.specs.Lookup.{slice_of, no_column_goes_back}
 use Rattle.oxc_sourcemap_parts.proofs.Order.{sorted-head}
 use Rattle.oxc_sourcemap_lookup.proofs.Tables.{IsFrom, in_order-from_0}
 

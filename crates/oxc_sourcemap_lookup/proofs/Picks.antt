@@ -1,8 +1,10 @@
 -- Lookups in lists of items that are made of other items.
-use Rattle.std.proofs.Common.{◌≡◌, ℕ, Bool, true, false, ◌==◌, nat_le, cond, List, [], ◌∷◌, map, max, refl, ap, ◌∙◌, Option, Some, None}
+use Rattle.std.proofs.Common.{◌≡◌, ℕ, Bool, true, false, ◌==◌, nat_le, cond, List, [], ◌∷◌, map}
+use Rattle.std.proofs.Common.{max, refl, ap, ◌∙◌, Option, Some, None}
 use Rattle.std.specs.List.{filter, last_or}
 use Rattle.std.specs.Option.{option_map, option_or}
-use Rattle.oxc_sourcemap_lookup.specs.Lookup.{first, greatest, not_past, in_column, at, clamped_at, on_line, pick, clamped_pick}
+use Rattle.oxc_sourcemap_lookup.specs.Lookup.{first, greatest, not_past, in_column, at, clamped_at}
+use Rattle.oxc_sourcemap_lookup.specs.Lookup.{on_line, pick, clamped_pick}
 use Rattle.oxc_sourcemap_tokens.specs.Token.{last}
 
 module _ {A B : Type 0} (f : A → B) where

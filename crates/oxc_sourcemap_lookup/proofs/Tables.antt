@@ -1,5 +1,7 @@
 -- Cutting the front line off a list in line order.
-use Rattle.std.proofs.Common.{◌≡◌, ℕ, suc, zero, ◌+◌, ◌-◌, ◌≤◌, ◌<◌, List, [], ◌∷◌, ◌++◌, map, take, drop, length, slice_get, nat_lt, ◌==◌, refl, arith, Bool, true, false, cond, ap, ◌∙◌, Some, None}
+use Rattle.std.proofs.Common.{◌≡◌, ℕ, suc, zero, ◌+◌, ◌-◌, ◌≤◌, ◌<◌, List, [], ◌∷◌, ◌++◌, map, take}
+use Rattle.std.proofs.Common.{drop, length, slice_get, nat_lt, ◌==◌, refl, arith, Bool, true, false}
+use Rattle.std.proofs.Common.{cond, ap, ◌∙◌, Some, None}
 use Rattle.std.specs.List.{prefix_len, last_or, range_with_len}
 use Rattle.std.specs.Option.{option_map_or}
 use Rattle.oxc_sourcemap_tokens.specs.Token.{TokenRecord, last}

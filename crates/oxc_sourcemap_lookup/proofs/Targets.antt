@@ -1,5 +1,6 @@
 -- What tokens lead to, gathered one by one.
-use Rattle.std.proofs.Common.{is_some, ◌≡◌, refl, sym, ap, subst, ◌∙◌, ℕ, Bool, true, false, cond, ◌&&◌, ◌==◌, List, [], ◌∷◌, ◌++◌, map, Option, Some, None}
+use Rattle.std.proofs.Common.{is_some, ◌≡◌, refl, sym, ap, subst, ◌∙◌, ℕ, Bool, true, false, cond}
+use Rattle.std.proofs.Common.{◌&&◌, ◌==◌, List, [], ◌∷◌, ◌++◌, map, Option, Some, None}
 use Rattle.std.proofs.lemmas.List.{map-append}
 use Rattle.std.proofs.lemmas.List.Elements.{recursion_from_All, All-contains_itself}
 use Rattle.std.proofs.lemmas.List.Folds.{list_all-append}
@@ -8,11 +9,17 @@ use Rattle.std.specs.Option.{option_or, option_and_then, IfSome}
 use Rattle.oxc_sourcemap_tokens.specs.Token.{TokenRecord, is_mapped, last}
 use Rattle.oxc_sourcemap_parts.specs.Record.{Text}
 use Rattle.oxc_sourcemap_parts.specs.Sorted.{token_line, token_column}
-use Rattle.oxc_sourcemap_lookup.specs.Lookup.{first, greatest, not_past, in_column, at, clamped_at, clamped_pick, on_line, no_column_goes_back}
+use Rattle.oxc_sourcemap_lookup.specs.Lookup.{first, greatest, not_past, in_column, at, clamped_at}
+use Rattle.oxc_sourcemap_lookup.specs.Lookup.{clamped_pick, on_line, no_column_goes_back}
 use Rattle.oxc_sourcemap_parts.specs.Texts.{with_texts}
 use Rattle.oxc_sourcemap_lookup.specs.InheritedNames.{with_inherited, inherited_index}
-use Rattle.oxc_sourcemap_lookup.specs.Composed.{Target, target_of, if_mapped, found_on, line_of, target_in, inherited_name, inherited_id, composed_names, composed_token, may_be_id, are_ids, MayFind, IsTarget, AreTargets}
-use Rattle.oxc_sourcemap_lookup.proofs.InheritedNames.{IsPlaced, inherited-stays, placed-inherited, names-cons, names-append, all-placed, tokens-stay, ids-stay}
+use Rattle.oxc_sourcemap_lookup.specs.Composed.{Target, target_of, if_mapped, found_on, line_of}
+use Rattle.oxc_sourcemap_lookup.specs.Composed.{target_in, inherited_name, inherited_id}
+use Rattle.oxc_sourcemap_lookup.specs.Composed.{composed_names, composed_token, may_be_id, are_ids}
+use Rattle.oxc_sourcemap_lookup.specs.Composed.{MayFind, IsTarget, AreTargets}
+use Rattle.oxc_sourcemap_lookup.proofs.InheritedNames.{IsPlaced, inherited-stays, placed-inherited}
+use Rattle.oxc_sourcemap_lookup.proofs.InheritedNames.{names-cons, names-append, all-placed}
+use Rattle.oxc_sourcemap_lookup.proofs.InheritedNames.{tokens-stay, ids-stay}
 
 -- what holds of all items holds of one that a lookup finds
 module _ {A : Type 0} (P : A → Type 0) where

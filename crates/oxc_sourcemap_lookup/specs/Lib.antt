@@ -5,3 +5,4 @@ pub mod Digits
 pub mod Lookup
 pub mod LineSpans
 pub mod Trace
+pub mod Words

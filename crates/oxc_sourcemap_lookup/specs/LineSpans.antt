@@ -1,5 +1,6 @@
 -- The index of the lines of a list of tokens. Contracts cite `IsIndexOf`; the others are its parts.
-use Rattle.std.specs.Prelude.{◌≡◌, ◌≢◌, ℕ, ◌+◌, ◌-◌, ◌*◌, ◌<◌, ◌≤◌, nat_lt, List, [], length, take, drop, get_or, map, count_by}
+use Rattle.std.specs.Prelude.{◌≡◌, ◌≢◌, ℕ, ◌+◌, ◌-◌, ◌*◌, ◌<◌, ◌≤◌, nat_lt, List, [], length, take}
+use Rattle.std.specs.Prelude.{drop, get_or, map, count_by}
 use Rattle.std.specs.List.{All, range_with_len}
 use Rattle.oxc_sourcemap_tokens.specs.Token.{TokenRecord, last}
 use Rattle.oxc_sourcemap_tokens.specs.LineOrder.{IsInLineOrder}

@@ -1,5 +1,7 @@
 -- Looking up by generated position, in any list of items that have a line and a column.
-use Rattle.std.specs.Prelude.{◌≡◌, ℕ, ◌+◌, Bool, true, ◌&&◌, List, [], ◌∷◌, map, filter, max, slice_get, Option, Some, None, option_map, Result, Ok, if◌then◌else◌, nat_le, ◌==◌}
+use Rattle.std.specs.Prelude.{◌≡◌, ℕ, ◌+◌, Bool, true, ◌&&◌, List, [], ◌∷◌, map, filter, max}
+use Rattle.std.specs.Prelude.{slice_get, Option, Some, None, option_map, Result, Ok, if◌then◌else◌}
+use Rattle.std.specs.Prelude.{nat_le, ◌==◌}
 use Rattle.std.specs.List.{range_with_len}
 use Rattle.std.specs.Option.{unwrap_or, option_or}
 use Rattle.oxc_sourcemap_tokens.specs.declared.error.Error.{Error}

@@ -1,7 +1,8 @@
 -- The trace of a decoded map at a generated position.
 use Rattle.std.specs.Prelude.{ℕ, Option}
 use Rattle.std.specs.Option.{option_map}
-use Rattle.oxc_sourcemap_parts.specs.DecodedMap.{DecodedMap, OriginalPosition, mapping_line, mapping_column}
+use Rattle.oxc_sourcemap_parts.specs.DecodedMap.{DecodedMap, OriginalPosition, mapping_line}
+use Rattle.oxc_sourcemap_parts.specs.DecodedMap.{mapping_column}
 use Rattle.oxc_sourcemap_lookup.specs.Lookup.{pick, clamped_pick}
 
 -- what the mapping found there points to: none if no mapping is found, and `Some None` for an unmapped one

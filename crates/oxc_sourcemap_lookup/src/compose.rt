@@ -1,15 +1,16 @@
 //! Composition of maps: a map from generated to intermediate code and one from intermediate to original code, made one
 //! map from generated to original code.
-ghost use Rattle.std.specs.Prelude.{◌≡◌, ◌≢◌, ◌++◌, List, map, IfOk, OnOk, IfErr, Ok, Err, Some, None, true, false};
+ghost use Rattle.std.specs.Prelude.{◌≡◌, ◌≢◌, ◌++◌, List, map, IfOk, OnOk, IfErr, Ok, Err, Some};
+ghost use Rattle.std.specs.Prelude.{None, true, false};
 ghost use Rattle.std.specs.Box.{boxed_slice_items};
-ghost use Rattle.oxc_sourcemap_tokens.specs.declared.error.Error.{Error};
-ghost use Rattle.oxc_sourcemap_tokens.specs.declared.error.Error.TheVariants.{OutOfMemory, TooLarge};
-ghost use Rattle.oxc_sourcemap_parts.specs.Views.{texts_of, record_of_parts, cow_texts};
-ghost use Rattle.oxc_sourcemap_lookup.specs.LineSpans.{IsIndexOf};
-ghost use Rattle.oxc_sourcemap_lookup.specs.Composed.{Target, target_of, line_of, IsTarget, AreTargets, inherited_name, composed_names, composed_token, may_be_id, are_ids, composition_fault, composition, SomeComposition, NoColumnGoesBack};
-ghost use Rattle.oxc_sourcemap_lookup.specs.InheritedNames.{with_inherited, inherited_index};
-ghost use Rattle.oxc_sourcemap_lookup.specs.Inherited.{names_with, IsInheriting};
-ghost use Rattle.oxc_sourcemap_tokens.specs.Results.{FailsBy, Reports};
+ghost use Rattle.oxc_sourcemap_lookup.specs.Words.{Error, OutOfMemory, TooLarge, texts_of};
+ghost use Rattle.oxc_sourcemap_lookup.specs.Words.{record_of_parts, cow_texts, IsIndexOf, Target};
+ghost use Rattle.oxc_sourcemap_lookup.specs.Words.{target_of, line_of, IsTarget, AreTargets};
+ghost use Rattle.oxc_sourcemap_lookup.specs.Words.{inherited_name, composed_names, composed_token};
+ghost use Rattle.oxc_sourcemap_lookup.specs.Words.{may_be_id, are_ids, composition_fault};
+ghost use Rattle.oxc_sourcemap_lookup.specs.Words.{composition, SomeComposition, NoColumnGoesBack};
+ghost use Rattle.oxc_sourcemap_lookup.specs.Words.{with_inherited, inherited_index, names_with};
+ghost use Rattle.oxc_sourcemap_lookup.specs.Words.{IsInheriting, FailsBy, Reports};
 
 use crate::inherited_names::{InheritedNames, inherit_id, no_names, owned_names};
 use crate::line_index::LineIndex;
@@ -31,14 +32,19 @@ fn composed_token<'n>(
     requires { IsInheriting (cow_texts first.now) (cow_texts second.now) inherited.old }
     ensures names { let name = inherited_name (cow_texts first.now) (target_of token.now found) in
         let second = cow_texts second.now in
-        OnOk result (names_with second inherited.new ≡ with_inherited (names_with second inherited.old) name) }
-    ensures token { IfOk result (λ t. t ≡ composed_token (cow_texts first.now) (names_with (cow_texts second.now) inherited.new) (target_of token.now found)) }
+        OnOk result (names_with second inherited.new
+        ≡ with_inherited (names_with second inherited.old) name) }
+    ensures token { IfOk result (λ t. t ≡ composed_token (cow_texts first.now)
+        (names_with (cow_texts second.now) inherited.new) (target_of token.now found)) }
     ensures id { let name = inherited_name (cow_texts first.now) (target_of token.now found) in
-        OnOk result (may_be_id (inherited_index (names_with (cow_texts second.now) inherited.new) name) ≡ true) }
-    ensures kept { OnOk result (IsInheriting (cow_texts first.now) (cow_texts second.now) inherited.new) }
+        OnOk result (may_be_id (inherited_index
+        (names_with (cow_texts second.now) inherited.new) name) ≡ true) }
+    ensures kept { OnOk result (IsInheriting (cow_texts first.now)
+        (cow_texts second.now) inherited.new) }
     ensures error { let name = inherited_name (cow_texts first.now) (target_of token.now found) in
         IfErr result (λ e. (e ≢ OutOfMemory) → (e ≡ TooLarge)
-        × (may_be_id (inherited_index (with_inherited (names_with (cow_texts second.now) inherited.old) name) name) ≡ false)) }
+        × (may_be_id (inherited_index (with_inherited
+        (names_with (cow_texts second.now) inherited.old) name) name) ≡ false)) }
 {
     let (line, col) = (token.get_dst_line(), token.get_dst_col());
     let Some(found) = found else {
@@ -88,7 +94,8 @@ fn composed_tokens<'a>(
         × (made.0.items ≡ map (composed_token olds (names ++ texts_of made.1)) ls)
         × (are_ids olds (names ++ texts_of made.1) ls ≡ true)) }
     ensures error { let olds = cow_texts first.now in let names = cow_texts second.now in
-        IfErr result (λ e. (e ≢ OutOfMemory) → (e ≡ TooLarge) × (ls : List Target) × AreTargets tokens.now input.now ls
+        IfErr result (λ e. (e ≢ OutOfMemory) → (e ≡ TooLarge) × (ls : List Target)
+        × AreTargets tokens.now input.now ls
         × (are_ids olds (composed_names olds names ls) ls ≡ false)) }
 {
     let mut inherited = no_names(alloc, first, second)?;
@@ -109,9 +116,13 @@ fn input_index(
     first: &SourceMapParts<'_>,
     second: &SourceMapParts<'_>,
 ) -> Result<LineIndex>
-    ensures index { IfOk result (λ index. (composition_fault (record_of_parts first.now) (record_of_parts second.now) ≡ None) × IsIndexOf (boxed_slice_items second.now.tokens) index) }
-    ensures error { FailsBy (composition_fault (record_of_parts first.now) (record_of_parts second.now)) result }
-    ensures fault { Reports (composition_fault (record_of_parts first.now) (record_of_parts second.now)) result }
+    ensures index { IfOk result (λ index. (composition_fault (record_of_parts first.now)
+        (record_of_parts second.now) ≡ None) × IsIndexOf
+        (boxed_slice_items second.now.tokens) index) }
+    ensures error { FailsBy (composition_fault (record_of_parts first.now)
+        (record_of_parts second.now)) result }
+    ensures fault { Reports (composition_fault (record_of_parts first.now)
+        (record_of_parts second.now)) result }
 {
     if first.sources.len() > 1 {
         return Err(Error::SeveralSources(first.sources.len()));
@@ -125,9 +136,12 @@ fn compose_into(
     first: &mut SourceMapParts<'_>,
     second: &mut SourceMapParts<'_>,
 ) -> Result<()>
-    ensures made { OnOk result (SomeComposition (record_of_parts first.old) (record_of_parts second.old) (Ok (record_of_parts second.new))) }
-    ensures error { IfErr result (λ e. (e ≢ OutOfMemory) → SomeComposition (record_of_parts first.old) (record_of_parts second.old) (Err e)) }
-    ensures fault { Reports (composition_fault (record_of_parts first.old) (record_of_parts second.old)) result }
+    ensures made { OnOk result (SomeComposition (record_of_parts first.old)
+        (record_of_parts second.old) (Ok (record_of_parts second.new))) }
+    ensures error { IfErr result (λ e. (e ≢ OutOfMemory)
+        → SomeComposition (record_of_parts first.old) (record_of_parts second.old) (Err e)) }
+    ensures fault { Reports (composition_fault (record_of_parts first.old)
+        (record_of_parts second.old)) result }
 {
     let index = input_index(alloc, first, second)?;
     let (tokens, mut names) = composed_tokens(
@@ -157,12 +171,17 @@ pub fn compose_parts<'input>(
     mut second: SourceMapParts<'input>,
 ) -> Result<SourceMapParts<'input>>
     ensures map { let a = record_of_parts first.entry in let b = record_of_parts second.entry in
-        NoColumnGoesBack b.tokens → IfOk result (λ parts. composition a b ≡ Ok (record_of_parts parts)) }
+        NoColumnGoesBack b.tokens → IfOk result
+        (λ parts. composition a b ≡ Ok (record_of_parts parts)) }
     ensures error { let a = record_of_parts first.entry in let b = record_of_parts second.entry in
-        NoColumnGoesBack b.tokens → IfErr result (λ e. (e ≢ OutOfMemory) → composition a b ≡ Err e) }
-    ensures any_map { IfOk result (λ parts. SomeComposition (record_of_parts first.entry) (record_of_parts second.entry) (Ok (record_of_parts parts))) }
-    ensures any_refused { IfErr result (λ e. (e ≢ OutOfMemory) → SomeComposition (record_of_parts first.entry) (record_of_parts second.entry) (Err e)) }
-    ensures fault { Reports (composition_fault (record_of_parts first.entry) (record_of_parts second.entry)) result }
+        NoColumnGoesBack b.tokens → IfErr result
+        (λ e. (e ≢ OutOfMemory) → composition a b ≡ Err e) }
+    ensures any_map { IfOk result (λ parts. SomeComposition (record_of_parts first.entry)
+        (record_of_parts second.entry) (Ok (record_of_parts parts))) }
+    ensures any_refused { IfErr result (λ e. (e ≢ OutOfMemory)
+        → SomeComposition (record_of_parts first.entry) (record_of_parts second.entry) (Err e)) }
+    ensures fault { Reports (composition_fault (record_of_parts first.entry)
+        (record_of_parts second.entry)) result }
 {
     compose_into(alloc, &mut first, &mut second)?;
     Ok(second)

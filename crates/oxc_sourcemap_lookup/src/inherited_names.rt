@@ -1,13 +1,11 @@
 //! The names that a composed map inherits from the first map. Their ids are found by hashing.
-ghost use Rattle.std.specs.Prelude.{◌≡◌, ◌≢◌, ◌<◌, ◌≤◌, [], slice_get, IfOk, OnOk, IfErr, Some, None, true, false};
+ghost use Rattle.std.specs.Prelude.{◌≡◌, ◌≢◌, ◌<◌, ◌≤◌, [], slice_get, IfOk, OnOk, IfErr, Some};
+ghost use Rattle.std.specs.Prelude.{None, true, false};
 ghost use Rattle.std.specs.Option.{option_and_then};
-ghost use Rattle.oxc_sourcemap_tokens.specs.declared.error.Error.TheVariants.{OutOfMemory, TooLarge};
-ghost use Rattle.oxc_sourcemap_parts.specs.Views.{texts_of, cow_texts};
-ghost use Rattle.oxc_sourcemap_parts.specs.Texts.{index_of, with_text};
-ghost use Rattle.oxc_sourcemap_lookup.specs.Composed.{may_be_id};
-ghost use Rattle.oxc_sourcemap_lookup.specs.InheritedNames.{with_inherited, inherited_index};
-ghost use Rattle.oxc_sourcemap_lookup.specs.Inherited.{names_with, HasPlaces, HasNames, IsInheriting};
-ghost use Rattle.oxc_sourcemap_tokens.specs.Results.{lent_items};
+ghost use Rattle.oxc_sourcemap_lookup.specs.Words.{OutOfMemory, TooLarge, texts_of, cow_texts};
+ghost use Rattle.oxc_sourcemap_lookup.specs.Words.{index_of, with_text, may_be_id, with_inherited};
+ghost use Rattle.oxc_sourcemap_lookup.specs.Words.{inherited_index, names_with, HasPlaces};
+ghost use Rattle.oxc_sourcemap_lookup.specs.Words.{HasNames, IsInheriting, lent_items};
 
 use oxc_sourcemap_parts::owned_text;
 use oxc_sourcemap_tokens::{Error, Memory, Result};
@@ -32,7 +30,9 @@ pub(crate) fn no_names<'n>(
     first: &[CowStr<'_>],
     second: &[CowStr<'_>],
 ) -> Memory<InheritedNames<'n>>
-    ensures { IfOk result (λ inherited. IsInheriting (cow_texts first.now) (cow_texts second.now) inherited × (names_with (cow_texts second.now) inherited ≡ cow_texts second.now)) }
+    ensures { IfOk result (λ inherited. IsInheriting (cow_texts first.now)
+        (cow_texts second.now) inherited × (names_with (cow_texts second.now) inherited
+        ≡ cow_texts second.now)) }
 {
     let mut ids = Vec::with_capacity(alloc, first.len())?;
     ids.resize(first.len(), None)?;
@@ -58,7 +58,8 @@ fn fill_places<'n>(places: &mut HashMap<&'n str, usize>, names: &'n [CowStr<'_>]
 /// Stores the indices of the second map's names, unless that is done: it is put off until a name is inherited.
 fn fill<'n>(inherited: &mut InheritedNames<'n>, second: &'n [CowStr<'_>]) -> Memory<()>
     requires { HasNames (cow_texts second.now) inherited.old }
-    ensures places { OnOk result (HasPlaces (names_with (cow_texts second.now) inherited.new) inherited.new.places) }
+    ensures places { OnOk result (HasPlaces (names_with
+        (cow_texts second.now) inherited.new) inherited.new.places) }
     ensures names { inherited.new.names.items ≡ inherited.old.names.items }
     ensures ids { inherited.new.ids.items ≡ inherited.old.ids.items }
 {
@@ -87,12 +88,15 @@ fn inherit_name<'n>(
 ) -> Result<u32>
     requires { HasNames (cow_texts second.now) inherited.old }
     ensures names { let second = cow_texts second.now in
-        OnOk result (names_with second inherited.new ≡ with_text (names_with second inherited.old) name.now) }
-    ensures id { IfOk result (λ id. (index_of name.now (names_with (cow_texts second.now) inherited.new) ≡ Some id) × (id < 4294967295)) }
+        OnOk result (names_with second inherited.new
+        ≡ with_text (names_with second inherited.old) name.now) }
+    ensures id { IfOk result (λ id. (index_of name.now
+        (names_with (cow_texts second.now) inherited.new) ≡ Some id) × (id < 4294967295)) }
     ensures kept { OnOk result (HasNames (cow_texts second.now) inherited.new) }
     ensures ids { inherited.new.ids.items ≡ inherited.old.ids.items }
     ensures error { IfErr result (λ e. (e ≢ OutOfMemory) → (e ≡ TooLarge)
-        × (may_be_id (index_of name.now (with_text (names_with (cow_texts second.now) inherited.old) name.now)) ≡ false)) }
+        × (may_be_id (index_of name.now (with_text
+        (names_with (cow_texts second.now) inherited.old) name.now)) ≡ false)) }
 {
     fill(inherited, second)?;
     if let Some(index) = inherited.places.get(name) {
@@ -115,13 +119,17 @@ pub(crate) fn inherit_id<'n>(
     requires { IsInheriting (cow_texts first.now) (cow_texts second.now) inherited.old }
     ensures names { let name = option_and_then (slice_get (cow_texts first.now)) id in
         let second = cow_texts second.now in
-        OnOk result (names_with second inherited.new ≡ with_inherited (names_with second inherited.old) name) }
+        OnOk result (names_with second inherited.new
+        ≡ with_inherited (names_with second inherited.old) name) }
     ensures id { let name = option_and_then (slice_get (cow_texts first.now)) id in
-        IfOk result (λ id. (inherited_index (names_with (cow_texts second.now) inherited.new) name ≡ id) × (may_be_id id ≡ true)) }
-    ensures kept { OnOk result (IsInheriting (cow_texts first.now) (cow_texts second.now) inherited.new) }
+        IfOk result (λ id. (inherited_index (names_with (cow_texts second.now) inherited.new) name
+        ≡ id) × (may_be_id id ≡ true)) }
+    ensures kept { OnOk result (IsInheriting (cow_texts first.now)
+        (cow_texts second.now) inherited.new) }
     ensures error { let name = option_and_then (slice_get (cow_texts first.now)) id in
         IfErr result (λ e. (e ≢ OutOfMemory) → (e ≡ TooLarge)
-        × (may_be_id (inherited_index (with_inherited (names_with (cow_texts second.now) inherited.old) name) name) ≡ false)) }
+        × (may_be_id (inherited_index (with_inherited
+        (names_with (cow_texts second.now) inherited.old) name) name) ≡ false)) }
 {
     let Some(id) = id else {
         return Ok(None);

@@ -1,14 +1,14 @@
 //! The index of the lines of a list of tokens: where the tokens of each line lie.
-ghost use Rattle.std.specs.Prelude.{ℕ, ◌+◌, ◌*◌, ◌^◌, ◌≡◌, ◌≢◌, ◌↔◌, ◌<◌, ◌≤◌, true, IsTrue, length, get_or, option_map, slice_get, IfOk, IfSome, IsNone, Ok, Err, Some, None};
+ghost use Rattle.std.specs.Prelude.{ℕ, ◌+◌, ◌*◌, ◌^◌, ◌≡◌, ◌≢◌, ◌↔◌, ◌<◌, ◌≤◌, true, IsTrue};
+ghost use Rattle.std.specs.Prelude.{length, get_or, option_map, slice_get, IfOk, IfSome, IsNone};
+ghost use Rattle.std.specs.Prelude.{Ok, Err, Some, None};
 ghost use Rattle.std.specs.List.{All, Contains};
-ghost use Rattle.oxc_sourcemap_tokens.specs.declared.error.Error.{Error};
-ghost use Rattle.oxc_sourcemap_tokens.specs.declared.error.Error.TheVariants.{LineOrder, OutOfMemory};
-ghost use Rattle.oxc_sourcemap_tokens.specs.LineOrder.{IsInLineOrder, first_out_of_order};
-ghost use Rattle.oxc_sourcemap_parts.specs.Sorted.{are_tokens_sorted, token_line};
-ghost use Rattle.oxc_sourcemap_lookup.specs.Lookup.{on_line, lines_through, token_for, clamped_token_for};
-ghost use Rattle.oxc_sourcemap_tokens.specs.Token.{last};
-ghost use Rattle.oxc_sourcemap_lookup.specs.LineSpans.{AreStarts, AreSpans, DoLinesRise, AreLines, IsIndexOf};
-ghost use Rattle.oxc_sourcemap_tokens.specs.Results.{FailsBy, Reports};
+ghost use Rattle.oxc_sourcemap_lookup.specs.Words.{Error, LineOrder, OutOfMemory, IsInLineOrder};
+ghost use Rattle.oxc_sourcemap_lookup.specs.Words.{first_out_of_order, are_tokens_sorted};
+ghost use Rattle.oxc_sourcemap_lookup.specs.Words.{token_line, on_line, lines_through, token_for};
+ghost use Rattle.oxc_sourcemap_lookup.specs.Words.{clamped_token_for, last, AreStarts, AreSpans};
+ghost use Rattle.oxc_sourcemap_lookup.specs.Words.{DoLinesRise, AreLines, IsIndexOf, FailsBy};
+ghost use Rattle.oxc_sourcemap_lookup.specs.Words.{Reports};
 
 use crate::lookup::{line_count, line_length, search, search_clamped};
 use oxc_sourcemap_tokens::{Error, Memory, Result, Token, line_order_fault};
@@ -41,7 +41,8 @@ pub struct LineIndex {
 /// Whether to keep where each line begins: whether the tokens can be counted in 32 bits, and there are at most four lines
 /// for each of them, and 16 more.
 fn has_few_lines(tokens: &[Token]) -> bool
-    ensures { IsTrue result ↔ ((length tokens.now < 2 ^ 32) × (lines_through (last tokens.now) ≤ 4 * length tokens.now + 16)) }
+    ensures { IsTrue result ↔ ((length tokens.now < 2 ^ 32)
+        × (lines_through (last tokens.now) ≤ 4 * length tokens.now + 16)) }
 {
     let count = tokens.len() as u64;
     count <= 4294967295 && line_count(tokens) <= 4 * count + 16
@@ -51,7 +52,8 @@ fn has_few_lines(tokens: &[Token]) -> bool
 fn starts_of(alloc: Global, tokens: &[Token]) -> Memory<Option<Vec<u32>>>
     requires small { length tokens.now < 2 ^ 32 }
     requires few { lines_through (last tokens.now) ≤ 4 * length tokens.now + 16 }
-    ensures starts { IfOk result (λ found. IfSome found (λ starts. AreStarts tokens.now starts.items)) }
+    ensures starts { IfOk result (λ found. IfSome found
+        (λ starts. AreStarts tokens.now starts.items)) }
     ensures out_of_order { IfOk result (λ found. IsNone found → IsInLineOrder tokens.now → ⊥) }
 {
     let lines = line_count(tokens);
@@ -107,7 +109,8 @@ fn lines_of(alloc: Global, tokens: &[Token]) -> Memory<Option<Lines>>
 fn count_lines_before(spans: &[LineSpan], line: u32) -> usize
     requires { DoLinesRise spans.now }
     ensures before { (k : ℕ) (d : LineSpan) → k < result → (get_or spans.now k d).line < line }
-    ensures others { (k : ℕ) (d : LineSpan) → result ≤ k → k < length spans.now → line ≤ (get_or spans.now k d).line }
+    ensures others { (k : ℕ) (d : LineSpan) → result ≤ k → k < length spans.now
+        → line ≤ (get_or spans.now k d).line }
 {
     spans.partition_point(|span: &LineSpan| span.line < line)
 }
@@ -125,7 +128,8 @@ fn is_line_at(spans: &[LineSpan], i: usize, line: u32) -> bool
 /// The index of a line's span, looked for at `near`, then after it, then by halving.
 fn find(spans: &[LineSpan], line: u32, near: usize) -> Option<usize>
     requires { DoLinesRise spans.now }
-    ensures found { IfSome result (λ i. option_map (λ span. span.line) (slice_get spans.now i) ≡ Some line) }
+    ensures found { IfSome result (λ i. option_map (λ span. span.line) (slice_get spans.now i)
+        ≡ Some line) }
     ensures none { IsNone result → All (λ span. span.line ≢ line) spans.now }
 {
     if is_line_at(spans, near, line) {
@@ -210,7 +214,8 @@ impl LineIndex {
     /// Takes no memory.
     pub fn lookup(&self, tokens: &[Token], line: u32, col: u32) -> Option<Token>
         requires { IsIndexOf tokens.now self.now }
-        ensures found { are_tokens_sorted tokens.now ≡ true → result ≡ token_for tokens.now line col }
+        ensures found { are_tokens_sorted tokens.now ≡ true
+            → result ≡ token_for tokens.now line col }
         ensures among { IfSome result (Contains (on_line token_line line tokens.now)) }
     {
         search(self.tokens_near(tokens, line, &mut 0), col, &mut 0)
@@ -219,7 +224,8 @@ impl LineIndex {
     /// As `lookup`, but a position before the first token of its line gives that token.
     pub fn lookup_clamped(&self, tokens: &[Token], line: u32, col: u32) -> Option<Token>
         requires { IsIndexOf tokens.now self.now }
-        ensures found { are_tokens_sorted tokens.now ≡ true → result ≡ clamped_token_for tokens.now line col }
+        ensures found { are_tokens_sorted tokens.now ≡ true
+            → result ≡ clamped_token_for tokens.now line col }
         ensures among { IfSome result (Contains (on_line token_line line tokens.now)) }
     {
         search_clamped(self.tokens_near(tokens, line, &mut 0), col)

@@ -1,15 +1,14 @@
 //! Lookup tables over slices of tokens, and lookups on a line. (In the Rust crate they are in the module `sourcemap`.)
-ghost use Rattle.std.specs.Prelude.{◌≡◌, ◌↔◌, ◌==◌, ◌+◌, ◌<◌, ◌≤◌, nat_lt, true, false, IsTrue, length, take, slice_get, IfOk, IfSome, IsNone, Ok, Err, Some, None, [], if◌then◌else◌};
+ghost use Rattle.std.specs.Prelude.{◌≡◌, ◌↔◌, ◌==◌, ◌+◌, ◌<◌, ◌≤◌, nat_lt, true, false, IsTrue};
+ghost use Rattle.std.specs.Prelude.{length, take, slice_get, IfOk, IfSome, IsNone, Ok, Err, Some};
+ghost use Rattle.std.specs.Prelude.{None, [], if◌then◌else◌};
 ghost use Rattle.std.specs.Option.{option_map_or};
 ghost use Rattle.std.specs.List.{Contains, prefix_len};
-ghost use Rattle.oxc_sourcemap_tokens.specs.declared.error.Error.{Error};
-ghost use Rattle.oxc_sourcemap_tokens.specs.declared.error.Error.TheVariants.{OutOfMemory};
-ghost use Rattle.oxc_sourcemap_tokens.specs.LineOrder.{IsInLineOrder};
-ghost use Rattle.oxc_sourcemap_parts.specs.Sorted.{token_column};
-ghost use Rattle.oxc_sourcemap_lookup.specs.Digits.{binary_digits};
-ghost use Rattle.oxc_sourcemap_lookup.specs.Lookup.{at, clamped_at, no_column_goes_back, lines_through, tokens_by_line, table_fault, line_table, slice_of};
-ghost use Rattle.oxc_sourcemap_tokens.specs.Token.{last};
-ghost use Rattle.oxc_sourcemap_tokens.specs.Results.{Answers, Reports, lent_items};
+ghost use Rattle.oxc_sourcemap_lookup.specs.Words.{Error, OutOfMemory, IsInLineOrder, token_column};
+ghost use Rattle.oxc_sourcemap_lookup.specs.Words.{binary_digits, at, clamped_at};
+ghost use Rattle.oxc_sourcemap_lookup.specs.Words.{no_column_goes_back, lines_through};
+ghost use Rattle.oxc_sourcemap_lookup.specs.Words.{tokens_by_line, table_fault, line_table};
+ghost use Rattle.oxc_sourcemap_lookup.specs.Words.{slice_of, last, Answers, Reports, lent_items};
 
 use oxc_sourcemap_tokens::{Error, Memory, Result, Token, line_order_fault};
 use std::alloc::Global;
@@ -72,7 +71,9 @@ fn begins_before(tokens: &[Token], line: u64) -> bool
 
 /// The tokens of each line; None if the tokens are not in line order.
 fn cut_by_line<'s>(alloc: Global, tokens: &'s [Token]) -> Memory<Option<Vec<&'s [Token]>>>
-    ensures cut { IfOk result (λ cut. IfSome cut (λ table. IsInLineOrder tokens.now × (lent_items table.items ≡ tokens_by_line tokens.now))) }
+    ensures cut { IfOk result (λ cut. IfSome cut
+        (λ table. IsInLineOrder tokens.now × (lent_items table.items
+        ≡ tokens_by_line tokens.now))) }
     ensures out_of_order { IfOk result (λ cut. IsNone cut → IsInLineOrder tokens.now → ⊥) }
 {
     let lines = line_count(tokens);
@@ -125,7 +126,8 @@ fn compare_column(token: &Token, col: u64, count: usize, steps: &mut u64) -> usi
 /// On a line whose columns go back, it is some index up to the end of the line.
 fn count_before(line: &[Token], col: u32, steps: &mut u64) -> usize
     requires { steps.old ≡ 0 }
-    ensures count { no_column_goes_back token_column line.now ≡ true → result ≡ prefix_len (λ t. nat_lt t.dst_col col) line.now }
+    ensures count { no_column_goes_back token_column line.now ≡ true
+        → result ≡ prefix_len (λ t. nat_lt t.dst_col col) line.now }
     ensures within { result ≤ length line.now }
     ensures counted { steps.new ≡ binary_digits (length line.now) }
     ensures few { steps.new ≤ 64 }
@@ -147,9 +149,11 @@ fn count_before(line: &[Token], col: u32, steps: &mut u64) -> usize
 /// `steps` is set to the number of columns that were compared with `col`: at most as many as the number of tokens has binary
 /// digits, and one more. Takes no memory.
 pub fn search(line: &[Token], col: u32, steps: &mut u64) -> Option<Token>
-    ensures found { no_column_goes_back token_column line.now ≡ true → result ≡ at token_column line.now col }
+    ensures found { no_column_goes_back token_column line.now ≡ true
+        → result ≡ at token_column line.now col }
     ensures among { IfSome result (Contains line.now) }
-    ensures counted { (steps.new ≤ binary_digits (length line.now) + 1) × (line.now ≡ [] → steps.new ≡ 0) }
+    ensures counted { (steps.new ≤ binary_digits (length line.now) + 1)
+        × (line.now ≡ [] → steps.new ≡ 0) }
     ensures started { 0 < length line.now → 0 < steps.new }
 {
     *steps = 0;
@@ -163,7 +167,8 @@ pub fn search(line: &[Token], col: u32, steps: &mut u64) -> Option<Token>
 
 /// As `search`, but with the first token of the line in place of None.
 pub fn search_clamped(line: &[Token], col: u32) -> Option<Token>
-    ensures found { no_column_goes_back token_column line.now ≡ true → result ≡ clamped_at token_column line.now col }
+    ensures found { no_column_goes_back token_column line.now ≡ true
+        → result ≡ clamped_at token_column line.now col }
     ensures among { IfSome result (Contains line.now) }
     ensures clamped { IsNone result → line.now ≡ [] }
 {

@@ -1,9 +1,11 @@
 -- Views of tokens, in the words of the decoded map.
-use Rattle.std.proofs.Common.{◌≡◌, ℕ, List, [], ◌∷◌, refl, sym, ap, ◌∙◌, Option, Some, None, zero, suc, slice_get, MatchOption}
+use Rattle.std.proofs.Common.{◌≡◌, ℕ, List, [], ◌∷◌, refl, sym, ap, ◌∙◌, Option, Some, None, zero}
+use Rattle.std.proofs.Common.{suc, slice_get, MatchOption}
 use Rattle.std.specs.Option.{option_map, option_and_then}
 use Rattle.oxc_sourcemap_parts.specs.Record.{Text, MapRecord}
 use Rattle.oxc_sourcemap_parts.specs.Sorted.{token_line, token_column}
-use Rattle.oxc_sourcemap_parts.specs.DecodedMap.{DecodedSource, OriginalPosition, decoded_map_of, sources_of, original_at, mapping_of}
+use Rattle.oxc_sourcemap_parts.specs.DecodedMap.{DecodedSource, OriginalPosition, decoded_map_of}
+use Rattle.oxc_sourcemap_parts.specs.DecodedMap.{sources_of, original_at, mapping_of}
 use Rattle.oxc_sourcemap_map.specs.View.{ViewRecord, seen_in, view_source, view_name, view_original}
 use Rattle.oxc_sourcemap_lookup.proofs.Picks.{pick-map, clamped_pick-map}
 use Rattle.oxc_sourcemap_lookup.specs.Lookup.{pick, clamped_pick}

@@ -1,10 +1,9 @@
 //! Composition: of a map from generated to intermediate code and one from intermediate to original code, one map from
 //! generated to original code is made.
 ghost use Rattle.std.specs.Prelude.{◌≡◌, ◌≢◌, true, IfOk, IfErr, Ok, Err};
-ghost use Rattle.oxc_sourcemap_tokens.specs.declared.error.Error.TheVariants.{OutOfMemory};
-ghost use Rattle.oxc_sourcemap_parts.specs.Sorted.{are_tokens_sorted};
-ghost use Rattle.oxc_sourcemap_lookup.specs.Composed.{composition, composition_fault, SomeComposition, NoColumnGoesBack};
-ghost use Rattle.oxc_sourcemap_tokens.specs.Results.{Reports};
+ghost use Rattle.oxc_sourcemap_map.specs.Words.{OutOfMemory, are_tokens_sorted, composition};
+ghost use Rattle.oxc_sourcemap_map.specs.Words.{composition_fault, SomeComposition};
+ghost use Rattle.oxc_sourcemap_map.specs.Words.{NoColumnGoesBack, Reports};
 
 use crate::sourcemap::SourceMap;
 use oxc_sourcemap_lookup::compose_parts;
@@ -51,14 +50,18 @@ impl<'a> SourceMap<'a> {
         alloc: Global,
         input: SourceMap<'input>,
     ) -> Result<SourceMap<'input>>
-        ensures map { NoColumnGoesBack input.entry.tokens → IfOk result (λ map. composition self.entry input.entry ≡ Ok map) }
-        ensures error { NoColumnGoesBack input.entry.tokens → IfErr result (λ e. (e ≢ OutOfMemory) → composition self.entry input.entry ≡ Err e) }
+        ensures map { NoColumnGoesBack input.entry.tokens
+            → IfOk result (λ map. composition self.entry input.entry ≡ Ok map) }
+        ensures error { NoColumnGoesBack input.entry.tokens
+            → IfErr result (λ e. (e ≢ OutOfMemory) → composition self.entry input.entry ≡ Err e) }
         ensures any_map { IfOk result (λ map. SomeComposition self.entry input.entry (Ok map)) }
-        ensures any_refused { IfErr result (λ e. (e ≢ OutOfMemory) → SomeComposition self.entry input.entry (Err e)) }
+        ensures any_refused { IfErr result (λ e. (e ≢ OutOfMemory)
+            → SomeComposition self.entry input.entry (Err e)) }
         ensures fault { Reports (composition_fault self.entry input.entry) result }
 
         // True of every list of tokens, and stated here for callers that need it.
-        ensures sorted_goes_on { are_tokens_sorted input.entry.tokens ≡ true → NoColumnGoesBack input.entry.tokens }
+        ensures sorted_goes_on { are_tokens_sorted input.entry.tokens ≡ true
+            → NoColumnGoesBack input.entry.tokens }
     {
         let parts = compose_parts(alloc, self.parts, input.parts)?;
         Ok(SourceMap::from_parts(parts))

@@ -1,14 +1,13 @@
 //! The lookups of `SourceMap` by generated position. (The Rust crate has these calls in the module `sourcemap`.)
-ghost use Rattle.std.specs.Prelude.{◌≡◌, ◌+◌, ◌<◌, ◌≤◌, true, length, map, option_map, IfSome, IsNone, Some, []};
+ghost use Rattle.std.specs.Prelude.{◌≡◌, ◌+◌, ◌<◌, ◌≤◌, true, length, map, option_map, IfSome};
+ghost use Rattle.std.specs.Prelude.{IsNone, Some, []};
 ghost use Rattle.std.specs.List.{Contains};
-ghost use Rattle.oxc_sourcemap_parts.specs.Sorted.{token_column};
-ghost use Rattle.oxc_sourcemap_parts.specs.DecodedMap.{decoded_map_of};
-ghost use Rattle.oxc_sourcemap_lookup.specs.Digits.{binary_digits};
-ghost use Rattle.oxc_sourcemap_lookup.specs.Lookup.{at, clamped_at, no_column_goes_back, token_for, clamped_token_for, IfOwnTable};
-ghost use Rattle.oxc_sourcemap_lookup.specs.Lookup.{table_fault, line_table, slice_of};
-ghost use Rattle.oxc_sourcemap_lookup.specs.Trace.{trace, clamped_trace};
-ghost use Rattle.oxc_sourcemap_map.specs.View.{view_of, seen_in, view_original};
-ghost use Rattle.oxc_sourcemap_tokens.specs.Results.{Answers, Reports, lent_items};
+ghost use Rattle.oxc_sourcemap_map.specs.Words.{token_column, decoded_map_of, binary_digits, at};
+ghost use Rattle.oxc_sourcemap_map.specs.Words.{clamped_at, no_column_goes_back, token_for};
+ghost use Rattle.oxc_sourcemap_map.specs.Words.{clamped_token_for, IfOwnTable, table_fault};
+ghost use Rattle.oxc_sourcemap_map.specs.Words.{line_table, slice_of, trace, clamped_trace};
+ghost use Rattle.oxc_sourcemap_map.specs.Words.{view_of, seen_in, view_original, Answers, Reports};
+ghost use Rattle.oxc_sourcemap_map.specs.Words.{lent_items};
 
 use crate::source_view_token::SourceViewToken;
 use crate::sourcemap::SourceMap;
@@ -31,7 +30,8 @@ impl<'a> SourceMap<'a> {
     /// `OutOfMemory` for want of memory; the table takes a slice for each line, with tokens or without. The first is returned
     /// even if memory runs out.
     pub fn generate_lookup_table(&self, alloc: Global) -> Result<Vec<&[Token]>>
-        ensures table { Answers (λ table. lent_items table.items) result (line_table self.now.tokens) }
+        ensures table { Answers (λ table. lent_items table.items) result
+            (line_table self.now.tokens) }
         ensures fault { Reports (table_fault self.now.tokens) result }
     {
         lookup_table(alloc, self.parts.tokens.as_slice())
@@ -43,9 +43,11 @@ impl<'a> SourceMap<'a> {
     /// `steps` is set to the number of columns that were compared with `col`, which is at most one more than the number of
     /// binary digits of the number of tokens. Takes no memory.
     pub fn search(line: &[Token], col: u32, steps: &mut u64) -> Option<Token>
-        ensures found { no_column_goes_back token_column line.now ≡ true → result ≡ at token_column line.now col }
+        ensures found { no_column_goes_back token_column line.now ≡ true
+            → result ≡ at token_column line.now col }
         ensures among { IfSome result (Contains line.now) }
-        ensures counted { (steps.new ≤ binary_digits (length line.now) + 1) × (line.now ≡ [] → steps.new ≡ 0) }
+        ensures counted { (steps.new ≤ binary_digits (length line.now) + 1)
+            × (line.now ≡ [] → steps.new ≡ 0) }
         ensures started { 0 < length line.now → 0 < steps.new }
     {
         search(line, col, steps)
@@ -60,7 +62,8 @@ impl<'a> SourceMap<'a> {
         ensures found { let tokens = slice_of (lent_items lookup_table.now) line in
             no_column_goes_back token_column tokens ≡ true → result ≡ at token_column tokens col }
         ensures among { IfSome result (Contains (slice_of (lent_items lookup_table.now) line)) }
-        ensures own_table { IfOwnTable self.now.tokens (lent_items lookup_table.now) (result ≡ token_for self.now.tokens line col) }
+        ensures own_table { IfOwnTable self.now.tokens (lent_items lookup_table.now)
+            (result ≡ token_for self.now.tokens line col) }
     {
         search(slice_of(lookup_table, line), col, &mut 0)
     }
@@ -74,11 +77,17 @@ impl<'a> SourceMap<'a> {
     ) -> Option<SourceViewToken<'_, 'a>>
         ensures found { let tokens = slice_of (lent_items lookup_table.now) line in
             no_column_goes_back token_column tokens ≡ true
-            → option_map view_of result ≡ option_map (seen_in self.now) (at token_column tokens col) }
+            → option_map view_of result ≡ option_map (seen_in self.now)
+            (at token_column tokens col) }
         ensures among { let tokens = slice_of (lent_items lookup_table.now) line in
-            IfSome result (λ view. ((view_of view).map ≡ self.now) × Contains tokens (view_of view).token) }
-        ensures own_table { IfOwnTable self.now.tokens (lent_items lookup_table.now) (option_map view_of result ≡ option_map (seen_in self.now) (token_for self.now.tokens line col)) }
-        ensures traced { IfOwnTable self.now.tokens (lent_items lookup_table.now) (option_map view_original (option_map view_of result) ≡ trace (decoded_map_of self.now) line col) }
+            IfSome result (λ view. ((view_of view).map ≡ self.now)
+            × Contains tokens (view_of view).token) }
+        ensures own_table { IfOwnTable self.now.tokens (lent_items lookup_table.now)
+            (option_map view_of result ≡ option_map (seen_in self.now)
+            (token_for self.now.tokens line col)) }
+        ensures traced { IfOwnTable self.now.tokens (lent_items lookup_table.now)
+            (option_map view_original (option_map view_of result)
+            ≡ trace (decoded_map_of self.now) line col) }
     {
         self.view_token(self.lookup_token(lookup_table, line, col))
     }
@@ -92,9 +101,11 @@ impl<'a> SourceMap<'a> {
         col: u32,
     ) -> Option<Token>
         ensures found { let tokens = slice_of (lent_items lookup_table.now) line in
-            no_column_goes_back token_column tokens ≡ true → result ≡ clamped_at token_column tokens col }
+            no_column_goes_back token_column tokens ≡ true
+            → result ≡ clamped_at token_column tokens col }
         ensures among { IfSome result (Contains (slice_of (lent_items lookup_table.now) line)) }
-        ensures own_table { IfOwnTable self.now.tokens (lent_items lookup_table.now) (result ≡ clamped_token_for self.now.tokens line col) }
+        ensures own_table { IfOwnTable self.now.tokens (lent_items lookup_table.now)
+            (result ≡ clamped_token_for self.now.tokens line col) }
         ensures clamped { IsNone result → slice_of (lent_items lookup_table.now) line ≡ [] }
     {
         search_clamped(slice_of(lookup_table, line), col)
@@ -109,11 +120,17 @@ impl<'a> SourceMap<'a> {
     ) -> Option<SourceViewToken<'_, 'a>>
         ensures found { let tokens = slice_of (lent_items lookup_table.now) line in
             no_column_goes_back token_column tokens ≡ true
-            → option_map view_of result ≡ option_map (seen_in self.now) (clamped_at token_column tokens col) }
+            → option_map view_of result ≡ option_map (seen_in self.now)
+            (clamped_at token_column tokens col) }
         ensures among { let tokens = slice_of (lent_items lookup_table.now) line in
-            IfSome result (λ view. ((view_of view).map ≡ self.now) × Contains tokens (view_of view).token) }
-        ensures own_table { IfOwnTable self.now.tokens (lent_items lookup_table.now) (option_map view_of result ≡ option_map (seen_in self.now) (clamped_token_for self.now.tokens line col)) }
-        ensures traced { IfOwnTable self.now.tokens (lent_items lookup_table.now) (option_map view_original (option_map view_of result) ≡ clamped_trace (decoded_map_of self.now) line col) }
+            IfSome result (λ view. ((view_of view).map ≡ self.now)
+            × Contains tokens (view_of view).token) }
+        ensures own_table { IfOwnTable self.now.tokens (lent_items lookup_table.now)
+            (option_map view_of result ≡ option_map (seen_in self.now)
+            (clamped_token_for self.now.tokens line col)) }
+        ensures traced { IfOwnTable self.now.tokens (lent_items lookup_table.now)
+            (option_map view_original (option_map view_of result)
+            ≡ clamped_trace (decoded_map_of self.now) line col) }
         ensures clamped { IsNone result → slice_of (lent_items lookup_table.now) line ≡ [] }
     {
         self.view_token(self.lookup_token_approx(lookup_table, line, col))

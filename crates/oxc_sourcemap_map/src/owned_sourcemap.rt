@@ -1,28 +1,23 @@
 //! A map in a type without a lifetime.
-ghost use mir.Syntax.{static};
-ghost use Rattle.std.specs.Prelude.{◌≡◌, ◌≢◌, List, [], map, option_map, slice_get, string_bytes, IfOk, IfErr, IfSome, IsNone, Ok, Err, Some, OnOk, OnErr, ◌↔◌, true};
+ghost use Rattle.oxc_sourcemap_map.specs.Words.{static, OutOfMemory, AreInBounds, IsInLineOrder};
+ghost use Rattle.oxc_sourcemap_map.specs.Words.{json_record, record_of_parts, empty_record};
+ghost use Rattle.oxc_sourcemap_map.specs.Words.{are_tokens_sorted, token_column, IsSound};
+ghost use Rattle.oxc_sourcemap_map.specs.Words.{decoded_map_of, decoded, json_fault, encoded};
+ghost use Rattle.oxc_sourcemap_map.specs.Words.{read_map, read_decoded_map, map_text, map_url, at};
+ghost use Rattle.oxc_sourcemap_map.specs.Words.{clamped_at, no_column_goes_back, table_fault};
+ghost use Rattle.oxc_sourcemap_map.specs.Words.{line_table, slice_of, token_for, clamped_token_for};
+ghost use Rattle.oxc_sourcemap_map.specs.Words.{IfOwnTable, composition, composition_fault};
+ghost use Rattle.oxc_sourcemap_map.specs.Words.{SomeComposition, NoColumnGoesBack, trace};
+ghost use Rattle.oxc_sourcemap_map.specs.Words.{clamped_trace, view_of, seen_in, view_original};
+ghost use Rattle.oxc_sourcemap_map.specs.Words.{content_at, source_and_content_at, the_row};
+ghost use Rattle.oxc_sourcemap_map.specs.Words.{map_row, Answers, OnlyMemory, Reports, lent_items};
+ghost use Rattle.oxc_sourcemap_map.specs.Words.{lent_item};
+ghost use Rattle.std.specs.Prelude.{◌≡◌, ◌≢◌, List, [], map, option_map, slice_get, string_bytes};
+ghost use Rattle.std.specs.Prelude.{IfOk, IfErr, IfSome, IsNone, Ok, Err, Some, OnOk, OnErr, ◌↔◌};
+ghost use Rattle.std.specs.Prelude.{true};
 ghost use Rattle.std.specs.Borrow.{Lends, sem};
 ghost use Rattle.std.specs.Iterator.{IsFinite, Drains};
 ghost use Rattle.std.specs.List.{Contains};
-ghost use Rattle.oxc_sourcemap_tokens.specs.declared.error.Error.TheVariants.{OutOfMemory};
-ghost use Rattle.oxc_sourcemap_tokens.specs.Token.{AreInBounds};
-ghost use Rattle.oxc_sourcemap_tokens.specs.LineOrder.{IsInLineOrder};
-ghost use Rattle.oxc_sourcemap_json.specs.Json.{json_record};
-ghost use Rattle.oxc_sourcemap_parts.specs.Views.{record_of_parts, empty_record};
-ghost use Rattle.oxc_sourcemap_parts.specs.Sorted.{are_tokens_sorted, token_column};
-ghost use Rattle.oxc_sourcemap_parts.specs.Sound.{IsSound};
-ghost use Rattle.oxc_sourcemap_parts.specs.DecodedMap.{decoded_map_of};
-ghost use Rattle.oxc_sourcemap_decode.specs.Decoded.{decoded, json_fault};
-ghost use Rattle.oxc_sourcemap_encode.specs.Encoded.{encoded};
-ghost use Rattle.oxc_sourcemap_decode.specs.ReadMap.{read_map, read_decoded_map};
-ghost use Rattle.oxc_sourcemap_encode.specs.JsonText.{map_text, map_url};
-ghost use Rattle.oxc_sourcemap_lookup.specs.Lookup.{at, clamped_at, no_column_goes_back, table_fault, line_table, slice_of, token_for, clamped_token_for, IfOwnTable};
-ghost use Rattle.oxc_sourcemap_lookup.specs.Composed.{composition, composition_fault, SomeComposition, NoColumnGoesBack};
-ghost use Rattle.oxc_sourcemap_lookup.specs.Trace.{trace, clamped_trace};
-ghost use Rattle.oxc_sourcemap_map.specs.View.{view_of, seen_in, view_original, content_at, source_and_content_at};
-ghost use Rattle.oxc_sourcemap_map.specs.contracts.owned_sourcemap.OwnedSourceMap.{the_row};
-ghost use Rattle.oxc_sourcemap_map.specs.contracts.sourcemap.SourceMap.{the_row as map_row};
-ghost use Rattle.oxc_sourcemap_tokens.specs.Results.{Answers, OnlyMemory, Reports, lent_items, lent_item};
 
 use crate::source_view_token::SourceViewToken;
 use crate::sourcemap::SourceMap;
@@ -96,7 +91,8 @@ impl OwnedSourceMap {
 
     /// The wrapped map, for changes: what is written to it is what this map then holds.
     pub fn as_source_map_mut(&mut self) -> &mut SourceMap<'static>
-        ensures* writes_back { sem 𝓛 (Lends the_row (map_row (record { mir = static; lft = [] })) self.entry result (λ w. w)) }
+        ensures* writes_back { sem 𝓛 (Lends the_row
+            (map_row (record { mir = static; lft = [] })) self.entry result (λ w. w)) }
         ensures value { result.now ≡ self.old }
     {
         &mut self.inner
@@ -120,7 +116,8 @@ impl OwnedSourceMap {
     /// Reads a map from its JSON text, as `SourceMap::from_json_string` does, and fails as that does.
     pub fn from_json_string(alloc: Global, text: &str) -> Result<OwnedSourceMap>
         ensures map { IfOk result (λ map. read_map text.now ≡ Ok map) }
-        ensures decoded_map { IfOk result (λ map. read_decoded_map text.now ≡ Ok (decoded_map_of map)) }
+        ensures decoded_map { IfOk result (λ map. read_decoded_map text.now
+            ≡ Ok (decoded_map_of map)) }
         ensures sound { IfOk result (λ map. IsSound map ↔ (are_tokens_sorted map.tokens ≡ true)) }
         ensures in_line_order { IfOk result (λ map. IsInLineOrder map.tokens) }
         ensures error { IfErr result (λ e. (e ≢ OutOfMemory) → read_map text.now ≡ Err e) }
@@ -155,14 +152,18 @@ impl OwnedSourceMap {
     /// Composes this map, from generated to intermediate code, with `input`, from there to original code, as
     /// `SourceMap::compose` does, and fails as that does; both maps are then dropped.
     pub fn compose(self, alloc: Global, input: OwnedSourceMap) -> Result<OwnedSourceMap>
-        ensures map { NoColumnGoesBack input.tokens → IfOk result (λ map. composition self input ≡ Ok map) }
-        ensures error { NoColumnGoesBack input.tokens → IfErr result (λ e. (e ≢ OutOfMemory) → composition self input ≡ Err e) }
+        ensures map { NoColumnGoesBack input.tokens
+            → IfOk result (λ map. composition self input ≡ Ok map) }
+        ensures error { NoColumnGoesBack input.tokens
+            → IfErr result (λ e. (e ≢ OutOfMemory) → composition self input ≡ Err e) }
         ensures any_map { IfOk result (λ map. SomeComposition self input (Ok map)) }
-        ensures any_refused { IfErr result (λ e. (e ≢ OutOfMemory) → SomeComposition self input (Err e)) }
+        ensures any_refused { IfErr result (λ e. (e ≢ OutOfMemory)
+            → SomeComposition self input (Err e)) }
         ensures fault { Reports (composition_fault self input) result }
 
         // True of every list of tokens, and stated here for callers that need it.
-        ensures sorted_goes_on { are_tokens_sorted input.tokens ≡ true → NoColumnGoesBack input.tokens }
+        ensures sorted_goes_on { are_tokens_sorted input.tokens ≡ true
+            → NoColumnGoesBack input.tokens }
     {
         Ok(OwnedSourceMap::new(self.inner.compose(alloc, input.inner)?))
     }
@@ -270,7 +271,8 @@ impl OwnedSourceMap {
         alloc: Global,
         source_contents: Vec<Option<&str>>,
     ) -> Result<()>
-        ensures set { let contents = map (option_map (λ content. content.now)) source_contents.entry.items in
+        ensures set { let contents = map (option_map
+            (λ content. content.now)) source_contents.entry.items in
             OnOk result (self.new ≡ record self.old { source_contents = contents }) }
         ensures error { OnlyMemory result }
         ensures unchanged { OnErr result (self.new ≡ self.old) }
@@ -301,7 +303,8 @@ impl OwnedSourceMap {
 
     /// The source with this id, and its content. None unless both exist.
     pub fn get_source_and_content(&self, id: u32) -> Option<(&str, &str)>
-        ensures { option_map (λ texts. (texts.0.now, texts.1.now)) result ≡ source_and_content_at self.now id }
+        ensures { option_map (λ texts. (texts.0.now, texts.1.now)) result
+            ≡ source_and_content_at self.now id }
     {
         self.inner.get_source_and_content(id)
     }
@@ -322,7 +325,8 @@ impl OwnedSourceMap {
 
     /// The token at an index, as a view of this map. None if there is none.
     pub fn get_source_view_token(&self, index: u32) -> Option<SourceViewToken<'_, 'static>>
-        ensures { option_map view_of result ≡ option_map (seen_in self.now) (slice_get self.now.tokens index) }
+        ensures { option_map view_of result ≡ option_map (seen_in self.now)
+            (slice_get self.now.tokens index) }
     {
         self.inner.get_source_view_token(index)
     }
@@ -341,7 +345,8 @@ impl OwnedSourceMap {
     /// `OutOfMemory` for want of memory; the table takes a slice for each line, with tokens or without. The first is returned
     /// even if memory runs out.
     pub fn generate_lookup_table(&self, alloc: Global) -> Result<Vec<&[Token]>>
-        ensures table { Answers (λ table. lent_items table.items) result (line_table self.now.tokens) }
+        ensures table { Answers (λ table. lent_items table.items) result
+            (line_table self.now.tokens) }
         ensures fault { Reports (table_fault self.now.tokens) result }
     {
         self.inner.generate_lookup_table(alloc)
@@ -356,7 +361,8 @@ impl OwnedSourceMap {
         ensures found { let tokens = slice_of (lent_items lookup_table.now) line in
             no_column_goes_back token_column tokens ≡ true → result ≡ at token_column tokens col }
         ensures among { IfSome result (Contains (slice_of (lent_items lookup_table.now) line)) }
-        ensures own_table { IfOwnTable self.now.tokens (lent_items lookup_table.now) (result ≡ token_for self.now.tokens line col) }
+        ensures own_table { IfOwnTable self.now.tokens (lent_items lookup_table.now)
+            (result ≡ token_for self.now.tokens line col) }
     {
         self.inner.lookup_token(lookup_table, line, col)
     }
@@ -370,11 +376,17 @@ impl OwnedSourceMap {
     ) -> Option<SourceViewToken<'_, 'static>>
         ensures found { let tokens = slice_of (lent_items lookup_table.now) line in
             no_column_goes_back token_column tokens ≡ true
-            → option_map view_of result ≡ option_map (seen_in self.now) (at token_column tokens col) }
+            → option_map view_of result ≡ option_map (seen_in self.now)
+            (at token_column tokens col) }
         ensures among { let tokens = slice_of (lent_items lookup_table.now) line in
-            IfSome result (λ view. ((view_of view).map ≡ self.now) × Contains tokens (view_of view).token) }
-        ensures own_table { IfOwnTable self.now.tokens (lent_items lookup_table.now) (option_map view_of result ≡ option_map (seen_in self.now) (token_for self.now.tokens line col)) }
-        ensures traced { IfOwnTable self.now.tokens (lent_items lookup_table.now) (option_map view_original (option_map view_of result) ≡ trace (decoded_map_of self.now) line col) }
+            IfSome result (λ view. ((view_of view).map ≡ self.now)
+            × Contains tokens (view_of view).token) }
+        ensures own_table { IfOwnTable self.now.tokens (lent_items lookup_table.now)
+            (option_map view_of result ≡ option_map (seen_in self.now)
+            (token_for self.now.tokens line col)) }
+        ensures traced { IfOwnTable self.now.tokens (lent_items lookup_table.now)
+            (option_map view_original (option_map view_of result)
+            ≡ trace (decoded_map_of self.now) line col) }
     {
         self.inner.lookup_source_view_token(lookup_table, line, col)
     }
@@ -388,9 +400,11 @@ impl OwnedSourceMap {
         col: u32,
     ) -> Option<Token>
         ensures found { let tokens = slice_of (lent_items lookup_table.now) line in
-            no_column_goes_back token_column tokens ≡ true → result ≡ clamped_at token_column tokens col }
+            no_column_goes_back token_column tokens ≡ true
+            → result ≡ clamped_at token_column tokens col }
         ensures among { IfSome result (Contains (slice_of (lent_items lookup_table.now) line)) }
-        ensures own_table { IfOwnTable self.now.tokens (lent_items lookup_table.now) (result ≡ clamped_token_for self.now.tokens line col) }
+        ensures own_table { IfOwnTable self.now.tokens (lent_items lookup_table.now)
+            (result ≡ clamped_token_for self.now.tokens line col) }
         ensures clamped { IsNone result → slice_of (lent_items lookup_table.now) line ≡ [] }
     {
         self.inner.lookup_token_approx(lookup_table, line, col)
@@ -405,11 +419,17 @@ impl OwnedSourceMap {
     ) -> Option<SourceViewToken<'_, 'static>>
         ensures found { let tokens = slice_of (lent_items lookup_table.now) line in
             no_column_goes_back token_column tokens ≡ true
-            → option_map view_of result ≡ option_map (seen_in self.now) (clamped_at token_column tokens col) }
+            → option_map view_of result ≡ option_map (seen_in self.now)
+            (clamped_at token_column tokens col) }
         ensures among { let tokens = slice_of (lent_items lookup_table.now) line in
-            IfSome result (λ view. ((view_of view).map ≡ self.now) × Contains tokens (view_of view).token) }
-        ensures own_table { IfOwnTable self.now.tokens (lent_items lookup_table.now) (option_map view_of result ≡ option_map (seen_in self.now) (clamped_token_for self.now.tokens line col)) }
-        ensures traced { IfOwnTable self.now.tokens (lent_items lookup_table.now) (option_map view_original (option_map view_of result) ≡ clamped_trace (decoded_map_of self.now) line col) }
+            IfSome result (λ view. ((view_of view).map ≡ self.now)
+            × Contains tokens (view_of view).token) }
+        ensures own_table { IfOwnTable self.now.tokens (lent_items lookup_table.now)
+            (option_map view_of result ≡ option_map (seen_in self.now)
+            (clamped_token_for self.now.tokens line col)) }
+        ensures traced { IfOwnTable self.now.tokens (lent_items lookup_table.now)
+            (option_map view_original (option_map view_of result)
+            ≡ clamped_trace (decoded_map_of self.now) line col) }
         ensures clamped { IsNone result → slice_of (lent_items lookup_table.now) line ≡ [] }
     {
         self.inner
@@ -473,7 +493,8 @@ impl Deref for OwnedSourceMap {
 impl DerefMut for OwnedSourceMap {
     /// The wrapped map, for changes: what is written to it is what this map then holds.
     fn deref_mut(&mut self) -> &mut SourceMap<'static>
-        ensures* writes_back { sem 𝓛 (Lends the_row (map_row (record { mir = static; lft = [] })) self.entry result (λ w. w)) }
+        ensures* writes_back { sem 𝓛 (Lends the_row
+            (map_row (record { mir = static; lft = [] })) self.entry result (λ w. w)) }
         ensures value { result.now ≡ self.old }
     {
         let OwnedSourceMap { inner } = self;

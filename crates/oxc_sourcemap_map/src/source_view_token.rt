@@ -1,7 +1,8 @@
 //! A token together with its map. (The Rust crate has it in the module `token`.)
 ghost use Rattle.std.specs.Prelude.{◌≡◌, option_map, MatchOption, Some, None};
-ghost use Rattle.oxc_sourcemap_map.specs.View.{view_of, seen_in, view_name, view_source, view_content, view_source_and_content, view_original};
-ghost use Rattle.oxc_sourcemap_tokens.specs.Results.{lent_item};
+ghost use Rattle.oxc_sourcemap_map.specs.Words.{view_of, seen_in, view_name, view_source};
+ghost use Rattle.oxc_sourcemap_map.specs.Words.{view_content, view_source_and_content};
+ghost use Rattle.oxc_sourcemap_map.specs.Words.{view_original, lent_item};
 
 use crate::sourcemap::SourceMap;
 use oxc_sourcemap_tokens::Token;
@@ -105,7 +106,8 @@ impl<'sm, 'data> SourceViewToken<'sm, 'data> {
 
     /// The source and its content. None unless both exist.
     pub fn get_source_and_content(&self) -> Option<(&'sm str, &'sm str)>
-        ensures { option_map (λ texts. (texts.0.now, texts.1.now)) result ≡ view_source_and_content (view_of self.now) }
+        ensures { option_map (λ texts. (texts.0.now, texts.1.now)) result
+            ≡ view_source_and_content (view_of self.now) }
     {
         let sourcemap = self.sourcemap;
         sourcemap.get_source_and_content(self.get_source_id()?)
@@ -119,8 +121,10 @@ impl<'sm, 'data> SourceViewToken<'sm, 'data> {
         ensures name { lent_item result.3 ≡ view_name (view_of self.now) }
 
         // The tuple, in the words of decoded maps: what the token points to, and no source if it points to nothing.
-        ensures original { MatchOption (view_original (view_of self.now)) (lent_item result.0 ≡ None) (λ original.
-            (lent_item result.0 ≡ Some original.source.path) × (result.1 ≡ original.src_line) × (result.2 ≡ original.src_col)
+        ensures original { MatchOption (view_original (view_of self.now))
+            (lent_item result.0 ≡ None) (λ original.
+            (lent_item result.0 ≡ Some original.source.path) × (result.1 ≡ original.src_line)
+            × (result.2 ≡ original.src_col)
             × (lent_item result.3 ≡ original.name)) }
     {
         (

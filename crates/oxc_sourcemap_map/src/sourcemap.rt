@@ -1,21 +1,17 @@
 //! The type of a map, without its lookups and composition.
-ghost use Rattle.std.specs.Prelude.{◌≡◌, ◌≢◌, ◌↔◌, ◌<◌, List, map, option_map, slice_get, IsTrue, true, string_bytes, IfOk, IfErr, Ok, Err, Some, None, OnOk, OnErr};
+ghost use Rattle.std.specs.Prelude.{◌≡◌, ◌≢◌, ◌↔◌, ◌<◌, List, map, option_map, slice_get, IsTrue};
+ghost use Rattle.std.specs.Prelude.{true, string_bytes, IfOk, IfErr, Ok, Err, Some, None, OnOk};
+ghost use Rattle.std.specs.Prelude.{OnErr};
 ghost use Rattle.std.specs.Iterator.{IsFinite, Drains};
 ghost use Rattle.std.specs.Box.{boxed_slice_items};
-ghost use Rattle.oxc_sourcemap_tokens.specs.declared.error.Error.TheVariants.{OutOfMemory};
-ghost use Rattle.oxc_sourcemap_tokens.specs.Token.{AreInBounds};
-ghost use Rattle.oxc_sourcemap_tokens.specs.LineOrder.{IsInLineOrder};
-ghost use Rattle.oxc_sourcemap_json.specs.Json.{json_record};
-ghost use Rattle.oxc_sourcemap_parts.specs.Views.{text_of, texts_of, contents_of, chunks_of, record_of_parts, empty_record};
-ghost use Rattle.oxc_sourcemap_parts.specs.Sorted.{are_tokens_sorted};
-ghost use Rattle.oxc_sourcemap_parts.specs.Sound.{IsSound};
-ghost use Rattle.oxc_sourcemap_decode.specs.Decoded.{decoded, json_fault};
-ghost use Rattle.oxc_sourcemap_encode.specs.Encoded.{encoded};
-ghost use Rattle.oxc_sourcemap_parts.specs.DecodedMap.{decoded_map_of};
-ghost use Rattle.oxc_sourcemap_decode.specs.ReadMap.{read_map, read_decoded_map};
-ghost use Rattle.oxc_sourcemap_encode.specs.JsonText.{map_text, map_url};
-ghost use Rattle.oxc_sourcemap_map.specs.View.{view_of, seen_in, content_at, source_and_content_at};
-ghost use Rattle.oxc_sourcemap_tokens.specs.Results.{Answers, OnlyMemory, Reports, lent_item};
+ghost use Rattle.oxc_sourcemap_map.specs.Words.{OutOfMemory, AreInBounds, IsInLineOrder};
+ghost use Rattle.oxc_sourcemap_map.specs.Words.{json_record, text_of, texts_of, contents_of};
+ghost use Rattle.oxc_sourcemap_map.specs.Words.{chunks_of, record_of_parts, empty_record};
+ghost use Rattle.oxc_sourcemap_map.specs.Words.{are_tokens_sorted, IsSound, decoded, json_fault};
+ghost use Rattle.oxc_sourcemap_map.specs.Words.{encoded, decoded_map_of, read_map};
+ghost use Rattle.oxc_sourcemap_map.specs.Words.{read_decoded_map, map_text, map_url, view_of};
+ghost use Rattle.oxc_sourcemap_map.specs.Words.{seen_in, content_at, source_and_content_at};
+ghost use Rattle.oxc_sourcemap_map.specs.Words.{Answers, OnlyMemory, Reports, lent_item};
 
 use crate::source_view_token::SourceViewToken;
 use crate::view_tokens::ViewTokens;
@@ -122,7 +118,8 @@ impl<'a> SourceMap<'a> {
     #[tactic(auto, using(oxc_sourcemap_decode::proofs::WellRead::read_map_sound, oxc_sourcemap_decode::proofs::WellRead::read_in_order))]
     pub fn from_json_string(alloc: Global, text: &str) -> Result<SourceMap<'static>>
         ensures map { IfOk result (λ map. read_map text.now ≡ Ok map) }
-        ensures decoded_map { IfOk result (λ map. read_decoded_map text.now ≡ Ok (decoded_map_of map)) }
+        ensures decoded_map { IfOk result (λ map. read_decoded_map text.now
+            ≡ Ok (decoded_map_of map)) }
         ensures sound { IfOk result (λ map. IsSound map ↔ (are_tokens_sorted map.tokens ≡ true)) }
         ensures in_line_order { IfOk result (λ map. IsInLineOrder map.tokens) }
         ensures error { IfErr result (λ e. (e ≢ OutOfMemory) → read_map text.now ≡ Err e) }
@@ -290,7 +287,8 @@ impl<'a> SourceMap<'a> {
         alloc: Global,
         source_contents: Vec<Option<&str>>,
     ) -> Result<()>
-        ensures set { let contents = map (option_map (λ content. content.now)) source_contents.entry.items in
+        ensures set { let contents = map (option_map
+            (λ content. content.now)) source_contents.entry.items in
             OnOk result (self.new ≡ record self.old { source_contents = contents }) }
         ensures error { OnlyMemory result }
         ensures unchanged { OnErr result (self.new ≡ self.old) }
@@ -315,7 +313,8 @@ impl<'a> SourceMap<'a> {
 
     /// The token at an index, as a view of this map. None if there is none.
     pub fn get_source_view_token(&self, index: u32) -> Option<SourceViewToken<'_, 'a>>
-        ensures { option_map view_of result ≡ option_map (seen_in self.now) (slice_get self.now.tokens index) }
+        ensures { option_map view_of result ≡ option_map (seen_in self.now)
+            (slice_get self.now.tokens index) }
     {
         self.view_token(self.get_token(index))
     }
@@ -357,7 +356,8 @@ impl<'a> SourceMap<'a> {
 
     /// The source with this id, and its content. None unless both exist.
     pub fn get_source_and_content(&self, id: u32) -> Option<(&str, &str)>
-        ensures { option_map (λ texts. (texts.0.now, texts.1.now)) result ≡ source_and_content_at self.now id }
+        ensures { option_map (λ texts. (texts.0.now, texts.1.now)) result
+            ≡ source_and_content_at self.now id }
     {
         Some((self.get_source(id)?, self.get_source_content(id)?))
     }

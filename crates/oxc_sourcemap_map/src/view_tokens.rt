@@ -2,7 +2,7 @@
 ghost use Rattle.std.specs.Prelude.{◌≡◌, map, length, IfSome, Some};
 ghost use Rattle.std.specs.Iterator.{YieldsFirstBy, item_count, UpTo};
 ghost use Rattle.std.specs.Iterator.SizeHint.{IsWithinCount};
-ghost use Rattle.oxc_sourcemap_map.specs.View.{view_of, seen_in};
+ghost use Rattle.oxc_sourcemap_map.specs.Words.{view_of, seen_in};
 
 use crate::source_view_token::SourceViewToken;
 use crate::sourcemap::SourceMap;

@@ -1,5 +1,7 @@
 -- The tokens of a text are in order and in bounds, and its unmapped tokens have the source position of the state.
-use Rattle.std.proofs.Common.{◌≡◌, ℕ, ◌+◌, ◌<◌, ◌≤◌, true, false, cond, ◌||◌, ◌==◌, nat_lt, nat_le, List, [], ◌∷◌, ◌++◌, length, ℤ, pos, negsuc, min, arith, refl, sym, ap, ◌∙◌, inl, inr, ◌⊎◌, Option, Some, None, Result, Ok, Err, subst}
+use Rattle.std.proofs.Common.{◌≡◌, ℕ, ◌+◌, ◌<◌, ◌≤◌, true, false, cond, ◌||◌, ◌==◌, nat_lt, nat_le}
+use Rattle.std.proofs.Common.{List, [], ◌∷◌, ◌++◌, length, ℤ, pos, negsuc, min, arith, refl, sym}
+use Rattle.std.proofs.Common.{ap, ◌∙◌, inl, inr, ◌⊎◌, Option, Some, None, Result, Ok, Err, subst}
 use Rattle.std.specs.List.{AllByRecursion}
 use Rattle.std.proofs.lemmas.Bool.{cases_lt, cases_eq}
 use Rattle.std.proofs.lemmas.List.Elements.{All-from_recursion}
@@ -8,7 +10,8 @@ use Rattle.oxc_sourcemap_tokens.specs.declared.error.Error.{Error}
 use Rattle.oxc_sourcemap_tokens.specs.Token.{TokenRecord, IsInBounds, AreInBounds}
 use Rattle.oxc_sourcemap_mappings.specs.Parts.{Segment, lines, field}
 use Rattle.oxc_sourcemap_mappings.specs.Places.{Place}
-use Rattle.oxc_sourcemap_mappings.specs.Faults.{◌orelse◌, counts_of, range_fault, size_fault, place_fault, is_id_below}
+use Rattle.oxc_sourcemap_mappings.specs.Faults.{◌orelse◌, counts_of, range_fault, size_fault}
+use Rattle.oxc_sourcemap_mappings.specs.Faults.{place_fault, is_id_below}
 use Rattle.oxc_sourcemap_tokens.specs.Refusals.{unless}
 use Rattle.oxc_sourcemap_mappings.specs.Reading.{token_at, segment_result, gathered, onto, reading}
 use Rattle.oxc_sourcemap_tokens.specs.State.{State, initial}
@@ -19,7 +22,8 @@ use Rattle.oxc_sourcemap_tokens.specs.Steps.{advanced}
 use Rattle.oxc_sourcemap_tokens.proofs.InOrder.{back_from-all}
 use Rattle.oxc_sourcemap_mappings.proofs.Length.{IsBounded, IsBounded-advanced}
 use Rattle.oxc_sourcemap_mappings.proofs.Left.{along, along_lines, moved_by_all, reading-lines}
-use Rattle.oxc_sourcemap_mappings.proofs.RoundTrip.{IsWithin, round_trip, carried-is, carrying, IsBounded-initial}
+use Rattle.oxc_sourcemap_mappings.proofs.RoundTrip.{IsWithin, round_trip, carried-is, carrying}
+use Rattle.oxc_sourcemap_mappings.proofs.RoundTrip.{IsBounded-initial}
 use Rattle.oxc_sourcemap_mappings.proofs.Segments.{standing}
 
 orelse-none : (a b : Option Error) → (a orelse b) ≡ None → (a ≡ None) × (b ≡ None)

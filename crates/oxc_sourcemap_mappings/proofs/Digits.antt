@@ -1,12 +1,15 @@
 -- The digits that are written are the digits that are read.
-use Rattle.std.proofs.Common.{◌≡◌, ℕ, zero, suc, ◌+◌, ◌-◌, ◌*◌, ◌/◌, ◌%◌, ◌^◌, ◌<◌, ◌≤◌, true, false, nat_lt, List, [], ◌∷◌, ◌++◌, length, map, pos, ◌+ℤ◌, arith, refl, ap, ◌∙◌, lit<, inl, inr, add-zero, add-one}
+use Rattle.std.proofs.Common.{◌≡◌, ℕ, zero, suc, ◌+◌, ◌-◌, ◌*◌, ◌/◌, ◌%◌, ◌^◌, ◌<◌, ◌≤◌, true}
+use Rattle.std.proofs.Common.{false, nat_lt, List, [], ◌∷◌, ◌++◌, length, map, pos, ◌+ℤ◌, arith}
+use Rattle.std.proofs.Common.{refl, ap, ◌∙◌, lit<, inl, inr, add-zero, add-one}
 use Rattle.std.specs.List.{AllByRecursion}
 use Rattle.std.proofs.Math.Nat.{pow-suc}
 use Rattle.std.proofs.lemmas.Bool.{cases_lt}
 use Rattle.std.proofs.lemmas.Bool.Decides.{nat_tests}
 use Rattle.std.proofs.lemmas.List.{get_or_past}
 use Rattle.std.proofs.lemmas.Int.{ints}
-use Rattle.oxc_sourcemap_mappings.specs.Number.{digit, ends_run, raw_from, signed, number, is_fitting, is_open}
+use Rattle.oxc_sourcemap_mappings.specs.Number.{digit, ends_run, raw_from, signed, number}
+use Rattle.oxc_sourcemap_mappings.specs.Number.{is_fitting, is_open}
 use Rattle.oxc_sourcemap_mappings.specs.Parts.{runs}
 use Rattle.oxc_sourcemap_mappings.specs.Faults.{digit_fault}
 use Rattle.oxc_sourcemap_mappings.specs.Canonical.{digits, vlq_text, letter, raw_delta}

@@ -1,5 +1,8 @@
 -- How long the text of a list is.
-use Rattle.std.proofs.Common.{◌≡◌, ℕ, zero, suc, ◌+◌, ◌-◌, ◌*◌, ◌/◌, ◌^◌, ◌<◌, ◌≤◌, Bool, true, false, cond, ◌==◌, nat_lt, List, [], ◌∷◌, ◌++◌, length, replicate, arith, ap, ◌∙◌, lit<, lit≤, Option, Some, None, inl, inr, Result, Ok, Err, OnOk}
+use Rattle.std.proofs.Common.{◌≡◌, ℕ, zero, suc, ◌+◌, ◌-◌, ◌*◌, ◌/◌, ◌^◌, ◌<◌, ◌≤◌, Bool, true}
+use Rattle.std.proofs.Common.{false, cond, ◌==◌, nat_lt, List, [], ◌∷◌, ◌++◌, length, replicate}
+use Rattle.std.proofs.Common.{arith, ap, ◌∙◌, lit<, lit≤, Option, Some, None, inl, inr, Result, Ok}
+use Rattle.std.proofs.Common.{Err, OnOk}
 use Rattle.std.specs.List.{AllByRecursion}
 use Rattle.std.proofs.Math.Nat.{pow-suc}
 use Rattle.std.proofs.lemmas.Bool.{cases_lt}
@@ -7,9 +10,11 @@ use Rattle.std.proofs.lemmas.Bool.Decides.{nat_tests}
 use Rattle.std.proofs.lemmas.List.{length-append, length-map, length-replicate}
 use Rattle.std.proofs.lemmas.List.Elements.{recursion_from_All}
 use Rattle.std.specs.Option.{option_map_or, unwrap_or, IfSome}
-use Rattle.oxc_sourcemap_tokens.specs.Token.{TokenRecord, IsInBounds, AreInBounds, last_line, mapped_name, name_beside, beside_source}
+use Rattle.oxc_sourcemap_tokens.specs.Token.{TokenRecord, IsInBounds, AreInBounds, last_line}
+use Rattle.oxc_sourcemap_tokens.specs.Token.{mapped_name, name_beside, beside_source}
 use Rattle.oxc_sourcemap_tokens.specs.State.{State, initial}
-use Rattle.oxc_sourcemap_mappings.specs.Canonical.{digits, vlq_text, letter, raw_delta, delta_text, separator, column_text, token_text, canonical}
+use Rattle.oxc_sourcemap_mappings.specs.Canonical.{digits, vlq_text, letter, raw_delta, delta_text}
+use Rattle.oxc_sourcemap_mappings.specs.Canonical.{separator, column_text, token_text, canonical}
 use Rattle.oxc_sourcemap_tokens.specs.LineOrder.{first_out_of_order, back_from}
 use Rattle.oxc_sourcemap_mappings.specs.Encoding.{text_from}
 use Rattle.oxc_sourcemap_tokens.specs.Steps.{advanced}

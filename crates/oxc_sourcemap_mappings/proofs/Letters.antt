@@ -1,6 +1,8 @@
 -- The tables of letters are compared with the definitions at each digit and each near delta, by computing. And every byte
 -- that is written is ASCII.
-use Rattle.std.proofs.Common.{◌≡◌, ℕ, zero, suc, ◌<◌, Bool, true, false, ◌&&◌, ◌==◌, List, [], ◌∷◌, ◌++◌, map, replicate, get_or, if◌then◌else◌, refl, arith, lit<, Option, Some, None, inl, inr, Result, Ok, Err}
+use Rattle.std.proofs.Common.{◌≡◌, ℕ, zero, suc, ◌<◌, Bool, true, false, ◌&&◌, ◌==◌, List, [], ◌∷◌}
+use Rattle.std.proofs.Common.{◌++◌, map, replicate, get_or, if◌then◌else◌, refl, arith, lit<}
+use Rattle.std.proofs.Common.{Option, Some, None, inl, inr, Result, Ok, Err}
 use Rattle.std.specs.List.{AllByRecursion}
 use Rattle.std.specs.Str.{IsUtf8}
 use Rattle.std.specs.Option.{option_map_or}
@@ -12,7 +14,8 @@ use Rattle.std.proofs.lemmas.Str.{IsUtf8-from_ascii}
 use Rattle.std.proofs.lemmas.Str.Ascii.{IsAscii-from_all}
 use Rattle.oxc_sourcemap_tokens.specs.Token.{TokenRecord, mapped_name}
 use Rattle.oxc_sourcemap_tokens.specs.State.{State}
-use Rattle.oxc_sourcemap_mappings.specs.Canonical.{digits, letter, vlq_text, delta_text, source_text, name_text}
+use Rattle.oxc_sourcemap_mappings.specs.Canonical.{digits, letter, vlq_text, delta_text}
+use Rattle.oxc_sourcemap_mappings.specs.Canonical.{source_text, name_text}
 use Rattle.oxc_sourcemap_mappings.specs.Encoding.{line_marks, fields_text}
 
 -- an entry for each number below n

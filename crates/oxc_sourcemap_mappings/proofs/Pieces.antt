@@ -1,5 +1,7 @@
 -- Chunks and lists that are written.
-use Rattle.std.proofs.Common.{◌≡◌, ℕ, ◌-◌, ◌≤◌, Bool, true, false, cond, ◌&&◌, ◌==◌, List, [], ◌∷◌, ◌++◌, length, take, drop, arith, refl, sym, ap, ◌∙◌, append_assoc, nat_lt, nat_le, Option, Some, None, Result, Ok, Err, OnOk}
+use Rattle.std.proofs.Common.{◌≡◌, ℕ, ◌-◌, ◌≤◌, Bool, true, false, cond, ◌&&◌, ◌==◌, List, [], ◌∷◌}
+use Rattle.std.proofs.Common.{◌++◌, length, take, drop, arith, refl, sym, ap, ◌∙◌, append_assoc}
+use Rattle.std.proofs.Common.{nat_lt, nat_le, Option, Some, None, Result, Ok, Err, OnOk}
 use Rattle.std.specs.List.{flat_map, AllByRecursion}
 use Rattle.std.specs.Option.{option_map}
 use Rattle.std.proofs.lemmas.Bool.{leb-true, le-leb}
@@ -13,13 +15,16 @@ use Rattle.oxc_sourcemap_mappings.specs.Faults.{◌orelse◌}
 use Rattle.oxc_sourcemap_tokens.specs.State.{State, initial, state_after}
 use Rattle.oxc_sourcemap_mappings.specs.Canonical.{token_text, canonical, has_none_before}
 use Rattle.oxc_sourcemap_tokens.specs.LineOrder.{first_out_of_order, back_from}
-use Rattle.oxc_sourcemap_tokens.specs.Chunks.{header, chunk_tokens, ChunkFits, ChunksFitFrom, ChunksFit, first_misfit, chunk_from}
+use Rattle.oxc_sourcemap_tokens.specs.Chunks.{header, chunk_tokens, ChunkFits, ChunksFitFrom}
+use Rattle.oxc_sourcemap_tokens.specs.Chunks.{ChunksFit, first_misfit, chunk_from}
 use Rattle.oxc_sourcemap_mappings.specs.Pieces.{piece, piece_after, piece_fault, writing_fault}
 use Rattle.oxc_sourcemap_tokens.specs.Steps.{advanced, advanced_all}
 use Rattle.oxc_sourcemap_mappings.specs.Encoding.{text_from}
 use Rattle.oxc_sourcemap_tokens.proofs.InOrder.{back_from-all}
 use Rattle.oxc_sourcemap_mappings.proofs.Writing.{canonical-is}
-use Rattle.oxc_sourcemap_tokens.proofs.Fits.{advanced_all-append, state_at-is, take-split, drop-split, back-shift, andb, first_misfit_from-none, chunk-in-order, whole-fits}
+use Rattle.oxc_sourcemap_tokens.proofs.Fits.{advanced_all-append, state_at-is, take-split}
+use Rattle.oxc_sourcemap_tokens.proofs.Fits.{drop-split, back-shift, andb, first_misfit_from-none}
+use Rattle.oxc_sourcemap_tokens.proofs.Fits.{chunk-in-order, whole-fits}
 
 and-true : (b : Bool) → (b && true) ≡ b
 and-true true = refl

@@ -1,14 +1,20 @@
 -- What is written into a buffer, and how its pieces make the text of a token.
-use Rattle.std.proofs.Common.{◌≡◌, ℕ, zero, suc, ◌+◌, ◌-◌, ◌/◌, ◌%◌, ◌<◌, ◌≤◌, Bool, true, false, ◌==◌, nat_lt, List, [], ◌∷◌, ◌++◌, length, take, set, replicate, arith, lit<, refl, sym, ap, ◌∙◌, append_assoc, if◌then◌else◌, inl, inr}
+use Rattle.std.proofs.Common.{◌≡◌, ℕ, zero, suc, ◌+◌, ◌-◌, ◌/◌, ◌%◌, ◌<◌, ◌≤◌, Bool, true, false}
+use Rattle.std.proofs.Common.{◌==◌, nat_lt, List, [], ◌∷◌, ◌++◌, length, take, set, replicate}
+use Rattle.std.proofs.Common.{arith, lit<, refl, sym, ap, ◌∙◌, append_assoc, if◌then◌else◌, inl}
+use Rattle.std.proofs.Common.{inr}
 use Rattle.std.proofs.Math.Seq.{take-append-add}
 use Rattle.std.proofs.lemmas.Bool.{cases_lt}
 use Rattle.std.proofs.lemmas.Bool.Decides.{nat_tests}
-use Rattle.std.proofs.lemmas.List.{take-set-le, take_more_set, take-append-le, length-take-le, take-replicate, replicate-append-replicate}
+use Rattle.std.proofs.lemmas.List.{take-set-le, take_more_set, take-append-le, length-take-le}
+use Rattle.std.proofs.lemmas.List.{take-replicate, replicate-append-replicate}
 use borrow.Rule.Slice.PartMut.{put_mid, post_of}
 use Rattle.oxc_sourcemap_tokens.specs.Token.{TokenRecord}
 use Rattle.oxc_sourcemap_tokens.specs.State.{State}
-use Rattle.oxc_sourcemap_mappings.specs.Canonical.{letter, vlq_text, raw_delta, delta_text, separator, token_text, source_text, name_text}
-use Rattle.oxc_sourcemap_mappings.specs.Encoding.{line_marks, marks_of, raw_at, column_from, fields_text, text_from}
+use Rattle.oxc_sourcemap_mappings.specs.Canonical.{letter, vlq_text, raw_delta, delta_text}
+use Rattle.oxc_sourcemap_mappings.specs.Canonical.{separator, token_text, source_text, name_text}
+use Rattle.oxc_sourcemap_mappings.specs.Encoding.{line_marks, marks_of, raw_at, column_from}
+use Rattle.oxc_sourcemap_mappings.specs.Encoding.{fields_text, text_from}
 use Rattle.oxc_sourcemap_tokens.specs.Steps.{advanced}
 use Rattle.oxc_sourcemap_mappings.proofs.Vlq.{vlq_text_small, vlq_text_large}
 

@@ -1,5 +1,8 @@
 -- What a written list reads as.
-use Rattle.std.proofs.Common.{◌≡◌, ℕ, zero, suc, ◌+◌, ◌-◌, ◌<◌, ◌≤◌, Bool, true, false, cond, ◌==◌, nat_lt, List, [], ◌∷◌, ◌++◌, length, replicate, min, arith, refl, sym, ap, ◌∙◌, append_assoc, lit<, inl, inr, Option, Some, None, Result, Ok, if◌then◌else◌, subst, add-zero}
+use Rattle.std.proofs.Common.{◌≡◌, ℕ, zero, suc, ◌+◌, ◌-◌, ◌<◌, ◌≤◌, Bool, true, false, cond, ◌==◌}
+use Rattle.std.proofs.Common.{nat_lt, List, [], ◌∷◌, ◌++◌, length, replicate, min, arith, refl, sym}
+use Rattle.std.proofs.Common.{ap, ◌∙◌, append_assoc, lit<, inl, inr, Option, Some, None, Result, Ok}
+use Rattle.std.proofs.Common.{if◌then◌else◌, subst, add-zero}
 use Rattle.std.specs.List.{AllByRecursion}
 use Rattle.std.proofs.lemmas.Bool.{cases_lt}
 use Rattle.std.proofs.lemmas.Bool.Decides.{nat_tests}
@@ -12,7 +15,9 @@ use Rattle.oxc_sourcemap_mappings.specs.Places.{nothing_before, Place, place}
 use Rattle.oxc_sourcemap_mappings.specs.Faults.{Counts, counts_of}
 use Rattle.oxc_sourcemap_mappings.specs.Reading.{segment_result, gathered, onto, reading}
 use Rattle.oxc_sourcemap_tokens.specs.State.{State, initial, state_after}
-use Rattle.oxc_sourcemap_mappings.specs.Canonical.{digits, vlq_text, letter, separator, token_text, canonical, as_written, token_as_written, carried, carried_token, carried_after}
+use Rattle.oxc_sourcemap_mappings.specs.Canonical.{digits, vlq_text, letter, separator, token_text}
+use Rattle.oxc_sourcemap_mappings.specs.Canonical.{canonical, as_written, token_as_written, carried}
+use Rattle.oxc_sourcemap_mappings.specs.Canonical.{carried_token, carried_after}
 use Rattle.oxc_sourcemap_tokens.specs.LineOrder.{first_out_of_order, back_from}
 use Rattle.oxc_sourcemap_mappings.specs.TextLaws.{AreWrittenIdsBelow}
 use Rattle.oxc_sourcemap_mappings.specs.Decoding.{moved_by, at_line_start}
@@ -23,8 +28,12 @@ use Rattle.oxc_sourcemap_mappings.proofs.Length.{name_beside-id, IsBounded, IsBo
 use Rattle.oxc_sourcemap_mappings.proofs.Digits.{length-digits-pos}
 use Rattle.oxc_sourcemap_mappings.proofs.Left.{along, along_lines, moved_by_all, reading-lines}
 use Rattle.oxc_sourcemap_mappings.proofs.Writing.{canonical-is}
-use Rattle.oxc_sourcemap_mappings.proofs.Texts.{AreInside, Splits, splits-lines, splits-none, splits-comma, splits-lines-before, front-lines}
-use Rattle.oxc_sourcemap_mappings.proofs.Segments.{base, raws, spell_all, read_all, segment-vlq_text, inside-all, body, body-is, token_text-is, IsId, standing, moved_by-written, segment_result-written, token-same}
+use Rattle.oxc_sourcemap_mappings.proofs.Texts.{AreInside, Splits, splits-lines, splits-none}
+use Rattle.oxc_sourcemap_mappings.proofs.Texts.{splits-comma, splits-lines-before, front-lines}
+use Rattle.oxc_sourcemap_mappings.proofs.Segments.{base, raws, spell_all, read_all}
+use Rattle.oxc_sourcemap_mappings.proofs.Segments.{segment-vlq_text, inside-all, body, body-is}
+use Rattle.oxc_sourcemap_mappings.proofs.Segments.{token_text-is, IsId, standing, moved_by-written}
+use Rattle.oxc_sourcemap_mappings.proofs.Segments.{segment_result-written, token-same}
 
 -- a token in bounds whose ids are below these counts, as far as they are written
 pub record IsWithin (names sources : ℕ) (t : TokenRecord) : Type 0 where

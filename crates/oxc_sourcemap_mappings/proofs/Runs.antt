@@ -1,12 +1,18 @@
 -- Reading a segment digit by digit gives its runs' faults and numbers.
-use Rattle.std.proofs.Common.{◌≡◌, ℕ, zero, suc, ◌+◌, ◌-◌, ◌*◌, ◌%◌, ◌^◌, ◌<◌, ◌≤◌, Bool, true, false, cond, not, ◌&&◌, List, [], ◌∷◌, length, map, get_or, drop, set, nat_abs, ◌≢◌, ℤ, pos, Option, Some, None, if◌then◌else◌, nat_lt, nat_le, ◌==◌, inl, inr, arith, refl, sym, ap, ◌∙◌, add_assoc, zero-add, add-zero, add-one}
+use Rattle.std.proofs.Common.{◌≡◌, ℕ, zero, suc, ◌+◌, ◌-◌, ◌*◌, ◌%◌, ◌^◌, ◌<◌, ◌≤◌, Bool, true}
+use Rattle.std.proofs.Common.{false, cond, not, ◌&&◌, List, [], ◌∷◌, length, map, get_or, drop, set}
+use Rattle.std.proofs.Common.{nat_abs, ◌≢◌, ℤ, pos, Option, Some, None, if◌then◌else◌, nat_lt}
+use Rattle.std.proofs.Common.{nat_le, ◌==◌, inl, inr, arith, refl, sym, ap, ◌∙◌, add_assoc}
+use Rattle.std.proofs.Common.{zero-add, add-zero, add-one}
 use Rattle.std.specs.List.{onto_first}
 use Rattle.std.proofs.lemmas.Bool.Decides.{nat_tests}
 use Rattle.std.proofs.lemmas.Bool.{cases_lt, cases_eq}
-use Rattle.std.proofs.lemmas.List.{get_or_past, length-drop, length-map, get_or-set_same, get_or-set_other, set_past}
+use Rattle.std.proofs.lemmas.List.{get_or_past, length-drop, length-map, get_or-set_same}
+use Rattle.std.proofs.lemmas.List.{get_or-set_other, set_past}
 use Rattle.oxc_sourcemap_tokens.specs.declared.error.Error.{Error}
 use Rattle.oxc_sourcemap_tokens.specs.declared.error.Error.TheVariants.{VlqLeftover, VlqOverflow}
-use Rattle.oxc_sourcemap_mappings.specs.Number.{payload, ends_run, raw_from, signed, number, is_open}
+use Rattle.oxc_sourcemap_mappings.specs.Number.{payload, ends_run, raw_from, signed, number}
+use Rattle.oxc_sourcemap_mappings.specs.Number.{is_open}
 use Rattle.oxc_sourcemap_mappings.specs.Parts.{runs, field}
 use Rattle.oxc_sourcemap_mappings.specs.Faults.{digit_fault}
 use Rattle.oxc_sourcemap_mappings.specs.Decoding.{is_over}

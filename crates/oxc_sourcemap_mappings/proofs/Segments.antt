@@ -1,5 +1,7 @@
 -- The segment of a token that is written, and what it reads as.
-use Rattle.std.proofs.Common.{◌≡◌, ℕ, ◌<◌, Bool, true, false, cond, ◌==◌, nat_lt, nat_le, List, [], ◌∷◌, ◌++◌, length, map, pos, ◌+ℤ◌, arith, refl, sym, ap, ◌∙◌, append_assoc, lit<, Option, Some, None, Ok, if◌then◌else◌}
+use Rattle.std.proofs.Common.{◌≡◌, ℕ, ◌<◌, Bool, true, false, cond, ◌==◌, nat_lt, nat_le, List, []}
+use Rattle.std.proofs.Common.{◌∷◌, ◌++◌, length, map, pos, ◌+ℤ◌, arith, refl, sym, ap, ◌∙◌}
+use Rattle.std.proofs.Common.{append_assoc, lit<, Option, Some, None, Ok, if◌then◌else◌}
 use Rattle.std.specs.List.{AllByRecursion}
 use Rattle.std.proofs.lemmas.Bool.Decides.{nat_tests}
 use Rattle.std.proofs.lemmas.List.{append-nil, map-append}
@@ -11,10 +13,13 @@ use Rattle.oxc_sourcemap_mappings.specs.Places.{Place}
 use Rattle.oxc_sourcemap_mappings.specs.Faults.{Counts, digit_fault, place_fault, range_fault}
 use Rattle.oxc_sourcemap_mappings.specs.Reading.{token_at, segment_result}
 use Rattle.oxc_sourcemap_tokens.specs.State.{State}
-use Rattle.oxc_sourcemap_mappings.specs.Canonical.{digits, vlq_text, raw_delta, delta_text, column_text, separator, token_text, carried_token}
+use Rattle.oxc_sourcemap_mappings.specs.Canonical.{digits, vlq_text, raw_delta, delta_text}
+use Rattle.oxc_sourcemap_mappings.specs.Canonical.{column_text, separator, token_text}
+use Rattle.oxc_sourcemap_mappings.specs.Canonical.{carried_token}
 use Rattle.oxc_sourcemap_mappings.specs.Decoding.{moved_by}
 use Rattle.oxc_sourcemap_mappings.proofs.Length.{IsBounded}
-use Rattle.oxc_sourcemap_mappings.proofs.Digits.{digit-vlq_text, runs-digits, number-digits, digit_fault-digits, raw_delta-says}
+use Rattle.oxc_sourcemap_mappings.proofs.Digits.{digit-vlq_text, runs-digits, number-digits}
+use Rattle.oxc_sourcemap_mappings.proofs.Digits.{digit_fault-digits, raw_delta-says}
 use Rattle.oxc_sourcemap_mappings.proofs.Texts.{AreInside, inside-vlq_text, inside-append}
 
 -- what the generated column of a token is relative to

@@ -1,12 +1,17 @@
 -- Segments of four or five fields of one to three digits.
-use Rattle.std.proofs.Common.{if◌then◌else◌, ◌≡◌, ℕ, zero, suc, ◌+◌, ◌*◌, ◌%◌, ◌^◌, ◌<◌, ◌≤◌, ◌++◌, true, false, List, [], ◌∷◌, length, replicate, get_or, drop, map, ℤ, pos, nat_abs, None, nat_le, arith, refl, sym, ap, ◌∙◌, zero-add, drop-cons, lit<, rules, to_z, of_z, w64}
+use Rattle.std.proofs.Common.{if◌then◌else◌, ◌≡◌, ℕ, zero, suc, ◌+◌, ◌*◌, ◌%◌, ◌^◌, ◌<◌, ◌≤◌, ◌++◌}
+use Rattle.std.proofs.Common.{true, false, List, [], ◌∷◌, length, replicate, get_or, drop, map, ℤ}
+use Rattle.std.proofs.Common.{pos, nat_abs, None, nat_le, arith, refl, sym, ap, ◌∙◌, zero-add}
+use Rattle.std.proofs.Common.{drop-cons, lit<, rules, to_z, of_z, w64}
 use Rattle.std.proofs.lemmas.Int.{to_z-of_z}
 use Rattle.std.proofs.lemmas.Bool.Decides.{nat_tests}
 use Rattle.oxc_sourcemap_mappings.specs.declared.decode.Fields.{Fields}
-use Rattle.oxc_sourcemap_mappings.specs.Number.{digit, ends_run, signed, number, is_fitting, is_open}
+use Rattle.oxc_sourcemap_mappings.specs.Number.{digit, ends_run, signed, number, is_fitting}
+use Rattle.oxc_sourcemap_mappings.specs.Number.{is_open}
 use Rattle.oxc_sourcemap_mappings.specs.Parts.{Segment, runs}
 use Rattle.oxc_sourcemap_mappings.specs.Faults.{digit_fault}
-use Rattle.oxc_sourcemap_mappings.specs.Decoding.{ends_segment, front_digits, front_segment, IsNumberAt, AreFieldsOf}
+use Rattle.oxc_sourcemap_mappings.specs.Decoding.{ends_segment, front_digits, front_segment}
+use Rattle.oxc_sourcemap_mappings.specs.Decoding.{IsNumberAt, AreFieldsOf}
 
 -- the digit at an index of a text
 pub front-at : (text : List ℕ) (i j d : ℕ) → i < length text → j ≡ i + 1 → (ends_segment (get_or text i 0) ≡ false) × (d ≡ digit (get_or text i 0)) → front_digits (drop i text) ≡ d ∷ front_digits (drop j text)

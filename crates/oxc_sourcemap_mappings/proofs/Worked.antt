@@ -1,13 +1,18 @@
 -- Worked examples, computed by the definitions themselves.
 use Rattle.std.specs.Prelude.{◌≡◌, refl, ℕ, [], ◌∷◌, ◌++◌, codes, Ok, Err, Option, Some, None}
 use Rattle.std.specs.List.{flat_map}
-use Rattle.oxc_sourcemap_tokens.specs.declared.error.Error.TheVariants.{VlqLeftover, VlqOverflow, BadSegmentSize, BadSourceReference, BadNameReference, LineOrder, BadChunks}
+use Rattle.oxc_sourcemap_tokens.specs.declared.error.Error.TheVariants.{VlqLeftover, VlqOverflow}
+use Rattle.oxc_sourcemap_tokens.specs.declared.error.Error.TheVariants.{BadSegmentSize}
+use Rattle.oxc_sourcemap_tokens.specs.declared.error.Error.TheVariants.{BadSourceReference}
+use Rattle.oxc_sourcemap_tokens.specs.declared.error.Error.TheVariants.{BadNameReference, LineOrder}
+use Rattle.oxc_sourcemap_tokens.specs.declared.error.Error.TheVariants.{BadChunks}
 use Rattle.oxc_sourcemap_tokens.specs.declared.token.TokenChunk.{TokenChunk}
 use Rattle.oxc_sourcemap_mappings.specs.Number.{digit}
 use Rattle.oxc_sourcemap_mappings.specs.Faults.{digit_fault, place_fault}
 use Rattle.oxc_sourcemap_tokens.specs.Token.{TokenRecord}
 use Rattle.oxc_sourcemap_mappings.specs.Reading.{reading, text_results, line_results}
-use Rattle.oxc_sourcemap_mappings.specs.Canonical.{canonical, text_after, token_text, separator, delta_text, vlq_text, digits, letter}
+use Rattle.oxc_sourcemap_mappings.specs.Canonical.{canonical, text_after, token_text, separator}
+use Rattle.oxc_sourcemap_mappings.specs.Canonical.{delta_text, vlq_text, digits, letter}
 use Rattle.oxc_sourcemap_mappings.specs.Pieces.{piece, piece_after, writing_fault}
 
 -- a token from its generated line and column, source line and column, source id, name id

@@ -1,10 +1,12 @@
 -- The text of a list with the state carried along, and what is cut off again.
-use Rattle.std.proofs.Common.{◌≡◌, ℕ, ◌<◌, ◌≤◌, true, List, [], ◌∷◌, ◌++◌, length, take, get_or, slice_index, arith, refl, sym, ap, ◌∙◌, lit<, append_assoc}
+use Rattle.std.proofs.Common.{◌≡◌, ℕ, ◌<◌, ◌≤◌, true, List, [], ◌∷◌, ◌++◌, length, take, get_or}
+use Rattle.std.proofs.Common.{slice_index, arith, refl, sym, ap, ◌∙◌, lit<, append_assoc}
 use Rattle.std.specs.List.{AllByRecursion}
 use Rattle.std.proofs.lemmas.List.{append-nil, take_at, length-append, get_or_at, get_or_past}
 use Rattle.oxc_sourcemap_tokens.specs.Token.{TokenRecord}
 use Rattle.oxc_sourcemap_tokens.specs.State.{initial, state_after}
-use Rattle.oxc_sourcemap_mappings.specs.Canonical.{token_text, text_after, canonical, has_none_before, Extends}
+use Rattle.oxc_sourcemap_mappings.specs.Canonical.{token_text, text_after, canonical}
+use Rattle.oxc_sourcemap_mappings.specs.Canonical.{has_none_before, Extends}
 use Rattle.oxc_sourcemap_mappings.specs.Encoding.{text_from}
 
 text_after-is : (seen ts : List TokenRecord) → text_after seen ts ≡ text_from (has_none_before seen) (state_after initial seen) ts

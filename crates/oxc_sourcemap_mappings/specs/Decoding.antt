@@ -1,9 +1,12 @@
 -- The steps of the decoder, beside the sums of `Places` and the faults of `Faults`. No public contract cites this module.
-use Rattle.std.specs.Prelude.{◌≡◌, ℕ, ◌+◌, ◌<◌, ◌^◌, Bool, true, false, ◌||◌, ◌&&◌, List, [], ◌∷◌, length, drop, get_or, ℤ, pos, ◌+ℤ◌, nat_abs, None, if◌then◌else◌, nat_lt, ◌==◌}
+use Rattle.std.specs.Prelude.{◌≡◌, ℕ, ◌+◌, ◌<◌, ◌^◌, Bool, true, false, ◌||◌, ◌&&◌, List, [], ◌∷◌}
+use Rattle.std.specs.Prelude.{length, drop, get_or, ℤ, pos, ◌+ℤ◌, nat_abs, None, if◌then◌else◌}
+use Rattle.std.specs.Prelude.{nat_lt, ◌==◌}
 use Rattle.oxc_sourcemap_mappings.specs.declared.decode.Fields.{Fields}
 use Rattle.oxc_sourcemap_mappings.specs.declared.decode.Sums.{Sums}
 use Rattle.oxc_sourcemap_mappings.specs.Number.{digit, payload, number, is_fitting, is_open}
-use Rattle.oxc_sourcemap_mappings.specs.Parts.{Segment, runs, field, has_source, has_name, is_semicolon, is_comma}
+use Rattle.oxc_sourcemap_mappings.specs.Parts.{Segment, runs, field, has_source, has_name}
+use Rattle.oxc_sourcemap_mappings.specs.Parts.{is_semicolon, is_comma}
 use Rattle.oxc_sourcemap_mappings.specs.Places.{Place}
 use Rattle.oxc_sourcemap_mappings.specs.Faults.{digit_fault}
 

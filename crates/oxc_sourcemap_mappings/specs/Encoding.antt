@@ -1,11 +1,13 @@
 -- The steps of the encoder, beside the states of `State`. No public contract cites this module.
-use Rattle.std.specs.Prelude.{ℕ, ◌+◌, ◌-◌, ◌*◌, ◌/◌, ◌%◌, ◌<◌, ◌++◌, ◌==◌, nat_lt, Bool, false, List, [], ◌∷◌, replicate, if◌then◌else◌}
+use Rattle.std.specs.Prelude.{ℕ, ◌+◌, ◌-◌, ◌*◌, ◌/◌, ◌%◌, ◌<◌, ◌++◌, ◌==◌, nat_lt, Bool, false}
+use Rattle.std.specs.Prelude.{List, [], ◌∷◌, replicate, if◌then◌else◌}
 use Rattle.oxc_sourcemap_mappings.specs.declared.encode.Delta.{Delta}
 use Rattle.oxc_sourcemap_mappings.specs.declared.encode.Deltas.{Deltas}
 use Rattle.oxc_sourcemap_tokens.specs.Token.{TokenRecord}
 use Rattle.oxc_sourcemap_tokens.specs.State.{State}
 use Rattle.oxc_sourcemap_tokens.specs.Steps.{advanced}
-use Rattle.oxc_sourcemap_mappings.specs.Canonical.{letter, delta_text, source_text, name_text, token_text, Extends}
+use Rattle.oxc_sourcemap_mappings.specs.Canonical.{letter, delta_text, source_text, name_text}
+use Rattle.oxc_sourcemap_mappings.specs.Canonical.{token_text, Extends}
 
 -- the text of these tokens from a state on, the state carried along
 abbrev pub text_from : Bool → State → List TokenRecord → List ℕ

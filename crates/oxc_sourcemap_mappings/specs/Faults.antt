@@ -4,7 +4,9 @@ use Rattle.std.specs.Prelude.{Option, Some, None, if◌then◌else◌, nat_lt, n
 use Rattle.std.specs.Int.{int_rem_euclid}
 use Rattle.oxc_sourcemap_tokens.specs.declared.error.Error.{Error}
 use Rattle.oxc_sourcemap_tokens.specs.declared.error.Error.TheVariants.{VlqLeftover, VlqOverflow}
-use Rattle.oxc_sourcemap_tokens.specs.declared.error.Error.TheVariants.{BadSegmentSize, BadSourceReference, BadNameReference}
+use Rattle.oxc_sourcemap_tokens.specs.declared.error.Error.TheVariants.{BadSegmentSize}
+use Rattle.oxc_sourcemap_tokens.specs.declared.error.Error.TheVariants.{BadSourceReference}
+use Rattle.oxc_sourcemap_tokens.specs.declared.error.Error.TheVariants.{BadNameReference}
 use Rattle.oxc_sourcemap_mappings.specs.Number.{is_fitting, is_open}
 use Rattle.oxc_sourcemap_mappings.specs.Parts.{Segment, has_source, has_name}
 use Rattle.oxc_sourcemap_mappings.specs.Places.{Place}

@@ -8,3 +8,4 @@ pub mod Pieces
 pub mod TextLaws
 pub mod Decoding
 pub mod Encoding
+pub mod Words

@@ -3,7 +3,9 @@
 -- In the standard a byte outside the base64 alphabet and a number past 32 bits are errors. Here such a byte is the digit 63,
 -- as in the Rust crate, and a run may have 13 digits: raw numbers have at most 63 bits, and numbers 62 and a sign.
 -- That limit is a choice of this library.
-use Rattle.std.specs.Prelude.{ℕ, ◌+◌, ◌-◌, ◌*◌, ◌/◌, ◌%◌, ◌^◌, Bool, false, ◌&&◌, List, [], ◌∷◌, length, slice_index, ℤ, pos, neg_ℤ, if◌then◌else◌, nat_lt, nat_le, ◌==◌}
+use Rattle.std.specs.Prelude.{ℕ, ◌+◌, ◌-◌, ◌*◌, ◌/◌, ◌%◌, ◌^◌, Bool, false, ◌&&◌, List, [], ◌∷◌}
+use Rattle.std.specs.Prelude.{length, slice_index, ℤ, pos, neg_ℤ, if◌then◌else◌, nat_lt, nat_le}
+use Rattle.std.specs.Prelude.{◌==◌}
 
 -- The value of a byte in the base64 alphabet, where `/` is 63, and 63 for every byte outside of it. (It is never asked for
 -- `,` and `;`, which separate segments.)

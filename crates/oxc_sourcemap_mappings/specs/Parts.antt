@@ -1,5 +1,6 @@
 -- The parts of a `mappings` text: lines, segments and runs (ECMA-426, "Mappings structure").
-use Rattle.std.specs.Prelude.{ℕ, Bool, true, false, ◌||◌, List, [], ◌∷◌, map, get_or, ℤ, pos, filter, if◌then◌else◌, ◌==◌}
+use Rattle.std.specs.Prelude.{ℕ, Bool, true, false, ◌||◌, List, [], ◌∷◌, map, get_or, ℤ, pos}
+use Rattle.std.specs.Prelude.{filter, if◌then◌else◌, ◌==◌}
 use Rattle.std.specs.List.{slice_split, onto_first}
 use Rattle.oxc_sourcemap_mappings.specs.Number.{digit, ends_run, number}
 

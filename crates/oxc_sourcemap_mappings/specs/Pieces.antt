@@ -1,8 +1,10 @@
 -- The texts of chunks, and the faults for which a chunk or a list cannot be written.
-use Rattle.std.specs.Prelude.{ℕ, ◌&&◌, List, [], ◌∷◌, ◌++◌, length, Option, Some, None, if◌then◌else◌, nat_lt, nat_le, ◌==◌}
+use Rattle.std.specs.Prelude.{ℕ, ◌&&◌, List, [], ◌∷◌, ◌++◌, length, Option, Some, None}
+use Rattle.std.specs.Prelude.{if◌then◌else◌, nat_lt, nat_le, ◌==◌}
 use Rattle.std.specs.Option.{option_map, option_map_or}
 use Rattle.oxc_sourcemap_tokens.specs.declared.error.Error.{Error}
-use Rattle.oxc_sourcemap_tokens.specs.declared.error.Error.TheVariants.{LineOrder, BadChunks, TooLarge}
+use Rattle.oxc_sourcemap_tokens.specs.declared.error.Error.TheVariants.{LineOrder, BadChunks}
+use Rattle.oxc_sourcemap_tokens.specs.declared.error.Error.TheVariants.{TooLarge}
 use Rattle.oxc_sourcemap_tokens.specs.declared.token.TokenChunk.{TokenChunk}
 use Rattle.oxc_sourcemap_tokens.specs.Token.{TokenRecord}
 use Rattle.oxc_sourcemap_tokens.specs.State.{state_after}

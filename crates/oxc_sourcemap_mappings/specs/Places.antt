@@ -1,5 +1,6 @@
 -- What a segment points to: sums of fields, with no state (ECMA-426, "Mappings structure").
-use Rattle.std.specs.Prelude.{ℕ, Bool, true, List, [], ◌∷◌, ◌++◌, length, ℤ, pos, ◌+ℤ◌, if◌then◌else◌}
+use Rattle.std.specs.Prelude.{ℕ, Bool, true, List, [], ◌∷◌, ◌++◌, length, ℤ, pos, ◌+ℤ◌}
+use Rattle.std.specs.Prelude.{if◌then◌else◌}
 use Rattle.oxc_sourcemap_mappings.specs.Parts.{Segment, field, has_source, has_name}
 
 -- the sum of field k of those segments whose size passes a test

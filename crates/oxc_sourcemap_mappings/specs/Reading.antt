@@ -1,9 +1,11 @@
 -- What a `mappings` text reads as: its tokens, or its first fault (ECMA-426, "Mappings structure").
-use Rattle.std.specs.Prelude.{ℕ, ◌+◌, List, [], ◌∷◌, ◌++◌, length, Some, None, Result, Ok, Err, if◌then◌else◌, nat_lt}
+use Rattle.std.specs.Prelude.{ℕ, ◌+◌, List, [], ◌∷◌, ◌++◌, length, Some, None, Result, Ok, Err}
+use Rattle.std.specs.Prelude.{if◌then◌else◌, nat_lt}
 use Rattle.oxc_sourcemap_tokens.specs.declared.error.Error.{Error}
 use Rattle.oxc_sourcemap_tokens.specs.declared.error.Error.TheVariants.{TooLarge}
 use Rattle.oxc_sourcemap_mappings.specs.Parts.{Segment, has_source, has_name, lines}
-use Rattle.oxc_sourcemap_mappings.specs.Places.{Before, nothing_before, past_segment, past_line, Place, place}
+use Rattle.oxc_sourcemap_mappings.specs.Places.{Before, nothing_before, past_segment, past_line}
+use Rattle.oxc_sourcemap_mappings.specs.Places.{Place, place}
 use Rattle.oxc_sourcemap_tokens.specs.Refusals.{unless}
 use Rattle.oxc_sourcemap_mappings.specs.Faults.{Counts, counts_of, nat_of, segment_fault}
 use Rattle.oxc_sourcemap_tokens.specs.Token.{TokenRecord}

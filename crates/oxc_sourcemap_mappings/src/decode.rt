@@ -1,16 +1,18 @@
 //! Reading the `mappings` text.
 ghost use Rattle.std.specs.Box.{boxed_slice_items};
-ghost use Rattle.std.specs.Prelude.{ℕ, List, ◌≡◌, ◌⊎◌, ◌+◌, ◌*◌, ◌%◌, ◌^◌, ◌<◌, ◌≤◌, ◌-◌, ◌++◌, length, ◌∷◌, [], drop, replicate, not, ℤ, pos, nat_abs, ◌+ℤ◌};
-ghost use Rattle.std.specs.Prelude.{set, true, false, min, is_some, IfSome, IfNone, OnOk, IfOk, IfErr, Option, Some, None, Result, Ok, Err};
-ghost use Rattle.oxc_sourcemap_tokens.specs.declared.error.Error.TheVariants.{TooLarge};
-ghost use Rattle.oxc_sourcemap_mappings.specs.Number.{digit, payload, signed};
-ghost use Rattle.oxc_sourcemap_mappings.specs.Places.{nothing_before, place};
-ghost use Rattle.oxc_sourcemap_mappings.specs.Faults.{digit_fault, range_fault, is_id_below, low_bits};
-ghost use Rattle.oxc_sourcemap_mappings.specs.Faults.{source_fault, place_fault, counts_of};
-ghost use Rattle.oxc_sourcemap_mappings.specs.Reading.{token_at, segment_result, reading};
-ghost use Rattle.oxc_sourcemap_mappings.specs.Decoding.{ends_segment, front_digits, front_segment, segments_after, is_over, IsNumberAt};
-ghost use Rattle.oxc_sourcemap_mappings.specs.Decoding.{AreFieldsOf, AreSmall, value, place_of, source_moved, moved, moved_by};
-ghost use Rattle.oxc_sourcemap_tokens.specs.Results.{Answers};
+ghost use Rattle.std.specs.Prelude.{ℕ, List, ◌≡◌, ◌⊎◌, ◌+◌, ◌*◌, ◌%◌, ◌^◌, ◌<◌, ◌≤◌, ◌-◌, ◌++◌};
+ghost use Rattle.std.specs.Prelude.{length, ◌∷◌, [], drop, replicate, not, ℤ, pos, nat_abs, ◌+ℤ◌};
+ghost use Rattle.std.specs.Prelude.{set, true, false, min, is_some, IfSome, IfNone, OnOk, IfOk};
+ghost use Rattle.std.specs.Prelude.{IfErr, Option, Some, None, Result, Ok, Err};
+ghost use Rattle.oxc_sourcemap_mappings.specs.Words.{TooLarge, digit, payload, signed};
+ghost use Rattle.oxc_sourcemap_mappings.specs.Words.{nothing_before, place, digit_fault};
+ghost use Rattle.oxc_sourcemap_mappings.specs.Words.{range_fault, is_id_below, low_bits};
+ghost use Rattle.oxc_sourcemap_mappings.specs.Words.{source_fault, place_fault, counts_of};
+ghost use Rattle.oxc_sourcemap_mappings.specs.Words.{token_at, segment_result, reading};
+ghost use Rattle.oxc_sourcemap_mappings.specs.Words.{ends_segment, front_digits, front_segment};
+ghost use Rattle.oxc_sourcemap_mappings.specs.Words.{segments_after, is_over, IsNumberAt};
+ghost use Rattle.oxc_sourcemap_mappings.specs.Words.{AreFieldsOf, AreSmall, value, place_of};
+ghost use Rattle.oxc_sourcemap_mappings.specs.Words.{source_moved, moved, moved_by, Answers};
 
 use oxc_sourcemap_tokens::{Error, Result, Token};
 use std::alloc::Global;
@@ -65,7 +67,8 @@ fn mapping_of(byte: u8) -> u8
 #[inline(always)]
 fn digit_at(text: &[u8], at: usize) -> Option<u8>
     ensures end { IfNone result (front_digits (drop at text.now) ≡ []) }
-    ensures digit { IfSome result (λ d. front_digits (drop at text.now) ≡ d ∷ front_digits (drop (at + 1) text.now)) }
+    ensures digit { IfSome result (λ d. front_digits (drop at text.now) ≡ d
+        ∷ front_digits (drop (at + 1) text.now)) }
     ensures within { IfSome result (λ d. at < length text.now) }
 {
     let entry = mapping_of(*text.get(at)?);
@@ -312,12 +315,14 @@ impl Sums {
     #[inline(always)]
     fn move_source(&mut self, fields: &Fields, names: usize, sources: usize) -> Result<()>
         requires small { AreSmall fields.now }
-        ensures place { OnOk result (place_of self.new ≡ source_moved (place_of self.old) (value fields.now)) }
+        ensures place { OnOk result (place_of self.new
+            ≡ source_moved (place_of self.old) (value fields.now)) }
         ensures id { OnOk result (self.new.source_id < 4294967295) }
         ensures clean { let here = source_moved (place_of self.old) (value fields.now) in
             OnOk result (source_fault (counts_of names sources) (place_of self.old) here ≡ None) }
         ensures fault { let here = source_moved (place_of self.old) (value fields.now) in
-            IfErr result (λ e. source_fault (counts_of names sources) (place_of self.old) here ≡ Some e) }
+            IfErr result (λ e. source_fault (counts_of names sources) (place_of self.old) here
+            ≡ Some e) }
     {
         let Some(source_id) = add_below(self.source_id, fields.values[1], sources) else {
             return Err(Error::BadSourceReference(self.source_id));
@@ -341,7 +346,8 @@ impl Sums {
             OnOk result (place_fault counts (place_of self.old) fields.now.count here ≡ None) }
         ensures fault { let here = moved (place_of self.old) fields.now.count (value fields.now) in
             let counts = counts_of names sources in
-            IfErr result (λ e. place_fault counts (place_of self.old) fields.now.count here ≡ Some e) }
+            IfErr result (λ e. place_fault counts (place_of self.old) fields.now.count here
+            ≡ Some e) }
     {
         self.dst_col = add_within(self.dst_col, fields.values[0])?;
         match fields.count {
@@ -373,15 +379,18 @@ impl Sums {
         names: usize,
         sources: usize,
     ) -> Result<(Token, usize)>
-        ensures place { OnOk result (place_of self.new ≡ moved_by (place_of self.old) (front_segment text.now)) }
+        ensures place { OnOk result (place_of self.new
+            ≡ moved_by (place_of self.old) (front_segment text.now)) }
         ensures token { let s = front_segment text.now in
             let here = moved_by (place_of self.old) s in
-            IfOk result (λ read. segment_result (counts_of names sources) line (place_of self.old) s here ≡ Ok read.0) }
+            IfOk result (λ read. segment_result (counts_of names sources) line
+            (place_of self.old) s here ≡ Ok read.0) }
         ensures len { IfOk result (λ read. read.1 ≡ length (front_digits text.now)) }
         ensures within { IfOk result (λ read. read.1 ≤ length text.now) }
         ensures fault { let s = front_segment text.now in
             let here = moved_by (place_of self.old) s in
-            IfErr result (λ e. segment_result (counts_of names sources) line (place_of self.old) s here ≡ Err e) }
+            IfErr result (λ e. segment_result (counts_of names sources) line
+            (place_of self.old) s here ≡ Err e) }
     {
         let fields = read_segment(text)?;
         let token = self.step(line, &fields, names, sources)?;
@@ -431,7 +440,8 @@ fn is_in_segment(byte: u8) -> bool
 /// whether their last byte does. Counted in eight bits and without a branch, which lets the compiler take many bytes at once.
 fn segments_in_block(block: &[u8], is_inside: &mut bool) -> u8
     requires { length block.now ≤ 255 }
-    ensures { (rest : List ℕ) → segments_after is_inside.old (block.now ++ rest) ≡ result + segments_after is_inside.new rest }
+    ensures { (rest : List ℕ) → segments_after is_inside.old (block.now ++ rest)
+        ≡ result + segments_after is_inside.new rest }
 {
     let mut count: u8 = 0;
     for byte in block {

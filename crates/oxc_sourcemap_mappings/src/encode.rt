@@ -1,15 +1,19 @@
 //! Writing the `mappings` text.
-ghost use Rattle.std.specs.Prelude.{◌≡◌, ◌↔◌, ◌+◌, ◌-◌, ◌*◌, ◌/◌, ◌%◌, ◌^◌, ◌<◌, ◌≤◌, ◌++◌, ◌==◌, ◌∷◌, [], length, min, replicate, string_bytes, OnOk, OnErr, IfOk, IsTrue, Option, Some, None, Err, if◌then◌else◌, nat_le, take, flat_map};
-ghost use Rattle.oxc_sourcemap_tokens.specs.declared.error.Error.{Error};
-ghost use Rattle.oxc_sourcemap_tokens.specs.Token.{AreInBounds, last_line};
-ghost use Rattle.oxc_sourcemap_mappings.specs.Canonical.{letter, vlq_text, raw_delta, delta_text, canonical, Extends};
-ghost use Rattle.oxc_sourcemap_tokens.specs.LineOrder.{back_from};
-ghost use Rattle.oxc_sourcemap_tokens.specs.Chunks.{header, chunk_tokens, lent_chunks};
-ghost use Rattle.oxc_sourcemap_mappings.specs.Pieces.{piece, piece_fault, writing_fault};
-ghost use Rattle.oxc_sourcemap_tokens.specs.Steps.{state_of};
-ghost use Rattle.oxc_sourcemap_mappings.specs.Encoding.{text_from, OnlyAdds, line_marks, marks_of, column_from, fields_text, raw_at, first_letter, second_letter, rank_of, offset_of, deltas_text, AreSingle};
+ghost use Rattle.std.specs.Prelude.{◌≡◌, ◌↔◌, ◌+◌, ◌-◌, ◌*◌, ◌/◌, ◌%◌, ◌^◌, ◌<◌, ◌≤◌, ◌++◌, ◌==◌};
+ghost use Rattle.std.specs.Prelude.{◌∷◌, [], length, min, replicate, string_bytes, OnOk, OnErr};
+ghost use Rattle.std.specs.Prelude.{IfOk, IsTrue, Option, Some, None, Err, if◌then◌else◌, nat_le};
+ghost use Rattle.std.specs.Prelude.{take, flat_map};
+ghost use Rattle.oxc_sourcemap_mappings.specs.Words.{Error, AreInBounds, last_line, letter};
+ghost use Rattle.oxc_sourcemap_mappings.specs.Words.{vlq_text, raw_delta, delta_text, canonical};
+ghost use Rattle.oxc_sourcemap_mappings.specs.Words.{Extends, back_from, header, chunk_tokens};
+ghost use Rattle.oxc_sourcemap_mappings.specs.Words.{lent_chunks, piece, piece_fault};
+ghost use Rattle.oxc_sourcemap_mappings.specs.Words.{writing_fault, state_of, text_from, OnlyAdds};
+ghost use Rattle.oxc_sourcemap_mappings.specs.Words.{line_marks, marks_of, column_from};
+ghost use Rattle.oxc_sourcemap_mappings.specs.Words.{fields_text, raw_at, first_letter};
+ghost use Rattle.oxc_sourcemap_mappings.specs.Words.{second_letter, rank_of, offset_of};
+ghost use Rattle.oxc_sourcemap_mappings.specs.Words.{deltas_text, AreSingle, OnlyMemory, FailsBy};
+ghost use Rattle.oxc_sourcemap_mappings.specs.Words.{Reports, Pushes};
 ghost use Rattle.std.specs.List.{AllByRecursion};
-ghost use Rattle.oxc_sourcemap_tokens.specs.Results.{OnlyMemory, FailsBy, Reports, Pushes};
 
 use oxc_sourcemap_tokens::{
     Error, Memory, Previous, Result, Token, TokenChunk, chunk_fault, line_back_from,
@@ -230,7 +234,8 @@ impl Deltas {
 /// Places the fields of a token, its generated column relative to `column`.
 fn place_fields(buf: &mut [u8], at: usize, column: u32, previous: &Previous, token: &Token) -> usize
     requires room { at + 35 ≤ length buf.old }
-    ensures bytes { take result buf.new ≡ take at buf.old ++ fields_text column (state_of previous.now) token.now }
+    ensures bytes { take result buf.new ≡ take at buf.old
+        ++ fields_text column (state_of previous.now) token.now }
     ensures within { result ≤ at + 35 }
 {
     let dst_col = Delta::new(token.get_dst_col(), column);
@@ -301,7 +306,8 @@ fn place_token(
     requires few { lines ≤ 8 }
     requires same_line { (lines ≡ 0) ↔ (token.now.dst_line ≡ previous.now.dst_line) }
     ensures bytes { let s = state_of previous.now in
-        take result buf.new ≡ take at buf.old ++ (line_marks is_first lines ++ fields_text (column_from s token.now) s token.now) }
+        take result buf.new ≡ take at buf.old ++
+        (line_marks is_first lines ++ fields_text (column_from s token.now) s token.now) }
     ensures within { result ≤ at + 43 }
 {
     let start = place_separator(buf, at, is_first, lines);
@@ -344,7 +350,8 @@ fn push_semicolons(out: &mut String, count: u32) -> Memory<()>
 #[cold]
 fn push_gathered(out: &mut String, gathered: &[u8], lines: u32) -> Memory<u32>
     requires { AllByRecursion (λ b. b < 128) gathered.now }
-    ensures ok { IfOk result (λ left. string_bytes out.new ≡ (string_bytes out.old ++ gathered.now) ++ replicate (lines - left) 59) }
+    ensures ok { IfOk result (λ left. string_bytes out.new ≡ (string_bytes out.old ++ gathered.now)
+        ++ replicate (lines - left) 59) }
     ensures left { IfOk result (λ left. left ≡ min lines 8) }
     ensures adds { OnlyAdds (string_bytes out.old) (string_bytes out.new) }
 {
@@ -359,7 +366,8 @@ fn push_gathered(out: &mut String, gathered: &[u8], lines: u32) -> Memory<u32>
 fn make_room(out: &mut String, buf: &[u8], len: usize, lines: u32) -> Memory<(usize, u32)>
     requires within { len ≤ length buf.now }
     requires plain { AllByRecursion (λ b. b < 128) (take len buf.now) }
-    ensures ok { IfOk result (λ r. string_bytes out.new ++ take r.0 buf.now ≡ (string_bytes out.old ++ take len buf.now) ++ replicate (lines - r.1) 59) }
+    ensures ok { IfOk result (λ r. string_bytes out.new ++ take r.0 buf.now
+        ≡ (string_bytes out.old ++ take len buf.now) ++ replicate (lines - r.1) 59) }
     ensures plain { IfOk result (λ r. AllByRecursion (λ b. b < 128) (take r.0 buf.now)) }
     ensures room { IfOk result (λ r. r.0 ≤ 981) }
     ensures few { IfOk result (λ r. r.1 ≤ 8) }

@@ -4,3 +4,4 @@ pub mod Sorted
 pub mod Sound
 pub mod DecodedMap
 pub mod Texts
+pub mod Words

@@ -3,7 +3,7 @@
 ghost use Rattle.std.specs.Prelude.{◌≡◌, map, option_map, length, IfSome, Some};
 ghost use Rattle.std.specs.Iterator.{YieldsFirst, YieldsFirstBy, item_count, UpTo};
 ghost use Rattle.std.specs.Iterator.SizeHint.{IsWithinCount};
-ghost use Rattle.oxc_sourcemap_parts.specs.Views.{text_of, cow_texts};
+ghost use Rattle.oxc_sourcemap_parts.specs.Words.{text_of, cow_texts};
 
 use oxc_sourcemap_tokens::Token;
 use std::borrow::CowStr;
@@ -100,7 +100,8 @@ pub fn contents_in<'s, 'd>(contents: &'s [Option<CowStr<'d>>]) -> Contents<'s, '
 impl<'s, 'd> Iterator for Contents<'s, 'd> {
     type Item = Option<&'s str>;
 
-    ghost next_gives = { YieldsFirstBy (λ content. option_map (λ text. text.now) content) (λ left. left) };
+    ghost next_gives = { YieldsFirstBy (λ content. option_map (λ text. text.now) content)
+        (λ left. left) };
 
     ghost remaining = { item_count (λ left. left) };
 

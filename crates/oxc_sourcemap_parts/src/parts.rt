@@ -1,7 +1,7 @@
 //! The parts of a map: its nine fields.
 ghost use Rattle.std.specs.Prelude.{◌≡◌, IfOk};
-ghost use Rattle.oxc_sourcemap_parts.specs.Views.{text_of, texts_of, contents_of, record_of_parts, empty_record};
-ghost use Rattle.oxc_sourcemap_tokens.specs.Results.{OnlyMemory};
+ghost use Rattle.oxc_sourcemap_parts.specs.Words.{text_of, texts_of, contents_of, record_of_parts};
+ghost use Rattle.oxc_sourcemap_parts.specs.Words.{empty_record, OnlyMemory};
 
 use crate::strings::{
     clone_chunks, clone_contents, clone_ids, clone_text, clone_texts, into_owned_contents,
@@ -106,7 +106,8 @@ struct TextLists<'a> {
 /// Clones of the file, source root and debug id of these parts.
 fn clone_single<'a>(parts: &SourceMapParts<'a>) -> Memory<Single<'a>>
     ensures file { IfOk result (λ texts. text_of texts.file ≡ text_of parts.now.file) }
-    ensures source_root { IfOk result (λ texts. text_of texts.source_root ≡ text_of parts.now.source_root) }
+    ensures source_root { IfOk result (λ texts. text_of texts.source_root
+        ≡ text_of parts.now.source_root) }
     ensures debug_id { IfOk result (λ texts. text_of texts.debug_id ≡ text_of parts.now.debug_id) }
 {
     Ok(Single {
@@ -120,7 +121,8 @@ fn clone_single<'a>(parts: &SourceMapParts<'a>) -> Memory<Single<'a>>
 fn clone_lists<'a>(alloc: Global, parts: &SourceMapParts<'a>) -> Memory<TextLists<'a>>
     ensures names { IfOk result (λ lists. texts_of lists.names ≡ texts_of parts.now.names) }
     ensures sources { IfOk result (λ lists. texts_of lists.sources ≡ texts_of parts.now.sources) }
-    ensures contents { IfOk result (λ lists. contents_of lists.contents ≡ contents_of parts.now.source_contents) }
+    ensures contents { IfOk result (λ lists. contents_of lists.contents
+        ≡ contents_of parts.now.source_contents) }
 {
     Ok(TextLists {
         names: clone_texts(alloc, parts.names.as_slice())?,
@@ -132,8 +134,10 @@ fn clone_lists<'a>(alloc: Global, parts: &SourceMapParts<'a>) -> Memory<TextList
 /// File, source root and debug id, made to borrow nothing.
 fn into_owned_single(alloc: Global, texts: Single<'_>) -> Memory<Single<'static>>
     ensures file { IfOk result (λ owned. text_of owned.file ≡ text_of texts.entry.file) }
-    ensures source_root { IfOk result (λ owned. text_of owned.source_root ≡ text_of texts.entry.source_root) }
-    ensures debug_id { IfOk result (λ owned. text_of owned.debug_id ≡ text_of texts.entry.debug_id) }
+    ensures source_root { IfOk result (λ owned. text_of owned.source_root
+        ≡ text_of texts.entry.source_root) }
+    ensures debug_id { IfOk result (λ owned. text_of owned.debug_id
+        ≡ text_of texts.entry.debug_id) }
 {
     Ok(Single {
         file: into_owned_text(alloc, texts.file)?,
@@ -146,7 +150,8 @@ fn into_owned_single(alloc: Global, texts: Single<'_>) -> Memory<Single<'static>
 fn into_owned_lists(alloc: Global, lists: TextLists<'_>) -> Memory<TextLists<'static>>
     ensures names { IfOk result (λ owned. texts_of owned.names ≡ texts_of lists.entry.names) }
     ensures sources { IfOk result (λ owned. texts_of owned.sources ≡ texts_of lists.entry.sources) }
-    ensures contents { IfOk result (λ owned. contents_of owned.contents ≡ contents_of lists.entry.contents) }
+    ensures contents { IfOk result (λ owned. contents_of owned.contents
+        ≡ contents_of lists.entry.contents) }
 {
     Ok(TextLists {
         names: into_owned_texts(alloc, lists.names)?,

@@ -1,11 +1,9 @@
 //! Whether tokens are sorted, and whether a map is sound.
 ghost use Rattle.std.specs.Prelude.{◌≡◌, ◌↔◌, ◌<◌, IsTrue, IfSome};
 ghost use Rattle.std.specs.List.{AllByRecursion};
-ghost use Rattle.oxc_sourcemap_tokens.specs.LineOrder.{IsInLineOrder};
-ghost use Rattle.oxc_sourcemap_tokens.specs.Chunks.{ChunksFit};
-ghost use Rattle.oxc_sourcemap_parts.specs.Views.{chunks_of, ids_of, record_of_parts};
-ghost use Rattle.oxc_sourcemap_parts.specs.Sorted.{are_tokens_sorted, may_precede, token_line, token_column};
-ghost use Rattle.oxc_sourcemap_parts.specs.Sound.{IsInRange, IsSound};
+ghost use Rattle.oxc_sourcemap_parts.specs.Words.{IsInLineOrder, ChunksFit, chunks_of, ids_of};
+ghost use Rattle.oxc_sourcemap_parts.specs.Words.{record_of_parts, are_tokens_sorted, may_precede};
+ghost use Rattle.oxc_sourcemap_parts.specs.Words.{token_line, token_column, IsInRange, IsSound};
 
 use crate::parts::SourceMapParts;
 use oxc_sourcemap_tokens::{Token, TokenChunk, chunk_fault};

@@ -3,8 +3,8 @@
 ghost use Rattle.std.specs.Prelude.{◌≡◌, List, map, option_map, string_bytes, IfOk};
 ghost use Rattle.std.specs.Iterator.{IsFinite, Drains};
 ghost use Rattle.std.specs.Cow.{cow_str_bytes};
-ghost use Rattle.oxc_sourcemap_parts.specs.Views.{text_of, texts_of, contents_of, chunks_of, ids_of, cow_texts};
-ghost use Rattle.oxc_sourcemap_tokens.specs.Results.{lent_item};
+ghost use Rattle.oxc_sourcemap_parts.specs.Words.{text_of, texts_of, contents_of, chunks_of};
+ghost use Rattle.oxc_sourcemap_parts.specs.Words.{ids_of, cow_texts, lent_item};
 
 use oxc_sourcemap_tokens::{Memory, TokenChunk};
 use std::alloc::Global;
@@ -27,7 +27,8 @@ where
     S: Drop,
     requires can { I.can_next texts }
     requires ends { IsFinite (I.remaining texts) }
-    ensures { IfOk result (λ owned. (items : List S) × Drains I.next_gives texts items × (texts_of owned ≡ map S.text items)) }
+    ensures { IfOk result (λ owned. (items : List S) × Drains I.next_gives texts items
+        × (texts_of owned ≡ map S.text items)) }
 {
     let mut owned = Vec::new(alloc);
     for text in texts {
@@ -79,7 +80,8 @@ pub fn clone_contents<'a>(
     alloc: Global,
     contents: &[Option<CowStr<'a>>],
 ) -> Memory<Vec<Option<CowStr<'a>>>>
-    ensures { IfOk result (λ clones. contents_of clones ≡ map (option_map cow_str_bytes) contents.now) }
+    ensures { IfOk result (λ clones. contents_of clones
+        ≡ map (option_map cow_str_bytes) contents.now) }
 {
     let mut clones = Vec::with_capacity(alloc, contents.len())?;
     for content in contents {
@@ -172,7 +174,8 @@ pub fn from_optional_strings(
     alloc: Global,
     contents: Vec<Option<String>>,
 ) -> Memory<Vec<Option<CowStr<'static>>>>
-    ensures { IfOk result (λ strings. contents_of strings ≡ map (option_map string_bytes) contents.items) }
+    ensures { IfOk result (λ strings. contents_of strings
+        ≡ map (option_map string_bytes) contents.items) }
 {
     let mut strings = Vec::with_capacity(alloc, contents.len())?;
     for content in contents {
@@ -207,7 +210,8 @@ pub fn to_optional_strings(
     alloc: Global,
     contents: &[Option<CowStr<'_>>],
 ) -> Memory<Vec<Option<String>>>
-    ensures { IfOk result (λ strings. map (option_map string_bytes) strings.items ≡ map text_of contents.now) }
+    ensures { IfOk result (λ strings. map (option_map string_bytes) strings.items
+        ≡ map text_of contents.now) }
 {
     let mut strings = Vec::with_capacity(alloc, contents.len())?;
     for content in contents {

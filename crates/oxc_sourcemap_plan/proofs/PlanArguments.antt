@@ -1,5 +1,7 @@
 -- Reading arguments, step by step.
-use Rattle.std.proofs.Common.{◌≡◌, ◌≢◌, ℕ, zero, suc, ◌+◌, ◌-◌, ◌<◌, ◌≤◌, String, string_bytes, length, length, true, false, cond, ◌==◌, List, [], ◌∷◌, ◌++◌, map, codes, refl, sym, ap, ◌∙◌, arith, Some, None, Ok, Err, bytes_eq}
+use Rattle.std.proofs.Common.{◌≡◌, ◌≢◌, ℕ, zero, suc, ◌+◌, ◌-◌, ◌<◌, ◌≤◌, String, string_bytes}
+use Rattle.std.proofs.Common.{length, length, true, false, cond, ◌==◌, List, [], ◌∷◌, ◌++◌, map}
+use Rattle.std.proofs.Common.{codes, refl, sym, ap, ◌∙◌, arith, Some, None, Ok, Err, bytes_eq}
 use Rattle.oxc_sourcemap_parts.specs.Record.{Text}
 use Rattle.std.specs.declared.alloc.Global.{Global}
 use Rattle.std.specs.Cmp.Lexicographic.{bytes_decides}
@@ -13,8 +15,13 @@ use Rattle.oxc_sourcemap_plan.specs.Depth.{deepest}
 use Rattle.oxc_sourcemap_tokens.specs.declared.position.Position.{Position}
 use Rattle.oxc_sourcemap_plan.specs.declared.run_error.RunError.{RunError}
 use Rattle.oxc_sourcemap_plan.specs.declared.run_error.RunError.TheVariants.{Arguments, NoText}
-use Rattle.oxc_sourcemap_plan.specs.Outcome.{Outcome, read_outcome, rewrite_outcome, join_outcome, composition_outcome}
-use Rattle.oxc_sourcemap_plan.specs.PlanArguments.{Parsed, whole, then_parsed, parsed_number, parsed_line, parsed_position, read_or_fault, read_of_number, parsed_input, with_rest, parsed_parts, parsed_join, parsed_by, parsed_part}
+use Rattle.oxc_sourcemap_plan.specs.Outcome.{Outcome, read_outcome, rewrite_outcome, join_outcome}
+use Rattle.oxc_sourcemap_plan.specs.Outcome.{composition_outcome}
+use Rattle.oxc_sourcemap_plan.specs.PlanArguments.{Parsed, whole, then_parsed, parsed_number}
+use Rattle.oxc_sourcemap_plan.specs.PlanArguments.{parsed_line, parsed_position, read_or_fault}
+use Rattle.oxc_sourcemap_plan.specs.PlanArguments.{read_of_number, parsed_input, with_rest}
+use Rattle.oxc_sourcemap_plan.specs.PlanArguments.{parsed_parts, parsed_join, parsed_by}
+use Rattle.oxc_sourcemap_plan.specs.PlanArguments.{parsed_part}
 
 pub part-named : (inputs : List Text) (room : ℕ) (argument : Text) (arguments : List Text) → room ≢ 0 → parsed_part inputs room (argument ∷ arguments) ≡ parsed_by inputs (parsed_part inputs (room - 1)) argument arguments
 part-named inputs zero argument arguments n = absurd (n refl)

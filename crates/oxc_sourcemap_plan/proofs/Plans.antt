@@ -5,11 +5,16 @@ use Rattle.std.specs.Borrow.{Bor}
 use Rattle.oxc_sourcemap_decode.specs.ReadMap.{said_in}
 use Rattle.oxc_sourcemap_join.specs.Joined.{at_line, at_lines, at_positions}
 use Rattle.oxc_sourcemap_plan.specs.declared.plan.Plan.{Plan}
-use Rattle.oxc_sourcemap_plan.specs.declared.plan.Plan.TheVariants.{Read, rolls-Read, Rewrite, rolls-Rewrite, Join, rolls-Join, JoinAt, rolls-JoinAt, Compose, rolls-Compose}
+use Rattle.oxc_sourcemap_plan.specs.declared.plan.Plan.TheVariants.{Read, rolls-Read, Rewrite}
+use Rattle.oxc_sourcemap_plan.specs.declared.plan.Plan.TheVariants.{rolls-Rewrite, Join, rolls-Join}
+use Rattle.oxc_sourcemap_plan.specs.declared.plan.Plan.TheVariants.{JoinAt, rolls-JoinAt, Compose}
+use Rattle.oxc_sourcemap_plan.specs.declared.plan.Plan.TheVariants.{rolls-Compose}
 use Rattle.oxc_sourcemap_plan.specs.declared.plan.Plan.TheOpen.{Plan-F}
 use Rattle.oxc_sourcemap_plan.specs.declared.plan.Plan.TheFolds.{fold-roll-Plan}
 use Rattle.oxc_sourcemap_plan.specs.Depth.{depth, depth_step, deepest}
-use Rattle.oxc_sourcemap_plan.specs.Outcome.{Outcome, outcome_of, outcomes, outcome_step, read_outcome, rewrite_outcome, join_outcome, composition_outcome}
+use Rattle.oxc_sourcemap_plan.specs.Outcome.{Outcome, outcome_of, outcomes, outcome_step}
+use Rattle.oxc_sourcemap_plan.specs.Outcome.{read_outcome, rewrite_outcome, join_outcome}
+use Rattle.oxc_sourcemap_plan.specs.Outcome.{composition_outcome}
 
 firsts : {A B C : Type 0} (f : A → C) (parts : List (A × B)) → map (λ (p : C × B). p.0) (map (λ (p : A × B). (f p.0, p.1)) parts) ≡ map (λ p. f p.0) parts
 firsts f [] = refl

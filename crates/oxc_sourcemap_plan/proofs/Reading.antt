@@ -1,5 +1,7 @@
 -- What reading a text gives: a map by itself, or the join of the sections of an indexed map.
-use Rattle.std.proofs.Common.{◌≡◌, ◌≢◌, ℕ, ◌≤◌, ◌&&◌, Bool, true, false, cond, List, [], ◌∷◌, ◌++◌, map, length, refl, sym, ap, ◌∙◌, subst, arith, inl, inr, ◌⊎◌, Option, Some, None, Result, Ok, Err}
+use Rattle.std.proofs.Common.{◌≡◌, ◌≢◌, ℕ, ◌≤◌, ◌&&◌, Bool, true, false, cond, List, [], ◌∷◌, ◌++◌}
+use Rattle.std.proofs.Common.{map, length, refl, sym, ap, ◌∙◌, subst, arith, inl, inr, ◌⊎◌, Option}
+use Rattle.std.proofs.Common.{Some, None, Result, Ok, Err}
 use Rattle.std.specs.List.{flat_map, AllByRecursion}
 use Rattle.std.proofs.lemmas.Bool.{and_parts, both_ways, false_from_ne_true}
 use Rattle.std.proofs.lemmas.List.{length-append, length-map}
@@ -17,7 +19,8 @@ use Rattle.oxc_sourcemap_tokens.specs.declared.position.Position.{Position}
 use Rattle.oxc_sourcemap_join.specs.Joined.{nothing_joined, joined, IsWithinLimits}
 use Rattle.oxc_sourcemap_decode.specs.Sections.{Sections, joined_sections}
 use Rattle.oxc_sourcemap_decode.specs.JoinLimits.{is_within_limits}
-use Rattle.oxc_sourcemap_decode.specs.ReadMap.{Said, plain, indexed, indexed_record, map_said, said_in, read_map}
+use Rattle.oxc_sourcemap_decode.specs.ReadMap.{Said, plain, indexed, indexed_record, map_said}
+use Rattle.oxc_sourcemap_decode.specs.ReadMap.{said_in, read_map}
 use Rattle.oxc_sourcemap_decode.proofs.Limits.{limits_decided}
 use Rattle.oxc_sourcemap_decode.proofs.WellRead.{IsWellRead, sections_well, read_is_said}
 use Rattle.oxc_sourcemap_laws.specs.Repeats.{EqualUpToRepeats, is_sorted_decoded_map}
@@ -27,12 +30,16 @@ use Rattle.oxc_sourcemap_laws.proofs.JoinStands.{sorted-mappings}
 use Rattle.oxc_sourcemap_laws.proofs.Sections.{all-in-range, FromSections, from-sections, joined-of}
 use Rattle.oxc_sourcemap_laws.proofs.UpToRepeats.{sorted_decoded_map_up_to_repeats}
 use Rattle.oxc_sourcemap_tokens.specs.declared.plan_error.PlanError.TheVariants.{Map, Unsorted}
-use Rattle.oxc_sourcemap_plan.specs.Limits.{are_counts_within_limits, are_positions_within_limits, is_join_within_limits}
-use Rattle.oxc_sourcemap_plan.specs.Outcome.{Outcome, plain_outcome, names_of_sections, sections_outcome, read_outcome}
+use Rattle.oxc_sourcemap_plan.specs.Limits.{are_counts_within_limits, are_positions_within_limits}
+use Rattle.oxc_sourcemap_plan.specs.Limits.{is_join_within_limits}
+use Rattle.oxc_sourcemap_plan.specs.Outcome.{Outcome, plain_outcome, names_of_sections}
+use Rattle.oxc_sourcemap_plan.specs.Outcome.{sections_outcome, read_outcome}
 use Rattle.oxc_sourcemap_plan.specs.Evaluated.{are_among}
 use Rattle.oxc_sourcemap_plan.specs.Realizes.{Realizes, FailsAs}
 use Rattle.oxc_sourcemap_plan.proofs.KnownNames.{among-self}
-use Rattle.oxc_sourcemap_plan.proofs.Realizing.{CountsFit, counts-fit, same-sources, contents-added, Stays, stays-of, JoinLaws, within_of, plain_gives, plain_unsorted, unless_memory}
+use Rattle.oxc_sourcemap_plan.proofs.Realizing.{CountsFit, counts-fit, same-sources, contents-added}
+use Rattle.oxc_sourcemap_plan.proofs.Realizing.{Stays, stays-of, JoinLaws, within_of, plain_gives}
+use Rattle.oxc_sourcemap_plan.proofs.Realizing.{plain_unsorted, unless_memory}
 
 lists-in-range : (ms : List (MapRecord × Position)) → AllByRecursion (λ m. IsWellRead m.0) ms → AreIgnoreListsInRange ms
 lists-in-range [] h = tt

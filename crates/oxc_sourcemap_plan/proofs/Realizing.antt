@@ -1,13 +1,25 @@
 -- Readings, rewritings, joins and compositions realize their outcomes if their parts do.
-use Rattle.std.proofs.Common.{is_some, ◌≡◌, ◌≢◌, ℕ, suc, ◌≤◌, ◌<◌, Bool, true, false, cond, ◌&&◌, List, [], ◌∷◌, ◌++◌, map, length, refl, sym, ap, ◌∙◌, subst, arith, nat_le, nat_lt, Option, Some, None, option_map, Result, Ok, Err, inl, inr, ◌⊎◌}
+use Rattle.std.proofs.Common.{is_some, ◌≡◌, ◌≢◌, ℕ, suc, ◌≤◌, ◌<◌, Bool, true, false, cond, ◌&&◌}
+use Rattle.std.proofs.Common.{List, [], ◌∷◌, ◌++◌, map, length, refl, sym, ap, ◌∙◌, subst, arith}
+use Rattle.std.proofs.Common.{nat_le, nat_lt, Option, Some, None, option_map, Result, Ok, Err, inl}
+use Rattle.std.proofs.Common.{inr, ◌⊎◌}
 use Rattle.std.specs.List.{flat_map, list_any, AllByRecursion}
 use Rattle.std.specs.Option.{IfSome, option_map, option_and_then, unwrap_or}
-use Rattle.std.proofs.lemmas.Bool.{and_parts, and_left, and_right, false_from_ne_true, both_ways, cases_lt}
+use Rattle.std.proofs.lemmas.Bool.{and_parts, and_left, and_right, false_from_ne_true, both_ways}
+use Rattle.std.proofs.lemmas.Bool.{cases_lt}
 use Rattle.std.proofs.lemmas.Bool.Decides.{nat_tests}
 use Rattle.std.proofs.lemmas.List.{length-append, length-map}
 use Rattle.std.proofs.lemmas.List.Elements.{recursion_from_All, All-from_recursion}
 use Rattle.oxc_sourcemap_tokens.specs.declared.error.Error.{Error}
-use Rattle.oxc_sourcemap_tokens.specs.declared.error.Error.TheVariants.{VlqLeftover, VlqNoValues, VlqOverflow, BadJson, BadSegmentSize, BadSourceReference, BadNameReference, OutOfMemory, TooLarge, LineOrder, BadChunks, SeveralSources, SectionOrder}
+use Rattle.oxc_sourcemap_tokens.specs.declared.error.Error.TheVariants.{VlqLeftover, VlqNoValues}
+use Rattle.oxc_sourcemap_tokens.specs.declared.error.Error.TheVariants.{VlqOverflow, BadJson}
+use Rattle.oxc_sourcemap_tokens.specs.declared.error.Error.TheVariants.{BadSegmentSize}
+use Rattle.oxc_sourcemap_tokens.specs.declared.error.Error.TheVariants.{BadSourceReference}
+use Rattle.oxc_sourcemap_tokens.specs.declared.error.Error.TheVariants.{BadNameReference}
+use Rattle.oxc_sourcemap_tokens.specs.declared.error.Error.TheVariants.{OutOfMemory, TooLarge}
+use Rattle.oxc_sourcemap_tokens.specs.declared.error.Error.TheVariants.{LineOrder, BadChunks}
+use Rattle.oxc_sourcemap_tokens.specs.declared.error.Error.TheVariants.{SeveralSources}
+use Rattle.oxc_sourcemap_tokens.specs.declared.error.Error.TheVariants.{SectionOrder}
 use Rattle.oxc_sourcemap_tokens.specs.Token.{TokenRecord, IsInBounds, AreInBounds, last}
 use Rattle.oxc_sourcemap_mappings.specs.TextLaws.{ReadsAgain}
 use Rattle.oxc_sourcemap_tokens.specs.LineOrder.{first_out_of_order}
@@ -15,30 +27,49 @@ use Rattle.oxc_sourcemap_json.specs.Json.{JsonRecord}
 use Rattle.oxc_sourcemap_parts.specs.Record.{Text, MapRecord}
 use Rattle.oxc_sourcemap_parts.specs.Sorted.{are_tokens_sorted}
 use Rattle.oxc_sourcemap_parts.specs.Sound.{IsInRange, IsSound}
-use Rattle.oxc_sourcemap_parts.specs.DecodedMap.{DecodedSource, DecodedMapping, DecodedMap, sources_of, mapping_of, decoded_map_of}
+use Rattle.oxc_sourcemap_parts.specs.DecodedMap.{DecodedSource, DecodedMapping, DecodedMap}
+use Rattle.oxc_sourcemap_parts.specs.DecodedMap.{sources_of, mapping_of, decoded_map_of}
 use Rattle.oxc_sourcemap_decode.specs.Decoded.{decoded}
 use Rattle.oxc_sourcemap_encode.specs.Encoded.{encoded, encoded_record, written_contents}
 use Rattle.oxc_sourcemap_mappings.specs.Pieces.{writing_fault}
-use Rattle.oxc_sourcemap_laws.specs.MapLaws.{SoundIsWritten, SoundIsTooLarge, SoundReadsBack, SoundStaysSound, rewritten}
+use Rattle.oxc_sourcemap_laws.specs.MapLaws.{SoundIsWritten, SoundIsTooLarge, SoundReadsBack}
+use Rattle.oxc_sourcemap_laws.specs.MapLaws.{SoundStaysSound, rewritten}
 use Rattle.oxc_sourcemap_tokens.specs.declared.position.Position.{Position}
-use Rattle.oxc_sourcemap_join.specs.Joined.{is_same_token, without_repeat, shifted, added, added_all, nothing_joined, joined, AreEntriesInBounds, IsWithinLimits}
+use Rattle.oxc_sourcemap_join.specs.Joined.{is_same_token, without_repeat, shifted, added}
+use Rattle.oxc_sourcemap_join.specs.Joined.{added_all, nothing_joined, joined, AreEntriesInBounds}
+use Rattle.oxc_sourcemap_join.specs.Joined.{IsWithinLimits}
 use Rattle.oxc_sourcemap_join.proofs.Fitted.{length-fitted}
 use Rattle.oxc_sourcemap_tokens.specs.Refusals.{unless}
-use Rattle.oxc_sourcemap_lookup.specs.Composed.{targets, composed_names, composed, are_ids, composition}
-use Rattle.oxc_sourcemap_laws.specs.Repeats.{decoded_map_without_repeats, EqualUpToRepeats, is_sorted_decoded_map}
+use Rattle.oxc_sourcemap_lookup.specs.Composed.{targets, composed_names, composed, are_ids}
+use Rattle.oxc_sourcemap_lookup.specs.Composed.{composition}
+use Rattle.oxc_sourcemap_laws.specs.Repeats.{decoded_map_without_repeats, EqualUpToRepeats}
+use Rattle.oxc_sourcemap_laws.specs.Repeats.{is_sorted_decoded_map}
 use Rattle.oxc_sourcemap_laws.proofs.UpToRepeats.{matches}
 use Rattle.oxc_sourcemap_laws.specs.JoinedDecodedMaps.{joined_decoded_maps, lowered}
 use Rattle.oxc_sourcemap_laws.specs.ComposedDecodedMaps.{composed_decoded_maps}
-use Rattle.oxc_sourcemap_laws.specs.JoinLaws.{TestsAgree, DecodedMapOfJoin, JoinKeepsEqualUpToRepeats, JoinStandsFor, JoinInRange, JoinNames, JoinTokens, AreAllInRange, AreIgnoreListsInRange, AreEqualUpToRepeats, decoded_maps_of, AllStandFor}
-use Rattle.oxc_sourcemap_laws.specs.ComposeLaws.{CompositionStandsFor, CompositionNames, CompositionTokens, CompositionTooLarge, CompositionInBounds}
+use Rattle.oxc_sourcemap_laws.specs.JoinLaws.{TestsAgree, DecodedMapOfJoin}
+use Rattle.oxc_sourcemap_laws.specs.JoinLaws.{JoinKeepsEqualUpToRepeats, JoinStandsFor, JoinInRange}
+use Rattle.oxc_sourcemap_laws.specs.JoinLaws.{JoinNames, JoinTokens, AreAllInRange}
+use Rattle.oxc_sourcemap_laws.specs.JoinLaws.{AreIgnoreListsInRange, AreEqualUpToRepeats}
+use Rattle.oxc_sourcemap_laws.specs.JoinLaws.{decoded_maps_of, AllStandFor}
+use Rattle.oxc_sourcemap_laws.specs.ComposeLaws.{CompositionStandsFor, CompositionNames}
+use Rattle.oxc_sourcemap_laws.specs.ComposeLaws.{CompositionTokens, CompositionTooLarge}
+use Rattle.oxc_sourcemap_laws.specs.ComposeLaws.{CompositionInBounds}
 use Rattle.oxc_sourcemap_tokens.specs.declared.plan_error.PlanError.{PlanError}
 use Rattle.oxc_sourcemap_tokens.specs.declared.plan_error.PlanError.TheVariants.{Map, Unsorted}
-use Rattle.oxc_sourcemap_plan.specs.Meaning.{read_meaning, onto_decoded_maps, all_decoded_maps, join_meaning, composition_meaning}
-use Rattle.oxc_sourcemap_plan.specs.Limits.{are_counts_within_limits, is_position_within_limits, are_positions_within_limits, is_part_within_limits, is_join_within_limits}
-use Rattle.oxc_sourcemap_plan.specs.Outcome.{Outcome, plain_outcome, rewrite_outcome, meanings, names_of_all, all_records, joined_source_count, are_all_within_limits, join_outcome, composition_outcome}
+use Rattle.oxc_sourcemap_plan.specs.Meaning.{read_meaning, onto_decoded_maps, all_decoded_maps}
+use Rattle.oxc_sourcemap_plan.specs.Meaning.{join_meaning, composition_meaning}
+use Rattle.oxc_sourcemap_plan.specs.Limits.{are_counts_within_limits, is_position_within_limits}
+use Rattle.oxc_sourcemap_plan.specs.Limits.{are_positions_within_limits, is_part_within_limits}
+use Rattle.oxc_sourcemap_plan.specs.Limits.{is_join_within_limits}
+use Rattle.oxc_sourcemap_plan.specs.Outcome.{Outcome, plain_outcome, rewrite_outcome, meanings}
+use Rattle.oxc_sourcemap_plan.specs.Outcome.{names_of_all, all_records, joined_source_count}
+use Rattle.oxc_sourcemap_plan.specs.Outcome.{are_all_within_limits, join_outcome}
+use Rattle.oxc_sourcemap_plan.specs.Outcome.{composition_outcome}
 use Rattle.oxc_sourcemap_plan.specs.Evaluated.{is_among, are_among}
 use Rattle.oxc_sourcemap_plan.specs.Realizes.{Realizes, FailsAs, AllRealize}
-use Rattle.oxc_sourcemap_plan.proofs.KnownNames.{among-left, among-right, among-both, among-self, all-more, all-weaker}
+use Rattle.oxc_sourcemap_plan.proofs.KnownNames.{among-left, among-right, among-both, among-self}
+use Rattle.oxc_sourcemap_plan.proofs.KnownNames.{all-more, all-weaker}
 use Rattle.oxc_sourcemap_plan.proofs.Decoding.{decoded-bounds, sorted-order}
 
 -- an error is want of memory or not

@@ -8,3 +8,4 @@ pub mod Numbers
 pub mod PlanInputs
 pub mod PlanArguments
 pub mod Refusals
+pub mod Words

@@ -4,7 +4,9 @@ use Rattle.oxc_sourcemap_tokens.specs.declared.error.Error.TheVariants.{OutOfMem
 use Rattle.oxc_sourcemap_tokens.specs.PlanMessages.{plan_error_text}
 use Rattle.oxc_sourcemap_tokens.specs.declared.plan_error.PlanError.TheVariants.{Map}
 use Rattle.oxc_sourcemap_plan.specs.declared.run_error.RunError.{RunError}
-use Rattle.oxc_sourcemap_plan.specs.declared.run_error.RunError.TheVariants.{Plan, Read, Write, Utf8, Arguments, NoText}
+use Rattle.oxc_sourcemap_plan.specs.declared.run_error.RunError.TheVariants.{Plan, Read, Write}
+use Rattle.oxc_sourcemap_plan.specs.declared.run_error.RunError.TheVariants.{Utf8, Arguments}
+use Rattle.oxc_sourcemap_plan.specs.declared.run_error.RunError.TheVariants.{NoText}
 
 abbrev pub run_error_text : RunError → List ℕ
 run_error_text (Plan error) = plan_error_text error

@@ -1,15 +1,11 @@
 //! Plans: pipelines of reading, rewriting, joining and composing maps, and their evaluation.
 ghost use Rattle.std.specs.Prelude.{◌≡◌, ◌≤◌, ◌↔◌, ◌⊎◌, List, true, false, IsTrue, IfOk, IfErr};
-ghost use Rattle.oxc_sourcemap_plan.specs.Depth.{depth};
-ghost use Rattle.oxc_sourcemap_plan.specs.Outcome.{Outcome, read_outcome, rewrite_outcome, join_outcome, composition_outcome, outcome_of, outcomes, outcome};
-ghost use Rattle.oxc_sourcemap_tokens.specs.declared.position.Position.{Position};
-ghost use Rattle.oxc_sourcemap_join.specs.Joined.{at_lines, at_positions};
-ghost use Rattle.oxc_sourcemap_plan.specs.Evaluated.{IsEvaluated, IsFailure};
-ghost use Rattle.oxc_sourcemap_plan.specs.Realizes.{Realizes, FailsAs, AllRealize};
-ghost use Rattle.oxc_sourcemap_tokens.specs.declared.error.Error.TheVariants.{OutOfMemory};
-ghost use Rattle.oxc_sourcemap_decode.specs.ReadMap.{said_in};
-ghost use Rattle.oxc_sourcemap_parts.specs.Sorted.{are_tokens_sorted};
-ghost use Rattle.oxc_sourcemap_tokens.specs.declared.plan_error.PlanError.TheVariants.{Map, Unsorted};
+ghost use Rattle.oxc_sourcemap_plan.specs.Words.{depth, Outcome, read_outcome, rewrite_outcome};
+ghost use Rattle.oxc_sourcemap_plan.specs.Words.{join_outcome, composition_outcome, outcome_of};
+ghost use Rattle.oxc_sourcemap_plan.specs.Words.{outcomes, outcome, Position, at_lines};
+ghost use Rattle.oxc_sourcemap_plan.specs.Words.{at_positions, IsEvaluated, IsFailure, Realizes};
+ghost use Rattle.oxc_sourcemap_plan.specs.Words.{FailsAs, AllRealize, OutOfMemory, said_in};
+ghost use Rattle.oxc_sourcemap_plan.specs.Words.{are_tokens_sorted, Map, Unsorted};
 
 use oxc_sourcemap_builders::join_owned;
 use oxc_sourcemap_laws::{canonical_unique, composition_associative, dropping_harmless};
@@ -79,7 +75,8 @@ fn is_within_depth(plan: &Plan<'_>, room: u32) -> bool
 /// This map, or `Unsorted` if its tokens are not sorted.
 fn check_sorted(map: SourceMap<'static>) -> Result<SourceMap<'static>, PlanError>
     ensures map { IfOk result (λ m. (m ≡ map.entry) × (are_tokens_sorted map.entry.tokens ≡ true)) }
-    ensures error { IfErr result (λ e. (e ≡ Unsorted) × (are_tokens_sorted map.entry.tokens ≡ false)) }
+    ensures error { IfErr result (λ e. (e ≡ Unsorted)
+        × (are_tokens_sorted map.entry.tokens ≡ false)) }
 {
     if map.is_sorted() {
         Ok(map)
@@ -102,8 +99,10 @@ fn read(alloc: Global, text: &str) -> Result<SourceMap<'static>, PlanError>
 /// A map, written and read again.
 #[inline(never)]
 fn rewrite(alloc: Global, map: &SourceMap<'_>) -> Result<SourceMap<'static>, PlanError>
-    ensures map { IfOk result (λ m. (o : Outcome) → Realizes map.now o → Realizes m (rewrite_outcome o)) }
-    ensures error { IfErr result (λ e. (o : Outcome) → Realizes map.now o → FailsAs e (rewrite_outcome o)) }
+    ensures map { IfOk result (λ m. (o : Outcome) → Realizes map.now o
+        → Realizes m (rewrite_outcome o)) }
+    ensures error { IfErr result (λ e. (o : Outcome) → Realizes map.now o
+        → FailsAs e (rewrite_outcome o)) }
 {
     canonical_unique();
     let json = map.to_json(alloc)?;
@@ -133,8 +132,10 @@ fn compose(
     first: SourceMap<'static>,
     second: SourceMap<'static>,
 ) -> Result<SourceMap<'static>, PlanError>
-    ensures map { IfOk result (λ m. (p q : Outcome) → Realizes first.entry p → Realizes second.entry q → Realizes m (composition_outcome p q)) }
-    ensures error { IfErr result (λ e. (p q : Outcome) → Realizes first.entry p → Realizes second.entry q → FailsAs e (composition_outcome p q)) }
+    ensures map { IfOk result (λ m. (p q : Outcome) → Realizes first.entry p
+        → Realizes second.entry q → Realizes m (composition_outcome p q)) }
+    ensures error { IfErr result (λ e. (p q : Outcome) → Realizes first.entry p
+        → Realizes second.entry q → FailsAs e (composition_outcome p q)) }
 {
     composition_associative();
     Ok(first.compose(alloc, second)?)
@@ -195,8 +196,10 @@ fn evaluate_join_at(
     alloc: Global,
     parts: &[(Plan<'_>, u32, u32)],
 ) -> Result<SourceMap<'static>, PlanError>
-    ensures map { IfOk result (λ map. Realizes map (join_outcome (outcomes (at_positions parts.now)))) }
-    ensures error { IfErr result (λ e. FailsAs e (join_outcome (outcomes (at_positions parts.now)))) }
+    ensures map { IfOk result (λ map. Realizes map
+        (join_outcome (outcomes (at_positions parts.now)))) }
+    ensures error { IfErr result (λ e. FailsAs e
+        (join_outcome (outcomes (at_positions parts.now)))) }
 {
     let mut maps = Vec::new(alloc);
     for (part, line, column) in parts {
@@ -218,8 +221,10 @@ fn evaluate_composition(
     first: &Plan<'_>,
     second: &Plan<'_>,
 ) -> Result<SourceMap<'static>, PlanError>
-    ensures map { IfOk result (λ map. Realizes map (composition_outcome (outcome_of first.now) (outcome_of second.now))) }
-    ensures error { IfErr result (λ e. FailsAs e (composition_outcome (outcome_of first.now) (outcome_of second.now))) }
+    ensures map { IfOk result (λ map. Realizes map
+        (composition_outcome (outcome_of first.now) (outcome_of second.now))) }
+    ensures error { IfErr result (λ e. FailsAs e
+        (composition_outcome (outcome_of first.now) (outcome_of second.now))) }
 {
     compose(
         alloc,

@@ -1,11 +1,12 @@
 //! Plans as arguments, and the texts in an input.
-ghost use Rattle.std.specs.Prelude.{◌≡◌, ◌≢◌, ◌≤◌, ◌<◌, ◌+◌, ◌∷◌, [], false, length, map, string_bytes, Ok, Err, slice_get, MatchOption, IfOk, IfErr, IfSome};
-ghost use Rattle.oxc_sourcemap_plan.specs.Refusals.{out_of_memory, is_of_port};
-ghost use Rattle.oxc_sourcemap_plan.specs.Depth.{depth};
-ghost use Rattle.oxc_sourcemap_plan.specs.Outcome.{outcome_of, outcome};
-ghost use Rattle.oxc_sourcemap_plan.specs.PlanInputs.{inputs_of};
-ghost use Rattle.oxc_sourcemap_plan.specs.PlanArguments.{parsed_number, parsed_beginning, parsed_input, parsed_join, parsed_part, parsed_plan};
-ghost use Rattle.oxc_sourcemap_tokens.specs.Results.{Gives, lent_items, lent_item};
+ghost use Rattle.std.specs.Prelude.{◌≡◌, ◌≢◌, ◌≤◌, ◌<◌, ◌+◌, ◌∷◌, [], false, length, map};
+ghost use Rattle.std.specs.Prelude.{string_bytes, Ok, Err, slice_get, MatchOption, IfOk, IfErr};
+ghost use Rattle.std.specs.Prelude.{IfSome};
+ghost use Rattle.oxc_sourcemap_plan.specs.Words.{out_of_memory, is_of_port, depth, outcome_of};
+ghost use Rattle.oxc_sourcemap_plan.specs.Words.{outcome, inputs_of, parsed_number};
+ghost use Rattle.oxc_sourcemap_plan.specs.Words.{parsed_beginning, parsed_input, parsed_join};
+ghost use Rattle.oxc_sourcemap_plan.specs.Words.{parsed_part, parsed_plan, Gives, lent_items};
+ghost use Rattle.oxc_sourcemap_plan.specs.Words.{lent_item};
 
 use crate::numbers::read_number;
 use crate::plan::Plan;
@@ -16,7 +17,8 @@ use std::alloc::Global;
 /// The text before the first line that is exactly `---`, and what comes after that line. If there is no such line, the text is
 /// the whole input, and nothing comes after it.
 fn first_text(input: &str) -> (&str, Option<&str>)
-    ensures text { MatchOption result.1 (inputs_of input.now ≡ result.0.now ∷ []) (λ rest. inputs_of input.now ≡ result.0.now ∷ inputs_of rest.now) }
+    ensures text { MatchOption result.1 (inputs_of input.now ≡ result.0.now ∷ [])
+        (λ rest. inputs_of input.now ≡ result.0.now ∷ inputs_of rest.now) }
     ensures shorter { IfSome result.1 (λ rest. length rest.now < length input.now) }
 {
     if input == "---" {
@@ -52,7 +54,8 @@ pub fn inputs_of<'t>(alloc: Global, input: &'t str) -> Memory<Vec<&'t str>>
 
 /// The number of the first argument, and the arguments after it.
 fn take_number<'w>(arguments: &'w [String]) -> Result<(u32, &'w [String]), RunError>
-    ensures number { Gives (λ r. (r.0, map string_bytes r.1.now)) result (parsed_number (map string_bytes arguments.now)) }
+    ensures number { Gives (λ r. (r.0, map string_bytes r.1.now)) result
+        (parsed_number (map string_bytes arguments.now)) }
     ensures causes { IfErr result (λ e. is_of_port e ≡ false) }
 {
     let Some((argument, others)) = arguments.split_first() else {
@@ -91,7 +94,8 @@ fn input_at<'t>(inputs: &'t [&'t str], number: u32) -> Option<&'t str>
 
 /// The part of an argument `@K`: read input K.
 fn read_input<'t>(inputs: &'t [&'t str], argument: &str) -> Result<Plan<'t>, RunError>
-    ensures part { IfOk result (λ plan. parsed_input (lent_items inputs.now) argument.now ≡ Ok (outcome_of plan)) }
+    ensures part { IfOk result (λ plan. parsed_input (lent_items inputs.now) argument.now
+        ≡ Ok (outcome_of plan)) }
     ensures depth { IfOk result (λ plan. depth plan ≡ 1) }
     ensures error { IfErr result (λ e. parsed_input (lent_items inputs.now) argument.now ≡ Err e) }
     ensures causes { IfErr result (λ e. is_of_port e ≡ false) }
@@ -116,9 +120,11 @@ fn read_part<'t, 'w>(
     arguments: &'w [String],
     room: u32,
 ) -> Result<(Plan<'t>, &'w [String]), RunError>
-    ensures part { IfOk result (λ r. parsed_part (lent_items inputs.now) room (map string_bytes arguments.now) ≡ Ok (outcome_of r.0, map string_bytes r.1.now)) }
+    ensures part { IfOk result (λ r. parsed_part (lent_items inputs.now) room
+        (map string_bytes arguments.now) ≡ Ok (outcome_of r.0, map string_bytes r.1.now)) }
     ensures depth { IfOk result (λ r. depth r.0 ≤ room) }
-    ensures error { IfErr result (λ e. (e ≢ out_of_memory) → parsed_part (lent_items inputs.now) room (map string_bytes arguments.now) ≡ Err e) }
+    ensures error { IfErr result (λ e. (e ≢ out_of_memory)
+        → parsed_part (lent_items inputs.now) room (map string_bytes arguments.now) ≡ Err e) }
     ensures causes { IfErr result (λ e. is_of_port e ≡ false) }
 {
     let Some((argument, others)) = arguments.split_first() else {
@@ -157,11 +163,13 @@ fn read_join<'t, 'w>(
     has_column: bool,
 ) -> Result<(Plan<'t>, &'w [String]), RunError>
     ensures part { IfOk result (λ r.
-        parsed_join (parsed_part (lent_items inputs.now) room) (parsed_beginning has_column) (map string_bytes arguments.now)
+        parsed_join (parsed_part (lent_items inputs.now) room) (parsed_beginning has_column)
+        (map string_bytes arguments.now)
         ≡ Ok (outcome_of r.0, map string_bytes r.1.now)) }
     ensures depth { IfOk result (λ r. depth r.0 ≤ room + 1) }
     ensures error { IfErr result (λ e. (e ≢ out_of_memory) →
-        parsed_join (parsed_part (lent_items inputs.now) room) (parsed_beginning has_column) (map string_bytes arguments.now)
+        parsed_join (parsed_part (lent_items inputs.now) room) (parsed_beginning has_column)
+        (map string_bytes arguments.now)
         ≡ Err e) }
     ensures causes { IfErr result (λ e. is_of_port e ≡ false) }
 {
@@ -191,8 +199,10 @@ pub fn read_plan<'t>(
     inputs: &'t [&'t str],
     arguments: &[String],
 ) -> Result<Plan<'t>, RunError>
-    ensures plan { IfOk result (λ plan. parsed_plan (lent_items inputs.now) (map string_bytes arguments.now) ≡ Ok (outcome plan)) }
-    ensures error { IfErr result (λ e. (e ≢ out_of_memory) → parsed_plan (lent_items inputs.now) (map string_bytes arguments.now) ≡ Err e) }
+    ensures plan { IfOk result (λ plan. parsed_plan (lent_items inputs.now)
+        (map string_bytes arguments.now) ≡ Ok (outcome plan)) }
+    ensures error { IfErr result (λ e. (e ≢ out_of_memory)
+        → parsed_plan (lent_items inputs.now) (map string_bytes arguments.now) ≡ Err e) }
     ensures causes { IfErr result (λ e. is_of_port e ≡ false) }
 {
     let (plan, rest) = read_part(alloc, inputs, arguments, 64)?;

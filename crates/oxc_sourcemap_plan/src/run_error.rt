@@ -1,8 +1,7 @@
 //! The errors of a command.
 ghost use Rattle.std.specs.Prelude.{◌≡◌, Some};
-ghost use Rattle.oxc_sourcemap_tokens.specs.declared.plan_error.PlanError.TheVariants.{Map};
-ghost use Rattle.oxc_sourcemap_plan.specs.declared.run_error.RunError.TheVariants.{Plan};
-ghost use Rattle.oxc_sourcemap_plan.specs.Refusals.{run_error_text, status_of, out_of_memory};
+ghost use Rattle.oxc_sourcemap_plan.specs.Words.{Map, Plan, run_error_text, status_of};
+ghost use Rattle.oxc_sourcemap_plan.specs.Words.{out_of_memory};
 
 use oxc_sourcemap_tokens::{Error, PlanError};
 use std::alloc::{AllocError, AllocFailed};

@@ -1,5 +1,8 @@
 -- Chunks that fit, and the state at their starts and after the last of them.
-use Rattle.std.proofs.Common.{◌≡◌, ℕ, zero, suc, ◌+◌, ◌-◌, ◌<◌, ◌≤◌, Bool, true, false, cond, ◌&&◌, ◌==◌, List, [], ◌∷◌, ◌++◌, length, get_or, if◌then◌else◌, take, drop, arith, refl, sym, ap, ◌∙◌, subst, slice_get, nat_lt, nat_le, Option, Some, None, ◌↔◌}
+use Rattle.std.proofs.Common.{◌≡◌, ℕ, zero, suc, ◌+◌, ◌-◌, ◌<◌, ◌≤◌, Bool, true, false, cond, ◌&&◌}
+use Rattle.std.proofs.Common.{◌==◌, List, [], ◌∷◌, ◌++◌, length, get_or, if◌then◌else◌, take, drop}
+use Rattle.std.proofs.Common.{arith, refl, sym, ap, ◌∙◌, subst, slice_get, nat_lt, nat_le, Option}
+use Rattle.std.proofs.Common.{Some, None, ◌↔◌}
 use Rattle.std.specs.Option.{IsNone, is_some}
 use mathlib.Core.List.{reverse_aux}
 use Rattle.std.proofs.Math.Seq.{take-add}
@@ -9,7 +12,9 @@ use Rattle.oxc_sourcemap_tokens.specs.declared.token.TokenChunk.{TokenChunk}
 use Rattle.oxc_sourcemap_tokens.specs.Token.{TokenRecord}
 use Rattle.oxc_sourcemap_tokens.specs.State.{State, initial, state_after, state_at}
 use Rattle.oxc_sourcemap_tokens.specs.LineOrder.{first_out_of_order, back_from}
-use Rattle.oxc_sourcemap_tokens.specs.Chunks.{header, chunk_tokens, ChunkFits, ChunksFitFrom, ChunksFit, is_same_state, is_fitting_chunk, first_misfit_from, first_misfit, chunk_from}
+use Rattle.oxc_sourcemap_tokens.specs.Chunks.{header, chunk_tokens, ChunkFits, ChunksFitFrom}
+use Rattle.oxc_sourcemap_tokens.specs.Chunks.{ChunksFit, is_same_state, is_fitting_chunk}
+use Rattle.oxc_sourcemap_tokens.specs.Chunks.{first_misfit_from, first_misfit, chunk_from}
 use Rattle.oxc_sourcemap_tokens.specs.Steps.{advanced, advanced_all}
 use Rattle.oxc_sourcemap_tokens.proofs.InOrder.{back_from-all, in_order}
 

@@ -1,5 +1,6 @@
 -- What the last tokens of a list give, and the state after it.
-use Rattle.std.proofs.Common.{◌≡◌, ℕ, suc, ◌+◌, ◌-◌, ◌<◌, List, [], ◌∷◌, ◌++◌, length, take, get_or, arith, refl, sym, ap, ◌∙◌, Option, Some, None, slice_get, true, false}
+use Rattle.std.proofs.Common.{◌≡◌, ℕ, suc, ◌+◌, ◌-◌, ◌<◌, List, [], ◌∷◌, ◌++◌, length, take, get_or}
+use Rattle.std.proofs.Common.{arith, refl, sym, ap, ◌∙◌, Option, Some, None, slice_get, true, false}
 use Rattle.std.specs.Option.{unwrap_or, option_map, option_or, is_some}
 use Rattle.std.proofs.Math.Seq.{take-suc}
 use Rattle.oxc_sourcemap_tokens.specs.Token.{TokenRecord, mapped_name}

@@ -8,3 +8,4 @@ pub mod LineOrder
 pub mod Chunks
 pub mod TokenFields
 pub mod Steps
+pub mod Words

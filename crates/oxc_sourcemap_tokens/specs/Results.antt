@@ -1,6 +1,7 @@
 -- The words of clauses about calls that may fail, and about what is borrowed. `result` is what a call returned; `defined` is what
 -- a definition makes of the same input: a value, or the first error.
-use Rattle.std.specs.Prelude.{◌≡◌, ◌≢◌, ◌++◌, ℕ, List, map, Option, option_map, Some, Result, Ok, Err, IfOk, IfErr, OnOk, String, string_bytes}
+use Rattle.std.specs.Prelude.{◌≡◌, ◌≢◌, ◌++◌, ℕ, List, map, Option, option_map, Some, Result, Ok}
+use Rattle.std.specs.Prelude.{Err, IfOk, IfErr, OnOk, String, string_bytes}
 use Rattle.std.specs.Borrow.{Bor}
 use Rattle.std.specs.declared.alloc.Global.{Global}
 use Rattle.oxc_sourcemap_tokens.specs.declared.error.Error.{Error}

@@ -1,5 +1,6 @@
 -- What contracts see of a token.
-use Rattle.std.specs.Prelude.{ℕ, ◌<◌, Bool, List, [], ◌∷◌, Option, Some, None, if◌then◌else◌, nat_lt, is_some, IfSome}
+use Rattle.std.specs.Prelude.{ℕ, ◌<◌, Bool, List, [], ◌∷◌, Option, Some, None, if◌then◌else◌}
+use Rattle.std.specs.Prelude.{nat_lt, is_some, IfSome}
 use Rattle.std.specs.List.{All, last_or}
 use Rattle.std.specs.Option.{option_map}
 

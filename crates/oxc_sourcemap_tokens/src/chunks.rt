@@ -1,8 +1,8 @@
 //! Chunks that fit tokens.
 ghost use Rattle.std.specs.Prelude.{◌≡◌, ◌↔◌, ◌≤◌, length, IsNone};
-ghost use Rattle.oxc_sourcemap_tokens.specs.State.{state_at};
-ghost use Rattle.oxc_sourcemap_tokens.specs.Chunks.{header, chunk_tokens, chunk_from, is_same_state, first_misfit, ChunksFit};
-ghost use Rattle.oxc_sourcemap_tokens.specs.Steps.{state_of};
+ghost use Rattle.oxc_sourcemap_tokens.specs.Words.{state_at, header, chunk_tokens, chunk_from};
+ghost use Rattle.oxc_sourcemap_tokens.specs.Words.{is_same_state, first_misfit, ChunksFit};
+ghost use Rattle.oxc_sourcemap_tokens.specs.Words.{state_of};
 
 use crate::state::{Previous, after_all};
 use crate::token::{Token, TokenChunk};
@@ -84,7 +84,8 @@ fn after_chunks(tokens: &[Token], chunks: &[TokenChunk]) -> Previous
 pub fn next_chunk(tokens: &[Token], chunks: &[TokenChunk], end: u32) -> TokenChunk
     requires fits { ChunksFit tokens.now chunks.now }
     requires counted { length tokens.now ≤ 4294967295 }
-    ensures { result ≡ chunk_from (state_at tokens.now (length tokens.now)) (length tokens.now) end }
+    ensures { result ≡ chunk_from (state_at tokens.now (length tokens.now))
+        (length tokens.now) end }
 {
     let reached = after_chunks(tokens, chunks);
     TokenChunk::new(

@@ -1,9 +1,7 @@
 //! Errors and their messages.
 ghost use Rattle.std.specs.Prelude.{◌≡◌, Some};
-ghost use Rattle.oxc_sourcemap_tokens.specs.Messages.{key_of, json_fault_text, error_text};
-ghost use Rattle.oxc_sourcemap_tokens.specs.Refusals.{refusal_of_json};
-ghost use Rattle.oxc_sourcemap_tokens.specs.declared.error.Error.TheVariants.{OutOfMemory};
-ghost use Rattle.oxc_sourcemap_tokens.specs.Results.{lent_item};
+ghost use Rattle.oxc_sourcemap_tokens.specs.Words.{key_of, json_fault_text, error_text};
+ghost use Rattle.oxc_sourcemap_tokens.specs.Words.{refusal_of_json, OutOfMemory, lent_item};
 
 use std::alloc::{AllocError, AllocFailed};
 use std::fmt;

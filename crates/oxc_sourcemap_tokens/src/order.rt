@@ -1,7 +1,6 @@
 //! Whether tokens are in the order of their generated lines.
 ghost use Rattle.std.specs.Prelude.{◌≡◌, ◌+◌, ◌^◌, ◌<◌, length, Option, None};
-ghost use Rattle.oxc_sourcemap_tokens.specs.Token.{AreInBounds};
-ghost use Rattle.oxc_sourcemap_tokens.specs.LineOrder.{first_out_of_order, back_from};
+ghost use Rattle.oxc_sourcemap_tokens.specs.Words.{AreInBounds, first_out_of_order, back_from};
 
 use crate::token::Token;
 

@@ -1,8 +1,6 @@
 //! The errors of plans.
 ghost use Rattle.std.specs.Prelude.{◌≡◌, Some};
-ghost use Rattle.oxc_sourcemap_tokens.specs.declared.error.Error.TheVariants.{OutOfMemory};
-ghost use Rattle.oxc_sourcemap_tokens.specs.declared.plan_error.PlanError.TheVariants.{Map};
-ghost use Rattle.oxc_sourcemap_tokens.specs.PlanMessages.{plan_error_text};
+ghost use Rattle.oxc_sourcemap_tokens.specs.Words.{OutOfMemory, Map, plan_error_text};
 
 use crate::error::Error;
 use std::alloc::{AllocError, AllocFailed};

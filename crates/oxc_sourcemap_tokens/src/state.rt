@@ -1,9 +1,8 @@
 //! The state that the deltas of a token start from, carried from token to token.
 ghost use Rattle.std.specs.Prelude.{◌≡◌};
-ghost use Rattle.oxc_sourcemap_tokens.specs.Token.{mapped_name};
-ghost use Rattle.oxc_sourcemap_tokens.specs.State.{initial};
-ghost use Rattle.oxc_sourcemap_tokens.specs.Chunks.{header};
-ghost use Rattle.oxc_sourcemap_tokens.specs.Steps.{state_of, advanced, advanced_all, source_given, last_given};
+ghost use Rattle.oxc_sourcemap_tokens.specs.Words.{mapped_name, initial, header, state_of};
+ghost use Rattle.oxc_sourcemap_tokens.specs.Words.{advanced, advanced_all, source_given};
+ghost use Rattle.oxc_sourcemap_tokens.specs.Words.{last_given};
 
 use crate::token::{Token, TokenChunk};
 

@@ -1,6 +1,6 @@
 //! Tokens, and the chunks in which they are written.
 ghost use Rattle.std.specs.Prelude.{◌≡◌, ◌<◌, IfSome};
-ghost use Rattle.oxc_sourcemap_tokens.specs.Token.{kept_id, IsInBounds};
+ghost use Rattle.oxc_sourcemap_tokens.specs.Words.{kept_id, IsInBounds};
 
 use std::marker::Model;
 
@@ -36,7 +36,8 @@ impl Model for Token {
 
     ghost Value = { TokenRecord };
 
-    ghost use Rattle.oxc_sourcemap_tokens.specs.TokenFields.{record_of, fields_of, FieldsFit, fields_of-record_of};
+    ghost use Rattle.oxc_sourcemap_tokens.specs.TokenFields.{record_of, fields_of, FieldsFit};
+    ghost use Rattle.oxc_sourcemap_tokens.specs.TokenFields.{fields_of-record_of};
 
     ghost view = { record_of };
 

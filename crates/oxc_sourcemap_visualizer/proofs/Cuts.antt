@@ -1,11 +1,14 @@
 -- Lines, cut one after the other.
-use Rattle.std.proofs.Common.{◌≡◌, ℕ, ◌+◌, ◌<◌, ◌≤◌, true, false, List, [], ◌∷◌, ◌++◌, length, take, drop, get_or, map, option_map, Option, Some, None, Vec, Global, refl, sym, ap, ◌∙◌, add-one, if◌then◌else◌}
+use Rattle.std.proofs.Common.{◌≡◌, ℕ, ◌+◌, ◌<◌, ◌≤◌, true, false, List, [], ◌∷◌, ◌++◌, length, take}
+use Rattle.std.proofs.Common.{drop, get_or, map, option_map, Option, Some, None, Vec, Global, refl}
+use Rattle.std.proofs.Common.{sym, ap, ◌∙◌, add-one, if◌then◌else◌}
 use Rattle.std.proofs.Math.Seq.{drop-cons}
 use Rattle.std.proofs.lemmas.List.{take_more, drop_all, take_all}
 use Rattle.std.proofs.lemmas.List.{append-nil}
 use mathlib.Core.List.{append_assoc}
 use Rattle.oxc_sourcemap_parts.specs.Record.{Text}
-use Rattle.oxc_sourcemap_visualizer.specs.TextLines.{units_of, ends_line, onto_first, lines_of, text_lines}
+use Rattle.oxc_sourcemap_visualizer.specs.TextLines.{units_of, ends_line, onto_first, lines_of}
+use Rattle.oxc_sourcemap_visualizer.specs.TextLines.{text_lines}
 
 -- these lines, with units put before the first line
 abbrev pub before_first : List ℕ → List (List ℕ) → List (List ℕ)

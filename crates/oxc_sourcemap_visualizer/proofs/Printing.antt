@@ -1,12 +1,14 @@
 -- The texts of tokens, one after the other.
-use Rattle.std.proofs.Common.{◌≡◌, ℕ, suc, ◌+◌, ◌<◌, ◌≤◌, List, [], ◌∷◌, length, take, drop, reverse, get_or, refl, sym, add-one}
+use Rattle.std.proofs.Common.{◌≡◌, ℕ, suc, ◌+◌, ◌<◌, ◌≤◌, List, [], ◌∷◌, length, take, drop}
+use Rattle.std.proofs.Common.{reverse, get_or, refl, sym, add-one}
 use Rattle.std.specs.Fmt.{◌++?◌, AppendsText}
 use Rattle.std.specs.Option.{option_or}
 use Rattle.std.proofs.Math.Seq.{drop-cons}
 use Rattle.std.proofs.lemmas.List.{take_more, drop_all, append-nil, reverse-append}
 use Rattle.oxc_sourcemap_tokens.specs.Token.{TokenRecord}
 use Rattle.oxc_sourcemap_parts.specs.Record.{Text, MapRecord}
-use Rattle.oxc_sourcemap_visualizer.specs.VisualText.{shown, shown_source, nearest_source, visual_token_text, tokens_text}
+use Rattle.oxc_sourcemap_visualizer.specs.VisualText.{shown, shown_source, nearest_source}
+use Rattle.oxc_sourcemap_visualizer.specs.VisualText.{visual_token_text, tokens_text}
 
 -- the tokens before the next one: this one, and those before it
 further-front : (ts : List TokenRecord) (i : ℕ) (t : TokenRecord) → i < length ts → reverse (take (i + 1) ts) ≡ get_or ts i t ∷ reverse (take i ts)

@@ -1,3 +1,4 @@
 pub mod TextLines
 pub mod VisualText
 pub mod Link
+pub mod Words

@@ -1,5 +1,7 @@
 -- The visual text of a code and its map (docs/FORMAT.md, "The visual text").
-use Rattle.std.specs.Prelude.{ℕ, Bool, false, not, ◌&&◌, List, [], ◌∷◌, ◌++◌, codes, decimal, length, take, drop, filter, min, max, Option, Some, None, if◌then◌else◌, nat_lt, ◌==◌}
+use Rattle.std.specs.Prelude.{ℕ, Bool, false, not, ◌&&◌, List, [], ◌∷◌, ◌++◌, codes, decimal}
+use Rattle.std.specs.Prelude.{length, take, drop, filter, min, max, Option, Some, None}
+use Rattle.std.specs.Prelude.{if◌then◌else◌, nat_lt, ◌==◌}
 use Rattle.std.specs.Fmt.{◌++?◌, debug_str}
 use Rattle.std.specs.List.{find, take_while}
 use Rattle.std.specs.Option.{option_map, option_map_or, option_and_then, option_or}

@@ -1,13 +1,16 @@
 //! A map shown beside its generated code and sources, for people who test source maps.
-ghost use Rattle.std.specs.Prelude.{◌≡◌, ℕ, List, [], map, option_map, string_bytes, Some, None, IfOk, IfSome, OnOk, Ok};
+ghost use Rattle.std.specs.Prelude.{◌≡◌, ℕ, List, [], map, option_map, string_bytes, Some, None};
+ghost use Rattle.std.specs.Prelude.{IfOk, IfSome, OnOk, Ok};
 ghost use Rattle.std.specs.Fmt.{AppendsText};
 ghost use Rattle.std.specs.Option.{option_or};
-ghost use Rattle.oxc_sourcemap_tokens.specs.declared.error.Error.TheVariants.{OutOfMemory};
-ghost use Rattle.oxc_sourcemap_parts.specs.Record.{Text};
-ghost use Rattle.oxc_sourcemap_visualizer.specs.Link.{counted, map_link};
-ghost use Rattle.oxc_sourcemap_visualizer.specs.TextLines.{units_of, lines_of, text_lines};
-ghost use Rattle.oxc_sourcemap_visualizer.specs.VisualText.{is_within, dst_end, src_end, is_on_source_line, between, part_text, position_text, mark, heading, invalid_text, parts_text, mapping_text, shown, shown_source, visual_token_text, tokens_text, visual_text};
-ghost use Rattle.oxc_sourcemap_tokens.specs.Results.{Answers, OnlyMemory, Pushes, lent_item};
+ghost use Rattle.oxc_sourcemap_visualizer.specs.Words.{OutOfMemory, Text, counted, map_link};
+ghost use Rattle.oxc_sourcemap_visualizer.specs.Words.{units_of, lines_of, text_lines, is_within};
+ghost use Rattle.oxc_sourcemap_visualizer.specs.Words.{dst_end, src_end, is_on_source_line};
+ghost use Rattle.oxc_sourcemap_visualizer.specs.Words.{between, part_text, position_text, mark};
+ghost use Rattle.oxc_sourcemap_visualizer.specs.Words.{heading, invalid_text, parts_text};
+ghost use Rattle.oxc_sourcemap_visualizer.specs.Words.{mapping_text, shown, shown_source};
+ghost use Rattle.oxc_sourcemap_visualizer.specs.Words.{visual_token_text, tokens_text, visual_text};
+ghost use Rattle.oxc_sourcemap_visualizer.specs.Words.{Answers, OnlyMemory, Pushes, lent_item};
 
 use crate::text_lines::{Lines, utf16_units};
 use base64::engine::general_purpose::STANDARD;
@@ -83,7 +86,8 @@ impl<'a, 'sm> SourcemapVisualizer<'a, 'sm> {
     /// a row point to one source line and their columns do not grow.
     #[tactic(auto, unfolding(crate::specs::VisualText::visual_text))]
     pub fn get_text(&self, alloc: Global) -> Result<String>
-        ensures text { IfOk result (λ text. IfSome (visual_text self.now.code self.now.map) (λ shown. string_bytes text ≡ shown)) }
+        ensures text { IfOk result (λ text. IfSome (visual_text self.now.code self.now.map)
+            (λ shown. string_bytes text ≡ shown)) }
         ensures error { OnlyMemory result }
     {
         let contents = self.sourcemap.get_source_contents();
@@ -113,7 +117,8 @@ fn cut_contents<'u>(
     alloc: Global,
     contents: &'u [Option<Vec<u16>>],
 ) -> Memory<Vec<Option<Lines<'u>>>>
-    ensures { IfOk result (λ lines. lines.items ≡ map (option_map (λ units. lines_of units.items)) contents.now) }
+    ensures { IfOk result (λ lines. lines.items
+        ≡ map (option_map (λ units. lines_of units.items)) contents.now) }
 {
     let mut lines = Vec::with_capacity(alloc, contents.len())?;
     for content in contents {
@@ -127,7 +132,8 @@ fn cut_contents<'u>(
 
 /// The UTF-16 units of a content. None if it is not known.
 fn units_where_known(alloc: Global, content: Option<&str>) -> Memory<Option<Vec<u16>>>
-    ensures { IfOk result (λ units. option_map (λ units. units.items) units ≡ option_map units_of (lent_item content.entry)) }
+    ensures { IfOk result (λ units. option_map (λ units. units.items) units
+        ≡ option_map units_of (lent_item content.entry)) }
 {
     match content {
         Some(text) => Ok(Some(utf16_units(alloc, text)?)),
@@ -137,7 +143,8 @@ fn units_where_known(alloc: Global, content: Option<&str>) -> Memory<Option<Vec<
 
 /// The UTF-16 units of each content. None for a content that is not known.
 fn content_units(alloc: Global, contents: Contents<'_, '_>) -> Memory<Vec<Option<Vec<u16>>>>
-    ensures { IfOk result (λ units. map (option_map (λ units. units.items)) units.items ≡ map (option_map units_of) contents.entry) }
+    ensures { IfOk result (λ units. map (option_map (λ units. units.items)) units.items
+        ≡ map (option_map units_of) contents.entry) }
 {
     let mut units = Vec::with_capacity(alloc, contents.len())?;
     for content in contents {
@@ -196,7 +203,8 @@ fn between(line: &[u16], a: usize, b: usize) -> &[u16]
 /// Appends a part of a line in the debug form of a text, without carriage returns and with U+FFFD for each half of a
 /// surrogate pair.
 fn push_part(alloc: Global, units: &[u16], out: &mut String) -> Result<()>
-    ensures text { OnOk result (AppendsText (string_bytes out.old) (string_bytes out.new) (part_text units.now)) }
+    ensures text { OnOk result (AppendsText (string_bytes out.old) (string_bytes out.new)
+        (part_text units.now)) }
     ensures error { OnlyMemory result }
 {
     let mut part = String::from_utf16_lossy(alloc, units)?;
@@ -230,7 +238,8 @@ fn push_invalid(
     is_dst_valid: bool,
     out: &mut String,
 ) -> Result<()>
-    ensures text { Pushes result out.old out.new (invalid_text is_src_valid is_dst_valid token.now) }
+    ensures text { Pushes result out.old out.new
+        (invalid_text is_src_valid is_dst_valid token.now) }
     ensures error { OnlyMemory result }
 {
     push_position(token.get_src_line(), token.get_src_col(), out)?;
@@ -249,7 +258,8 @@ fn push_parts(
     dst: &[u16],
     out: &mut String,
 ) -> Result<()>
-    ensures text { OnOk result (AppendsText (string_bytes out.old) (string_bytes out.new) (parts_text token.now src.now dst.now)) }
+    ensures text { OnOk result (AppendsText (string_bytes out.old) (string_bytes out.new)
+        (parts_text token.now src.now dst.now)) }
     ensures error { OnlyMemory result }
 {
     push_position(token.get_src_line(), token.get_src_col(), out)?;
@@ -273,7 +283,8 @@ fn push_mapping(
     after: &[Token],
     out: &mut String,
 ) -> Result<()>
-    ensures text { OnOk result (AppendsText (string_bytes out.old) (string_bytes out.new) (mapping_text src.now dst.now id token.now after.now)) }
+    ensures text { OnOk result (AppendsText (string_bytes out.old) (string_bytes out.new)
+        (mapping_text src.now dst.now id token.now after.now)) }
     ensures error { OnlyMemory result }
 {
     let (src_col, dst_col) = (token.get_src_col(), token.get_dst_col());
@@ -324,7 +335,8 @@ impl<'s, 'u, 'sm> Printer<'s, 'u, 'sm> {
         code: &'u [u16],
     ) -> Memory<Printer<'s, 'u, 'sm>>
         ensures sourcemap { IfOk result (λ printer. printer.sourcemap.now ≡ sourcemap.now) }
-        ensures sources { IfOk result (λ printer. printer.sources.items ≡ map (option_map (λ units. lines_of units.items)) contents.now) }
+        ensures sources { IfOk result (λ printer. printer.sources.items
+            ≡ map (option_map (λ units. lines_of units.items)) contents.now) }
         ensures code { IfOk result (λ printer. printer.code ≡ lines_of code.now) }
     {
         Ok(Printer {
@@ -337,8 +349,11 @@ impl<'s, 'u, 'sm> Printer<'s, 'u, 'sm> {
 
     /// The source id, the source and the lines of the source's content of a token that is shown; None for any other.
     fn shown(&self, token: &Token) -> Option<(u32, &'s str, &Lines<'u>)>
-        requires { self.now.sources.items ≡ map (option_map text_lines) self.now.sourcemap.now.source_contents }
-        ensures shown { option_map {U = Text × List (List ℕ)} (λ s. (s.1.now, s.2.now)) result ≡ option_map {U = Text × List (List ℕ)} (λ s. (s.0, text_lines s.1)) (shown self.now.sourcemap.now token.now) }
+        requires { self.now.sources.items ≡ map
+            (option_map text_lines) self.now.sourcemap.now.source_contents }
+        ensures shown { option_map {U = Text × List (List ℕ)} (λ s. (s.1.now, s.2.now)) result
+            ≡ option_map {U = Text × List (List ℕ)} (λ s. (s.0, text_lines s.1))
+            (shown self.now.sourcemap.now token.now) }
         ensures id { IfSome result (λ s. token.now.source_id ≡ Some s.0) }
     {
         let id = token.get_source_id()?;
@@ -355,10 +370,14 @@ impl<'s, 'u, 'sm> Printer<'s, 'u, 'sm> {
         after: &[Token],
         out: &mut String,
     ) -> Result<Option<&'s str>>
-        requires { self.now.sources.items ≡ map (option_map text_lines) self.now.sourcemap.now.source_contents }
+        requires { self.now.sources.items ≡ map
+            (option_map text_lines) self.now.sourcemap.now.source_contents }
         ensures text { OnOk result (AppendsText (string_bytes out.old) (string_bytes out.new)
-            (visual_token_text self.now.code (lent_item last.entry) token.now after.now token.now.source_id (shown self.now.sourcemap.now token.now))) }
-        ensures last { IfOk result (λ source. lent_item source ≡ option_or (shown_source self.now.sourcemap.now token.now) (lent_item last.entry)) }
+            (visual_token_text self.now.code
+            (lent_item last.entry) token.now after.now token.now.source_id
+            (shown self.now.sourcemap.now token.now))) }
+        ensures last { IfOk result (λ source. lent_item source
+            ≡ option_or (shown_source self.now.sourcemap.now token.now) (lent_item last.entry)) }
         ensures error { OnlyMemory result }
     {
         let Some((id, source, lines)) = self.shown(token) else {
@@ -371,8 +390,10 @@ impl<'s, 'u, 'sm> Printer<'s, 'u, 'sm> {
 
     /// Appends the text of each token of the map.
     fn push_tokens(&self, tokens: &[Token], out: &mut String) -> Result<()>
-        requires { self.now.sources.items ≡ map (option_map text_lines) self.now.sourcemap.now.source_contents }
-        ensures text { OnOk result (AppendsText (string_bytes out.old) (string_bytes out.new) (tokens_text self.now.code self.now.sourcemap.now [] tokens.now)) }
+        requires { self.now.sources.items ≡ map
+            (option_map text_lines) self.now.sourcemap.now.source_contents }
+        ensures text { OnOk result (AppendsText (string_bytes out.old) (string_bytes out.new)
+            (tokens_text self.now.code self.now.sourcemap.now [] tokens.now)) }
         ensures error { OnlyMemory result }
     {
         let mut last = None;

@@ -1,6 +1,7 @@
 //! The lines of a text, in UTF-16 units.
-ghost use Rattle.std.specs.Prelude.{◌≡◌, ◌+◌, ◌<◌, ◌≤◌, ◌∷◌, [], length, take, drop, slice_index, IfSome, IsNone, IfOk};
-ghost use Rattle.oxc_sourcemap_visualizer.specs.TextLines.{units_of, ends_line, lines_of, line_at};
+ghost use Rattle.std.specs.Prelude.{◌≡◌, ◌+◌, ◌<◌, ◌≤◌, ◌∷◌, [], length, take, drop, slice_index};
+ghost use Rattle.std.specs.Prelude.{IfSome, IsNone, IfOk};
+ghost use Rattle.oxc_sourcemap_visualizer.specs.Words.{units_of, ends_line, lines_of, line_at};
 
 use std::alloc::{AllocError, Global};
 use std::marker::Model;
@@ -72,7 +73,8 @@ fn is_line_end(units: &[u16], i: usize) -> bool
 
 /// The length of the first line, with its end. None if no line ends.
 fn first_line_len(units: &[u16]) -> Option<usize>
-    ensures cut { IfSome result (λ n. lines_of units.now ≡ take n units.now ∷ lines_of (drop n units.now)) }
+    ensures cut { IfSome result (λ n. lines_of units.now ≡ take n units.now
+        ∷ lines_of (drop n units.now)) }
     ensures within { IfSome result (λ n. (0 < n) × (n ≤ length units.now)) }
     ensures last { IsNone result → lines_of units.now ≡ units.now ∷ [] }
 {

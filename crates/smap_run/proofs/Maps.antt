@@ -1,5 +1,6 @@
 -- The errors and answers of the commands on maps, by the map that was read.
-use Rattle.std.proofs.Common.{◌≡◌, ◌≢◌, ℕ, List, Option, Some, None, Ok, Err, true, option_map, ap, ◌∙◌}
+use Rattle.std.proofs.Common.{◌≡◌, ◌≢◌, ℕ, List, Option, Some, None, Ok, Err, true, option_map, ap}
+use Rattle.std.proofs.Common.{◌∙◌}
 use Rattle.oxc_sourcemap.specs.Error.{Error}
 use Rattle.oxc_sourcemap.specs.Error.TheVariants.{LineOrder, OutOfMemory}
 use Rattle.oxc_sourcemap.specs.Record.{MapRecord}

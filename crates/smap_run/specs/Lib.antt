@@ -3,3 +3,4 @@ pub mod Request
 pub mod Flags
 pub mod Traced
 pub mod Answer
+pub mod Words

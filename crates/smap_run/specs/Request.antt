@@ -1,7 +1,11 @@
 -- A command, as contracts see it.
 use Rattle.std.specs.Prelude.{ℕ, List, map, string_bytes}
 use Rattle.smap_run.specs.declared.arguments.Command.{Command}
-use Rattle.smap_run.specs.declared.arguments.Command.TheVariants.{Mappings as MappingsCommand, Normalise as NormaliseCommand, Plan as PlanCommand, Trace as TraceCommand, Url as UrlCommand}
+use Rattle.smap_run.specs.declared.arguments.Command.TheVariants.{Mappings as MappingsCommand}
+use Rattle.smap_run.specs.declared.arguments.Command.TheVariants.{Normalise as NormaliseCommand}
+use Rattle.smap_run.specs.declared.arguments.Command.TheVariants.{Plan as PlanCommand}
+use Rattle.smap_run.specs.declared.arguments.Command.TheVariants.{Trace as TraceCommand}
+use Rattle.smap_run.specs.declared.arguments.Command.TheVariants.{Url as UrlCommand}
 
 pub data Request : Type 0 where
   Mappings : (names sources : ℕ) → Request

@@ -1,7 +1,8 @@
 //! The arguments after the program's name.
-ghost use Rattle.std.specs.Prelude.{◌≡◌, [], map, string_bytes, option_map, IfOk, IfErr, Option, Some, None};
-ghost use Rattle.smap_run.specs.Request.{request_of};
-ghost use Rattle.smap_run.specs.Arguments.{two_numbers, without_arguments, parsed_command, command_of};
+ghost use Rattle.std.specs.Prelude.{◌≡◌, [], map, string_bytes, option_map, IfOk, IfErr, Option};
+ghost use Rattle.std.specs.Prelude.{Some, None};
+ghost use Rattle.smap_run.specs.Words.{request_of, two_numbers, without_arguments, parsed_command};
+ghost use Rattle.smap_run.specs.Words.{command_of};
 
 use oxc_sourcemap_plan::{RunError, read_number};
 
@@ -32,7 +33,8 @@ fn read_numbers(arguments: &[String]) -> Option<(u32, u32)>
 
 /// A command, if no arguments follow its name.
 fn without_arguments<'w>(command: Command<'w>, arguments: &[String]) -> Option<Command<'w>>
-    ensures { option_map request_of result ≡ without_arguments (request_of command.entry) (map string_bytes arguments.now) }
+    ensures { option_map request_of result ≡ without_arguments (request_of command.entry)
+        (map string_bytes arguments.now) }
 {
     match arguments {
         [] => Some(command),
@@ -42,7 +44,8 @@ fn without_arguments<'w>(command: Command<'w>, arguments: &[String]) -> Option<C
 
 /// The command of this name with these arguments.
 fn read_command<'w>(name: &str, arguments: &'w [String]) -> Option<Command<'w>>
-    ensures { option_map request_of result ≡ parsed_command name.now (map string_bytes arguments.now) }
+    ensures { option_map request_of result ≡ parsed_command name.now
+        (map string_bytes arguments.now) }
 {
     match name {
         "mappings" => {
@@ -64,8 +67,10 @@ fn read_command<'w>(name: &str, arguments: &'w [String]) -> Option<Command<'w>>
 ///
 /// Fails with `Arguments` for all other arguments. It takes no memory.
 pub fn read_words<'w>(arguments: &'w [String]) -> Result<Command<'w>, RunError>
-    ensures command { IfOk result (λ command. command_of (map string_bytes arguments.now) ≡ Some (request_of command)) }
-    ensures error { IfErr result (λ e. (e ≡ RunError.Arguments) × (command_of (map string_bytes arguments.now) ≡ None)) }
+    ensures command { IfOk result (λ command. command_of (map string_bytes arguments.now)
+        ≡ Some (request_of command)) }
+    ensures error { IfErr result (λ e. (e ≡ RunError.Arguments)
+        × (command_of (map string_bytes arguments.now) ≡ None)) }
 {
     let Some((name, arguments)) = arguments.split_first() else {
         return Err(RunError::Arguments);

@@ -2,7 +2,7 @@
 ghost use Rattle.std.specs.Prelude.{◌≡◌, true, false, length};
 ghost use Rattle.std.specs.Io.{ReadsAtMost, WritesAtMost};
 ghost use Rattle.std.specs.Io.KnownBytes.{ReadConsumes, WriteAppends, Keeps};
-ghost use Rattle.smap_run.specs.Flags.{read_flag, write_flag};
+ghost use Rattle.smap_run.specs.Words.{read_flag, write_flag};
 
 use std::io;
 use std::io::{Read, Write};
@@ -51,7 +51,8 @@ impl<T: Read> Read for Port<T> {
 
     fn read(&mut self, buf: &mut [u8]) -> io::Result<usize>
         ensures bound { ReadsAtMost result buf.new }
-        ensures bytes { ReadConsumes (T.remaining self.old.inner) (T.remaining self.new.inner) result buf.new }
+        ensures bytes { ReadConsumes (T.remaining self.old.inner)
+            (T.remaining self.new.inner) result buf.new }
         ensures flag { self.new.failed ≡ read_flag self.old.failed result }
     {
         let result = self.inner.read(buf);
@@ -68,7 +69,8 @@ impl<T: Write> Write for Port<T> {
 
     fn write(&mut self, buf: &[u8]) -> io::Result<usize>
         ensures bound { WritesAtMost result buf.now }
-        ensures bytes { WriteAppends (T.contents self.old.inner) (T.contents self.new.inner) result buf.now }
+        ensures bytes { WriteAppends (T.contents self.old.inner)
+            (T.contents self.new.inner) result buf.now }
         ensures flag { self.new.failed ≡ write_flag self.old.failed result (length buf.now) }
     {
         let result = self.inner.write(buf);

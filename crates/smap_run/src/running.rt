@@ -1,19 +1,14 @@
 //! Running a command over a reader and a writer.
-ghost use Rattle.std.specs.Prelude.{◌≡◌, ◌≢◌, ◌≤◌, ◌<◌, ◌++◌, ◌∷◌, [], ℕ, take, true, false, ◌↔◌, IfOk, OnOk, OnErr, IfErr, IfSome, List, None, Ok, Err, IsErrOf, ◌⊎◌, IsUtf8, string_bytes, map};
+ghost use Rattle.std.specs.Prelude.{◌≡◌, ◌≢◌, ◌≤◌, ◌<◌, ◌++◌, ◌∷◌, [], ℕ, take, true, false, ◌↔◌};
+ghost use Rattle.std.specs.Prelude.{IfOk, OnOk, OnErr, IfErr, IfSome, List, None, Ok, Err, IsErrOf};
+ghost use Rattle.std.specs.Prelude.{◌⊎◌, IsUtf8, string_bytes, map};
 ghost use Rattle.std.specs.Vec.{vec_len};
 ghost use Rattle.std.specs.Io.KnownBytes.{Appends, Keeps};
-ghost use Rattle.oxc_sourcemap.specs.PlanError.TheVariants.{Map};
-ghost use Rattle.oxc_sourcemap_plan.specs.declared.run_error.RunError.TheVariants.{Plan};
-ghost use Rattle.oxc_sourcemap_plan.specs.Refusals.{out_of_memory, is_of_port};
-ghost use Rattle.smap_run.specs.Answer.{without_line_feed, mappings_answer, normalised, normalised_url, IsPlanAnswer, IsPlanRefusal, IsAnswer, Refuses, AppendsBeginning};
-ghost use Rattle.oxc_sourcemap.specs.Error.TheVariants.{OutOfMemory};
-ghost use Rattle.oxc_sourcemap.specs.Reading.{reading};
-ghost use Rattle.oxc_sourcemap.specs.Outcome.{outcome};
-ghost use Rattle.oxc_sourcemap.specs.Evaluated.{IsFailure};
-ghost use Rattle.oxc_sourcemap_plan.specs.PlanInputs.{inputs_of};
-ghost use Rattle.oxc_sourcemap_plan.specs.PlanArguments.{parsed_plan};
-ghost use Rattle.smap_run.specs.Request.{request_of};
-ghost use Rattle.oxc_sourcemap_tokens.specs.Results.{Answers};
+ghost use Rattle.smap_run.specs.Words.{Map, Plan, out_of_memory, is_of_port, without_line_feed};
+ghost use Rattle.smap_run.specs.Words.{mappings_answer, normalised, normalised_url, IsPlanAnswer};
+ghost use Rattle.smap_run.specs.Words.{IsPlanRefusal, IsAnswer, Refuses, AppendsBeginning};
+ghost use Rattle.smap_run.specs.Words.{OutOfMemory, reading, outcome, IsFailure, inputs_of};
+ghost use Rattle.smap_run.specs.Words.{parsed_plan, request_of, Answers};
 
 use crate::arguments::Command;
 use crate::port::Port;
@@ -44,8 +39,10 @@ fn make_room(input: &mut Vec<u8>, used: usize) -> Result<(), AllocError>
 /// Reads up to the end, by a loop over `read`, into the vector that is returned, with no buffer between. Each byte of it is
 /// cleared once.
 fn read_all<R: Read>(alloc: Global, reader: &mut Port<R>) -> Result<Vec<u8>, RunError>
-    ensures bytes { IfOk result (λ input. IfSome (R.remaining reader.old.inner) (λ all. input.items ≡ all)) }
-    ensures flag { reader.old.failed ≡ false → IsErrOf result RunError.Read ↔ (reader.new.failed ≡ true) }
+    ensures bytes { IfOk result (λ input. IfSome (R.remaining reader.old.inner)
+        (λ all. input.items ≡ all)) }
+    ensures flag { reader.old.failed ≡ false → IsErrOf result RunError.Read ↔
+        (reader.new.failed ≡ true) }
     ensures causes { IfErr result (λ e. (e ≡ RunError.Read) ⊎ (e ≡ out_of_memory)) }
 {
     let mut input = Vec::new(alloc);
@@ -65,10 +62,13 @@ fn read_all<R: Read>(alloc: Global, reader: &mut Port<R>) -> Result<Vec<u8>, Run
 
 /// Writes all of the bytes, by a loop over `write`.
 fn write_all<W: Write>(bytes: &[u8], writer: &mut Port<W>) -> Result<(), RunError>
-    ensures ok { OnOk result (Appends (W.contents writer.old.inner) (W.contents writer.new.inner) bytes.now) }
-    ensures flag { writer.old.failed ≡ false → IsErrOf result RunError.Write ↔ (writer.new.failed ≡ true) }
+    ensures ok { OnOk result (Appends (W.contents writer.old.inner)
+        (W.contents writer.new.inner) bytes.now) }
+    ensures flag { writer.old.failed ≡ false → IsErrOf result RunError.Write ↔
+        (writer.new.failed ≡ true) }
     ensures causes { IfErr result (λ e. e ≡ RunError.Write) }
-    ensures begun { OnErr result (AppendsBeginning (W.contents writer.old.inner) (W.contents writer.new.inner) bytes.now) }
+    ensures begun { OnErr result (AppendsBeginning (W.contents writer.old.inner)
+        (W.contents writer.new.inner) bytes.now) }
 {
     let mut rest = bytes;
     while !rest.is_empty() {
@@ -90,8 +90,10 @@ fn without_last_line_feed(text: &str) -> &str
 
 /// The canonical text of a mappings text.
 fn rewrite_mappings(alloc: Global, text: &str, names: u32, sources: u32) -> Result<String, RunError>
-    ensures text { IfOk result (λ out. mappings_answer (reading text.now names sources) ≡ Ok (string_bytes out)) }
-    ensures error { IfErr result (λ e. (e ≢ out_of_memory) → mappings_answer (reading text.now names sources) ≡ Err e) }
+    ensures text { IfOk result (λ out. mappings_answer (reading text.now names sources)
+        ≡ Ok (string_bytes out)) }
+    ensures error { IfErr result (λ e. (e ≢ out_of_memory)
+        → mappings_answer (reading text.now names sources) ≡ Err e) }
     ensures causes { IfErr result (λ e. is_of_port e ≡ false) }
 {
     let tokens = decode_mappings(alloc, text, names as usize, sources as usize)?;
@@ -128,8 +130,10 @@ fn evaluated_text(alloc: Global, plan: &Plan<'_>) -> Result<String, PlanError>
 
 /// The JSON text of the map of the plan of these arguments, over the maps of an input.
 fn plan_text(alloc: Global, input: &str, arguments: &[String]) -> Result<String, RunError>
-    ensures text { IfOk result (λ out. IsPlanAnswer (parsed_plan (inputs_of input.now) (map string_bytes arguments.now)) (string_bytes out)) }
-    ensures error { IfErr result (λ e. (e ≢ out_of_memory) → IsPlanRefusal (parsed_plan (inputs_of input.now) (map string_bytes arguments.now)) e) }
+    ensures text { IfOk result (λ out. IsPlanAnswer
+        (parsed_plan (inputs_of input.now) (map string_bytes arguments.now)) (string_bytes out)) }
+    ensures error { IfErr result (λ e. (e ≢ out_of_memory)
+        → IsPlanRefusal (parsed_plan (inputs_of input.now) (map string_bytes arguments.now)) e) }
     ensures causes { IfErr result (λ e. is_of_port e ≡ false) }
 {
     let inputs = inputs_of(alloc, input)?;
@@ -139,8 +143,10 @@ fn plan_text(alloc: Global, input: &str, arguments: &[String]) -> Result<String,
 
 /// The answer of a command to an input, without its line feed.
 fn answer(alloc: Global, command: &Command<'_>, input: Vec<u8>) -> Result<String, RunError>
-    ensures text { IfOk result (λ out. IsUtf8 input.items × IsAnswer (request_of command.now) input.items (string_bytes out)) }
-    ensures error { IfErr result (λ e. (e ≢ out_of_memory) → Refuses (request_of command.now) input.items e) }
+    ensures text { IfOk result (λ out. IsUtf8 input.items
+        × IsAnswer (request_of command.now) input.items (string_bytes out)) }
+    ensures error { IfErr result (λ e. (e ≢ out_of_memory)
+        → Refuses (request_of command.now) input.items e) }
     ensures causes { IfErr result (λ e. is_of_port e ≡ false) }
 {
     let Ok(text) = String::from_utf8(input) else {
@@ -190,14 +196,20 @@ pub fn run<R: Read, W: Write>(
     ensures written { OnOk result (IfSome (R.remaining reader.old.inner) (λ input.
         (out : List ℕ) × IsUtf8 input × IsAnswer (request_of command.now) input out
         × Appends (W.contents writer.old.inner) (W.contents writer.new.inner) (out ++ 10 ∷ []))) }
-    ensures error { IfErr result (λ e. (e ≢ out_of_memory) → (e ≢ RunError.Read) → (e ≢ RunError.Write)
-        → IfSome (R.remaining reader.old.inner) (λ input. Refuses (request_of command.now) input e)) }
-    ensures nothing_written { IfErr result (λ e. (e ≢ RunError.Write) → Keeps (W.contents writer.old.inner) (W.contents writer.new.inner)) }
+    ensures error { IfErr result (λ e. (e ≢ out_of_memory) → (e ≢ RunError.Read)
+        → (e ≢ RunError.Write)
+        → IfSome (R.remaining reader.old.inner)
+        (λ input. Refuses (request_of command.now) input e)) }
+    ensures nothing_written { IfErr result (λ e. (e ≢ RunError.Write)
+        → Keeps (W.contents writer.old.inner) (W.contents writer.new.inner)) }
     ensures begun { IsErrOf result RunError.Write → IfSome (R.remaining reader.old.inner) (λ input.
         (out : List ℕ) × IsUtf8 input × IsAnswer (request_of command.now) input out
-        × AppendsBeginning (W.contents writer.old.inner) (W.contents writer.new.inner) (out ++ 10 ∷ [])) }
-    ensures read { reader.old.failed ≡ false → IsErrOf result RunError.Read ↔ (reader.new.failed ≡ true) }
-    ensures write { writer.old.failed ≡ false → IsErrOf result RunError.Write ↔ (writer.new.failed ≡ true) }
+        × AppendsBeginning (W.contents writer.old.inner) (W.contents writer.new.inner)
+        (out ++ 10 ∷ [])) }
+    ensures read { reader.old.failed ≡ false → IsErrOf result RunError.Read ↔
+        (reader.new.failed ≡ true) }
+    ensures write { writer.old.failed ≡ false → IsErrOf result RunError.Write ↔
+        (writer.new.failed ≡ true) }
 {
     let input = read_all(alloc, reader)?;
     let mut out = answer(alloc, command, input)?;

@@ -1,14 +1,10 @@
 //! The trace of a map at a generated position, as a line of text.
-ghost use Rattle.std.specs.Prelude.{◌≡◌, ◌≢◌, true, option_map, string_bytes, Some, IfOk, IfErr, Ok, Err};
-ghost use Rattle.oxc_sourcemap.specs.Error.TheVariants.{OutOfMemory};
-ghost use Rattle.oxc_sourcemap.specs.LineOrder.{IsInLineOrder};
-ghost use Rattle.oxc_sourcemap.specs.Sorted.{are_tokens_sorted};
-ghost use Rattle.oxc_sourcemap.specs.DecodedMap.{decoded_map_of};
-ghost use Rattle.oxc_sourcemap.specs.Trace.{trace};
-ghost use Rattle.oxc_sourcemap.specs.View.{view_of, seen_in, view_original};
-ghost use Rattle.oxc_sourcemap.specs.PlanError.TheVariants.{Map};
-ghost use Rattle.smap_run.specs.Traced.{number_part, name_part, original_text, trace_text, traced_of, traced};
-ghost use Rattle.oxc_sourcemap_tokens.specs.Results.{OnlyMemory, Pushes, lent_item};
+ghost use Rattle.std.specs.Prelude.{◌≡◌, ◌≢◌, true, option_map, string_bytes, Some, IfOk, IfErr};
+ghost use Rattle.std.specs.Prelude.{Ok, Err};
+ghost use Rattle.smap_run.specs.Words.{OutOfMemory, IsInLineOrder, are_tokens_sorted};
+ghost use Rattle.smap_run.specs.Words.{decoded_map_of, trace, view_of, seen_in, view_original, Map};
+ghost use Rattle.smap_run.specs.Words.{number_part, name_part, original_text, trace_text};
+ghost use Rattle.smap_run.specs.Words.{traced_of, traced, OnlyMemory, Pushes, lent_item};
 
 use oxc_sourcemap::{Error, PlanError, SourceMap, SourceViewToken, Token, push_json_string};
 use oxc_sourcemap_lookup::LineIndex;
@@ -44,7 +40,8 @@ fn original_text(
     col: u32,
     name: Option<&str>,
 ) -> Result<String, Error>
-    ensures text { IfOk result (λ out. string_bytes out ≡ original_text source.now line col (lent_item name.entry)) }
+    ensures text { IfOk result (λ out. string_bytes out
+        ≡ original_text source.now line col (lent_item name.entry)) }
     ensures error { OnlyMemory result }
 {
     let mut out = String::new(alloc);
@@ -57,7 +54,8 @@ fn original_text(
 
 /// The text of a token that was found.
 fn token_text(alloc: Global, view: &SourceViewToken<'_, '_>) -> Result<String, Error>
-    ensures text { IfOk result (λ out. string_bytes out ≡ trace_text (Some (view_original (view_of view.now)))) }
+    ensures text { IfOk result (λ out. string_bytes out
+        ≡ trace_text (Some (view_original (view_of view.now)))) }
     ensures error { OnlyMemory result }
 {
     let (source, line, col, name) = view.to_tuple();
@@ -72,7 +70,8 @@ fn token_text(alloc: Global, view: &SourceViewToken<'_, '_>) -> Result<String, E
 fn token_at(alloc: Global, map: &SourceMap<'_>, line: u32, col: u32) -> Result<Option<Token>, Error>
     requires sorted { are_tokens_sorted map.now.tokens ≡ true }
     requires in_line_order { IsInLineOrder map.now.tokens }
-    ensures found { IfOk result (λ token. option_map view_original (option_map (seen_in map.now) token) ≡ trace (decoded_map_of map.now) line col) }
+    ensures found { IfOk result (λ token. option_map view_original
+        (option_map (seen_in map.now) token) ≡ trace (decoded_map_of map.now) line col) }
     ensures error { IfErr result (λ e. (e ≢ OutOfMemory) → ⊥) }
 {
     let tokens = map.get_tokens().as_slice();
@@ -84,7 +83,8 @@ fn token_at(alloc: Global, map: &SourceMap<'_>, line: u32, col: u32) -> Result<O
 fn trace_in(alloc: Global, map: &SourceMap<'_>, line: u32, col: u32) -> Result<String, PlanError>
     requires in_line_order { IsInLineOrder map.now.tokens }
     ensures text { IfOk result (λ out. traced_of (Ok map.now) line col ≡ Ok (string_bytes out)) }
-    ensures error { IfErr result (λ e. (e ≢ Map OutOfMemory) → traced_of (Ok map.now) line col ≡ Err e) }
+    ensures error { IfErr result (λ e. (e ≢ Map OutOfMemory)
+        → traced_of (Ok map.now) line col ≡ Err e) }
 {
     if !map.is_sorted() {
         return Err(PlanError::Unsorted);

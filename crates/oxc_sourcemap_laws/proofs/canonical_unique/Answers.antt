@@ -1,6 +1,7 @@
 use Rattle.oxc_sourcemap_mappings.proofs.Pieces.{pieces-is}
 use Rattle.oxc_sourcemap_tokens.proofs.InOrder.{back_from-all}
-use Rattle.oxc_sourcemap_mappings.proofs.RoundTrip.{are-within, round_trip, as_written-of_carried, as_written-from_canonical, canonical-from_bare}
+use Rattle.oxc_sourcemap_mappings.proofs.RoundTrip.{are-within, round_trip, as_written-of_carried}
+use Rattle.oxc_sourcemap_mappings.proofs.RoundTrip.{as_written-from_canonical, canonical-from_bare}
 use Rattle.oxc_sourcemap_mappings.proofs.Again.{reads_of, read_again, bounds_within}
 use Rattle.std.proofs.Common.{◌∙◌, sym}
 use Rattle.std.proofs.lemmas.List.Elements.{recursion_from_All}

@@ -1,6 +1,10 @@
-use Rattle.oxc_sourcemap_laws.proofs.Compositions.{composed_up_to_repeats, decoded_maps_associative, decoded_map_composed, range_composed, count_composed, composition_stands, records_associative}
+use Rattle.oxc_sourcemap_laws.proofs.Compositions.{composed_up_to_repeats, decoded_maps_associative}
+use Rattle.oxc_sourcemap_laws.proofs.Compositions.{decoded_map_composed, range_composed}
+use Rattle.oxc_sourcemap_laws.proofs.Compositions.{count_composed, composition_stands}
+use Rattle.oxc_sourcemap_laws.proofs.Compositions.{records_associative}
 use Rattle.oxc_sourcemap_laws.proofs.ComposedNames.{names-most, names-tested}
-use Rattle.oxc_sourcemap_laws.proofs.Groupings.{groupings_agree, refused_together, both_answer, left_tells, right_tells, room}
+use Rattle.oxc_sourcemap_laws.proofs.Groupings.{groupings_agree, refused_together, both_answer}
+use Rattle.oxc_sourcemap_laws.proofs.Groupings.{left_tells, right_tells, room}
 use Rattle.oxc_sourcemap_laws.proofs.ComposedBounds.{bounds_composed}
 use Rattle.oxc_sourcemap_laws.proofs.composition_associative.Goals as goal
 

@@ -1,9 +1,13 @@
 use Rattle.oxc_sourcemap_laws.specs.Repeats.{is_same_mapping, decoded_map_without_repeats}
 use Rattle.oxc_sourcemap_laws.proofs.DroppingRepeats.{up_to_repeats_by}
 use Rattle.oxc_sourcemap_laws.proofs.Same.{decides_entry}
-use Rattle.oxc_sourcemap_laws.proofs.UpToRepeats.{matches, without_repeats_is_up_to_repeats, trace_up_to_repeats, clamped_trace_up_to_repeats, sorted_decoded_map_up_to_repeats, joined_up_to_repeats}
+use Rattle.oxc_sourcemap_laws.proofs.UpToRepeats.{matches, without_repeats_is_up_to_repeats}
+use Rattle.oxc_sourcemap_laws.proofs.UpToRepeats.{trace_up_to_repeats, clamped_trace_up_to_repeats}
+use Rattle.oxc_sourcemap_laws.proofs.UpToRepeats.{sorted_decoded_map_up_to_repeats}
+use Rattle.oxc_sourcemap_laws.proofs.UpToRepeats.{joined_up_to_repeats}
 use Rattle.oxc_sourcemap_laws.proofs.JoinDecodedMaps.{decoded_map_joined}
-use Rattle.oxc_sourcemap_laws.proofs.JoinStands.{range_joined, entries_joined, count_joined, names_joined, join_sorted, join_stands}
+use Rattle.oxc_sourcemap_laws.proofs.JoinStands.{range_joined, entries_joined, count_joined}
+use Rattle.oxc_sourcemap_laws.proofs.JoinStands.{names_joined, join_sorted, join_stands}
 use Rattle.oxc_sourcemap_laws.proofs.Sections.{value_of_sections, text_of_sections}
 use Rattle.oxc_sourcemap_laws.proofs.dropping_harmless.Goals as goal
 

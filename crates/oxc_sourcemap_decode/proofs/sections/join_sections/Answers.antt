@@ -3,7 +3,8 @@ use Rattle.std.specs.Vec.Iter.{into_iter_items}
 use Rattle.serde_json.specs.View.{view, items_view}
 use Rattle.oxc_sourcemap_parts.specs.Views.{record_of_parts}
 use Rattle.oxc_sourcemap_tokens.proofs.Carried.{failed-answer}
-use Rattle.oxc_sourcemap_decode.proofs.Steps.{SoFar, place-refused, map-refused, add-refused, more-so-far, all-joined, none-left}
+use Rattle.oxc_sourcemap_decode.proofs.Steps.{SoFar, place-refused, map-refused, add-refused}
+use Rattle.oxc_sourcemap_decode.proofs.Steps.{more-so-far, all-joined, none-left}
 use Rattle.oxc_sourcemap_decode.proofs.sections.join_sections.Goals as goal
 
 pub returns-in_err-place : goal.returns-in_err-place

@@ -1,4 +1,5 @@
-use Rattle.std.proofs.Common.{◌≡◌, ◌++◌, ◌-◌, ◌∙◌, ap, map, take, replicate, append_assoc, None, length, arith}
+use Rattle.std.proofs.Common.{◌≡◌, ◌++◌, ◌-◌, ◌∙◌, ap, map, take, replicate, append_assoc, None}
+use Rattle.std.proofs.Common.{length, arith}
 use Rattle.std.specs.Option.{option_map}
 use Rattle.std.specs.Cow.{cow_str_bytes}
 use Rattle.std.proofs.lemmas.List.{map-append}

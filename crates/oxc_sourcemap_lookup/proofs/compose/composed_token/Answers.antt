@@ -4,9 +4,11 @@ use Rattle.std.specs.Cow.{cow_str_bytes}
 use Rattle.oxc_sourcemap_parts.specs.DecodedMap.{name_of}
 use Rattle.oxc_sourcemap_lookup.specs.InheritedNames.{inherited_index}
 use Rattle.oxc_sourcemap_lookup.specs.Inherited.{names_with}
-use Rattle.oxc_sourcemap_lookup.proofs.InheritedNames.{small-kept, id-kept, token-to, token-to_nameless}
+use Rattle.oxc_sourcemap_lookup.proofs.InheritedNames.{small-kept, id-kept, token-to}
+use Rattle.oxc_sourcemap_lookup.proofs.InheritedNames.{token-to_nameless}
 use Rattle.oxc_sourcemap_lookup.proofs.compose.composed_token.Goals as goal
-use Rattle.oxc_sourcemap_lookup.proofs.compose.composed_token.Goals.{in-Some-get_name_id, in-None+in_ok-name_id-in-None}
+use Rattle.oxc_sourcemap_lookup.proofs.compose.composed_token.Goals.{in-Some-get_name_id}
+use Rattle.oxc_sourcemap_lookup.proofs.compose.composed_token.Goals.{in-None+in_ok-name_id-in-None}
 
 pub returns-clause-token : goal.returns-clause-token
 returns-clause-token c =

@@ -1,9 +1,11 @@
-use Rattle.std.proofs.Common.{◌≡◌, List, arith, map, take, drop, ◌+◌, ◌++◌, ◌∷◌, [], ap, subst, sym, ◌∙◌}
+use Rattle.std.proofs.Common.{◌≡◌, List, arith, map, take, drop, ◌+◌, ◌++◌, ◌∷◌, [], ap, subst, sym}
+use Rattle.std.proofs.Common.{◌∙◌}
 use Rattle.std.proofs.lemmas.Grind.{common_steps}
 use Rattle.std.proofs.lemmas.Result.{err_from_is_err_and}
 use Rattle.std.specs.Cow.{cow_str_bytes}
 use Rattle.oxc_sourcemap_parts.specs.Record.{Text}
-use Rattle.oxc_sourcemap_lookup.specs.Composed.{IsTarget, AreTargets, line_of, target_of, composed_token, are_ids}
+use Rattle.oxc_sourcemap_lookup.specs.Composed.{IsTarget, AreTargets, line_of, target_of}
+use Rattle.oxc_sourcemap_lookup.specs.Composed.{composed_token, are_ids}
 use Rattle.oxc_sourcemap_lookup.specs.Inherited.{names_with}
 use Rattle.oxc_sourcemap_lookup.proofs.Targets.{Made, made-none, made-more, past-all}
 use Rattle.oxc_sourcemap_lookup.proofs.compose.composed_tokens.Goals as goal

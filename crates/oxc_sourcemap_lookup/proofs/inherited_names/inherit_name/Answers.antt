@@ -1,4 +1,5 @@
-use Rattle.std.proofs.Common.{◌≡◌, ◌∙◌, ◌++◌, ◌≤◌, ◌+◌, sym, ap, arith, map, cond, option_map, Some, None, length}
+use Rattle.std.proofs.Common.{◌≡◌, ◌∙◌, ◌++◌, ◌≤◌, ◌+◌, sym, ap, arith, map, cond, option_map, Some}
+use Rattle.std.proofs.Common.{None, length}
 use Rattle.std.proofs.lemmas.Grind.{common_steps}
 use Rattle.std.proofs.lemmas.Result.{err_from_is_err_and}
 use Rattle.std.proofs.lemmas.Map.Text.{hash_map_updates_str}
@@ -7,7 +8,8 @@ use Rattle.std.specs.Str.{bytes_eq}
 use Rattle.oxc_sourcemap_parts.specs.Texts.{index_of}
 use Rattle.oxc_sourcemap_parts.proofs.Places.{index-with, index-last}
 use Rattle.oxc_sourcemap_lookup.specs.Inherited.{names_with}
-use Rattle.oxc_sourcemap_lookup.proofs.KeptNames.{names_push, length-names, past_id, put_place, not_empty}
+use Rattle.oxc_sourcemap_lookup.proofs.KeptNames.{names_push, length-names, past_id, put_place}
+use Rattle.oxc_sourcemap_lookup.proofs.KeptNames.{not_empty}
 use Rattle.oxc_sourcemap_lookup.proofs.inherited_names.inherit_name.Goals as goal
 
 pub returns-in-Some-clause-id : goal.returns-in-Some-clause-id

@@ -1,10 +1,12 @@
-use Rattle.std.proofs.Common.{◌≡◌, ◌≤◌, ◌+◌, ◌-◌, ◌==◌, arith, length, drop, take, refl, sym, ap, subst, ◌∙◌, length-drop}
+use Rattle.std.proofs.Common.{◌≡◌, ◌≤◌, ◌+◌, ◌-◌, ◌==◌, arith, length, drop, take, refl, sym, ap}
+use Rattle.std.proofs.Common.{subst, ◌∙◌, length-drop}
 use Rattle.std.proofs.Math.Seq.{drop-cons}
 use Rattle.std.proofs.lemmas.List.{take_all}
 use Rattle.std.specs.List.{prefix_len}
 use Rattle.oxc_sourcemap_parts.specs.Sorted.{token_line}
 use Rattle.oxc_sourcemap_lookup.proofs.Tables.{IsFrom, in_order-from_0, from-in_order}
-use Rattle.oxc_sourcemap_lookup.proofs.LineSpans.{AreSpansTo, spans-none, spans-more, spans-all, none-from, counted-within, back-more}
+use Rattle.oxc_sourcemap_lookup.proofs.LineSpans.{AreSpansTo, spans-none, spans-more, spans-all}
+use Rattle.oxc_sourcemap_lookup.proofs.LineSpans.{none-from, counted-within, back-more}
 use Rattle.oxc_sourcemap_lookup.proofs.line_index.spans_of.Goals as goal
 
 pub loop-start-init : goal.loop-start-init

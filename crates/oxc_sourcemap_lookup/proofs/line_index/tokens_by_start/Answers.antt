@@ -1,5 +1,6 @@
 use Rattle.std.proofs.Common.{◌+◌, arith, sym}
-use Rattle.oxc_sourcemap_lookup.proofs.LineStarts.{starts_rise, starts_within, line_between, none_past}
+use Rattle.oxc_sourcemap_lookup.proofs.LineStarts.{starts_rise, starts_within, line_between}
+use Rattle.oxc_sourcemap_lookup.proofs.LineStarts.{none_past}
 use Rattle.oxc_sourcemap_lookup.proofs.line_index.tokens_by_start.Goals as goal
 
 pub slice_bounds-result-count : goal.slice_bounds-result-count

@@ -1,7 +1,9 @@
-use Rattle.std.proofs.Common.{◌≡◌, nat_lt, get_or, if◌then◌else◌, ◌<◌, ◌+◌, ◌-◌, ◌/◌, ◌^◌, length, arith, ap, rules}
+use Rattle.std.proofs.Common.{◌≡◌, nat_lt, get_or, if◌then◌else◌, ◌<◌, ◌+◌, ◌-◌, ◌/◌, ◌^◌, length}
+use Rattle.std.proofs.Common.{arith, ap, rules}
 use Rattle.std.proofs.lemmas.Grind.{common_steps}
 use Rattle.oxc_sourcemap_parts.specs.Sorted.{token_column}
-use Rattle.oxc_sourcemap_lookup.proofs.Halving.{digits-half, digits-below, before-all, chosen, halved}
+use Rattle.oxc_sourcemap_lookup.proofs.Halving.{digits-half, digits-below, before-all, chosen}
+use Rattle.oxc_sourcemap_lookup.proofs.Halving.{halved}
 use Rattle.oxc_sourcemap_lookup.proofs.lookup.count_before.Goals as goal
 
 pub loop-size-init : goal.loop-size-init

@@ -5,7 +5,9 @@ use Rattle.std.specs.List.{range_with_len}
 use Rattle.oxc_sourcemap_parts.specs.Sorted.{token_line}
 use Rattle.oxc_sourcemap_lookup.specs.Lookup.{on_line, lines_through}
 use Rattle.oxc_sourcemap_tokens.specs.Token.{last}
-use Rattle.oxc_sourcemap_lookup.proofs.Tables.{IsFrom, in_order-from_0, from-in_order, not_begins_before, front, left, others, joined, rows-push}
+use Rattle.oxc_sourcemap_lookup.proofs.Tables.{IsFrom, in_order-from_0, from-in_order}
+use Rattle.oxc_sourcemap_lookup.proofs.Tables.{not_begins_before, front, left, others, joined}
+use Rattle.oxc_sourcemap_lookup.proofs.Tables.{rows-push}
 use Rattle.oxc_sourcemap_lookup.proofs.OwnTables.{none-left}
 use Rattle.oxc_sourcemap_lookup.proofs.lookup.cut_by_line.Goals as goal
 

@@ -1,8 +1,10 @@
-use Rattle.std.proofs.Common.{◌≡◌, if◌then◌else◌, nat_lt, ◌+◌, ◌-◌, ◌<◌, take, length, get_or, refl, ◌∙◌, sym, ap, arith}
+use Rattle.std.proofs.Common.{◌≡◌, if◌then◌else◌, nat_lt, ◌+◌, ◌-◌, ◌<◌, take, length, get_or, refl}
+use Rattle.std.proofs.Common.{◌∙◌, sym, ap, arith}
 use Rattle.std.proofs.lemmas.Grind.{common_steps}
 use Rattle.std.proofs.lemmas.Option.{slice_get_read}
 use Rattle.oxc_sourcemap_tokens.specs.Token.{last}
-use Rattle.oxc_sourcemap_lookup.proofs.Halving.{before, nearer-last, front-goes_on, fewer-digits, read-last}
+use Rattle.oxc_sourcemap_lookup.proofs.Halving.{before, nearer-last, front-goes_on, fewer-digits}
+use Rattle.oxc_sourcemap_lookup.proofs.Halving.{read-last}
 use Rattle.oxc_sourcemap_lookup.proofs.lookup.search.Goals as goal
 
 pub returns-clause-found : goal.returns-clause-found

@@ -1,8 +1,13 @@
-use Rattle.std.proofs.Common.{rules, arith, ◌≡◌, ◌+◌, ◌*◌, ◌%◌, ◌^◌, ◌∷◌, length, drop, set, pos, ◌∙◌, sym, ap, false, w64}
+use Rattle.std.proofs.Common.{rules, arith, ◌≡◌, ◌+◌, ◌*◌, ◌%◌, ◌^◌, ◌∷◌, length, drop, set, pos}
+use Rattle.std.proofs.Common.{◌∙◌, sym, ap, false, w64}
 use Rattle.std.proofs.lemmas.Int.{to_z-of_z}
 use Rattle.oxc_sourcemap_mappings.specs.Number.{signed}
 use Rattle.oxc_sourcemap_mappings.specs.Decoding.{front_digits, is_over}
-use Rattle.oxc_sourcemap_mappings.proofs.Runs.{faults_from, numbers_from, faults_from-all, faults-over, faults-end, faults-on, faults-none, numbers-end, numbers-on, drop-is_cons, not-over, finished-clean, finished-count, finished-values, keep-done, keep-zero, keep-small}
+use Rattle.oxc_sourcemap_mappings.proofs.Runs.{faults_from, numbers_from, faults_from-all}
+use Rattle.oxc_sourcemap_mappings.proofs.Runs.{faults-over, faults-end, faults-on, faults-none}
+use Rattle.oxc_sourcemap_mappings.proofs.Runs.{numbers-end, numbers-on, drop-is_cons, not-over}
+use Rattle.oxc_sourcemap_mappings.proofs.Runs.{finished-clean, finished-count, finished-values}
+use Rattle.oxc_sourcemap_mappings.proofs.Runs.{keep-done, keep-zero, keep-small}
 use Rattle.oxc_sourcemap_mappings.proofs.decode.any_segment.Goals as goal
 use Rattle.oxc_sourcemap_mappings.proofs.decode.any_segment.Goals.{then-digit-lt32, else-digit-lt32}
 

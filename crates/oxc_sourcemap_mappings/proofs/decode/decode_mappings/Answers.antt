@@ -5,7 +5,10 @@ use Rattle.std.proofs.lemmas.Bool.Decides.{nat_tests}
 use Rattle.oxc_sourcemap_mappings.specs.Faults.{counts_of}
 use Rattle.oxc_sourcemap_mappings.specs.Reading.{gathered}
 use Rattle.oxc_sourcemap_mappings.specs.Decoding.{place_of, ends_segment, segments_after}
-use Rattle.oxc_sourcemap_mappings.proofs.Left.{onto_all, onto_all-none, onto_all-token, onto_all-fault, left_outcomes, left-after, left-too_large, left-segment, front-byte, front-filled, reading-is}
+use Rattle.oxc_sourcemap_mappings.proofs.Left.{onto_all, onto_all-none, onto_all-token}
+use Rattle.oxc_sourcemap_mappings.proofs.Left.{onto_all-fault, left_outcomes, left-after}
+use Rattle.oxc_sourcemap_mappings.proofs.Left.{left-too_large, left-segment, front-byte}
+use Rattle.oxc_sourcemap_mappings.proofs.Left.{front-filled, reading-is}
 use Rattle.oxc_sourcemap_mappings.proofs.Room.{segments-token, segments-comma}
 use Rattle.oxc_sourcemap_mappings.proofs.decode.decode_mappings.Goals as goal
 

@@ -1,5 +1,6 @@
 use Rattle.std.proofs.Common.{refl, arith, pos, lit<}
-use Rattle.oxc_sourcemap_mappings.proofs.Usual.{front-end, kept, fields-four, digits-four, fields-five, digits-five, small-five}
+use Rattle.oxc_sourcemap_mappings.proofs.Usual.{front-end, kept, fields-four, digits-four}
+use Rattle.oxc_sourcemap_mappings.proofs.Usual.{fields-five, digits-five, small-five}
 use Rattle.oxc_sourcemap_mappings.proofs.decode.usual_segment.Goals as goal
 
 pub returns-then-mapping_of-ge64-clause-fields : goal.returns-then-mapping_of-ge64-clause-fields

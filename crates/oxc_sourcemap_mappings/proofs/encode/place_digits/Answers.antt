@@ -1,7 +1,8 @@
 use Rattle.std.proofs.Common.{arith, refl, ◌<◌, length, ◌∙◌}
 use Rattle.std.proofs.lemmas.List.{take-set-le}
 use Rattle.oxc_sourcemap_mappings.proofs.Length.{length-vlq_text}
-use Rattle.oxc_sourcemap_mappings.proofs.Placing.{digit-placed, last-placed, vlq-filled, vlq-shorter}
+use Rattle.oxc_sourcemap_mappings.proofs.Placing.{digit-placed, last-placed, vlq-filled}
+use Rattle.oxc_sourcemap_mappings.proofs.Placing.{vlq-shorter}
 use Rattle.oxc_sourcemap_mappings.proofs.encode.place_digits.Goals as goal
 
 pub loop-rest-init : goal.loop-rest-init

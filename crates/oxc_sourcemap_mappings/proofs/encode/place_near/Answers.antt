@@ -3,7 +3,8 @@ use Rattle.std.proofs.lemmas.Bool.{cases_lt}
 use Rattle.std.proofs.lemmas.Bool.Decides.{nat_tests}
 use Rattle.std.proofs.lemmas.List.{length-set}
 use Rattle.oxc_sourcemap_mappings.specs.Encoding.{raw_at}
-use Rattle.oxc_sourcemap_mappings.proofs.Placing.{one-placed, two-placed, near-below, lowest-last, lowest-more}
+use Rattle.oxc_sourcemap_mappings.proofs.Placing.{one-placed, two-placed, near-below, lowest-last}
+use Rattle.oxc_sourcemap_mappings.proofs.Placing.{lowest-more}
 use Rattle.oxc_sourcemap_mappings.proofs.encode.place_near.Goals as goal
 
 pub returns-clause-bytes : goal.returns-clause-bytes

@@ -1,11 +1,13 @@
-use Rattle.std.proofs.Common.{arith, ◌≡◌, ◌+◌, ◌-◌, ◌≤◌, ◌∷◌, ◌++◌, nat_lt, take, drop, string_bytes, sym, ap, ◌∙◌, subst}
+use Rattle.std.proofs.Common.{arith, ◌≡◌, ◌+◌, ◌-◌, ◌≤◌, ◌∷◌, ◌++◌, nat_lt, take, drop}
+use Rattle.std.proofs.Common.{string_bytes, sym, ap, ◌∙◌, subst}
 use Rattle.std.proofs.lemmas.Bool.Decides.{nat_tests}
 use Rattle.std.proofs.lemmas.List.{drop_more}
 use Rattle.oxc_sourcemap_tokens.specs.LineOrder.{back_from}
 use Rattle.oxc_sourcemap_tokens.specs.Steps.{state_of}
 use Rattle.oxc_sourcemap_mappings.specs.Encoding.{text_from, line_marks, column_from}
 use Rattle.oxc_sourcemap_tokens.proofs.InOrder.{in_order}
-use Rattle.oxc_sourcemap_mappings.proofs.Letters.{ArePlain, plain-append, line_marks-plain, fields_text-plain}
+use Rattle.oxc_sourcemap_mappings.proofs.Letters.{ArePlain, plain-append, line_marks-plain}
+use Rattle.oxc_sourcemap_mappings.proofs.Letters.{fields_text-plain}
 use Rattle.oxc_sourcemap_mappings.proofs.Placing.{one-more}
 use Rattle.oxc_sourcemap_mappings.proofs.encode.push_tokens.Goals as goal
 

@@ -1,5 +1,6 @@
 use Rattle.std.proofs.Common.{arith, ◌≡◌, ◌+◌, ◌-◌, true, get_or, drop, ◌∙◌, sym, ap}
-use Rattle.oxc_sourcemap_parts.specs.Sorted.{are_tokens_sorted, may_precede, token_line, token_column}
+use Rattle.oxc_sourcemap_parts.specs.Sorted.{are_tokens_sorted, may_precede, token_line}
+use Rattle.oxc_sourcemap_parts.specs.Sorted.{token_column}
 use Rattle.oxc_sourcemap_parts.proofs.Order.{sorted-end, sorted-step, sorted_in_order}
 use Rattle.oxc_sourcemap_parts.proofs.soundness.are_sorted.Goals as goal
 

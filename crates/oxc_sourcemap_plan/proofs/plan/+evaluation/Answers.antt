@@ -3,11 +3,14 @@ use Rattle.std.proofs.lemmas.Grind.{common_steps}
 use Rattle.std.proofs.lemmas.Result.{IfOk-weaker, IfErr-weaker}
 use Rattle.oxc_sourcemap_join.specs.Joined.{position, at_line, at_lines, at_positions}
 use Rattle.oxc_sourcemap_plan.specs.Depth.{depth}
-use Rattle.oxc_sourcemap_plan.specs.Outcome.{outcome_of, outcomes, join_outcome, composition_outcome}
+use Rattle.oxc_sourcemap_plan.specs.Outcome.{outcome_of, outcomes, join_outcome}
+use Rattle.oxc_sourcemap_plan.specs.Outcome.{composition_outcome}
 use Rattle.oxc_sourcemap_plan.specs.Realizes.{Realizes, FailsAs, AllRealize}
-use Rattle.oxc_sourcemap_plan.proofs.Plans.{depth_join, depth_join_at, outcome_parts, outcome_parts_at}
+use Rattle.oxc_sourcemap_plan.proofs.Plans.{depth_join, depth_join_at, outcome_parts}
+use Rattle.oxc_sourcemap_plan.proofs.Plans.{outcome_parts_at}
 use Rattle.oxc_sourcemap_plan.proofs.Realizing.{second_refuses}
-use Rattle.oxc_sourcemap_plan.proofs.Parts.{from_err, more_given, part_refused, part_below_deepest, at_its_line, at_its_position}
+use Rattle.oxc_sourcemap_plan.proofs.Parts.{from_err, more_given, part_refused, part_below_deepest}
+use Rattle.oxc_sourcemap_plan.proofs.Parts.{at_its_line, at_its_position}
 use Rattle.oxc_sourcemap_plan.proofs.plan.+evaluation.Goals as goal
 
 pub evaluate_part-evaluate_join-requires : goal.evaluate_part-evaluate_join-requires

@@ -1,7 +1,8 @@
 use Rattle.std.proofs.Common.{subst, sym}
 use Rattle.oxc_sourcemap_plan.specs.Outcome.{composition_outcome}
 use Rattle.oxc_sourcemap_plan.specs.Realizes.{FailsAs}
-use Rattle.oxc_sourcemap_plan.proofs.Realizing.{compose_laws, compose_gives, compose_refused, unless_memory}
+use Rattle.oxc_sourcemap_plan.proofs.Realizing.{compose_laws, compose_gives, compose_refused}
+use Rattle.oxc_sourcemap_plan.proofs.Realizing.{unless_memory}
 use Rattle.oxc_sourcemap_plan.proofs.Parts.{from_err}
 use Rattle.oxc_sourcemap_plan.proofs.plan.compose.Goals as goal
 

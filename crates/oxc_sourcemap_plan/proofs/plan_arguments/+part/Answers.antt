@@ -1,14 +1,23 @@
-use Rattle.std.proofs.Common.{ℕ, ◌-◌, ◌+◌, ◌≤◌, List, [], ◌∷◌, map, string_bytes, ap, sym, ◌∙◌, subst, arith, Ok, Err}
+use Rattle.std.proofs.Common.{ℕ, ◌-◌, ◌+◌, ◌≤◌, List, [], ◌∷◌, map, string_bytes, ap, sym, ◌∙◌}
+use Rattle.std.proofs.Common.{subst, arith, Ok, Err}
 use Rattle.std.proofs.lemmas.List.{map-append}
 use Rattle.std.proofs.lemmas.Result.{IfOk-weaker, IfErr-weaker}
 use Rattle.oxc_sourcemap_plan.specs.declared.plan.Plan.{Plan}
 use Rattle.oxc_sourcemap_join.specs.Joined.{at_line, at_lines, at_positions}
 use Rattle.oxc_sourcemap_plan.specs.Depth.{depth, deepest}
-use Rattle.oxc_sourcemap_plan.specs.Outcome.{outcome_of, outcomes, rewrite_outcome, composition_outcome}
-use Rattle.oxc_sourcemap_plan.specs.PlanArguments.{then_parsed, parsed_beginning, parsed_part, with_rest}
+use Rattle.oxc_sourcemap_plan.specs.Outcome.{outcome_of, outcomes, rewrite_outcome}
+use Rattle.oxc_sourcemap_plan.specs.Outcome.{composition_outcome}
+use Rattle.oxc_sourcemap_plan.specs.PlanArguments.{then_parsed, parsed_beginning, parsed_part}
+use Rattle.oxc_sourcemap_plan.specs.PlanArguments.{with_rest}
 use Rattle.oxc_sourcemap_plan.proofs.Parts.{from_err}
-use Rattle.oxc_sourcemap_plan.proofs.Plans.{outcomes-lines-pushed, outcomes-positions-pushed, depth_join, depth_join_at, outcome_rewrite, outcome_join, outcome_join_at, outcome_compose}
-use Rattle.oxc_sourcemap_plan.proofs.PlanArguments.{named-start, named-rewrite, named-join, named-join_at, named-compose, named-text, left_after, part-refused, offset-refused, part-more, parts-end, join-of-parts, deepest-pushed}
+use Rattle.oxc_sourcemap_plan.proofs.Plans.{outcomes-lines-pushed, outcomes-positions-pushed}
+use Rattle.oxc_sourcemap_plan.proofs.Plans.{depth_join, depth_join_at, outcome_rewrite}
+use Rattle.oxc_sourcemap_plan.proofs.Plans.{outcome_join, outcome_join_at, outcome_compose}
+use Rattle.oxc_sourcemap_plan.proofs.PlanArguments.{named-start, named-rewrite, named-join}
+use Rattle.oxc_sourcemap_plan.proofs.PlanArguments.{named-join_at, named-compose, named-text}
+use Rattle.oxc_sourcemap_plan.proofs.PlanArguments.{left_after, part-refused, offset-refused}
+use Rattle.oxc_sourcemap_plan.proofs.PlanArguments.{part-more, parts-end, join-of-parts}
+use Rattle.oxc_sourcemap_plan.proofs.PlanArguments.{deepest-pushed}
 use Rattle.oxc_sourcemap_plan.proofs.plan_arguments.+part.Goals as goal
 
 pub read_part-returns-in_err-part-in-rewrite-clause-error : goal.read_part-returns-in_err-part-in-rewrite-clause-error

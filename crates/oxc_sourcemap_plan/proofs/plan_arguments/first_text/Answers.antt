@@ -1,6 +1,7 @@
 use Rattle.std.proofs.Common.{◌≡◌, ◌<◌, ◌++◌, codes, sym, ap, ◌∙◌, subst}
 use Rattle.std.proofs.lemmas.Str.Pattern.{split_text_parts}
-use Rattle.oxc_sourcemap_plan.proofs.PlanInputs.{not_dashes, only_text, text_and_more, text_and_none, none_before, none_before_last}
+use Rattle.oxc_sourcemap_plan.proofs.PlanInputs.{not_dashes, only_text, text_and_more}
+use Rattle.oxc_sourcemap_plan.proofs.PlanInputs.{text_and_none, none_before, none_before_last}
 use Rattle.oxc_sourcemap_plan.proofs.plan_arguments.first_text.Goals as goal
 
 pub returns-in-Some-split_once-clause-text : goal.returns-in-Some-split_once-clause-text

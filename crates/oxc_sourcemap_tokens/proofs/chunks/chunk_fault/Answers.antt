@@ -2,7 +2,8 @@ use Rattle.std.proofs.Common.{arith, ◌∙◌, sym, get_or}
 use Rattle.std.proofs.lemmas.Grind.{common_steps}
 use Rattle.oxc_sourcemap_tokens.specs.declared.token.TokenChunk.{TokenChunk}
 use Rattle.oxc_sourcemap_tokens.specs.Steps.{state_of}
-use Rattle.oxc_sourcemap_tokens.proofs.Fits.{first_misfit-header, first_misfit-step, first_misfit-fits, further}
+use Rattle.oxc_sourcemap_tokens.proofs.Fits.{first_misfit-header, first_misfit-step}
+use Rattle.oxc_sourcemap_tokens.proofs.Fits.{first_misfit-fits, further}
 use Rattle.oxc_sourcemap_tokens.proofs.chunks.chunk_fault.Goals as goal
 
 abbrev none : TokenChunk

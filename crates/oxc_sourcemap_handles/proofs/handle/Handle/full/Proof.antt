@@ -4,7 +4,8 @@ use mir.Val.{Val}
 use base.Logic.{SProp, ent, emp, id⊢}
 use base.Fml.{ftrue}
 use prog.Wp.{WpFn}
-use types.Kit.{‵, raw, ◌⊛◌, ◌$◌, ◌∵◌, !, qed, by, move, keep, drop, split, fsplit, fjoin, suffices, use0}
+use types.Kit.{‵, raw, ◌⊛◌, ◌$◌, ◌∵◌, !, qed, by, move, keep, drop, split, fsplit, fjoin, suffices}
+use types.Kit.{use0}
 use types.Run.{stop, fld, of_opd, no_more, and_then, returns, enter}
 use types.ByLocal.{alloc_all, pass_all, free_all, look_at, get, get_in, sets}
 use types.Part.{agg, sub, whole}
@@ -21,7 +22,8 @@ use denote.Triple.Walked.{Stays, stay_dropped, walk_of}
 use Rattle.std.proofs.alloc.Calls.{Goes-blank}
 use Rattle.std.specs.Prelude.{Some, Option}
 use Rattle.std.proofs.raw_atomic.Walks.{proved_at, leaves}
-use Rattle.oxc_sourcemap_handles.proofs.Values.{both, Z, H, HeldRow, LooseHeld, loose_held_out, ptr_good, handle_in}
+use Rattle.oxc_sourcemap_handles.proofs.Values.{both, Z, H, HeldRow, LooseHeld, loose_held_out}
+use Rattle.oxc_sourcemap_handles.proofs.Values.{ptr_good, handle_in}
 use Rattle.oxc_sourcemap_handles.specs.contracts.handle.Handle.full.{ended, clauses}
 use Rattle.oxc_sourcemap_handles.specs.contracts.handle.Handle.full.Key.{name as #self}
 use Rattle.oxc_sourcemap_handles.proofs.handle.Handle.full.Statement.{statement}

@@ -4,8 +4,10 @@ use mir.Val.{Val, vptr, vcons, vnil}
 use base.Logic.{SProp, ent, emp, id⊢}
 use base.Fml.{ftrue}
 use prog.Wp.{WpFn}
-use types.Kit.{‵, raw, ◌⊛◌, at_ret, ◌$◌, ◌∵◌, !, qed, by, move, keep, drop, split, fsplit, fjoin, suffices, use0, use1}
-use types.Run.{stop, fld, lit, of_opd, bin, no_more, and_then, first, branches, exec, returns, enter}
+use types.Kit.{‵, raw, ◌⊛◌, at_ret, ◌$◌, ◌∵◌, !, qed, by, move, keep, drop, split, fsplit, fjoin}
+use types.Kit.{suffices, use0, use1}
+use types.Run.{stop, fld, lit, of_opd, bin, no_more, and_then, first, branches, exec, returns}
+use types.Run.{enter}
 use types.ByLocal.{alloc_all, pass_all, free_all, look_at, get, get_in, sets, sets_last, env}
 use types.Part.{agg, sub, whole}
 use types.Match.{live}
@@ -25,7 +27,8 @@ use Rattle.std.proofs.cell.Inside.{Good}
 use Rattle.std.proofs.option.Made.{Some-of, none_of}
 use Rattle.std_alloc.proofs.ResultValues.{and_tt}
 use Rattle.std.proofs.raw_atomic.Walks.{proved_at, leaves}
-use Rattle.oxc_sourcemap_handles.proofs.Values.{both, Z, H, HeldRow, LooseHeld, loose_held_in, ptr_good, handle_out, either_owned}
+use Rattle.oxc_sourcemap_handles.proofs.Values.{both, Z, H, HeldRow, LooseHeld, loose_held_in}
+use Rattle.oxc_sourcemap_handles.proofs.Values.{ptr_good, handle_out, either_owned}
 use Rattle.oxc_sourcemap_handles.specs.contracts.handle.Handle.into_loose.{ended, clauses}
 use Rattle.oxc_sourcemap_handles.specs.contracts.handle.Handle.into_loose.Key.{name as #self}
 use Rattle.oxc_sourcemap_handles.proofs.handle.Handle.into_loose.Statement.{statement}

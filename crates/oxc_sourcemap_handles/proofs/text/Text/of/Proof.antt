@@ -5,7 +5,8 @@ use mir.Val.{Val, vint, vptr}
 use base.Logic.{SProp, emp}
 use base.Fml.{ftrue}
 use prog.Wp.{WpFn}
-use types.Kit.{‵, raw, ◌⊛◌, ◌$◌, ◌∵◌, !, qed, by, move, keep, drop, split, fjoin, fjoin3, fpack, feq_i, flt_i, use0}
+use types.Kit.{‵, raw, ◌⊛◌, ◌$◌, ◌∵◌, !, qed, by, move, keep, drop, split, fjoin, fjoin3, fpack}
+use types.Kit.{feq_i, flt_i, use0}
 use types.Run.{stop, fld, hop, from, addr, of_opd, no_more, and_then, returns, enter}
 use types.ByLocal.{alloc_all, pass_all, free_all, look_at, look_in_at, get, get_in, sets}
 use types.Part.{agg, sub, whole}

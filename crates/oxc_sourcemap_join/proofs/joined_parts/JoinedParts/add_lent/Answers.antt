@@ -1,14 +1,17 @@
-use Rattle.std.proofs.Common.{◌++◌, ◌∷◌, [], Some, arith, ap, length, map, drop, ◌≡◌, ◌∙◌, sym, subst}
+use Rattle.std.proofs.Common.{◌++◌, ◌∷◌, [], Some, arith, ap, length, map, drop, ◌≡◌, ◌∙◌, sym}
+use Rattle.std.proofs.Common.{subst}
 use Rattle.std.specs.Option.{option_map}
 use Rattle.std.specs.Cow.{cow_str_bytes}
 use Rattle.oxc_sourcemap_tokens.specs.Token.{AreInBounds}
 use Rattle.oxc_sourcemap_tokens.specs.Chunks.{ChunksFit}
-use Rattle.oxc_sourcemap_join.specs.Joined.{fitted, raised_ignore_list, appended_ignore_lists, AreEntriesInBounds}
+use Rattle.oxc_sourcemap_join.specs.Joined.{fitted, raised_ignore_list, appended_ignore_lists}
+use Rattle.oxc_sourcemap_join.specs.Joined.{AreEntriesInBounds}
 use Rattle.oxc_sourcemap_join.specs.Joining.{all_shifted}
 use Rattle.oxc_sourcemap_parts.specs.Views.{texts_of, contents_of, ids_of, record_of_parts}
 use Rattle.oxc_sourcemap_join.proofs.Moving.{length-mapped}
 use Rattle.oxc_sourcemap_join.proofs.IgnoreLists.{addition-in-bounds}
-use Rattle.oxc_sourcemap_join.proofs.Adding.{kept-are-in-bounds, added-is, join-is, all-after-some, glued}
+use Rattle.oxc_sourcemap_join.proofs.Adding.{kept-are-in-bounds, added-is, join-is, all-after-some}
+use Rattle.oxc_sourcemap_join.proofs.Adding.{glued}
 use Rattle.oxc_sourcemap_join.proofs.joined_parts.JoinedParts.add_lent.Goals as goal
 use Rattle.oxc_sourcemap_join.proofs.joined_parts.JoinedParts.add_lent.Goals.{After-push_reserved}
 

@@ -1,18 +1,22 @@
-use Rattle.std.proofs.Common.{◌+◌, ◌-◌, arith, ap, length, drop, ◌≡◌, ◌∙◌, sym, refl, subst, true, false}
+use Rattle.std.proofs.Common.{◌+◌, ◌-◌, arith, ap, length, drop, ◌≡◌, ◌∙◌, sym, refl, subst, true}
+use Rattle.std.proofs.Common.{false}
 use Rattle.std.specs.Cow.{cow_str_bytes}
 use Rattle.std.proofs.lemmas.List.{length-append}
 use Rattle.oxc_sourcemap_tokens.specs.Token.{AreInBounds, last}
 use Rattle.oxc_sourcemap_tokens.specs.State.{state_at}
 use Rattle.oxc_sourcemap_tokens.specs.Chunks.{chunk_from}
 use Rattle.oxc_sourcemap_parts.specs.Views.{record_of_parts}
-use Rattle.oxc_sourcemap_join.specs.Joined.{is_same_token, without_repeat, raised_ignore_list, AreEntriesInBounds}
+use Rattle.oxc_sourcemap_join.specs.Joined.{is_same_token, without_repeat, raised_ignore_list}
+use Rattle.oxc_sourcemap_join.specs.Joined.{AreEntriesInBounds}
 use Rattle.oxc_sourcemap_join.specs.Joining.{all_shifted}
 use Rattle.oxc_sourcemap_join.specs.declared.joined_parts.Shift.{Shift}
 use Rattle.oxc_sourcemap_join.proofs.Moving.{length-mapped}
 use Rattle.oxc_sourcemap_join.proofs.IgnoreLists.{raised-in-bounds}
 use Rattle.oxc_sourcemap_join.proofs.Adding.{moved-in-bounds, addition-is}
 use Rattle.oxc_sourcemap_join.proofs.joined_parts.JoinedParts.addition.Goals as goal
-use Rattle.oxc_sourcemap_join.proofs.joined_parts.JoinedParts.addition.Goals.{then-len-via-then-len, then-len-via-else-len+then-len-2, then-len-via-else-len+else-len-2+then-not-fits_all}
+use Rattle.oxc_sourcemap_join.proofs.joined_parts.JoinedParts.addition.Goals.{then-len-via-then-len}
+use Rattle.oxc_sourcemap_join.proofs.joined_parts.JoinedParts.addition.Goals.{then-len-via-else-len+then-len-2}
+use Rattle.oxc_sourcemap_join.proofs.joined_parts.JoinedParts.addition.Goals.{then-len-via-else-len+else-len-2+then-not-fits_all}
 
 pub returns-then-len-clause-too_large : goal.returns-then-len-clause-too_large
 returns-then-len-clause-too_large c = λ e w.

@@ -1,5 +1,6 @@
 use Rattle.std.proofs.Common.{◌+◌, ◌<◌, arith, sym, subst}
-use Rattle.oxc_sourcemap_join.proofs.Reach.{in-reach, line-in-reach, source-in-reach, name-in-reach, column-in-reach}
+use Rattle.oxc_sourcemap_join.proofs.Reach.{in-reach, line-in-reach, source-in-reach, name-in-reach}
+use Rattle.oxc_sourcemap_join.proofs.Reach.{column-in-reach}
 use Rattle.oxc_sourcemap_join.proofs.joined_parts.Shift.fits_all.Goals as goal
 
 pub returns-then-fits_reach : goal.returns-then-fits_reach

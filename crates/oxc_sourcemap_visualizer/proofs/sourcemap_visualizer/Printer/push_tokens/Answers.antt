@@ -1,4 +1,5 @@
-use Rattle.std.proofs.Common.{◌≡◌, ◌+◌, ◌-◌, string_bytes, length, get_or, take, drop, reverse, arith}
+use Rattle.std.proofs.Common.{◌≡◌, ◌+◌, ◌-◌, string_bytes, length, get_or, take, drop, reverse}
+use Rattle.std.proofs.Common.{arith}
 use Rattle.std.specs.Fmt.{AppendsText}
 use Rattle.std.proofs.lemmas.List.{take_all, length-drop}
 use Rattle.std.proofs.lemmas.Grind.{common_steps}

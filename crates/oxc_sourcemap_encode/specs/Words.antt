@@ -1,0 +1,17 @@
+-- The words of this crate's clauses, from one place.
+pub use Rattle.oxc_sourcemap_json.specs.Json.{json_record, json_contents}
+pub use Rattle.oxc_sourcemap_mappings.specs.Canonical.{canonical}
+pub use Rattle.oxc_sourcemap_mappings.specs.Pieces.{writing_fault}
+pub use Rattle.oxc_sourcemap_parts.specs.Views.{text_of, record_of_parts, ids_of, cow_texts}
+pub use Rattle.oxc_sourcemap_tokens.specs.Chunks.{lent_chunks}
+pub use Rattle.oxc_sourcemap_tokens.specs.Results.{Answers, OnlyMemory, Pushes}
+pub use Rattle.oxc_sourcemap_tokens.specs.Token.{AreInBounds}
+pub use Rattle.oxc_sourcemap_tokens.specs.declared.error.Error.TheVariants.{OutOfMemory}
+pub use Rattle.oxc_sourcemap_encode.specs.Encoded.{encoded, written_contents, encoded_record}
+pub use Rattle.oxc_sourcemap_encode.specs.JsonParts.{head_text, lists_text, tail_text}
+pub use Rattle.oxc_sourcemap_encode.specs.JsonString.{hex_escape, escaped, json_string, StaysOpened}
+pub use Rattle.oxc_sourcemap_encode.specs.JsonString.{Begins}
+pub use Rattle.oxc_sourcemap_encode.specs.JsonText.{json_list, content_text, field_text}
+pub use Rattle.oxc_sourcemap_encode.specs.JsonText.{optional_field, json_text, map_text, map_url}
+pub use Rattle.oxc_sourcemap_encode.specs.Plain.{needs_escape, is_plain}
+pub use Rattle.oxc_sourcemap_encode.specs.Room.{string_room, content_room, IsRoomFor}

@@ -1,0 +1,29 @@
+-- The words of this crate's clauses, from one place.
+pub use Rattle.oxc_sourcemap_decode.specs.Decoded.{decoded, json_fault}
+pub use Rattle.oxc_sourcemap_decode.specs.ReadMap.{read_map, read_decoded_map}
+pub use Rattle.oxc_sourcemap_encode.specs.Encoded.{encoded}
+pub use Rattle.oxc_sourcemap_encode.specs.JsonText.{map_text, map_url}
+pub use Rattle.oxc_sourcemap_json.specs.Json.{json_record}
+pub use Rattle.oxc_sourcemap_lookup.specs.Composed.{composition, composition_fault, SomeComposition}
+pub use Rattle.oxc_sourcemap_lookup.specs.Composed.{NoColumnGoesBack}
+pub use Rattle.oxc_sourcemap_lookup.specs.Digits.{binary_digits}
+pub use Rattle.oxc_sourcemap_lookup.specs.Lookup.{at, clamped_at, no_column_goes_back, token_for}
+pub use Rattle.oxc_sourcemap_lookup.specs.Lookup.{clamped_token_for, IfOwnTable, table_fault}
+pub use Rattle.oxc_sourcemap_lookup.specs.Lookup.{line_table, slice_of}
+pub use Rattle.oxc_sourcemap_lookup.specs.Trace.{trace, clamped_trace}
+pub use Rattle.oxc_sourcemap_parts.specs.DecodedMap.{decoded_map_of}
+pub use Rattle.oxc_sourcemap_parts.specs.Sorted.{are_tokens_sorted, token_column}
+pub use Rattle.oxc_sourcemap_parts.specs.Sound.{IsSound}
+pub use Rattle.oxc_sourcemap_parts.specs.Views.{record_of_parts, empty_record, text_of, texts_of}
+pub use Rattle.oxc_sourcemap_parts.specs.Views.{contents_of, chunks_of}
+pub use Rattle.oxc_sourcemap_tokens.specs.LineOrder.{IsInLineOrder}
+pub use Rattle.oxc_sourcemap_tokens.specs.Results.{Reports, Answers, lent_items, OnlyMemory}
+pub use Rattle.oxc_sourcemap_tokens.specs.Results.{lent_item}
+pub use Rattle.oxc_sourcemap_tokens.specs.Token.{AreInBounds}
+pub use Rattle.oxc_sourcemap_tokens.specs.declared.error.Error.TheVariants.{OutOfMemory}
+pub use mir.Syntax.{static}
+pub use Rattle.oxc_sourcemap_map.specs.View.{view_of, seen_in, view_original, content_at}
+pub use Rattle.oxc_sourcemap_map.specs.View.{source_and_content_at, view_name, view_source}
+pub use Rattle.oxc_sourcemap_map.specs.View.{view_content, view_source_and_content}
+pub use Rattle.oxc_sourcemap_map.specs.contracts.owned_sourcemap.OwnedSourceMap.{the_row}
+pub use Rattle.oxc_sourcemap_map.specs.contracts.sourcemap.SourceMap.{the_row as map_row}

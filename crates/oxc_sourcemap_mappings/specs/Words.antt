@@ -1,0 +1,24 @@
+-- The words of this crate's clauses, from one place.
+pub use Rattle.oxc_sourcemap_tokens.specs.Chunks.{header, chunk_tokens, lent_chunks}
+pub use Rattle.oxc_sourcemap_tokens.specs.LineOrder.{back_from}
+pub use Rattle.oxc_sourcemap_tokens.specs.Results.{Answers, OnlyMemory, FailsBy, Reports, Pushes}
+pub use Rattle.oxc_sourcemap_tokens.specs.Steps.{state_of}
+pub use Rattle.oxc_sourcemap_tokens.specs.Token.{AreInBounds, last_line}
+pub use Rattle.oxc_sourcemap_tokens.specs.declared.error.Error.{Error}
+pub use Rattle.oxc_sourcemap_tokens.specs.declared.error.Error.TheVariants.{TooLarge}
+pub use Rattle.oxc_sourcemap_mappings.specs.Canonical.{letter, vlq_text, raw_delta, delta_text}
+pub use Rattle.oxc_sourcemap_mappings.specs.Canonical.{canonical, Extends}
+pub use Rattle.oxc_sourcemap_mappings.specs.Decoding.{ends_segment, front_digits, front_segment}
+pub use Rattle.oxc_sourcemap_mappings.specs.Decoding.{segments_after, is_over, IsNumberAt}
+pub use Rattle.oxc_sourcemap_mappings.specs.Decoding.{AreFieldsOf, AreSmall, value, place_of}
+pub use Rattle.oxc_sourcemap_mappings.specs.Decoding.{source_moved, moved, moved_by}
+pub use Rattle.oxc_sourcemap_mappings.specs.Encoding.{text_from, OnlyAdds, line_marks, marks_of}
+pub use Rattle.oxc_sourcemap_mappings.specs.Encoding.{column_from, fields_text, raw_at}
+pub use Rattle.oxc_sourcemap_mappings.specs.Encoding.{first_letter, second_letter, rank_of}
+pub use Rattle.oxc_sourcemap_mappings.specs.Encoding.{offset_of, deltas_text, AreSingle}
+pub use Rattle.oxc_sourcemap_mappings.specs.Faults.{digit_fault, range_fault, is_id_below, low_bits}
+pub use Rattle.oxc_sourcemap_mappings.specs.Faults.{source_fault, place_fault, counts_of}
+pub use Rattle.oxc_sourcemap_mappings.specs.Number.{digit, payload, signed}
+pub use Rattle.oxc_sourcemap_mappings.specs.Pieces.{piece, piece_fault, writing_fault}
+pub use Rattle.oxc_sourcemap_mappings.specs.Places.{nothing_before, place}
+pub use Rattle.oxc_sourcemap_mappings.specs.Reading.{token_at, segment_result, reading}

@@ -1,0 +1,22 @@
+-- The words of this crate's clauses, from one place.
+pub use Rattle.oxc_sourcemap_decode.specs.ReadMap.{said_in}
+pub use Rattle.oxc_sourcemap_join.specs.Joined.{at_lines, at_positions}
+pub use Rattle.oxc_sourcemap_parts.specs.Sorted.{are_tokens_sorted}
+pub use Rattle.oxc_sourcemap_tokens.specs.Results.{Gives, lent_items, lent_item}
+pub use Rattle.oxc_sourcemap_tokens.specs.declared.error.Error.TheVariants.{OutOfMemory}
+pub use Rattle.oxc_sourcemap_tokens.specs.declared.plan_error.PlanError.TheVariants.{Map, Unsorted}
+pub use Rattle.oxc_sourcemap_tokens.specs.declared.position.Position.{Position}
+pub use Rattle.oxc_sourcemap_plan.specs.Depth.{depth}
+pub use Rattle.oxc_sourcemap_plan.specs.Evaluated.{IsEvaluated, IsFailure}
+pub use Rattle.oxc_sourcemap_plan.specs.Numbers.{number_of}
+pub use Rattle.oxc_sourcemap_plan.specs.Outcome.{Outcome, read_outcome, rewrite_outcome}
+pub use Rattle.oxc_sourcemap_plan.specs.Outcome.{join_outcome, composition_outcome, outcome_of}
+pub use Rattle.oxc_sourcemap_plan.specs.Outcome.{outcomes, outcome}
+pub use Rattle.oxc_sourcemap_plan.specs.PlanArguments.{parsed_number, parsed_beginning}
+pub use Rattle.oxc_sourcemap_plan.specs.PlanArguments.{parsed_input, parsed_join, parsed_part}
+pub use Rattle.oxc_sourcemap_plan.specs.PlanArguments.{parsed_plan}
+pub use Rattle.oxc_sourcemap_plan.specs.PlanInputs.{inputs_of}
+pub use Rattle.oxc_sourcemap_plan.specs.Realizes.{Realizes, FailsAs, AllRealize}
+pub use Rattle.oxc_sourcemap_plan.specs.Refusals.{out_of_memory, is_of_port, run_error_text}
+pub use Rattle.oxc_sourcemap_plan.specs.Refusals.{status_of}
+pub use Rattle.oxc_sourcemap_plan.specs.declared.run_error.RunError.TheVariants.{Plan}

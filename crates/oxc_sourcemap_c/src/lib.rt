@@ -30,9 +30,9 @@ ghost use Rattle.oxc_sourcemap_c.specs.Words.{clamped_token_for};
 use crate::plans::evaluate_bytes;
 use oxc_sourcemap_handles::{
     Asked, Counts, Fault, Handle, Place, Text, TokenNumbers, add_name, add_source, add_token,
-    answered, answered_all, compose, counts, data_url, finish, ignored, is_sorted, join, json,
-    noted, placed, put_builder, put_map, put_text, read, set_file, text_of_map, token, traced,
-    traced_all, write_message, written_text,
+    compose, counts, data_url, finish, ignored_id, is_sorted, join, json, put_builder, put_map,
+    put_text, read, set_file, text_of_map, token, trace, trace_all, write_fault, write_found,
+    write_id, write_message, write_place, written_text,
 };
 use oxc_sourcemap_tokens::Position;
 use std::alloc::Global;
@@ -157,7 +157,7 @@ pub extern "C" fn smap_get_text(alloc: Global, string: &mut Handle, text: &mut T
     ensures kept { string.new.held ≡ string.old.held }
     ensures unchanged { result ≢ 0 → text.new ≡ text.old }
 {
-    answered(written_text(alloc, string), text)
+    write_found(written_text(alloc, string), text)
 }
 
 /// Frees the map in a handle, which is then empty.
@@ -184,7 +184,7 @@ pub extern "C" fn smap_get_counts(alloc: Global, map: &mut Handle, out: &mut Cou
     ensures kept { map.new.held ≡ map.old.held }
     ensures unchanged { result ≢ 0 → out.new ≡ out.old }
 {
-    answered(counts(alloc, map), out)
+    write_found(counts(alloc, map), out)
 }
 
 /// Whether the tokens of the map in a handle are sorted: 1 or 0.
@@ -195,7 +195,7 @@ pub extern "C" fn smap_is_sorted(alloc: Global, map: &mut Handle, out: &mut u32)
     ensures kept { map.new.held ≡ map.old.held }
     ensures unchanged { result ≢ 0 → out.new ≡ out.old }
 {
-    answered(is_sorted(alloc, map), out)
+    write_found(is_sorted(alloc, map), out)
 }
 
 /// The name with this id in the map in a handle, borrowed.
@@ -205,7 +205,7 @@ pub extern "C" fn smap_get_name(alloc: Global, map: &mut Handle, id: u32, text: 
     ensures kept { map.new.held ≡ map.old.held }
     ensures unchanged { result ≢ 0 → text.new ≡ text.old }
 {
-    answered(text_of_map(alloc, map, Asked::Name(id)), text)
+    write_found(text_of_map(alloc, map, Asked::Name(id)), text)
 }
 
 /// The source with this id in the map in a handle, borrowed.
@@ -215,7 +215,7 @@ pub extern "C" fn smap_get_source(alloc: Global, map: &mut Handle, id: u32, text
     ensures kept { map.new.held ≡ map.old.held }
     ensures unchanged { result ≢ 0 → text.new ≡ text.old }
 {
-    answered(text_of_map(alloc, map, Asked::Source(id)), text)
+    write_found(text_of_map(alloc, map, Asked::Source(id)), text)
 }
 
 /// The content listed for the source with this id in the map in a handle, borrowed.
@@ -231,7 +231,7 @@ pub extern "C" fn smap_get_source_content(
     ensures kept { map.new.held ≡ map.old.held }
     ensures unchanged { result ≢ 0 → text.new ≡ text.old }
 {
-    answered(text_of_map(alloc, map, Asked::SourceContent(id)), text)
+    write_found(text_of_map(alloc, map, Asked::SourceContent(id)), text)
 }
 
 /// The name of the generated file of the map in a handle, borrowed.
@@ -241,7 +241,7 @@ pub extern "C" fn smap_get_file(alloc: Global, map: &mut Handle, text: &mut Text
     ensures kept { map.new.held ≡ map.old.held }
     ensures unchanged { result ≢ 0 → text.new ≡ text.old }
 {
-    answered(text_of_map(alloc, map, Asked::File), text)
+    write_found(text_of_map(alloc, map, Asked::File), text)
 }
 
 /// The source root of the map in a handle, borrowed.
@@ -251,7 +251,7 @@ pub extern "C" fn smap_get_source_root(alloc: Global, map: &mut Handle, text: &m
     ensures kept { map.new.held ≡ map.old.held }
     ensures unchanged { result ≢ 0 → text.new ≡ text.old }
 {
-    answered(text_of_map(alloc, map, Asked::SourceRoot), text)
+    write_found(text_of_map(alloc, map, Asked::SourceRoot), text)
 }
 
 /// The debug id of the map in a handle, borrowed.
@@ -261,7 +261,7 @@ pub extern "C" fn smap_get_debug_id(alloc: Global, map: &mut Handle, text: &mut 
     ensures kept { map.new.held ≡ map.old.held }
     ensures unchanged { result ≢ 0 → text.new ≡ text.old }
 {
-    answered(text_of_map(alloc, map, Asked::DebugId), text)
+    write_found(text_of_map(alloc, map, Asked::DebugId), text)
 }
 
 /// An entry of the ignore list of the map in a handle.
@@ -276,7 +276,7 @@ pub extern "C" fn smap_get_ignored(
     ensures kept { map.new.held ≡ map.old.held }
     ensures unchanged { result ≢ 0 → out.new ≡ out.old }
 {
-    answered(ignored(alloc, map, index), out)
+    write_found(ignored_id(alloc, map, index), out)
 }
 
 /// The numbers of a token of the map in a handle.
@@ -292,7 +292,7 @@ pub extern "C" fn smap_get_token(
     ensures kept { map.new.held ≡ map.old.held }
     ensures unchanged { result ≢ 0 → out.new ≡ out.old }
 {
-    answered(token(alloc, map, index), out)
+    write_found(token(alloc, map, index), out)
 }
 
 /// The trace of the map in a handle at a generated line and column.
@@ -314,7 +314,7 @@ pub extern "C" fn smap_trace(
         × IsRefused result fault.new (IsTraceRefusal (held_map map.old.held)) }
 {
     let at = Position { line, column };
-    placed(traced(alloc, map, at, false), place, fault)
+    write_place(trace(alloc, map, at, false), place, fault)
 }
 
 /// The clamped trace of the map in a handle at a generated line and column: before the first token of a line, it is that of the
@@ -337,7 +337,7 @@ pub extern "C" fn smap_trace_clamped(
         × IsRefused result fault.new (IsTraceRefusal (held_map map.old.held)) }
 {
     let at = Position { line, column };
-    placed(traced(alloc, map, at, true), place, fault)
+    write_place(trace(alloc, map, at, true), place, fault)
 }
 
 /// The traces of the map in a handle at generated positions, each at the index of its position and as `smap_trace` gives it.
@@ -358,7 +358,7 @@ pub extern "C" fn smap_trace_all(
         × IsRefused result fault.new (IsTraceAllRefusal positions.now places.old
         (held_map map.old.held)) }
 {
-    answered_all(traced_all(alloc, map, positions, places, false), fault)
+    write_fault(trace_all(alloc, map, positions, places, false), fault)
 }
 
 /// The clamped traces of the map in a handle at generated positions, each as `smap_trace_clamped` gives it; else as
@@ -379,7 +379,7 @@ pub extern "C" fn smap_trace_all_clamped(
         × IsRefused result fault.new (IsTraceAllRefusal positions.now places.old
         (held_map map.old.held)) }
 {
-    answered_all(traced_all(alloc, map, positions, places, true), fault)
+    write_fault(trace_all(alloc, map, positions, places, true), fault)
 }
 
 /// Writes as much of the message of an error, given by its numbers, as there is room for, and returns the length of the whole;
@@ -422,7 +422,7 @@ pub extern "C" fn smap_builder_add_name(
     ensures too_large { MatchOption (held_builder builder.old.held) ⊤
         (λ b. IsUtf8 name.now → NameHasNoId name.now b → result ≡ code_of (of_map TooLarge)) }
 {
-    noted(add_name(alloc, builder, name), id, fault)
+    write_id(add_name(alloc, builder, name), id, fault)
 }
 
 /// Adds a source with its content to the builder in a handle, and writes its id.
@@ -444,7 +444,7 @@ pub extern "C" fn smap_builder_add_source_and_content(
         (λ b. IsUtf8 path.now → IsUtf8 content.now → SourceHasNoId path.now b
         → result ≡ code_of (of_map TooLarge)) }
 {
-    noted(add_source(alloc, builder, path, content), id, fault)
+    write_id(add_source(alloc, builder, path, content), id, fault)
 }
 
 /// Adds a token to the builder in a handle.
@@ -462,7 +462,7 @@ pub extern "C" fn smap_builder_add_token(
         × IsRefusedAs result fault.new (IsBuilderRefusal builder.old.held) }
 {
     let mut none = 0;
-    noted(add_token(alloc, builder, *token), &mut none, fault)
+    write_id(add_token(alloc, builder, *token), &mut none, fault)
 }
 
 /// Sets the file of the builder in a handle.
@@ -480,7 +480,7 @@ pub extern "C" fn smap_builder_set_file(
         × IsRefusedAs result fault.new (IsFileRefusal builder.old.held file.now) }
 {
     let mut none = 0;
-    noted(set_file(alloc, builder, file), &mut none, fault)
+    write_id(set_file(alloc, builder, file), &mut none, fault)
 }
 
 /// Puts the map that the builder in a handle has built into another handle. The builder's handle is then empty.

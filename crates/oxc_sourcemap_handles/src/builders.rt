@@ -223,7 +223,7 @@ pub fn put_builder(alloc: Global, handle: &mut Handle, fault: &mut Fault) -> u32
 }
 
 /// Writes the id that was made, or nothing on an error, and the numbers of the error, and returns the code.
-pub fn noted(answer: Result<u32, Refusal>, out: &mut u32, fault: &mut Fault) -> u32
+pub fn write_id(answer: Result<u32, Refusal>, out: &mut u32, fault: &mut Fault) -> u32
     ensures { MatchResult answer (λ id. (result ≡ 0) × (out.new ≡ id) × (fault.new ≡ no_fault))
         (λ r. (result ≡ code_of r) × (out.new ≡ out.old) × (fault.new ≡ fault_of r)) }
 {

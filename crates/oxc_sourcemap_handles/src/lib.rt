@@ -17,13 +17,13 @@ mod text;
 mod utf8;
 
 pub use asked::Asked;
-pub use builders::{add_name, add_source, add_token, finish, noted, put_builder, set_file};
+pub use builders::{add_name, add_source, add_token, finish, put_builder, set_file, write_id};
 pub use fault::Fault;
 pub use handle::Handle;
 pub use joins::join;
 pub use lookups::{
-    answered, answered_all, counts, data_url, ignored, is_sorted, json, placed, text_of_map, token,
-    traced, traced_all, written_text,
+    counts, data_url, ignored_id, is_sorted, json, text_of_map, token, trace, trace_all,
+    write_fault, write_found, write_place, written_text,
 };
 pub use messages::write_message;
 pub use operations::{compose, put_map, put_text, read};

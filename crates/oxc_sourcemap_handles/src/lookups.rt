@@ -1,4 +1,4 @@
-//! Lookups in what handles hold. Each call takes the box out of its handle, looks into it and puts it back.
+//! Lookups in what handles hold.
 ghost use Rattle.std.specs.Prelude.{◌≡◌, Some, None, Ok, Err, length, slice_get, string_bytes};
 ghost use Rattle.std.specs.Prelude.{IfErr, OnOk, OnErr, MatchOption, MatchResult};
 ghost use Rattle.oxc_sourcemap_handles.specs.Words.{map_text, map_url, are_tokens_sorted};
@@ -18,8 +18,24 @@ use crate::text::{Counts, Place, Text, TokenNumbers};
 use oxc_sourcemap_tokens::Position;
 use std::alloc::Global;
 
+/// What a call finds in what a handle holds. A box behind a raw pointer is not read through a `&`: it is taken out, looked into,
+/// and put back.
+macro_rules! look {
+    ($handle:ident, $alloc:ident, $held:ident => $find:expr) => {
+        match $handle.take($alloc) {
+            Some(boxed) => {
+                let $held = boxed.as_ref();
+                let found = $find;
+                $handle.put(boxed);
+                found
+            }
+            None => Err(Refusal::EmptyHandle),
+        }
+    };
+}
+
 /// Writes what was found, or nothing on an error, and returns the code.
-pub fn answered<T: Drop>(answer: Result<T, Refusal>, out: &mut T) -> u32
+pub fn write_found<T: Drop>(answer: Result<T, Refusal>, out: &mut T) -> u32
     ensures { MatchResult answer (λ found. (result ≡ 0) × (out.new ≡ found))
         (λ r. (result ≡ code_of r) × (out.new ≡ out.old)) }
 {
@@ -33,7 +49,7 @@ pub fn answered<T: Drop>(answer: Result<T, Refusal>, out: &mut T) -> u32
 }
 
 /// Writes the trace that was found, or nothing on an error, and the numbers of the error, and returns the code.
-pub fn placed(answer: Result<Place, Refusal>, place: &mut Place, fault: &mut Fault) -> u32
+pub fn write_place(answer: Result<Place, Refusal>, place: &mut Place, fault: &mut Fault) -> u32
     ensures { MatchResult answer (λ found. (result ≡ 0) × (place.new ≡ found)
         × (fault.new ≡ no_fault)) (λ r. (result ≡ code_of r) × (place.new ≡ place.old)
         × (fault.new ≡ fault_of r)) }
@@ -52,7 +68,7 @@ pub fn placed(answer: Result<Place, Refusal>, place: &mut Place, fault: &mut Fau
 }
 
 /// The code of a result whose traces are written already. Writes the numbers of the error.
-pub fn answered_all(answer: Result<(), Refusal>, fault: &mut Fault) -> u32
+pub fn write_fault(answer: Result<(), Refusal>, fault: &mut Fault) -> u32
     ensures { MatchResult answer (λ _. (result ≡ 0) × (fault.new ≡ no_fault))
         (λ r. (result ≡ code_of r) × (fault.new ≡ fault_of r)) }
 {
@@ -68,7 +84,7 @@ pub fn answered_all(answer: Result<(), Refusal>, fault: &mut Fault) -> u32
     }
 }
 
-fn lent_text(held: &Held, asked: Asked) -> Result<Text, Refusal>
+fn map_text_in(held: &Held, asked: Asked) -> Result<Text, Refusal>
     ensures { IsFound result (Some held.now) (λ m. text_at m asked) HasLength }
 {
     let Some(loaded) = map_in(held) else {
@@ -85,17 +101,10 @@ pub fn text_of_map(alloc: Global, handle: &mut Handle, asked: Asked) -> Result<T
     ensures found { IsFound result handle.old.held (λ m. text_at m asked) HasLength }
     ensures kept { handle.new.held ≡ handle.old.held }
 {
-    match handle.take(alloc) {
-        Some(held) => {
-            let answer = lent_text(held.as_ref(), asked);
-            handle.put(held);
-            answer
-        }
-        None => Err(Refusal::EmptyHandle),
-    }
+    look!(handle, alloc, held => map_text_in(held, asked))
 }
 
-fn lent_written(held: &Held) -> Result<Text, Refusal>
+fn written_text_in(held: &Held) -> Result<Text, Refusal>
     ensures { MatchOption (held_text (Some held.now)) (result ≡ Err EmptyHandle)
         (λ text. MatchResult result (λ t. HasLength t text) (λ _. ⊥)) }
 {
@@ -111,17 +120,10 @@ pub fn written_text(alloc: Global, handle: &mut Handle) -> Result<Text, Refusal>
         (λ text. MatchResult result (λ t. HasLength t text) (λ _. ⊥)) }
     ensures kept { handle.new.held ≡ handle.old.held }
 {
-    match handle.take(alloc) {
-        Some(held) => {
-            let answer = lent_written(held.as_ref());
-            handle.put(held);
-            answer
-        }
-        None => Err(Refusal::EmptyHandle),
-    }
+    look!(handle, alloc, held => written_text_in(held))
 }
 
-fn counted(held: &Held) -> Result<Counts, Refusal>
+fn counts_in(held: &Held) -> Result<Counts, Refusal>
     ensures { IsFound result (Some held.now) (λ m. Some (counts_of m)) (λ x counts. x ≡ counts) }
 {
     match map_in(held) {
@@ -136,14 +138,7 @@ pub fn counts(alloc: Global, handle: &mut Handle) -> Result<Counts, Refusal>
         (λ x counts. x ≡ counts) }
     ensures kept { handle.new.held ≡ handle.old.held }
 {
-    match handle.take(alloc) {
-        Some(held) => {
-            let answer = counted(held.as_ref());
-            handle.put(held);
-            answer
-        }
-        None => Err(Refusal::EmptyHandle),
-    }
+    look!(handle, alloc, held => counts_in(held))
 }
 
 /// 1 for true and 0 for false.
@@ -153,7 +148,7 @@ fn flag(is_so: bool) -> u32
     if is_so { 1 } else { 0 }
 }
 
-fn sorted(held: &Held) -> Result<u32, Refusal>
+fn is_sorted_in(held: &Held) -> Result<u32, Refusal>
     ensures { IsFound result (Some held.now) (λ m. Some (flag_of (are_tokens_sorted m.tokens)))
         (λ x is. x ≡ is) }
 {
@@ -169,17 +164,10 @@ pub fn is_sorted(alloc: Global, handle: &mut Handle) -> Result<u32, Refusal>
         (λ m. Some (flag_of (are_tokens_sorted m.tokens))) (λ x is. x ≡ is) }
     ensures kept { handle.new.held ≡ handle.old.held }
 {
-    match handle.take(alloc) {
-        Some(held) => {
-            let answer = sorted(held.as_ref());
-            handle.put(held);
-            answer
-        }
-        None => Err(Refusal::EmptyHandle),
-    }
+    look!(handle, alloc, held => is_sorted_in(held))
 }
 
-fn ignored_in(held: &Held, index: usize) -> Result<u32, Refusal>
+fn ignored_id_in(held: &Held, index: usize) -> Result<u32, Refusal>
     ensures { IsFound result (Some held.now) (λ m. ignored_at m index) (λ x found. x ≡ found) }
 {
     let Some(loaded) = map_in(held) else {
@@ -195,19 +183,12 @@ fn ignored_in(held: &Held, index: usize) -> Result<u32, Refusal>
 }
 
 /// An entry of the ignore list of the map in a handle.
-pub fn ignored(alloc: Global, handle: &mut Handle, index: usize) -> Result<u32, Refusal>
+pub fn ignored_id(alloc: Global, handle: &mut Handle, index: usize) -> Result<u32, Refusal>
     ensures found { IsFound result handle.old.held (λ m. ignored_at m index)
         (λ x found. x ≡ found) }
     ensures kept { handle.new.held ≡ handle.old.held }
 {
-    match handle.take(alloc) {
-        Some(held) => {
-            let answer = ignored_in(held.as_ref(), index);
-            handle.put(held);
-            answer
-        }
-        None => Err(Refusal::EmptyHandle),
-    }
+    look!(handle, alloc, held => ignored_id_in(held, index))
 }
 
 fn token_in(held: &Held, index: u32) -> Result<TokenNumbers, Refusal>
@@ -229,17 +210,10 @@ pub fn token(alloc: Global, handle: &mut Handle, index: u32) -> Result<TokenNumb
         (λ x token. x ≡ numbers_of token) }
     ensures kept { handle.new.held ≡ handle.old.held }
 {
-    match handle.take(alloc) {
-        Some(held) => {
-            let answer = token_in(held.as_ref(), index);
-            handle.put(held);
-            answer
-        }
-        None => Err(Refusal::EmptyHandle),
-    }
+    look!(handle, alloc, held => token_in(held, index))
 }
 
-fn traced_in(held: &Held, at: Position, clamped: bool) -> Result<Place, Refusal>
+fn trace_in(held: &Held, at: Position, clamped: bool) -> Result<Place, Refusal>
     ensures { IsTraced clamped result (Some held.now) at }
 {
     match map_in(held) {
@@ -249,7 +223,7 @@ fn traced_in(held: &Held, at: Position, clamped: bool) -> Result<Place, Refusal>
 }
 
 /// The trace of the map in a handle at a generated position, exact or clamped.
-pub fn traced(
+pub fn trace(
     alloc: Global,
     handle: &mut Handle,
     at: Position,
@@ -258,17 +232,10 @@ pub fn traced(
     ensures place { IsTraced clamped result handle.old.held at }
     ensures kept { handle.new.held ≡ handle.old.held }
 {
-    match handle.take(alloc) {
-        Some(held) => {
-            let answer = traced_in(held.as_ref(), at, clamped);
-            handle.put(held);
-            answer
-        }
-        None => Err(Refusal::EmptyHandle),
-    }
+    look!(handle, alloc, held => trace_in(held, at, clamped))
 }
 
-fn traced_all_in(
+fn trace_all_in(
     held: &Held,
     positions: &[Position],
     places: &mut [Place],
@@ -287,7 +254,7 @@ fn traced_all_in(
 }
 
 /// Writes the traces of the map in a handle at many generated positions, exact or clamped, and nothing on an error.
-pub fn traced_all(
+pub fn trace_all(
     alloc: Global,
     handle: &mut Handle,
     positions: &[Position],
@@ -304,14 +271,7 @@ pub fn traced_all(
     if positions.len() != places.len() {
         return Err(Refusal::Lengths);
     }
-    match handle.take(alloc) {
-        Some(held) => {
-            let answer = traced_all_in(held.as_ref(), positions, places, clamped);
-            handle.put(held);
-            answer
-        }
-        None => Err(Refusal::EmptyHandle),
-    }
+    look!(handle, alloc, held => trace_all_in(held, positions, places, clamped))
 }
 
 fn json_of(alloc: Global, held: &Held) -> Result<String, Refusal>
@@ -328,14 +288,7 @@ pub fn json(alloc: Global, handle: &mut Handle) -> Result<String, Refusal>
     ensures text { IsWrittenAs (λ text. string_bytes text) result handle.old.held map_text }
     ensures kept { handle.new.held ≡ handle.old.held }
 {
-    match handle.take(alloc) {
-        Some(held) => {
-            let answer = json_of(alloc, held.as_ref());
-            handle.put(held);
-            answer
-        }
-        None => Err(Refusal::EmptyHandle),
-    }
+    look!(handle, alloc, held => json_of(alloc, held))
 }
 
 fn data_url_of(alloc: Global, held: &Held) -> Result<String, Refusal>
@@ -352,12 +305,5 @@ pub fn data_url(alloc: Global, handle: &mut Handle) -> Result<String, Refusal>
     ensures text { IsWrittenAs (λ text. string_bytes text) result handle.old.held map_url }
     ensures kept { handle.new.held ≡ handle.old.held }
 {
-    match handle.take(alloc) {
-        Some(held) => {
-            let answer = data_url_of(alloc, held.as_ref());
-            handle.put(held);
-            answer
-        }
-        None => Err(Refusal::EmptyHandle),
-    }
+    look!(handle, alloc, held => data_url_of(alloc, held))
 }

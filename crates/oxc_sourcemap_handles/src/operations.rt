@@ -60,7 +60,7 @@ pub fn compose(
 }
 
 /// A map in a box for a handle, with its index.
-fn boxed(alloc: Global, map: OwnedSourceMap) -> Result<Box<Held>, Refusal>
+fn box_map(alloc: Global, map: OwnedSourceMap) -> Result<Box<Held>, Refusal>
     ensures map { IfOk result (λ held. held_map (Some held.value) ≡ Some map) }
     ensures error { IfErr result (λ r. r ≡ out_of_memory) }
 {
@@ -81,7 +81,7 @@ pub fn put_map(
         × IsRefusedAs result fault.new (λ r. made ≡ Err r) }
 {
     let held = match made {
-        Ok(map) => boxed(alloc, map),
+        Ok(map) => box_map(alloc, map),
         Err(refusal) => Err(refusal),
     };
     put(alloc, held, handle, fault)

@@ -92,7 +92,14 @@ pub fn one_token<'a>(
       source_root = None;
       sources = path.now ∷ [];
       source_contents = Some content.now ∷ [];
-      tokens = record { dst_line = 0; dst_col = 0; src_line = line; src_col = col; source_id = Some 0; name_id = Some 0 } ∷ [];
+      tokens = record {
+        dst_line = 0;
+        dst_col = 0;
+        src_line = line;
+        src_col = col;
+        source_id = Some 0;
+        name_id = Some 0;
+      } ∷ [];
       token_chunks = None;
       ignore_list = None;
       debug_id = None;

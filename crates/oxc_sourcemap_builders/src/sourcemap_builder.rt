@@ -351,8 +351,9 @@ impl<'a> SourceMapBuilder<'a> {
 
     /// Sets the chunks in which the tokens are written. Nothing is checked, and it cannot fail.
     pub fn set_token_chunks(&mut self, token_chunks: Vec<TokenChunk>)
-        ensures { self.new
-            ≡ record self.old { map = record self.old.map { token_chunks = Some token_chunks.items } } }
+        ensures { self.new ≡ record self.old {
+          map = record self.old.map { token_chunks = Some token_chunks.items };
+        } }
     {
         self.token_chunks = Some(token_chunks);
     }

@@ -48,7 +48,8 @@ fn contents_room(contents: &[Option<CowStr<'_>>]) -> usize
 /// Room for the JSON text of a map. A text with more escapes or longer mappings grows on.
 pub(crate) fn text_room(parts: &SourceMapParts<'_>) -> usize
     ensures { IsRoomFor (sum_by string_room parts.now.names.items +
-        (sum_by string_room parts.now.sources.items + sum_by content_room parts.now.source_contents.items)) result }
+        (sum_by string_room parts.now.sources.items +
+        sum_by content_room parts.now.source_contents.items)) result }
 {
     let names = texts_room(parts.names.as_slice());
     let sources = texts_room(parts.sources.as_slice());

@@ -5,13 +5,13 @@
 ghost use Rattle.std.specs.Prelude.{◌≡◌, ◌≢◌, ◌≤◌, ◌+◌, ◌⊎◌, ◌↔◌, ◌∷◌, [], ℕ, length, take};
 ghost use Rattle.std.specs.Prelude.{option_map, string_bytes, false, IfOk, IfErr, OnOk, OnErr, Ok};
 ghost use Rattle.std.specs.Prelude.{Err, Some, None};
-ghost use Rattle.callers.specs.Words.{OutOfMemory, TooLarge, Map, Unsorted, as_written};
-ghost use Rattle.callers.specs.Words.{are_tokens_sorted, IsSound, decoded_map_of, MapRecord};
-ghost use Rattle.callers.specs.Words.{read_map, said_in, map_text, trace, view_of, view_original};
-ghost use Rattle.callers.specs.Words.{joined, lent_maps, IsWithinLimits, without_chunks};
-ghost use Rattle.callers.specs.Words.{grouped_left, grouped_right, IsSeveralSources, read_meaning};
-ghost use Rattle.callers.specs.Words.{outcome, read_outcome, composition_outcome, IsEvaluated};
-ghost use Rattle.callers.specs.Words.{OnlyMemory};
+ghost use Rattle.oxc_sourcemap.specs.Words.{OutOfMemory, TooLarge, Map, Unsorted, as_written};
+ghost use Rattle.oxc_sourcemap.specs.Words.{are_tokens_sorted, IsSound, decoded_map_of, MapRecord};
+ghost use Rattle.oxc_sourcemap.specs.Words.{read_map, said_in, map_text, trace, view_of};
+ghost use Rattle.oxc_sourcemap.specs.Words.{view_original, joined, lent_maps, IsWithinLimits};
+ghost use Rattle.oxc_sourcemap.specs.Words.{without_chunks, grouped_left, grouped_right};
+ghost use Rattle.oxc_sourcemap.specs.Words.{IsSeveralSources, read_meaning, outcome, read_outcome};
+ghost use Rattle.oxc_sourcemap.specs.Words.{composition_outcome, IsEvaluated, OnlyMemory};
 
 use oxc_sourcemap::laws::{
     canonical_unique, composition_associative, joins_associative, name_ids_unique,

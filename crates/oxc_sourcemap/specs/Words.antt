@@ -1,13 +1,68 @@
--- The words of this crate's clauses, from one place.
+-- The words of the clauses of this library's calls, from one place. Users import what they need from here.
+pub use Rattle.oxc_sourcemap_builders.specs.Building.{with_name, with_name_at, with_another_source}
+pub use Rattle.oxc_sourcemap_builders.specs.Building.{with_path, with_path_at}
+pub use Rattle.oxc_sourcemap_builders.specs.Built.{nothing_built}
+pub use Rattle.oxc_sourcemap_builders.specs.NameLaws.{EqualIdsForEqualNames}
 pub use Rattle.oxc_sourcemap_decode.specs.Decoded.{decoded, json_fault}
-pub use Rattle.oxc_sourcemap_decode.specs.ReadMap.{read_value, read_map}
+pub use Rattle.oxc_sourcemap_decode.specs.ReadMap.{read_value, read_map, said_in, read_decoded_map}
 pub use Rattle.oxc_sourcemap_encode.specs.Encoded.{encoded}
-pub use Rattle.oxc_sourcemap_encode.specs.JsonText.{map_text}
+pub use Rattle.oxc_sourcemap_encode.specs.JsonText.{map_text, map_url}
+pub use Rattle.oxc_sourcemap_join.specs.Joined.{joined, lent_maps, IsWithinLimits, at_line}
+pub use Rattle.oxc_sourcemap_join.specs.Joined.{at_lines, added, nothing_joined, position}
+pub use Rattle.oxc_sourcemap_join.specs.Joined.{at_positions}
 pub use Rattle.oxc_sourcemap_json.specs.Json.{json_record}
-pub use Rattle.oxc_sourcemap_parts.specs.Sorted.{are_tokens_sorted}
+pub use Rattle.oxc_sourcemap_laws.specs.ComposeLaws.{grouped_left, grouped_right, IsSeveralSources}
+pub use Rattle.oxc_sourcemap_laws.specs.JoinLaws.{without_chunks}
+pub use Rattle.oxc_sourcemap_lookup.specs.Composed.{composition, composition_fault, SomeComposition}
+pub use Rattle.oxc_sourcemap_lookup.specs.Composed.{NoColumnGoesBack}
+pub use Rattle.oxc_sourcemap_lookup.specs.Digits.{binary_digits}
+pub use Rattle.oxc_sourcemap_lookup.specs.Lookup.{at, clamped_at, no_column_goes_back, token_for}
+pub use Rattle.oxc_sourcemap_lookup.specs.Lookup.{clamped_token_for, IfOwnTable, table_fault}
+pub use Rattle.oxc_sourcemap_lookup.specs.Lookup.{line_table, slice_of}
+pub use Rattle.oxc_sourcemap_lookup.specs.Trace.{trace, clamped_trace}
+pub use Rattle.oxc_sourcemap_map.specs.View.{view_of, view_original, seen_in, content_at}
+pub use Rattle.oxc_sourcemap_map.specs.View.{source_and_content_at, view_name, view_source}
+pub use Rattle.oxc_sourcemap_map.specs.View.{view_content, view_source_and_content}
+pub use Rattle.oxc_sourcemap_map.specs.contracts.owned_sourcemap.OwnedSourceMap.{the_row}
+pub use Rattle.oxc_sourcemap_map.specs.contracts.sourcemap.SourceMap.{the_row as map_row}
+pub use Rattle.oxc_sourcemap_mappings.specs.Canonical.{as_written}
+pub use Rattle.oxc_sourcemap_parts.specs.DecodedMap.{decoded_map_of}
+pub use Rattle.oxc_sourcemap_parts.specs.Record.{MapRecord, Text}
+pub use Rattle.oxc_sourcemap_parts.specs.Sorted.{are_tokens_sorted, token_column}
 pub use Rattle.oxc_sourcemap_parts.specs.Sound.{IsSound}
+pub use Rattle.oxc_sourcemap_parts.specs.Texts.{index_of}
+pub use Rattle.oxc_sourcemap_parts.specs.Views.{record_of_parts, empty_record, text_of, texts_of}
+pub use Rattle.oxc_sourcemap_parts.specs.Views.{contents_of, chunks_of}
+pub use Rattle.oxc_sourcemap_plan.specs.Depth.{depth}
+pub use Rattle.oxc_sourcemap_plan.specs.Evaluated.{IsEvaluated, IsFailure}
+pub use Rattle.oxc_sourcemap_plan.specs.Meaning.{read_meaning}
+pub use Rattle.oxc_sourcemap_plan.specs.Numbers.{number_of}
+pub use Rattle.oxc_sourcemap_plan.specs.Outcome.{outcome, read_outcome, composition_outcome}
+pub use Rattle.oxc_sourcemap_plan.specs.Outcome.{Outcome, rewrite_outcome, join_outcome, outcome_of}
+pub use Rattle.oxc_sourcemap_plan.specs.Outcome.{outcomes}
+pub use Rattle.oxc_sourcemap_plan.specs.PlanArguments.{parsed_number, parsed_beginning}
+pub use Rattle.oxc_sourcemap_plan.specs.PlanArguments.{parsed_input, parsed_join, parsed_part}
+pub use Rattle.oxc_sourcemap_plan.specs.PlanArguments.{parsed_plan}
+pub use Rattle.oxc_sourcemap_plan.specs.PlanInputs.{inputs_of}
+pub use Rattle.oxc_sourcemap_plan.specs.Realizes.{Realizes, FailsAs, AllRealize}
+pub use Rattle.oxc_sourcemap_plan.specs.Refusals.{out_of_memory, is_of_port, run_error_text}
+pub use Rattle.oxc_sourcemap_plan.specs.Refusals.{status_of}
+pub use Rattle.oxc_sourcemap_plan.specs.declared.run_error.RunError.TheVariants.{Plan}
+pub use Rattle.oxc_sourcemap_tokens.specs.Chunks.{ChunksFit}
 pub use Rattle.oxc_sourcemap_tokens.specs.LineOrder.{IsInLineOrder}
-pub use Rattle.oxc_sourcemap_tokens.specs.Results.{Answers, Reports}
-pub use Rattle.oxc_sourcemap_tokens.specs.Token.{AreInBounds}
-pub use Rattle.oxc_sourcemap_tokens.specs.declared.error.Error.TheVariants.{OutOfMemory}
+pub use Rattle.oxc_sourcemap_tokens.specs.Results.{Answers, Reports, OnlyMemory, lent_items}
+pub use Rattle.oxc_sourcemap_tokens.specs.Results.{lent_item, Gives, Pushes, GivesBut, FailsBy}
+pub use Rattle.oxc_sourcemap_tokens.specs.Token.{AreInBounds, kept_id}
+pub use Rattle.oxc_sourcemap_tokens.specs.declared.error.Error.TheVariants.{OutOfMemory, TooLarge}
+pub use Rattle.oxc_sourcemap_tokens.specs.declared.plan_error.PlanError.TheVariants.{Map, Unsorted}
+pub use Rattle.oxc_sourcemap_visualizer.specs.Link.{counted, map_link}
+pub use Rattle.oxc_sourcemap_visualizer.specs.TextLines.{units_of, lines_of, text_lines, ends_line}
+pub use Rattle.oxc_sourcemap_visualizer.specs.TextLines.{line_at}
+pub use Rattle.oxc_sourcemap_visualizer.specs.VisualText.{is_within, dst_end, src_end}
+pub use Rattle.oxc_sourcemap_visualizer.specs.VisualText.{is_on_source_line, between, part_text}
+pub use Rattle.oxc_sourcemap_visualizer.specs.VisualText.{position_text, mark, heading}
+pub use Rattle.oxc_sourcemap_visualizer.specs.VisualText.{invalid_text, parts_text, mapping_text}
+pub use Rattle.oxc_sourcemap_visualizer.specs.VisualText.{shown, shown_source, visual_token_text}
+pub use Rattle.oxc_sourcemap_visualizer.specs.VisualText.{tokens_text, visual_text}
 pub use Rattle.serde_json.specs.View.{view}
+pub use mir.Syntax.{static}

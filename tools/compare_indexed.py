@@ -1,6 +1,6 @@
 #!/usr/bin/env python3
 """Makes indexed maps of bundles whose parts were minified one by one, compares `smap` with peers on them, and prints the tables
-of docs/REAL_MAPS.md, "Indexed maps".
+of docs/FIGURES.md, "Real maps".
 
     tools/compare_indexed.py [--smap PROGRAM] [--positions N] FOLDER
 

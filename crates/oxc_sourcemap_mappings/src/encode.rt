@@ -416,6 +416,16 @@ fn fault_of_chunk(tokens: &[Token], chunk: &TokenChunk) -> Option<Error>
     Some(Error::LineOrder(i))
 }
 
+/// Adds the text of a chunk that has no fault.
+fn push_chunk(tokens: &[Token], chunk: &TokenChunk, out: &mut String) -> Memory<()>
+    requires { piece_fault tokens.now chunk.now ≡ None }
+    ensures text { Pushes result out.old out.new (piece tokens.now chunk.now) }
+    ensures adds { OnlyAdds (string_bytes out.old) (string_bytes out.new) }
+{
+    let header = Previous::header_of(chunk);
+    push_tokens(out, chunk.start == 0, header, tokens_of(tokens, chunk))
+}
+
 /// Appends the part of the `mappings` text that the tokens of one chunk make (docs/FORMAT.md, "Chunks"). Deltas start from
 /// the header of the chunk, which is taken as it is, right or wrong. No `,` comes before the token at index 0. The parts of
 /// chunks that fit, one after the other, are the canonical text.
@@ -451,8 +461,7 @@ pub fn encode_chunk(tokens: &[Token], chunk: &TokenChunk, out: &mut String) -> R
         return Err(fault);
     }
     let kept = out.len();
-    let header = Previous::header_of(chunk);
-    match push_tokens(out, chunk.start == 0, header, tokens_of(tokens, chunk)) {
+    match push_chunk(tokens, chunk, out) {
         Ok(()) => Ok(()),
         Err(refused) => {
             out.truncate(kept);
@@ -462,14 +471,13 @@ pub fn encode_chunk(tokens: &[Token], chunk: &TokenChunk, out: &mut String) -> R
 }
 
 /// Adds the pieces of chunks without faults, one after the other. After an `Err` the first pieces may be in `out`.
-fn push_chunks(out: &mut String, tokens: &[Token], chunks: &[TokenChunk]) -> Result<()>
+fn push_chunks(out: &mut String, tokens: &[Token], chunks: &[TokenChunk]) -> Memory<()>
     requires { AllByRecursion (λ c. piece_fault tokens.now c ≡ None) chunks.now }
     ensures ok { Pushes result out.old out.new (flat_map (piece tokens.now) chunks.now) }
-    ensures memory { OnlyMemory result }
     ensures adds { OnlyAdds (string_bytes out.old) (string_bytes out.new) }
 {
     for chunk in chunks {
-        encode_chunk(tokens, chunk, out)?;
+        push_chunk(tokens, chunk, out)?;
     }
     Ok(())
 }
@@ -508,7 +516,7 @@ fn encode_chunks(tokens: &[Token], chunks: &[TokenChunk], out: &mut String) -> R
         Ok(()) => Ok(()),
         Err(refused) => {
             out.truncate(start);
-            Err(refused)
+            Err(Error::from(refused))
         }
     }
 }

@@ -3,6 +3,7 @@ pub use Rattle.oxc_sourcemap_json.specs.Json.{json_record, json_contents}
 pub use Rattle.oxc_sourcemap_mappings.specs.Canonical.{canonical}
 pub use Rattle.oxc_sourcemap_mappings.specs.Pieces.{writing_fault}
 pub use Rattle.oxc_sourcemap_parts.specs.Views.{text_of, record_of_parts, ids_of, cow_texts}
+pub use Rattle.oxc_sourcemap_parts.specs.Views.{texts_of, contents_of}
 pub use Rattle.oxc_sourcemap_tokens.specs.Chunks.{lent_chunks}
 pub use Rattle.oxc_sourcemap_tokens.specs.Results.{Answers, OnlyMemory, Pushes}
 pub use Rattle.oxc_sourcemap_tokens.specs.Token.{AreInBounds}

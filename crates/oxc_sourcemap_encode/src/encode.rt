@@ -8,10 +8,14 @@ ghost use Rattle.oxc_sourcemap_encode.specs.Words.{OutOfMemory, AreInBounds, can
 ghost use Rattle.oxc_sourcemap_encode.specs.Words.{lent_chunks, writing_fault, text_of};
 ghost use Rattle.oxc_sourcemap_encode.specs.Words.{record_of_parts, json_record, json_contents};
 ghost use Rattle.oxc_sourcemap_encode.specs.Words.{encoded, written_contents, Answers};
+ghost use Rattle.oxc_sourcemap_encode.specs.Words.{texts_of, contents_of};
 
 use oxc_sourcemap_json::JSONSourceMap;
 use oxc_sourcemap_mappings::encode_mappings;
-use oxc_sourcemap_parts::{SourceMapParts, clone_ids, to_optional_strings, to_string, to_strings};
+use oxc_sourcemap_parts::{
+    SourceMapParts, clone_ids, into_optional_strings, into_string, into_strings,
+    to_optional_strings, to_string, to_strings,
+};
 use oxc_sourcemap_tokens::{Memory, Result, TokenChunk};
 use std::alloc::Global;
 use std::borrow::CowStr;
@@ -91,5 +95,98 @@ pub fn encode_parts(alloc: Global, parts: &SourceMapParts<'_>) -> Result<JSONSou
         names: to_strings(alloc, parts.names.as_slice())?,
         debug_id: to_string(alloc, &parts.debug_id)?,
         ignore_list: clone_ids(alloc, &parts.ignore_list)?,
+    })
+}
+
+/// The strings of a JSON source map that stand alone.
+#[derive(Drop)]
+struct Single {
+    file: Option<String>,
+    source_root: Option<String>,
+    debug_id: Option<String>,
+}
+
+/// The lists of strings of a JSON source map.
+#[derive(Drop)]
+struct StringLists {
+    names: Vec<String>,
+    sources: Vec<String>,
+    contents: Option<Vec<Option<String>>>,
+}
+
+/// Owned strings of a map that stand alone, moved.
+fn into_single(
+    alloc: Global,
+    file: Option<CowStr<'_>>,
+    source_root: Option<CowStr<'_>>,
+    debug_id: Option<CowStr<'_>>,
+) -> Memory<Single>
+    ensures file { IfOk result (λ single. option_map string_bytes single.file
+        ≡ text_of file.entry) }
+    ensures source_root { IfOk result (λ single. option_map string_bytes single.source_root
+        ≡ text_of source_root.entry) }
+    ensures debug_id { IfOk result (λ single. option_map string_bytes single.debug_id
+        ≡ text_of debug_id.entry) }
+{
+    Ok(Single {
+        file: into_string(alloc, file)?,
+        source_root: into_string(alloc, source_root)?,
+        debug_id: into_string(alloc, debug_id)?,
+    })
+}
+
+/// Owned contents, moved, where there is some content among them.
+fn into_contents(
+    alloc: Global,
+    contents: Vec<Option<CowStr<'_>>>,
+) -> Memory<Option<Vec<Option<String>>>>
+    ensures { IfOk result (λ strings. json_contents strings
+        ≡ written_contents (contents_of contents.entry)) }
+{
+    if !has_content(contents.as_slice()) {
+        return Ok(None);
+    }
+    Ok(Some(into_optional_strings(alloc, contents)?))
+}
+
+/// Owned lists of strings of a map, moved.
+fn into_lists(
+    alloc: Global,
+    names: Vec<CowStr<'_>>,
+    sources: Vec<CowStr<'_>>,
+    contents: Vec<Option<CowStr<'_>>>,
+) -> Memory<StringLists>
+    ensures names { IfOk result (λ lists. map string_bytes lists.names.items
+        ≡ texts_of names.entry) }
+    ensures sources { IfOk result (λ lists. map string_bytes lists.sources.items
+        ≡ texts_of sources.entry) }
+    ensures contents { IfOk result (λ lists. json_contents lists.contents
+        ≡ written_contents (contents_of contents.entry)) }
+{
+    Ok(StringLists {
+        names: into_strings(alloc, names)?,
+        sources: into_strings(alloc, sources)?,
+        contents: into_contents(alloc, contents)?,
+    })
+}
+
+/// The JSON source map of owned parts, as `encode_parts` makes it of borrowed ones; owned strings are moved. Fails as that does;
+/// the parts are then dropped.
+pub fn encode_owned_parts(alloc: Global, parts: SourceMapParts<'_>) -> Result<JSONSourceMap>
+    ensures { Answers json_record result (encoded (record_of_parts parts.entry)) }
+{
+    let mappings = mappings_of(alloc, &parts)?;
+    let single = into_single(alloc, parts.file, parts.source_root, parts.debug_id)?;
+    let lists = into_lists(alloc, parts.names, parts.sources, parts.source_contents)?;
+    Ok(JSONSourceMap {
+        version: 3,
+        file: single.file,
+        mappings,
+        source_root: single.source_root,
+        sources: lists.sources,
+        sources_content: lists.contents,
+        names: lists.names,
+        debug_id: single.debug_id,
+        ignore_list: parts.ignore_list,
     })
 }

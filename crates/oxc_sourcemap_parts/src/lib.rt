@@ -11,6 +11,7 @@ pub use iterators::{Contents, Names, Sources, Texts, Tokens, contents_in, texts_
 pub use parts::{SourceMapParts, owned_parts};
 pub use soundness::{are_sorted, are_sound};
 pub use strings::{
-    clone_ids, from_optional_strings, from_string, from_strings, into_owned_text, owned_contents,
-    owned_text, owned_texts, to_optional_strings, to_string, to_strings,
+    clone_ids, from_optional_strings, from_string, from_strings, into_optional_strings,
+    into_owned_text, into_string, into_strings, owned_contents, owned_text, owned_texts,
+    to_optional_strings, to_string, to_strings,
 };

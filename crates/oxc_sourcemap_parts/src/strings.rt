@@ -219,3 +219,39 @@ pub fn to_optional_strings(
     }
     Ok(strings)
 }
+
+/// A string of a map as a `String`, if there is one: an owned one is moved, a borrowed one copied.
+pub fn into_string(alloc: Global, text: Option<CowStr<'_>>) -> Memory<Option<String>>
+    ensures { IfOk result (λ string. option_map string_bytes string ≡ text_of text.entry) }
+{
+    match text {
+        Some(text) => Ok(Some(text.into_owned(alloc)?)),
+        None => Ok(None),
+    }
+}
+
+/// Each string as a `String`, as `into_string` makes it.
+pub fn into_strings(alloc: Global, texts: Vec<CowStr<'_>>) -> Memory<Vec<String>>
+    ensures { IfOk result (λ strings. map string_bytes strings.items ≡ texts_of texts.entry) }
+{
+    let mut strings = Vec::with_capacity(alloc, texts.len())?;
+    for text in texts {
+        strings.push(text.into_owned(alloc)?)?;
+    }
+    Ok(strings)
+}
+
+/// Each content that is there as a `String`, as `into_string` makes it.
+pub fn into_optional_strings(
+    alloc: Global,
+    contents: Vec<Option<CowStr<'_>>>,
+) -> Memory<Vec<Option<String>>>
+    ensures { IfOk result (λ strings. map (option_map string_bytes) strings.items
+        ≡ contents_of contents.entry) }
+{
+    let mut strings = Vec::with_capacity(alloc, contents.len())?;
+    for content in contents {
+        strings.push(into_string(alloc, content)?)?;
+    }
+    Ok(strings)
+}

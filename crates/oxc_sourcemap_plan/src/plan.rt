@@ -8,6 +8,7 @@ ghost use Rattle.oxc_sourcemap_plan.specs.Words.{FailsAs, AllRealize, OutOfMemor
 ghost use Rattle.oxc_sourcemap_plan.specs.Words.{are_tokens_sorted, Map, Unsorted};
 
 use oxc_sourcemap_builders::join_owned;
+use oxc_sourcemap_encode::encode_owned_parts;
 use oxc_sourcemap_laws::{canonical_unique, composition_associative, dropping_harmless};
 use oxc_sourcemap_map::{OwnedSourceMap, SourceMap};
 use oxc_sourcemap_tokens::{PlanError, Position};
@@ -98,14 +99,14 @@ fn read(alloc: Global, text: &str) -> Result<SourceMap<'static>, PlanError>
 
 /// A map, written and read again.
 #[inline(never)]
-fn rewrite(alloc: Global, map: &SourceMap<'_>) -> Result<SourceMap<'static>, PlanError>
-    ensures map { IfOk result (λ m. (o : Outcome) → Realizes map.now o
+fn rewrite(alloc: Global, map: SourceMap<'static>) -> Result<SourceMap<'static>, PlanError>
+    ensures map { IfOk result (λ m. (o : Outcome) → Realizes map.entry o
         → Realizes m (rewrite_outcome o)) }
-    ensures error { IfErr result (λ e. (o : Outcome) → Realizes map.now o
+    ensures error { IfErr result (λ e. (o : Outcome) → Realizes map.entry o
         → FailsAs e (rewrite_outcome o)) }
 {
     canonical_unique();
-    let json = map.to_json(alloc)?;
+    let json = encode_owned_parts(alloc, map.into_parts())?;
     Ok(SourceMap::from_json(alloc, json)?)
 }
 
@@ -167,7 +168,7 @@ fn evaluate_rewrite(alloc: Global, part: &Plan<'_>) -> Result<SourceMap<'static>
     ensures error { IfErr result (λ e. FailsAs e (rewrite_outcome (outcome_of part.now))) }
 {
     let map = evaluate_part(alloc, part)?;
-    rewrite(alloc, &map)
+    rewrite(alloc, map)
 }
 
 /// The join of the maps of parts, each at its line.

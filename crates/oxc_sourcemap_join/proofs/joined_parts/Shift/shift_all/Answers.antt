@@ -5,8 +5,8 @@ use Rattle.oxc_sourcemap_join.specs.Joined.{shifted}
 use Rattle.oxc_sourcemap_join.proofs.Moving.{all-mapped-at, not-yet-moved, moved-next, rest-next}
 use Rattle.oxc_sourcemap_join.proofs.joined_parts.Shift.shift_all.Goals as goal
 
-pub moved-requires : goal.shift-requires
-moved-requires c =
+pub shift-requires : goal.shift-requires
+shift-requires c =
     let s = c.args.self in
     let f = shifted s.names s.sources s.position in
     let l = c.loop-token in

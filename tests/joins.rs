@@ -1,9 +1,7 @@
-//! Joins, and the pieces of chunks.
+//! Joins.
 use crate::helpers::{is_text, same};
 use crate::rows::{Row, chunks_of, map_of, tokens_of};
-use oxc_sourcemap::{
-    ConcatSourceMapBuilder, Error, Result, SourceMap, Token, TokenChunk, encode_chunk,
-};
+use oxc_sourcemap::{ConcatSourceMapBuilder, Error, Result, SourceMap, Token};
 use std::alloc::Global;
 use std::process::Abort;
 
@@ -430,44 +428,5 @@ fn tokens_after_a_large_map_are_moved(rt: HostRuntime) -> Result<()> {
     same(&rt, "first", joined.get_token(0), Some(first));
     let second = Token::new(12, 0, 0, 0, None, None);
     same(&rt, "second", joined.get_token(1), Some(second));
-    Ok(())
-}
-
-const PIECES: &[([u32; 8], Result<&str>)] = &[
-    ([2, 3, 3, 1, 1, 1, 2, 1], Ok(",CCCCC")),
-    ([2, 3, 0, 0, 0, 0, 0, 0], Ok(";;;EEEEG")),
-    ([2, 3, 4, 0, 0, 0, 0, 0], Err(Error::LineOrder(2))),
-    ([2, 4, 0, 0, 0, 0, 0, 0], Err(Error::BadChunks(0))),
-];
-
-/// Asserts what a chunk is written as, or why it is not. Nothing is added to the text then.
-pub fn a_piece_is_written(
-    rt: &impl Abort,
-    alloc: Global,
-    tokens: &[Token],
-    chunk: &TokenChunk,
-    want: Result<&str>,
-) -> Result<()> {
-    let mut out = String::from_str(alloc, "kept")?;
-    let written = encode_chunk(tokens, chunk, &mut out);
-    same(rt, "error", written.err(), want.err());
-    let added = out.as_str().strip_prefix("kept");
-    same(rt, "piece", added, Some(want.unwrap_or("")));
-    Ok(())
-}
-
-#[test]
-fn pieces_are_written_from_their_headers(rt: HostRuntime) -> Result<()> {
-    let rows = [
-        (1, 1, 1, 1, Some(0), Some(0)),
-        (3, 1, 1, 1, Some(1), Some(2)),
-        (3, 2, 2, 2, Some(2), Some(3)),
-    ];
-    let tokens = tokens_of(rt.alloc(), rows.as_slice())?;
-    for (row, want) in PIECES {
-        let [start, end, line, col, src_line, src_col, name, source] = *row;
-        let chunk = TokenChunk::new(start, end, line, col, src_line, src_col, name, source);
-        a_piece_is_written(&rt, rt.alloc(), tokens.as_slice(), &chunk, *want)?;
-    }
     Ok(())
 }

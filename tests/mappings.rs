@@ -1,7 +1,7 @@
 //! Reading and writing the `mappings` text.
 mod long;
 mod numbers;
-mod pieces;
+pub mod pieces;
 
 use crate::helpers::same;
 use crate::rows::{Row, chunks_of, tokens_of};
@@ -443,7 +443,7 @@ fn texts_read_as_their_tokens(rt: HostRuntime) -> Result<()> {
     Ok(())
 }
 
-/// Nothing is added to the text where a list is refused.
+/// Nothing is added to the text where there is an error.
 fn a_list_is_written_as_its_text(
     rt: &impl Abort,
     alloc: Global,
@@ -453,7 +453,7 @@ fn a_list_is_written_as_its_text(
 ) -> Result<()> {
     let mut out = String::from_str(alloc, "kept;")?;
     let written = encode_mappings(tokens, chunks, &mut out);
-    same(rt, "refusal", written.err(), want.err());
+    same(rt, "error", written.err(), want.err());
     let added = out.as_str().strip_prefix("kept;");
     same(rt, "text", added, Some(want.unwrap_or("")));
     Ok(())
@@ -467,7 +467,7 @@ fn a_chunk_that_does_not_fit_is_told(
 ) {
     let told = match want {
         Err(Error::BadChunks(k)) => Some(k),
-        // Lines that go back are told first, and say nothing of the chunks.
+        // Lines that go back are reported first, whatever the chunks are.
         Err(_) => return,
         Ok(_) => None,
     };

@@ -137,7 +137,7 @@ fn json_source_maps_are_refused(rt: HostRuntime) -> Result<()> {
         (3, Error::BadSourceReference(3)),
     ] {
         let read = SourceMap::from_json(rt.alloc(), json_of(rt.alloc(), version)?);
-        same(&rt, "refusal", read.err(), Some(fault));
+        same(&rt, "error", read.err(), Some(fault));
     }
     Ok(())
 }
@@ -146,7 +146,7 @@ fn it_is_written_and_not_read(rt: &impl Abort, alloc: Global, map: &SourceMap<'_
     assert!(rt; map.is_sorted() && !map.is_sound());
     is_written_as(rt, alloc, map, Ok("AKAA"));
     let refused = read_back(alloc, map).err();
-    same(rt, "refusal", refused, Some(Error::BadSourceReference(0)));
+    same(rt, "error", refused, Some(Error::BadSourceReference(0)));
 }
 
 #[test]

@@ -9,7 +9,7 @@ use std::io::{ErrorKind, Read, Write};
 use std::process::Abort;
 use std::test::Fail;
 
-/// Words after the program's name, an input, and what is written or refused.
+/// Words after the program's name, an input, and what is written or the error.
 type Run = (
     &'static [&'static str],
     &'static str,
@@ -57,7 +57,7 @@ fn runs() -> [&'static [Run]; 2] {
     [MAPPINGS, NO_COMMANDS]
 }
 
-/// A JSON text, and what `normalise` writes, or the text of what it refuses.
+/// A JSON text, and what `normalise` writes, or the text of its error.
 type Normalised = (&'static str, Result<&'static str, &'static str>);
 
 /// Maps that are written.
@@ -190,7 +190,7 @@ const URLS: &[(&str, &str)] = &[
     ),
 ];
 
-/// The words after `trace`, the JSON text of a map, and what is written or refused.
+/// The words after `trace`, the JSON text of a map, and what is written or the error.
 const TRACES: &[(&[&str], &str, Result<&str, RunError>)] = &[
     (
         &["trace", "0", "3"],
@@ -236,8 +236,8 @@ const TRACES: &[(&[&str], &str, Result<&str, RunError>)] = &[
     (&["trace", "0", "-1"], "{}", Err(RunError::Arguments)),
 ];
 
-/// Refusals, with their texts and the status that the program ends with.
-const REFUSALS: &[(RunError, &str, u8)] = &[
+/// Errors, with their texts and the status that the program ends with.
+const ERRORS: &[(RunError, &str, u8)] = &[
     (RunError::Read, "read failed", 1),
     (RunError::Write, "write failed", 1),
     (RunError::Utf8, "input is not UTF-8", 1),
@@ -323,7 +323,7 @@ pub fn strings(alloc: Global, words: &[&str]) -> Result<Vec<String>, AllocError>
 }
 
 /// Runs the command on the input, and adds what it writes.
-fn run_command(
+pub fn run_command(
     alloc: Global,
     command: &Command<'_>,
     input: &[u8],
@@ -348,7 +348,7 @@ fn run_words(
     run_command(alloc, &command, input, written)
 }
 
-/// Asserts what the words write, or that they are refused so and write nothing.
+/// Asserts what the words write, or their error, where nothing is written.
 pub fn answers(
     rt: &impl Abort,
     alloc: Global,
@@ -358,7 +358,7 @@ pub fn answers(
 ) {
     let mut written = Vec::new(alloc);
     let result = run_words(alloc, words, input, &mut written);
-    same(rt, "refusal", result.err(), want.err());
+    same(rt, "error", result.err(), want.err());
     same(
         rt,
         "written",
@@ -389,16 +389,16 @@ fn commands_answer(rt: HostRuntime) {
     }
 }
 
-/// Asserts the text and the status of a refusal.
+/// Asserts the text and the status of an error.
 fn is_told_as(
     rt: &impl Abort,
     alloc: Global,
-    refusal: RunError,
+    error: RunError,
     text: &str,
     status: u8,
 ) -> Result<(), Fail> {
-    same(rt, "text", format!(in alloc; "{refusal}")?.as_str(), text);
-    same(rt, text, refusal.status(), status);
+    same(rt, "text", format!(in alloc; "{error}")?.as_str(), text);
+    same(rt, text, error.status(), status);
     Ok(())
 }
 
@@ -412,10 +412,10 @@ fn is_not_normalised(
     let mut written = Vec::new(alloc);
     let result = run_words(alloc, &["normalise"], input.as_bytes(), &mut written);
     assert!(rt; written.is_empty());
-    let Err(refusal) = result else {
+    let Err(error) = result else {
         return Ok(assert!(rt; false, "{input}"));
     };
-    is_told_as(rt, alloc, refusal, message, 1)
+    is_told_as(rt, alloc, error, message, 1)
 }
 
 fn is_normalised(rt: &impl Abort, alloc: Global, row: &Normalised) -> Result<(), Fail> {
@@ -473,9 +473,9 @@ fn input_is_utf8(rt: HostRuntime) {
 }
 
 #[test]
-fn refusals_have_a_text_and_a_status(rt: HostRuntime) -> Result<(), Fail> {
-    for (refusal, text, status) in REFUSALS {
-        is_told_as(&rt, rt.alloc(), *refusal, text, *status)?;
+fn errors_have_a_text_and_a_status(rt: HostRuntime) -> Result<(), Fail> {
+    for (error, text, status) in ERRORS {
+        is_told_as(&rt, rt.alloc(), *error, text, *status)?;
     }
     Ok(())
 }
@@ -489,12 +489,12 @@ fn a_read_fails(rt: &impl Abort, alloc: Global, fails_at: u64) {
     });
     let mut writer = Port::new(Vec::new(alloc));
     let result = run(alloc, &Command::Mappings(0, 0), &mut reader, &mut writer);
-    let refusal = if fails_at < 6 {
+    let error = if fails_at < 6 {
         Some(RunError::Read)
     } else {
         None
     };
-    same(rt, "refusal", result.err(), refusal);
+    same(rt, "error", result.err(), error);
     same(rt, "reader", reader.failed(), fails_at < 6);
     same(rt, "writer", writer.failed(), false);
     let wanted = if fails_at < 6 { "" } else { "gD,/C\n" };
@@ -520,12 +520,12 @@ fn a_write_fails(rt: &impl Abort, alloc: Global, fails_at: u64, takes_none: bool
         takes_none,
     });
     let result = run(alloc, &Command::Mappings(0, 0), &mut reader, &mut writer);
-    let refusal = if fails_at < 6 {
+    let error = if fails_at < 6 {
         Some(RunError::Write)
     } else {
         None
     };
-    same(rt, "refusal", result.err(), refusal);
+    same(rt, "error", result.err(), error);
     same(rt, "reader", reader.failed(), false);
     same(rt, "writer", writer.failed(), fails_at < 6);
     let taken = writer.into_inner().taken;

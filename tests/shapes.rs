@@ -1,4 +1,4 @@
-//! The shape of a JSON value that says a map: what each key may hold, and which fault is reported.
+//! The shape of the JSON value of a map: what each key may hold, and which fault is reported.
 use crate::helpers::{has_text, same};
 use oxc_sourcemap::{Error, Field, JSONSourceMap, JsonFault, Result, SourceMap, decode_value};
 use serde_json::Value;
@@ -11,7 +11,7 @@ type Member = (&'static str, &'static str);
 /// Stands for the value of a key that is left out.
 const MISSING: &str = "";
 
-/// An object that says a map. Its keys stand in the reverse of the order in which they are looked at, so that the fault of a key
+/// The object of a map. Its keys stand in the reverse of the order in which they are looked at, so that the fault of a key
 /// which is looked at first is the last one in the text.
 const GOOD: &[Member] = &[
     ("a key that no map has", "[7]"),
@@ -236,7 +236,7 @@ fn of_two_faults_that_of_the_earlier_field_is_reported(rt: HostRuntime) -> Resul
     Ok(())
 }
 
-/// Changes after which the object has its shape and says no map, and the fault.
+/// Changes after which the object has its shape and is no map, and the fault.
 const NO_MAPS: &[(&[Member], Error)] = &[
     (&[("ignoreList", "[2]")], Error::BadSourceReference(2)),
     (&[("ignoreList", "[1,5,9]")], Error::BadSourceReference(5)),

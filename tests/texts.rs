@@ -106,7 +106,7 @@ fn texts_that_are_not_json_are_refused(rt: HostRuntime) -> Result<()> {
     let read = SourceMap::from_json_string(rt.alloc(), "{} {}");
     same(
         &rt,
-        "refusal",
+        "error",
         read.err(),
         Some(Error::BadJson(JsonFault::Reading)),
     );

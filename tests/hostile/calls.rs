@@ -1,7 +1,7 @@
 //! Hostile maps are written, read back, checked and taken apart.
 use crate::helpers::{gives, has_text, is_text, same};
 use crate::hostile::maps::{Hostile, INPUT, each_hostile, hostile_map, map_of_parts};
-use crate::joins::a_piece_is_written;
+use crate::mappings::pieces::a_piece_is_written;
 use crate::rows::{chunks_of, tokens_of};
 use oxc_sourcemap::{
     Error, JSONSourceMap, OwnedSourceMap, Result, SourceMap, SourceMapParts, SourcemapVisualizer,
@@ -10,7 +10,7 @@ use oxc_sourcemap::{
 use std::alloc::Global;
 use std::process::Abort;
 
-/// Each refusal of writing is the same, whatever is written.
+/// Each error of writing is the same, whatever is written.
 fn it_is_written(rt: &impl Abort, alloc: Global, map: &SourceMap<'_>, hostile: &Hostile) {
     is_text(rt, "text", &map.to_json_string(alloc), hostile.text);
     is_text(
@@ -19,11 +19,11 @@ fn it_is_written(rt: &impl Abort, alloc: Global, map: &SourceMap<'_>, hostile: &
         &encode_to_string(alloc, map),
         hostile.text,
     );
-    let refusal = hostile.text.err();
-    same(rt, "json", map.to_json(alloc).err(), refusal);
-    same(rt, "url", map.to_data_url(alloc).err(), refusal);
+    let error = hostile.text.err();
+    same(rt, "json", map.to_json(alloc).err(), error);
+    same(rt, "url", map.to_data_url(alloc).err(), error);
     let shown = SourcemapVisualizer::new("ab\n", map);
-    same(rt, "link", shown.get_url(alloc).err(), refusal);
+    same(rt, "link", shown.get_url(alloc).err(), error);
     is_text(rt, "shown", &shown.get_text(alloc), Ok(hostile.shown));
 }
 

@@ -159,8 +159,8 @@ fn tables_are_the_same(
             the_same_is_found(rt, owned, map, found.as_slice());
         }
         (found, wanted) => {
-            let refusals = (found.as_ref().err(), wanted.as_ref().err());
-            same(rt, "table", refusals.0, refusals.1);
+            let errors = (found.as_ref().err(), wanted.as_ref().err());
+            same(rt, "table", errors.0, errors.1);
         }
     }
     Ok(())

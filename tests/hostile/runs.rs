@@ -1,8 +1,9 @@
 //! Each command over readers and writers that break at each call in turn.
 use crate::helpers::same;
 use crate::hostile::streams::{BreakingReader, BreakingWriter};
+use crate::program::{run_command, strings};
 use smap_run::{Command, Port, RunError, read_words, run};
-use std::alloc::{AllocError, Global};
+use std::alloc::Global;
 use std::process::Abort;
 
 /// The words of a command, an input, and what is written.
@@ -35,29 +36,6 @@ const RUNS: &[Run] = &[
         "{\"version\":3,\"names\":[],\"sources\":[\"a\"],\"mappings\":\";;A\"}\n",
     ),
 ];
-
-/// Copies of words.
-fn copied(alloc: Global, words: &[&str]) -> Result<Vec<String>, AllocError> {
-    let mut copies = Vec::new(alloc);
-    for word in words {
-        copies.push(String::from_str(alloc, word)?)?;
-    }
-    Ok(copies)
-}
-
-/// What a command answers to an input that is there at once.
-fn answer_to(
-    alloc: Global,
-    command: &Command<'_>,
-    input: &[u8],
-    written: &mut Vec<u8>,
-) -> Result<(), RunError> {
-    let mut reader = Port::new(input);
-    let mut writer = Port::new(Vec::new(alloc));
-    let ran = run(alloc, command, &mut reader, &mut writer);
-    written.append(&mut writer.into_inner())?;
-    ran
-}
 
 /// Asserts that a command ends like this and writes this, with a reader that breaks.
 fn a_reader_breaks(
@@ -106,7 +84,7 @@ fn each_read_fails(
 #[test]
 fn a_failed_read_is_told_and_nothing_is_written(rt: HostRuntime) -> Result<(), RunError> {
     for (words, input, answer) in RUNS {
-        let words = copied(rt.alloc(), words)?;
+        let words = strings(rt.alloc(), words)?;
         let command = read_words(words.as_slice())?;
         each_read_fails(
             &rt,
@@ -135,7 +113,7 @@ fn each_read_gives_none(
             fails: false,
         };
         let mut text = Vec::new(alloc);
-        let wanted = answer_to(alloc, command, beginning, &mut text);
+        let wanted = run_command(alloc, command, beginning, &mut text);
         a_reader_breaks(rt, alloc, command, reader, wanted, text.as_slice());
     }
     Ok(())
@@ -144,7 +122,7 @@ fn each_read_gives_none(
 #[test]
 fn a_read_that_gives_none_ends_the_input(rt: HostRuntime) -> Result<(), RunError> {
     for (words, input, _) in RUNS {
-        let words = copied(rt.alloc(), words)?;
+        let words = strings(rt.alloc(), words)?;
         let command = read_words(words.as_slice())?;
         each_read_gives_none(&rt, rt.alloc(), &command, input.as_bytes())?;
     }
@@ -203,7 +181,7 @@ fn each_write_breaks(
 fn a_failed_write_is_told_and_a_beginning_stands(rt: HostRuntime) -> Result<(), RunError> {
     for fails in [true, false] {
         for (words, input, answer) in RUNS {
-            let words = copied(rt.alloc(), words)?;
+            let words = strings(rt.alloc(), words)?;
             let command = read_words(words.as_slice())?;
             let (input, answer) = (input.as_bytes(), answer.as_bytes());
             each_write_breaks(&rt, rt.alloc(), &command, input, answer, fails);
@@ -215,11 +193,11 @@ fn a_failed_write_is_told_and_a_beginning_stands(rt: HostRuntime) -> Result<(), 
 #[test]
 fn input_is_utf8(rt: HostRuntime) -> Result<(), RunError> {
     for (words, _, _) in RUNS {
-        let words = copied(rt.alloc(), words)?;
+        let words = strings(rt.alloc(), words)?;
         let command = read_words(words.as_slice())?;
         for input in [&b"\xff"[..], b"{\"a\":\"\xed\xa0\x80\"}", b"A\xc3"] {
             let mut written = Vec::new(rt.alloc());
-            let ran = answer_to(rt.alloc(), &command, input, &mut written);
+            let ran = run_command(rt.alloc(), &command, input, &mut written);
             same(&rt, "ran", ran, Err(RunError::Utf8));
             same(&rt, "written", written.len(), 0);
         }

@@ -115,7 +115,7 @@ fn rewrites(alloc: Global, count: u32) -> std::result::Result<Plan<'static>, All
 }
 
 fn is_not_evaluated(rt: &impl Abort, alloc: Global, plan: &Plan<'_>, wanted: PlanError) {
-    same(rt, "refusal", evaluate(alloc, plan).err(), Some(wanted));
+    same(rt, "error", evaluate(alloc, plan).err(), Some(wanted));
 }
 
 #[test]

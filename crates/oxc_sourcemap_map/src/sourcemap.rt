@@ -20,7 +20,7 @@ use oxc_sourcemap_encode::{encode_parts, encode_parts_to_data_url, encode_parts_
 use oxc_sourcemap_json::JSONSourceMap;
 use oxc_sourcemap_parts::{
     Contents, Names, SourceMapParts, Sources, Tokens, are_sorted, are_sound, contents_in,
-    owned_contents, owned_contents, owned_parts, owned_texts, tokens_in,
+    owned_contents, owned_parts, owned_texts, texts_in, tokens_in,
 };
 use oxc_sourcemap_tokens::{Result, Token, TokenChunk};
 use std::alloc::Global;

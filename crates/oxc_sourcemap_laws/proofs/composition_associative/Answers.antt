@@ -26,8 +26,8 @@ returns-clause-composed_maps c = records_associative
 pub returns-clause-associative : goal.returns-clause-associative
 returns-clause-associative c = groupings_agree
 
-pub returns-clause-error : goal.returns-clause-error
-returns-clause-error c = λ a b m x y z n k. refused_together a b m y z x n k
+pub returns-clause-fail_together : goal.returns-clause-fail_together
+returns-clause-fail_together c = λ a b m x y z n k. refused_together a b m y z x n k
 
 pub returns-clause-answered : goal.returns-clause-answered
 returns-clause-answered c = λ a b m x y z n k. both_answer a b m y z x n k

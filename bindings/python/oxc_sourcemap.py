@@ -18,6 +18,7 @@ from pathlib import Path
 from typing import NamedTuple, Optional, Union
 
 __all__ = ["SourceMap", "SourceMapBuilder", "SourceMapError", "Place", "Token", "Counts", "UNMAPPED"]
+__version__ = "1.0.0"
 
 _u32, _size, _p = ctypes.c_uint32, ctypes.c_size_t, ctypes.POINTER
 _NO_ID = 0xFFFFFFFF

@@ -11,7 +11,7 @@ use Rattle.oxc_sourcemap.specs.Json.{JsonRecord}
 use Rattle.oxc_sourcemap.specs.Pieces.{writing_fault}
 use Rattle.oxc_sourcemap.specs.Record.{MapRecord}
 use Rattle.oxc_sourcemap.specs.Decoded.{decoded}
-use Rattle.oxc_sourcemap.specs.Refusals.{unless}
+use Rattle.oxc_sourcemap.specs.Errors.{unless}
 use Rattle.oxc_sourcemap.specs.Encoded.{encoded, encoded_record}
 use Rattle.oxc_sourcemap.specs.MapLaws.{ComesBack, rewritten}
 
@@ -35,11 +35,11 @@ module _ (r : MapRecord) (j : JsonRecord) (w : encoded r ≡ Ok j) (k : ComesBac
   pub back-is : (back : MapRecord) → decoded j ≡ Ok back → back ≡ rewritten r
   back-is back e = same-ok back (rewritten r) (sym e ∙ is-read)
 
-  pub back-refused : (e : Error) → decoded j ≡ Err e → ⊥
-  back-refused e h = let ok = is-read in cc
+  pub back-error : (e : Error) → decoded j ≡ Err e → ⊥
+  back-error e h = let ok = is-read in cc
 
-pub not-refused : (r : MapRecord) (e : Error) → encoded r ≡ Ok (encoded_record r) → encoded r ≡ Err e → ⊥
-not-refused r e w h = cc
+pub no-error : (r : MapRecord) (e : Error) → encoded r ≡ Ok (encoded_record r) → encoded r ≡ Err e → ⊥
+no-error r e w h = cc
 
 -- a property of a value, if there is one, may be weakened
 pub if_ok : {A E : Type 0} (P Q : A → Type 0) (r : Result A E) → ((x : A) → P x → Q x) → IfOk r P → IfOk r Q

@@ -41,7 +41,7 @@ memory-left e n z (inr t) h = absurd (let past = (h t).1 in omega arith)
 -- so the id of the name is not too large
 pub name-fits : (b : Built) (i : ℕ) (path content : Text) → (b, i) ≡ with_path nothing_built path content → (e : Error) {A : Type 0}
     → (e ≡ OutOfMemory) ⊎ (e ≡ TooLarge) → (e ≡ TooLarge → A × (4294967295 ≤ length b.map.names)) → e ≡ OutOfMemory
-name-fits b i path content first e refused large = memory-left e (length b.map.names) (no-names b i path content first) refused large
+name-fits b i path content first e error large = memory-left e (length b.map.names) (no-names b i path content first) error large
 
 pub built-is : (b b' b'' : Built) (i j : ℕ) (path content name : Text) (line col : ℕ) → (b, i) ≡ with_path nothing_built path content → (b', j) ≡ with_name b name
     → b'' ≡ record b' { map = with-token line col b'.map i j } → b''.map ≡ record {

@@ -6,7 +6,7 @@ use Rattle.std.proofs.lemmas.Bool.Decides.{nat_tests}
 use Rattle.std.specs.Prelude.{◌&&◌, if◌then◌else◌, nat_lt}
 use Rattle.oxc_sourcemap.specs.Error.{Error}
 use Rattle.oxc_sourcemap.specs.Error.TheVariants.{SeveralSources, LineOrder, TooLarge}
-use Rattle.oxc_sourcemap.specs.Refusals.{unless}
+use Rattle.oxc_sourcemap.specs.Errors.{unless}
 use Rattle.oxc_sourcemap.specs.Token.{TokenRecord}
 use Rattle.oxc_sourcemap.specs.LineOrder.{first_out_of_order}
 use Rattle.oxc_sourcemap.specs.Record.{MapRecord}
@@ -74,14 +74,14 @@ module _ (a b c a' b' c' : MapRecord) (p : a' ≡ a) (q : b' ≡ b) (r : c' ≡ 
   pub left-is : (ab : MapRecord) (answer : Result MapRecord Error) → composition a' b' ≡ Ok ab → composition ab c' ≡ answer → grouped_left a b c ≡ answer
   left-is ab answer h k = rw (← p, ← q, ← r) (ap (λ x. then_with x c') h ∙ k)
 
-  pub left-refused : (e : Error) → composition a' b' ≡ Err e → grouped_left a b c ≡ Err e
-  left-refused e h = rw (← p, ← q, ← r) (ap (λ x. then_with x c') h)
+  pub left-error : (e : Error) → composition a' b' ≡ Err e → grouped_left a b c ≡ Err e
+  left-error e h = rw (← p, ← q, ← r) (ap (λ x. then_with x c') h)
 
   pub right-is : (bc : MapRecord) (answer : Result MapRecord Error) → composition b' c' ≡ Ok bc → composition a' bc ≡ answer → grouped_right a b c ≡ answer
   right-is bc answer h k = rw (← p, ← q, ← r) (ap (with_then a') h ∙ k)
 
-  pub right-refused : (e : Error) → composition b' c' ≡ Err e → grouped_right a b c ≡ Err e
-  right-refused e h = rw (← p, ← q, ← r) (ap (with_then a') h)
+  pub right-error : (e : Error) → composition b' c' ≡ Err e → grouped_right a b c ≡ Err e
+  right-error e h = rw (← p, ← q, ← r) (ap (with_then a') h)
 
   -- the composition of the last two is sorted
   pub later-sorted : CompositionStandsFor → IsSound b → IsSound c → (bc : MapRecord) → composition b' c' ≡ Ok bc → are_tokens_sorted bc.tokens ≡ true
@@ -118,8 +118,8 @@ module _ (names : CompositionNames) (large : CompositionTooLarge) (a b c : MapRe
   right-fits h = right-fits-by (composition b c) refl h
 
 -- ---- errors of both orders
-abbrev pub Refuses : MapRecord → MapRecord → MapRecord → Type 0
-Refuses a b c = IsSeveralSources (grouped_left a b c) × (IsSeveralSources (grouped_right a b c) ⊎ (grouped_right a b c ≡ Err TooLarge))
+abbrev pub FailsWith : MapRecord → MapRecord → MapRecord → Type 0
+FailsWith a b c = IsSeveralSources (grouped_left a b c) × (IsSeveralSources (grouped_right a b c) ⊎ (grouped_right a b c ≡ Err TooLarge))
 
 several-of : (answer : Result MapRecord Error) (e : Error) → IsExpected e → e ≢ TooLarge → answer ≡ Err e → IsSeveralSources answer
 several-of answer e (inl s) n h = (s.0, h ∙ ap Err s.1)
@@ -131,8 +131,8 @@ swapped (inr b) = inl b
 
 module _ (tell : GroupingsTell) (a b c : MapRecord) (sa : IsSound a) (sb : IsSound b) (sc : IsSound c) where
   -- the errors that follow if the first order fails
-  pub refused-left : (e : Error) → grouped_left a b c ≡ Err e → e ≢ TooLarge → Refuses a b c
-  refused-left e h n =
+  pub error-left : (e : Error) → grouped_left a b c ≡ Err e → e ≢ TooLarge → FailsWith a b c
+  error-left e h n =
       let several = several-of (grouped_left a b c) e (left-expected a b c e sb sc h) n h in
       (several, swapped ((tell a b c sa sb sc).0.of_several several))
 
@@ -141,8 +141,8 @@ module _ (tell : GroupingsTell) (a b c : MapRecord) (sa : IsSound a) (sb : IsSou
   other-is e left h (inr m) = absurd (let q = m.1 in cc)
 
   -- if the first order gives a map, the second fails only with `TooLarge`
-  pub refused-right : (e : Error) (left : MapRecord) → grouped_left a b c ≡ Ok left → grouped_right a b c ≡ Err e → e ≡ TooLarge
-  refused-right e left l h = other-is e left h ((tell a b c sa sb sc).0.of_map left l)
+  pub error-right : (e : Error) (left : MapRecord) → grouped_left a b c ≡ Ok left → grouped_right a b c ≡ Err e → e ≡ TooLarge
+  error-right e left l h = other-is e left h ((tell a b c sa sb sc).0.of_map left l)
 
 not-answered : (answer : Result MapRecord Error) (e : Error) → IsAnswered answer → answer ≡ Err e → ⊥
 not-answered answer e m h = let q = m.1 in cc

@@ -17,7 +17,7 @@ pub use Rattle.oxc_sourcemap_mappings.specs.Canonical
 pub use Rattle.oxc_sourcemap_mappings.specs.Pieces
 pub use Rattle.oxc_sourcemap_tokens.specs.Chunks
 pub use Rattle.oxc_sourcemap_mappings.specs.TextLaws
-pub use Rattle.oxc_sourcemap_tokens.specs.Refusals
+pub use Rattle.oxc_sourcemap_tokens.specs.Errors
 pub use Rattle.oxc_sourcemap_tokens.specs.Results
 pub use Rattle.oxc_sourcemap_tokens.specs.Messages
 pub use Rattle.oxc_sourcemap_parts.specs.Record

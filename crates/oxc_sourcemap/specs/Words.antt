@@ -34,7 +34,7 @@ pub use Rattle.oxc_sourcemap_parts.specs.Texts.{index_of}
 pub use Rattle.oxc_sourcemap_parts.specs.Views.{record_of_parts, empty_record, text_of, texts_of}
 pub use Rattle.oxc_sourcemap_parts.specs.Views.{contents_of, chunks_of}
 pub use Rattle.oxc_sourcemap_plan.specs.Depth.{depth}
-pub use Rattle.oxc_sourcemap_plan.specs.Evaluated.{IsEvaluated, IsFailure}
+pub use Rattle.oxc_sourcemap_plan.specs.Evaluated.{IsEvaluated, IsErrorOf}
 pub use Rattle.oxc_sourcemap_plan.specs.Meaning.{read_meaning}
 pub use Rattle.oxc_sourcemap_plan.specs.Numbers.{number_of}
 pub use Rattle.oxc_sourcemap_plan.specs.Outcome.{outcome, read_outcome, composition_outcome}
@@ -45,8 +45,8 @@ pub use Rattle.oxc_sourcemap_plan.specs.PlanArguments.{parsed_input, parsed_join
 pub use Rattle.oxc_sourcemap_plan.specs.PlanArguments.{parsed_plan}
 pub use Rattle.oxc_sourcemap_plan.specs.PlanInputs.{inputs_of}
 pub use Rattle.oxc_sourcemap_plan.specs.Realizes.{Realizes, FailsAs, AllRealize}
-pub use Rattle.oxc_sourcemap_plan.specs.Refusals.{out_of_memory, is_of_port, run_error_text}
-pub use Rattle.oxc_sourcemap_plan.specs.Refusals.{status_of}
+pub use Rattle.oxc_sourcemap_plan.specs.RunErrors.{out_of_memory, is_of_port, run_error_text}
+pub use Rattle.oxc_sourcemap_plan.specs.RunErrors.{status_of}
 pub use Rattle.oxc_sourcemap_plan.specs.declared.run_error.RunError.TheVariants.{Plan}
 pub use Rattle.oxc_sourcemap_tokens.specs.Chunks.{ChunksFit}
 pub use Rattle.oxc_sourcemap_tokens.specs.LineOrder.{IsInLineOrder}

@@ -2,10 +2,10 @@
 use Rattle.std.specs.Prelude.{◌≡◌, ℕ, Option, Some, None, Result, Ok, Err, MatchOption}
 use Rattle.oxc_sourcemap_tokens.specs.declared.error.Error.{Error}
 use Rattle.oxc_sourcemap_parts.specs.Record.{Text, MapRecord}
-use Rattle.oxc_sourcemap_handles.specs.declared.refusal.Refusal.{Refusal}
-use Rattle.oxc_sourcemap_handles.specs.declared.refusal.Refusal.TheVariants.{EmptyHandle, NoEntry}
+use Rattle.oxc_sourcemap_handles.specs.declared.call_error.CallError.{CallError}
+use Rattle.oxc_sourcemap_handles.specs.declared.call_error.CallError.TheVariants.{EmptyHandle, NoEntry}
 use Rattle.oxc_sourcemap_handles.specs.declared.fault.Fault.{Fault}
-use Rattle.oxc_sourcemap_handles.specs.Refusals.{of_map}
+use Rattle.oxc_sourcemap_handles.specs.CallErrors.{of_map}
 use Rattle.oxc_sourcemap_handles.specs.Codes.{fault_of, code_of}
 use Rattle.oxc_sourcemap_handles.specs.declared.held.Held.{Held}
 use Rattle.oxc_sourcemap_handles.specs.declared.text.Text.{Text as LentText}
@@ -13,13 +13,13 @@ use Rattle.oxc_sourcemap_handles.specs.Holding.{held_map, held_text, HoldsMap}
 use Rattle.oxc_sourcemap_handles.specs.Answers.{HasLength}
 
 -- A call that takes no memory fails: its code and its fault are those of one of these errors.
-abbrev pub IsRefused : ℕ → Fault → (Refusal → Type 0) → Type 0
-IsRefused code f These = (r : Refusal) × (f ≡ fault_of r) × (code ≡ code_of r) × These r
+abbrev pub IsError : ℕ → Fault → (CallError → Type 0) → Type 0
+IsError code f These = (r : CallError) × (f ≡ fault_of r) × (code ≡ code_of r) × These r
 
 -- an error of writing what a handle holds
-abbrev pub IsWritingRefusal : (MapRecord → Result Text Error) → Option MapRecord → Refusal → Type 0
-IsWritingRefusal write None r = r ≡ EmptyHandle
-IsWritingRefusal write (Some m) r = (e : Error) × (write m ≡ Err e) × (r ≡ of_map e)
+abbrev pub IsWritingError : (MapRecord → Result Text Error) → Option MapRecord → CallError → Type 0
+IsWritingError write None r = r ≡ EmptyHandle
+IsWritingError write (Some m) r = (e : Error) × (write m ≡ Err e) × (r ≡ of_map e)
 
 -- a handle holds the text that another handle's map is written as
 abbrev pub HoldsWritten : (MapRecord → Result Text Error) → Option Held → Option Held → Type 0

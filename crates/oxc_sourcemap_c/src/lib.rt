@@ -13,18 +13,18 @@ ghost use Rattle.oxc_sourcemap_c.specs.Words.{TooLarge, read_map, map_text, map_
 ghost use Rattle.oxc_sourcemap_c.specs.Words.{SomeComposition, NoColumnGoesBack, IsInLineOrder};
 ghost use Rattle.oxc_sourcemap_c.specs.Words.{are_tokens_sorted, decoded_map_of, trace};
 ghost use Rattle.oxc_sourcemap_c.specs.Words.{clamped_trace, content_at, nothing_built, with_name};
-ghost use Rattle.oxc_sourcemap_c.specs.Words.{with_path, Refusal, refusal_text, of_map, fault_of};
-ghost use Rattle.oxc_sourcemap_c.specs.Words.{code_of, refusal_of, no_fault, IsSmall, IsMessage};
+ghost use Rattle.oxc_sourcemap_c.specs.Words.{with_path, CallError, call_error_text, of_map, fault_of};
+ghost use Rattle.oxc_sourcemap_c.specs.Words.{code_of, call_error_of, no_fault, IsSmall, IsMessage};
 ghost use Rattle.oxc_sourcemap_c.specs.Words.{held_map, held_builder, HoldsMap, counts_of};
-ghost use Rattle.oxc_sourcemap_c.specs.Words.{numbers_of, all_held, IsJoinOf, IsJoinRefusal};
+ghost use Rattle.oxc_sourcemap_c.specs.Words.{numbers_of, all_held, IsJoinOf, IsJoinError};
 ghost use Rattle.oxc_sourcemap_c.specs.Words.{token_of, with_token, with_file, Builds, NameHasNoId};
-ghost use Rattle.oxc_sourcemap_c.specs.Words.{SourceHasNoId, IsBuilderRefusal, IsNameRefusal};
-ghost use Rattle.oxc_sourcemap_c.specs.Words.{IsSourceRefusal, IsFileRefusal, plan_of, IsPlanMap};
-ghost use Rattle.oxc_sourcemap_c.specs.Words.{IsPlanRefusal, IsRefusedAs, IsReadRefusal};
-ghost use Rattle.oxc_sourcemap_c.specs.Words.{IsCompositionRefusal, HasLength, ignored_at, flag_of};
-ghost use Rattle.oxc_sourcemap_c.specs.Words.{IsTrace, IsTraceRefusal, AreTracesOf};
-ghost use Rattle.oxc_sourcemap_c.specs.Words.{IsTraceAllRefusal, IsRefused, Found, HoldsText};
-ghost use Rattle.oxc_sourcemap_c.specs.Words.{HoldsWritten, IsWritingRefusal, token_for};
+ghost use Rattle.oxc_sourcemap_c.specs.Words.{SourceHasNoId, IsBuilderError, IsNameError};
+ghost use Rattle.oxc_sourcemap_c.specs.Words.{IsSourceError, IsFileError, plan_of, IsPlanMap};
+ghost use Rattle.oxc_sourcemap_c.specs.Words.{IsPlanError, IsErrorAs, IsReadError};
+ghost use Rattle.oxc_sourcemap_c.specs.Words.{IsCompositionError, HasLength, ignored_at, flag_of};
+ghost use Rattle.oxc_sourcemap_c.specs.Words.{IsTrace, IsTraceError, AreTracesOf};
+ghost use Rattle.oxc_sourcemap_c.specs.Words.{IsTraceAllError, IsError, Found, HoldsText};
+ghost use Rattle.oxc_sourcemap_c.specs.Words.{HoldsWritten, IsWritingError, token_for};
 ghost use Rattle.oxc_sourcemap_c.specs.Words.{clamped_token_for};
 
 use crate::plans::evaluate_bytes;
@@ -46,9 +46,9 @@ pub extern "C" fn smap_from_json_string(
     fault: &mut Fault,
 ) -> u32
     ensures map { result ≡ 0 → HoldsMap map.new.held (λ m. read_map json.now ≡ Ok m) }
-    ensures not_refused { result ≡ 0 → fault.new ≡ no_fault }
+    ensures no_error { result ≡ 0 → fault.new ≡ no_fault }
     ensures error { result ≢ 0 → (map.new.held ≡ map.old.held)
-        × IsRefusedAs result fault.new (IsReadRefusal json.now) }
+        × IsErrorAs result fault.new (IsReadError json.now) }
 {
     put_map(alloc, read(alloc, json), map, fault)
 }
@@ -69,9 +69,9 @@ pub extern "C" fn smap_compose(
     ensures map { result ≡ 0 → HoldsMap map.new.held
         (λ m. HoldsMap first.old.held (λ a. HoldsMap input.old.held
         (λ b. NoColumnGoesBack b.tokens → composition a b ≡ Ok m))) }
-    ensures not_refused { result ≡ 0 → fault.new ≡ no_fault }
+    ensures no_error { result ≡ 0 → fault.new ≡ no_fault }
     ensures error { result ≢ 0 → (map.new.held ≡ map.old.held)
-        × IsRefusedAs result fault.new (IsCompositionRefusal (held_map first.old.held)
+        × IsErrorAs result fault.new (IsCompositionError (held_map first.old.held)
         (held_map input.old.held)) }
 {
     let composed = compose(alloc, first, input);
@@ -89,9 +89,9 @@ pub extern "C" fn smap_join(
 ) -> u32
     ensures emptied { All (λ h. h.held ≡ None) maps.new }
     ensures map { result ≡ 0 → HoldsMap map.new.held (IsJoinOf (all_held maps.old) offsets.now) }
-    ensures not_refused { result ≡ 0 → fault.new ≡ no_fault }
+    ensures no_error { result ≡ 0 → fault.new ≡ no_fault }
     ensures error { result ≢ 0 → (map.new.held ≡ map.old.held)
-        × IsRefusedAs result fault.new (IsJoinRefusal (all_held maps.old) offsets.now) }
+        × IsErrorAs result fault.new (IsJoinError (all_held maps.old) offsets.now) }
 {
     let joined = join(alloc, maps, offsets);
     put_map(alloc, joined, map, fault)
@@ -107,9 +107,9 @@ pub extern "C" fn smap_evaluate(
     fault: &mut Fault,
 ) -> u32
     ensures map { result ≡ 0 → HoldsMap map.new.held (IsPlanMap (plan_of words.now texts.now)) }
-    ensures not_refused { result ≡ 0 → fault.new ≡ no_fault }
+    ensures no_error { result ≡ 0 → fault.new ≡ no_fault }
     ensures error { result ≢ 0 → (map.new.held ≡ map.old.held)
-        × IsRefusedAs result fault.new (IsPlanRefusal words.now texts.now) }
+        × IsErrorAs result fault.new (IsPlanError words.now texts.now) }
 {
     put_map(alloc, evaluate_bytes(alloc, words, texts), map, fault)
 }
@@ -124,9 +124,9 @@ pub extern "C" fn smap_to_json_string(
 ) -> u32
     ensures kept { map.new.held ≡ map.old.held }
     ensures text { result ≡ 0 → HoldsWritten map_text map.old.held string.new.held }
-    ensures not_refused { result ≡ 0 → fault.new ≡ no_fault }
+    ensures no_error { result ≡ 0 → fault.new ≡ no_fault }
     ensures error { result ≢ 0 → (string.new.held ≡ string.old.held)
-        × IsRefusedAs result fault.new (IsWritingRefusal map_text (held_map map.old.held)) }
+        × IsErrorAs result fault.new (IsWritingError map_text (held_map map.old.held)) }
 {
     let written = json(alloc, map);
     put_text(alloc, written, string, fault)
@@ -142,9 +142,9 @@ pub extern "C" fn smap_to_data_url(
 ) -> u32
     ensures kept { map.new.held ≡ map.old.held }
     ensures text { result ≡ 0 → HoldsWritten map_url map.old.held string.new.held }
-    ensures not_refused { result ≡ 0 → fault.new ≡ no_fault }
+    ensures no_error { result ≡ 0 → fault.new ≡ no_fault }
     ensures error { result ≢ 0 → (string.new.held ≡ string.old.held)
-        × IsRefusedAs result fault.new (IsWritingRefusal map_url (held_map map.old.held)) }
+        × IsErrorAs result fault.new (IsWritingError map_url (held_map map.old.held)) }
 {
     let written = data_url(alloc, map);
     put_text(alloc, written, string, fault)
@@ -309,9 +309,9 @@ pub extern "C" fn smap_trace(
         (λ m. IsInLineOrder m.tokens × IsTrace m (token_for m.tokens line column)
         (trace (decoded_map_of m) line column) place.new) }
     ensures kept { map.new.held ≡ map.old.held }
-    ensures not_refused { result ≡ 0 → fault.new ≡ no_fault }
+    ensures no_error { result ≡ 0 → fault.new ≡ no_fault }
     ensures error { result ≢ 0 → (place.new ≡ place.old)
-        × IsRefused result fault.new (IsTraceRefusal (held_map map.old.held)) }
+        × IsError result fault.new (IsTraceError (held_map map.old.held)) }
 {
     let at = Position { line, column };
     write_place(trace(alloc, map, at, false), place, fault)
@@ -332,9 +332,9 @@ pub extern "C" fn smap_trace_clamped(
         (λ m. IsInLineOrder m.tokens × IsTrace m (clamped_token_for m.tokens line column)
         (clamped_trace (decoded_map_of m) line column) place.new) }
     ensures kept { map.new.held ≡ map.old.held }
-    ensures not_refused { result ≡ 0 → fault.new ≡ no_fault }
+    ensures no_error { result ≡ 0 → fault.new ≡ no_fault }
     ensures error { result ≢ 0 → (place.new ≡ place.old)
-        × IsRefused result fault.new (IsTraceRefusal (held_map map.old.held)) }
+        × IsError result fault.new (IsTraceError (held_map map.old.held)) }
 {
     let at = Position { line, column };
     write_place(trace(alloc, map, at, true), place, fault)
@@ -353,9 +353,9 @@ pub extern "C" fn smap_trace_all(
     ensures traced { result ≡ 0 → HoldsMap map.old.held
         (AreTracesOf false positions.now places.new) }
     ensures kept { map.new.held ≡ map.old.held }
-    ensures not_refused { result ≡ 0 → fault.new ≡ no_fault }
+    ensures no_error { result ≡ 0 → fault.new ≡ no_fault }
     ensures error { result ≢ 0 → (places.new ≡ places.old)
-        × IsRefused result fault.new (IsTraceAllRefusal positions.now places.old
+        × IsError result fault.new (IsTraceAllError positions.now places.old
         (held_map map.old.held)) }
 {
     write_fault(trace_all(alloc, map, positions, places, false), fault)
@@ -374,9 +374,9 @@ pub extern "C" fn smap_trace_all_clamped(
     ensures traced { result ≡ 0 → HoldsMap map.old.held
         (AreTracesOf true positions.now places.new) }
     ensures kept { map.new.held ≡ map.old.held }
-    ensures not_refused { result ≡ 0 → fault.new ≡ no_fault }
+    ensures no_error { result ≡ 0 → fault.new ≡ no_fault }
     ensures error { result ≢ 0 → (places.new ≡ places.old)
-        × IsRefused result fault.new (IsTraceAllRefusal positions.now places.old
+        × IsError result fault.new (IsTraceAllError positions.now places.old
         (held_map map.old.held)) }
 {
     write_fault(trace_all(alloc, map, positions, places, true), fault)
@@ -386,10 +386,10 @@ pub extern "C" fn smap_trace_all_clamped(
 /// 0 for want of memory, and if no error has these numbers.
 #[unsafe(no_mangle)]
 pub extern "C" fn smap_message(alloc: Global, fault: &Fault, out: &mut [u8]) -> usize
-    ensures message { (r : Refusal) → IsSmall r → fault.now ≡ fault_of r
-        → IsMessage (refusal_text r) out.old out.new result }
-    ensures cases { MatchOption (refusal_of fault.now) ((result ≡ 0) × (out.new ≡ out.old))
-        (λ r. IsMessage (refusal_text r) out.old out.new result) }
+    ensures message { (r : CallError) → IsSmall r → fault.now ≡ fault_of r
+        → IsMessage (call_error_text r) out.old out.new result }
+    ensures cases { MatchOption (call_error_of fault.now) ((result ≡ 0) × (out.new ≡ out.old))
+        (λ r. IsMessage (call_error_text r) out.old out.new result) }
 {
     write_message(alloc, fault, out)
 }
@@ -398,9 +398,9 @@ pub extern "C" fn smap_message(alloc: Global, fault: &Fault, out: &mut [u8]) -> 
 #[unsafe(no_mangle)]
 pub extern "C" fn smap_builder_new(alloc: Global, builder: &mut Handle, fault: &mut Fault) -> u32
     ensures built { result ≡ 0 → held_builder builder.new.held ≡ Some nothing_built }
-    ensures not_refused { result ≡ 0 → fault.new ≡ no_fault }
+    ensures no_error { result ≡ 0 → fault.new ≡ no_fault }
     ensures error { result ≢ 0 → (builder.new.held ≡ builder.old.held)
-        × IsRefusedAs result fault.new (λ r. ⊥) }
+        × IsErrorAs result fault.new (λ r. ⊥) }
 {
     put_builder(alloc, builder, fault)
 }
@@ -416,9 +416,9 @@ pub extern "C" fn smap_builder_add_name(
 ) -> u32
     ensures added { result ≡ 0 → Builds builder.old.held builder.new.held
         (λ b c. (c, id.new) ≡ with_name b name.now) }
-    ensures not_refused { result ≡ 0 → fault.new ≡ no_fault }
+    ensures no_error { result ≡ 0 → fault.new ≡ no_fault }
     ensures error { result ≢ 0 → (builder.new.held ≡ builder.old.held) × (id.new ≡ id.old)
-        × IsRefusedAs result fault.new (IsNameRefusal builder.old.held name.now) }
+        × IsErrorAs result fault.new (IsNameError builder.old.held name.now) }
     ensures too_large { MatchOption (held_builder builder.old.held) ⊤
         (λ b. IsUtf8 name.now → NameHasNoId name.now b → result ≡ code_of (of_map TooLarge)) }
 {
@@ -437,9 +437,9 @@ pub extern "C" fn smap_builder_add_source_and_content(
 ) -> u32
     ensures added { result ≡ 0 → Builds builder.old.held builder.new.held
         (λ b c. (c, id.new) ≡ with_path b path.now content.now) }
-    ensures not_refused { result ≡ 0 → fault.new ≡ no_fault }
+    ensures no_error { result ≡ 0 → fault.new ≡ no_fault }
     ensures error { result ≢ 0 → (builder.new.held ≡ builder.old.held) × (id.new ≡ id.old)
-        × IsRefusedAs result fault.new (IsSourceRefusal builder.old.held path.now content.now) }
+        × IsErrorAs result fault.new (IsSourceError builder.old.held path.now content.now) }
     ensures too_large { MatchOption (held_builder builder.old.held) ⊤
         (λ b. IsUtf8 path.now → IsUtf8 content.now → SourceHasNoId path.now b
         → result ≡ code_of (of_map TooLarge)) }
@@ -457,9 +457,9 @@ pub extern "C" fn smap_builder_add_token(
 ) -> u32
     ensures added { result ≡ 0 → Builds builder.old.held builder.new.held
         (λ b c. c ≡ with_token b (token_of token.now)) }
-    ensures not_refused { result ≡ 0 → fault.new ≡ no_fault }
+    ensures no_error { result ≡ 0 → fault.new ≡ no_fault }
     ensures error { result ≢ 0 → (builder.new.held ≡ builder.old.held)
-        × IsRefusedAs result fault.new (IsBuilderRefusal builder.old.held) }
+        × IsErrorAs result fault.new (IsBuilderError builder.old.held) }
 {
     let mut none = 0;
     write_id(add_token(alloc, builder, *token), &mut none, fault)
@@ -475,9 +475,9 @@ pub extern "C" fn smap_builder_set_file(
 ) -> u32
     ensures set { result ≡ 0 → Builds builder.old.held builder.new.held
         (λ b c. c ≡ with_file b file.now) }
-    ensures not_refused { result ≡ 0 → fault.new ≡ no_fault }
+    ensures no_error { result ≡ 0 → fault.new ≡ no_fault }
     ensures error { result ≢ 0 → (builder.new.held ≡ builder.old.held)
-        × IsRefusedAs result fault.new (IsFileRefusal builder.old.held file.now) }
+        × IsErrorAs result fault.new (IsFileError builder.old.held file.now) }
 {
     let mut none = 0;
     write_id(set_file(alloc, builder, file), &mut none, fault)
@@ -496,9 +496,9 @@ pub extern "C" fn smap_builder_finish(
         (λ m. MatchOption (held_builder builder.old.held) ⊥ (λ b. m ≡ b.map)) }
     ensures nothing_else { result ≡ 0 → HoldsMap map.new.held
         (λ m. (m.source_root ≡ None) × (m.ignore_list ≡ None) × (m.debug_id ≡ None)) }
-    ensures not_refused { result ≡ 0 → fault.new ≡ no_fault }
+    ensures no_error { result ≡ 0 → fault.new ≡ no_fault }
     ensures error { result ≢ 0 → (map.new.held ≡ map.old.held)
-        × IsRefusedAs result fault.new (IsBuilderRefusal builder.old.held) }
+        × IsErrorAs result fault.new (IsBuilderError builder.old.held) }
 {
     let built = finish(alloc, builder);
     put_map(alloc, built, map, fault)

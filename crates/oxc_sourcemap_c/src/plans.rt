@@ -1,9 +1,9 @@
 //! Plans as words and texts in bytes.
 ghost use Rattle.std.specs.Prelude.{◌≡◌, ◌≢◌, map, string_bytes, IfOk, IfErr};
-ghost use Rattle.oxc_sourcemap_c.specs.Words.{out_of_memory, words_of, plan_of, refusal_of_run};
-ghost use Rattle.oxc_sourcemap_c.specs.Words.{IsPlanMap, IsPlanFailure, IsPlanRefusal};
+ghost use Rattle.oxc_sourcemap_c.specs.Words.{out_of_memory, words_of, plan_of, call_error_of_run};
+ghost use Rattle.oxc_sourcemap_c.specs.Words.{IsPlanMap, IsPlanErrorOf, IsPlanError};
 
-use oxc_sourcemap_handles::{Refusal, text_of};
+use oxc_sourcemap_handles::{CallError, text_of};
 use oxc_sourcemap_map::OwnedSourceMap;
 use oxc_sourcemap_plan::{RunError, evaluate, inputs_of, read_plan};
 use std::alloc::{AllocError, Global};
@@ -20,34 +20,38 @@ fn words_of(alloc: Global, text: &str) -> Result<Vec<String>, AllocError>
 }
 
 /// The error for C of an error of reading or evaluating a plan.
-fn refusal_of(error: RunError) -> Refusal
-    ensures { result ≡ refusal_of_run error }
+fn call_error_of(error: RunError) -> CallError
+    ensures { result ≡ call_error_of_run error }
 {
     match error {
-        RunError::Plan(error) => Refusal::Plan(error),
-        RunError::NoText(number) => Refusal::NoText(number),
-        _ => Refusal::Words,
+        RunError::Plan(error) => CallError::Plan(error),
+        RunError::NoText(number) => CallError::NoText(number),
+        _ => CallError::Words,
     }
 }
 
 /// The map of the plan of these words, over these texts.
-fn evaluate_words(alloc: Global, words: &str, texts: &str) -> Result<OwnedSourceMap, Refusal>
+fn evaluate_words(alloc: Global, words: &str, texts: &str) -> Result<OwnedSourceMap, CallError>
     ensures map { IfOk result (IsPlanMap (plan_of words.now texts.now)) }
     ensures error { IfErr result (λ r. (r ≢ out_of_memory)
-        → IsPlanFailure (plan_of words.now texts.now) r) }
+        → IsPlanErrorOf (plan_of words.now texts.now) r) }
 {
     let inputs = inputs_of(alloc, texts)?;
     let words = words_of(alloc, words)?;
     match read_plan(alloc, inputs.as_slice(), words.as_slice()) {
         Ok(plan) => Ok(evaluate(alloc, &plan)?),
-        Err(error) => Err(refusal_of(error)),
+        Err(error) => Err(call_error_of(error)),
     }
 }
 
 /// The map of the plan of these words, over these texts, both given as bytes.
-pub fn evaluate_bytes(alloc: Global, words: &[u8], texts: &[u8]) -> Result<OwnedSourceMap, Refusal>
+pub fn evaluate_bytes(
+    alloc: Global,
+    words: &[u8],
+    texts: &[u8],
+) -> Result<OwnedSourceMap, CallError>
     ensures map { IfOk result (IsPlanMap (plan_of words.now texts.now)) }
-    ensures error { IfErr result (λ r. (r ≢ out_of_memory) → IsPlanRefusal words.now texts.now r) }
+    ensures error { IfErr result (λ r. (r ≢ out_of_memory) → IsPlanError words.now texts.now r) }
 {
     let words = text_of(words)?;
     let texts = text_of(texts)?;

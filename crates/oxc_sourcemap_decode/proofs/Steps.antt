@@ -7,7 +7,7 @@ use Rattle.std.proofs.lemmas.List.{append-nil}
 use Rattle.serde_json.specs.Data.{Data, Items, no_items, item}
 use Rattle.oxc_sourcemap_tokens.specs.declared.error.Error.{Error}
 use Rattle.oxc_sourcemap_tokens.specs.declared.error.Error.TheVariants.{SectionOrder, TooLarge}
-use Rattle.oxc_sourcemap_tokens.specs.Refusals.{unless}
+use Rattle.oxc_sourcemap_tokens.specs.Errors.{unless}
 use Rattle.oxc_sourcemap_parts.specs.Record.{MapRecord}
 use Rattle.oxc_sourcemap_tokens.specs.Token.{last}
 use Rattle.oxc_sourcemap_json.specs.Shape.{◌>>=◌}
@@ -59,13 +59,13 @@ out-of-order front d place j before count i b n e h =
 abbrev ended : List Placed → Error → Sections
 ended front fault = record { maps = front; fault = Some fault }
 
-refused-place : (front : List Placed) (d : Data) (ds : Items) (e : Error) → place_after front d ≡ Err e → sections_after front (item d ds) ≡ ended front e
-refused-place front d ds e h =
+error-place : (front : List Placed) (d : Data) (ds : Items) (e : Error) → place_after front d ≡ Err e → sections_after front (item d ds) ≡ ended front e
+error-place front d ds e h =
     ap (λ (r : Result Position Error). onto_section front (λ s. sections_after (front ++ s ∷ []) ds) (r >>= (λ place. section_map d >>= (λ m. Ok (m, place))))) h
 
-refused-map : (front : List Placed) (d : Data) (ds : Items) (place : Position) (e : Error) → place_after front d ≡ Ok place → section_map d ≡ Err e
+error-map : (front : List Placed) (d : Data) (ds : Items) (place : Position) (e : Error) → place_after front d ≡ Ok place → section_map d ≡ Err e
     → sections_after front (item d ds) ≡ ended front e
-refused-map front d ds place e h g =
+error-map front d ds place e h g =
     ap (λ (r : Result Position Error). onto_section front (λ s. sections_after (front ++ s ∷ []) ds) (r >>= (λ place. section_map d >>= (λ m. Ok (m, place))))) h
     ∙ ap (λ (r : Result MapRecord Error). onto_section front (λ s. sections_after (front ++ s ∷ []) ds) (r >>= (λ m. Ok (m, place)))) g
 
@@ -116,13 +116,13 @@ abbrev pub SaysOfPlace : MapRecord → Option Position → Data → Result Posit
 SaysOfPlace j before d answer = (front : List Placed) → j ≡ joined front → before ≡ option_map (λ s. s.1) (last front) → place_after front d ≡ answer
 
 module _ (all : Items) (d : Data) (ds : Items) (j : MapRecord) (before : Option Position) (s : SoFar all (item d ds) j before) where
-  pub place-refused : (e : Error) → SaysOfPlace j before d (Err e) → joined_sections (all_sections all) ≡ Err e
-  place-refused e h =
-      ap joined_sections (s.same ∙ refused-place s.front d ds e (h s.front s.is_join s.is_before)) ∙ is-answer s.front (Some e) s.within
+  pub place-error : (e : Error) → SaysOfPlace j before d (Err e) → joined_sections (all_sections all) ≡ Err e
+  place-error e h =
+      ap joined_sections (s.same ∙ error-place s.front d ds e (h s.front s.is_join s.is_before)) ∙ is-answer s.front (Some e) s.within
 
-  pub map-refused : (place : Position) (e : Error) → SaysOfPlace j before d (Ok place) → section_map d ≡ Err e → joined_sections (all_sections all) ≡ Err e
-  map-refused place e h g =
-      ap joined_sections (s.same ∙ refused-map s.front d ds place e (h s.front s.is_join s.is_before) g) ∙ is-answer s.front (Some e) s.within
+  pub map-error : (place : Position) (e : Error) → SaysOfPlace j before d (Ok place) → section_map d ≡ Err e → joined_sections (all_sections all) ≡ Err e
+  map-error place e h g =
+      ap joined_sections (s.same ∙ error-map s.front d ds place e (h s.front s.is_join s.is_before) g) ∙ is-answer s.front (Some e) s.within
 
   next : (place : Position) (m : MapRecord) → SaysOfPlace j before d (Ok place) → section_map d ≡ Ok m → all_sections all ≡ sections_after (s.front ++ (m, place) ∷ []) ds
   next place m h g = s.same ∙ taken s.front d ds place m (h s.front s.is_join s.is_before) g
@@ -130,9 +130,9 @@ module _ (all : Items) (d : Data) (ds : Items) (j : MapRecord) (before : Option 
   is-next : (place : Position) (m : MapRecord) → added j m place ≡ joined (s.front ++ (m, place) ∷ [])
   is-next place m = ap (λ r. added r m place) s.is_join ∙ sym (joined-more s.front m place)
 
-  pub add-refused : (place : Position) (m : MapRecord) → SaysOfPlace j before d (Ok place) → section_map d ≡ Ok m → ¬ (IsWithinLimits (added j m place))
+  pub add-error : (place : Position) (m : MapRecord) → SaysOfPlace j before d (Ok place) → section_map d ≡ Ok m → ¬ (IsWithinLimits (added j m place))
       → joined_sections (all_sections all) ≡ Err TooLarge
-  add-refused place m h g n =
+  add-error place m h g n =
       ap joined_sections (next place m h g) ∙ too-large (s.front ++ (m, place) ∷ []) ds (λ w. n (subst IsWithinLimits (sym (is-next place m)) w))
 
   pub more-so-far : (place : Position) (m : MapRecord) → SaysOfPlace j before d (Ok place) → section_map d ≡ Ok m → IsWithinLimits (added j m place)

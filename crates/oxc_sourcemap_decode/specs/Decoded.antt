@@ -5,7 +5,7 @@ use Rattle.std.specs.Option.{option_map_or, unwrap_or}
 use Rattle.oxc_sourcemap_tokens.specs.declared.error.Error.{Error}
 use Rattle.oxc_sourcemap_tokens.specs.declared.error.Error.TheVariants.{BadJson, BadSourceReference}
 use Rattle.oxc_sourcemap_tokens.specs.declared.error.JsonFault.TheVariants.{Version}
-use Rattle.oxc_sourcemap_tokens.specs.Refusals.{unless}
+use Rattle.oxc_sourcemap_tokens.specs.Errors.{unless}
 use Rattle.oxc_sourcemap_tokens.specs.Token.{TokenRecord}
 use Rattle.oxc_sourcemap_json.specs.Json.{JsonRecord}
 use Rattle.oxc_sourcemap_mappings.specs.Reading.{reading}

@@ -155,9 +155,9 @@ pub fn push_json_string(text: &str, out: &mut String) -> Result<()>
     ensures unchanged { OnErr result (string_bytes out.new ≡ string_bytes out.old) }
 {
     let before = out.len();
-    if let Err(refused) = push_quoted(out, text) {
+    if let Err(error) = push_quoted(out, text) {
         out.truncate(before);
-        return Err(Error::from(refused));
+        return Err(Error::from(error));
     }
     Ok(())
 }

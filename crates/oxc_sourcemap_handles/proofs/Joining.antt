@@ -8,7 +8,7 @@ use Rattle.oxc_sourcemap_parts.specs.Record.{MapRecord}
 use Rattle.oxc_sourcemap_tokens.specs.declared.position.Position.{Position}
 use Rattle.oxc_sourcemap_handles.specs.declared.held.Held.{Held}
 use Rattle.oxc_sourcemap_handles.specs.declared.handle.Handle.{Handle}
-use Rattle.oxc_sourcemap_handles.specs.declared.refusal.Refusal.{Refusal}
+use Rattle.oxc_sourcemap_handles.specs.declared.call_error.CallError.{CallError}
 use Rattle.oxc_sourcemap_handles.proofs.Composing.{Taken}
 use Rattle.oxc_sourcemap_handles.specs.Holding.{held_map}
 use Rattle.oxc_sourcemap_handles.specs.Joins.{all_held, placed_maps}
@@ -28,7 +28,7 @@ one_more done h hs p ps m e =
     ap (λ o. after done (option_and_then (λ m. option_map (λ ms. (m, p) ∷ ms) (placed_maps hs ps)) o)) e ∙ after_one done (m, p) (placed_maps hs ps)
 
 -- a handle that held a map, from which it was taken
-pub held_taken : (h : Option MapRecord) (taken : Result MapRecord Refusal) (m : MapRecord) → Taken h taken → taken ≡ Ok m → h ≡ Some m
+pub held_taken : (h : Option MapRecord) (taken : Result MapRecord CallError) (m : MapRecord) → Taken h taken → taken ≡ Ok m → h ≡ Some m
 held_taken None taken m t e = cc (t, e)
 held_taken (Some x) taken m t e = cc (t, e)
 

@@ -21,13 +21,13 @@ use Rattle.oxc_sourcemap_tokens.specs.declared.error.Error.TheVariants.{SeveralS
 use Rattle.oxc_sourcemap_tokens.specs.declared.error.Error.TheVariants.{SectionOrder}
 use Rattle.oxc_sourcemap_tokens.specs.declared.plan_error.PlanError.TheVariants.{Map, Unsorted}
 use Rattle.oxc_sourcemap_tokens.specs.declared.plan_error.PlanError.TheVariants.{TooDeep}
-use Rattle.oxc_sourcemap_handles.specs.declared.refusal.Refusal.{Refusal}
-use Rattle.oxc_sourcemap_handles.specs.declared.refusal.Refusal.TheVariants.{Plan, Words, NoText}
-use Rattle.oxc_sourcemap_handles.specs.declared.refusal.Refusal.TheVariants.{EmptyHandle, NotUtf8}
-use Rattle.oxc_sourcemap_handles.specs.declared.refusal.Refusal.TheVariants.{Lengths, NoEntry}
-use Rattle.oxc_sourcemap_handles.specs.Codes.{fault_of, refusal_of, IsSmall}
+use Rattle.oxc_sourcemap_handles.specs.declared.call_error.CallError.{CallError}
+use Rattle.oxc_sourcemap_handles.specs.declared.call_error.CallError.TheVariants.{Plan, Words, NoText}
+use Rattle.oxc_sourcemap_handles.specs.declared.call_error.CallError.TheVariants.{EmptyHandle, NotUtf8}
+use Rattle.oxc_sourcemap_handles.specs.declared.call_error.CallError.TheVariants.{Lengths, NoEntry}
+use Rattle.oxc_sourcemap_handles.specs.Codes.{fault_of, call_error_of, IsSmall}
 
-shape_back : (f : Field) → refusal_of (fault_of (Plan (Map (BadJson (Shape f))))) ≡ Some (Plan (Map (BadJson (Shape f))))
+shape_back : (f : Field) → call_error_of (fault_of (Plan (Map (BadJson (Shape f))))) ≡ Some (Plan (Map (BadJson (Shape f))))
 shape_back Object = refl
 shape_back VersionField = refl
 shape_back File = refl
@@ -43,7 +43,7 @@ shape_back Sections = refl
 shape_back Offset = refl
 shape_back MapField = refl
 
-pub read_back : (r : Refusal) → IsSmall r → refusal_of (fault_of r) ≡ Some r
+pub read_back : (r : CallError) → IsSmall r → call_error_of (fault_of r) ≡ Some r
 read_back (Plan (Map VlqLeftover)) s = refl
 read_back (Plan (Map VlqNoValues)) s = refl
 read_back (Plan (Map VlqOverflow)) s = refl

@@ -9,9 +9,9 @@ use Rattle.oxc_sourcemap_parts.specs.Record.{Text, MapRecord}
 use Rattle.oxc_sourcemap_decode.specs.ReadMap.{read_map}
 use Rattle.oxc_sourcemap_lookup.specs.Composed.{SomeComposition}
 use Rattle.oxc_sourcemap_map.specs.View.{content_at}
-use Rattle.oxc_sourcemap_handles.specs.declared.refusal.Refusal.{Refusal}
-use Rattle.oxc_sourcemap_handles.specs.declared.refusal.Refusal.TheVariants.{EmptyHandle, NotUtf8}
-use Rattle.oxc_sourcemap_handles.specs.declared.refusal.Refusal.TheVariants.{NoEntry}
+use Rattle.oxc_sourcemap_handles.specs.declared.call_error.CallError.{CallError}
+use Rattle.oxc_sourcemap_handles.specs.declared.call_error.CallError.TheVariants.{EmptyHandle, NotUtf8}
+use Rattle.oxc_sourcemap_handles.specs.declared.call_error.CallError.TheVariants.{NoEntry}
 use Rattle.oxc_sourcemap_handles.specs.declared.fault.Fault.{Fault}
 use Rattle.oxc_sourcemap_handles.specs.declared.held.Held.{Held}
 use Rattle.oxc_sourcemap_handles.specs.declared.text.Text.{Text as LentText}
@@ -19,24 +19,24 @@ use Rattle.oxc_sourcemap_handles.specs.declared.asked.Asked.{Asked}
 use Rattle.oxc_sourcemap_handles.specs.declared.asked.Asked.TheVariants.{Name, Source}
 use Rattle.oxc_sourcemap_handles.specs.declared.asked.Asked.TheVariants.{SourceContent, File}
 use Rattle.oxc_sourcemap_handles.specs.declared.asked.Asked.TheVariants.{SourceRoot, DebugId}
-use Rattle.oxc_sourcemap_handles.specs.Refusals.{out_of_memory, of_map}
+use Rattle.oxc_sourcemap_handles.specs.CallErrors.{out_of_memory, of_map}
 use Rattle.oxc_sourcemap_handles.specs.Codes.{fault_of, code_of}
 use Rattle.oxc_sourcemap_handles.specs.Holding.{held_map}
 
 -- A call fails: its code and its fault are those of one error, which is want of memory or one of these.
-abbrev pub IsRefusedAs : ℕ → Fault → (Refusal → Type 0) → Type 0
-IsRefusedAs code f These = (r : Refusal) × (f ≡ fault_of r) × (code ≡ code_of r) × (r ≢ out_of_memory → These r)
+abbrev pub IsErrorAs : ℕ → Fault → (CallError → Type 0) → Type 0
+IsErrorAs code f These = (r : CallError) × (f ≡ fault_of r) × (code ≡ code_of r) × (r ≢ out_of_memory → These r)
 
 -- an error of reading bytes: they are not UTF-8, or their text has an error
-abbrev pub IsReadRefusal : List ℕ → Refusal → Type 0
-IsReadRefusal bytes r =
+abbrev pub IsReadError : List ℕ → CallError → Type 0
+IsReadError bytes r =
     (¬ (IsUtf8 bytes) × (r ≡ NotUtf8 (utf8_valid_len bytes))) ⊎ (IsUtf8 bytes × (e : Error) × (read_map bytes ≡ Err e) × (r ≡ of_map e))
 
 -- an error of composing what two handles hold: one holds no map, or the maps have no composition
-abbrev pub IsCompositionRefusal : Option MapRecord → Option MapRecord → Refusal → Type 0
-IsCompositionRefusal (Some a) (Some b) r = (e : Error) × SomeComposition a b (Err e) × (r ≡ of_map e)
-IsCompositionRefusal (Some a) None r = r ≡ EmptyHandle
-IsCompositionRefusal None b r = r ≡ EmptyHandle
+abbrev pub IsCompositionError : Option MapRecord → Option MapRecord → CallError → Type 0
+IsCompositionError (Some a) (Some b) r = (e : Error) × SomeComposition a b (Err e) × (r ≡ of_map e)
+IsCompositionError (Some a) None r = r ≡ EmptyHandle
+IsCompositionError None b r = r ≡ EmptyHandle
 
 -- the text of a map that is asked for
 abbrev pub text_at : MapRecord → Asked → Option Text
@@ -48,7 +48,7 @@ text_at m SourceRoot = m.source_root
 text_at m DebugId = m.debug_id
 
 -- the result of a lookup in what a handle holds: `EmptyHandle`, `NoEntry`, or what is found
-abbrev pub IsFound : {A B : Type 0} → Result A Refusal → Option Held → (MapRecord → Option B) → (A → B → Type 0) → Type 0
+abbrev pub IsFound : {A B : Type 0} → Result A CallError → Option Held → (MapRecord → Option B) → (A → B → Type 0) → Type 0
 IsFound answer held ask Is =
     MatchOption (held_map held) (answer ≡ Err EmptyHandle)
     (λ m. MatchOption (ask m) (answer ≡ Err NoEntry) (λ found. MatchResult answer (λ x. Is x found) (λ _. ⊥)))
@@ -63,7 +63,7 @@ ignored_at m i = option_and_then (λ ids. slice_get ids i) m.ignore_list
 
 -- the result of writing a handle's map by `write`: its text, `EmptyHandle` if it holds no map, an error of writing, or want of
 -- memory
-abbrev pub IsWrittenAs : {S : Type 0} → (S → Text) → Result S Refusal → Option Held → (MapRecord → Result Text Error) → Type 0
+abbrev pub IsWrittenAs : {S : Type 0} → (S → Text) → Result S CallError → Option Held → (MapRecord → Result Text Error) → Type 0
 IsWrittenAs bytes answer held write =
     MatchOption (held_map held) (answer ≡ Err EmptyHandle) (λ m. MatchResult answer (λ text. write m ≡ Ok (bytes text))
     (λ r. r ≢ out_of_memory → (e : Error) × (write m ≡ Err e) × (r ≡ of_map e)))

@@ -9,10 +9,10 @@ use Rattle.oxc_sourcemap_parts.specs.Texts.{index_of}
 use Rattle.oxc_sourcemap_builders.specs.Built.{Built}
 use Rattle.oxc_sourcemap_handles.specs.declared.held.Held.{Held}
 use Rattle.oxc_sourcemap_handles.specs.declared.text.TokenNumbers.{TokenNumbers}
-use Rattle.oxc_sourcemap_handles.specs.declared.refusal.Refusal.{Refusal}
-use Rattle.oxc_sourcemap_handles.specs.declared.refusal.Refusal.TheVariants.{EmptyHandle}
+use Rattle.oxc_sourcemap_handles.specs.declared.call_error.CallError.{CallError}
+use Rattle.oxc_sourcemap_handles.specs.declared.call_error.CallError.TheVariants.{EmptyHandle}
 use Rattle.oxc_sourcemap_handles.specs.Holding.{held_builder}
-use Rattle.oxc_sourcemap_handles.specs.Refusals.{of_map, IsNotText}
+use Rattle.oxc_sourcemap_handles.specs.CallErrors.{of_map, IsNotText}
 
 -- the token of these numbers; 4294967295 stands for no id
 abbrev pub token_of : TokenNumbers → TokenRecord
@@ -46,22 +46,22 @@ abbrev pub SourceHasNoId : Text → Built → Type 0
 SourceHasNoId path b = IsNone (fin.get b.given path) × (4294967295 ≤ length b.map.sources)
 
 -- an error of adding to a builder: the handle holds none, or the new id would be too large
-abbrev pub IsAddRefusal : Option Held → (Built → Type 0) → Refusal → Type 0
-IsAddRefusal held IsTooMany r = MatchOption (held_builder held) (r ≡ EmptyHandle) (λ b. (r ≡ of_map TooLarge) × IsTooMany b)
+abbrev pub IsAddError : Option Held → (Built → Type 0) → CallError → Type 0
+IsAddError held IsTooMany r = MatchOption (held_builder held) (r ≡ EmptyHandle) (λ b. (r ≡ of_map TooLarge) × IsTooMany b)
 
 -- an error of a call on a builder that needs no id: the handle holds none
-abbrev pub IsBuilderRefusal : Option Held → Refusal → Type 0
-IsBuilderRefusal held r = MatchOption (held_builder held) (r ≡ EmptyHandle) (λ b. ⊥)
+abbrev pub IsBuilderError : Option Held → CallError → Type 0
+IsBuilderError held r = MatchOption (held_builder held) (r ≡ EmptyHandle) (λ b. ⊥)
 
 -- an error of adding bytes as a name
-abbrev pub IsNameRefusal : Option Held → List ℕ → Refusal → Type 0
-IsNameRefusal held name r = IsNotText name r ⊎ (IsUtf8 name × IsAddRefusal held (NameHasNoId name) r)
+abbrev pub IsNameError : Option Held → List ℕ → CallError → Type 0
+IsNameError held name r = IsNotText name r ⊎ (IsUtf8 name × IsAddError held (NameHasNoId name) r)
 
 -- an error of adding bytes as a source and its content
-abbrev pub IsSourceRefusal : Option Held → List ℕ → List ℕ → Refusal → Type 0
-IsSourceRefusal held path content r =
-    IsNotText path r ⊎ ((IsUtf8 path × IsNotText content r) ⊎ (IsUtf8 path × IsUtf8 content × IsAddRefusal held (SourceHasNoId path) r))
+abbrev pub IsSourceError : Option Held → List ℕ → List ℕ → CallError → Type 0
+IsSourceError held path content r =
+    IsNotText path r ⊎ ((IsUtf8 path × IsNotText content r) ⊎ (IsUtf8 path × IsUtf8 content × IsAddError held (SourceHasNoId path) r))
 
 -- an error of setting bytes as the file
-abbrev pub IsFileRefusal : Option Held → List ℕ → Refusal → Type 0
-IsFileRefusal held file r = IsNotText file r ⊎ (IsUtf8 file × IsBuilderRefusal held r)
+abbrev pub IsFileError : Option Held → List ℕ → CallError → Type 0
+IsFileError held file r = IsNotText file r ⊎ (IsUtf8 file × IsBuilderError held r)

@@ -1,4 +1,4 @@
--- The numbers of errors. `fault_of` is the definition of codes; `refusal_of` goes back.
+-- The numbers of errors. `fault_of` is the definition of codes; `call_error_of` goes back.
 use Rattle.std.specs.Prelude.{ℕ, ◌%◌, ◌<◌, Option, Some, None, option_map, if◌then◌else◌, ◌==◌}
 use Rattle.oxc_sourcemap_tokens.specs.declared.error.Field.{Field}
 use Rattle.oxc_sourcemap_tokens.specs.declared.error.Field.TheVariants.{Object}
@@ -23,10 +23,10 @@ use Rattle.oxc_sourcemap_tokens.specs.declared.error.Error.TheVariants.{SectionO
 use Rattle.oxc_sourcemap_tokens.specs.declared.plan_error.PlanError.{PlanError}
 use Rattle.oxc_sourcemap_tokens.specs.declared.plan_error.PlanError.TheVariants.{Map, Unsorted}
 use Rattle.oxc_sourcemap_tokens.specs.declared.plan_error.PlanError.TheVariants.{TooDeep}
-use Rattle.oxc_sourcemap_handles.specs.declared.refusal.Refusal.{Refusal}
-use Rattle.oxc_sourcemap_handles.specs.declared.refusal.Refusal.TheVariants.{Plan, Words, NoText}
-use Rattle.oxc_sourcemap_handles.specs.declared.refusal.Refusal.TheVariants.{EmptyHandle, NotUtf8}
-use Rattle.oxc_sourcemap_handles.specs.declared.refusal.Refusal.TheVariants.{Lengths, NoEntry}
+use Rattle.oxc_sourcemap_handles.specs.declared.call_error.CallError.{CallError}
+use Rattle.oxc_sourcemap_handles.specs.declared.call_error.CallError.TheVariants.{Plan, Words, NoText}
+use Rattle.oxc_sourcemap_handles.specs.declared.call_error.CallError.TheVariants.{EmptyHandle, NotUtf8}
+use Rattle.oxc_sourcemap_handles.specs.declared.call_error.CallError.TheVariants.{Lengths, NoEntry}
 use Rattle.oxc_sourcemap_handles.specs.declared.fault.Fault.{Fault}
 
 -- the numbers of an error that carries this number and is about no field
@@ -75,7 +75,7 @@ fault_of_plan_error Unsorted = fault 15 0
 fault_of_plan_error TooDeep = fault 16 0
 
 -- the numbers of an error
-abbrev pub fault_of : Refusal → Fault
+abbrev pub fault_of : CallError → Fault
 fault_of (Plan error) = fault_of_plan_error error
 fault_of Words = fault 17 0
 fault_of (NoText k) = fault 18 k
@@ -85,7 +85,7 @@ fault_of Lengths = fault 102 0
 fault_of NoEntry = fault 103 0
 
 -- the code of an error, which is not 0
-abbrev pub code_of : Refusal → ℕ
+abbrev pub code_of : CallError → ℕ
 code_of r = (fault_of r).code
 
 -- the numbers of a call without an error
@@ -132,8 +132,8 @@ error_of f =
     else None
 
 -- the error with these numbers
-abbrev pub refusal_of : Fault → Option Refusal
-refusal_of f =
+abbrev pub call_error_of : Fault → Option CallError
+call_error_of f =
     if f.code == 15 then Some (Plan Unsorted)
     else if f.code == 16 then Some (Plan TooDeep)
     else if f.code == 17 then Some Words
@@ -162,7 +162,7 @@ short_number_of_error (BadChunks k) = 0
 short_number_of_error (SeveralSources n) = 0
 short_number_of_error (SectionOrder k) = 0
 
-abbrev pub short_number_of : Refusal → ℕ
+abbrev pub short_number_of : CallError → ℕ
 short_number_of (Plan (Map error)) = short_number_of_error error
 short_number_of (Plan Unsorted) = 0
 short_number_of (Plan TooDeep) = 0
@@ -174,5 +174,5 @@ short_number_of Lengths = 0
 short_number_of NoEntry = 0
 
 -- an error as the library makes it: a number of 32 bits is below 2^32
-abbrev pub IsSmall : Refusal → Type 0
+abbrev pub IsSmall : CallError → Type 0
 IsSmall r = short_number_of r < 4294967296

@@ -8,10 +8,10 @@ use Rattle.oxc_sourcemap_tokens.specs.declared.position.Position.{Position}
 use Rattle.oxc_sourcemap_join.specs.Joined.{joined, IsWithinLimits}
 use Rattle.oxc_sourcemap_handles.specs.declared.handle.Handle.{Handle}
 use Rattle.oxc_sourcemap_handles.specs.declared.held.Held.{Held}
-use Rattle.oxc_sourcemap_handles.specs.declared.refusal.Refusal.{Refusal}
-use Rattle.oxc_sourcemap_handles.specs.declared.refusal.Refusal.TheVariants.{EmptyHandle, Lengths}
+use Rattle.oxc_sourcemap_handles.specs.declared.call_error.CallError.{CallError}
+use Rattle.oxc_sourcemap_handles.specs.declared.call_error.CallError.TheVariants.{EmptyHandle, Lengths}
 use Rattle.oxc_sourcemap_handles.specs.Holding.{held_map}
-use Rattle.oxc_sourcemap_handles.specs.Refusals.{of_map}
+use Rattle.oxc_sourcemap_handles.specs.CallErrors.{of_map}
 
 -- what each of these handles holds
 abbrev pub all_held : List Handle → List (Option Held)
@@ -29,7 +29,7 @@ IsJoinOf hs ps m = (length hs ≡ length ps) × MatchOption (placed_maps hs ps) 
 
 -- an error of joining the maps in handles: there are not as many offsets as handles, a handle holds no map, or the join is past
 -- a limit
-abbrev pub IsJoinRefusal : List (Option Held) → List Position → Refusal → Type 0
-IsJoinRefusal hs ps r =
+abbrev pub IsJoinError : List (Option Held) → List Position → CallError → Type 0
+IsJoinError hs ps r =
     ((r ≡ Lengths) × (length hs ≢ length ps)) ⊎ ((length hs ≡ length ps) × MatchOption (placed_maps hs ps) (r ≡ EmptyHandle)
     (λ ms. (r ≡ of_map TooLarge) × ¬ (IsWithinLimits (joined ms))))

@@ -1,4 +1,4 @@
-pub mod Refusals
+pub mod CallErrors
 pub mod Codes
 pub mod Messages
 pub mod Handles

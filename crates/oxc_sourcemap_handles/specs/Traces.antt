@@ -10,12 +10,12 @@ use Rattle.oxc_sourcemap_parts.specs.Sorted.{are_tokens_sorted, token_line, toke
 use Rattle.oxc_sourcemap_lookup.specs.Lookup.{pick, clamped_pick}
 use Rattle.oxc_sourcemap_parts.specs.DecodedMap.{OriginalPosition, decoded_map_of}
 use Rattle.oxc_sourcemap_lookup.specs.Trace.{trace, clamped_trace}
-use Rattle.oxc_sourcemap_handles.specs.declared.refusal.Refusal.{Refusal}
-use Rattle.oxc_sourcemap_handles.specs.declared.refusal.Refusal.TheVariants.{EmptyHandle, Lengths}
+use Rattle.oxc_sourcemap_handles.specs.declared.call_error.CallError.{CallError}
+use Rattle.oxc_sourcemap_handles.specs.declared.call_error.CallError.TheVariants.{EmptyHandle, Lengths}
 use Rattle.oxc_sourcemap_handles.specs.declared.held.Held.{Held}
 use Rattle.oxc_sourcemap_handles.specs.declared.text.Place.{Place}
 use Rattle.oxc_sourcemap_tokens.specs.declared.position.Position.{Position}
-use Rattle.oxc_sourcemap_handles.specs.Refusals.{of_map}
+use Rattle.oxc_sourcemap_handles.specs.CallErrors.{of_map}
 use Rattle.oxc_sourcemap_handles.specs.Holding.{held_map}
 use Rattle.oxc_sourcemap_handles.specs.Indexed.{IsOutOfOrder}
 use Rattle.oxc_sourcemap_handles.specs.Places.{IsPlace, HasIds}
@@ -44,20 +44,20 @@ abbrev pub AreTracesOf : Bool → List Position → List Place → MapRecord →
 AreTracesOf clamped positions places m = IsInLineOrder m.tokens × AllZip (IsTraceOf clamped m) positions places
 
 -- an error of tracing a map: its tokens are not in line order
-abbrev pub IsUntraced : MapRecord → Refusal → Type 0
+abbrev pub IsUntraced : MapRecord → CallError → Type 0
 IsUntraced m r = (e : Error) × IsOutOfOrder m.tokens e × (r ≡ of_map e)
 
 -- the result of tracing a handle's map at a position: the trace, `EmptyHandle`, or an error of line order
-abbrev pub IsTraced : Bool → Result Place Refusal → Option Held → Position → Type 0
+abbrev pub IsTraced : Bool → Result Place CallError → Option Held → Position → Type 0
 IsTraced clamped answer held at =
     MatchOption (held_map held) (answer ≡ Err EmptyHandle) (λ m. MatchResult answer (λ p. IsInLineOrder m.tokens × IsTraceOf clamped m at p) (IsUntraced m))
 
 -- an error of tracing what a handle holds
-abbrev pub IsTraceRefusal : Option MapRecord → Refusal → Type 0
-IsTraceRefusal None r = r ≡ EmptyHandle
-IsTraceRefusal (Some m) r = IsUntraced m r
+abbrev pub IsTraceError : Option MapRecord → CallError → Type 0
+IsTraceError None r = r ≡ EmptyHandle
+IsTraceError (Some m) r = IsUntraced m r
 
 -- an error of tracing what a handle holds at many positions: there may also be another number of traces than of positions
-abbrev pub IsTraceAllRefusal : List Position → List Place → Option MapRecord → Refusal → Type 0
-IsTraceAllRefusal positions places held r =
-    ((r ≡ Lengths) × (length positions ≢ length places)) ⊎ ((length positions ≡ length places) × IsTraceRefusal held r)
+abbrev pub IsTraceAllError : List Position → List Place → Option MapRecord → CallError → Type 0
+IsTraceAllError positions places held r =
+    ((r ≡ Lengths) × (length positions ≢ length places)) ⊎ ((length positions ≡ length places) × IsTraceError held r)

@@ -4,17 +4,17 @@ ghost use Rattle.std.specs.Prelude.{MatchOption, MatchResult};
 ghost use Rattle.oxc_sourcemap_handles.specs.Words.{OutOfMemory, TooLarge, id_of, nothing_built};
 ghost use Rattle.oxc_sourcemap_handles.specs.Words.{with_name, with_path, File, Mapping};
 ghost use Rattle.oxc_sourcemap_handles.specs.Words.{out_of_memory, of_map, fault_of, code_of};
-ghost use Rattle.oxc_sourcemap_handles.specs.Words.{no_fault, held_builder, IsRefusedAs, stepped};
+ghost use Rattle.oxc_sourcemap_handles.specs.Words.{no_fault, held_builder, IsErrorAs, stepped};
 ghost use Rattle.oxc_sourcemap_handles.specs.Words.{HasNoId, token_of, with_token, with_file};
 ghost use Rattle.oxc_sourcemap_handles.specs.Words.{Builds, NameHasNoId, SourceHasNoId};
-ghost use Rattle.oxc_sourcemap_handles.specs.Words.{IsAddRefusal, IsBuilderRefusal, IsNameRefusal};
-ghost use Rattle.oxc_sourcemap_handles.specs.Words.{IsSourceRefusal, IsFileRefusal, OnlyMemory};
+ghost use Rattle.oxc_sourcemap_handles.specs.Words.{IsAddError, IsBuilderError, IsNameError};
+ghost use Rattle.oxc_sourcemap_handles.specs.Words.{IsSourceError, IsFileError, OnlyMemory};
 
+use crate::call_error::CallError;
 use crate::fault::Fault;
 use crate::handle::Handle;
 use crate::held::Held;
 use crate::operations::put;
-use crate::refusal::Refusal;
 use crate::text::TokenNumbers;
 use crate::utf8::text_of;
 use oxc_sourcemap_builders::SourceMapBuilder;
@@ -91,27 +91,27 @@ fn make(
     }
 }
 
-fn make_held(held: &mut Held, step: Step<'_>) -> Result<u32, Refusal>
+fn make_held(held: &mut Held, step: Step<'_>) -> Result<u32, CallError>
     ensures made { IfOk result (λ id. Builds (Some held.old) (Some held.new)
         (λ b c. (c, id) ≡ stepped b step.entry)) }
     ensures error { IfErr result (λ r. (r ≢ out_of_memory)
-        → IsAddRefusal (Some held.old) (HasNoId step.entry) r) }
+        → IsAddError (Some held.old) (HasNoId step.entry) r) }
     ensures too_large { MatchOption (held_builder (Some held.old)) ⊤
         (λ b. HasNoId step.entry b → result ≡ Err (of_map TooLarge)) }
     ensures unchanged { OnErr result (held.new ≡ held.old) }
 {
     match held {
         Held::Building(builder) => Ok(make(builder, step)?),
-        _ => Err(Refusal::EmptyHandle),
+        _ => Err(CallError::EmptyHandle),
     }
 }
 
 /// Makes a step in the builder of a handle, and returns the id of what it adds, or 0.
-fn make_in(alloc: Global, handle: &mut Handle, step: Step<'_>) -> Result<u32, Refusal>
+fn make_in(alloc: Global, handle: &mut Handle, step: Step<'_>) -> Result<u32, CallError>
     ensures made { IfOk result (λ id. Builds handle.old.held handle.new.held
         (λ b c. (c, id) ≡ stepped b step.entry)) }
     ensures error { IfErr result (λ r. (r ≢ out_of_memory)
-        → IsAddRefusal handle.old.held (HasNoId step.entry) r) }
+        → IsAddError handle.old.held (HasNoId step.entry) r) }
     ensures too_large { MatchOption (held_builder handle.old.held) ⊤
         (λ b. HasNoId step.entry b → result ≡ Err (of_map TooLarge)) }
     ensures unchanged { OnErr result (handle.new.held ≡ handle.old.held) }
@@ -123,16 +123,16 @@ fn make_in(alloc: Global, handle: &mut Handle, step: Step<'_>) -> Result<u32, Re
             handle.put(held);
             made
         }
-        None => Err(Refusal::EmptyHandle),
+        None => Err(CallError::EmptyHandle),
     }
 }
 
 /// Adds a name to the builder in a handle.
-pub fn add_name(alloc: Global, handle: &mut Handle, name: &[u8]) -> Result<u32, Refusal>
+pub fn add_name(alloc: Global, handle: &mut Handle, name: &[u8]) -> Result<u32, CallError>
     ensures added { IfOk result (λ id. Builds handle.old.held handle.new.held
         (λ b c. (c, id) ≡ with_name b name.now)) }
     ensures error { IfErr result (λ r. (r ≢ out_of_memory)
-        → IsNameRefusal handle.old.held name.now r) }
+        → IsNameError handle.old.held name.now r) }
     ensures too_large { MatchOption (held_builder handle.old.held) ⊤
         (λ b. IsUtf8 name.now → NameHasNoId name.now b → result ≡ Err (of_map TooLarge)) }
     ensures unchanged { OnErr result (handle.new.held ≡ handle.old.held) }
@@ -147,11 +147,11 @@ pub fn add_source(
     handle: &mut Handle,
     path: &[u8],
     content: &[u8],
-) -> Result<u32, Refusal>
+) -> Result<u32, CallError>
     ensures added { IfOk result (λ id. Builds handle.old.held handle.new.held
         (λ b c. (c, id) ≡ with_path b path.now content.now)) }
     ensures error { IfErr result (λ r. (r ≢ out_of_memory)
-        → IsSourceRefusal handle.old.held path.now content.now r) }
+        → IsSourceError handle.old.held path.now content.now r) }
     ensures too_large { MatchOption (held_builder handle.old.held) ⊤
         (λ b. IsUtf8 path.now → IsUtf8 content.now → SourceHasNoId path.now b
         → result ≡ Err (of_map TooLarge)) }
@@ -163,11 +163,11 @@ pub fn add_source(
 }
 
 /// Sets the file of the builder in a handle.
-pub fn set_file(alloc: Global, handle: &mut Handle, file: &[u8]) -> Result<u32, Refusal>
+pub fn set_file(alloc: Global, handle: &mut Handle, file: &[u8]) -> Result<u32, CallError>
     ensures set { IfOk result (λ id. Builds handle.old.held handle.new.held
         (λ b c. c ≡ with_file b file.now)) }
     ensures error { IfErr result (λ r. (r ≢ out_of_memory)
-        → IsFileRefusal handle.old.held file.now r) }
+        → IsFileError handle.old.held file.now r) }
     ensures unchanged { OnErr result (handle.new.held ≡ handle.old.held) }
 {
     let file = text_of(file)?;
@@ -175,35 +175,35 @@ pub fn set_file(alloc: Global, handle: &mut Handle, file: &[u8]) -> Result<u32, 
 }
 
 /// Adds a token to the builder in a handle.
-pub fn add_token(alloc: Global, handle: &mut Handle, token: TokenNumbers) -> Result<u32, Refusal>
+pub fn add_token(alloc: Global, handle: &mut Handle, token: TokenNumbers) -> Result<u32, CallError>
     ensures added { IfOk result (λ id. Builds handle.old.held handle.new.held
         (λ b c. c ≡ with_token b (token_of token))) }
-    ensures error { IfErr result (λ r. (r ≢ out_of_memory) → IsBuilderRefusal handle.old.held r) }
+    ensures error { IfErr result (λ r. (r ≢ out_of_memory) → IsBuilderError handle.old.held r) }
     ensures unchanged { OnErr result (handle.new.held ≡ handle.old.held) }
 {
     make_in(alloc, handle, Step::Mapping(token))
 }
 
 /// The map that the builder in a handle has built. The handle is then empty.
-pub fn finish(alloc: Global, handle: &mut Handle) -> Result<OwnedSourceMap, Refusal>
+pub fn finish(alloc: Global, handle: &mut Handle) -> Result<OwnedSourceMap, CallError>
     ensures emptied { handle.new.held ≡ None }
     ensures map { IfOk result (λ map. MatchOption (held_builder handle.old.held) ⊥
         (λ b. map ≡ b.map)) }
     ensures nothing_else { IfOk result (λ map. (map.source_root ≡ None) × (map.ignore_list ≡ None)
         × (map.debug_id ≡ None)) }
-    ensures error { IfErr result (λ r. (r ≢ out_of_memory) → IsBuilderRefusal handle.old.held r) }
+    ensures error { IfErr result (λ r. (r ≢ out_of_memory) → IsBuilderError handle.old.held r) }
 {
     match handle.take(alloc) {
         Some(held) => match Box::into_inner(held) {
             Held::Building(builder) => Ok(OwnedSourceMap::new(builder.into_sourcemap()?)),
-            _ => Err(Refusal::EmptyHandle),
+            _ => Err(CallError::EmptyHandle),
         },
-        None => Err(Refusal::EmptyHandle),
+        None => Err(CallError::EmptyHandle),
     }
 }
 
 /// A box with a builder with nothing in it.
-fn new_builder(alloc: Global) -> Result<Box<Held>, Refusal>
+fn new_builder(alloc: Global) -> Result<Box<Held>, CallError>
     ensures built { IfOk result (λ held. held_builder (Some held.value) ≡ Some nothing_built) }
     ensures error { IfErr result (λ r. r ≡ out_of_memory) }
 {
@@ -216,14 +216,14 @@ pub fn put_builder(alloc: Global, handle: &mut Handle, fault: &mut Fault) -> u32
     ensures built { result ≡ 0 → (held_builder handle.new.held ≡ Some nothing_built)
         × (fault.new ≡ no_fault) }
     ensures error { result ≢ 0 → (handle.new.held ≡ handle.old.held)
-        × IsRefusedAs result fault.new (λ r. ⊥) }
+        × IsErrorAs result fault.new (λ r. ⊥) }
 {
     let made = new_builder(alloc);
     put(alloc, made, handle, fault)
 }
 
 /// Writes the id that was made, or nothing on an error, and the numbers of the error, and returns the code.
-pub fn write_id(answer: Result<u32, Refusal>, out: &mut u32, fault: &mut Fault) -> u32
+pub fn write_id(answer: Result<u32, CallError>, out: &mut u32, fault: &mut Fault) -> u32
     ensures { MatchResult answer (λ id. (result ≡ 0) × (out.new ≡ id) × (fault.new ≡ no_fault))
         (λ r. (result ≡ code_of r) × (out.new ≡ out.old) × (fault.new ≡ fault_of r)) }
 {
@@ -233,8 +233,8 @@ pub fn write_id(answer: Result<u32, Refusal>, out: &mut u32, fault: &mut Fault) 
             *fault = Fault::none();
             0
         }
-        Err(refusal) => {
-            *fault = Fault::of(refusal);
+        Err(error) => {
+            *fault = Fault::of(error);
             fault.code
         }
     }

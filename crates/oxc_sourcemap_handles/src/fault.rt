@@ -2,9 +2,9 @@
 ghost use Rattle.std.specs.Prelude.{◌≡◌, ◌%◌};
 ghost use Rattle.oxc_sourcemap_handles.specs.Words.{fault_of, fault_of_error, fault_of_plan_error};
 ghost use Rattle.oxc_sourcemap_handles.specs.Words.{fault_of_json, number_of_field, no_fault};
-ghost use Rattle.oxc_sourcemap_handles.specs.Words.{refusal_of, error_of, field_of};
+ghost use Rattle.oxc_sourcemap_handles.specs.Words.{call_error_of, error_of, field_of};
 
-use crate::refusal::Refusal;
+use crate::call_error::CallError;
 use oxc_sourcemap_tokens::{Error, Field, JsonFault, PlanError};
 
 /// The numbers of an error: its code, the number of the field of a JSON source map that it is about, and the number that it
@@ -125,17 +125,17 @@ impl Fault {
     }
 
     /// The numbers of an error.
-    pub fn of(refusal: Refusal) -> Fault
-        ensures { result ≡ fault_of refusal }
+    pub fn of(error: CallError) -> Fault
+        ensures { result ≡ fault_of error }
     {
-        match refusal {
-            Refusal::Plan(error) => Fault::of_plan_error(error),
-            Refusal::Words => Fault::with(17, 0),
-            Refusal::NoText(number) => Fault::with(18, u64::from(number)),
-            Refusal::EmptyHandle => Fault::with(100, 0),
-            Refusal::NotUtf8(valid) => Fault::with(101, valid as u64),
-            Refusal::Lengths => Fault::with(102, 0),
-            Refusal::NoEntry => Fault::with(103, 0),
+        match error {
+            CallError::Plan(error) => Fault::of_plan_error(error),
+            CallError::Words => Fault::with(17, 0),
+            CallError::NoText(number) => Fault::with(18, u64::from(number)),
+            CallError::EmptyHandle => Fault::with(100, 0),
+            CallError::NotUtf8(valid) => Fault::with(101, valid as u64),
+            CallError::Lengths => Fault::with(102, 0),
+            CallError::NoEntry => Fault::with(103, 0),
         }
     }
 
@@ -166,21 +166,21 @@ impl Fault {
     }
 
     /// The error with these numbers. None if there is none.
-    pub fn refusal(&self) -> Option<Refusal>
-        ensures { result ≡ refusal_of self.now }
+    pub fn call_error(&self) -> Option<CallError>
+        ensures { result ≡ call_error_of self.now }
     {
         let number = (self.detail % 4294967296) as u32;
         let index = self.detail as usize;
         match self.code {
-            15 => Some(Refusal::Plan(PlanError::Unsorted)),
-            16 => Some(Refusal::Plan(PlanError::TooDeep)),
-            17 => Some(Refusal::Words),
-            18 => Some(Refusal::NoText(number)),
-            100 => Some(Refusal::EmptyHandle),
-            101 => Some(Refusal::NotUtf8(index)),
-            102 => Some(Refusal::Lengths),
-            103 => Some(Refusal::NoEntry),
-            _ => Some(Refusal::Plan(PlanError::Map(self.error(number, index)?))),
+            15 => Some(CallError::Plan(PlanError::Unsorted)),
+            16 => Some(CallError::Plan(PlanError::TooDeep)),
+            17 => Some(CallError::Words),
+            18 => Some(CallError::NoText(number)),
+            100 => Some(CallError::EmptyHandle),
+            101 => Some(CallError::NotUtf8(index)),
+            102 => Some(CallError::Lengths),
+            103 => Some(CallError::NoEntry),
+            _ => Some(CallError::Plan(PlanError::Map(self.error(number, index)?))),
         }
     }
 }

@@ -2,11 +2,11 @@
 ghost use Rattle.std.specs.Prelude.{◌≡◌, ◌≢◌, None, Some, length, IfOk, IfErr};
 ghost use Rattle.std.specs.List.{All};
 ghost use Rattle.oxc_sourcemap_handles.specs.Words.{joined, EmptyHandle, out_of_memory, all_held};
-ghost use Rattle.oxc_sourcemap_handles.specs.Words.{placed_maps, IsJoinOf, IsJoinRefusal};
+ghost use Rattle.oxc_sourcemap_handles.specs.Words.{placed_maps, IsJoinOf, IsJoinError};
 
+use crate::call_error::CallError;
 use crate::handle::Handle;
 use crate::operations::take_map;
-use crate::refusal::Refusal;
 use oxc_sourcemap_builders::join_owned;
 use oxc_sourcemap_map::{OwnedSourceMap, SourceMap};
 use oxc_sourcemap_tokens::Position;
@@ -17,7 +17,7 @@ fn take_maps(
     alloc: Global,
     handles: &mut [Handle],
     positions: &[Position],
-) -> Result<Vec<(SourceMap<'static>, Position)>, Refusal>
+) -> Result<Vec<(SourceMap<'static>, Position)>, CallError>
     requires { length handles.old ≡ length positions.now }
     ensures maps { IfOk result (λ maps. placed_maps (all_held handles.old) positions.now
         ≡ Some maps.items) }
@@ -46,13 +46,13 @@ fn join_taken(
     alloc: Global,
     handles: &mut [Handle],
     positions: &[Position],
-) -> Result<OwnedSourceMap, Refusal>
+) -> Result<OwnedSourceMap, CallError>
     ensures map { IfOk result (IsJoinOf (all_held handles.old) positions.now) }
     ensures error { IfErr result (λ r. (r ≢ out_of_memory)
-        → IsJoinRefusal (all_held handles.old) positions.now r) }
+        → IsJoinError (all_held handles.old) positions.now r) }
 {
     if handles.len() != positions.len() {
-        return Err(Refusal::Lengths);
+        return Err(CallError::Lengths);
     }
     let maps = take_maps(alloc, handles, positions)?;
     Ok(join_owned(alloc, maps)?.into_owned_sourcemap()?)
@@ -63,11 +63,11 @@ pub fn join(
     alloc: Global,
     handles: &mut [Handle],
     positions: &[Position],
-) -> Result<OwnedSourceMap, Refusal>
+) -> Result<OwnedSourceMap, CallError>
     ensures emptied { All (λ h. h.held ≡ None) handles.new }
     ensures map { IfOk result (IsJoinOf (all_held handles.old) positions.now) }
     ensures error { IfErr result (λ r. (r ≢ out_of_memory)
-        → IsJoinRefusal (all_held handles.old) positions.now r) }
+        → IsJoinError (all_held handles.old) positions.now r) }
 {
     let joined = join_taken(alloc, handles, positions);
     empty(alloc, handles);

@@ -4,6 +4,7 @@
 
 mod asked;
 mod builders;
+mod call_error;
 mod fault;
 mod handle;
 mod held;
@@ -12,12 +13,12 @@ mod lookups;
 mod loose;
 mod messages;
 mod operations;
-mod refusal;
 mod text;
 mod utf8;
 
 pub use asked::Asked;
 pub use builders::{add_name, add_source, add_token, finish, put_builder, set_file, write_id};
+pub use call_error::CallError;
 pub use fault::Fault;
 pub use handle::Handle;
 pub use joins::join;
@@ -27,6 +28,5 @@ pub use lookups::{
 };
 pub use messages::write_message;
 pub use operations::{compose, put_map, put_text, read};
-pub use refusal::Refusal;
 pub use text::{Counts, Place, Text, TokenNumbers};
 pub use utf8::text_of;

@@ -6,14 +6,14 @@ ghost use Rattle.oxc_sourcemap_handles.specs.Words.{EmptyHandle, fault_of, code_
 ghost use Rattle.oxc_sourcemap_handles.specs.Words.{held_map, held_text, HoldsMap, counts_of};
 ghost use Rattle.oxc_sourcemap_handles.specs.Words.{numbers_of, text_at, ignored_at, flag_of};
 ghost use Rattle.oxc_sourcemap_handles.specs.Words.{IsFound, HasLength, IsWrittenAs, IsTraced};
-ghost use Rattle.oxc_sourcemap_handles.specs.Words.{AreTracesOf, IsTraceRefusal, IsTraceAllRefusal};
+ghost use Rattle.oxc_sourcemap_handles.specs.Words.{AreTracesOf, IsTraceError, IsTraceAllError};
 
 use crate::asked::Asked;
+use crate::call_error::CallError;
 use crate::fault::Fault;
 use crate::handle::Handle;
 use crate::held::Held;
 use crate::operations::{map_in, text_in};
-use crate::refusal::Refusal;
 use crate::text::{Counts, Place, Text, TokenNumbers};
 use oxc_sourcemap_tokens::Position;
 use std::alloc::Global;
@@ -29,13 +29,13 @@ macro_rules! look {
                 $handle.put(boxed);
                 found
             }
-            None => Err(Refusal::EmptyHandle),
+            None => Err(CallError::EmptyHandle),
         }
     };
 }
 
 /// Writes what was found, or nothing on an error, and returns the code.
-pub fn write_found<T: Drop>(answer: Result<T, Refusal>, out: &mut T) -> u32
+pub fn write_found<T: Drop>(answer: Result<T, CallError>, out: &mut T) -> u32
     ensures { MatchResult answer (λ found. (result ≡ 0) × (out.new ≡ found))
         (λ r. (result ≡ code_of r) × (out.new ≡ out.old)) }
 {
@@ -44,12 +44,12 @@ pub fn write_found<T: Drop>(answer: Result<T, Refusal>, out: &mut T) -> u32
             *out = found;
             0
         }
-        Err(refusal) => Fault::of(refusal).code,
+        Err(error) => Fault::of(error).code,
     }
 }
 
 /// Writes the trace that was found, or nothing on an error, and the numbers of the error, and returns the code.
-pub fn write_place(answer: Result<Place, Refusal>, place: &mut Place, fault: &mut Fault) -> u32
+pub fn write_place(answer: Result<Place, CallError>, place: &mut Place, fault: &mut Fault) -> u32
     ensures { MatchResult answer (λ found. (result ≡ 0) × (place.new ≡ found)
         × (fault.new ≡ no_fault)) (λ r. (result ≡ code_of r) × (place.new ≡ place.old)
         × (fault.new ≡ fault_of r)) }
@@ -60,15 +60,15 @@ pub fn write_place(answer: Result<Place, Refusal>, place: &mut Place, fault: &mu
             *fault = Fault::none();
             0
         }
-        Err(refusal) => {
-            *fault = Fault::of(refusal);
+        Err(error) => {
+            *fault = Fault::of(error);
             fault.code
         }
     }
 }
 
 /// The code of a result whose traces are written already. Writes the numbers of the error.
-pub fn write_fault(answer: Result<(), Refusal>, fault: &mut Fault) -> u32
+pub fn write_fault(answer: Result<(), CallError>, fault: &mut Fault) -> u32
     ensures { MatchResult answer (λ _. (result ≡ 0) × (fault.new ≡ no_fault))
         (λ r. (result ≡ code_of r) × (fault.new ≡ fault_of r)) }
 {
@@ -77,45 +77,45 @@ pub fn write_fault(answer: Result<(), Refusal>, fault: &mut Fault) -> u32
             *fault = Fault::none();
             0
         }
-        Err(refusal) => {
-            *fault = Fault::of(refusal);
+        Err(error) => {
+            *fault = Fault::of(error);
             fault.code
         }
     }
 }
 
-fn map_text_in(held: &Held, asked: Asked) -> Result<Text, Refusal>
+fn map_text_in(held: &Held, asked: Asked) -> Result<Text, CallError>
     ensures { IsFound result (Some held.now) (λ m. text_at m asked) HasLength }
 {
     let Some(loaded) = map_in(held) else {
-        return Err(Refusal::EmptyHandle);
+        return Err(CallError::EmptyHandle);
     };
     match asked.text_in(loaded.map()) {
         Some(text) => Ok(Text::of(text.as_bytes())),
-        None => Err(Refusal::NoEntry),
+        None => Err(CallError::NoEntry),
     }
 }
 
 /// A text of the map in a handle.
-pub fn text_of_map(alloc: Global, handle: &mut Handle, asked: Asked) -> Result<Text, Refusal>
+pub fn text_of_map(alloc: Global, handle: &mut Handle, asked: Asked) -> Result<Text, CallError>
     ensures found { IsFound result handle.old.held (λ m. text_at m asked) HasLength }
     ensures kept { handle.new.held ≡ handle.old.held }
 {
     look!(handle, alloc, held => map_text_in(held, asked))
 }
 
-fn written_text_in(held: &Held) -> Result<Text, Refusal>
+fn written_text_in(held: &Held) -> Result<Text, CallError>
     ensures { MatchOption (held_text (Some held.now)) (result ≡ Err EmptyHandle)
         (λ text. MatchResult result (λ t. HasLength t text) (λ _. ⊥)) }
 {
     match text_in(held) {
         Some(text) => Ok(Text::of(text.as_bytes())),
-        None => Err(Refusal::EmptyHandle),
+        None => Err(CallError::EmptyHandle),
     }
 }
 
 /// The text in a handle.
-pub fn written_text(alloc: Global, handle: &mut Handle) -> Result<Text, Refusal>
+pub fn written_text(alloc: Global, handle: &mut Handle) -> Result<Text, CallError>
     ensures found { MatchOption (held_text handle.old.held) (result ≡ Err EmptyHandle)
         (λ text. MatchResult result (λ t. HasLength t text) (λ _. ⊥)) }
     ensures kept { handle.new.held ≡ handle.old.held }
@@ -123,17 +123,17 @@ pub fn written_text(alloc: Global, handle: &mut Handle) -> Result<Text, Refusal>
     look!(handle, alloc, held => written_text_in(held))
 }
 
-fn counts_in(held: &Held) -> Result<Counts, Refusal>
+fn counts_in(held: &Held) -> Result<Counts, CallError>
     ensures { IsFound result (Some held.now) (λ m. Some (counts_of m)) (λ x counts. x ≡ counts) }
 {
     match map_in(held) {
         Some(loaded) => Ok(Counts::of(loaded.map())),
-        None => Err(Refusal::EmptyHandle),
+        None => Err(CallError::EmptyHandle),
     }
 }
 
 /// The counts of the map in a handle.
-pub fn counts(alloc: Global, handle: &mut Handle) -> Result<Counts, Refusal>
+pub fn counts(alloc: Global, handle: &mut Handle) -> Result<Counts, CallError>
     ensures found { IsFound result handle.old.held (λ m. Some (counts_of m))
         (λ x counts. x ≡ counts) }
     ensures kept { handle.new.held ≡ handle.old.held }
@@ -148,18 +148,18 @@ fn flag(is_so: bool) -> u32
     if is_so { 1 } else { 0 }
 }
 
-fn is_sorted_in(held: &Held) -> Result<u32, Refusal>
+fn is_sorted_in(held: &Held) -> Result<u32, CallError>
     ensures { IsFound result (Some held.now) (λ m. Some (flag_of (are_tokens_sorted m.tokens)))
         (λ x is. x ≡ is) }
 {
     match map_in(held) {
         Some(loaded) => Ok(flag(loaded.map().as_source_map().is_sorted())),
-        None => Err(Refusal::EmptyHandle),
+        None => Err(CallError::EmptyHandle),
     }
 }
 
 /// Whether the tokens of the map in a handle are sorted.
-pub fn is_sorted(alloc: Global, handle: &mut Handle) -> Result<u32, Refusal>
+pub fn is_sorted(alloc: Global, handle: &mut Handle) -> Result<u32, CallError>
     ensures found { IsFound result handle.old.held
         (λ m. Some (flag_of (are_tokens_sorted m.tokens))) (λ x is. x ≡ is) }
     ensures kept { handle.new.held ≡ handle.old.held }
@@ -167,23 +167,23 @@ pub fn is_sorted(alloc: Global, handle: &mut Handle) -> Result<u32, Refusal>
     look!(handle, alloc, held => is_sorted_in(held))
 }
 
-fn ignored_id_in(held: &Held, index: usize) -> Result<u32, Refusal>
+fn ignored_id_in(held: &Held, index: usize) -> Result<u32, CallError>
     ensures { IsFound result (Some held.now) (λ m. ignored_at m index) (λ x found. x ≡ found) }
 {
     let Some(loaded) = map_in(held) else {
-        return Err(Refusal::EmptyHandle);
+        return Err(CallError::EmptyHandle);
     };
     let Some(list) = loaded.map().get_ignore_list() else {
-        return Err(Refusal::NoEntry);
+        return Err(CallError::NoEntry);
     };
     match list.get(index) {
         Some(id) => Ok(*id),
-        None => Err(Refusal::NoEntry),
+        None => Err(CallError::NoEntry),
     }
 }
 
 /// An entry of the ignore list of the map in a handle.
-pub fn ignored_id(alloc: Global, handle: &mut Handle, index: usize) -> Result<u32, Refusal>
+pub fn ignored_id(alloc: Global, handle: &mut Handle, index: usize) -> Result<u32, CallError>
     ensures found { IsFound result handle.old.held (λ m. ignored_at m index)
         (λ x found. x ≡ found) }
     ensures kept { handle.new.held ≡ handle.old.held }
@@ -191,21 +191,21 @@ pub fn ignored_id(alloc: Global, handle: &mut Handle, index: usize) -> Result<u3
     look!(handle, alloc, held => ignored_id_in(held, index))
 }
 
-fn token_in(held: &Held, index: u32) -> Result<TokenNumbers, Refusal>
+fn token_in(held: &Held, index: u32) -> Result<TokenNumbers, CallError>
     ensures { IsFound result (Some held.now) (λ m. slice_get m.tokens index)
         (λ x token. x ≡ numbers_of token) }
 {
     let Some(loaded) = map_in(held) else {
-        return Err(Refusal::EmptyHandle);
+        return Err(CallError::EmptyHandle);
     };
     match loaded.map().get_token(index) {
         Some(token) => Ok(TokenNumbers::of(&token)),
-        None => Err(Refusal::NoEntry),
+        None => Err(CallError::NoEntry),
     }
 }
 
 /// A token of the map in a handle.
-pub fn token(alloc: Global, handle: &mut Handle, index: u32) -> Result<TokenNumbers, Refusal>
+pub fn token(alloc: Global, handle: &mut Handle, index: u32) -> Result<TokenNumbers, CallError>
     ensures found { IsFound result handle.old.held (λ m. slice_get m.tokens index)
         (λ x token. x ≡ numbers_of token) }
     ensures kept { handle.new.held ≡ handle.old.held }
@@ -213,12 +213,12 @@ pub fn token(alloc: Global, handle: &mut Handle, index: u32) -> Result<TokenNumb
     look!(handle, alloc, held => token_in(held, index))
 }
 
-fn trace_in(held: &Held, at: Position, clamped: bool) -> Result<Place, Refusal>
+fn trace_in(held: &Held, at: Position, clamped: bool) -> Result<Place, CallError>
     ensures { IsTraced clamped result (Some held.now) at }
 {
     match map_in(held) {
         Some(loaded) => Ok(loaded.trace(at, clamped)?),
-        None => Err(Refusal::EmptyHandle),
+        None => Err(CallError::EmptyHandle),
     }
 }
 
@@ -228,7 +228,7 @@ pub fn trace(
     handle: &mut Handle,
     at: Position,
     clamped: bool,
-) -> Result<Place, Refusal>
+) -> Result<Place, CallError>
     ensures place { IsTraced clamped result handle.old.held at }
     ensures kept { handle.new.held ≡ handle.old.held }
 {
@@ -240,16 +240,16 @@ fn trace_all_in(
     positions: &[Position],
     places: &mut [Place],
     clamped: bool,
-) -> Result<(), Refusal>
+) -> Result<(), CallError>
     requires { length positions.now ≡ length places.old }
     ensures places { OnOk result (HoldsMap (Some held.now)
         (AreTracesOf clamped positions.now places.new)) }
-    ensures error { IfErr result (IsTraceRefusal (held_map (Some held.now))) }
+    ensures error { IfErr result (IsTraceError (held_map (Some held.now))) }
     ensures unchanged { OnErr result (places.new ≡ places.old) }
 {
     match map_in(held) {
         Some(loaded) => Ok(loaded.trace_all(positions, places, clamped)?),
-        None => Err(Refusal::EmptyHandle),
+        None => Err(CallError::EmptyHandle),
     }
 }
 
@@ -260,48 +260,48 @@ pub fn trace_all(
     positions: &[Position],
     places: &mut [Place],
     clamped: bool,
-) -> Result<(), Refusal>
+) -> Result<(), CallError>
     ensures places { OnOk result (HoldsMap handle.old.held
         (AreTracesOf clamped positions.now places.new)) }
-    ensures error { IfErr result (IsTraceAllRefusal positions.now places.old
+    ensures error { IfErr result (IsTraceAllError positions.now places.old
         (held_map handle.old.held)) }
     ensures unchanged { OnErr result (places.new ≡ places.old) }
     ensures kept { handle.new.held ≡ handle.old.held }
 {
     if positions.len() != places.len() {
-        return Err(Refusal::Lengths);
+        return Err(CallError::Lengths);
     }
     look!(handle, alloc, held => trace_all_in(held, positions, places, clamped))
 }
 
-fn json_of(alloc: Global, held: &Held) -> Result<String, Refusal>
+fn json_of(alloc: Global, held: &Held) -> Result<String, CallError>
     ensures { IsWrittenAs (λ text. string_bytes text) result (Some held.now) map_text }
 {
     match map_in(held) {
         Some(loaded) => Ok(loaded.map().to_json_string(alloc)?),
-        None => Err(Refusal::EmptyHandle),
+        None => Err(CallError::EmptyHandle),
     }
 }
 
 /// The JSON text of the map in a handle.
-pub fn json(alloc: Global, handle: &mut Handle) -> Result<String, Refusal>
+pub fn json(alloc: Global, handle: &mut Handle) -> Result<String, CallError>
     ensures text { IsWrittenAs (λ text. string_bytes text) result handle.old.held map_text }
     ensures kept { handle.new.held ≡ handle.old.held }
 {
     look!(handle, alloc, held => json_of(alloc, held))
 }
 
-fn data_url_of(alloc: Global, held: &Held) -> Result<String, Refusal>
+fn data_url_of(alloc: Global, held: &Held) -> Result<String, CallError>
     ensures { IsWrittenAs (λ text. string_bytes text) result (Some held.now) map_url }
 {
     match map_in(held) {
         Some(loaded) => Ok(loaded.map().to_data_url(alloc)?),
-        None => Err(Refusal::EmptyHandle),
+        None => Err(CallError::EmptyHandle),
     }
 }
 
 /// The data URL of the map in a handle.
-pub fn data_url(alloc: Global, handle: &mut Handle) -> Result<String, Refusal>
+pub fn data_url(alloc: Global, handle: &mut Handle) -> Result<String, CallError>
     ensures text { IsWrittenAs (λ text. string_bytes text) result handle.old.held map_url }
     ensures kept { handle.new.held ≡ handle.old.held }
 {

@@ -1,10 +1,10 @@
 //! The messages of errors.
 ghost use Rattle.std.specs.Prelude.{◌≡◌, MatchOption};
-ghost use Rattle.oxc_sourcemap_handles.specs.Words.{refusal_text, refusal_of, overwritten};
+ghost use Rattle.oxc_sourcemap_handles.specs.Words.{call_error_text, call_error_of, overwritten};
 ghost use Rattle.oxc_sourcemap_handles.specs.Words.{IsMessage};
 
+use crate::call_error::CallError;
 use crate::fault::Fault;
-use crate::refusal::Refusal;
 use std::alloc::Global;
 
 /// Writes as much of a text as there is room for.
@@ -16,10 +16,10 @@ fn copy_to(text: &[u8], out: &mut [u8])
 }
 
 /// Writes as much of the message of an error as there is room for, and returns its whole length; 0 for want of memory.
-fn write_text(alloc: Global, refusal: Refusal, out: &mut [u8]) -> usize
-    ensures { IsMessage (refusal_text refusal) out.old out.new result }
+fn write_text(alloc: Global, error: CallError, out: &mut [u8]) -> usize
+    ensures { IsMessage (call_error_text error) out.old out.new result }
 {
-    match refusal.to_string(alloc) {
+    match error.to_string(alloc) {
         Ok(text) => {
             copy_to(text.as_bytes(), out);
             text.as_bytes().len()
@@ -31,11 +31,11 @@ fn write_text(alloc: Global, refusal: Refusal, out: &mut [u8]) -> usize
 /// Writes as much of the message of the error with these numbers as there is room for, and returns its whole length; 0 for
 /// want of memory, and if there is no such error.
 pub fn write_message(alloc: Global, fault: &Fault, out: &mut [u8]) -> usize
-    ensures { MatchOption (refusal_of fault.now) ((result ≡ 0) × (out.new ≡ out.old))
-        (λ r. IsMessage (refusal_text r) out.old out.new result) }
+    ensures { MatchOption (call_error_of fault.now) ((result ≡ 0) × (out.new ≡ out.old))
+        (λ r. IsMessage (call_error_text r) out.old out.new result) }
 {
-    match fault.refusal() {
-        Some(refusal) => write_text(alloc, refusal, out),
+    match fault.call_error() {
+        Some(error) => write_text(alloc, error, out),
         None => 0,
     }
 }

@@ -4,28 +4,28 @@ ghost use Rattle.std.specs.Prelude.{MatchOption, MatchResult};
 ghost use Rattle.oxc_sourcemap_handles.specs.Words.{read_map, composition, SomeComposition};
 ghost use Rattle.oxc_sourcemap_handles.specs.Words.{NoColumnGoesBack, EmptyHandle, out_of_memory};
 ghost use Rattle.oxc_sourcemap_handles.specs.Words.{fault_of, code_of, no_fault, held_map};
-ghost use Rattle.oxc_sourcemap_handles.specs.Words.{held_text, HoldsMap, IsReadRefusal};
-ghost use Rattle.oxc_sourcemap_handles.specs.Words.{IsCompositionRefusal, IsRefusedAs, lent_item};
+ghost use Rattle.oxc_sourcemap_handles.specs.Words.{held_text, HoldsMap, IsReadError};
+ghost use Rattle.oxc_sourcemap_handles.specs.Words.{IsCompositionError, IsErrorAs, lent_item};
 
+use crate::call_error::CallError;
 use crate::fault::Fault;
 use crate::handle::Handle;
 use crate::held::{Held, LoadedMap};
-use crate::refusal::Refusal;
 use crate::utf8::text_of;
 use oxc_sourcemap_map::OwnedSourceMap;
 use std::alloc::Global;
 
 /// The map of a JSON text.
-pub fn read(alloc: Global, json: &[u8]) -> Result<OwnedSourceMap, Refusal>
+pub fn read(alloc: Global, json: &[u8]) -> Result<OwnedSourceMap, CallError>
     ensures map { IfOk result (λ map. read_map json.now ≡ Ok map) }
-    ensures error { IfErr result (λ r. (r ≢ out_of_memory) → IsReadRefusal json.now r) }
+    ensures error { IfErr result (λ r. (r ≢ out_of_memory) → IsReadError json.now r) }
 {
     let text = text_of(json)?;
     Ok(OwnedSourceMap::from_json_string(alloc, text)?)
 }
 
 /// The map in a handle, taken out of it.
-pub fn take_map(alloc: Global, handle: &mut Handle) -> Result<OwnedSourceMap, Refusal>
+pub fn take_map(alloc: Global, handle: &mut Handle) -> Result<OwnedSourceMap, CallError>
     ensures map { MatchOption (held_map handle.old.held) (result ≡ Err EmptyHandle)
         (λ map. result ≡ Ok map) }
     ensures emptied { handle.new.held ≡ None }
@@ -33,9 +33,9 @@ pub fn take_map(alloc: Global, handle: &mut Handle) -> Result<OwnedSourceMap, Re
     match handle.take(alloc) {
         Some(held) => match Box::into_inner(held) {
             Held::Map(loaded) => Ok(loaded.into_map()),
-            _ => Err(Refusal::EmptyHandle),
+            _ => Err(CallError::EmptyHandle),
         },
-        None => Err(Refusal::EmptyHandle),
+        None => Err(CallError::EmptyHandle),
     }
 }
 
@@ -44,7 +44,7 @@ pub fn compose(
     alloc: Global,
     first: &mut Handle,
     input: &mut Handle,
-) -> Result<OwnedSourceMap, Refusal>
+) -> Result<OwnedSourceMap, CallError>
     ensures emptied { (first.new.held ≡ None) × (input.new.held ≡ None) }
     ensures any_map { IfOk result (λ map. HoldsMap first.old.held
         (λ a. HoldsMap input.old.held (λ b. SomeComposition a b (Ok map)))) }
@@ -52,7 +52,7 @@ pub fn compose(
         (λ a. HoldsMap input.old.held (λ b. NoColumnGoesBack b.tokens
         → composition a b ≡ Ok map))) }
     ensures error { IfErr result (λ r. (r ≢ out_of_memory)
-        → IsCompositionRefusal (held_map first.old.held) (held_map input.old.held) r) }
+        → IsCompositionError (held_map first.old.held) (held_map input.old.held) r) }
 {
     let first = take_map(alloc, first);
     let input = take_map(alloc, input);
@@ -60,7 +60,7 @@ pub fn compose(
 }
 
 /// A map in a box for a handle, with its index.
-fn box_map(alloc: Global, map: OwnedSourceMap) -> Result<Box<Held>, Refusal>
+fn box_map(alloc: Global, map: OwnedSourceMap) -> Result<Box<Held>, CallError>
     ensures map { IfOk result (λ held. held_map (Some held.value) ≡ Some map) }
     ensures error { IfErr result (λ r. r ≡ out_of_memory) }
 {
@@ -71,18 +71,18 @@ fn box_map(alloc: Global, map: OwnedSourceMap) -> Result<Box<Held>, Refusal>
 /// Puts a map that was made into a handle, whose old map is then dropped, and returns the code.
 pub fn put_map(
     alloc: Global,
-    made: Result<OwnedSourceMap, Refusal>,
+    made: Result<OwnedSourceMap, CallError>,
     handle: &mut Handle,
     fault: &mut Fault,
 ) -> u32
     ensures map { result ≡ 0 → MatchResult made
         (λ map. (held_map handle.new.held ≡ Some map) × (fault.new ≡ no_fault)) (λ _. ⊥) }
     ensures error { result ≢ 0 → (handle.new.held ≡ handle.old.held)
-        × IsRefusedAs result fault.new (λ r. made ≡ Err r) }
+        × IsErrorAs result fault.new (λ r. made ≡ Err r) }
 {
     let held = match made {
         Ok(map) => box_map(alloc, map),
-        Err(refusal) => Err(refusal),
+        Err(error) => Err(error),
     };
     put(alloc, held, handle, fault)
 }
@@ -90,7 +90,7 @@ pub fn put_map(
 /// Puts a text that was written into a handle, whose old text is then dropped, and returns the code.
 pub fn put_text(
     alloc: Global,
-    written: Result<String, Refusal>,
+    written: Result<String, CallError>,
     handle: &mut Handle,
     fault: &mut Fault,
 ) -> u32
@@ -98,14 +98,14 @@ pub fn put_text(
         (λ text. (held_text handle.new.held ≡ Some (string_bytes text)) × (fault.new ≡ no_fault))
         (λ _. ⊥) }
     ensures error { result ≢ 0 → (handle.new.held ≡ handle.old.held)
-        × IsRefusedAs result fault.new (λ r. written ≡ Err r) }
+        × IsErrorAs result fault.new (λ r. written ≡ Err r) }
 {
     let held = match written {
         Ok(text) => match Box::new(alloc, Held::Written(text)) {
             Ok(held) => Ok(held),
-            Err(_) => Err(Refusal::memory()),
+            Err(_) => Err(CallError::memory()),
         },
-        Err(refusal) => Err(refusal),
+        Err(error) => Err(error),
     };
     put(alloc, held, handle, fault)
 }
@@ -113,7 +113,7 @@ pub fn put_text(
 /// Puts what was made into a handle, or on an error leaves the handle as it is, and returns the code.
 pub(crate) fn put(
     alloc: Global,
-    made: Result<Box<Held>, Refusal>,
+    made: Result<Box<Held>, CallError>,
     handle: &mut Handle,
     fault: &mut Fault,
 ) -> u32
@@ -129,8 +129,8 @@ pub(crate) fn put(
             *fault = Fault::none();
             0
         }
-        Err(refusal) => {
-            *fault = Fault::of(refusal);
+        Err(error) => {
+            *fault = Fault::of(error);
             fault.code
         }
     }

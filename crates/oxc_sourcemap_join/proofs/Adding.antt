@@ -146,8 +146,8 @@ pub nothing-within : IsWithinLimits nothing_joined
 nothing-within = record { names = omega arith; sources = omega arith; tokens = omega arith; in_bounds = All-from_recursion IsInBounds [] tt; ignore_list = tt }
 
 -- the error of an add, as the error of all adds
-pub refusal-of-all : (r m : MapRecord) (offset : Position) (ms rest : List (MapRecord × Position)) (all : MapRecord) → added_all r ms ≡ all → ms ≡ (m, offset) ∷ rest → (e : Error)
+pub error-of-all : (r m : MapRecord) (offset : Position) (ms rest : List (MapRecord × Position)) (all : MapRecord) → added_all r ms ≡ all → ms ≡ (m, offset) ∷ rest → (e : Error)
     → (e ≡ OutOfMemory) ⊎ (e ≡ TooLarge) → (e ≡ TooLarge → ¬ (IsWithinLimits (added r m offset))) → (e ≡ OutOfMemory) ⊎ ((e ≡ TooLarge) × ¬ (IsWithinLimits all))
-refusal-of-all r m offset ms rest all p q e (inl o) h = inl o
-refusal-of-all r m offset ms rest all p q e (inr l) h =
+error-of-all r m offset ms rest all p q e (inl o) h = inl o
+error-of-all r m offset ms rest all p q e (inr l) h =
     inr (l, λ w. h l (front-within (added r m offset) rest (subst IsWithinLimits (sym p ∙ ap (added_all r) q) w)))

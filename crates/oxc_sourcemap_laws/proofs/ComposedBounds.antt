@@ -10,7 +10,7 @@ use Rattle.oxc_sourcemap_tokens.specs.declared.error.Error.{Error}
 use Rattle.oxc_sourcemap_tokens.specs.declared.error.Error.TheVariants.{TooLarge}
 use Rattle.oxc_sourcemap_tokens.specs.Token.{TokenRecord, IsInBounds, AreInBounds}
 use Rattle.oxc_sourcemap_parts.specs.Record.{Text, MapRecord}
-use Rattle.oxc_sourcemap_tokens.specs.Refusals.{unless}
+use Rattle.oxc_sourcemap_tokens.specs.Errors.{unless}
 use Rattle.oxc_sourcemap_lookup.specs.Composed.{target_of, target_in, line_of, found_on, targets}
 use Rattle.oxc_sourcemap_lookup.specs.Composed.{inherited_id, composed_names, composed_token}
 use Rattle.oxc_sourcemap_lookup.specs.Composed.{composed, may_be_id, are_ids, composition_fault}

@@ -19,7 +19,7 @@ use Rattle.oxc_sourcemap_parts.specs.Record.{Text, MapRecord}
 use Rattle.oxc_sourcemap_parts.specs.Texts.{index_of}
 use Rattle.oxc_sourcemap_parts.specs.Sound.{IsSound}
 use Rattle.oxc_sourcemap_parts.specs.DecodedMap.{decoded_map_of}
-use Rattle.oxc_sourcemap_tokens.specs.Refusals.{unless}
+use Rattle.oxc_sourcemap_tokens.specs.Errors.{unless}
 use Rattle.oxc_sourcemap_lookup.specs.Composed.{Target, targets, inherited_name, inherited_id}
 use Rattle.oxc_sourcemap_lookup.specs.Composed.{may_be_id, are_ids, composed_names, composed}
 use Rattle.oxc_sourcemap_lookup.specs.Composed.{composition_fault, composition}
@@ -72,7 +72,7 @@ groupings_agree a b c x y z left right e f =
     ap decoded_map_of (left-is (composition a b) a b c left refl e) ∙ records_associative a b c x y z ∙ sym (ap decoded_map_of (right-is (composition b c) a b c right refl f))
 
 -- the results of both groupings
-record BothRefused (a b c : MapRecord) : Type 0 where
+record BothFail (a b c : MapRecord) : Type 0 where
   pub left : IsSeveralSources (grouped_left a b c)
   pub right : IsSeveralSources (grouped_right a b c)
 
@@ -92,11 +92,11 @@ module _ (a b c : MapRecord) (y : IsSound b) (z : IsSound c) (x : IsSound a) (n 
   right-many true e f = (length b.sources, ap (with_then a) (several b c e))
   right-many false e f = (length a.sources, ap (with_then a) (last-given e) ∙ several a (composed b c) f)
 
-  refused-first : is_many a ≡ true → BothRefused a b c
-  refused-first e = record { left = (length a.sources, ap (λ q. then_with q c) (several a b e)); right = right-many (is_many b) refl e }
+  error-first : is_many a ≡ true → BothFail a b c
+  error-first e = record { left = (length a.sources, ap (λ q. then_with q c) (several a b e)); right = right-many (is_many b) refl e }
 
-  refused-second : is_many a ≡ false → is_many b ≡ true → BothRefused a b c
-  refused-second e f = record {
+  error-second : is_many a ≡ false → is_many b ≡ true → BothFail a b c
+  error-second e f = record {
     left = (length b.sources, ap (λ q. then_with q c) (first-given e) ∙ several (composed a b) c f);
     right = (length b.sources, ap (with_then a) (several b c f));
   }
@@ -110,22 +110,22 @@ module _ (a b c : MapRecord) (y : IsSound b) (z : IsSound c) (x : IsSound a) (n 
         right = bc ∙ given a (composed b c) e (sound_composed b c y z) (λ t. k (bc ∙ t));
       }
 
-  refused-iff : BothRefused a b c → IsSeveralSources (grouped_left a b c) ↔ IsSeveralSources (grouped_right a b c)
-  refused-iff r = (λ _. r.right, λ _. r.left)
+  error-iff : BothFail a b c → IsSeveralSources (grouped_left a b c) ↔ IsSeveralSources (grouped_right a b c)
+  error-iff r = (λ _. r.right, λ _. r.left)
 
-  not-refused : (answer : Result MapRecord Error) (m : MapRecord) → answer ≡ Ok m → IsSeveralSources answer → ⊥
-  not-refused answer m e s = cc (e, s.1)
+  no-error : (answer : Result MapRecord Error) (m : MapRecord) → answer ≡ Ok m → IsSeveralSources answer → ⊥
+  no-error answer m e s = cc (e, s.1)
 
   given-iff : BothGiven a b c → IsSeveralSources (grouped_left a b c) ↔ IsSeveralSources (grouped_right a b c)
-  given-iff g = (λ s. absurd (not-refused (grouped_left a b c) _ g.left s), λ s. absurd (not-refused (grouped_right a b c) _ g.right s))
+  given-iff g = (λ s. absurd (no-error (grouped_left a b c) _ g.left s), λ s. absurd (no-error (grouped_right a b c) _ g.right s))
 
-  refused-by : (p q : Bool) → is_many a ≡ p → is_many b ≡ q → IsSeveralSources (grouped_left a b c) ↔ IsSeveralSources (grouped_right a b c)
-  refused-by true q e f = refused-iff (refused-first e)
-  refused-by false true e f = refused-iff (refused-second e f)
-  refused-by false false e f = given-iff (both-given e f)
+  error-by : (p q : Bool) → is_many a ≡ p → is_many b ≡ q → IsSeveralSources (grouped_left a b c) ↔ IsSeveralSources (grouped_right a b c)
+  error-by true q e f = error-iff (error-first e)
+  error-by false true e f = error-iff (error-second e f)
+  error-by false false e f = given-iff (both-given e f)
 
-  pub refused_together : IsSeveralSources (grouped_left a b c) ↔ IsSeveralSources (grouped_right a b c)
-  refused_together = refused-by (is_many a) (is_many b) refl refl
+  pub fail_together : IsSeveralSources (grouped_left a b c) ↔ IsSeveralSources (grouped_right a b c)
+  fail_together = error-by (is_many a) (is_many b) refl refl
 
   pub both_answer : length a.sources ≤ 1 → length b.sources ≤ 1 → ((left : MapRecord) × (grouped_left a b c ≡ Ok left)) × ((right : MapRecord) × (grouped_right a b c ≡ Ok right))
   both_answer h j =
@@ -135,20 +135,20 @@ module _ (a b c : MapRecord) (y : IsSound b) (z : IsSound c) (x : IsSound a) (n 
       ((composed (composed a b) c, g.left), (composed a (composed b c), g.right))
 
   -- ---- what follows from one grouping for the other
-  either-by : (p q : Bool) → is_many a ≡ p → is_many b ≡ q → BothRefused a b c ⊎ BothGiven a b c
-  either-by true q e f = inl (refused-first e)
-  either-by false true e f = inl (refused-second e f)
+  either-by : (p q : Bool) → is_many a ≡ p → is_many b ≡ q → BothFail a b c ⊎ BothGiven a b c
+  either-by true q e f = inl (error-first e)
+  either-by false true e f = inl (error-second e f)
   either-by false false e f = inr (both-given e f)
 
   right-map : (m : MapRecord) → grouped_left a b c ≡ Ok m → (r : MapRecord) × (grouped_right a b c ≡ Ok r) × (decoded_map_of m ≡ decoded_map_of r)
   right-map m e = elim (either-by (is_many a) (is_many b) refl refl) [
-    | inl r ↦ absurd (not-refused (grouped_left a b c) m e r.left)
+    | inl r ↦ absurd (no-error (grouped_left a b c) m e r.left)
     | inr g ↦ (composed a (composed b c), g.right, groupings_agree a b c x y z m _ e g.right)
   ]
 
   left-map : (m : MapRecord) → grouped_right a b c ≡ Ok m → (r : MapRecord) × (grouped_left a b c ≡ Ok r) × (decoded_map_of m ≡ decoded_map_of r)
   left-map m e = elim (either-by (is_many a) (is_many b) refl refl) [
-    | inl r ↦ absurd (not-refused (grouped_right a b c) m e r.right)
+    | inl r ↦ absurd (no-error (grouped_right a b c) m e r.right)
     | inr g ↦ (composed (composed a b) c, g.left, sym (groupings_agree a b c x y z _ m g.left e))
   ]
 
@@ -186,7 +186,7 @@ module _ (a b c : MapRecord) (x : IsSound a) (y : IsSound b) (z : IsSound c) whe
     ];
     of_several = λ s. elim (is-too-large (grouped_right a b c)) [
       | inl t ↦ inl t
-      | inr k ↦ inr ((refused_together a b c y z x (several-small (grouped_left a b c) s) k).0 s)
+      | inr k ↦ inr ((fail_together a b c y z x (several-small (grouped_left a b c) s) k).0 s)
     ];
   }
 
@@ -198,7 +198,7 @@ module _ (a b c : MapRecord) (x : IsSound a) (y : IsSound b) (z : IsSound c) whe
     ];
     of_several = λ s. elim (is-too-large (grouped_left a b c)) [
       | inl t ↦ inl t
-      | inr k ↦ inr ((refused_together a b c y z x k (several-small (grouped_right a b c) s)).1 s)
+      | inr k ↦ inr ((fail_together a b c y z x k (several-small (grouped_right a b c) s)).1 s)
     ];
   }
 

@@ -76,8 +76,8 @@ abbrev pub IsSeveralSources : Result MapRecord Error → Type 0
 IsSeveralSources answer = (n : ℕ) × (answer ≡ Err (SeveralSources n))
 
 -- Unless one of them is `TooLarge`, the two groupings of sound maps are `SeveralSources` together or not at all.
-abbrev pub GroupingsRefusedTogether : Type 0
-GroupingsRefusedTogether = (a b c : MapRecord) → IsSound a → IsSound b → IsSound c
+abbrev pub GroupingsFailTogether : Type 0
+GroupingsFailTogether = (a b c : MapRecord) → IsSound a → IsSound b → IsSound c
     → grouped_left a b c ≢ Err TooLarge → grouped_right a b c ≢ Err TooLarge
     → IsSeveralSources (grouped_left a b c) ↔ IsSeveralSources (grouped_right a b c)
 

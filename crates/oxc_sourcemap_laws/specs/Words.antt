@@ -7,7 +7,7 @@ pub use Rattle.oxc_sourcemap_laws.specs.ComposeLaws.{CompositionKeepsEqualUpToRe
 pub use Rattle.oxc_sourcemap_laws.specs.ComposeLaws.{CompositionStandsFor, DecodedMapsAssociative}
 pub use Rattle.oxc_sourcemap_laws.specs.ComposeLaws.{ComposedMapsAssociative}
 pub use Rattle.oxc_sourcemap_laws.specs.ComposeLaws.{CompositionAssociative}
-pub use Rattle.oxc_sourcemap_laws.specs.ComposeLaws.{GroupingsRefusedTogether, GroupingsAnswered}
+pub use Rattle.oxc_sourcemap_laws.specs.ComposeLaws.{GroupingsFailTogether, GroupingsAnswered}
 pub use Rattle.oxc_sourcemap_laws.specs.ComposeLaws.{GroupingsTell, CompositionInRange}
 pub use Rattle.oxc_sourcemap_laws.specs.ComposeLaws.{CompositionNames, CompositionTokens}
 pub use Rattle.oxc_sourcemap_laws.specs.ComposeLaws.{CompositionTooLarge, CompositionInBounds}

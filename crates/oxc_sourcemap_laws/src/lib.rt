@@ -12,7 +12,7 @@ ghost use Rattle.oxc_sourcemap_laws.specs.Words.{TextOfSections, DecodedMapOfCom
 ghost use Rattle.oxc_sourcemap_laws.specs.Words.{CompositionKeepsEqualUpToRepeats};
 ghost use Rattle.oxc_sourcemap_laws.specs.Words.{CompositionStandsFor, DecodedMapsAssociative};
 ghost use Rattle.oxc_sourcemap_laws.specs.Words.{ComposedMapsAssociative, CompositionAssociative};
-ghost use Rattle.oxc_sourcemap_laws.specs.Words.{GroupingsRefusedTogether, GroupingsAnswered};
+ghost use Rattle.oxc_sourcemap_laws.specs.Words.{GroupingsFailTogether, GroupingsAnswered};
 ghost use Rattle.oxc_sourcemap_laws.specs.Words.{GroupingsTell, CompositionInRange};
 ghost use Rattle.oxc_sourcemap_laws.specs.Words.{CompositionNames, CompositionTokens};
 ghost use Rattle.oxc_sourcemap_laws.specs.Words.{CompositionTooLarge, CompositionInBounds};
@@ -116,7 +116,7 @@ pub fn composition_associative()
     ensures decoded_maps { DecodedMapsAssociative }
     ensures composed_maps { ComposedMapsAssociative }
     ensures associative { CompositionAssociative }
-    ensures fail_together { GroupingsRefusedTogether }
+    ensures fail_together { GroupingsFailTogether }
     ensures answered { GroupingsAnswered }
     ensures tell { GroupingsTell }
     ensures in_range { CompositionInRange }

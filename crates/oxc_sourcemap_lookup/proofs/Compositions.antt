@@ -53,9 +53,9 @@ module _ (a b : MapRecord) where
       let is : s.0 ≡ targets a b = targets-are b.tokens s.0 g s.1.1 ∙ ap (map (target_in b.tokens)) s.1.0 in
       sym (ap (λ ls. composition_by ls a b) is) ∙ s.2
 
-  pub exact_refusal : {X : Type 0} (r : Result X Error) → NoColumnGoesBack b.tokens → IfErr r (λ e. (e ≢ OutOfMemory) → SomeComposition a b (Err e)) → IfErr r (λ e. (e ≢ OutOfMemory) → composition a b ≡ Err e)
-  exact_refusal (Ok x) g s = tt
-  exact_refusal (Err e) g s = λ other. exact (Err e) g (s other)
+  pub exact_error : {X : Type 0} (r : Result X Error) → NoColumnGoesBack b.tokens → IfErr r (λ e. (e ≢ OutOfMemory) → SomeComposition a b (Err e)) → IfErr r (λ e. (e ≢ OutOfMemory) → composition a b ≡ Err e)
+  exact_error (Ok x) g s = tt
+  exact_error (Err e) g s = λ other. exact (Err e) g (s other)
 
 pub of_equals : (a p b q : MapRecord) (answer : Result MapRecord Error) → a ≡ p → b ≡ q → SomeComposition a b answer → SomeComposition p q answer
 of_equals a p b q answer e f s = subst (λ a. SomeComposition a q answer) e (subst (λ b. SomeComposition a b answer) f s)

@@ -178,7 +178,7 @@ pub fn compose_parts<'input>(
         (λ e. (e ≢ OutOfMemory) → composition a b ≡ Err e) }
     ensures any_map { IfOk result (λ parts. SomeComposition (record_of_parts first.entry)
         (record_of_parts second.entry) (Ok (record_of_parts parts))) }
-    ensures any_refused { IfErr result (λ e. (e ≢ OutOfMemory)
+    ensures any_error { IfErr result (λ e. (e ≢ OutOfMemory)
         → SomeComposition (record_of_parts first.entry) (record_of_parts second.entry) (Err e)) }
     ensures fault { Reports (composition_fault (record_of_parts first.entry)
         (record_of_parts second.entry)) result }

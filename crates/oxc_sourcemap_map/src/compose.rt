@@ -55,7 +55,7 @@ impl<'a> SourceMap<'a> {
         ensures error { NoColumnGoesBack input.entry.tokens
             → IfErr result (λ e. (e ≢ OutOfMemory) → composition self.entry input.entry ≡ Err e) }
         ensures any_map { IfOk result (λ map. SomeComposition self.entry input.entry (Ok map)) }
-        ensures any_refused { IfErr result (λ e. (e ≢ OutOfMemory)
+        ensures any_error { IfErr result (λ e. (e ≢ OutOfMemory)
             → SomeComposition self.entry input.entry (Err e)) }
         ensures fault { Reports (composition_fault self.entry input.entry) result }
 

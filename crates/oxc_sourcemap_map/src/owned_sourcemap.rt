@@ -157,7 +157,7 @@ impl OwnedSourceMap {
         ensures error { NoColumnGoesBack input.tokens
             → IfErr result (λ e. (e ≢ OutOfMemory) → composition self input ≡ Err e) }
         ensures any_map { IfOk result (λ map. SomeComposition self input (Ok map)) }
-        ensures any_refused { IfErr result (λ e. (e ≢ OutOfMemory)
+        ensures any_error { IfErr result (λ e. (e ≢ OutOfMemory)
             → SomeComposition self input (Err e)) }
         ensures fault { Reports (composition_fault self input) result }
 

@@ -12,7 +12,7 @@ use Rattle.oxc_sourcemap_mappings.specs.Parts.{Segment, lines, field}
 use Rattle.oxc_sourcemap_mappings.specs.Places.{Place}
 use Rattle.oxc_sourcemap_mappings.specs.Faults.{◌orelse◌, counts_of, range_fault, size_fault}
 use Rattle.oxc_sourcemap_mappings.specs.Faults.{place_fault, is_id_below}
-use Rattle.oxc_sourcemap_tokens.specs.Refusals.{unless}
+use Rattle.oxc_sourcemap_tokens.specs.Errors.{unless}
 use Rattle.oxc_sourcemap_mappings.specs.Reading.{token_at, segment_result, gathered, onto, reading}
 use Rattle.oxc_sourcemap_tokens.specs.State.{State, initial}
 use Rattle.oxc_sourcemap_mappings.specs.Canonical.{carried_token, canonical}

@@ -15,7 +15,7 @@ use Rattle.oxc_sourcemap_mappings.specs.Parts.{Segment, segment, segments, lines
 use Rattle.oxc_sourcemap_mappings.specs.Parts.{is_semicolon, is_comma, has_source, has_name}
 use Rattle.oxc_sourcemap_mappings.specs.Places.{Before, nothing_before, past_segment, past_line}
 use Rattle.oxc_sourcemap_mappings.specs.Places.{Place, place, field_sum, of_any_size}
-use Rattle.oxc_sourcemap_tokens.specs.Refusals.{unless}
+use Rattle.oxc_sourcemap_tokens.specs.Errors.{unless}
 use Rattle.oxc_sourcemap_mappings.specs.Faults.{Counts, counts_of, digit_fault, place_fault}
 use Rattle.oxc_sourcemap_tokens.specs.Token.{TokenRecord}
 use Rattle.oxc_sourcemap_mappings.specs.Reading.{segment_result, token_at, line_results}

@@ -234,23 +234,23 @@ piece-false_header : piece (token 1 1 1 1 (Some 0) (Some 0) ∷ token 3 1 1 1 (S
 unfolding piece piece_after token_text separator vlq_text digits letter
 piece-false_header = refl
 
-refuses-chunks_end_too_soon : writing_fault (token 0 0 0 0 None None ∷ token 0 1 0 0 None None ∷ []) (Some (chunk 0 1 0 0 0 0 0 0 ∷ [])) ≡ Some (BadChunks 1)
-refuses-chunks_end_too_soon = refl
+fails-chunks_end_too_soon : writing_fault (token 0 0 0 0 None None ∷ token 0 1 0 0 None None ∷ []) (Some (chunk 0 1 0 0 0 0 0 0 ∷ [])) ≡ Some (BadChunks 1)
+fails-chunks_end_too_soon = refl
 
-refuses-false_header : writing_fault (token 1 1 1 1 (Some 0) (Some 0) ∷ token 3 1 1 1 (Some 1) (Some 2) ∷ token 3 2 2 2 (Some 2) (Some 3) ∷ []) (Some (chunk 0 1 0 0 0 0 0 0 ∷ chunk 1 2 1 1 1 1 0 0 ∷ chunk 2 3 3 1 1 1 1 1 ∷ [])) ≡ Some (BadChunks 2)
-refuses-false_header = refl
+fails-false_header : writing_fault (token 1 1 1 1 (Some 0) (Some 0) ∷ token 3 1 1 1 (Some 1) (Some 2) ∷ token 3 2 2 2 (Some 2) (Some 3) ∷ []) (Some (chunk 0 1 0 0 0 0 0 0 ∷ chunk 1 2 1 1 1 1 0 0 ∷ chunk 2 3 3 1 1 1 1 1 ∷ [])) ≡ Some (BadChunks 2)
+fails-false_header = refl
 
-refuses-line_goes_back : writing_fault (token 1 0 0 0 None None ∷ token 0 0 0 0 None None ∷ []) None ≡ Some (LineOrder 1)
-refuses-line_goes_back = refl
+fails-line_goes_back : writing_fault (token 1 0 0 0 None None ∷ token 0 0 0 0 None None ∷ []) None ≡ Some (LineOrder 1)
+fails-line_goes_back = refl
 
-refuses-no_chunks : writing_fault (token 0 0 0 0 None None ∷ token 0 1 0 0 None None ∷ []) (Some ([])) ≡ Some (BadChunks 0)
-refuses-no_chunks = refl
+fails-no_chunks : writing_fault (token 0 0 0 0 None None ∷ token 0 1 0 0 None None ∷ []) (Some ([])) ≡ Some (BadChunks 0)
+fails-no_chunks = refl
 
-refuses-chunk_past_the_end : writing_fault (token 0 0 0 0 None None ∷ token 0 1 0 0 None None ∷ []) (Some (chunk 0 3 0 0 0 0 0 0 ∷ [])) ≡ Some (BadChunks 0)
-refuses-chunk_past_the_end = refl
+fails-chunk_past_the_end : writing_fault (token 0 0 0 0 None None ∷ token 0 1 0 0 None None ∷ []) (Some (chunk 0 3 0 0 0 0 0 0 ∷ [])) ≡ Some (BadChunks 0)
+fails-chunk_past_the_end = refl
 
-refuses-chunks_overlap : writing_fault (token 0 0 0 0 None None ∷ token 0 1 0 0 None None ∷ []) (Some (chunk 0 2 0 0 0 0 0 0 ∷ chunk 1 2 0 0 0 0 0 0 ∷ [])) ≡ Some (BadChunks 1)
-refuses-chunks_overlap = refl
+fails-chunks_overlap : writing_fault (token 0 0 0 0 None None ∷ token 0 1 0 0 None None ∷ []) (Some (chunk 0 2 0 0 0 0 0 0 ∷ chunk 1 2 0 0 0 0 0 0 ∷ [])) ≡ Some (BadChunks 1)
+fails-chunks_overlap = refl
 
 writes-two_names : canonical (token 0 0 4 4 (Some 0) (Some 0) ∷ token 0 3 5 5 (Some 0) (Some 1) ∷ []) ≡ (codes "AAIIA,GACCC")
 unfolding canonical text_after token_text separator vlq_text digits letter

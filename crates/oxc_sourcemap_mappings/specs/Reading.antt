@@ -6,7 +6,7 @@ use Rattle.oxc_sourcemap_tokens.specs.declared.error.Error.TheVariants.{TooLarge
 use Rattle.oxc_sourcemap_mappings.specs.Parts.{Segment, has_source, has_name, lines}
 use Rattle.oxc_sourcemap_mappings.specs.Places.{Before, nothing_before, past_segment, past_line}
 use Rattle.oxc_sourcemap_mappings.specs.Places.{Place, place}
-use Rattle.oxc_sourcemap_tokens.specs.Refusals.{unless}
+use Rattle.oxc_sourcemap_tokens.specs.Errors.{unless}
 use Rattle.oxc_sourcemap_mappings.specs.Faults.{Counts, counts_of, nat_of, segment_fault}
 use Rattle.oxc_sourcemap_tokens.specs.Token.{TokenRecord}
 

@@ -463,9 +463,9 @@ pub fn encode_chunk(tokens: &[Token], chunk: &TokenChunk, out: &mut String) -> R
     let kept = out.len();
     match push_chunk(tokens, chunk, out) {
         Ok(()) => Ok(()),
-        Err(refused) => {
+        Err(error) => {
             out.truncate(kept);
-            Err(Error::from(refused))
+            Err(Error::from(error))
         }
     }
 }
@@ -514,9 +514,9 @@ fn encode_chunks(tokens: &[Token], chunks: &[TokenChunk], out: &mut String) -> R
     let start = out.len();
     match push_chunks(out, tokens, chunks) {
         Ok(()) => Ok(()),
-        Err(refused) => {
+        Err(error) => {
             out.truncate(start);
-            Err(Error::from(refused))
+            Err(Error::from(error))
         }
     }
 }

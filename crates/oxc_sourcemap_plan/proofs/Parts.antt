@@ -11,7 +11,7 @@ use Rattle.oxc_sourcemap_tokens.specs.declared.plan_error.PlanError.{PlanError}
 use Rattle.oxc_sourcemap_plan.specs.Depth.{deepest}
 use Rattle.oxc_sourcemap_plan.specs.Outcome.{outcome_of, outcomes, join_outcome}
 use Rattle.oxc_sourcemap_plan.specs.Realizes.{Realizes, FailsAs, AllRealize}
-use Rattle.oxc_sourcemap_plan.proofs.Realizing.{part_refuses}
+use Rattle.oxc_sourcemap_plan.proofs.Realizing.{part_fails}
 
 -- the error that a `?` returns
 pub from_err : {X E : Type 0} (r : Result X E) (P Q : E → Type 0) → IsErrAnd r P → ((e : E) → P e → Q e) → IfErr r Q
@@ -46,11 +46,11 @@ module _ {A : Type 0} (part_at : A → Plan × Position) where
       let parts : map part_at (take (i + 1) ps) ≡ map part_at (take i ps) ++ part_at p ∷ [] = ap (map part_at) next ∙ map-append part_at (take i ps) (p ∷ []) in
       subst (λ qs. AllRealize (ms ++ m ∷ []) (outcomes qs)) (sym parts) (one_more ms (map part_at (take i ps)) m (part_at p) h g o)
 
-  pub part_refused : (ms : List (MapRecord × Position)) (ps : List A) (i : ℕ) (p : A) (e : PlanError) → i < length ps → p ≡ get_or ps i p → AllRealize ms (outcomes (map part_at (take i ps)))
+  pub part_error : (ms : List (MapRecord × Position)) (ps : List A) (i : ℕ) (p : A) (e : PlanError) → i < length ps → p ≡ get_or ps i p → AllRealize ms (outcomes (map part_at (take i ps)))
       → FailsAs e (outcome_of (part_at p).0) → FailsAs e (join_outcome (outcomes (map part_at ps)))
-  part_refused ms ps i p e l q h r =
+  part_error ms ps i p e l q h r =
       let t : map part_at ps ≡ map part_at (take i ps) ++ part_at p ∷ map part_at (drop (i + 1) ps) = ap (map part_at) (around ps i p l q) ∙ map-append part_at (take i ps) (p ∷ drop (i + 1) ps) in
-      part_refuses ms (outcomes (map part_at (take i ps))) (outcomes (map part_at (drop (i + 1) ps))) (outcome_of (part_at p).0) (part_at p).1 e h r (outcomes (map part_at ps))
+      part_fails ms (outcomes (map part_at (take i ps))) (outcomes (map part_at (drop (i + 1) ps))) (outcome_of (part_at p).0) (part_at p).1 e h r (outcomes (map part_at ps))
       (ap outcomes t ∙ map-append (λ (p : Plan × Position). (outcome_of p.0, p.1)) (map part_at (take i ps)) (part_at p ∷ map part_at (drop (i + 1) ps)))
 
 -- a part of a join at lines, at column 0 of its line

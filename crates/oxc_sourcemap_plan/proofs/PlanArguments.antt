@@ -88,12 +88,12 @@ module _ (part : List Text → Parsed Outcome) (offset : List Text → Parsed Po
       (next-part count i arguments l ∙ ap (λ r. then_parsed r (λ o after. then_parsed (offset after) (λ place left. then_parsed (parsed_parts part offset (count - (i + 1)) left) (λ others rest. Ok ((o, place) ∷ others, rest))))) e)
 
   -- a part with a fault
-  pub part-refused : (done : List (Outcome × Position)) (count i : ℕ) (arguments : List Text) (e : RunError) → i < count → part arguments ≡ Err e → left_after done (count - i) arguments ≡ Err e
-  part-refused done count i arguments e l h = after-part done count i arguments l (Err e) h
+  pub part-error : (done : List (Outcome × Position)) (count i : ℕ) (arguments : List Text) (e : RunError) → i < count → part arguments ≡ Err e → left_after done (count - i) arguments ≡ Err e
+  part-error done count i arguments e l h = after-part done count i arguments l (Err e) h
 
   -- a position with a fault
-  pub offset-refused : (done : List (Outcome × Position)) (count i : ℕ) (arguments after : List Text) (o : Outcome) (e : RunError) → i < count → part arguments ≡ Ok (o, after) → offset after ≡ Err e → left_after done (count - i) arguments ≡ Err e
-  offset-refused done count i arguments after o e l h k =
+  pub offset-error : (done : List (Outcome × Position)) (count i : ℕ) (arguments after : List Text) (o : Outcome) (e : RunError) → i < count → part arguments ≡ Ok (o, after) → offset after ≡ Err e → left_after done (count - i) arguments ≡ Err e
+  offset-error done count i arguments after o e l h k =
       after-part done count i arguments l (Ok (o, after)) h
       ∙ ap (λ r. then_parsed (then_parsed r (λ place left. then_parsed (parsed_parts part offset (count - (i + 1)) left) (λ others rest. Ok ((o, place) ∷ others, rest)))) (λ others rest. Ok (done ++ others, rest))) k
 

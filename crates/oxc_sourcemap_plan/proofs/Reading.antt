@@ -8,7 +8,7 @@ use Rattle.std.proofs.lemmas.List.{length-append, length-map}
 use Rattle.std.proofs.lemmas.List.Elements.{recursion_from_All}
 use Rattle.oxc_sourcemap_tokens.specs.declared.error.Error.{Error}
 use Rattle.oxc_sourcemap_tokens.specs.declared.error.Error.TheVariants.{OutOfMemory, TooLarge}
-use Rattle.oxc_sourcemap_tokens.specs.Refusals.{unless}
+use Rattle.oxc_sourcemap_tokens.specs.Errors.{unless}
 use Rattle.oxc_sourcemap_tokens.specs.Token.{TokenRecord, IsInBounds, AreInBounds}
 use Rattle.oxc_sourcemap_parts.specs.Record.{Text, MapRecord}
 use Rattle.oxc_sourcemap_parts.specs.Sorted.{are_tokens_sorted}
@@ -120,9 +120,9 @@ module _ (laws : JoinLaws) (file : Option Text) (ms : List (MapRecord × Positio
       inr (inr (refl, false_from_ne_true _ (λ k. both_ways (is_within_limits (joined ms)) e ((limits_decided (joined ms)).1 (within k)))))
 
 -- ---- by what the join of sections is
-refused-of : (file : Option Text) (x : Result MapRecord Error) (f : Error) → (x >>= (λ j. Ok (indexed_record file j))) ≡ Err f → x ≡ Err f
-refused-of file (Ok j) f e = cc
-refused-of file (Err g) f e = cc
+error-of : (file : Option Text) (x : Result MapRecord Error) (f : Error) → (x >>= (λ j. Ok (indexed_record file j))) ≡ Err f → x ≡ Err f
+error-of file (Ok j) f e = cc
+error-of file (Err g) f e = cc
 
 -- ---- by the value that is read
 gives : (laws : JoinLaws) (said : Said) (r : MapRecord) → ((file : Option Text) (found : Sections) → said ≡ indexed file found → AllByRecursion (λ m. IsWellRead m.0) found.maps)
@@ -150,11 +150,11 @@ fault-of : (fault : Option Error) (r : MapRecord) (e : Error) → unless fault (
 fault-of None r e h = cc
 fault-of (Some f) r e h = cc
 
-refused : (laws : JoinLaws) (said : Said) (e : Error) → ((file : Option Text) (found : Sections) → said ≡ indexed file found → AllByRecursion (λ m. IsWellRead m.0) found.maps)
+error : (laws : JoinLaws) (said : Said) (e : Error) → ((file : Option Text) (found : Sections) → said ≡ indexed file found → AllByRecursion (λ m. IsWellRead m.0) found.maps)
     → map_said said ≡ Err e → FailsAs (Map e) (read_outcome said)
-refused laws (plain answer) e w h = subst (λ a. FailsAs (Map e) (plain_outcome a)) (sym h) (inr (inl refl))
-refused laws (indexed file found) e w h =
-    let j : joined_sections found ≡ Err e = refused-of file (joined_sections found) e h in
+error laws (plain answer) e w h = subst (λ a. FailsAs (Map e) (plain_outcome a)) (sym h) (inr (inl refl))
+error laws (indexed file found) e w h =
+    let j : joined_sections found ≡ Err e = error-of file (joined_sections found) e h in
     elim (is_within_limits (joined found.maps)) as (λ b. is_within_limits (joined found.maps) ≡ b → cond b (unless found.fault (Ok (joined found.maps))) (Err TooLarge) ≡ Err e
     → FailsAs (Map e) (sections_outcome file found.fault found.maps)) [
       | true ↦ (λ t k. let f = fault-of found.fault (joined found.maps) e k in subst (λ fault. FailsAs (Map e) (sections_outcome file fault found.maps)) (sym f) (inr (inl refl)))
@@ -168,5 +168,5 @@ read_gives laws text r e b h s = gives laws (said_in text) r (sections_well text
 pub read_unsorted : JoinLaws → (text : Text) (r : MapRecord) → read_map text ≡ Ok r → are_tokens_sorted r.tokens ≡ false → FailsAs Unsorted (read_outcome (said_in text))
 read_unsorted laws text r e s = unsorted laws (said_in text) r (sections_well text) (sym (read_is_said text) ∙ e) s
 
-pub read_refused : JoinLaws → (text : Text) (e : Error) → ((e ≢ OutOfMemory) → read_map text ≡ Err e) → FailsAs (Map e) (read_outcome (said_in text))
-read_refused laws text e q = unless_memory e (read_outcome (said_in text)) (λ n. refused laws (said_in text) e (sections_well text) (sym (read_is_said text) ∙ q n))
+pub read_error : JoinLaws → (text : Text) (e : Error) → ((e ≢ OutOfMemory) → read_map text ≡ Err e) → FailsAs (Map e) (read_outcome (said_in text))
+read_error laws text e q = unless_memory e (read_outcome (said_in text)) (λ n. error laws (said_in text) e (sections_well text) (sym (read_is_said text) ∙ q n))

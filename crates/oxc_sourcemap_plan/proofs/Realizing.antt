@@ -39,7 +39,7 @@ use Rattle.oxc_sourcemap_join.specs.Joined.{is_same_token, without_repeat, shift
 use Rattle.oxc_sourcemap_join.specs.Joined.{added_all, nothing_joined, joined, AreEntriesInBounds}
 use Rattle.oxc_sourcemap_join.specs.Joined.{IsWithinLimits}
 use Rattle.oxc_sourcemap_join.proofs.Fitted.{length-fitted}
-use Rattle.oxc_sourcemap_tokens.specs.Refusals.{unless}
+use Rattle.oxc_sourcemap_tokens.specs.Errors.{unless}
 use Rattle.oxc_sourcemap_lookup.specs.Composed.{targets, composed_names, composed, are_ids}
 use Rattle.oxc_sourcemap_lookup.specs.Composed.{composition}
 use Rattle.oxc_sourcemap_laws.specs.Repeats.{decoded_map_without_repeats, EqualUpToRepeats}
@@ -178,16 +178,16 @@ rewrite_gives law back stays r m j e d o g =
       rewritten = λ _. (refl, st.again);
     })
 
-pub rewrite_refused : SoundIsWritten → SoundIsTooLarge → (r : MapRecord) (e : Error) → encoded r ≡ Err e → (o : Outcome) → Realizes r o → FailsAs (Map e) (rewrite_outcome o)
-rewrite_refused written large r e k o g =
+pub rewrite_error : SoundIsWritten → SoundIsTooLarge → (r : MapRecord) (e : Error) → encoded r ≡ Err e → (o : Outcome) → Realizes r o → FailsAs (Map e) (rewrite_outcome o)
+rewrite_error written large r e k o g =
     elim (cases_lt 4294967295 (length r.tokens)) [
       | inl l ↦ (let t = err-same _ _ (sym (large r g.stands.sound l) ∙ k) in
           subst (λ x. FailsAs (Map x) (rewrite_outcome o)) t (inr (inr (refl, false_from_ne_true o.is_within_limits (λ q. (let n = g.within_limits q in let c = g.tokens in omega arith))))))
       | inr l ↦ no-ok-err _ _ (sym (written r g.stands.sound (omega arith)) ∙ k)
     ]
 
-pub reading_refused : SoundReadsBack → (r : MapRecord) (j : JsonRecord) (e : Error) → encoded r ≡ Ok j → decoded j ≡ Err e → (o : Outcome) → Realizes r o → FailsAs (Map e) (rewrite_outcome o)
-reading_refused back r j e w d o g =
+pub reading_error : SoundReadsBack → (r : MapRecord) (j : JsonRecord) (e : Error) → encoded r ≡ Ok j → decoded j ≡ Err e → (o : Outcome) → Realizes r o → FailsAs (Map e) (rewrite_outcome o)
+reading_error back r j e w d o g =
     let b = back r g.stands.sound g.in_bounds in
     no-ok-err _ _ (sym b.is_read ∙ ap decoded (written-is (writing_fault r.tokens r.token_chunks) r j w) ∙ d)
 
@@ -388,36 +388,36 @@ module _ (laws : JoinLaws) (ms : List (MapRecord × Position)) (os : List (Outco
       let al : EqualUpToRepeats (decoded_map_of (joined ms)) s = laws.decoded_map ms j.in_range ∙ laws.keeps (decoded_maps_of ms) j.decoded_maps (up_to_repeats-each ms j.decoded_maps j.stand) in
       within_of laws ms s (names_of_all os) al j.in_range j.lists_in_range j.stay j.tokens j.names room.0 room.1
 
-  pub join_refused : (e : Error) → (e ≡ OutOfMemory) ⊎ ((e ≡ TooLarge) × (IsWithinLimits (joined ms) → ⊥)) → FailsAs (Map e) (join_outcome os)
-  join_refused e r = elim r [
+  pub join_error : (e : Error) → (e ≡ OutOfMemory) ⊎ ((e ≡ TooLarge) × (IsWithinLimits (joined ms) → ⊥)) → FailsAs (Map e) (join_outcome os)
+  join_error e r = elim r [
     | inl m ↦ inl (ap (λ e. Map e) m)
     | inr t ↦ inr (inr (ap (λ e. Map e) t.0, false_from_ne_true _ (λ k. t.1 (join_within k))))
   ]
 
 -- ---- a part of a join that fails
-decoded_maps-refused : (ms : List (MapRecord × Position)) (os ps : List (Outcome × Position)) (o : Outcome) (n : Position) (e : PlanError) → AllRealize ms os → o.meaning ≡ Err e → all_decoded_maps (meanings (os ++ (o, n) ∷ ps)) ≡ Err e
-decoded_maps-refused [] [] ps o n e h q = ap (λ r. onto_decoded_maps r n (all_decoded_maps (meanings ps))) q
-decoded_maps-refused [] (p ∷ os) ps o n e h q = absurd h
-decoded_maps-refused (m ∷ ms) [] ps o n e h q = absurd h
-decoded_maps-refused (m ∷ ms) (p ∷ os) ps o n e h q = ap (λ r. onto_decoded_maps r p.1 (all_decoded_maps (meanings (os ++ (o, n) ∷ ps)))) h.0.0.means ∙ ap (onto_decoded_maps (Ok h.0.0.decoded_map) p.1) (decoded_maps-refused ms os ps o n e h.1 q)
+decoded_maps-error : (ms : List (MapRecord × Position)) (os ps : List (Outcome × Position)) (o : Outcome) (n : Position) (e : PlanError) → AllRealize ms os → o.meaning ≡ Err e → all_decoded_maps (meanings (os ++ (o, n) ∷ ps)) ≡ Err e
+decoded_maps-error [] [] ps o n e h q = ap (λ r. onto_decoded_maps r n (all_decoded_maps (meanings ps))) q
+decoded_maps-error [] (p ∷ os) ps o n e h q = absurd h
+decoded_maps-error (m ∷ ms) [] ps o n e h q = absurd h
+decoded_maps-error (m ∷ ms) (p ∷ os) ps o n e h q = ap (λ r. onto_decoded_maps r p.1 (all_decoded_maps (meanings (os ++ (o, n) ∷ ps)))) h.0.0.means ∙ ap (onto_decoded_maps (Ok h.0.0.decoded_map) p.1) (decoded_maps-error ms os ps o n e h.1 q)
 
 no-room-part : (os ps : List (Outcome × Position)) (o : Outcome) (n : Position) → o.is_within_limits ≡ false → are_all_within_limits (os ++ (o, n) ∷ ps) ≡ false
 no-room-part [] ps o n q = and_left _ _ q
 no-room-part (p ∷ os) ps o n q = and_right _ _ (no-room-part os ps o n q)
 
-pub part_refuses : (ms : List (MapRecord × Position)) (os ps : List (Outcome × Position)) (o : Outcome) (n : Position) (e : PlanError) → AllRealize ms os → FailsAs e o → (all : List (Outcome × Position)) → all ≡ os ++ (o, n) ∷ ps → FailsAs e (join_outcome all)
-part_refuses ms os ps o n e h r all q =
+pub part_fails : (ms : List (MapRecord × Position)) (os ps : List (Outcome × Position)) (o : Outcome) (n : Position) (e : PlanError) → AllRealize ms os → FailsAs e o → (all : List (Outcome × Position)) → all ≡ os ++ (o, n) ∷ ps → FailsAs e (join_outcome all)
+part_fails ms os ps o n e h r all q =
     subst (λ (xs : List (Outcome × Position)). FailsAs e (join_outcome xs)) (sym q) (elim r [
       | inl m ↦ inl m
       | inr t ↦ elim t [
-        | inl k ↦ inr (inl (ap join_meaning (decoded_maps-refused ms os ps o n e h k)))
+        | inl k ↦ inr (inl (ap join_meaning (decoded_maps-error ms os ps o n e h k)))
         | inr k ↦ inr (inr (k.0, and_left _ _ (no-room-part os ps o n k.1)))
       ]
     ])
 
 -- ---- a composition
-pub first_refuses : (p q : Outcome) (e : PlanError) → FailsAs e p → FailsAs e (composition_outcome p q)
-first_refuses p q e r = elim r [
+pub first_fails : (p q : Outcome) (e : PlanError) → FailsAs e p → FailsAs e (composition_outcome p q)
+first_fails p q e r = elim r [
   | inl m ↦ inl m
   | inr t ↦ elim t [
     | inl k ↦ inr (inl (ap (λ x. composition_meaning x q.meaning) k))
@@ -425,8 +425,8 @@ first_refuses p q e r = elim r [
   ]
 ]
 
-pub second_refuses : (a : MapRecord) (p q : Outcome) (e : PlanError) → Realizes a p → FailsAs e q → FailsAs e (composition_outcome p q)
-second_refuses a p q e g r = elim r [
+pub second_fails : (a : MapRecord) (p q : Outcome) (e : PlanError) → Realizes a p → FailsAs e q → FailsAs e (composition_outcome p q)
+second_fails a p q e g r = elim r [
   | inl m ↦ inl m
   | inr t ↦ elim t [
     | inl k ↦ inr (inl (ap (λ x. composition_meaning x q.meaning) g.means ∙ ap (composition_meaning (Ok g.decoded_map)) k))
@@ -494,8 +494,8 @@ module _ (laws : ComposeLaws) (a b : MapRecord) (p q : Outcome) (g : Realizes a 
         rewritten = λ r. absurd (both_ways false refl r);
       })
 
-  pub compose_refused : (e : Error) → composition a b ≡ Err e → FailsAs (Map e) (composition_outcome p q)
-  compose_refused e r =
+  pub compose_error : (e : Error) → composition a b ≡ Err e → FailsAs (Map e) (composition_outcome p q)
+  compose_error e r =
       let c = not-given (nat_lt 1 (length a.sources)) (length a.sources) (first_out_of_order b.tokens) (are_ids a.names (composed_names a.names b.names (targets a b)) (targets a b)) (composed a b) e (sorted-order b.tokens k.stands.sound.sorted) r in
       elim c [
         | inl s ↦ subst (λ x. FailsAs (Map x) (composition_outcome p q)) s.1 (inr (inl (both-mean

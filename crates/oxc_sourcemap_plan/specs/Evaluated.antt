@@ -30,8 +30,8 @@ pub record IsReadBack (m : MapRecord) : Type 0 where
   pub tokens : reading (canonical m.tokens) (length m.names) (length m.sources) ≡ Ok m.tokens
 
 -- An error of an evaluation other than `OutOfMemory`: the one that is meant, or `TooLarge` if a part is not within the limits.
-abbrev pub IsFailure : Outcome → PlanError → Type 0
-IsFailure o e = (o.meaning ≡ Err e) ⊎ ((e ≡ Map TooLarge) × (o.is_within_limits ≡ false))
+abbrev pub IsErrorOf : Outcome → PlanError → Type 0
+IsErrorOf o e = (o.meaning ≡ Err e) ⊎ ((e ≡ Map TooLarge) × (o.is_within_limits ≡ false))
 
 -- What is promised of the map that an evaluation returns, by the outcome of the plan.
 pub record IsEvaluated (m : MapRecord) (o : Outcome) : Type 0 where

@@ -7,5 +7,5 @@ pub mod Realizes
 pub mod Numbers
 pub mod PlanInputs
 pub mod PlanArguments
-pub mod Refusals
+pub mod RunErrors
 pub mod Words

@@ -11,7 +11,7 @@ use Rattle.oxc_sourcemap_laws.specs.JoinLaws.{StandsFor}
 use Rattle.oxc_sourcemap_tokens.specs.declared.plan_error.PlanError.{PlanError}
 use Rattle.oxc_sourcemap_tokens.specs.declared.plan_error.PlanError.TheVariants.{Map}
 use Rattle.oxc_sourcemap_plan.specs.Outcome.{Outcome}
-use Rattle.oxc_sourcemap_plan.specs.Evaluated.{are_among, IsFailure}
+use Rattle.oxc_sourcemap_plan.specs.Evaluated.{are_among, IsErrorOf}
 
 -- A map realizes an outcome, seen from inside the evaluation: it stands for the decoded map that is meant, with no more tokens
 -- and names than the outcome counts.
@@ -30,7 +30,7 @@ pub record Realizes (m : MapRecord) (o : Outcome) : Type 0 where
 
 -- An error is the one that is meant, or want of memory, or `TooLarge` if the plan is not within the limits.
 abbrev pub FailsAs : PlanError → Outcome → Type 0
-FailsAs e o = (e ≡ Map OutOfMemory) ⊎ IsFailure o e
+FailsAs e o = (e ≡ Map OutOfMemory) ⊎ IsErrorOf o e
 
 -- each map realizes the outcome at its index in the other list, at the same offset
 abbrev pub AllRealize : List (MapRecord × Position) → List (Outcome × Position) → Type 0

@@ -7,7 +7,7 @@ pub use Rattle.oxc_sourcemap_tokens.specs.declared.error.Error.TheVariants.{OutO
 pub use Rattle.oxc_sourcemap_tokens.specs.declared.plan_error.PlanError.TheVariants.{Map, Unsorted}
 pub use Rattle.oxc_sourcemap_tokens.specs.declared.position.Position.{Position}
 pub use Rattle.oxc_sourcemap_plan.specs.Depth.{depth}
-pub use Rattle.oxc_sourcemap_plan.specs.Evaluated.{IsEvaluated, IsFailure}
+pub use Rattle.oxc_sourcemap_plan.specs.Evaluated.{IsEvaluated, IsErrorOf}
 pub use Rattle.oxc_sourcemap_plan.specs.Numbers.{number_of}
 pub use Rattle.oxc_sourcemap_plan.specs.Outcome.{Outcome, read_outcome, rewrite_outcome}
 pub use Rattle.oxc_sourcemap_plan.specs.Outcome.{join_outcome, composition_outcome, outcome_of}
@@ -17,6 +17,6 @@ pub use Rattle.oxc_sourcemap_plan.specs.PlanArguments.{parsed_input, parsed_join
 pub use Rattle.oxc_sourcemap_plan.specs.PlanArguments.{parsed_plan}
 pub use Rattle.oxc_sourcemap_plan.specs.PlanInputs.{inputs_of}
 pub use Rattle.oxc_sourcemap_plan.specs.Realizes.{Realizes, FailsAs, AllRealize}
-pub use Rattle.oxc_sourcemap_plan.specs.Refusals.{out_of_memory, is_of_port, run_error_text}
-pub use Rattle.oxc_sourcemap_plan.specs.Refusals.{status_of}
+pub use Rattle.oxc_sourcemap_plan.specs.RunErrors.{out_of_memory, is_of_port, run_error_text}
+pub use Rattle.oxc_sourcemap_plan.specs.RunErrors.{status_of}
 pub use Rattle.oxc_sourcemap_plan.specs.declared.run_error.RunError.TheVariants.{Plan}

@@ -3,7 +3,7 @@ ghost use Rattle.std.specs.Prelude.{◌≡◌, ◌≤◌, ◌↔◌, ◌⊎◌, 
 ghost use Rattle.oxc_sourcemap_plan.specs.Words.{depth, Outcome, read_outcome, rewrite_outcome};
 ghost use Rattle.oxc_sourcemap_plan.specs.Words.{join_outcome, composition_outcome, outcome_of};
 ghost use Rattle.oxc_sourcemap_plan.specs.Words.{outcomes, outcome, Position, at_lines};
-ghost use Rattle.oxc_sourcemap_plan.specs.Words.{at_positions, IsEvaluated, IsFailure, Realizes};
+ghost use Rattle.oxc_sourcemap_plan.specs.Words.{at_positions, IsEvaluated, IsErrorOf, Realizes};
 ghost use Rattle.oxc_sourcemap_plan.specs.Words.{FailsAs, AllRealize, OutOfMemory, said_in};
 ghost use Rattle.oxc_sourcemap_plan.specs.Words.{are_tokens_sorted, Map, Unsorted};
 
@@ -262,7 +262,7 @@ fn evaluate_composition(
 /// counts as the join of its sections (`is_within_limits`), and with `Map(OutOfMemory)` for want of memory.
 pub fn evaluate(alloc: Global, plan: &Plan<'_>) -> Result<OwnedSourceMap, PlanError>
     ensures map { IfOk result (λ map. IsEvaluated map (outcome plan.now)) }
-    ensures error { IfErr result (λ e. (e ≡ Map OutOfMemory) ⊎ IsFailure (outcome plan.now) e) }
+    ensures error { IfErr result (λ e. (e ≡ Map OutOfMemory) ⊎ IsErrorOf (outcome plan.now) e) }
 {
     dropping_harmless();
     canonical_unique();

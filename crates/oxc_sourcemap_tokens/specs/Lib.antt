@@ -1,4 +1,4 @@
-pub mod Refusals
+pub mod Errors
 pub mod Results
 pub mod Messages
 pub mod PlanMessages

@@ -4,7 +4,7 @@ pub use Rattle.oxc_sourcemap_tokens.specs.Chunks.{first_misfit, ChunksFit}
 pub use Rattle.oxc_sourcemap_tokens.specs.LineOrder.{first_out_of_order, back_from}
 pub use Rattle.oxc_sourcemap_tokens.specs.Messages.{key_of, json_fault_text, error_text}
 pub use Rattle.oxc_sourcemap_tokens.specs.PlanMessages.{plan_error_text}
-pub use Rattle.oxc_sourcemap_tokens.specs.Refusals.{refusal_of_json}
+pub use Rattle.oxc_sourcemap_tokens.specs.Errors.{error_of_json}
 pub use Rattle.oxc_sourcemap_tokens.specs.Results.{lent_item}
 pub use Rattle.oxc_sourcemap_tokens.specs.State.{state_at, initial}
 pub use Rattle.oxc_sourcemap_tokens.specs.Steps.{state_of, advanced, advanced_all, source_given}

@@ -1,7 +1,7 @@
 //! Errors and their messages.
 ghost use Rattle.std.specs.Prelude.{◌≡◌, Some};
 ghost use Rattle.oxc_sourcemap_tokens.specs.Words.{key_of, json_fault_text, error_text};
-ghost use Rattle.oxc_sourcemap_tokens.specs.Words.{refusal_of_json, OutOfMemory, lent_item};
+ghost use Rattle.oxc_sourcemap_tokens.specs.Words.{error_of_json, OutOfMemory, lent_item};
 
 use std::alloc::{AllocError, AllocFailed};
 use std::fmt;
@@ -180,7 +180,7 @@ impl fmt::Display for Error {
 impl std::error::Error for Error {}
 
 impl From<serde_json::Error> for Error {
-    ghost from_gives = { refusal_of_json };
+    ghost from_gives = { error_of_json };
 
     /// Lack of memory is `OutOfMemory`, and every other cause `BadJson(Reading)`.
     fn from(cause: serde_json::Error) -> Error {

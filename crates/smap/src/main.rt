@@ -40,9 +40,9 @@ fn smap(rt: &HostRuntime) -> Result<(), RunError> {
 fn main(rt: HostRuntime) -> ExitCode {
     match smap(&rt) {
         Ok(()) => ExitCode::SUCCESS,
-        Err(refusal) => {
-            let _ = eprintln!(rt; "smap: {refusal}");
-            ExitCode::from(refusal.status())
+        Err(error) => {
+            let _ = eprintln!(rt; "smap: {error}");
+            ExitCode::from(error.status())
         }
     }
 }

@@ -17,19 +17,19 @@ use Rattle.oxc_sourcemap.specs.View.{seen_in, view_original}
 use Rattle.oxc_sourcemap_map.proofs.Picks.{traced}
 use Rattle.smap_run.specs.Answer.{normalised, normalised_url}
 
-pub text_refused : (text : List ℕ) (r : MapRecord) (fault : Error) → read_map text ≡ Ok r → (fault ≢ OutOfMemory → map_text r ≡ Err fault) → fault ≢ OutOfMemory → normalised text ≡ Err fault
-text_refused text r fault e m n = ap (λ read. read >>= map_text) e ∙ m n
+pub text_error : (text : List ℕ) (r : MapRecord) (fault : Error) → read_map text ≡ Ok r → (fault ≢ OutOfMemory → map_text r ≡ Err fault) → fault ≢ OutOfMemory → normalised text ≡ Err fault
+text_error text r fault e m n = ap (λ read. read >>= map_text) e ∙ m n
 
-pub url_refused : (text : List ℕ) (r : MapRecord) (fault : Error) → read_map text ≡ Ok r → (fault ≢ OutOfMemory → map_url r ≡ Err fault) → fault ≢ OutOfMemory → normalised_url text ≡ Err fault
-url_refused text r fault e m n = ap (λ read. read >>= map_url) e ∙ m n
+pub url_error : (text : List ℕ) (r : MapRecord) (fault : Error) → read_map text ≡ Ok r → (fault ≢ OutOfMemory → map_url r ≡ Err fault) → fault ≢ OutOfMemory → normalised_url text ≡ Err fault
+url_error text r fault e m n = ap (λ read. read >>= map_url) e ∙ m n
 
 -- tokens in line order have an index of their lines
 order_stands : (order : Option ℕ) (fault : Error) → order ≡ None → option_map LineOrder order ≡ Some fault → ⊥
 order_stands None fault p e = cc (e)
 order_stands (Some i) fault p e = cc (p)
 
-pub index_refused : (tokens : List TokenRecord) (fault : Error) → first_out_of_order tokens ≡ None → (fault ≢ OutOfMemory → option_map LineOrder (first_out_of_order tokens) ≡ Some fault) → fault ≢ OutOfMemory → ⊥
-index_refused tokens fault order refused other = order_stands (first_out_of_order tokens) fault order (refused other)
+pub index_error : (tokens : List TokenRecord) (fault : Error) → first_out_of_order tokens ≡ None → (fault ≢ OutOfMemory → option_map LineOrder (first_out_of_order tokens) ≡ Some fault) → fault ≢ OutOfMemory → ⊥
+index_error tokens fault order error other = order_stands (first_out_of_order tokens) fault order (error other)
 
 -- what the token found in a map points to is the trace of the map
 pub traced_token : (r : MapRecord) (tokens : List TokenRecord) (line col : ℕ) (found : Option TokenRecord) → tokens ≡ r.tokens → are_tokens_sorted r.tokens ≡ true

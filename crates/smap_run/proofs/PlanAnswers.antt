@@ -15,16 +15,16 @@ use Rattle.oxc_sourcemap.specs.PlanError.{PlanError}
 use Rattle.oxc_sourcemap.specs.PlanError.TheVariants.{Map}
 use Rattle.oxc_sourcemap_plan.specs.declared.run_error.RunError.{RunError}
 use Rattle.oxc_sourcemap_plan.specs.declared.run_error.RunError.TheVariants.{Plan}
-use Rattle.oxc_sourcemap_plan.specs.Refusals.{out_of_memory}
+use Rattle.oxc_sourcemap_plan.specs.RunErrors.{out_of_memory}
 use Rattle.oxc_sourcemap.specs.Outcome.{Outcome}
-use Rattle.oxc_sourcemap.specs.Evaluated.{IsEvaluated, IsFailure}
-use Rattle.smap_run.specs.Answer.{IsPlanAnswer, IsPlanRefusal}
+use Rattle.oxc_sourcemap.specs.Evaluated.{IsEvaluated, IsErrorOf}
+use Rattle.smap_run.specs.Answer.{IsPlanAnswer, IsPlanError}
 
-pub words_refused : (r : Result Outcome RunError) (f e : RunError) → r ≡ Err f → e ≡ f → IsPlanRefusal r e
-words_refused r f e p q = subst (λ r. IsPlanRefusal r e) (sym p) q
+pub words_error : (r : Result Outcome RunError) (f e : RunError) → r ≡ Err f → e ≡ f → IsPlanError r e
+words_error r f e p q = subst (λ r. IsPlanError r e) (sym p) q
 
-pub failure_refused : (r : Result Outcome RunError) (o : Outcome) (p : PlanError) (e : RunError) → r ≡ Ok o → e ≡ Plan p → e ≢ out_of_memory → (p ≢ Map OutOfMemory → IsFailure o p) → IsPlanRefusal r e
-failure_refused r o p e k h n f = subst (λ r. IsPlanRefusal r e) (sym k) (p, h, f (λ m. n (h ∙ ap (λ x. Plan x) m)))
+pub plan_error_of : (r : Result Outcome RunError) (o : Outcome) (p : PlanError) (e : RunError) → r ≡ Ok o → e ≡ Plan p → e ≢ out_of_memory → (p ≢ Map OutOfMemory → IsErrorOf o p) → IsPlanError r e
+plan_error_of r o p e k h n f = subst (λ r. IsPlanError r e) (sym k) (p, h, f (λ m. n (h ∙ ap (λ x. Plan x) m)))
 
 text-of : (m : MapRecord) → encoded m ≡ Ok (encoded_record m) → map_text m ≡ Ok (json_text (encoded_record m))
 unfolding map_text
@@ -38,9 +38,9 @@ same-error : {A : Type 0} (x y : Error) → ◌≡◌ {A = Result A Error} (Err 
 same-error x y e = cc (e)
 
 -- a map that is not written has too many tokens
-pub writing_fails : SoundIsTooLarge → (o : Outcome) (m : MapRecord) (f : Error) → IsEvaluated m o → (f ≢ OutOfMemory → map_text m ≡ Err f) → f ≢ OutOfMemory → IsFailure o (Map f)
-writing_fails law o m f is refused n =
-    let told = refused n in
+pub writing_fails : SoundIsTooLarge → (o : Outcome) (m : MapRecord) (f : Error) → IsEvaluated m o → (f ≢ OutOfMemory → map_text m ≡ Err f) → f ≢ OutOfMemory → IsErrorOf o (Map f)
+writing_fails law o m f is error n =
+    let told = error n in
     elim (cases_lt 4294967295 (length m.tokens)) [
       | inl l ↦ (let s = same-error f TooLarge (sym told ∙ fault-of m TooLarge (law m is.sound l)) in
           inr (ap (λ x. Map x) s, false_from_ne_true o.is_within_limits (λ t. (let most = is.within_limits t in omega arith))))

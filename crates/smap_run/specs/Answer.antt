@@ -19,7 +19,7 @@ use Rattle.oxc_sourcemap_plan.specs.declared.run_error.RunError.TheVariants.{Pla
 use Rattle.smap_run.specs.Traced.{traced}
 use Rattle.smap_run.specs.Request.{Request, Mappings, Normalise, Plan as PlanOf, Trace, Url}
 use Rattle.oxc_sourcemap.specs.Outcome.{Outcome}
-use Rattle.oxc_sourcemap.specs.Evaluated.{IsEvaluated, IsFailure}
+use Rattle.oxc_sourcemap.specs.Evaluated.{IsEvaluated, IsErrorOf}
 use Rattle.oxc_sourcemap_plan.specs.PlanInputs.{inputs_of}
 use Rattle.oxc_sourcemap_plan.specs.PlanArguments.{parsed_plan}
 
@@ -53,7 +53,7 @@ of_map (Err fault) = Err (Plan (Map fault))
 -- the result of a step of a plan or of `trace`, whose error is the program's
 abbrev pub of_plan : Result (List ℕ) PlanError → Result (List ℕ) RunError
 of_plan (Ok text) = Ok text
-of_plan (Err refusal) = Err (Plan refusal)
+of_plan (Err error) = Err (Plan error)
 
 -- the answer to a plan: the JSON text of a map that is as `IsEvaluated` promises for the plan's outcome
 abbrev pub IsPlanAnswer : Result Outcome RunError → List ℕ → Type 0
@@ -61,9 +61,9 @@ IsPlanAnswer (Err fault) out = ⊥
 IsPlanAnswer (Ok o) out = (m : MapRecord) × IsEvaluated m o × (map_text m ≡ Ok out)
 
 -- an error of a plan: the first fault of its arguments, what the plan means, or `TooLarge` if it is not within the limits
-abbrev pub IsPlanRefusal : Result Outcome RunError → RunError → Type 0
-IsPlanRefusal (Err fault) e = e ≡ fault
-IsPlanRefusal (Ok o) e = (p : PlanError) × (e ≡ Plan p) × IsFailure o p
+abbrev pub IsPlanError : Result Outcome RunError → RunError → Type 0
+IsPlanError (Err fault) e = e ≡ fault
+IsPlanError (Ok o) e = (p : PlanError) × (e ≡ Plan p) × IsErrorOf o p
 
 -- The answer of a command to a text. One line feed is written after it.
 abbrev pub IsAnswer : Request → List ℕ → List ℕ → Type 0
@@ -74,17 +74,17 @@ IsAnswer (Trace line col) text out = of_plan (traced text line col) ≡ Ok out
 IsAnswer (PlanOf arguments) text out = IsPlanAnswer (parsed_plan (inputs_of text) arguments) out
 
 -- an error of a command for a text
-abbrev pub IsRefusal : Request → List ℕ → RunError → Type 0
-IsRefusal (Mappings names sources) text e = mappings_answer (reading (without_line_feed text) names sources) ≡ Err e
-IsRefusal Normalise text e = of_map (normalised text) ≡ Err e
-IsRefusal Url text e = of_map (normalised_url text) ≡ Err e
-IsRefusal (Trace line col) text e = of_plan (traced text line col) ≡ Err e
-IsRefusal (PlanOf arguments) text e = IsPlanRefusal (parsed_plan (inputs_of text) arguments) e
+abbrev pub IsCommandError : Request → List ℕ → RunError → Type 0
+IsCommandError (Mappings names sources) text e = mappings_answer (reading (without_line_feed text) names sources) ≡ Err e
+IsCommandError Normalise text e = of_map (normalised text) ≡ Err e
+IsCommandError Url text e = of_map (normalised_url text) ≡ Err e
+IsCommandError (Trace line col) text e = of_plan (traced text line col) ≡ Err e
+IsCommandError (PlanOf arguments) text e = IsPlanError (parsed_plan (inputs_of text) arguments) e
 
 -- what is written, if it is known, grows by a beginning of these bytes, perhaps by none of them
 abbrev pub AppendsBeginning : Option (List ℕ) → Option (List ℕ) → List ℕ → Type 0
 AppendsBeginning old new bytes = (done : List ℕ) × (more : List ℕ) × (done ++ more ≡ bytes) × Appends old new done
 
 -- an error of a command for an input: the input is not UTF-8, or its text has an error
-abbrev pub Refuses : Request → List ℕ → RunError → Type 0
-Refuses request input refusal = ((¬ (IsUtf8 input)) × (refusal ≡ Utf8)) ⊎ (IsUtf8 input × IsRefusal request input refusal)
+abbrev pub FailsWith : Request → List ℕ → RunError → Type 0
+FailsWith request input error = ((¬ (IsUtf8 input)) × (error ≡ Utf8)) ⊎ (IsUtf8 input × IsCommandError request input error)

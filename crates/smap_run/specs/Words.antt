@@ -1,7 +1,7 @@
 -- The words of this crate's clauses, from one place.
 pub use Rattle.oxc_sourcemap.specs.DecodedMap.{decoded_map_of}
 pub use Rattle.oxc_sourcemap.specs.Error.TheVariants.{OutOfMemory}
-pub use Rattle.oxc_sourcemap.specs.Evaluated.{IsFailure}
+pub use Rattle.oxc_sourcemap.specs.Evaluated.{IsErrorOf}
 pub use Rattle.oxc_sourcemap.specs.LineOrder.{IsInLineOrder}
 pub use Rattle.oxc_sourcemap.specs.Outcome.{outcome}
 pub use Rattle.oxc_sourcemap.specs.PlanError.TheVariants.{Map}
@@ -11,12 +11,12 @@ pub use Rattle.oxc_sourcemap.specs.Trace.{trace}
 pub use Rattle.oxc_sourcemap.specs.View.{view_of, seen_in, view_original}
 pub use Rattle.oxc_sourcemap_plan.specs.PlanArguments.{parsed_plan}
 pub use Rattle.oxc_sourcemap_plan.specs.PlanInputs.{inputs_of}
-pub use Rattle.oxc_sourcemap_plan.specs.Refusals.{out_of_memory, is_of_port}
+pub use Rattle.oxc_sourcemap_plan.specs.RunErrors.{out_of_memory, is_of_port}
 pub use Rattle.oxc_sourcemap_plan.specs.declared.run_error.RunError.TheVariants.{Plan}
 pub use Rattle.oxc_sourcemap_tokens.specs.Results.{Answers, OnlyMemory, Pushes, lent_item}
 pub use Rattle.smap_run.specs.Answer.{without_line_feed, mappings_answer, normalised}
-pub use Rattle.smap_run.specs.Answer.{normalised_url, IsPlanAnswer, IsPlanRefusal, IsAnswer}
-pub use Rattle.smap_run.specs.Answer.{Refuses, AppendsBeginning}
+pub use Rattle.smap_run.specs.Answer.{normalised_url, IsPlanAnswer, IsPlanError, IsAnswer}
+pub use Rattle.smap_run.specs.Answer.{FailsWith, AppendsBeginning}
 pub use Rattle.smap_run.specs.Arguments.{two_numbers, without_arguments, parsed_command, command_of}
 pub use Rattle.smap_run.specs.Flags.{read_flag, write_flag}
 pub use Rattle.smap_run.specs.Request.{request_of}

@@ -6,8 +6,8 @@ ghost use Rattle.std.specs.Vec.{vec_len};
 ghost use Rattle.std.specs.Io.KnownBytes.{Appends, Keeps};
 ghost use Rattle.smap_run.specs.Words.{Map, Plan, out_of_memory, is_of_port, without_line_feed};
 ghost use Rattle.smap_run.specs.Words.{mappings_answer, normalised, normalised_url, IsPlanAnswer};
-ghost use Rattle.smap_run.specs.Words.{IsPlanRefusal, IsAnswer, Refuses, AppendsBeginning};
-ghost use Rattle.smap_run.specs.Words.{OutOfMemory, reading, outcome, IsFailure, inputs_of};
+ghost use Rattle.smap_run.specs.Words.{IsPlanError, IsAnswer, FailsWith, AppendsBeginning};
+ghost use Rattle.smap_run.specs.Words.{OutOfMemory, reading, outcome, IsErrorOf, inputs_of};
 ghost use Rattle.smap_run.specs.Words.{parsed_plan, request_of, Answers};
 
 use crate::arguments::Command;
@@ -121,7 +121,7 @@ fn data_url(alloc: Global, text: &str) -> Result<String, Error>
 /// The JSON text of the map of a plan.
 fn evaluated_text(alloc: Global, plan: &Plan<'_>) -> Result<String, PlanError>
     ensures text { IfOk result (λ out. IsPlanAnswer (Ok (outcome plan.now)) (string_bytes out)) }
-    ensures error { IfErr result (λ e. (e ≢ Map OutOfMemory) → IsFailure (outcome plan.now) e) }
+    ensures error { IfErr result (λ e. (e ≢ Map OutOfMemory) → IsErrorOf (outcome plan.now) e) }
 {
     canonical_unique();
     let map = evaluate(alloc, plan)?;
@@ -133,7 +133,7 @@ fn plan_text(alloc: Global, input: &str, arguments: &[String]) -> Result<String,
     ensures text { IfOk result (λ out. IsPlanAnswer
         (parsed_plan (inputs_of input.now) (map string_bytes arguments.now)) (string_bytes out)) }
     ensures error { IfErr result (λ e. (e ≢ out_of_memory)
-        → IsPlanRefusal (parsed_plan (inputs_of input.now) (map string_bytes arguments.now)) e) }
+        → IsPlanError (parsed_plan (inputs_of input.now) (map string_bytes arguments.now)) e) }
     ensures causes { IfErr result (λ e. is_of_port e ≡ false) }
 {
     let inputs = inputs_of(alloc, input)?;
@@ -146,7 +146,7 @@ fn answer(alloc: Global, command: &Command<'_>, input: Vec<u8>) -> Result<String
     ensures text { IfOk result (λ out. IsUtf8 input.items
         × IsAnswer (request_of command.now) input.items (string_bytes out)) }
     ensures error { IfErr result (λ e. (e ≢ out_of_memory)
-        → Refuses (request_of command.now) input.items e) }
+        → FailsWith (request_of command.now) input.items e) }
     ensures causes { IfErr result (λ e. is_of_port e ≡ false) }
 {
     let Ok(text) = String::from_utf8(input) else {
@@ -199,7 +199,7 @@ pub fn run<R: Read, W: Write>(
     ensures error { IfErr result (λ e. (e ≢ out_of_memory) → (e ≢ RunError.Read)
         → (e ≢ RunError.Write)
         → IfSome (R.remaining reader.old.inner)
-        (λ input. Refuses (request_of command.now) input e)) }
+        (λ input. FailsWith (request_of command.now) input e)) }
     ensures nothing_written { IfErr result (λ e. (e ≢ RunError.Write)
         → Keeps (W.contents writer.old.inner) (W.contents writer.new.inner)) }
     ensures begun { IsErrOf result RunError.Write → IfSome (R.remaining reader.old.inner) (λ input.

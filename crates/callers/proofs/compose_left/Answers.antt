@@ -1,6 +1,6 @@
 use Rattle.std.proofs.Common.{refl}
 use Rattle.callers.proofs.Errors.{carried}
-use Rattle.callers.proofs.Composing.{is-sorted-copy, left-is, left-refused}
+use Rattle.callers.proofs.Composing.{is-sorted-copy, left-is, left-error}
 use Rattle.callers.proofs.compose_left.Goals as goal
 
 pub returns-in_err-earlier-clause-error : goal.returns-in_err-earlier-clause-error
@@ -8,7 +8,7 @@ returns-in_err-earlier-clause-error c =
     let call = c.in_err-earlier.ensures in
     let b' = c.in_ok-clone-2.ensures.map in
     carried c.from_residual-in_err-earlier.result c.in_err-earlier.field-0.0 _ c.from_residual-in_err-earlier.ensures.1
-    (λ sb sc n. left-refused c.args.first.now c.args.second.now c.args.third.now _ _ c.args.third.now c.in_ok-clone.ensures.map b' refl c.in_err-earlier.field-0.0
+    (λ sb sc n. left-error c.args.first.now c.args.second.now c.args.third.now _ _ c.args.third.now c.in_ok-clone.ensures.map b' refl c.in_err-earlier.field-0.0
     (call.error (call.sorted_goes_on (is-sorted-copy c.args.second.now _ b' sb)) n))
 
 pub returns-clause-map : goal.returns-clause-map

@@ -1,6 +1,6 @@
 use Rattle.std.proofs.Common.{refl}
 use Rattle.callers.proofs.Errors.{carried}
-use Rattle.callers.proofs.Composing.{is-sorted-copy, right-is, right-refused, later-sorted}
+use Rattle.callers.proofs.Composing.{is-sorted-copy, right-is, right-error, later-sorted}
 use Rattle.callers.proofs.compose_right.Goals as goal
 
 pub returns-in_err-later-clause-error : goal.returns-in_err-later-clause-error
@@ -8,7 +8,7 @@ returns-in_err-later-clause-error c =
     let call = c.in_err-later.ensures in
     let c' = c.in_ok-clone-2.ensures.map in
     carried c.from_residual-in_err-later.result c.in_err-later.field-0.0 _ c.from_residual-in_err-later.ensures.1
-    (λ sb sc n. right-refused c.args.first.now c.args.second.now c.args.third.now c.args.first.now _ _ refl c.in_ok-clone.ensures.map c' c.in_err-later.field-0.0
+    (λ sb sc n. right-error c.args.first.now c.args.second.now c.args.third.now c.args.first.now _ _ refl c.in_ok-clone.ensures.map c' c.in_err-later.field-0.0
     (call.error (call.sorted_goes_on (is-sorted-copy c.args.third.now _ c' sc)) n))
 
 pub returns-clause-map : goal.returns-clause-map

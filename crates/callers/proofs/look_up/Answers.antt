@@ -11,11 +11,11 @@ use Rattle.callers.proofs.look_up.Goals as goal
 has-table : (tokens : List TokenRecord) → first_out_of_order tokens ≡ None → line_table tokens ≡ Ok (tokens_by_line tokens)
 has-table tokens order = rw order refl
 
-not-refused : (tokens : List TokenRecord) (e : Error) → first_out_of_order tokens ≡ None → line_table tokens ≡ Err e → ⊥
-not-refused tokens e order h = let table = has-table tokens order in cc
+no-error : (tokens : List TokenRecord) (e : Error) → first_out_of_order tokens ≡ None → line_table tokens ≡ Err e → ⊥
+no-error tokens e order h = let table = has-table tokens order in cc
 
 pub returns-in_err-table-clause-error : goal.returns-in_err-table-clause-error
 returns-in_err-table-clause-error c =
     let e = c.in_err-table.field-0.0 in
     carried c.from_residual.result (Map e) _ c.from_residual.ensures.1
-    (λ n. absurd (not-refused c.args.map.now.tokens e (c.if-not-is_sorted.ensures.in_line_order refl) (c.in_err-table.ensures.table.1 (λ o. n (ap Map o)))))
+    (λ n. absurd (no-error c.args.map.now.tokens e (c.if-not-is_sorted.ensures.in_line_order refl) (c.in_err-table.ensures.table.1 (λ o. n (ap Map o)))))

@@ -6,13 +6,13 @@ use Rattle.oxc_sourcemap.specs.DecodedMap.{decoded_map_of}
 use Rattle.oxc_sourcemap.specs.Sound.{IsSound}
 use Rattle.oxc_sourcemap.specs.Decoded.{decoded}
 use Rattle.oxc_sourcemap.specs.Json.{json_record}
-use Rattle.callers.proofs.Back.{back-is, back-refused, not-refused, only-memory, if_ok, if_err}
+use Rattle.callers.proofs.Back.{back-is, back-error, no-error, only-memory, if_ok, if_err}
 use Rattle.callers.proofs.rewrite.Goals as goal
 
 pub returns-in_err-json-clause-only_memory : goal.returns-in_err-json-clause-only_memory
 returns-in_err-json-clause-only_memory c =
     let p = err_from_is_err_and c.from_residual.result c.from_residual.ensures.1 in
-    rw (p.1, p.2) (λ s l. only-memory _ (λ n. not-refused c.args.map.now _ (c.canonical_unique.ensures.sound_is_written c.args.map.now s l) (c.in_err-json.ensures.json.1 n)))
+    rw (p.1, p.2) (λ s l. only-memory _ (λ n. no-error c.args.map.now _ (c.canonical_unique.ensures.sound_is_written c.args.map.now s l) (c.in_err-json.ensures.json.1 n)))
 
 pub returns-clause-decoded_map : goal.returns-clause-decoded_map
 returns-clause-decoded_map c =
@@ -44,4 +44,4 @@ returns-clause-only_memory c =
     let json = json_record c.in_ok-json.json in
     let law = λ (s : IsSound r). c.canonical_unique.ensures.sound_reads_back r s c.in_ok-json.ensures.in_bounds in
     if_err (λ e. (e ≢ OutOfMemory) → decoded json ≡ Err e) (λ e. IsSound r → length r.tokens ≤ 4294967295 → e ≡ OutOfMemory) c.from_json.result
-    (λ e h s l. only-memory e (λ n. back-refused r json c.in_ok-json.ensures.json.0 (law s) e (h n))) c.from_json.ensures.map.1
+    (λ e h s l. only-memory e (λ n. back-error r json c.in_ok-json.ensures.json.0 (law s) e (h n))) c.from_json.ensures.map.1

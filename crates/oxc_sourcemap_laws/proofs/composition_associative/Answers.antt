@@ -3,7 +3,7 @@ use Rattle.oxc_sourcemap_laws.proofs.Compositions.{decoded_map_composed, range_c
 use Rattle.oxc_sourcemap_laws.proofs.Compositions.{count_composed, composition_stands}
 use Rattle.oxc_sourcemap_laws.proofs.Compositions.{records_associative}
 use Rattle.oxc_sourcemap_laws.proofs.ComposedNames.{names-most, names-tested}
-use Rattle.oxc_sourcemap_laws.proofs.Groupings.{groupings_agree, refused_together, both_answer}
+use Rattle.oxc_sourcemap_laws.proofs.Groupings.{groupings_agree, fail_together, both_answer}
 use Rattle.oxc_sourcemap_laws.proofs.Groupings.{left_tells, right_tells, room}
 use Rattle.oxc_sourcemap_laws.proofs.ComposedBounds.{bounds_composed}
 use Rattle.oxc_sourcemap_laws.proofs.composition_associative.Goals as goal
@@ -27,7 +27,7 @@ pub returns-clause-associative : goal.returns-clause-associative
 returns-clause-associative c = groupings_agree
 
 pub returns-clause-fail_together : goal.returns-clause-fail_together
-returns-clause-fail_together c = λ a b m x y z n k. refused_together a b m y z x n k
+returns-clause-fail_together c = λ a b m x y z n k. fail_together a b m y z x n k
 
 pub returns-clause-answered : goal.returns-clause-answered
 returns-clause-answered c = λ a b m x y z n k. both_answer a b m y z x n k

@@ -1,11 +1,11 @@
 use Rattle.std.proofs.Common.{◌≡◌, map, string_bytes, ap, sym, ◌∙◌, Ok}
 use Rattle.oxc_sourcemap_plan.specs.Outcome.{outcome}
-use Rattle.oxc_sourcemap_handles.specs.declared.refusal.Refusal.TheVariants.{Plan}
+use Rattle.oxc_sourcemap_handles.specs.declared.call_error.CallError.TheVariants.{Plan}
 use Rattle.oxc_sourcemap_plan.specs.PlanInputs.{inputs_of}
 use Rattle.oxc_sourcemap_plan.specs.PlanArguments.{parsed_plan}
 use Rattle.oxc_sourcemap_tokens.proofs.Carried.{carried_error}
 use Rattle.oxc_sourcemap_c.specs.Plans.{plan_of, words_of}
-use Rattle.oxc_sourcemap_c.proofs.Planned.{map_of_plan, failure_of_plan, words_refused}
+use Rattle.oxc_sourcemap_c.proofs.Planned.{map_of_plan, failure_of_plan, words_error}
 use Rattle.oxc_sourcemap_c.proofs.plans.evaluate_words.Goals as goal
 
 pub returns-in_err-evaluate-in-Ok-clause-error : goal.returns-in_err-evaluate-in-Ok-clause-error
@@ -27,5 +27,5 @@ pub returns-clause-error : goal.returns-clause-error
 returns-clause-error c =
     let texts : inputs_of c.args.texts.now ≡ map (λ text. text.now) c.as_slice.result.now = sym (ap (map (λ text. text.now)) c.as_slice.ensures.value ∙ c.in_ok-inputs.ensures) in
     let words : words_of c.args.words.now ≡ map string_bytes c.as_slice-2.result.now = sym (ap (map string_bytes) c.as_slice-2.ensures.value ∙ c.in_ok-words.ensures) in
-    words_refused (plan_of c.args.words.now c.args.texts.now) c.in-Err.error _ c.refusal_of.ensures
+    words_error (plan_of c.args.words.now c.args.texts.now) c.in-Err.error _ c.call_error_of.ensures
     (λ n. ap (λ ts. parsed_plan ts (words_of c.args.words.now)) texts ∙ ap (parsed_plan (map (λ text. text.now) c.as_slice.result.now)) words ∙ c.in-Err.ensures.error n)

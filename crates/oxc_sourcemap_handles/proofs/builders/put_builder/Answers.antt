@@ -3,5 +3,5 @@ use Rattle.oxc_sourcemap_handles.proofs.builders.put_builder.Goals as goal
 
 pub returns-clause-error : goal.returns-clause-error
 returns-clause-error c = λ n.
-    let refused = c.put.ensures.error n in
-    (refused.0, memory_alone c.new_builder-made.result c.put.new.fault c.put.result c.new_builder-made.ensures.error refused.1)
+    let error = c.put.ensures.error n in
+    (error.0, memory_alone c.new_builder-made.result c.put.new.fault c.put.result c.new_builder-made.ensures.error error.1)

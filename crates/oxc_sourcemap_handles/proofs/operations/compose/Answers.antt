@@ -1,9 +1,9 @@
 use Rattle.std.proofs.Common.{◌≡◌, ap, Ok}
 use Rattle.oxc_sourcemap_lookup.specs.Composed.{composition, SomeComposition, NoColumnGoesBack}
-use Rattle.oxc_sourcemap_handles.specs.declared.refusal.Refusal.TheVariants.{Plan}
+use Rattle.oxc_sourcemap_handles.specs.declared.call_error.CallError.TheVariants.{Plan}
 use Rattle.oxc_sourcemap_tokens.specs.declared.plan_error.PlanError.TheVariants.{Map}
 use Rattle.oxc_sourcemap_handles.specs.Holding.{held_map}
-use Rattle.oxc_sourcemap_handles.specs.Refusals.{of_map}
+use Rattle.oxc_sourcemap_handles.specs.CallErrors.{of_map}
 use Rattle.oxc_sourcemap_tokens.proofs.Carried.{carried_error}
 use Rattle.oxc_sourcemap_handles.proofs.Composing.{both_taken, input_missing, not_composed}
 use Rattle.oxc_sourcemap_handles.proofs.operations.compose.Goals as goal
@@ -17,7 +17,7 @@ pub returns-in_err-compose-clause-error : goal.returns-in_err-compose-clause-err
 returns-in_err-compose-clause-error c =
     carried_error c.from_residual-in_err-compose.result (of_map c.in_err-compose.field-0.0) _ c.from_residual-in_err-compose.ensures.1
     (λ n. not_composed (held_map c.args.first.now.held) (held_map c.args.input.now.held) c.take_map-first.result c.take_map-input.result _ _ c.in_err-compose.field-0.0
-    c.take_map-first.ensures.map c.take_map-input.ensures.map c.in_ok-first.was c.in_ok-input.was (c.in_err-compose.ensures.any_refused (λ e. n (ap (λ x. Plan (Map x)) e))))
+    c.take_map-first.ensures.map c.take_map-input.ensures.map c.in_ok-first.was c.in_ok-input.was (c.in_err-compose.ensures.any_error (λ e. n (ap (λ x. Plan (Map x)) e))))
 
 pub returns-clause-any_map : goal.returns-clause-any_map
 returns-clause-any_map c =

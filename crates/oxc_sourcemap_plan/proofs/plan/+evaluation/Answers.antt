@@ -8,8 +8,8 @@ use Rattle.oxc_sourcemap_plan.specs.Outcome.{composition_outcome}
 use Rattle.oxc_sourcemap_plan.specs.Realizes.{Realizes, FailsAs, AllRealize}
 use Rattle.oxc_sourcemap_plan.proofs.Plans.{depth_join, depth_join_at, outcome_parts}
 use Rattle.oxc_sourcemap_plan.proofs.Plans.{outcome_parts_at}
-use Rattle.oxc_sourcemap_plan.proofs.Realizing.{second_refuses}
-use Rattle.oxc_sourcemap_plan.proofs.Parts.{from_err, more_given, part_refused, part_below_deepest}
+use Rattle.oxc_sourcemap_plan.proofs.Realizing.{second_fails}
+use Rattle.oxc_sourcemap_plan.proofs.Parts.{from_err, more_given, part_error, part_below_deepest}
 use Rattle.oxc_sourcemap_plan.proofs.Parts.{at_its_line, at_its_position}
 use Rattle.oxc_sourcemap_plan.proofs.plan.+evaluation.Goals as goal
 
@@ -46,7 +46,7 @@ evaluate_join-evaluate_part-requires t c =
 pub evaluate_join-returns-in_err-map-clause-error : goal.evaluate_join-returns-in_err-map-clause-error
 evaluate_join-returns-in_err-map-clause-error t c =
     let parts = c.args.parts.now in
-    let r = part_refused at_its_line c.loop-part.maps.items parts c.loop-part.part-index c.loop-part-item.result c.in_err-map.field-0.0 c.loop-part-test.true c.loop-part-item.is c.loop-part.invariant c.in_err-map.ensures.error in
+    let r = part_error at_its_line c.loop-part.maps.items parts c.loop-part.part-index c.loop-part-item.result c.in_err-map.field-0.0 c.loop-part-test.true c.loop-part-item.is c.loop-part.invariant c.in_err-map.ensures.error in
     from_err c.from_residual.result _ _ c.from_residual.ensures.1 (λ e h. subst (λ e. FailsAs e (join_outcome (outcomes (at_lines parts)))) (sym h) r)
 
 pub evaluate_join-loop-part-preserved : goal.evaluate_join-loop-part-preserved
@@ -63,7 +63,7 @@ evaluate_join_at-evaluate_part-requires t c =
 pub evaluate_join_at-returns-in_err-map-clause-error : goal.evaluate_join_at-returns-in_err-map-clause-error
 evaluate_join_at-returns-in_err-map-clause-error t c =
     let parts = c.args.parts.now in
-    let r = part_refused at_its_position c.loop-part.maps.items parts c.loop-part.part-index c.loop-part-item.result c.in_err-map.field-0.0 c.loop-part-test.true c.loop-part-item.is c.loop-part.invariant c.in_err-map.ensures.error in
+    let r = part_error at_its_position c.loop-part.maps.items parts c.loop-part.part-index c.loop-part-item.result c.in_err-map.field-0.0 c.loop-part-test.true c.loop-part-item.is c.loop-part.invariant c.in_err-map.ensures.error in
     from_err c.from_residual.result _ _ c.from_residual.ensures.1 (λ e h. subst (λ e. FailsAs e (join_outcome (outcomes (at_positions parts)))) (sym h) r)
 
 pub evaluate_join_at-loop-part-preserved : goal.evaluate_join_at-loop-part-preserved
@@ -78,7 +78,7 @@ evaluate_composition-returns-in_err-evaluate_part-2-clause-error t c =
     let first = outcome_of c.args.first.now in
     let second = outcome_of c.args.second.now in
     from_err c.from_residual-in_err-evaluate_part-2.result _ _ c.from_residual-in_err-evaluate_part-2.ensures.1
-    (λ e h. subst (λ e. FailsAs e (composition_outcome first second)) (sym h) (second_refuses c.in_ok-evaluate_part.field-0 first second c.in_err-evaluate_part-2.field-0.0 c.in_ok-evaluate_part.ensures.map c.in_err-evaluate_part-2.ensures.error))
+    (λ e h. subst (λ e. FailsAs e (composition_outcome first second)) (sym h) (second_fails c.in_ok-evaluate_part.field-0 first second c.in_err-evaluate_part-2.field-0.0 c.in_ok-evaluate_part.ensures.map c.in_err-evaluate_part-2.ensures.error))
 
 pub evaluate_rewrite-returns-clause-map : goal.evaluate_rewrite-returns-clause-map
 evaluate_rewrite-returns-clause-map t c = IfOk-weaker c.rewrite.result _ _ (λ m realizes. realizes (outcome_of c.args.part.now) c.in_ok-map.ensures.map) c.rewrite.ensures.map

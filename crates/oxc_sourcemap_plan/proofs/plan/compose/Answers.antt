@@ -1,7 +1,7 @@
 use Rattle.std.proofs.Common.{subst, sym}
 use Rattle.oxc_sourcemap_plan.specs.Outcome.{composition_outcome}
 use Rattle.oxc_sourcemap_plan.specs.Realizes.{FailsAs}
-use Rattle.oxc_sourcemap_plan.proofs.Realizing.{compose_laws, compose_gives, compose_refused}
+use Rattle.oxc_sourcemap_plan.proofs.Realizing.{compose_laws, compose_gives, compose_error}
 use Rattle.oxc_sourcemap_plan.proofs.Realizing.{unless_memory}
 use Rattle.oxc_sourcemap_plan.proofs.Parts.{from_err}
 use Rattle.oxc_sourcemap_plan.proofs.plan.compose.Goals as goal
@@ -12,7 +12,7 @@ returns-in_err-compose-clause-error c =
     let laws = compose_laws law.stands_for law.names law.tokens law.too_large law.in_bounds in
     let call = c.in_err-compose.ensures in
     from_err c.from_residual.result _ _ c.from_residual.ensures.1 (λ e h p q g k. subst (λ x. FailsAs x (composition_outcome p q)) (sym h)
-    (unless_memory c.in_err-compose.field-0.0 (composition_outcome p q) (λ n. compose_refused laws c.args.first c.args.second p q g k c.in_err-compose.field-0.0 (call.error (call.sorted_goes_on k.stands.sound.sorted) n))))
+    (unless_memory c.in_err-compose.field-0.0 (composition_outcome p q) (λ n. compose_error laws c.args.first c.args.second p q g k c.in_err-compose.field-0.0 (call.error (call.sorted_goes_on k.stands.sound.sorted) n))))
 
 pub returns-clause-map : goal.returns-clause-map
 returns-clause-map c = λ p q g k.

@@ -5,7 +5,7 @@ use Rattle.oxc_sourcemap_parts.specs.Sorted.{are_tokens_sorted}
 use Rattle.oxc_sourcemap_join.specs.Joined.{joined, IsWithinLimits}
 use Rattle.oxc_sourcemap_plan.specs.Outcome.{join_outcome}
 use Rattle.oxc_sourcemap_plan.specs.Realizes.{Realizes, FailsAs}
-use Rattle.oxc_sourcemap_plan.proofs.Realizing.{join_laws, join_gives, join_unsorted, join_refused}
+use Rattle.oxc_sourcemap_plan.proofs.Realizing.{join_laws, join_gives, join_unsorted, join_error}
 use Rattle.oxc_sourcemap_plan.proofs.Parts.{from_err}
 use Rattle.oxc_sourcemap_plan.proofs.plan.join.Goals as goal
 
@@ -14,7 +14,7 @@ returns-in_err-builder-clause-error c =
     let law = c.dropping_harmless.ensures in
     let laws = join_laws law.tests_agree law.joins_up_to_repeats law.decoded_map_of_join law.in_range law.stands_for law.names law.tokens in
     from_err c.from_residual.result _ _ c.from_residual.ensures.1 (λ e h os k. subst (λ x. FailsAs x (join_outcome os)) (sym h)
-    (join_refused laws c.args.maps.items os k c.in_err-builder.field-0.0 c.in_err-builder.ensures.error))
+    (join_error laws c.args.maps.items os k c.in_err-builder.field-0.0 c.in_err-builder.ensures.error))
 
 pub returns-clause-map : goal.returns-clause-map
 returns-clause-map c =

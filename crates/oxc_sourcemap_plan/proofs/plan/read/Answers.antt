@@ -4,7 +4,7 @@ use Rattle.oxc_sourcemap_decode.specs.ReadMap.{said_in}
 use Rattle.oxc_sourcemap_plan.specs.Outcome.{read_outcome}
 use Rattle.oxc_sourcemap_plan.specs.Realizes.{Realizes, FailsAs}
 use Rattle.oxc_sourcemap_plan.proofs.Realizing.{join_laws}
-use Rattle.oxc_sourcemap_plan.proofs.Reading.{read_gives, read_unsorted, read_refused}
+use Rattle.oxc_sourcemap_plan.proofs.Reading.{read_gives, read_unsorted, read_error}
 use Rattle.oxc_sourcemap_plan.proofs.Parts.{from_err}
 use Rattle.oxc_sourcemap_plan.proofs.plan.read.Goals as goal
 
@@ -13,7 +13,7 @@ returns-in_err-from_json_string-clause-error c =
     let law = c.dropping_harmless.ensures in
     let laws = join_laws law.tests_agree law.joins_up_to_repeats law.decoded_map_of_join law.in_range law.stands_for law.names law.tokens in
     from_err c.from_residual.result _ _ c.from_residual.ensures.1 (λ e h. subst (λ x. FailsAs x (read_outcome (said_in c.args.text.now))) (sym h)
-    (read_refused laws c.args.text.now c.in_err-from_json_string.field-0.0 c.in_err-from_json_string.ensures.error))
+    (read_error laws c.args.text.now c.in_err-from_json_string.field-0.0 c.in_err-from_json_string.ensures.error))
 
 pub returns-clause-map : goal.returns-clause-map
 returns-clause-map c =

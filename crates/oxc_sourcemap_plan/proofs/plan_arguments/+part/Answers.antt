@@ -15,7 +15,7 @@ use Rattle.oxc_sourcemap_plan.proofs.Plans.{depth_join, depth_join_at, outcome_r
 use Rattle.oxc_sourcemap_plan.proofs.Plans.{outcome_join, outcome_join_at, outcome_compose}
 use Rattle.oxc_sourcemap_plan.proofs.PlanArguments.{named-start, named-rewrite, named-join}
 use Rattle.oxc_sourcemap_plan.proofs.PlanArguments.{named-join_at, named-compose, named-text}
-use Rattle.oxc_sourcemap_plan.proofs.PlanArguments.{left_after, part-refused, offset-refused}
+use Rattle.oxc_sourcemap_plan.proofs.PlanArguments.{left_after, part-error, offset-error}
 use Rattle.oxc_sourcemap_plan.proofs.PlanArguments.{part-more, parts-end, join-of-parts}
 use Rattle.oxc_sourcemap_plan.proofs.PlanArguments.{deepest-pushed}
 use Rattle.oxc_sourcemap_plan.proofs.plan_arguments.+part.Goals as goal
@@ -119,7 +119,7 @@ read_join-returns-in_err-part-clause-error t c =
     let done = outcomes (at_positions c.loop-i.parts.items) in
     from_err c.from_residual-in_err-part.result _ _ c.from_residual-in_err-part.ensures.1 (λ e h n.
     join-of-parts part (parsed_beginning c.args.has_column) (map string_bytes c.args.arguments.now) _ c.in_ok-count.count _ c.in_ok-count.ensures.number.0
-    (c.loop-i.invariant.0 ∙ part-refused part (parsed_beginning c.args.has_column) done c.in_ok-count.count c.loop-i.i (map string_bytes c.loop-i.rest.now) c.in_err-part.field-0.0 c.loop-i-test.true (c.in_err-part.ensures.error (λ q. n (h ∙ q))))
+    (c.loop-i.invariant.0 ∙ part-error part (parsed_beginning c.args.has_column) done c.in_ok-count.count c.loop-i.i (map string_bytes c.loop-i.rest.now) c.in_err-part.field-0.0 c.loop-i-test.true (c.in_err-part.ensures.error (λ q. n (h ∙ q))))
     ∙ ap Err (sym h))
 
 pub read_join-returns-in_err-position-clause-error : goal.read_join-returns-in_err-position-clause-error
@@ -128,7 +128,7 @@ read_join-returns-in_err-position-clause-error t c =
     let done = outcomes (at_positions c.loop-i.parts.items) in
     from_err c.from_residual-in_err-position.result _ _ c.from_residual-in_err-position.ensures.1 (λ e h n.
     join-of-parts part (parsed_beginning c.args.has_column) (map string_bytes c.args.arguments.now) _ c.in_ok-count.count _ c.in_ok-count.ensures.number.0
-    (c.loop-i.invariant.0 ∙ offset-refused part (parsed_beginning c.args.has_column) done c.in_ok-count.count c.loop-i.i (map string_bytes c.loop-i.rest.now) _ (outcome_of c.in_ok-part.part) c.in_err-position.field-0.0 c.loop-i-test.true c.in_ok-part.ensures.part
+    (c.loop-i.invariant.0 ∙ offset-error part (parsed_beginning c.args.has_column) done c.in_ok-count.count c.loop-i.i (map string_bytes c.loop-i.rest.now) _ (outcome_of c.in_ok-part.part) c.in_err-position.field-0.0 c.loop-i-test.true c.in_ok-part.ensures.part
     c.in_err-position.ensures.position.1)
     ∙ ap Err (sym h))
 

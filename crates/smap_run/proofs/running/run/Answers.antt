@@ -1,7 +1,7 @@
 use Rattle.std.proofs.Common.{◌≡◌, rules, ◌++◌, ◌∷◌, [], string_bytes, subst, sym, ◌∙◌}
 use Rattle.oxc_sourcemap_plan.specs.declared.run_error.RunError.TheVariants.{Write}
 use Rattle.smap_run.specs.Request.{request_of}
-use Rattle.smap_run.specs.Answer.{IsAnswer, Refuses, AppendsBeginning}
+use Rattle.smap_run.specs.Answer.{IsAnswer, FailsWith, AppendsBeginning}
 use Rattle.std.specs.Str.{IsUtf8}
 use Rattle.oxc_sourcemap_plan.proofs.Parts.{from_err}
 use Rattle.smap_run.proofs.PlanAnswers.{some_weaker, of_err}
@@ -10,8 +10,8 @@ use Rattle.smap_run.proofs.running.run.Goals as goal
 pub returns-in_err-out-clause-error : goal.returns-in_err-out-clause-error
 returns-in_err-out-clause-error g c =
     let asked = request_of c.args.command.now in
-    from_err c.from_residual-in_err-out.result _ _ c.from_residual-in_err-out.ensures.1 (λ e h n r w. some_weaker (g.R.Read.remaining c.args.reader.now.inner) _ _ (λ input same. subst (λ i. Refuses asked i e) same
-    (subst (λ f. Refuses asked c.in_ok-input.input.items f) (sym h) (c.in_err-out.ensures.error (λ q. n (h ∙ q))))) c.in_ok-input.ensures.bytes)
+    from_err c.from_residual-in_err-out.result _ _ c.from_residual-in_err-out.ensures.1 (λ e h n r w. some_weaker (g.R.Read.remaining c.args.reader.now.inner) _ _ (λ input same. subst (λ i. FailsWith asked i e) same
+    (subst (λ f. FailsWith asked c.in_ok-input.input.items f) (sym h) (c.in_err-out.ensures.error (λ q. n (h ∙ q))))) c.in_ok-input.ensures.bytes)
 
 pub returns-clause-begun : goal.returns-clause-begun
 returns-clause-begun g c = λ w.

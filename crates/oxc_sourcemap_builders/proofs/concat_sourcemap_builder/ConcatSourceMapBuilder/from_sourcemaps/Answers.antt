@@ -1,7 +1,7 @@
 use Rattle.std.proofs.Common.{◌+◌, Err, drop, ap, ◌∙◌, sym, ◌∷◌}
 use Rattle.std.proofs.lemmas.List.{drop_more}
 use Rattle.oxc_sourcemap_join.specs.Joined.{at_line, lent_maps}
-use Rattle.oxc_sourcemap_join.proofs.Adding.{refusal-of-all}
+use Rattle.oxc_sourcemap_join.proofs.Adding.{error-of-all}
 use Rattle.oxc_sourcemap_tokens.proofs.Carried.{carried_error}
 use Rattle.oxc_sourcemap_builders.proofs.concat_sourcemap_builder.ConcatSourceMapBuilder.from_sourcemaps.Goals as goal
 
@@ -12,5 +12,5 @@ returns-in_err-add_sourcemap-clause-error c =
     let item = c.loop-sourcemap-item.result in
     let left = ap lent_maps (drop_more maps i item c.loop-sourcemap-test.true ∙ ap (λ x. x ∷ drop (i + 1) maps) (sym c.loop-sourcemap-item.is)) in
     carried_error c.from_residual-in_err-add_sourcemap.result c.in_err-add_sourcemap.field-0.0 _ c.from_residual-in_err-add_sourcemap.ensures.1
-    (refusal-of-all c.loop-sourcemap.builder item.0.now (at_line item.1) _ (lent_maps (drop (i + 1) maps)) _ c.loop-sourcemap.invariant.all left c.in_err-add_sourcemap.field-0.0
+    (error-of-all c.loop-sourcemap.builder item.0.now (at_line item.1) _ (lent_maps (drop (i + 1) maps)) _ c.loop-sourcemap.invariant.all left c.in_err-add_sourcemap.field-0.0
     c.in_err-add_sourcemap.ensures.error (λ t. c.in_err-add_sourcemap.ensures.too_large.0 (ap (λ x. Err x) t)))

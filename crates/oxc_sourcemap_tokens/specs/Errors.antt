@@ -12,5 +12,5 @@ unless None answer = answer
 unless (Some fault) answer = Err fault
 
 -- What an error of `serde_json` becomes: `OutOfMemory` for want of memory, and `BadJson(Reading)` for every other cause.
-abbrev pub refusal_of_json : json.Error → Error → Type 0
-refusal_of_json cause e = (IsMemory cause → e ≡ OutOfMemory) × (¬ (IsMemory cause) → e ≡ BadJson Reading)
+abbrev pub error_of_json : json.Error → Error → Type 0
+error_of_json cause e = (IsMemory cause → e ≡ OutOfMemory) × (¬ (IsMemory cause) → e ≡ BadJson Reading)

@@ -1,0 +1,32 @@
+-- The messages of errors, as bytes, and the errors of calls on maps as errors of calls for C.
+use Rattle.std.specs.Prelude.{◌≡◌, ℕ, List, ◌++◌, codes, decimal, IsUtf8}
+use Rattle.std.specs.Str.Lossy.{utf8_valid_len}
+use Rattle.oxc_sourcemap_tokens.specs.declared.error.Error.{Error}
+use Rattle.oxc_sourcemap_tokens.specs.declared.error.Error.TheVariants.{OutOfMemory}
+use Rattle.oxc_sourcemap_tokens.specs.declared.plan_error.PlanError.TheVariants.{Map}
+use Rattle.oxc_sourcemap_tokens.specs.PlanMessages.{plan_error_text}
+use Rattle.oxc_sourcemap_handles.specs.declared.call_error.CallError.{CallError}
+use Rattle.oxc_sourcemap_handles.specs.declared.call_error.CallError.TheVariants.{Plan, Words, NoText}
+use Rattle.oxc_sourcemap_handles.specs.declared.call_error.CallError.TheVariants.{EmptyHandle, NotUtf8}
+use Rattle.oxc_sourcemap_handles.specs.declared.call_error.CallError.TheVariants.{Lengths, NoEntry}
+
+abbrev pub call_error_text : CallError → List ℕ
+call_error_text (Plan error) = plan_error_text error
+call_error_text Words = codes "The words say no plan"
+call_error_text (NoText k) = codes "There is no text " ++ decimal k
+call_error_text EmptyHandle = codes "The handle is empty"
+call_error_text (NotUtf8 n) = codes "Byte " ++ decimal n ++ codes " is not UTF-8"
+call_error_text Lengths = codes "The lengths of two lists differ"
+call_error_text NoEntry = codes "There is no such entry"
+
+-- an error of a call on a map
+abbrev pub of_map : Error → CallError
+of_map e = Plan (Map e)
+
+-- want of memory
+abbrev pub out_of_memory : CallError
+out_of_memory = Plan (Map OutOfMemory)
+
+-- bytes are not UTF-8, and the error has the number of bytes before the first bad one
+abbrev pub IsNotText : List ℕ → CallError → Type 0
+IsNotText bytes r = ¬ (IsUtf8 bytes) × (r ≡ NotUtf8 (utf8_valid_len bytes))

@@ -1,0 +1,84 @@
+//! The errors of calls of the library for C.
+ghost use Rattle.std.specs.Prelude.{◌≡◌, Some};
+ghost use Rattle.oxc_sourcemap_handles.specs.Words.{OutOfMemory, Map, Plan, call_error_text};
+ghost use Rattle.oxc_sourcemap_handles.specs.Words.{out_of_memory};
+
+use oxc_sourcemap_tokens::{Error, PlanError};
+use std::alloc::{AllocError, AllocFailed};
+use std::fmt;
+
+/// The error of a call of the library for C.
+#[derive(Clone, Copy, Debug, PartialEq, Eq)]
+pub enum CallError {
+    /// A call on a map or the evaluation of a plan failed with this error.
+    Plan(PlanError),
+    /// The words are no plan.
+    Words,
+    /// The words name a text that is not there.
+    NoText(u32),
+    /// A handle is empty, or holds what the call does not take.
+    EmptyHandle,
+    /// The bytes are not UTF-8; so many at the beginning are.
+    NotUtf8(usize),
+    /// There are not as many offsets as maps, or not as many traces as positions.
+    Lengths,
+    /// There is no entry at this index, or it is not known.
+    NoEntry,
+}
+
+impl CallError {
+    /// The error for want of memory.
+    pub fn memory() -> CallError
+        ensures { result ≡ out_of_memory }
+    {
+        CallError::Plan(PlanError::Map(Error::OutOfMemory))
+    }
+}
+
+impl fmt::Display for CallError {
+    ghost output = { λ error. Some (call_error_text error) };
+
+    fn fmt<W: fmt::Write>(&self, f: &mut fmt::Formatter<W>) -> fmt::Result {
+        match self {
+            CallError::Plan(error) => write!(f, "{error}"),
+            CallError::Words => write!(f, "The words say no plan"),
+            CallError::NoText(number) => write!(f, "There is no text {number}"),
+            CallError::EmptyHandle => write!(f, "The handle is empty"),
+            CallError::NotUtf8(valid) => write!(f, "Byte {valid} is not UTF-8"),
+            CallError::Lengths => write!(f, "The lengths of two lists differ"),
+            CallError::NoEntry => write!(f, "There is no such entry"),
+        }
+    }
+}
+
+impl From<Error> for CallError {
+    ghost from_gives = { λ error error. error ≡ Plan (Map error) };
+
+    fn from(error: Error) -> CallError {
+        CallError::Plan(PlanError::Map(error))
+    }
+}
+
+impl From<PlanError> for CallError {
+    ghost from_gives = { λ error error. error ≡ Plan error };
+
+    fn from(error: PlanError) -> CallError {
+        CallError::Plan(error)
+    }
+}
+
+impl From<AllocError> for CallError {
+    ghost from_gives = { λ _ error. error ≡ out_of_memory };
+
+    fn from(_: AllocError) -> CallError {
+        CallError::memory()
+    }
+}
+
+impl<T: Drop> From<AllocFailed<T>> for CallError {
+    ghost from_gives = { λ _ error. error ≡ out_of_memory };
+
+    fn from(_: AllocFailed<T>) -> CallError {
+        CallError::memory()
+    }
+}

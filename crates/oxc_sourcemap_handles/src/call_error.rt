@@ -52,7 +52,7 @@ impl fmt::Display for CallError {
 }
 
 impl From<Error> for CallError {
-    ghost from_gives = { λ error error. error ≡ Plan (Map error) };
+    ghost from_gives = { λ error call. call ≡ Plan (Map error) };
 
     fn from(error: Error) -> CallError {
         CallError::Plan(PlanError::Map(error))
@@ -60,7 +60,7 @@ impl From<Error> for CallError {
 }
 
 impl From<PlanError> for CallError {
-    ghost from_gives = { λ error error. error ≡ Plan error };
+    ghost from_gives = { λ error call. call ≡ Plan error };
 
     fn from(error: PlanError) -> CallError {
         CallError::Plan(error)
@@ -68,7 +68,7 @@ impl From<PlanError> for CallError {
 }
 
 impl From<AllocError> for CallError {
-    ghost from_gives = { λ _ error. error ≡ out_of_memory };
+    ghost from_gives = { λ _ call. call ≡ out_of_memory };
 
     fn from(_: AllocError) -> CallError {
         CallError::memory()
@@ -76,7 +76,7 @@ impl From<AllocError> for CallError {
 }
 
 impl<T: Drop> From<AllocFailed<T>> for CallError {
-    ghost from_gives = { λ _ error. error ≡ out_of_memory };
+    ghost from_gives = { λ _ call. call ≡ out_of_memory };
 
     fn from(_: AllocFailed<T>) -> CallError {
         CallError::memory()

@@ -1,6 +1,6 @@
 //! Reading a map from a JSON source map, from a JSON value and from a JSON text.
-ghost use Rattle.std.specs.Prelude.{◌≡◌, ◌≢◌, ◌↔◌, true, IfOk, IfErr, Ok, Err};
-ghost use Rattle.oxc_sourcemap.specs.Words.{view, OutOfMemory, IsInLineOrder, are_tokens_sorted};
+ghost use Rattle.std.specs.Prelude.{◌≡◌, ◌↔◌, true, IfOk, Ok};
+ghost use Rattle.oxc_sourcemap.specs.Words.{view, IsInLineOrder, are_tokens_sorted};
 ghost use Rattle.oxc_sourcemap.specs.Words.{IsSound, json_record, decoded, json_fault, read_value};
 ghost use Rattle.oxc_sourcemap.specs.Words.{read_map, Answers, Reports};
 
@@ -38,8 +38,8 @@ pub fn decode(alloc: Global, json: JSONSourceMap) -> Result<SourceMap<'static>>
 
 /// Reads the map of a JSON value. A value whose `sections` is there and is not null is an indexed map (ECMA-426, "Index source
 /// map"): the maps of its sections are joined, each at its offset, and the joined map gets the file of the value. Any other
-/// value is read by `JSONSourceMap::from_value` and `decode`. All strings of the map are owned. The map has no chunks, its ids
-/// are in range, and its tokens are in line order, so it is sound exactly if it is sorted.
+/// value is read by `JSONSourceMap::from_value` and `decode`. The value is cloned, and all strings of the map are owned. The map
+/// has no chunks, its ids are in range, and its tokens are in line order, so it is sound exactly if it is sorted.
 ///
 /// ```rust
 /// use oxc_sourcemap::decode_value;
@@ -67,10 +67,9 @@ pub fn decode(alloc: Global, json: JSONSourceMap) -> Result<SourceMap<'static>>
 /// Also `OutOfMemory` for want of memory, which may be before another error is found.
 #[tactic(auto, using(oxc_sourcemap_decode::proofs::WellRead::value_sound, oxc_sourcemap_decode::proofs::WellRead::value_in_order))]
 pub fn decode_value(alloc: Global, value: &Value) -> Result<SourceMap<'static>>
-    ensures map { IfOk result (λ map. read_value (view value.now) ≡ Ok map) }
+    ensures map { Answers (λ map. map) result (read_value (view value.now)) }
     ensures sound { IfOk result (λ map. IsSound map ↔ (are_tokens_sorted map.tokens ≡ true)) }
     ensures in_line_order { IfOk result (λ map. IsInLineOrder map.tokens) }
-    ensures error { IfErr result (λ e. (e ≢ OutOfMemory) → read_value (view value.now) ≡ Err e) }
 {
     Ok(SourceMap::from_parts(decode_parts_from_value(alloc, value)?))
 }
@@ -94,10 +93,9 @@ pub fn decode_value(alloc: Global, value: &Value) -> Result<SourceMap<'static>>
 ///
 /// Also `OutOfMemory` for want of memory, which may be before another error is found.
 pub fn decode_from_string(alloc: Global, text: &str) -> Result<SourceMap<'static>>
-    ensures map { IfOk result (λ map. read_map text.now ≡ Ok map) }
+    ensures map { Answers (λ map. map) result (read_map text.now) }
     ensures sound { IfOk result (λ map. IsSound map ↔ (are_tokens_sorted map.tokens ≡ true)) }
     ensures in_line_order { IfOk result (λ map. IsInLineOrder map.tokens) }
-    ensures error { IfErr result (λ e. (e ≢ OutOfMemory) → read_map text.now ≡ Err e) }
 {
     SourceMap::from_json_string(alloc, text)
 }

@@ -13,7 +13,8 @@ use Rattle.oxc_sourcemap_plan.specs.declared.run_error.RunError.TheVariants.{NoT
 use Rattle.oxc_sourcemap_plan.specs.PlanInputs.{inputs_of}
 use Rattle.oxc_sourcemap_plan.specs.PlanArguments.{parsed_plan}
 use Rattle.oxc_sourcemap_handles.specs.declared.call_error.CallError.{CallError}
-use Rattle.oxc_sourcemap_handles.specs.declared.call_error.CallError.TheVariants.{Plan, Words, NoText}
+use Rattle.oxc_sourcemap_handles.specs.declared.call_error.CallError.TheVariants.{Plan, Words}
+use Rattle.oxc_sourcemap_handles.specs.declared.call_error.CallError.TheVariants.{NoText}
 use Rattle.oxc_sourcemap_handles.specs.CallErrors.{IsNotText}
 
 -- the words of a plan: what is between spaces

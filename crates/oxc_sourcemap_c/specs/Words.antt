@@ -9,7 +9,8 @@ pub use Rattle.oxc_sourcemap_handles.specs.Answers.{flag_of}
 pub use Rattle.oxc_sourcemap_handles.specs.Builders.{token_of, with_token, with_file, Builds}
 pub use Rattle.oxc_sourcemap_handles.specs.Builders.{NameHasNoId, SourceHasNoId, IsBuilderError}
 pub use Rattle.oxc_sourcemap_handles.specs.Builders.{IsNameError, IsSourceError, IsFileError}
-pub use Rattle.oxc_sourcemap_handles.specs.Codes.{fault_of, code_of, call_error_of, no_fault, IsSmall}
+pub use Rattle.oxc_sourcemap_handles.specs.Codes.{fault_of, code_of, call_error_of, no_fault}
+pub use Rattle.oxc_sourcemap_handles.specs.Codes.{IsSmall}
 pub use Rattle.oxc_sourcemap_handles.specs.Holding.{held_map, held_builder, HoldsMap}
 pub use Rattle.oxc_sourcemap_handles.specs.Joins.{all_held, IsJoinOf, IsJoinError}
 pub use Rattle.oxc_sourcemap_handles.specs.Messages.{IsMessage}

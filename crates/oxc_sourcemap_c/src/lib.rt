@@ -13,7 +13,8 @@ ghost use Rattle.oxc_sourcemap_c.specs.Words.{TooLarge, read_map, map_text, map_
 ghost use Rattle.oxc_sourcemap_c.specs.Words.{SomeComposition, NoColumnGoesBack, IsInLineOrder};
 ghost use Rattle.oxc_sourcemap_c.specs.Words.{are_tokens_sorted, decoded_map_of, trace};
 ghost use Rattle.oxc_sourcemap_c.specs.Words.{clamped_trace, content_at, nothing_built, with_name};
-ghost use Rattle.oxc_sourcemap_c.specs.Words.{with_path, CallError, call_error_text, of_map, fault_of};
+ghost use Rattle.oxc_sourcemap_c.specs.Words.{with_path, CallError, call_error_text, of_map};
+ghost use Rattle.oxc_sourcemap_c.specs.Words.{fault_of};
 ghost use Rattle.oxc_sourcemap_c.specs.Words.{code_of, call_error_of, no_fault, IsSmall, IsMessage};
 ghost use Rattle.oxc_sourcemap_c.specs.Words.{held_map, held_builder, HoldsMap, counts_of};
 ghost use Rattle.oxc_sourcemap_c.specs.Words.{numbers_of, all_held, IsJoinOf, IsJoinError};

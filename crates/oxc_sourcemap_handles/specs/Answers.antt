@@ -10,7 +10,8 @@ use Rattle.oxc_sourcemap_decode.specs.ReadMap.{read_map}
 use Rattle.oxc_sourcemap_lookup.specs.Composed.{SomeComposition}
 use Rattle.oxc_sourcemap_map.specs.View.{content_at}
 use Rattle.oxc_sourcemap_handles.specs.declared.call_error.CallError.{CallError}
-use Rattle.oxc_sourcemap_handles.specs.declared.call_error.CallError.TheVariants.{EmptyHandle, NotUtf8}
+use Rattle.oxc_sourcemap_handles.specs.declared.call_error.CallError.TheVariants.{EmptyHandle}
+use Rattle.oxc_sourcemap_handles.specs.declared.call_error.CallError.TheVariants.{NotUtf8}
 use Rattle.oxc_sourcemap_handles.specs.declared.call_error.CallError.TheVariants.{NoEntry}
 use Rattle.oxc_sourcemap_handles.specs.declared.fault.Fault.{Fault}
 use Rattle.oxc_sourcemap_handles.specs.declared.held.Held.{Held}

@@ -23,16 +23,19 @@ pub use Rattle.oxc_sourcemap_handles.specs.Builders.{IsBuilderError, IsNameError
 pub use Rattle.oxc_sourcemap_handles.specs.Builders.{IsSourceError, IsFileError}
 pub use Rattle.oxc_sourcemap_handles.specs.Codes.{fault_of, code_of, no_fault, fault_of_error}
 pub use Rattle.oxc_sourcemap_handles.specs.Codes.{fault_of_plan_error, fault_of_json}
-pub use Rattle.oxc_sourcemap_handles.specs.Codes.{number_of_field, call_error_of, error_of, field_of}
+pub use Rattle.oxc_sourcemap_handles.specs.Codes.{number_of_field, call_error_of, error_of}
+pub use Rattle.oxc_sourcemap_handles.specs.Codes.{field_of}
 pub use Rattle.oxc_sourcemap_handles.specs.Holding.{held_builder, held_map, held_text, HoldsMap}
 pub use Rattle.oxc_sourcemap_handles.specs.Indexed.{IsOutOfOrder}
 pub use Rattle.oxc_sourcemap_handles.specs.Joins.{all_held, placed_maps, IsJoinOf, IsJoinError}
 pub use Rattle.oxc_sourcemap_handles.specs.Messages.{overwritten, IsMessage}
 pub use Rattle.oxc_sourcemap_handles.specs.Places.{counts_of, numbers_of, IsPlace, HasIds}
 pub use Rattle.oxc_sourcemap_handles.specs.Places.{number_or_none}
-pub use Rattle.oxc_sourcemap_handles.specs.CallErrors.{out_of_memory, of_map, call_error_text, IsNotText}
+pub use Rattle.oxc_sourcemap_handles.specs.CallErrors.{out_of_memory, of_map, call_error_text}
+pub use Rattle.oxc_sourcemap_handles.specs.CallErrors.{IsNotText}
 pub use Rattle.oxc_sourcemap_handles.specs.Steps.{stepped, HasNoId}
 pub use Rattle.oxc_sourcemap_handles.specs.Traces.{found_at, IsTraceOf, AreTracesOf, IsTraced}
 pub use Rattle.oxc_sourcemap_handles.specs.Traces.{IsTraceError, IsTraceAllError}
 pub use Rattle.oxc_sourcemap_handles.specs.declared.builders.Step.TheVariants.{File, Mapping}
-pub use Rattle.oxc_sourcemap_handles.specs.declared.call_error.CallError.TheVariants.{EmptyHandle, Plan}
+pub use Rattle.oxc_sourcemap_handles.specs.declared.call_error.CallError.TheVariants.{EmptyHandle}
+pub use Rattle.oxc_sourcemap_handles.specs.declared.call_error.CallError.TheVariants.{Plan}

@@ -128,7 +128,8 @@ impl JSONSourceMap {
     /// The fields of a JSON value (docs/FORMAT.md, "The shape of a JSON value"; ECMA-426, "Source map format"). Keys that
     /// are not listed here are ignored. The value is cloned, and its strings are moved out of the clone.
     ///
-    /// Fails with `BadJson` for the first of these in this order, and with `OutOfMemory` for want of memory:
+    /// Fails with `BadJson` for the first of these in this order, and with `OutOfMemory` for want of memory, which may be before
+    /// another error is found:
     /// - `Shape(Object)` unless the value is an object;
     /// - `version`, which has to be 3: `Version(n)` for another whole number n of 0 to 4294967295, `Shape(Version)` for any
     ///   other value, and if it is missing;

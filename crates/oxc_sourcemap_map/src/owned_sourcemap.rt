@@ -115,12 +115,11 @@ impl OwnedSourceMap {
 
     /// Reads a map from its JSON text, as `SourceMap::from_json_string` does, and fails as that does.
     pub fn from_json_string(alloc: Global, text: &str) -> Result<OwnedSourceMap>
-        ensures map { IfOk result (λ map. read_map text.now ≡ Ok map) }
+        ensures map { Answers (λ map. map) result (read_map text.now) }
         ensures decoded_map { IfOk result (λ map. read_decoded_map text.now
             ≡ Ok (decoded_map_of map)) }
         ensures sound { IfOk result (λ map. IsSound map ↔ (are_tokens_sorted map.tokens ≡ true)) }
         ensures in_line_order { IfOk result (λ map. IsInLineOrder map.tokens) }
-        ensures error { IfErr result (λ e. (e ≢ OutOfMemory) → read_map text.now ≡ Err e) }
     {
         Ok(OwnedSourceMap::new(SourceMap::from_json_string(alloc, text)?))
     }

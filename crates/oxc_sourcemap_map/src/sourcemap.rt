@@ -1,10 +1,10 @@
 //! The type of a map, without its lookups and composition.
-ghost use Rattle.std.specs.Prelude.{◌≡◌, ◌≢◌, ◌↔◌, ◌<◌, List, map, option_map, slice_get, IsTrue};
-ghost use Rattle.std.specs.Prelude.{true, string_bytes, IfOk, IfErr, Ok, Err, Some, None, OnOk};
+ghost use Rattle.std.specs.Prelude.{◌≡◌, ◌↔◌, ◌<◌, List, map, option_map, slice_get, IsTrue};
+ghost use Rattle.std.specs.Prelude.{true, string_bytes, IfOk, Ok, Some, None, OnOk};
 ghost use Rattle.std.specs.Prelude.{OnErr};
 ghost use Rattle.std.specs.Iterator.{IsFinite, Drains};
 ghost use Rattle.std.specs.Box.{boxed_slice_items};
-ghost use Rattle.oxc_sourcemap_map.specs.Words.{OutOfMemory, AreInBounds, IsInLineOrder};
+ghost use Rattle.oxc_sourcemap_map.specs.Words.{AreInBounds, IsInLineOrder};
 ghost use Rattle.oxc_sourcemap_map.specs.Words.{json_record, text_of, texts_of, contents_of};
 ghost use Rattle.oxc_sourcemap_map.specs.Words.{chunks_of, record_of_parts, empty_record};
 ghost use Rattle.oxc_sourcemap_map.specs.Words.{are_tokens_sorted, IsSound, decoded, json_fault};
@@ -117,12 +117,11 @@ impl<'a> SourceMap<'a> {
     /// list the columns of a line in any order; `is_sorted` checks that.
     #[tactic(auto, using(oxc_sourcemap_decode::proofs::WellRead::read_map_sound, oxc_sourcemap_decode::proofs::WellRead::read_in_order))]
     pub fn from_json_string(alloc: Global, text: &str) -> Result<SourceMap<'static>>
-        ensures map { IfOk result (λ map. read_map text.now ≡ Ok map) }
+        ensures map { Answers (λ map. map) result (read_map text.now) }
         ensures decoded_map { IfOk result (λ map. read_decoded_map text.now
             ≡ Ok (decoded_map_of map)) }
         ensures sound { IfOk result (λ map. IsSound map ↔ (are_tokens_sorted map.tokens ≡ true)) }
         ensures in_line_order { IfOk result (λ map. IsInLineOrder map.tokens) }
-        ensures error { IfErr result (λ e. (e ≢ OutOfMemory) → read_map text.now ≡ Err e) }
     {
         Ok(SourceMap::from_parts(decode_parts_from_string(alloc, text)?))
     }

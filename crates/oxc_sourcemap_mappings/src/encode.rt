@@ -11,7 +11,7 @@ ghost use Rattle.oxc_sourcemap_mappings.specs.Words.{writing_fault, state_of, te
 ghost use Rattle.oxc_sourcemap_mappings.specs.Words.{line_marks, marks_of, column_from};
 ghost use Rattle.oxc_sourcemap_mappings.specs.Words.{fields_text, raw_at, first_letter};
 ghost use Rattle.oxc_sourcemap_mappings.specs.Words.{second_letter, rank_of, offset_of};
-ghost use Rattle.oxc_sourcemap_mappings.specs.Words.{deltas_text, AreSingle, OnlyMemory, FailsBy};
+ghost use Rattle.oxc_sourcemap_mappings.specs.Words.{deltas_text, AreSingle, FailsBy};
 ghost use Rattle.oxc_sourcemap_mappings.specs.Words.{Reports, Pushes};
 ghost use Rattle.std.specs.List.{AllByRecursion};
 

@@ -20,11 +20,11 @@ GivesBut other view result defined =
 abbrev pub Answers : {A B : Type 0} → (A → B) → Result A Error → Result B Error → Type 0
 Answers view result defined = GivesBut OutOfMemory view result defined
 
--- The call fails for want of memory alone.
+-- If the call fails, it is for want of memory.
 abbrev pub OnlyMemory : {A : Type 0} → Result A Error → Type 0
 OnlyMemory result = IfErr result (λ e. e ≡ OutOfMemory)
 
--- The call fails with this fault, or lacks memory.
+-- If the call fails, it is with this fault or for want of memory.
 abbrev pub FailsBy : {A : Type 0} → Option Error → Result A Error → Type 0
 FailsBy fault result = IfErr result (λ e. (e ≢ OutOfMemory) → fault ≡ Some e)
 

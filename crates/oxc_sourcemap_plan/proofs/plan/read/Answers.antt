@@ -13,7 +13,7 @@ returns-in_err-from_json_string-clause-error c =
     let law = c.dropping_harmless.ensures in
     let laws = join_laws law.tests_agree law.joins_up_to_repeats law.decoded_map_of_join law.in_range law.stands_for law.names law.tokens in
     from_err c.from_residual.result _ _ c.from_residual.ensures.1 (λ e h. subst (λ x. FailsAs x (read_outcome (said_in c.args.text.now))) (sym h)
-    (read_error laws c.args.text.now c.in_err-from_json_string.field-0.0 c.in_err-from_json_string.ensures.error))
+    (read_error laws c.args.text.now c.in_err-from_json_string.field-0.0 c.in_err-from_json_string.ensures.map.1))
 
 pub returns-clause-map : goal.returns-clause-map
 returns-clause-map c =
@@ -23,7 +23,7 @@ returns-clause-map c =
     let laws = join_laws law.tests_agree law.joins_up_to_repeats law.decoded_map_of_join law.in_range law.stands_for law.names law.tokens in
     let r = c.in_ok-from_json_string.field-0 in
     IfOk-weaker c.check_sorted.result _ _ (λ m h. subst (λ x. Realizes x (read_outcome (said_in text))) (sym h.0)
-    (read_gives laws text r call.map (c.canonical_unique.ensures.read_is_in_bounds text r call.map) (call.sound.1 h.1) h.1)) c.check_sorted.ensures.map
+    (read_gives laws text r call.map.0 (c.canonical_unique.ensures.read_is_in_bounds text r call.map.0) (call.sound.1 h.1) h.1)) c.check_sorted.ensures.map
 
 pub returns-clause-error : goal.returns-clause-error
 returns-clause-error c =
@@ -32,4 +32,4 @@ returns-clause-error c =
     let laws = join_laws law.tests_agree law.joins_up_to_repeats law.decoded_map_of_join law.in_range law.stands_for law.names law.tokens in
     let r = c.in_ok-from_json_string.field-0 in
     IfErr-weaker c.check_sorted.result _ _ (λ e h. subst (λ x. FailsAs x (read_outcome (said_in text))) (sym h.0)
-    (read_unsorted laws text r c.in_ok-from_json_string.ensures.map h.1)) c.check_sorted.ensures.error
+    (read_unsorted laws text r c.in_ok-from_json_string.ensures.map.0 h.1)) c.check_sorted.ensures.error

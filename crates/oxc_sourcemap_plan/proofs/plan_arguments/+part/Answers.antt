@@ -103,7 +103,7 @@ read_part-returns-in-joinat-clause-part t c =
     let part = parsed_part (map (λ text. text.now) c.args.inputs.now) (c.args.room - 1) in
     let others = map string_bytes c.in-Some.others.now in
     let T = map (λ text. text.now) c.args.inputs.now in
-    IfOk-weaker c.read_join.result _ _ (λ r h. start ∙ named-join_at T part c.as_str.result.now others c.in-joinat.is ∙ h) c.read_join.ensures.part
+    IfOk-weaker c.read_join-in-joinat.result _ _ (λ r h. start ∙ named-join_at T part c.as_str.result.now others c.in-joinat.is ∙ h) c.read_join-in-joinat.ensures.part
 
 pub read_part-returns-in-joinat-clause-error : goal.read_part-returns-in-joinat-clause-error
 read_part-returns-in-joinat-clause-error t c =
@@ -111,7 +111,7 @@ read_part-returns-in-joinat-clause-error t c =
     let part = parsed_part (map (λ text. text.now) c.args.inputs.now) (c.args.room - 1) in
     let others = map string_bytes c.in-Some.others.now in
     let T = map (λ text. text.now) c.args.inputs.now in
-    IfErr-weaker c.read_join.result _ _ (λ e h n. start ∙ named-join_at T part c.as_str.result.now others c.in-joinat.is ∙ h n) c.read_join.ensures.error
+    IfErr-weaker c.read_join-in-joinat.result _ _ (λ e h n. start ∙ named-join_at T part c.as_str.result.now others c.in-joinat.is ∙ h n) c.read_join-in-joinat.ensures.error
 
 pub read_join-returns-in_err-part-clause-error : goal.read_join-returns-in_err-part-clause-error
 read_join-returns-in_err-part-clause-error t c =

@@ -5,7 +5,8 @@ use Rattle.std.specs.Borrow.{Bor}
 use Rattle.std.proofs.Math.Nat.{add-zero}
 use Rattle.std.proofs.lemmas.List.{take_more, map-append, append-nil}
 use Rattle.oxc_sourcemap.specs.Record.{MapRecord}
-use Rattle.oxc_sourcemap.specs.Joined.{Position, at_line, at_lines, added, nothing_joined, joined}
+use Rattle.oxc_sourcemap.specs.Position.{Position}
+use Rattle.oxc_sourcemap.specs.Joined.{at_line, at_lines, added, nothing_joined, joined}
 use Rattle.oxc_sourcemap.specs.Joined.{lent_maps, IsWithinLimits}
 use Rattle.oxc_sourcemap.specs.Error.{Error}
 use Rattle.oxc_sourcemap.specs.Error.TheVariants.{OutOfMemory, TooLarge}

@@ -3,6 +3,7 @@ pub use Rattle.oxc_sourcemap_tokens.specs.declared.error.Error
 pub use Rattle.oxc_sourcemap_tokens.specs.declared.error.JsonFault
 pub use Rattle.oxc_sourcemap_tokens.specs.declared.error.Field
 pub use Rattle.oxc_sourcemap_tokens.specs.declared.token.TokenChunk
+pub use Rattle.oxc_sourcemap_tokens.specs.declared.position.Position
 pub use Rattle.oxc_sourcemap_json.specs.declared.json_source_map.JSONSourceMap
 pub use Rattle.oxc_sourcemap_parts.specs.declared.parts.SourceMapParts
 pub use Rattle.oxc_sourcemap_map.specs.declared.source_view_token.SourceViewToken

@@ -1,19 +1,19 @@
 -- The errors and answers of the commands on maps, by the map that was read.
 use Rattle.std.proofs.Common.{◌≡◌, ◌≢◌, ℕ, List, Option, Some, None, Ok, Err, true, option_map, ap}
 use Rattle.std.proofs.Common.{◌∙◌}
-use Rattle.oxc_sourcemap.specs.Error.{Error}
-use Rattle.oxc_sourcemap.specs.Error.TheVariants.{LineOrder, OutOfMemory}
-use Rattle.oxc_sourcemap.specs.Record.{MapRecord}
-use Rattle.oxc_sourcemap.specs.Shape.{◌>>=◌}
-use Rattle.oxc_sourcemap.specs.ReadMap.{read_map}
-use Rattle.oxc_sourcemap.specs.JsonText.{map_text, map_url}
-use Rattle.oxc_sourcemap.specs.Token.{TokenRecord}
-use Rattle.oxc_sourcemap.specs.LineOrder.{first_out_of_order}
-use Rattle.oxc_sourcemap.specs.Lookup.{pick}
-use Rattle.oxc_sourcemap.specs.Sorted.{token_line, token_column, are_tokens_sorted}
-use Rattle.oxc_sourcemap.specs.DecodedMap.{decoded_map_of}
-use Rattle.oxc_sourcemap.specs.Trace.{trace}
-use Rattle.oxc_sourcemap.specs.View.{seen_in, view_original}
+use Rattle.oxc_sourcemap_tokens.specs.declared.error.Error.{Error}
+use Rattle.oxc_sourcemap_tokens.specs.declared.error.Error.TheVariants.{LineOrder, OutOfMemory}
+use Rattle.oxc_sourcemap_parts.specs.Record.{MapRecord}
+use Rattle.oxc_sourcemap_json.specs.Shape.{◌>>=◌}
+use Rattle.oxc_sourcemap_decode.specs.ReadMap.{read_map}
+use Rattle.oxc_sourcemap_encode.specs.JsonText.{map_text, map_url}
+use Rattle.oxc_sourcemap_tokens.specs.Token.{TokenRecord}
+use Rattle.oxc_sourcemap_tokens.specs.LineOrder.{first_out_of_order}
+use Rattle.oxc_sourcemap_lookup.specs.Lookup.{pick}
+use Rattle.oxc_sourcemap_parts.specs.Sorted.{token_line, token_column, are_tokens_sorted}
+use Rattle.oxc_sourcemap_parts.specs.DecodedMap.{decoded_map_of}
+use Rattle.oxc_sourcemap_lookup.specs.Trace.{trace}
+use Rattle.oxc_sourcemap_map.specs.View.{seen_in, view_original}
 use Rattle.oxc_sourcemap_map.proofs.Picks.{traced}
 use Rattle.smap_run.specs.Answer.{normalised, normalised_url}
 

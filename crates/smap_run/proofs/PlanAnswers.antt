@@ -4,20 +4,20 @@ use Rattle.std.proofs.Common.{Some, None, Result, Ok, Err, inl, inr, ◌⊎◌}
 use Rattle.std.specs.Result.{IsErrOf, OnErr}
 use Rattle.std.specs.Option.{IfSome}
 use Rattle.std.proofs.lemmas.Bool.{cases_lt, false_from_ne_true}
-use Rattle.oxc_sourcemap.specs.Error.{Error}
-use Rattle.oxc_sourcemap.specs.Error.TheVariants.{TooLarge, OutOfMemory}
-use Rattle.oxc_sourcemap.specs.Record.{MapRecord}
-use Rattle.oxc_sourcemap.specs.Shape.{◌>>=◌}
-use Rattle.oxc_sourcemap.specs.Encoded.{encoded, encoded_record}
-use Rattle.oxc_sourcemap.specs.JsonText.{json_text, map_text}
-use Rattle.oxc_sourcemap.specs.MapLaws.{SoundIsTooLarge}
-use Rattle.oxc_sourcemap.specs.PlanError.{PlanError}
-use Rattle.oxc_sourcemap.specs.PlanError.TheVariants.{Map}
+use Rattle.oxc_sourcemap_tokens.specs.declared.error.Error.{Error}
+use Rattle.oxc_sourcemap_tokens.specs.declared.error.Error.TheVariants.{TooLarge, OutOfMemory}
+use Rattle.oxc_sourcemap_parts.specs.Record.{MapRecord}
+use Rattle.oxc_sourcemap_json.specs.Shape.{◌>>=◌}
+use Rattle.oxc_sourcemap_encode.specs.Encoded.{encoded, encoded_record}
+use Rattle.oxc_sourcemap_encode.specs.JsonText.{json_text, map_text}
+use Rattle.oxc_sourcemap_laws.specs.MapLaws.{SoundIsTooLarge}
+use Rattle.oxc_sourcemap_tokens.specs.declared.plan_error.PlanError.{PlanError}
+use Rattle.oxc_sourcemap_tokens.specs.declared.plan_error.PlanError.TheVariants.{Map}
 use Rattle.oxc_sourcemap_plan.specs.declared.run_error.RunError.{RunError}
 use Rattle.oxc_sourcemap_plan.specs.declared.run_error.RunError.TheVariants.{Plan}
 use Rattle.oxc_sourcemap_plan.specs.RunErrors.{out_of_memory}
-use Rattle.oxc_sourcemap.specs.Outcome.{Outcome}
-use Rattle.oxc_sourcemap.specs.Evaluated.{IsEvaluated, IsErrorOf}
+use Rattle.oxc_sourcemap_plan.specs.Outcome.{Outcome}
+use Rattle.oxc_sourcemap_plan.specs.Evaluated.{IsEvaluated, IsErrorOf}
 use Rattle.smap_run.specs.Answer.{IsPlanAnswer, IsPlanError}
 
 pub words_error : (r : Result Outcome RunError) (f e : RunError) → r ≡ Err f → e ≡ f → IsPlanError r e

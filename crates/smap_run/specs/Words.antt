@@ -1,14 +1,14 @@
 -- The words of this crate's clauses, from one place.
-pub use Rattle.oxc_sourcemap.specs.DecodedMap.{decoded_map_of}
-pub use Rattle.oxc_sourcemap.specs.Error.TheVariants.{OutOfMemory}
-pub use Rattle.oxc_sourcemap.specs.Evaluated.{IsErrorOf}
-pub use Rattle.oxc_sourcemap.specs.LineOrder.{IsInLineOrder}
-pub use Rattle.oxc_sourcemap.specs.Outcome.{outcome}
-pub use Rattle.oxc_sourcemap.specs.PlanError.TheVariants.{Map}
-pub use Rattle.oxc_sourcemap.specs.Reading.{reading}
-pub use Rattle.oxc_sourcemap.specs.Sorted.{are_tokens_sorted}
-pub use Rattle.oxc_sourcemap.specs.Trace.{trace}
-pub use Rattle.oxc_sourcemap.specs.View.{view_of, seen_in, view_original}
+pub use Rattle.oxc_sourcemap_parts.specs.DecodedMap.{decoded_map_of}
+pub use Rattle.oxc_sourcemap_tokens.specs.declared.error.Error.TheVariants.{OutOfMemory}
+pub use Rattle.oxc_sourcemap_plan.specs.Evaluated.{IsErrorOf}
+pub use Rattle.oxc_sourcemap_tokens.specs.LineOrder.{IsInLineOrder}
+pub use Rattle.oxc_sourcemap_plan.specs.Outcome.{outcome}
+pub use Rattle.oxc_sourcemap_tokens.specs.declared.plan_error.PlanError.TheVariants.{Map}
+pub use Rattle.oxc_sourcemap_mappings.specs.Reading.{reading}
+pub use Rattle.oxc_sourcemap_parts.specs.Sorted.{are_tokens_sorted}
+pub use Rattle.oxc_sourcemap_lookup.specs.Trace.{trace}
+pub use Rattle.oxc_sourcemap_map.specs.View.{view_of, seen_in, view_original}
 pub use Rattle.oxc_sourcemap_plan.specs.PlanArguments.{parsed_plan}
 pub use Rattle.oxc_sourcemap_plan.specs.PlanInputs.{inputs_of}
 pub use Rattle.oxc_sourcemap_plan.specs.RunErrors.{out_of_memory, is_of_port}

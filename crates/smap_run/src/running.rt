@@ -13,11 +13,11 @@ ghost use Rattle.smap_run.specs.Words.{parsed_plan, request_of, Answers};
 use crate::arguments::Command;
 use crate::port::Port;
 use crate::tracing::trace;
-use oxc_sourcemap::laws::canonical_unique;
-use oxc_sourcemap::{
-    Error, Plan, PlanError, SourceMap, decode_mappings, encode_mappings, evaluate,
-};
-use oxc_sourcemap_plan::{RunError, inputs_of, read_plan};
+use oxc_sourcemap_laws::canonical_unique;
+use oxc_sourcemap_map::SourceMap;
+use oxc_sourcemap_mappings::{decode_mappings, encode_mappings};
+use oxc_sourcemap_plan::{Plan, RunError, evaluate, inputs_of, read_plan};
+use oxc_sourcemap_tokens::{Error, PlanError};
 use std::alloc::{AllocError, Global};
 use std::io::{Read, Write};
 

@@ -6,8 +6,10 @@ ghost use Rattle.smap_run.specs.Words.{decoded_map_of, trace, view_of, seen_in, 
 ghost use Rattle.smap_run.specs.Words.{number_part, name_part, original_text, trace_text};
 ghost use Rattle.smap_run.specs.Words.{traced_of, traced, OnlyMemory, Pushes, lent_item};
 
-use oxc_sourcemap::{Error, PlanError, SourceMap, SourceViewToken, Token, push_json_string};
+use oxc_sourcemap_encode::push_json_string;
 use oxc_sourcemap_lookup::LineIndex;
+use oxc_sourcemap_map::{SourceMap, SourceViewToken};
+use oxc_sourcemap_tokens::{Error, PlanError, Token};
 use std::alloc::Global;
 
 /// Appends a colon and a number.

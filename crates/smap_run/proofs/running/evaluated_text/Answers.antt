@@ -1,6 +1,6 @@
 use Rattle.std.proofs.Common.{ap}
-use Rattle.oxc_sourcemap.specs.Outcome.{outcome}
-use Rattle.oxc_sourcemap.specs.PlanError.TheVariants.{Map}
+use Rattle.oxc_sourcemap_plan.specs.Outcome.{outcome}
+use Rattle.oxc_sourcemap_tokens.specs.declared.plan_error.PlanError.TheVariants.{Map}
 use Rattle.oxc_sourcemap_tokens.proofs.Carried.{carried_error}
 use Rattle.smap_run.proofs.PlanAnswers.{writing_fails}
 use Rattle.smap_run.proofs.running.evaluated_text.Goals as goal

@@ -1,5 +1,5 @@
 use Rattle.std.proofs.Common.{◌≡◌, map, string_bytes, ap, sym, ◌∙◌, Ok}
-use Rattle.oxc_sourcemap.specs.Outcome.{outcome}
+use Rattle.oxc_sourcemap_plan.specs.Outcome.{outcome}
 use Rattle.oxc_sourcemap_plan.specs.PlanInputs.{inputs_of}
 use Rattle.oxc_sourcemap_plan.specs.PlanArguments.{parsed_plan}
 use Rattle.oxc_sourcemap_plan.proofs.Parts.{from_err}

@@ -15,6 +15,7 @@ ghost use Rattle.oxc_sourcemap.specs.Words.{composition_outcome, IsEvaluated, On
 
 use oxc_sourcemap::laws::{
     canonical_unique, composition_associative, joins_associative, name_ids_unique,
+    tokens_in_bounds,
 };
 use oxc_sourcemap::{
     ConcatSourceMapBuilder, OwnedSourceMap, Plan, PlanError, Result, SourceMap, SourceMapBuilder,
@@ -52,6 +53,7 @@ pub fn rewrite(alloc: Global, map: &SourceMap<'_>) -> Result<SourceMap<'static>>
         → e ≡ OutOfMemory) }
 {
     canonical_unique();
+    tokens_in_bounds(map.get_tokens().as_slice());
     let json = map.to_json(alloc)?;
     SourceMap::from_json(alloc, json)
 }
@@ -178,6 +180,7 @@ pub fn compose_left<'c>(
     ensures error { IfErr result (λ e. IsSound second.now → IsSound third.now → (e ≢ OutOfMemory)
         → grouped_left first.now second.now third.now ≡ Err e) }
 {
+    composition_associative();
     let earlier = first.clone(alloc)?.compose(alloc, second.clone(alloc)?)?;
     let composed = earlier.compose(alloc, third.clone(alloc)?)?;
     Ok(composed)

@@ -45,8 +45,7 @@ pub use Rattle.oxc_sourcemap_plan.specs.PlanArguments.{parsed_input, parsed_join
 pub use Rattle.oxc_sourcemap_plan.specs.PlanArguments.{parsed_plan}
 pub use Rattle.oxc_sourcemap_plan.specs.PlanInputs.{inputs_of}
 pub use Rattle.oxc_sourcemap_plan.specs.Realizes.{Realizes, FailsAs, AllRealize}
-pub use Rattle.oxc_sourcemap_plan.specs.RunErrors.{out_of_memory, is_of_port, run_error_text}
-pub use Rattle.oxc_sourcemap_plan.specs.RunErrors.{status_of}
+pub use Rattle.oxc_sourcemap_plan.specs.RunErrors.{out_of_memory, run_error_text, status_of}
 pub use Rattle.oxc_sourcemap_plan.specs.declared.run_error.RunError.TheVariants.{Plan}
 pub use Rattle.oxc_sourcemap_tokens.specs.Chunks.{ChunksFit}
 pub use Rattle.oxc_sourcemap_tokens.specs.LineOrder.{IsInLineOrder}

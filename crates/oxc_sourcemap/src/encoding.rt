@@ -1,6 +1,6 @@
 //! Writing a map as a JSON source map and as a JSON text.
-ghost use Rattle.std.specs.Prelude.{string_bytes, OnOk};
-ghost use Rattle.oxc_sourcemap.specs.Words.{AreInBounds, json_record, encoded, map_text, Answers};
+ghost use Rattle.std.specs.Prelude.{string_bytes};
+ghost use Rattle.oxc_sourcemap.specs.Words.{json_record, encoded, map_text, Answers};
 
 use oxc_sourcemap_json::JSONSourceMap;
 use oxc_sourcemap_map::SourceMap;
@@ -22,10 +22,7 @@ use std::alloc::Global;
 /// Fails as `encode_mappings` does for the tokens and chunks: with `LineOrder(i)`, `BadChunks(k)`, `TooLarge`, in this order;
 /// and with `OutOfMemory` for want of memory.
 pub fn encode(alloc: Global, sourcemap: &SourceMap<'_>) -> Result<JSONSourceMap>
-    ensures json { Answers json_record result (encoded sourcemap.now) }
-
-    // True of every map, and stated here for callers that need it.
-    ensures in_bounds { OnOk result (AreInBounds sourcemap.now.tokens) }
+    ensures { Answers json_record result (encoded sourcemap.now) }
 {
     sourcemap.to_json(alloc)
 }

@@ -6,7 +6,6 @@ pub use Rattle.oxc_sourcemap_parts.specs.Views.{text_of, record_of_parts, ids_of
 pub use Rattle.oxc_sourcemap_parts.specs.Views.{texts_of, contents_of}
 pub use Rattle.oxc_sourcemap_tokens.specs.Chunks.{lent_chunks}
 pub use Rattle.oxc_sourcemap_tokens.specs.Results.{Answers, OnlyMemory, Pushes}
-pub use Rattle.oxc_sourcemap_tokens.specs.Token.{AreInBounds}
 pub use Rattle.oxc_sourcemap_tokens.specs.declared.error.Error.TheVariants.{OutOfMemory}
 pub use Rattle.oxc_sourcemap_encode.specs.Encoded.{encoded, written_contents, encoded_record}
 pub use Rattle.oxc_sourcemap_encode.specs.JsonParts.{head_text, lists_text, tail_text}

@@ -4,7 +4,7 @@ ghost use Rattle.std.specs.Prelude.{None, OnOk};
 ghost use Rattle.std.specs.Cow.{cow_str_bytes};
 ghost use Rattle.std.specs.List.{list_any};
 ghost use Rattle.std.specs.Option.{is_some};
-ghost use Rattle.oxc_sourcemap_encode.specs.Words.{OutOfMemory, AreInBounds, canonical};
+ghost use Rattle.oxc_sourcemap_encode.specs.Words.{OutOfMemory, canonical};
 ghost use Rattle.oxc_sourcemap_encode.specs.Words.{lent_chunks, writing_fault, text_of};
 ghost use Rattle.oxc_sourcemap_encode.specs.Words.{record_of_parts, json_record, json_contents};
 ghost use Rattle.oxc_sourcemap_encode.specs.Words.{encoded, written_contents, Answers};
@@ -66,7 +66,6 @@ fn mappings_of(alloc: Global, parts: &SourceMapParts<'_>) -> Result<String>
         OnOk result (writing_fault r.tokens r.token_chunks ≡ None) }
     ensures error { let r = record_of_parts parts.now in
         IfErr result (λ e. (e ≢ OutOfMemory) → writing_fault r.tokens r.token_chunks ≡ Some e) }
-    ensures in_bounds { OnOk result (AreInBounds (record_of_parts parts.now).tokens) }
 {
     let mut mappings = String::new(alloc);
     encode_mappings(parts.tokens.as_slice(), chunks_of(parts), &mut mappings)?;
@@ -79,10 +78,7 @@ fn mappings_of(alloc: Global, parts: &SourceMapParts<'_>) -> Result<String>
 /// Fails as `encode_mappings` does for the tokens and chunks: with `LineOrder(i)`, `BadChunks(k)`, `TooLarge`, in this order;
 /// and with `OutOfMemory` for want of memory.
 pub fn encode_parts(alloc: Global, parts: &SourceMapParts<'_>) -> Result<JSONSourceMap>
-    ensures json { Answers json_record result (encoded (record_of_parts parts.now)) }
-
-    // True of every map, and stated here for callers that need it.
-    ensures in_bounds { OnOk result (AreInBounds (record_of_parts parts.now).tokens) }
+    ensures { Answers json_record result (encoded (record_of_parts parts.now)) }
 {
     let mappings = mappings_of(alloc, parts)?;
     Ok(JSONSourceMap {

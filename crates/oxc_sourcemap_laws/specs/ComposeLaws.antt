@@ -1,14 +1,15 @@
 -- What composition keeps, and that it is associative.
-use Rattle.std.specs.Prelude.{◌≡◌, ◌≢◌, ◌↔◌, ◌⊎◌, ℕ, ◌+◌, ◌<◌, ◌≤◌, Bool, true, length, Result, Ok}
-use Rattle.std.specs.Prelude.{Err, IfSome}
+use Rattle.std.specs.Prelude.{◌≡◌, ◌≢◌, ◌↔◌, ◌⊎◌, ℕ, ◌+◌, ◌<◌, ◌≤◌, Bool, true, List, length, Result}
+use Rattle.std.specs.Prelude.{Ok, Err, IfSome}
 use Rattle.std.specs.List.{AllByRecursion, list_all}
 use Rattle.oxc_sourcemap_tokens.specs.declared.error.Error.{Error}
 use Rattle.oxc_sourcemap_tokens.specs.declared.error.Error.TheVariants.{SeveralSources, TooLarge}
-use Rattle.oxc_sourcemap_tokens.specs.Token.{AreInBounds}
+use Rattle.oxc_sourcemap_tokens.specs.Token.{TokenRecord, AreInBounds}
 use Rattle.oxc_sourcemap_parts.specs.Record.{Text, MapRecord}
+use Rattle.oxc_sourcemap_parts.specs.Sorted.{are_tokens_sorted}
 use Rattle.oxc_sourcemap_parts.specs.Sound.{IsInRange, AreIdsInRange, IsSound}
 use Rattle.oxc_sourcemap_parts.specs.DecodedMap.{DecodedMap, decoded_map_of}
-use Rattle.oxc_sourcemap_lookup.specs.Composed.{composed, composition}
+use Rattle.oxc_sourcemap_lookup.specs.Composed.{composed, composition, NoColumnGoesBack}
 use Rattle.oxc_sourcemap_laws.specs.Repeats.{EqualUpToRepeats}
 use Rattle.oxc_sourcemap_laws.specs.ComposedDecodedMaps.{composed_decoded_maps}
 use Rattle.oxc_sourcemap_laws.specs.JoinLaws.{StandsFor}
@@ -126,3 +127,7 @@ CompositionTooLarge = (a b : MapRecord) → composition a b ≡ Err TooLarge →
 abbrev pub CompositionInBounds : Type 0
 CompositionInBounds = (a b m : MapRecord) → AreInBounds a.tokens → AreInBounds b.tokens
     → composition a b ≡ Ok m → AreInBounds m.tokens
+
+-- On no line of sorted tokens do columns go back.
+abbrev pub SortedGoesOn : Type 0
+SortedGoesOn = (tokens : List TokenRecord) → are_tokens_sorted tokens ≡ true → NoColumnGoesBack tokens

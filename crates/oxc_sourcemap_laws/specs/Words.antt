@@ -11,6 +11,7 @@ pub use Rattle.oxc_sourcemap_laws.specs.ComposeLaws.{GroupingsFailTogether, Grou
 pub use Rattle.oxc_sourcemap_laws.specs.ComposeLaws.{GroupingsTell, CompositionInRange}
 pub use Rattle.oxc_sourcemap_laws.specs.ComposeLaws.{CompositionNames, CompositionTokens}
 pub use Rattle.oxc_sourcemap_laws.specs.ComposeLaws.{CompositionTooLarge, CompositionInBounds}
+pub use Rattle.oxc_sourcemap_laws.specs.ComposeLaws.{SortedGoesOn}
 pub use Rattle.oxc_sourcemap_laws.specs.JoinLaws.{RepeatsHarmless, TracesAgree, TestsAgree}
 pub use Rattle.oxc_sourcemap_laws.specs.JoinLaws.{JoinKeepsEqualUpToRepeats, DecodedMapOfJoin}
 pub use Rattle.oxc_sourcemap_laws.specs.JoinLaws.{JoinStandsFor, JoinInRange, JoinNames, JoinTokens}

@@ -1,5 +1,5 @@
-//! Laws of the definitions. Each is a function without parameters, result or body: its contract is the law, and a caller
-//! gets it by calling the function, which costs nothing at run time.
+//! Laws of the definitions. Each is a function that does nothing: its contract is the law, and a caller gets it by calling the
+//! function, which costs nothing at run time. All but `tokens_in_bounds` have no parameters, result or body.
 //!
 //! Users find them in the module `laws` of the crate `oxc_sourcemap`.
 #![tactic(auto)]
@@ -16,15 +16,18 @@ ghost use Rattle.oxc_sourcemap_laws.specs.Words.{GroupingsFailTogether, Grouping
 ghost use Rattle.oxc_sourcemap_laws.specs.Words.{GroupingsTell, CompositionInRange};
 ghost use Rattle.oxc_sourcemap_laws.specs.Words.{CompositionNames, CompositionTokens};
 ghost use Rattle.oxc_sourcemap_laws.specs.Words.{CompositionTooLarge, CompositionInBounds};
+ghost use Rattle.oxc_sourcemap_laws.specs.Words.{SortedGoesOn};
 ghost use Rattle.oxc_sourcemap_laws.specs.Words.{RepeatsHarmless, TracesAgree, TestsAgree};
 ghost use Rattle.oxc_sourcemap_laws.specs.Words.{JoinKeepsEqualUpToRepeats, DecodedMapOfJoin};
 ghost use Rattle.oxc_sourcemap_laws.specs.Words.{JoinStandsFor, JoinInRange, JoinNames, JoinTokens};
 ghost use Rattle.oxc_sourcemap_laws.specs.Words.{JoinChunksFit, JoinsAssociative, JoinOneMore};
 
+pub use oxc_sourcemap_tokens::tokens_in_bounds;
+
 /// The `mappings` text of a list is unique, and reading undoes writing. Lists are *equal as written* if they differ only in
 /// what texts leave out: the source position and name of unmapped tokens.
-/// - Lists in line order and in bounds (lines and columns of 0 to 4294967295, ids of 0 to 4294967294) have the same text
-///   exactly if they are equal as written (`unique`).
+/// - Lists in line order and in bounds (lines and columns of 0 to 4294967295, ids of 0 to 4294967294; the tokens of any map
+///   are, by `tokens_in_bounds`) have the same text exactly if they are equal as written (`unique`).
 /// - The text of such a list is read without error, with counts above its ids, and gives a list equal as written; an
 ///   unmapped token comes back with the source line and column reached there (`reads_back`).
 /// - The tokens of a text are in line order and in bounds, and written and read again they are the same (`reads_again`).
@@ -109,6 +112,8 @@ pub fn joins_associative()
 ///   maps, and at most as many as they have together (`names`); it has as many tokens as the first map (`tokens`). An id is
 ///   too large only if the two maps have more than 4294967295 names (`too_large`). Its tokens are in bounds if those of the
 ///   two maps are (`in_bounds`).
+/// - On no line of sorted tokens do columns go back, as the clauses `map` and `error` of `SourceMap::compose` ask of `input`
+///   (`sorted_goes_on`).
 pub fn composition_associative()
     ensures decoded_map_of_composition { DecodedMapOfComposition }
     ensures keeps_up_to_repeats { CompositionKeepsEqualUpToRepeats }
@@ -124,4 +129,5 @@ pub fn composition_associative()
     ensures tokens { CompositionTokens }
     ensures too_large { CompositionTooLarge }
     ensures in_bounds { CompositionInBounds }
+    ensures sorted_goes_on { SortedGoesOn }
 {}

@@ -19,7 +19,6 @@ pub use Rattle.oxc_sourcemap_parts.specs.Views.{contents_of, chunks_of}
 pub use Rattle.oxc_sourcemap_tokens.specs.LineOrder.{IsInLineOrder}
 pub use Rattle.oxc_sourcemap_tokens.specs.Results.{Reports, Answers, lent_items, OnlyMemory}
 pub use Rattle.oxc_sourcemap_tokens.specs.Results.{lent_item}
-pub use Rattle.oxc_sourcemap_tokens.specs.Token.{AreInBounds}
 pub use Rattle.oxc_sourcemap_tokens.specs.declared.error.Error.TheVariants.{OutOfMemory}
 pub use mir.Syntax.{static}
 pub use Rattle.oxc_sourcemap_map.specs.View.{view_of, seen_in, view_original, content_at}

@@ -1,7 +1,7 @@
 //! Composition: of a map from generated to intermediate code and one from intermediate to original code, one map from
 //! generated to original code is made.
-ghost use Rattle.std.specs.Prelude.{◌≡◌, ◌≢◌, true, IfOk, IfErr, Ok, Err};
-ghost use Rattle.oxc_sourcemap_map.specs.Words.{OutOfMemory, are_tokens_sorted, composition};
+ghost use Rattle.std.specs.Prelude.{◌≡◌, ◌≢◌, IfOk, IfErr, Ok, Err};
+ghost use Rattle.oxc_sourcemap_map.specs.Words.{OutOfMemory, composition};
 ghost use Rattle.oxc_sourcemap_map.specs.Words.{composition_fault, SomeComposition};
 ghost use Rattle.oxc_sourcemap_map.specs.Words.{NoColumnGoesBack, Reports};
 
@@ -44,7 +44,6 @@ impl<'a> SourceMap<'a> {
     /// - `OutOfMemory` for want of memory.
     ///
     /// The first two are returned even if memory runs out.
-    #[tactic(auto, using(oxc_sourcemap_lookup::proofs::OwnTables::line_goes_on))]
     pub fn compose<'input>(
         self,
         alloc: Global,
@@ -58,10 +57,6 @@ impl<'a> SourceMap<'a> {
         ensures any_error { IfErr result (λ e. (e ≢ OutOfMemory)
             → SomeComposition self.entry input.entry (Err e)) }
         ensures fault { Reports (composition_fault self.entry input.entry) result }
-
-        // True of every list of tokens, and stated here for callers that need it.
-        ensures sorted_goes_on { are_tokens_sorted input.entry.tokens ≡ true
-            → NoColumnGoesBack input.entry.tokens }
     {
         let parts = compose_parts(alloc, self.parts, input.parts)?;
         Ok(SourceMap::from_parts(parts))

@@ -1,5 +1,5 @@
 //! A map in a type without a lifetime.
-ghost use Rattle.oxc_sourcemap_map.specs.Words.{static, OutOfMemory, AreInBounds, IsInLineOrder};
+ghost use Rattle.oxc_sourcemap_map.specs.Words.{static, OutOfMemory, IsInLineOrder};
 ghost use Rattle.oxc_sourcemap_map.specs.Words.{json_record, record_of_parts, empty_record};
 ghost use Rattle.oxc_sourcemap_map.specs.Words.{are_tokens_sorted, token_column, IsSound};
 ghost use Rattle.oxc_sourcemap_map.specs.Words.{decoded_map_of, decoded, json_fault, encoded};
@@ -126,10 +126,7 @@ impl OwnedSourceMap {
 
     /// Makes a `JSONSourceMap` of this map, as `SourceMap::to_json` does, and fails as that does.
     pub fn to_json(&self, alloc: Global) -> Result<JSONSourceMap>
-        ensures json { Answers json_record result (encoded self.now) }
-
-        // True of every map, and stated here for callers that need it.
-        ensures in_bounds { OnOk result (AreInBounds self.now.tokens) }
+        ensures { Answers json_record result (encoded self.now) }
     {
         self.inner.to_json(alloc)
     }
@@ -159,10 +156,6 @@ impl OwnedSourceMap {
         ensures any_error { IfErr result (λ e. (e ≢ OutOfMemory)
             → SomeComposition self input (Err e)) }
         ensures fault { Reports (composition_fault self input) result }
-
-        // True of every list of tokens, and stated here for callers that need it.
-        ensures sorted_goes_on { are_tokens_sorted input.tokens ≡ true
-            → NoColumnGoesBack input.tokens }
     {
         Ok(OwnedSourceMap::new(self.inner.compose(alloc, input.inner)?))
     }

@@ -4,7 +4,7 @@ ghost use Rattle.std.specs.Prelude.{true, string_bytes, IfOk, Ok, Some, None, On
 ghost use Rattle.std.specs.Prelude.{OnErr};
 ghost use Rattle.std.specs.Iterator.{IsFinite, Drains};
 ghost use Rattle.std.specs.Box.{boxed_slice_items};
-ghost use Rattle.oxc_sourcemap_map.specs.Words.{AreInBounds, IsInLineOrder};
+ghost use Rattle.oxc_sourcemap_map.specs.Words.{IsInLineOrder};
 ghost use Rattle.oxc_sourcemap_map.specs.Words.{json_record, text_of, texts_of, contents_of};
 ghost use Rattle.oxc_sourcemap_map.specs.Words.{chunks_of, record_of_parts, empty_record};
 ghost use Rattle.oxc_sourcemap_map.specs.Words.{are_tokens_sorted, IsSound, decoded, json_fault};
@@ -128,10 +128,7 @@ impl<'a> SourceMap<'a> {
 
     /// Makes a `JSONSourceMap` of this map, as `encode` does, and fails as that does.
     pub fn to_json(&self, alloc: Global) -> Result<JSONSourceMap>
-        ensures json { Answers json_record result (encoded self.now) }
-
-        // True of every map, and stated here for callers that need it.
-        ensures in_bounds { OnOk result (AreInBounds self.now.tokens) }
+        ensures { Answers json_record result (encoded self.now) }
     {
         encode_parts(alloc, &self.parts)
     }

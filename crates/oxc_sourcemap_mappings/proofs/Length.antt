@@ -112,6 +112,6 @@ length-canonical ts w o =
     let h : IsBounded initial = record { dst_line = lit< tt; dst_col = lit< tt; source_id = lit< tt; src_line = lit< tt; src_col = lit< tt; name_id = lit< tt } in
     omega (arith, ap length (canonical-is ts), length-text_from true initial 0 ts h (recursion_from_All IsInBounds ts w) (back_from-all ts ∙ o))
 
-pub canonical-bounded : {A E : Type 0} (r : Result A E) (ts : List TokenRecord) (old new : List ℕ) → OnOk r (new ≡ old ++ canonical ts) → OnOk r (first_out_of_order ts ≡ None) → OnOk r (AreInBounds ts) → OnOk r (length new ≤ length old + (36 * length ts + last_line 0 ts))
+pub canonical-bounded : {A E : Type 0} (r : Result A E) (ts : List TokenRecord) (old new : List ℕ) → OnOk r (new ≡ old ++ canonical ts) → OnOk r (first_out_of_order ts ≡ None) → AreInBounds ts → OnOk r (length new ≤ length old + (36 * length ts + last_line 0 ts))
 canonical-bounded (Ok x) ts old new text order bounds = omega (arith, ap length text, length-append old (canonical ts), length-canonical ts bounds order)
 canonical-bounded (Err e) ts old new text order bounds = tt

@@ -137,9 +137,6 @@ all-pieces ts cs e = pieces-is ts cs (writing-fits ts cs e)
 
 -- the one chunk of all tokens
 module _ (ts : List TokenRecord) (w : TokenChunk) (e : w ≡ chunk_from initial 0 (length ts)) where
-  pub whole-tokens : chunk_tokens ts w ≡ ts
-  whole-tokens = ap (chunk_tokens ts) e ∙ take_all (length ts - 0) ts (omega arith)
-
   pub whole-piece : piece ts w ≡ canonical ts
   whole-piece = ap (piece ts) e ∙ sym (append-nil (piece ts (chunk_from initial 0 (length ts)))) ∙ pieces-is ts (chunk_from initial 0 (length ts) ∷ []) (whole-fits ts)
 

@@ -6,8 +6,8 @@ use Rattle.std.proofs.lemmas.List.{append-nil, take_at, length-append, get_or_at
 use Rattle.oxc_sourcemap_tokens.specs.Token.{TokenRecord}
 use Rattle.oxc_sourcemap_tokens.specs.State.{initial, state_after}
 use Rattle.oxc_sourcemap_mappings.specs.Canonical.{token_text, text_after, canonical}
-use Rattle.oxc_sourcemap_mappings.specs.Canonical.{has_none_before, Extends}
-use Rattle.oxc_sourcemap_mappings.specs.Encoding.{text_from}
+use Rattle.oxc_sourcemap_mappings.specs.Canonical.{has_none_before}
+use Rattle.oxc_sourcemap_mappings.specs.Encoding.{text_from, Extends}
 
 text_after-is : (seen ts : List TokenRecord) → text_after seen ts ≡ text_from (has_none_before seen) (state_after initial seen) ts
 unfolding text_after

@@ -71,10 +71,6 @@ text_after before (t ∷ ts) = token_text (has_none_before before) (state_after 
 unfoldable pub canonical : List TokenRecord → List ℕ
 canonical tokens = text_after [] tokens
 
--- a text with some ASCII bytes more
-abbrev pub Extends : List ℕ → List ℕ → Type 0
-Extends old new = (more : List ℕ) × (new ≡ old ++ more) × AllByRecursion (λ b. b < 128) more
-
 -- a token as far as it is written: of an unmapped one, the generated position alone
 abbrev pub token_as_written : TokenRecord → TokenRecord
 token_as_written t = if is_mapped t then t else record t { src_line = 0; src_col = 0; name_id = None }

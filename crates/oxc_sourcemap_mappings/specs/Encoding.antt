@@ -1,18 +1,23 @@
 -- The steps of the encoder, beside the states of `State`. No public contract cites this module.
-use Rattle.std.specs.Prelude.{ℕ, ◌+◌, ◌-◌, ◌*◌, ◌/◌, ◌%◌, ◌<◌, ◌++◌, ◌==◌, nat_lt, Bool, false}
+use Rattle.std.specs.Prelude.{◌≡◌, ℕ, ◌+◌, ◌-◌, ◌*◌, ◌/◌, ◌%◌, ◌<◌, ◌++◌, ◌==◌, nat_lt, Bool, false}
 use Rattle.std.specs.Prelude.{List, [], ◌∷◌, replicate, if◌then◌else◌}
+use Rattle.std.specs.List.{AllByRecursion}
 use Rattle.oxc_sourcemap_mappings.specs.declared.encode.Delta.{Delta}
 use Rattle.oxc_sourcemap_mappings.specs.declared.encode.Deltas.{Deltas}
 use Rattle.oxc_sourcemap_tokens.specs.Token.{TokenRecord}
 use Rattle.oxc_sourcemap_tokens.specs.State.{State}
 use Rattle.oxc_sourcemap_tokens.specs.Steps.{advanced}
 use Rattle.oxc_sourcemap_mappings.specs.Canonical.{letter, delta_text, source_text, name_text}
-use Rattle.oxc_sourcemap_mappings.specs.Canonical.{token_text, Extends}
+use Rattle.oxc_sourcemap_mappings.specs.Canonical.{token_text}
 
 -- the text of these tokens from a state on, the state carried along
 abbrev pub text_from : Bool → State → List TokenRecord → List ℕ
 text_from is_first s [] = []
 text_from is_first s (t ∷ ts) = token_text is_first s t ++ text_from false (advanced s t) ts
+
+-- a text with some ASCII bytes more
+abbrev pub Extends : List ℕ → List ℕ → Type 0
+Extends old new = (more : List ℕ) × (new ≡ old ++ more) × AllByRecursion (λ b. b < 128) more
 
 -- Whatever text the old one extended, the new one extends: what was added can be cut off again.
 abbrev pub OnlyAdds : List ℕ → List ℕ → Type 0

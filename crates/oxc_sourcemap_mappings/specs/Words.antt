@@ -1,13 +1,13 @@
 -- The words of this crate's clauses, from one place.
-pub use Rattle.oxc_sourcemap_tokens.specs.Chunks.{header, chunk_tokens, lent_chunks}
+pub use Rattle.oxc_sourcemap_tokens.specs.Chunks.{header, lent_chunks}
 pub use Rattle.oxc_sourcemap_tokens.specs.LineOrder.{back_from}
 pub use Rattle.oxc_sourcemap_tokens.specs.Results.{Answers, OnlyMemory, FailsBy, Reports, Pushes}
 pub use Rattle.oxc_sourcemap_tokens.specs.Steps.{state_of}
-pub use Rattle.oxc_sourcemap_tokens.specs.Token.{AreInBounds, last_line}
+pub use Rattle.oxc_sourcemap_tokens.specs.Token.{last_line}
 pub use Rattle.oxc_sourcemap_tokens.specs.declared.error.Error.{Error}
 pub use Rattle.oxc_sourcemap_tokens.specs.declared.error.Error.TheVariants.{TooLarge}
 pub use Rattle.oxc_sourcemap_mappings.specs.Canonical.{letter, vlq_text, raw_delta, delta_text}
-pub use Rattle.oxc_sourcemap_mappings.specs.Canonical.{canonical, Extends}
+pub use Rattle.oxc_sourcemap_mappings.specs.Canonical.{canonical}
 pub use Rattle.oxc_sourcemap_mappings.specs.Decoding.{ends_segment, front_digits, front_segment}
 pub use Rattle.oxc_sourcemap_mappings.specs.Decoding.{segments_after, is_over, IsNumberAt}
 pub use Rattle.oxc_sourcemap_mappings.specs.Decoding.{AreFieldsOf, AreSmall, value, place_of}

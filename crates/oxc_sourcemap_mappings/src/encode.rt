@@ -3,9 +3,9 @@ ghost use Rattle.std.specs.Prelude.{◌≡◌, ◌↔◌, ◌+◌, ◌-◌, ◌*
 ghost use Rattle.std.specs.Prelude.{◌∷◌, [], length, min, replicate, string_bytes, OnOk, OnErr};
 ghost use Rattle.std.specs.Prelude.{IfOk, IsTrue, Option, Some, None, Err, if◌then◌else◌, nat_le};
 ghost use Rattle.std.specs.Prelude.{take, flat_map};
-ghost use Rattle.oxc_sourcemap_mappings.specs.Words.{Error, AreInBounds, last_line, letter};
+ghost use Rattle.oxc_sourcemap_mappings.specs.Words.{Error, last_line, letter};
 ghost use Rattle.oxc_sourcemap_mappings.specs.Words.{vlq_text, raw_delta, delta_text, canonical};
-ghost use Rattle.oxc_sourcemap_mappings.specs.Words.{Extends, back_from, header, chunk_tokens};
+ghost use Rattle.oxc_sourcemap_mappings.specs.Words.{back_from, header};
 ghost use Rattle.oxc_sourcemap_mappings.specs.Words.{lent_chunks, piece, piece_fault};
 ghost use Rattle.oxc_sourcemap_mappings.specs.Words.{writing_fault, state_of, text_from, OnlyAdds};
 ghost use Rattle.oxc_sourcemap_mappings.specs.Words.{line_marks, marks_of, column_from};
@@ -17,7 +17,7 @@ ghost use Rattle.std.specs.List.{AllByRecursion};
 
 use oxc_sourcemap_tokens::{
     Error, Memory, Previous, Result, Token, TokenChunk, chunk_fault, line_back_from,
-    line_order_fault, next_chunk, tokens_of,
+    line_order_fault, next_chunk, tokens_in_bounds, tokens_of,
 };
 
 /// How many bytes of the text are gathered before they are appended to it.
@@ -405,8 +405,7 @@ fn push_tokens(out: &mut String, at_start: bool, header: Previous, tokens: &[Tok
 
 /// The fault for which a chunk cannot be written, if it has one.
 fn fault_of_chunk(tokens: &[Token], chunk: &TokenChunk) -> Option<Error>
-    ensures fault { result ≡ piece_fault tokens.now chunk.now }
-    ensures in_bounds { result ≡ None → AreInBounds (chunk_tokens tokens.now chunk.now) }
+    ensures { result ≡ piece_fault tokens.now chunk.now }
 {
     if chunk.start > chunk.end || chunk.end as usize > tokens.len() {
         return Some(Error::BadChunks(0));
@@ -450,12 +449,6 @@ pub fn encode_chunk(tokens: &[Token], chunk: &TokenChunk, out: &mut String) -> R
     ensures fault { FailsBy (piece_fault tokens.now chunk.now) result }
     ensures reported { Reports (piece_fault tokens.now chunk.now) result }
     ensures unchanged { OnErr result (string_bytes out.new ≡ string_bytes out.old) }
-
-    // True of every list of tokens, and stated here for callers that need it.
-    ensures in_bounds { OnOk result (AreInBounds (chunk_tokens tokens.now chunk.now)) }
-
-    // What is added is ASCII. True of every piece, and stated here for callers that cut it off again.
-    ensures ascii { Extends (string_bytes out.old) (string_bytes out.new) }
 {
     if let Some(fault) = fault_of_chunk(tokens, chunk) {
         return Err(fault);
@@ -484,8 +477,7 @@ fn push_chunks(out: &mut String, tokens: &[Token], chunks: &[TokenChunk]) -> Mem
 
 /// The fault for which tokens with these chunks cannot be written, if there is one.
 fn fault_of(tokens: &[Token], chunks: &[TokenChunk]) -> Option<Error>
-    ensures fault { result ≡ writing_fault tokens.now (Some chunks.now) }
-    ensures in_bounds { result ≡ None → AreInBounds tokens.now }
+    ensures { result ≡ writing_fault tokens.now (Some chunks.now) }
 {
     if let Some(i) = line_order_fault(tokens) {
         return Some(Error::LineOrder(i));
@@ -505,7 +497,6 @@ fn encode_chunks(tokens: &[Token], chunks: &[TokenChunk], out: &mut String) -> R
     ensures clean { OnOk result (writing_fault tokens.now (Some chunks.now) ≡ None) }
     ensures fault { FailsBy (writing_fault tokens.now (Some chunks.now)) result }
     ensures reported { Reports (writing_fault tokens.now (Some chunks.now)) result }
-    ensures in_bounds { OnOk result (AreInBounds tokens.now) }
     ensures unchanged { OnErr result (string_bytes out.new ≡ string_bytes out.old) }
 {
     if let Some(fault) = fault_of(tokens, chunks) {
@@ -538,7 +529,6 @@ fn encode_whole(tokens: &[Token], out: &mut String) -> Result<()>
     ensures clean { OnOk result (writing_fault tokens.now None ≡ None) }
     ensures fault { FailsBy (writing_fault tokens.now None) result }
     ensures reported { Reports (writing_fault tokens.now None) result }
-    ensures in_bounds { OnOk result (AreInBounds tokens.now) }
     ensures unchanged { OnErr result (string_bytes out.new ≡ string_bytes out.old) }
 {
     if tokens.len() >= 4294967296 {
@@ -578,13 +568,11 @@ pub fn encode_mappings(
     ensures clean { OnOk result (writing_fault tokens.now (lent_chunks chunks.entry) ≡ None) }
     ensures fault { FailsBy (writing_fault tokens.now (lent_chunks chunks.entry)) result }
     ensures reported { Reports (writing_fault tokens.now (lent_chunks chunks.entry)) result }
-
-    // True of every list of tokens, and stated here for callers that need it.
-    ensures in_bounds { OnOk result (AreInBounds tokens.now) }
     ensures bound { let most = 36 * length tokens.now + last_line 0 tokens.now in
         OnOk result (length (string_bytes out.new) ≤ length (string_bytes out.old) + most) }
     ensures unchanged { OnErr result (string_bytes out.new ≡ string_bytes out.old) }
 {
+    tokens_in_bounds(tokens);
     match chunks {
         Some(chunks) => encode_chunks(tokens, chunks, out),
         None => encode_whole(tokens, out),

@@ -9,4 +9,5 @@ mod Worked
 pub mod Digits
 pub mod PlanInputs
 pub mod PlanArguments
+pub mod PortErrors
 mod WorkedArguments

@@ -1,5 +1,5 @@
 -- The texts of the program's errors, as bytes, and the status that it ends with.
-use Rattle.std.specs.Prelude.{ℕ, Bool, true, false, List, ◌++◌, codes, decimal}
+use Rattle.std.specs.Prelude.{ℕ, List, ◌++◌, codes, decimal}
 use Rattle.oxc_sourcemap_tokens.specs.declared.error.Error.TheVariants.{OutOfMemory}
 use Rattle.oxc_sourcemap_tokens.specs.PlanMessages.{plan_error_text}
 use Rattle.oxc_sourcemap_tokens.specs.declared.plan_error.PlanError.TheVariants.{Map}
@@ -28,12 +28,3 @@ status_of (NoText k) = 1
 -- want of memory
 abbrev pub out_of_memory : RunError
 out_of_memory = Plan (Map OutOfMemory)
-
--- a failed read or write
-abbrev pub is_of_port : RunError → Bool
-is_of_port (Plan error) = false
-is_of_port Read = true
-is_of_port Write = true
-is_of_port Utf8 = false
-is_of_port Arguments = false
-is_of_port (NoText k) = false

@@ -2,7 +2,7 @@
 ghost use Rattle.std.specs.Prelude.{◌≡◌, ◌≢◌, ◌≤◌, ◌<◌, ◌+◌, ◌∷◌, [], false, length, map};
 ghost use Rattle.std.specs.Prelude.{string_bytes, Ok, Err, slice_get, MatchOption, IfOk, IfErr};
 ghost use Rattle.std.specs.Prelude.{IfSome};
-ghost use Rattle.oxc_sourcemap_plan.specs.Words.{out_of_memory, is_of_port, depth, outcome_of};
+ghost use Rattle.oxc_sourcemap_plan.specs.Words.{out_of_memory, depth, outcome_of};
 ghost use Rattle.oxc_sourcemap_plan.specs.Words.{outcome, inputs_of, parsed_number};
 ghost use Rattle.oxc_sourcemap_plan.specs.Words.{parsed_beginning, parsed_input, parsed_join};
 ghost use Rattle.oxc_sourcemap_plan.specs.Words.{parsed_part, parsed_plan, Gives, lent_items};
@@ -54,9 +54,8 @@ pub fn inputs_of<'t>(alloc: Global, input: &'t str) -> Memory<Vec<&'t str>>
 
 /// The number of the first argument, and the arguments after it.
 fn take_number<'w>(arguments: &'w [String]) -> Result<(u32, &'w [String]), RunError>
-    ensures number { Gives (λ r. (r.0, map string_bytes r.1.now)) result
+    ensures { Gives (λ r. (r.0, map string_bytes r.1.now)) result
         (parsed_number (map string_bytes arguments.now)) }
-    ensures causes { IfErr result (λ e. is_of_port e ≡ false) }
 {
     let Some((argument, others)) = arguments.split_first() else {
         return Err(RunError::Arguments);
@@ -73,9 +72,8 @@ fn take_position<'w>(
     arguments: &'w [String],
     has_column: bool,
 ) -> Result<(Position, &'w [String]), RunError>
-    ensures position { Gives (λ r. (r.0, map string_bytes r.1.now)) result
+    ensures { Gives (λ r. (r.0, map string_bytes r.1.now)) result
         (parsed_beginning has_column (map string_bytes arguments.now)) }
-    ensures causes { IfErr result (λ e. is_of_port e ≡ false) }
 {
     let (line, after) = take_number(arguments)?;
     if !has_column {
@@ -98,7 +96,6 @@ fn read_input<'t>(inputs: &'t [&'t str], argument: &str) -> Result<Plan<'t>, Run
         ≡ Ok (outcome_of plan)) }
     ensures depth { IfOk result (λ plan. depth plan ≡ 1) }
     ensures error { IfErr result (λ e. parsed_input (lent_items inputs.now) argument.now ≡ Err e) }
-    ensures causes { IfErr result (λ e. is_of_port e ≡ false) }
 {
     let Some(digits) = argument.strip_prefix('@') else {
         return Err(RunError::Arguments);
@@ -125,7 +122,6 @@ fn read_part<'t, 'w>(
     ensures depth { IfOk result (λ r. depth r.0 ≤ room) }
     ensures error { IfErr result (λ e. (e ≢ out_of_memory)
         → parsed_part (lent_items inputs.now) room (map string_bytes arguments.now) ≡ Err e) }
-    ensures causes { IfErr result (λ e. is_of_port e ≡ false) }
 {
     let Some((argument, others)) = arguments.split_first() else {
         return Err(RunError::Arguments);
@@ -171,7 +167,6 @@ fn read_join<'t, 'w>(
         parsed_join (parsed_part (lent_items inputs.now) room) (parsed_beginning has_column)
         (map string_bytes arguments.now)
         ≡ Err e) }
-    ensures causes { IfErr result (λ e. is_of_port e ≡ false) }
 {
     let (count, after) = take_number(arguments)?;
     let mut parts = Vec::new(alloc);
@@ -203,7 +198,6 @@ pub fn read_plan<'t>(
         (map string_bytes arguments.now) ≡ Ok (outcome plan)) }
     ensures error { IfErr result (λ e. (e ≢ out_of_memory)
         → parsed_plan (lent_items inputs.now) (map string_bytes arguments.now) ≡ Err e) }
-    ensures causes { IfErr result (λ e. is_of_port e ≡ false) }
 {
     let (plan, rest) = read_part(alloc, inputs, arguments, 64)?;
     match rest {

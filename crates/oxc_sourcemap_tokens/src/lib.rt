@@ -4,6 +4,7 @@
 
 mod chunks;
 mod error;
+mod laws;
 mod order;
 mod plan_error;
 mod position;
@@ -12,6 +13,7 @@ mod token;
 
 pub use chunks::{chunk_fault, next_chunk, tokens_of};
 pub use error::{Error, Field, JsonFault, Memory, Result};
+pub use laws::tokens_in_bounds;
 pub use order::{line_back_from, line_order_fault};
 pub use plan_error::PlanError;
 pub use position::Position;

@@ -1,6 +1,6 @@
 //! Whether tokens are in the order of their generated lines.
 ghost use Rattle.std.specs.Prelude.{◌≡◌, ◌+◌, ◌^◌, ◌<◌, length, Option, None};
-ghost use Rattle.oxc_sourcemap_tokens.specs.Words.{AreInBounds, first_out_of_order, back_from};
+ghost use Rattle.oxc_sourcemap_tokens.specs.Words.{first_out_of_order, back_from};
 
 use crate::token::Token;
 
@@ -8,8 +8,7 @@ use crate::token::Token;
 /// index `first`, and its line is compared with `line`.
 pub fn line_back_from(line: u32, first: usize, tokens: &[Token]) -> Option<usize>
     requires { first + length tokens.now < 2 ^ 64 }
-    ensures place { result ≡ back_from line first tokens.now }
-    ensures in_bounds { result ≡ None → AreInBounds tokens.now }
+    ensures { result ≡ back_from line first tokens.now }
 {
     let mut line_before = line;
     for (i, token) in tokens.iter().enumerate() {
@@ -24,8 +23,7 @@ pub fn line_back_from(line: u32, first: usize, tokens: &[Token]) -> Option<usize
 /// The index of the first token whose generated line is smaller than that of the token before, as in `LineOrder`; None if
 /// there is none. Takes no memory.
 pub fn line_order_fault(tokens: &[Token]) -> Option<usize>
-    ensures place { result ≡ first_out_of_order tokens.now }
-    ensures in_bounds { result ≡ None → AreInBounds tokens.now }
+    ensures { result ≡ first_out_of_order tokens.now }
 {
     line_back_from(0, 0, tokens)
 }

@@ -2,3 +2,4 @@ pub mod Texts
 pub mod Maps
 pub mod Pieces
 pub mod PlanAnswers
+pub mod PortErrors

@@ -11,7 +11,7 @@ pub use Rattle.oxc_sourcemap_lookup.specs.Trace.{trace}
 pub use Rattle.oxc_sourcemap_map.specs.View.{view_of, seen_in, view_original}
 pub use Rattle.oxc_sourcemap_plan.specs.PlanArguments.{parsed_plan}
 pub use Rattle.oxc_sourcemap_plan.specs.PlanInputs.{inputs_of}
-pub use Rattle.oxc_sourcemap_plan.specs.RunErrors.{out_of_memory, is_of_port}
+pub use Rattle.oxc_sourcemap_plan.specs.RunErrors.{out_of_memory}
 pub use Rattle.oxc_sourcemap_plan.specs.declared.run_error.RunError.TheVariants.{Plan}
 pub use Rattle.oxc_sourcemap_tokens.specs.Results.{Answers, OnlyMemory, Pushes, lent_item}
 pub use Rattle.smap_run.specs.Answer.{without_line_feed, mappings_answer, normalised}

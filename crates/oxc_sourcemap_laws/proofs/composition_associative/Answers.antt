@@ -6,6 +6,7 @@ use Rattle.oxc_sourcemap_laws.proofs.ComposedNames.{names-most, names-tested}
 use Rattle.oxc_sourcemap_laws.proofs.Groupings.{groupings_agree, fail_together, both_answer}
 use Rattle.oxc_sourcemap_laws.proofs.Groupings.{left_tells, right_tells, room}
 use Rattle.oxc_sourcemap_laws.proofs.ComposedBounds.{bounds_composed}
+use Rattle.oxc_sourcemap_lookup.proofs.OwnTables.{line_goes_on}
 use Rattle.oxc_sourcemap_laws.proofs.composition_associative.Goals as goal
 
 pub returns-clause-decoded_map_of_composition : goal.returns-clause-decoded_map_of_composition
@@ -49,3 +50,6 @@ returns-clause-too_large c = room
 
 pub returns-clause-in_bounds : goal.returns-clause-in_bounds
 returns-clause-in_bounds c = bounds_composed
+
+pub returns-clause-sorted_goes_on : goal.returns-clause-sorted_goes_on
+returns-clause-sorted_goes_on c = λ tokens h n. line_goes_on n tokens h

@@ -1,8 +1,7 @@
 use Rattle.std.proofs.Common.{arith, ◌≡◌, ◌≢◌, ◌++◌, ◌∙◌, subst, OnOk, IfErr, Some, None}
 use Rattle.std.proofs.Common.{string_bytes}
 use Rattle.oxc_sourcemap_tokens.specs.declared.error.Error.TheVariants.{OutOfMemory}
-use Rattle.oxc_sourcemap_tokens.specs.Token.{AreInBounds}
-use Rattle.oxc_sourcemap_mappings.proofs.Pieces.{whole-tokens, whole-piece, whole-fault}
+use Rattle.oxc_sourcemap_mappings.proofs.Pieces.{whole-piece, whole-fault}
 use Rattle.oxc_sourcemap_mappings.proofs.encode.encode_whole.Goals as goal
 
 pub returns-clause-text : goal.returns-clause-text
@@ -22,8 +21,3 @@ returns-clause-fault c =
 
 pub returns-clause-reported : goal.returns-clause-reported
 returns-clause-reported c = λ e h. c.encode_chunk.ensures.reported e (whole-fault c.args.tokens.now c.next_chunk-whole.result c.next_chunk-whole.ensures (omega arith) ∙ h)
-
-pub returns-clause-in_bounds : goal.returns-clause-in_bounds
-returns-clause-in_bounds c =
-    subst (λ tokens. OnOk c.encode_chunk.result (AreInBounds tokens))
-    (whole-tokens c.args.tokens.now c.next_chunk-whole.result c.next_chunk-whole.ensures) c.encode_chunk.ensures.in_bounds

@@ -12,11 +12,11 @@ returns-in_err-compose-clause-error c =
     let laws = compose_laws law.stands_for law.names law.tokens law.too_large law.in_bounds in
     let call = c.in_err-compose.ensures in
     from_err c.from_residual.result _ _ c.from_residual.ensures.1 (λ e h p q g k. subst (λ x. FailsAs x (composition_outcome p q)) (sym h)
-    (unless_memory c.in_err-compose.field-0.0 (composition_outcome p q) (λ n. compose_error laws c.args.first c.args.second p q g k c.in_err-compose.field-0.0 (call.error (call.sorted_goes_on k.stands.sound.sorted) n))))
+    (unless_memory c.in_err-compose.field-0.0 (composition_outcome p q) (λ n. compose_error laws c.args.first c.args.second p q g k c.in_err-compose.field-0.0 (call.error (law.sorted_goes_on _ k.stands.sound.sorted) n))))
 
 pub returns-clause-map : goal.returns-clause-map
 returns-clause-map c = λ p q g k.
     let law = c.composition_associative.ensures in
     let laws = compose_laws law.stands_for law.names law.tokens law.too_large law.in_bounds in
     let call = c.in_ok-compose.ensures in
-    compose_gives laws c.args.first c.args.second p q g k c.in_ok-compose.field-0 (call.map (call.sorted_goes_on k.stands.sound.sorted))
+    compose_gives laws c.args.first c.args.second p q g k c.in_ok-compose.field-0 (call.map (law.sorted_goes_on _ k.stands.sound.sorted))

@@ -118,7 +118,7 @@ read_join-returns-in_err-part-clause-error t c =
     let part = parsed_part (map (λ text. text.now) c.args.inputs.now) c.args.room in
     let done = outcomes (at_positions c.loop-i.parts.items) in
     from_err c.from_residual-in_err-part.result _ _ c.from_residual-in_err-part.ensures.1 (λ e h n.
-    join-of-parts part (parsed_beginning c.args.has_column) (map string_bytes c.args.arguments.now) _ c.in_ok-count.count _ c.in_ok-count.ensures.number.0
+    join-of-parts part (parsed_beginning c.args.has_column) (map string_bytes c.args.arguments.now) _ c.in_ok-count.count _ c.in_ok-count.ensures.0
     (c.loop-i.invariant.0 ∙ part-error part (parsed_beginning c.args.has_column) done c.in_ok-count.count c.loop-i.i (map string_bytes c.loop-i.rest.now) c.in_err-part.field-0.0 c.loop-i-test.true (c.in_err-part.ensures.error (λ q. n (h ∙ q))))
     ∙ ap Err (sym h))
 
@@ -127,9 +127,9 @@ read_join-returns-in_err-position-clause-error t c =
     let part = parsed_part (map (λ text. text.now) c.args.inputs.now) c.args.room in
     let done = outcomes (at_positions c.loop-i.parts.items) in
     from_err c.from_residual-in_err-position.result _ _ c.from_residual-in_err-position.ensures.1 (λ e h n.
-    join-of-parts part (parsed_beginning c.args.has_column) (map string_bytes c.args.arguments.now) _ c.in_ok-count.count _ c.in_ok-count.ensures.number.0
+    join-of-parts part (parsed_beginning c.args.has_column) (map string_bytes c.args.arguments.now) _ c.in_ok-count.count _ c.in_ok-count.ensures.0
     (c.loop-i.invariant.0 ∙ offset-error part (parsed_beginning c.args.has_column) done c.in_ok-count.count c.loop-i.i (map string_bytes c.loop-i.rest.now) _ (outcome_of c.in_ok-part.part) c.in_err-position.field-0.0 c.loop-i-test.true c.in_ok-part.ensures.part
-    c.in_err-position.ensures.position.1)
+    c.in_err-position.ensures.1)
     ∙ ap Err (sym h))
 
 pub read_join-loop-i-preserved : goal.read_join-loop-i-preserved
@@ -141,7 +141,7 @@ read_join-loop-i-preserved t c =
     let new = ap (λ (xs : List (Plan × ℕ × ℕ)). outcomes (at_positions xs)) c.in_ok-push.ensures.items ∙ outcomes-positions-pushed c.loop-i.parts.items p in
     let deep = ap (map (λ (p : Plan × ℕ × ℕ). depth p.0)) c.in_ok-push.ensures.items ∙ map-append (λ (p : Plan × ℕ × ℕ). depth p.0) c.loop-i.parts.items (p ∷ []) in (
       c.loop-i.invariant.0
-          ∙ part-more part (parsed_beginning c.args.has_column) done count c.loop-i.i (map string_bytes c.loop-i.rest.now) _ (map string_bytes c.in_ok-position.left.now) (outcome_of c.in_ok-part.part) c.in_ok-position.position c.loop-i-test.true c.in_ok-part.ensures.part c.in_ok-position.ensures.position.0
+          ∙ part-more part (parsed_beginning c.args.has_column) done count c.loop-i.i (map string_bytes c.loop-i.rest.now) _ (map string_bytes c.in_ok-position.left.now) (outcome_of c.in_ok-part.part) c.in_ok-position.position c.loop-i-test.true c.in_ok-part.ensures.part c.in_ok-position.ensures.0
           ∙ ap (λ xs. left_after part (parsed_beginning c.args.has_column) xs (count - (c.loop-i.i + 1)) (map string_bytes c.in_ok-position.left.now)) (sym new),
       subst (λ ds. deepest ds ≤ c.args.room) (sym deep) (deepest-pushed (map (λ (p : Plan × ℕ × ℕ). depth p.0) c.loop-i.parts.items) (depth c.in_ok-part.part) c.args.room c.loop-i.invariant.1 c.in_ok-part.ensures.depth),
     )
@@ -150,7 +150,7 @@ pub read_join-returns-clause-part : goal.read_join-returns-clause-part
 read_join-returns-clause-part t c =
     let part = parsed_part (map (λ text. text.now) c.args.inputs.now) c.args.room in
     let done = outcomes (at_positions c.loop-i.parts.items) in
-    join-of-parts part (parsed_beginning c.args.has_column) (map string_bytes c.args.arguments.now) _ c.in_ok-count.count _ c.in_ok-count.ensures.number.0
+    join-of-parts part (parsed_beginning c.args.has_column) (map string_bytes c.args.arguments.now) _ c.in_ok-count.count _ c.in_ok-count.ensures.0
     (c.loop-i.invariant.0 ∙ parts-end part (parsed_beginning c.args.has_column) done c.in_ok-count.count c.loop-i.i (map string_bytes c.loop-i.rest.now) (let f = c.loop-i-test.false in omega (arith, f)))
     ∙ ap (λ o. Ok (o, map string_bytes c.loop-i.rest.now)) (sym (outcome_join_at c.loop-i.parts))
 

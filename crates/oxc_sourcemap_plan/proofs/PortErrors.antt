@@ -1,0 +1,110 @@
+-- No fault of a plan's arguments is a failed read or write.
+use Rattle.std.proofs.Common.{◌≡◌, ℕ, zero, suc, Bool, true, false, cond, ◌==◌, List, [], ◌∷◌}
+use Rattle.std.proofs.Common.{refl, codes, bytes_eq, Option, Some, None, Result, Ok, Err}
+use Rattle.std.specs.List.{slice_get}
+use Rattle.std.specs.Result.{IfErr}
+use Rattle.oxc_sourcemap_parts.specs.Record.{Text}
+use Rattle.oxc_sourcemap_tokens.specs.declared.position.Position.{Position}
+use Rattle.oxc_sourcemap_plan.specs.declared.run_error.RunError.{RunError}
+use Rattle.oxc_sourcemap_plan.specs.declared.run_error.RunError.TheVariants.{Plan, Read, Write}
+use Rattle.oxc_sourcemap_plan.specs.declared.run_error.RunError.TheVariants.{Utf8, Arguments}
+use Rattle.oxc_sourcemap_plan.specs.declared.run_error.RunError.TheVariants.{NoText}
+use Rattle.oxc_sourcemap_plan.specs.Numbers.{number_of}
+use Rattle.oxc_sourcemap_plan.specs.Outcome.{Outcome}
+use Rattle.oxc_sourcemap_plan.specs.PlanArguments.{Parsed, then_parsed, number_or_fault}
+use Rattle.oxc_sourcemap_plan.specs.PlanArguments.{parsed_number, read_or_fault, read_of_number}
+use Rattle.oxc_sourcemap_plan.specs.PlanArguments.{parsed_input, with_rest, parsed_beginning}
+use Rattle.oxc_sourcemap_plan.specs.PlanArguments.{parsed_parts, parsed_rewrite, parsed_join}
+use Rattle.oxc_sourcemap_plan.specs.PlanArguments.{parsed_composition, parsed_by, parsed_part}
+use Rattle.oxc_sourcemap_plan.specs.PlanArguments.{whole, parsed_plan}
+
+-- a failed read or write
+abbrev pub is_of_port : RunError → Bool
+is_of_port (Plan error) = false
+is_of_port Read = true
+is_of_port Write = true
+is_of_port Utf8 = false
+is_of_port Arguments = false
+is_of_port (NoText k) = false
+
+-- the error, if there is one, is no failed read or write
+abbrev pub IsNotOfPort : {A : Type 0} → Result A RunError → Type 0
+IsNotOfPort r = IfErr r (λ e. is_of_port e ≡ false)
+
+-- ---- the steps of reading
+after : {A B : Type 0} (r : Parsed A) (next : A → List Text → Parsed B) → IsNotOfPort r → ((a : A) (left : List Text) → IsNotOfPort (next a left)) → IsNotOfPort (then_parsed r next)
+after (Ok read) next h k = k read.0 read.1
+after (Err fault) next h k = h
+
+either : {A : Type 0} (b : Bool) (r s : Result A RunError) → IsNotOfPort r → IsNotOfPort s → IsNotOfPort (cond b r s)
+either true r s h k = h
+either false r s h k = k
+
+number_or : (o : Option ℕ) (arguments : List Text) → IsNotOfPort (number_or_fault o arguments)
+number_or None arguments = refl
+number_or (Some n) arguments = tt
+
+number : (arguments : List Text) → IsNotOfPort (parsed_number arguments)
+number [] = refl
+number (argument ∷ arguments) = number_or (number_of argument) arguments
+
+beginning : (has_column : Bool) (arguments : List Text) → IsNotOfPort (parsed_beginning has_column arguments)
+beginning false arguments = after (parsed_number arguments) _ (number arguments) (λ line left. tt)
+beginning true arguments =
+    after (parsed_number arguments) _ (number arguments) (λ line more. after (parsed_number more) _ (number more) (λ column left. tt))
+
+-- ---- an input
+text_or : (o : Option Text) (k : ℕ) → IsNotOfPort (read_or_fault o k)
+text_or None k = refl
+text_or (Some text) k = tt
+
+text_of : (inputs : List Text) (o : Option ℕ) → IsNotOfPort (read_of_number inputs o)
+text_of inputs None = refl
+text_of inputs (Some k) = text_or (slice_get inputs k) k
+
+input : (inputs : List Text) (argument : Text) → IsNotOfPort (parsed_input inputs argument)
+input inputs [] = refl
+input inputs (byte ∷ digits) = either (byte == 64) _ _ (text_of inputs (number_of digits)) refl
+
+left_over : (r : Result Outcome RunError) (arguments : List Text) → IsNotOfPort r → IsNotOfPort (with_rest r arguments)
+left_over (Ok o) arguments h = tt
+left_over (Err fault) arguments h = h
+
+-- ---- plans, if their parts are read like this
+module _ (part : List Text → Parsed Outcome) (h : (arguments : List Text) → IsNotOfPort (part arguments)) where
+  parts : (has_column : Bool) (n : ℕ) (arguments : List Text) → IsNotOfPort (parsed_parts part (parsed_beginning has_column) n arguments)
+  parts has_column zero arguments = tt
+  parts has_column (suc n) arguments =
+      after (part arguments) _ (h arguments) (λ o more. after (parsed_beginning has_column more) _ (beginning has_column more) (λ place left.
+      after (parsed_parts part (parsed_beginning has_column) n left) _ (parts has_column n left) (λ others rest. tt)))
+
+  join : (has_column : Bool) (arguments : List Text) → IsNotOfPort (parsed_join part (parsed_beginning has_column) arguments)
+  join has_column arguments =
+      after (parsed_number arguments) _ (number arguments) (λ n more. after (parsed_parts part (parsed_beginning has_column) n more) _ (parts has_column n more) (λ os left. tt))
+
+  rewrite : (arguments : List Text) → IsNotOfPort (parsed_rewrite part arguments)
+  rewrite arguments = after (part arguments) _ (h arguments) (λ o left. tt)
+
+  composition : (arguments : List Text) → IsNotOfPort (parsed_composition part arguments)
+  composition arguments = after (part arguments) _ (h arguments) (λ first more. after (part more) _ (h more) (λ second left. tt))
+
+  by_argument : (inputs : List Text) (argument : Text) (rest : List Text) → IsNotOfPort (parsed_by inputs part argument rest)
+  by_argument inputs argument rest =
+      either (bytes_eq argument (codes "rewrite")) _ _ (rewrite rest)
+      (either (bytes_eq argument (codes "join")) _ _ (join false rest)
+      (either (bytes_eq argument (codes "joinat")) _ _ (join true rest)
+      (either (bytes_eq argument (codes "compose")) _ _ (composition rest) (left_over (parsed_input inputs argument) rest (input inputs argument)))))
+
+part : (inputs : List Text) (levels : ℕ) (arguments : List Text) → IsNotOfPort (parsed_part inputs levels arguments)
+part inputs zero [] = refl
+part inputs (suc levels) [] = refl
+part inputs zero (argument ∷ rest) = refl
+part inputs (suc levels) (argument ∷ rest) = by_argument (parsed_part inputs levels) (part inputs levels) inputs argument rest
+
+all : (r : Parsed Outcome) → IsNotOfPort r → IsNotOfPort (whole r)
+all (Err fault) h = h
+all (Ok (o, [])) h = tt
+all (Ok (o, argument ∷ arguments)) h = refl
+
+pub plan_not_of_port : (inputs arguments : List Text) → IsNotOfPort (parsed_plan inputs arguments)
+plan_not_of_port inputs arguments = all (parsed_part inputs 64 arguments) (part inputs 64 arguments)

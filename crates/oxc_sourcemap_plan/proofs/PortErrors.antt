@@ -4,7 +4,6 @@ use Rattle.std.proofs.Common.{refl, codes, bytes_eq, Option, Some, None, Result,
 use Rattle.std.specs.List.{slice_get}
 use Rattle.std.specs.Result.{IfErr}
 use Rattle.oxc_sourcemap_parts.specs.Record.{Text}
-use Rattle.oxc_sourcemap_tokens.specs.declared.position.Position.{Position}
 use Rattle.oxc_sourcemap_plan.specs.declared.run_error.RunError.{RunError}
 use Rattle.oxc_sourcemap_plan.specs.declared.run_error.RunError.TheVariants.{Plan, Read, Write}
 use Rattle.oxc_sourcemap_plan.specs.declared.run_error.RunError.TheVariants.{Utf8, Arguments}

@@ -1,6 +1,7 @@
 -- No error of a command for an input is a failed read or write.
-use Rattle.std.proofs.Common.{◌≡◌, ◌≢◌, ℕ, false, List, refl, ap, ◌∙◌, subst, Option, Some, None}
-use Rattle.std.proofs.Common.{Result, Ok, Err, inl, inr}
+use Rattle.std.proofs.Common.{◌≡◌, ◌≢◌, ℕ, true, false, List, refl, sym, ap, ◌∙◌, subst, Option}
+use Rattle.std.proofs.Common.{Some, None, Result, Ok, Err, inl, inr}
+use Rattle.std.specs.Result.{IsErrOf, IsErrAnd}
 use Rattle.oxc_sourcemap.specs.Error.{Error}
 use Rattle.oxc_sourcemap.specs.PlanError.{PlanError}
 use Rattle.oxc_sourcemap.specs.Token.{TokenRecord}
@@ -64,3 +65,11 @@ not_of_port request input Write h = failure request input Write (h (λ q. cc))
 not_of_port request input Utf8 h = refl
 not_of_port request input Arguments h = refl
 not_of_port request input (NoText k) h = refl
+
+-- an error that `?` hands on and that is no failed read or write is not a given one
+pub not_this_error : {A : Type 0} (r : Result A RunError) (e port : RunError) → IsErrAnd r (λ x. x ≡ e) → is_of_port e ≡ false → is_of_port port ≡ true → IsErrOf r port → ⊥
+not_this_error (Ok x) e port h p q k = cc (k)
+not_this_error (Err x) e port h p q k =
+    let same : x ≡ port = cc (k) in
+    let both : true ≡ false = sym q ∙ ap is_of_port (sym same ∙ h) ∙ p in
+    cc (both)

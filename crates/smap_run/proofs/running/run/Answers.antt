@@ -1,10 +1,11 @@
-use Rattle.std.proofs.Common.{◌≡◌, rules, ◌++◌, ◌∷◌, [], string_bytes, subst, sym, ◌∙◌}
-use Rattle.oxc_sourcemap_plan.specs.declared.run_error.RunError.TheVariants.{Write}
+use Rattle.std.proofs.Common.{◌≡◌, rules, ◌++◌, ◌∷◌, [], string_bytes, subst, sym, ◌∙◌, refl}
+use Rattle.oxc_sourcemap_plan.specs.declared.run_error.RunError.TheVariants.{Read, Write}
 use Rattle.smap_run.specs.Request.{request_of}
 use Rattle.smap_run.specs.Answer.{IsAnswer, FailsWith, AppendsBeginning}
 use Rattle.std.specs.Str.{IsUtf8}
 use Rattle.oxc_sourcemap_plan.proofs.Parts.{from_err}
 use Rattle.smap_run.proofs.PlanAnswers.{some_weaker, of_err}
+use Rattle.smap_run.proofs.PortErrors.{not_of_port, not_this_error}
 use Rattle.smap_run.proofs.running.run.Goals as goal
 
 pub returns-in_err-out-clause-error : goal.returns-in_err-out-clause-error
@@ -12,6 +13,25 @@ returns-in_err-out-clause-error g c =
     let asked = request_of c.args.command.now in
     from_err c.from_residual-in_err-out.result _ _ c.from_residual-in_err-out.ensures.1 (λ e h n r w. some_weaker (g.R.Read.remaining c.args.reader.now.inner) _ _ (λ input same. subst (λ i. FailsWith asked i e) same
     (subst (λ f. FailsWith asked c.in_ok-input.input.items f) (sym h) (c.in_err-out.ensures.error (λ q. n (h ∙ q))))) c.in_ok-input.ensures.bytes)
+
+pub returns-in_err-out-clause-begun : goal.returns-in_err-out-clause-begun
+returns-in_err-out-clause-begun g c = λ w.
+    let fails = not_of_port (request_of c.args.command.now) c.in_ok-input.input.items c.in_err-out.field-0.0 c.in_err-out.ensures.error in
+    absurd (not_this_error c.from_residual-in_err-out.result c.in_err-out.field-0.0 Write c.from_residual-in_err-out.ensures.1 fails refl w)
+
+pub returns-in_err-out-clause-read : goal.returns-in_err-out-clause-read
+returns-in_err-out-clause-read g c = λ f.
+    let fails = not_of_port (request_of c.args.command.now) c.in_ok-input.input.items c.in_err-out.field-0.0 c.in_err-out.ensures.error in (
+      λ r. absurd (not_this_error c.from_residual-in_err-out.result c.in_err-out.field-0.0 Read c.from_residual-in_err-out.ensures.1 fails refl r),
+      λ t. let read = (c.in_ok-input.ensures.flag f).1 t in absurd (cc (read)),
+    )
+
+pub returns-in_err-out-clause-write : goal.returns-in_err-out-clause-write
+returns-in_err-out-clause-write g c = λ f.
+    let fails = not_of_port (request_of c.args.command.now) c.in_ok-input.input.items c.in_err-out.field-0.0 c.in_err-out.ensures.error in (
+      λ w. absurd (not_this_error c.from_residual-in_err-out.result c.in_err-out.field-0.0 Write c.from_residual-in_err-out.ensures.1 fails refl w),
+      λ t. absurd (cc (f, t)),
+    )
 
 pub returns-clause-begun : goal.returns-clause-begun
 returns-clause-begun g c = λ w.

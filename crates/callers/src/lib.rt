@@ -14,8 +14,7 @@ ghost use Rattle.oxc_sourcemap.specs.Words.{IsSeveralSources, read_meaning, outc
 ghost use Rattle.oxc_sourcemap.specs.Words.{composition_outcome, IsEvaluated, OnlyMemory};
 
 use oxc_sourcemap::laws::{
-    canonical_unique, composition_associative, joins_associative, name_ids_unique,
-    tokens_in_bounds,
+    canonical_unique, composition_associative, joins_associative, name_ids_unique, tokens_in_bounds,
 };
 use oxc_sourcemap::{
     ConcatSourceMapBuilder, OwnedSourceMap, Plan, PlanError, Result, SourceMap, SourceMapBuilder,

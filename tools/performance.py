@@ -1,21 +1,25 @@
 #!/usr/bin/env python3
 """Measures the library on the maps that make_maps.py made, and prints the tables of docs/FIGURES.md.
 
-    tools/performance.py [--rounds N] [--beside PROGRAM] [--whole PROGRAM] [--smap PROGRAM] [--only TABLE] [--into FILE] FOLDER
+    tools/performance.py [--rounds N] [--beside PROGRAM].. [--whole PROGRAM].. [--smap PROGRAM] [--only TABLE].. [--into FILE] FOLDER
 
---beside names a program like tools/bench over another library (see tools/bench/bench), --whole one whose commands are `normalise`, and
-`compose` of texts separated by lines `---`, the last step's first. Both sides run in turn, and the best of N rounds counts.
---only prints one of the tables stages, pipelines, processes, growth and builders (of one round, since it takes long).
---into replaces the part of FILE between the lines `<!-- measured -->` and `<!-- end -->`. Needs Debian's package `time`.
+--beside names a program like tools/bench over another library (see tools/bench/bench), --whole one whose commands are
+`normalise`, and `compose` of texts separated by lines `---`, the last step's first. All sides run in turn, and the best of N
+rounds counts. --only prints one of the tables (TABLES below). --into replaces the part of FILE between the lines
+`<!-- measured -->` and `<!-- end -->`. Needs Debian's packages `time` and, for instructions, `valgrind`.
 """
-import argparse, glob, json, os, platform, subprocess, sys, tempfile
+import argparse, glob, json, os, platform, re, subprocess, sys, tempfile
+from concurrent.futures import ThreadPoolExecutor
 from measuring import built, measure
 
 TOP = os.path.dirname(os.path.dirname(os.path.abspath(__file__)))
 MAPS = ["esbuild-lodash", "OpenLayers", "pdf.js", "pdf.worker", "theme.css", "olm_legacy.min", "esbuild-typescript"]
 PIPELINES = ["gen-mapping-5", "three-2", "typescript-2"]
-GOALS = {"parse": 0.75, "serialize": 0.6, "decode": 0.8, "encode": 0.8, "table": 1.0, "lookup": 1.0, "join": 1.0, "compose": 1.0}
-WHOLE_GOAL, PEAK_GOAL = 0.8, 1.1
+GOALS = {"parse": 0.6, "serialize": 0.75, "decode": 0.55, "encode": 0.7, "table": 0.6, "lookup": 1.0, "join": 0.9,
+         "compose": 0.5, "parse_each": 1.2, "join_each": 1.2}
+STAGES = ["parse", "serialize", "decode", "encode", "table", "lookup", "join"]
+COUNTED = ["esbuild-lodash", "pdf.js", "theme.css", "olm_legacy.min"]
+WHOLE_GOAL, PEAK_GOAL = 0.85, 0.8
 GROWTH = [1, 5, 20, 50, 100, 200]
 NAMES = [10_000, 100_000, 1_000_000]
 written = []
@@ -32,39 +36,55 @@ def ratio(ours, theirs, goal):
     return f"**{text}**" if float(text) > goal else text
 
 
-def bench(paths, rounds):
+def bench(paths, *words):
     """The rows that tools/bench/bench prints, by map and stage."""
-    beside = ["--beside", options.beside] if options.beside else []
-    command = [f"{TOP}/tools/bench/bench", "--json", "--rounds", str(rounds), *beside, *paths]
+    beside = [word for program in options.beside for word in ("--beside", program)]
+    command = [f"{TOP}/tools/bench/bench", "--json", *beside, *words, *paths]
     ran = subprocess.run(command, stdout=subprocess.PIPE, check=True)
     rows = map(json.loads, ran.stdout.splitlines())
-    return {(row["map"], row["stage"]): row for row in rows if "ns" in row}
+    return {(row["map"], row["stage"]): row for row in rows}
 
 
 def cell(row):
-    """Nanoseconds of ours, and of the other with the ratio."""
-    ours = f"{row['ns'] / row['items']:.1f}"
-    if "beside" not in row:
-        return ours
-    return f"{ours} / {row['beside'] / row['items']:.1f} = {ratio(row['ns'], row['beside'], GOALS[row['stage']])}"
+    """The figure of ours, and for each other program its own with the ratio."""
+    (ours, *others), items = list(row["best"].values()), row["items"]
+    texts = [f"{ours / items:.1f}"]
+    texts += [f"{other / items:.1f} = {ratio(ours, other, GOALS[row['stage']])}" for other in others]
+    return " / ".join(texts)
 
 
-def stages():
-    names = [stage for stage in GOALS if stage != "compose"]
-    rows = bench([f"{options.folder}/maps/{name}.map" for name in MAPS], options.rounds)
-    write("\n### Stages\n")
-    write(f"| map | tokens | {' | '.join(names)} |\n|---|---:|{'---|' * len(names)}")
-    write(f"| *goal* | | {' | '.join(str(GOALS[name]) for name in names)} |")
-    for name in MAPS:
-        of_map = [rows[f"{name}.map", stage] for stage in names]
+def write_stages(title, maps, words):
+    rows = bench([f"{options.folder}/maps/{name}.map" for name in maps], *words)
+    write(f"\n### {title}\n")
+    write(f"| map | tokens | {' | '.join(STAGES)} |\n|---|---:|{'---|' * len(STAGES)}")
+    write(f"| *goal* | | {' | '.join(str(GOALS[name]) for name in STAGES)} |")
+    for name in maps:
+        of_map = [rows[f"{name}.map", stage] for stage in STAGES]
         write(f"| {name} | {of_map[0]['tokens']} | {' | '.join(map(cell, of_map))} |")
 
 
+def stages():
+    write_stages("Stages", MAPS, ["--rounds", str(options.rounds)])
+
+
+def instructions():
+    write_stages("Instructions", COUNTED, ["--count"])
+
+
 def pipelines():
-    rows = bench([f"{options.folder}/pipelines/{name}" for name in PIPELINES], options.rounds)
+    rows = bench([f"{options.folder}/pipelines/{name}" for name in PIPELINES], "--rounds", str(options.rounds))
     write(f"\n### Composition\n\n| pipeline | tokens | compose |\n|---|---:|---|\n| *goal* | | {GOALS['compose']} |")
     for name in PIPELINES:
         write(f"| {name} | {rows[name, 'compose']['tokens']} | {cell(rows[name, 'compose'])} |")
+
+
+def small():
+    """Reading and joining the maps of many modules, for each module; and what these cost for one map of one token."""
+    rows = bench([f"{options.folder}/modules"], "--rounds", str(options.rounds))
+    modules = rows["modules", "parse_each"]
+    write("\n### Modules\n")
+    write(f"| modules | tokens of each | parse | join |\n|---:|---:|---|---|\n| *goal* | | {GOALS['parse_each']} | {GOALS['join_each']} |")
+    write(f"| {modules['items']} | {modules['tokens'] / modules['items']:.0f} | {cell(modules)} | {cell(rows['modules', 'join_each'])} |")
 
 
 def in_turn(sides, text):
@@ -80,21 +100,36 @@ def in_turn(sides, text):
     return best
 
 
-def processes(title, inputs):
-    """A row for each whole process: name, words of smap, words of the other program, input."""
+def instructions_of(command, text):
+    """The instructions of a whole process, in millions."""
+    words = ["valgrind", "--tool=callgrind", "--callgrind-out-file=/dev/null", *map(str, command)]
+    ran = subprocess.run(words, input=text, stdout=subprocess.DEVNULL, stderr=subprocess.PIPE, check=True)
+    return int(re.search(rb"Collected : (\d+)", ran.stderr)[1]) / 1e6
+
+
+def compared(figures, goal, form):
+    """A figure of ours, and of each other program with the ratio."""
+    ours, *others = figures
+    return " / ".join([form.format(ours), *(f"{form.format(other)} = {ratio(ours, other, goal)}" for other in others)])
+
+
+def processes(title, inputs, is_counted=True):
+    """A row for each whole process: name, words of smap, words of the other programs, input."""
     write(f"\n### {title}\n")
-    write("| input | MB | ms | ms / MB | peak MB | peak / input | other: ms | ratio | other: peak MB | ratio | output |")
-    write("|---|---:|---:|---:|---:|---:|---:|---|---:|---|---|")
-    write(f"| *goal* | | | | | | | {WHOLE_GOAL} | | {PEAK_GOAL} | |")
+    write("| input | MB | ms | ms / MB | peak MB | peak / input | million instructions | output |\n|---|---:|---|---:|---|---:|---|---|")
+    write(f"| *goal* | | {WHOLE_GOAL} | | {PEAK_GOAL} | | | |")
     for name, words, other, text in inputs:
-        sides = {"ours": [options.smap, *words], **({"whole": [options.whole, *other]} if options.whole else {})}
-        best = in_turn(sides, text)
-        (seconds, peak, output), size = best["ours"], len(text) / 1e6
-        cells = [f"{size:.1f}", f"{seconds * 1e3:.0f}", f"{seconds * 1e3 / size:.1f}", f"{peak / 1e6:.1f}", f"{peak / len(text):.1f}"]
-        if "whole" in best:
-            their_seconds, their_peak, their_output = best["whole"]
-            cells += [f"{their_seconds * 1e3:.0f}", ratio(seconds, their_seconds, WHOLE_GOAL), f"{their_peak / 1e6:.1f}",
-                      ratio(peak, their_peak, PEAK_GOAL), "same bytes" if output == their_output else "differs"]
+        sides = {"ours": [options.smap, *words], **{program: [program, *other] for program in options.whole}}
+        best, size = in_turn(sides, text), len(text) / 1e6
+        seconds, peaks, outputs = ([best[side][k] for side in sides] for k in range(3))
+        counts = [""]
+        if is_counted:
+            with ThreadPoolExecutor(os.cpu_count()) as pool:
+                counts = list(pool.map(lambda side: instructions_of(sides[side], text), sides))
+        same = "" if len(outputs) == 1 else "same bytes" if len(set(outputs)) == 1 else "differs"
+        cells = [f"{size:.1f}", compared([it * 1e3 for it in seconds], WHOLE_GOAL, "{:.1f}"), f"{seconds[0] * 1e3 / size:.1f}",
+                 compared([it / 1e6 for it in peaks], PEAK_GOAL, "{:.1f}"), f"{peaks[0] / len(text):.1f}",
+                 compared(counts, WHOLE_GOAL, "{:.0f}") if is_counted else "", same]
         write(f"| {name} | {' | '.join(cells)} |")
 
 
@@ -125,15 +160,14 @@ def grown_maps():
 
 def builders():
     write("\n### Names added to a builder\n")
-    write("| names | ns for each | other: ns | ratio |\n|---:|---:|---:|---|")
+    write("| names | ns for each |\n|---:|---:|")
     with tempfile.TemporaryDirectory() as folder:
         for count in NAMES:
             path = f"{folder}/{count}.map"
             value = {"version": 3, "sources": [], "names": [f"name{k}" for k in range(count)], "mappings": ""}
             json.dump(value, open(path, "w"), separators=(",", ":"))
-            row = bench([path], 1)[f"{count}.map", "build"]
-            beside = f"{row['beside'] / count:.1f} | {ratio(row['ns'], row['beside'], 1)}" if "beside" in row else "|"
-            write(f"| {count} | {row['ns'] / count:.1f} | {beside} |")
+            row = bench([path], "--rounds", "1")[f"{count}.map", "build"]
+            write(f"| {count} | {list(row['best'].values())[0] / count:.1f} |")
 
 
 def machine():
@@ -141,29 +175,32 @@ def machine():
     return f"{model[0]}, {os.cpu_count()} processors, {platform.system()} {platform.release().split('-')[0]}"
 
 
+TABLES = {
+    "stages": stages,
+    "instructions": instructions,
+    "pipelines": pipelines,
+    "small": small,
+    "processes": lambda: processes("Whole processes", [*single_maps(), *composed_maps()]),
+    "growth": lambda: processes("Growth", grown_maps(), is_counted=False),
+    "builders": builders,
+}
+
+
 def main():
     global options
     parser = argparse.ArgumentParser(description=__doc__, formatter_class=argparse.RawDescriptionHelpFormatter)
     parser.add_argument("--rounds", type=int, default=5)
-    parser.add_argument("--beside")
-    parser.add_argument("--whole")
+    parser.add_argument("--beside", action="append", default=[])
+    parser.add_argument("--whole", action="append", default=[])
     parser.add_argument("--smap")
     parser.add_argument("--into")
-    parser.add_argument("--only")
+    parser.add_argument("--only", action="append", choices=TABLES)
     parser.add_argument("folder")
     options = parser.parse_args()
     options.smap = options.smap or built(TOP)
     write(f"{machine()}; best of {options.rounds} rounds.")
-    tables = {
-        "stages": stages,
-        "pipelines": pipelines,
-        "processes": lambda: processes("Whole processes", [*single_maps(), *composed_maps()]),
-        "growth": lambda: processes("Growth", grown_maps()),
-        "builders": builders,
-    }
-    for name, table in tables.items():
-        if options.only in (None, name):
-            table()
+    for name in options.only or TABLES:
+        TABLES[name]()
     if options.into:
         text = open(options.into).read()
         head, rest = text.split("<!-- measured -->\n")

@@ -1,7 +1,9 @@
-//! Times the calls of `oxc_sourcemap` on the source map that standard input has as JSON text, or on the composition of
-//! several, separated by lines `---`, the first nearest to the sources. Prints a line of JSON for each stage: its name, the
-//! nanoseconds of the best run, and the number of tokens of the map (of the last one, for a composition). Without input it
-//! prints nothing. `tools/bench/bench` runs it over files.
+//! Times the calls of `oxc_sourcemap` on the source map that standard input has as JSON text, on the composition of several,
+//! separated by lines `---`, the first nearest to the sources, or on the maps of modules, separated by lines `+++`. Prints a
+//! line of JSON for each stage: its name, the nanoseconds of the best run, and the number of tokens of the map (of the last
+//! one, for a composition; of all, for modules). Without input it prints nothing. `tools/bench/bench` runs it over files.
+//!
+//! Arguments STAGE RUNS run that stage alone, so many times, for who counts instructions.
 #![tactic(auto)]
 
 mod fault;
@@ -9,19 +11,32 @@ mod stages;
 mod timing;
 
 use crate::fault::Fault;
+use crate::timing::Asked;
+use std::env;
 use std::io::Read;
 use std::process::ExitCode;
 
+/// The stage and the number of runs that the arguments ask for: without any, each stage, as often as time allows.
+fn asked(rt: &HostRuntime) -> Result<Asked, Fault> {
+    let mut arguments = env::args(rt)?.skip(1);
+    let stage = arguments.next();
+    let runs = arguments.next().and_then(|runs| runs.as_str().parse().ok());
+    Ok(Asked { stage, runs })
+}
+
 fn bench(rt: &HostRuntime) -> Result<(), Fault> {
+    let asked = asked(rt)?;
     let mut input = String::new(rt.alloc());
     rt.stdin().read_to_string(&mut input)?;
     let text = input.as_str();
     if text.is_empty() {
         Ok(())
-    } else if text.contains(stages::SEPARATOR) {
-        stages::time_pipeline(rt, text)
+    } else if text.contains(stages::STEP) {
+        stages::time_pipeline(rt, &asked, text)
+    } else if text.contains(stages::MODULE) {
+        stages::time_modules(rt, &asked, text)
     } else {
-        stages::time_map(rt, text)
+        stages::time_map(rt, &asked, text)
     }
 }
 

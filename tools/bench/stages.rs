@@ -1,15 +1,21 @@
 //! The stages that are timed.
 
 use super::fault::Fault;
-use super::timing::{Run, best};
+use super::timing::{Asked, Run, best};
 use oxc_sourcemap::{
     ConcatSourceMapBuilder, JSONSourceMap, Result as MapResult, SourceMap, SourceMapBuilder, Token,
 };
 use std::alloc::Global;
 use std::time::Instant;
 
-/// What stands between two maps of an input.
-pub(crate) const SEPARATOR: &str = "\n---\n";
+/// What stands between the maps of two steps of a pipeline.
+pub(crate) const STEP: &str = "\n---\n";
+
+/// What stands between the maps of two modules.
+pub(crate) const MODULE: &str = "\n+++\n";
+
+/// How many lines below the one before it a module begins.
+const LINES: u32 = 100;
 
 const LOOKUPS: u32 = 100_000;
 
@@ -43,6 +49,8 @@ impl XorShift {
 pub(crate) enum Stage<'s, 'd> {
     /// Reads a JSON text.
     Parse(&'s str),
+    /// Reads JSON texts.
+    ParseEach(&'s [&'s str]),
     /// Writes a map as JSON text.
     Serialize(&'s SourceMap<'d>),
     /// Makes the lookup table.
@@ -64,6 +72,7 @@ impl Stage<'_, '_> {
     pub(crate) fn run(&self, rt: &HostRuntime) -> Result<Run, Fault> {
         match *self {
             Stage::Parse(text) => parse(rt, text),
+            Stage::ParseEach(texts) => parse_each(rt, texts),
             Stage::Serialize(map) => serialize(rt, map),
             Stage::Table(map) => table(rt, map),
             Stage::Decode(mappings, names, sources) => decode(rt, mappings, names, sources),
@@ -75,9 +84,18 @@ impl Stage<'_, '_> {
     }
 }
 
-/// Times a stage, and prints its line.
-fn time(rt: &HostRuntime, name: &str, stage: Stage<'_, '_>, tokens: usize) -> Result<(), Fault> {
-    let timed = best(rt, &stage)?;
+/// Times a stage, if it is asked for, and prints its line.
+fn time(
+    rt: &HostRuntime,
+    asked: &Asked,
+    name: &str,
+    stage: Stage<'_, '_>,
+    tokens: usize,
+) -> Result<(), Fault> {
+    if !asked.has(name) {
+        return Ok(());
+    }
+    let timed = best(rt, &stage, asked.runs)?;
     let nanoseconds = timed.best.as_nanos();
     let made = timed.made;
     println!(rt;
@@ -90,6 +108,12 @@ fn parse(rt: &HostRuntime, text: &str) -> Result<Run, Fault> {
     let start = Instant::now(rt)?;
     let map = SourceMap::from_json_string(rt.alloc(), text)?;
     Run::ended(rt, start, map.get_tokens().len())
+}
+
+fn parse_each(rt: &HostRuntime, texts: &[&str]) -> Result<Run, Fault> {
+    let start = Instant::now(rt)?;
+    let maps = read_maps(rt.alloc(), texts)?;
+    Run::ended(rt, start, maps.len())
 }
 
 fn serialize(rt: &HostRuntime, map: &SourceMap<'_>) -> Result<Run, Fault> {
@@ -221,9 +245,18 @@ fn join(rt: &HostRuntime, copies: &[(&SourceMap<'_>, u32)]) -> Result<Run, Fault
     Run::ended(rt, start, map.get_tokens().len())
 }
 
-fn read_maps(alloc: Global, text: &str) -> MapResult<Vec<SourceMap<'static>>> {
-    let mut maps = Vec::new(alloc);
-    for text in text.split(SEPARATOR) {
+/// The texts that stand between separators.
+fn split<'t>(alloc: Global, text: &'t str, separator: &str) -> MapResult<Vec<&'t str>> {
+    let mut texts = Vec::new(alloc);
+    for text in text.split(separator) {
+        texts.push(text)?;
+    }
+    Ok(texts)
+}
+
+fn read_maps(alloc: Global, texts: &[&str]) -> MapResult<Vec<SourceMap<'static>>> {
+    let mut maps = Vec::with_capacity(alloc, texts.len())?;
+    for text in texts {
         maps.push(SourceMap::from_json_string(alloc, text)?)?;
     }
     Ok(maps)
@@ -293,59 +326,99 @@ fn decoding(json: &JSONSourceMap) -> Stage<'_, 'static> {
     Stage::Decode(json.mappings.as_str(), json.names.len(), json.sources.len())
 }
 
-fn time_decode(rt: &HostRuntime, map: &SourceMap<'_>) -> Result<(), Fault> {
+fn time_decode(rt: &HostRuntime, asked: &Asked, map: &SourceMap<'_>) -> Result<(), Fault> {
     let json = map.to_json(rt.alloc())?;
-    time(rt, "decode", decoding(&json), map.get_tokens().len())
+    let tokens = map.get_tokens().len();
+    time(rt, asked, "decode", decoding(&json), tokens)
 }
 
-fn time_encode(rt: &HostRuntime, map: &SourceMap<'_>) -> Result<(), Fault> {
+fn time_encode(rt: &HostRuntime, asked: &Asked, map: &SourceMap<'_>) -> Result<(), Fault> {
     let bare = bare_map(rt.alloc(), map)?;
-    time(
-        rt,
-        "encode",
-        Stage::Serialize(&bare),
-        map.get_tokens().len(),
-    )
+    let tokens = map.get_tokens().len();
+    time(rt, asked, "encode", Stage::Serialize(&bare), tokens)
 }
 
-fn time_lookup(rt: &HostRuntime, map: &SourceMap<'_>, table: &[&[Token]]) -> Result<(), Fault> {
+fn time_lookup(
+    rt: &HostRuntime,
+    asked: &Asked,
+    map: &SourceMap<'_>,
+    table: &[&[Token]],
+) -> Result<(), Fault> {
     let lines = u32::try_from(table.len()).unwrap_or(u32::MAX);
     let positions = some_positions(rt.alloc(), lines)?;
     let stage = Stage::Lookup(map, table, positions.as_slice());
-    time(rt, "lookup", stage, map.get_tokens().len())
+    time(rt, asked, "lookup", stage, map.get_tokens().len())
 }
 
 /// Times the join of copies of a map of so many lines, one below the other.
-fn time_join(rt: &HostRuntime, map: &SourceMap<'_>, lines: usize) -> Result<(), Fault> {
+fn time_join(
+    rt: &HostRuntime,
+    asked: &Asked,
+    map: &SourceMap<'_>,
+    lines: usize,
+) -> Result<(), Fault> {
     let lines = u32::try_from(lines).unwrap_or(u32::MAX);
     let copies = copies_below(rt.alloc(), map, lines)?;
     let stage = Stage::Join(copies.as_slice());
-    time(rt, "join", stage, map.get_tokens().len())
+    time(rt, asked, "join", stage, map.get_tokens().len())
 }
 
 /// Times the stages that need the lookup table.
-fn time_lookups(rt: &HostRuntime, map: &SourceMap<'_>) -> Result<(), Fault> {
+fn time_lookups(rt: &HostRuntime, asked: &Asked, map: &SourceMap<'_>) -> Result<(), Fault> {
     let table = map.generate_lookup_table(rt.alloc())?;
-    time_lookup(rt, map, table.as_slice())?;
-    time_join(rt, map, table.len())
+    time_lookup(rt, asked, map, table.as_slice())?;
+    time_join(rt, asked, map, table.len())
 }
 
 /// Times each stage on the map that a text reads as.
-fn time_stages(rt: &HostRuntime, text: &str, map: &SourceMap<'_>) -> Result<(), Fault> {
+fn time_stages(
+    rt: &HostRuntime,
+    asked: &Asked,
+    text: &str,
+    map: &SourceMap<'_>,
+) -> Result<(), Fault> {
     let tokens = map.get_tokens().len();
-    time(rt, "parse", Stage::Parse(text), tokens)?;
-    time(rt, "serialize", Stage::Serialize(map), tokens)?;
-    time(rt, "table", Stage::Table(map), tokens)?;
-    time_decode(rt, map)?;
-    time_encode(rt, map)?;
-    time(rt, "build", Stage::Build(map), tokens)?;
-    time_lookups(rt, map)
+    time(rt, asked, "parse", Stage::Parse(text), tokens)?;
+    time(rt, asked, "serialize", Stage::Serialize(map), tokens)?;
+    time(rt, asked, "table", Stage::Table(map), tokens)?;
+    time_decode(rt, asked, map)?;
+    time_encode(rt, asked, map)?;
+    time(rt, asked, "build", Stage::Build(map), tokens)?;
+    time_lookups(rt, asked, map)
 }
 
 /// Times each stage on one map.
-pub(crate) fn time_map(rt: &HostRuntime, text: &str) -> Result<(), Fault> {
+pub(crate) fn time_map(rt: &HostRuntime, asked: &Asked, text: &str) -> Result<(), Fault> {
     let map = SourceMap::from_json_string(rt.alloc(), text)?;
-    time_stages(rt, text, &map)
+    time_stages(rt, asked, text, &map)
+}
+
+/// The maps of modules, each with the line where its code begins.
+fn modules_below<'m>(
+    alloc: Global,
+    maps: &'m [SourceMap<'static>],
+) -> MapResult<Vec<(&'m SourceMap<'static>, u32)>> {
+    let mut modules = Vec::with_capacity(alloc, maps.len())?;
+    let mut line: u32 = 0;
+    for map in maps {
+        modules.push((map, line))?;
+        line = line.wrapping_add(LINES);
+    }
+    Ok(modules)
+}
+
+/// Times the reading of the maps of modules, and their join.
+pub(crate) fn time_modules(rt: &HostRuntime, asked: &Asked, text: &str) -> Result<(), Fault> {
+    let texts = split(rt.alloc(), text, MODULE)?;
+    let texts = texts.as_slice();
+    let maps = read_maps(rt.alloc(), texts)?;
+    let mut tokens: usize = 0;
+    for map in &maps {
+        tokens = tokens.wrapping_add(map.get_tokens().len());
+    }
+    let modules = modules_below(rt.alloc(), maps.as_slice())?;
+    time(rt, asked, "parse_each", Stage::ParseEach(texts), tokens)?;
+    time(rt, asked, "join_each", Stage::Join(modules.as_slice()), tokens)
 }
 
 fn token_count(map: Option<&SourceMap<'_>>) -> usize {
@@ -356,13 +429,10 @@ fn token_count(map: Option<&SourceMap<'_>>) -> usize {
 }
 
 /// Times the composition of several maps.
-pub(crate) fn time_pipeline(rt: &HostRuntime, text: &str) -> Result<(), Fault> {
-    let maps = read_maps(rt.alloc(), text)?;
+pub(crate) fn time_pipeline(rt: &HostRuntime, asked: &Asked, text: &str) -> Result<(), Fault> {
+    let texts = split(rt.alloc(), text, STEP)?;
+    let maps = read_maps(rt.alloc(), texts.as_slice())?;
     let maps = maps.as_slice();
-    time(
-        rt,
-        "compose",
-        Stage::Compose(maps),
-        token_count(maps.last()),
-    )
+    let tokens = token_count(maps.last());
+    time(rt, asked, "compose", Stage::Compose(maps), tokens)
 }

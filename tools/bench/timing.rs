@@ -35,15 +35,36 @@ pub(crate) struct Timed {
     pub(crate) made: u64,
 }
 
-/// Times up to `MOST_RUNS` runs of a stage.
-pub(crate) fn best(rt: &HostRuntime, stage: &Stage<'_, '_>) -> Result<Timed, Fault> {
+/// The stage that is run, each if none, and how often, as time allows if that is none.
+#[derive(Drop)]
+pub(crate) struct Asked {
+    pub(crate) stage: Option<String>,
+    pub(crate) runs: Option<u32>,
+}
+
+impl Asked {
+    pub(crate) fn has(&self, name: &str) -> bool {
+        match &self.stage {
+            Some(stage) => stage.as_str() == name,
+            None => true,
+        }
+    }
+}
+
+/// Times the runs of a stage: as many as are asked for, or up to `MOST_RUNS`.
+pub(crate) fn best(
+    rt: &HostRuntime,
+    stage: &Stage<'_, '_>,
+    runs: Option<u32>,
+) -> Result<Timed, Fault> {
     let begin = Instant::now(rt)?;
     let mut timed = Timed {
         best: Duration::MAX,
         made: 0,
     };
-    for done in 0..MOST_RUNS {
-        if done >= LEAST_RUNS && begin.elapsed(rt)?.as_secs() >= BUDGET_SECONDS {
+    let least = runs.unwrap_or(LEAST_RUNS);
+    for done in 0..runs.unwrap_or(MOST_RUNS) {
+        if done >= least && begin.elapsed(rt)?.as_secs() >= BUDGET_SECONDS {
             break;
         }
         let run = stage.run(rt)?;

@@ -4,11 +4,16 @@ mod stages;
 mod timing;
 
 use self::fault::Fault;
+use self::timing::Asked;
+
+/// All stages are asked for, each once.
+const EACH: Asked = Asked { stage: None, runs: Some(1) };
 
 #[test]
 fn the_stages_of_a_map_are_timed(rt: HostRuntime) -> Result<(), Fault> {
     stages::time_map(
         &rt,
+        &EACH,
         r#"{"version":3,"sources":["a.js"],"names":["x"],"mappings":"AAAA,GAAIA"}"#,
     )
 }
@@ -17,6 +22,16 @@ fn the_stages_of_a_map_are_timed(rt: HostRuntime) -> Result<(), Fault> {
 fn a_composition_is_timed(rt: HostRuntime) -> Result<(), Fault> {
     stages::time_pipeline(
         &rt,
+        &EACH,
         "{\"version\":3,\"names\":[],\"sources\":[\"o.ts\"],\"mappings\":\"AACA\"}\n---\n{\"version\":3,\"names\":[],\"sources\":[\"m.js\"],\"mappings\":\"AAAA\"}",
+    )
+}
+
+#[test]
+fn modules_are_timed(rt: HostRuntime) -> Result<(), Fault> {
+    stages::time_modules(
+        &rt,
+        &EACH,
+        "{\"version\":3,\"sources\":[\"a.js\"],\"mappings\":\"AAAA\"}\n+++\n{\"version\":3,\"sources\":[\"b.js\"],\"mappings\":\"AACA\"}",
     )
 }

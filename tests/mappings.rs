@@ -2,6 +2,7 @@
 mod long;
 mod numbers;
 pub mod pieces;
+mod random;
 
 use crate::helpers::same;
 use crate::rows::{Row, chunks_of, tokens_of};

@@ -81,7 +81,7 @@ fn each_field_has_numbers_of_each_length(rt: HostRuntime) -> Result<()> {
 const LETTERS: &[u8; 64] = b"ABCDEFGHIJKLMNOPQRSTUVWXYZabcdefghijklmnopqrstuvwxyz0123456789+/";
 
 /// Adds the text of a number, which is given doubled, and one more where it is negative.
-fn push_number(text: &mut String, raw: usize) -> std::result::Result<(), AllocError> {
+pub fn push_number(text: &mut String, raw: usize) -> std::result::Result<(), AllocError> {
     let mut rest = raw;
     while rest > 31 {
         text.push(char::from(LETTERS[rest % 32 + 32]))?;

@@ -7,6 +7,7 @@ pub mod Room
 pub mod Vlq
 pub mod Letters
 pub mod Placing
+pub mod Entries
 pub mod Writing
 pub mod Length
 pub mod Pieces

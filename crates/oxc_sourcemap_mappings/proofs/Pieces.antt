@@ -1,12 +1,14 @@
 -- Chunks and lists that are written.
 use Rattle.std.proofs.Common.{◌≡◌, ℕ, ◌-◌, ◌≤◌, Bool, true, false, cond, ◌&&◌, ◌==◌, List, [], ◌∷◌}
 use Rattle.std.proofs.Common.{◌++◌, length, take, drop, arith, refl, sym, ap, ◌∙◌, append_assoc}
+use Rattle.std.proofs.Common.{subst, ◌+◌}
 use Rattle.std.proofs.Common.{nat_lt, nat_le, Option, Some, None, Result, Ok, Err, OnOk}
-use Rattle.std.specs.List.{flat_map, AllByRecursion}
+use Rattle.std.specs.List.{flat_map}
 use Rattle.std.specs.Option.{option_map}
-use Rattle.std.proofs.lemmas.Bool.{leb-true, le-leb}
+use Rattle.std.proofs.lemmas.Bool.{le-leb}
 use Rattle.std.proofs.lemmas.Bool.Decides.{nat_tests}
 use Rattle.std.proofs.lemmas.List.{append-nil, take_all, drop_all, length-take, length-drop}
+use Rattle.std.proofs.lemmas.List.Elements.{All-append}
 use Rattle.oxc_sourcemap_tokens.specs.declared.error.Error.{Error}
 use Rattle.oxc_sourcemap_tokens.specs.declared.error.Error.TheVariants.{LineOrder, BadChunks}
 use Rattle.oxc_sourcemap_tokens.specs.declared.token.TokenChunk.{TokenChunk}
@@ -15,16 +17,16 @@ use Rattle.oxc_sourcemap_mappings.specs.Faults.{◌orelse◌}
 use Rattle.oxc_sourcemap_tokens.specs.State.{State, initial, state_after}
 use Rattle.oxc_sourcemap_mappings.specs.Canonical.{token_text, canonical, has_none_before}
 use Rattle.oxc_sourcemap_tokens.specs.LineOrder.{first_out_of_order, back_from}
-use Rattle.oxc_sourcemap_tokens.specs.Chunks.{header, chunk_tokens, ChunkFits, ChunksFitFrom}
-use Rattle.oxc_sourcemap_tokens.specs.Chunks.{ChunksFit, first_misfit, chunk_from}
+use Rattle.oxc_sourcemap_tokens.specs.Chunks.{header, chunk_tokens, ChunksFitFrom}
+use Rattle.oxc_sourcemap_tokens.specs.Chunks.{ChunksFit, chunk_from}
 use Rattle.oxc_sourcemap_mappings.specs.Pieces.{piece, piece_after, piece_fault, writing_fault}
 use Rattle.oxc_sourcemap_tokens.specs.Steps.{advanced, advanced_all}
-use Rattle.oxc_sourcemap_mappings.specs.Encoding.{text_from}
-use Rattle.oxc_sourcemap_tokens.proofs.InOrder.{back_from-all}
+use Rattle.oxc_sourcemap_mappings.specs.Encoding.{text_from, AreWritten}
+use Rattle.oxc_sourcemap_tokens.proofs.InOrder.{back_from-all, in_order}
 use Rattle.oxc_sourcemap_mappings.proofs.Writing.{canonical-is}
 use Rattle.oxc_sourcemap_tokens.proofs.Fits.{advanced_all-append, state_at-is, take-split}
-use Rattle.oxc_sourcemap_tokens.proofs.Fits.{drop-split, back-shift, andb, first_misfit_from-none}
-use Rattle.oxc_sourcemap_tokens.proofs.Fits.{chunk-in-order, whole-fits}
+use Rattle.oxc_sourcemap_tokens.proofs.Fits.{drop-split, back-shift, first_misfit-none, further}
+use Rattle.oxc_sourcemap_tokens.proofs.Fits.{whole-fits}
 
 and-true : (b : Bool) → (b && true) ≡ b
 and-true true = refl
@@ -88,14 +90,6 @@ clear-front (Some i) f later more e = cc
 pub writing-order : (ts : List TokenRecord) (chunks : Option (List TokenChunk)) → writing_fault ts chunks ≡ None → first_out_of_order ts ≡ None
 writing-order ts chunks e = clear-front (first_out_of_order ts) (λ i. LineOrder i) _ _ e
 
-pub fitting-is-written : (ts : List TokenRecord) (i : ℕ) (c : TokenChunk) → first_out_of_order ts ≡ None → ChunkFits ts i c → piece_fault ts c ≡ None
-fitting-is-written ts i c h f =
-    rw (le-leb _ _ f.ordered, le-leb _ _ f.within, chunk-in-order ts i c h f)
-
-pub fitting-are-written : (ts : List TokenRecord) (i : ℕ) (cs : List TokenChunk) → first_out_of_order ts ≡ None → ChunksFitFrom ts i cs → AllByRecursion (λ c. piece_fault ts c ≡ None) cs
-fitting-are-written ts i [] h f = tt
-fitting-are-written ts i (c ∷ cs) h f = (fitting-is-written ts i c h f.0, fitting-are-written ts c.end cs h f.1)
-
 fault-none : (b : Bool) (o : Option ℕ) → cond b (option_map (λ i. LineOrder i) o) (Some (BadChunks 0)) ≡ None → (b ≡ true) × (o ≡ None)
 fault-none true None e = (refl, refl)
 fault-none true (Some i) e = cc
@@ -105,35 +99,46 @@ fault-none false o e = cc
 pub written-in-order : (ts : List TokenRecord) (c : TokenChunk) → piece_fault ts c ≡ None → back_from c.prev_dst_line 0 (chunk_tokens ts c) ≡ None
 written-in-order ts c e = back-shift c.prev_dst_line c.start 0 (chunk_tokens ts c) (fault-none _ _ e).1
 
-pub written-in-range : (ts : List TokenRecord) (c : TokenChunk) → piece_fault ts c ≡ None → (c.start ≤ c.end) × (c.end ≤ length ts)
-written-in-range ts c e =
-    let p = andb (nat_le c.start c.end) (nat_le c.end (length ts)) (fault-none _ _ e).0 in
-    (leb-true _ _ p.0, leb-true _ _ p.1)
+-- a chunk of tokens that do not go back
+pub piece-clean : (ts : List TokenRecord) (c : TokenChunk) → (nat_le c.start c.end && nat_le c.end (length ts)) ≡ true → back_from c.prev_dst_line 0 (chunk_tokens ts c) ≡ None → piece_fault ts c ≡ None
+piece-clean ts c p e = rw (p, back-shift c.prev_dst_line 0 c.start (chunk_tokens ts c) e) refl
 
-orelse-none : (a b : Option Error) → (a orelse b) ≡ None → (a ≡ None) × (b ≡ None)
-orelse-none None b e = (refl, e)
-orelse-none (Some x) b e = cc
+back_from-join : (line i j : ℕ) (xs ys : List TokenRecord) (s : State) → s.dst_line ≡ line → back_from line i xs ≡ None → back_from (advanced_all s xs).dst_line j ys ≡ None → back_from line i (xs ++ ys) ≡ None
+back_from-join line i j [] ys s e h k = rw (← e) (back-shift s.dst_line j i ys k)
+back_from-join line i j (x ∷ xs) ys s e h k =
+    let q = in_order (nat_lt x.dst_line line) i _ h in
+    rw q.0 (back_from-join x.dst_line (i + 1) j xs ys (advanced s x) refl q.1 k)
+
+-- the tokens from this index on are in order
+abbrev AreClean : List TokenRecord → ℕ → Type 0
+AreClean ts i = back_from (advanced_all initial (take i ts)).dst_line 0 (drop i ts) ≡ None
+
+clean-from : (ts : List TokenRecord) (end : ℕ) (cs : List TokenChunk) → ChunksFitFrom ts end cs → AreWritten ts cs → AreClean ts end
+clean-from ts end [] h w = rw (drop_all end ts (omega (arith, h))) refl
+clean-from ts end (c ∷ cs) h w =
+    let f = h.0 in
+    let xs = chunk_tokens ts c in
+    let before = advanced_all initial (take c.start ts) in
+    let head : header c ≡ before = f.true_header ∙ state_at-is ts c.start in
+    let rest = clean-from ts c.end cs h.1 w.1 in
+    let whole : xs ++ drop c.end ts ≡ drop c.start ts = sym (drop-split c.start c.end ts f.ordered) in
+    let here : back_from before.dst_line 0 xs ≡ None = ap (λ s. back_from s.dst_line 0 xs) (sym head) ∙ written-in-order ts c w.0 in
+    let next : back_from (advanced_all before xs).dst_line 0 (drop c.end ts) ≡ None =
+    ap (λ s. back_from s.dst_line 0 (drop c.end ts)) (further ts before c.start c.start c.end refl f.ordered refl) ∙ rest in
+    let order : back_from before.dst_line 0 (drop c.start ts) ≡ None = ap (back_from before.dst_line 0) (sym whole) ∙ back_from-join before.dst_line 0 0 xs (drop c.end ts) before refl here next in
+    subst (AreClean ts) f.starts order
+
+-- tokens whose chunks fit and are written one by one
+module _ (ts : List TokenRecord) (cs : List TokenChunk) (fit : ChunksFit ts cs) (w : AreWritten ts cs) where
+  pub chunks-clean : length ts ≤ 4294967295 → writing_fault ts (Some cs) ≡ None
+  chunks-clean h =
+      let order : first_out_of_order ts ≡ None = sym (back_from-all ts) ∙ clean-from ts 0 cs fit w in
+      let small : nat_lt 4294967295 (length ts) ≡ false = grind (arith, nat_tests) in
+      rw (order, first_misfit-none ts cs fit, small) refl
 
 orelse-left : (a : Option Error) → ((a orelse None) orelse None) ≡ a
 orelse-left None = refl
 orelse-left (Some x) = refl
-
-no-misfit : (o : Option ℕ) → option_map (λ k. BadChunks k) o ≡ None → o ≡ None
-no-misfit None e = refl
-no-misfit (Some k) e = cc
-
--- tokens that are written in chunks
-pub writing-fits : (ts : List TokenRecord) (cs : List TokenChunk) → writing_fault ts (Some cs) ≡ None → ChunksFit ts cs
-writing-fits ts cs e =
-    let front = option_map (λ i. LineOrder i) (first_out_of_order ts) orelse option_map (λ k. BadChunks k) (first_misfit ts cs) in
-    let before : front ≡ None = (orelse-none front _ e).0 in
-    first_misfit_from-none ts 0 0 cs (no-misfit (first_misfit ts cs) (orelse-none (option_map (λ i. LineOrder i) (first_out_of_order ts)) _ before).1)
-
-pub all-written : (ts : List TokenRecord) (cs : List TokenChunk) → writing_fault ts (Some cs) ≡ None → AllByRecursion (λ c. piece_fault ts c ≡ None) cs
-all-written ts cs e = fitting-are-written ts 0 cs (writing-order ts (Some cs) e) (writing-fits ts cs e)
-
-pub all-pieces : (ts : List TokenRecord) (cs : List TokenChunk) → writing_fault ts (Some cs) ≡ None → flat_map (piece ts) cs ≡ canonical ts
-all-pieces ts cs e = pieces-is ts cs (writing-fits ts cs e)
 
 -- the one chunk of all tokens
 module _ (ts : List TokenRecord) (w : TokenChunk) (e : w ≡ chunk_from initial 0 (length ts)) where

@@ -1,46 +1,23 @@
 -- What is written into a buffer, and how its pieces make the text of a token.
 use Rattle.std.proofs.Common.{◌≡◌, ℕ, zero, suc, ◌+◌, ◌-◌, ◌/◌, ◌%◌, ◌<◌, ◌≤◌, Bool, true, false}
-use Rattle.std.proofs.Common.{◌==◌, nat_lt, List, [], ◌∷◌, ◌++◌, length, take, set, replicate}
+use Rattle.std.proofs.Common.{◌*◌, ◌==◌, nat_lt, List, [], ◌∷◌, ◌++◌, length, take, set, replicate}
 use Rattle.std.proofs.Common.{arith, lit<, refl, sym, ap, ◌∙◌, append_assoc, if◌then◌else◌, inl}
-use Rattle.std.proofs.Common.{inr}
+use Rattle.std.proofs.Common.{inr, Some}
 use Rattle.std.proofs.Math.Seq.{take-append-add}
 use Rattle.std.proofs.lemmas.Bool.{cases_lt}
 use Rattle.std.proofs.lemmas.Bool.Decides.{nat_tests}
-use Rattle.std.proofs.lemmas.List.{take-set-le, take_more_set, take-append-le, length-take-le}
+use Rattle.std.proofs.lemmas.List.{take-set-le, take_more_set, take-append-le, length-take-le, append-nil}
 use Rattle.std.proofs.lemmas.List.{take-replicate, replicate-append-replicate}
 use borrow.Rule.Slice.PartMut.{put_mid, post_of}
-use Rattle.oxc_sourcemap_tokens.specs.Token.{TokenRecord}
+use Rattle.std.specs.Option.{option_map_or}
+use Rattle.oxc_sourcemap_tokens.specs.Token.{TokenRecord, name_beside}
 use Rattle.oxc_sourcemap_tokens.specs.State.{State}
 use Rattle.oxc_sourcemap_mappings.specs.Canonical.{letter, vlq_text, raw_delta, delta_text}
 use Rattle.oxc_sourcemap_mappings.specs.Canonical.{separator, token_text, source_text, name_text}
-use Rattle.oxc_sourcemap_mappings.specs.Encoding.{line_marks, marks_of, raw_at, column_from}
+use Rattle.oxc_sourcemap_mappings.specs.Encoding.{line_marks, raw_at, column_from}
 use Rattle.oxc_sourcemap_mappings.specs.Encoding.{fields_text, text_from}
 use Rattle.oxc_sourcemap_tokens.specs.Steps.{advanced}
 use Rattle.oxc_sourcemap_mappings.proofs.Vlq.{vlq_text_small, vlq_text_large}
-
--- one byte more in a buffer
-pub set-placed : (b : List ℕ) (at end x : ℕ) → at < length b → end ≡ at + 1 → take end (set b at x) ≡ take at b ++ x ∷ []
-set-placed b at end x h e = ap (λ n. take n (set b at x)) e ∙ take_more_set b at x h
-
--- a number of one or two digits, where the byte of the second is written in any case
-pub one-placed : (b : List ℕ) (at end x y raw : ℕ) → at < length b → end ≡ at + 1 → raw < 32 → x ≡ letter raw → take end (set (set b at x) (at + 1) y) ≡ take at b ++ vlq_text raw
-one-placed b at end x y raw h e s l =
-    ap (λ n. take n (set (set b at x) (at + 1) y)) e
-    ∙ take-set-le (at + 1) (set b at x) (at + 1) y (omega arith)
-    ∙ take_more_set b at x h
-    ∙ ap (λ t. take at b ++ t) (ap (λ k. k ∷ []) l ∙ sym (vlq_text_small raw s))
-
-pub two-placed : (b : List ℕ) (at end x y raw : ℕ) → at + 1 < length (set b at x) → at < length b → end ≡ at + 2 → 32 ≤ raw → raw < 1024 → x ≡ letter (raw % 32 + 32) → y ≡ letter (raw / 32) → take end (set (set b at x) (at + 1) y) ≡ take at b ++ vlq_text raw
-two-placed b at end x y raw g h e s t l m =
-    let n : end ≡ at + 1 + 1 = omega arith in
-    ap (λ n. take n (set (set b at x) (at + 1) y)) n
-    ∙ take_more_set (set b at x) (at + 1) y g
-    ∙ ap (λ xs. xs ++ y ∷ []) (take_more_set b at x h)
-    ∙ append_assoc (take at b) (x ∷ []) (y ∷ [])
-    ∙ ap (λ xs. take at b ++ xs) (rw (l, m) (sym (vlq_text_large raw s ∙ ap (λ xs. letter (raw % 32 + 32) ∷ xs) (vlq_text_small (raw / 32) (omega arith)))))
-
-pub two-kept : (b : List ℕ) (at x y : ℕ) → take at (set (set b at x) (at + 1) y) ≡ take at b
-two-kept b at x y = take-set-le at (set b at x) (at + 1) y (omega arith) ∙ take-set-le at b at x (omega arith)
 
 -- a digit of a number that others follow
 pub digit-placed : (b : List ℕ) (at x raw : ℕ) → at < length b → 32 ≤ raw → x ≡ letter (raw % 32 + 32) → take (at + 1) (set b at x) ++ vlq_text (raw / 32) ≡ take at b ++ vlq_text raw
@@ -104,34 +81,44 @@ one-more text kept text2 kept2 kept3 all first s next t rest lines left h n l e 
     ∙ ap (λ q. (text ++ kept) ++ (token_text first s t ++ text_from false q rest)) after
     ∙ before
 
-comma-placed : (first : Bool) (rest : List ℕ) → take (if first then 0 else 1) (44 ∷ rest) ≡ (if first then [] else 44 ∷ [])
-comma-placed true rest = refl
-comma-placed false rest = refl
+-- the separator on the line of the token before
+pub comma-placed : (first : Bool) (b : List ℕ) (at n end : ℕ) → at < length b → n ≡ (if first then 0 else 1) → end ≡ at + n → take end (set b at 44) ≡ take at b ++ (if first then [] else 44 ∷ [])
+comma-placed true b at n end h m e =
+    let same : end ≡ at = omega (arith, m) in
+    ap (λ k. take k (set b at 44)) same ∙ take-set-le at b at 44 (omega arith) ∙ sym (append-nil (take at b))
+comma-placed false b at n end h m e =
+    let more : end ≡ at + 1 = omega (arith, m) in
+    ap (λ k. take k (set b at 44)) more ∙ take_more_set b at 44 h
 
--- the separator, as the first of eight bytes
-pub marks-placed : (b new : List ℕ) (at k n end lines : ℕ) (first : Bool) → at ≤ length b → new ≡ marks_of lines → n ≡ (if lines == 0 then (if first then 0 else 1) else lines) → end ≡ at + n → lines ≤ 8 → n ≤ 8 → take end (put_mid at k b new) ≡ take at b ++ line_marks first lines
-marks-placed b new at k n end lines first h e m f l l2 =
-    mid-placed b new at k n end f h (omega (arith, ap length e))
-    ∙ ap (λ xs. take at b ++ xs)
-    (elim (cases_lt 0 lines) [
-      | inl g ↦ (let q : (lines == 0) ≡ false = grind (arith, nat_tests) in
-          let eight : new ≡ replicate 8 59 = e ∙ rw q refl in
-          let count : n ≡ lines = m ∙ rw q refl in
-          ap (take n) eight ∙ ap (λ j. take j (replicate 8 59)) count ∙ take-replicate lines 8 59 l ∙ rw q refl)
-      | inr g ↦ (let q : (lines == 0) ≡ true = grind (arith, nat_tests) in
-          let eight : new ≡ 44 ∷ 59 ∷ 59 ∷ 59 ∷ 59 ∷ 59 ∷ 59 ∷ 59 ∷ [] = e ∙ rw q refl in
-          let count : n ≡ (if first then 0 else 1) = m ∙ rw q refl in
-          ap (take n) eight ∙ ap (λ j. take j (44 ∷ 59 ∷ 59 ∷ 59 ∷ 59 ∷ 59 ∷ 59 ∷ 59 ∷ [])) count ∙ comma-placed first _ ∙ rw q refl)
-    ])
+-- the separator on a later line, as the first of eight bytes
+pub semicolons-placed : (first : Bool) (b new : List ℕ) (at k end lines : ℕ) → at ≤ length b → new ≡ replicate 8 59 → end ≡ at + lines → lines ≤ 8 → 0 < lines → take end (put_mid at k b new) ≡ take at b ++ line_marks first lines
+semicolons-placed first b new at k end lines h e f l p =
+    let q : (lines == 0) ≡ false = grind (arith, nat_tests) in
+    mid-placed b new at k lines end f h (omega (arith, ap length e))
+    ∙ ap (λ xs. take at b ++ xs) (ap (take lines) e ∙ take-replicate lines 8 59 l ∙ rw q refl)
 
--- four or five letters at once
-pub letters-placed : (xs new : List ℕ) (at k end a b c d e : ℕ) (named : Bool) → at ≤ length xs → a < 32 → b < 32 → c < 32 → d < 32 → e < 32 → new ≡ letter a ∷ letter b ∷ letter c ∷ letter d ∷ letter e ∷ [] → end ≡ at + 4 + (if named then 1 else 0) → take end (put_mid at k xs new) ≡ take at xs ++ (vlq_text a ++ vlq_text b ++ vlq_text c ++ vlq_text d ++ (if named then vlq_text e else []))
-letters-placed xs new at k end a b c d e true h ha hb hc hd he n m =
-    mid-placed xs new at k 5 end (omega (arith, m)) h (omega (arith, ap length n))
-    ∙ ap (λ ys. take at xs ++ ys) (ap (take 5) n ∙ rw (vlq_text_small a ha, vlq_text_small b hb, vlq_text_small c hc, vlq_text_small d hd, vlq_text_small e he) refl)
-letters-placed xs new at k end a b c d e false h ha hb hc hd he n m =
-    mid-placed xs new at k 4 end (omega (arith, m)) h (omega (arith, ap length n))
-    ∙ ap (λ ys. take at xs ++ ys) (ap (take 4) n ∙ rw (vlq_text_small a ha, vlq_text_small b hb, vlq_text_small c hc, vlq_text_small d hd) refl)
+-- the text of a number that has not changed
+pub same-text : (n : ℕ) → delta_text n n ≡ 65 ∷ []
+unfolding letter
+same-text n =
+    let p : nat_lt n n ≡ false = grind (arith, nat_tests) in
+    let z : 2 * (n - n) ≡ 0 = omega arith in
+    rw (p, z) (vlq_text_small 0 (lit< tt))
+
+-- the fields of a token with the source of the token before
+pub same-source : (column : ℕ) (s : State) (t : TokenRecord) → t.source_id ≡ Some s.source_id → fields_text column s t
+    ≡ (delta_text t.dst_col column ++ (((65 ∷ []) ++ delta_text t.src_line s.src_line) ++ delta_text t.src_col s.src_col)) ++ option_map_or (λ id. delta_text id s.name_id) t.name_id []
+same-source column s t e =
+    ap (λ o. (delta_text t.dst_col column ++ option_map_or (λ id. delta_text id s.source_id ++ delta_text t.src_line s.src_line ++ delta_text t.src_col s.src_col) o []) ++ option_map_or (λ id. delta_text id s.name_id) (name_beside o t.name_id) []) e
+    ∙ ap (λ a. (delta_text t.dst_col column ++ ((a ++ delta_text t.src_line s.src_line) ++ delta_text t.src_col s.src_col)) ++ option_map_or (λ id. delta_text id s.name_id) t.name_id []) (same-text s.source_id)
+
+-- a delta from the table
+pub near-placed : (start xs : List ℕ) (to value from raw : ℕ) → to ≡ value → raw_delta to from ≡ raw → xs ≡ start ++ vlq_text raw → xs ≡ start ++ delta_text value from
+near-placed start xs to value from raw e near placed = placed ∙ ap (λ r. start ++ vlq_text r) (sym near ∙ ap (λ n. raw_delta n from) e)
+
+-- five texts, one after the other
+pub five-placed : (start a b c d e xs1 xs2 xs3 xs4 xs5 : List ℕ) → xs1 ≡ start ++ a → xs2 ≡ xs1 ++ b → xs3 ≡ xs2 ++ c → xs4 ≡ xs3 ++ d → xs5 ≡ xs4 ++ e → xs5 ≡ start ++ ((a ++ ((b ++ c) ++ d)) ++ e)
+five-placed start a b c d e xs1 xs2 xs3 xs4 xs5 e1 e2 e3 e4 e5 = rw (e5, e4, e3, e2, e1) (simp append_assoc refl)
 
 -- a number has a digit, and one more than what is left of it after its lowest
 pub vlq-filled : (n : ℕ) → 0 < length (vlq_text n)
@@ -141,43 +128,10 @@ pub vlq-shorter : (n : ℕ) → 32 ≤ n → length (vlq_text n) ≡ 1 + length 
 vlq-shorter n l = rw (vlq_text_large n l) (omega arith)
 
 -- a delta from its distance, taken in 64 bits
-module _ (to from : ℕ) (h : to < 4294967296) (k : from < 4294967296) where
-  pub near-raw : (r : ℕ) → r ≡ (to + 127 + (18446744073709551616 - from)) % 18446744073709551616 → r < 255 → raw_delta to from ≡ raw_at r
-  near-raw r e l =
-      let sum : to + 127 ≡ r + from = omega (arith, e) in
-      elim (cases_lt to from) [
-        | inl g ↦ (let p : nat_lt to from ≡ true = grind (arith, nat_tests) in let q : nat_lt r 127 ≡ true = grind (arith, nat_tests) in rw (p, q) (omega (arith, sum)))
-        | inr g ↦ (let p : nat_lt to from ≡ false = grind (arith, nat_tests) in let q : nat_lt r 127 ≡ false = grind (arith, nat_tests) in rw (p, q) (omega (arith, sum)))
-      ]
-
-  pub single-raw : (r : ℕ) → r ≡ (to + 15 + (18446744073709551616 - from)) % 18446744073709551616 → r < 31 → raw_delta to from ≡ raw_at (r + 112)
-  single-raw r e l =
-      let sum : to + 15 ≡ r + from = omega (arith, e) in
-      elim (cases_lt to from) [
-        | inl g ↦ (let p : nat_lt to from ≡ true = grind (arith, nat_tests) in let q : nat_lt (r + 112) 127 ≡ true = grind (arith, nat_tests) in rw (p, q) (omega (arith, sum)))
-        | inr g ↦ (let p : nat_lt to from ≡ false = grind (arith, nat_tests) in let q : nat_lt (r + 112) 127 ≡ false = grind (arith, nat_tests) in rw (p, q) (omega (arith, sum)))
-      ]
-
-pub single-below : (r : ℕ) → r < 31 → raw_at (r + 112) < 32
-single-below r l =
-    elim (cases_lt (r + 112) 127) [
-      | inl g ↦ (let q : nat_lt (r + 112) 127 ≡ true = grind (arith, nat_tests) in rw q (omega arith))
-      | inr g ↦ (let q : nat_lt (r + 112) 127 ≡ false = grind (arith, nat_tests) in rw q (omega arith))
+pub near-raw : (to from r : ℕ) → to < 4294967296 → from < 4294967296 → r ≡ (to + 512 + (18446744073709551616 - from)) % 18446744073709551616 → r < 1024 → raw_delta to from ≡ raw_at r
+near-raw to from r h k e l =
+    let sum : to + 512 ≡ r + from = omega (arith, e) in
+    elim (cases_lt to from) [
+      | inl g ↦ (let p : nat_lt to from ≡ true = grind (arith, nat_tests) in let q : nat_lt r 512 ≡ true = grind (arith, nat_tests) in rw (p, q) (omega (arith, sum)))
+      | inr g ↦ (let p : nat_lt to from ≡ false = grind (arith, nat_tests) in let q : nat_lt r 512 ≡ false = grind (arith, nat_tests) in rw (p, q) (omega (arith, sum)))
     ]
-
-pub near-below : (r : ℕ) → r < 255 → raw_at r < 1024
-near-below r l =
-    elim (cases_lt r 127) [
-      | inl g ↦ (let q : nat_lt r 127 ≡ true = grind (arith, nat_tests) in rw q (omega arith))
-      | inr g ↦ (let q : nat_lt r 127 ≡ false = grind (arith, nat_tests) in rw q (omega arith))
-    ]
-
--- the first character of a number of one digit
-pub lowest-last : (raw : ℕ) → raw < 32 → letter (raw % 32 + (if nat_lt raw 32 then 0 else 32)) ≡ letter raw
-lowest-last raw l =
-    let q : nat_lt raw 32 ≡ true = grind (arith, nat_tests) in
-    let e : raw % 32 + 0 ≡ raw = omega arith in
-    rw q (ap letter e)
-
-pub lowest-more : (raw : ℕ) → 32 ≤ raw → letter (raw % 32 + (if nat_lt raw 32 then 0 else 32)) ≡ letter (raw % 32 + 32)
-lowest-more raw l = let q : nat_lt raw 32 ≡ false = grind (arith, nat_tests) in rw q refl

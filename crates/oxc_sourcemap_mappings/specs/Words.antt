@@ -5,17 +5,16 @@ pub use Rattle.oxc_sourcemap_tokens.specs.Results.{Answers, OnlyMemory, FailsBy,
 pub use Rattle.oxc_sourcemap_tokens.specs.Steps.{state_of}
 pub use Rattle.oxc_sourcemap_tokens.specs.Token.{last_line}
 pub use Rattle.oxc_sourcemap_tokens.specs.declared.error.Error.{Error}
-pub use Rattle.oxc_sourcemap_tokens.specs.declared.error.Error.TheVariants.{TooLarge}
+pub use Rattle.oxc_sourcemap_tokens.specs.declared.error.Error.TheVariants.{TooLarge, OutOfMemory}
 pub use Rattle.oxc_sourcemap_mappings.specs.Canonical.{letter, vlq_text, raw_delta, delta_text}
 pub use Rattle.oxc_sourcemap_mappings.specs.Canonical.{canonical}
 pub use Rattle.oxc_sourcemap_mappings.specs.Decoding.{ends_segment, front_digits, front_segment}
 pub use Rattle.oxc_sourcemap_mappings.specs.Decoding.{segments_after, is_over, IsNumberAt}
 pub use Rattle.oxc_sourcemap_mappings.specs.Decoding.{AreFieldsOf, AreSmall, value, place_of}
 pub use Rattle.oxc_sourcemap_mappings.specs.Decoding.{source_moved, moved, moved_by}
-pub use Rattle.oxc_sourcemap_mappings.specs.Encoding.{text_from, OnlyAdds, line_marks, marks_of}
+pub use Rattle.oxc_sourcemap_mappings.specs.Encoding.{text_from, OnlyAdds, line_marks}
 pub use Rattle.oxc_sourcemap_mappings.specs.Encoding.{column_from, fields_text, raw_at}
-pub use Rattle.oxc_sourcemap_mappings.specs.Encoding.{first_letter, second_letter, rank_of}
-pub use Rattle.oxc_sourcemap_mappings.specs.Encoding.{offset_of, deltas_text, AreSingle}
+pub use Rattle.oxc_sourcemap_mappings.specs.Encoding.{IfWritten, AreWritten}
 pub use Rattle.oxc_sourcemap_mappings.specs.Faults.{digit_fault, range_fault, is_id_below, low_bits}
 pub use Rattle.oxc_sourcemap_mappings.specs.Faults.{source_fault, place_fault, counts_of}
 pub use Rattle.oxc_sourcemap_mappings.specs.Number.{digit, payload, signed}

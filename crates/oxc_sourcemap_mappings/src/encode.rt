@@ -1,20 +1,19 @@
 //! Writing the `mappings` text.
-ghost use Rattle.std.specs.Prelude.{◌≡◌, ◌↔◌, ◌+◌, ◌-◌, ◌*◌, ◌/◌, ◌%◌, ◌^◌, ◌<◌, ◌≤◌, ◌++◌, ◌==◌};
+ghost use Rattle.std.specs.Prelude.{◌≡◌, ◌↔◌, ◌+◌, ◌-◌, ◌*◌, ◌/◌, ◌%◌, ◌^◌, ◌<◌, ◌≤◌, ◌++◌, ◌&&◌};
 ghost use Rattle.std.specs.Prelude.{◌∷◌, [], length, min, replicate, string_bytes, OnOk, OnErr};
-ghost use Rattle.std.specs.Prelude.{IfOk, IsTrue, Option, Some, None, Err, if◌then◌else◌, nat_le};
-ghost use Rattle.std.specs.Prelude.{take, flat_map};
-ghost use Rattle.oxc_sourcemap_mappings.specs.Words.{Error, last_line, letter};
+ghost use Rattle.std.specs.Prelude.{IfOk, IsTrue, Some, None, nat_le, take, flat_map};
+ghost use Rattle.std.specs.List.{AllByRecursion};
+ghost use Rattle.std.specs.Option.{option_map_or, unwrap_or};
+ghost use Rattle.oxc_sourcemap_mappings.specs.Words.{OutOfMemory, last_line, letter};
 ghost use Rattle.oxc_sourcemap_mappings.specs.Words.{vlq_text, raw_delta, delta_text, canonical};
 ghost use Rattle.oxc_sourcemap_mappings.specs.Words.{back_from, header};
 ghost use Rattle.oxc_sourcemap_mappings.specs.Words.{lent_chunks, piece, piece_fault};
 ghost use Rattle.oxc_sourcemap_mappings.specs.Words.{writing_fault, state_of, text_from, OnlyAdds};
-ghost use Rattle.oxc_sourcemap_mappings.specs.Words.{line_marks, marks_of, column_from};
-ghost use Rattle.oxc_sourcemap_mappings.specs.Words.{fields_text, raw_at, first_letter};
-ghost use Rattle.oxc_sourcemap_mappings.specs.Words.{second_letter, rank_of, offset_of};
-ghost use Rattle.oxc_sourcemap_mappings.specs.Words.{deltas_text, AreSingle, FailsBy};
-ghost use Rattle.oxc_sourcemap_mappings.specs.Words.{Reports, Pushes};
-ghost use Rattle.std.specs.List.{AllByRecursion};
+ghost use Rattle.oxc_sourcemap_mappings.specs.Words.{line_marks, column_from, fields_text};
+ghost use Rattle.oxc_sourcemap_mappings.specs.Words.{IfWritten, AreWritten, FailsBy, Reports};
+ghost use Rattle.oxc_sourcemap_mappings.specs.Words.{Pushes};
 
+use crate::near::{place_near, rank_of};
 use oxc_sourcemap_tokens::{
     Error, Memory, Previous, Result, Token, TokenChunk, chunk_fault, line_back_from,
     line_order_fault, next_chunk, tokens_in_bounds, tokens_of,
@@ -35,68 +34,14 @@ fn letter_of(digit: u8) -> u8
     LETTERS[digit as usize]
 }
 
-/// The first base64 character of each delta from -127 to 127.
-static NEAR_FIRST: [u8; 255] = *b"\
-    /97531zxvtrpnljh/97531zxvtrpnljh/97531zxvtrpnljh/97531zxvtrpnljh\
-    /97531zxvtrpnljh/97531zxvtrpnljh/97531zxvtrpnljhfdbZXVTRPNLJHFDA\
-    CEGIKMOQSUWYacegikmoqsuwy02468+gikmoqsuwy02468+gikmoqsuwy02468+g\
-    ikmoqsuwy02468+gikmoqsuwy02468+gikmoqsuwy02468+gikmoqsuwy02468+";
-
-/// The second base64 character of each delta from -127 to 127; without meaning for -15 to 15, which have only one.
-static NEAR_SECOND: [u8; 255] = *b"\
-    HHHHHHHHHHHHHHHHGGGGGGGGGGGGGGGGFFFFFFFFFFFFFFFFEEEEEEEEEEEEEEEE\
-    DDDDDDDDDDDDDDDDCCCCCCCCCCCCCCCCBBBBBBBBBBBBBBBBAAAAAAAAAAAAAAAA\
-    AAAAAAAAAAAAAAABBBBBBBBBBBBBBBBCCCCCCCCCCCCCCCCDDDDDDDDDDDDDDDDE\
-    EEEEEEEEEEEEEEEFFFFFFFFFFFFFFFFGGGGGGGGGGGGGGGGHHHHHHHHHHHHHHHH";
-
-/// The first base64 character of the delta `rank - 127`.
-#[inline(always)]
-fn first_of(rank: u64) -> u8
-    requires { rank < 255 }
-    ensures { result ≡ first_letter rank }
-{
-    NEAR_FIRST[rank as usize]
-}
-
-/// The second base64 character of the delta `rank - 127`; without meaning if the delta has only one (`has_second`).
-fn second_of(rank: u64) -> u8
-    requires { rank < 255 }
-    ensures { result ≡ second_letter rank }
-{
-    NEAR_SECOND[rank as usize]
-}
-
-/// Whether the delta `rank - 127` has two base64 characters, as all but -15 to 15 have.
-fn has_second(rank: u64) -> bool
-    requires { rank < 255 }
-    ensures { result ≡ nat_le 32 (raw_at rank) }
-{
-    rank < 112 || rank > 142
-}
-
 // A function `place_` writes into `buf` from index `at` on, and returns the index after what it wrote. The bytes from there
 // on have no meaning.
-
-/// Places the delta `rank - 127`, in one or two characters.
-#[inline(always)]
-fn place_near(buf: &mut [u8], at: usize, rank: u64) -> usize
-    requires room { at + 2 ≤ length buf.old }
-    requires near { rank < 255 }
-    ensures bytes { take result buf.new ≡ take at buf.old ++ vlq_text (raw_at rank) }
-    ensures kept { take at buf.new ≡ take at buf.old }
-    ensures within { result ≤ at + 2 }
-{
-    buf[at] = first_of(rank);
-    buf[at + 1] = second_of(rank);
-    at + 1 + usize::from(has_second(rank))
-}
 
 /// Places a raw number, lowest digit first.
 fn place_digits(buf: &mut [u8], at: usize, raw: u64) -> usize
     requires room { at + 7 ≤ length buf.old }
     requires small { raw < 2 ^ 33 }
     ensures bytes { take result buf.new ≡ take at buf.old ++ vlq_text raw }
-    ensures kept { take at buf.new ≡ take at buf.old }
     ensures within { result ≤ at + 7 }
 {
     let mut rest = raw;
@@ -118,178 +63,93 @@ fn raw_of(to: u32, from: u32) -> u64
     u64::from(to.abs_diff(from)) * 2 + u64::from(to < from)
 }
 
-/// The delta `to - from`.
-#[derive(Clone, Copy, Drop)]
-struct Delta {
-    to: u32,
-    from: u32,
-}
-
-impl Delta {
-    fn new(to: u32, from: u32) -> Self
-        ensures { result ≡ record { to = to; from = from } }
-    {
-        Self { to, from }
-    }
-
-    /// How far the delta lies above -127, in 64 bits: below 255 for deltas from -127 to 127, and for no others.
-    #[inline(always)]
-    fn rank(self) -> u64
-        ensures value { result ≡ rank_of self }
-        ensures near { result < 255 → raw_delta self.to self.from ≡ raw_at result }
-    {
-        (u64::from(self.to) + 127).wrapping_sub(u64::from(self.from))
-    }
-
-    /// How far the delta lies above -15, in 64 bits: below 31 for deltas from -15 to 15, which are single digits.
-    #[inline(always)]
-    fn offset(self) -> u64
-        ensures value { result ≡ offset_of self }
-        ensures single { result < 31 → raw_delta self.to self.from ≡ raw_at (result + 112) }
-    {
-        (u64::from(self.to) + 15).wrapping_sub(u64::from(self.from))
-    }
-
-    /// The character of a delta that is a single digit.
-    #[inline(always)]
-    fn letter(self) -> u8
-        requires { offset_of self < 31 }
-        ensures value { result ≡ letter (raw_delta self.to self.from) }
-        ensures single { raw_delta self.to self.from < 32 }
-    {
-        first_of(self.offset() + 112)
-    }
-
-    /// Places the delta.
-    #[inline(always)]
-    fn place(self, buf: &mut [u8], at: usize) -> usize
-        requires room { at + 7 ≤ length buf.old }
-        ensures bytes { take result buf.new ≡ take at buf.old ++ delta_text self.to self.from }
-        ensures kept { take at buf.new ≡ take at buf.old }
-        ensures within { result ≤ at + 7 }
-    {
-        let rank = self.rank();
-        if rank < 255 {
-            place_near(buf, at, rank)
-        } else {
-            place_digits(buf, at, raw_of(self.to, self.from))
-        }
+/// Places the delta `to - from`, of any size.
+#[inline(always)]
+fn place_delta(buf: &mut [u8], at: usize, to: u32, from: u32) -> usize
+    requires room { at + 7 ≤ length buf.old }
+    ensures bytes { take result buf.new ≡ take at buf.old ++ delta_text to from }
+    ensures within { result ≤ at + 7 }
+{
+    let rank = rank_of(to, from);
+    if rank < 1024 {
+        place_near(buf, at, rank)
+    } else {
+        place_digits(buf, at, raw_of(to, from))
     }
 }
 
-/// The deltas of a mapped token. Without a name, `name_id` is no part of its text.
-#[derive(Drop)]
-struct Deltas {
-    dst_col: Delta,
-    source_id: Delta,
-    src_line: Delta,
-    src_col: Delta,
-    name_id: Delta,
-    has_name: bool,
-}
-
-impl Deltas {
-    /// Whether each delta is a single digit.
-    fn are_single(&self) -> bool
-        ensures { IsTrue result ↔ AreSingle self.now }
-    {
-        let source = self.source_id.offset().max(self.src_line.offset());
-        let columns = self.dst_col.offset().max(self.src_col.offset());
-        source.max(columns).max(self.name_id.offset()) < 31
-    }
-
-    /// Places four or five deltas that are single digits, at once.
-    fn place_single(&self, buf: &mut [u8], at: usize) -> usize
-        requires room { at + 35 ≤ length buf.old }
-        requires single { AreSingle self.now }
-        ensures bytes { take result buf.new ≡ take at buf.old ++ deltas_text self.now }
-        ensures within { result ≤ at + 35 }
-    {
-        let letters = [
-            self.dst_col.letter(),
-            self.source_id.letter(),
-            self.src_line.letter(),
-            self.src_col.letter(),
-            self.name_id.letter(),
-        ];
-        buf[at..at + 5].copy_from_slice(&letters);
-        at + 4 + usize::from(self.has_name)
-    }
-
-    /// Places four or five deltas, one after the other.
-    fn place_each(&self, buf: &mut [u8], at: usize) -> usize
-        requires room { at + 35 ≤ length buf.old }
-        ensures bytes { take result buf.new ≡ take at buf.old ++ deltas_text self.now }
-        ensures within { result ≤ at + 35 }
-    {
-        let at = self.dst_col.place(buf, at);
-        let at = self.source_id.place(buf, at);
-        let at = self.src_line.place(buf, at);
-        let at = self.src_col.place(buf, at);
-        let end = self.name_id.place(buf, at);
-        if self.has_name { end } else { at }
+/// Places the name of a mapped token, if it has one.
+#[inline(always)]
+fn place_name(buf: &mut [u8], at: usize, name_id: Option<u32>, from: u32) -> usize
+    requires room { at + 7 ≤ length buf.old }
+    ensures bytes { take result buf.new ≡ take at buf.old
+        ++ option_map_or (λ id. delta_text id from) name_id [] }
+    ensures within { result ≤ at + 7 }
+{
+    match name_id {
+        Some(name_id) => place_delta(buf, at, name_id, from),
+        None => at,
     }
 }
 
-/// Places the fields of a token, its generated column relative to `column`.
+/// Places the fields of any token, its generated column relative to `column`.
+#[cold]
+fn place_any(buf: &mut [u8], at: usize, column: u32, previous: &Previous, token: &Token) -> usize
+    requires room { at + 35 ≤ length buf.old }
+    ensures bytes { take result buf.new ≡ take at buf.old
+        ++ fields_text column (state_of previous.now) token.now }
+    ensures within { result ≤ at + 35 }
+{
+    let at = place_delta(buf, at, token.get_dst_col(), column);
+    let Some(source_id) = token.get_source_id() else {
+        return at;
+    };
+    let at = place_delta(buf, at, source_id, previous.source_id);
+    let at = place_delta(buf, at, token.get_src_line(), previous.src_line);
+    let at = place_delta(buf, at, token.get_src_col(), previous.src_col);
+    place_name(buf, at, token.get_name_id(), previous.name_id)
+}
+
+/// Places the fields of a token, its generated column relative to `column`. Most tokens have the source of the one before
+/// and small deltas: they are tested at once, and all others leave the loop.
+#[inline(always)]
 fn place_fields(buf: &mut [u8], at: usize, column: u32, previous: &Previous, token: &Token) -> usize
     requires room { at + 35 ≤ length buf.old }
     ensures bytes { take result buf.new ≡ take at buf.old
         ++ fields_text column (state_of previous.now) token.now }
     ensures within { result ≤ at + 35 }
 {
-    let dst_col = Delta::new(token.get_dst_col(), column);
-    let Some(source_id) = token.get_source_id() else {
-        return dst_col.place(buf, at);
-    };
-    let name_id = token.get_name_id();
-    let deltas = Deltas {
-        dst_col,
-        source_id: Delta::new(source_id, previous.source_id),
-        src_line: Delta::new(token.get_src_line(), previous.src_line),
-        src_col: Delta::new(token.get_src_col(), previous.src_col),
-        name_id: Delta::new(name_id.unwrap_or(previous.name_id), previous.name_id),
-        has_name: name_id.is_some(),
-    };
-    if deltas.are_single() {
-        deltas.place_single(buf, at)
+    let dst_col = rank_of(token.get_dst_col(), column);
+    let src_line = rank_of(token.get_src_line(), previous.src_line);
+    let src_col = rank_of(token.get_src_col(), previous.src_col);
+    let has_same_source = token.get_source_id() == Some(previous.source_id);
+    if has_same_source & (dst_col < 1024) & (src_line < 1024) & (src_col < 1024) {
+        let at = place_near(buf, at, dst_col);
+        buf[at] = b'A';
+        let at = place_near(buf, at + 1, src_line);
+        let at = place_near(buf, at, src_col);
+        place_name(buf, at, token.get_name_id(), previous.name_id)
     } else {
-        deltas.place_each(buf, at)
+        place_any(buf, at, column, previous, token)
     }
 }
 
-/// Eight bytes that begin with the separator of a token `lines` lines below the one before it: a `,` on the same line, else
-/// a `;` for each line. `marks_len` has how many of them count.
-fn marks_for(lines: u32) -> [u8; 8]
-    ensures { result ≡ marks_of lines }
-{
-    if lines == 0 {
-        *b",;;;;;;;"
-    } else {
-        *b";;;;;;;;"
-    }
-}
-
-/// How many bytes of `marks_for` separate a token from the one before it.
-fn marks_len(is_first: bool, lines: u32) -> usize
-    ensures { result ≡ (if lines == 0 then (if is_first then 0 else 1) else lines) }
-{
-    if lines == 0 {
-        usize::from(!is_first)
-    } else {
-        lines as usize
-    }
-}
-
-/// Places the separator of a token that lies `lines` lines below the one before it.
+/// Places the separator of a token that lies `lines` lines below the one before it: a `,` on the same line, else a `;` for
+/// each line.
+#[inline(always)]
 fn place_separator(buf: &mut [u8], at: usize, is_first: bool, lines: u32) -> usize
     requires room { at + 8 ≤ length buf.old }
     requires few { lines ≤ 8 }
     ensures bytes { take result buf.new ≡ take at buf.old ++ line_marks is_first lines }
     ensures within { result ≤ at + 8 }
 {
-    buf[at..at + 8].copy_from_slice(&marks_for(lines));
-    at + marks_len(is_first, lines)
+    if lines == 0 {
+        buf[at] = b',';
+        at + usize::from(!is_first)
+    } else {
+        buf[at..at + 8].copy_from_slice(b";;;;;;;;");
+        at + lines as usize
+    }
 }
 
 /// Places a token with its separator. `lines` counts the `;` that are still to be written; it is 0 only for a token on the
@@ -382,10 +242,12 @@ fn make_room(out: &mut String, buf: &[u8], len: usize, lines: u32) -> Memory<(us
     Ok((0, left))
 }
 
-/// Adds the text of tokens in line order, written from the state `header`.
-fn push_tokens(out: &mut String, at_start: bool, header: Previous, tokens: &[Token]) -> Memory<()>
-    requires { back_from header.dst_line 0 tokens.now ≡ None }
-    ensures ok { Pushes result out.old out.new (text_from at_start (state_of header) tokens.now) }
+/// Adds the text of tokens, written from the state `header`, and returns true; or returns false at a token whose line is
+/// smaller than that before it.
+fn push_tokens(out: &mut String, at_start: bool, header: Previous, tokens: &[Token]) -> Memory<bool>
+    ensures ok { IfWritten result (string_bytes out.new ≡ string_bytes out.old
+        ++ text_from at_start (state_of header) tokens.now) }
+    ensures order { IfWritten result (back_from header.dst_line 0 tokens.now ≡ None) }
     ensures adds { OnlyAdds (string_bytes out.old) (string_bytes out.new) }
 {
     out.reserve(tokens.len().saturating_mul(6))?;
@@ -394,35 +256,54 @@ fn push_tokens(out: &mut String, at_start: bool, header: Previous, tokens: &[Tok
     let mut previous = header;
     let mut is_first = at_start;
     for token in tokens {
-        let lines = token.get_dst_line() - previous.dst_line;
-        let (at, left) = make_room(out, &buf, len, lines)?;
+        let line = token.get_dst_line();
+        if line < previous.dst_line {
+            return Ok(false);
+        }
+        let (at, left) = make_room(out, &buf, len, line - previous.dst_line)?;
         len = place_token(&mut buf, at, is_first, left, &previous, token);
         previous = previous.after(token);
         is_first = false;
     }
-    push_bytes(out, &buf[..len])
+    push_bytes(out, &buf[..len])?;
+    Ok(true)
 }
 
-/// The fault for which a chunk cannot be written, if it has one.
-fn fault_of_chunk(tokens: &[Token], chunk: &TokenChunk) -> Option<Error>
-    ensures { result ≡ piece_fault tokens.now chunk.now }
+/// Whether the chunk is a part of the tokens.
+fn is_part(tokens: &[Token], chunk: &TokenChunk) -> bool
+    ensures { result ≡ (nat_le chunk.now.start chunk.now.end
+        && nat_le chunk.now.end (length tokens.now)) }
 {
-    if chunk.start > chunk.end || chunk.end as usize > tokens.len() {
-        return Some(Error::BadChunks(0));
-    }
-    let first = chunk.start as usize;
-    let i = line_back_from(chunk.prev_dst_line, first, tokens_of(tokens, chunk))?;
-    Some(Error::LineOrder(i))
+    chunk.start <= chunk.end && chunk.end as usize <= tokens.len()
 }
 
-/// Adds the text of a chunk that has no fault.
-fn push_chunk(tokens: &[Token], chunk: &TokenChunk, out: &mut String) -> Memory<()>
-    requires { piece_fault tokens.now chunk.now ≡ None }
-    ensures text { Pushes result out.old out.new (piece tokens.now chunk.now) }
+/// Adds the text of a chunk and returns true, or returns false if the chunk has a fault.
+fn push_chunk(out: &mut String, tokens: &[Token], chunk: &TokenChunk) -> Memory<bool>
+    ensures text { IfWritten result (string_bytes out.new ≡ string_bytes out.old
+        ++ piece tokens.now chunk.now) }
+    ensures clean { IfWritten result (piece_fault tokens.now chunk.now ≡ None) }
     ensures adds { OnlyAdds (string_bytes out.old) (string_bytes out.new) }
 {
+    if !is_part(tokens, chunk) {
+        return Ok(false);
+    }
     let header = Previous::header_of(chunk);
     push_tokens(out, chunk.start == 0, header, tokens_of(tokens, chunk))
+}
+
+/// The error of a chunk that was not written: its fault, or else want of memory.
+#[cold]
+fn error_of_chunk(tokens: &[Token], chunk: &TokenChunk) -> Error
+    ensures { result ≡ unwrap_or (piece_fault tokens.now chunk.now) OutOfMemory }
+{
+    if !is_part(tokens, chunk) {
+        return Error::BadChunks(0);
+    }
+    let first = chunk.start as usize;
+    match line_back_from(chunk.prev_dst_line, first, tokens_of(tokens, chunk)) {
+        Some(i) => Error::LineOrder(i),
+        None => Error::OutOfMemory,
+    }
 }
 
 /// Appends the part of the `mappings` text that the tokens of one chunk make (docs/FORMAT.md, "Chunks"). Deltas start from
@@ -450,45 +331,46 @@ pub fn encode_chunk(tokens: &[Token], chunk: &TokenChunk, out: &mut String) -> R
     ensures reported { Reports (piece_fault tokens.now chunk.now) result }
     ensures unchanged { OnErr result (string_bytes out.new ≡ string_bytes out.old) }
 {
-    if let Some(fault) = fault_of_chunk(tokens, chunk) {
-        return Err(fault);
-    }
     let kept = out.len();
-    match push_chunk(tokens, chunk, out) {
-        Ok(()) => Ok(()),
-        Err(error) => {
+    match push_chunk(out, tokens, chunk) {
+        Ok(true) => Ok(()),
+        _ => {
             out.truncate(kept);
-            Err(Error::from(error))
+            Err(error_of_chunk(tokens, chunk))
         }
     }
 }
 
-/// Adds the pieces of chunks without faults, one after the other. After an `Err` the first pieces may be in `out`.
-fn push_chunks(out: &mut String, tokens: &[Token], chunks: &[TokenChunk]) -> Memory<()>
-    requires { AllByRecursion (λ c. piece_fault tokens.now c ≡ None) chunks.now }
-    ensures ok { Pushes result out.old out.new (flat_map (piece tokens.now) chunks.now) }
+/// Adds the texts of chunks one after the other and returns true, or returns false at a chunk that has a fault.
+fn push_chunks(out: &mut String, tokens: &[Token], chunks: &[TokenChunk]) -> Memory<bool>
+    ensures ok { IfWritten result (string_bytes out.new ≡ string_bytes out.old
+        ++ flat_map (piece tokens.now) chunks.now) }
+    ensures written { IfWritten result (AreWritten tokens.now chunks.now) }
     ensures adds { OnlyAdds (string_bytes out.old) (string_bytes out.new) }
 {
     for chunk in chunks {
-        push_chunk(tokens, chunk, out)?;
+        if !push_chunk(out, tokens, chunk)? {
+            return Ok(false);
+        }
     }
-    Ok(())
+    Ok(true)
 }
 
-/// The fault for which tokens with these chunks cannot be written, if there is one.
-fn fault_of(tokens: &[Token], chunks: &[TokenChunk]) -> Option<Error>
-    ensures { result ≡ writing_fault tokens.now (Some chunks.now) }
+/// The error of tokens with these chunks that were not written: their fault, or else want of memory.
+#[cold]
+fn error_of(tokens: &[Token], chunks: &[TokenChunk]) -> Error
+    ensures { result ≡ unwrap_or (writing_fault tokens.now (Some chunks.now)) OutOfMemory }
 {
     if let Some(i) = line_order_fault(tokens) {
-        return Some(Error::LineOrder(i));
+        return Error::LineOrder(i);
     }
     if let Some(k) = chunk_fault(tokens, chunks) {
-        return Some(Error::BadChunks(k));
+        return Error::BadChunks(k);
     }
     if tokens.len() > 4294967295 {
-        return Some(Error::TooLarge);
+        return Error::TooLarge;
     }
-    None
+    Error::OutOfMemory
 }
 
 /// Appends the text of tokens, chunk by chunk.
@@ -499,15 +381,15 @@ fn encode_chunks(tokens: &[Token], chunks: &[TokenChunk], out: &mut String) -> R
     ensures reported { Reports (writing_fault tokens.now (Some chunks.now)) result }
     ensures unchanged { OnErr result (string_bytes out.new ≡ string_bytes out.old) }
 {
-    if let Some(fault) = fault_of(tokens, chunks) {
-        return Err(fault);
+    if tokens.len() > 4294967295 || chunk_fault(tokens, chunks).is_some() {
+        return Err(error_of(tokens, chunks));
     }
     let start = out.len();
     match push_chunks(out, tokens, chunks) {
-        Ok(()) => Ok(()),
-        Err(error) => {
+        Ok(true) => Ok(()),
+        _ => {
             out.truncate(start);
-            Err(Error::from(error))
+            Err(error_of(tokens, chunks))
         }
     }
 }

@@ -4,6 +4,7 @@
 
 mod decode;
 mod encode;
+mod near;
 
 pub use decode::decode_mappings;
 pub use encode::{encode_chunk, encode_mappings};

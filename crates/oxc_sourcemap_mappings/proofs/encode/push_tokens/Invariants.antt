@@ -10,7 +10,7 @@ abbrev pub invariant-loop-token : goal.invariant-loop-token
 invariant-loop-token l = record {
   bytes : (string_bytes l.out ++ take l.len l.buf) ++ text_from l.is_first (state_of l.previous) (drop l.token-index l.tokens)
       ≡ string_bytes l.initial.out ++ text_from l.at_start (state_of l.fn.header) l.tokens;
-  order : back_from l.previous.dst_line l.token-index (drop l.token-index l.tokens) ≡ None;
+  order : back_from l.previous.dst_line 0 (drop l.token-index l.tokens) ≡ None → back_from l.fn.header.dst_line 0 l.tokens ≡ None;
   plain : AllByRecursion (λ b. b < 128) (take l.len l.buf);
   room : l.len ≤ 1024;
   adds : OnlyAdds (string_bytes l.initial.out) (string_bytes l.out);

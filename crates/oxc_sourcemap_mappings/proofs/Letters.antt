@@ -1,5 +1,4 @@
--- The tables of letters are compared with the definitions at each digit and each near delta, by computing. And every byte
--- that is written is ASCII.
+-- The table of letters is compared with the definition at each digit, by computing. And every byte that is written is ASCII.
 use Rattle.std.proofs.Common.{◌≡◌, ℕ, zero, suc, ◌<◌, Bool, true, false, ◌&&◌, ◌==◌, List, [], ◌∷◌}
 use Rattle.std.proofs.Common.{◌++◌, map, replicate, get_or, if◌then◌else◌, refl, arith, lit<}
 use Rattle.std.proofs.Common.{Option, Some, None, inl, inr, Result, Ok, Err}

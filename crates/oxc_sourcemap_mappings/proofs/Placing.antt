@@ -6,8 +6,8 @@ use Rattle.std.proofs.Common.{inr, Some}
 use Rattle.std.proofs.Math.Seq.{take-append-add}
 use Rattle.std.proofs.lemmas.Bool.{cases_lt}
 use Rattle.std.proofs.lemmas.Bool.Decides.{nat_tests}
-use Rattle.std.proofs.lemmas.List.{take-set-le, take_more_set, take-append-le, length-take-le, append-nil}
-use Rattle.std.proofs.lemmas.List.{take-replicate, replicate-append-replicate}
+use Rattle.std.proofs.lemmas.List.{take-set-le, take_more_set, take-append-le, length-take-le}
+use Rattle.std.proofs.lemmas.List.{append-nil, take-replicate, replicate-append-replicate}
 use borrow.Rule.Slice.PartMut.{put_mid, post_of}
 use Rattle.std.specs.Option.{option_map_or}
 use Rattle.oxc_sourcemap_tokens.specs.Token.{TokenRecord, name_beside}

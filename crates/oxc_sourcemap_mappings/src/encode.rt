@@ -296,13 +296,14 @@ fn push_chunk(out: &mut String, tokens: &[Token], chunk: &TokenChunk) -> Memory<
 fn error_of_chunk(tokens: &[Token], chunk: &TokenChunk) -> Error
     ensures { result ≡ unwrap_or (piece_fault tokens.now chunk.now) OutOfMemory }
 {
-    if !is_part(tokens, chunk) {
-        return Error::BadChunks(0);
-    }
-    let first = chunk.start as usize;
-    match line_back_from(chunk.prev_dst_line, first, tokens_of(tokens, chunk)) {
-        Some(i) => Error::LineOrder(i),
-        None => Error::OutOfMemory,
+    if is_part(tokens, chunk) {
+        let first = chunk.start as usize;
+        match line_back_from(chunk.prev_dst_line, first, tokens_of(tokens, chunk)) {
+            Some(i) => Error::LineOrder(i),
+            None => Error::OutOfMemory,
+        }
+    } else {
+        Error::BadChunks(0)
     }
 }
 

@@ -1,5 +1,4 @@
 use Rattle.std.proofs.Common.{arith, refl, ◌<◌, length, ◌∙◌}
-use Rattle.std.proofs.lemmas.List.{take-set-le}
 use Rattle.oxc_sourcemap_mappings.proofs.Length.{length-vlq_text}
 use Rattle.oxc_sourcemap_mappings.proofs.Placing.{digit-placed, last-placed, vlq-filled}
 use Rattle.oxc_sourcemap_mappings.proofs.Placing.{vlq-shorter}
@@ -8,7 +7,6 @@ use Rattle.oxc_sourcemap_mappings.proofs.encode.place_digits.Goals as goal
 pub loop-rest-init : goal.loop-rest-init
 loop-rest-init c = record {
   bytes = refl;
-  kept = refl;
   after = omega arith;
   room = omega (arith, length-vlq_text c.args.raw (omega (arith, c.requires.small)));
 }
@@ -21,7 +19,6 @@ loop-rest-preserved c =
     let inside : c.loop-rest.end < length c.loop-rest.buf = omega (arith, vlq-filled c.loop-rest.rest, c.loop-rest.invariant.room, c.requires.room, c.loop-rest.auto.buf) in
     record {
       bytes = digit-placed c.loop-rest.buf c.loop-rest.end c.letter_of.result c.loop-rest.rest inside c.loop-rest-test.true c.letter_of.ensures ∙ c.loop-rest.invariant.bytes;
-      kept = take-set-le c.args.at c.loop-rest.buf c.loop-rest.end c.letter_of.result c.loop-rest.invariant.after ∙ c.loop-rest.invariant.kept;
       after = omega (arith, c.loop-rest.invariant.after);
       room = omega (arith, c.loop-rest.invariant.room, vlq-shorter c.loop-rest.rest c.loop-rest-test.true);
     }

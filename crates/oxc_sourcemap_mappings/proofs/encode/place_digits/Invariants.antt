@@ -5,7 +5,6 @@ use Rattle.oxc_sourcemap_mappings.proofs.encode.place_digits.Given as goal
 abbrev pub invariant-loop-rest : goal.invariant-loop-rest
 invariant-loop-rest l = record {
   bytes : take l.end l.buf ++ vlq_text l.rest ≡ take l.at l.initial.buf ++ vlq_text l.raw;
-  kept : take l.at l.buf ≡ take l.at l.initial.buf;
   after : l.at ≤ l.end;
   room : l.end + length (vlq_text l.rest) ≤ l.at + 7;
 }

@@ -94,10 +94,10 @@ fn place_name(buf: &mut [u8], at: usize, name_id: Option<u32>, from: u32) -> usi
 
 /// Places the fields of any token, its generated column relative to `column`.
 #[cold]
-fn place_any(buf: &mut [u8], at: usize, column: u32, previous: &Previous, token: &Token) -> usize
+fn place_any(buf: &mut [u8], at: usize, column: u32, previous: Previous, token: &Token) -> usize
     requires room { at + 35 ≤ length buf.old }
     ensures bytes { take result buf.new ≡ take at buf.old
-        ++ fields_text column (state_of previous.now) token.now }
+        ++ fields_text column (state_of previous) token.now }
     ensures within { result ≤ at + 35 }
 {
     let at = place_delta(buf, at, token.get_dst_col(), column);
@@ -130,7 +130,7 @@ fn place_fields(buf: &mut [u8], at: usize, column: u32, previous: &Previous, tok
         let at = place_near(buf, at, src_col);
         place_name(buf, at, token.get_name_id(), previous.name_id)
     } else {
-        place_any(buf, at, column, previous, token)
+        place_any(buf, at, column, *previous, token)
     }
 }
 

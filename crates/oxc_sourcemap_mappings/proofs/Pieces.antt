@@ -8,7 +8,6 @@ use Rattle.std.specs.Option.{option_map}
 use Rattle.std.proofs.lemmas.Bool.{le-leb}
 use Rattle.std.proofs.lemmas.Bool.Decides.{nat_tests}
 use Rattle.std.proofs.lemmas.List.{append-nil, take_all, drop_all, length-take, length-drop}
-use Rattle.std.proofs.lemmas.List.Elements.{All-append}
 use Rattle.oxc_sourcemap_tokens.specs.declared.error.Error.{Error}
 use Rattle.oxc_sourcemap_tokens.specs.declared.error.Error.TheVariants.{LineOrder, BadChunks}
 use Rattle.oxc_sourcemap_tokens.specs.declared.token.TokenChunk.{TokenChunk}

@@ -82,28 +82,6 @@ fault-none : digit_fault [] ≡ None
 unfolding digit_fault
 fault-none = refl
 
--- a small number is kept in 64 bits
-pub kept : (z : ℤ) → nat_abs z < 2 ^ 62 → to_z w64 (of_z w64 z) ≡ z
-kept z h = to_z-of_z w64 z (search rules)
-
--- a field that is not there is 0
-padded : (x y z w : ℤ) (k : ℕ) → get_or (x ∷ y ∷ z ∷ w ∷ pos 0 ∷ []) k (pos 0) ≡ get_or (x ∷ y ∷ z ∷ w ∷ []) k (pos 0)
-padded x y z w zero = refl
-padded x y z w (suc zero) = refl
-padded x y z w (suc (suc zero)) = refl
-padded x y z w (suc (suc (suc zero))) = refl
-padded x y z w (suc (suc (suc (suc zero)))) = refl
-padded x y z w (suc (suc (suc (suc (suc k))))) = refl
-
--- five small numbers
-pub small-five : (x y z w v : ℤ) → nat_abs x < 2 ^ 62 → nat_abs y < 2 ^ 62 → nat_abs z < 2 ^ 62 → nat_abs w < 2 ^ 62 → nat_abs v < 2 ^ 62 → (k : ℕ) → nat_abs (get_or (x ∷ y ∷ z ∷ w ∷ v ∷ []) k (pos 0)) < 2 ^ 62
-small-five x y z w v h i j l m zero = h
-small-five x y z w v h i j l m (suc zero) = i
-small-five x y z w v h i j l m (suc (suc zero)) = j
-small-five x y z w v h i j l m (suc (suc (suc zero))) = l
-small-five x y z w v h i j l m (suc (suc (suc (suc zero)))) = m
-small-five x y z w v h i j l m (suc (suc (suc (suc (suc k))))) = lit< tt
-
 -- numbers of one text, one after the other
 module _ (text : List ℕ) (a b c d : ℕ) (x y z w : ℤ) (first : IsNumberAt text 0 x a) (second : IsNumberAt text a y b) (third : IsNumberAt text (a + b) z c) (fourth : IsNumberAt text (a + b + c) w d) where
   front-four : front_segment text ≡ first.run ∷ second.run ∷ third.run ∷ fourth.run ∷ front_segment (drop (a + b + c + d) text)
@@ -121,45 +99,43 @@ module _ (text : List ℕ) (a b c d : ℕ) (x y z w : ℤ) (first : IsNumberAt t
       fault-free first.run _ first.fits first.closed ∙ fault-free second.run _ second.fits second.closed
       ∙ fault-free third.run _ third.fits third.closed ∙ fault-free fourth.run more fourth.fits fourth.closed
 
-  numbers-four : (more : Segment) → map number (first.run ∷ second.run ∷ third.run ∷ fourth.run ∷ more) ≡ x ∷ y ∷ z ∷ w ∷ map number more
-  numbers-four more = rw (first.number, second.number, third.number, fourth.number)
+  -- the place after a segment of four, and its token, where no sum is out of range
+  module _ (k : Counts) (line : ℕ) (p q : Place) (dst_col : q.dst_col ≡ p.dst_col +ℤ x) (source_id : q.source_id ≡ p.source_id +ℤ y) (src_line : q.src_line ≡ p.src_line +ℤ z) (src_col : q.src_col ≡ p.src_col +ℤ w) (no_dst_col : range_fault (p.dst_col +ℤ x) ≡ None) (has_source_id : true ≡ is_id_below (p.source_id +ℤ y) k.sources) (no_src_line : range_fault (p.src_line +ℤ z) ≡ None) (no_src_col : range_fault (p.src_col +ℤ w) ≡ None) where
+    pub place-four : front_digits (drop (a + b + c + d) text) ≡ [] → q.name_id ≡ p.name_id → q ≡ moved_by p (front_segment text)
+    place-four ended name_id =
+        let s : front_segment text ≡ first.run ∷ second.run ∷ third.run ∷ fourth.run ∷ [] = front-four ∙ rw ended in
+        rw (s, first.number, second.number, third.number, fourth.number, sym dst_col, sym source_id, sym src_line, sym src_col, sym name_id) refl
 
-  -- the fields of a segment of four
-  pub fields-four : (f : Fields) → front_digits (drop (a + b + c + d) text) ≡ [] → f.count ≡ 4 → f.values ≡ x ∷ y ∷ z ∷ w ∷ pos 0 ∷ [] → AreFieldsOf (front_segment text) f
-  fields-four f ended count values =
-      let s : front_segment text ≡ first.run ∷ second.run ∷ third.run ∷ fourth.run ∷ [] = front-four ∙ rw ended in
-      let n : map number (front_segment text) ≡ x ∷ y ∷ z ∷ w ∷ [] = ap (map number) s ∙ numbers-four [] in
-      record {
-        clean = ap digit_fault s ∙ clean-four [] ∙ fault-none;
-        count = count ∙ sym (ap length s);
-        values = λ k _. ap (λ v. get_or v k (pos 0)) values ∙ padded x y z w k ∙ sym (ap (λ v. get_or v k (pos 0)) n);
-      }
+    pub token-four : front_digits (drop (a + b + c + d) text) ≡ [] → q.name_id ≡ p.name_id → segment_result k line p (front_segment text) (moved_by p (front_segment text)) ≡ Ok (token_at line 4 q)
+    unfolding place_fault
+    token-four ended name_id =
+        let s : front_segment text ≡ first.run ∷ second.run ∷ third.run ∷ fourth.run ∷ [] = front-four ∙ rw ended in
+        ap (segment_result k line p (front_segment text)) (sym (place-four ended name_id))
+        ∙ ap (λ run. segment_result k line p run q) s
+        ∙ rw (clean-four [] ∙ fault-none, dst_col, source_id, src_line, src_col, no_dst_col, sym has_source_id, no_src_line, no_src_col)
 
-  -- the fields of a segment of five
-  module _ (e : ℕ) (v : ℤ) (fifth : IsNumberAt text (a + b + c + d) v e) where
-    front-five : front_segment text ≡ first.run ∷ second.run ∷ third.run ∷ fourth.run ∷ fifth.run ∷ front_segment (drop (a + b + c + d + e) text)
-    front-five = front-four ∙ rw fifth.front
+    -- the same after a segment of five
+    module _ (e : ℕ) (v : ℤ) (fifth : IsNumberAt text (a + b + c + d) v e) (ended : front_digits (drop (a + b + c + d + e) text) ≡ []) (name_id : q.name_id ≡ p.name_id +ℤ v) where
+      front-five : front_segment text ≡ first.run ∷ second.run ∷ third.run ∷ fourth.run ∷ fifth.run ∷ []
+      front-five = front-four ∙ rw (fifth.front, ended)
 
-    pub digits-five : front_digits (drop (a + b + c + d + e) text) ≡ [] → a + b + c + d + e ≡ length (front_digits text)
-    digits-five ended =
-        let k : length (front_digits (drop (0 + a) text)) ≡ length (front_digits (drop a text)) = ap (λ i. length (front_digits (drop i text))) (zero-add a) in
-        omega (arith, k, first.digits, second.digits, third.digits, fourth.digits, fifth.digits, ap length ended)
+      clean-five : digit_fault (first.run ∷ second.run ∷ third.run ∷ fourth.run ∷ fifth.run ∷ []) ≡ None
+      clean-five = clean-four (fifth.run ∷ []) ∙ fault-free fifth.run [] fifth.fits fifth.closed ∙ fault-none
 
-    pub fields-five : (f : Fields) → front_digits (drop (a + b + c + d + e) text) ≡ [] → f.count ≡ 5 → f.values ≡ x ∷ y ∷ z ∷ w ∷ v ∷ [] → AreFieldsOf (front_segment text) f
-    fields-five f ended count values =
-        let s : front_segment text ≡ first.run ∷ second.run ∷ third.run ∷ fourth.run ∷ fifth.run ∷ [] = front-five ∙ rw ended in
-        let n : map number (front_segment text) ≡ x ∷ y ∷ z ∷ w ∷ v ∷ [] = ap (map number) s ∙ numbers-four (fifth.run ∷ []) ∙ rw fifth.number in
-        record {
-          clean = ap digit_fault s ∙ clean-four (fifth.run ∷ []) ∙ fault-free fifth.run [] fifth.fits fifth.closed ∙ fault-none;
-          count = count ∙ sym (ap length s);
-          values = λ k _. ap (λ q. get_or q k (pos 0)) values ∙ sym (ap (λ q. get_or q k (pos 0)) n);
-        }
+      pub digits-five : a + b + c + d + e ≡ length (front_digits text)
+      digits-five =
+          let k : length (front_digits (drop (0 + a) text)) ≡ length (front_digits (drop a text)) = ap (λ i. length (front_digits (drop i text))) (zero-add a) in
+          omega (arith, k, first.digits, second.digits, third.digits, fourth.digits, fifth.digits, ap length ended)
 
--- each `;` behind a text ends its last segment, as the end of the text does
-pub front-ended : (text : List ℕ) (n : ℕ) → front_digits (text ++ replicate n 59) ≡ front_digits text
-front-ended [] zero = refl
-front-ended [] (suc n) = refl
-front-ended (b ∷ bs) n = rw (front-ended bs n) refl
+      pub place-five : q ≡ moved_by p (front_segment text)
+      place-five = rw (front-five, first.number, second.number, third.number, fourth.number, fifth.number, sym dst_col, sym source_id, sym src_line, sym src_col, sym name_id) refl
+
+      pub token-five : true ≡ is_id_below (p.name_id +ℤ v) k.names → segment_result k line p (front_segment text) (moved_by p (front_segment text)) ≡ Ok (token_at line 5 q)
+      unfolding place_fault
+      token-five has_name_id =
+          ap (segment_result k line p (front_segment text)) (sym place-five)
+          ∙ ap (λ run. segment_result k line p run q) front-five
+          ∙ rw (clean-five, dst_col, source_id, src_line, src_col, name_id, no_dst_col, sym has_source_id, no_src_line, no_src_col, sym has_name_id)
 
 -- a segment has no more digits than its text has bytes
 pub front-within : (text : List ℕ) → length (front_digits text) ≤ length text

@@ -11,7 +11,7 @@ pub use Rattle.oxc_sourcemap_mappings.specs.Canonical.{canonical}
 pub use Rattle.oxc_sourcemap_mappings.specs.Decoding.{ends_segment, front_digits, front_segment}
 pub use Rattle.oxc_sourcemap_mappings.specs.Decoding.{segments_after, is_over, IsNumberAt}
 pub use Rattle.oxc_sourcemap_mappings.specs.Decoding.{AreFieldsOf, AreSmall, value, place_of}
-pub use Rattle.oxc_sourcemap_mappings.specs.Decoding.{source_moved, moved, moved_by}
+pub use Rattle.oxc_sourcemap_mappings.specs.Decoding.{source_moved, moved, moved_by, IsFrontOf}
 pub use Rattle.oxc_sourcemap_mappings.specs.Encoding.{text_from, OnlyAdds, line_marks}
 pub use Rattle.oxc_sourcemap_mappings.specs.Encoding.{column_from, fields_text, raw_at}
 pub use Rattle.oxc_sourcemap_mappings.specs.Encoding.{IfWritten, AreWritten}

@@ -1,7 +1,7 @@
 //! Reading the `mappings` text.
 ghost use Rattle.std.specs.Box.{boxed_slice_items};
 ghost use Rattle.std.specs.Prelude.{ℕ, List, ◌≡◌, ◌⊎◌, ◌+◌, ◌*◌, ◌%◌, ◌^◌, ◌<◌, ◌≤◌, ◌-◌, ◌++◌};
-ghost use Rattle.std.specs.Prelude.{length, ◌∷◌, [], drop, replicate, not, ℤ, pos, nat_abs, ◌+ℤ◌};
+ghost use Rattle.std.specs.Prelude.{length, ◌∷◌, [], drop, not, ℤ, pos, nat_abs, ◌+ℤ◌, ◌<ℤ◌, ◌≤ℤ◌};
 ghost use Rattle.std.specs.Prelude.{set, true, false, min, is_some, IfSome, IfNone, OnOk, IfOk};
 ghost use Rattle.std.specs.Prelude.{IfErr, Option, Some, None, Result, Ok, Err};
 ghost use Rattle.oxc_sourcemap_mappings.specs.Words.{TooLarge, digit, payload, signed};
@@ -10,7 +10,7 @@ ghost use Rattle.oxc_sourcemap_mappings.specs.Words.{range_fault, is_id_below, l
 ghost use Rattle.oxc_sourcemap_mappings.specs.Words.{source_fault, place_fault, counts_of};
 ghost use Rattle.oxc_sourcemap_mappings.specs.Words.{token_at, segment_result, reading};
 ghost use Rattle.oxc_sourcemap_mappings.specs.Words.{ends_segment, front_digits, front_segment};
-ghost use Rattle.oxc_sourcemap_mappings.specs.Words.{segments_after, is_over, IsNumberAt};
+ghost use Rattle.oxc_sourcemap_mappings.specs.Words.{segments_after, is_over, IsNumberAt, IsFrontOf};
 ghost use Rattle.oxc_sourcemap_mappings.specs.Words.{AreFieldsOf, AreSmall, value, place_of};
 ghost use Rattle.oxc_sourcemap_mappings.specs.Words.{source_moved, moved, moved_by, Answers};
 
@@ -30,13 +30,23 @@ struct Fields {
 }
 
 /// The sums of the fields read so far.
-#[derive(Drop)]
+#[derive(Clone, Copy)]
 struct Sums {
     dst_col: u32,
     source_id: u32,
     src_line: u32,
     src_col: u32,
     name_id: u32,
+}
+
+/// What the segment at the front of a text gives.
+#[derive(Drop)]
+struct Front {
+    token: Token,
+    /// The sums after the segment.
+    sums: Sums,
+    /// How many bytes the segment takes.
+    len: usize,
 }
 
 /// The digit of each byte, and 128 for `,` and `;`.
@@ -54,6 +64,21 @@ static DIGITS: [u8; 256] = [
     63, 63, 63, 63, 63, 63, 63, 63, 63, 63, 63, 63, 63, 63, 63, 63,
 ];
 
+/// The number that each byte is alone, 32 more than its digit if others follow, and 127 for `,` and `;`.
+static NUMBERS: [i8; 256] = [
+    95, 95, 95, 95, 95, 95, 95, 95, 95, 95, 95, 95, 95, 95, 95, 95, 95, 95, 95, 95, 95, 95, 95, 95,
+    95, 95, 95, 95, 95, 95, 95, 95, 95, 95, 95, 95, 95, 95, 95, 95, 95, 95, 95, 94, 127, 95, 95,
+    95, 84, 85, 86, 87, 88, 89, 90, 91, 92, 93, 95, 127, 95, 95, 95, 95, 95, 0, 0, 1, -1, 2, -2, 3,
+    -3, 4, -4, 5, -5, 6, -6, 7, -7, 8, -8, 9, -9, 10, -10, 11, -11, 12, -12, 95, 95, 95, 95, 95,
+    95, 13, -13, 14, -14, 15, -15, 64, 65, 66, 67, 68, 69, 70, 71, 72, 73, 74, 75, 76, 77, 78, 79,
+    80, 81, 82, 83, 95, 95, 95, 95, 95, 95, 95, 95, 95, 95, 95, 95, 95, 95, 95, 95, 95, 95, 95, 95,
+    95, 95, 95, 95, 95, 95, 95, 95, 95, 95, 95, 95, 95, 95, 95, 95, 95, 95, 95, 95, 95, 95, 95, 95,
+    95, 95, 95, 95, 95, 95, 95, 95, 95, 95, 95, 95, 95, 95, 95, 95, 95, 95, 95, 95, 95, 95, 95, 95,
+    95, 95, 95, 95, 95, 95, 95, 95, 95, 95, 95, 95, 95, 95, 95, 95, 95, 95, 95, 95, 95, 95, 95, 95,
+    95, 95, 95, 95, 95, 95, 95, 95, 95, 95, 95, 95, 95, 95, 95, 95, 95, 95, 95, 95, 95, 95, 95, 95,
+    95, 95, 95, 95, 95, 95, 95, 95, 95, 95, 95, 95, 95, 95, 95, 95, 95,
+];
+
 /// The digit of a byte, and 128 for `,` and `;`, which end a segment.
 #[inline(always)]
 fn mapping_of(byte: u8) -> u8
@@ -61,6 +86,18 @@ fn mapping_of(byte: u8) -> u8
     ensures mark { 64 ≤ result → ends_segment byte ≡ true }
 {
     DIGITS[byte as usize]
+}
+
+/// The number that a byte is alone, 32 more than its digit if others follow, and 127 for `,` and `;`.
+#[inline(always)]
+fn number_of(byte: u8) -> i8
+    ensures number { result <ℤ pos 64 → (ends_segment byte ≡ false) × (digit byte < 32)
+        × (result ≡ signed (digit byte)) }
+    ensures more { pos 64 ≤ℤ result → result <ℤ pos 96 → (ends_segment byte ≡ false)
+        × (32 ≤ digit byte) × (result ≡ pos (digit byte + 32)) }
+    ensures mark { pos 96 ≤ℤ result → ends_segment byte ≡ true }
+{
+    NUMBERS[byte as usize]
 }
 
 /// The digit at an index of a text; None at a `,`, a `;` and the end.
@@ -120,62 +157,23 @@ fn number_at(text: &[u8], at: usize) -> Option<(i64, usize)>
     ensures number { IfSome result (λ read. IsNumberAt text.now at read.0 read.1) }
     ensures len { IfSome result (λ read. read.1 ≤ 3) }
 {
-    let first = mapping_of(text[at]);
-    if first < 32 {
-        return Some((signed_of(u64::from(first)), 1));
-    }
-    if first >= 64 {
-        return None;
+    let number = number_of(text[at]);
+    if number < 64 {
+        return Some((i64::from(number), 1));
     }
     let second = mapping_of(text[at + 1]);
-    if second < 32 {
-        let raw = u64::from(first % 32) + u64::from(second) * 32;
-        return Some((signed_of(raw), 2));
-    }
-    if second >= 64 {
+    if number > 95 || second >= 64 {
         return None;
+    }
+    let low = u64::from((number - 64) as u8) + u64::from(second % 32) * 32;
+    if second < 32 {
+        return Some((signed_of(low), 2));
     }
     let third = mapping_of(text[at + 2]);
     if third >= 32 {
         return None;
     }
-    let raw = u64::from(first % 32) + u64::from(second % 32) * 32 + u64::from(third) * 1024;
-    Some((signed_of(raw), 3))
-}
-
-/// The fields of the segment at the front of a text, if it has four or five, each of one to three digits; None for every
-/// other segment. For speed it is read without a loop.
-#[inline(always)]
-fn usual_segment(text: &[u8]) -> Option<Fields>
-    requires { 16 ≤ length text.now }
-    ensures fields { IfSome result (λ fields. AreFieldsOf (front_segment text.now) fields) }
-    ensures len { IfSome result (λ fields. fields.len ≡ length (front_digits text.now)) }
-    ensures within { IfSome result (λ fields. fields.len ≤ length text.now) }
-    ensures small { IfSome result AreSmall }
-{
-    let (dst_col, a) = number_at(text, 0)?;
-    let (source_id, b) = number_at(text, a)?;
-    let (src_line, c) = number_at(text, a + b)?;
-    let (src_col, d) = number_at(text, a + b + c)?;
-    let len = a + b + c + d;
-    if mapping_of(text[len]) >= 64 {
-        let values = [dst_col, source_id, src_line, src_col, 0];
-        return Some(Fields {
-            values,
-            count: 4,
-            len,
-        });
-    }
-    let (name_id, e) = number_at(text, len)?;
-    if mapping_of(text[len + e]) < 64 {
-        return None;
-    }
-    let values = [dst_col, source_id, src_line, src_col, name_id];
-    Some(Fields {
-        values,
-        count: 5,
-        len: len + e,
-    })
+    Some((signed_of(low + u64::from(third) * 1024), 3))
 }
 
 /// The fields of the segment at the front of a text, digit by digit, or the fault of its digits.
@@ -213,48 +211,6 @@ fn any_segment(text: &[u8]) -> Result<Fields>
     Ok(Fields { values, count, len })
 }
 
-/// A text of fewer than 16 bytes, filled up with `;`, which end its last segment as the end of the text does.
-fn with_end(text: &[u8]) -> [u8; 16]
-    requires { length text.now < 16 }
-    ensures { result ≡ text.now ++ replicate (16 - length text.now) 59 }
-{
-    let mut window = [b';'; 16];
-    window[..text.len()].copy_from_slice(text);
-    window
-}
-
-/// `usual_segment` for a text of fewer than 16 bytes, which is filled up.
-#[cold]
-fn usual_last_segment(text: &[u8]) -> Option<Fields>
-    requires { length text.now < 16 }
-    ensures fields { IfSome result (λ fields. AreFieldsOf (front_segment text.now) fields) }
-    ensures len { IfSome result (λ fields. fields.len ≡ length (front_digits text.now)) }
-    ensures within { IfSome result (λ fields. fields.len ≤ length text.now) }
-    ensures small { IfSome result AreSmall }
-{
-    usual_segment(&with_end(text))
-}
-
-/// The fields of the segment at the front of a text, or the fault of its digits.
-#[inline(always)]
-fn read_segment(text: &[u8]) -> Result<Fields>
-    ensures fields { IfOk result (λ fields. AreFieldsOf (front_segment text.now) fields) }
-    ensures len { IfOk result (λ fields. fields.len ≡ length (front_digits text.now)) }
-    ensures within { IfOk result (λ fields. fields.len ≤ length text.now) }
-    ensures small { IfOk result AreSmall }
-    ensures fault { IfErr result (λ e. digit_fault (front_segment text.now) ≡ Some e) }
-{
-    let usual = if text.len() >= 16 {
-        usual_segment(text)
-    } else {
-        usual_last_segment(text)
-    };
-    match usual {
-        Some(fields) => Ok(fields),
-        None => any_segment(text),
-    }
-}
-
 /// A line or column moved by a field; an error if it leaves 0 to 4294967295.
 #[inline(always)]
 fn add_within(sum: u32, by: i64) -> Result<u32>
@@ -273,6 +229,16 @@ fn add_within(sum: u32, by: i64) -> Result<u32>
     Ok(moved as u32)
 }
 
+/// Whether a sum is a line or a column: 0 to 4294967295.
+#[inline(always)]
+fn is_in_range(sum: i64) -> bool
+    ensures low { result ≡ true → pos 0 ≤ℤ sum }
+    ensures high { result ≡ true → sum ≤ℤ pos 4294967295 }
+    ensures clean { result ≡ true → range_fault sum ≡ None }
+{
+    sum >= 0 && sum <= 4294967295
+}
+
 /// An id moved by a field; None if it is negative, not below the count, or 4294967295.
 #[inline(always)]
 fn add_below(id: u32, by: i64, count: usize) -> Option<u32>
@@ -282,7 +248,7 @@ fn add_below(id: u32, by: i64, count: usize) -> Option<u32>
     ensures small { IfSome result (λ n. n < 4294967295) }
 {
     let moved = i64::from(id) + by;
-    if moved < 0 || moved >= 4294967295 || moved as usize >= count {
+    if moved < 0 || moved as usize >= count.min(4294967295) {
         None
     } else {
         Some(moved as u32)
@@ -369,32 +335,82 @@ impl Sums {
         }
     }
 
-    /// Reads the segment at the front of a text: moves the sums by it, and gives its token and the number of its bytes. After
-    /// an `Err` some of the sums are moved.
+    /// What the segment at the front of a text gives, if it has four or five fields, each of one to three digits, and no fault;
+    /// None for every other segment. For speed it is read without a loop, and there is one test for all lines and columns.
     #[inline(always)]
-    fn read_token(
-        &mut self,
-        line: u32,
-        text: &[u8],
-        names: usize,
-        sources: usize,
-    ) -> Result<(Token, usize)>
-        ensures place { OnOk result (place_of self.new
-            ≡ moved_by (place_of self.old) (front_segment text.now)) }
-        ensures token { let s = front_segment text.now in
-            let here = moved_by (place_of self.old) s in
-            IfOk result (λ read. segment_result (counts_of names sources) line
-            (place_of self.old) s here ≡ Ok read.0) }
-        ensures len { IfOk result (λ read. read.1 ≡ length (front_digits text.now)) }
-        ensures within { IfOk result (λ read. read.1 ≤ length text.now) }
-        ensures fault { let s = front_segment text.now in
-            let here = moved_by (place_of self.old) s in
-            IfErr result (λ e. segment_result (counts_of names sources) line
-            (place_of self.old) s here ≡ Err e) }
+    fn usual_front(self, line: u32, text: &[u8], names: usize, sources: usize) -> Option<Front>
+        requires { 16 ≤ length text.now }
+        ensures { IfSome result (IsFrontOf (counts_of names sources) line (place_of self) text.now) }
     {
-        let fields = read_segment(text)?;
-        let token = self.step(line, &fields, names, sources)?;
-        Ok((token, fields.len))
+        let (dst_col, a) = number_at(text, 0)?;
+        let (source_id, b) = number_at(text, a)?;
+        let (src_line, c) = number_at(text, a + b)?;
+        let (src_col, d) = number_at(text, a + b + c)?;
+        let len = a + b + c + d;
+        let dst_col = i64::from(self.dst_col) + dst_col;
+        let src_line = i64::from(self.src_line) + src_line;
+        let src_col = i64::from(self.src_col) + src_col;
+        let source_id = add_below(self.source_id, source_id, sources)?;
+        if !(is_in_range(dst_col) & is_in_range(src_line) & is_in_range(src_col)) {
+            return None;
+        }
+        let sums = Self {
+            dst_col: dst_col as u32,
+            source_id,
+            src_line: src_line as u32,
+            src_col: src_col as u32,
+            name_id: self.name_id,
+        };
+        if number_of(text[len]) > 95 {
+            let token = sums.token(line, Some(source_id), None);
+            return Some(Front { token, sums, len });
+        }
+        let (by, e) = number_at(text, len)?;
+        let name_id = add_below(self.name_id, by, names)?;
+        if number_of(text[len + e]) < 96 {
+            return None;
+        }
+        let sums = Self { name_id, ..sums };
+        let token = sums.token(line, Some(source_id), Some(name_id));
+        Some(Front {
+            token,
+            sums,
+            len: len + e,
+        })
+    }
+
+    /// What the segment at the front of a text gives, read digit by digit and field by field.
+    #[cold]
+    fn any_front(self, line: u32, text: &[u8], names: usize, sources: usize) -> Result<Front>
+        ensures front { IfOk result (IsFrontOf (counts_of names sources) line (place_of self) text.now) }
+        ensures fault { let s = front_segment text.now in
+            IfErr result (λ e. segment_result (counts_of names sources) line
+            (place_of self) s (moved_by (place_of self) s) ≡ Err e) }
+    {
+        let mut sums = self;
+        let fields = any_segment(text)?;
+        let token = sums.step(line, &fields, names, sources)?;
+        Ok(Front {
+            token,
+            sums,
+            len: fields.len,
+        })
+    }
+
+    /// What the segment at the front of a text gives.
+    #[inline(always)]
+    fn front(self, line: u32, text: &[u8], names: usize, sources: usize) -> Result<Front>
+        ensures front { IfOk result (IsFrontOf (counts_of names sources) line (place_of self) text.now) }
+        ensures fault { let s = front_segment text.now in
+            IfErr result (λ e. segment_result (counts_of names sources) line
+            (place_of self) s (moved_by (place_of self) s) ≡ Err e) }
+    {
+        if text.len() >= 16 {
+            if let Some(front) = self.usual_front(line, text, names, sources) {
+                return Ok(front);
+            }
+        }
+        self.any_front(line, text, names, sources)
     }
 
     #[inline(always)]
@@ -523,9 +539,10 @@ pub fn decode_mappings(
             }
             b',' => rest = &rest[1..],
             _ => {
-                let (token, len) = sums.read_token(line, rest, names, sources)?;
-                tokens.push_reserved(token);
-                rest = after_comma(&rest[len..]);
+                let front = sums.front(line, rest, names, sources)?;
+                tokens.push_reserved(front.token);
+                sums = front.sums;
+                rest = after_comma(&rest[front.len..]);
             }
         }
     }

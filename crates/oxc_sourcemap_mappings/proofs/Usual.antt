@@ -1,17 +1,18 @@
 -- Segments of four or five fields of one to three digits.
-use Rattle.std.proofs.Common.{if◌then◌else◌, ◌≡◌, ℕ, zero, suc, ◌+◌, ◌*◌, ◌%◌, ◌^◌, ◌<◌, ◌≤◌, ◌++◌}
-use Rattle.std.proofs.Common.{true, false, List, [], ◌∷◌, length, replicate, get_or, drop, map, ℤ}
-use Rattle.std.proofs.Common.{pos, nat_abs, None, nat_le, arith, refl, sym, ap, ◌∙◌, zero-add}
-use Rattle.std.proofs.Common.{drop-cons, lit<, rules, to_z, of_z, w64}
-use Rattle.std.proofs.lemmas.Int.{to_z-of_z}
+use Rattle.std.proofs.Common.{◌≡◌, ℕ, zero, suc, ◌+◌, ◌*◌, ◌%◌, ◌^◌, ◌<◌, ◌≤◌, true, false, List, []}
+use Rattle.std.proofs.Common.{◌∷◌, length, get_or, drop, map, ℤ, pos, ◌+ℤ◌, nat_abs, None, Ok, nat_le}
+use Rattle.std.proofs.Common.{arith, refl, sym, ap, ◌∙◌, zero-add, drop-cons, if◌then◌else◌}
 use Rattle.std.proofs.lemmas.Bool.Decides.{nat_tests}
-use Rattle.oxc_sourcemap_mappings.specs.declared.decode.Fields.{Fields}
+use Rattle.std.proofs.lemmas.Int.{ints}
 use Rattle.oxc_sourcemap_mappings.specs.Number.{digit, ends_run, signed, number, is_fitting}
 use Rattle.oxc_sourcemap_mappings.specs.Number.{is_open}
 use Rattle.oxc_sourcemap_mappings.specs.Parts.{Segment, runs}
-use Rattle.oxc_sourcemap_mappings.specs.Faults.{digit_fault}
+use Rattle.oxc_sourcemap_mappings.specs.Places.{Place}
+use Rattle.oxc_sourcemap_mappings.specs.Faults.{Counts, digit_fault, range_fault, is_id_below}
+use Rattle.oxc_sourcemap_mappings.specs.Faults.{place_fault}
+use Rattle.oxc_sourcemap_mappings.specs.Reading.{segment_result, token_at}
 use Rattle.oxc_sourcemap_mappings.specs.Decoding.{ends_segment, front_digits, front_segment}
-use Rattle.oxc_sourcemap_mappings.specs.Decoding.{IsNumberAt, AreFieldsOf}
+use Rattle.oxc_sourcemap_mappings.specs.Decoding.{IsNumberAt, moved_by}
 
 -- the digit at an index of a text
 pub front-at : (text : List ℕ) (i j d : ℕ) → i < length text → j ≡ i + 1 → (ends_segment (get_or text i 0) ≡ false) × (d ≡ digit (get_or text i 0)) → front_digits (drop i text) ≡ d ∷ front_digits (drop j text)
@@ -35,16 +36,19 @@ runs-on d more run rest h e = let t : ends_run d ≡ false = grind (arith, nat_t
 closed : (d : ℕ) → d < 32 → nat_le 32 d ≡ false
 closed d h = grind (arith, nat_tests)
 
+signed-small : (d : ℕ) → d < 32 → nat_abs (signed d) < 2 ^ 62
+signed-small d h = grind (arith, ints, nat_tests)
+
 -- a number of one digit
-pub number-1 : (text : List ℕ) (at d : ℕ) (n : ℤ) → front_digits (drop at text) ≡ d ∷ front_digits (drop (at + 1) text) → d < 32 → n ≡ signed d → nat_abs n < 2 ^ 62 → IsNumberAt text at n 1
-number-1 text at d n e h v s = record {
+pub number-1 : (text : List ℕ) (at d : ℕ) (n : ℤ) → front_digits (drop at text) ≡ d ∷ front_digits (drop (at + 1) text) → d < 32 → n ≡ signed d → IsNumberAt text at n 1
+number-1 text at d n e h v = record {
   run = d ∷ [];
   front = ap runs e ∙ runs-end d (front_digits (drop (at + 1) text)) h;
   digits = omega (arith, ap length e);
   number = (let r : (d % 32) * 1 + 0 ≡ d = omega arith in ap signed r) ∙ sym v;
   fits = refl;
   closed = closed d h;
-  small = s;
+  small = rw v (signed-small d h);
 }
 
 -- a number of two digits

@@ -234,7 +234,6 @@ fn add_within(sum: u32, by: i64) -> Result<u32>
 fn is_in_range(sum: i64) -> bool
     ensures low { result ≡ true → pos 0 ≤ℤ sum }
     ensures high { result ≡ true → sum ≤ℤ pos 4294967295 }
-    ensures clean { result ≡ true → range_fault sum ≡ None }
 {
     sum >= 0 && sum <= 4294967295
 }
@@ -335,8 +334,38 @@ impl Sums {
         }
     }
 
+    /// These sums with lines and columns moved by their fields; None if one leaves 0 to 4294967295. For speed one test is for all
+    /// three.
+    #[inline(always)]
+    fn with_position(self, dst_col: i64, src_line: i64, src_col: i64) -> Option<Self>
+        requires dst_col { nat_abs dst_col < 2 ^ 62 }
+        requires src_line { nat_abs src_line < 2 ^ 62 }
+        requires src_col { nat_abs src_col < 2 ^ 62 }
+        ensures dst_col { IfSome result (λ sums. pos sums.dst_col ≡ pos self.dst_col +ℤ dst_col) }
+        ensures src_line { IfSome result (λ sums. pos sums.src_line ≡ pos self.src_line +ℤ src_line) }
+        ensures src_col { IfSome result (λ sums. pos sums.src_col ≡ pos self.src_col +ℤ src_col) }
+        ensures others { IfSome result (λ sums. (sums.source_id ≡ self.source_id)
+            × (sums.name_id ≡ self.name_id)) }
+        ensures clean { is_some result ≡ true → (range_fault (pos self.dst_col +ℤ dst_col) ≡ None)
+            × (range_fault (pos self.src_line +ℤ src_line) ≡ None)
+            × (range_fault (pos self.src_col +ℤ src_col) ≡ None) }
+    {
+        let dst_col = i64::from(self.dst_col) + dst_col;
+        let src_line = i64::from(self.src_line) + src_line;
+        let src_col = i64::from(self.src_col) + src_col;
+        if !(is_in_range(dst_col) & is_in_range(src_line) & is_in_range(src_col)) {
+            return None;
+        }
+        Some(Self {
+            dst_col: dst_col as u32,
+            src_line: src_line as u32,
+            src_col: src_col as u32,
+            ..self
+        })
+    }
+
     /// What the segment at the front of a text gives, if it has four or five fields, each of one to three digits, and no fault;
-    /// None for every other segment. For speed it is read without a loop, and there is one test for all lines and columns.
+    /// None for every other segment. For speed it is read without a loop.
     #[inline(always)]
     fn usual_front(self, line: u32, text: &[u8], names: usize, sources: usize) -> Option<Front>
         requires { 16 ≤ length text.now }
@@ -347,20 +376,9 @@ impl Sums {
         let (src_line, c) = number_at(text, a + b)?;
         let (src_col, d) = number_at(text, a + b + c)?;
         let len = a + b + c + d;
-        let dst_col = i64::from(self.dst_col) + dst_col;
-        let src_line = i64::from(self.src_line) + src_line;
-        let src_col = i64::from(self.src_col) + src_col;
         let source_id = add_below(self.source_id, source_id, sources)?;
-        if !(is_in_range(dst_col) & is_in_range(src_line) & is_in_range(src_col)) {
-            return None;
-        }
-        let sums = Self {
-            dst_col: dst_col as u32,
-            source_id,
-            src_line: src_line as u32,
-            src_col: src_col as u32,
-            name_id: self.name_id,
-        };
+        let moved = self.with_position(dst_col, src_line, src_col)?;
+        let sums = Self { source_id, ..moved };
         if number_of(text[len]) > 95 {
             let token = sums.token(line, Some(source_id), None);
             return Some(Front { token, sums, len });

@@ -1,9 +1,9 @@
 -- Segments of four or five fields of one to three digits.
 use Rattle.std.proofs.Common.{◌≡◌, ℕ, zero, suc, ◌+◌, ◌*◌, ◌%◌, ◌^◌, ◌<◌, ◌≤◌, true, false, List, []}
 use Rattle.std.proofs.Common.{◌∷◌, length, get_or, drop, map, ℤ, pos, ◌+ℤ◌, nat_abs, None, Ok, nat_le}
-use Rattle.std.proofs.Common.{arith, refl, sym, ap, ◌∙◌, zero-add, drop-cons, if◌then◌else◌}
+use Rattle.std.proofs.Common.{arith, refl, sym, ap, ◌∙◌, zero-add, drop-cons, if◌then◌else◌, rules, to_z, of_z, w64}
 use Rattle.std.proofs.lemmas.Bool.Decides.{nat_tests}
-use Rattle.std.proofs.lemmas.Int.{ints}
+use Rattle.std.proofs.lemmas.Int.{ints, to_z-of_z}
 use Rattle.oxc_sourcemap_mappings.specs.Number.{digit, ends_run, signed, number, is_fitting}
 use Rattle.oxc_sourcemap_mappings.specs.Number.{is_open}
 use Rattle.oxc_sourcemap_mappings.specs.Parts.{Segment, runs}
@@ -85,6 +85,10 @@ fault-free run more f o = rw (f, o)
 fault-none : digit_fault [] ≡ None
 unfolding digit_fault
 fault-none = refl
+
+-- a small number is kept in 64 bits
+pub kept : (z : ℤ) → nat_abs z < 2 ^ 62 → to_z w64 (of_z w64 z) ≡ z
+kept z h = to_z-of_z w64 z (search rules)
 
 -- numbers of one text, one after the other
 module _ (text : List ℕ) (a b c d : ℕ) (x y z w : ℤ) (first : IsNumberAt text 0 x a) (second : IsNumberAt text a y b) (third : IsNumberAt text (a + b) z c) (fourth : IsNumberAt text (a + b + c) w d) where

@@ -40,20 +40,20 @@ returns-in_err-line-in-59 c =
           ∙ ap Err (sym c.in_err-line-in-59.ensures.last.0),
     )
 
-pub returns-in_err-token-in_default-byte :
-    goal.returns-in_err-token-in_default-byte
-returns-in_err-token-in_default-byte c =
+pub returns-in_err-front-in_default-byte :
+    goal.returns-in_err-front-in_default-byte
+returns-in_err-front-in_default-byte c =
     let rest = c.loop-byte.rest.now in
     let place = place_of c.loop-byte.sums in
     let counts = counts_of c.args.names c.args.sources in
-    let p = err_from_is_err_and c.from_residual-in_err-token-in_default-byte.result c.from_residual-in_err-token-in_default-byte.ensures.1 in
+    let p = err_from_is_err_and c.from_residual-in_err-front-in_default-byte.result c.from_residual-in_err-front-in_default-byte.ensures.1 in
     let g : slice_get rest 0 ≡ Some c.in-Some.byte.now = sym c.in-Some.ensures.value in
     let m : ends_segment c.in-Some.byte.now ≡ false = grind (arith, nat_tests) in
     rw (p.1, p.2) (
       tt,
       λ _. sym c.loop-byte.invariant.reading
           ∙ ap (λ os. onto_all c.loop-byte.tokens.items (gathered os)) (left-segment counts c.loop-byte.line place rest (front-filled rest c.in-Some.byte.now g m))
-          ∙ onto_all-fault c.loop-byte.tokens.items _ _ _ c.in_err-token-in_default-byte.ensures.fault,
+          ∙ onto_all-fault c.loop-byte.tokens.items _ _ _ c.in_err-front-in_default-byte.ensures.fault,
     )
 
 pub loop-byte-preserved : goal.loop-byte-preserved
@@ -61,14 +61,15 @@ loop-byte-preserved c =
     let rest = c.loop-byte.rest.now in
     let place = place_of c.loop-byte.sums in
     let counts = counts_of c.args.names c.args.sources in
-    let read = c.in_ok-token-in_default-byte in
+    let read = c.in_ok-front-in_default-byte.front in
+    let is = c.in_ok-front-in_default-byte.ensures.front in
     let g : slice_get rest 0 ≡ Some c.in-Some.byte.now = sym c.in-Some.ensures.value in
     let m : ends_segment c.in-Some.byte.now ≡ false = grind (arith, nat_tests) in
     let left = c.after_comma-rest.ensures in
     record {
-      reading = rw (c.push_reserved.ensures.items, sym (left-after counts c.loop-byte.line (place_of c.read_token.new.self) _ _ left), take_rest rest read.len, read.ensures.len, read.ensures.place)
+      reading = rw (c.push_reserved.ensures.items, sym (left-after counts c.loop-byte.line (place_of read.sums) _ _ left), take_rest rest read.len, is.len, is.place)
           (sym (ap (λ os. onto_all c.loop-byte.tokens.items (gathered os)) (left-segment counts c.loop-byte.line place rest (front-filled rest c.in-Some.byte.now g m))
-          ∙ onto_all-token c.loop-byte.tokens.items read.token _ _ read.ensures.token)
+          ∙ onto_all-token c.loop-byte.tokens.items read.token _ _ is.token)
           ∙ c.loop-byte.invariant.reading);
-      room = omega (arith, c.loop-byte.invariant.room, c.push_reserved.ensures.len, c.push_reserved.ensures.capacity, segments-token rest c.in-Some.byte.now g m, ap (segments_after false) (take_rest rest read.len ∙ ap (λ k. drop k rest) read.ensures.len), segments-comma _ _ left);
+      room = omega (arith, c.loop-byte.invariant.room, c.push_reserved.ensures.len, c.push_reserved.ensures.capacity, segments-token rest c.in-Some.byte.now g m, ap (segments_after false) (take_rest rest read.len ∙ ap (λ k. drop k rest) is.len), segments-comma _ _ left);
     }

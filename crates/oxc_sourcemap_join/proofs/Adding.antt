@@ -1,12 +1,14 @@
 -- What is worked out for an add is right.
 use Rattle.std.proofs.Common.{◌≡◌, ℕ, ◌+◌, ◌-◌, ◌≤◌, List, [], ◌∷◌, ◌++◌, map, length, take, drop}
 use Rattle.std.proofs.Common.{refl, sym, ap, ◌∙◌, subst, arith, Option, Some, None, ◌⊎◌, inl, inr}
+use Rattle.std.proofs.Common.{slice_get, ◌↔◌}
 use Rattle.oxc_sourcemap_tokens.specs.declared.error.Error.{Error}
 use Rattle.oxc_sourcemap_tokens.specs.declared.error.Error.TheVariants.{OutOfMemory, TooLarge}
 use Rattle.std.specs.List.{AllByRecursion, All}
-use Rattle.std.specs.Option.{unwrap_or}
+use Rattle.std.specs.Option.{IfSome, unwrap_or}
 use Rattle.std.proofs.lemmas.List.{length-append, length-drop, take_all}
-use Rattle.std.proofs.lemmas.List.Elements.{All-append, All-from_recursion, recursion_from_All}
+use Rattle.std.proofs.lemmas.List.Elements.{All-append, All-head, All-from_recursion}
+use Rattle.std.proofs.lemmas.List.Elements.{recursion_from_All}
 use Rattle.oxc_sourcemap_tokens.specs.declared.token.TokenChunk.{TokenChunk}
 use Rattle.oxc_sourcemap_tokens.specs.Token.{TokenRecord, IsInBounds, AreInBounds, last}
 use Rattle.oxc_sourcemap_tokens.specs.State.{state_at}
@@ -24,7 +26,7 @@ use Rattle.oxc_sourcemap_join.specs.declared.joined_parts.Addition.{Addition}
 use Rattle.oxc_sourcemap_join.proofs.Fitted.{length-fitted, fitted-more}
 use Rattle.oxc_sourcemap_join.proofs.Joining.{fit-added, added_all-continues, length-front}
 use Rattle.oxc_sourcemap_join.proofs.Joining.{all-front}
-use Rattle.oxc_sourcemap_join.proofs.Moving.{repeat-in-bounds, kept-in-bounds, length-mapped}
+use Rattle.oxc_sourcemap_join.proofs.Moving.{repeat-in-bounds, length-mapped}
 use Rattle.oxc_sourcemap_join.proofs.IgnoreLists.{appended-in-bounds, front-in-bounds}
 
 -- moved tokens, by the lengths of the join and the offset
@@ -40,6 +42,11 @@ pub moved-in-bounds : (r m : MapRecord) (offset : Position) (s : Shift) → s.na
 moved-in-bounds r m offset s n o l h w =
     repeat-in-bounds r.tokens (all_shifted s m.tokens)
     (subst (λ us. AreInBounds (r.tokens ++ without_repeat is_same_token (last r.tokens) us)) (sym (shifted-by r offset s n o l m.tokens)) w.in_bounds) h
+
+-- of moved tokens in bounds, the first is
+pub first-in-bounds : (s : Shift) (ts : List TokenRecord) → AreInBounds (all_shifted s ts) → IfSome (slice_get ts 0) (λ t. IsInBounds (shifted s.names s.sources s.position t))
+first-in-bounds s [] h = tt
+first-in-bounds s (t ∷ ts) h = All-head IsInBounds _ (all_shifted s ts) h
 
 after-each : {A : Type 0} (P : A → Type 0) (xs ys : List A) → AllByRecursion P (xs ++ ys) → AllByRecursion P ys
 after-each P [] ys h = h
@@ -58,22 +65,22 @@ module _ (r m : MapRecord) (offset : Position) (s : Shift) (passed : ℕ) (n : s
 
   pub addition-is : (chunk : TokenChunk) → AreInBounds r.tokens → AreEntriesInBounds r.ignore_list → AreEntriesInBounds (raised_ignore_list s.sources m.ignore_list)
       → length r.names + length m.names ≤ 4294967295 → length r.sources + length m.sources ≤ 4294967295
-      → AreInBounds (all_shifted s m.tokens) → passed ≤ length m.tokens → length r.tokens + (length m.tokens - passed) ≤ 4294967295
+      → passed ≤ length m.tokens → length r.tokens + (length m.tokens - passed) ≤ 4294967295
       → chunk ≡ chunk_from (state_at r.tokens (length r.tokens)) (length r.tokens) (length r.tokens + (length m.tokens - passed))
       → IsAddition r m offset (record { shift = s; passed = passed; chunk = chunk })
-  addition-is chunk b e f nn ss ib p tt c = record {
+  addition-is chunk b e f nn ss p tt c = record {
     names = n;
     sources = o;
     position = l;
     passed = p;
     kept = k;
     chunk = c ∙ ap (chunk_from (state_at r.tokens (length r.tokens)) (length r.tokens)) (sym (added-count p));
-    within = record {
+    entries = f;
+    within = λ h. record {
       names = omega (arith, length-append r.names m.names);
       sources = omega (arith, length-append r.sources m.sources);
       tokens = omega (arith, added-count p);
-      in_bounds = subst AreInBounds (sym added-tokens) (All-append IsInBounds r.tokens (all_shifted s (drop passed m.tokens)) b
-          (subst AreInBounds (sym k) (kept-in-bounds (last r.tokens) (all_shifted s m.tokens) ib)));
+      in_bounds = subst AreInBounds (sym added-tokens) (All-append IsInBounds r.tokens (all_shifted s (drop passed m.tokens)) b h);
       ignore_list = appended-in-bounds r.ignore_list _ e (subst (λ i. AreEntriesInBounds (raised_ignore_list i m.ignore_list)) o f);
     };
   }
@@ -81,11 +88,19 @@ module _ (r m : MapRecord) (offset : Position) (s : Shift) (passed : ℕ) (n : s
 after : {A : Type 0} (P : A → Type 0) (xs ys : List A) → All P (xs ++ ys) → All P ys
 after P xs ys h = All-from_recursion P ys (after-each P xs ys (recursion_from_All P (xs ++ ys) h))
 
--- the tokens that are kept are in bounds once they are moved
-pub kept-are-in-bounds : (r m : MapRecord) (offset : Position) (a : Addition) → IsAddition r m offset a → AreInBounds (all_shifted a.shift (drop a.passed m.tokens))
-kept-are-in-bounds r m offset a h =
+-- if a join with one more map is within limits, the tokens that are kept are in bounds once they are moved
+pub kept-in-bounds : (r m : MapRecord) (offset : Position) (a : Addition) → IsAddition r m offset a → IsWithinLimits (added r m offset) → AreInBounds (all_shifted a.shift (drop a.passed m.tokens))
+kept-in-bounds r m offset a h w =
     subst AreInBounds (sym h.kept) (after IsInBounds r.tokens (without_repeat is_same_token (last r.tokens) (all_shifted a.shift m.tokens))
-    (subst (λ us. AreInBounds (r.tokens ++ without_repeat is_same_token (last r.tokens) us)) (sym (shifted-by r offset a.shift h.names h.sources h.position m.tokens)) h.within.in_bounds))
+    (subst (λ us. AreInBounds (r.tokens ++ without_repeat is_same_token (last r.tokens) us)) (sym (shifted-by r offset a.shift h.names h.sources h.position m.tokens)) w.in_bounds))
+
+-- a join with one more map is not within limits exactly if a token that is kept is not in bounds
+pub too-large : (r m : MapRecord) (offset : Position) (a : Addition) → IsAddition r m offset a → (kept : List TokenRecord) → kept ≡ drop a.passed m.tokens
+    → (P : Type 0) → P ↔ ¬ (AreInBounds (all_shifted a.shift kept)) → P ↔ ¬ (IsWithinLimits (added r m offset))
+too-large r m offset a h kept e P q = (
+  λ p w. q.0 p (subst (λ ts. AreInBounds (all_shifted a.shift ts)) (sym e) (kept-in-bounds r m offset a h w)),
+  λ n. q.1 (λ b. n (h.within (subst (λ ts. AreInBounds (all_shifted a.shift ts)) e b))),
+)
 
 module _ (r m : MapRecord) (offset : Position) (a : Addition) (h : IsAddition r m offset a) (chunks : List TokenChunk) (has : r.token_chunks ≡ Some chunks)
     (each : length r.sources ≡ length r.source_contents)
@@ -110,20 +125,24 @@ module _ (r m : MapRecord) (offset : Position) (a : Addition) (h : IsAddition r 
   added-is = rw (en, es, contents-is, tokens-is, chunks-is, entries-is) refl
 
   -- the new lists are those of a join in the making
-  pub join-is : ChunksFit r.tokens chunks → IsJoin ns ss cs ts ks is
-  join-is f = rw (en, es, contents-is, tokens-is, chunks-is, entries-is) (record {
-    names = h.within.names;
-    sources = h.within.sources;
+  pub join-is : IsWithinLimits (added r m offset) → ChunksFit r.tokens chunks → IsJoin ns ss cs ts ks is
+  join-is w f = rw (en, es, contents-is, tokens-is, chunks-is, entries-is) (record {
+    names = w.names;
+    sources = w.sources;
     contents = sym (length-fitted (length (r.sources ++ m.sources)) (r.source_contents ++ m.source_contents));
-    tokens = h.within.tokens;
-    in_bounds = h.within.in_bounds;
+    tokens = w.tokens;
+    in_bounds = w.in_bounds;
     fit = fit-added r m offset (subst (λ o. ChunksFit r.tokens (unwrap_or o [])) (sym has) f);
-    entries = h.within.ignore_list;
+    entries = w.ignore_list;
   })
 
 -- as many items as there are after some are all of them
-pub all-after-some : {A : Type 0} (p : ℕ) (xs : List A) → take (length xs - p) (drop p xs) ≡ drop p xs
+all-after-some : {A : Type 0} (p : ℕ) (xs : List A) → take (length xs - p) (drop p xs) ≡ drop p xs
 all-after-some p xs = take_all (length xs - p) (drop p xs) (omega (arith, length-drop p xs))
+
+-- the items of a slice after some, by those of the list that it is of
+pub kept : {A : Type 0} (p : ℕ) {xs ys : List A} → xs ≡ ys → take (length xs - p) (drop p xs) ≡ drop p ys
+kept p {xs = xs} e = all-after-some p xs ∙ ap (drop p) e
 
 -- lists that are equal, end to end
 pub glued : {A : Type 0} {xs ys us vs : List A} → xs ≡ ys → us ≡ vs → xs ++ us ≡ ys ++ vs

@@ -1,13 +1,11 @@
 -- The entries of ignore lists are in bounds.
-use Rattle.std.proofs.Common.{ℕ, ◌<◌, List, [], ◌∷◌, ◌++◌, length, sym, subst, Option, Some, None}
+use Rattle.std.proofs.Common.{ℕ, ◌<◌, List, [], ◌∷◌, ◌++◌, length, Option, Some, None}
 use Rattle.std.specs.List.{AllByRecursion}
 use Rattle.std.proofs.lemmas.List.Elements.{All-append, All-from_recursion, recursion_from_All}
 use Rattle.oxc_sourcemap_parts.specs.Record.{MapRecord}
 use Rattle.oxc_sourcemap_tokens.specs.declared.position.Position.{Position}
 use Rattle.oxc_sourcemap_join.specs.Joined.{raised_ignore_list, appended_ignore_lists, added}
 use Rattle.oxc_sourcemap_join.specs.Joined.{added_all, AreEntriesInBounds, IsWithinLimits}
-use Rattle.oxc_sourcemap_join.specs.Joining.{IsAddition}
-use Rattle.oxc_sourcemap_join.specs.declared.joined_parts.Addition.{Addition}
 
 before-each : (P : ℕ → Type 0) (xs ys : List ℕ) → AllByRecursion P (xs ++ ys) → AllByRecursion P xs
 before-each P [] ys h = tt
@@ -39,9 +37,6 @@ appended-right (Some xs) (Some ys) h =
 -- if a join with one more map is within limits, the raised entries of that map's ignore list are in bounds
 pub raised-in-bounds : (r m : MapRecord) (offset : Position) → IsWithinLimits (added r m offset) → AreEntriesInBounds (raised_ignore_list (length r.sources) m.ignore_list)
 raised-in-bounds r m offset w = appended-right r.ignore_list (raised_ignore_list (length r.sources) m.ignore_list) w.ignore_list
-
-pub addition-in-bounds : (r m : MapRecord) (offset : Position) (a : Addition) → IsAddition r m offset a → AreEntriesInBounds (raised_ignore_list a.shift.sources m.ignore_list)
-addition-in-bounds r m offset a h = subst (λ n. AreEntriesInBounds (raised_ignore_list n m.ignore_list)) (sym h.sources) (raised-in-bounds r m offset h.within)
 
 -- the entries of a join are in bounds if they are so after further adds
 pub front-in-bounds : (r : MapRecord) (ms : List (MapRecord × Position)) → AreEntriesInBounds (added_all r ms).ignore_list → AreEntriesInBounds r.ignore_list

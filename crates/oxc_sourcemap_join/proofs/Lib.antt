@@ -2,7 +2,6 @@ pub mod Fitted
 pub mod SameToken
 pub mod Joining
 pub mod Moving
-pub mod Reach
 pub mod IgnoreLists
 pub mod Adding
 pub mod Worked

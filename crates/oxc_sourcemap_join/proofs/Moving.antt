@@ -1,20 +1,22 @@
 -- Tokens moved to their positions in a join, and contents fitted to sources.
 use Rattle.std.proofs.Common.{◌≡◌, ℕ, zero, suc, ◌+◌, ◌-◌, ◌<◌, List, [], ◌∷◌, ◌++◌, map, length}
 use Rattle.std.proofs.Common.{take, drop, replicate, get_or, refl, sym, ap, ◌∙◌, subst, arith}
-use Rattle.std.proofs.Common.{Option, Some, None, slice_get, true, false, cond}
+use Rattle.std.proofs.Common.{Option, Some, None, slice_get, true, false, cond, append_assoc, ◌==◌}
 use Rattle.std.specs.List.{All, AllByRecursion}
 use Rattle.std.specs.Option.{IfSome, option_map, unwrap_or}
 use Rattle.std.specs.Iterator.{YieldsFirstBy}
-use Rattle.std.proofs.Math.ListN.{set}
-use Rattle.std.proofs.Math.Seq.{take-suc}
-use Rattle.std.proofs.lemmas.List.{get_or-map, take-map, get_or-drop, get_or-set_same, length-set}
-use Rattle.std.proofs.lemmas.List.{take-set, drop-set-lt, map-append, take-append-drop}
-use Rattle.std.proofs.lemmas.Grind.{drop_more_same}
+use Rattle.std.proofs.lemmas.List.{get_or-map, take-map, take_more, map-append}
 use Rattle.std.proofs.lemmas.List.Elements.{All-get_or, All-from_recursion, recursion_from_All}
+use Rattle.std.proofs.lemmas.List.Elements.{All-map, All-pop, All-weaker}
 use Rattle.oxc_sourcemap_tokens.specs.Token.{TokenRecord, IsInBounds, AreInBounds, last}
 use Rattle.oxc_sourcemap_parts.specs.Record.{Text}
-use Rattle.oxc_sourcemap_join.specs.Joined.{fitted, is_same_token, without_repeat}
-use Rattle.oxc_sourcemap_join.proofs.SameToken.{decides_token}
+use Rattle.oxc_sourcemap_tokens.specs.declared.position.Position.{Position}
+use Rattle.oxc_sourcemap_join.specs.Joined.{fitted, raised_id, shifted_column, shifted}
+use Rattle.oxc_sourcemap_join.specs.Joined.{is_same_token, without_repeat}
+use Rattle.oxc_sourcemap_join.specs.Joining.{all_shifted, IsInReach}
+use Rattle.oxc_sourcemap_join.specs.declared.joined_parts.Reach.{Reach}
+use Rattle.oxc_sourcemap_join.specs.declared.joined_parts.Shift.{Shift}
+use Rattle.oxc_sourcemap_join.proofs.SameToken.{token_by, decides_token}
 
 pub length-mapped : {A B : Type 0} (f : A → B) (xs : List A) → length (map f xs) ≡ length xs
 length-mapped f [] = refl
@@ -24,29 +26,36 @@ length-mapped f (x ∷ xs) = ap suc (length-mapped f xs)
 pub all-mapped-at : {A B : Type 0} (P : B → Type 0) (f : A → B) (xs : List A) (i : ℕ) (d : A) → i < length xs → All P (map f xs) → P (f (get_or xs i d))
 all-mapped-at P f xs i d h a = subst P (get_or-map f xs i d (f d) h) (All-get_or P (map f xs) i (f d) (omega (arith, length-mapped f xs)) a)
 
--- ---- tokens moved in place
-module _ {A : Type 0} (f : A → A) (xs ys : List A) (i : ℕ) (d : A) (h : i < length xs) (l : length ys ≡ length xs) (rest : drop i ys ≡ drop i xs) where
-  -- what is not yet moved is as it was
-  pub not-yet-moved : get_or ys i d ≡ get_or xs i d
-  not-yet-moved =
-      let n : i ≡ i + 0 = omega arith in
-      ap (λ k. get_or ys k d) n ∙ sym (get_or-drop i ys 0 d) ∙ ap (λ zs. get_or zs 0 d) rest ∙ get_or-drop i xs 0 d ∙ ap (λ k. get_or xs k d) (sym n)
+unmoved-id : (n : ℕ) (o : Option ℕ) → n ≡ 0 → raised_id n o ≡ o
+unmoved-id n None e = refl
+unmoved-id n (Some i) e = let same : i + n ≡ i = omega (arith, e) in ap (λ j. Some j) same
 
-  pub moved-next : (v : A) → v ≡ f (get_or ys i d) → take i ys ≡ map f (take i xs) → take (i + 1) (set ys i v) ≡ map f (take (i + 1) xs)
-  moved-next v e t =
-      let n : i + 1 ≡ suc i = omega arith in
-      let m = f (get_or xs i d) in
-      ap (λ k. take k (set ys i v)) n ∙ take-suc (set ys i v) i d (omega (arith, length-set ys i v))
-      ∙ ap (λ zs. zs ++ get_or (set ys i v) i d ∷ []) (take-set ys i v ∙ t)
-      ∙ ap (λ z. map f (take i xs) ++ z ∷ []) (get_or-set_same ys i v d (omega arith) ∙ e ∙ ap f not-yet-moved)
-      ∙ sym (ap (λ k. map f (take k xs)) n ∙ ap (map f) (take-suc xs i d h) ∙ map-append f (take i xs) (get_or xs i d ∷ []))
+unmoved-column : (offset : Position) (line column : ℕ) → offset.column ≡ 0 → shifted_column offset line column ≡ column
+unmoved-column offset line column e = elim (line == 0) as (λ q. cond q (column + offset.column) column ≡ column) [ true ↦ omega (arith, e) | false ↦ refl ]
 
-  pub rest-next : (v : A) → drop (i + 1) (set ys i v) ≡ drop (i + 1) xs
-  rest-next v = drop-set-lt (i + 1) ys i v (omega arith) ∙ drop_more_same ys xs i rest
+-- where nothing is added, tokens stay as they are
+pub unmoved : (s : Shift) → s.names ≡ 0 → s.sources ≡ 0 → s.position.line ≡ 0 → s.position.column ≡ 0 → (ts : List TokenRecord) → all_shifted s ts ≡ ts
+unmoved s n o l c [] = refl
+unmoved s n o l c (t ∷ ts) =
+    let f = shifted s.names s.sources s.position in
+    let line : t.dst_line + s.position.line ≡ t.dst_line = omega (arith, l) in
+    let one = token_by (f t) t.dst_line t.dst_col t.src_line t.src_col t.source_id t.name_id line (unmoved-column s.position t.dst_line t.dst_col c) refl refl (unmoved-id s.sources t.source_id o) (unmoved-id s.names t.name_id n) in
+    ap (λ u. u ∷ map f ts) one ∙ ap (λ us. t ∷ us) (unmoved s n o l c ts)
 
--- a list mapped in two parts
-pub mapped-parts : {A B : Type 0} (f : A → B) (n : ℕ) (xs : List A) → map f (take n xs) ++ map f (drop n xs) ≡ map f xs
-mapped-parts f n xs = sym (map-append f (take n xs) (drop n xs)) ∙ ap (map f) (take-append-drop n xs)
+-- all tokens of a reach, moved, are in bounds if each is
+pub all-in-bounds : (s : Shift) (r : Reach) → ((t : TokenRecord) → IsInReach r t → IsInBounds (shifted s.names s.sources s.position t)) → (ts : List TokenRecord) → All (IsInReach r) ts → AreInBounds (all_shifted s ts)
+all-in-bounds s r each ts h =
+    let f = shifted s.names s.sources s.position in
+    All-map IsInBounds f ts (All-weaker (IsInReach r) (λ t. IsInBounds (f t)) each ts h)
+
+-- Items pushed one by one, each mapped if that is as wanted: where all are, they are the mapped list.
+pub mapped-next : {A B : Type 0} (P : B → Type 0) (f : A → B) (xs : List A) (i : ℕ) (x : A) (y : B) (old new : List B) → i < length xs → x ≡ get_or xs i x → (P (f x) → y ≡ f x)
+    → (All P (map f (take i xs)) → new ≡ old ++ map f (take i xs)) → All P (map f (take (i + 1) xs)) → new ++ y ∷ [] ≡ old ++ map f (take (i + 1) xs)
+mapped-next P f xs i x y old new h is one all a =
+    let next : map f (take (i + 1) xs) ≡ map f (take i xs) ++ f x ∷ [] = ap (map f) (take_more xs i x h ∙ ap (λ z. take i xs ++ z ∷ []) (sym is)) ∙ map-append f (take i xs) (x ∷ []) in
+    let parts = All-pop P (map f (take (i + 1) xs)) (map f (take i xs)) (Some (f x)) next a in
+    ap (λ zs. zs ++ y ∷ []) (all parts.0) ∙ append_assoc old (map f (take i xs)) (y ∷ [])
+    ∙ ap (λ z. old ++ (map f (take i xs) ++ z ∷ [])) (one parts.1) ∙ ap (λ zs. old ++ zs) (sym next)
 
 fitted-none : (n : ℕ) → fitted n [] ≡ replicate n None
 fitted-none zero = refl
@@ -86,16 +95,6 @@ all-after : {A : Type 0} (P : A → Type 0) (xs ys : List A) → AllByRecursion 
 all-after P [] ys h = h
 all-after P (x ∷ xs) ys h = all-after P xs ys h.1
 
-both-parts : {A : Type 0} (P : A → Type 0) (xs ys : List A) → AllByRecursion P (xs ++ ys) → AllByRecursion P xs × AllByRecursion P ys
-both-parts P [] ys h = (tt, h)
-both-parts P (x ∷ xs) ys h = let rest = both-parts P xs ys h.1 in ((h.0, rest.0), rest.1)
-
--- two parts of a list are in bounds if the whole is
-pub parts-in-bounds : (us vs ws : List TokenRecord) → us ++ vs ≡ ws → AreInBounds ws → AreInBounds us × AreInBounds vs
-parts-in-bounds us vs ws e h =
-    let both = both-parts IsInBounds us vs (recursion_from_All IsInBounds (us ++ vs) (subst AreInBounds (sym e) h)) in
-    (All-from_recursion IsInBounds us both.0, All-from_recursion IsInBounds vs both.1)
-
 last-holds : {A : Type 0} (P : A → Type 0) (xs : List A) → AllByRecursion P xs → IfSome (last xs) P
 last-holds P [] h = tt
 last-holds P (x ∷ []) h = h.0
@@ -115,16 +114,6 @@ pub repeat-in-bounds : (ts us : List TokenRecord) → AreInBounds (ts ++ without
 repeat-in-bounds ts us g h =
     All-from_recursion IsInBounds us (with-repeat (last ts) us (last-holds IsInBounds ts (recursion_from_All IsInBounds ts h))
     (all-after IsInBounds ts (without_repeat is_same_token (last ts) us) (recursion_from_All IsInBounds (ts ++ without_repeat is_same_token (last ts) us) g)))
-
-without-in-bounds : (o : Option TokenRecord) (us : List TokenRecord) → AllByRecursion IsInBounds us → AllByRecursion IsInBounds (without_repeat is_same_token o us)
-without-in-bounds None us h = h
-without-in-bounds (Some x) [] h = h
-without-in-bounds (Some x) (u ∷ us) h =
-    elim (is_same_token x u) as (λ b. AllByRecursion IsInBounds (cond b us (u ∷ us))) [ true ↦ h.1 | false ↦ h ]
-
--- tokens in bounds are so without a repeat
-pub kept-in-bounds : (o : Option TokenRecord) (us : List TokenRecord) → AreInBounds us → AreInBounds (without_repeat is_same_token o us)
-kept-in-bounds o us h = All-from_recursion IsInBounds _ (without-in-bounds o us (recursion_from_All IsInBounds us h))
 
 -- a first token that does not equal the one before is kept
 pub first-kept : (f : TokenRecord → TokenRecord) (x : TokenRecord) (ts : List TokenRecord) (t : TokenRecord) → slice_get ts 0 ≡ Some t → is_same_token x (f t) ≡ false

@@ -1,13 +1,14 @@
 -- The private steps of a join. No public contract cites this module.
-use Rattle.std.specs.Prelude.{◌≡◌, ℕ, ◌+◌, ◌≤◌, List, [], ◌∷◌, map, length, drop, max, Option, Some}
-use Rattle.std.specs.Prelude.{None, if◌then◌else◌, ◌==◌}
-use Rattle.oxc_sourcemap_tokens.specs.Token.{TokenRecord, AreInBounds, last}
+use Rattle.std.specs.Prelude.{◌≡◌, ℕ, ◌+◌, ◌≤◌, List, map, length, drop, Option, Some, None}
+use Rattle.oxc_sourcemap_tokens.specs.Token.{TokenRecord, IsInBounds, AreInBounds, last}
 use Rattle.oxc_sourcemap_tokens.specs.declared.token.TokenChunk.{TokenChunk}
 use Rattle.oxc_sourcemap_tokens.specs.Chunks.{ChunksFit}
 use Rattle.oxc_sourcemap_parts.specs.Record.{Text, MapRecord}
 use Rattle.oxc_sourcemap_tokens.specs.declared.position.Position.{Position}
 use Rattle.oxc_sourcemap_join.specs.Joined.{shifted, is_same_token, without_repeat, added_chunk}
-use Rattle.oxc_sourcemap_join.specs.Joined.{added, AreEntriesInBounds, IsWithinLimits}
+use Rattle.oxc_sourcemap_join.specs.Joined.{raised_ignore_list, added, AreEntriesInBounds}
+use Rattle.oxc_sourcemap_join.specs.Joined.{IsWithinLimits}
+use Rattle.oxc_sourcemap_join.specs.declared.joined_parts.Reach.{Reach}
 use Rattle.oxc_sourcemap_join.specs.declared.joined_parts.Shift.{Shift}
 use Rattle.oxc_sourcemap_join.specs.declared.joined_parts.Addition.{Addition}
 
@@ -31,17 +32,16 @@ abbrev pub id_limit : Option ℕ → ℕ
 id_limit None = 0
 id_limit (Some id) = id + 1
 
--- the column of a token, if its line is the one that the columns of an offset move
-abbrev pub moving_column : TokenRecord → ℕ
-moving_column t = if t.dst_line == 0 then t.dst_col else 0
-
--- the greatest of a number and of those that tokens give
-abbrev pub greatest_of : (TokenRecord → ℕ) → ℕ → List TokenRecord → ℕ
-greatest_of given most [] = most
-greatest_of given most (t ∷ ts) = greatest_of given (max most (given t)) ts
+-- a token in bounds whose numbers do not pass a reach
+pub record IsInReach (r : Reach) (t : TokenRecord) : Type 0 where
+  pub in_bounds : IsInBounds t
+  pub line : t.dst_line ≤ r.line
+  pub column : t.dst_col ≤ r.column
+  pub source : id_limit t.source_id ≤ r.source
+  pub name : id_limit t.name_id ≤ r.name
 
 -- What is worked out for a map after a join: how its tokens are moved, how many at the front are left out, and the chunk of
--- the others.
+-- the others. The limits of tokens are left aside, but for the first one.
 pub record IsAddition (r m : MapRecord) (place : Position) (a : Addition) : Type 0 where
   pub names : a.shift.names ≡ length r.names
   pub sources : a.shift.sources ≡ length r.sources
@@ -49,4 +49,5 @@ pub record IsAddition (r m : MapRecord) (place : Position) (a : Addition) : Type
   pub passed : a.passed ≤ length m.tokens
   pub kept : all_shifted a.shift (drop a.passed m.tokens) ≡ without_repeat is_same_token (last r.tokens) (all_shifted a.shift m.tokens)
   pub chunk : a.chunk ≡ added_chunk r m place
-  pub within : IsWithinLimits (added r m place)
+  pub entries : AreEntriesInBounds (raised_ignore_list a.shift.sources m.ignore_list)
+  pub within : AreInBounds (all_shifted a.shift (drop a.passed m.tokens)) → IsWithinLimits (added r m place)

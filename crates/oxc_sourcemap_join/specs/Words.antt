@@ -2,11 +2,10 @@
 pub use Rattle.oxc_sourcemap_parts.specs.Views.{texts_of, contents_of, ids_of, record_of_parts}
 pub use Rattle.oxc_sourcemap_tokens.specs.Chunks.{ChunksFit}
 pub use Rattle.oxc_sourcemap_tokens.specs.Results.{OnlyMemory, lent_item}
-pub use Rattle.oxc_sourcemap_tokens.specs.Token.{IsInBounds, AreInBounds, last}
+pub use Rattle.oxc_sourcemap_tokens.specs.Token.{TokenRecord, IsInBounds, AreInBounds, last}
 pub use Rattle.oxc_sourcemap_tokens.specs.declared.error.Error.TheVariants.{OutOfMemory, TooLarge}
 pub use Rattle.oxc_sourcemap_join.specs.Joined.{fitted, raised_id, shifted_column, shifted}
 pub use Rattle.oxc_sourcemap_join.specs.Joined.{is_same_token, without_repeat, raised_ignore_list}
 pub use Rattle.oxc_sourcemap_join.specs.Joined.{appended_ignore_lists, added, nothing_joined}
 pub use Rattle.oxc_sourcemap_join.specs.Joined.{AreEntriesInBounds, IsWithinLimits, position}
-pub use Rattle.oxc_sourcemap_join.specs.Joining.{all_shifted, id_limit, moving_column, greatest_of}
-pub use Rattle.oxc_sourcemap_join.specs.Joining.{IsAddition}
+pub use Rattle.oxc_sourcemap_join.specs.Joining.{all_shifted, id_limit, IsInReach, IsAddition}

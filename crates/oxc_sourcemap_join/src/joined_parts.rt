@@ -1,7 +1,8 @@
 //! Joining the parts of maps into those of one.
 ghost use Rattle.std.specs.Prelude.{◌≡◌, ◌↔◌, ◌≤◌, ◌<◌, ◌+◌, ◌++◌, ◌⊎◌, [], map, option_map};
-ghost use Rattle.std.specs.Prelude.{length, replicate, drop, Some, None, IsTrue, IfSome, IfOk};
-ghost use Rattle.std.specs.Prelude.{IfErr, IsErrOf, OnOk, OnErr, vec_len};
+ghost use Rattle.std.specs.Prelude.{length, replicate, take, drop, slice_get, List, Some, None};
+ghost use Rattle.std.specs.Prelude.{false, IsTrue, IfSome, IfOk, IfErr, IsErrOf, OnOk, OnErr};
+ghost use Rattle.std.specs.Prelude.{vec_len};
 ghost use Rattle.std.specs.List.{All};
 ghost use Rattle.std.specs.Vec.{vec_capacity};
 ghost use Rattle.std.specs.Cow.{cow_str_bytes};
@@ -13,8 +14,8 @@ ghost use Rattle.oxc_sourcemap_join.specs.Words.{shifted_column, shifted, is_sam
 ghost use Rattle.oxc_sourcemap_join.specs.Words.{without_repeat, raised_ignore_list};
 ghost use Rattle.oxc_sourcemap_join.specs.Words.{appended_ignore_lists, added, nothing_joined};
 ghost use Rattle.oxc_sourcemap_join.specs.Words.{AreEntriesInBounds, IsWithinLimits, position};
-ghost use Rattle.oxc_sourcemap_join.specs.Words.{all_shifted, id_limit, moving_column, greatest_of};
-ghost use Rattle.oxc_sourcemap_join.specs.Words.{IsAddition, OnlyMemory, lent_item};
+ghost use Rattle.oxc_sourcemap_join.specs.Words.{all_shifted, id_limit, IsInReach, IsAddition};
+ghost use Rattle.oxc_sourcemap_join.specs.Words.{OnlyMemory, lent_item, TokenRecord};
 
 use oxc_sourcemap_parts::{Contents, SourceMapParts, Texts, contents_in, texts_in};
 use oxc_sourcemap_tokens::{Error, Memory, Position, Result, Token, TokenChunk, next_chunk};
@@ -44,13 +45,13 @@ fn is_id_raisable(id: Option<u32>, number: u32) -> bool
     }
 }
 
-/// An id raised by a number; none stays none.
+/// An id raised by a number, where that is an id; none stays none. Where it is not, the sum wraps around.
 fn raise_id(id: Option<u32>, number: u32) -> Option<u32>
-    requires { IfSome (raised_id number id) (λ i. i < 4294967295) }
-    ensures { result ≡ raised_id number id }
+    ensures { IfSome (raised_id number id) (λ i. i < 4294967295)
+        → result ≡ raised_id number id }
 {
     match id {
-        Some(id) => Some(id + number),
+        Some(id) => Some(id.wrapping_add(number)),
         None => None,
     }
 }
@@ -67,14 +68,6 @@ fn are_raisable(ids: &[u32], number: u32) -> bool
     true
 }
 
-/// The greatest line of some tokens, and one more than the greatest of their ids: 0 where there is none.
-#[derive(Clone, Copy)]
-struct Reach {
-    line: u32,
-    source: u32,
-    name: u32,
-}
-
 /// One more than an id, and 0 for none.
 fn id_limit(id: Option<u32>) -> u32
     requires { IfSome id (λ i. i < 4294967295) }
@@ -86,46 +79,29 @@ fn id_limit(id: Option<u32>) -> u32
     }
 }
 
-/// The greatest line and the greatest ids of tokens.
-fn reach_of(tokens: &[Token]) -> Reach
-    ensures line { result.line ≡ greatest_of (λ t. t.dst_line) 0 tokens.now }
-    ensures source { result.source ≡ greatest_of (λ t. id_limit t.source_id) 0 tokens.now }
-    ensures name { result.name ≡ greatest_of (λ t. id_limit t.name_id) 0 tokens.now }
-
-    // True of every list of tokens, and stated here for callers that need it.
-    ensures in_bounds { AreInBounds tokens.now }
-{
-    let mut line: u32 = 0;
-    let mut source: u32 = 0;
-    let mut name: u32 = 0;
-    for token in tokens {
-        line = line.max(token.get_dst_line());
-        source = source.max(id_limit(token.get_source_id()));
-        name = name.max(id_limit(token.get_name_id()));
-    }
-    Reach { line, source, name }
+/// Numbers that no line and no column of some tokens passes, and no id of theirs and one.
+#[derive(Clone, Copy)]
+struct Reach {
+    line: u32,
+    column: u32,
+    source: u32,
+    name: u32,
 }
 
-/// The column of a token on line 0, which a join may move; 0 for a token on another line.
-fn moving_column(token: &Token) -> u32
-    ensures { result ≡ moving_column token.now }
-{
-    if token.get_dst_line() == 0 {
-        token.get_dst_col()
-    } else {
-        0
+impl Reach {
+    /// The reach of one more token. It takes the bits of all numbers together: these are at least the greatest number, and
+    /// take no comparison.
+    fn with(self, token: &Token) -> Reach
+        ensures token { IsInReach result token.now }
+        ensures others { (t : TokenRecord) → IsInReach self t → IsInReach result t }
+    {
+        Reach {
+            line: self.line | token.get_dst_line(),
+            column: self.column | token.get_dst_col(),
+            source: self.source | id_limit(token.get_source_id()),
+            name: self.name | id_limit(token.get_name_id()),
+        }
     }
-}
-
-/// The greatest column of tokens on line 0; 0 if there are none.
-fn column_reach(tokens: &[Token]) -> u32
-    ensures { result ≡ greatest_of moving_column 0 tokens.now }
-{
-    let mut column: u32 = 0;
-    for token in tokens {
-        column = column.max(moving_column(token));
-    }
-    column
 }
 
 /// Whether a number, raised by another, is at most 4294967295.
@@ -136,43 +112,61 @@ fn is_in_reach(greatest: u32, number: u32) -> bool
 }
 
 impl Shift {
-    /// The generated column of a token once it is moved.
-    fn column(&self, token: &Token) -> u64
-        ensures { result ≡ shifted_column self.now.position token.now.dst_line token.now.dst_col }
+    /// By how much the generated column of a token is moved: only line 0 of a map begins at the column of its position.
+    fn column_of(&self, token: &Token) -> u32
+        ensures { token.now.dst_col + result
+            ≡ shifted_column self.now.position token.now.dst_line token.now.dst_col }
     {
-        let column = u64::from(token.get_dst_col());
         if self.position.column != 0 && token.get_dst_line() == 0 {
-            column + u64::from(self.position.column)
+            self.position.column
         } else {
-            column
+            0
         }
     }
 
-    /// Whether tokens with these greatest numbers are in bounds once they are moved, their columns left aside.
-    fn fits_reach(self, reach: Reach) -> bool
-        ensures { IsTrue result ↔ ((reach.line + self.position.line < 4294967296)
-            × (reach.source + self.sources < 4294967296) × (reach.name + self.names < 4294967296)) }
+    /// Whether a token is in bounds once it is moved.
+    fn fits(self, token: &Token) -> bool
+        ensures { IsTrue result
+            ↔ IsInBounds (shifted self.names self.sources self.position token.now) }
     {
-        is_in_reach(reach.line, self.position.line)
-            && is_in_reach(reach.source, self.sources)
-            && is_in_reach(reach.name, self.names)
+        is_in_reach(token.get_dst_line(), self.position.line)
+            && is_in_reach(token.get_dst_col(), self.column_of(token))
+            && is_id_raisable(token.get_source_id(), self.sources)
+            && is_id_raisable(token.get_name_id(), self.names)
     }
 
-    /// Whether the columns of tokens are in bounds once they are moved.
-    fn fits_columns(self, tokens: &[Token]) -> bool
-        requires { AreInBounds tokens.now }
-        ensures { IsTrue result ↔
-            (greatest_of moving_column 0 tokens.now + self.position.column < 4294967296) }
+    /// Whether the first of some tokens, if there is one, is in bounds once it is moved.
+    fn fits_first(self, tokens: &[Token]) -> bool
+        ensures { IsTrue result ↔ IfSome (slice_get tokens.now 0)
+            (λ t. IsInBounds (shifted self.names self.sources self.position t)) }
     {
-        self.position.column == 0 || is_in_reach(column_reach(tokens), self.position.column)
+        match tokens.first() {
+            Some(first) => self.fits(first),
+            None => true,
+        }
     }
 
-    /// Whether tokens are in bounds once they are moved. It compares only their greatest numbers, so that the loops over them
-    /// have no branch.
+    /// Whether tokens are in bounds once they are moved.
     fn fits_all(self, tokens: &[Token]) -> bool
         ensures { IsTrue result ↔ AreInBounds (all_shifted self tokens.now) }
     {
-        self.fits_reach(reach_of(tokens)) && self.fits_columns(tokens)
+        for token in tokens {
+            if !self.fits(token) {
+                return false;
+            }
+        }
+        true
+    }
+
+    /// Whether all tokens of this reach are in bounds once they are moved. Where it is false, they may still be.
+    fn fits_reach(self, reach: Reach) -> bool
+        ensures { IsTrue result → (t : TokenRecord) → IsInReach reach t
+            → IsInBounds (shifted self.names self.sources self.position t) }
+    {
+        is_in_reach(reach.line, self.position.line)
+            && is_in_reach(reach.column, self.position.column)
+            && is_in_reach(reach.source, self.sources)
+            && is_in_reach(reach.name, self.names)
     }
 
     /// Whether all entries of an ignore list, raised by the number of sources before, are at most 4294967294.
@@ -186,15 +180,14 @@ impl Shift {
         }
     }
 
-    /// A token with the line, column and ids that it has in the join.
+    /// A token with the line, column and ids that it has in the join, if these are in bounds. Where one is not, it wraps around.
     fn shift(&self, token: &Token) -> Token
-        requires { IsInBounds
-            (shifted self.now.names self.now.sources self.now.position token.now) }
-        ensures { result ≡ shifted self.now.names self.now.sources self.now.position token.now }
+        ensures { IsInBounds (shifted self.now.names self.now.sources self.now.position token.now)
+            → result ≡ shifted self.now.names self.now.sources self.now.position token.now }
     {
         Token::new(
-            token.get_dst_line() + self.position.line,
-            self.column(token) as u32,
+            token.get_dst_line().wrapping_add(self.position.line),
+            token.get_dst_col().wrapping_add(self.column_of(token)),
             token.get_src_line(),
             token.get_src_col(),
             raise_id(token.get_source_id(), self.sources),
@@ -202,19 +195,30 @@ impl Shift {
         )
     }
 
-    /// Moves tokens in place.
-    fn shift_all(self, tokens: &mut [Token])
-        requires { AreInBounds (all_shifted self tokens.old) }
-        ensures { tokens.new ≡ all_shifted self tokens.old }
+    /// Whether tokens stay as they are.
+    fn moves_nothing(self) -> bool
+        ensures { IsTrue result → (self.names ≡ 0) × (self.sources ≡ 0)
+            × (self.position.line ≡ 0) × (self.position.column ≡ 0) }
     {
-        for token in tokens.iter_mut() {
-            *token = self.shift(token);
+        self.names == 0 && self.sources == 0 && self.position.line == 0 && self.position.column == 0
+    }
+
+    /// The error of an add that finds no room for these tokens: a limit that they pass comes first.
+    fn error_without_room(self, tokens: &[Token]) -> Error
+        ensures too_large { (result ≡ TooLarge) ↔ ¬ (AreInBounds (all_shifted self tokens.now)) }
+        ensures error { (result ≡ OutOfMemory) ⊎ (result ≡ TooLarge) }
+    {
+        if self.fits_all(tokens) {
+            Error::OutOfMemory
+        } else {
+            Error::TooLarge
         }
     }
 
     /// How many tokens of a map are left out: one, the first, if that equals the last token so far once it is moved.
     fn skip_len(&self, last_token: Option<Token>, tokens: &[Token]) -> usize
-        requires { AreInBounds (all_shifted self.now tokens.now) }
+        requires { IfSome (slice_get tokens.now 0)
+            (λ t. IsInBounds (shifted self.now.names self.now.sources self.now.position t)) }
         ensures kept { all_shifted self.now (drop result tokens.now)
             ≡ without_repeat is_same_token last_token (all_shifted self.now tokens.now) }
         ensures within { result ≤ length tokens.now }
@@ -372,33 +376,91 @@ fn push_fitted<'a>(
     push_unknown(contents, unknown);
 }
 
-/// How many tokens are copied at once before they are moved: so few that they stay in the cache.
-const BLOCK: usize = 64;
-
-/// Adds moved tokens: copies them, then moves the copies in place.
-fn push_block(tokens: &mut Vec<Token>, shift: Shift, added: &[Token])
-    requires room { vec_len tokens.old + length added.now ≤ vec_capacity tokens.old }
-    requires in_bounds { AreInBounds (all_shifted shift added.now) }
-    ensures items { tokens.new.items ≡ tokens.old.items ++ all_shifted shift added.now }
-    ensures len { vec_len tokens.new ≡ vec_len tokens.old + length added.now }
-    ensures capacity { vec_capacity tokens.old ≤ vec_capacity tokens.new }
+/// Adds moved tokens, and finds a reach of those that it was given. Where not all are in bounds, any may follow in their place.
+fn push_each(tokens: &mut Vec<Token>, shift: Shift, added: &[Token]) -> Reach
+    requires { vec_len tokens.old + length added.now ≤ vec_capacity tokens.old }
+    ensures front { take (vec_len tokens.old) tokens.new.items ≡ tokens.old.items }
+    ensures items { AreInBounds (all_shifted shift added.now)
+        → tokens.new.items ≡ tokens.old.items ++ all_shifted shift added.now }
+    ensures reach { All (IsInReach result) added.now }
 {
-    let start = tokens.len();
-    tokens.extend_from_slice(added).unwrap();
-    shift.shift_all(&mut tokens.as_mut_slice()[start..]);
+    let mut reach = Reach {
+        line: 0,
+        column: 0,
+        source: 0,
+        name: 0,
+    };
+    for token in added {
+        reach = reach.with(token);
+        tokens.push_reserved(shift.shift(token));
+    }
+    reach
 }
 
-/// Adds moved tokens, in blocks.
-fn push_moved(tokens: &mut Vec<Token>, shift: Shift, added: &[Token])
-    requires room { vec_len tokens.old + length added.now ≤ vec_capacity tokens.old }
-    requires in_bounds { AreInBounds (all_shifted shift added.now) }
-    ensures { tokens.new.items ≡ tokens.old.items ++ all_shifted shift added.now }
+/// Does nothing. All tokens are in bounds, and this states it for tokens that are copied as they are.
+fn look_at(tokens: &[Token])
+    ensures { AreInBounds tokens.now }
 {
-    let mut rest = added;
-    while !rest.is_empty() {
-        let (block, others) = rest.split_at(rest.len().min(BLOCK));
-        push_block(tokens, shift, block);
-        rest = others;
+    for token in tokens {
+        let _line = token.get_dst_line();
+    }
+}
+
+/// Adds moved tokens if they are all in bounds then, and tells whether they are; otherwise the list is as it was.
+fn push_moved(tokens: &mut Vec<Token>, shift: Shift, added: &[Token]) -> bool
+    requires { vec_len tokens.old + length added.now ≤ vec_capacity tokens.old }
+    ensures fits { IsTrue result ↔ AreInBounds (all_shifted shift added.now) }
+    ensures items { IsTrue result
+        → tokens.new.items ≡ tokens.old.items ++ all_shifted shift added.now }
+    ensures unchanged { result ≡ false → tokens.new.items ≡ tokens.old.items }
+{
+    if shift.moves_nothing() {
+        look_at(added);
+        tokens.extend_from_slice(added).unwrap();
+        return true;
+    }
+    let old_len = tokens.len();
+    let reach = push_each(tokens, shift, added);
+    if shift.fits_reach(reach) || shift.fits_all(added) {
+        return true;
+    }
+    tokens.truncate(old_len);
+    false
+}
+
+/// Adds moved tokens, and then the ignore list of their map with its entries raised by the number of sources before. Fails with
+/// `TooLarge` if a token is not in bounds once it is moved, then with `OutOfMemory`; both lists are then as they were.
+fn push_tokens(
+    alloc: Global,
+    tokens: &mut Vec<Token>,
+    ignore_list: &mut Option<Vec<u32>>,
+    shift: Shift,
+    added: &[Token],
+    ignored: Option<&[u32]>,
+) -> Result<()>
+    requires room { vec_len tokens.old + length added.now ≤ vec_capacity tokens.old }
+    requires entries { AreEntriesInBounds (raised_ignore_list shift.sources (lent_item ignored)) }
+    ensures tokens { OnOk result
+        (tokens.new.items ≡ tokens.old.items ++ all_shifted shift added.now) }
+    ensures entries { OnOk result (ids_of ignore_list.new
+        ≡ appended_ignore_lists (ids_of ignore_list.old)
+        (raised_ignore_list shift.sources (lent_item ignored.entry))) }
+    ensures fits { OnOk result (AreInBounds (all_shifted shift added.now)) }
+    ensures too_large { IsErrOf result TooLarge ↔ ¬ (AreInBounds (all_shifted shift added.now)) }
+    ensures error { IfErr result (λ e. (e ≡ OutOfMemory) ⊎ (e ≡ TooLarge)) }
+    ensures unchanged { OnErr result ((tokens.new.items ≡ tokens.old.items)
+        × (ids_of ignore_list.new ≡ ids_of ignore_list.old)) }
+{
+    let len = tokens.len();
+    if !push_moved(tokens, shift, added) {
+        return Err(Error::TooLarge);
+    }
+    match shift.add_ignore_list(alloc, ignore_list, ignored) {
+        Ok(()) => Ok(()),
+        Err(_) => {
+            tokens.truncate(len);
+            Err(Error::OutOfMemory)
+        }
     }
 }
 
@@ -520,7 +582,7 @@ impl<'a> JoinedParts<'a> {
         let tokens = parts.tokens.as_slice();
         if parts.names.len() > MAX_COUNT - self.names.len()
             || parts.sources.len() > MAX_COUNT - self.sources.len()
-            || !shift.fits_all(tokens)
+            || !shift.fits_first(tokens)
         {
             return None;
         }
@@ -564,9 +626,10 @@ impl<'a> JoinedParts<'a> {
         let Some(addition) = self.addition(parts, position) else {
             return Err(Error::TooLarge);
         };
+        let shift = addition.shift;
         let kept = &parts.tokens.as_slice()[addition.passed..];
         let source_count = parts.sources.len();
-        make_room(
+        let Ok(()) = make_room(
             &mut self.names,
             &mut self.sources,
             &mut self.source_contents,
@@ -577,10 +640,17 @@ impl<'a> JoinedParts<'a> {
                 sources: source_count,
                 tokens: kept.len(),
             },
+        ) else {
+            return Err(shift.error_without_room(kept));
+        };
+        push_tokens(
+            self.alloc,
+            &mut self.tokens,
+            &mut self.ignore_list,
+            shift,
+            kept,
+            parts.ignore_list.as_deref(),
         )?;
-        let shift = addition.shift;
-        let ignored = parts.ignore_list.as_deref();
-        shift.add_ignore_list(self.alloc, &mut self.ignore_list, ignored)?;
         push_texts(&mut self.names, texts_in(parts.names.as_slice()));
         push_texts(&mut self.sources, texts_in(parts.sources.as_slice()));
         push_lent_fitted(
@@ -588,7 +658,6 @@ impl<'a> JoinedParts<'a> {
             contents_in(parts.source_contents.as_slice()),
             source_count,
         );
-        push_moved(&mut self.tokens, shift, kept);
         self.token_chunks.push_reserved(addition.chunk);
         Ok(())
     }
@@ -616,9 +685,10 @@ impl<'a> JoinedParts<'a> {
             ignore_list,
             ..
         } = parts;
+        let shift = addition.shift;
         let kept = &tokens.as_slice()[addition.passed..];
         let count = sources.len();
-        make_room(
+        let Ok(()) = make_room(
             &mut self.names,
             &mut self.sources,
             &mut self.source_contents,
@@ -629,14 +699,20 @@ impl<'a> JoinedParts<'a> {
                 sources: count,
                 tokens: kept.len(),
             },
+        ) else {
+            return Err(shift.error_without_room(kept));
+        };
+        push_tokens(
+            self.alloc,
+            &mut self.tokens,
+            &mut self.ignore_list,
+            shift,
+            kept,
+            ignore_list.as_deref(),
         )?;
-        let shift = addition.shift;
-        let list = ignore_list.as_deref();
-        shift.add_ignore_list(self.alloc, &mut self.ignore_list, list)?;
         self.names.append(&mut names).unwrap();
         self.sources.append(&mut sources).unwrap();
         push_fitted(&mut self.source_contents, source_contents, count);
-        push_moved(&mut self.tokens, shift, kept);
         self.token_chunks.push_reserved(addition.chunk);
         Ok(())
     }

@@ -1,29 +1,29 @@
-use Rattle.std.proofs.Common.{◌≡◌, ◌++◌, arith, ap, sym, ◌∙◌, append_assoc}
-use Rattle.oxc_sourcemap_join.specs.Joined.{shifted}
+use Rattle.std.proofs.Common.{◌≡◌, ◌++◌, true, ap, sym, refl, subst, ◌∙◌}
+use Rattle.oxc_sourcemap_tokens.specs.Token.{AreInBounds}
 use Rattle.oxc_sourcemap_join.specs.Joining.{all_shifted}
-use Rattle.oxc_sourcemap_join.proofs.Adding.{glued}
-use Rattle.oxc_sourcemap_join.proofs.Moving.{mapped-parts, parts-in-bounds}
+use Rattle.oxc_sourcemap_join.proofs.Moving.{all-in-bounds, unmoved}
 use Rattle.oxc_sourcemap_join.proofs.joined_parts.push_moved.Goals as goal
+use Rattle.oxc_sourcemap_join.proofs.joined_parts.push_moved.Goals.{then-fits_reach-via-then-fits_reach}
+use Rattle.oxc_sourcemap_join.proofs.joined_parts.push_moved.Goals.{then-fits_reach-via-else-fits_reach+then-fits_all}
 
-pub push_block-requires-clause-in_bounds : goal.push_block-requires-clause-in_bounds
-push_block-requires-clause-in_bounds c =
-    let s = c.args.shift in
-    let f = shifted s.names s.sources s.position in
-    let parts : all_shifted s c.split_at.result.0.now ++ all_shifted s c.split_at.result.1.now ≡ all_shifted s c.loop-rest.rest.now =
-    glued (ap (all_shifted s) c.split_at.ensures.front) (ap (all_shifted s) c.split_at.ensures.back) ∙ mapped-parts f c.min.result c.loop-rest.rest.now in
-    (parts-in-bounds (all_shifted s c.split_at.result.0.now) (all_shifted s c.split_at.result.1.now) (all_shifted s c.loop-rest.rest.now) parts c.loop-rest.invariant.in_bounds).0
+pub returns-then-moves_nothing-clause-fits : goal.returns-then-moves_nothing-clause-fits
+returns-then-moves_nothing-clause-fits c =
+    let zero = c.moves_nothing.ensures c.if-moves_nothing.true in
+    (λ e. subst AreInBounds (sym (unmoved c.args.shift zero.0 zero.1 zero.2 zero.3 c.args.added.now)) c.look_at.ensures, λ h. refl)
 
-pub loop-rest-preserved : goal.loop-rest-preserved
-loop-rest-preserved c =
-    let s = c.args.shift in
-    let f = shifted s.names s.sources s.position in
-    let l = c.loop-rest in
-    let front = all_shifted s c.split_at.result.0.now in
-    let back = all_shifted s c.split_at.result.1.now in
-    let parts : front ++ back ≡ all_shifted s l.rest.now =
-    glued (ap (all_shifted s) c.split_at.ensures.front) (ap (all_shifted s) c.split_at.ensures.back) ∙ mapped-parts f c.min.result l.rest.now in
-    record {
-      items = ap (λ zs. zs ++ back) c.push_block.ensures.items ∙ append_assoc l.tokens.items front back ∙ ap (λ zs. l.tokens.items ++ zs) parts ∙ l.invariant.items;
-      room = omega (arith, c.push_block.ensures.len, c.push_block.ensures.capacity, l.invariant.room, c.split_at.ensures.front_len, c.split_at.ensures.back_len);
-      in_bounds = (parts-in-bounds front back (all_shifted s l.rest.now) parts l.invariant.in_bounds).1;
-    }
+pub returns-then-moves_nothing-clause-items : goal.returns-then-moves_nothing-clause-items
+returns-then-moves_nothing-clause-items c =
+    let zero = c.moves_nothing.ensures c.if-moves_nothing.true in
+    λ e. (rw c.unwrap.ensures at c.extend_from_slice.ensures.items) ∙ ap (λ ts. c.args.tokens.now.items ++ ts) (sym (unmoved c.args.shift zero.0 zero.1 zero.2 zero.3 c.args.added.now))
+
+pub returns-then-fits_reach-clause-fits : goal.returns-then-fits_reach-clause-fits
+returns-then-fits_reach-clause-fits c = (
+  λ e. elim c.then-fits_reach.branch [
+    | then-fits_reach-via-then-fits_reach b ↦ all-in-bounds c.args.shift c.push_each-reach.result (c.fits_reach.ensures b.if-fits_reach.true) c.args.added.now c.push_each-reach.ensures.reach
+    | then-fits_reach-via-else-fits_reach+then-fits_all b ↦ b.fits_all.ensures.0 b.if-fits_all.true
+  ],
+  λ h. refl,
+)
+
+pub returns-then-fits_reach-clause-items : goal.returns-then-fits_reach-clause-items
+returns-then-fits_reach-clause-items c = λ e. c.push_each-reach.ensures.items ((returns-then-fits_reach-clause-fits c).0 refl)

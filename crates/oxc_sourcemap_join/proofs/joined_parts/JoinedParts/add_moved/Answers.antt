@@ -6,28 +6,19 @@ use Rattle.std.proofs.lemmas.List.{map-append}
 use Rattle.oxc_sourcemap_tokens.specs.Token.{AreInBounds}
 use Rattle.oxc_sourcemap_tokens.specs.Chunks.{ChunksFit}
 use Rattle.oxc_sourcemap_join.specs.Joined.{fitted, raised_ignore_list, appended_ignore_lists}
-use Rattle.oxc_sourcemap_join.specs.Joined.{AreEntriesInBounds}
+use Rattle.oxc_sourcemap_join.specs.Joined.{AreEntriesInBounds, IsWithinLimits, added}
 use Rattle.oxc_sourcemap_join.specs.Joining.{all_shifted}
 use Rattle.oxc_sourcemap_parts.specs.Views.{texts_of, contents_of, ids_of, record_of_parts}
 use Rattle.oxc_sourcemap_join.proofs.Moving.{length-mapped}
-use Rattle.oxc_sourcemap_join.proofs.IgnoreLists.{addition-in-bounds}
-use Rattle.oxc_sourcemap_join.proofs.Adding.{kept-are-in-bounds, added-is, join-is, all-after-some}
+use Rattle.oxc_sourcemap_join.proofs.Adding.{kept, too-large, added-is, join-is}
 use Rattle.oxc_sourcemap_join.proofs.Adding.{glued}
 use Rattle.oxc_sourcemap_join.proofs.joined_parts.JoinedParts.add_moved.Goals as goal
 use Rattle.oxc_sourcemap_join.proofs.joined_parts.JoinedParts.add_moved.Goals.{Joined-parts-28}
 
-pub push_moved-requires-clause-in_bounds : goal.push_moved-requires-clause-in_bounds
-push_moved-requires-clause-in_bounds c =
+pub push_tokens-requires-clause-entries : goal.push_tokens-requires-clause-entries
+push_tokens-requires-clause-entries c =
     let a = c.in-Some.addition in
-    let tokens : c.as_slice.result.now ≡ (record_of_parts c.args.parts).tokens = c.as_slice.ensures.value in
-    let kept = all-after-some a.passed c.as_slice.result.now ∙ ap (drop a.passed) tokens in
-    subst AreInBounds (ap (all_shifted a.shift) (sym kept)) (kept-are-in-bounds c.args.self.now (record_of_parts c.args.parts) c.args.position a c.in-Some.ensures.fits)
-
-pub add_ignore_list-requires : goal.add_ignore_list-requires
-add_ignore_list-requires c =
-    let a = c.in-Some.addition in
-    let list = c.as_deref-list.ensures.value in
-    subst AreEntriesInBounds (ap (raised_ignore_list a.shift.sources) (sym (list))) (addition-in-bounds c.args.self.now (record_of_parts c.args.parts) c.args.position a c.in-Some.ensures.fits)
+    subst AreEntriesInBounds (ap (raised_ignore_list a.shift.sources) (sym c.as_deref.ensures.value)) c.in-Some.ensures.fits.entries
 
 -- the new lists of the join
 module _ (c : Joined-parts-28) where
@@ -46,17 +37,19 @@ module _ (c : Joined-parts-28) where
   contents = c.push_fitted.ensures ∙ glued (ap (map (option_map cow_str_bytes)) c.make_room.ensures.contents ∙ ap (λ x. x.source_contents) c.self.view_is)
       (ap (λ n. fitted n (contents_of c.args.parts.source_contents)) count)
 
-  tokens : c.push_moved.new.tokens.items ≡ c.args.self.now.tokens ++ all_shifted c.in-Some.addition.shift (drop c.in-Some.addition.passed (record_of_parts c.args.parts).tokens)
-  tokens = c.push_moved.ensures ∙ glued (c.make_room.ensures.tokens ∙ ap (λ x. x.tokens) c.self.view_is)
-      (ap (all_shifted c.in-Some.addition.shift) (all-after-some c.in-Some.addition.passed c.as_slice.result.now
-      ∙ ap (drop c.in-Some.addition.passed) (c.as_slice.ensures.value)))
+  tokens : c.push_tokens.new.tokens.items ≡ c.args.self.now.tokens ++ all_shifted c.in-Some.addition.shift (drop c.in-Some.addition.passed (record_of_parts c.args.parts).tokens)
+  tokens = c.in_ok-push_tokens.ensures.tokens ∙ glued (c.make_room.ensures.tokens ∙ ap (λ x. x.tokens) c.self.view_is)
+      (ap (all_shifted c.in-Some.addition.shift) (kept c.in-Some.addition.passed c.as_slice.ensures.value))
+
+  within : IsWithinLimits (added c.args.self.now (record_of_parts c.args.parts) c.args.position)
+  within = c.in-Some.ensures.fits.within (subst AreInBounds (ap (all_shifted c.in-Some.addition.shift) (kept c.in-Some.addition.passed c.as_slice.ensures.value)) c.in_ok-push_tokens.ensures.fits)
 
   chunks : c.push_reserved.new.self.items ≡ c.self.inside.token_chunks.items ++ c.in-Some.addition.chunk ∷ []
   chunks = c.push_reserved.ensures.items ∙ ap (λ ks. ks ++ c.in-Some.addition.chunk ∷ []) c.make_room.ensures.chunks
 
-  entries : ids_of c.add_ignore_list.new.list ≡ appended_ignore_lists c.args.self.now.ignore_list (raised_ignore_list c.in-Some.addition.shift.sources (record_of_parts c.args.parts).ignore_list)
-  entries = c.in_ok-add_ignore_list.ensures.added ∙ ap (λ o. appended_ignore_lists o (raised_ignore_list c.in-Some.addition.shift.sources (option_map (λ ids. ids.now) c.as_deref-list.result))) (ap (λ x. x.ignore_list) c.self.view_is)
-      ∙ ap (λ o. appended_ignore_lists c.args.self.now.ignore_list (raised_ignore_list c.in-Some.addition.shift.sources o)) (c.as_deref-list.ensures.value)
+  entries : ids_of c.push_tokens.new.ignore_list ≡ appended_ignore_lists c.args.self.now.ignore_list (raised_ignore_list c.in-Some.addition.shift.sources (record_of_parts c.args.parts).ignore_list)
+  entries = c.in_ok-push_tokens.ensures.entries ∙ ap (λ o. appended_ignore_lists o (raised_ignore_list c.in-Some.addition.shift.sources (option_map (λ ids. ids.now) c.as_deref.result))) (ap (λ x. x.ignore_list) c.self.view_is)
+      ∙ ap (λ o. appended_ignore_lists c.args.self.now.ignore_list (raised_ignore_list c.in-Some.addition.shift.sources o)) (c.as_deref.ensures.value)
 
   has : c.args.self.now.token_chunks ≡ Some c.self.inside.token_chunks.items
   has = sym (ap (λ x. x.token_chunks) c.self.view_is)
@@ -70,9 +63,19 @@ module _ (c : Joined-parts-28) where
 pub invariant_of-self-2 : goal.invariant_of-self-2
 invariant_of-self-2 c =
     join-is c.args.self.now (record_of_parts c.args.parts) c.args.position c.in-Some.addition c.in-Some.ensures.fits c.self.inside.token_chunks.items (has c) (each c)
-    _ _ _ _ _ _ (names c) (sources c) (contents c) (tokens c) (chunks c) (entries c) (fit c)
+    _ _ _ _ _ _ (names c) (sources c) (contents c) (tokens c) (chunks c) (entries c) (within c) (fit c)
 
 pub returns-clause-joined : goal.returns-clause-joined
 returns-clause-joined c =
     added-is c.args.self.now (record_of_parts c.args.parts) c.args.position c.in-Some.addition c.in-Some.ensures.fits c.self.inside.token_chunks.items (has c) (each c)
     _ _ _ _ _ _ (names c) (sources c) (contents c) (tokens c) (chunks c) (entries c)
+
+pub returns-in_err-push_tokens-clause-too_large : goal.returns-in_err-push_tokens-clause-too_large
+returns-in_err-push_tokens-clause-too_large c =
+    let a = c.in-Some.addition in
+    too-large c.args.self.now (record_of_parts c.args.parts) c.args.position a c.in-Some.ensures.fits _ (kept a.passed c.as_slice.ensures.value) _ c.in_err-push_tokens.ensures.too_large
+
+pub returns-in_default-clause-too_large : goal.returns-in_default-clause-too_large
+returns-in_default-clause-too_large c =
+    let a = c.in-Some.addition in
+    too-large c.args.self.now (record_of_parts c.args.parts) c.args.position a c.in-Some.ensures.fits _ (kept a.passed c.as_slice.ensures.value) _ c.error_without_room.ensures.too_large

@@ -12,11 +12,11 @@ use Rattle.oxc_sourcemap_join.specs.Joining.{all_shifted}
 use Rattle.oxc_sourcemap_join.specs.declared.joined_parts.Shift.{Shift}
 use Rattle.oxc_sourcemap_join.proofs.Moving.{length-mapped}
 use Rattle.oxc_sourcemap_join.proofs.IgnoreLists.{raised-in-bounds}
-use Rattle.oxc_sourcemap_join.proofs.Adding.{moved-in-bounds, addition-is}
+use Rattle.oxc_sourcemap_join.proofs.Adding.{moved-in-bounds, first-in-bounds, addition-is}
 use Rattle.oxc_sourcemap_join.proofs.joined_parts.JoinedParts.addition.Goals as goal
 use Rattle.oxc_sourcemap_join.proofs.joined_parts.JoinedParts.addition.Goals.{then-len-via-then-len}
 use Rattle.oxc_sourcemap_join.proofs.joined_parts.JoinedParts.addition.Goals.{then-len-via-else-len+then-len-2}
-use Rattle.oxc_sourcemap_join.proofs.joined_parts.JoinedParts.addition.Goals.{then-len-via-else-len+else-len-2+then-not-fits_all}
+use Rattle.oxc_sourcemap_join.proofs.joined_parts.JoinedParts.addition.Goals.{then-len-via-else-len+else-len-2+then-not-fits_first}
 
 pub returns-then-len-clause-too_large : goal.returns-then-len-clause-too_large
 returns-then-len-clause-too_large c = λ e w.
@@ -45,14 +45,15 @@ returns-then-len-clause-too_large c = λ e w.
         length-mapped cow_str_bytes c.self.inside.sources.items,
         length-mapped cow_str_bytes c.args.parts.now.sources.items,
       ))
-      | then-len-via-else-len+else-len-2+then-not-fits_all b ↦ (
+      | then-len-via-else-len+else-len-2+then-not-fits_first b ↦ (
           let names : c.len.result ≡ length r.names = omega (arith, ap (λ x. length x.names) c.self.view_is, length-mapped cow_str_bytes c.self.inside.names.items, c.len.ensures) in
           let sources : c.len-2.result ≡ length r.sources = omega (arith, ap (λ x. length x.sources) c.self.view_is, length-mapped cow_str_bytes c.self.inside.sources.items, c.len-2.ensures) in
           let shift : Shift = record { names = c.len.result; sources = c.len-2.result; position = c.args.position } in
           let tokens : c.as_slice-tokens.result.now ≡ m.tokens = c.as_slice-tokens.ensures.value in
           let bounds = moved-in-bounds r m c.args.position shift names sources refl (subst AreInBounds (ap (λ x. x.tokens) c.self.view_is) c.self.invariant.in_bounds) w in
-          let fits : b.fits_all.result ≡ true = b.fits_all.ensures.1 (subst AreInBounds (ap (all_shifted shift) (sym tokens)) bounds) in
-          let not : b.fits_all.result ≡ false = b.if-not-fits_all.true in
+          let first = first-in-bounds shift c.as_slice-tokens.result.now (subst AreInBounds (ap (all_shifted shift) (sym tokens)) bounds) in
+          let fits : b.fits_first.result ≡ true = b.fits_first.ensures.1 first in
+          let not : b.fits_first.result ≡ false = b.if-not-fits_first.true in
           absurd cc)
     ]
 
@@ -104,7 +105,6 @@ returns-clause-fits c =
       length-mapped cow_str_bytes c.self.inside.sources.items,
       length-mapped cow_str_bytes c.args.parts.now.sources.items,
     ))
-    (subst AreInBounds (ap (all_shifted shift) tokens) (c.fits_all.ensures.0 c.if-not-fits_all.false))
     (omega (arith, c.skip_len-passed.ensures.within, ap length tokens))
     (omega (arith, c.if-kept-len.false, c.len-5.ensures, c.len-6.ensures, ap length tokens, ap length so_far))
     (c.next_chunk-chunk.ensures ∙ ap (λ ts. chunk_from (state_at ts (length ts)) (length ts) (c.len-6.result + (length c.as_slice-tokens.result.now - c.skip_len-passed.result))) so_far ∙ ap (chunk_from (state_at r.tokens (length r.tokens)) (length r.tokens)) end)

@@ -1,28 +1,27 @@
-use Rattle.std.proofs.Common.{◌+◌, ◌<◌, arith, sym, subst}
-use Rattle.oxc_sourcemap_join.proofs.Reach.{in-reach, line-in-reach, source-in-reach, name-in-reach}
-use Rattle.oxc_sourcemap_join.proofs.Reach.{column-in-reach}
+use Rattle.std.proofs.Common.{refl, sym, ◌∙◌, subst}
+use Rattle.std.specs.List.{All}
+use Rattle.std.proofs.lemmas.List.{take_all}
+use Rattle.std.proofs.lemmas.List.Elements.{All-map, All-more}
+use Rattle.oxc_sourcemap_tokens.specs.Token.{IsInBounds}
+use Rattle.oxc_sourcemap_join.specs.Joined.{shifted}
+use Rattle.oxc_sourcemap_join.proofs.Moving.{all-mapped-at}
 use Rattle.oxc_sourcemap_join.proofs.joined_parts.Shift.fits_all.Goals as goal
 
-pub returns-then-fits_reach : goal.returns-then-fits_reach
-returns-then-fits_reach c =
-    let s = c.args.self in
-    let ts = c.args.tokens.now in
-    let reach = c.reach_of.ensures in
-    let fits = c.fits_reach.ensures.0 c.if-fits_reach.true in (
-      λ e. in-reach s ts reach.in_bounds (subst (λ n. n + s.position.line < 4294967296) reach.line fits.0) (subst (λ n. n + s.sources < 4294967296) reach.source fits.1)
-          (subst (λ n. n + s.names < 4294967296) reach.name fits.2) (c.fits_columns.ensures.0 e),
-      λ h. c.fits_columns.ensures.1 (column-in-reach s ts h (omega arith)),
+pub returns-then-not-fits : goal.returns-then-not-fits
+returns-then-not-fits c =
+    let f = shifted c.args.self.names c.args.self.sources c.args.self.position in
+    let here = all-mapped-at IsInBounds f c.args.tokens.now c.loop-token.token-index c.token-item.result c.loop-token-test.true in (
+      λ e. absurd cc,
+      λ h. sym c.if-not-fits.true ∙ c.fits.ensures.1 (subst (λ t. IsInBounds (f t)) (sym c.token-item.is) (here h)),
     )
 
-pub returns-else-fits_reach : goal.returns-else-fits_reach
-returns-else-fits_reach c =
-    let s = c.args.self in
-    let ts = c.args.tokens.now in
-    let reach = c.reach_of.ensures in (
-      λ e. absurd cc,
-      λ h. c.fits_reach.ensures.1 (
-        subst (λ n. n + s.position.line < 4294967296) (sym reach.line) (line-in-reach s ts h (omega arith)),
-        subst (λ n. n + s.sources < 4294967296) (sym reach.source) (source-in-reach s ts h (omega arith)),
-        subst (λ n. n + s.names < 4294967296) (sym reach.name) (name-in-reach s ts h (omega arith)),
-      ),
-    )
+pub loop-token-preserved : goal.loop-token-preserved
+loop-token-preserved c =
+    let f = shifted c.args.self.names c.args.self.sources c.args.self.position in
+    All-more (λ t. IsInBounds (f t)) c.args.tokens.now c.loop-token.token-index _ c.loop-token-test.true c.loop-token.invariant
+    (subst (λ t. IsInBounds (f t)) c.token-item.is (c.fits.ensures.0 c.if-not-fits.false))
+
+pub returns : goal.returns
+returns c =
+    let f = shifted c.args.self.names c.args.self.sources c.args.self.position in
+    (λ e. All-map IsInBounds f c.args.tokens.now (subst (All (λ t. IsInBounds (f t))) (take_all c.loop-token.token-index c.args.tokens.now c.loop-token-test.false) c.loop-token.invariant), λ h. refl)

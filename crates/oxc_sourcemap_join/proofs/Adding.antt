@@ -1,7 +1,8 @@
 -- What is worked out for an add is right.
 use Rattle.std.proofs.Common.{◌≡◌, ℕ, ◌+◌, ◌-◌, ◌≤◌, List, [], ◌∷◌, ◌++◌, map, length, take, drop}
 use Rattle.std.proofs.Common.{refl, sym, ap, ◌∙◌, subst, arith, Option, Some, None, ◌⊎◌, inl, inr}
-use Rattle.std.proofs.Common.{slice_get, ◌↔◌}
+use Rattle.std.proofs.Common.{slice_get, ◌↔◌, Result, Ok, Err}
+use Rattle.std.specs.Result.{IsErrOf, IsErrAnd}
 use Rattle.oxc_sourcemap_tokens.specs.declared.error.Error.{Error}
 use Rattle.oxc_sourcemap_tokens.specs.declared.error.Error.TheVariants.{OutOfMemory, TooLarge}
 use Rattle.std.specs.List.{AllByRecursion, All}
@@ -101,6 +102,14 @@ too-large r m offset a h kept e P q = (
   λ p w. q.0 p (subst (λ ts. AreInBounds (all_shifted a.shift ts)) (sym e) (kept-in-bounds r m offset a h w)),
   λ n. q.1 (λ b. n (h.within (subst (λ ts. AreInBounds (all_shifted a.shift ts)) e b))),
 )
+
+-- an error as the result of a call
+pub as-result : (e : Error) (Q : Type 0) → (e ≡ TooLarge) ↔ Q → IsErrOf {T = Unit {0}} (Err e) TooLarge ↔ Q
+as-result e Q h = (λ p. let same : e ≡ TooLarge = cc in h.0 same, λ q. ap (λ x. Err x) (h.1 q))
+
+pub as-carried : (result : Result (Unit {0}) Error) (e : Error) (Q : Type 0) → IsErrAnd result (λ x. x ≡ e) → IsErrOf {T = Unit {0}} (Err e) TooLarge ↔ Q → IsErrOf result TooLarge ↔ Q
+as-carried (Ok x) e Q same h = absurd same
+as-carried (Err x) e Q same h = subst (λ y. IsErrOf {T = Unit {0}} (Err y) TooLarge ↔ Q) (sym same) h
 
 module _ (r m : MapRecord) (offset : Position) (a : Addition) (h : IsAddition r m offset a) (chunks : List TokenChunk) (has : r.token_chunks ≡ Some chunks)
     (each : length r.sources ≡ length r.source_contents)

@@ -1,6 +1,5 @@
-use Rattle.std.proofs.Common.{◌≡◌, ◌++◌, true, ap, sym, refl, subst, ◌∙◌}
+use Rattle.std.proofs.Common.{◌++◌, ap, sym, refl, subst, ◌∙◌}
 use Rattle.oxc_sourcemap_tokens.specs.Token.{AreInBounds}
-use Rattle.oxc_sourcemap_join.specs.Joining.{all_shifted}
 use Rattle.oxc_sourcemap_join.proofs.Moving.{all-in-bounds, unmoved}
 use Rattle.oxc_sourcemap_join.proofs.joined_parts.push_moved.Goals as goal
 use Rattle.oxc_sourcemap_join.proofs.joined_parts.push_moved.Goals.{then-fits_reach-via-then-fits_reach}

@@ -9,8 +9,8 @@ use Rattle.oxc_sourcemap_join.specs.Joined.{AreEntriesInBounds, IsWithinLimits, 
 use Rattle.oxc_sourcemap_join.specs.Joining.{all_shifted}
 use Rattle.oxc_sourcemap_parts.specs.Views.{texts_of, contents_of, ids_of, record_of_parts}
 use Rattle.oxc_sourcemap_join.proofs.Moving.{length-mapped}
-use Rattle.oxc_sourcemap_join.proofs.Adding.{kept, too-large, added-is, join-is}
-use Rattle.oxc_sourcemap_join.proofs.Adding.{glued}
+use Rattle.oxc_sourcemap_join.proofs.Adding.{kept, too-large, as-result, as-carried, added-is}
+use Rattle.oxc_sourcemap_join.proofs.Adding.{join-is, glued}
 use Rattle.oxc_sourcemap_join.proofs.joined_parts.JoinedParts.add_lent.Goals as goal
 use Rattle.oxc_sourcemap_join.proofs.joined_parts.JoinedParts.add_lent.Goals.{After-push_reserved}
 
@@ -67,12 +67,19 @@ returns-clause-joined c =
     added-is c.args.self.now (record_of_parts c.args.parts.now) c.args.position c.in-Some.addition c.in-Some.ensures.fits c.self.inside.token_chunks.items (has c) (each c)
     _ _ _ _ _ _ (names c) (sources c) (contents c) (tokens c) (chunks c) (entries c)
 
+pub returns-clause-limits : goal.returns-clause-limits
+returns-clause-limits c = within c
+
+pub returns-clause-too_large : goal.returns-clause-too_large
+returns-clause-too_large c = (λ p. absurd cc, λ n. absurd (n (within c)))
+
 pub returns-in_err-push_tokens-clause-too_large : goal.returns-in_err-push_tokens-clause-too_large
 returns-in_err-push_tokens-clause-too_large c =
     let a = c.in-Some.addition in
-    too-large c.args.self.now (record_of_parts c.args.parts.now) c.args.position a c.in-Some.ensures.fits _ (kept a.passed c.as_slice.ensures.value) _ c.in_err-push_tokens.ensures.too_large
+    too-large c.args.self.now (record_of_parts c.args.parts.now) c.args.position a c.in-Some.ensures.fits _ (kept a.passed c.as_slice.ensures.value) _
+    (as-carried c.from_residual.result c.in_err-push_tokens.field-0.0 _ c.from_residual.ensures.1 c.in_err-push_tokens.ensures.too_large)
 
-pub returns-in_default-clause-too_large : goal.returns-in_default-clause-too_large
-returns-in_default-clause-too_large c =
+pub returns-in_default-make_room-clause-too_large : goal.returns-in_default-make_room-clause-too_large
+returns-in_default-make_room-clause-too_large c =
     let a = c.in-Some.addition in
-    too-large c.args.self.now (record_of_parts c.args.parts.now) c.args.position a c.in-Some.ensures.fits _ (kept a.passed c.as_slice.ensures.value) _ c.error_without_room.ensures.too_large
+    too-large c.args.self.now (record_of_parts c.args.parts.now) c.args.position a c.in-Some.ensures.fits _ (kept a.passed c.as_slice.ensures.value) _ (as-result c.error_without_room.result _ c.error_without_room.ensures.too_large)

@@ -1,5 +1,6 @@
 -- The private steps of a join. No public contract cites this module.
 use Rattle.std.specs.Prelude.{◌≡◌, ℕ, ◌+◌, ◌≤◌, List, map, length, drop, Option, Some, None}
+use Rattle.std.specs.Prelude.{slice_index_or}
 use Rattle.oxc_sourcemap_tokens.specs.Token.{TokenRecord, IsInBounds, AreInBounds, last}
 use Rattle.oxc_sourcemap_tokens.specs.declared.token.TokenChunk.{TokenChunk}
 use Rattle.oxc_sourcemap_tokens.specs.Chunks.{ChunksFit}
@@ -35,10 +36,10 @@ id_limit (Some id) = id + 1
 -- a token in bounds whose numbers do not pass a reach
 pub record IsInReach (r : Reach) (t : TokenRecord) : Type 0 where
   pub in_bounds : IsInBounds t
-  pub line : t.dst_line ≤ r.line
-  pub column : t.dst_col ≤ r.column
-  pub source : id_limit t.source_id ≤ r.source
-  pub name : id_limit t.name_id ≤ r.name
+  pub line : t.dst_line ≤ slice_index_or r.positions 0 0
+  pub column : t.dst_col ≤ slice_index_or r.positions 1 0
+  pub source : id_limit t.source_id ≤ slice_index_or r.ids 0 0
+  pub name : id_limit t.name_id ≤ slice_index_or r.ids 1 0
 
 -- What is worked out for a map after a join: how its tokens are moved, how many at the front are left out, and the chunk of
 -- the others. The limits of tokens are left aside, but for the first one.

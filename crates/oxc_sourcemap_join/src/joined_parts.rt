@@ -1,8 +1,8 @@
 //! Joining the parts of maps into those of one.
-ghost use Rattle.std.specs.Prelude.{◌≡◌, ◌↔◌, ◌≤◌, ◌<◌, ◌+◌, ◌++◌, ◌⊎◌, [], map, option_map};
+ghost use Rattle.std.specs.Prelude.{◌≡◌, ◌↔◌, ◌≤◌, ◌<◌, ◌+◌, ◌++◌, ◌∷◌, ◌⊎◌, [], map, option_map};
 ghost use Rattle.std.specs.Prelude.{length, replicate, take, drop, slice_get, List, Some, None};
 ghost use Rattle.std.specs.Prelude.{false, IsTrue, IfSome, IfOk, IfErr, IsErrOf, OnOk, OnErr};
-ghost use Rattle.std.specs.Prelude.{vec_len};
+ghost use Rattle.std.specs.Prelude.{vec_len, ℕ, bit_or, slice_index_or};
 ghost use Rattle.std.specs.List.{All};
 ghost use Rattle.std.specs.Vec.{vec_capacity};
 ghost use Rattle.std.specs.Cow.{cow_str_bytes};
@@ -22,6 +22,7 @@ use oxc_sourcemap_tokens::{Error, Memory, Position, Result, Token, TokenChunk, n
 use std::alloc::Global;
 use std::borrow::CowStr;
 use std::marker::Model;
+use std::simd::u32x4;
 
 /// The largest count of names, sources or tokens of a join.
 const MAX_COUNT: usize = 4294967295;
@@ -45,17 +46,6 @@ fn is_id_raisable(id: Option<u32>, number: u32) -> bool
     }
 }
 
-/// An id raised by a number, where that is an id; none stays none. Where it is not, the sum wraps around.
-fn raise_id(id: Option<u32>, number: u32) -> Option<u32>
-    ensures { IfSome (raised_id number id) (λ i. i < 4294967295)
-        → result ≡ raised_id number id }
-{
-    match id {
-        Some(id) => Some(id.wrapping_add(number)),
-        None => None,
-    }
-}
-
 /// Whether all of these entries of an ignore list, raised by a number, are at most 4294967294.
 fn are_raisable(ids: &[u32], number: u32) -> bool
     ensures { IsTrue result ↔ All (λ id. id < 4294967295) (map (λ id. id + number) ids.now) }
@@ -68,38 +58,69 @@ fn are_raisable(ids: &[u32], number: u32) -> bool
     true
 }
 
-/// One more than an id, and 0 for none.
-fn id_limit(id: Option<u32>) -> u32
-    requires { IfSome id (λ i. i < 4294967295) }
-    ensures { result ≡ id_limit id }
+/// The generated line and column of a token, and its source line and column.
+fn position_lanes(token: &Token) -> u32x4
+    ensures lanes { result ≡ token.now.dst_line ∷ token.now.dst_col
+        ∷ token.now.src_line ∷ token.now.src_col ∷ [] }
+
+    // True of every token, and stated here for callers that need it.
+    ensures in_bounds { IsInBounds token.now }
 {
-    match id {
-        Some(id) => id + 1,
-        None => 0,
-    }
+    u32x4::from_array([
+        token.get_dst_line(),
+        token.get_dst_col(),
+        token.get_src_line(),
+        token.get_src_col(),
+    ])
 }
 
-/// Numbers that no line and no column of some tokens passes, and no id of theirs and one.
+/// The source id and the name id of a token; 4294967295 stands for none. The other lanes are not used.
+fn id_lanes(token: &Token) -> u32x4
+    ensures lanes { result ≡ unwrap_or token.now.source_id 4294967295
+        ∷ unwrap_or token.now.name_id 4294967295 ∷ 0 ∷ 0 ∷ [] }
+    ensures source { IfSome token.now.source_id (λ id. id < 4294967295) }
+    ensures name { IfSome token.now.name_id (λ id. id < 4294967295) }
+{
+    u32x4::from_array([
+        token.get_source_id().unwrap_or(4294967295),
+        token.get_name_id().unwrap_or(4294967295),
+        0,
+        0,
+    ])
+}
+
+/// One more than the source id and the name id of a token; 0 where there is none. The other lanes are not used.
+fn limit_lanes(token: &Token) -> u32x4
+    ensures { result ≡ id_limit token.now.source_id ∷ id_limit token.now.name_id ∷ 1 ∷ 1 ∷ [] }
+{
+    id_lanes(token) + u32x4::splat(1)
+}
+
+/// The bits of two numbers taken together, in each lane: a number that is not below either, found without a comparison.
+fn bits_of_both(a: u32x4, b: u32x4) -> u32x4
+    ensures { (j : ℕ) → j < 4
+        → slice_index_or result j 0 ≡ bit_or (slice_index_or a j 0) (slice_index_or b j 0) }
+{
+    a | b
+}
+
+/// Numbers that the generated line and column of some tokens do not pass, their source line and column, and one more than their
+/// source id and name id, where none counts as 0.
 #[derive(Clone, Copy)]
 struct Reach {
-    line: u32,
-    column: u32,
-    source: u32,
-    name: u32,
+    positions: u32x4,
+    ids: u32x4,
 }
 
 impl Reach {
-    /// The reach of one more token. It takes the bits of all numbers together: these are at least the greatest number, and
-    /// take no comparison.
+    /// The reach of one more token.
     fn with(self, token: &Token) -> Reach
         ensures token { IsInReach result token.now }
         ensures others { (t : TokenRecord) → IsInReach self t → IsInReach result t }
     {
         Reach {
-            line: self.line | token.get_dst_line(),
-            column: self.column | token.get_dst_col(),
-            source: self.source | id_limit(token.get_source_id()),
-            name: self.name | id_limit(token.get_name_id()),
+            positions: bits_of_both(self.positions, position_lanes(token)),
+            ids: bits_of_both(self.ids, limit_lanes(token)),
         }
     }
 }
@@ -163,10 +184,12 @@ impl Shift {
         ensures { IsTrue result → (t : TokenRecord) → IsInReach reach t
             → IsInBounds (shifted self.names self.sources self.position t) }
     {
-        is_in_reach(reach.line, self.position.line)
-            && is_in_reach(reach.column, self.position.column)
-            && is_in_reach(reach.source, self.sources)
-            && is_in_reach(reach.name, self.names)
+        let [line, column, _, _] = reach.positions.to_array();
+        let [source, name, _, _] = reach.ids.to_array();
+        is_in_reach(line, self.position.line)
+            && is_in_reach(column, self.position.column)
+            && is_in_reach(source, self.sources)
+            && is_in_reach(name, self.names)
     }
 
     /// Whether all entries of an ignore list, raised by the number of sources before, are at most 4294967294.
@@ -180,19 +203,17 @@ impl Shift {
         }
     }
 
-    /// A token with the line, column and ids that it has in the join, if these are in bounds. Where one is not, it wraps around.
+    /// A token with the line, column and ids that it has in the join, if these are in bounds. Where one is not, any may
+    /// stand in its place.
     fn shift(&self, token: &Token) -> Token
         ensures { IsInBounds (shifted self.now.names self.now.sources self.now.position token.now)
             → result ≡ shifted self.now.names self.now.sources self.now.position token.now }
     {
-        Token::new(
-            token.get_dst_line().wrapping_add(self.position.line),
-            token.get_dst_col().wrapping_add(self.column_of(token)),
-            token.get_src_line(),
-            token.get_src_col(),
-            raise_id(token.get_source_id(), self.sources),
-            raise_id(token.get_name_id(), self.names),
-        )
+        let moves = u32x4::from_array([self.position.line, self.column_of(token), 0, 0]);
+        let raises = u32x4::from_array([self.sources, self.names, 0, 0]);
+        let [line, column, src_line, src_col] = (position_lanes(token) + moves).to_array();
+        let [source, name, _, _] = id_lanes(token).saturating_add(raises).to_array();
+        Token::new(line, column, src_line, src_col, Some(source), Some(name))
     }
 
     /// Whether tokens stay as they are.
@@ -385,10 +406,8 @@ fn push_each(tokens: &mut Vec<Token>, shift: Shift, added: &[Token]) -> Reach
     ensures reach { All (IsInReach result) added.now }
 {
     let mut reach = Reach {
-        line: 0,
-        column: 0,
-        source: 0,
-        name: 0,
+        positions: u32x4::splat(0),
+        ids: u32x4::splat(0),
     };
     for token in added {
         reach = reach.with(token);

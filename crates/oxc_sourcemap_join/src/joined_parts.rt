@@ -96,7 +96,7 @@ fn limit_lanes(token: &Token) -> u32x4
     id_lanes(token) + u32x4::splat(1)
 }
 
-/// The bits of two numbers taken together, in each lane: a number that is not below either, found without a comparison.
+/// In each lane the bits of both numbers: a number that is not below either. It takes no comparison.
 fn bits_of_both(a: u32x4, b: u32x4) -> u32x4
     ensures { (j : ℕ) → j < 4
         → slice_index_or result j 0 ≡ bit_or (slice_index_or a j 0) (slice_index_or b j 0) }
@@ -104,8 +104,7 @@ fn bits_of_both(a: u32x4, b: u32x4) -> u32x4
     a | b
 }
 
-/// Numbers that the generated line and column of some tokens do not pass, their source line and column, and one more than their
-/// source id and name id, where none counts as 0.
+/// Numbers that some tokens do not pass, in lanes as `position_lanes` and `limit_lanes` have them.
 #[derive(Clone, Copy)]
 struct Reach {
     positions: u32x4,
@@ -203,8 +202,8 @@ impl Shift {
         }
     }
 
-    /// A token with the line, column and ids that it has in the join, if these are in bounds. Where one is not, any may
-    /// stand in its place.
+    /// A token with the line, column and ids that it has in the join, if these are in bounds; else any token. An id of
+    /// 4294967295 stays, and is none.
     fn shift(&self, token: &Token) -> Token
         ensures { IsInBounds (shifted self.now.names self.now.sources self.now.position token.now)
             → result ≡ shifted self.now.names self.now.sources self.now.position token.now }
@@ -397,7 +396,7 @@ fn push_fitted<'a>(
     push_unknown(contents, unknown);
 }
 
-/// Adds moved tokens, and finds a reach of those that it was given. Where not all are in bounds, any may follow in their place.
+/// Adds moved tokens, or as many others where not all are in bounds then, and finds a reach of those that it was given.
 fn push_each(tokens: &mut Vec<Token>, shift: Shift, added: &[Token]) -> Reach
     requires { vec_len tokens.old + length added.now ≤ vec_capacity tokens.old }
     ensures front { take (vec_len tokens.old) tokens.new.items ≡ tokens.old.items }
@@ -416,8 +415,8 @@ fn push_each(tokens: &mut Vec<Token>, shift: Shift, added: &[Token]) -> Reach
     reach
 }
 
-/// Does nothing. All tokens are in bounds, and this states it for tokens that are copied as they are.
-fn look_at(tokens: &[Token])
+/// Every token is in bounds: the contract of a loop that does nothing, and of which no instruction is left.
+fn tokens_in_bounds(tokens: &[Token])
     ensures { AreInBounds tokens.now }
 {
     for token in tokens {
@@ -425,7 +424,8 @@ fn look_at(tokens: &[Token])
     }
 }
 
-/// Adds moved tokens if they are all in bounds then, and tells whether they are; otherwise the list is as it was.
+/// Adds moved tokens if all of them are in bounds then, and tells whether they are; otherwise the list is as it was. It adds
+/// them first, and takes them away again, since they seldom are not.
 fn push_moved(tokens: &mut Vec<Token>, shift: Shift, added: &[Token]) -> bool
     requires { vec_len tokens.old + length added.now ≤ vec_capacity tokens.old }
     ensures fits { IsTrue result ↔ AreInBounds (all_shifted shift added.now) }
@@ -434,7 +434,7 @@ fn push_moved(tokens: &mut Vec<Token>, shift: Shift, added: &[Token]) -> bool
     ensures unchanged { result ≡ false → tokens.new.items ≡ tokens.old.items }
 {
     if shift.moves_nothing() {
-        look_at(added);
+        tokens_in_bounds(added);
         tokens.extend_from_slice(added).unwrap();
         return true;
     }

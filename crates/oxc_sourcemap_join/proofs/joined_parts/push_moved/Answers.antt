@@ -8,7 +8,7 @@ use Rattle.oxc_sourcemap_join.proofs.joined_parts.push_moved.Goals.{then-fits_re
 pub returns-then-moves_nothing-clause-fits : goal.returns-then-moves_nothing-clause-fits
 returns-then-moves_nothing-clause-fits c =
     let zero = c.moves_nothing.ensures c.if-moves_nothing.true in
-    (λ e. subst AreInBounds (sym (unmoved c.args.shift zero.0 zero.1 zero.2 zero.3 c.args.added.now)) c.look_at.ensures, λ h. refl)
+    (λ e. subst AreInBounds (sym (unmoved c.args.shift zero.0 zero.1 zero.2 zero.3 c.args.added.now)) c.tokens_in_bounds.ensures, λ h. refl)
 
 pub returns-then-moves_nothing-clause-items : goal.returns-then-moves_nothing-clause-items
 returns-then-moves_nothing-clause-items c =

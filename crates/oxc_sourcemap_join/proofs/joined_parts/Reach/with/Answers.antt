@@ -1,4 +1,4 @@
-use Rattle.std.proofs.Common.{◌≡◌, ◌<◌, ℕ, arith, bit_or, slice_index_or, ap, ◌∙◌}
+use Rattle.std.proofs.Common.{◌<◌, ℕ, arith, bit_or, slice_index_or, ap, ◌∙◌}
 use Rattle.std.proofs.lemmas.Nat.{le_or_l, le_or_r}
 use Rattle.oxc_sourcemap_join.specs.Joining.{id_limit}
 use Rattle.oxc_sourcemap_join.proofs.joined_parts.Reach.with.Goals as goal

@@ -1,8 +1,8 @@
 //! Joining the parts of maps into those of one.
-ghost use Rattle.std.specs.Prelude.{◌≡◌, ◌↔◌, ◌≤◌, ◌<◌, ◌+◌, ◌++◌, ◌∷◌, ◌⊎◌, [], map, option_map};
+ghost use Rattle.std.specs.Prelude.{◌≡◌, ◌↔◌, ◌≤◌, ◌<◌, ◌+◌, ◌++◌, ◌⊎◌, [], map, option_map};
 ghost use Rattle.std.specs.Prelude.{length, replicate, take, drop, slice_get, List, Some, None};
 ghost use Rattle.std.specs.Prelude.{false, IsTrue, IfSome, IfOk, IfErr, IsErrOf, OnOk, OnErr};
-ghost use Rattle.std.specs.Prelude.{vec_len, ℕ, bit_or, slice_index_or};
+ghost use Rattle.std.specs.Prelude.{vec_len, ℕ, ◌∷◌, bit_or, slice_index_or};
 ghost use Rattle.std.specs.List.{All};
 ghost use Rattle.std.specs.Vec.{vec_capacity};
 ghost use Rattle.std.specs.Cow.{cow_str_bytes};

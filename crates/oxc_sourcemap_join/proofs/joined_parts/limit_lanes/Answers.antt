@@ -1,4 +1,5 @@
-use Rattle.std.proofs.Common.{◌≡◌, ◌∷◌, [], ◌+◌, ◌%◌, ◌<◌, ℕ, Option, Some, None, arith, refl, ap, ◌∙◌}
+use Rattle.std.proofs.Common.{◌≡◌, ◌∷◌, [], ◌+◌, ◌%◌, ◌<◌, ℕ, Option, Some}
+use Rattle.std.proofs.Common.{None, arith, refl, ap, ◌∙◌}
 use Rattle.std.specs.Option.{IfSome, unwrap_or}
 use Rattle.oxc_sourcemap_join.specs.Joining.{id_limit}
 use Rattle.oxc_sourcemap_join.proofs.joined_parts.limit_lanes.Goals as goal

@@ -5,6 +5,7 @@
 #![tactic(auto)]
 
 ghost use Rattle.oxc_sourcemap_laws.specs.Words.{CanonicalUnique, ReadsBack, ReadsAgain, InPieces};
+ghost use Rattle.oxc_sourcemap_laws.specs.Words.{PiecesAreAscii};
 ghost use Rattle.oxc_sourcemap_laws.specs.Words.{SoundIsWritten, SoundIsTooLarge, SoundReadsBack};
 ghost use Rattle.oxc_sourcemap_laws.specs.Words.{SoundStaysSound, ReadIsInBounds};
 ghost use Rattle.oxc_sourcemap_laws.specs.Words.{ReadIsInLineOrder, ValueOfSections};
@@ -31,7 +32,8 @@ pub use oxc_sourcemap_tokens::tokens_in_bounds;
 /// - The text of such a list is read without error, with counts above its ids, and gives a list equal as written; an
 ///   unmapped token comes back with the source line and column reached there (`reads_back`).
 /// - The tokens of a text are in line order and in bounds, and written and read again they are the same (`reads_again`).
-/// - The parts of fitting chunks, one after the other, are the text (`in_pieces`).
+/// - The parts of fitting chunks, one after the other, are the text (`in_pieces`). The part of any chunk is ASCII
+///   (`pieces_are_ascii`).
 /// - A sound map of at most 4294967295 tokens is written (`sound_is_written`), one of more is `TooLarge`
 ///   (`sound_is_too_large`). What is written is read as a map with the same decoded map (its ids looked up), the same
 ///   names, and tokens equal as written (`sound_reads_back`). It is sound, has as many tokens, and comes back a second time
@@ -43,6 +45,7 @@ pub fn canonical_unique()
     ensures reads_back { ReadsBack }
     ensures reads_again { ReadsAgain }
     ensures in_pieces { InPieces }
+    ensures pieces_are_ascii { PiecesAreAscii }
     ensures sound_is_written { SoundIsWritten }
     ensures sound_is_too_large { SoundIsTooLarge }
     ensures sound_reads_back { SoundReadsBack }

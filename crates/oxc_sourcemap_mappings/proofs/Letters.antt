@@ -58,7 +58,7 @@ pub plain-replicate : (n : ℕ) → ArePlain (replicate n 59)
 plain-replicate zero = tt
 plain-replicate (suc n) = (lit< tt, plain-replicate n)
 
-comma-plain : (first : Bool) → ArePlain (if first then [] else 44 ∷ [])
+pub comma-plain : (first : Bool) → ArePlain (if first then [] else 44 ∷ [])
 comma-plain true = tt
 comma-plain false = (lit< tt, tt)
 
@@ -66,16 +66,21 @@ pub line_marks-plain : (first : Bool) (lines : ℕ) → ArePlain (line_marks fir
 line_marks-plain first zero = comma-plain first
 line_marks-plain first (suc n) = let p : (suc n == 0) ≡ false = grind (arith, nat_tests) in rw p (plain-replicate (suc n))
 
-or-plain : (a : Option ℕ) (f : ℕ → List ℕ) → ((id : ℕ) → ArePlain (f id)) → ArePlain (option_map_or f a [])
+pub or-plain : (a : Option ℕ) (f : ℕ → List ℕ) → ((id : ℕ) → ArePlain (f id)) → ArePlain (option_map_or f a [])
 or-plain None f h = tt
 or-plain (Some id) f h = h id
+
+pub source-plain : (s : State) (t : TokenRecord) (id : ℕ) → ArePlain (delta_text id s.source_id ++ delta_text t.src_line s.src_line ++ delta_text t.src_col s.src_col)
+source-plain s t id =
+    plain-append (delta_text id s.source_id ++ delta_text t.src_line s.src_line) (delta_text t.src_col s.src_col)
+    (plain-append (delta_text id s.source_id) (delta_text t.src_line s.src_line) (vlq_text-plain _) (vlq_text-plain _))
+    (vlq_text-plain _)
 
 pub fields_text-plain : (column : ℕ) (s : State) (t : TokenRecord) → ArePlain (fields_text column s t)
 fields_text-plain column s t =
     plain-append (delta_text t.dst_col column ++ source_text s t) (name_text s t)
     (plain-append (delta_text t.dst_col column) (source_text s t) (vlq_text-plain _)
-    (or-plain t.source_id (λ id. delta_text id s.source_id ++ delta_text t.src_line s.src_line ++ delta_text t.src_col s.src_col)
-    (λ id. plain-append (delta_text id s.source_id ++ delta_text t.src_line s.src_line) (delta_text t.src_col s.src_col) (plain-append (delta_text id s.source_id) (delta_text t.src_line s.src_line) (vlq_text-plain _) (vlq_text-plain _)) (vlq_text-plain _))))
+    (or-plain t.source_id _ (source-plain s t)))
     (or-plain (mapped_name t) (λ id. delta_text id s.name_id) (λ id. vlq_text-plain _))
 
 pub plain-utf8 : (bytes : List ℕ) → ArePlain bytes → IsUtf8 bytes

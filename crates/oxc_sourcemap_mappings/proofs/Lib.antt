@@ -11,6 +11,7 @@ pub mod Entries
 pub mod Writing
 pub mod Length
 pub mod Pieces
+pub mod Ascii
 pub mod Digits
 pub mod Texts
 pub mod Segments

@@ -36,6 +36,10 @@ abbrev pub ReadsAgain : Type 0
 ReadsAgain = (text : List ℕ) (names sources : ℕ) (tokens : List TokenRecord) → reading text names sources ≡ Ok tokens
     → IsOrderedInBounds tokens × (reading (canonical tokens) names sources ≡ Ok tokens)
 
+-- The piece of a chunk, whatever it says, is ASCII.
+abbrev pub PiecesAreAscii : Type 0
+PiecesAreAscii = (tokens : List TokenRecord) (chunk : TokenChunk) → AllByRecursion (λ b. b < 128) (piece tokens chunk)
+
 -- Whatever chunks fit a list, their pieces in order are its text.
 abbrev pub InPieces : Type 0
 InPieces = (tokens : List TokenRecord) (chunks : List TokenChunk) → ChunksFit tokens chunks

@@ -1,3 +1,4 @@
+use Rattle.oxc_sourcemap_mappings.proofs.Ascii.{piece-plain}
 use Rattle.oxc_sourcemap_mappings.proofs.Pieces.{pieces-is}
 use Rattle.oxc_sourcemap_tokens.proofs.InOrder.{back_from-all}
 use Rattle.oxc_sourcemap_mappings.proofs.RoundTrip.{are-within, round_trip, as_written-of_carried}
@@ -24,6 +25,9 @@ returns-clause-reads_again c = λ text names sources tokens e.
 
 pub returns-clause-in_pieces : goal.returns-clause-in_pieces
 returns-clause-in_pieces c = pieces-is
+
+pub returns-clause-pieces_are_ascii : goal.returns-clause-pieces_are_ascii
+returns-clause-pieces_are_ascii c = piece-plain
 
 pub returns-clause-sound_is_written : goal.returns-clause-sound_is_written
 returns-clause-sound_is_written c = is_written

@@ -111,7 +111,7 @@ fn place_any(buf: &mut [u8], at: usize, column: u32, previous: Previous, token: 
 }
 
 /// Places the fields of a token, its generated column relative to `column`. Most tokens have the source of the one before
-/// and small deltas: they are tested at once, and all others leave the loop.
+/// them and small deltas, which one test finds. All others go to `place_any`, so that the loop keeps few numbers at hand.
 #[inline(always)]
 fn place_fields(buf: &mut [u8], at: usize, column: u32, previous: &Previous, token: &Token) -> usize
     requires room { at + 35 ≤ length buf.old }
@@ -175,7 +175,8 @@ fn place_token(
     place_fields(buf, start, column, previous, token)
 }
 
-// After an `Err` of a function `push_`, `out` may end with the beginning of what it adds, and has not changed otherwise.
+// After an `Err` or a false of a function `push_`, `out` may end with the beginning of what it adds, and has not changed
+// otherwise.
 
 /// Adds ASCII characters.
 fn push_bytes(out: &mut String, bytes: &[u8]) -> Memory<()>
@@ -359,7 +360,7 @@ fn push_chunks(out: &mut String, tokens: &[Token], chunks: &[TokenChunk]) -> Mem
 
 /// The error of tokens with these chunks that were not written: their fault, or else want of memory.
 #[cold]
-fn error_of(tokens: &[Token], chunks: &[TokenChunk]) -> Error
+fn error_of_chunks(tokens: &[Token], chunks: &[TokenChunk]) -> Error
     ensures { result ≡ unwrap_or (writing_fault tokens.now (Some chunks.now)) OutOfMemory }
 {
     if let Some(i) = line_order_fault(tokens) {
@@ -383,14 +384,14 @@ fn encode_chunks(tokens: &[Token], chunks: &[TokenChunk], out: &mut String) -> R
     ensures unchanged { OnErr result (string_bytes out.new ≡ string_bytes out.old) }
 {
     if tokens.len() > 4294967295 || chunk_fault(tokens, chunks).is_some() {
-        return Err(error_of(tokens, chunks));
+        return Err(error_of_chunks(tokens, chunks));
     }
     let start = out.len();
     match push_chunks(out, tokens, chunks) {
         Ok(true) => Ok(()),
         _ => {
             out.truncate(start);
-            Err(error_of(tokens, chunks))
+            Err(error_of_chunks(tokens, chunks))
         }
     }
 }

@@ -1,5 +1,5 @@
 -- How many tokens a text has: as many as segments begin in it.
-use Rattle.std.proofs.Common.{◌≡◌, ℕ, suc, ◌+◌, ◌≤◌, Bool, true, false, List, [], ◌∷◌, length, drop}
+use Rattle.std.proofs.Common.{◌≡◌, ℕ, suc, ◌+◌, ◌<◌, ◌≤◌, Bool, true, false, List, [], ◌∷◌, length, drop}
 use Rattle.std.proofs.Common.{if◌then◌else◌, arith, refl, ap, inl, inr, ◌⊎◌, Some, slice_get}
 use Rattle.oxc_sourcemap_mappings.specs.Number.{digit}
 use Rattle.oxc_sourcemap_mappings.specs.Decoding.{ends_segment, front_digits, segments_after}
@@ -38,3 +38,13 @@ segments-token (a ∷ text) b e h = let k : a ≡ b = cc in rw (k, h) (ap (λ n.
 pub segments-comma : (text rest : List ℕ) → (text ≡ rest) ⊎ (text ≡ 44 ∷ rest) → segments_after false rest ≡ segments_after false text
 segments-comma text rest (inl e) = rw e refl
 segments-comma text rest (inr e) = rw e refl
+
+-- a text with digits at its front begins with a byte of a segment
+pub begins-inside : (text : List ℕ) (b : ℕ) → slice_get text 0 ≡ Some b → 0 < length (front_digits text) → ends_segment b ≡ false
+begins-inside [] b e h = cc
+begins-inside (a ∷ text) b e h =
+    let k : a ≡ b = cc in
+    elim (ends_segment b) as (λ v. ends_segment b ≡ v → v ≡ false) [
+      | true ↦ (λ v. let none : length (front_digits (a ∷ text)) ≡ 0 = rw (k, v) refl in absurd (omega arith))
+      | false ↦ (λ v. refl)
+    ] refl

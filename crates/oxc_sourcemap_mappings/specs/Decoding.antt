@@ -4,13 +4,13 @@ use Rattle.std.specs.Prelude.{length, drop, get_or, ℤ, pos, ◌+ℤ◌, nat_ab
 use Rattle.std.specs.Prelude.{nat_lt, ◌==◌, ◌≤◌}
 use Rattle.oxc_sourcemap_mappings.specs.declared.decode.Fields.{Fields}
 use Rattle.oxc_sourcemap_mappings.specs.declared.decode.Sums.{Sums}
-use Rattle.oxc_sourcemap_mappings.specs.declared.decode.Front.{Front}
 use Rattle.oxc_sourcemap_mappings.specs.Number.{digit, payload, number, is_fitting, is_open}
 use Rattle.oxc_sourcemap_mappings.specs.Parts.{Segment, runs, field, has_source, has_name}
 use Rattle.oxc_sourcemap_mappings.specs.Parts.{is_semicolon, is_comma}
 use Rattle.oxc_sourcemap_mappings.specs.Places.{Place}
 use Rattle.oxc_sourcemap_mappings.specs.Faults.{Counts, digit_fault}
 use Rattle.oxc_sourcemap_mappings.specs.Reading.{segment_result}
+use Rattle.oxc_sourcemap_tokens.specs.Token.{TokenRecord}
 
 -- `,` and `;` end a segment
 abbrev pub ends_segment : ℕ → Bool
@@ -94,9 +94,10 @@ moved_by p s = moved p (length s) (λ k. field k s)
 abbrev pub at_line_start : Place → Place
 at_line_start p = record p { dst_col = pos 0 }
 
--- What was read of the segment at the front of a text, on this line and after this place.
-pub record IsFrontOf (counts : Counts) (line : ℕ) (p : Place) (text : List ℕ) (front : Front) : Type 0 where
-  pub place : place_of front.sums ≡ moved_by p (front_segment text)
-  pub token : segment_result counts line p (front_segment text) (moved_by p (front_segment text)) ≡ Ok front.token
-  pub len : front.len ≡ length (front_digits text)
-  pub within : front.len ≤ length text
+-- The segment at the front of a text, on this line and after this place, leads to a place, and gives a token; and so many
+-- bytes long it is.
+pub record IsFrontOf (counts : Counts) (line : ℕ) (p : Place) (text : List ℕ) (here : Place) (token : TokenRecord) (len : ℕ) : Type 0 where
+  pub place : here ≡ moved_by p (front_segment text)
+  pub result : segment_result counts line p (front_segment text) (moved_by p (front_segment text)) ≡ Ok token
+  pub len_is : len ≡ length (front_digits text)
+  pub within : len ≤ length text

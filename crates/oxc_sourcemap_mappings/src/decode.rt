@@ -39,16 +39,6 @@ struct Sums {
     name_id: u32,
 }
 
-/// What the segment at the front of a text gives.
-#[derive(Drop)]
-struct Front {
-    token: Token,
-    /// The sums after the segment.
-    sums: Sums,
-    /// How many bytes the segment takes.
-    len: usize,
-}
-
 /// The digit of each byte, and 128 for `,` and `;`.
 static DIGITS: [u8; 256] = [
     63, 63, 63, 63, 63, 63, 63, 63, 63, 63, 63, 63, 63, 63, 63, 63, 63, 63, 63, 63, 63, 63, 63, 63,
@@ -155,7 +145,7 @@ fn keep(values: &mut [i64; 5], k: usize, number: i64)
 fn number_at(text: &[u8], at: usize) -> Option<(i64, usize)>
     requires { at + 3 ≤ length text.now }
     ensures number { IfSome result (λ read. IsNumberAt text.now at read.0 read.1) }
-    ensures len { IfSome result (λ read. read.1 ≤ 3) }
+    ensures len { IfSome result (λ read. (0 < read.1) × (read.1 ≤ 3)) }
 {
     let number = number_of(text[at]);
     if number < 64 {
@@ -337,18 +327,18 @@ impl Sums {
     /// These sums with lines and columns moved by their fields; None if one leaves 0 to 4294967295. For speed one test is for all
     /// three.
     #[inline(always)]
-    fn with_position(self, dst_col: i64, src_line: i64, src_col: i64) -> Option<Self>
+    fn with_position(&self, dst_col: i64, src_line: i64, src_col: i64) -> Option<Self>
         requires dst_col { nat_abs dst_col < 2 ^ 62 }
         requires src_line { nat_abs src_line < 2 ^ 62 }
         requires src_col { nat_abs src_col < 2 ^ 62 }
-        ensures dst_col { IfSome result (λ sums. pos sums.dst_col ≡ pos self.dst_col +ℤ dst_col) }
-        ensures src_line { IfSome result (λ sums. pos sums.src_line ≡ pos self.src_line +ℤ src_line) }
-        ensures src_col { IfSome result (λ sums. pos sums.src_col ≡ pos self.src_col +ℤ src_col) }
-        ensures others { IfSome result (λ sums. (sums.source_id ≡ self.source_id)
-            × (sums.name_id ≡ self.name_id)) }
-        ensures clean { is_some result ≡ true → (range_fault (pos self.dst_col +ℤ dst_col) ≡ None)
-            × (range_fault (pos self.src_line +ℤ src_line) ≡ None)
-            × (range_fault (pos self.src_col +ℤ src_col) ≡ None) }
+        ensures dst_col { IfSome result (λ sums. pos sums.dst_col ≡ pos self.now.dst_col +ℤ dst_col) }
+        ensures src_line { IfSome result (λ sums. pos sums.src_line ≡ pos self.now.src_line +ℤ src_line) }
+        ensures src_col { IfSome result (λ sums. pos sums.src_col ≡ pos self.now.src_col +ℤ src_col) }
+        ensures others { IfSome result (λ sums. (sums.source_id ≡ self.now.source_id)
+            × (sums.name_id ≡ self.now.name_id)) }
+        ensures clean { is_some result ≡ true → (range_fault (pos self.now.dst_col +ℤ dst_col) ≡ None)
+            × (range_fault (pos self.now.src_line +ℤ src_line) ≡ None)
+            × (range_fault (pos self.now.src_col +ℤ src_col) ≡ None) }
     {
         let dst_col = i64::from(self.dst_col) + dst_col;
         let src_line = i64::from(self.src_line) + src_line;
@@ -360,17 +350,29 @@ impl Sums {
             dst_col: dst_col as u32,
             src_line: src_line as u32,
             src_col: src_col as u32,
-            ..self
+            ..*self
         })
     }
 
-    /// What the segment at the front of a text gives, if it has four or five fields, each of one to three digits, and no fault;
-    /// None for every other segment. For speed it is read without a loop.
+    /// Reads the segment at the front of a text, if it has four or five fields, each of one to three digits, and no fault: moves
+    /// the sums by it, and gives its token and the number of its bytes. For every other text it gives None, and moves no sum.
+    /// For speed it is read without a loop, 16 bytes being there, and no sum is written before the last test.
     #[inline(always)]
-    fn usual_front(self, line: u32, text: &[u8], names: usize, sources: usize) -> Option<Front>
-        requires { 16 ≤ length text.now }
-        ensures { IfSome result (IsFrontOf (counts_of names sources) line (place_of self) text.now) }
+    fn usual_token(
+        &mut self,
+        line: u32,
+        text: &[u8],
+        names: usize,
+        sources: usize,
+    ) -> Option<(Token, usize)>
+        ensures token { IfSome result (λ read. IsFrontOf (counts_of names sources) line
+            (place_of self.old) text.now (place_of self.new) read.0 read.1) }
+        ensures some { IfSome result (λ read. 0 < read.1) }
+        ensures unchanged { IfNone result (self.new ≡ self.old) }
     {
+        if text.len() < 16 {
+            return None;
+        }
         let (dst_col, a) = number_at(text, 0)?;
         let (source_id, b) = number_at(text, a)?;
         let (src_line, c) = number_at(text, a + b)?;
@@ -378,57 +380,42 @@ impl Sums {
         let len = a + b + c + d;
         let source_id = add_below(self.source_id, source_id, sources)?;
         let moved = self.with_position(dst_col, src_line, src_col)?;
-        let sums = Self { source_id, ..moved };
         if number_of(text[len]) > 95 {
-            let token = sums.token(line, Some(source_id), None);
-            return Some(Front { token, sums, len });
+            *self = Self { source_id, ..moved };
+            return Some((self.token(line, Some(source_id), None), len));
         }
         let (by, e) = number_at(text, len)?;
         let name_id = add_below(self.name_id, by, names)?;
         if number_of(text[len + e]) < 96 {
             return None;
         }
-        let sums = Self { name_id, ..sums };
-        let token = sums.token(line, Some(source_id), Some(name_id));
-        Some(Front {
-            token,
-            sums,
-            len: len + e,
-        })
+        *self = Self {
+            source_id,
+            name_id,
+            ..moved
+        };
+        Some((self.token(line, Some(source_id), Some(name_id)), len + e))
     }
 
-    /// What the segment at the front of a text gives, read digit by digit and field by field.
+    /// Reads the segment at the front of a text, digit by digit and field by field: moves the sums by it, and gives its token
+    /// and the number of its bytes. After an `Err` some of the sums are moved.
     #[cold]
-    fn any_front(self, line: u32, text: &[u8], names: usize, sources: usize) -> Result<Front>
-        ensures front { IfOk result (IsFrontOf (counts_of names sources) line (place_of self) text.now) }
+    fn any_token(
+        &mut self,
+        line: u32,
+        text: &[u8],
+        names: usize,
+        sources: usize,
+    ) -> Result<(Token, usize)>
+        ensures token { IfOk result (λ read. IsFrontOf (counts_of names sources) line
+            (place_of self.old) text.now (place_of self.new) read.0 read.1) }
         ensures fault { let s = front_segment text.now in
             IfErr result (λ e. segment_result (counts_of names sources) line
-            (place_of self) s (moved_by (place_of self) s) ≡ Err e) }
+            (place_of self.old) s (moved_by (place_of self.old) s) ≡ Err e) }
     {
-        let mut sums = self;
         let fields = any_segment(text)?;
-        let token = sums.step(line, &fields, names, sources)?;
-        Ok(Front {
-            token,
-            sums,
-            len: fields.len,
-        })
-    }
-
-    /// What the segment at the front of a text gives.
-    #[inline(always)]
-    fn front(self, line: u32, text: &[u8], names: usize, sources: usize) -> Result<Front>
-        ensures front { IfOk result (IsFrontOf (counts_of names sources) line (place_of self) text.now) }
-        ensures fault { let s = front_segment text.now in
-            IfErr result (λ e. segment_result (counts_of names sources) line
-            (place_of self) s (moved_by (place_of self) s) ≡ Err e) }
-    {
-        if text.len() >= 16 {
-            if let Some(front) = self.usual_front(line, text, names, sources) {
-                return Ok(front);
-            }
-        }
-        self.any_front(line, text, names, sources)
+        let token = self.step(line, &fields, names, sources)?;
+        Ok((token, fields.len))
     }
 
     #[inline(always)]
@@ -549,6 +536,11 @@ pub fn decode_mappings(
     let mut sums = Sums::new();
     let mut line = 0;
     while let Some(byte) = rest.first() {
+        if let Some((token, len)) = sums.usual_token(line, rest, names, sources) {
+            tokens.push_reserved(token);
+            rest = after_comma(&rest[len..]);
+            continue;
+        }
         match *byte {
             b';' => {
                 line = next_line(line)?;
@@ -557,10 +549,9 @@ pub fn decode_mappings(
             }
             b',' => rest = &rest[1..],
             _ => {
-                let front = sums.front(line, rest, names, sources)?;
-                tokens.push_reserved(front.token);
-                sums = front.sums;
-                rest = after_comma(&rest[front.len..]);
+                let (token, len) = sums.any_token(line, rest, names, sources)?;
+                tokens.push_reserved(token);
+                rest = after_comma(&rest[len..]);
             }
         }
     }

@@ -40,9 +40,8 @@ returns-clause-src_col c = let t = all c.is_in_range.result c.is_in_range-2.resu
 
 pub returns-clause-clean : goal.returns-clause-clean
 returns-clause-clean c = λ _.
-    let t = all c.is_in_range.result c.is_in_range-2.result c.is_in_range-3.result c.if-not-is_in_range.false in
-    (
-      in_range (pos c.args.self.dst_col +ℤ c.args.dst_col) (omega (arith, ints, c.from.ensures, c.requires.dst_col, c.is_in_range.ensures.low t.0)) (omega (arith, ints, c.from.ensures, c.requires.dst_col, c.is_in_range.ensures.high t.0)),
-      in_range (pos c.args.self.src_line +ℤ c.args.src_line) (omega (arith, ints, c.from-2.ensures, c.requires.src_line, c.is_in_range-2.ensures.low t.1)) (omega (arith, ints, c.from-2.ensures, c.requires.src_line, c.is_in_range-2.ensures.high t.1)),
-      in_range (pos c.args.self.src_col +ℤ c.args.src_col) (omega (arith, ints, c.from-3.ensures, c.requires.src_col, c.is_in_range-3.ensures.low t.2)) (omega (arith, ints, c.from-3.ensures, c.requires.src_col, c.is_in_range-3.ensures.high t.2)),
+    let t = all c.is_in_range.result c.is_in_range-2.result c.is_in_range-3.result c.if-not-is_in_range.false in (
+      in_range (pos c.args.self.now.dst_col +ℤ c.args.dst_col) (omega (arith, ints, c.from.ensures, c.requires.dst_col, c.is_in_range.ensures.low t.0)) (omega (arith, ints, c.from.ensures, c.requires.dst_col, c.is_in_range.ensures.high t.0)),
+      in_range (pos c.args.self.now.src_line +ℤ c.args.src_line) (omega (arith, ints, c.from-2.ensures, c.requires.src_line, c.is_in_range-2.ensures.low t.1)) (omega (arith, ints, c.from-2.ensures, c.requires.src_line, c.is_in_range-2.ensures.high t.1)),
+      in_range (pos c.args.self.now.src_col +ℤ c.args.src_col) (omega (arith, ints, c.from-3.ensures, c.requires.src_col, c.is_in_range-3.ensures.low t.2)) (omega (arith, ints, c.from-3.ensures, c.requires.src_col, c.is_in_range-3.ensures.high t.2)),
     )

@@ -6,16 +6,16 @@ use Rattle.oxc_sourcemap_mappings.specs.Faults.{counts_of}
 use Rattle.oxc_sourcemap_mappings.specs.Decoding.{place_of}
 use Rattle.oxc_sourcemap_mappings.proofs.Usual.{front-end, kept, digits-four, place-four, token-four}
 use Rattle.oxc_sourcemap_mappings.proofs.Usual.{digits-five, place-five, token-five}
-use Rattle.oxc_sourcemap_mappings.proofs.decode.Sums.usual_front.Goals as goal
+use Rattle.oxc_sourcemap_mappings.proofs.decode.Sums.usual_token.Goals as goal
 
 at_least : (z : ℤ) → FitsSigned w8 z → lt_z (to_z w8 (of_z w8 z)) (pos 96) ≡ false → pos 96 ≤ℤ z
 at_least z f h = grind (arith, ints)
 
-pub returns-then-number_of-gt95 : goal.returns-then-number_of-gt95
-returns-then-number_of-gt95 c =
-    let ended = front-end c.args.text.now _ (omega (arith, c.in_ok-dst_col.ensures.len, c.in_ok-source_id.ensures.len, c.in_ok-src_line.ensures.len, c.in_ok-src_col.ensures.len)) (c.number_of.ensures.mark (grind (arith, ints, c.if-number_of-gt95.true))) in
+pub returns-then-number_of-gt95-clause-token : goal.returns-then-number_of-gt95-clause-token
+returns-then-number_of-gt95-clause-token c =
+    let ended = front-end c.args.text.now _ (omega (arith, c.in_ok-dst_col.ensures.len.1, c.in_ok-source_id.ensures.len.1, c.in_ok-src_line.ensures.len.1, c.in_ok-src_col.ensures.len.1)) (c.number_of.ensures.mark (grind (arith, ints, c.if-number_of-gt95.true))) in
     let counts = counts_of c.args.names c.args.sources in
-    let before = place_of c.args.self in
+    let before = place_of c.args.self.now in
     let first = c.in_ok-dst_col.ensures.number in
     let second = c.in_ok-source_id.ensures.number in
     let third = c.in_ok-src_line.ensures.number in
@@ -31,16 +31,16 @@ returns-then-number_of-gt95 c =
     let after = place_of (record { dst_col = c.in_ok-moved.moved.dst_col; source_id = c.in_ok-source_id-2.source_id; src_line = c.in_ok-moved.moved.src_line; src_col = c.in_ok-moved.moved.src_col; name_id = c.in_ok-moved.moved.name_id }) in
     record {
       place = place-four _ _ _ _ _ _ _ _ _ first second third fourth counts c.args.line before after dst_col source_id src_line src_col clean.0 below clean.1 clean.2 ended (ap pos position.others.1);
-      token = token-four _ _ _ _ _ _ _ _ _ first second third fourth counts c.args.line before after dst_col source_id src_line src_col clean.0 below clean.1 clean.2 ended (ap pos position.others.1) ∙ ap Ok (sym c.token-token.ensures);
-      len = digits-four _ _ _ _ _ _ _ _ _ first second third fourth ended;
-      within = omega (arith, c.in_ok-dst_col.ensures.len, c.in_ok-source_id.ensures.len, c.in_ok-src_line.ensures.len, c.in_ok-src_col.ensures.len);
+      result = token-four _ _ _ _ _ _ _ _ _ first second third fourth counts c.args.line before after dst_col source_id src_line src_col clean.0 below clean.1 clean.2 ended (ap pos position.others.1) ∙ ap Ok (sym c.token.ensures);
+      len_is = digits-four _ _ _ _ _ _ _ _ _ first second third fourth ended;
+      within = omega (arith, c.in_ok-dst_col.ensures.len.1, c.in_ok-source_id.ensures.len.1, c.in_ok-src_line.ensures.len.1, c.in_ok-src_col.ensures.len.1);
     }
 
-pub returns : goal.returns
-returns c =
-    let ended = front-end c.args.text.now _ (omega (arith, c.in_ok-dst_col.ensures.len, c.in_ok-source_id.ensures.len, c.in_ok-src_line.ensures.len, c.in_ok-src_col.ensures.len, c.in_ok-by.ensures.len)) (c.number_of-2.ensures.mark (at_least c.number_of-2.result (search rules) c.if-number_of-lt96.false)) in
+pub returns-clause-token : goal.returns-clause-token
+returns-clause-token c =
+    let ended = front-end c.args.text.now _ (omega (arith, c.in_ok-dst_col.ensures.len.1, c.in_ok-source_id.ensures.len.1, c.in_ok-src_line.ensures.len.1, c.in_ok-src_col.ensures.len.1, c.in_ok-by.ensures.len.1)) (c.number_of-2.ensures.mark (at_least c.number_of-2.result (search rules) c.if-number_of-lt96.false)) in
     let counts = counts_of c.args.names c.args.sources in
-    let before = place_of c.args.self in
+    let before = place_of c.args.self.now in
     let first = c.in_ok-dst_col.ensures.number in
     let second = c.in_ok-source_id.ensures.number in
     let third = c.in_ok-src_line.ensures.number in
@@ -60,7 +60,7 @@ returns c =
     let after = place_of (record { dst_col = c.in_ok-moved.moved.dst_col; source_id = c.in_ok-source_id-2.source_id; src_line = c.in_ok-moved.moved.src_line; src_col = c.in_ok-moved.moved.src_col; name_id = c.in_ok-name_id.name_id }) in
     record {
       place = place-five _ _ _ _ _ _ _ _ _ first second third fourth counts c.args.line before after dst_col source_id src_line src_col clean.0 below clean.1 clean.2 _ _ fifth ended name_id;
-      token = token-five _ _ _ _ _ _ _ _ _ first second third fourth counts c.args.line before after dst_col source_id src_line src_col clean.0 below clean.1 clean.2 _ _ fifth ended name_id name_below ∙ ap Ok (sym c.token-token-2.ensures);
-      len = digits-five _ _ _ _ _ _ _ _ _ first second third fourth counts c.args.line before after dst_col source_id src_line src_col clean.0 below clean.1 clean.2 _ _ fifth ended name_id;
-      within = omega (arith, c.in_ok-dst_col.ensures.len, c.in_ok-source_id.ensures.len, c.in_ok-src_line.ensures.len, c.in_ok-src_col.ensures.len, c.in_ok-by.ensures.len);
+      result = token-five _ _ _ _ _ _ _ _ _ first second third fourth counts c.args.line before after dst_col source_id src_line src_col clean.0 below clean.1 clean.2 _ _ fifth ended name_id name_below ∙ ap Ok (sym c.token-2.ensures);
+      len_is = digits-five _ _ _ _ _ _ _ _ _ first second third fourth counts c.args.line before after dst_col source_id src_line src_col clean.0 below clean.1 clean.2 _ _ fifth ended name_id;
+      within = omega (arith, c.in_ok-dst_col.ensures.len.1, c.in_ok-source_id.ensures.len.1, c.in_ok-src_line.ensures.len.1, c.in_ok-src_col.ensures.len.1, c.in_ok-by.ensures.len.1);
     }

@@ -86,12 +86,12 @@ loop-byte-preserved-in-Some-usual_token c =
     let here = place_of c.usual_token.new.self in
     let counts = counts_of c.args.names c.args.sources in
     let read = c.in-Some-usual_token in
-    let is : IsFrontOf counts c.loop-byte.line place rest here read.token read.len = read.ensures'.token in
+    let is = read.ensures.token in
     let g : slice_get rest 0 ≡ Some c.in-Some.byte.now = sym c.in-Some.ensures.value in
-    let m = begins-inside rest c.in-Some.byte.now g (omega (arith, is.len_is, read.ensures'.some)) in
+    let m = begins-inside rest c.in-Some.byte.now g (omega (arith, is.len_is, read.ensures.some)) in
     record {
-      reading = rw c.push_reserved.ensures.items (read-on counts c.loop-byte.line place here rest _ _ read.token read.len _ is g m (take_rest rest read.len) c.after_comma-rest.ensures c.loop-byte.tokens.items ∙ c.loop-byte.invariant.reading);
-      room = omega (arith, c.loop-byte.invariant.room, c.push_reserved.ensures.len, c.push_reserved.ensures.capacity, segments-on counts c.loop-byte.line place here rest _ _ read.token read.len _ is g m (take_rest rest read.len) c.after_comma-rest.ensures);
+      reading = rw c.push_reserved.ensures.items (read-on counts c.loop-byte.line place here rest _ _ _ _ _ is g m (take_rest rest _) c.after_comma-rest.ensures c.loop-byte.tokens.items ∙ c.loop-byte.invariant.reading);
+      room = omega (arith, c.loop-byte.invariant.room, c.push_reserved.ensures.len, c.push_reserved.ensures.capacity, segments-on counts c.loop-byte.line place here rest _ _ _ _ _ is g m (take_rest rest _) c.after_comma-rest.ensures);
     }
 
 pub loop-byte-preserved : goal.loop-byte-preserved

@@ -261,27 +261,6 @@ pub front-filled : (text : List ℕ) (b : ℕ) → slice_get text 0 ≡ Some b �
 front-filled [] b e h = cc
 front-filled (a ∷ text) b e h = let k : a ≡ b = cc in rw (k, h)
 
-pub front_digits-filled : (text : List ℕ) → is_filled (front text) ≡ true → 0 < length (front_digits text)
-front_digits-filled [] f = cc
-front_digits-filled (b ∷ bs) f =
-    elim (ends_segment b) as (λ v. is_filled (if v then [] else b ∷ front bs) ≡ true → 0 < length (if v then [] else digit b ∷ front_digits bs)) [
-      | true ↦ (λ e. cc)
-      | false ↦ (λ e. omega arith)
-    ] f
-
--- ---- what the steps of the decoder give for a segment
-
--- a place moved by the fields that were read is the place moved by the segment
-pub moved-moved_by : (p : Place) (s : Segment) (f : Fields) → AreFieldsOf s f → moved p f.count (value f) ≡ moved_by p s
-moved-moved_by p s f a =
-    rw (a.count, a.values 0 (omega arith), a.values 1 (omega arith), a.values 2 (omega arith), a.values 3 (omega arith), a.values 4 (omega arith))
-
-pub segment_result-clean : (c : Counts) (line : ℕ) (before : Place) (s : Segment) (p : Place) (o : Option Error) → digit_fault s ≡ None → place_fault c before (length s) p ≡ o → segment_result c line before s p ≡ unless o (Ok (token_at line (length s) p))
-segment_result-clean c line before s p o e h = rw (e, h)
-
-pub segment_result-fault : (c : Counts) (line : ℕ) (before : Place) (s : Segment) (p : Place) (fault : Error) → digit_fault s ≡ Some fault → segment_result c line before s p ≡ Err fault
-segment_result-fault c line before s p fault h = rw h
-
 -- ---- the tokens so far, and what is left
 
 -- a reading with these tokens before its tokens

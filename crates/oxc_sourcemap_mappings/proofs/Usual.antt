@@ -144,8 +144,3 @@ module _ (text : List ℕ) (a b c d : ℕ) (x y z w : ℤ) (first : IsNumberAt t
           ap (segment_result k line p (front_segment text)) (sym place-five)
           ∙ ap (λ run. segment_result k line p run q) front-five
           ∙ rw (clean-five, dst_col, source_id, src_line, src_col, name_id, no_dst_col, sym has_source_id, no_src_line, no_src_col, sym has_name_id)
-
--- a segment has no more digits than its text has bytes
-pub front-within : (text : List ℕ) → length (front_digits text) ≤ length text
-front-within [] = omega arith
-front-within (b ∷ bs) = elim (ends_segment b) as (λ v. length (if v then [] else digit b ∷ front_digits bs) ≤ suc (length bs)) [ true ↦ omega arith | false ↦ omega (arith, front-within bs) ]

@@ -10,9 +10,10 @@ ghost use Rattle.oxc_sourcemap_mappings.specs.Words.{range_fault, is_id_below, l
 ghost use Rattle.oxc_sourcemap_mappings.specs.Words.{source_fault, place_fault, counts_of};
 ghost use Rattle.oxc_sourcemap_mappings.specs.Words.{token_at, segment_result, reading};
 ghost use Rattle.oxc_sourcemap_mappings.specs.Words.{ends_segment, front_digits, front_segment};
-ghost use Rattle.oxc_sourcemap_mappings.specs.Words.{segments_after, is_over, IsNumberAt, IsFrontOf};
+ghost use Rattle.oxc_sourcemap_mappings.specs.Words.{segments_after, is_over, IsNumberAt};
 ghost use Rattle.oxc_sourcemap_mappings.specs.Words.{AreFieldsOf, AreSmall, value, place_of};
-ghost use Rattle.oxc_sourcemap_mappings.specs.Words.{source_moved, moved, moved_by, Answers};
+ghost use Rattle.oxc_sourcemap_mappings.specs.Words.{source_moved, moved, moved_by, IsFrontOf};
+ghost use Rattle.oxc_sourcemap_mappings.specs.Words.{Answers};
 
 use oxc_sourcemap_tokens::{Error, Result, Token};
 use std::alloc::Global;
@@ -331,12 +332,16 @@ impl Sums {
         requires dst_col { nat_abs dst_col < 2 ^ 62 }
         requires src_line { nat_abs src_line < 2 ^ 62 }
         requires src_col { nat_abs src_col < 2 ^ 62 }
-        ensures dst_col { IfSome result (λ sums. pos sums.dst_col ≡ pos self.now.dst_col +ℤ dst_col) }
-        ensures src_line { IfSome result (λ sums. pos sums.src_line ≡ pos self.now.src_line +ℤ src_line) }
-        ensures src_col { IfSome result (λ sums. pos sums.src_col ≡ pos self.now.src_col +ℤ src_col) }
+        ensures dst_col { IfSome result (λ sums. pos sums.dst_col
+            ≡ pos self.now.dst_col +ℤ dst_col) }
+        ensures src_line { IfSome result (λ sums. pos sums.src_line
+            ≡ pos self.now.src_line +ℤ src_line) }
+        ensures src_col { IfSome result (λ sums. pos sums.src_col
+            ≡ pos self.now.src_col +ℤ src_col) }
         ensures others { IfSome result (λ sums. (sums.source_id ≡ self.now.source_id)
             × (sums.name_id ≡ self.now.name_id)) }
-        ensures clean { is_some result ≡ true → (range_fault (pos self.now.dst_col +ℤ dst_col) ≡ None)
+        ensures clean { is_some result ≡ true
+            → (range_fault (pos self.now.dst_col +ℤ dst_col) ≡ None)
             × (range_fault (pos self.now.src_line +ℤ src_line) ≡ None)
             × (range_fault (pos self.now.src_col +ℤ src_col) ≡ None) }
     {

@@ -12,7 +12,7 @@ use Rattle.std.proofs.lemmas.Str.{IsCharBoundary-before_ascii, IsCharBoundary-af
 use Rattle.std.proofs.lemmas.Str.{IsCharBoundary-end}
 use Rattle.std.specs.Str.{IsUtf8, IsCharBoundary}
 use Rattle.std.specs.List.{prefix_len}
-use Rattle.oxc_sourcemap_encode.specs.JsonString.{escaped, hex_escape, Opened}
+use Rattle.oxc_sourcemap_encode.specs.JsonString.{escaped, hex_escape}
 use Rattle.oxc_sourcemap_encode.specs.Plain.{needs_escape, is_plain}
 
 -- ---- a byte
@@ -81,7 +81,3 @@ escape_added old (x ∷ after) new b e n =
 pub nothing_left : (bs out : List ℕ) → slice_get bs 0 ≡ None → out ++ flat_map escaped bs ≡ out
 nothing_left [] out e = append-nil out
 nothing_left (b ∷ bs) out e = cc
-
--- ---- a text that was opened stays opened
-pub opened-more : (base old x new : List ℕ) → Opened base old → new ≡ old ++ x → Opened base new
-opened-more base old x new o e = (o.0 ++ x, e ∙ ap (λ bs. bs ++ x) o.1 ∙ append_assoc base (34 ∷ o.0) x)

@@ -1,5 +1,5 @@
 -- A text as a JSON string (RFC 8259, section 7).
-use Rattle.std.specs.Prelude.{◌≡◌, ℕ, ◌/◌, ◌%◌, List, [], ◌∷◌, ◌++◌, codes, flat_map, ◌⊎◌}
+use Rattle.std.specs.Prelude.{ℕ, ◌/◌, ◌%◌, List, [], ◌∷◌, ◌++◌, codes, flat_map}
 use Rattle.std.specs.Prelude.{if◌then◌else◌, nat_lt, ◌==◌}
 use Rattle.std.specs.Char.{digit_char}
 
@@ -24,17 +24,3 @@ escaped b =
 -- the bytes of a text, escaped, in quotes
 unfoldable pub json_string : List ℕ → List ℕ
 json_string text = 34 ∷ flat_map escaped text ++ 34 ∷ []
-
--- The rest of this module is for the steps of the writer; no public contract cites it.
-
--- the new text is the base, a quote, and any more
-abbrev pub Opened : List ℕ → List ℕ → Type 0
-Opened base new = (more : List ℕ) × (new ≡ base ++ 34 ∷ more)
-
--- Whatever text was opened stays opened: what follows the quote only grows.
-abbrev pub StaysOpened : List ℕ → List ℕ → Type 0
-StaysOpened old new = (base : List ℕ) → Opened base old → Opened base new
-
--- the new text is the old one, or the old one opened: a cut gives the old one again
-abbrev pub Begins : List ℕ → List ℕ → Type 0
-Begins old new = (new ≡ old) ⊎ Opened old new

@@ -46,6 +46,10 @@ json_text j =
 unfoldable pub map_text : MapRecord → Result Text Error
 map_text r = encoded r >>= (λ j. Ok (json_text j))
 
+-- a text behind another one, or the fault of the text
+abbrev pub appended : Text → Result Text Error → Result Text Error
+appended old text = text >>= (λ more. Ok (old ++ more))
+
 -- a JSON text as a data URL
 abbrev pub data_url : Text → Text
 data_url text = codes "data:application/json;charset=utf-8;base64," ++ encode_of standard text

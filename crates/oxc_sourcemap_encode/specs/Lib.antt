@@ -1,5 +1,6 @@
 pub mod JsonString
 pub mod Plain
+pub mod Appends
 pub mod Encoded
 pub mod JsonText
 pub mod Room

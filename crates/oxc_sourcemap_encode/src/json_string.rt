@@ -4,8 +4,8 @@ ghost use Rattle.std.specs.Prelude.{IfOk, OnErr, IfSome, flat_map, map};
 ghost use Rattle.std.specs.Char.{digit_char};
 ghost use Rattle.std.specs.List.{prefix_len};
 ghost use Rattle.std.specs.Simd.Lanes.{mask_l};
-ghost use Rattle.oxc_sourcemap_encode.specs.Words.{hex_escape, escaped, json_string, StaysOpened};
-ghost use Rattle.oxc_sourcemap_encode.specs.Words.{Begins, needs_escape, is_plain, OnlyMemory};
+ghost use Rattle.oxc_sourcemap_encode.specs.Words.{hex_escape, escaped, json_string, OnlyAdds};
+ghost use Rattle.oxc_sourcemap_encode.specs.Words.{needs_escape, is_plain, OnlyMemory};
 ghost use Rattle.oxc_sourcemap_encode.specs.Words.{Pushes};
 
 use oxc_sourcemap_tokens::{Error, Memory, Result};
@@ -71,7 +71,7 @@ fn hex_digit(digit: u8) -> char
 /// Adds the escape of a control character by its number.
 fn push_hex_escape(out: &mut String, code: u8) -> Memory<()>
     ensures ok { Pushes result out.old out.new (hex_escape code) }
-    ensures opened { StaysOpened (string_bytes out.old) (string_bytes out.new) }
+    ensures adds { OnlyAdds out.old out.new }
 {
     out.push_str("\\u00")?;
     out.push(hex_digit(code / 16))?;
@@ -83,7 +83,7 @@ fn push_hex_escape(out: &mut String, code: u8) -> Memory<()>
 fn push_escape(out: &mut String, byte: u8) -> Memory<()>
     requires { needs_escape byte ≡ true }
     ensures ok { Pushes result out.old out.new (escaped byte) }
-    ensures opened { StaysOpened (string_bytes out.old) (string_bytes out.new) }
+    ensures adds { OnlyAdds out.old out.new }
 {
     match byte {
         b'"' => out.push_str("\\\""),
@@ -104,7 +104,7 @@ fn push_run<'t>(out: &mut String, text: &'t str) -> Memory<&'t str>
     ensures stops { IfOk result (λ rest. IfSome (slice_get rest.now 0)
         (λ byte. needs_escape byte ≡ true)) }
     ensures shorter { IfOk result (λ rest. length rest.now ≤ length text.now) }
-    ensures opened { StaysOpened (string_bytes out.old) (string_bytes out.new) }
+    ensures adds { OnlyAdds out.old out.new }
 {
     let (run, rest) = text.split_at(plain_len(text.as_bytes()));
     out.push_str(run)?;
@@ -114,7 +114,7 @@ fn push_run<'t>(out: &mut String, text: &'t str) -> Memory<&'t str>
 /// Adds the bytes of a text, escaped as in a JSON string.
 fn push_escaped(out: &mut String, text: &str) -> Memory<()>
     ensures ok { Pushes result out.old out.new (flat_map escaped text.now) }
-    ensures opened { StaysOpened (string_bytes out.old) (string_bytes out.new) }
+    ensures adds { OnlyAdds out.old out.new }
 {
     let mut rest = push_run(out, text)?;
     while let Some(byte) = rest.as_bytes().first() {
@@ -128,7 +128,7 @@ fn push_escaped(out: &mut String, text: &str) -> Memory<()>
 #[tactic(auto, unfolding(crate::specs::JsonString::json_string))]
 fn push_quoted(out: &mut String, text: &str) -> Memory<()>
     ensures ok { Pushes result out.old out.new (json_string text.now) }
-    ensures begins { Begins (string_bytes out.old) (string_bytes out.new) }
+    ensures adds { OnlyAdds out.old out.new }
 {
     out.push('"')?;
     push_escaped(out, text)?;

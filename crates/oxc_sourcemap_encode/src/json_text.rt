@@ -1,13 +1,13 @@
 //! The JSON text of a map, written field by field, and its data URL.
 ghost use Rattle.std.specs.Prelude.{◌≡◌, ◌≢◌, ◌++◌, map, string_bytes, codes, decimal, IfErr, OnOk};
-ghost use Rattle.std.specs.Prelude.{Ok, Some, None};
+ghost use Rattle.std.specs.Prelude.{OnErr, Ok, Some, None};
 ghost use Rattle.oxc_sourcemap_encode.specs.Words.{OutOfMemory, canonical, writing_fault};
 ghost use Rattle.oxc_sourcemap_encode.specs.Words.{json_string, text_of, ids_of, record_of_parts};
 ghost use Rattle.oxc_sourcemap_encode.specs.Words.{cow_texts, written_contents, encoded_record};
 ghost use Rattle.oxc_sourcemap_encode.specs.Words.{json_list, content_text, field_text};
 ghost use Rattle.oxc_sourcemap_encode.specs.Words.{optional_field, json_text, map_text, map_url};
 ghost use Rattle.oxc_sourcemap_encode.specs.Words.{head_text, lists_text, tail_text, Answers};
-ghost use Rattle.oxc_sourcemap_encode.specs.Words.{OnlyMemory, Pushes};
+ghost use Rattle.oxc_sourcemap_encode.specs.Words.{OnlyMemory, OnlyAdds, Pushes, appended};
 
 use crate::encode::{chunks_of, has_content};
 use crate::json_string::push_json_string;
@@ -19,10 +19,13 @@ use oxc_sourcemap_tokens::Result;
 use std::alloc::Global;
 use std::borrow::CowStr;
 
+// After an `Err` of a function `push_` below, `out` may end with the beginning of what it adds; `encode_parts_into` cuts it off.
+
 /// Appends a comma, a key and a colon.
 fn push_key(key: &str, out: &mut String) -> Result<()>
     ensures text { Pushes result out.old out.new (codes ",\"" ++ (key.now ++ codes "\":")) }
     ensures error { OnlyMemory result }
+    ensures adds { OnlyAdds out.old out.new }
 {
     out.push_str(",\"")?;
     out.push_str(key)?;
@@ -35,6 +38,7 @@ fn push_key(key: &str, out: &mut String) -> Result<()>
 fn push_texts(texts: &[CowStr<'_>], out: &mut String) -> Result<()>
     ensures text { Pushes result out.old out.new (json_list json_string (cow_texts texts.now)) }
     ensures error { OnlyMemory result }
+    ensures adds { OnlyAdds out.old out.new }
 {
     out.push('[')?;
     let mut is_first = true;
@@ -53,6 +57,7 @@ fn push_texts(texts: &[CowStr<'_>], out: &mut String) -> Result<()>
 fn push_content(content: &Option<CowStr<'_>>, out: &mut String) -> Result<()>
     ensures text { Pushes result out.old out.new (content_text (text_of content.now)) }
     ensures error { OnlyMemory result }
+    ensures adds { OnlyAdds out.old out.new }
 {
     match content {
         Some(content) => push_json_string(content.as_str(), out),
@@ -66,6 +71,7 @@ fn push_contents(contents: &[Option<CowStr<'_>>], out: &mut String) -> Result<()
     ensures text { Pushes result out.old out.new
         (json_list content_text (map text_of contents.now)) }
     ensures error { OnlyMemory result }
+    ensures adds { OnlyAdds out.old out.new }
 {
     out.push('[')?;
     let mut is_first = true;
@@ -82,10 +88,12 @@ fn push_contents(contents: &[Option<CowStr<'_>>], out: &mut String) -> Result<()
 
 /// Appends a list of numbers.
 #[tactic(auto, unfolding(crate::specs::JsonText::json_list))]
-fn push_ids(alloc: Global, ids: &[u32], out: &mut String) -> Result<()>
+fn push_ids(ids: &[u32], out: &mut String) -> Result<()>
     ensures text { Pushes result out.old out.new (json_list decimal ids.now) }
     ensures error { OnlyMemory result }
+    ensures adds { OnlyAdds out.old out.new }
 {
+    let alloc = *out.allocator();
     out.push('[')?;
     let mut is_first = true;
     for id in ids {
@@ -105,6 +113,7 @@ fn push_optional_text(key: &str, text: &Option<CowStr<'_>>, out: &mut String) ->
     ensures text { Pushes result out.old out.new
         (optional_field key.now json_string (text_of text.now)) }
     ensures error { OnlyMemory result }
+    ensures adds { OnlyAdds out.old out.new }
 {
     let Some(text) = text else {
         return Ok(());
@@ -124,6 +133,7 @@ fn push_optional_contents(
         (optional_field key.now (json_list content_text)
         (written_contents (map text_of contents.now))) }
     ensures error { OnlyMemory result }
+    ensures adds { OnlyAdds out.old out.new }
 {
     if !has_content(contents) {
         return Ok(());
@@ -134,21 +144,17 @@ fn push_optional_contents(
 
 /// Appends a field with a list of numbers, if there is one.
 #[tactic(auto, unfolding(crate::specs::JsonText::field_text, crate::specs::JsonText::optional_field))]
-fn push_optional_ids(
-    alloc: Global,
-    key: &str,
-    list: &Option<Vec<u32>>,
-    out: &mut String,
-) -> Result<()>
+fn push_optional_ids(key: &str, list: &Option<Vec<u32>>, out: &mut String) -> Result<()>
     ensures text { Pushes result out.old out.new
         (optional_field key.now (json_list decimal) (ids_of list.now)) }
     ensures error { OnlyMemory result }
+    ensures adds { OnlyAdds out.old out.new }
 {
     let Some(list) = list else {
         return Ok(());
     };
     push_key(key, out)?;
-    push_ids(alloc, list.as_slice(), out)
+    push_ids(list.as_slice(), out)
 }
 
 /// Appends a field with strings.
@@ -157,6 +163,7 @@ fn push_texts_field(key: &str, texts: &[CowStr<'_>], out: &mut String) -> Result
     ensures text { Pushes result out.old out.new
         (field_text key.now (json_list json_string (cow_texts texts.now))) }
     ensures error { OnlyMemory result }
+    ensures adds { OnlyAdds out.old out.new }
 {
     push_key(key, out)?;
     push_texts(texts, out)
@@ -172,6 +179,7 @@ fn push_mappings(parts: &SourceMapParts<'_>, out: &mut String) -> Result<()>
         OnOk result (writing_fault r.tokens r.token_chunks ≡ None) }
     ensures error { let r = record_of_parts parts.now in
         IfErr result (λ e. (e ≢ OutOfMemory) → writing_fault r.tokens r.token_chunks ≡ Some e) }
+    ensures adds { OnlyAdds out.old out.new }
 {
     out.push_str(",\"mappings\":\"")?;
     encode_mappings(parts.tokens.as_slice(), chunks_of(parts), out)?;
@@ -189,6 +197,7 @@ fn push_head(
     ensures text { Pushes result out.old out.new
         (head_text (text_of file.now) (text_of source_root.now)) }
     ensures error { OnlyMemory result }
+    ensures adds { OnlyAdds out.old out.new }
 {
     out.push_str("{\"version\":3")?;
     push_optional_text("file", file, out)?;
@@ -199,7 +208,6 @@ fn push_head(
 /// Appends the lists of names, sources and contents, and the ignore list.
 #[tactic(auto, unfolding(crate::specs::JsonParts::lists_text))]
 fn push_lists(
-    alloc: Global,
     names: &[CowStr<'_>],
     sources: &[CowStr<'_>],
     contents: &[Option<CowStr<'_>>],
@@ -210,11 +218,12 @@ fn push_lists(
         (lists_text (cow_texts names.now) (cow_texts sources.now)
         (written_contents (map text_of contents.now)) (ids_of ignore_list.now)) }
     ensures error { OnlyMemory result }
+    ensures adds { OnlyAdds out.old out.new }
 {
     push_texts_field("names", names, out)?;
     push_texts_field("sources", sources, out)?;
     push_optional_contents("sourcesContent", contents, out)?;
-    push_optional_ids(alloc, "ignoreList", ignore_list, out)?;
+    push_optional_ids("ignoreList", ignore_list, out)?;
     Ok(())
 }
 
@@ -227,6 +236,7 @@ fn push_tail(parts: &SourceMapParts<'_>, out: &mut String) -> Result<()>
         OnOk result (writing_fault r.tokens r.token_chunks ≡ None) }
     ensures error { let r = record_of_parts parts.now in
         IfErr result (λ e. (e ≢ OutOfMemory) → writing_fault r.tokens r.token_chunks ≡ Some e) }
+    ensures adds { OnlyAdds out.old out.new }
 {
     push_mappings(parts, out)?;
     push_optional_text("debugId", &parts.debug_id, out)?;
@@ -235,17 +245,17 @@ fn push_tail(parts: &SourceMapParts<'_>, out: &mut String) -> Result<()>
 }
 
 /// Appends the fields of a map as a JSON object.
-fn push_object(alloc: Global, parts: &SourceMapParts<'_>, out: &mut String) -> Result<()>
+fn push_object(parts: &SourceMapParts<'_>, out: &mut String) -> Result<()>
     ensures text { Pushes result out.old out.new
         (json_text (encoded_record (record_of_parts parts.now))) }
     ensures clean { let r = record_of_parts parts.now in
         OnOk result (writing_fault r.tokens r.token_chunks ≡ None) }
     ensures error { let r = record_of_parts parts.now in
         IfErr result (λ e. (e ≢ OutOfMemory) → writing_fault r.tokens r.token_chunks ≡ Some e) }
+    ensures adds { OnlyAdds out.old out.new }
 {
     push_head(&parts.file, &parts.source_root, out)?;
     push_lists(
-        alloc,
         parts.names.as_slice(),
         parts.sources.as_slice(),
         parts.source_contents.as_slice(),
@@ -256,14 +266,29 @@ fn push_object(alloc: Global, parts: &SourceMapParts<'_>, out: &mut String) -> R
     Ok(())
 }
 
-/// The JSON text of a map: what `encode_parts` gives, as text. `encode_to_string` of `oxc_sourcemap` has the order of its
-/// members and which of them are there. Fails as `encode_parts` does.
+/// Appends the JSON text of a map to `out`: what `encode_parts` gives, as text. `encode_to_string` of `oxc_sourcemap` has the
+/// order of its members and which of them are there. Fails as `encode_parts` does; `out` is then as it was.
 #[tactic(auto, unfolding(crate::specs::JsonText::map_text))]
+pub fn encode_parts_into(parts: &SourceMapParts<'_>, out: &mut String) -> Result<()>
+    ensures text { Answers (λ _. string_bytes out.new) result
+        (appended (string_bytes out.old) (map_text (record_of_parts parts.now))) }
+    ensures unchanged { OnErr result (string_bytes out.new ≡ string_bytes out.old) }
+{
+    out.reserve(text_room(parts))?;
+    let before = out.len();
+    if let Err(error) = push_object(parts, out) {
+        out.truncate(before);
+        return Err(error);
+    }
+    Ok(())
+}
+
+/// The JSON text of a map, as `encode_parts_into` writes it. Fails as `encode_parts` does.
 pub fn encode_parts_to_string(alloc: Global, parts: &SourceMapParts<'_>) -> Result<String>
     ensures { Answers string_bytes result (map_text (record_of_parts parts.now)) }
 {
-    let mut out = String::with_capacity(alloc, text_room(parts))?;
-    push_object(alloc, parts, &mut out)?;
+    let mut out = String::new(alloc);
+    encode_parts_into(parts, &mut out)?;
     Ok(out)
 }
 

@@ -9,4 +9,4 @@ mod room;
 
 pub use encode::{encode_owned_parts, encode_parts};
 pub use json_string::push_json_string;
-pub use json_text::{encode_parts_to_data_url, encode_parts_to_string};
+pub use json_text::{encode_parts_into, encode_parts_to_data_url, encode_parts_to_string};

@@ -1,5 +1,6 @@
 -- What was added to a text is cut off again.
-use Rattle.std.proofs.Common.{◌≡◌, ℕ, List, ◌++◌, length, take, string_bytes, sym, ap, ◌∙◌, subst}
+use Rattle.std.proofs.Common.{◌≡◌, ◌≤◌, ℕ, List, [], ◌++◌, length, take, string_bytes, sym, ap}
+use Rattle.std.proofs.Common.{◌∙◌, subst}
 use Rattle.std.proofs.Common.{append_assoc, append-nil, arith, String}
 use Rattle.std.proofs.lemmas.List.{take_at, length-append}
 use Rattle.std.proofs.lemmas.Str.{IsUtf8-string_bytes, IsCharBoundary-from_take}
@@ -24,6 +25,6 @@ cut-back old new n adds e =
 pub cut-place : (old new : String Global) (n : ℕ) → OnlyAdds old new → n ≡ length (string_bytes old) → IsSplitPoint (string_bytes new) n
 cut-place old new n adds e =
     let more = adds (string_bytes old) (begins-itself (string_bytes old)) in
-    let within = omega (arith, e, ap length more.1, length-append (string_bytes old) more.0) in
+    let within : n ≤ length (string_bytes new) = omega (arith, e, ap length more.1, length-append (string_bytes old) more.0) in
     let place = IsCharBoundary-from_take (string_bytes new) n (IsUtf8-string_bytes new) within (subst IsUtf8 (sym (cut-back old new n adds e)) (IsUtf8-string_bytes old)) in
     (within, λ p. place.1)

@@ -1,6 +1,7 @@
 //! The JSON text of a map, written field by field, and its data URL.
 ghost use Rattle.std.specs.Prelude.{◌≡◌, ◌≢◌, ◌++◌, map, string_bytes, codes, decimal, IfErr, OnOk};
-ghost use Rattle.std.specs.Prelude.{OnErr, Ok, Some, None};
+ghost use Rattle.std.specs.Prelude.{OnErr, Ok, Some, None, [], if◌then◌else◌};
+ghost use Rattle.std.specs.Cow.{cow_str_bytes};
 ghost use Rattle.oxc_sourcemap_encode.specs.Words.{OutOfMemory, canonical, writing_fault};
 ghost use Rattle.oxc_sourcemap_encode.specs.Words.{json_string, text_of, ids_of, record_of_parts};
 ghost use Rattle.oxc_sourcemap_encode.specs.Words.{cow_texts, written_contents, encoded_record};
@@ -33,6 +34,28 @@ fn push_key(key: &str, out: &mut String) -> Result<()>
     Ok(())
 }
 
+/// Appends the comma before an item of a list; there is none before the first one.
+fn push_separator(is_first: bool, out: &mut String) -> Result<()>
+    ensures text { Pushes result out.old out.new (if is_first then [] else codes ",") }
+    ensures error { OnlyMemory result }
+    ensures adds { OnlyAdds out.old out.new }
+{
+    if is_first {
+        return Ok(());
+    }
+    out.push(',')?;
+    Ok(())
+}
+
+/// Appends a string.
+fn push_text(text: &CowStr<'_>, out: &mut String) -> Result<()>
+    ensures text { Pushes result out.old out.new (json_string (cow_str_bytes text.now)) }
+    ensures error { OnlyMemory result }
+    ensures adds { OnlyAdds out.old out.new }
+{
+    push_json_string(text.as_str(), out)
+}
+
 /// Appends a list of strings.
 #[tactic(auto, unfolding(crate::specs::JsonText::json_list))]
 fn push_texts(texts: &[CowStr<'_>], out: &mut String) -> Result<()>
@@ -43,10 +66,8 @@ fn push_texts(texts: &[CowStr<'_>], out: &mut String) -> Result<()>
     out.push('[')?;
     let mut is_first = true;
     for text in texts {
-        if !is_first {
-            out.push(',')?;
-        }
-        push_json_string(text.as_str(), out)?;
+        push_separator(is_first, out)?;
+        push_text(text, out)?;
         is_first = false;
     }
     out.push(']')?;
@@ -60,7 +81,7 @@ fn push_content(content: &Option<CowStr<'_>>, out: &mut String) -> Result<()>
     ensures adds { OnlyAdds out.old out.new }
 {
     match content {
-        Some(content) => push_json_string(content.as_str(), out),
+        Some(content) => push_text(content, out),
         None => Ok(out.push_str("null")?),
     }
 }
@@ -76,13 +97,22 @@ fn push_contents(contents: &[Option<CowStr<'_>>], out: &mut String) -> Result<()
     out.push('[')?;
     let mut is_first = true;
     for content in contents {
-        if !is_first {
-            out.push(',')?;
-        }
+        push_separator(is_first, out)?;
         push_content(content, out)?;
         is_first = false;
     }
     out.push(']')?;
+    Ok(())
+}
+
+/// Appends a number.
+fn push_id(id: u32, out: &mut String) -> Result<()>
+    ensures text { Pushes result out.old out.new (decimal id) }
+    ensures error { OnlyMemory result }
+    ensures adds { OnlyAdds out.old out.new }
+{
+    let alloc = *out.allocator();
+    out.push_str(id.to_string(alloc)?.as_str())?;
     Ok(())
 }
 
@@ -93,14 +123,11 @@ fn push_ids(ids: &[u32], out: &mut String) -> Result<()>
     ensures error { OnlyMemory result }
     ensures adds { OnlyAdds out.old out.new }
 {
-    let alloc = *out.allocator();
     out.push('[')?;
     let mut is_first = true;
     for id in ids {
-        if !is_first {
-            out.push(',')?;
-        }
-        out.push_str(id.to_string(alloc)?.as_str())?;
+        push_separator(is_first, out)?;
+        push_id(*id, out)?;
         is_first = false;
     }
     out.push(']')?;
@@ -119,7 +146,7 @@ fn push_optional_text(key: &str, text: &Option<CowStr<'_>>, out: &mut String) ->
         return Ok(());
     };
     push_key(key, out)?;
-    push_json_string(text.as_str(), out)
+    push_text(text, out)
 }
 
 /// Appends a field with contents, if one of them is known.

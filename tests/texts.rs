@@ -2,8 +2,8 @@
 use crate::helpers::same;
 use crate::rows::map_of;
 use oxc_sourcemap::{
-    Error, JSONSourceMap, JsonFault, Result, SourceMap, decode_from_string, encode_to_string,
-    push_json_string,
+    Error, JSONSourceMap, JsonFault, OwnedSourceMap, Result, SourceMap, decode_from_string,
+    encode_to_string, push_json_string,
 };
 use serde_json::Value;
 use std::alloc::Global;
@@ -99,6 +99,30 @@ fn a_text_is_read_and_written_again(rt: &impl Abort, alloc: Global, text: &str) 
 fn texts_are_read_and_written_again(rt: HostRuntime) -> Result<()> {
     let text = full_map(rt.alloc())?.to_json_string(rt.alloc())?;
     a_text_is_read_and_written_again(&rt, rt.alloc(), text.as_str())
+}
+
+#[test]
+fn texts_are_appended_to_others(rt: HostRuntime) -> Result<()> {
+    let map = full_map(rt.alloc())?;
+    let text = map.to_json_string(rt.alloc())?;
+    let mut wanted = String::from_str(rt.alloc(), "é\n")?;
+    wanted.push_str(text.as_str())?;
+    wanted.push_str(text.as_str())?;
+    let mut out = String::from_str(rt.alloc(), "é\n")?;
+    map.write_json_string(&mut out)?;
+    OwnedSourceMap::from_json_string(rt.alloc(), text.as_str())?.write_json_string(&mut out)?;
+    same(&rt, "text", out.as_str(), wanted.as_str());
+    Ok(())
+}
+
+#[test]
+fn a_map_that_is_not_written_leaves_the_text(rt: HostRuntime) -> Result<()> {
+    let rows = [(1, 0, 0, 0, None, None), (0, 0, 0, 0, None, None)];
+    let map = map_of(rt.alloc(), &[], &[], &[], &rows)?;
+    let mut out = String::from_str(rt.alloc(), "é\n")?;
+    same(&rt, "written", map.write_json_string(&mut out), Err(Error::LineOrder(1)));
+    same(&rt, "text", out.as_str(), "é\n");
+    Ok(())
 }
 
 #[test]

@@ -348,6 +348,37 @@ fn encode_chunk(rt: HostRuntime) -> Result<()> {
     writes_many(&rt, |tokens, out| oxc_sourcemap::encode_chunk(tokens, &whole, out))
 }
 
+/// The text of a map with an ignore list, whose name takes more than the eighth of its length that is asked for at first.
+fn escaped_text(alloc: Global) -> Result<String> {
+    let mut text = String::from_str(alloc, r#"{"version":3,"names":[""#)?;
+    text.push_str("\\u0001".repeat(alloc, 100)?.as_str())?;
+    text.push_str(r#""],"sources":["a.js"],"ignoreList":[0],"mappings":""}"#)?;
+    Ok(text)
+}
+
+/// Asserts that a call writes that map, and makes several requests, so that a later one is refused where something is written
+/// already.
+fn writes_escaped(
+    rt: &(impl Abort + AllocGlobal),
+    write: impl Fn(&OwnedSourceMap, &mut String) -> Result<()>,
+) -> Result<()> {
+    let text = escaped_text(rt.alloc())?;
+    let map = OwnedSourceMap::from_json_string(rt.alloc(), text.as_str())?;
+    let requests = refuse_each_change(rt, a_text, |_, out, ()| write(&map, out), |out, is_written| has_appended(rt, out.as_str(), is_written, text.as_str()));
+    assert!(rt; requests > 2, "requests: {requests}");
+    Ok(())
+}
+
+#[test]
+fn source_map_write_json_string(rt: HostRuntime) -> Result<()> {
+    writes_escaped(&rt, |map, out| map.as_source_map().write_json_string(out))
+}
+
+#[test]
+fn owned_source_map_write_json_string(rt: HostRuntime) -> Result<()> {
+    writes_escaped(&rt, |map, out| map.write_json_string(out))
+}
+
 #[test]
 fn push_json_string(rt: HostRuntime) {
     let text = "a\n\"b\" and so many bytes more that the text grows";

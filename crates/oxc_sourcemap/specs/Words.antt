@@ -6,7 +6,7 @@ pub use Rattle.oxc_sourcemap_builders.specs.NameLaws.{EqualIdsForEqualNames}
 pub use Rattle.oxc_sourcemap_decode.specs.Decoded.{decoded, json_fault}
 pub use Rattle.oxc_sourcemap_decode.specs.ReadMap.{read_value, read_map, said_in, read_decoded_map}
 pub use Rattle.oxc_sourcemap_encode.specs.Encoded.{encoded}
-pub use Rattle.oxc_sourcemap_encode.specs.JsonText.{map_text, map_url}
+pub use Rattle.oxc_sourcemap_encode.specs.JsonText.{map_text, map_url, appended}
 pub use Rattle.oxc_sourcemap_join.specs.Joined.{joined, lent_maps, IsWithinLimits, at_line}
 pub use Rattle.oxc_sourcemap_join.specs.Joined.{at_lines, added, nothing_joined, position}
 pub use Rattle.oxc_sourcemap_join.specs.Joined.{at_positions}

@@ -2,7 +2,7 @@
 pub use Rattle.oxc_sourcemap_decode.specs.Decoded.{decoded, json_fault}
 pub use Rattle.oxc_sourcemap_decode.specs.ReadMap.{read_map, read_decoded_map}
 pub use Rattle.oxc_sourcemap_encode.specs.Encoded.{encoded}
-pub use Rattle.oxc_sourcemap_encode.specs.JsonText.{map_text, map_url}
+pub use Rattle.oxc_sourcemap_encode.specs.JsonText.{map_text, map_url, appended}
 pub use Rattle.oxc_sourcemap_json.specs.Json.{json_record}
 pub use Rattle.oxc_sourcemap_lookup.specs.Composed.{composition, composition_fault, SomeComposition}
 pub use Rattle.oxc_sourcemap_lookup.specs.Composed.{NoColumnGoesBack}

@@ -11,7 +11,7 @@ ghost use Rattle.oxc_sourcemap_map.specs.Words.{SomeComposition, NoColumnGoesBac
 ghost use Rattle.oxc_sourcemap_map.specs.Words.{clamped_trace, view_of, seen_in, view_original};
 ghost use Rattle.oxc_sourcemap_map.specs.Words.{content_at, source_and_content_at, the_row};
 ghost use Rattle.oxc_sourcemap_map.specs.Words.{map_row, Answers, OnlyMemory, Reports, lent_items};
-ghost use Rattle.oxc_sourcemap_map.specs.Words.{lent_item};
+ghost use Rattle.oxc_sourcemap_map.specs.Words.{lent_item, appended};
 ghost use Rattle.std.specs.Prelude.{◌≡◌, ◌≢◌, List, [], map, option_map, slice_get, string_bytes};
 ghost use Rattle.std.specs.Prelude.{IfOk, IfErr, IfSome, IsNone, Ok, Err, Some, OnOk, OnErr, ◌↔◌};
 ghost use Rattle.std.specs.Prelude.{true};
@@ -136,6 +136,16 @@ impl OwnedSourceMap {
         ensures { Answers string_bytes result (map_text self.now) }
     {
         self.inner.to_json_string(alloc)
+    }
+
+    /// Appends the JSON text of this map to `out`, as `SourceMap::write_json_string` does, and fails as that does; `out` is
+    /// then as it was.
+    pub fn write_json_string(&self, out: &mut String) -> Result<()>
+        ensures text { Answers (λ _. string_bytes out.new) result
+            (appended (string_bytes out.old) (map_text self.now)) }
+        ensures unchanged { OnErr result (string_bytes out.new ≡ string_bytes out.old) }
+    {
+        self.inner.write_json_string(out)
     }
 
     /// Writes the data URL of the JSON text of this map, as `SourceMap::to_data_url` does, and fails as that does.

@@ -11,12 +11,14 @@ ghost use Rattle.oxc_sourcemap_map.specs.Words.{are_tokens_sorted, IsSound, deco
 ghost use Rattle.oxc_sourcemap_map.specs.Words.{encoded, decoded_map_of, read_map};
 ghost use Rattle.oxc_sourcemap_map.specs.Words.{read_decoded_map, map_text, map_url, view_of};
 ghost use Rattle.oxc_sourcemap_map.specs.Words.{seen_in, content_at, source_and_content_at};
-ghost use Rattle.oxc_sourcemap_map.specs.Words.{Answers, OnlyMemory, Reports, lent_item};
+ghost use Rattle.oxc_sourcemap_map.specs.Words.{Answers, OnlyMemory, Reports, lent_item, appended};
 
 use crate::source_view_token::SourceViewToken;
 use crate::view_tokens::ViewTokens;
 use oxc_sourcemap_decode::{decode_parts, decode_parts_from_string};
-use oxc_sourcemap_encode::{encode_parts, encode_parts_to_data_url, encode_parts_to_string};
+use oxc_sourcemap_encode::{
+    encode_parts, encode_parts_into, encode_parts_to_data_url, encode_parts_to_string,
+};
 use oxc_sourcemap_json::JSONSourceMap;
 use oxc_sourcemap_parts::{
     Contents, Names, SourceMapParts, Sources, Tokens, are_sorted, are_sound, contents_in,
@@ -138,6 +140,28 @@ impl<'a> SourceMap<'a> {
         ensures { Answers string_bytes result (map_text self.now) }
     {
         encode_parts_to_string(alloc, &self.parts)
+    }
+
+    /// Appends the JSON text of this map to `out`: the text that `to_json_string` returns. So one buffer serves for many
+    /// maps, or for the text that a map was read from and the one that is written.
+    ///
+    /// ```rust
+    /// use oxc_sourcemap::SourceMap;
+    ///
+    /// let map = SourceMap::from_json_string(alloc, r#"{"version":3,"sources":["a.js"],"mappings":"AAAA"}"#)?;
+    /// let mut out = String::from_str(alloc, ")]}'\n")?;
+    /// map.write_json_string(&mut out)?;
+    /// let text = r#"{"version":3,"names":[],"sources":["a.js"],"mappings":"AAAA"}"#;
+    /// assert_eq!(rt; out.as_str().strip_prefix(")]}'\n"), Some(text));
+    /// ```
+    ///
+    /// Fails as `to_json_string` does; `out` is then as it was.
+    pub fn write_json_string(&self, out: &mut String) -> Result<()>
+        ensures text { Answers (λ _. string_bytes out.new) result
+            (appended (string_bytes out.old) (map_text self.now)) }
+        ensures unchanged { OnErr result (string_bytes out.new ≡ string_bytes out.old) }
+    {
+        encode_parts_into(&self.parts, out)
     }
 
     /// Writes the data URL (RFC 2397) of the JSON text of this map: `data:application/json;charset=utf-8;base64,` and the

@@ -4,7 +4,7 @@ ghost use Rattle.std.specs.Prelude.{IfOk, OnOk, OnErr, IfErr, IfSome, List, None
 ghost use Rattle.std.specs.Prelude.{◌⊎◌, IsUtf8, string_bytes, map};
 ghost use Rattle.std.specs.Vec.{vec_len};
 ghost use Rattle.std.specs.Io.KnownBytes.{Appends, Keeps};
-ghost use Rattle.smap_run.specs.Words.{Map, Plan, out_of_memory, without_line_feed};
+ghost use Rattle.smap_run.specs.Words.{Map, Plan, out_of_memory, is_of_port, without_line_feed};
 ghost use Rattle.smap_run.specs.Words.{mappings_answer, normalised, normalised_url, IsPlanAnswer};
 ghost use Rattle.smap_run.specs.Words.{IsPlanError, IsAnswer, FailsWith, AppendsBeginning};
 ghost use Rattle.smap_run.specs.Words.{OutOfMemory, reading, outcome, IsErrorOf, inputs_of};
@@ -94,6 +94,7 @@ fn rewrite_mappings(alloc: Global, text: &str, names: u32, sources: u32) -> Resu
         ≡ Ok (string_bytes out)) }
     ensures error { IfErr result (λ e. (e ≢ out_of_memory)
         → mappings_answer (reading text.now names sources) ≡ Err e) }
+    ensures causes { IfErr result (λ e. is_of_port e ≡ false) }
 {
     let tokens = decode_mappings(alloc, text, names as usize, sources as usize)?;
     let mut out = String::new(alloc);
@@ -101,12 +102,14 @@ fn rewrite_mappings(alloc: Global, text: &str, names: u32, sources: u32) -> Resu
     Ok(out)
 }
 
-/// The JSON text of the map of a JSON text.
-fn normalise(alloc: Global, text: &str) -> Result<String, Error>
-    ensures { Answers string_bytes result (normalised text.now) }
+/// The JSON text of the map of a JSON text, written over that text. The map owns its strings, so it needs the text no more.
+fn normalise(alloc: Global, mut text: String) -> Result<String, Error>
+    ensures { Answers string_bytes result (normalised (string_bytes text.entry)) }
 {
-    let map = SourceMap::from_json_string(alloc, text)?;
-    map.to_json_string(alloc)
+    let map = SourceMap::from_json_string(alloc, text.as_str())?;
+    text.clear();
+    map.write_json_string(&mut text)?;
+    Ok(text)
 }
 
 /// The data URL of the map of a JSON text.
@@ -117,26 +120,26 @@ fn data_url(alloc: Global, text: &str) -> Result<String, Error>
     map.to_data_url(alloc)
 }
 
-/// The JSON text of the map of a plan.
-fn evaluated_text(alloc: Global, plan: &Plan<'_>) -> Result<String, PlanError>
-    ensures text { IfOk result (λ out. IsPlanAnswer (Ok (outcome plan.now)) (string_bytes out)) }
-    ensures error { IfErr result (λ e. (e ≢ Map OutOfMemory) → IsErrorOf (outcome plan.now) e) }
+/// The JSON text of the map of the plan of these arguments, over the maps of an input, written over that input. The parts of
+/// the plan borrow it, and the map of the plan owns its strings.
+fn plan_text(alloc: Global, mut input: String, arguments: &[String]) -> Result<String, RunError>
+    ensures text { let texts = inputs_of (string_bytes input.entry) in
+        IfOk result (λ out. IsPlanAnswer (parsed_plan texts (map string_bytes arguments.now))
+        (string_bytes out)) }
+    ensures error { let texts = inputs_of (string_bytes input.entry) in
+        IfErr result (λ e. (e ≢ out_of_memory)
+        → IsPlanError (parsed_plan texts (map string_bytes arguments.now)) e) }
+    ensures causes { IfErr result (λ e. is_of_port e ≡ false) }
 {
     canonical_unique();
-    let map = evaluate(alloc, plan)?;
-    Ok(map.to_json_string(alloc)?)
-}
-
-/// The JSON text of the map of the plan of these arguments, over the maps of an input.
-fn plan_text(alloc: Global, input: &str, arguments: &[String]) -> Result<String, RunError>
-    ensures text { IfOk result (λ out. IsPlanAnswer
-        (parsed_plan (inputs_of input.now) (map string_bytes arguments.now)) (string_bytes out)) }
-    ensures error { IfErr result (λ e. (e ≢ out_of_memory)
-        → IsPlanError (parsed_plan (inputs_of input.now) (map string_bytes arguments.now)) e) }
-{
-    let inputs = inputs_of(alloc, input)?;
-    let plan = read_plan(alloc, inputs.as_slice(), arguments)?;
-    Ok(evaluated_text(alloc, &plan)?)
+    let map = {
+        let inputs = inputs_of(alloc, input.as_str())?;
+        let plan = read_plan(alloc, inputs.as_slice(), arguments)?;
+        evaluate(alloc, &plan)?
+    };
+    input.clear();
+    map.write_json_string(&mut input)?;
+    Ok(input)
 }
 
 /// The answer of a command to an input, without its line feed.
@@ -145,6 +148,7 @@ fn answer(alloc: Global, command: &Command<'_>, input: Vec<u8>) -> Result<String
         × IsAnswer (request_of command.now) input.items (string_bytes out)) }
     ensures error { IfErr result (λ e. (e ≢ out_of_memory)
         → FailsWith (request_of command.now) input.items e) }
+    ensures causes { IfErr result (λ e. is_of_port e ≡ false) }
 {
     let Ok(text) = String::from_utf8(input) else {
         return Err(RunError::Utf8);
@@ -158,8 +162,8 @@ fn answer(alloc: Global, command: &Command<'_>, input: Vec<u8>) -> Result<String
                 *sources,
             )
         }
-        Command::Normalise => Ok(normalise(alloc, text.as_str())?),
-        Command::Plan(arguments) => plan_text(alloc, text.as_str(), arguments),
+        Command::Normalise => Ok(normalise(alloc, text)?),
+        Command::Plan(arguments) => plan_text(alloc, text, arguments),
         Command::Trace(line, col) => Ok(trace(alloc, text.as_str(), *line, *col)?),
         Command::Url => Ok(data_url(alloc, text.as_str())?),
     }

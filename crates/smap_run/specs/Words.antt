@@ -1,6 +1,7 @@
 -- The words of this crate's clauses, from one place.
 pub use Rattle.oxc_sourcemap_parts.specs.DecodedMap.{decoded_map_of}
 pub use Rattle.oxc_sourcemap_tokens.specs.declared.error.Error.TheVariants.{OutOfMemory}
+pub use Rattle.oxc_sourcemap_encode.specs.JsonText.{map_text}
 pub use Rattle.oxc_sourcemap_plan.specs.Evaluated.{IsErrorOf}
 pub use Rattle.oxc_sourcemap_tokens.specs.LineOrder.{IsInLineOrder}
 pub use Rattle.oxc_sourcemap_plan.specs.Outcome.{outcome}

@@ -8,7 +8,7 @@ ghost use Rattle.smap_run.specs.Words.{Map, Plan, out_of_memory, is_of_port, wit
 ghost use Rattle.smap_run.specs.Words.{mappings_answer, normalised, normalised_url, IsPlanAnswer};
 ghost use Rattle.smap_run.specs.Words.{IsPlanError, IsAnswer, FailsWith, AppendsBeginning};
 ghost use Rattle.smap_run.specs.Words.{OutOfMemory, reading, outcome, IsErrorOf, inputs_of};
-ghost use Rattle.smap_run.specs.Words.{parsed_plan, request_of, Answers};
+ghost use Rattle.smap_run.specs.Words.{parsed_plan, request_of, Answers, map_text};
 
 use crate::arguments::Command;
 use crate::port::Port;
@@ -102,14 +102,21 @@ fn rewrite_mappings(alloc: Global, text: &str, names: u32, sources: u32) -> Resu
     Ok(out)
 }
 
-/// The JSON text of the map of a JSON text, written over that text. The map owns its strings, so it needs the text no more.
-fn normalise(alloc: Global, mut text: String) -> Result<String, Error>
-    ensures { Answers string_bytes result (normalised (string_bytes text.entry)) }
+/// The JSON text of a map, written over a text that is needed no more: that of the input, so that there are not both at once.
+fn write_over(mut text: String, map: &SourceMap<'_>) -> Result<String, Error>
+    ensures { Answers string_bytes result (map_text map.now) }
 {
-    let map = SourceMap::from_json_string(alloc, text.as_str())?;
     text.clear();
     map.write_json_string(&mut text)?;
     Ok(text)
+}
+
+/// The JSON text of the map of a JSON text, of which the map borrows nothing.
+fn normalise(alloc: Global, text: String) -> Result<String, Error>
+    ensures { Answers string_bytes result (normalised (string_bytes text)) }
+{
+    let map = SourceMap::from_json_string(alloc, text.as_str())?;
+    write_over(text, &map)
 }
 
 /// The data URL of the map of a JSON text.
@@ -120,13 +127,13 @@ fn data_url(alloc: Global, text: &str) -> Result<String, Error>
     map.to_data_url(alloc)
 }
 
-/// The JSON text of the map of the plan of these arguments, over the maps of an input, written over that input. The parts of
-/// the plan borrow it, and the map of the plan owns its strings.
-fn plan_text(alloc: Global, mut input: String, arguments: &[String]) -> Result<String, RunError>
-    ensures text { let texts = inputs_of (string_bytes input.entry) in
+/// The JSON text of the map of the plan of these arguments, over the maps of an input. The parts of the plan borrow from it,
+/// the map of the plan does not.
+fn plan_text(alloc: Global, input: String, arguments: &[String]) -> Result<String, RunError>
+    ensures text { let texts = inputs_of (string_bytes input) in
         IfOk result (λ out. IsPlanAnswer (parsed_plan texts (map string_bytes arguments.now))
         (string_bytes out)) }
-    ensures error { let texts = inputs_of (string_bytes input.entry) in
+    ensures error { let texts = inputs_of (string_bytes input) in
         IfErr result (λ e. (e ≢ out_of_memory)
         → IsPlanError (parsed_plan texts (map string_bytes arguments.now)) e) }
     ensures causes { IfErr result (λ e. is_of_port e ≡ false) }
@@ -137,9 +144,7 @@ fn plan_text(alloc: Global, mut input: String, arguments: &[String]) -> Result<S
         let plan = read_plan(alloc, inputs.as_slice(), arguments)?;
         evaluate(alloc, &plan)?
     };
-    input.clear();
-    map.write_json_string(&mut input)?;
-    Ok(input)
+    Ok(write_over(input, map.as_source_map())?)
 }
 
 /// The answer of a command to an input, without its line feed.

@@ -4,7 +4,7 @@ ghost use Rattle.std.specs.Prelude.{IfOk, OnOk, OnErr, IfErr, IfSome, List, None
 ghost use Rattle.std.specs.Prelude.{◌⊎◌, IsUtf8, string_bytes, map};
 ghost use Rattle.std.specs.Vec.{vec_len};
 ghost use Rattle.std.specs.Io.KnownBytes.{Appends, Keeps};
-ghost use Rattle.smap_run.specs.Words.{Map, Plan, out_of_memory, is_of_port, without_line_feed};
+ghost use Rattle.smap_run.specs.Words.{Map, Plan, out_of_memory, without_line_feed};
 ghost use Rattle.smap_run.specs.Words.{mappings_answer, normalised, normalised_url, IsPlanAnswer};
 ghost use Rattle.smap_run.specs.Words.{IsPlanError, IsAnswer, FailsWith, AppendsBeginning};
 ghost use Rattle.smap_run.specs.Words.{OutOfMemory, reading, outcome, IsErrorOf, inputs_of};
@@ -94,7 +94,6 @@ fn rewrite_mappings(alloc: Global, text: &str, names: u32, sources: u32) -> Resu
         ≡ Ok (string_bytes out)) }
     ensures error { IfErr result (λ e. (e ≢ out_of_memory)
         → mappings_answer (reading text.now names sources) ≡ Err e) }
-    ensures causes { IfErr result (λ e. is_of_port e ≡ false) }
 {
     let tokens = decode_mappings(alloc, text, names as usize, sources as usize)?;
     let mut out = String::new(alloc);
@@ -136,7 +135,6 @@ fn plan_text(alloc: Global, input: String, arguments: &[String]) -> Result<Strin
     ensures error { let texts = inputs_of (string_bytes input) in
         IfErr result (λ e. (e ≢ out_of_memory)
         → IsPlanError (parsed_plan texts (map string_bytes arguments.now)) e) }
-    ensures causes { IfErr result (λ e. is_of_port e ≡ false) }
 {
     canonical_unique();
     let map = {
@@ -153,7 +151,6 @@ fn answer(alloc: Global, command: &Command<'_>, input: Vec<u8>) -> Result<String
         × IsAnswer (request_of command.now) input.items (string_bytes out)) }
     ensures error { IfErr result (λ e. (e ≢ out_of_memory)
         → FailsWith (request_of command.now) input.items e) }
-    ensures causes { IfErr result (λ e. is_of_port e ≡ false) }
 {
     let Ok(text) = String::from_utf8(input) else {
         return Err(RunError::Utf8);

@@ -6,7 +6,9 @@ ghost use Rattle.oxc_sourcemap_builders.specs.Words.{lent_maps, IsWithinLimits, 
 ghost use Rattle.oxc_sourcemap_builders.specs.Words.{OnlyMemory};
 
 use oxc_sourcemap_join::{JoinedParts, Lengths};
-use oxc_sourcemap_map::{OwnedSourceMap, SourceMap, parts_of};
+use oxc_sourcemap_map::{
+    OwnedSourceMap, SourceMap, owned_lengths, parts_of, with_lengths, with_room,
+};
 use oxc_sourcemap_tokens::{Position, Result};
 use std::alloc::Global;
 use std::marker::Model;
@@ -177,7 +179,8 @@ impl<'a> ConcatSourceMapBuilder<'a> {
             (joined (lent_maps sourcemap_and_line_offsets.now))))) }
     {
         let lengths = lent_lengths(sourcemap_and_line_offsets);
-        let mut builder = with_room(alloc, lengths, sourcemap_and_line_offsets.len())?;
+        let parts = with_room(alloc, lengths, sourcemap_and_line_offsets.len())?;
+        let mut builder = ConcatSourceMapBuilder { alloc, parts };
         for (sourcemap, line_offset) in sourcemap_and_line_offsets {
             builder.add_sourcemap(sourcemap, *line_offset)?;
         }
@@ -198,7 +201,8 @@ impl<'a> ConcatSourceMapBuilder<'a> {
             (joined (at_lines sourcemap_and_line_offsets.entry.items))))) }
     {
         let lengths = owned_lengths(sourcemap_and_line_offsets.as_slice());
-        let mut builder = with_room(alloc, lengths, sourcemap_and_line_offsets.len())?;
+        let parts = with_room(alloc, lengths, sourcemap_and_line_offsets.len())?;
+        let mut builder = ConcatSourceMapBuilder { alloc, parts };
         for (sourcemap, line_offset) in sourcemap_and_line_offsets {
             builder.add_sourcemap_owned(sourcemap, line_offset)?;
         }
@@ -229,38 +233,6 @@ impl<'a> ConcatSourceMapBuilder<'a> {
     }
 }
 
-/// A builder of the join of maps, each at the position where its code begins. Their strings are moved.
-///
-/// Room is taken first for all of them (`OutOfMemory`); then the first error of an add is returned. The builder and all maps
-/// are then dropped.
-pub fn join_owned<'a>(
-    alloc: Global,
-    maps: Vec<(SourceMap<'a>, Position)>,
-) -> Result<ConcatSourceMapBuilder<'a>>
-    ensures joined { IfOk result (λ builder. builder ≡ joined maps.entry.items) }
-    ensures limits { IfOk result IsWithinLimits }
-    ensures error { IfErr result (λ e. (e ≡ OutOfMemory)
-        ⊎ ((e ≡ TooLarge) × ¬ (IsWithinLimits (joined maps.entry.items)))) }
-{
-    let mut builder = with_room(alloc, owned_lengths(maps.as_slice()), maps.len())?;
-    for (map, position) in maps {
-        builder.add_sourcemap_owned_at(map, position.line, position.column)?;
-    }
-    Ok(builder)
-}
-
-/// The lengths of maps with those of one map more added. A sum too large for `usize` is its largest value: it is only asked
-/// for as room.
-fn with_lengths(lengths: Lengths, sourcemap: &SourceMap<'_>) -> Lengths {
-    Lengths {
-        names: lengths.names.saturating_add(sourcemap.get_names().len()),
-        sources: lengths
-            .sources
-            .saturating_add(sourcemap.get_sources().len()),
-        tokens: lengths.tokens.saturating_add(sourcemap.get_tokens().len()),
-    }
-}
-
 /// The lengths of borrowed maps, summed.
 fn lent_lengths(maps: &[(&SourceMap<'_>, u32)]) -> Lengths {
     let mut lengths = Lengths::default();
@@ -268,31 +240,4 @@ fn lent_lengths(maps: &[(&SourceMap<'_>, u32)]) -> Lengths {
         lengths = with_lengths(lengths, sourcemap);
     }
     lengths
-}
-
-/// The lengths of owned maps, each beside where it begins, summed.
-fn owned_lengths<P>(maps: &[(SourceMap<'_>, P)]) -> Lengths {
-    let mut lengths = Lengths::default();
-    for (sourcemap, _) in maps {
-        lengths = with_lengths(lengths, sourcemap);
-    }
-    lengths
-}
-
-/// A builder with room for maps of these lengths, and for this many chunks.
-fn with_room<'a>(
-    alloc: Global,
-    lengths: Lengths,
-    chunks: usize,
-) -> Result<ConcatSourceMapBuilder<'a>>
-    ensures builder { IfOk result (λ builder. builder ≡ nothing_joined) }
-    ensures error { OnlyMemory result }
-{
-    ConcatSourceMapBuilder::with_capacity(
-        alloc,
-        lengths.names,
-        lengths.sources,
-        lengths.tokens,
-        chunks,
-    )
 }

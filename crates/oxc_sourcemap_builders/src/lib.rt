@@ -6,6 +6,6 @@ mod concat_sourcemap_builder;
 mod laws;
 mod sourcemap_builder;
 
-pub use concat_sourcemap_builder::{ConcatSourceMapBuilder, join_owned};
+pub use concat_sourcemap_builder::ConcatSourceMapBuilder;
 pub use laws::name_ids_unique;
 pub use sourcemap_builder::SourceMapBuilder;

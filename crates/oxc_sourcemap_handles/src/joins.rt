@@ -7,8 +7,7 @@ ghost use Rattle.oxc_sourcemap_handles.specs.Words.{placed_maps, IsJoinOf, IsJoi
 use crate::call_error::CallError;
 use crate::handle::Handle;
 use crate::operations::take_map;
-use oxc_sourcemap_builders::join_owned;
-use oxc_sourcemap_map::{OwnedSourceMap, SourceMap};
+use oxc_sourcemap_map::{OwnedSourceMap, SourceMap, join_owned};
 use oxc_sourcemap_tokens::Position;
 use std::alloc::Global;
 
@@ -55,7 +54,7 @@ fn join_taken(
         return Err(CallError::Lengths);
     }
     let maps = take_maps(alloc, handles, positions)?;
-    Ok(join_owned(alloc, maps)?.into_owned_sourcemap()?)
+    Ok(OwnedSourceMap::new(join_owned(alloc, maps)?))
 }
 
 /// The join of the maps in handles, which are then empty.

@@ -3,6 +3,7 @@ pub use Rattle.oxc_sourcemap_decode.specs.Decoded.{decoded, json_fault}
 pub use Rattle.oxc_sourcemap_decode.specs.ReadMap.{read_map, read_decoded_map}
 pub use Rattle.oxc_sourcemap_encode.specs.Encoded.{encoded}
 pub use Rattle.oxc_sourcemap_encode.specs.JsonText.{map_text, map_url, appended}
+pub use Rattle.oxc_sourcemap_join.specs.Joined.{joined, nothing_joined, IsWithinLimits}
 pub use Rattle.oxc_sourcemap_json.specs.Json.{json_record}
 pub use Rattle.oxc_sourcemap_lookup.specs.Composed.{composition, composition_fault, SomeComposition}
 pub use Rattle.oxc_sourcemap_lookup.specs.Composed.{NoColumnGoesBack}
@@ -16,10 +17,11 @@ pub use Rattle.oxc_sourcemap_parts.specs.Sorted.{are_tokens_sorted, token_column
 pub use Rattle.oxc_sourcemap_parts.specs.Sound.{IsSound}
 pub use Rattle.oxc_sourcemap_parts.specs.Views.{record_of_parts, empty_record, text_of, texts_of}
 pub use Rattle.oxc_sourcemap_parts.specs.Views.{contents_of, chunks_of}
+pub use Rattle.oxc_sourcemap_tokens.specs.Chunks.{ChunksFit}
 pub use Rattle.oxc_sourcemap_tokens.specs.LineOrder.{IsInLineOrder}
 pub use Rattle.oxc_sourcemap_tokens.specs.Results.{Reports, Answers, lent_items, OnlyMemory}
 pub use Rattle.oxc_sourcemap_tokens.specs.Results.{lent_item}
-pub use Rattle.oxc_sourcemap_tokens.specs.declared.error.Error.TheVariants.{OutOfMemory}
+pub use Rattle.oxc_sourcemap_tokens.specs.declared.error.Error.TheVariants.{OutOfMemory, TooLarge}
 pub use mir.Syntax.{static}
 pub use Rattle.oxc_sourcemap_map.specs.View.{view_of, seen_in, view_original, content_at}
 pub use Rattle.oxc_sourcemap_map.specs.View.{source_and_content_at, view_name, view_source}

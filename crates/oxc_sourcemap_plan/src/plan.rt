@@ -7,10 +7,9 @@ ghost use Rattle.oxc_sourcemap_plan.specs.Words.{at_positions, IsEvaluated, IsEr
 ghost use Rattle.oxc_sourcemap_plan.specs.Words.{FailsAs, AllRealize, OutOfMemory, said_in};
 ghost use Rattle.oxc_sourcemap_plan.specs.Words.{are_tokens_sorted, Map, Unsorted};
 
-use oxc_sourcemap_builders::join_owned;
 use oxc_sourcemap_encode::encode_owned_parts;
 use oxc_sourcemap_laws::{canonical_unique, composition_associative, dropping_harmless};
-use oxc_sourcemap_map::{OwnedSourceMap, SourceMap};
+use oxc_sourcemap_map::{OwnedSourceMap, SourceMap, join_owned};
 use oxc_sourcemap_tokens::{PlanError, Position};
 use std::alloc::Global;
 
@@ -122,8 +121,7 @@ fn join(
         → AllRealize maps.entry.items os → FailsAs e (join_outcome os)) }
 {
     dropping_harmless();
-    let builder = join_owned(alloc, maps)?;
-    check_sorted(builder.into_sourcemap()?)
+    check_sorted(join_owned(alloc, maps)?)
 }
 
 /// The composition of two maps.

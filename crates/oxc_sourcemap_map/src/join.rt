@@ -47,10 +47,7 @@ pub fn with_room<'a>(alloc: Global, lengths: Lengths, chunks: usize) -> Result<J
 ///
 /// Room is taken first for all of them (`OutOfMemory`); then the first error of an add is returned. All maps are then
 /// dropped.
-pub fn join_owned<'a>(
-    alloc: Global,
-    maps: Vec<(SourceMap<'a>, Position)>,
-) -> Result<SourceMap<'a>>
+pub fn join_owned<'a>(alloc: Global, maps: Vec<(SourceMap<'a>, Position)>) -> Result<SourceMap<'a>>
     ensures joined { IfOk result (λ map. map ≡ joined maps.entry.items) }
     ensures fits { IfOk result (λ map. IfSome map.token_chunks (ChunksFit map.tokens)) }
     ensures limits { IfOk result IsWithinLimits }

@@ -1,6 +1,6 @@
 -- The steps of the encoder, beside the states of `State`. No public contract cites this module.
-use Rattle.std.specs.Prelude.{◌≡◌, ℕ, ◌+◌, ◌-◌, ◌*◌, ◌<◌, ◌++◌, ◌==◌, nat_lt, Bool, true, false, None}
-use Rattle.std.specs.Prelude.{List, [], ◌∷◌, replicate, if◌then◌else◌, Result, IfOk}
+use Rattle.std.specs.Prelude.{◌≡◌, ℕ, ◌+◌, ◌-◌, ◌*◌, ◌<◌, ◌++◌, ◌==◌, nat_lt, Bool, true, false}
+use Rattle.std.specs.Prelude.{None, List, [], ◌∷◌, replicate, if◌then◌else◌, Result, IfOk}
 use Rattle.std.specs.List.{AllByRecursion}
 use Rattle.oxc_sourcemap_tokens.specs.declared.token.TokenChunk.{TokenChunk}
 use Rattle.oxc_sourcemap_tokens.specs.Token.{TokenRecord}

@@ -1,6 +1,7 @@
 -- The tables are compared with what they are to have at each of the 256 bytes, by computing.
-use Rattle.std.proofs.Common.{◌≡◌, ℕ, ◌+◌, ◌<◌, ◌≤◌, ◌≤ℤ◌, ◌<ℤ◌, Bool, true, false, nat_lt, List, map, get_or}
-use Rattle.std.proofs.Common.{if◌then◌else◌, ℤ, pos, refl, sym, arith, ap, ◌∙◌, to_z, of_z, w8, ◌⊎◌, inl, inr}
+use Rattle.std.proofs.Common.{◌≡◌, ℕ, ◌+◌, ◌<◌, ◌≤◌, ◌≤ℤ◌, ◌<ℤ◌, true, false, nat_lt, List, map}
+use Rattle.std.proofs.Common.{get_or, if◌then◌else◌, ℤ, pos, refl, sym, arith, ap, ◌∙◌, to_z}
+use Rattle.std.proofs.Common.{of_z, w8, ◌⊎◌, inl, inr}
 use Rattle.std.specs.List.{range_with_len}
 use Rattle.std.proofs.lemmas.Bool.{cases_lt}
 use Rattle.std.proofs.lemmas.Bool.Decides.{nat_tests}
@@ -58,31 +59,22 @@ number_at table b e h = ap (λ z. to_z w8 (of_z w8 z)) (entry number_entry table
 signed-below : (d : ℕ) → d < 32 → signed d <ℤ pos 64
 signed-below d h = grind (arith, ints, nat_tests)
 
-by_digit : (b : ℕ) (z : ℤ) → z ≡ (if nat_lt (digit b) 32 then signed (digit b) else pos (digit b + 32)) → ((digit b < 32) × (z ≡ signed (digit b))) ⊎ ((32 ≤ digit b) × (z ≡ pos (digit b + 32)))
-by_digit b z e =
-    elim (cases_lt (digit b) 32) [
-      | inl l ↦ (let t : nat_lt (digit b) 32 ≡ true = grind (arith, nat_tests) in inl (l, rw t at e))
-      | inr l ↦ (let t : nat_lt (digit b) 32 ≡ false = grind (arith, nat_tests) in inr (l, rw t at e))
-    ]
-
--- an entry below 64 is a number, one of 64 to 95 stands for a digit that others follow, and any other for a mark
-pub entry-number : (b : ℕ) (z : ℤ) → z ≡ number_entry b → z <ℤ pos 64 → (ends_segment b ≡ false) × (digit b < 32) × (z ≡ signed (digit b))
-entry-number b z e h =
-    elim (ends_segment b) as (λ m. z ≡ (if m then pos 127 else if nat_lt (digit b) 32 then signed (digit b) else pos (digit b + 32)) → (m ≡ false) × (digit b < 32) × (z ≡ signed (digit b))) [
-      | true ↦ (λ k. absurd (omega (arith, ints)))
-      | false ↦ (λ k. elim (by_digit b z k) [ inl l ↦ (refl, l.0, l.1) | inr l ↦ absurd (omega (arith, ints)) ])
+-- an entry is 127, the number of its byte, or 32 more than its digit
+by_kind : (b : ℕ) (z : ℤ) → z ≡ number_entry b → ((ends_segment b ≡ true) × (z ≡ pos 127)) ⊎ (((ends_segment b ≡ false) × (digit b < 32) × (z ≡ signed (digit b))) ⊎ ((ends_segment b ≡ false) × (32 ≤ digit b) × (z ≡ pos (digit b + 32))))
+by_kind b z e =
+    elim (ends_segment b) as (λ m. z ≡ (if m then pos 127 else if nat_lt (digit b) 32 then signed (digit b) else pos (digit b + 32)) → ((m ≡ true) × (z ≡ pos 127)) ⊎ (((m ≡ false) × (digit b < 32) × (z ≡ signed (digit b))) ⊎ ((m ≡ false) × (32 ≤ digit b) × (z ≡ pos (digit b + 32))))) [
+      | true ↦ (λ k. inl (refl, k))
+      | false ↦ (λ k. elim (cases_lt (digit b) 32) [
+        | inl l ↦ (let t : nat_lt (digit b) 32 ≡ true = grind (arith, nat_tests) in inr (inl (refl, l, rw t at k)))
+        | inr l ↦ (let t : nat_lt (digit b) 32 ≡ false = grind (arith, nat_tests) in inr (inr (refl, l, rw t at k)))
+      ])
     ] e
+
+pub entry-number : (b : ℕ) (z : ℤ) → z ≡ number_entry b → z <ℤ pos 64 → (ends_segment b ≡ false) × (digit b < 32) × (z ≡ signed (digit b))
+entry-number b z e h = elim (by_kind b z e) [ inl m ↦ absurd (omega (arith, ints, m.1)) | inr k ↦ elim k [ inl n ↦ n | inr d ↦ absurd (omega (arith, ints, d.2)) ] ]
 
 pub entry-more : (b : ℕ) (z : ℤ) → z ≡ number_entry b → pos 64 ≤ℤ z → z <ℤ pos 96 → (ends_segment b ≡ false) × (32 ≤ digit b) × (z ≡ pos (digit b + 32))
-entry-more b z e h k =
-    elim (ends_segment b) as (λ m. z ≡ (if m then pos 127 else if nat_lt (digit b) 32 then signed (digit b) else pos (digit b + 32)) → (m ≡ false) × (32 ≤ digit b) × (z ≡ pos (digit b + 32))) [
-      | true ↦ (λ q. absurd (omega (arith, ints)))
-      | false ↦ (λ q. elim (by_digit b z q) [ inl l ↦ absurd (omega (arith, ints, signed-below (digit b) l.0)) | inr l ↦ (refl, l.0, l.1) ])
-    ] e
+entry-more b z e h l = elim (by_kind b z e) [ inl m ↦ absurd (omega (arith, ints, m.1)) | inr k ↦ elim k [ inl n ↦ absurd (omega (arith, ints, n.2, signed-below (digit b) n.1)) | inr d ↦ d ] ]
 
 pub entry-end : (b : ℕ) (z : ℤ) → z ≡ number_entry b → pos 96 ≤ℤ z → ends_segment b ≡ true
-entry-end b z e h =
-    elim (ends_segment b) as (λ m. z ≡ (if m then pos 127 else if nat_lt (digit b) 32 then signed (digit b) else pos (digit b + 32)) → m ≡ true) [
-      | true ↦ (λ k. refl)
-      | false ↦ (λ k. elim (by_digit b z k) [ inl l ↦ absurd (omega (arith, ints, signed-below (digit b) l.0)) | inr l ↦ absurd (omega (arith, ints, digit-below b)) ])
-    ] e
+entry-end b z e h = elim (by_kind b z e) [ inl m ↦ m.0 | inr k ↦ elim k [ inl n ↦ absurd (omega (arith, ints, n.2, signed-below (digit b) n.1)) | inr d ↦ absurd (omega (arith, ints, d.2, digit-below b)) ] ]

@@ -1,10 +1,11 @@
 -- Segments of four or five fields of one to three digits.
-use Rattle.std.proofs.Common.{◌≡◌, ℕ, zero, suc, ◌+◌, ◌*◌, ◌%◌, ◌^◌, ◌<◌, ◌≤◌, true, false, List, []}
-use Rattle.std.proofs.Common.{◌∷◌, length, get_or, drop, map, ℤ, pos, ◌+ℤ◌, nat_abs, None, Ok, nat_le}
-use Rattle.std.proofs.Common.{arith, refl, sym, ap, ◌∙◌, zero-add, drop-cons, if◌then◌else◌, rules, to_z, of_z, w64}
+use Rattle.std.proofs.Common.{◌≡◌, ℕ, suc, ◌+◌, ◌*◌, ◌%◌, ◌^◌, ◌<◌, ◌≤◌, true, false, List, []}
+use Rattle.std.proofs.Common.{◌∷◌, length, get_or, drop, ℤ, ◌+ℤ◌, nat_abs, None, Ok, nat_le}
+use Rattle.std.proofs.Common.{arith, refl, sym, ap, ◌∙◌, zero-add, drop-cons, rules, to_z, of_z}
+use Rattle.std.proofs.Common.{w64}
 use Rattle.std.proofs.lemmas.Bool.Decides.{nat_tests}
 use Rattle.std.proofs.lemmas.Int.{ints, to_z-of_z}
-use Rattle.oxc_sourcemap_mappings.specs.Number.{digit, ends_run, signed, number, is_fitting}
+use Rattle.oxc_sourcemap_mappings.specs.Number.{digit, ends_run, signed, is_fitting}
 use Rattle.oxc_sourcemap_mappings.specs.Number.{is_open}
 use Rattle.oxc_sourcemap_mappings.specs.Parts.{Segment, runs}
 use Rattle.oxc_sourcemap_mappings.specs.Places.{Place}

@@ -4,7 +4,8 @@ use Rattle.std.proofs.Common.{to_z, of_z, w8, false}
 use Rattle.std.proofs.lemmas.Int.{ints}
 use Rattle.oxc_sourcemap_mappings.specs.Faults.{counts_of}
 use Rattle.oxc_sourcemap_mappings.specs.Decoding.{place_of}
-use Rattle.oxc_sourcemap_mappings.proofs.Usual.{front-end, kept, digits-four, place-four, token-four}
+use Rattle.oxc_sourcemap_mappings.proofs.Usual.{front-end, kept, digits-four, place-four}
+use Rattle.oxc_sourcemap_mappings.proofs.Usual.{token-four}
 use Rattle.oxc_sourcemap_mappings.proofs.Usual.{digits-five, place-five, token-five}
 use Rattle.oxc_sourcemap_mappings.proofs.decode.Sums.usual_token.Goals as goal
 

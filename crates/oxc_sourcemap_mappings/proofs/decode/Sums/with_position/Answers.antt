@@ -1,6 +1,7 @@
 use lib.Dec.{T}
 use lib.Signed.{non_neg}
-use Rattle.std.proofs.Common.{arith, ◌≡◌, ◌&&◌, Bool, true, false, refl, w32, ℤ, pos, negsuc, ◌+ℤ◌, nat_abs, nat_le, Fits, ◌≤ℤ◌, None}
+use Rattle.std.proofs.Common.{arith, ◌≡◌, ◌&&◌, Bool, true, false, refl, w32, ℤ, pos, negsuc, ◌+ℤ◌}
+use Rattle.std.proofs.Common.{nat_abs, nat_le, Fits, ◌≤ℤ◌, None}
 use Rattle.std.proofs.lemmas.Bool.Decides.{nat_tests}
 use Rattle.std.proofs.lemmas.Int.{ints}
 use Rattle.oxc_sourcemap_mappings.specs.Faults.{range_fault}

@@ -14,8 +14,7 @@ use Rattle.smap_run.proofs.running.answer.Goals as goal
 pub returns-in_ok-normalise-in-Normalise-clause-text : goal.returns-in_ok-normalise-in-Normalise-clause-text
 returns-in_ok-normalise-in-Normalise-clause-text c =
     let s : string_bytes c.in-Ok.text ≡ c.args.input.items = ap (λ bytes. bytes.items) c.in-Ok.ensures.ok in
-    let out = string_bytes c.in_ok-normalise-in-Normalise.field-0 in
-    (
+    let out = string_bytes c.in_ok-normalise-in-Normalise.field-0 in (
       subst IsUtf8 s (IsUtf8-string_bytes c.in-Ok.text),
       subst (λ command. IsAnswer (request_of command) c.args.input.items out) (sym c.in-Normalise.is)
           (ap of_map (subst (λ text. normalised text ≡ Ok out) s c.in_ok-normalise-in-Normalise.ensures.0)),

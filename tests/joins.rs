@@ -335,6 +335,12 @@ const PARTS: &[PartsJoin] = &[
      &[(0, 0, 0, 0, Some(0), Some(0)), (0, 1, 0, 0, None, Some(2)), (1, 0, 0, 0, Some(1), Some(3))],
      r#"{"version":3,"names":["p","q","r","s"],"sources":["a","b"],"mappings":"AAAAA,C;ACAAG"}"#,
      &[[0, 2, 0, 0, 0, 0, 0, 0], [2, 3, 0, 1, 0, 0, 0, 0]]),
+    // Two source ids, each within the limit, whose bits taken together are above it.
+    (&[(&[], &["s"], &[], None, 0),
+       (&[], &[], &[(0, 0, 0, 0, Some(2147483646), None), (0, 1, 0, 0, Some(2147483649), None)], None, 0)],
+     &[(0, 0, 0, 0, Some(2147483647), None), (0, 1, 0, 0, Some(2147483650), None)],
+     r#"{"version":3,"names":[],"sources":["s"],"mappings":"A+/////DAA,CGAA"}"#,
+     &[[0; 8], [0, 2, 0, 0, 0, 0, 0, 0]]),
 ];
 
 /// Maps whose last one is too large, for a line, a source id or an id of its ignore list. The joined map is that of the others.
@@ -344,6 +350,11 @@ const TOO_LARGE: &[PartsJoin] = &[
      &[],
      r#"{"version":3,"names":[],"sources":[],"mappings":""}"#,
      &[]),
+    // The second token is too large, after a first one that is not.
+    (&[(&[], &[], &[(0, 5, 0, 0, None, None)], None, 0), (&[], &[], &[(0, 0, 0, 0, None, None), (4294967295, 0, 0, 0, None, None)], None, 1)],
+     &[(0, 5, 0, 0, None, None)],
+     r#"{"version":3,"names":[],"sources":[],"mappings":"K"}"#,
+     &[[0, 1, 0, 0, 0, 0, 0, 0]]),
     (&[(&[], &["s"], &[], None, 0), (&[], &[], &[(0, 0, 0, 0, Some(4294967294), None)], None, 0)],
      &[],
      r#"{"version":3,"names":[],"sources":["s"],"mappings":""}"#,

@@ -7,6 +7,7 @@ pub mod Lookups
 pub mod Tables
 pub mod LineSpans
 pub mod LineStarts
+pub mod LineEnds
 pub mod Halving
 pub mod OwnTables
 pub mod Picks

@@ -17,10 +17,10 @@ use Rattle.oxc_sourcemap_lookup.proofs.OwnTables.{last-reached, none-after}
 not_before : (n : ℕ) (t : TokenRecord) → n ≤ t.dst_line → nat_lt t.dst_line n ≡ false
 not_before n t h = grind (arith, h)
 
-counts-one : (n : ℕ) (t : TokenRecord) (ts : List TokenRecord) → t.dst_line < n → count_before_line n (t ∷ ts) ≡ suc (count_before_line n ts)
+pub counts-one : (n : ℕ) (t : TokenRecord) (ts : List TokenRecord) → t.dst_line < n → count_before_line n (t ∷ ts) ≡ suc (count_before_line n ts)
 counts-one n t ts h = sum_by-cons (λ t. cond (nat_lt (token_line t) n) 1 0) t ts ∙ ap (λ b. cond b 1 0 + count_before_line n ts) (lt-ltb t.dst_line n h) ∙ omega arith
 
-counts-none : (n : ℕ) (t : TokenRecord) (ts : List TokenRecord) → n ≤ t.dst_line → count_before_line n (t ∷ ts) ≡ count_before_line n ts
+pub counts-none : (n : ℕ) (t : TokenRecord) (ts : List TokenRecord) → n ≤ t.dst_line → count_before_line n (t ∷ ts) ≡ count_before_line n ts
 counts-none n t ts h = sum_by-cons (λ t. cond (nat_lt (token_line t) n) 1 0) t ts ∙ ap (λ b. cond b 1 0 + count_before_line n ts) (not_before n t h) ∙ omega arith
 
 -- no token lies before a line from which on all do
@@ -90,7 +90,7 @@ counts-next n from [] p = refl
 counts-next n from (t ∷ ts) p = next-by (nat_lt t.dst_line n) (t.dst_line == n) n t ts refl refl p.1 (counts-next n t.dst_line ts p.1)
 
 -- the tokens on a line lie from where it begins to where the next line does
-on_line-between : (n : ℕ) (ts : List TokenRecord) → first_out_of_order ts ≡ None → take (count_before_line (n + 1) ts - count_before_line n ts) (drop (count_before_line n ts) ts) ≡ on_line token_line n ts
+pub on_line-between : (n : ℕ) (ts : List TokenRecord) → first_out_of_order ts ≡ None → take (count_before_line (n + 1) ts - count_before_line n ts) (drop (count_before_line n ts) ts) ≡ on_line token_line n ts
 on_line-between n ts order =
     let p = in_order-from_0 ts order in
     let rest = drop (count_before_line n ts) ts in

@@ -1,6 +1,6 @@
 -- The index of the lines of a list of tokens. Contracts cite `IsIndexOf`; the others are its parts.
 use Rattle.std.specs.Prelude.{◌≡◌, ◌≢◌, ℕ, ◌+◌, ◌-◌, ◌*◌, ◌<◌, ◌≤◌, nat_lt, List, [], length, take}
-use Rattle.std.specs.Prelude.{drop, get_or, map, count_by}
+use Rattle.std.specs.Prelude.{drop, get_or, map, count_by, max}
 use Rattle.std.specs.List.{All, range_with_len}
 use Rattle.oxc_sourcemap_tokens.specs.Token.{TokenRecord, last}
 use Rattle.oxc_sourcemap_tokens.specs.LineOrder.{IsInLineOrder}
@@ -21,6 +21,16 @@ pub record AreStarts (tokens : List TokenRecord) (starts : List ℕ) : Type 0 wh
   pub order : IsInLineOrder tokens
   pub each : starts ≡ map (λ n. count_before_line n tokens) (range_with_len 0 (lines_through (last tokens) + 1))
   pub few : lines_through (last tokens) ≤ 4 * length tokens + 16
+
+-- each line ends there, or where the line before ends
+abbrev pub EndsOf : List TokenRecord → List ℕ → Type 0
+EndsOf tokens ends = (n d : ℕ) → n < length ends → max (count_before_line n tokens) (get_or ends n d) ≡ count_before_line (n + 1) tokens
+
+-- how many tokens lie up to the last of each line that has some, for tokens in line order; 0 for the other lines
+pub record AreEnds (tokens : List TokenRecord) (ends : List ℕ) : Type 0 where
+  pub order : IsInLineOrder tokens
+  pub lines : length ends ≡ lines_through (last tokens)
+  pub each : EndsOf tokens ends
 
 -- a span has exactly the tokens of its line, and there are some
 pub record IsSpan (tokens : List TokenRecord) (span : LineSpan) : Type 0 where

@@ -1,14 +1,15 @@
 //! Lookup tables over slices of tokens, and lookups on a line. (In the Rust crate they are in the module `sourcemap`.)
-ghost use Rattle.std.specs.Prelude.{◌≡◌, ◌↔◌, ◌==◌, ◌+◌, ◌<◌, ◌≤◌, nat_lt, true, false, IsTrue};
-ghost use Rattle.std.specs.Prelude.{length, take, slice_get, IfOk, IfSome, IsNone, Ok, Err, Some};
-ghost use Rattle.std.specs.Prelude.{None, [], if◌then◌else◌};
+ghost use Rattle.std.specs.Prelude.{◌≡◌, ◌↔◌, ◌==◌, ◌+◌, ◌*◌, ◌^◌, ◌<◌, ◌≤◌, nat_lt, true, false};
+ghost use Rattle.std.specs.Prelude.{length, take, slice_get, IsTrue, IfOk, IfSome, IsNone, Ok, Err};
+ghost use Rattle.std.specs.Prelude.{Some, None, [], if◌then◌else◌};
 ghost use Rattle.std.specs.Option.{option_map_or};
-ghost use Rattle.std.specs.List.{Contains, prefix_len};
+ghost use Rattle.std.specs.List.{All, Contains, prefix_len};
 ghost use Rattle.oxc_sourcemap_lookup.specs.Words.{Error, OutOfMemory, IsInLineOrder, token_column};
 ghost use Rattle.oxc_sourcemap_lookup.specs.Words.{binary_digits, at, clamped_at};
 ghost use Rattle.oxc_sourcemap_lookup.specs.Words.{no_column_goes_back, lines_through};
 ghost use Rattle.oxc_sourcemap_lookup.specs.Words.{tokens_by_line, table_fault, line_table};
 ghost use Rattle.oxc_sourcemap_lookup.specs.Words.{slice_of, last, Answers, Reports, lent_items};
+ghost use Rattle.oxc_sourcemap_lookup.specs.Words.{AreEnds};
 
 use oxc_sourcemap_tokens::{Error, Memory, Result, Token, line_order_fault};
 use std::alloc::Global;
@@ -69,7 +70,7 @@ fn begins_before(tokens: &[Token], line: u64) -> bool
     }
 }
 
-/// The tokens of each line; None if the tokens are not in line order.
+/// The tokens of each line, found line by line; None if the tokens are not in line order.
 fn cut_by_line<'s>(alloc: Global, tokens: &'s [Token]) -> Memory<Option<Vec<&'s [Token]>>>
     ensures cut { IfOk result (λ cut. IfSome cut
         (λ table. IsInLineOrder tokens.now × (lent_items table.items
@@ -91,6 +92,84 @@ fn cut_by_line<'s>(alloc: Global, tokens: &'s [Token]) -> Memory<Option<Vec<&'s 
         Ok(Some(table))
     } else {
         Ok(None)
+    }
+}
+
+/// Stores for each line that has tokens how many there are up to its last one. False, with part of that stored, if the tokens
+/// are not in line order.
+fn store_ends(tokens: &[Token], ends: &mut [u32]) -> bool
+    requires zeros { All (λ end. end ≡ 0) ends.old }
+    requires lines { length ends.old ≡ lines_through (last tokens.now) }
+    requires small { length tokens.now < 2 ^ 32 }
+    ensures ends { IsTrue result → AreEnds tokens.now ends.new }
+    ensures out_of_order { (result ≡ false) → IsInLineOrder tokens.now → ⊥ }
+{
+    let mut line = 0;
+    let mut end = 0;
+    for token in tokens {
+        let here = token.get_dst_line();
+        if here < line || here as usize >= ends.len() {
+            return false;
+        }
+        line = here;
+        end += 1;
+        ends[here as usize] = end;
+    }
+    true
+}
+
+/// The tokens of each line, cut where the lines end.
+fn cut_at_ends<'s>(alloc: Global, tokens: &'s [Token], ends: &[u32]) -> Memory<Vec<&'s [Token]>>
+    requires { AreEnds tokens.now ends.now }
+    ensures { IfOk result (λ table. lent_items table.items ≡ tokens_by_line tokens.now) }
+{
+    let mut table = Vec::with_capacity(alloc, ends.len())?;
+    let mut start = 0;
+    for last in ends {
+        let end = start.max(*last as usize);
+        table.push(&tokens[start..end])?;
+        start = end;
+    }
+    Ok(table)
+}
+
+/// The tokens of each line, with one step for each token and no branch on where a line ends, which would be mispredicted
+/// where lines are short; None if the tokens are not in line order.
+fn cut_short_lines<'s>(alloc: Global, tokens: &'s [Token]) -> Memory<Option<Vec<&'s [Token]>>>
+    requires { length tokens.now < 2 ^ 32 }
+    ensures cut { IfOk result (λ cut. IfSome cut
+        (λ table. IsInLineOrder tokens.now × (lent_items table.items
+        ≡ tokens_by_line tokens.now))) }
+    ensures out_of_order { IfOk result (λ cut. IsNone cut → IsInLineOrder tokens.now → ⊥) }
+{
+    let mut ends = Vec::from_elem(alloc, 0, line_count(tokens) as usize)?;
+    if store_ends(tokens, ends.as_mut_slice()) {
+        Ok(Some(cut_at_ends(alloc, tokens, ends.as_slice())?))
+    } else {
+        Ok(None)
+    }
+}
+
+/// Whether there are fewer than four tokens for each line, and they can be counted in 32 bits.
+fn has_short_lines(tokens: &[Token]) -> bool
+    ensures { IsTrue result ↔ ((length tokens.now < 2 ^ 32)
+        × (length tokens.now < 4 * lines_through (last tokens.now))) }
+{
+    let count = tokens.len() as u64;
+    count <= 4294967295 && count / 4 < line_count(tokens)
+}
+
+/// The tokens of each line; None if the tokens are not in line order.
+fn cut<'s>(alloc: Global, tokens: &'s [Token]) -> Memory<Option<Vec<&'s [Token]>>>
+    ensures cut { IfOk result (λ cut. IfSome cut
+        (λ table. IsInLineOrder tokens.now × (lent_items table.items
+        ≡ tokens_by_line tokens.now))) }
+    ensures out_of_order { IfOk result (λ cut. IsNone cut → IsInLineOrder tokens.now → ⊥) }
+{
+    if has_short_lines(tokens) {
+        cut_short_lines(alloc, tokens)
+    } else {
+        cut_by_line(alloc, tokens)
     }
 }
 
@@ -184,7 +263,7 @@ pub fn lookup_table(alloc: Global, tokens: &[Token]) -> Result<Vec<&[Token]>>
     ensures table { Answers (λ table. lent_items table.items) result (line_table tokens.now) }
     ensures fault { Reports (table_fault tokens.now) result }
 {
-    if let Ok(Some(table)) = cut_by_line(alloc, tokens) {
+    if let Ok(Some(table)) = cut(alloc, tokens) {
         return Ok(table);
     }
     match line_order_fault(tokens) {

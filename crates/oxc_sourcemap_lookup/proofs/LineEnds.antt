@@ -1,7 +1,7 @@
 -- Where lines end, stored token by token.
 use Rattle.std.proofs.Common.{◌≡◌, ◌≢◌, ℕ, zero, suc, ◌+◌, ◌<◌, ◌≤◌, nat_lt, Bool, true, false}
-use Rattle.std.proofs.Common.{List, [], ◌∷◌, length, take, drop, get_or, max, refl, sym, ap, subst, ◌∙◌}
-use Rattle.std.proofs.Common.{arith, Some, None, length-take}
+use Rattle.std.proofs.Common.{List, [], ◌∷◌, length, take, drop, get_or, max, refl, sym, ap, subst}
+use Rattle.std.proofs.Common.{◌∙◌, arith, None, Some, length-take}
 use Rattle.std.proofs.Math.ListN.{set}
 use Rattle.std.proofs.Math.Seq.{drop-cons}
 use Rattle.std.proofs.lemmas.List.{get_or-set_other}

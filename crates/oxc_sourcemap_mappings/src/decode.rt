@@ -325,8 +325,8 @@ impl Sums {
         }
     }
 
-    /// These sums with lines and columns moved by their fields; None if one leaves 0 to 4294967295. For speed one test is for all
-    /// three.
+    /// These sums, the lines and columns moved by their fields; None if one leaves 0 to 4294967295. For speed there is one
+    /// test for all three.
     #[inline(always)]
     fn with_position(&self, dst_col: i64, src_line: i64, src_col: i64) -> Option<Self>
         requires dst_col { nat_abs dst_col < 2 ^ 62 }
@@ -359,9 +359,9 @@ impl Sums {
         })
     }
 
-    /// Reads the segment at the front of a text, if it has four or five fields, each of one to three digits, and no fault: moves
-    /// the sums by it, and gives its token and the number of its bytes. For every other text it gives None, and moves no sum.
-    /// For speed it is read without a loop, 16 bytes being there, and no sum is written before the last test.
+    /// Reads the segment at the front of a text if it has four or five fields, each of one to three digits, and no fault:
+    /// moves the sums by it, and gives its token and the number of its bytes. For every other text it gives None and moves
+    /// no sum. For speed there is no loop, so the text needs the 16 bytes that may be looked at.
     #[inline(always)]
     fn usual_token(
         &mut self,
@@ -402,8 +402,8 @@ impl Sums {
         Some((self.token(line, Some(source_id), Some(name_id)), len + e))
     }
 
-    /// Reads the segment at the front of a text, digit by digit and field by field: moves the sums by it, and gives its token
-    /// and the number of its bytes. After an `Err` some of the sums are moved.
+    /// Reads the segment at the front of a text, digit by digit and field by field: moves the sums by it, and gives its
+    /// token and the number of its bytes. After an `Err` some of the sums are moved.
     #[cold]
     fn any_token(
         &mut self,
@@ -541,6 +541,7 @@ pub fn decode_mappings(
     let mut sums = Sums::new();
     let mut line = 0;
     while let Some(byte) = rest.first() {
+        // In an arm of its own, the token goes from registers to its place.
         if let Some((token, len)) = sums.usual_token(line, rest, names, sources) {
             tokens.push_reserved(token);
             rest = after_comma(&rest[len..]);

@@ -20,7 +20,7 @@ use oxc_sourcemap_tokens::Result;
 use std::alloc::Global;
 use std::borrow::CowStr;
 
-// After an `Err` of a function `push_` below, `out` may end with the beginning of what it adds; `encode_parts_into` cuts it off.
+// After an `Err` a function `push_` leaves a beginning of what it adds; `encode_parts_into` cuts it off.
 
 /// Appends a comma, a key and a colon.
 fn push_key(key: &str, out: &mut String) -> Result<()>
@@ -293,8 +293,8 @@ fn push_object(parts: &SourceMapParts<'_>, out: &mut String) -> Result<()>
     Ok(())
 }
 
-/// Appends the JSON text of a map to `out`: what `encode_parts` gives, as text. `encode_to_string` of `oxc_sourcemap` has the
-/// order of its members and which of them are there. Fails as `encode_parts` does; `out` is then as it was.
+/// Appends the JSON text of a map to `out`: what `encode_parts` gives, as text. `encode_to_string` of `oxc_sourcemap` has
+/// the order of its members and which of them are there. Fails as `encode_parts` does; `out` is then as it was.
 #[tactic(auto, unfolding(crate::specs::JsonText::map_text))]
 pub fn encode_parts_into(parts: &SourceMapParts<'_>, out: &mut String) -> Result<()>
     ensures text { Answers (λ _. string_bytes out.new) result

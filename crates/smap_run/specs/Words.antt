@@ -2,9 +2,7 @@
 pub use Rattle.oxc_sourcemap_parts.specs.DecodedMap.{decoded_map_of}
 pub use Rattle.oxc_sourcemap_tokens.specs.declared.error.Error.TheVariants.{OutOfMemory}
 pub use Rattle.oxc_sourcemap_encode.specs.JsonText.{map_text}
-pub use Rattle.oxc_sourcemap_plan.specs.Evaluated.{IsErrorOf}
 pub use Rattle.oxc_sourcemap_tokens.specs.LineOrder.{IsInLineOrder}
-pub use Rattle.oxc_sourcemap_plan.specs.Outcome.{outcome}
 pub use Rattle.oxc_sourcemap_tokens.specs.declared.plan_error.PlanError.TheVariants.{Map}
 pub use Rattle.oxc_sourcemap_mappings.specs.Reading.{reading}
 pub use Rattle.oxc_sourcemap_parts.specs.Sorted.{are_tokens_sorted}
@@ -13,7 +11,6 @@ pub use Rattle.oxc_sourcemap_map.specs.View.{view_of, seen_in, view_original}
 pub use Rattle.oxc_sourcemap_plan.specs.PlanArguments.{parsed_plan}
 pub use Rattle.oxc_sourcemap_plan.specs.PlanInputs.{inputs_of}
 pub use Rattle.oxc_sourcemap_plan.specs.RunErrors.{out_of_memory}
-pub use Rattle.oxc_sourcemap_plan.specs.declared.run_error.RunError.TheVariants.{Plan}
 pub use Rattle.oxc_sourcemap_tokens.specs.Results.{Answers, OnlyMemory, Pushes, lent_item}
 pub use Rattle.smap_run.specs.Answer.{without_line_feed, mappings_answer, normalised}
 pub use Rattle.smap_run.specs.Answer.{normalised_url, IsPlanAnswer, IsPlanError, IsAnswer}

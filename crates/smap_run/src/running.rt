@@ -4,10 +4,10 @@ ghost use Rattle.std.specs.Prelude.{IfOk, OnOk, OnErr, IfErr, IfSome, List, None
 ghost use Rattle.std.specs.Prelude.{◌⊎◌, IsUtf8, string_bytes, map};
 ghost use Rattle.std.specs.Vec.{vec_len};
 ghost use Rattle.std.specs.Io.KnownBytes.{Appends, Keeps};
-ghost use Rattle.smap_run.specs.Words.{Map, Plan, out_of_memory, without_line_feed};
+ghost use Rattle.smap_run.specs.Words.{out_of_memory, without_line_feed};
 ghost use Rattle.smap_run.specs.Words.{mappings_answer, normalised, normalised_url, IsPlanAnswer};
 ghost use Rattle.smap_run.specs.Words.{IsPlanError, IsAnswer, FailsWith, AppendsBeginning};
-ghost use Rattle.smap_run.specs.Words.{OutOfMemory, reading, outcome, IsErrorOf, inputs_of};
+ghost use Rattle.smap_run.specs.Words.{reading, inputs_of};
 ghost use Rattle.smap_run.specs.Words.{parsed_plan, request_of, Answers, map_text};
 
 use crate::arguments::Command;
@@ -16,8 +16,8 @@ use crate::tracing::trace;
 use oxc_sourcemap_laws::canonical_unique;
 use oxc_sourcemap_map::SourceMap;
 use oxc_sourcemap_mappings::{decode_mappings, encode_mappings};
-use oxc_sourcemap_plan::{Plan, RunError, evaluate, inputs_of, read_plan};
-use oxc_sourcemap_tokens::{Error, PlanError};
+use oxc_sourcemap_plan::{RunError, evaluate, inputs_of, read_plan};
+use oxc_sourcemap_tokens::Error;
 use std::alloc::{AllocError, Global};
 use std::io::{Read, Write};
 
@@ -101,7 +101,7 @@ fn rewrite_mappings(alloc: Global, text: &str, names: u32, sources: u32) -> Resu
     Ok(out)
 }
 
-/// The JSON text of a map, written over a text that is needed no more: that of the input, so that there are not both at once.
+/// The JSON text of a map, written over the text of the input, so that there are not both at once.
 fn write_over(mut text: String, map: &SourceMap<'_>) -> Result<String, Error>
     ensures { Answers string_bytes result (map_text map.now) }
 {

@@ -1,7 +1,9 @@
 pub mod Plain
 pub mod JsonString
+pub mod EscapedText
 pub mod CanonicalPlain
 pub mod Separated
 pub mod Appends
 pub mod JsonTexts
+pub mod Items
 mod Worked

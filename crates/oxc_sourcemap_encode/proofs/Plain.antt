@@ -1,17 +1,16 @@
 -- Runs of bytes that need no escape, looked at in blocks.
-use Rattle.std.proofs.Common.{◌≡◌, ℕ, suc, ◌+◌, ◌*◌, ◌≤◌, ◌%◌, ◌^◌, Bool, true, false, not, cond}
-use Rattle.std.proofs.Common.{eqb, ltb, ◌||◌, List, [], ◌∷◌, length, map, replicate, drop, refl}
-use Rattle.std.proofs.Common.{sym, ap, ap₂, ◌∙◌, arith}
-use Rattle.std.proofs.lemmas.Bool.{eq-eqb, ne_eqb}
-use Rattle.std.proofs.lemmas.Simd.{chunk-drop, length-chunk, first_set_mask_l, mask_l-mod}
-use Rattle.std.proofs.lemmas.List.{length-map}
-use Rattle.std.proofs.lemmas.List.Folds.{prefix_len-append}
-use Rattle.std.proofs.lemmas.List.Sums.{prefix_len-le-length}
+use Rattle.std.proofs.Common.{◌≡◌, ℕ, zero, suc, ◌+◌, ◌-◌, ◌≤◌, ◌%◌, ◌^◌, Bool, true, false, not}
+use Rattle.std.proofs.Common.{cond, eqb, ltb, ◌||◌, List, [], ◌∷◌, ◌++◌, length, map, replicate, take, drop}
+use Rattle.std.proofs.Common.{refl, sym, ap, ap₂, ◌∙◌, arith}
+use Rattle.std.proofs.Math.Seq.{take-append-add}
+use Rattle.std.proofs.lemmas.Simd.{first_set_mask_l, mask_l-mod, put_chunk_is}
+use Rattle.std.proofs.lemmas.List.{length-map, take-take, take-append-le, length-take-le}
+use Rattle.std.proofs.lemmas.List.{length-append, length-replicate, take-replicate}
 use Rattle.std.specs.List.{prefix_len}
 use lib.Bits.{bit_or}
 use lib.Count.{count_trailing_zeros}
-use lib.Lanes.{zip2, chunk, mask_l, top}
-use Rattle.oxc_sourcemap_encode.specs.Plain.{needs_escape, is_plain}
+use lib.Lanes.{zip2, mask_l, top, put_chunk}
+use Rattle.oxc_sourcemap_encode.specs.Plain.{needs_escape, is_plain, block_of}
 
 -- ---- a lane of a comparison
 abbrev lane : Bool → ℕ
@@ -47,30 +46,42 @@ marked bytes n long few =
     ∙ mask_l-mod (map needs_escape bytes) 64 (omega (arith, length-map bytes needs_escape))
 
 -- ---- a block
-one_more : (b : Bool) (n l m : ℕ) → n ≤ l → cond (not b) (1 + n) 0 ≡ suc l → (n ≡ l → m ≡ 0) → cond b 1 0 + 2 * m ≡ 0
-one_more true n l m le e rest = absurd (omega arith)
-one_more false n l m le e rest = let none = rest (omega arith) in omega arith
+-- the run at the front of a block ends at its first mark, or with the block
+pub block_run : (bytes : List ℕ) (n m : ℕ) → length bytes ≡ n → n ≤ 64 → m ≡ mask_l (map needs_escape bytes) → cond (eqb m 0) n (count_trailing_zeros 64 m) ≡ prefix_len is_plain bytes
+block_run bytes n m long few e = ap (λ k. cond (eqb k 0) n (count_trailing_zeros 64 k)) e ∙ first_set_mask_l needs_escape bytes n long few
 
-none_marked : (bytes : List ℕ) → prefix_len is_plain bytes ≡ length bytes → mask_l (map needs_escape bytes) ≡ 0
-none_marked [] e = refl
-none_marked (b ∷ bytes) e =
-    one_more (needs_escape b) (prefix_len is_plain bytes) (length bytes) _ (prefix_len-le-length is_plain bytes) e (none_marked bytes)
+pub length-block : (text : List ℕ) → length (block_of text) ≡ 16
+length-block text = length-take-le 16 (text ++ replicate 16 32) (omega (arith, length-append text (replicate 16 32), length-replicate {A = ℕ} 16 32))
 
-split : (text : List ℕ) (i n : ℕ) → prefix_len is_plain (drop i text) ≡ cond (eqb (prefix_len is_plain (chunk i n text)) (length (chunk i n text))) (length (chunk i n text) + prefix_len is_plain (drop (i + n) text)) (prefix_len is_plain (chunk i n text))
-split text i n = ap (prefix_len is_plain) (chunk-drop i n text) ∙ prefix_len-append is_plain (chunk i n text) (drop (i + n) text)
+pub block_front : (text : List ℕ) (n : ℕ) → n ≤ 16 → n ≤ length text → take n (block_of text) ≡ take n text
+block_front text n few within = take-take n 16 (text ++ replicate 16 32) few ∙ take-append-le n text (replicate 16 32) within
 
-first_marked : (text : List ℕ) (i n : ℕ) → i + n ≤ length text → n ≤ 64 → cond (eqb (mask_l (map needs_escape (chunk i n text))) 0) n (count_trailing_zeros 64 (mask_l (map needs_escape (chunk i n text)))) ≡ prefix_len is_plain (chunk i n text)
-first_marked text i n room few = first_set_mask_l needs_escape (chunk i n text) n (length-chunk i n text room) few
+-- the spaces aside, the run at the front of a block is one of the text
+within_step : (escapes : Bool) (n p q l : ℕ) → (n - 1 ≤ p → n - 1 ≤ l → n - 1 ≤ q) → n ≤ cond (not escapes) (1 + p) 0 → n ≤ suc l → n ≤ cond (not escapes) (1 + q) 0
+within_step true n p q l later run within = run
+within_step false n p q l later run within = let less = later (omega arith) (omega arith) in omega (arith, less)
 
--- a block without a mark belongs to the run
-pub block_plain : (text : List ℕ) (i n : ℕ) → i + n ≤ length text → n ≤ 64 → mask_l (map needs_escape (chunk i n text)) ≡ 0 → prefix_len is_plain (drop i text) ≡ n + prefix_len is_plain (drop (i + n) text)
-block_plain text i n room few none =
-    let long = length-chunk i n text room in
-    let all : prefix_len is_plain (chunk i n text) ≡ length (chunk i n text) = sym (first_marked text i n room few) ∙ ap (λ b. cond b n (count_trailing_zeros 64 (mask_l (map needs_escape (chunk i n text))))) (eq-eqb _ _ none) ∙ sym long in
-    split text i n ∙ ap (λ b. cond b (length (chunk i n text) + prefix_len is_plain (drop (i + n) text)) (prefix_len is_plain (chunk i n text))) (eq-eqb _ _ all) ∙ ap (λ k. k + prefix_len is_plain (drop (i + n) text)) long
+within_run : (k n : ℕ) (text more : List ℕ) → n ≤ prefix_len is_plain (take k (text ++ more)) → n ≤ length text → n ≤ prefix_len is_plain text
+within_run k n [] more run within = within
+within_run zero n (b ∷ text) more run within = omega (arith, run)
+within_run (suc k) n (b ∷ text) more run within = within_step (needs_escape b) n _ _ (length text) (within_run k (n - 1) text more) run within
 
--- in a block with a mark, the run ends at the first mark
-pub block_stops : (text : List ℕ) (i n : ℕ) → i + n ≤ length text → n ≤ 64 → (mask_l (map needs_escape (chunk i n text)) ≡ 0 → ⊥) → prefix_len is_plain (drop i text) ≡ count_trailing_zeros 64 (mask_l (map needs_escape (chunk i n text)))
-block_stops text i n room few some =
-    split text i n ∙ ap (λ b. cond b (length (chunk i n text) + prefix_len is_plain (drop (i + n) text)) (prefix_len is_plain (chunk i n text))) (ne_eqb _ _ (λ e. some (none_marked (chunk i n text) e)))
-    ∙ sym (first_marked text i n room few) ∙ ap (λ b. cond b n (count_trailing_zeros 64 (mask_l (map needs_escape (chunk i n text))))) (ne_eqb _ _ some)
+pub block_plain : (text : List ℕ) (n : ℕ) → n ≤ prefix_len is_plain (block_of text) → n ≤ length text → n ≤ prefix_len is_plain text
+block_plain text n run within = within_run 16 n text (replicate 16 32) run within
+
+-- a block that is stored, of which only the first bytes count
+pub block_placed : (buf text : List ℕ) (at n : ℕ) → at + 16 ≤ length buf → n ≤ 16 → n ≤ length text → take (at + n) (put_chunk at buf (block_of text)) ≡ take at buf ++ take n text
+block_placed buf text at n room few within =
+    let long = length-block text in
+    let front : at + n ≡ length (take at buf) + n = omega (arith, length-take-le at buf (omega arith)) in
+    let after = drop (length (block_of text)) (drop at buf) in
+    ap (take (at + n)) (put_chunk_is at buf (block_of text) (omega (arith, long)))
+    ∙ ap (λ k. take k (take at buf ++ (block_of text ++ after))) front
+    ∙ take-append-add (take at buf) (block_of text ++ after) n
+    ∙ ap (λ bs. take at buf ++ bs) (take-append-le n (block_of text) after (omega (arith, long)) ∙ block_front text n few within)
+
+-- bytes with spaces behind them
+pub padded : (text : List ℕ) (n m : ℕ) → n ≤ m → length text ≤ n → text ++ drop (length text) (replicate n 32) ≡ take n (text ++ replicate m 32)
+padded [] n m h l = sym (take-replicate n m 32 h)
+padded (b ∷ text) zero m h l = absurd (omega arith)
+padded (b ∷ text) (suc n) m h l = ap (λ bs. b ∷ bs) (padded text n m (omega arith) (omega arith))

@@ -1,5 +1,5 @@
 -- A text as a JSON string (RFC 8259, section 7).
-use Rattle.std.specs.Prelude.{ℕ, ◌/◌, ◌%◌, List, [], ◌∷◌, ◌++◌, codes, flat_map}
+use Rattle.std.specs.Prelude.{ℕ, Bool, ◌/◌, ◌%◌, List, [], ◌∷◌, ◌++◌, codes, flat_map}
 use Rattle.std.specs.Prelude.{if◌then◌else◌, nat_lt, ◌==◌}
 use Rattle.std.specs.Char.{digit_char}
 
@@ -24,3 +24,13 @@ escaped b =
 -- the bytes of a text, escaped, in quotes
 unfoldable pub json_string : List ℕ → List ℕ
 json_string text = 34 ∷ flat_map escaped text ++ 34 ∷ []
+
+-- The rest of this module is for the steps of the writer; no public contract cites it.
+
+-- the comma before a string of a list
+abbrev pub comma_text : Bool → List ℕ
+comma_text is_first = if is_first then [] else codes ","
+
+-- a text as a string of a list, with its comma
+abbrev pub item_text : Bool → List ℕ → List ℕ
+item_text is_first text = comma_text is_first ++ json_string text

@@ -10,9 +10,10 @@ pub use Rattle.oxc_sourcemap_tokens.specs.declared.error.Error.TheVariants.{OutO
 pub use Rattle.oxc_sourcemap_encode.specs.Appends.{OnlyAdds}
 pub use Rattle.oxc_sourcemap_encode.specs.Encoded.{encoded, written_contents, encoded_record}
 pub use Rattle.oxc_sourcemap_encode.specs.JsonParts.{head_text, lists_text, tail_text}
-pub use Rattle.oxc_sourcemap_encode.specs.JsonString.{hex_escape, escaped, json_string}
+pub use Rattle.oxc_sourcemap_encode.specs.JsonString.{escaped, json_string}
+pub use Rattle.oxc_sourcemap_encode.specs.JsonString.{comma_text, item_text}
 pub use Rattle.oxc_sourcemap_encode.specs.JsonText.{json_list, content_text, field_text}
 pub use Rattle.oxc_sourcemap_encode.specs.JsonText.{optional_field, json_text, map_text, map_url}
 pub use Rattle.oxc_sourcemap_encode.specs.JsonText.{appended}
-pub use Rattle.oxc_sourcemap_encode.specs.Plain.{needs_escape, is_plain}
+pub use Rattle.oxc_sourcemap_encode.specs.Plain.{needs_escape, is_plain, block_of}
 pub use Rattle.oxc_sourcemap_encode.specs.Room.{string_room, content_room, IsRoomFor}

@@ -11,7 +11,7 @@ ghost use Rattle.oxc_sourcemap_encode.specs.Words.{head_text, lists_text, tail_t
 ghost use Rattle.oxc_sourcemap_encode.specs.Words.{OnlyMemory, OnlyAdds, Pushes, appended};
 
 use crate::encode::{chunks_of, has_content};
-use crate::json_string::push_json_string;
+use crate::json_string::{push_json_string, push_json_strings};
 use crate::room::text_room;
 use base64::engine::general_purpose::STANDARD;
 use oxc_sourcemap_mappings::encode_mappings;
@@ -64,12 +64,7 @@ fn push_texts(texts: &[CowStr<'_>], out: &mut String) -> Result<()>
     ensures adds { OnlyAdds out.old out.new }
 {
     out.push('[')?;
-    let mut is_first = true;
-    for text in texts {
-        push_separator(is_first, out)?;
-        push_text(text, out)?;
-        is_first = false;
-    }
+    push_json_strings(texts, out)?;
     out.push(']')?;
     Ok(())
 }

@@ -3,6 +3,7 @@
 #![tactic(auto)]
 
 mod encode;
+mod escapes;
 mod json_string;
 mod json_text;
 mod room;

@@ -1,7 +1,7 @@
 -- Runs of bytes that need no escape, looked at in blocks.
 use Rattle.std.proofs.Common.{◌≡◌, ℕ, zero, suc, ◌+◌, ◌-◌, ◌≤◌, ◌%◌, ◌^◌, Bool, true, false, not}
-use Rattle.std.proofs.Common.{cond, eqb, ltb, ◌||◌, List, [], ◌∷◌, ◌++◌, length, map, replicate, take, drop}
-use Rattle.std.proofs.Common.{refl, sym, ap, ap₂, ◌∙◌, arith}
+use Rattle.std.proofs.Common.{cond, eqb, ltb, ◌||◌, List, [], ◌∷◌, ◌++◌, length, map, replicate}
+use Rattle.std.proofs.Common.{take, drop, refl, sym, ap, ap₂, ◌∙◌, arith}
 use Rattle.std.proofs.Math.Seq.{take-append-add}
 use Rattle.std.proofs.lemmas.Simd.{first_set_mask_l, mask_l-mod, put_chunk_is}
 use Rattle.std.proofs.lemmas.List.{length-map, take-take, take-append-le, length-take-le}

@@ -14,8 +14,8 @@ use oxc_sourcemap_tokens::{Error, Memory, Result};
 use std::borrow::CowStr;
 use std::simd::prelude::*;
 
-/// How many bytes are gathered at most before they are added to a text. Where a buffer has 2,048 or more, to clear it costs as
-/// much as to fill it.
+/// How many bytes are gathered at most before they are added to a text. Where a buffer has 2,048 or more, to clear it costs
+/// as much as to fill it.
 const ROOM: usize = 2032;
 
 /// How many bytes of a text are escaped at once: each takes up to six bytes, and a block may reach 16 further.
@@ -115,7 +115,7 @@ fn piece_len(text: &str) -> usize
     text.floor_char_boundary(PIECE)
 }
 
-// The calls `push_` below here leave `out` with a beginning of what they add if they fail; `push_json_string` cuts it off.
+// After an `Err` a function `push_` leaves a beginning of what it adds; `push_json_string` and `encode_parts_into` cut it off.
 
 /// Adds bytes that were gathered.
 fn push_gathered(out: &mut String, bytes: &[u8]) -> Memory<()>

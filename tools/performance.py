@@ -45,12 +45,15 @@ def bench(paths, *words):
     return {(row["map"], row["stage"]): row for row in rows}
 
 
+def beside(figures, goal, form="{:.1f}"):
+    """A figure of ours, and behind it the ratio to that of each other program."""
+    ours, *others = figures
+    ratios = ", ".join(ratio(ours, other, goal) for other in others)
+    return f"{form.format(ours)} ({ratios})" if others else form.format(ours)
+
+
 def cell(row):
-    """The figure of ours, and for each other program its own with the ratio."""
-    (ours, *others), items = list(row["best"].values()), row["items"]
-    texts = [f"{ours / items:.1f}"]
-    texts += [f"{other / items:.1f} = {ratio(ours, other, GOALS[row['stage']])}" for other in others]
-    return " / ".join(texts)
+    return beside([ns / row["items"] for ns in row["best"].values()], GOALS[row["stage"]])
 
 
 def write_stages(title, maps, words):
@@ -107,12 +110,6 @@ def instructions_of(command, text):
     return int(re.search(rb"Collected : (\d+)", ran.stderr)[1]) / 1e6
 
 
-def compared(figures, goal, form):
-    """A figure of ours, and of each other program with the ratio."""
-    ours, *others = figures
-    return " / ".join([form.format(ours), *(f"{form.format(other)} = {ratio(ours, other, goal)}" for other in others)])
-
-
 def processes(title, inputs, is_counted=True):
     """A row for each whole process: name, words of smap, words of the other programs, input."""
     write(f"\n### {title}\n")
@@ -127,9 +124,9 @@ def processes(title, inputs, is_counted=True):
             with ThreadPoolExecutor(os.cpu_count()) as pool:
                 counts = list(pool.map(lambda side: instructions_of(sides[side], text), sides))
         same = "" if len(outputs) == 1 else "same bytes" if len(set(outputs)) == 1 else "differs"
-        cells = [f"{size:.1f}", compared([it * 1e3 for it in seconds], WHOLE_GOAL, "{:.1f}"), f"{seconds[0] * 1e3 / size:.1f}",
-                 compared([it / 1e6 for it in peaks], PEAK_GOAL, "{:.1f}"), f"{peaks[0] / len(text):.1f}",
-                 compared(counts, WHOLE_GOAL, "{:.0f}") if is_counted else "", same]
+        cells = [f"{size:.1f}", beside([it * 1e3 for it in seconds], WHOLE_GOAL), f"{seconds[0] * 1e3 / size:.1f}",
+                 beside([it / 1e6 for it in peaks], PEAK_GOAL), f"{peaks[0] / len(text):.1f}",
+                 beside(counts, WHOLE_GOAL, "{:.0f}") if is_counted else "", same]
         write(f"| {name} | {' | '.join(cells)} |")
 
 

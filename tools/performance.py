@@ -26,8 +26,9 @@ written = []
 
 
 def write(line=""):
-    written.append(line)
-    print(line, flush=True)
+    lines = [re.sub(r" *[|] *", "|", it) if it.startswith("|") else it for it in line.split("\n")]
+    written.extend(lines)
+    print(*lines, sep="\n", flush=True)
 
 
 def ratio(ours, theirs, goal):

@@ -193,8 +193,8 @@ fn make_room(out: &mut String, buf: &[u8], len: usize) -> Memory<usize>
     Ok(0)
 }
 
-/// Adds the comma of a string of a list.
-fn push_comma(out: &mut String, is_first: bool) -> Memory<()>
+/// Adds the comma before an item of a list; there is none before the first one.
+pub(crate) fn push_comma(out: &mut String, is_first: bool) -> Memory<()>
     ensures ok { Pushes result out.old out.new (comma_text is_first) }
     ensures adds { OnlyAdds out.old out.new }
 {

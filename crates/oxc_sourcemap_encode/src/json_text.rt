@@ -1,6 +1,6 @@
 //! The JSON text of a map, written field by field, and its data URL.
 ghost use Rattle.std.specs.Prelude.{◌≡◌, ◌≢◌, ◌++◌, map, string_bytes, codes, decimal, IfErr, OnOk};
-ghost use Rattle.std.specs.Prelude.{OnErr, Ok, Some, None, [], if◌then◌else◌};
+ghost use Rattle.std.specs.Prelude.{OnErr, Ok, Some, None};
 ghost use Rattle.std.specs.Cow.{cow_str_bytes};
 ghost use Rattle.oxc_sourcemap_encode.specs.Words.{OutOfMemory, canonical, writing_fault};
 ghost use Rattle.oxc_sourcemap_encode.specs.Words.{json_string, text_of, ids_of, record_of_parts};
@@ -11,7 +11,7 @@ ghost use Rattle.oxc_sourcemap_encode.specs.Words.{head_text, lists_text, tail_t
 ghost use Rattle.oxc_sourcemap_encode.specs.Words.{OnlyMemory, OnlyAdds, Pushes, appended};
 
 use crate::encode::{chunks_of, has_content};
-use crate::json_string::{push_json_string, push_json_strings};
+use crate::json_string::{push_comma, push_json_string, push_json_strings};
 use crate::room::text_room;
 use base64::engine::general_purpose::STANDARD;
 use oxc_sourcemap_mappings::encode_mappings;
@@ -31,19 +31,6 @@ fn push_key(key: &str, out: &mut String) -> Result<()>
     out.push_str(",\"")?;
     out.push_str(key)?;
     out.push_str("\":")?;
-    Ok(())
-}
-
-/// Appends the comma before an item of a list; there is none before the first one.
-fn push_separator(is_first: bool, out: &mut String) -> Result<()>
-    ensures text { Pushes result out.old out.new (if is_first then [] else codes ",") }
-    ensures error { OnlyMemory result }
-    ensures adds { OnlyAdds out.old out.new }
-{
-    if is_first {
-        return Ok(());
-    }
-    out.push(',')?;
     Ok(())
 }
 
@@ -92,7 +79,7 @@ fn push_contents(contents: &[Option<CowStr<'_>>], out: &mut String) -> Result<()
     out.push('[')?;
     let mut is_first = true;
     for content in contents {
-        push_separator(is_first, out)?;
+        push_comma(out, is_first)?;
         push_content(content, out)?;
         is_first = false;
     }
@@ -121,7 +108,7 @@ fn push_ids(ids: &[u32], out: &mut String) -> Result<()>
     out.push('[')?;
     let mut is_first = true;
     for id in ids {
-        push_separator(is_first, out)?;
+        push_comma(out, is_first)?;
         push_id(*id, out)?;
         is_first = false;
     }

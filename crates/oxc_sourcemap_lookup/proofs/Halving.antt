@@ -170,22 +170,22 @@ pub at-nearer : (col : ℕ) (ts : List TokenRecord) (n : ℕ) → no_column_goes
 at-nearer col ts n g e = sym (walked_is_at col ts g) ∙ walked-nearer col None ts ∙ sym (ap (nearer_at col None ts) e)
 
 -- ---- the nearer token, by whether the first token of the rest is at the column
-pub here : (col : ℕ) (t : TokenRecord) (o last : Option TokenRecord) → o ≡ Some t → t.dst_col ≡ col → nearer col o last ≡ Some t
+here : (col : ℕ) (t : TokenRecord) (o last : Option TokenRecord) → o ≡ Some t → t.dst_col ≡ col → nearer col o last ≡ Some t
 here col t o last e h = ap (λ p. nearer col p last) e ∙ grind (arith, h)
 
-pub past : (col : ℕ) (t : TokenRecord) (o last : Option TokenRecord) → o ≡ Some t → t.dst_col ≢ col → nearer col o last ≡ last
+past : (col : ℕ) (t : TokenRecord) (o last : Option TokenRecord) → o ≡ Some t → t.dst_col ≢ col → nearer col o last ≡ last
 past col t o last e h = ap (λ p. nearer col p last) e ∙ grind (arith, h)
 
 none_left : (col : ℕ) (o last : Option TokenRecord) → o ≡ None → nearer col o last ≡ last
 none_left col o last e = ap (λ p. nearer col p last) e
 
-pub first-drop : (ts : List TokenRecord) (n : ℕ) → first (drop n ts) ≡ slice_get ts n
+first-drop : (ts : List TokenRecord) (n : ℕ) → first (drop n ts) ≡ slice_get ts n
 first-drop [] zero = refl
 first-drop [] (suc n) = refl
 first-drop (t ∷ ts) zero = refl
 first-drop (t ∷ ts) (suc n) = first-drop ts n
 
-pub last-through : (ts : List TokenRecord) (found : Option TokenRecord) (n : ℕ) (t : TokenRecord) → slice_get ts n ≡ Some t → last_or found (take (suc n) ts) ≡ Some t
+last-through : (ts : List TokenRecord) (found : Option TokenRecord) (n : ℕ) (t : TokenRecord) → slice_get ts n ≡ Some t → last_or found (take (suc n) ts) ≡ Some t
 last-through [] found n t e = cc (e)
 last-through (x ∷ ts) found zero t e = e
 last-through (x ∷ ts) found (suc n) t e = last-through ts (Some x) n t e

@@ -9,7 +9,6 @@ pub mod LineSpans
 pub mod LineStarts
 pub mod LineEnds
 pub mod Halving
-pub mod Guesses
 pub mod OwnTables
 pub mod Picks
 mod Worked

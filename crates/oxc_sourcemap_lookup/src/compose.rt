@@ -14,7 +14,7 @@ ghost use Rattle.oxc_sourcemap_lookup.specs.Words.{IsInheriting, FailsBy, Report
 
 use crate::inherited_names::{InheritedNames, inherit_id, no_names, owned_names};
 use crate::line_index::LineIndex;
-use crate::lookup::search_near;
+use crate::lookup::search_clamped;
 use oxc_sourcemap_parts::{SourceMapParts, into_owned_text};
 use oxc_sourcemap_tokens::{Error, Result, Token};
 use std::alloc::Global;
@@ -64,31 +64,15 @@ fn composed_token<'n>(
     ))
 }
 
-/// Where the last lookup ended.
-#[derive(Clone, Copy)]
-struct Cursor {
-    line: u32,
-    /// The `near` of `LineIndex::tokens_near`.
-    span: usize,
-    /// How many tokens of the line lie before the column that was looked up.
-    before: usize,
-}
-
 /// The mapped token that a token leads to, by the clamped lookup of its source position among the tokens of the second map.
-/// Next to each other, most tokens lead to tokens near to each other: on the line of the last lookup, the search begins where
-/// that ended.
-fn target(index: &LineIndex, input: &[Token], token: &Token, cursor: &mut Cursor) -> Option<Token>
+/// `near` is that of `LineIndex::tokens_near`.
+fn target(index: &LineIndex, input: &[Token], token: &Token, near: &mut usize) -> Option<Token>
     requires { IsIndexOf input.now index.now }
     ensures { IsTarget (line_of input.now token.now) (target_of token.now result) }
 {
     token.get_source_id()?;
-    let line = token.get_src_line();
-    if line != cursor.line {
-        cursor.line = line;
-        cursor.before = usize::MAX;
-    }
-    let tokens = index.tokens_near(input, line, &mut cursor.span);
-    let found = search_near(tokens, token.get_src_col(), &mut cursor.before)?;
+    let line = index.tokens_near(input, token.get_src_line(), near);
+    let found = search_clamped(line, token.get_src_col())?;
     found.get_source_id()?;
     Some(found)
 }
@@ -116,13 +100,9 @@ fn composed_tokens<'a>(
 {
     let mut inherited = no_names(alloc, first, second)?;
     let mut composed = Vec::with_capacity(alloc, tokens.len())?;
-    let mut cursor = Cursor {
-        line: 0,
-        span: 0,
-        before: 0,
-    };
+    let mut near = 0;
     for token in tokens {
-        let found = target(index, input, token, &mut cursor);
+        let found = target(index, input, token, &mut near);
         composed.push(composed_token(&mut inherited, first, second, token, found)?)?;
     }
     let names = owned_names(alloc, inherited)?;

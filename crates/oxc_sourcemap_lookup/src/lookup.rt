@@ -1,7 +1,7 @@
 //! Lookup tables over slices of tokens, and lookups on a line. (In the Rust crate they are in the module `sourcemap`.)
 ghost use Rattle.std.specs.Prelude.{◌≡◌, ◌↔◌, ◌==◌, ◌+◌, ◌*◌, ◌^◌, ◌<◌, ◌≤◌, nat_lt, true, false};
-ghost use Rattle.std.specs.Prelude.{length, take, slice_get, option_map, IsTrue, IfOk, IfSome};
-ghost use Rattle.std.specs.Prelude.{IsNone, Ok, Err, Some, None, [], if◌then◌else◌};
+ghost use Rattle.std.specs.Prelude.{length, take, slice_get, IsTrue, IfOk, IfSome, IsNone, Ok, Err};
+ghost use Rattle.std.specs.Prelude.{Some, None, [], if◌then◌else◌};
 ghost use Rattle.std.specs.Option.{option_map_or};
 ghost use Rattle.std.specs.List.{All, Contains, prefix_len};
 ghost use Rattle.oxc_sourcemap_lookup.specs.Words.{Error, OutOfMemory, IsInLineOrder, token_column};
@@ -252,75 +252,6 @@ pub fn search_clamped(line: &[Token], col: u32) -> Option<Token>
     ensures clamped { IsNone result → line.now ≡ [] }
 {
     search(line, col, &mut 0).or(line.first().copied())
-}
-
-/// Whether so many tokens at the front of a line lie before `col`, or more, as the last of so many tells.
-fn are_before(line: &[Token], col: u32, count: usize) -> bool
-    ensures within { IsTrue result → count ≤ length line.now }
-    ensures before { no_column_goes_back token_column line.now ≡ true → IsTrue result
-        → count ≤ prefix_len (λ t. nat_lt t.dst_col col) line.now }
-{
-    count == 0 || (count <= line.len() && line[count - 1].get_dst_col() < col)
-}
-
-/// How many tokens at the front of a line lie before `col`, if it is `least` and at most eight more; else `least` and eight.
-fn count_on_from(line: &[Token], col: u32, least: usize) -> usize
-    requires { least ≤ length line.now }
-    ensures within { result ≤ length line.now }
-    ensures before { no_column_goes_back token_column line.now ≡ true
-        → least ≤ prefix_len (λ t. nat_lt t.dst_col col) line.now
-        → result ≤ prefix_len (λ t. nat_lt t.dst_col col) line.now }
-{
-    let end = line.len().min(least.saturating_add(8));
-    let mut count = least;
-    while count < end && line[count].get_dst_col() < col {
-        count += 1;
-    }
-    count
-}
-
-/// As `count_before`, from a guess, which may be any number. If it is right, or at most eight too low, nothing is halved.
-fn count_before_near(line: &[Token], col: u32, guess: usize) -> usize
-    ensures count { no_column_goes_back token_column line.now ≡ true
-        → result ≡ prefix_len (λ t. nat_lt t.dst_col col) line.now }
-    ensures within { result ≤ length line.now }
-{
-    if !are_before(line, col, guess) {
-        return count_before(line, col, &mut 0);
-    }
-    let count = count_on_from(line, col, guess);
-    if count < line.len() && line[count].get_dst_col() < col {
-        return count + count_before(&line[count..], col, &mut 0);
-    }
-    count
-}
-
-/// Whether a line has a token at an index, and that lies at `col`.
-fn is_at(line: &[Token], i: usize, col: u32) -> bool
-    ensures { IsTrue result ↔ (option_map (λ t. t.dst_col) (slice_get line.now i) ≡ Some col) }
-{
-    match line.get(i) {
-        Some(token) => token.get_dst_col() == col,
-        None => false,
-    }
-}
-
-/// As `search_clamped`, from a guess of how many tokens at the front of the line lie before `col`, which becomes how many do.
-/// The guess may be any number.
-pub(crate) fn search_near(line: &[Token], col: u32, guess: &mut usize) -> Option<Token>
-    ensures found { no_column_goes_back token_column line.now ≡ true
-        → result ≡ clamped_at token_column line.now col }
-    ensures among { IfSome result (Contains line.now) }
-    ensures clamped { IsNone result → line.now ≡ [] }
-{
-    let before = count_before_near(line, col, *guess);
-    *guess = before;
-    let found = if is_at(line, before, col) {
-        before
-    } else {
-        before.saturating_sub(1)
-    };
-    line.get(found).copied()
 }
 
 /// The lookup table of tokens: for each generated line up to the last token's, the tokens on it, borrowed, in order.

@@ -11,12 +11,12 @@ use Rattle.std.proofs.lemmas.List.{take-append-drop, drop-drop, drop_more}
 use Rattle.oxc_sourcemap_tokens.specs.declared.token.TokenChunk.{TokenChunk}
 use Rattle.oxc_sourcemap_tokens.specs.Token.{TokenRecord}
 use Rattle.oxc_sourcemap_tokens.specs.State.{State, initial, state_after, state_at}
-use Rattle.oxc_sourcemap_tokens.specs.LineOrder.{first_out_of_order, back_from}
+use Rattle.oxc_sourcemap_tokens.specs.LineOrder.{back_from}
 use Rattle.oxc_sourcemap_tokens.specs.Chunks.{header, chunk_tokens, ChunkFits, ChunksFitFrom}
 use Rattle.oxc_sourcemap_tokens.specs.Chunks.{ChunksFit, is_same_state, is_fitting_chunk}
 use Rattle.oxc_sourcemap_tokens.specs.Chunks.{first_misfit_from, first_misfit, chunk_from}
 use Rattle.oxc_sourcemap_tokens.specs.Steps.{advanced, advanced_all}
-use Rattle.oxc_sourcemap_tokens.proofs.InOrder.{back_from-all, in_order}
+use Rattle.oxc_sourcemap_tokens.proofs.InOrder.{in_order}
 
 pub advanced_all-append : (s : State) (xs ys : List TokenRecord) → advanced_all s (xs ++ ys) ≡ advanced_all (advanced_all s xs) ys
 advanced_all-append s [] ys = refl
@@ -131,27 +131,6 @@ first_misfit-fits ts cs o e = (
   λ n. first_misfit_from-none ts 0 0 cs (sym e ∙ is-none o n),
   λ h. ap is_some (e ∙ first_misfit_from-fits ts 0 0 cs h),
 )
-
--- ---- chunks that fit are in line order
-back_from-append : (line i : ℕ) (xs ys : List TokenRecord) (s : State) → s.dst_line ≡ line → back_from line i (xs ++ ys) ≡ None →
-    (back_from line i xs ≡ None) × (back_from (advanced_all s xs).dst_line (i + length xs) ys ≡ None)
-back_from-append line i [] ys s e h = (refl, rw e (back-shift line i (i + 0) ys h))
-back_from-append line i (x ∷ xs) ys s e h =
-    let q = in_order (nat_lt x.dst_line line) i _ h in
-    let r = back_from-append x.dst_line (i + 1) xs ys (advanced s x) refl q.1 in
-    let n : i + 1 + length xs ≡ i + length (x ∷ xs) = omega arith in
-    (rw q.0 r.0, subst (λ k. back_from (advanced_all (advanced s x) xs).dst_line k ys ≡ None) n r.1)
-
-pub chunk-in-order : (ts : List TokenRecord) (i : ℕ) (c : TokenChunk) → first_out_of_order ts ≡ None → ChunkFits ts i c →
-    back_from c.prev_dst_line c.start (chunk_tokens ts c) ≡ None
-chunk-in-order ts i c h f =
-    let whole : back_from 0 0 (take c.start ts ++ drop c.start ts) ≡ None = ap (back_from 0 0) (take-append-drop c.start ts) ∙ back_from-all ts ∙ h in
-    let after = back_from-append 0 0 (take c.start ts) (drop c.start ts) initial refl whole in
-    let line : (advanced_all initial (take c.start ts)).dst_line ≡ c.prev_dst_line = ap (λ s. s.dst_line) (sym (state_at-is ts c.start) ∙ sym f.true_header) in
-    let part = back_from-append c.prev_dst_line c.start (chunk_tokens ts c) (drop (c.end - c.start) (drop c.start ts)) (header c) refl
-    (ap (back_from c.prev_dst_line c.start) (take-append-drop (c.end - c.start) (drop c.start ts))
-    ∙ back-shift c.prev_dst_line (0 + length (take c.start ts)) c.start (drop c.start ts) (ap (λ l. back_from l (0 + length (take c.start ts)) (drop c.start ts)) (sym line) ∙ after.1)) in
-    part.0
 
 -- the one chunk of a whole list fits
 pub whole-fits : (ts : List TokenRecord) → ChunksFit ts (chunk_from initial 0 (length ts) ∷ [])

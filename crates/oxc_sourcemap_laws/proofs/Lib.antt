@@ -12,5 +12,6 @@ pub mod Compositions
 pub mod ComposedNames
 pub mod Groupings
 pub mod ComposedBounds
+pub mod TracesComposed
 mod Worked
 mod WorkedTexts

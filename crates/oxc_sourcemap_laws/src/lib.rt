@@ -22,6 +22,9 @@ ghost use Rattle.oxc_sourcemap_laws.specs.Words.{RepeatsHarmless, TracesAgree, T
 ghost use Rattle.oxc_sourcemap_laws.specs.Words.{JoinKeepsEqualUpToRepeats, DecodedMapOfJoin};
 ghost use Rattle.oxc_sourcemap_laws.specs.Words.{JoinStandsFor, JoinInRange, JoinNames, JoinTokens};
 ghost use Rattle.oxc_sourcemap_laws.specs.Words.{JoinChunksFit, JoinsAssociative, JoinOneMore};
+ghost use Rattle.oxc_sourcemap_laws.specs.Words.{TracesOfComposition, TracesOfComposedMaps};
+ghost use Rattle.oxc_sourcemap_laws.specs.Words.{TracesOnOwnLine, TracesOfSortedJoin};
+ghost use Rattle.oxc_sourcemap_laws.specs.Words.{TracesOfJoinedMaps};
 
 pub use oxc_sourcemap_tokens::tokens_in_bounds;
 
@@ -133,4 +136,21 @@ pub fn composition_associative()
     ensures too_large { CompositionTooLarge }
     ensures in_bounds { CompositionInBounds }
     ensures sorted_goes_on { SortedGoesOn }
+{}
+
+/// What is traced in a composition is traced in the first map, and from there in the second.
+/// - The exact trace of the composition of two decoded maps at a line and a column is the exact trace of the first one there,
+///   led on through the second (`decoded_maps`): nothing where the first finds nothing, unmapped where it finds an unmapped
+///   mapping; else what the *clamped* trace of the second says at the line and column of the original position that the
+///   first gives, with the name of that position if the second has none; and unmapped if the second finds nothing there, or
+///   an unmapped mapping.
+/// - The clamped trace of the composition is the clamped trace of the first, led on in the same way. Neither map need be
+///   sorted.
+/// - The same holds of maps, if the source ids of the first map and the ids of the second map's tokens are in range (`maps`).
+///
+/// It is not true with the exact trace of the second: an original position in front of the first mapping of its line has a
+/// clamped trace only.
+pub fn trace_of_composition()
+    ensures decoded_maps { TracesOfComposition }
+    ensures maps { TracesOfComposedMaps }
 {}

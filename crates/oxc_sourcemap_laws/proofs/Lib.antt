@@ -13,5 +13,7 @@ pub mod ComposedNames
 pub mod Groupings
 pub mod ComposedBounds
 pub mod TracesComposed
+pub mod TracesMoved
+pub mod TracesRising
 mod Worked
 mod WorkedTexts

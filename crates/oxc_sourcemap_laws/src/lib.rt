@@ -154,3 +154,8 @@ pub fn trace_of_composition()
     ensures decoded_maps { TracesOfComposition }
     ensures maps { TracesOfComposedMaps }
 {}
+
+/// What is traced in a join is traced in one of its parts.
+pub fn trace_of_join()
+    ensures own_line { TracesOnOwnLine }
+{}

@@ -15,5 +15,6 @@ pub mod ComposedBounds
 pub mod TracesComposed
 pub mod TracesMoved
 pub mod TracesRising
+pub mod TracesJoined
 mod Worked
 mod WorkedTexts

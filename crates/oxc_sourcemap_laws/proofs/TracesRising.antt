@@ -29,7 +29,7 @@ some_or : {A : Type 0} (q o : Option A) → is_some q ≡ true → is_some (opti
 some_or None o h = absurd (cc (h))
 some_or (Some x) o h = refl
 
-map_or : {A B : Type 0} (k : A → B) (p q : Option A) → option_map k (option_or p q) ≡ option_or (option_map k p) (option_map k q)
+pub map_or : {A B : Type 0} (k : A → B) (p q : Option A) → option_map k (option_or p q) ≡ option_or (option_map k p) (option_map k q)
 map_or k None q = refl
 map_or k (Some x) q = refl
 
@@ -104,11 +104,11 @@ module _ {A : Type 0} (c : A → ℕ) where
   rises_filter p [] r = tt
   rises_filter p (x ∷ xs) r = elim (p x) as (λ b. Rises (cond b (x ∷ filter p xs) (filter p xs))) [ true ↦ (all_filter _ p xs r.0, rises_filter p xs r.1) | false ↦ rises_filter p xs r.1 ]
 
-  rises_left : (xs ys : List A) → Rises (xs ++ ys) → Rises xs
+  pub rises_left : (xs ys : List A) → Rises (xs ++ ys) → Rises xs
   rises_left [] ys r = tt
   rises_left (x ∷ xs) ys r = (all_left _ xs ys r.0, rises_left xs ys r.1)
 
-  rises_right : (xs ys : List A) → Rises (xs ++ ys) → Rises ys
+  pub rises_right : (xs ys : List A) → Rises (xs ++ ys) → Rises ys
   rises_right [] ys r = r
   rises_right (x ∷ xs) ys r = rises_right xs ys r.1
 
@@ -147,7 +147,7 @@ module _ {A : Type 0} (c : A → ℕ) where
       ] refl
 
   -- what a lookup finds there: the first item at the column, or else the last one before it
-  at_rising : (xs : List A) (col : ℕ) → Rises xs → at c xs col ≡ option_or (first (in_column c col xs)) (last (not_past c col xs))
+  pub at_rising : (xs : List A) (col : ℕ) → Rises xs → at c xs col ≡ option_or (first (in_column c col xs)) (last (not_past c col xs))
   at_rising xs col r =
       let ys = not_past c col xs in
       let best = greatest c ys in
@@ -162,11 +162,11 @@ module _ {A : Type 0} (c : A → ℕ) where
             l ∙ ap (λ zs. option_or (first zs) (last ys)) (sym (none_in col ys less) ∙ in_column_kept col xs))
       ] refl
 
-  at_none : (xs : List A) (col : ℕ) → not_past c col xs ≡ [] → at c xs col ≡ None
+  pub at_none : (xs : List A) (col : ℕ) → not_past c col xs ≡ [] → at c xs col ≡ None
   at_none xs col h = ap (λ zs. cond (greatest c zs == col) (first (in_column c (greatest c zs) zs)) (last (in_column c (greatest c zs) zs))) h ∙ cond_same (0 == col) None
 
   -- a clamped lookup that no item is before finds the first item
-  clamped_first : (xs : List A) (col : ℕ) → Rises xs → AllByRecursion (λ x. col ≤ c x) xs → clamped_at c xs col ≡ first xs
+  pub clamped_first : (xs : List A) (col : ℕ) → Rises xs → AllByRecursion (λ x. col ≤ c x) xs → clamped_at c xs col ≡ first xs
   clamped_first [] col r h = ap (λ o. option_or o None) (at_none [] col refl)
   clamped_first (x ∷ xs) col r h =
       elim (c x == col) as (λ b. (c x == col) ≡ b → option_or (at c (x ∷ xs) col) (Some x) ≡ Some x) [

@@ -158,4 +158,6 @@ pub fn trace_of_composition()
 /// What is traced in a join is traced in one of its parts.
 pub fn trace_of_join()
     ensures own_line { TracesOnOwnLine }
+    ensures in_order { TracesOfSortedJoin }
+    ensures maps { TracesOfJoinedMaps }
 {}

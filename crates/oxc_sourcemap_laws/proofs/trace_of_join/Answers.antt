@@ -1,6 +1,12 @@
 use Rattle.oxc_sourcemap_laws.proofs.TracesMoved.{traces_on_own_line}
-use Rattle.oxc_sourcemap_laws.proofs.TracesRising.{at_chosen}
+use Rattle.oxc_sourcemap_laws.proofs.TracesJoined.{traces_joined, traces_of_joined_maps}
 use Rattle.oxc_sourcemap_laws.proofs.trace_of_join.Goals as goal
 
-pub returns : goal.returns
-returns c = record { own_line = traces_on_own_line }
+pub returns-clause-own_line : goal.returns-clause-own_line
+returns-clause-own_line c = traces_on_own_line
+
+pub returns-clause-in_order : goal.returns-clause-in_order
+returns-clause-in_order c = traces_joined
+
+pub returns-clause-maps : goal.returns-clause-maps
+returns-clause-maps c = traces_of_joined_maps

@@ -6,6 +6,7 @@ use Rattle.std.proofs.Common.{◌∙◌, arith, Option, Some, None, is_some}
 use Rattle.std.specs.List.{filter, flat_map, list_any, AllByRecursion}
 use Rattle.std.specs.Option.{option_map, option_and_then, option_or}
 use Rattle.std.proofs.lemmas.Bool.Decides.{nat_tests}
+use Rattle.std.proofs.lemmas.Grind.{flat_map-append}
 use Rattle.std.proofs.lemmas.List.Elements.{filter-append}
 use Rattle.oxc_sourcemap_tokens.specs.Token.{last}
 use Rattle.oxc_sourcemap_tokens.specs.declared.position.Position.{Position}
@@ -22,13 +23,14 @@ use Rattle.oxc_sourcemap_laws.specs.JoinedDecodedMaps.{lowered, joined_decoded_m
 use Rattle.oxc_sourcemap_laws.specs.JoinLaws.{AreAllInRange, decoded_maps_of}
 use Rattle.oxc_sourcemap_laws.specs.TraceLaws.{Part, has_mapping_on, has_mapping_at, has_begun}
 use Rattle.oxc_sourcemap_laws.specs.TraceLaws.{column_in, trace_in, clamped_trace_in}
-use Rattle.oxc_sourcemap_laws.specs.TraceLaws.{TracesAreOfParts}
+use Rattle.oxc_sourcemap_laws.specs.TraceLaws.{TracesAreOfParts, IsAnsweredBy, TracesAreOfPart}
 use Rattle.oxc_sourcemap_laws.proofs.JoinStands.{all_weaker, sorted-mappings}
 use Rattle.oxc_sourcemap_laws.proofs.JoinDecodedMaps.{decoded_map_joined}
 use Rattle.oxc_sourcemap_laws.proofs.UpToRepeats.{trace_up_to_repeats, clamped_trace_up_to_repeats}
 use Rattle.oxc_sourcemap_laws.proofs.UpToRepeats.{sorted_decoded_map_up_to_repeats}
-use Rattle.oxc_sourcemap_laws.proofs.TracesMoved.{cond_same, placed, pick_placed}
+use Rattle.oxc_sourcemap_laws.proofs.TracesMoved.{or_false, placed, pick_placed}
 use Rattle.oxc_sourcemap_laws.proofs.TracesMoved.{clamped_pick_placed}
+use Rattle.oxc_sourcemap_laws.proofs.TracesRising.{or_kept, at_between}
 use Rattle.oxc_sourcemap_laws.proofs.TracesRising.{map_or, Rises, rises_left, rises_right, at_rising}
 use Rattle.oxc_sourcemap_laws.proofs.TracesRising.{at_none, clamped_first, Tells, at_chosen}
 use Rattle.oxc_sourcemap_laws.proofs.TracesRising.{clamped_at_chosen}
@@ -132,6 +134,16 @@ originals q = option_map (λ e. e.original) q
 abbrev items_of : ℕ → Part → List DecodedMapping
 items_of line part = on_line mapping_line line (placed part)
 
+-- a part that begins after a position has no mapping at or before it on its line
+none_begun : (line col : ℕ) (part : Part) → has_begun line col part.1 ≡ false → not_past mapping_column col (items_of line part) ≡ []
+none_begun line col part h =
+    let offset = part.1 in
+    none_before offset line col part.0.mappings (λ e f.
+        let before : col < offset.column = not_begun_column line offset.line col offset.column e.dst_line h f in
+        let after = first_line offset e.dst_line line e.dst_col f (not_begun_line line offset.line col offset.column h) in
+        let more : col < shifted_column offset e.dst_line e.dst_col = omega (arith, before, after) in
+        grind (arith, nat_tests, more))
+
 trace_in_is : (line col : ℕ) (part : Part) → trace_in line col part ≡ originals (at mapping_column (items_of line part) col)
 trace_in_is line col part =
     let offset = part.1 in
@@ -141,11 +153,7 @@ trace_in_is line col part =
           sym (pick_placed offset es (line - offset.line) (column_in line col offset))
           ∙ ap (λ n. originals (pick mapping_line mapping_column (placed part) n (shifted_column offset (line - offset.line) (column_in line col offset)))) (begun_line line offset.line col offset.column e)
           ∙ ap (λ n. originals (pick mapping_line mapping_column (placed part) line n)) (begun_column line offset.line col offset.column e))
-      | false ↦ (λ e. sym (ap originals (at_none mapping_column (items_of line part) col (none_before offset line col es (λ m f.
-          let before : col < offset.column = not_begun_column line offset.line col offset.column m.dst_line e f in
-          let after = first_line offset m.dst_line line m.dst_col f (not_begun_line line offset.line col offset.column e) in
-          let more : col < shifted_column offset m.dst_line m.dst_col = omega (arith, before, after) in
-          grind (arith, nat_tests, more))))))
+      | false ↦ (λ e. sym (ap originals (at_none mapping_column (items_of line part) col (none_begun line col part e))))
     ] refl
 
 abbrev head_of : ℕ → Part → Option (Option OriginalPosition)
@@ -242,6 +250,50 @@ traces_joined parts h = λ line col.
     (
       ap (λ xs. originals (at mapping_column xs col)) e ∙ at_chosen mapping_column (λ e. e.original) (items_of line) col (trace_in line col) (clamped_trace_in line col) (has_mapping_at line col) (has_mapping_on line) parts r tell,
       ap (λ xs. originals (clamped_at mapping_column xs col)) e ∙ clamped_at_chosen mapping_column (λ e. e.original) (items_of line) col (trace_in line col) (clamped_trace_in line col) (has_mapping_at line col) (has_mapping_on line) parts r tell,
+    )
+
+-- ---- a position in one part
+no_first : (xs : List DecodedMapping) → is_some (originals (first xs)) ≡ false → xs ≡ []
+no_first [] h = refl
+no_first (x ∷ xs) h = absurd (cc (h))
+
+some_original : (q : Option DecodedMapping) → is_some (originals q) ≡ is_some q
+some_original None = refl
+some_original (Some e) = refl
+
+none_at : (line col : ℕ) (parts : List Part) → list_any (has_mapping_at line col) parts ≡ false → in_column mapping_column col (flat_map (items_of line) parts) ≡ []
+none_at line col [] h = refl
+none_at line col (p ∷ ps) h =
+    let both = or_false (has_mapping_at line col p) (list_any (has_mapping_at line col) ps) h in
+    filter-append _ (items_of line p) (flat_map (items_of line) ps)
+    ∙ ap (λ xs. xs ++ in_column mapping_column col (flat_map (items_of line) ps)) (no_first _ (sym (any_at line col (placed p)) ∙ both.0)) ∙ none_at line col ps both.1
+
+none_after : (line col : ℕ) (parts : List Part) → list_any (λ p. has_begun line col p.1) parts ≡ false → not_past mapping_column col (flat_map (items_of line) parts) ≡ []
+none_after line col [] h = refl
+none_after line col (p ∷ ps) h =
+    let both = or_false (has_begun line col p.1) (list_any (λ p. has_begun line col p.1) ps) h in
+    filter-append _ (items_of line p) (flat_map (items_of line) ps)
+    ∙ ap (λ xs. xs ++ not_past mapping_column col (flat_map (items_of line) ps)) (none_begun line col p both.0) ∙ none_after line col ps both.1
+
+pub traces_within : (before : List Part) (part : Part) (after : List Part) (line col : ℕ) → is_sorted_decoded_map (joined_decoded_maps (before ++ part ∷ after)) ≡ true
+    → IsAnsweredBy before part after line col → TracesAreOfPart (before ++ part ∷ after) part line col
+traces_within before part after line col h is =
+    let parts = before ++ part ∷ after in
+    let n = line + part.1.line in
+    let c = shifted_column part.1 line col in
+    let xs = flat_map (items_of n) before in
+    let ys = items_of n part in
+    let zs = flat_map (items_of n) after in
+    let e : on_line mapping_line n (joined_decoded_maps parts).mappings ≡ xs ++ (ys ++ zs) = line_of_join n parts ∙ flat_map-append (items_of n) before (part ∷ after) in
+    let r : Rises mapping_column (xs ++ (ys ++ zs)) = subst (Rises mapping_column) e (line_rises mapping_line mapping_column n (joined_decoded_maps parts).mappings h) in
+    let exact : originals (at mapping_column ys c) ≡ trace part.0 line col = pick_placed part.1 part.0.mappings line col in
+    let some : is_some (at mapping_column ys c) ≡ true = sym (some_original (at mapping_column ys c)) ∙ ap is_some exact ∙ is.finds in
+    let same : at mapping_column (xs ++ (ys ++ zs)) c ≡ at mapping_column ys c = at_between mapping_column xs ys zs c r (none_at n c before is.none_at) (none_after n c after is.none_begun) some in
+    (
+      ap (λ ws. originals (at mapping_column ws c)) e ∙ ap originals same ∙ exact,
+      ap (λ ws. originals (clamped_at mapping_column ws c)) e
+      ∙ ap (λ q. originals (option_or q (first (xs ++ (ys ++ zs))))) same ∙ ap originals (or_kept (at mapping_column ys c) _ some ∙ sym (or_kept (at mapping_column ys c) (first ys) some))
+      ∙ clamped_pick_placed part.1 part.0.mappings line col,
     )
 
 pub traces_of_joined_maps : (ms : List (MapRecord × Position)) → AreAllInRange ms → are_tokens_sorted (joined ms).tokens ≡ true → TracesAreOfParts (decoded_map_of (joined ms)) (decoded_maps_of ms)

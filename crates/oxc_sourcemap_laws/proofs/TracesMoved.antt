@@ -137,7 +137,7 @@ module _ (offset : Position) (es : List DecodedMapping) (line col : ℕ) where
       ∙ ap (option_map (λ e. e.original)) (ap (λ zs. clamped_at moved_column zs (shifted_column offset line col)) lines_same ∙ ap (λ o. option_or o (first (on_line mapping_line line es))) at_same)
 
 -- ---- a line of a join on which one part alone has mappings
-or_false : (a b : Bool) → (a || b) ≡ false → (a ≡ false) × (b ≡ false)
+pub or_false : (a b : Bool) → (a || b) ≡ false → (a ≡ false) × (b ≡ false)
 or_false true b h = absurd (cc (h))
 or_false false b h = (refl, h)
 

@@ -6,6 +6,7 @@ use Rattle.std.proofs.Common.{is_some}
 use Rattle.std.specs.List.{filter, flat_map, last_or, AllByRecursion}
 use Rattle.std.specs.Option.{option_map, option_and_then, option_or, IfSome}
 use Rattle.std.proofs.lemmas.Bool.Decides.{nat_tests}
+use Rattle.std.proofs.lemmas.List.{append-nil}
 use Rattle.std.proofs.lemmas.List.Elements.{filter-append}
 use Rattle.oxc_sourcemap_tokens.specs.Token.{last}
 use Rattle.oxc_sourcemap_lookup.specs.Lookup.{first, greatest, not_past, in_column, at, clamped_at}
@@ -21,7 +22,11 @@ some_stays : {A : Type 0} (q : Option A) (x : A) (o : Option A) → option_or (o
 some_stays None x o = refl
 some_stays (Some y) x o = refl
 
-or_kept : {A : Type 0} (q o : Option A) → is_some q ≡ true → option_or q o ≡ q
+or_regroup : {A : Type 0} (p q r : Option A) → option_or p (option_or q r) ≡ option_or (option_or p q) r
+or_regroup None q r = refl
+or_regroup (Some x) q r = refl
+
+pub or_kept : {A : Type 0} (q o : Option A) → is_some q ≡ true → option_or q o ≡ q
 or_kept None o h = absurd (cc (h))
 or_kept (Some x) o h = refl
 
@@ -164,6 +169,20 @@ module _ {A : Type 0} (c : A → ℕ) where
 
   pub at_none : (xs : List A) (col : ℕ) → not_past c col xs ≡ [] → at c xs col ≡ None
   at_none xs col h = ap (λ zs. cond (greatest c zs == col) (first (in_column c (greatest c zs) zs)) (last (in_column c (greatest c zs) zs))) h ∙ cond_same (0 == col) None
+
+  -- a lookup in the middle one of three lists
+  pub at_between : (xs ys zs : List A) (col : ℕ) → Rises (xs ++ (ys ++ zs)) → in_column c col xs ≡ [] → not_past c col zs ≡ [] → is_some (at c ys col) ≡ true → at c (xs ++ (ys ++ zs)) col ≡ at c ys col
+  at_between xs ys zs col r h k some =
+      let all = xs ++ (ys ++ zs) in
+      let hits : in_column c col all ≡ in_column c col ys =
+          filter-append _ xs (ys ++ zs) ∙ ap (λ ws. ws ++ in_column c col (ys ++ zs)) h ∙ filter-append _ ys zs
+          ∙ ap (λ ws. in_column c col ys ++ ws) (sym (in_column_kept col zs) ∙ ap (in_column c col) k) ∙ append-nil (in_column c col ys) in
+      let lows : not_past c col all ≡ not_past c col xs ++ not_past c col ys =
+          filter-append _ xs (ys ++ zs) ∙ ap (λ ws. not_past c col xs ++ ws) (filter-append _ ys zs ∙ ap (λ ws. not_past c col ys ++ ws) k ∙ append-nil (not_past c col ys)) in
+      at_rising all col r ∙ ap (λ ws. option_or (first ws) (last (not_past c col all))) hits
+      ∙ ap (λ ws. option_or (first (in_column c col ys)) (last ws)) lows ∙ ap (option_or (first (in_column c col ys))) (last_append (not_past c col xs) (not_past c col ys))
+      ∙ or_regroup (first (in_column c col ys)) (last (not_past c col ys)) (last (not_past c col xs))
+      ∙ ap (λ q. option_or q (last (not_past c col xs))) (sym (at_rising ys col (rises_left ys zs (rises_right xs (ys ++ zs) r)))) ∙ or_kept (at c ys col) (last (not_past c col xs)) some
 
   -- a clamped lookup that no item is before finds the first item
   pub clamped_first : (xs : List A) (col : ℕ) → Rises xs → AllByRecursion (λ x. col ≤ c x) xs → clamped_at c xs col ≡ first xs

@@ -113,7 +113,20 @@ abbrev pub TracesOfSortedJoin : Type 0
 TracesOfSortedJoin = (parts : List Part) → is_sorted_decoded_map (joined_decoded_maps parts) ≡ true
     → TracesAreOfParts (joined_decoded_maps parts) parts
 
--- The same of maps, if their ids are in range.
+-- A line and a column of a part come to stand at a position of the join where that part answers: it has a mapping there or
+-- before it on the line, no part before it has one at the position itself, and no part after it has begun there.
+pub record IsAnsweredBy (before : List Part) (part : Part) (after : List Part) (line col : ℕ) : Type 0 where
+  pub finds : is_some (trace part.0 line col) ≡ true
+  pub none_at : list_any (has_mapping_at (line + part.1.line) (shifted_column part.1 line col)) before ≡ false
+  pub none_begun : list_any (λ p. has_begun (line + part.1.line) (shifted_column part.1 line col) p.1) after ≡ false
+
+-- At a position of a sorted join that lies in one part, the traces are those of that part.
+abbrev pub TracesWithinPart : Type 0
+TracesWithinPart = (before : List Part) (part : Part) (after : List Part) (line col : ℕ)
+    → is_sorted_decoded_map (joined_decoded_maps (before ++ part ∷ after)) ≡ true
+    → IsAnsweredBy before part after line col → TracesAreOfPart (before ++ part ∷ after) part line col
+
+-- The traces of a sorted join of maps are those of its parts, if all ids are in range.
 abbrev pub TracesOfJoinedMaps : Type 0
 TracesOfJoinedMaps = (ms : List (MapRecord × Position)) → AreAllInRange ms → are_tokens_sorted (joined ms).tokens ≡ true
     → TracesAreOfParts (decoded_map_of (joined ms)) (decoded_maps_of ms)

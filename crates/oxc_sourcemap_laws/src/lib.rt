@@ -24,7 +24,7 @@ ghost use Rattle.oxc_sourcemap_laws.specs.Words.{JoinStandsFor, JoinInRange, Joi
 ghost use Rattle.oxc_sourcemap_laws.specs.Words.{JoinChunksFit, JoinsAssociative, JoinOneMore};
 ghost use Rattle.oxc_sourcemap_laws.specs.Words.{TracesOfComposition, TracesOfComposedMaps};
 ghost use Rattle.oxc_sourcemap_laws.specs.Words.{TracesOnOwnLine, TracesOfSortedJoin};
-ghost use Rattle.oxc_sourcemap_laws.specs.Words.{TracesOfJoinedMaps};
+ghost use Rattle.oxc_sourcemap_laws.specs.Words.{TracesWithinPart, TracesOfJoinedMaps};
 
 pub use oxc_sourcemap_tokens::tokens_in_bounds;
 
@@ -159,5 +159,6 @@ pub fn trace_of_composition()
 pub fn trace_of_join()
     ensures own_line { TracesOnOwnLine }
     ensures in_order { TracesOfSortedJoin }
+    ensures within_part { TracesWithinPart }
     ensures maps { TracesOfJoinedMaps }
 {}

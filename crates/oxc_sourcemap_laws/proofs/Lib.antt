@@ -16,5 +16,6 @@ pub mod TracesComposed
 pub mod TracesMoved
 pub mod TracesRising
 pub mod TracesJoined
+mod TracesWorked
 mod Worked
 mod WorkedTexts

@@ -1,18 +1,16 @@
 -- The traces of a sorted join.
-use Rattle.std.specs.Prelude.{⊤}
 use Rattle.std.proofs.Common.{◌≡◌, ℕ, ◌+◌, ◌-◌, ◌<◌, ◌≤◌, Bool, true, false, ◌&&◌, ◌||◌, ◌==◌}
 use Rattle.std.proofs.Common.{nat_lt, nat_le, cond, List, [], ◌∷◌, ◌++◌, map, refl, sym, ap, subst}
 use Rattle.std.proofs.Common.{◌∙◌, arith, Option, Some, None, is_some}
-use Rattle.std.specs.List.{filter, flat_map, list_any, AllByRecursion}
-use Rattle.std.specs.Option.{option_map, option_and_then, option_or}
+use Rattle.std.specs.List.{flat_map, list_any, AllByRecursion}
+use Rattle.std.specs.Option.{option_map, option_or}
 use Rattle.std.proofs.lemmas.Bool.Decides.{nat_tests}
 use Rattle.std.proofs.lemmas.Grind.{flat_map-append}
 use Rattle.std.proofs.lemmas.List.Elements.{filter-append}
-use Rattle.oxc_sourcemap_tokens.specs.Token.{last}
 use Rattle.oxc_sourcemap_tokens.specs.declared.position.Position.{Position}
 use Rattle.oxc_sourcemap_parts.specs.Record.{MapRecord}
 use Rattle.oxc_sourcemap_parts.specs.Sorted.{may_precede, is_sorted_by, are_tokens_sorted}
-use Rattle.oxc_sourcemap_parts.specs.DecodedMap.{DecodedMapping, DecodedMap, OriginalPosition}
+use Rattle.oxc_sourcemap_parts.specs.DecodedMap.{DecodedMapping, OriginalPosition}
 use Rattle.oxc_sourcemap_parts.specs.DecodedMap.{mapping_line, mapping_column, decoded_map_of}
 use Rattle.oxc_sourcemap_lookup.specs.Lookup.{first, not_past, in_column, at, clamped_at, on_line}
 use Rattle.oxc_sourcemap_lookup.specs.Lookup.{pick, clamped_pick}
@@ -30,9 +28,9 @@ use Rattle.oxc_sourcemap_laws.proofs.UpToRepeats.{trace_up_to_repeats, clamped_t
 use Rattle.oxc_sourcemap_laws.proofs.UpToRepeats.{sorted_decoded_map_up_to_repeats}
 use Rattle.oxc_sourcemap_laws.proofs.TracesMoved.{or_false, placed, pick_placed}
 use Rattle.oxc_sourcemap_laws.proofs.TracesMoved.{clamped_pick_placed}
-use Rattle.oxc_sourcemap_laws.proofs.TracesRising.{or_kept, at_between}
-use Rattle.oxc_sourcemap_laws.proofs.TracesRising.{map_or, Rises, rises_left, rises_right, at_rising}
-use Rattle.oxc_sourcemap_laws.proofs.TracesRising.{at_none, clamped_first, Tells, at_chosen}
+use Rattle.oxc_sourcemap_laws.proofs.TracesRising.{or_kept, map_or, Rises, rises_left}
+use Rattle.oxc_sourcemap_laws.proofs.TracesRising.{rises_right, at_rising, at_none, at_between}
+use Rattle.oxc_sourcemap_laws.proofs.TracesRising.{clamped_first, Tells, at_chosen}
 use Rattle.oxc_sourcemap_laws.proofs.TracesRising.{clamped_at_chosen}
 
 -- ---- on a line of sorted items no column goes back
@@ -139,10 +137,10 @@ none_begun : (line col : ℕ) (part : Part) → has_begun line col part.1 ≡ fa
 none_begun line col part h =
     let offset = part.1 in
     none_before offset line col part.0.mappings (λ e f.
-        let before : col < offset.column = not_begun_column line offset.line col offset.column e.dst_line h f in
-        let after = first_line offset e.dst_line line e.dst_col f (not_begun_line line offset.line col offset.column h) in
-        let more : col < shifted_column offset e.dst_line e.dst_col = omega (arith, before, after) in
-        grind (arith, nat_tests, more))
+    let before : col < offset.column = not_begun_column line offset.line col offset.column e.dst_line h f in
+    let after = first_line offset e.dst_line line e.dst_col f (not_begun_line line offset.line col offset.column h) in
+    let more : col < shifted_column offset e.dst_line e.dst_col = omega (arith, before, after) in
+    grind (arith, nat_tests, more))
 
 trace_in_is : (line col : ℕ) (part : Part) → trace_in line col part ≡ originals (at mapping_column (items_of line part) col)
 trace_in_is line col part =
@@ -231,8 +229,7 @@ all_tell : (line col : ℕ) (parts : List Part) → Rises mapping_column (flat_m
     → AllByRecursion (Tells mapping_column (λ e. e.original) (items_of line) col (trace_in line col) (clamped_trace_in line col) (has_mapping_at line col) (has_mapping_on line)) parts
 all_tell line col [] r = tt
 all_tell line col (p ∷ ps) r =
-    let here = rises_left mapping_column (items_of line p) (flat_map (items_of line) ps) r in
-    (
+    let here = rises_left mapping_column (items_of line p) (flat_map (items_of line) ps) r in (
       record {
         is_exact = trace_in_is line col p ∙ ap originals (at_rising mapping_column (items_of line p) col here) ∙ map_or (λ e. e.original) _ _;
         is_clamped = clamped_trace_in_is line col p here;
@@ -246,8 +243,7 @@ pub traces_joined : (parts : List Part) → is_sorted_decoded_map (joined_decode
 traces_joined parts h = λ line col.
     let e = line_of_join line parts in
     let r : Rises mapping_column (flat_map (items_of line) parts) = subst (Rises mapping_column) e (line_rises mapping_line mapping_column line (flat_map placed parts) h) in
-    let tell = all_tell line col parts r in
-    (
+    let tell = all_tell line col parts r in (
       ap (λ xs. originals (at mapping_column xs col)) e ∙ at_chosen mapping_column (λ e. e.original) (items_of line) col (trace_in line col) (clamped_trace_in line col) (has_mapping_at line col) (has_mapping_on line) parts r tell,
       ap (λ xs. originals (clamped_at mapping_column xs col)) e ∙ clamped_at_chosen mapping_column (λ e. e.original) (items_of line) col (trace_in line col) (clamped_trace_in line col) (has_mapping_at line col) (has_mapping_on line) parts r tell,
     )
@@ -288,12 +284,11 @@ traces_within before part after line col h is =
     let r : Rises mapping_column (xs ++ (ys ++ zs)) = subst (Rises mapping_column) e (line_rises mapping_line mapping_column n (joined_decoded_maps parts).mappings h) in
     let exact : originals (at mapping_column ys c) ≡ trace part.0 line col = pick_placed part.1 part.0.mappings line col in
     let some : is_some (at mapping_column ys c) ≡ true = sym (some_original (at mapping_column ys c)) ∙ ap is_some exact ∙ is.finds in
-    let same : at mapping_column (xs ++ (ys ++ zs)) c ≡ at mapping_column ys c = at_between mapping_column xs ys zs c r (none_at n c before is.none_at) (none_after n c after is.none_begun) some in
-    (
+    let same : at mapping_column (xs ++ (ys ++ zs)) c ≡ at mapping_column ys c = at_between mapping_column xs ys zs c r (none_at n c before is.none_at) (none_after n c after is.none_begun) some in (
       ap (λ ws. originals (at mapping_column ws c)) e ∙ ap originals same ∙ exact,
       ap (λ ws. originals (clamped_at mapping_column ws c)) e
-      ∙ ap (λ q. originals (option_or q (first (xs ++ (ys ++ zs))))) same ∙ ap originals (or_kept (at mapping_column ys c) _ some ∙ sym (or_kept (at mapping_column ys c) (first ys) some))
-      ∙ clamped_pick_placed part.1 part.0.mappings line col,
+          ∙ ap (λ q. originals (option_or q (first (xs ++ (ys ++ zs))))) same ∙ ap originals (or_kept (at mapping_column ys c) _ some ∙ sym (or_kept (at mapping_column ys c) (first ys) some))
+          ∙ clamped_pick_placed part.1 part.0.mappings line col,
     )
 
 pub traces_of_joined_maps : (ms : List (MapRecord × Position)) → AreAllInRange ms → are_tokens_sorted (joined ms).tokens ≡ true → TracesAreOfParts (decoded_map_of (joined ms)) (decoded_maps_of ms)

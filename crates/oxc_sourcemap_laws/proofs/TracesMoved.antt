@@ -1,5 +1,5 @@
 -- Lookups in the mappings of a part of a join, each at its offset.
-use Rattle.std.proofs.Common.{◌≡◌, ℕ, ◌+◌, ◌≤◌, Bool, true, false, ◌&&◌, ◌||◌, ◌==◌, nat_le, cond}
+use Rattle.std.proofs.Common.{◌≡◌, ℕ, ◌+◌, Bool, true, false, ◌||◌, ◌==◌, nat_le, cond}
 use Rattle.std.proofs.Common.{max, List, [], ◌∷◌, ◌++◌, map, refl, sym, ap, ◌∙◌, arith, Option}
 use Rattle.std.proofs.Common.{Some, None}
 use Rattle.std.specs.List.{filter, flat_map, list_any, AllByRecursion}
@@ -11,11 +11,10 @@ use Rattle.std.proofs.lemmas.List.Folds.{list_any-append}
 use Rattle.std.proofs.lemmas.Grind.{flat_map-append}
 use Rattle.oxc_sourcemap_tokens.specs.Token.{last}
 use Rattle.oxc_sourcemap_tokens.specs.declared.position.Position.{Position}
-use Rattle.oxc_sourcemap_parts.specs.DecodedMap.{DecodedMapping, DecodedMap, OriginalPosition}
+use Rattle.oxc_sourcemap_parts.specs.DecodedMap.{DecodedMapping}
 use Rattle.oxc_sourcemap_parts.specs.DecodedMap.{mapping_line, mapping_column}
 use Rattle.oxc_sourcemap_lookup.specs.Lookup.{first, greatest, not_past, in_column, at, clamped_at}
 use Rattle.oxc_sourcemap_lookup.specs.Lookup.{on_line, pick, clamped_pick}
-use Rattle.oxc_sourcemap_lookup.specs.Trace.{trace, clamped_trace}
 use Rattle.oxc_sourcemap_lookup.proofs.Picks.{pick-map, clamped_pick-map}
 use Rattle.oxc_sourcemap_join.specs.Joined.{shifted_column}
 use Rattle.oxc_sourcemap_laws.specs.JoinedDecodedMaps.{lowered, joined_decoded_maps}
@@ -160,8 +159,7 @@ line_of_part line before part after h =
 
 pub traces_on_own_line : (before : List Part) (part : Part) (after : List Part) (line col : ℕ) → list_any (has_mapping_on (line + part.1.line)) (before ++ after) ≡ false → TracesAreOfPart (before ++ part ∷ after) part line col
 traces_on_own_line before part after line col h =
-    let e = line_of_part (line + part.1.line) before part after h in
-    (
+    let e = line_of_part (line + part.1.line) before part after h in (
       ap (λ xs. option_map (λ e. e.original) (at mapping_column xs (shifted_column part.1 line col))) e ∙ pick_placed part.1 part.0.mappings line col,
       ap (λ xs. option_map (λ e. e.original) (clamped_at mapping_column xs (shifted_column part.1 line col))) e ∙ clamped_pick_placed part.1 part.0.mappings line col,
     )

@@ -175,10 +175,10 @@ module _ {A : Type 0} (c : A → ℕ) where
   at_between xs ys zs col r h k some =
       let all = xs ++ (ys ++ zs) in
       let hits : in_column c col all ≡ in_column c col ys =
-          filter-append _ xs (ys ++ zs) ∙ ap (λ ws. ws ++ in_column c col (ys ++ zs)) h ∙ filter-append _ ys zs
-          ∙ ap (λ ws. in_column c col ys ++ ws) (sym (in_column_kept col zs) ∙ ap (in_column c col) k) ∙ append-nil (in_column c col ys) in
+      filter-append _ xs (ys ++ zs) ∙ ap (λ ws. ws ++ in_column c col (ys ++ zs)) h ∙ filter-append _ ys zs
+      ∙ ap (λ ws. in_column c col ys ++ ws) (sym (in_column_kept col zs) ∙ ap (in_column c col) k) ∙ append-nil (in_column c col ys) in
       let lows : not_past c col all ≡ not_past c col xs ++ not_past c col ys =
-          filter-append _ xs (ys ++ zs) ∙ ap (λ ws. not_past c col xs ++ ws) (filter-append _ ys zs ∙ ap (λ ws. not_past c col ys ++ ws) k ∙ append-nil (not_past c col ys)) in
+      filter-append _ xs (ys ++ zs) ∙ ap (λ ws. not_past c col xs ++ ws) (filter-append _ ys zs ∙ ap (λ ws. not_past c col ys ++ ws) k ∙ append-nil (not_past c col ys)) in
       at_rising all col r ∙ ap (λ ws. option_or (first ws) (last (not_past c col all))) hits
       ∙ ap (λ ws. option_or (first (in_column c col ys)) (last ws)) lows ∙ ap (option_or (first (in_column c col ys))) (last_append (not_past c col xs) (not_past c col ys))
       ∙ or_regroup (first (in_column c col ys)) (last (not_past c col ys)) (last (not_past c col xs))

@@ -155,12 +155,12 @@ pub fn trace_of_composition()
     ensures maps { TracesOfComposedMaps }
 {}
 
-/// The traces of a join are those of its parts. A part is a decoded map and the offset where its code begins; a line and a
-/// column of it come to stand at a position of the join: lower by the line of the offset, and on line 0 of the part further
-/// right by the column of the offset.
+/// The traces of a join are those of its parts. A part is a decoded map and the offset where its code begins. A line and a
+/// column of it come to stand at a position of the join: further down by the line of the offset, and on line 0 of the part
+/// further right by the column of the offset.
 /// - On a line of a part where no other part has a mapping, the traces of the join, exact and clamped, are those of the part,
 ///   at every column (`own_line`). The join need not be sorted. So if each part begins on a line past all lines of the parts
-///   before it, every part is traced in the join as by itself.
+///   before it, a part is traced in the join as by itself, on every line before that where the next part begins.
 /// - In a sorted join, one part answers at a position: the first one with a mapping at the position itself, or else the last
 ///   one with a mapping before it on its line. The exact trace of the join is that of this part, and nothing if there is no
 ///   such part. The clamped trace is the clamped trace of this part, or else of the first part with a mapping on the line

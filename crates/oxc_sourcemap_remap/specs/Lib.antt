@@ -1,0 +1,4 @@
+pub mod Inputs
+pub mod Blocks
+pub mod Remapped
+pub mod Words

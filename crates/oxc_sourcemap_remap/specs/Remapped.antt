@@ -103,16 +103,16 @@ abbrev pub remapped_by : List Target → MapRecord → List (Text × MapRecord) 
 remapped_by ls a inputs =
     let sources = remapped_sources (decoded_inputs inputs) (listed_sources a) in
     let names = remapped_names ls a inputs in record {
-  file = a.file;
-  names = names;
-  source_root = None;
-  sources = map (λ source. source.path) sources;
-  source_contents = map (λ source. source.content) sources;
-  tokens = map (remapped_token inputs a names) ls;
-  token_chunks = None;
-  ignore_list = remapped_ignore_list (decoded_inputs inputs) (decoded_map_of a);
-  debug_id = a.debug_id;
-}
+      file = a.file;
+      names = names;
+      source_root = None;
+      sources = map (λ source. source.path) sources;
+      source_contents = map (λ source. source.content) sources;
+      tokens = map (remapped_token inputs a names) ls;
+      token_chunks = None;
+      ignore_list = remapped_ignore_list (decoded_inputs inputs) (decoded_map_of a);
+      debug_id = a.debug_id;
+    }
 
 -- the remapped record
 abbrev pub remapped : MapRecord → List (Text × MapRecord) → MapRecord

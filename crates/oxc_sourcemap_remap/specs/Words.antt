@@ -1,7 +1,26 @@
 -- The words of this crate's clauses, from one place.
-pub use Rattle.oxc_sourcemap_tokens.specs.Results.{Reports}
+pub use Rattle.oxc_sourcemap_tokens.specs.LineOrder.{first_out_of_order}
+pub use Rattle.oxc_sourcemap_tokens.specs.Results.{FailsBy, Reports}
 pub use Rattle.oxc_sourcemap_tokens.specs.declared.error.Error.{Error}
 pub use Rattle.oxc_sourcemap_tokens.specs.declared.error.Error.TheVariants.{OutOfMemory, TooLarge}
+pub use Rattle.oxc_sourcemap_parts.specs.DecodedMap.{decoded_map_of, name_of}
+pub use Rattle.oxc_sourcemap_parts.specs.Texts.{index_of, with_text}
+pub use Rattle.oxc_sourcemap_parts.specs.Views.{cow_texts, text_of, texts_of, contents_of, ids_of}
 pub use Rattle.oxc_sourcemap_parts.specs.Views.{record_of_parts}
-pub use Rattle.oxc_sourcemap_remap.specs.Inputs.{input_records, inputs_fault, NoInputColumnGoesBack}
+pub use Rattle.oxc_sourcemap_lookup.specs.Composed.{Target, target_of}
+pub use Rattle.oxc_sourcemap_lookup.specs.Inherited.{HasPlaces}
+pub use Rattle.oxc_sourcemap_lookup.specs.InheritedNames.{with_inherited}
+pub use Rattle.oxc_sourcemap_lookup.specs.LineSpans.{IsIndexOf}
+pub use Rattle.oxc_sourcemap_remap.specs.Blocks.{remapped_sources, unless_empty}
+pub use Rattle.oxc_sourcemap_remap.specs.Bodies.{input_paths, listed_flags, flags_of, IsReady}
+pub use Rattle.oxc_sourcemap_remap.specs.Bodies.{AreReady, IsFor, block_sources, block_input}
+pub use Rattle.oxc_sourcemap_remap.specs.Bodies.{HasSources, AreBlocks, IsUsable, AreUsable}
+pub use Rattle.oxc_sourcemap_remap.specs.Bodies.{block_of, block_original, IsBlockTarget}
+pub use Rattle.oxc_sourcemap_remap.specs.Bodies.{AreBlockTargets, set_from, block_ids}
+pub use Rattle.oxc_sourcemap_remap.specs.Bodies.{original_of_place, names_in, ArePlaced}
+pub use Rattle.oxc_sourcemap_remap.specs.Bodies.{put_together}
+pub use Rattle.oxc_sourcemap_remap.specs.Inputs.{input_records, decoded_inputs, goes_back}
+pub use Rattle.oxc_sourcemap_remap.specs.Inputs.{inputs_fault, NoInputColumnGoesBack}
+pub use Rattle.oxc_sourcemap_remap.specs.Remapped.{listed_sources, Original, input_original}
+pub use Rattle.oxc_sourcemap_remap.specs.Remapped.{original_by, needed_name, needed_names, token_to}
 pub use Rattle.oxc_sourcemap_remap.specs.Remapped.{remapping, SomeRemapping}

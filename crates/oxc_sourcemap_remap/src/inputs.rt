@@ -1,0 +1,136 @@
+//! The inputs of a remapping, made ready.
+ghost use Rattle.std.specs.Prelude.{◌≡◌, ◌≢◌, ◌++◌, [], length, map, option_map, IfOk, OnOk};
+ghost use Rattle.std.specs.Prelude.{IfErr, Some, None, true, false};
+ghost use Rattle.std.specs.List.{position_from, range_with_len, list_any};
+ghost use Rattle.oxc_sourcemap_remap.specs.Words.{Error, OutOfMemory, FailsBy, Reports};
+ghost use Rattle.oxc_sourcemap_remap.specs.Words.{record_of_parts, ids_of, input_records};
+ghost use Rattle.oxc_sourcemap_remap.specs.Words.{goes_back, inputs_fault, listed_flags};
+ghost use Rattle.oxc_sourcemap_remap.specs.Words.{flags_of, IsReady, AreReady, HasPlaces, IsFor};
+ghost use Rattle.oxc_sourcemap_remap.specs.Words.{input_paths};
+
+use oxc_sourcemap_lookup::LineIndex;
+use oxc_sourcemap_parts::SourceMapParts;
+use oxc_sourcemap_tokens::{Error, Memory, Result, line_order_fault};
+use std::alloc::Global;
+use std::collections::HashMap;
+
+/// An input: its map, the index of the lines of its tokens, and whether each of its sources is ignored.
+#[derive(Drop)]
+pub(crate) struct Input<'m> {
+    pub(crate) map: &'m SourceMapParts<'m>,
+    pub(crate) index: LineIndex,
+    pub(crate) ignored: Vec<bool>,
+}
+
+/// Sets the flags at the indices of an ignore list; others than there are flags are passed over.
+fn set_flags(flags: &mut [bool], ids: &[u32])
+    requires { flags.old ≡ listed_flags (Some []) (length flags.old) }
+    ensures { flags.new ≡ listed_flags (Some ids.now) (length flags.old) }
+{
+    for id in ids {
+        let i = *id as usize;
+        if i < flags.len() {
+            flags[i] = true;
+        }
+    }
+}
+
+/// Whether each source of a map is ignored.
+pub(crate) fn ignored_flags(alloc: Global, map: &SourceMapParts<'_>) -> Memory<Vec<bool>>
+    ensures { IfOk result (λ flags. flags.items ≡ flags_of (record_of_parts map.now)) }
+{
+    let mut flags = Vec::with_capacity(alloc, map.sources.len())?;
+    flags.resize(map.sources.len(), false)?;
+    if let Some(ids) = &map.ignore_list {
+        set_flags(flags.as_mut_slice(), ids.as_slice());
+    }
+    Ok(flags)
+}
+
+/// An input, made ready. It fails if its tokens go back in lines.
+fn ready_input<'m>(alloc: Global, map: &'m SourceMapParts<'m>) -> Result<Input<'m>>
+    ensures { IfOk result (λ input. IsReady (record_of_parts map.now) input) }
+{
+    let index = LineIndex::new(alloc, map.tokens.as_slice())?;
+    let ignored = ignored_flags(alloc, map)?;
+    Ok(Input {
+        map,
+        index,
+        ignored,
+    })
+}
+
+/// All inputs, made ready. It fails if the tokens of one go back in lines.
+fn all_ready<'m>(
+    alloc: Global,
+    inputs: &'m [(&'m str, &'m SourceMapParts<'m>)],
+) -> Result<Vec<Input<'m>>>
+    ensures { IfOk result (λ ready. AreReady (input_records inputs.now) ready.items) }
+{
+    let mut ready = Vec::with_capacity(alloc, inputs.len())?;
+    for (_, map) in inputs {
+        ready.push(ready_input(alloc, map)?)?;
+    }
+    Ok(ready)
+}
+
+/// The index of the first input whose tokens go back in lines.
+fn first_back(inputs: &[(&str, &SourceMapParts<'_>)]) -> Option<usize>
+    ensures { result ≡ position_from goes_back 0 (input_records inputs.now) }
+{
+    for (i, (_, map)) in inputs.iter().enumerate() {
+        if line_order_fault(map.tokens.as_slice()).is_some() {
+            return Some(i);
+        }
+    }
+    None
+}
+
+/// All inputs, made ready. Where the tokens of one go back in lines, that is the error.
+pub(crate) fn ready_inputs<'m>(
+    alloc: Global,
+    inputs: &'m [(&'m str, &'m SourceMapParts<'m>)],
+) -> Result<Vec<Input<'m>>>
+    ensures ready { IfOk result (λ ready. AreReady (input_records inputs.now) ready.items) }
+    ensures well { OnOk result (inputs_fault (input_records inputs.now) ≡ None) }
+    ensures error { FailsBy (inputs_fault (input_records inputs.now)) result }
+    ensures fault { Reports (inputs_fault (input_records inputs.now)) result }
+{
+    if let Ok(ready) = all_ready(alloc, inputs) {
+        return Ok(ready);
+    }
+    match first_back(inputs) {
+        Some(k) => Err(Error::InputLineOrder(k)),
+        None => Err(Error::OutOfMemory),
+    }
+}
+
+/// The index of the first input for each path.
+pub(crate) fn input_places<'m>(
+    alloc: Global,
+    inputs: &'m [(&'m str, &'m SourceMapParts<'m>)],
+) -> Memory<HashMap<&'m str, usize>>
+    ensures { IfOk result (λ places. HasPlaces (input_paths inputs.now) places) }
+{
+    let mut places = HashMap::new(alloc);
+    places.reserve(inputs.len())?;
+    for (i, input) in inputs.iter().enumerate() {
+        places.entry(input.0)?.or_insert(i);
+    }
+    Ok(places)
+}
+
+/// The input for a path. `inputs` says of which inputs the others are.
+pub(crate) fn input_at<'m, 'i>(
+    inputs: &[(&str, &SourceMapParts<'_>)],
+    places: &HashMap<&str, usize>,
+    ready: &'i [Input<'m>],
+    path: &str,
+) -> Option<&'i Input<'m>>
+    requires places { HasPlaces (input_paths inputs.now) places.now }
+    requires ready { AreReady (input_records inputs.now) ready.now }
+    ensures { IsFor (input_records inputs.now) path.now result }
+{
+    let place = places.get(path)?;
+    ready.get(*place)
+}

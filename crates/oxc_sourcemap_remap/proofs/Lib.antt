@@ -1,1 +1,4 @@
+pub mod Indices
+pub mod NeededNames
+pub mod Flags
 mod Worked

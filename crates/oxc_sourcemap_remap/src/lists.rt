@@ -1,5 +1,6 @@
 //! The sources of a remapped map, their contents, and its ignore list, from its blocks.
-ghost use Rattle.std.specs.Prelude.{◌≡◌, ◌++◌, map, IfOk, OnOk};
+ghost use Rattle.std.specs.Prelude.{◌≡◌, ◌++◌, map, slice_get, IfOk, OnOk};
+ghost use Rattle.std.specs.Option.{option_and_then};
 ghost use Rattle.std.specs.List.{flat_map};
 ghost use Rattle.oxc_sourcemap_remap.specs.Words.{cow_texts, texts_of, text_of, contents_of, ids_of};
 ghost use Rattle.oxc_sourcemap_remap.specs.Words.{block_sources, IsUsable, AreUsable, set_from};
@@ -51,7 +52,9 @@ pub(crate) fn source_list<'m>(alloc: Global, blocks: &[Block<'m, '_>]) -> Memory
 }
 
 /// The content of a block's source, borrowed, if it is known.
-fn content_at<'m>(contents: &'m [Option<CowStr<'m>>], i: usize) -> Option<CowStr<'m>> {
+fn content_at<'m>(contents: &'m [Option<CowStr<'m>>], i: usize) -> Option<CowStr<'m>>
+    ensures { text_of result ≡ option_and_then text_of (slice_get contents.now i) }
+{
     match contents.get(i) {
         Some(content) => lent_text(content),
         None => None,

@@ -3,6 +3,7 @@ use Rattle.std.proofs.Common.{◌≡◌, refl, sym, ap, ◌∙◌, ℕ, zero, su
 use Rattle.std.proofs.Common.{◌||◌, ◌==◌, List, [], ◌∷◌, ◌++◌, map, length, set, replicate, Option}
 use Rattle.std.proofs.Common.{Some, None, arith, cond}
 use Rattle.std.proofs.lemmas.Bool.Decides.{nat_tests}
+use Rattle.std.proofs.lemmas.List.FromFn.{length-map-range_with_len}
 use Rattle.std.specs.List.{list_any, range_with_len, flat_map}
 use Rattle.oxc_sourcemap_parts.specs.DecodedMap.{DecodedSource}
 use Rattle.oxc_sourcemap_remap.specs.Blocks.{is_listed, marked_from, ignored_from}
@@ -99,3 +100,6 @@ ignored-append-by false i xs ys zs e = e
 pub ignored-append : (i k : ℕ) (ms ns : List (DecodedSource × Bool)) → k ≡ i + length ms → ignored_from i (ms ++ ns) ≡ ignored_from i ms ++ ignored_from k ns
 ignored-append i k [] ns e = ap (λ j. ignored_from j ns) (omega (arith, e))
 ignored-append i k (m ∷ ms) ns e = ignored-append-by m.1 i _ _ (ignored_from k ns) (ignored-append (i + 1) k ms ns (omega (arith, e)))
+
+pub count-listed : (ignore_list : Option (List ℕ)) (n : ℕ) → length (listed_flags ignore_list n) ≡ n
+count-listed ignore_list n = length-map-range_with_len (is_listed ignore_list) 0 n

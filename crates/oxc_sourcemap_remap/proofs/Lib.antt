@@ -1,4 +1,6 @@
 pub mod Indices
 pub mod NeededNames
 pub mod Flags
+pub mod InputPlaces
+pub mod SourceBlocks
 mod Worked

@@ -23,9 +23,9 @@ pub(crate) struct Input<'m> {
 }
 
 /// Sets the flags at the indices of an ignore list; others than there are flags are passed over.
-fn set_flags(flags: &mut [bool], ids: &[u32])
-    requires { flags.old ≡ listed_flags (Some []) (length flags.old) }
-    ensures { flags.new ≡ listed_flags (Some ids.now) (length flags.old) }
+fn set_flags(flags: &mut Vec<bool>, ids: &[u32])
+    requires { flags.old.items ≡ listed_flags (Some []) (length flags.old.items) }
+    ensures { flags.new.items ≡ listed_flags (Some ids.now) (length flags.old.items) }
 {
     for id in ids {
         let i = *id as usize;
@@ -42,7 +42,7 @@ pub(crate) fn ignored_flags(alloc: Global, map: &SourceMapParts<'_>) -> Memory<V
     let mut flags = Vec::with_capacity(alloc, map.sources.len())?;
     flags.resize(map.sources.len(), false)?;
     if let Some(ids) = &map.ignore_list {
-        set_flags(flags.as_mut_slice(), ids.as_slice());
+        set_flags(&mut flags, ids.as_slice());
     }
     Ok(flags)
 }
@@ -131,6 +131,6 @@ pub(crate) fn input_at<'m, 'i>(
     requires ready { AreReady (input_records inputs.now) ready.now }
     ensures { IsFor (input_records inputs.now) path.now result }
 {
-    let place = places.get(path)?;
-    ready.get(*place)
+    let place = *places.get(path)?;
+    Some(&ready[place])
 }

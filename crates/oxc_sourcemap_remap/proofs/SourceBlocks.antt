@@ -1,11 +1,12 @@
 -- Blocks of sources, made one by one, and what they are together.
 use Rattle.std.proofs.Common.{◌≡◌, refl, sym, ap, subst, ◌∙◌, ℕ, zero, suc, ◌+◌, ◌-◌, ◌<◌, ◌≤◌, min, Bool}
-use Rattle.std.proofs.Common.{List, []}
+use Rattle.std.proofs.Common.{List, [], get_or}
 use Rattle.std.proofs.Common.{◌∷◌, ◌++◌, map, length, take, drop, slice_get, Option, Some, None, Bor}
 use Rattle.std.proofs.Common.{arith}
 use Rattle.std.proofs.lemmas.List.{length-map, length-append, map-append}
+use Rattle.std.proofs.lemmas.List.Folds.{length-flat_map-take}
 use Rattle.std.proofs.lemmas.List.{take-map, drop-map, drop_min, take_rest}
-use Rattle.std.proofs.lemmas.Option.{slice_get-map}
+use Rattle.std.proofs.lemmas.Option.{slice_get-map, slice_get_within, get_or_from_slice_get}
 use Rattle.std.specs.Cow.{cow_str_bytes}
 use Rattle.std.specs.declared.alloc.Global.{Global}
 use Rattle.std.specs.declared.borrow.CowStr.{CowStr}
@@ -18,7 +19,7 @@ use Rattle.oxc_sourcemap_parts.specs.Record.{Text, MapRecord}
 use Rattle.oxc_sourcemap_parts.specs.Views.{cow_texts, text_of, record_of_parts}
 use Rattle.oxc_sourcemap_lookup.specs.Composed.{Target}
 use Rattle.oxc_sourcemap_lookup.specs.LineSpans.{IsIndexOf}
-use Rattle.oxc_sourcemap_remap.specs.Blocks.{sources_by, sources_for, remapped_sources, marked_from}
+use Rattle.oxc_sourcemap_remap.specs.Blocks.{is_listed, sources_by, sources_for, remapped_sources, marked_from}
 use Rattle.oxc_sourcemap_remap.specs.Blocks.{marked_sources, marked_by, marked_for, ignored_from}
 use Rattle.oxc_sourcemap_remap.specs.Blocks.{unless_empty, remapped_ignore_list}
 use Rattle.oxc_sourcemap_remap.specs.Inputs.{input_for, decoded_inputs}
@@ -30,7 +31,7 @@ use Rattle.oxc_sourcemap_remap.specs.Bodies.{IsUsable, AreUsable, block_of, bloc
 use Rattle.oxc_sourcemap_remap.specs.Bodies.{block_ids}
 use Rattle.oxc_sourcemap_remap.specs.declared.blocks.Block.{Block}
 use Rattle.oxc_sourcemap_remap.specs.declared.inputs.Input.{Input}
-use Rattle.oxc_sourcemap_remap.proofs.Indices.{one-at}
+use Rattle.oxc_sourcemap_remap.proofs.Indices.{one-at, some_is}
 use Rattle.oxc_sourcemap_remap.proofs.Flags.{marked-flags, marked-unmarked, set-ignored}
 use Rattle.oxc_sourcemap_remap.proofs.Flags.{ignored-append, count-listed}
 use Rattle.oxc_sourcemap_remap.proofs.InputPlaces.{input_for-map}
@@ -96,6 +97,19 @@ flags-are a = marked-flags (listed_sources a) a.ignore_list ∙ ap (listed_flags
 pub count-flags : (a : MapRecord) → length (flags_of a) ≡ length a.sources
 count-flags a = count-listed a.ignore_list (length a.sources)
 
+marked-from : (k : ℕ) (ps : List Text) (cs : List (Option Text)) (l : Option (List ℕ)) (i : ℕ) (p : Text) → slice_get ps i ≡ Some p
+    → (m : DecodedSource × Bool) × (slice_get (marked_from k (sources_of ps cs) l) i ≡ Some m) × (m.0.path ≡ p)
+marked-from k [] cs l i p e = absurd (cc (e))
+marked-from k (q ∷ ps) [] l zero p e = ((record { path = q; content = None }, is_listed l k), refl, some_is e)
+marked-from k (q ∷ ps) (c ∷ cs) l zero p e = ((record { path = q; content = c }, is_listed l k), refl, some_is e)
+marked-from k (q ∷ ps) [] l (suc i) p e = marked-from (k + 1) ps [] l i p e
+marked-from k (q ∷ ps) (c ∷ cs) l (suc i) p e = marked-from (k + 1) ps cs l i p e
+
+-- the marked source at the index of a path
+pub marked-at : (a : MapRecord) (i : ℕ) (path : Text) → slice_get a.sources i ≡ Some path
+    → (m : DecodedSource × Bool) × (slice_get (marked_sources (decoded_map_of a)) i ≡ Some m) × (m.0.path ≡ path)
+marked-at a i path e = marked-from 0 a.sources a.source_contents a.ignore_list i path e
+
 -- the sources and flags of a block, by its input
 pub has-none : (a : MapRecord) (i : ℕ) (o : Option (Bor Input)) (b : Block) → o ≡ None → block_sources b ≡ take 1 (drop i (listed_sources a))
     → b.ignored.now ≡ take 1 (drop i (flags_of a)) → HasSources a i o b
@@ -107,6 +121,15 @@ has-some a i o input b e s f = subst (λ o. HasSources a i o b) (sym e) (s, f)
 
 pub sources-are : (a : MapRecord) → map (λ s. s.0) (marked_sources (decoded_map_of a)) ≡ listed_sources a
 sources-are a = marked-unmarked 0 (listed_sources a) a.ignore_list
+
+pub count-all-marked : (a : MapRecord) → length (marked_sources (decoded_map_of a)) ≡ length a.sources
+count-all-marked a = sym (length-map (marked_sources (decoded_map_of a)) (λ m. m.0)) ∙ ap length (sources-are a) ∙ length-sources_of a.sources a.source_contents
+
+source-is : (a : MapRecord) (i : ℕ) (m : DecodedSource × Bool) → slice_get (marked_sources (decoded_map_of a)) i ≡ Some m → slice_get (listed_sources a) i ≡ Some m.0
+source-is a i m e = ap (λ ss. slice_get ss i) (sym (sources-are a)) ∙ slice_get-map (λ m. m.0) (marked_sources (decoded_map_of a)) i ∙ ap (option_map (λ m. m.0)) e
+
+flag-is : (a : MapRecord) (i : ℕ) (m : DecodedSource × Bool) → slice_get (marked_sources (decoded_map_of a)) i ≡ Some m → slice_get (flags_of a) i ≡ Some m.1
+flag-is a i m e = ap (λ fs. slice_get fs i) (sym (flags-are a)) ∙ slice_get-map (λ m. m.1) (marked_sources (decoded_map_of a)) i ∙ ap (option_map (λ m. m.1)) e
 
 module _ (inputs : List (Text × MapRecord)) where
   abbrev meant : List (Text × DecodedMap)
@@ -130,6 +153,17 @@ module _ (inputs : List (Text × MapRecord)) where
   flags-stand a i m b None at for has = has.1 ∙ one-at (flags_of a) i m.1 at ∙ sym (ap (λ o. map (λ s. s.1) (marked_by o m)) (found-none m.0.path for))
   flags-stand a i m b (Some input) at for has =
       has.1 ∙ for.2.ignored ∙ sym (flags-are for.0) ∙ sym (ap (λ o. map (λ s. s.1) (marked_by o m)) (found-some m.0.path for.0 for.1))
+
+  -- the block of a marked source
+  pub is-block : (a : MapRecord) (i start : ℕ) (m : DecodedSource × Bool) (b : Block) (input : Option (Bor Input)) → slice_get (marked_sources (decoded_map_of a)) i ≡ Some m
+      → IsFor inputs m.0.path input → HasSources a i input b → b.start ≡ start → b.input ≡ input → start + length b.sources.now ≤ 4294967295 → IsBlock inputs start m b
+  is-block a i start m b input at for has e f room = record {
+    starts = e;
+    sources_are = stands-for a i m b input (source-is a i m at) for has;
+    ignored_are = flags-stand a i m b input (flag-is a i m at) for has;
+    room = room;
+    input_is = subst (IsFor inputs m.0.path) (sym f) for;
+  }
 
   unmark-by : (o : Option DecodedMap) (m : DecodedSource × Bool) → map (λ s. s.0) (marked_by o m) ≡ sources_by o m.0
   unmark-by None m = refl
@@ -199,6 +233,26 @@ module _ (inputs : List (Text × MapRecord)) where
 
   pub sources-together : (a : MapRecord) (bs : List Block) → AreBlocks inputs a bs → flat_map block_sources bs ≡ remapped_sources meant (listed_sources a)
   sources-together a bs h = all-sources 0 (marked_sources (decoded_map_of a)) bs h ∙ ap (remapped_sources meant) (sources-are a)
+
+  -- the sources up to a block that go past the limit
+  pub past-all : (a : MapRecord) (bs : List Block) (i : ℕ) (m : DecodedSource × Bool) (b : Block) (input : Option (Bor Input))
+      → AreBlocksFrom inputs 0 (take i (marked_sources (decoded_map_of a))) bs → slice_get (marked_sources (decoded_map_of a)) i ≡ Some m
+      → IsFor inputs m.0.path input → HasSources a i input b → 4294967295 < total bs + length b.sources.now
+      → 4294967295 < length (remapped_sources meant (listed_sources a))
+  past-all a bs i m b input h at for has p =
+      let f = sources_for meant in
+      let ss = listed_sources a in
+      let here = source-is a i m at in
+      let within = slice_get_within ss i m.0 here in
+      let front : flat_map block_sources bs ≡ flat_map f (take i ss) =
+      all-sources 0 (take i (marked_sources (decoded_map_of a))) bs h
+      ∙ ap (remapped_sources meant) (sym (take-map (λ m. m.0) i (marked_sources (decoded_map_of a))) ∙ ap (take i) (sources-are a)) in
+      let before = ap length front in
+      let read : get_or ss i m.0 ≡ m.0 = get_or_from_slice_get ss i m.0 m.0 here in
+      let block : length (f (get_or ss i m.0)) ≡ length b.sources.now =
+      ap (λ s. length (f s)) read ∙ sym (ap length (stands-for a i m b input here for has)) ∙ count-sources b in
+      let all = length-flat_map-take f ss i m.0 within in
+      omega (arith, p, before, block, all)
 
   map-together : {B : Type 0} (f : DecodedSource → B) (bs : List Block) → flat_map (λ b. map f (block_sources b)) bs ≡ map f (flat_map block_sources bs)
   map-together f [] = refl

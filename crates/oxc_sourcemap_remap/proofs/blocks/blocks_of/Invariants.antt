@@ -9,6 +9,6 @@ use Rattle.oxc_sourcemap_remap.proofs.blocks.blocks_of.Given as goal
 
 abbrev pub invariant-loop-i : goal.invariant-loop-i
 invariant-loop-i l = record {
-  blocks : AreBlocksFrom (input_records l.inputs) 0 (take l.i (marked_sources (decoded_map_of (record_of_parts l.map)))) l.blocks.items;
+  each : AreBlocksFrom (input_records l.inputs) 0 (take l.i (marked_sources (decoded_map_of (record_of_parts l.map)))) l.blocks.items;
   start : l.start ≡ total (input_records l.inputs) l.blocks.items;
 }

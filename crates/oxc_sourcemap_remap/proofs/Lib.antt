@@ -3,4 +3,5 @@ pub mod NeededNames
 pub mod Flags
 pub mod InputPlaces
 pub mod SourceBlocks
+pub mod Gathered
 mod Worked

@@ -4,7 +4,7 @@ use Rattle.std.proofs.Common.{◌||◌, ◌==◌, List, [], ◌∷◌, ◌++◌,
 use Rattle.std.proofs.Common.{Some, None, arith, cond}
 use Rattle.std.proofs.lemmas.Bool.Decides.{nat_tests}
 use Rattle.std.proofs.lemmas.List.FromFn.{length-map-range_with_len}
-use Rattle.std.specs.List.{list_any, range_with_len, flat_map}
+use Rattle.std.specs.List.{list_any, range_with_len}
 use Rattle.oxc_sourcemap_parts.specs.DecodedMap.{DecodedSource}
 use Rattle.oxc_sourcemap_remap.specs.Blocks.{is_listed, marked_from, ignored_from}
 use Rattle.oxc_sourcemap_remap.specs.Bodies.{listed_flags, set_from}

@@ -1,31 +1,30 @@
 -- What tokens lead to and the tokens made of that, gathered one by one; and what all of it makes.
 use Rattle.std.proofs.Common.{◌≡◌, ◌≢◌, refl, sym, ap, subst, ◌∙◌, ℕ, ◌<◌, ◌≤◌, Bool, true, false, cond}
 use Rattle.std.proofs.Common.{◌&&◌, List, [], ◌∷◌, ◌++◌, map, length, nat_le, Option, Some, None}
-use Rattle.std.proofs.Common.{Result, Ok, Err, IfErr, arith}
+use Rattle.std.proofs.Common.{Result, Ok, Err, IfOk, IfErr, arith}
 use Rattle.std.proofs.lemmas.Bool.Decides.{nat_tests}
 use Rattle.std.proofs.lemmas.List.{map-append, length-map}
-use Rattle.std.specs.List.{AllByRecursion, filter_map, flat_map}
+use Rattle.std.specs.List.{AllByRecursion, filter_map}
 use Rattle.std.specs.Option.{option_and_then}
 use Rattle.oxc_sourcemap_tokens.specs.declared.error.Error.{Error}
 use Rattle.oxc_sourcemap_tokens.specs.declared.error.Error.TheVariants.{OutOfMemory, TooLarge}
 use Rattle.oxc_sourcemap_tokens.specs.Token.{TokenRecord}
-use Rattle.oxc_sourcemap_parts.specs.DecodedMap.{DecodedSource, decoded_map_of}
+use Rattle.oxc_sourcemap_parts.specs.DecodedMap.{DecodedSource}
 use Rattle.oxc_sourcemap_parts.specs.Record.{Text, MapRecord}
 use Rattle.oxc_sourcemap_parts.specs.Texts.{with_texts}
-use Rattle.oxc_sourcemap_parts.specs.Views.{cow_texts}
-use Rattle.oxc_sourcemap_lookup.specs.Composed.{Target, target_in, line_of, NoColumnGoesBack}
+use Rattle.oxc_sourcemap_lookup.specs.Composed.{Target, NoColumnGoesBack}
 use Rattle.oxc_sourcemap_lookup.specs.InheritedNames.{with_inherited}
 use Rattle.oxc_sourcemap_lookup.proofs.InheritedNames.{IsPlaced}
 use Rattle.oxc_sourcemap_lookup.proofs.Targets.{all-append, is_target, targets-are}
-use Rattle.oxc_sourcemap_remap.specs.Blocks.{remapped_sources, unless_empty, remapped_ignore_list}
+use Rattle.oxc_sourcemap_remap.specs.Blocks.{remapped_sources, unless_empty}
 use Rattle.oxc_sourcemap_remap.specs.Inputs.{input_for, decoded_inputs, inputs_fault}
 use Rattle.oxc_sourcemap_remap.specs.Inputs.{NoInputColumnGoesBack}
 use Rattle.oxc_sourcemap_remap.specs.Remapped.{listed_sources, source_of, input_of, target_by, targets}
 use Rattle.oxc_sourcemap_remap.specs.Remapped.{Original, original, needed_name, needed_names, token_to}
-use Rattle.oxc_sourcemap_remap.specs.Remapped.{remapped_token, remapped_names, remapped_by, has_few}
-use Rattle.oxc_sourcemap_remap.specs.Remapped.{remapping_by, remapping, IsTargetBy, AreTargets}
+use Rattle.oxc_sourcemap_remap.specs.Remapped.{remapped_token, remapped_names, remapped_by}
+use Rattle.oxc_sourcemap_remap.specs.Remapped.{remapping_by, remapping, IsTargetBy}
 use Rattle.oxc_sourcemap_remap.specs.Remapped.{SomeRemapping}
-use Rattle.oxc_sourcemap_remap.specs.Bodies.{block_sources, block_input, AreBlocks, block_of}
+use Rattle.oxc_sourcemap_remap.specs.Bodies.{block_input, AreBlocks, block_of}
 use Rattle.oxc_sourcemap_remap.specs.Bodies.{block_original, IsBlockTarget, AreBlockTargets, block_ids}
 use Rattle.oxc_sourcemap_remap.specs.Bodies.{put_together}
 use Rattle.oxc_sourcemap_remap.specs.declared.blocks.Block.{Block}
@@ -243,10 +242,15 @@ module _ (a : MapRecord) (inputs : List (Text × MapRecord)) where
       ap (λ m. m ∷ ls) (target-is (input_of inputs a l.token) l (λ c e. input-in-order g l.token c e) h.0)
       ∙ ap (λ ms. target_by (input_of inputs a l.token) l.token ∷ ms) (targets-are-all g ls h.1)
 
-  pub exact : (answer : Result MapRecord Error) → NoInputColumnGoesBack inputs → SomeRemapping a inputs answer → remapping a inputs ≡ answer
+  exact : (answer : Result MapRecord Error) → NoInputColumnGoesBack inputs → SomeRemapping a inputs answer → remapping a inputs ≡ answer
   exact answer g s =
       let is : s.0 ≡ targets a inputs = targets-are-all g s.0 s.1.1 ∙ ap (map (λ t. target_by (input_of inputs a t) t)) s.1.0 in
       sym (ap (λ ls. remapping_by ls a inputs) is) ∙ s.2
+
+  pub exact-map : {X : Type 0} (view : X → MapRecord) (r : Result X Error) → NoInputColumnGoesBack inputs → IfOk r (λ x. SomeRemapping a inputs (Ok (view x)))
+      → IfOk r (λ x. remapping a inputs ≡ Ok (view x))
+  exact-map view (Ok x) g s = exact (Ok (view x)) g s
+  exact-map view (Err e) g s = tt
 
   pub exact-error : {X : Type 0} (r : Result X Error) → NoInputColumnGoesBack inputs → IfErr r (λ e. (e ≢ OutOfMemory) → SomeRemapping a inputs (Err e))
       → IfErr r (λ e. (e ≢ OutOfMemory) → remapping a inputs ≡ Err e)

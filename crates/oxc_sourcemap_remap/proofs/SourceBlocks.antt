@@ -10,7 +10,7 @@ use Rattle.std.proofs.lemmas.Option.{slice_get-map, slice_get_within, get_or_fro
 use Rattle.std.specs.Cow.{cow_str_bytes}
 use Rattle.std.specs.declared.alloc.Global.{Global}
 use Rattle.std.specs.declared.borrow.CowStr.{CowStr}
-use Rattle.std.specs.List.{flat_map, AllByRecursion}
+use Rattle.std.specs.List.{flat_map}
 use Rattle.std.specs.Option.{option_map, option_and_then}
 use Rattle.oxc_sourcemap_tokens.specs.Token.{TokenRecord}
 use Rattle.oxc_sourcemap_parts.specs.DecodedMap.{DecodedSource, DecodedMap, sources_of}
@@ -18,14 +18,14 @@ use Rattle.oxc_sourcemap_parts.specs.DecodedMap.{decoded_map_of}
 use Rattle.oxc_sourcemap_parts.specs.Record.{Text, MapRecord}
 use Rattle.oxc_sourcemap_parts.specs.Views.{cow_texts, text_of, record_of_parts}
 use Rattle.oxc_sourcemap_lookup.specs.Composed.{Target}
-use Rattle.oxc_sourcemap_lookup.specs.LineSpans.{IsIndexOf}
 use Rattle.oxc_sourcemap_remap.specs.Blocks.{is_listed, sources_by, sources_for, remapped_sources, marked_from}
 use Rattle.oxc_sourcemap_remap.specs.Blocks.{marked_sources, marked_by, marked_for, ignored_from}
 use Rattle.oxc_sourcemap_remap.specs.Blocks.{unless_empty, remapped_ignore_list}
 use Rattle.oxc_sourcemap_remap.specs.Inputs.{input_for, decoded_inputs}
 use Rattle.oxc_sourcemap_remap.specs.Remapped.{listed_sources, input_of, original_by, block_start}
 use Rattle.oxc_sourcemap_remap.specs.Remapped.{original_at, original}
-use Rattle.oxc_sourcemap_remap.specs.Bodies.{listed_flags, flags_of, IsReady, IsFor, block_sources, block_input}
+use Rattle.oxc_sourcemap_remap.specs.Bodies.{record_of_input, listed_flags, flags_of, IsFor, block_sources}
+use Rattle.oxc_sourcemap_remap.specs.Bodies.{block_input}
 use Rattle.oxc_sourcemap_remap.specs.Bodies.{HasSources, IsBlock, AreBlocksFrom, AreBlocks, HasInput}
 use Rattle.oxc_sourcemap_remap.specs.Bodies.{IsUsable, AreUsable, block_of, block_original, set_from}
 use Rattle.oxc_sourcemap_remap.specs.Bodies.{block_ids}
@@ -115,7 +115,7 @@ pub has-none : (a : MapRecord) (i : ℕ) (o : Option (Bor Input)) (b : Block) �
     → b.ignored.now ≡ take 1 (drop i (flags_of a)) → HasSources a i o b
 has-none a i o b e s f = subst (λ o. HasSources a i o b) (sym e) (s, f)
 
-pub has-some : (a : MapRecord) (i : ℕ) (o : Option (Bor Input)) (input : Bor Input) (b : Block) → o ≡ Some input → block_sources b ≡ listed_sources (record_of_parts input.now.map.now)
+pub has-some : (a : MapRecord) (i : ℕ) (o : Option (Bor Input)) (input : Bor Input) (b : Block) → o ≡ Some input → block_sources b ≡ listed_sources (record_of_input input.now)
     → b.ignored.now ≡ input.now.ignored.items → HasSources a i o b
 has-some a i o input b e s f = subst (λ o. HasSources a i o b) (sym e) (s, f)
 
@@ -145,14 +145,14 @@ module _ (inputs : List (Text × MapRecord)) where
   pub stands-for : (a : MapRecord) (i : ℕ) (m : DecodedSource × Bool) (b : Block) (input : Option (Bor Input)) → slice_get (listed_sources a) i ≡ Some m.0
       → IsFor inputs m.0.path input → HasSources a i input b → block_sources b ≡ sources_for meant m.0
   stands-for a i m b None at for has = has.0 ∙ one-at (listed_sources a) i m.0 at ∙ sym (ap (λ o. sources_by o m.0) (found-none m.0.path for))
-  stands-for a i m b (Some input) at for has = has.0 ∙ ap listed_sources for.2.record_is ∙ sym (ap (λ o. sources_by o m.0) (found-some m.0.path for.0 for.1))
+  stands-for a i m b (Some input) at for has = has.0 ∙ sym (ap (λ o. sources_by o m.0) (found-some m.0.path (record_of_input input.now) for.0))
 
   -- and so are its flags
   pub flags-stand : (a : MapRecord) (i : ℕ) (m : DecodedSource × Bool) (b : Block) (input : Option (Bor Input)) → slice_get (flags_of a) i ≡ Some m.1
       → IsFor inputs m.0.path input → HasSources a i input b → b.ignored.now ≡ map (λ s. s.1) (marked_for meant m)
   flags-stand a i m b None at for has = has.1 ∙ one-at (flags_of a) i m.1 at ∙ sym (ap (λ o. map (λ s. s.1) (marked_by o m)) (found-none m.0.path for))
   flags-stand a i m b (Some input) at for has =
-      has.1 ∙ for.2.ignored ∙ sym (flags-are for.0) ∙ sym (ap (λ o. map (λ s. s.1) (marked_by o m)) (found-some m.0.path for.0 for.1))
+      has.1 ∙ for.1.flags ∙ sym (flags-are (record_of_input input.now)) ∙ sym (ap (λ o. map (λ s. s.1) (marked_by o m)) (found-some m.0.path (record_of_input input.now) for.0))
 
   -- the block of a marked source
   pub is-block : (a : MapRecord) (i start : ℕ) (m : DecodedSource × Bool) (b : Block) (input : Option (Bor Input)) → slice_get (marked_sources (decoded_map_of a)) i ≡ Some m
@@ -177,9 +177,9 @@ module _ (inputs : List (Text × MapRecord)) where
   input-by : (b : Block) (m : DecodedSource × Bool) (input : Option (Bor Input)) → block_sources b ≡ sources_for meant m.0 → IsFor inputs m.0.path input → HasInput b input
   input-by b m None e for = sym (count-sources b) ∙ ap length (e ∙ ap (λ o. sources_by o m.0) (found-none m.0.path for))
   input-by b m (Some input) e for = (
-    sym (count-sources b) ∙ ap length (e ∙ ap (λ o. sources_by o m.0) (found-some m.0.path for.0 for.1) ∙ ap listed_sources (sym for.2.record_is))
+    sym (count-sources b) ∙ ap length (e ∙ ap (λ o. sources_by o m.0) (found-some m.0.path (record_of_input input.now) for.0))
         ∙ length-sources_of (record_of_parts input.now.map.now).sources (record_of_parts input.now.map.now).source_contents ∙ length-map input.now.map.now.sources.items _,
-    subst (λ r. IsIndexOf r.tokens input.now.index) (sym for.2.record_is) for.2.index,
+    for.1.index,
   )
 
   usable : (start : ℕ) (m : DecodedSource × Bool) (b : Block) → IsBlock inputs start m b → IsUsable b
@@ -338,9 +338,9 @@ module _ (inputs : List (Text × MapRecord)) where
     source-at i = ap (λ ss. slice_get ss i) (sym (sources-are a)) ∙ slice_get-map (λ m. m.0) ms i
 
     input-is : (path : Text) (b : Block) (input : Option (Bor Input)) → b.input ≡ input → IsFor inputs path input → block_input b ≡ input_for inputs path
-    input-is path b None e for = ap (option_map (λ input. record_of_parts input.now.map.now)) e ∙ sym for
+    input-is path b None e for = ap (option_map (λ input. record_of_input input.now)) e ∙ sym for
     input-is path b (Some input) e for =
-        ap (option_map (λ input. record_of_parts input.now.map.now)) e ∙ ap (λ r. Some r) for.2.record_is ∙ sym for.1
+        ap (option_map (λ input. record_of_input input.now)) e ∙ sym for.0
 
     input-by-index : (start : ℕ) (o : Option (DecodedSource × Bool)) (p : Option Block) → SameAt start o p
         → option_and_then block_input p ≡ option_and_then (λ s. input_for inputs s.path) (option_map (λ m. m.0) o)

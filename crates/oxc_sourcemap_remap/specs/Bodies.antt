@@ -3,14 +3,13 @@ use Rattle.std.specs.Prelude.{◌≡◌, ℕ, ◌+◌, ◌≤◌, Bool, List, []
 use Rattle.std.specs.Prelude.{slice_get, Option, Some, None, option_map, if◌then◌else◌}
 use Rattle.std.specs.Borrow.{Bor}
 use Rattle.std.specs.Box.{boxed_slice_items}
-use Rattle.std.specs.List.{AllZip, AllByRecursion, range_with_len, flat_map}
+use Rattle.std.specs.List.{AllByRecursion, range_with_len, flat_map}
 use Rattle.std.specs.Option.{option_and_then}
 use Rattle.oxc_sourcemap_tokens.specs.LineOrder.{first_out_of_order}
 use Rattle.oxc_sourcemap_tokens.specs.Token.{TokenRecord}
 use Rattle.oxc_sourcemap_parts.specs.DecodedMap.{DecodedSource, sources_of, decoded_map_of}
 use Rattle.oxc_sourcemap_parts.specs.Record.{Text, MapRecord}
 use Rattle.oxc_sourcemap_parts.specs.Views.{cow_texts, text_of, record_of_parts}
-use Rattle.oxc_sourcemap_parts.specs.declared.parts.SourceMapParts.{SourceMapParts}
 use Rattle.oxc_sourcemap_lookup.specs.Composed.{Target}
 use Rattle.oxc_sourcemap_lookup.specs.Inherited.{HasPlaces}
 use Rattle.oxc_sourcemap_lookup.specs.LineSpans.{IsIndexOf}
@@ -23,9 +22,17 @@ use Rattle.oxc_sourcemap_remap.specs.declared.inputs.Input.{Input}
 use Rattle.oxc_sourcemap_remap.specs.declared.needed_names.NeededNames.{NeededNames}
 use Rattle.oxc_sourcemap_remap.specs.declared.remap.Place.{Place}
 
--- the paths of borrowed inputs
-abbrev pub input_paths : List (Bor Text × Bor SourceMapParts) → List Text
-input_paths inputs = map (λ input. input.0.now) inputs
+-- the map of an input
+abbrev pub record_of_input : Input → MapRecord
+record_of_input input = record_of_parts input.map.now
+
+-- inputs that are ready, as inputs
+abbrev pub ready_records : List Input → List (Text × MapRecord)
+ready_records ready = map (λ input. (input.path.now, record_of_input input)) ready
+
+-- the paths of inputs
+abbrev pub input_paths : List Input → List Text
+input_paths ready = map (λ input. input.path.now) ready
 
 -- for each index below a number, whether an ignore list has it
 abbrev pub listed_flags : Option (List ℕ) → ℕ → List Bool
@@ -36,19 +43,18 @@ abbrev pub flags_of : MapRecord → List Bool
 flags_of a = listed_flags a.ignore_list (length a.sources)
 
 -- an input that is ready has the index of its lines, and whether each of its sources is ignored
-pub record IsReady (b : MapRecord) (input : Input) : Type 0 where
-  pub record_is : record_of_parts input.map.now ≡ b
-  pub index : IsIndexOf b.tokens input.index
-  pub order : first_out_of_order b.tokens ≡ None
-  pub ignored : input.ignored.items ≡ flags_of b
+pub record IsReady (input : Input) : Type 0 where
+  pub index : IsIndexOf (boxed_slice_items input.map.now.tokens) input.index
+  pub order : first_out_of_order (boxed_slice_items input.map.now.tokens) ≡ None
+  pub flags : input.ignored.items ≡ flags_of (record_of_input input)
 
-abbrev pub AreReady : List (Text × MapRecord) → List Input → Type 0
-AreReady inputs ready = AllZip (λ input r. IsReady input.1 r) inputs ready
+abbrev pub AreReady : List Input → Type 0
+AreReady ready = AllByRecursion IsReady ready
 
 -- what is found for a path
 abbrev pub IsFor : List (Text × MapRecord) → Text → Option (Bor Input) → Type 0
 IsFor inputs path None = input_for inputs path ≡ None
-IsFor inputs path (Some input) = (b : MapRecord) × (input_for inputs path ≡ Some b) × IsReady b input.now
+IsFor inputs path (Some input) = (input_for inputs path ≡ Some (record_of_input input.now)) × IsReady input.now
 
 -- the sources of a block, with their contents
 abbrev pub block_sources : Block → List DecodedSource
@@ -56,14 +62,14 @@ block_sources b = sources_of (cow_texts b.sources.now) (map text_of b.contents.n
 
 -- the map that the block's input has
 abbrev pub block_input : Block → Option MapRecord
-block_input b = option_map (λ input. record_of_parts input.now.map.now) b.input
+block_input b = option_map (λ input. record_of_input input.now) b.input
 
 -- the sources and flags of the block of the source at an index of a map, if this is its input
 abbrev pub HasSources : MapRecord → ℕ → Option (Bor Input) → Block → Type 0
 HasSources a i None b =
     (block_sources b ≡ take 1 (drop i (listed_sources a))) × (b.ignored.now ≡ take 1 (drop i (flags_of a)))
 HasSources a i (Some input) b =
-    (block_sources b ≡ listed_sources (record_of_parts input.now.map.now)) × (b.ignored.now ≡ input.now.ignored.items)
+    (block_sources b ≡ listed_sources (record_of_input input.now)) × (b.ignored.now ≡ input.now.ignored.items)
 
 -- the block of a marked source, which begins at this id
 pub record IsBlock (inputs : List (Text × MapRecord)) (start : ℕ) (source : DecodedSource × Bool) (b : Block) : Type 0 where

@@ -12,8 +12,8 @@ pub use Rattle.oxc_sourcemap_lookup.specs.Inherited.{HasPlaces}
 pub use Rattle.oxc_sourcemap_lookup.specs.InheritedNames.{with_inherited}
 pub use Rattle.oxc_sourcemap_lookup.specs.LineSpans.{IsIndexOf}
 pub use Rattle.oxc_sourcemap_remap.specs.Blocks.{remapped_sources, unless_empty}
-pub use Rattle.oxc_sourcemap_remap.specs.Bodies.{input_paths, listed_flags, flags_of, IsReady}
-pub use Rattle.oxc_sourcemap_remap.specs.Bodies.{AreReady, IsFor, block_sources, block_input}
+pub use Rattle.oxc_sourcemap_remap.specs.Bodies.{ready_records, input_paths, listed_flags, flags_of}
+pub use Rattle.oxc_sourcemap_remap.specs.Bodies.{IsReady, AreReady, IsFor, block_sources}
 pub use Rattle.oxc_sourcemap_remap.specs.Bodies.{HasSources, AreBlocks, IsUsable, AreUsable}
 pub use Rattle.oxc_sourcemap_remap.specs.Bodies.{block_of, block_original, IsBlockTarget}
 pub use Rattle.oxc_sourcemap_remap.specs.Bodies.{AreBlockTargets, set_from, block_ids}

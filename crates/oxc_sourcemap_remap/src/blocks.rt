@@ -1,7 +1,7 @@
 //! The blocks of a remapped map: what stands for each source of the first map.
 ghost use Rattle.std.specs.Prelude.{◌≡◌, ◌≢◌, ◌+◌, ◌<◌, length, slice_get, IfOk, IfErr};
 ghost use Rattle.oxc_sourcemap_remap.specs.Words.{OutOfMemory, TooLarge, record_of_parts};
-ghost use Rattle.oxc_sourcemap_remap.specs.Words.{flags_of, input_records, decoded_inputs};
+ghost use Rattle.oxc_sourcemap_remap.specs.Words.{flags_of, ready_records, decoded_inputs};
 ghost use Rattle.oxc_sourcemap_remap.specs.Words.{AreReady, listed_sources, remapped_sources};
 ghost use Rattle.oxc_sourcemap_remap.specs.Words.{HasSources, AreBlocks, block_of};
 
@@ -74,20 +74,19 @@ fn end_of(block: &Block<'_, '_>) -> Result<u32>
     Ok(end as u32)
 }
 
-/// The block of each source of the map. `ignored` is that of the map, and `ready` are the inputs, made ready.
+/// The block of each source of the map. `ignored` is that of the map.
 pub(crate) fn blocks_of<'m, 'i>(
     alloc: Global,
     map: &'m SourceMapParts<'m>,
-    inputs: &'m [(&'m str, &'m SourceMapParts<'m>)],
     ignored: &'i [bool],
-    ready: &'i [Input<'m>],
+    inputs: &'i [Input<'m>],
 ) -> Result<Vec<Block<'m, 'i>>>
     requires flags { ignored.now ≡ flags_of (record_of_parts map.now) }
-    requires ready { AreReady (input_records inputs.now) ready.now }
-    ensures blocks { IfOk result (λ blocks. AreBlocks
-        (input_records inputs.now) (record_of_parts map.now) blocks.items) }
+    requires ready { AreReady inputs.now }
+    ensures made { IfOk result (λ blocks. AreBlocks
+        (ready_records inputs.now) (record_of_parts map.now) blocks.items) }
     ensures error { IfErr result (λ e. (e ≢ OutOfMemory) → (e ≡ TooLarge)
-        × (4294967295 < length (remapped_sources (decoded_inputs (input_records inputs.now))
+        × (4294967295 < length (remapped_sources (decoded_inputs (ready_records inputs.now))
         (listed_sources (record_of_parts map.now))))) }
 {
     let places = input_places(alloc, inputs)?;
@@ -95,7 +94,7 @@ pub(crate) fn blocks_of<'m, 'i>(
     let mut blocks = Vec::with_capacity(alloc, paths.len())?;
     let mut start: u32 = 0;
     for (i, path) in paths.iter().enumerate() {
-        let input = input_at(inputs, &places, ready, path.as_str());
+        let input = input_at(inputs, &places, path.as_str());
         let block = block_at(map, ignored, i, input, start);
         start = end_of(&block)?;
         blocks.push(block)?;

@@ -6,7 +6,7 @@ ghost use Rattle.oxc_sourcemap_remap.specs.Words.{Error, OutOfMemory, FailsBy, R
 ghost use Rattle.oxc_sourcemap_remap.specs.Words.{record_of_parts, ids_of, input_records};
 ghost use Rattle.oxc_sourcemap_remap.specs.Words.{goes_back, inputs_fault, listed_flags};
 ghost use Rattle.oxc_sourcemap_remap.specs.Words.{flags_of, IsReady, AreReady, HasPlaces, IsFor};
-ghost use Rattle.oxc_sourcemap_remap.specs.Words.{input_paths};
+ghost use Rattle.oxc_sourcemap_remap.specs.Words.{ready_records, input_paths};
 
 use oxc_sourcemap_lookup::LineIndex;
 use oxc_sourcemap_parts::SourceMapParts;
@@ -14,9 +14,11 @@ use oxc_sourcemap_tokens::{Error, Memory, Result, line_order_fault};
 use std::alloc::Global;
 use std::collections::HashMap;
 
-/// An input: its map, the index of the lines of its tokens, and whether each of its sources is ignored.
+/// An input, made ready: its path and its map, the index of the lines of its tokens, and whether each of its sources is
+/// ignored.
 #[derive(Drop)]
 pub(crate) struct Input<'m> {
+    path: &'m str,
     pub(crate) map: &'m SourceMapParts<'m>,
     pub(crate) index: LineIndex,
     pub(crate) ignored: Vec<bool>,
@@ -48,12 +50,15 @@ pub(crate) fn ignored_flags(alloc: Global, map: &SourceMapParts<'_>) -> Memory<V
 }
 
 /// An input, made ready. It fails if its tokens go back in lines.
-fn ready_input<'m>(alloc: Global, map: &'m SourceMapParts<'m>) -> Result<Input<'m>>
-    ensures { IfOk result (λ input. IsReady (record_of_parts map.now) input) }
+fn ready_input<'m>(alloc: Global, path: &'m str, map: &'m SourceMapParts<'m>) -> Result<Input<'m>>
+    ensures ready { IfOk result IsReady }
+    ensures input { IfOk result (λ input. (input.path.now ≡ path.now)
+        × (input.map.now ≡ map.now)) }
 {
     let index = LineIndex::new(alloc, map.tokens.as_slice())?;
     let ignored = ignored_flags(alloc, map)?;
     Ok(Input {
+        path,
         map,
         index,
         ignored,
@@ -65,11 +70,12 @@ fn all_ready<'m>(
     alloc: Global,
     inputs: &'m [(&'m str, &'m SourceMapParts<'m>)],
 ) -> Result<Vec<Input<'m>>>
-    ensures { IfOk result (λ ready. AreReady (input_records inputs.now) ready.items) }
+    ensures ready { IfOk result (λ ready. AreReady ready.items) }
+    ensures inputs { IfOk result (λ ready. ready_records ready.items ≡ input_records inputs.now) }
 {
     let mut ready = Vec::with_capacity(alloc, inputs.len())?;
-    for (_, map) in inputs {
-        ready.push(ready_input(alloc, map)?)?;
+    for (path, map) in inputs {
+        ready.push(ready_input(alloc, path, map)?)?;
     }
     Ok(ready)
 }
@@ -91,7 +97,8 @@ pub(crate) fn ready_inputs<'m>(
     alloc: Global,
     inputs: &'m [(&'m str, &'m SourceMapParts<'m>)],
 ) -> Result<Vec<Input<'m>>>
-    ensures ready { IfOk result (λ ready. AreReady (input_records inputs.now) ready.items) }
+    ensures ready { IfOk result (λ ready. AreReady ready.items) }
+    ensures inputs { IfOk result (λ ready. ready_records ready.items ≡ input_records inputs.now) }
     ensures well { OnOk result (inputs_fault (input_records inputs.now) ≡ None) }
     ensures error { FailsBy (inputs_fault (input_records inputs.now)) result }
     ensures fault { Reports (inputs_fault (input_records inputs.now)) result }
@@ -108,29 +115,28 @@ pub(crate) fn ready_inputs<'m>(
 /// The index of the first input for each path.
 pub(crate) fn input_places<'m>(
     alloc: Global,
-    inputs: &'m [(&'m str, &'m SourceMapParts<'m>)],
+    inputs: &[Input<'m>],
 ) -> Memory<HashMap<&'m str, usize>>
     ensures { IfOk result (λ places. HasPlaces (input_paths inputs.now) places) }
 {
     let mut places = HashMap::new(alloc);
     places.reserve(inputs.len())?;
     for (i, input) in inputs.iter().enumerate() {
-        places.entry(input.0)?.or_insert(i);
+        places.entry(input.path)?.or_insert(i);
     }
     Ok(places)
 }
 
-/// The input for a path. `inputs` says of which inputs the others are.
+/// The input for a path.
 pub(crate) fn input_at<'m, 'i>(
-    inputs: &[(&str, &SourceMapParts<'_>)],
+    inputs: &'i [Input<'m>],
     places: &HashMap<&str, usize>,
-    ready: &'i [Input<'m>],
     path: &str,
 ) -> Option<&'i Input<'m>>
+    requires ready { AreReady inputs.now }
     requires places { HasPlaces (input_paths inputs.now) places.now }
-    requires ready { AreReady (input_records inputs.now) ready.now }
-    ensures { IsFor (input_records inputs.now) path.now result }
+    ensures { IsFor (ready_records inputs.now) path.now result }
 {
     let place = *places.get(path)?;
-    Some(&ready[place])
+    Some(&inputs[place])
 }

@@ -206,8 +206,48 @@ fn put_together<'m>(
     })
 }
 
-/// A map made one with the maps of its sources, as parts: each token whose source has an input goes on through it
-/// (docs/FORMAT.md, "Remapping").
+/// The remapped map. `remap_parts` has the errors.
+fn remapped_parts<'m>(
+    alloc: Global,
+    map: &'m SourceMapParts<'m>,
+    inputs: &'m [(&'m str, &'m SourceMapParts<'m>)],
+) -> Result<SourceMapParts<'m>>
+    ensures made { IfOk result (λ parts. SomeRemapping (record_of_parts map.now)
+        (input_records inputs.now) (Ok (record_of_parts parts))) }
+    ensures error { IfErr result (λ e. (e ≢ OutOfMemory)
+        → SomeRemapping (record_of_parts map.now) (input_records inputs.now) (Err e)) }
+    ensures fault { Reports (inputs_fault (input_records inputs.now)) result }
+{
+    let ready = ready_inputs(alloc, inputs)?;
+    let ignored = ignored_flags(alloc, map)?;
+    let blocks = blocks_of(alloc, map, ignored.as_slice(), ready.as_slice())?;
+    let (tokens, needed) = remapped_tokens(
+        alloc,
+        map.names.as_slice(),
+        map.tokens.as_slice(),
+        blocks.as_slice(),
+    )?;
+    Ok(put_together(alloc, map, blocks.as_slice(), tokens, needed)?)
+}
+
+/// The remapping of a map, as parts: some of its sources are themselves generated, and for these there are maps, the `inputs`,
+/// each with the source that it is for, as the map has it, byte for byte. Of inputs for one source the first counts; one that
+/// is for no source is not used.
+///
+/// - A token whose source has an input gets the source, the original position and the name of the input's token at its original
+///   position (line and column from 0), or of the first one on that line if all are after it; its own name stays if that has
+///   none. It becomes unmapped if no token is on that line, or the one found is unmapped or has a source id out of range. Other
+///   tokens stay, but for a source id or name id out of range, which is left out.
+/// - In place of a source that has an input stand all sources of the input, with their contents, also where sources are equal.
+///   A source is ignored if the map that it is from ignores it.
+/// - The names are those that tokens need, each once, in the order of the tokens. File and debug id are those of `map`. There
+///   are no source root, which sources need, and no chunks.
+///
+/// Nothing is taken: all strings of the result are borrowed from `map` and `inputs`.
+///
+/// Fails in this order: `InputLineOrder(k)` for the first input whose tokens go back in lines, used or not; `TooLarge` if
+/// sources or names would number above 4294967295; `OutOfMemory` for want of memory. The first is reported whenever it holds.
+/// If columns go back on a line of an input, it is open to which token of that line a token leads.
 pub fn remap_parts<'m>(
     alloc: Global,
     map: &'m SourceMapParts<'_>,
@@ -225,14 +265,5 @@ pub fn remap_parts<'m>(
         → SomeRemapping (record_of_parts map.now) (input_records inputs.now) (Err e)) }
     ensures fault { Reports (inputs_fault (input_records inputs.now)) result }
 {
-    let ready = ready_inputs(alloc, inputs)?;
-    let ignored = ignored_flags(alloc, map)?;
-    let blocks = blocks_of(alloc, map, inputs, ignored.as_slice(), ready.as_slice())?;
-    let (tokens, needed) = remapped_tokens(
-        alloc,
-        map.names.as_slice(),
-        map.tokens.as_slice(),
-        blocks.as_slice(),
-    )?;
-    Ok(put_together(alloc, map, blocks.as_slice(), tokens, needed)?)
+    remapped_parts(alloc, map, inputs)
 }

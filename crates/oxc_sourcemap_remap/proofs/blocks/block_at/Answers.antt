@@ -1,4 +1,4 @@
-use Rattle.std.proofs.Common.{◌≡◌, ◌∙◌, ◌+◌, ◌-◌, refl, sym, ap, subst, arith, length, map, take, drop}
+use Rattle.std.proofs.Common.{◌≡◌, ◌∙◌, ◌+◌, ◌-◌, ap, arith, length, map, take, drop}
 use Rattle.std.proofs.Common.{min}
 use Rattle.std.proofs.lemmas.List.{length-map}
 use Rattle.std.specs.Cow.{cow_str_bytes}

@@ -1,4 +1,4 @@
-use Rattle.std.proofs.Common.{◌≡◌, ◌≢◌, ◌∙◌, ◌+◌, ◌++◌, ◌∷◌, ◌<◌, ◌≤◌, [], sym, ap, subst, map, length}
+use Rattle.std.proofs.Common.{◌≡◌, ◌∙◌, ◌+◌, ◌++◌, ◌∷◌, ◌≤◌, [], sym, ap, subst, map, length}
 use Rattle.std.proofs.Common.{take, slice_get, Some, arith}
 use Rattle.std.proofs.lemmas.List.{length-map, take_all}
 use Rattle.std.proofs.lemmas.Result.{err_from_is_err_and}
@@ -7,8 +7,7 @@ use Rattle.oxc_sourcemap_parts.specs.DecodedMap.{decoded_map_of}
 use Rattle.oxc_sourcemap_parts.specs.Views.{record_of_parts}
 use Rattle.oxc_sourcemap_lookup.proofs.KeptNames.{name_at}
 use Rattle.oxc_sourcemap_remap.specs.Blocks.{marked_sources}
-use Rattle.oxc_sourcemap_remap.specs.Bodies.{IsFor, IsBlock, AreBlocksFrom}
-use Rattle.oxc_sourcemap_remap.specs.Inputs.{input_records}
+use Rattle.oxc_sourcemap_remap.specs.Bodies.{ready_records, IsFor, IsBlock, AreBlocksFrom}
 use Rattle.oxc_sourcemap_remap.proofs.Indices.{take-one}
 use Rattle.oxc_sourcemap_remap.proofs.SourceBlocks.{marked-at, is-block, one-more, total, total-last}
 use Rattle.oxc_sourcemap_remap.proofs.SourceBlocks.{past-all, count-all-marked}
@@ -16,7 +15,7 @@ use Rattle.oxc_sourcemap_remap.proofs.blocks.blocks_of.Goals as goal
 
 pub returns-in_err-start-clause-error : goal.returns-in_err-start-clause-error
 returns-in_err-start-clause-error c =
-    let inputs = input_records c.args.inputs.now in
+    let inputs = ready_records c.args.inputs.now in
     let a = record_of_parts c.args.map.now in
     let i = c.loop-i.i in
     let path = cow_str_bytes c.index-paths-i.result in
@@ -33,7 +32,7 @@ returns-in_err-start-clause-error c =
 
 pub loop-i-preserved : goal.loop-i-preserved
 loop-i-preserved c =
-    let inputs = input_records c.args.inputs.now in
+    let inputs = ready_records c.args.inputs.now in
     let a = record_of_parts c.args.map.now in
     let i = c.loop-i.i in
     let bs = c.loop-i.blocks.items in
@@ -55,9 +54,9 @@ loop-i-preserved c =
       start = omega (arith, c.in_ok-start.ensures.end, c.block_at-block.ensures.start, c.loop-i.invariant.start, last) ∙ sym (ap (total inputs) c.in_ok-push.ensures.items);
     }
 
-pub returns-clause-blocks : goal.returns-clause-blocks
-returns-clause-blocks c =
-    let inputs = input_records c.args.inputs.now in
+pub returns-clause-made : goal.returns-clause-made
+returns-clause-made c =
+    let inputs = ready_records c.args.inputs.now in
     let a = record_of_parts c.args.map.now in
     let paths = ap length c.as_slice-paths.ensures.value in
     let items = length-map c.args.map.now.sources.items cow_str_bytes in

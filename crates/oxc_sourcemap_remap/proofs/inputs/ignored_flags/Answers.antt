@@ -1,5 +1,5 @@
 use Rattle.std.proofs.Common.{◌≡◌, ◌∙◌, sym, ap, arith, length, map, replicate, false, Some, Bool}
-use Rattle.std.proofs.Common.{None, Vec, Global, option_map, []}
+use Rattle.std.proofs.Common.{None, Vec, Global, []}
 use Rattle.std.proofs.lemmas.List.{length-map}
 use Rattle.std.specs.Cow.{cow_str_bytes}
 use Rattle.oxc_sourcemap_parts.specs.Views.{ids_of}

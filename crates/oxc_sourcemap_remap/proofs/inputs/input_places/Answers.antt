@@ -5,5 +5,5 @@ use Rattle.oxc_sourcemap_remap.proofs.inputs.input_places.Goals as goal
 
 pub loop-i-preserved : goal.loop-i-preserved
 loop-i-preserved c = λ text.
-    let index = place_step (λ i. i.0.now) text c.args.inputs.now c.loop-i.i c.index-inputs-i.result c.loop-i-test.true c.index-inputs-i.is in
-    grind (arith, text_keys, index, c.loop-i.invariant text, c.loop-i.invariant c.index-inputs-i.result.0.now)
+    let index = place_step (λ input. input.path.now) text c.args.inputs.now c.loop-i.i c.index-inputs-i.result c.loop-i-test.true c.index-inputs-i.is in
+    grind (arith, text_keys, index, c.loop-i.invariant text, c.loop-i.invariant c.index-inputs-i.result.path.now)

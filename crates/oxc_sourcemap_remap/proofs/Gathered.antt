@@ -1,7 +1,7 @@
 -- What tokens lead to and the tokens made of that, gathered one by one; and what all of it makes.
-use Rattle.std.proofs.Common.{◌≡◌, ◌≢◌, refl, sym, ap, subst, ◌∙◌, ℕ, ◌<◌, ◌≤◌, Bool, true, false, cond}
-use Rattle.std.proofs.Common.{◌&&◌, List, [], ◌∷◌, ◌++◌, map, length, nat_le, Option, Some, None}
-use Rattle.std.proofs.Common.{Result, Ok, Err, IfOk, IfErr, arith}
+use Rattle.std.proofs.Common.{◌≡◌, ◌≢◌, refl, sym, ap, subst, ◌∙◌, ℕ, ◌<◌, ◌≤◌, Bool, true, false}
+use Rattle.std.proofs.Common.{cond, ◌&&◌, List, [], ◌∷◌, ◌++◌, map, length, nat_le, Option, Some}
+use Rattle.std.proofs.Common.{None, Result, Ok, Err, IfOk, IfErr, arith}
 use Rattle.std.proofs.lemmas.Bool.Decides.{nat_tests}
 use Rattle.std.proofs.lemmas.List.{map-append, length-map}
 use Rattle.std.specs.List.{AllByRecursion, filter_map}
@@ -19,18 +19,18 @@ use Rattle.oxc_sourcemap_lookup.proofs.Targets.{all-append, is_target, targets-a
 use Rattle.oxc_sourcemap_remap.specs.Blocks.{remapped_sources, unless_empty}
 use Rattle.oxc_sourcemap_remap.specs.Inputs.{input_for, decoded_inputs, inputs_fault}
 use Rattle.oxc_sourcemap_remap.specs.Inputs.{NoInputColumnGoesBack}
-use Rattle.oxc_sourcemap_remap.specs.Remapped.{listed_sources, source_of, input_of, target_by, targets}
-use Rattle.oxc_sourcemap_remap.specs.Remapped.{Original, original, needed_name, needed_names, token_to}
-use Rattle.oxc_sourcemap_remap.specs.Remapped.{remapped_token, remapped_names, remapped_by}
-use Rattle.oxc_sourcemap_remap.specs.Remapped.{remapping_by, remapping, IsTargetBy}
-use Rattle.oxc_sourcemap_remap.specs.Remapped.{SomeRemapping}
-use Rattle.oxc_sourcemap_remap.specs.Bodies.{block_input, AreBlocks, block_of}
-use Rattle.oxc_sourcemap_remap.specs.Bodies.{block_original, IsBlockTarget, AreBlockTargets, block_ids}
+use Rattle.oxc_sourcemap_remap.specs.Remapped.{listed_sources, source_of, input_of, target_by}
+use Rattle.oxc_sourcemap_remap.specs.Remapped.{targets, Original, original, needed_name}
+use Rattle.oxc_sourcemap_remap.specs.Remapped.{needed_names, token_to, remapped_token}
+use Rattle.oxc_sourcemap_remap.specs.Remapped.{remapped_names, remapped_by, remapping_by, remapping}
+use Rattle.oxc_sourcemap_remap.specs.Remapped.{IsTargetBy, SomeRemapping}
+use Rattle.oxc_sourcemap_remap.specs.Bodies.{block_input, AreBlocks, block_of, block_original}
+use Rattle.oxc_sourcemap_remap.specs.Bodies.{IsBlockTarget, AreBlockTargets, block_ids}
 use Rattle.oxc_sourcemap_remap.specs.Bodies.{put_together}
 use Rattle.oxc_sourcemap_remap.specs.declared.blocks.Block.{Block}
 use Rattle.oxc_sourcemap_remap.proofs.InputPlaces.{input_for-all}
-use Rattle.oxc_sourcemap_remap.proofs.NeededNames.{all-needed, needed-cons, needed-append, needed-last}
-use Rattle.oxc_sourcemap_remap.proofs.NeededNames.{no-fewer, token-stays}
+use Rattle.oxc_sourcemap_remap.proofs.NeededNames.{all-needed, needed-cons, needed-append}
+use Rattle.oxc_sourcemap_remap.proofs.NeededNames.{needed-last, no-fewer, token-stays}
 use Rattle.oxc_sourcemap_remap.proofs.SourceBlocks.{paths-together, contents-together, few-sources}
 use Rattle.oxc_sourcemap_remap.proofs.SourceBlocks.{ignored-together, block-input-of}
 use Rattle.oxc_sourcemap_remap.proofs.SourceBlocks.{block-original-is}

@@ -8,8 +8,8 @@ use Rattle.std.specs.Str.{bytes_eq}
 use Rattle.oxc_sourcemap_tokens.specs.declared.error.Error.TheVariants.{InputLineOrder}
 use Rattle.oxc_sourcemap_parts.specs.Record.{Text}
 use Rattle.oxc_sourcemap_remap.specs.Inputs.{input_for, goes_back, inputs_fault}
-use Rattle.oxc_sourcemap_remap.specs.Bodies.{record_of_input, ready_records, input_paths}
-use Rattle.oxc_sourcemap_remap.specs.Bodies.{IsReady, AreReady}
+use Rattle.oxc_sourcemap_remap.specs.Bodies.{record_of_input, ready_records, input_paths, IsReady}
+use Rattle.oxc_sourcemap_remap.specs.Bodies.{AreReady}
 use Rattle.oxc_sourcemap_remap.specs.declared.inputs.Input.{Input}
 
 -- the input for a path, with its maps seen otherwise

@@ -12,8 +12,8 @@ use Rattle.oxc_sourcemap_parts.specs.Record.{Text}
 use Rattle.oxc_sourcemap_parts.specs.Texts.{index_of, with_texts}
 use Rattle.oxc_sourcemap_parts.proofs.Places.{index-stays, index-stays_with}
 use Rattle.oxc_sourcemap_lookup.specs.InheritedNames.{with_inherited}
-use Rattle.oxc_sourcemap_lookup.proofs.InheritedNames.{IsPlaced, placed-inherited, with_texts-append}
-use Rattle.oxc_sourcemap_lookup.proofs.InheritedNames.{with_texts-front}
+use Rattle.oxc_sourcemap_lookup.proofs.InheritedNames.{IsPlaced, placed-inherited}
+use Rattle.oxc_sourcemap_lookup.proofs.InheritedNames.{with_texts-append, with_texts-front}
 use Rattle.oxc_sourcemap_remap.specs.Remapped.{Original, needed_name, needed_names, token_to}
 
 placed-more : (names more : List Text) (o : Option Text) → IsPlaced names o → IsPlaced (with_texts names more) o

@@ -1,11 +1,10 @@
 -- Blocks of sources, made one by one, and what they are together.
-use Rattle.std.proofs.Common.{◌≡◌, refl, sym, ap, subst, ◌∙◌, ℕ, zero, suc, ◌+◌, ◌-◌, ◌<◌, ◌≤◌, min, Bool}
-use Rattle.std.proofs.Common.{List, [], get_or}
-use Rattle.std.proofs.Common.{◌∷◌, ◌++◌, map, length, take, drop, slice_get, Option, Some, None, Bor}
-use Rattle.std.proofs.Common.{arith}
-use Rattle.std.proofs.lemmas.List.{length-map, length-append, map-append}
+use Rattle.std.proofs.Common.{◌≡◌, refl, sym, ap, subst, ◌∙◌, ℕ, zero, suc, ◌+◌, ◌-◌, ◌<◌, ◌≤◌, min}
+use Rattle.std.proofs.Common.{Bool, List, [], get_or, ◌∷◌, ◌++◌, map, length, take, drop, slice_get}
+use Rattle.std.proofs.Common.{Option, Some, None, Bor, arith}
+use Rattle.std.proofs.lemmas.List.{length-map, length-append, map-append, take-map, drop-map}
+use Rattle.std.proofs.lemmas.List.{drop_min, take_rest}
 use Rattle.std.proofs.lemmas.List.Folds.{length-flat_map-take}
-use Rattle.std.proofs.lemmas.List.{take-map, drop-map, drop_min, take_rest}
 use Rattle.std.proofs.lemmas.Option.{slice_get-map, slice_get_within, get_or_from_slice_get}
 use Rattle.std.specs.Cow.{cow_str_bytes}
 use Rattle.std.specs.declared.alloc.Global.{Global}
@@ -18,16 +17,16 @@ use Rattle.oxc_sourcemap_parts.specs.DecodedMap.{decoded_map_of}
 use Rattle.oxc_sourcemap_parts.specs.Record.{Text, MapRecord}
 use Rattle.oxc_sourcemap_parts.specs.Views.{cow_texts, text_of, record_of_parts}
 use Rattle.oxc_sourcemap_lookup.specs.Composed.{Target}
-use Rattle.oxc_sourcemap_remap.specs.Blocks.{is_listed, sources_by, sources_for, remapped_sources, marked_from}
-use Rattle.oxc_sourcemap_remap.specs.Blocks.{marked_sources, marked_by, marked_for, ignored_from}
-use Rattle.oxc_sourcemap_remap.specs.Blocks.{unless_empty, remapped_ignore_list}
+use Rattle.oxc_sourcemap_remap.specs.Blocks.{is_listed, sources_by, sources_for, remapped_sources}
+use Rattle.oxc_sourcemap_remap.specs.Blocks.{marked_from, marked_sources, marked_by, marked_for}
+use Rattle.oxc_sourcemap_remap.specs.Blocks.{ignored_from, unless_empty, remapped_ignore_list}
 use Rattle.oxc_sourcemap_remap.specs.Inputs.{input_for, decoded_inputs}
 use Rattle.oxc_sourcemap_remap.specs.Remapped.{listed_sources, input_of, original_by, block_start}
 use Rattle.oxc_sourcemap_remap.specs.Remapped.{original_at, original}
-use Rattle.oxc_sourcemap_remap.specs.Bodies.{record_of_input, listed_flags, flags_of, IsFor, block_sources}
-use Rattle.oxc_sourcemap_remap.specs.Bodies.{block_input}
-use Rattle.oxc_sourcemap_remap.specs.Bodies.{HasSources, IsBlock, AreBlocksFrom, AreBlocks, HasInput}
-use Rattle.oxc_sourcemap_remap.specs.Bodies.{IsUsable, AreUsable, block_of, block_original, set_from}
+use Rattle.oxc_sourcemap_remap.specs.Bodies.{record_of_input, listed_flags, flags_of, IsFor}
+use Rattle.oxc_sourcemap_remap.specs.Bodies.{block_sources, block_input, HasSources, IsBlock}
+use Rattle.oxc_sourcemap_remap.specs.Bodies.{AreBlocksFrom, AreBlocks, HasInput, IsUsable}
+use Rattle.oxc_sourcemap_remap.specs.Bodies.{AreUsable, block_of, block_original, set_from}
 use Rattle.oxc_sourcemap_remap.specs.Bodies.{block_ids}
 use Rattle.oxc_sourcemap_remap.specs.declared.blocks.Block.{Block}
 use Rattle.oxc_sourcemap_remap.specs.declared.inputs.Input.{Input}

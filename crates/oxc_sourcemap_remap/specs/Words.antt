@@ -1,16 +1,14 @@
 -- The words of this crate's clauses, from one place.
-pub use Rattle.oxc_sourcemap_tokens.specs.LineOrder.{first_out_of_order}
 pub use Rattle.oxc_sourcemap_tokens.specs.Results.{FailsBy, Reports}
 pub use Rattle.oxc_sourcemap_tokens.specs.declared.error.Error.{Error}
 pub use Rattle.oxc_sourcemap_tokens.specs.declared.error.Error.TheVariants.{OutOfMemory, TooLarge}
-pub use Rattle.oxc_sourcemap_parts.specs.DecodedMap.{decoded_map_of, name_of}
+pub use Rattle.oxc_sourcemap_parts.specs.DecodedMap.{name_of}
 pub use Rattle.oxc_sourcemap_parts.specs.Texts.{index_of, with_text}
 pub use Rattle.oxc_sourcemap_parts.specs.Views.{cow_texts, text_of, texts_of, contents_of, ids_of}
 pub use Rattle.oxc_sourcemap_parts.specs.Views.{record_of_parts}
 pub use Rattle.oxc_sourcemap_lookup.specs.Composed.{Target, target_of}
 pub use Rattle.oxc_sourcemap_lookup.specs.Inherited.{HasPlaces}
 pub use Rattle.oxc_sourcemap_lookup.specs.InheritedNames.{with_inherited}
-pub use Rattle.oxc_sourcemap_lookup.specs.LineSpans.{IsIndexOf}
 pub use Rattle.oxc_sourcemap_remap.specs.Blocks.{remapped_sources, unless_empty}
 pub use Rattle.oxc_sourcemap_remap.specs.Bodies.{ready_records, input_paths, listed_flags, flags_of}
 pub use Rattle.oxc_sourcemap_remap.specs.Bodies.{IsReady, AreReady, IsFor, block_sources}
@@ -21,6 +19,5 @@ pub use Rattle.oxc_sourcemap_remap.specs.Bodies.{original_of_place, names_in, Ar
 pub use Rattle.oxc_sourcemap_remap.specs.Bodies.{put_together}
 pub use Rattle.oxc_sourcemap_remap.specs.Inputs.{input_records, decoded_inputs, goes_back}
 pub use Rattle.oxc_sourcemap_remap.specs.Inputs.{inputs_fault, NoInputColumnGoesBack}
-pub use Rattle.oxc_sourcemap_remap.specs.Remapped.{listed_sources, Original, input_original}
-pub use Rattle.oxc_sourcemap_remap.specs.Remapped.{original_by, needed_name, needed_names, token_to}
-pub use Rattle.oxc_sourcemap_remap.specs.Remapped.{remapping, SomeRemapping}
+pub use Rattle.oxc_sourcemap_remap.specs.Remapped.{listed_sources, input_original, needed_name}
+pub use Rattle.oxc_sourcemap_remap.specs.Remapped.{needed_names, token_to, remapping, SomeRemapping}

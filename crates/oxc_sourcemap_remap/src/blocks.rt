@@ -1,9 +1,9 @@
 //! The blocks of a remapped map: what stands for each source of the first map.
-ghost use Rattle.std.specs.Prelude.{◌≡◌, ◌≢◌, ◌+◌, ◌<◌, length, slice_get, IfOk, IfErr};
-ghost use Rattle.oxc_sourcemap_remap.specs.Words.{OutOfMemory, TooLarge, record_of_parts};
-ghost use Rattle.oxc_sourcemap_remap.specs.Words.{flags_of, ready_records, decoded_inputs};
-ghost use Rattle.oxc_sourcemap_remap.specs.Words.{AreReady, listed_sources, remapped_sources};
-ghost use Rattle.oxc_sourcemap_remap.specs.Words.{HasSources, AreBlocks, block_of};
+ghost use Rattle.std.specs.Prelude.{◌≡◌, ◌≢◌, ◌+◌, ◌<◌, length, IfOk, IfErr};
+ghost use Rattle.oxc_sourcemap_remap.specs.Words.{OutOfMemory, TooLarge, record_of_parts, flags_of};
+ghost use Rattle.oxc_sourcemap_remap.specs.Words.{ready_records, decoded_inputs, AreReady};
+ghost use Rattle.oxc_sourcemap_remap.specs.Words.{listed_sources, remapped_sources, HasSources};
+ghost use Rattle.oxc_sourcemap_remap.specs.Words.{AreBlocks, block_of};
 
 use crate::inputs::{Input, input_at, input_places};
 use oxc_sourcemap_parts::SourceMapParts;

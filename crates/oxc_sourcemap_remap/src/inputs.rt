@@ -1,12 +1,10 @@
 //! The inputs of a remapping, made ready.
-ghost use Rattle.std.specs.Prelude.{◌≡◌, ◌≢◌, ◌++◌, [], length, map, option_map, IfOk, OnOk};
-ghost use Rattle.std.specs.Prelude.{IfErr, Some, None, true, false};
-ghost use Rattle.std.specs.List.{position_from, range_with_len, list_any};
-ghost use Rattle.oxc_sourcemap_remap.specs.Words.{Error, OutOfMemory, FailsBy, Reports};
-ghost use Rattle.oxc_sourcemap_remap.specs.Words.{record_of_parts, ids_of, input_records};
-ghost use Rattle.oxc_sourcemap_remap.specs.Words.{goes_back, inputs_fault, listed_flags};
-ghost use Rattle.oxc_sourcemap_remap.specs.Words.{flags_of, IsReady, AreReady, HasPlaces, IsFor};
-ghost use Rattle.oxc_sourcemap_remap.specs.Words.{ready_records, input_paths};
+ghost use Rattle.std.specs.Prelude.{◌≡◌, [], length, IfOk, OnOk, Some, None};
+ghost use Rattle.std.specs.List.{position_from};
+ghost use Rattle.oxc_sourcemap_remap.specs.Words.{Error, FailsBy, Reports, record_of_parts};
+ghost use Rattle.oxc_sourcemap_remap.specs.Words.{input_records, goes_back, inputs_fault};
+ghost use Rattle.oxc_sourcemap_remap.specs.Words.{listed_flags, flags_of, IsReady, AreReady};
+ghost use Rattle.oxc_sourcemap_remap.specs.Words.{HasPlaces, IsFor, ready_records, input_paths};
 
 use oxc_sourcemap_lookup::LineIndex;
 use oxc_sourcemap_parts::SourceMapParts;

@@ -2,9 +2,9 @@
 ghost use Rattle.std.specs.Prelude.{◌≡◌, ◌++◌, map, slice_get, IfOk, OnOk};
 ghost use Rattle.std.specs.Option.{option_and_then};
 ghost use Rattle.std.specs.List.{flat_map};
-ghost use Rattle.oxc_sourcemap_remap.specs.Words.{cow_texts, texts_of, text_of, contents_of, ids_of};
-ghost use Rattle.oxc_sourcemap_remap.specs.Words.{block_sources, IsUsable, AreUsable, set_from};
-ghost use Rattle.oxc_sourcemap_remap.specs.Words.{block_ids, unless_empty};
+ghost use Rattle.oxc_sourcemap_remap.specs.Words.{cow_texts, texts_of, text_of, contents_of};
+ghost use Rattle.oxc_sourcemap_remap.specs.Words.{ids_of, block_sources, IsUsable, AreUsable};
+ghost use Rattle.oxc_sourcemap_remap.specs.Words.{set_from, block_ids, unless_empty};
 
 use crate::blocks::Block;
 use oxc_sourcemap_tokens::Memory;

@@ -1,5 +1,5 @@
 //! The names that the tokens of a remapped map need. Their ids are found by hashing.
-ghost use Rattle.std.specs.Prelude.{◌≡◌, ◌≢◌, ◌<◌, ◌≤◌, [], length, IfOk, OnOk, IfErr, Some, None};
+ghost use Rattle.std.specs.Prelude.{◌≡◌, ◌≢◌, ◌<◌, [], length, IfOk, OnOk, IfErr, Some};
 ghost use Rattle.oxc_sourcemap_remap.specs.Words.{OutOfMemory, TooLarge, index_of, with_text};
 ghost use Rattle.oxc_sourcemap_remap.specs.Words.{texts_of, names_in, ArePlaced};
 

@@ -1,14 +1,11 @@
 //! Remapping of maps.
 ghost use Rattle.std.specs.Prelude.{◌≡◌, ◌≢◌, ◌+◌, ◌<◌, ◌≤◌, List, map, length, option_map, IfOk};
 ghost use Rattle.std.specs.Prelude.{OnOk, IfErr, IfSome, Ok, Err, None};
-ghost use Rattle.std.specs.Box.{boxed_slice_items};
-ghost use Rattle.std.specs.List.{flat_map};
 ghost use Rattle.oxc_sourcemap_remap.specs.Words.{OutOfMemory, TooLarge, Reports, name_of};
-ghost use Rattle.oxc_sourcemap_remap.specs.Words.{record_of_parts, cow_texts, texts_of, text_of};
-ghost use Rattle.oxc_sourcemap_remap.specs.Words.{Target, target_of};
+ghost use Rattle.oxc_sourcemap_remap.specs.Words.{record_of_parts, cow_texts, Target, target_of};
 ghost use Rattle.oxc_sourcemap_remap.specs.Words.{input_records, inputs_fault, remapping};
-ghost use Rattle.oxc_sourcemap_remap.specs.Words.{NoInputColumnGoesBack, SomeRemapping};
-ghost use Rattle.oxc_sourcemap_remap.specs.Words.{IsUsable, AreUsable, block_of, block_original};
+ghost use Rattle.oxc_sourcemap_remap.specs.Words.{NoInputColumnGoesBack, SomeRemapping, IsUsable};
+ghost use Rattle.oxc_sourcemap_remap.specs.Words.{AreUsable, block_of, block_original};
 ghost use Rattle.oxc_sourcemap_remap.specs.Words.{IsBlockTarget, AreBlockTargets, input_original};
 ghost use Rattle.oxc_sourcemap_remap.specs.Words.{original_of_place, needed_name, needed_names};
 ghost use Rattle.oxc_sourcemap_remap.specs.Words.{token_to, names_in, ArePlaced, with_inherited};

@@ -1,11 +1,9 @@
-use Rattle.std.proofs.Common.{◌≡◌, ◌∙◌, ◌+◌, ◌-◌, ap, arith, length, map, take, drop}
-use Rattle.std.proofs.Common.{min}
+use Rattle.std.proofs.Common.{◌≡◌, ◌∙◌, ◌+◌, ◌-◌, ap, arith, length, map, take, drop, min}
 use Rattle.std.proofs.lemmas.List.{length-map}
 use Rattle.std.specs.Cow.{cow_str_bytes}
 use Rattle.oxc_sourcemap_parts.specs.DecodedMap.{sources_of}
 use Rattle.oxc_sourcemap_parts.specs.Views.{cow_texts, text_of, record_of_parts}
-use Rattle.oxc_sourcemap_remap.proofs.SourceBlocks.{own-sources, has-none, has-some}
-use Rattle.oxc_sourcemap_remap.proofs.SourceBlocks.{count-flags}
+use Rattle.oxc_sourcemap_remap.proofs.SourceBlocks.{own-sources, has-none, has-some, count-flags}
 use Rattle.oxc_sourcemap_remap.proofs.blocks.block_at.Goals as goal
 
 pub slice_bounds-result-end-in-None-2 : goal.slice_bounds-result-end-in-None-2

@@ -1,5 +1,5 @@
-use Rattle.std.proofs.Common.{◌≡◌, ◌∙◌, ◌+◌, ◌++◌, ◌∷◌, ◌≤◌, [], sym, ap, subst, map, length}
-use Rattle.std.proofs.Common.{take, slice_get, Some, arith}
+use Rattle.std.proofs.Common.{◌≡◌, ◌∙◌, ◌+◌, ◌++◌, ◌∷◌, ◌≤◌, [], sym, ap, subst, map, length, take}
+use Rattle.std.proofs.Common.{slice_get, Some, arith}
 use Rattle.std.proofs.lemmas.List.{length-map, take_all}
 use Rattle.std.proofs.lemmas.Result.{err_from_is_err_and}
 use Rattle.std.specs.Cow.{cow_str_bytes}
@@ -9,8 +9,8 @@ use Rattle.oxc_sourcemap_lookup.proofs.KeptNames.{name_at}
 use Rattle.oxc_sourcemap_remap.specs.Blocks.{marked_sources}
 use Rattle.oxc_sourcemap_remap.specs.Bodies.{ready_records, IsFor, IsBlock, AreBlocksFrom}
 use Rattle.oxc_sourcemap_remap.proofs.Indices.{take-one}
-use Rattle.oxc_sourcemap_remap.proofs.SourceBlocks.{marked-at, is-block, one-more, total, total-last}
-use Rattle.oxc_sourcemap_remap.proofs.SourceBlocks.{past-all, count-all-marked}
+use Rattle.oxc_sourcemap_remap.proofs.SourceBlocks.{marked-at, is-block, one-more, total}
+use Rattle.oxc_sourcemap_remap.proofs.SourceBlocks.{total-last, past-all, count-all-marked}
 use Rattle.oxc_sourcemap_remap.proofs.blocks.blocks_of.Goals as goal
 
 pub returns-in_err-start-clause-error : goal.returns-in_err-start-clause-error

@@ -1,5 +1,5 @@
-use Rattle.std.proofs.Common.{◌≡◌, ◌∙◌, refl, sym, ap, subst, length, option_map, Some, None, Option}
-use Rattle.std.proofs.Common.{Bor, arith}
+use Rattle.std.proofs.Common.{◌≡◌, ◌∙◌, refl, sym, ap, subst, length, option_map, Some, None}
+use Rattle.std.proofs.Common.{Option, Bor, arith}
 use Rattle.std.proofs.lemmas.Option.{slice_get_read}
 use Rattle.oxc_sourcemap_parts.specs.Texts.{index_of}
 use Rattle.oxc_sourcemap_remap.specs.Bodies.{ready_records, input_paths, IsFor}

@@ -237,8 +237,8 @@ fn remapped_parts<'m>(
 ///   tokens stay, but for a source id or name id out of range, which is left out.
 /// - In place of a source that has an input stand all sources of the input, with their contents, also where sources are equal.
 ///   A source is ignored if the map that it is from ignores it.
-/// - The names are those that tokens need, each once, in the order of the tokens. File and debug id are those of `map`. There
-///   are no source root, which sources need, and no chunks.
+/// - The names are those that tokens need, each once, in the order of the tokens. File and debug id are those of `map`; the
+///   result has no source root and no chunks.
 ///
 /// Nothing is taken: all strings of the result are borrowed from `map` and `inputs`.
 ///

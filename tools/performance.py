@@ -76,10 +76,14 @@ def instructions():
 
 
 def pipelines():
-    rows = bench([f"{options.folder}/pipelines/{name}" for name in PIPELINES], "--rounds", str(options.rounds))
-    write(f"\n### Composition\n\n| pipeline | tokens | compose |\n|---|---:|---|\n| *goal* | | {GOALS['compose']} |")
+    """Composition, and its instructions where they are soon counted: two runs, with the copies that they consume."""
+    paths = [f"{options.folder}/pipelines/{name}" for name in PIPELINES]
+    rows, counts = bench(paths, "--rounds", str(options.rounds)), bench(paths[:2], "--count")
+    write("\n### Composition\n\n| pipeline | tokens | compose | instructions |\n|---|---:|---|---|")
+    write(f"| *goal* | | {GOALS['compose']} | |")
     for name in PIPELINES:
-        write(f"| {name} | {rows[name, 'compose']['tokens']} | {cell(rows[name, 'compose'])} |")
+        counted = cell(counts[name, "compose"]) if (name, "compose") in counts else ""
+        write(f"| {name} | {rows[name, 'compose']['tokens']} | {cell(rows[name, 'compose'])} | {counted} |")
 
 
 def small():

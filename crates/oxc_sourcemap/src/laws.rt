@@ -4,5 +4,5 @@
 pub use oxc_sourcemap_builders::name_ids_unique;
 pub use oxc_sourcemap_laws::{
     canonical_unique, composition_associative, dropping_harmless, joins_associative,
-    tokens_in_bounds,
+    tokens_in_bounds, trace_of_composition, trace_of_join,
 };

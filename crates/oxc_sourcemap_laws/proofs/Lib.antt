@@ -12,5 +12,10 @@ pub mod Compositions
 pub mod ComposedNames
 pub mod Groupings
 pub mod ComposedBounds
+pub mod TracesComposed
+pub mod TracesMoved
+pub mod TracesRising
+pub mod TracesJoined
+mod TracesWorked
 mod Worked
 mod WorkedTexts

@@ -5,4 +5,5 @@ pub mod JoinLaws
 pub mod SectionLaws
 pub mod ComposedDecodedMaps
 pub mod ComposeLaws
+pub mod TraceLaws
 pub mod Words

@@ -19,3 +19,6 @@ pub use Rattle.oxc_sourcemap_laws.specs.JoinLaws.{JoinChunksFit, JoinsAssociativ
 pub use Rattle.oxc_sourcemap_laws.specs.MapLaws.{SoundIsWritten, SoundIsTooLarge, SoundReadsBack}
 pub use Rattle.oxc_sourcemap_laws.specs.MapLaws.{SoundStaysSound}
 pub use Rattle.oxc_sourcemap_laws.specs.SectionLaws.{ValueOfSections, TextOfSections}
+pub use Rattle.oxc_sourcemap_laws.specs.TraceLaws.{TracesOfComposition, TracesOfComposedMaps}
+pub use Rattle.oxc_sourcemap_laws.specs.TraceLaws.{TracesOnOwnLine, TracesOfSortedJoin}
+pub use Rattle.oxc_sourcemap_laws.specs.TraceLaws.{TracesWithinPart, TracesOfJoinedMaps}

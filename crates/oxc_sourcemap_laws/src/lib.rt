@@ -22,6 +22,9 @@ ghost use Rattle.oxc_sourcemap_laws.specs.Words.{RepeatsHarmless, TracesAgree, T
 ghost use Rattle.oxc_sourcemap_laws.specs.Words.{JoinKeepsEqualUpToRepeats, DecodedMapOfJoin};
 ghost use Rattle.oxc_sourcemap_laws.specs.Words.{JoinStandsFor, JoinInRange, JoinNames, JoinTokens};
 ghost use Rattle.oxc_sourcemap_laws.specs.Words.{JoinChunksFit, JoinsAssociative, JoinOneMore};
+ghost use Rattle.oxc_sourcemap_laws.specs.Words.{TracesOfComposition, TracesOfComposedMaps};
+ghost use Rattle.oxc_sourcemap_laws.specs.Words.{TracesOnOwnLine, TracesOfSortedJoin};
+ghost use Rattle.oxc_sourcemap_laws.specs.Words.{TracesWithinPart, TracesOfJoinedMaps};
 
 pub use oxc_sourcemap_tokens::tokens_in_bounds;
 
@@ -133,4 +136,45 @@ pub fn composition_associative()
     ensures too_large { CompositionTooLarge }
     ensures in_bounds { CompositionInBounds }
     ensures sorted_goes_on { SortedGoesOn }
+{}
+
+/// The traces of a composition are those of its first decoded map, led on through the second. A trace is what the mapping
+/// found at a generated position points to.
+/// - The exact trace of the composition of two decoded maps at a line and a column is nothing where the exact trace of the
+///   first is nothing, and unmapped where that is unmapped. Else that gives an original position, and the trace of the
+///   composition is what the clamped trace of the second says at its line and column, with the name of the original position
+///   if the second has none there. It is unmapped if the clamped trace of the second finds nothing, or an unmapped mapping.
+///   The clamped trace of the composition is the clamped trace of the first, led on in the same way (`decoded_maps`). Neither
+///   decoded map need be sorted.
+/// - The same holds of maps, if the source ids of the first map and the ids of the second map's tokens are in range (`maps`).
+///
+/// It is not true with the exact trace of the second: in front of the first mapping of a line only the clamped trace finds
+/// one.
+pub fn trace_of_composition()
+    ensures decoded_maps { TracesOfComposition }
+    ensures maps { TracesOfComposedMaps }
+{}
+
+/// The traces of a join are those of its parts. A part is a decoded map and the offset where its code begins. A line and a
+/// column of it come to stand at a position of the join: further down by the line of the offset, and on line 0 of the part
+/// further right by the column of the offset.
+/// - On a line of a part where no other part has a mapping, the traces of the join, exact and clamped, are those of the part,
+///   at every column (`own_line`). The join need not be sorted. So if each part begins on a line past all lines of the parts
+///   before it, a part is traced in the join as by itself, on every line before that where the next part begins.
+/// - In a sorted join, one part answers at a position: the first one with a mapping at the position itself, or else the last
+///   one with a mapping before it on its line. The exact trace of the join is that of this part, and nothing if there is no
+///   such part. The clamped trace is the clamped trace of this part, or else of the first part with a mapping on the line
+///   (`in_order`).
+/// - So the traces of a sorted join, exact and clamped, are those of a part where it has a mapping at the position or before
+///   it on the line, no part before it has one at the position itself, and no part after it has begun (`within_part`).
+/// - The traces of a sorted join of maps, if all ids are in range, are those of its parts in the same way (`maps`).
+///
+/// It is not true that the last part that has begun always answers: where it begins at a mapping of a part before it, that
+/// mapping is found; and where it has no mapping yet, the last one of a part before it on the line. Nor need the part that
+/// answers be that of `in_order` if parts share a line and columns go back on it.
+pub fn trace_of_join()
+    ensures own_line { TracesOnOwnLine }
+    ensures in_order { TracesOfSortedJoin }
+    ensures within_part { TracesWithinPart }
+    ensures maps { TracesOfJoinedMaps }
 {}

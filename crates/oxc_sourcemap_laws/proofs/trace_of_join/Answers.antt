@@ -1,0 +1,16 @@
+use Rattle.oxc_sourcemap_laws.proofs.TracesMoved.{traces_on_own_line}
+use Rattle.oxc_sourcemap_laws.proofs.TracesJoined.{traces_joined, traces_within}
+use Rattle.oxc_sourcemap_laws.proofs.TracesJoined.{traces_of_joined_maps}
+use Rattle.oxc_sourcemap_laws.proofs.trace_of_join.Goals as goal
+
+pub returns-clause-own_line : goal.returns-clause-own_line
+returns-clause-own_line c = traces_on_own_line
+
+pub returns-clause-in_order : goal.returns-clause-in_order
+returns-clause-in_order c = traces_joined
+
+pub returns-clause-within_part : goal.returns-clause-within_part
+returns-clause-within_part c = traces_within
+
+pub returns-clause-maps : goal.returns-clause-maps
+returns-clause-maps c = traces_of_joined_maps

@@ -1,6 +1,6 @@
 -- Source roots: the text that stands before each source of a map.
-use Rattle.std.specs.Prelude.{ℕ, Bool, true, false, ◌&&◌, ◌||◌, ◌==◌, List, [], ◌∷◌, ◌++◌, map, codes}
-use Rattle.std.specs.Prelude.{Option, Some, None, if◌then◌else◌, not, eqb, length}
+use Rattle.std.specs.Prelude.{ℕ, Bool, false, ◌&&◌, ◌||◌, ◌==◌, List, [], ◌∷◌, ◌++◌, map}
+use Rattle.std.specs.Prelude.{codes, Option, Some, None, if◌then◌else◌, not, eqb, length}
 use Rattle.std.specs.List.{starts_with, ends_with}
 use Rattle.std.specs.Char.{is_ascii_alphabetic, is_ascii_alphanumeric}
 use Rattle.oxc_sourcemap_parts.specs.Record.{Text, MapRecord}

@@ -80,6 +80,7 @@ static void messages(void) {
     message_is(SMAP_WORDS, 0, 0, "The words say no plan");
     message_is(SMAP_NO_TEXT, 0, 3, "There is no text 3");
     message_is(SMAP_SECTION_ORDER, 0, 3, "Section 3 begins before the end of what is in front of it");
+    message_is(SMAP_INPUT_LINE_ORDER, 0, 2, "The tokens of input 2 go back in lines");
     message_is(SMAP_JSON_SHAPE, SMAP_FIELD_SECTIONS, 0, "JSON parsing error: field sections is missing or has the wrong type");
     message_is(SMAP_JSON_SHAPE, SMAP_FIELD_OFFSET, 0, "JSON parsing error: field offset is missing or has the wrong type");
     message_is(SMAP_JSON_SHAPE, SMAP_FIELD_MAP, 0, "JSON parsing error: field map is missing or has the wrong type");

@@ -45,6 +45,8 @@ pub enum ErrorKind {
     SeveralSources(u64),
     /// The first section of an indexed map that begins before the end of those before it.
     SectionOrder(u64),
+    /// The index of the first input of a remapping whose tokens go back in lines.
+    InputLineOrder(u64),
     /// In a plan: the tokens of a map are not sorted.
     Unsorted,
     /// In a plan: it is deeper than 64.
@@ -134,6 +136,7 @@ fn kind_of(fault: &raw::Fault) -> ErrorKind {
         17 => ErrorKind::Words,
         18 => ErrorKind::NoText(number),
         19 => ErrorKind::SectionOrder(index),
+        20 => ErrorKind::InputLineOrder(index),
         101 => ErrorKind::NotUtf8(index),
         // The types of this crate rule out empty handles and lists of different lengths.
         code => unreachable!("code {code}"),

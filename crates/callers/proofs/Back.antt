@@ -6,7 +6,7 @@ use Rattle.oxc_sourcemap.specs.Error.TheVariants.{VlqLeftover, VlqNoValues, VlqO
 use Rattle.oxc_sourcemap.specs.Error.TheVariants.{BadSegmentSize, BadSourceReference}
 use Rattle.oxc_sourcemap.specs.Error.TheVariants.{BadNameReference, OutOfMemory, TooLarge}
 use Rattle.oxc_sourcemap.specs.Error.TheVariants.{LineOrder, BadChunks, SeveralSources}
-use Rattle.oxc_sourcemap.specs.Error.TheVariants.{SectionOrder}
+use Rattle.oxc_sourcemap.specs.Error.TheVariants.{SectionOrder, InputLineOrder}
 use Rattle.oxc_sourcemap.specs.Json.{JsonRecord}
 use Rattle.oxc_sourcemap.specs.Pieces.{writing_fault}
 use Rattle.oxc_sourcemap.specs.Record.{MapRecord}
@@ -65,3 +65,4 @@ only-memory (LineOrder i) h = absurd (h (λ q. cc))
 only-memory (BadChunks k) h = absurd (h (λ q. cc))
 only-memory (SeveralSources n) h = absurd (h (λ q. cc))
 only-memory (SectionOrder k) h = absurd (h (λ q. cc))
+only-memory (InputLineOrder k) h = absurd (h (λ q. cc))

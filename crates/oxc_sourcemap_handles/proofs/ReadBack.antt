@@ -19,6 +19,7 @@ use Rattle.oxc_sourcemap_tokens.specs.declared.error.Error.TheVariants.{OutOfMem
 use Rattle.oxc_sourcemap_tokens.specs.declared.error.Error.TheVariants.{LineOrder, BadChunks}
 use Rattle.oxc_sourcemap_tokens.specs.declared.error.Error.TheVariants.{SeveralSources}
 use Rattle.oxc_sourcemap_tokens.specs.declared.error.Error.TheVariants.{SectionOrder}
+use Rattle.oxc_sourcemap_tokens.specs.declared.error.Error.TheVariants.{InputLineOrder}
 use Rattle.oxc_sourcemap_tokens.specs.declared.plan_error.PlanError.TheVariants.{Map, Unsorted}
 use Rattle.oxc_sourcemap_tokens.specs.declared.plan_error.PlanError.TheVariants.{TooDeep}
 use Rattle.oxc_sourcemap_handles.specs.declared.call_error.CallError.{CallError}
@@ -61,6 +62,7 @@ read_back (Plan (Map (LineOrder i))) s = refl
 read_back (Plan (Map (BadChunks k))) s = refl
 read_back (Plan (Map (SeveralSources n))) s = refl
 read_back (Plan (Map (SectionOrder k))) s = refl
+read_back (Plan (Map (InputLineOrder k))) s = refl
 read_back (Plan Unsorted) s = refl
 read_back (Plan TooDeep) s = refl
 read_back Words s = refl

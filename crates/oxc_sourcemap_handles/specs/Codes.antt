@@ -20,6 +20,7 @@ use Rattle.oxc_sourcemap_tokens.specs.declared.error.Error.TheVariants.{OutOfMem
 use Rattle.oxc_sourcemap_tokens.specs.declared.error.Error.TheVariants.{LineOrder, BadChunks}
 use Rattle.oxc_sourcemap_tokens.specs.declared.error.Error.TheVariants.{SeveralSources}
 use Rattle.oxc_sourcemap_tokens.specs.declared.error.Error.TheVariants.{SectionOrder}
+use Rattle.oxc_sourcemap_tokens.specs.declared.error.Error.TheVariants.{InputLineOrder}
 use Rattle.oxc_sourcemap_tokens.specs.declared.plan_error.PlanError.{PlanError}
 use Rattle.oxc_sourcemap_tokens.specs.declared.plan_error.PlanError.TheVariants.{Map, Unsorted}
 use Rattle.oxc_sourcemap_tokens.specs.declared.plan_error.PlanError.TheVariants.{TooDeep}
@@ -70,6 +71,7 @@ fault_of_error (LineOrder i) = fault 12 i
 fault_of_error (BadChunks k) = fault 13 k
 fault_of_error (SeveralSources n) = fault 14 n
 fault_of_error (SectionOrder k) = fault 19 k
+fault_of_error (InputLineOrder k) = fault 20 k
 
 abbrev pub fault_of_plan_error : PlanError → Fault
 fault_of_plan_error (Map error) = fault_of_error error
@@ -131,6 +133,7 @@ error_of f =
     else if f.code == 13 then Some (BadChunks f.detail)
     else if f.code == 14 then Some (SeveralSources f.detail)
     else if f.code == 19 then Some (SectionOrder f.detail)
+    else if f.code == 20 then Some (InputLineOrder f.detail)
     else None
 
 -- the error with these numbers
@@ -163,6 +166,7 @@ short_number_of_error (LineOrder i) = 0
 short_number_of_error (BadChunks k) = 0
 short_number_of_error (SeveralSources n) = 0
 short_number_of_error (SectionOrder k) = 0
+short_number_of_error (InputLineOrder k) = 0
 
 abbrev pub short_number_of : CallError → ℕ
 short_number_of (Plan (Map error)) = short_number_of_error error

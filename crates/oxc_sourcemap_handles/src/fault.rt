@@ -111,6 +111,7 @@ impl Fault {
             Error::BadChunks(k) => Fault::with(13, k as u64),
             Error::SeveralSources(n) => Fault::with(14, n as u64),
             Error::SectionOrder(k) => Fault::with(19, k as u64),
+            Error::InputLineOrder(k) => Fault::with(20, k as u64),
         }
     }
 
@@ -161,6 +162,7 @@ impl Fault {
             13 => Some(Error::BadChunks(index)),
             14 => Some(Error::SeveralSources(index)),
             19 => Some(Error::SectionOrder(index)),
+            20 => Some(Error::InputLineOrder(index)),
             _ => None,
         }
     }

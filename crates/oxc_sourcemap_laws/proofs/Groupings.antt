@@ -14,6 +14,7 @@ use Rattle.oxc_sourcemap_tokens.specs.declared.error.Error.TheVariants.{OutOfMem
 use Rattle.oxc_sourcemap_tokens.specs.declared.error.Error.TheVariants.{LineOrder, BadChunks}
 use Rattle.oxc_sourcemap_tokens.specs.declared.error.Error.TheVariants.{SeveralSources}
 use Rattle.oxc_sourcemap_tokens.specs.declared.error.Error.TheVariants.{SectionOrder}
+use Rattle.oxc_sourcemap_tokens.specs.declared.error.Error.TheVariants.{InputLineOrder}
 use Rattle.oxc_sourcemap_tokens.specs.LineOrder.{first_out_of_order}
 use Rattle.oxc_sourcemap_parts.specs.Record.{Text, MapRecord}
 use Rattle.oxc_sourcemap_parts.specs.Texts.{index_of}
@@ -166,6 +167,7 @@ too-large-or-not (LineOrder i) = inr (λ q. cc (q))
 too-large-or-not (BadChunks k) = inr (λ q. cc (q))
 too-large-or-not (SeveralSources n) = inr (λ q. cc (q))
 too-large-or-not (SectionOrder k) = inr (λ q. cc (q))
+too-large-or-not (InputLineOrder k) = inr (λ q. cc (q))
 
 is-too-large : (q : Result MapRecord Error) → (q ≡ Err TooLarge) ⊎ (q ≢ Err TooLarge)
 is-too-large (Ok r) = inr (λ e. cc (e))

@@ -11,7 +11,7 @@ ghost use Rattle.oxc_sourcemap_map.specs.Words.{SomeComposition, NoColumnGoesBac
 ghost use Rattle.oxc_sourcemap_map.specs.Words.{clamped_trace, view_of, seen_in, view_original};
 ghost use Rattle.oxc_sourcemap_map.specs.Words.{content_at, source_and_content_at, the_row};
 ghost use Rattle.oxc_sourcemap_map.specs.Words.{map_row, Answers, OnlyMemory, Reports, lent_items};
-ghost use Rattle.oxc_sourcemap_map.specs.Words.{lent_item, appended};
+ghost use Rattle.oxc_sourcemap_map.specs.Words.{lent_item, appended, rooted};
 ghost use Rattle.std.specs.Prelude.{◌≡◌, ◌≢◌, List, [], map, option_map, slice_get, string_bytes};
 ghost use Rattle.std.specs.Prelude.{IfOk, IfErr, IfSome, IsNone, Ok, Err, Some, OnOk, OnErr, ◌↔◌};
 ghost use Rattle.std.specs.Prelude.{true};
@@ -187,11 +187,25 @@ impl OwnedSourceMap {
         self.inner.set_file(alloc, file)
     }
 
-    /// The source root, which consumers prepend to each source. `get_source` and `get_sources` return sources without it.
+    /// The source root, which consumers prepend to each source. `get_source` and `get_sources` return sources without it;
+    /// `apply_source_root` puts it before them.
     pub fn get_source_root(&self) -> Option<&str>
         ensures { lent_item result ≡ self.now.source_root }
     {
         self.inner.get_source_root()
+    }
+
+    /// Puts the source root before each source, and leaves the map without one. A `/` stands between the two, unless the root
+    /// is empty or ends in one. A source that begins with `/`, or with a scheme and `:`, stays as it is. Without a source root
+    /// nothing changes. Joins and indexed maps drop the roots of their parts, so this is to be called before.
+    ///
+    /// Fails only with `OutOfMemory`; the map is then as it was.
+    pub fn apply_source_root(&mut self, alloc: Global) -> Result<()>
+        ensures rooted { OnOk result (self.new ≡ rooted self.old) }
+        ensures error { OnlyMemory result }
+        ensures unchanged { OnErr result (self.new ≡ self.old) }
+    {
+        self.inner.apply_source_root(alloc)
     }
 
     /// The indices of third-party sources, which debuggers may skip.

@@ -12,6 +12,7 @@ ghost use Rattle.oxc_sourcemap_map.specs.Words.{encoded, decoded_map_of, read_ma
 ghost use Rattle.oxc_sourcemap_map.specs.Words.{read_decoded_map, map_text, map_url, view_of};
 ghost use Rattle.oxc_sourcemap_map.specs.Words.{seen_in, content_at, source_and_content_at};
 ghost use Rattle.oxc_sourcemap_map.specs.Words.{Answers, OnlyMemory, Reports, lent_item, appended};
+ghost use Rattle.oxc_sourcemap_map.specs.Words.{rooted};
 
 use crate::source_view_token::SourceViewToken;
 use crate::view_tokens::ViewTokens;
@@ -21,8 +22,8 @@ use oxc_sourcemap_encode::{
 };
 use oxc_sourcemap_json::JSONSourceMap;
 use oxc_sourcemap_parts::{
-    Contents, Names, SourceMapParts, Sources, Tokens, are_sorted, are_sound, contents_in,
-    owned_contents, owned_parts, owned_texts, texts_in, tokens_in,
+    Contents, Names, SourceMapParts, Sources, Tokens, apply_root, are_sorted, are_sound,
+    contents_in, owned_contents, owned_parts, owned_texts, texts_in, tokens_in,
 };
 use oxc_sourcemap_tokens::{Result, Token, TokenChunk};
 use std::alloc::Global;
@@ -226,11 +227,36 @@ impl<'a> SourceMap<'a> {
         Ok(())
     }
 
-    /// The source root, which consumers prepend to each source. `get_source` and `get_sources` return sources without it.
+    /// The source root, which consumers prepend to each source. `get_source` and `get_sources` return sources without it;
+    /// `apply_source_root` puts it before them.
     pub fn get_source_root(&self) -> Option<&str>
         ensures { lent_item result ≡ self.now.source_root }
     {
         self.parts.source_root.as_deref()
+    }
+
+    /// Puts the source root before each source, and leaves the map without one. A `/` stands between the two, unless the root
+    /// is empty or ends in one. A source that begins with `/`, or with a scheme and `:`, stays as it is. Without a source root
+    /// nothing changes. Joins and indexed maps drop the roots of their parts, so this is to be called before.
+    ///
+    /// ```rust
+    /// use oxc_sourcemap::SourceMap;
+    ///
+    /// let json = r#"{"version":3,"sourceRoot":"pkg/src","sources":["index.ts","/lib.ts"],"mappings":""}"#;
+    /// let mut map = SourceMap::from_json_string(alloc, json)?;
+    /// map.apply_source_root(alloc)?;
+    /// assert_eq!(rt; map.get_source(0), Some("pkg/src/index.ts"));
+    /// assert_eq!(rt; map.get_source(1), Some("/lib.ts"));
+    /// assert_eq!(rt; map.get_source_root(), None);
+    /// ```
+    ///
+    /// Fails only with `OutOfMemory`; the map is then as it was.
+    pub fn apply_source_root(&mut self, alloc: Global) -> Result<()>
+        ensures rooted { OnOk result (self.new ≡ rooted self.old) }
+        ensures error { OnlyMemory result }
+        ensures unchanged { OnErr result (self.new ≡ self.old) }
+    {
+        Ok(apply_root(alloc, &mut self.parts)?)
     }
 
     /// The indices of third-party sources, which debuggers may skip.

@@ -1,4 +1,5 @@
 pub mod Record
+pub mod Roots
 pub mod Views
 pub mod Sorted
 pub mod Sound

@@ -20,6 +20,7 @@ use Rattle.oxc_sourcemap_tokens.specs.declared.error.Error.TheVariants.{OutOfMem
 use Rattle.oxc_sourcemap_tokens.specs.declared.error.Error.TheVariants.{LineOrder, BadChunks}
 use Rattle.oxc_sourcemap_tokens.specs.declared.error.Error.TheVariants.{SeveralSources}
 use Rattle.oxc_sourcemap_tokens.specs.declared.error.Error.TheVariants.{SectionOrder}
+use Rattle.oxc_sourcemap_tokens.specs.declared.error.Error.TheVariants.{InputLineOrder}
 use Rattle.oxc_sourcemap_tokens.specs.Token.{TokenRecord, IsInBounds, AreInBounds, last}
 use Rattle.oxc_sourcemap_mappings.specs.TextLaws.{ReadsAgain}
 use Rattle.oxc_sourcemap_tokens.specs.LineOrder.{first_out_of_order}
@@ -87,6 +88,7 @@ memory_or_not (LineOrder i) = inr (λ q. cc (q))
 memory_or_not (BadChunks k) = inr (λ q. cc (q))
 memory_or_not (SeveralSources n) = inr (λ q. cc (q))
 memory_or_not (SectionOrder k) = inr (λ q. cc (q))
+memory_or_not (InputLineOrder k) = inr (λ q. cc (q))
 
 -- an error may be assumed not to be want of memory, which every outcome allows
 pub unless_memory : (e : Error) (o : Outcome) → ((e ≢ OutOfMemory) → FailsAs (Map e) o) → FailsAs (Map e) o

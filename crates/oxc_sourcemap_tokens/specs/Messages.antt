@@ -21,6 +21,7 @@ use Rattle.oxc_sourcemap_tokens.specs.declared.error.Error.TheVariants.{OutOfMem
 use Rattle.oxc_sourcemap_tokens.specs.declared.error.Error.TheVariants.{LineOrder, BadChunks}
 use Rattle.oxc_sourcemap_tokens.specs.declared.error.Error.TheVariants.{SeveralSources}
 use Rattle.oxc_sourcemap_tokens.specs.declared.error.Error.TheVariants.{SectionOrder}
+use Rattle.oxc_sourcemap_tokens.specs.declared.error.Error.TheVariants.{InputLineOrder}
 
 -- the key of a field of the JSON object, and none for the object itself
 abbrev pub key_of : Field → Option (List ℕ)
@@ -65,3 +66,4 @@ error_text (LineOrder i) = codes "Token " ++ decimal i ++ codes " lies on a line
 error_text (BadChunks k) = codes "Token chunk " ++ decimal k ++ codes " does not fit the tokens"
 error_text (SeveralSources n) = codes "Cannot compose a transformation map with " ++ decimal n ++ codes " sources"
 error_text (SectionOrder k) = codes "Section " ++ decimal k ++ codes " begins before the end of what is in front of it"
+error_text (InputLineOrder k) = codes "The tokens of input " ++ decimal k ++ codes " go back in lines"

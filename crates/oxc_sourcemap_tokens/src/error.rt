@@ -43,6 +43,9 @@ pub enum Error {
     /// The index of the first section of an indexed map whose offset is before that of the section before it, or before the
     /// last token of the sections before it.
     SectionOrder(usize),
+    /// The index of the first input of `remap` whose tokens go back in lines. The lookup table of that input fails with its
+    /// `LineOrder`.
+    InputLineOrder(usize),
 }
 
 /// Why a JSON text or a JSON value is not a source map of version 3.
@@ -173,6 +176,7 @@ impl fmt::Display for Error {
                     "Section {k} begins before the end of what is in front of it"
                 )
             }
+            Error::InputLineOrder(k) => write!(f, "The tokens of input {k} go back in lines"),
         }
     }
 }

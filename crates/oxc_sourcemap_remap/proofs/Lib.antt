@@ -1,0 +1,7 @@
+pub mod Indices
+pub mod NeededNames
+pub mod Flags
+pub mod InputPlaces
+pub mod SourceBlocks
+pub mod Gathered
+mod Worked

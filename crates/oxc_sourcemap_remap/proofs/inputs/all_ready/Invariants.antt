@@ -1,0 +1,10 @@
+use Rattle.std.proofs.Common.{◌≡◌, take}
+use Rattle.oxc_sourcemap_remap.specs.Bodies.{ready_records, AreReady}
+use Rattle.oxc_sourcemap_remap.specs.Inputs.{input_records}
+use Rattle.oxc_sourcemap_remap.proofs.inputs.all_ready.Given as goal
+
+abbrev pub invariant-loop-path : goal.invariant-loop-path
+invariant-loop-path l = record {
+  ready : AreReady l.ready.items;
+  inputs : ready_records l.ready.items ≡ input_records (take l.path-index l.inputs);
+}

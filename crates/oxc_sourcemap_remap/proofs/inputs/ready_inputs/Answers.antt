@@ -1,0 +1,10 @@
+use Rattle.std.proofs.Common.{◌∙◌, sym, ap}
+use Rattle.oxc_sourcemap_remap.specs.Inputs.{inputs_fault}
+use Rattle.oxc_sourcemap_remap.proofs.InputPlaces.{no-fault}
+use Rattle.oxc_sourcemap_remap.proofs.inputs.ready_inputs.Goals as goal
+
+pub returns-in-Ok-clause-well : goal.returns-in-Ok-clause-well
+returns-in-Ok-clause-well c = sym (ap inputs_fault c.in-Ok.ensures.inputs) ∙ no-fault _ c.in-Ok.ensures.ready
+
+pub returns-in-Ok-clause-fault : goal.returns-in-Ok-clause-fault
+returns-in-Ok-clause-fault c = λ e f. absurd (cc (f, sym (ap inputs_fault c.in-Ok.ensures.inputs) ∙ no-fault _ c.in-Ok.ensures.ready))

@@ -1,0 +1,160 @@
+-- How the private steps of a remapping are seen. No public contract cites this module.
+use Rattle.std.specs.Prelude.{◌≡◌, ℕ, ◌+◌, ◌≤◌, Bool, List, [], ◌∷◌, map, length, take, drop}
+use Rattle.std.specs.Prelude.{slice_get, Option, Some, None, option_map, if◌then◌else◌}
+use Rattle.std.specs.Borrow.{Bor}
+use Rattle.std.specs.Box.{boxed_slice_items}
+use Rattle.std.specs.List.{AllByRecursion, range_with_len, flat_map}
+use Rattle.std.specs.Option.{option_and_then}
+use Rattle.oxc_sourcemap_tokens.specs.LineOrder.{first_out_of_order}
+use Rattle.oxc_sourcemap_tokens.specs.Token.{TokenRecord}
+use Rattle.oxc_sourcemap_parts.specs.DecodedMap.{DecodedSource, sources_of, decoded_map_of}
+use Rattle.oxc_sourcemap_parts.specs.Record.{Text, MapRecord}
+use Rattle.oxc_sourcemap_parts.specs.Views.{cow_texts, text_of, record_of_parts}
+use Rattle.oxc_sourcemap_lookup.specs.Composed.{Target}
+use Rattle.oxc_sourcemap_lookup.specs.Inherited.{HasPlaces}
+use Rattle.oxc_sourcemap_lookup.specs.LineSpans.{IsIndexOf}
+use Rattle.oxc_sourcemap_remap.specs.Blocks.{sources_for, is_listed, marked_sources, marked_for}
+use Rattle.oxc_sourcemap_remap.specs.Blocks.{unless_empty}
+use Rattle.oxc_sourcemap_remap.specs.Inputs.{input_for, decoded_inputs}
+use Rattle.oxc_sourcemap_remap.specs.Remapped.{listed_sources, Original, original_by, IsTargetBy}
+use Rattle.oxc_sourcemap_remap.specs.declared.blocks.Block.{Block}
+use Rattle.oxc_sourcemap_remap.specs.declared.inputs.Input.{Input}
+use Rattle.oxc_sourcemap_remap.specs.declared.needed_names.NeededNames.{NeededNames}
+use Rattle.oxc_sourcemap_remap.specs.declared.remap.Place.{Place}
+
+-- the map of an input
+abbrev pub record_of_input : Input → MapRecord
+record_of_input input = record_of_parts input.map.now
+
+-- inputs that are ready, as inputs
+abbrev pub ready_records : List Input → List (Text × MapRecord)
+ready_records ready = map (λ input. (input.path.now, record_of_input input)) ready
+
+-- the paths of inputs
+abbrev pub input_paths : List Input → List Text
+input_paths ready = map (λ input. input.path.now) ready
+
+-- for each index below a number, whether an ignore list has it
+abbrev pub listed_flags : Option (List ℕ) → ℕ → List Bool
+listed_flags ignore_list n = map (is_listed ignore_list) (range_with_len 0 n)
+
+-- whether each source of a map is ignored
+abbrev pub flags_of : MapRecord → List Bool
+flags_of a = listed_flags a.ignore_list (length a.sources)
+
+-- an input that is ready has the index of its lines, and whether each of its sources is ignored
+pub record IsReady (input : Input) : Type 0 where
+  pub index : IsIndexOf (boxed_slice_items input.map.now.tokens) input.index
+  pub order : first_out_of_order (boxed_slice_items input.map.now.tokens) ≡ None
+  pub flags : input.ignored.items ≡ flags_of (record_of_input input)
+
+abbrev pub AreReady : List Input → Type 0
+AreReady ready = AllByRecursion IsReady ready
+
+-- what is found for a path
+abbrev pub IsFor : List (Text × MapRecord) → Text → Option (Bor Input) → Type 0
+IsFor inputs path None = input_for inputs path ≡ None
+IsFor inputs path (Some input) = (input_for inputs path ≡ Some (record_of_input input.now)) × IsReady input.now
+
+-- the sources of a block, with their contents
+abbrev pub block_sources : Block → List DecodedSource
+block_sources b = sources_of (cow_texts b.sources.now) (map text_of b.contents.now)
+
+-- the map that the block's input has
+abbrev pub block_input : Block → Option MapRecord
+block_input b = option_map (λ input. record_of_input input.now) b.input
+
+-- the sources and flags of the block of the source at an index of a map, if this is its input
+abbrev pub HasSources : MapRecord → ℕ → Option (Bor Input) → Block → Type 0
+HasSources a i None b =
+    (block_sources b ≡ take 1 (drop i (listed_sources a))) × (b.ignored.now ≡ take 1 (drop i (flags_of a)))
+HasSources a i (Some input) b =
+    (block_sources b ≡ listed_sources (record_of_input input.now)) × (b.ignored.now ≡ input.now.ignored.items)
+
+-- the block of a marked source, which begins at this id
+pub record IsBlock (inputs : List (Text × MapRecord)) (start : ℕ) (source : DecodedSource × Bool) (b : Block) : Type 0 where
+  pub starts : b.start ≡ start
+  pub sources_are : block_sources b ≡ sources_for (decoded_inputs inputs) source.0
+  pub ignored_are : b.ignored.now ≡ map (λ s. s.1) (marked_for (decoded_inputs inputs) source)
+  pub room : start + length b.sources.now ≤ 4294967295
+  pub input_is : IsFor inputs source.0.path b.input
+
+-- the blocks of marked sources, the first of which begins at this id
+abbrev pub AreBlocksFrom : List (Text × MapRecord) → ℕ → List (DecodedSource × Bool) → List Block → Type 0
+AreBlocksFrom inputs start [] [] = Unit {0}
+AreBlocksFrom inputs start [] (b ∷ bs) = ⊥
+AreBlocksFrom inputs start (source ∷ sources) [] = ⊥
+AreBlocksFrom inputs start (source ∷ sources) (b ∷ bs) =
+    IsBlock inputs start source b × AreBlocksFrom inputs (start + length b.sources.now) sources bs
+
+-- the blocks of a map
+abbrev pub AreBlocks : List (Text × MapRecord) → MapRecord → List Block → Type 0
+AreBlocks inputs a bs = AreBlocksFrom inputs 0 (marked_sources (decoded_map_of a)) bs
+
+-- a block without an input is of one source, one with an input of all sources of the input
+abbrev pub HasInput : Block → Option (Bor Input) → Type 0
+HasInput b None = length b.sources.now ≡ 1
+HasInput b (Some input) =
+    (length b.sources.now ≡ length input.now.map.now.sources.items)
+    × IsIndexOf (boxed_slice_items input.now.map.now.tokens) input.now.index
+
+-- what steps that use a block rely on
+pub record IsUsable (b : Block) : Type 0 where
+  pub room : b.start + length b.sources.now ≤ 4294967295
+  pub flags : length b.ignored.now ≡ length b.sources.now
+  pub input_is : HasInput b b.input
+
+abbrev pub AreUsable : List Block → Type 0
+AreUsable bs = AllByRecursion IsUsable bs
+
+-- the block of a token's source
+abbrev pub block_of : List Block → TokenRecord → Option Block
+block_of bs t = option_and_then (slice_get bs) t.source_id
+
+-- where a token leads whose source has this block
+abbrev pub block_original : Option Block → List Text → Target → Option Original
+block_original block names l = option_and_then (λ b. original_by (block_input b) b.start names l) block
+
+-- a token leads to what it may lead to in the input of its source's block
+abbrev pub IsBlockTarget : Option Block → Target → Type 0
+IsBlockTarget block l = IsTargetBy (option_and_then block_input block) l
+
+abbrev pub AreBlockTargets : List Block → List TokenRecord → List Target → Type 0
+AreBlockTargets bs ts ls = (map (λ l. l.token) ls ≡ ts) × AllByRecursion (λ l. IsBlockTarget (block_of bs l.token) l) ls
+
+-- the indices of flags that are set, the first of which has this index
+abbrev pub set_from : ℕ → List Bool → List ℕ
+set_from i [] = []
+set_from i (flag ∷ flags) = if flag then i ∷ set_from (i + 1) flags else set_from (i + 1) flags
+
+-- the ids of the ignored sources of blocks
+abbrev pub block_ids : List Block → List ℕ
+block_ids bs = flat_map (λ b. set_from b.start b.ignored.now) bs
+
+-- a place, its name as a text
+abbrev pub original_of_place : Place → Original
+original_of_place p =
+    record { source_id = p.source_id; src_line = p.src_line; src_col = p.src_col; name = option_map (λ name. name.now) p.name }
+
+-- the names that are needed so far
+abbrev pub names_in : NeededNames → List Text
+names_in needed = map (λ name. name.now) needed.names.items
+
+-- each has its place, and there are no more of them than ids
+pub record ArePlaced (needed : NeededNames) : Type 0 where
+  pub places : HasPlaces (names_in needed) needed.places
+  pub few : length needed.names.items ≤ 4294967295
+
+-- the remapped map, from the first map and its blocks, with these tokens and names
+abbrev pub put_together : MapRecord → List Block → List TokenRecord → List Text → MapRecord
+put_together a bs tokens names = record {
+  file = a.file;
+  names = names;
+  source_root = None;
+  sources = flat_map (λ b. cow_texts b.sources.now) bs;
+  source_contents = flat_map (λ b. map (λ source. source.content) (block_sources b)) bs;
+  tokens = tokens;
+  token_chunks = None;
+  ignore_list = unless_empty (block_ids bs);
+  debug_id = a.debug_id;
+}

@@ -1,0 +1,5 @@
+pub mod Inputs
+pub mod Blocks
+pub mod Remapped
+pub mod Bodies
+pub mod Words

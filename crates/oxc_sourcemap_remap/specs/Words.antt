@@ -1,0 +1,23 @@
+-- The words of this crate's clauses, from one place.
+pub use Rattle.oxc_sourcemap_tokens.specs.Results.{FailsBy, Reports}
+pub use Rattle.oxc_sourcemap_tokens.specs.declared.error.Error.{Error}
+pub use Rattle.oxc_sourcemap_tokens.specs.declared.error.Error.TheVariants.{OutOfMemory, TooLarge}
+pub use Rattle.oxc_sourcemap_parts.specs.DecodedMap.{name_of}
+pub use Rattle.oxc_sourcemap_parts.specs.Texts.{index_of, with_text}
+pub use Rattle.oxc_sourcemap_parts.specs.Views.{cow_texts, text_of, texts_of, contents_of, ids_of}
+pub use Rattle.oxc_sourcemap_parts.specs.Views.{record_of_parts}
+pub use Rattle.oxc_sourcemap_lookup.specs.Composed.{Target, target_of}
+pub use Rattle.oxc_sourcemap_lookup.specs.Inherited.{HasPlaces}
+pub use Rattle.oxc_sourcemap_lookup.specs.InheritedNames.{with_inherited}
+pub use Rattle.oxc_sourcemap_remap.specs.Blocks.{remapped_sources, unless_empty}
+pub use Rattle.oxc_sourcemap_remap.specs.Bodies.{ready_records, input_paths, listed_flags, flags_of}
+pub use Rattle.oxc_sourcemap_remap.specs.Bodies.{IsReady, AreReady, IsFor, block_sources}
+pub use Rattle.oxc_sourcemap_remap.specs.Bodies.{HasSources, AreBlocks, IsUsable, AreUsable}
+pub use Rattle.oxc_sourcemap_remap.specs.Bodies.{block_of, block_original, IsBlockTarget}
+pub use Rattle.oxc_sourcemap_remap.specs.Bodies.{AreBlockTargets, set_from, block_ids}
+pub use Rattle.oxc_sourcemap_remap.specs.Bodies.{original_of_place, names_in, ArePlaced}
+pub use Rattle.oxc_sourcemap_remap.specs.Bodies.{put_together}
+pub use Rattle.oxc_sourcemap_remap.specs.Inputs.{input_records, decoded_inputs, goes_back}
+pub use Rattle.oxc_sourcemap_remap.specs.Inputs.{inputs_fault, NoInputColumnGoesBack}
+pub use Rattle.oxc_sourcemap_remap.specs.Remapped.{listed_sources, input_original, needed_name}
+pub use Rattle.oxc_sourcemap_remap.specs.Remapped.{needed_names, token_to, remapping, SomeRemapping}

@@ -1,0 +1,10 @@
+//! Remapping: a map some of whose sources are themselves generated, and the maps of these, made one. Part of `oxc_sourcemap`.
+#![tactic(auto)]
+
+mod blocks;
+mod inputs;
+mod lists;
+mod needed_names;
+mod remap;
+
+pub use remap::remap_parts;

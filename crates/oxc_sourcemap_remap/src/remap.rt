@@ -1,0 +1,266 @@
+//! Remapping of maps.
+ghost use Rattle.std.specs.Prelude.{◌≡◌, ◌≢◌, ◌+◌, ◌<◌, ◌≤◌, List, map, length, option_map, IfOk};
+ghost use Rattle.std.specs.Prelude.{OnOk, IfErr, IfSome, Ok, Err, None};
+ghost use Rattle.oxc_sourcemap_remap.specs.Words.{OutOfMemory, TooLarge, Reports, name_of};
+ghost use Rattle.oxc_sourcemap_remap.specs.Words.{record_of_parts, cow_texts, Target, target_of};
+ghost use Rattle.oxc_sourcemap_remap.specs.Words.{input_records, inputs_fault, remapping};
+ghost use Rattle.oxc_sourcemap_remap.specs.Words.{NoInputColumnGoesBack, SomeRemapping, IsUsable};
+ghost use Rattle.oxc_sourcemap_remap.specs.Words.{AreUsable, block_of, block_original};
+ghost use Rattle.oxc_sourcemap_remap.specs.Words.{IsBlockTarget, AreBlockTargets, input_original};
+ghost use Rattle.oxc_sourcemap_remap.specs.Words.{original_of_place, needed_name, needed_names};
+ghost use Rattle.oxc_sourcemap_remap.specs.Words.{token_to, names_in, ArePlaced, with_inherited};
+ghost use Rattle.oxc_sourcemap_remap.specs.Words.{put_together};
+
+use crate::blocks::{Block, block_of, blocks_of};
+use crate::inputs::{ignored_flags, ready_inputs};
+use crate::lists::{content_list, ignore_list, lent_text, source_list};
+use crate::needed_names::{NeededNames, lent_names, need_name, no_names};
+use oxc_sourcemap_lookup::search_clamped;
+use oxc_sourcemap_parts::SourceMapParts;
+use oxc_sourcemap_tokens::{Memory, Result, Token};
+use std::alloc::Global;
+use std::borrow::CowStr;
+
+/// Where a token leads: a source by its id in the remapped map, a position in it, and a name.
+#[derive(Drop)]
+pub(crate) struct Place<'m> {
+    source_id: u32,
+    src_line: u32,
+    src_col: u32,
+    name: Option<&'m str>,
+}
+
+/// The name of a token, if it has one.
+fn token_name<'m>(names: &'m [CowStr<'_>], token: &Token) -> Option<&'m str>
+    ensures { option_map (λ name. name.now) result ≡ name_of (cow_texts names.now) token.now }
+{
+    let id = token.get_name_id()?;
+    match names.get(id as usize) {
+        Some(name) => Some(name.as_str()),
+        None => None,
+    }
+}
+
+/// The mapped token that a token leads to in the input of its source's block, if any. `near` is that of
+/// `LineIndex::tokens_near`.
+fn target(block: Option<Block<'_, '_>>, token: &Token, near: &mut usize) -> Option<Token>
+    requires { IfSome block IsUsable }
+    ensures { IsBlockTarget block.entry (target_of token.now result) }
+{
+    token.get_source_id()?;
+    let input = block?.input?;
+    let line = input
+        .index
+        .tokens_near(input.map.tokens.as_slice(), token.get_src_line(), near);
+    let found = search_clamped(line, token.get_src_col())?;
+    found.get_source_id()?;
+    Some(found)
+}
+
+/// Where a token of an input leads whose sources begin at the id `start`: with its own name, else with this one.
+fn input_place<'m>(
+    input: &'m SourceMapParts<'_>,
+    start: u32,
+    name: Option<&'m str>,
+    token: &Token,
+) -> Option<Place<'m>>
+    requires { start + length input.now.sources.items ≤ 4294967295 }
+    ensures original { option_map original_of_place result ≡ input_original
+        (record_of_parts input.now) start (option_map (λ name. name.now) name.entry) token.now }
+    ensures small { IfSome result (λ place. place.source_id < 4294967295) }
+{
+    let id = token.get_source_id()?;
+    if id as usize >= input.sources.len() {
+        return None;
+    }
+    let own_name = token_name(input.names.as_slice(), token);
+    Some(Place {
+        source_id: id + start,
+        src_line: token.get_src_line(),
+        src_col: token.get_src_col(),
+        name: own_name.or(name),
+    })
+}
+
+/// Where a token leads whose source has this block, if this is the token that it leads to in the input.
+fn place_of<'m>(
+    names: &'m [CowStr<'_>],
+    block: Option<Block<'m, '_>>,
+    token: &Token,
+    found: Option<Token>,
+) -> Option<Place<'m>>
+    requires { IfSome block IsUsable }
+    ensures original { option_map original_of_place result
+        ≡ block_original block.entry (cow_texts names.now) (target_of token.now found) }
+    ensures small { IfSome result (λ place. place.source_id < 4294967295) }
+{
+    let block = block?;
+    let name = token_name(names, token);
+    match block.input {
+        Some(input) => input_place(input.map, block.start, name, &found?),
+        None => Some(Place {
+            source_id: block.start,
+            src_line: token.get_src_line(),
+            src_col: token.get_src_col(),
+            name,
+        }),
+    }
+}
+
+/// The token of the remapped map for one that leads to this place, or nowhere.
+fn token_at<'m>(
+    needed: &mut NeededNames<'m>,
+    token: &Token,
+    place: Option<Place<'m>>,
+) -> Result<Token>
+    requires placed { ArePlaced needed.old }
+    requires small { IfSome place (λ place. place.source_id < 4294967295) }
+    ensures names { OnOk result (names_in needed.new ≡ with_inherited
+        (names_in needed.old) (needed_name (option_map original_of_place place.entry))) }
+    ensures token { IfOk result (λ t. t ≡ token_to (names_in needed.new) token.now
+        (option_map original_of_place place.entry)) }
+    ensures placed { OnOk result (ArePlaced needed.new) }
+    ensures error { IfErr result (λ e. (e ≢ OutOfMemory) → (e ≡ TooLarge)
+        × (4294967295 < length (with_inherited (names_in needed.old)
+        (needed_name (option_map original_of_place place.entry))))) }
+{
+    let (line, col) = (token.get_dst_line(), token.get_dst_col());
+    let Some(place) = place else {
+        return Ok(Token::new(line, col, 0, 0, None, None));
+    };
+    let name_id = match place.name {
+        Some(name) => Some(need_name(needed, name)?),
+        None => None,
+    };
+    Ok(Token::new(
+        line,
+        col,
+        place.src_line,
+        place.src_col,
+        Some(place.source_id),
+        name_id,
+    ))
+}
+
+/// The tokens of the remapped map, and the names that they need.
+fn remapped_tokens<'m>(
+    alloc: Global,
+    names: &'m [CowStr<'_>],
+    tokens: &[Token],
+    blocks: &[Block<'m, '_>],
+) -> Result<(Vec<Token>, NeededNames<'m>)>
+    requires { AreUsable blocks.now }
+    ensures made { let old = cow_texts names.now in IfOk result (λ made. (ls : List Target)
+        × AreBlockTargets blocks.now tokens.now ls
+        × (names_in made.1 ≡ needed_names (map
+        (λ l. block_original (block_of blocks.now l.token) old l) ls))
+        × (made.0.items ≡ map (λ l. token_to (names_in made.1) l.token
+        (block_original (block_of blocks.now l.token) old l)) ls)
+        × (length (names_in made.1) ≤ 4294967295)) }
+    ensures error { let old = cow_texts names.now in IfErr result (λ e. (e ≢ OutOfMemory)
+        → (e ≡ TooLarge) × (ls : List Target) × AreBlockTargets blocks.now tokens.now ls
+        × (4294967295 < length (needed_names (map
+        (λ l. block_original (block_of blocks.now l.token) old l) ls)))) }
+{
+    let mut needed = no_names(alloc);
+    let mut remapped = Vec::with_capacity(alloc, tokens.len())?;
+    let mut near = 0;
+    for token in tokens {
+        let block = block_of(blocks, token);
+        let found = target(block, token, &mut near);
+        let place = place_of(names, block, token, found);
+        remapped.push(token_at(&mut needed, token, place)?)?;
+    }
+    Ok((remapped, needed))
+}
+
+/// The remapped map, from its blocks, its tokens, and the names that they need.
+fn put_together<'m>(
+    alloc: Global,
+    map: &'m SourceMapParts<'_>,
+    blocks: &[Block<'m, '_>],
+    tokens: Vec<Token>,
+    needed: NeededNames<'m>,
+) -> Memory<SourceMapParts<'m>>
+    requires { AreUsable blocks.now }
+    ensures { IfOk result (λ parts. record_of_parts parts ≡ put_together
+        (record_of_parts map.now) blocks.now tokens.items (names_in needed.entry)) }
+{
+    let names = lent_names(alloc, needed)?;
+    let sources = source_list(alloc, blocks)?;
+    let source_contents = content_list(alloc, blocks)?;
+    let ignore_list = ignore_list(alloc, blocks)?;
+    Ok(SourceMapParts {
+        file: lent_text(&map.file),
+        names,
+        source_root: None,
+        sources,
+        source_contents,
+        tokens: tokens.into_boxed_slice(),
+        token_chunks: None,
+        ignore_list,
+        debug_id: lent_text(&map.debug_id),
+    })
+}
+
+/// The remapped map. `remap_parts` has the errors.
+fn remapped_parts<'m>(
+    alloc: Global,
+    map: &'m SourceMapParts<'m>,
+    inputs: &'m [(&'m str, &'m SourceMapParts<'m>)],
+) -> Result<SourceMapParts<'m>>
+    ensures made { IfOk result (λ parts. SomeRemapping (record_of_parts map.now)
+        (input_records inputs.now) (Ok (record_of_parts parts))) }
+    ensures error { IfErr result (λ e. (e ≢ OutOfMemory)
+        → SomeRemapping (record_of_parts map.now) (input_records inputs.now) (Err e)) }
+    ensures fault { Reports (inputs_fault (input_records inputs.now)) result }
+{
+    let ready = ready_inputs(alloc, inputs)?;
+    let ignored = ignored_flags(alloc, map)?;
+    let blocks = blocks_of(alloc, map, ignored.as_slice(), ready.as_slice())?;
+    let (tokens, needed) = remapped_tokens(
+        alloc,
+        map.names.as_slice(),
+        map.tokens.as_slice(),
+        blocks.as_slice(),
+    )?;
+    Ok(put_together(alloc, map, blocks.as_slice(), tokens, needed)?)
+}
+
+/// The remapping of a map, as parts: some of its sources are themselves generated, and for these there are maps, the `inputs`,
+/// each with the source that it is for, as the map has it, byte for byte. Of inputs for one source the first counts; one that
+/// is for no source is not used.
+///
+/// - A token whose source has an input gets the source, the original position and the name of the input's token at its original
+///   position (line and column from 0), or of the first one on that line if all are after it; its own name stays if that has
+///   none. It becomes unmapped if no token is on that line, or the one found is unmapped or has a source id out of range. Other
+///   tokens stay, but for a source id or name id out of range, which is left out.
+/// - In place of a source that has an input stand all sources of the input, with their contents, also where sources are equal.
+///   A source is ignored if the map that it is from ignores it.
+/// - The names are those that tokens need, each once, in the order of the tokens. File and debug id are those of `map`; the
+///   result has no source root and no chunks.
+///
+/// Nothing is taken: all strings of the result are borrowed from `map` and `inputs`.
+///
+/// Fails in this order: `InputLineOrder(k)` for the first input whose tokens go back in lines, used or not; `TooLarge` if
+/// sources or names would number above 4294967295; `OutOfMemory` for want of memory. The first is reported whenever it holds.
+/// If columns go back on a line of an input, it is open to which token of that line a token leads.
+pub fn remap_parts<'m>(
+    alloc: Global,
+    map: &'m SourceMapParts<'_>,
+    inputs: &'m [(&str, &SourceMapParts<'_>)],
+) -> Result<SourceMapParts<'m>>
+    ensures map { let a = record_of_parts map.now in let inputs = input_records inputs.now in
+        NoInputColumnGoesBack inputs → IfOk result
+        (λ parts. remapping a inputs ≡ Ok (record_of_parts parts)) }
+    ensures error { let a = record_of_parts map.now in let inputs = input_records inputs.now in
+        NoInputColumnGoesBack inputs → IfErr result
+        (λ e. (e ≢ OutOfMemory) → remapping a inputs ≡ Err e) }
+    ensures any_map { IfOk result (λ parts. SomeRemapping (record_of_parts map.now)
+        (input_records inputs.now) (Ok (record_of_parts parts))) }
+    ensures any_error { IfErr result (λ e. (e ≢ OutOfMemory)
+        → SomeRemapping (record_of_parts map.now) (input_records inputs.now) (Err e)) }
+    ensures fault { Reports (inputs_fault (input_records inputs.now)) result }
+{
+    remapped_parts(alloc, map, inputs)
+}

@@ -6,7 +6,11 @@ use std::alloc::Global;
 use std::process::Abort;
 
 /// The JSON text of a map, those of its inputs, each with the source that it is for, and that of the remapped map.
-type Remapping = (&'static str, &'static [(&'static str, &'static str)], &'static str);
+type Remapping = (
+    &'static str,
+    &'static [(&'static str, &'static str)],
+    &'static str,
+);
 
 #[rattlefmt::skip]
 const REMAPPINGS: &[Remapping] = &[
@@ -76,7 +80,11 @@ fn lent<'m, M>(alloc: Global, inputs: &'m [(&'static str, M)]) -> Result<Vec<(&'
     Ok(all)
 }
 
-fn read(alloc: Global, texts: &[(&'static str, &'static str)]) -> Result<Vec<(&'static str, SourceMap<'static>)>> {
+/// Inputs, read.
+fn read(
+    alloc: Global,
+    texts: &[(&'static str, &'static str)],
+) -> Result<Vec<(&'static str, SourceMap<'static>)>> {
     let mut all = Vec::new(alloc);
     for (path, text) in texts {
         all.push((*path, SourceMap::from_json_string(alloc, text)?))?;
@@ -84,7 +92,10 @@ fn read(alloc: Global, texts: &[(&'static str, &'static str)]) -> Result<Vec<(&'
     Ok(all)
 }
 
-fn read_owned(alloc: Global, texts: &[(&'static str, &'static str)]) -> Result<Vec<(&'static str, OwnedSourceMap)>> {
+fn read_owned(
+    alloc: Global,
+    texts: &[(&'static str, &'static str)],
+) -> Result<Vec<(&'static str, OwnedSourceMap)>> {
     let mut all = Vec::new(alloc);
     for (path, text) in texts {
         all.push((*path, OwnedSourceMap::from_json_string(alloc, text)?))?;
@@ -136,7 +147,12 @@ const BACK: &[Row] = &[(1, 0, 0, 0, None, None), (0, 0, 0, 0, None, None)];
 const ORDERED: &[Row] = &[(0, 0, 0, 0, None, None), (1, 0, 0, 0, None, None)];
 
 /// Asserts the error of a map of the source a.js with inputs for these paths, of these tokens.
-fn is_refused(rt: &impl Abort, alloc: Global, inputs: &[(&str, &[Row])], error: Error) -> Result<()> {
+fn is_refused(
+    rt: &impl Abort,
+    alloc: Global,
+    inputs: &[(&str, &[Row])],
+    error: Error,
+) -> Result<()> {
     let map = map_of(alloc, &[], &["a.js"], &[], ORDERED)?;
     let mut maps = Vec::new(alloc);
     for (path, rows) in inputs {

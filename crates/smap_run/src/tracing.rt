@@ -1,16 +1,19 @@
 //! The trace of a map at a generated position, as a line of text.
-ghost use Rattle.std.specs.Prelude.{◌≡◌, ◌≢◌, true, option_map, string_bytes, Some, IfOk, IfErr};
+ghost use Rattle.std.specs.Prelude.{◌≡◌, ◌≢◌, true, string_bytes, slice_get, Some, IfOk, IfErr};
 ghost use Rattle.std.specs.Prelude.{Ok, Err};
-ghost use Rattle.smap_run.specs.Words.{OutOfMemory, IsInLineOrder, are_tokens_sorted};
-ghost use Rattle.smap_run.specs.Words.{decoded_map_of, trace, view_of, seen_in, view_original, Map};
+ghost use Rattle.std.specs.Option.{option_and_then};
+ghost use Rattle.smap_run.specs.Words.{OutOfMemory, IsInLineOrder, are_tokens_sorted, token_for};
+ghost use Rattle.smap_run.specs.Words.{record_of_parts, cow_texts, original_in, Map};
 ghost use Rattle.smap_run.specs.Words.{number_part, name_part, original_text, trace_text};
 ghost use Rattle.smap_run.specs.Words.{traced_of, traced, OnlyMemory, Pushes, lent_item};
 
+use oxc_sourcemap_decode::decode_parts_from_string;
 use oxc_sourcemap_encode::push_json_string;
 use oxc_sourcemap_lookup::LineIndex;
-use oxc_sourcemap_map::{SourceMap, SourceViewToken};
+use oxc_sourcemap_parts::{SourceMapParts, are_sorted};
 use oxc_sourcemap_tokens::{Error, PlanError, Token};
 use std::alloc::Global;
+use std::borrow::CowStr;
 
 /// Appends a colon and a number.
 fn push_number(alloc: Global, number: u32, out: &mut String) -> Result<(), Error>
@@ -54,45 +57,62 @@ fn original_text(
     Ok(out)
 }
 
+/// The text with this id in a list. None without an id, and for one out of range.
+fn text_at<'m>(texts: &'m [CowStr<'_>], id: Option<u32>) -> Option<&'m str>
+    ensures { lent_item result ≡ option_and_then (slice_get (cow_texts texts.now)) id }
+{
+    Some(texts.get(id? as usize)?.as_str())
+}
+
 /// The text of a token that was found.
-fn token_text(alloc: Global, view: &SourceViewToken<'_, '_>) -> Result<String, Error>
+fn token_text(alloc: Global, map: &SourceMapParts<'_>, token: &Token) -> Result<String, Error>
     ensures text { IfOk result (λ out. string_bytes out
-        ≡ trace_text (Some (view_original (view_of view.now)))) }
+        ≡ trace_text (Some (original_in (record_of_parts map.now) token.now))) }
     ensures error { OnlyMemory result }
 {
-    let (source, line, col, name) = view.to_tuple();
-    match source {
-        Some(source) => original_text(alloc, source, line, col, name),
+    let name = text_at(map.names.as_slice(), token.get_name_id());
+    match text_at(map.sources.as_slice(), token.get_source_id()) {
+        Some(source) => original_text(
+            alloc,
+            source,
+            token.get_src_line(),
+            token.get_src_col(),
+            name,
+        ),
         None => Ok(String::from_str(alloc, "unmapped")?),
     }
 }
 
 /// The token at a generated position of a sorted map. It is found by an index of the lines that have tokens, so the memory
 /// that this takes does not depend on line numbers.
-fn token_at(alloc: Global, map: &SourceMap<'_>, line: u32, col: u32) -> Result<Option<Token>, Error>
-    requires sorted { are_tokens_sorted map.now.tokens ≡ true }
-    requires in_line_order { IsInLineOrder map.now.tokens }
-    ensures found { IfOk result (λ token. option_map view_original
-        (option_map (seen_in map.now) token) ≡ trace (decoded_map_of map.now) line col) }
+fn token_at(alloc: Global, tokens: &[Token], line: u32, col: u32) -> Result<Option<Token>, Error>
+    requires sorted { are_tokens_sorted tokens.now ≡ true }
+    requires in_line_order { IsInLineOrder tokens.now }
+    ensures found { IfOk result (λ token. token ≡ token_for tokens.now line col) }
     ensures error { IfErr result (λ e. (e ≢ OutOfMemory) → ⊥) }
 {
-    let tokens = map.get_tokens().as_slice();
     let index = LineIndex::new(alloc, tokens)?;
     Ok(index.lookup(tokens, line, col))
 }
 
 /// The text of the trace of a map at a generated position.
-fn trace_in(alloc: Global, map: &SourceMap<'_>, line: u32, col: u32) -> Result<String, PlanError>
-    requires in_line_order { IsInLineOrder map.now.tokens }
-    ensures text { IfOk result (λ out. traced_of (Ok map.now) line col ≡ Ok (string_bytes out)) }
+fn trace_in(
+    alloc: Global,
+    map: &SourceMapParts<'_>,
+    line: u32,
+    col: u32,
+) -> Result<String, PlanError>
+    ensures text { IfOk result (λ out. traced_of (Ok (record_of_parts map.now)) line col
+        ≡ Ok (string_bytes out)) }
     ensures error { IfErr result (λ e. (e ≢ Map OutOfMemory)
-        → traced_of (Ok map.now) line col ≡ Err e) }
+        → traced_of (Ok (record_of_parts map.now)) line col ≡ Err e) }
 {
-    if !map.is_sorted() {
+    let tokens = map.tokens.as_slice();
+    if !are_sorted(tokens) {
         return Err(PlanError::Unsorted);
     }
-    match token_at(alloc, map, line, col)? {
-        Some(token) => Ok(token_text(alloc, &SourceViewToken::new(token, map))?),
+    match token_at(alloc, tokens, line, col)? {
+        Some(token) => Ok(token_text(alloc, map, &token)?),
         None => Ok(String::from_str(alloc, "nothing")?),
     }
 }
@@ -114,6 +134,6 @@ pub fn trace(alloc: Global, text: &str, line: u32, col: u32) -> Result<String, P
     ensures text { IfOk result (λ out. traced text.now line col ≡ Ok (string_bytes out)) }
     ensures error { IfErr result (λ e. (e ≢ Map OutOfMemory) → traced text.now line col ≡ Err e) }
 {
-    let map = SourceMap::from_json_string(alloc, text)?;
+    let map = decode_parts_from_string(alloc, text)?;
     trace_in(alloc, &map, line, col)
 }

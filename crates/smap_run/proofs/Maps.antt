@@ -42,7 +42,7 @@ traced_token r line col found sorted is =
     ap (λ b. cond b (Ok (trace_text (trace (decoded_map_of r) line col))) (Err Unsorted)) sorted ∙ ap (λ t. Ok (trace_text t)) (sym traced)
 
 -- the text of what a token points to, by the path of its source
-path_text : List Text → TokenRecord → Option Text → Text
+abbrev path_text : List Text → TokenRecord → Option Text → Text
 path_text names t None = codes "unmapped"
 path_text names t (Some path) = original_text path t.src_line t.src_col (name_of names t)
 
@@ -54,8 +54,11 @@ text-of-id : (r : MapRecord) (t : TokenRecord) (id : Option ℕ) → trace_text 
 text-of-id r t None = refl
 text-of-id r t (Some i) = text-by r.names t (slice_get (sources_of r.sources r.source_contents) i) (slice_get r.sources i) (source_path r.sources r.source_contents i)
 
-pub mapped_text : (r : MapRecord) (t : TokenRecord) (path : Text) → Some path ≡ option_and_then (slice_get r.sources) t.source_id → original_text path t.src_line t.src_col (name_of r.names t) ≡ trace_text (Some (original_in r t))
-mapped_text r t path e = ap (path_text r.names t) e ∙ sym (text-of-id r t t.source_id)
+pub mapped_text : (r : MapRecord) (t : TokenRecord) (path : Text) (line col : ℕ) (name : Option Text) → Some path ≡ option_and_then (slice_get r.sources) t.source_id
+    → line ≡ t.src_line → col ≡ t.src_col → name ≡ name_of r.names t → original_text path line col name ≡ trace_text (Some (original_in r t))
+mapped_text r t path line col name e l c n =
+    ap (λ line. original_text path line col name) l ∙ ap (λ col. original_text path t.src_line col name) c ∙ ap (original_text path t.src_line t.src_col) n
+    ∙ ap (path_text r.names t) e ∙ sym (text-of-id r t t.source_id)
 
 pub unmapped_text : (r : MapRecord) (t : TokenRecord) → None ≡ option_and_then (slice_get r.sources) t.source_id → codes "unmapped" ≡ trace_text (Some (original_in r t))
 unmapped_text r t e = ap (path_text r.names t) e ∙ sym (text-of-id r t t.source_id)

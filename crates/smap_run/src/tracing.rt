@@ -3,7 +3,7 @@ ghost use Rattle.std.specs.Prelude.{◌≡◌, ◌≢◌, true, string_bytes, sl
 ghost use Rattle.std.specs.Prelude.{Ok, Err};
 ghost use Rattle.std.specs.Option.{option_and_then};
 ghost use Rattle.smap_run.specs.Words.{OutOfMemory, IsInLineOrder, are_tokens_sorted, token_for};
-ghost use Rattle.smap_run.specs.Words.{record_of_parts, cow_texts, original_in, Map};
+ghost use Rattle.smap_run.specs.Words.{record_of_parts, original_in, name_of, Map};
 ghost use Rattle.smap_run.specs.Words.{number_part, name_part, original_text, trace_text};
 ghost use Rattle.smap_run.specs.Words.{traced_of, traced, OnlyMemory, Pushes, lent_item};
 
@@ -13,7 +13,6 @@ use oxc_sourcemap_lookup::LineIndex;
 use oxc_sourcemap_parts::{SourceMapParts, are_sorted};
 use oxc_sourcemap_tokens::{Error, PlanError, Token};
 use std::alloc::Global;
-use std::borrow::CowStr;
 
 /// Appends a colon and a number.
 fn push_number(alloc: Global, number: u32, out: &mut String) -> Result<(), Error>
@@ -57,11 +56,19 @@ fn original_text(
     Ok(out)
 }
 
-/// The text with this id in a list. None without an id, and for one out of range.
-fn text_at<'m>(texts: &'m [CowStr<'_>], id: Option<u32>) -> Option<&'m str>
-    ensures { lent_item result ≡ option_and_then (slice_get (cow_texts texts.now)) id }
+/// The source of a token. None if it has no source id, or one out of range.
+fn token_source<'m>(map: &'m SourceMapParts<'_>, token: &Token) -> Option<&'m str>
+    ensures { lent_item result ≡ option_and_then (slice_get (record_of_parts map.now).sources)
+        token.now.source_id }
 {
-    Some(texts.get(id? as usize)?.as_str())
+    Some(map.sources.get(token.get_source_id()? as usize)?.as_str())
+}
+
+/// The name of a token. None if it has no name id, or one out of range.
+fn token_name<'m>(map: &'m SourceMapParts<'_>, token: &Token) -> Option<&'m str>
+    ensures { lent_item result ≡ name_of (record_of_parts map.now).names token.now }
+{
+    Some(map.names.get(token.get_name_id()? as usize)?.as_str())
 }
 
 /// The text of a token that was found.
@@ -70,14 +77,13 @@ fn token_text(alloc: Global, map: &SourceMapParts<'_>, token: &Token) -> Result<
         ≡ trace_text (Some (original_in (record_of_parts map.now) token.now))) }
     ensures error { OnlyMemory result }
 {
-    let name = text_at(map.names.as_slice(), token.get_name_id());
-    match text_at(map.sources.as_slice(), token.get_source_id()) {
+    match token_source(map, token) {
         Some(source) => original_text(
             alloc,
             source,
             token.get_src_line(),
             token.get_src_col(),
-            name,
+            token_name(map, token),
         ),
         None => Ok(String::from_str(alloc, "unmapped")?),
     }
@@ -85,12 +91,19 @@ fn token_text(alloc: Global, map: &SourceMapParts<'_>, token: &Token) -> Result<
 
 /// The token at a generated position of a sorted map. It is found by an index of the lines that have tokens, so the memory
 /// that this takes does not depend on line numbers.
-fn token_at(alloc: Global, tokens: &[Token], line: u32, col: u32) -> Result<Option<Token>, Error>
-    requires sorted { are_tokens_sorted tokens.now ≡ true }
-    requires in_line_order { IsInLineOrder tokens.now }
-    ensures found { IfOk result (λ token. token ≡ token_for tokens.now line col) }
+fn token_at(
+    alloc: Global,
+    map: &SourceMapParts<'_>,
+    line: u32,
+    col: u32,
+) -> Result<Option<Token>, Error>
+    requires sorted { are_tokens_sorted (record_of_parts map.now).tokens ≡ true }
+    requires in_line_order { IsInLineOrder (record_of_parts map.now).tokens }
+    ensures found { IfOk result (λ token. token
+        ≡ token_for (record_of_parts map.now).tokens line col) }
     ensures error { IfErr result (λ e. (e ≢ OutOfMemory) → ⊥) }
 {
+    let tokens = map.tokens.as_slice();
     let index = LineIndex::new(alloc, tokens)?;
     Ok(index.lookup(tokens, line, col))
 }
@@ -107,11 +120,10 @@ fn trace_in(
     ensures error { IfErr result (λ e. (e ≢ Map OutOfMemory)
         → traced_of (Ok (record_of_parts map.now)) line col ≡ Err e) }
 {
-    let tokens = map.tokens.as_slice();
-    if !are_sorted(tokens) {
+    if !are_sorted(map.tokens.as_slice()) {
         return Err(PlanError::Unsorted);
     }
-    match token_at(alloc, tokens, line, col)? {
+    match token_at(alloc, map, line, col)? {
         Some(token) => Ok(token_text(alloc, map, &token)?),
         None => Ok(String::from_str(alloc, "nothing")?),
     }

@@ -1,11 +1,11 @@
 -- Traces by the tokens of a map, and the paths of what they point to.
-use Rattle.std.proofs.Common.{◌≡◌, ℕ, zero, suc, List, [], ◌∷◌, refl, sym, ap, ◌∙◌, slice_get, Option}
-use Rattle.std.proofs.Common.{Some, None}
+use Rattle.std.proofs.Common.{◌≡◌, ℕ, zero, suc, List, [], ◌∷◌, refl, sym, ap, ◌∙◌, slice_get}
+use Rattle.std.proofs.Common.{Option, Some, None}
 use Rattle.std.specs.Option.{option_map}
 use Rattle.oxc_sourcemap_parts.specs.Record.{Text, MapRecord}
 use Rattle.oxc_sourcemap_parts.specs.Sorted.{token_line, token_column}
-use Rattle.oxc_sourcemap_parts.specs.DecodedMap.{decoded_map_of, sources_of, mapping_of, mapping_line}
-use Rattle.oxc_sourcemap_parts.specs.DecodedMap.{mapping_column}
+use Rattle.oxc_sourcemap_parts.specs.DecodedMap.{decoded_map_of, sources_of, mapping_of}
+use Rattle.oxc_sourcemap_parts.specs.DecodedMap.{mapping_line, mapping_column}
 use Rattle.oxc_sourcemap_lookup.specs.Lookup.{pick, clamped_pick}
 use Rattle.oxc_sourcemap_lookup.specs.Trace.{trace, clamped_trace, original_in}
 use Rattle.oxc_sourcemap_lookup.proofs.Picks.{pick-map, clamped_pick-map}

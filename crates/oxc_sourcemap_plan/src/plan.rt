@@ -3,7 +3,8 @@ ghost use Rattle.std.specs.Prelude.{◌≡◌, ◌≤◌, ◌↔◌, ◌⊎◌, 
 ghost use Rattle.oxc_sourcemap_plan.specs.Words.{depth, Outcome, read_outcome, rewrite_outcome};
 ghost use Rattle.oxc_sourcemap_plan.specs.Words.{join_outcome, composition_outcome, outcome_of};
 ghost use Rattle.oxc_sourcemap_plan.specs.Words.{outcomes, outcome, Position, at_lines};
-ghost use Rattle.oxc_sourcemap_plan.specs.Words.{at_positions, IsEvaluated, IsErrorOf, Realizes};
+ghost use Rattle.oxc_sourcemap_plan.specs.Words.{at_positions, IsEvaluated, IsErrorOf};
+ghost use Rattle.oxc_sourcemap_plan.specs.Words.{PartsRealize};
 ghost use Rattle.oxc_sourcemap_plan.specs.Words.{FailsAs, AllRealize, OutOfMemory, said_in};
 ghost use Rattle.oxc_sourcemap_plan.specs.Words.{are_tokens_sorted, Map, Unsorted};
 ghost use Rattle.oxc_sourcemap_plan.specs.Words.{record_of_parts, owned_records};
@@ -93,7 +94,7 @@ fn check_sorted(map: SourceMapParts<'static>) -> Result<SourceMapParts<'static>,
 /// The map of a JSON text, if it is sorted.
 #[inline(never)]
 fn read(alloc: Global, text: &str) -> Result<SourceMapParts<'static>, PlanError>
-    ensures map { IfOk result (λ map. Realizes (record_of_parts map) (read_outcome (said_in text.now))) }
+    ensures map { IfOk result (λ map. PartsRealize map (read_outcome (said_in text.now))) }
     ensures error { IfErr result (λ e. FailsAs e (read_outcome (said_in text.now))) }
 {
     canonical_unique();
@@ -107,9 +108,9 @@ fn rewrite(
     alloc: Global,
     map: SourceMapParts<'static>,
 ) -> Result<SourceMapParts<'static>, PlanError>
-    ensures map { IfOk result (λ m. (o : Outcome) → Realizes (record_of_parts map.entry) o
-        → Realizes (record_of_parts m) (rewrite_outcome o)) }
-    ensures error { IfErr result (λ e. (o : Outcome) → Realizes (record_of_parts map.entry) o
+    ensures map { IfOk result (λ m. (o : Outcome) → PartsRealize map.entry o
+        → PartsRealize m (rewrite_outcome o)) }
+    ensures error { IfErr result (λ e. (o : Outcome) → PartsRealize map.entry o
         → FailsAs e (rewrite_outcome o)) }
 {
     canonical_unique();
@@ -124,7 +125,7 @@ fn join(
     maps: Vec<(SourceMapParts<'static>, Position)>,
 ) -> Result<SourceMapParts<'static>, PlanError>
     ensures map { IfOk result (λ m. (os : List (Outcome × Position))
-        → AllRealize (owned_records maps.entry.items) os → Realizes (record_of_parts m) (join_outcome os)) }
+        → AllRealize (owned_records maps.entry.items) os → PartsRealize m (join_outcome os)) }
     ensures error { IfErr result (λ e. (os : List (Outcome × Position))
         → AllRealize (owned_records maps.entry.items) os → FailsAs e (join_outcome os)) }
 {
@@ -139,10 +140,10 @@ fn compose(
     first: SourceMapParts<'static>,
     second: SourceMapParts<'static>,
 ) -> Result<SourceMapParts<'static>, PlanError>
-    ensures map { IfOk result (λ m. (p q : Outcome) → Realizes (record_of_parts first.entry) p
-        → Realizes (record_of_parts second.entry) q → Realizes (record_of_parts m) (composition_outcome p q)) }
-    ensures error { IfErr result (λ e. (p q : Outcome) → Realizes (record_of_parts first.entry) p
-        → Realizes (record_of_parts second.entry) q → FailsAs e (composition_outcome p q)) }
+    ensures map { IfOk result (λ m. (p q : Outcome) → PartsRealize first.entry p
+        → PartsRealize second.entry q → PartsRealize m (composition_outcome p q)) }
+    ensures error { IfErr result (λ e. (p q : Outcome) → PartsRealize first.entry p
+        → PartsRealize second.entry q → FailsAs e (composition_outcome p q)) }
 {
     composition_associative();
     Ok(compose_parts(alloc, first, second)?)
@@ -154,7 +155,7 @@ fn compose(
 /// what those call is not inlined.
 #[cycle(evaluation)]
 fn evaluate_part(alloc: Global, plan: &Plan<'_>) -> Result<SourceMapParts<'static>, PlanError>
-    ensures map { IfOk result (λ map. Realizes (record_of_parts map) (outcome_of plan.now)) }
+    ensures map { IfOk result (λ map. PartsRealize map (outcome_of plan.now)) }
     ensures error { IfErr result (λ e. FailsAs e (outcome_of plan.now)) }
 {
     match plan {
@@ -170,7 +171,7 @@ fn evaluate_part(alloc: Global, plan: &Plan<'_>) -> Result<SourceMapParts<'stati
 #[cycle(evaluation)]
 #[inline(never)]
 fn evaluate_rewrite(alloc: Global, part: &Plan<'_>) -> Result<SourceMapParts<'static>, PlanError>
-    ensures map { IfOk result (λ map. Realizes (record_of_parts map) (rewrite_outcome (outcome_of part.now))) }
+    ensures map { IfOk result (λ map. PartsRealize map (rewrite_outcome (outcome_of part.now))) }
     ensures error { IfErr result (λ e. FailsAs e (rewrite_outcome (outcome_of part.now))) }
 {
     let map = evaluate_part(alloc, part)?;
@@ -184,7 +185,8 @@ fn evaluate_join(
     alloc: Global,
     parts: &[(Plan<'_>, u32)],
 ) -> Result<SourceMapParts<'static>, PlanError>
-    ensures map { IfOk result (λ map. Realizes (record_of_parts map) (join_outcome (outcomes (at_lines parts.now)))) }
+    ensures map { IfOk result (λ map. PartsRealize map
+        (join_outcome (outcomes (at_lines parts.now)))) }
     ensures error { IfErr result (λ e. FailsAs e (join_outcome (outcomes (at_lines parts.now)))) }
 {
     let mut maps = Vec::new(alloc);
@@ -206,7 +208,7 @@ fn evaluate_join_at(
     alloc: Global,
     parts: &[(Plan<'_>, u32, u32)],
 ) -> Result<SourceMapParts<'static>, PlanError>
-    ensures map { IfOk result (λ map. Realizes (record_of_parts map)
+    ensures map { IfOk result (λ map. PartsRealize map
         (join_outcome (outcomes (at_positions parts.now)))) }
     ensures error { IfErr result (λ e. FailsAs e
         (join_outcome (outcomes (at_positions parts.now)))) }
@@ -231,7 +233,7 @@ fn evaluate_composition(
     first: &Plan<'_>,
     second: &Plan<'_>,
 ) -> Result<SourceMapParts<'static>, PlanError>
-    ensures map { IfOk result (λ map. Realizes (record_of_parts map)
+    ensures map { IfOk result (λ map. PartsRealize map
         (composition_outcome (outcome_of first.now) (outcome_of second.now))) }
     ensures error { IfErr result (λ e. FailsAs e
         (composition_outcome (outcome_of first.now) (outcome_of second.now))) }

@@ -11,4 +11,5 @@ pub mod LineEnds
 pub mod Halving
 pub mod OwnTables
 pub mod Picks
+pub mod Traced
 mod Worked

@@ -27,10 +27,6 @@ abbrev pub lent_inputs : List (Bor Text × Bor MapRecord) → List (Text × MapR
 lent_inputs inputs = map (λ input. (input.0.now, input.1.now)) inputs
 
 -- the same of maps that are not borrowed
-abbrev pub owned_inputs : List (Bor Text × MapRecord) → List (Text × MapRecord)
-owned_inputs inputs = map (λ input. (input.0.now, input.1)) inputs
-
--- the same of their parts
 abbrev pub owned_input_records : List (Bor Text × SourceMapParts) → List (Text × MapRecord)
 owned_input_records inputs = map (λ input. (input.0.now, record_of_parts input.1)) inputs
 

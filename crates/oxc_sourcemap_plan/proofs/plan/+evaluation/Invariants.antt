@@ -1,5 +1,5 @@
 use Rattle.std.proofs.Common.{◌+◌, map, max, take}
-use Rattle.oxc_sourcemap_join.specs.Joined.{at_lines, at_positions}
+use Rattle.oxc_sourcemap_join.specs.Joined.{at_lines, at_positions, owned_records}
 use Rattle.oxc_sourcemap_plan.specs.Depth.{depth, deepest}
 use Rattle.oxc_sourcemap_plan.specs.Outcome.{outcomes}
 use Rattle.oxc_sourcemap_plan.specs.Realizes.{AllRealize}
@@ -21,7 +21,7 @@ abbrev pub decreases-evaluate_composition : goal.decreases-evaluate_composition
 decreases-evaluate_composition l = max (depth l.first.now) (depth l.second.now) + max (depth l.first.now) (depth l.second.now) + 1
 
 abbrev pub invariant-evaluate_join-loop-part : goal.invariant-evaluate_join-loop-part
-invariant-evaluate_join-loop-part l = AllRealize l.maps.items (outcomes (at_lines (take l.part-index l.parts)))
+invariant-evaluate_join-loop-part l = AllRealize (owned_records l.maps.items) (outcomes (at_lines (take l.part-index l.parts)))
 
 abbrev pub invariant-evaluate_join_at-loop-part : goal.invariant-evaluate_join_at-loop-part
-invariant-evaluate_join_at-loop-part l = AllRealize l.maps.items (outcomes (at_positions (take l.part-index l.parts)))
+invariant-evaluate_join_at-loop-part l = AllRealize (owned_records l.maps.items) (outcomes (at_positions (take l.part-index l.parts)))

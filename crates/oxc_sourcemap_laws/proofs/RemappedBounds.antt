@@ -1,6 +1,6 @@
 -- The tokens of a remapped map are in bounds.
-use Rattle.std.proofs.Common.{◌≡◌, refl, sym, ap, subst, ℕ, ◌+◌, ◌<◌, ◌≤◌, Bool, true, false, cond}
-use Rattle.std.proofs.Common.{◌&&◌, List, [], ◌∷◌, map, length, slice_get, nat_lt, nat_le, Option, Some}
+use Rattle.std.proofs.Common.{◌≡◌, refl, sym, subst, ℕ, ◌+◌, ◌<◌, ◌≤◌, Bool, true, false, cond}
+use Rattle.std.proofs.Common.{List, [], ◌∷◌, map, length, slice_get, nat_lt, nat_le, Option, Some}
 use Rattle.std.proofs.Common.{None, Ok, Err, arith}
 use Rattle.std.proofs.lemmas.Bool.{and_parts}
 use Rattle.std.proofs.lemmas.Bool.Decides.{nat_tests}
@@ -18,7 +18,8 @@ use Rattle.oxc_sourcemap_parts.specs.Sound.{IsInRange}
 use Rattle.oxc_sourcemap_lookup.specs.Lookup.{clamped_pick}
 use Rattle.oxc_sourcemap_lookup.proofs.Targets.{clamped_pick-all}
 use Rattle.oxc_sourcemap_remap.specs.Inputs.{input_for, inputs_fault}
-use Rattle.oxc_sourcemap_remap.specs.Remapped.{listed_sources, Original, input_original, block_start}
+use Rattle.oxc_sourcemap_remap.specs.Remapped.{listed_sources, Original, input_original}
+use Rattle.oxc_sourcemap_remap.specs.Remapped.{block_start}
 use Rattle.oxc_sourcemap_remap.specs.Remapped.{token_to, remapped, has_few, remapping}
 use Rattle.oxc_sourcemap_remap.proofs.InputPlaces.{input_for-all}
 use Rattle.oxc_sourcemap_laws.specs.RemapLaws.{AreInputsInBounds}

@@ -1,6 +1,7 @@
 -- The decoded map of a remapped map is the remapping of the decoded maps.
 use Rattle.std.proofs.Common.{◌≡◌, refl, sym, ap, subst, ◌∙◌, ℕ, ◌+◌, ◌<◌, ◌≤◌, Bool, true, false}
-use Rattle.std.proofs.Common.{cond, List, [], ◌∷◌, map, length, slice_get, nat_lt, Option, Some, None}
+use Rattle.std.proofs.Common.{cond, List, [], ◌∷◌, map, length, slice_get, nat_lt, Option, Some}
+use Rattle.std.proofs.Common.{None}
 use Rattle.std.proofs.Common.{arith}
 use Rattle.std.proofs.lemmas.Bool.Decides.{nat_tests}
 use Rattle.std.proofs.lemmas.Option.{slice_get_past}
@@ -20,10 +21,11 @@ use Rattle.oxc_sourcemap_lookup.proofs.Picks.{clamped_pick-map}
 use Rattle.oxc_sourcemap_remap.specs.Blocks.{sources_by, sources_for, remapped_sources}
 use Rattle.oxc_sourcemap_remap.specs.Blocks.{remapped_ignore_list}
 use Rattle.oxc_sourcemap_remap.specs.Inputs.{input_for, decoded_inputs}
-use Rattle.oxc_sourcemap_remap.specs.Remapped.{listed_sources, input_of, target_by, targets, Original}
-use Rattle.oxc_sourcemap_remap.specs.Remapped.{input_original_at, input_original, original_by}
+use Rattle.oxc_sourcemap_remap.specs.Remapped.{listed_sources, input_of, target_by, targets}
+use Rattle.oxc_sourcemap_remap.specs.Remapped.{Original}
+use Rattle.oxc_sourcemap_remap.specs.Remapped.{input_original, original_by}
 use Rattle.oxc_sourcemap_remap.specs.Remapped.{block_start, original, needed_name, token_to}
-use Rattle.oxc_sourcemap_remap.specs.Remapped.{remapped_token, remapped_names, remapped}
+use Rattle.oxc_sourcemap_remap.specs.Remapped.{remapped_token, remapped}
 use Rattle.oxc_sourcemap_remap.proofs.InputPlaces.{input_for-map}
 use Rattle.oxc_sourcemap_remap.proofs.NeededNames.{all-needed, name-back}
 use Rattle.oxc_sourcemap_laws.specs.ComposedDecodedMaps.{named_by}

@@ -1,6 +1,6 @@
 -- Remapped maps: their order, their ids, their soundness, and the laws of decoded maps for them.
 use Rattle.std.proofs.Common.{◌≡◌, refl, sym, ap, subst, ◌∙◌, ℕ, zero, suc, ◌+◌, ◌<◌, ◌≤◌, Bool}
-use Rattle.std.proofs.Common.{true, false, cond, List, [], ◌∷◌, ◌++◌, map, length, take, slice_get}
+use Rattle.std.proofs.Common.{true, false, cond, List, [], ◌∷◌, map, length, take, slice_get}
 use Rattle.std.proofs.Common.{nat_lt, Option, Some, None, arith}
 use Rattle.std.proofs.lemmas.Bool.Decides.{nat_tests}
 use Rattle.std.proofs.lemmas.List.{length-append, length-map}
@@ -8,7 +8,7 @@ use Rattle.std.specs.List.{flat_map, AllByRecursion}
 use Rattle.std.specs.Option.{IfSome, option_map, option_and_then, option_or}
 use Rattle.oxc_sourcemap_tokens.specs.declared.position.Position.{Position}
 use Rattle.oxc_sourcemap_tokens.specs.Token.{TokenRecord}
-use Rattle.oxc_sourcemap_parts.specs.DecodedMap.{DecodedSource, OriginalPosition, DecodedMap}
+use Rattle.oxc_sourcemap_parts.specs.DecodedMap.{DecodedSource, DecodedMap}
 use Rattle.oxc_sourcemap_parts.specs.DecodedMap.{sources_of, name_of, original_at, decoded_map_of}
 use Rattle.oxc_sourcemap_parts.specs.DecodedMap.{mapping_of}
 use Rattle.oxc_sourcemap_parts.specs.Record.{Text, MapRecord}
@@ -21,9 +21,9 @@ use Rattle.oxc_sourcemap_lookup.specs.Lookup.{clamped_pick}
 use Rattle.oxc_sourcemap_lookup.proofs.InheritedNames.{IsPlaced}
 use Rattle.oxc_sourcemap_remap.specs.Blocks.{sources_by, sources_for, remapped_sources}
 use Rattle.oxc_sourcemap_remap.specs.Blocks.{marked_sources, marked_for, ignored_from, unless_empty}
-use Rattle.oxc_sourcemap_remap.specs.Blocks.{remapped_ignore_list}
 use Rattle.oxc_sourcemap_remap.specs.Inputs.{input_for, decoded_inputs}
-use Rattle.oxc_sourcemap_remap.specs.Remapped.{listed_sources, Original, input_original, block_start}
+use Rattle.oxc_sourcemap_remap.specs.Remapped.{listed_sources, Original, input_original}
+use Rattle.oxc_sourcemap_remap.specs.Remapped.{block_start}
 use Rattle.oxc_sourcemap_remap.specs.Remapped.{needed_name, token_to, remapped}
 use Rattle.oxc_sourcemap_remap.proofs.InputPlaces.{input_for-map}
 use Rattle.oxc_sourcemap_laws.specs.Repeats.{decoded_map_without_repeats, EqualUpToRepeats}
@@ -33,13 +33,13 @@ use Rattle.oxc_sourcemap_laws.specs.JoinLaws.{decoded_maps_of}
 use Rattle.oxc_sourcemap_laws.specs.ComposedDecodedMaps.{composed_decoded_maps}
 use Rattle.oxc_sourcemap_laws.specs.ComposeLaws.{AreSourceIdsInRange, AreTokensInRange}
 use Rattle.oxc_sourcemap_laws.specs.RemappedDecodedMaps.{remapped_decoded_map}
-use Rattle.oxc_sourcemap_laws.specs.RemapLaws.{as_remapped, inputs_through, maps_through, PointsInto}
+use Rattle.oxc_sourcemap_laws.specs.RemapLaws.{as_remapped, inputs_through, maps_through}
+use Rattle.oxc_sourcemap_laws.specs.RemapLaws.{PointsInto}
 use Rattle.oxc_sourcemap_laws.specs.RemapLaws.{AreIgnoredInRange, AreInputsEqualUpToRepeats}
 use Rattle.oxc_sourcemap_laws.specs.RemapLaws.{InputsStandFor}
 use Rattle.oxc_sourcemap_laws.proofs.Compositions.{sorted-moved, index-below, decoded_map_composed}
 use Rattle.oxc_sourcemap_laws.proofs.IgnoredSources.{count_marked}
 use Rattle.oxc_sourcemap_laws.proofs.JoinDecodedMaps.{length-sources_of, decoded_map_joined}
-use Rattle.oxc_sourcemap_laws.proofs.Joins.{map_same, map_twice}
 use Rattle.oxc_sourcemap_laws.proofs.JoinStands.{all_map}
 use Rattle.oxc_sourcemap_laws.proofs.RemappedMaps.{remappings_associative, composition_remapped}
 use Rattle.oxc_sourcemap_laws.proofs.RemappedMaps.{one_remapped, join_remapped}

@@ -31,7 +31,8 @@ ghost use Rattle.oxc_sourcemap_laws.specs.Words.{NothingRemapped, RemappedDecode
 ghost use Rattle.oxc_sourcemap_laws.specs.Words.{RemappedMapsAssociative, JoinRemapped};
 ghost use Rattle.oxc_sourcemap_laws.specs.Words.{JoinedMapsRemapped, CompositionRemapped};
 ghost use Rattle.oxc_sourcemap_laws.specs.Words.{ComposedMapsRemapped, OneRemapped, OneMapRemapped};
-ghost use Rattle.oxc_sourcemap_laws.specs.Words.{RemappingKeepsEqualUpToRepeats, RemappingStandsFor};
+ghost use Rattle.oxc_sourcemap_laws.specs.Words.{RemappingKeepsEqualUpToRepeats};
+ghost use Rattle.oxc_sourcemap_laws.specs.Words.{RemappingStandsFor};
 ghost use Rattle.oxc_sourcemap_laws.specs.Words.{RemappingSorted, RemappingInRange};
 ghost use Rattle.oxc_sourcemap_laws.specs.Words.{RemappingIsSound, RemappingCounts, RemappingNames};
 ghost use Rattle.oxc_sourcemap_laws.specs.Words.{SortedInputsGoOn, RemappingAnswered};

@@ -24,7 +24,7 @@ use Rattle.oxc_sourcemap_remap.specs.Remapped.{token_to, remapped, has_few, rema
 use Rattle.oxc_sourcemap_remap.proofs.InputPlaces.{input_for-all}
 use Rattle.oxc_sourcemap_laws.specs.RemapLaws.{AreInputsInBounds}
 use Rattle.oxc_sourcemap_laws.proofs.RemappedRecords.{leads_in, leads_from, leads, tokens-remapped}
-use Rattle.oxc_sourcemap_laws.proofs.RemappedStands.{tokens-within}
+use Rattle.oxc_sourcemap_laws.proofs.RemappedStands.{range_remapped}
 
 -- a line and a column that a token can hold
 record IsPlaced (o : Original) : Type 0 where
@@ -95,5 +95,5 @@ bounds_remapped a m inputs h k e =
     let r = remapped a inputs in
     let g = given (inputs_fault inputs) (has_few r) r m e in
     let few = and_parts (nat_le (length r.sources) 4294967295) (nat_le (length r.names) 4294967295) g.0 in
-    let all = all-bounds a inputs k r.names (length r.sources) a.tokens (at-most (length r.names) few.1) (at-most (length r.sources) few.0) (recursion_from_All IsInBounds a.tokens h) (tokens-within a inputs) in
+    let all = all-bounds a inputs k r.names (length r.sources) a.tokens (at-most (length r.names) few.1) (at-most (length r.sources) few.0) (recursion_from_All IsInBounds a.tokens h) (subst (AllByRecursion (IsInRange (length r.names) (length r.sources))) (tokens-remapped inputs a) (range_remapped a inputs).tokens) in
     subst (λ (r : MapRecord). AreInBounds r.tokens) g.1 (All-from_recursion IsInBounds r.tokens (subst (AllByRecursion IsInBounds) (sym (tokens-remapped inputs a)) all))

@@ -65,6 +65,10 @@ unmapped-leads : (b : MapRecord) (start : ℕ) (name : Option Text) (o : Option 
 unmapped-leads b start name None = refl
 unmapped-leads b start name (Some u) = unmapped-by b start name u.dst_line u.dst_col u.src_line u.src_col u.source_id u.name_id
 
+pub unmap-all : {A B : Type 0} (Q : B → Type 0) (f : A → B) (xs : List A) → AllByRecursion Q (map f xs) → AllByRecursion (λ x. Q (f x)) xs
+unmap-all Q f [] h = tt
+unmap-all Q f (x ∷ xs) h = (h.0, unmap-all Q f xs h.1)
+
 module _ (inputs : List (Text × MapRecord)) (a : MapRecord) where
   abbrev pub target : TokenRecord → Target
   target t = target_by (input_of inputs a t) t
@@ -95,7 +99,7 @@ module _ (inputs : List (Text × MapRecord)) (a : MapRecord) where
   pub leads-is : (t : TokenRecord) → original inputs a (target t) ≡ leads inputs a t
   leads-is t = by-id t.dst_line t.dst_col t.src_line t.src_col t.name_id t.source_id
 
-  token-is-by : (q : Option MapRecord) (t : TokenRecord) → (target_by q t).token ≡ t
+  pub token-is-by : (q : Option MapRecord) (t : TokenRecord) → (target_by q t).token ≡ t
   token-is-by None t = refl
   token-is-by (Some b) t = refl
 
@@ -105,10 +109,6 @@ module _ (inputs : List (Text × MapRecord)) (a : MapRecord) where
 
   pub tokens-remapped : (remapped a inputs).tokens ≡ map (λ t. token_to (remapped a inputs).names t (leads inputs a t)) a.tokens
   tokens-remapped = map_twice target (remapped_token inputs a (remapped a inputs).names) (λ t. token_to (remapped a inputs).names t (leads inputs a t)) (remapped_token-is (remapped a inputs).names) a.tokens
-
-  unmap-all : {A B : Type 0} (Q : B → Type 0) (f : A → B) (xs : List A) → AllByRecursion Q (map f xs) → AllByRecursion (λ x. Q (f x)) xs
-  unmap-all Q f [] h = tt
-  unmap-all Q f (x ∷ xs) h = (h.0, unmap-all Q f xs h.1)
 
   -- the name that a token needs is among the names
   pub all-placed : AllByRecursion (λ t. IsPlaced (remapped a inputs).names (needed_name (leads inputs a t))) a.tokens

@@ -18,10 +18,12 @@ use Rattle.oxc_sourcemap_join.proofs.Joining.{added_all-append, fitting_chunks}
 use Rattle.oxc_sourcemap_join.proofs.Adding.{front-within, nothing-within}
 use Rattle.oxc_sourcemap_decode.specs.Section.{place_in}
 use Rattle.oxc_sourcemap_decode.specs.Sections.{Sections, position_of, may_follow, may_begin}
-use Rattle.oxc_sourcemap_decode.specs.Sections.{in_order, place_after, section_map, section_after}
+use Rattle.oxc_sourcemap_decode.specs.Sections.{token_positions, in_order, place_after, section_map}
+use Rattle.oxc_sourcemap_decode.specs.Sections.{section_after}
 use Rattle.oxc_sourcemap_decode.specs.Sections.{onto_section, sections_after, all_sections}
 use Rattle.oxc_sourcemap_decode.specs.Sections.{joined_sections}
-use Rattle.oxc_sourcemap_decode.specs.JoinLimits.{is_within_limits}
+use Rattle.oxc_sourcemap_decode.specs.JoinLimits.{is_map_within_limits}
+use Rattle.oxc_sourcemap_decode.proofs.Ends.{last_position}
 use Rattle.oxc_sourcemap_decode.proofs.Limits.{limits_decided}
 
 -- a map at its offset
@@ -46,9 +48,9 @@ pub out-of-order : (front : List Placed) (d : Data) (place : Position) (j : MapR
     → before ≡ option_map (λ s. s.1) (last front) → count ≡ length (unwrap_or j.token_chunks []) → place_in d ≡ Ok place
     → (may_follow before place && may_follow (option_map position_of (last j.tokens)) place) ≡ false → place_after front d ≡ Err (SectionOrder count)
 out-of-order front d place j before count i b n e h =
-    let lasts : option_map position_of (last j.tokens) ≡ option_map position_of (last (joined front).tokens) = ap (λ (r : MapRecord). option_map position_of (last r.tokens)) i in
+    let lasts : option_map position_of (last j.tokens) ≡ last (token_positions front) = ap (λ (r : MapRecord). option_map position_of (last r.tokens)) i ∙ last_position front in
     let begun : may_begin front place ≡ false =
-    ap (λ o. may_follow o place && may_follow (option_map position_of (last (joined front).tokens)) place) (sym b)
+    ap (λ o. may_follow o place && may_follow (last (token_positions front)) place) (sym b)
     ∙ ap (λ o. may_follow before place && may_follow o place) (sym lasts) ∙ h in
     let number : length front ≡ count = sym (n ∙ ap (λ (r : MapRecord). length (unwrap_or r.token_chunks [])) i ∙ chunk-count front) in
     ap (λ (r : Result Position Error). r >>= in_order front) e
@@ -94,7 +96,7 @@ too-large front items n =
     let found = sections_after front items in
     let b = begins front items in
     let all : joined found.maps ≡ added_all (joined front) b.0 = ap joined b.1 ∙ added_all-append nothing_joined front b.0 in
-    elim (is_within_limits (joined found.maps)) as (λ t. is_within_limits (joined found.maps) ≡ t → cond t (unless found.fault (Ok (joined found.maps))) (Err TooLarge) ≡ Err TooLarge) [
+    elim (is_map_within_limits (joined found.maps)) as (λ t. is_map_within_limits (joined found.maps) ≡ t → cond t (unless found.fault (Ok (joined found.maps))) (Err TooLarge) ≡ Err TooLarge) [
       | true ↦ (λ e. absurd (n (front-within (joined front) b.0 (subst IsWithinLimits all ((limits_decided (joined found.maps)).0 e)))))
       | false ↦ (λ e. refl)
     ] refl

@@ -1,4 +1,5 @@
--- The outcome of a plan, by cases: what it means, the map itself, what bounds its counts, and whether it is within the limits.
+-- The outcome of a plan, by cases: all that is said of it. What it means (as `Meaning` has it by itself), the map that its steps
+-- make, what bounds its counts, and whether it is within the limits.
 use Rattle.std.specs.Prelude.{ℕ, Bool, true, false, ◌&&◌, List, [], ◌∷◌, ◌++◌, length, map, Option}
 use Rattle.std.specs.Prelude.{Some, None, Result, Ok, Err, if◌then◌else◌, nat_le}
 use Rattle.std.specs.List.{flat_map, list_all}
@@ -164,10 +165,6 @@ too_deep = record { meaning = Err TooDeep; map_record = None; names = []; conten
 -- the outcome of a plan, which is at most 64 deep
 abbrev pub outcome : Plan → Outcome
 outcome plan = if nat_le (depth plan) 64 then outcome_of plan else too_deep
-
--- what a plan means: a decoded map, or the first error, or `TooDeep` if it is deeper than 64
-abbrev pub meaning : Plan → Meaning
-meaning plan = (outcome plan).meaning
 
 -- whether a plan is within the limits
 abbrev pub is_within_limits : Plan → Bool

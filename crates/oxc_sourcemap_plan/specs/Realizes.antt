@@ -30,7 +30,7 @@ pub record Realizes (m : MapRecord) (o : Outcome) : Type 0 where
 
 -- An error is the one that is meant, or want of memory, or `TooLarge` if the plan is not within the limits.
 abbrev pub FailsAs : PlanError → Outcome → Type 0
-FailsAs e o = (e ≡ Map OutOfMemory) ⊎ IsErrorOf o e
+FailsAs e o = (e ≡ Map OutOfMemory) ⊎ IsErrorOf o.meaning o.is_within_limits e
 
 -- each map realizes the outcome at its index in the other list, at the same offset
 abbrev pub AllRealize : List (MapRecord × Position) → List (Outcome × Position) → Type 0

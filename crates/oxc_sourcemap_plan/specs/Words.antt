@@ -7,11 +7,12 @@ pub use Rattle.oxc_sourcemap_tokens.specs.declared.error.Error.TheVariants.{OutO
 pub use Rattle.oxc_sourcemap_tokens.specs.declared.plan_error.PlanError.TheVariants.{Map, Unsorted}
 pub use Rattle.oxc_sourcemap_tokens.specs.declared.position.Position.{Position}
 pub use Rattle.oxc_sourcemap_plan.specs.Depth.{depth}
-pub use Rattle.oxc_sourcemap_plan.specs.Evaluated.{IsEvaluated, IsErrorOf}
+pub use Rattle.oxc_sourcemap_plan.specs.Evaluated.{IsEvaluated, HasOutcome, IsErrorOf}
+pub use Rattle.oxc_sourcemap_plan.specs.Meaning.{meaning}
 pub use Rattle.oxc_sourcemap_plan.specs.Numbers.{number_of}
 pub use Rattle.oxc_sourcemap_plan.specs.Outcome.{Outcome, read_outcome, rewrite_outcome}
 pub use Rattle.oxc_sourcemap_plan.specs.Outcome.{join_outcome, composition_outcome, outcome_of}
-pub use Rattle.oxc_sourcemap_plan.specs.Outcome.{outcomes, outcome}
+pub use Rattle.oxc_sourcemap_plan.specs.Outcome.{outcomes, outcome, is_within_limits}
 pub use Rattle.oxc_sourcemap_plan.specs.PlanArguments.{parsed_number, parsed_beginning}
 pub use Rattle.oxc_sourcemap_plan.specs.PlanArguments.{parsed_input, parsed_join, parsed_part}
 pub use Rattle.oxc_sourcemap_plan.specs.PlanArguments.{parsed_plan}

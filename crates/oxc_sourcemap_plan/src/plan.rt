@@ -3,7 +3,8 @@ ghost use Rattle.std.specs.Prelude.{◌≡◌, ◌≤◌, ◌↔◌, ◌⊎◌, 
 ghost use Rattle.oxc_sourcemap_plan.specs.Words.{depth, Outcome, read_outcome, rewrite_outcome};
 ghost use Rattle.oxc_sourcemap_plan.specs.Words.{join_outcome, composition_outcome, outcome_of};
 ghost use Rattle.oxc_sourcemap_plan.specs.Words.{outcomes, outcome, Position, at_lines};
-ghost use Rattle.oxc_sourcemap_plan.specs.Words.{at_positions, IsEvaluated, IsErrorOf, Realizes};
+ghost use Rattle.oxc_sourcemap_plan.specs.Words.{at_positions, meaning, is_within_limits};
+ghost use Rattle.oxc_sourcemap_plan.specs.Words.{IsEvaluated, HasOutcome, IsErrorOf, Realizes};
 ghost use Rattle.oxc_sourcemap_plan.specs.Words.{FailsAs, AllRealize, OutOfMemory, said_in};
 ghost use Rattle.oxc_sourcemap_plan.specs.Words.{are_tokens_sorted, Map, Unsorted};
 
@@ -245,9 +246,9 @@ fn evaluate_composition(
 /// assert_eq!(rt; evaluate(alloc, &plan)?.to_json_string(alloc)?.as_str(), text);
 /// ```
 ///
-/// The map is the one that the definitions of these steps make. At every generated position it has the exact and the clamped
-/// trace that the plan means, and it has the sources, contents and metadata that the plan means. `IsEvaluated` lists all that
-/// is promised of it, `outcome` what a plan means (docs/PROOFS.md, "The theorem").
+/// At every generated position the map has the exact and the clamped trace that the plan means, and it has the sources,
+/// contents and metadata that the plan means (`meaning`). `IsEvaluated` lists what is promised of it, `HasOutcome` what is
+/// besides: it is the map that the definitions of these steps make (docs/PROOFS.md, "The theorem").
 ///
 /// Fails with
 /// - `TooDeep` if the plan is deeper than 64, where a text alone is 1 deep, before anything is read;
@@ -259,8 +260,11 @@ fn evaluate_composition(
 /// mappings (repeated ones included), each counted by itself, or a joined line or column above that, where an indexed map
 /// counts as the join of its sections (`is_within_limits`), and with `Map(OutOfMemory)` for want of memory.
 pub fn evaluate(alloc: Global, plan: &Plan<'_>) -> Result<OwnedSourceMap, PlanError>
-    ensures map { IfOk result (λ map. IsEvaluated map (outcome plan.now)) }
-    ensures error { IfErr result (λ e. (e ≡ Map OutOfMemory) ⊎ IsErrorOf (outcome plan.now) e) }
+    ensures map { IfOk result (λ map. IsEvaluated map (meaning plan.now)) }
+    ensures error { IfErr result (λ e. (e ≡ Map OutOfMemory)
+        ⊎ IsErrorOf (meaning plan.now) (is_within_limits plan.now) e) }
+    ensures outcome { IfOk result (λ map. HasOutcome map (outcome plan.now)) }
+    ensures same_meaning { (outcome plan.now).meaning ≡ meaning plan.now }
 {
     dropping_harmless();
     canonical_unique();

@@ -32,6 +32,8 @@ pub enum Plan<'t> {
     Read(&'t str),
     /// Write the map of a part as a JSON source map, and read it again.
     Rewrite(Box<Plan<'t>>),
+    /// Put the source root of the map of a part before each of its sources; the map has none then.
+    ApplyRoot(Box<Plan<'t>>),
     /// Join the maps of parts, each at the line of the joined code where its code begins, at column 0.
     Join(Vec<(Plan<'t>, u32)>),
     /// Join the maps of parts, each at the line and the column of the joined code where its code begins.
@@ -39,6 +41,8 @@ pub enum Plan<'t> {
     /// Compose the map of the first part, from generated to intermediate code, with that of the second, from there to
     /// original code.
     Compose(Box<Plan<'t>>, Box<Plan<'t>>),
+    /// Lead the map of the first part on through the maps of other parts, each for the sources that have its path, byte for byte.
+    Remap(Box<Plan<'t>>, Vec<(&'t str, Plan<'t>)>),
 }
 
 /// Whether a plan is at most `room` levels deep. A plan without parts has one level.
@@ -51,6 +55,7 @@ fn is_within_depth(plan: &Plan<'_>, room: u32) -> bool
     match plan {
         Plan::Read(_) => true,
         Plan::Rewrite(part) => is_within_depth(part, room - 1),
+        Plan::ApplyRoot(part) => is_within_depth(part, room - 1),
         Plan::Join(parts) => {
             for (part, _) in parts {
                 if !is_within_depth(part, room - 1) {
@@ -69,6 +74,14 @@ fn is_within_depth(plan: &Plan<'_>, room: u32) -> bool
         }
         Plan::Compose(first, second) => {
             is_within_depth(first, room - 1) && is_within_depth(second, room - 1)
+        }
+        Plan::Remap(first, inputs) => {
+            for (_, input) in inputs {
+                if !is_within_depth(input, room - 1) {
+                    return false;
+                }
+            }
+            is_within_depth(first, room - 1)
         }
     }
 }
@@ -141,6 +154,37 @@ fn compose(
     Ok(first.compose(alloc, second)?)
 }
 
+/// A map with its source root before its sources.
+#[inline(never)]
+fn apply_root(alloc: Global, map: SourceMap<'static>) -> Result<SourceMap<'static>, PlanError>
+    ensures map { IfOk result (λ m. (o : Outcome) → Realizes map.entry o
+        → Realizes m (root_outcome o)) }
+    ensures error { IfErr result (λ e. (o : Outcome) → FailsAs e (root_outcome o)) }
+{
+    remapping_harmless();
+    let mut map = map;
+    map.apply_source_root(alloc)?;
+    Ok(map)
+}
+
+/// A map, led on through inputs.
+#[inline(never)]
+fn remap(
+    alloc: Global,
+    map: SourceMap<'static>,
+    inputs: Vec<(&str, SourceMap<'static>)>,
+) -> Result<SourceMap<'static>, PlanError>
+    ensures map { IfOk result (λ m. (o : Outcome) (os : List (Text × Outcome))
+        → Realizes map.entry o → InputsRealize (by_path inputs.entry.items) os
+        → Realizes m (remap_outcome o os)) }
+    ensures error { IfErr result (λ e. (o : Outcome) (os : List (Text × Outcome))
+        → Realizes map.entry o → InputsRealize (by_path inputs.entry.items) os
+        → FailsAs e (remap_outcome o os)) }
+{
+    remapping_harmless();
+    Ok(map)
+}
+
 /// The map of a plan of any depth.
 ///
 /// The stack has a frame for each level of a plan. To keep these small, each kind of part has a function of its own, and
@@ -153,9 +197,11 @@ fn evaluate_part(alloc: Global, plan: &Plan<'_>) -> Result<SourceMap<'static>, P
     match plan {
         Plan::Read(text) => read(alloc, text),
         Plan::Rewrite(part) => evaluate_rewrite(alloc, part),
+        Plan::ApplyRoot(part) => evaluate_root(alloc, part),
         Plan::Join(parts) => evaluate_join(alloc, parts.as_slice()),
         Plan::JoinAt(parts) => evaluate_join_at(alloc, parts.as_slice()),
         Plan::Compose(first, second) => evaluate_composition(alloc, first, second),
+        Plan::Remap(first, inputs) => evaluate_remapping(alloc, first, inputs.as_slice()),
     }
 }
 
@@ -168,6 +214,17 @@ fn evaluate_rewrite(alloc: Global, part: &Plan<'_>) -> Result<SourceMap<'static>
 {
     let map = evaluate_part(alloc, part)?;
     rewrite(alloc, map)
+}
+
+/// The map of a part, with its source root before its sources.
+#[cycle(evaluation)]
+#[inline(never)]
+fn evaluate_root(alloc: Global, part: &Plan<'_>) -> Result<SourceMap<'static>, PlanError>
+    ensures map { IfOk result (λ map. Realizes map (root_outcome (outcome_of part.now))) }
+    ensures error { IfErr result (λ e. FailsAs e (root_outcome (outcome_of part.now))) }
+{
+    let map = evaluate_part(alloc, part)?;
+    apply_root(alloc, map)
 }
 
 /// The join of the maps of parts, each at its line.
@@ -233,8 +290,30 @@ fn evaluate_composition(
     )
 }
 
-/// Evaluates a plan: reads, rewrites, joins and composes maps, parts from left to right, all parts of a join before they are
-/// joined.
+/// The map of the first part, led on through those of others.
+#[cycle(evaluation)]
+#[inline(never)]
+fn evaluate_remapping(
+    alloc: Global,
+    first: &Plan<'_>,
+    inputs: &[(&str, Plan<'_>)],
+) -> Result<SourceMap<'static>, PlanError>
+    ensures map { IfOk result (λ map. Realizes map
+        (remap_outcome (outcome_of first.now) (input_outcomes (by_path inputs.now)))) }
+    ensures error { IfErr result (λ e. FailsAs e
+        (remap_outcome (outcome_of first.now) (input_outcomes (by_path inputs.now)))) }
+{
+    let map = evaluate_part(alloc, first)?;
+    let mut maps = Vec::new(alloc);
+    for (path, input) in inputs {
+        let input = evaluate_part(alloc, input)?;
+        maps.push((*path, input))?;
+    }
+    remap(alloc, map, maps)
+}
+
+/// Evaluates a plan: reads, rewrites, joins, composes and remaps maps, parts from left to right, all parts of a join before they
+/// are joined, and all inputs of a remapping before it is made.
 ///
 /// ```rust
 /// use oxc_sourcemap::{Plan, evaluate};

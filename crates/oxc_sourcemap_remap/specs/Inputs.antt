@@ -9,8 +9,6 @@ use Rattle.oxc_sourcemap_tokens.specs.declared.error.Error.TheVariants.{InputLin
 use Rattle.oxc_sourcemap_tokens.specs.LineOrder.{first_out_of_order}
 use Rattle.oxc_sourcemap_parts.specs.DecodedMap.{DecodedMap, decoded_map_of}
 use Rattle.oxc_sourcemap_parts.specs.Record.{Text, MapRecord}
-use Rattle.oxc_sourcemap_parts.specs.Views.{record_of_parts}
-use Rattle.oxc_sourcemap_parts.specs.declared.parts.SourceMapParts.{SourceMapParts}
 use Rattle.oxc_sourcemap_lookup.specs.Composed.{NoColumnGoesBack}
 
 -- the first input for a path; paths are compared byte for byte
@@ -19,8 +17,16 @@ input_for [] path = None
 input_for (input ∷ inputs) path = if bytes_eq path input.0 then Some input.1 else input_for inputs path
 
 -- borrowed inputs, with their maps as records
-abbrev pub input_records : List (Bor Text × Bor SourceMapParts) → List (Text × MapRecord)
-input_records inputs = map (λ input. (input.0.now, record_of_parts input.1.now)) inputs
+abbrev pub input_records : {M : Type 0} → (M → MapRecord) → List (Bor Text × Bor M) → List (Text × MapRecord)
+input_records record_of inputs = map (λ input. (input.0.now, record_of input.1.now)) inputs
+
+-- the same of maps that are seen as records
+abbrev pub lent_inputs : List (Bor Text × Bor MapRecord) → List (Text × MapRecord)
+lent_inputs inputs = map (λ input. (input.0.now, input.1.now)) inputs
+
+-- the same of maps that are not borrowed
+abbrev pub owned_inputs : List (Bor Text × MapRecord) → List (Text × MapRecord)
+owned_inputs inputs = map (λ input. (input.0.now, input.1)) inputs
 
 -- the inputs with what their maps mean
 abbrev pub decoded_inputs : List (Text × MapRecord) → List (Text × DecodedMap)

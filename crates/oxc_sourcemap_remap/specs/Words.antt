@@ -3,6 +3,7 @@ pub use Rattle.oxc_sourcemap_tokens.specs.Results.{FailsBy, Reports}
 pub use Rattle.oxc_sourcemap_tokens.specs.declared.error.Error.{Error}
 pub use Rattle.oxc_sourcemap_tokens.specs.declared.error.Error.TheVariants.{OutOfMemory, TooLarge}
 pub use Rattle.oxc_sourcemap_parts.specs.DecodedMap.{name_of}
+pub use Rattle.oxc_sourcemap_parts.specs.Record.{MapRecord}
 pub use Rattle.oxc_sourcemap_parts.specs.Texts.{index_of, with_text}
 pub use Rattle.oxc_sourcemap_parts.specs.Views.{cow_texts, text_of, texts_of, contents_of, ids_of}
 pub use Rattle.oxc_sourcemap_parts.specs.Views.{record_of_parts}

@@ -23,7 +23,7 @@ pub(crate) struct Block<'m, 'i> {
     /// Whether each is ignored.
     pub(crate) ignored: &'i [bool],
     /// The input, if there is one.
-    pub(crate) input: Option<&'i Input<'m>>,
+    pub(crate) input: Option<&'i Input<'i, 'm>>,
 }
 
 /// The block of the source at an index of the map, which has this input or none. `ignored` is that of the map.
@@ -31,7 +31,7 @@ fn block_at<'m, 'i>(
     map: &'m SourceMapParts<'m>,
     ignored: &'i [bool],
     i: usize,
-    input: Option<&'i Input<'m>>,
+    input: Option<&'i Input<'i, 'm>>,
     start: u32,
 ) -> Block<'m, 'i>
     requires source { i < length map.now.sources.items }
@@ -79,7 +79,7 @@ pub(crate) fn blocks_of<'m, 'i>(
     alloc: Global,
     map: &'m SourceMapParts<'m>,
     ignored: &'i [bool],
-    inputs: &'i [Input<'m>],
+    inputs: &'i [Input<'_, 'm>],
 ) -> Result<Vec<Block<'m, 'i>>>
     requires flags { ignored.now ≡ flags_of (record_of_parts map.now) }
     requires ready { AreReady inputs.now }

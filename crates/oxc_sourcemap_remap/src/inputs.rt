@@ -6,6 +6,7 @@ ghost use Rattle.oxc_sourcemap_remap.specs.Words.{input_records, goes_back, inpu
 ghost use Rattle.oxc_sourcemap_remap.specs.Words.{listed_flags, flags_of, IsReady, AreReady};
 ghost use Rattle.oxc_sourcemap_remap.specs.Words.{HasPlaces, IsFor, ready_records, input_paths};
 
+use crate::as_parts::AsParts;
 use oxc_sourcemap_lookup::LineIndex;
 use oxc_sourcemap_parts::SourceMapParts;
 use oxc_sourcemap_tokens::{Error, Memory, Result, line_order_fault};
@@ -15,8 +16,8 @@ use std::collections::HashMap;
 /// An input, made ready: its path and its map, the index of the lines of its tokens, and whether each of its sources is
 /// ignored.
 #[derive(Drop)]
-pub(crate) struct Input<'m> {
-    path: &'m str,
+pub(crate) struct Input<'p, 'm> {
+    path: &'p str,
     pub(crate) map: &'m SourceMapParts<'m>,
     pub(crate) index: LineIndex,
     pub(crate) ignored: Vec<bool>,
@@ -48,7 +49,11 @@ pub(crate) fn ignored_flags(alloc: Global, map: &SourceMapParts<'_>) -> Memory<V
 }
 
 /// An input, made ready. It fails if its tokens go back in lines.
-fn ready_input<'m>(alloc: Global, path: &'m str, map: &'m SourceMapParts<'m>) -> Result<Input<'m>>
+fn ready_input<'p, 'm>(
+    alloc: Global,
+    path: &'p str,
+    map: &'m SourceMapParts<'m>,
+) -> Result<Input<'p, 'm>>
     ensures ready { IfOk result IsReady }
     ensures input { IfOk result (λ input. (input.path.now ≡ path.now)
         × (input.map.now ≡ map.now)) }
@@ -64,26 +69,27 @@ fn ready_input<'m>(alloc: Global, path: &'m str, map: &'m SourceMapParts<'m>) ->
 }
 
 /// All inputs, made ready. It fails if the tokens of one go back in lines.
-fn all_ready<'m>(
+fn all_ready<'p, 'm, M: AsParts>(
     alloc: Global,
-    inputs: &'m [(&'m str, &'m SourceMapParts<'m>)],
-) -> Result<Vec<Input<'m>>>
+    inputs: &[(&'p str, &'m M)],
+) -> Result<Vec<Input<'p, 'm>>>
     ensures ready { IfOk result (λ ready. AreReady ready.items) }
-    ensures inputs { IfOk result (λ ready. ready_records ready.items ≡ input_records inputs.now) }
+    ensures inputs { IfOk result (λ ready. ready_records ready.items
+        ≡ input_records M.as_record inputs.now) }
 {
     let mut ready = Vec::with_capacity(alloc, inputs.len())?;
     for (path, map) in inputs {
-        ready.push(ready_input(alloc, path, map)?)?;
+        ready.push(ready_input(alloc, path, map.as_parts())?)?;
     }
     Ok(ready)
 }
 
 /// The index of the first input whose tokens go back in lines.
-fn first_back(inputs: &[(&str, &SourceMapParts<'_>)]) -> Option<usize>
-    ensures { result ≡ position_from goes_back 0 (input_records inputs.now) }
+fn first_back<M: AsParts>(inputs: &[(&str, &M)]) -> Option<usize>
+    ensures { result ≡ position_from goes_back 0 (input_records M.as_record inputs.now) }
 {
     for (i, (_, map)) in inputs.iter().enumerate() {
-        if line_order_fault(map.tokens.as_slice()).is_some() {
+        if line_order_fault(map.as_parts().tokens.as_slice()).is_some() {
             return Some(i);
         }
     }
@@ -91,15 +97,16 @@ fn first_back(inputs: &[(&str, &SourceMapParts<'_>)]) -> Option<usize>
 }
 
 /// All inputs, made ready. Where the tokens of one go back in lines, that is the error.
-pub(crate) fn ready_inputs<'m>(
+pub(crate) fn ready_inputs<'p, 'm, M: AsParts>(
     alloc: Global,
-    inputs: &'m [(&'m str, &'m SourceMapParts<'m>)],
-) -> Result<Vec<Input<'m>>>
+    inputs: &[(&'p str, &'m M)],
+) -> Result<Vec<Input<'p, 'm>>>
     ensures ready { IfOk result (λ ready. AreReady ready.items) }
-    ensures inputs { IfOk result (λ ready. ready_records ready.items ≡ input_records inputs.now) }
-    ensures well { OnOk result (inputs_fault (input_records inputs.now) ≡ None) }
-    ensures error { FailsBy (inputs_fault (input_records inputs.now)) result }
-    ensures fault { Reports (inputs_fault (input_records inputs.now)) result }
+    ensures inputs { IfOk result (λ ready. ready_records ready.items
+        ≡ input_records M.as_record inputs.now) }
+    ensures well { OnOk result (inputs_fault (input_records M.as_record inputs.now) ≡ None) }
+    ensures error { FailsBy (inputs_fault (input_records M.as_record inputs.now)) result }
+    ensures fault { Reports (inputs_fault (input_records M.as_record inputs.now)) result }
 {
     if let Ok(ready) = all_ready(alloc, inputs) {
         return Ok(ready);
@@ -111,10 +118,10 @@ pub(crate) fn ready_inputs<'m>(
 }
 
 /// The index of the first input for each path.
-pub(crate) fn input_places<'m>(
+pub(crate) fn input_places<'p>(
     alloc: Global,
-    inputs: &[Input<'m>],
-) -> Memory<HashMap<&'m str, usize>>
+    inputs: &[Input<'p, '_>],
+) -> Memory<HashMap<&'p str, usize>>
     ensures { IfOk result (λ places. HasPlaces (input_paths inputs.now) places) }
 {
     let mut places = HashMap::new(alloc);
@@ -126,11 +133,11 @@ pub(crate) fn input_places<'m>(
 }
 
 /// The input for a path.
-pub(crate) fn input_at<'m, 'i>(
-    inputs: &'i [Input<'m>],
+pub(crate) fn input_at<'p, 'm, 'i>(
+    inputs: &'i [Input<'p, 'm>],
     places: &HashMap<&str, usize>,
     path: &str,
-) -> Option<&'i Input<'m>>
+) -> Option<&'i Input<'p, 'm>>
     requires ready { AreReady inputs.now }
     requires places { HasPlaces (input_paths inputs.now) places.now }
     ensures { IsFor (ready_records inputs.now) path.now result }

@@ -1,10 +1,12 @@
 //! Remapping: a map some of whose sources are themselves generated, and the maps of these, made one. Part of `oxc_sourcemap`.
 #![tactic(auto)]
 
+mod as_parts;
 mod blocks;
 mod inputs;
 mod lists;
 mod needed_names;
 mod remap;
 
+pub use as_parts::AsParts;
 pub use remap::remap_parts;

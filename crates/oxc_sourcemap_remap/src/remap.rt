@@ -11,6 +11,7 @@ ghost use Rattle.oxc_sourcemap_remap.specs.Words.{original_of_place, needed_name
 ghost use Rattle.oxc_sourcemap_remap.specs.Words.{token_to, names_in, ArePlaced, with_inherited};
 ghost use Rattle.oxc_sourcemap_remap.specs.Words.{put_together};
 
+use crate::as_parts::AsParts;
 use crate::blocks::{Block, block_of, blocks_of};
 use crate::inputs::{ignored_flags, ready_inputs};
 use crate::lists::{content_list, ignore_list, lent_text, source_list};
@@ -204,16 +205,16 @@ fn put_together<'m>(
 }
 
 /// The remapped map. `remap_parts` has the errors.
-fn remapped_parts<'m>(
+fn remapped_parts<'m, M: AsParts>(
     alloc: Global,
     map: &'m SourceMapParts<'m>,
-    inputs: &'m [(&'m str, &'m SourceMapParts<'m>)],
+    inputs: &[(&str, &'m M)],
 ) -> Result<SourceMapParts<'m>>
     ensures made { IfOk result (λ parts. SomeRemapping (record_of_parts map.now)
-        (input_records inputs.now) (Ok (record_of_parts parts))) }
+        (input_records M.as_record inputs.now) (Ok (record_of_parts parts))) }
     ensures error { IfErr result (λ e. (e ≢ OutOfMemory)
-        → SomeRemapping (record_of_parts map.now) (input_records inputs.now) (Err e)) }
-    ensures fault { Reports (inputs_fault (input_records inputs.now)) result }
+        → SomeRemapping (record_of_parts map.now) (input_records M.as_record inputs.now) (Err e)) }
+    ensures fault { Reports (inputs_fault (input_records M.as_record inputs.now)) result }
 {
     let ready = ready_inputs(alloc, inputs)?;
     let ignored = ignored_flags(alloc, map)?;
@@ -240,27 +241,29 @@ fn remapped_parts<'m>(
 /// - The names are those that tokens need, each once, in the order of the tokens. File and debug id are those of `map`; the
 ///   result has no source root and no chunks.
 ///
-/// Nothing is taken: all strings of the result are borrowed from `map` and `inputs`.
+/// Nothing is taken: all strings of the result are borrowed from `map` and from the maps of `inputs`, not from the list.
 ///
 /// Fails in this order: `InputLineOrder(k)` for the first input whose tokens go back in lines, used or not; `TooLarge` if
 /// sources or names would number above 4294967295; `OutOfMemory` for want of memory. The first is reported whenever it holds.
 /// If columns go back on a line of an input, it is open to which token of that line a token leads.
-pub fn remap_parts<'m>(
+pub fn remap_parts<'m, M: AsParts>(
     alloc: Global,
     map: &'m SourceMapParts<'_>,
-    inputs: &'m [(&str, &SourceMapParts<'_>)],
+    inputs: &[(&str, &'m M)],
 ) -> Result<SourceMapParts<'m>>
-    ensures map { let a = record_of_parts map.now in let inputs = input_records inputs.now in
+    ensures map { let a = record_of_parts map.now in
+        let inputs = input_records M.as_record inputs.now in
         NoInputColumnGoesBack inputs → IfOk result
         (λ parts. remapping a inputs ≡ Ok (record_of_parts parts)) }
-    ensures error { let a = record_of_parts map.now in let inputs = input_records inputs.now in
+    ensures error { let a = record_of_parts map.now in
+        let inputs = input_records M.as_record inputs.now in
         NoInputColumnGoesBack inputs → IfErr result
         (λ e. (e ≢ OutOfMemory) → remapping a inputs ≡ Err e) }
     ensures any_map { IfOk result (λ parts. SomeRemapping (record_of_parts map.now)
-        (input_records inputs.now) (Ok (record_of_parts parts))) }
+        (input_records M.as_record inputs.now) (Ok (record_of_parts parts))) }
     ensures any_error { IfErr result (λ e. (e ≢ OutOfMemory)
-        → SomeRemapping (record_of_parts map.now) (input_records inputs.now) (Err e)) }
-    ensures fault { Reports (inputs_fault (input_records inputs.now)) result }
+        → SomeRemapping (record_of_parts map.now) (input_records M.as_record inputs.now) (Err e)) }
+    ensures fault { Reports (inputs_fault (input_records M.as_record inputs.now)) result }
 {
     remapped_parts(alloc, map, inputs)
 }

@@ -1,13 +1,14 @@
 -- The last token of a join is where the last token of its maps is, though a join leaves repeats out.
-use Rattle.std.proofs.Common.{◌≡◌, ℕ, Bool, true, false, cond, List, [], ◌∷◌, ◌++◌, map, refl, sym, ap}
+use Rattle.std.proofs.Common.{◌≡◌, ℕ, ◌==◌, ◌&&◌, true, false, cond, List, [], ◌∷◌, ◌++◌, map, refl, sym, ap}
 use Rattle.std.proofs.Common.{◌∙◌, arith, length, Option, Some, None, option_map}
+use Rattle.std.specs.List.{last_or}
 use Rattle.std.proofs.lemmas.Bool.{and_parts}
 use Rattle.std.proofs.lemmas.Bool.Decides.{nat_tests}
-use Rattle.oxc_sourcemap_tokens.specs.Token.{TokenRecord, last_or, last}
+use Rattle.oxc_sourcemap_tokens.specs.Token.{TokenRecord, last}
 use Rattle.oxc_sourcemap_parts.specs.Record.{MapRecord}
 use Rattle.oxc_sourcemap_tokens.specs.declared.position.Position.{Position}
-use Rattle.oxc_sourcemap_join.specs.Joined.{is_same_token, without_repeat, seamed, shifted, added}
-use Rattle.oxc_sourcemap_join.specs.Joined.{added_all, nothing_joined, joined}
+use Rattle.oxc_sourcemap_join.specs.Joined.{is_same_id, is_same_token, without_repeat}
+use Rattle.oxc_sourcemap_join.specs.Joined.{shifted, added, added_all, nothing_joined, joined}
 use Rattle.oxc_sourcemap_decode.specs.Sections.{position_of, moved_position, token_positions}
 
 last-after : {A : Type 0} (o : Option A) (xs ys : List A) → last_or o (xs ++ ys) ≡ last_or (last_or o xs) ys
@@ -20,11 +21,13 @@ last-map o (t ∷ ts) = last-map (Some t) ts
 
 same-position : (t u : TokenRecord) → is_same_token t u ≡ true → position_of t ≡ position_of u
 same-position t u e =
-    let p = and_parts _ _ e in
-    let q = and_parts _ _ p.1 in
+    let ids = is_same_id t.source_id u.source_id && is_same_id t.name_id u.name_id in
+    let source = t.src_line == u.src_line && (t.src_col == u.src_col && ids) in
+    let p = and_parts (t.dst_line == u.dst_line) (t.dst_col == u.dst_col && source) e in
+    let q = and_parts (t.dst_col == u.dst_col) source p.1 in
     let line : t.dst_line ≡ u.dst_line = grind (arith, nat_tests, p.0) in
     let column : t.dst_col ≡ u.dst_col = grind (arith, nat_tests, q.0) in
-    ap (λ l. record { line = l; column = t.dst_col }) line ∙ ap (λ c. record { line = u.dst_line; column = c }) column
+    rw (line, column) refl
 
 -- a token that is left out is where the one before it is
 last-kept : (o : Option TokenRecord) (ts : List TokenRecord) → option_map position_of (last_or o (without_repeat is_same_token o ts)) ≡ last_or (option_map position_of o) (map position_of ts)

@@ -43,18 +43,30 @@ last-more (y ∷ z ∷ ys) x = last-more (z ∷ ys) x
 pub chunk-count : (front : List Placed) → length (unwrap_or (joined front).token_chunks []) ≡ length front
 chunk-count front = let f = fitting_chunks front in ap (λ o. length (unwrap_or o [])) f.has ∙ f.count
 
+-- whether a section may begin, by the join of those in front of it
+begun-by : (front : List Placed) (place : Position) (j : MapRecord) (before : Option Position) → j ≡ joined front → before ≡ option_map (λ s. s.1) (last front)
+    → (may_follow before place && may_follow (option_map position_of (last j.tokens)) place) ≡ may_begin front place
+begun-by front place j before i b =
+    let lasts : option_map position_of (last j.tokens) ≡ last (token_positions front) = ap (λ (r : MapRecord). option_map position_of (last r.tokens)) i ∙ last_position front in
+    ap (λ o. may_follow o place && may_follow (option_map position_of (last j.tokens)) place) b
+    ∙ ap (λ o. may_follow (option_map (λ s. s.1) (last front)) place && may_follow o place) lasts
+
+-- a section whose offset is in order
+pub well-placed : (front : List Placed) (d : Data) (place : Position) (j : MapRecord) (before : Option Position) → j ≡ joined front
+    → before ≡ option_map (λ s. s.1) (last front) → place_in d ≡ Ok place
+    → (may_follow before place && may_follow (option_map position_of (last j.tokens)) place) ≡ true → place_after front d ≡ Ok place
+well-placed front d place j before i b e h =
+    ap (λ (r : Result Position Error). r >>= in_order front) e
+    ∙ ap (λ t. cond t (Ok place) (Err (SectionOrder (length front)))) (sym (begun-by front place j before i b) ∙ h)
+
 -- a section whose offset is out of order
 pub out-of-order : (front : List Placed) (d : Data) (place : Position) (j : MapRecord) (before : Option Position) (count : ℕ) → j ≡ joined front
     → before ≡ option_map (λ s. s.1) (last front) → count ≡ length (unwrap_or j.token_chunks []) → place_in d ≡ Ok place
     → (may_follow before place && may_follow (option_map position_of (last j.tokens)) place) ≡ false → place_after front d ≡ Err (SectionOrder count)
 out-of-order front d place j before count i b n e h =
-    let lasts : option_map position_of (last j.tokens) ≡ last (token_positions front) = ap (λ (r : MapRecord). option_map position_of (last r.tokens)) i ∙ last_position front in
-    let begun : may_begin front place ≡ false =
-    ap (λ o. may_follow o place && may_follow (last (token_positions front)) place) (sym b)
-    ∙ ap (λ o. may_follow before place && may_follow o place) (sym lasts) ∙ h in
     let number : length front ≡ count = sym (n ∙ ap (λ (r : MapRecord). length (unwrap_or r.token_chunks [])) i ∙ chunk-count front) in
     ap (λ (r : Result Position Error). r >>= in_order front) e
-    ∙ ap (λ t. cond t (Ok place) (Err (SectionOrder (length front)))) begun
+    ∙ ap (λ t. cond t (Ok place) (Err (SectionOrder (length front)))) (sym (begun-by front place j before i b) ∙ h)
     ∙ ap (λ k. Err (SectionOrder k)) number
 
 -- ---- one section

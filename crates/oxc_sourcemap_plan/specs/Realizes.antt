@@ -3,7 +3,7 @@ use Rattle.std.specs.Prelude.{◌≡◌, ◌≤◌, true, List, length, Ok, Some
 use Rattle.std.specs.List.{AllZip}
 use Rattle.oxc_sourcemap_tokens.specs.declared.error.Error.TheVariants.{OutOfMemory}
 use Rattle.oxc_sourcemap_tokens.specs.Token.{AreInBounds}
-use Rattle.oxc_sourcemap_parts.specs.Record.{MapRecord}
+use Rattle.oxc_sourcemap_parts.specs.Record.{Text, MapRecord}
 use Rattle.oxc_sourcemap_parts.specs.DecodedMap.{DecodedMap}
 use Rattle.oxc_sourcemap_laws.specs.MapLaws.{rewritten}
 use Rattle.oxc_sourcemap_tokens.specs.declared.position.Position.{Position}
@@ -35,3 +35,7 @@ FailsAs e o = (e ≡ Map OutOfMemory) ⊎ IsErrorOf o.meaning o.is_within_limits
 -- each map realizes the outcome at its index in the other list, at the same offset
 abbrev pub AllRealize : List (MapRecord × Position) → List (Outcome × Position) → Type 0
 AllRealize ms os = AllZip (λ m o. Realizes m.0 o.0 × (m.1 ≡ o.1)) ms os
+
+-- each input realizes the outcome at its index in the other list, for the same path
+abbrev pub InputsRealize : List (Text × MapRecord) → List (Text × Outcome) → Type 0
+InputsRealize ms os = AllZip (λ m o. (m.0 ≡ o.0) × Realizes m.1 o.1) ms os

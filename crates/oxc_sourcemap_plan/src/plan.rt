@@ -1,16 +1,21 @@
 //! Plans: pipelines of reading, rewriting, joining and composing maps, and their evaluation.
 ghost use Rattle.std.specs.Prelude.{◌≡◌, ◌≤◌, ◌↔◌, ◌⊎◌, List, true, false, IsTrue, IfOk, IfErr};
-ghost use Rattle.oxc_sourcemap_plan.specs.Words.{depth, Outcome, read_outcome, rewrite_outcome};
-ghost use Rattle.oxc_sourcemap_plan.specs.Words.{join_outcome, composition_outcome, outcome_of};
-ghost use Rattle.oxc_sourcemap_plan.specs.Words.{outcomes, outcome, Position, at_lines};
-ghost use Rattle.oxc_sourcemap_plan.specs.Words.{at_positions, meaning, is_within_limits};
+ghost use Rattle.oxc_sourcemap_plan.specs.Words.{Text, Position, depth, Outcome, read_outcome};
+ghost use Rattle.oxc_sourcemap_plan.specs.Words.{rewrite_outcome, root_outcome, join_outcome};
+ghost use Rattle.oxc_sourcemap_plan.specs.Words.{composition_outcome, remap_outcome, by_path};
+ghost use Rattle.oxc_sourcemap_plan.specs.Words.{outcome_of, outcomes, input_outcomes, outcome};
+ghost use Rattle.oxc_sourcemap_plan.specs.Words.{at_lines, at_positions, meaning};
+ghost use Rattle.oxc_sourcemap_plan.specs.Words.{is_within_limits, InputsRealize};
 ghost use Rattle.oxc_sourcemap_plan.specs.Words.{IsEvaluated, HasOutcome, IsErrorOf, Realizes};
 ghost use Rattle.oxc_sourcemap_plan.specs.Words.{FailsAs, AllRealize, OutOfMemory, said_in};
 ghost use Rattle.oxc_sourcemap_plan.specs.Words.{are_tokens_sorted, Map, Unsorted};
 
 use oxc_sourcemap_encode::encode_owned_parts;
-use oxc_sourcemap_laws::{canonical_unique, composition_associative, dropping_harmless};
-use oxc_sourcemap_map::{OwnedSourceMap, SourceMap, join_owned};
+use oxc_sourcemap_laws::{
+    canonical_unique, composition_associative, dropping_harmless, remapping_associative,
+    rooting_idempotent,
+};
+use oxc_sourcemap_map::{OwnedSourceMap, SourceMap, join_owned, remap_owned};
 use oxc_sourcemap_tokens::{PlanError, Position};
 use std::alloc::Global;
 
@@ -161,7 +166,7 @@ fn apply_root(alloc: Global, map: SourceMap<'static>) -> Result<SourceMap<'stati
         → Realizes m (root_outcome o)) }
     ensures error { IfErr result (λ e. (o : Outcome) → FailsAs e (root_outcome o)) }
 {
-    remapping_harmless();
+    rooting_idempotent();
     let mut map = map;
     map.apply_source_root(alloc)?;
     Ok(map)
@@ -181,8 +186,8 @@ fn remap(
         → Realizes map.entry o → InputsRealize (by_path inputs.entry.items) os
         → FailsAs e (remap_outcome o os)) }
 {
-    remapping_harmless();
-    Ok(map)
+    remapping_associative();
+    Ok(remap_owned(alloc, &map, inputs.as_slice())?)
 }
 
 /// The map of a plan of any depth.

@@ -26,6 +26,7 @@ pub use Rattle.oxc_sourcemap_parts.specs.Views
 pub use Rattle.oxc_sourcemap_parts.specs.Sorted
 pub use Rattle.oxc_sourcemap_parts.specs.Sound
 pub use Rattle.oxc_sourcemap_parts.specs.DecodedMap
+pub use Rattle.oxc_sourcemap_parts.specs.Roots
 pub use Rattle.oxc_sourcemap_parts.specs.Texts
 pub use Rattle.oxc_sourcemap_lookup.specs.Digits
 pub use Rattle.oxc_sourcemap_lookup.specs.Lookup
@@ -43,6 +44,9 @@ pub use Rattle.oxc_sourcemap_decode.specs.ReadLaws
 pub use Rattle.oxc_sourcemap_encode.specs.JsonText
 pub use Rattle.oxc_sourcemap_laws.specs.MapLaws
 pub use Rattle.oxc_sourcemap_lookup.specs.Composed
+pub use Rattle.oxc_sourcemap_remap.specs.Inputs
+pub use Rattle.oxc_sourcemap_remap.specs.Blocks
+pub use Rattle.oxc_sourcemap_remap.specs.Remapped
 pub use Rattle.oxc_sourcemap_map.specs.View
 pub use Rattle.oxc_sourcemap_builders.specs.Built
 pub use Rattle.oxc_sourcemap_builders.specs.Building
@@ -57,6 +61,10 @@ pub use Rattle.oxc_sourcemap_laws.specs.JoinLaws
 pub use Rattle.oxc_sourcemap_laws.specs.SectionLaws
 pub use Rattle.oxc_sourcemap_laws.specs.ComposedDecodedMaps
 pub use Rattle.oxc_sourcemap_laws.specs.ComposeLaws
+pub use Rattle.oxc_sourcemap_laws.specs.RemappedDecodedMaps
+pub use Rattle.oxc_sourcemap_laws.specs.RemapLaws
+pub use Rattle.oxc_sourcemap_laws.specs.RootedDecodedMaps
+pub use Rattle.oxc_sourcemap_laws.specs.RootLaws
 pub use Rattle.oxc_sourcemap_laws.specs.TraceLaws
 pub use Rattle.oxc_sourcemap_tokens.specs.PlanMessages
 pub use Rattle.oxc_sourcemap_plan.specs.Depth

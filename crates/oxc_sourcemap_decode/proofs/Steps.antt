@@ -1,6 +1,6 @@
 -- Sections are read one by one: what is known of those so far, and what each step does to that.
-use Rattle.std.proofs.Common.{◌≡◌, ℕ, ◌&&◌, arith, Bool, true, false, cond, List, [], ◌∷◌, ◌++◌}
-use Rattle.std.proofs.Common.{map, length, refl, sym, ap, ◌∙◌, subst, append_assoc, Option, Some}
+use Rattle.std.proofs.Common.{◌≡◌, ℕ, ◌&&◌, arith, true, false, cond, List, [], ◌∷◌, ◌++◌}
+use Rattle.std.proofs.Common.{length, refl, sym, ap, ◌∙◌, subst, append_assoc, Option, Some}
 use Rattle.std.proofs.Common.{None, option_map, Result, Ok, Err}
 use Rattle.std.specs.Option.{unwrap_or}
 use Rattle.std.proofs.lemmas.List.{append-nil}

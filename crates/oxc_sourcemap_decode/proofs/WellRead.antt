@@ -1,5 +1,5 @@
 -- The map of a JSON text or value has its ids in range and no chunks, and its tokens are in bounds and in line order.
-use Rattle.std.proofs.Common.{◌≡◌, ◌↔◌, ℕ, ◌&&◌, Bool, true, false, cond, List, [], ◌∷◌, ◌++◌}
+use Rattle.std.proofs.Common.{◌≡◌, ◌↔◌, Bool, true, false, cond, List, [], ◌∷◌, ◌++◌}
 use Rattle.std.proofs.Common.{length, refl, sym, ap, ◌∙◌, subst, Option, Some, None, option_map}
 use Rattle.std.proofs.Common.{Result, Ok, Err}
 use Rattle.std.proofs.lemmas.Bool.{and_parts}
@@ -21,8 +21,7 @@ use Rattle.oxc_sourcemap_json.specs.Shape.{◌>>=◌, shape, file_of}
 use Rattle.oxc_sourcemap_decode.specs.Decoded.{decoded}
 use Rattle.oxc_sourcemap_decode.proofs.ReadSound.{IsWellRead as IsWellDecoded, decoded-well}
 use Rattle.oxc_sourcemap_tokens.specs.declared.position.Position.{Position}
-use Rattle.oxc_sourcemap_join.specs.Joined.{is_same_token, added, nothing_joined, joined}
-use Rattle.oxc_sourcemap_join.specs.Joined.{IsWithinLimits}
+use Rattle.oxc_sourcemap_join.specs.Joined.{is_same_token, joined}
 use Rattle.oxc_sourcemap_decode.specs.Section.{is_indexed, place_in, map_in}
 use Rattle.oxc_sourcemap_decode.specs.Sections.{Sections, may_follow, may_begin}
 use Rattle.oxc_sourcemap_decode.specs.Sections.{token_positions, in_order, place_after, section_map}
@@ -30,7 +29,7 @@ use Rattle.oxc_sourcemap_decode.specs.Sections.{section_after}
 use Rattle.oxc_sourcemap_decode.specs.Sections.{onto_section, sections_after, all_sections}
 use Rattle.oxc_sourcemap_decode.specs.Sections.{joined_sections}
 use Rattle.oxc_sourcemap_decode.specs.JoinLimits.{is_map_within_limits}
-use Rattle.oxc_sourcemap_decode.specs.ReadMap.{Said, plain, indexed, sections_in, indexed_said}
+use Rattle.oxc_sourcemap_decode.specs.ReadMap.{plain, indexed, sections_in, indexed_said}
 use Rattle.oxc_sourcemap_decode.specs.ReadMap.{said_by, indexed_record, map_said, said_of, said_in}
 use Rattle.oxc_sourcemap_decode.specs.ReadMap.{read_map, read_value}
 use Rattle.oxc_sourcemap_decode.proofs.Ends.{last_position}

@@ -1,4 +1,4 @@
-use Rattle.std.proofs.Common.{sym, ◌∙◌, option_map}
+use Rattle.std.proofs.Common.{sym, ◌∙◌}
 use Rattle.serde_json.specs.View.{view}
 use Rattle.oxc_sourcemap_decode.proofs.Steps.{out-of-order, well-placed}
 use Rattle.oxc_sourcemap_decode.proofs.place.place_after.Goals as goal

@@ -28,6 +28,7 @@ pub use Rattle.oxc_sourcemap_map.specs.contracts.sourcemap.SourceMap.{the_row as
 pub use Rattle.oxc_sourcemap_mappings.specs.Canonical.{as_written}
 pub use Rattle.oxc_sourcemap_parts.specs.DecodedMap.{decoded_map_of}
 pub use Rattle.oxc_sourcemap_parts.specs.Record.{MapRecord, Text}
+pub use Rattle.oxc_sourcemap_parts.specs.Roots.{rooted}
 pub use Rattle.oxc_sourcemap_parts.specs.Sorted.{are_tokens_sorted, token_column}
 pub use Rattle.oxc_sourcemap_parts.specs.Sound.{IsSound}
 pub use Rattle.oxc_sourcemap_parts.specs.Texts.{index_of}
@@ -47,6 +48,8 @@ pub use Rattle.oxc_sourcemap_plan.specs.PlanInputs.{inputs_of}
 pub use Rattle.oxc_sourcemap_plan.specs.Realizes.{Realizes, FailsAs, AllRealize}
 pub use Rattle.oxc_sourcemap_plan.specs.RunErrors.{out_of_memory, run_error_text, status_of}
 pub use Rattle.oxc_sourcemap_plan.specs.declared.run_error.RunError.TheVariants.{Plan}
+pub use Rattle.oxc_sourcemap_remap.specs.Inputs.{lent_inputs, inputs_fault, NoInputColumnGoesBack}
+pub use Rattle.oxc_sourcemap_remap.specs.Remapped.{remapping, SomeRemapping}
 pub use Rattle.oxc_sourcemap_tokens.specs.Chunks.{ChunksFit}
 pub use Rattle.oxc_sourcemap_tokens.specs.LineOrder.{IsInLineOrder}
 pub use Rattle.oxc_sourcemap_tokens.specs.Results.{Answers, Reports, OnlyMemory, lent_items}

@@ -10,7 +10,8 @@ use Rattle.oxc_sourcemap_remap.specs.Inputs.{input_records}
 use Rattle.oxc_sourcemap_remap.proofs.inputs.all_ready.Goals as goal
 
 pub loop-path-preserved : goal.loop-path-preserved
-loop-path-preserved c =
+loop-path-preserved g c =
+    let record_of = g.M.AsParts.as_record in
     let xs = c.args.inputs.now in
     let k = c.loop-path.path-index in
     let item = c.loop-path-item.result in
@@ -18,10 +19,11 @@ loop-path-preserved c =
     let new = c.in_ok-ready_input.field-0 in
     let is = c.in_ok-ready_input.ensures.input in
     let more : take (k + 1) xs ≡ take k xs ++ item ∷ [] = grind (arith, common_steps) in
-    let at : input_records (take (k + 1) xs) ≡ input_records (take k xs) ++ input_records (item ∷ []) = ap input_records more ∙ map-append _ (take k xs) (item ∷ []) in record {
+    let at : input_records record_of (take (k + 1) xs) ≡ input_records record_of (take k xs) ++ input_records record_of (item ∷ []) = ap (input_records record_of) more ∙ map-append _ (take k xs) (item ∷ []) in record {
       ready = subst AreReady (sym c.in_ok-push.ensures.items) (all-append IsReady old (new ∷ []) c.loop-path.invariant.ready (c.in_ok-ready_input.ensures.ready, tt));
       inputs = ap ready_records c.in_ok-push.ensures.items ∙ map-append _ old (new ∷ [])
           ∙ ap (λ is. is ++ ready_records (new ∷ [])) c.loop-path.invariant.inputs
-          ∙ ap (λ (p : Text). input_records (take k xs) ++ (p, record_of_parts new.map.now) ∷ []) is.0
-          ∙ ap (λ (m : SourceMapParts). input_records (take k xs) ++ (item.0.now, record_of_parts m) ∷ []) is.1 ∙ sym at;
+          ∙ ap (λ (p : Text). input_records record_of (take k xs) ++ (p, record_of_parts new.map.now) ∷ []) is.0
+          ∙ ap (λ (m : SourceMapParts). input_records record_of (take k xs) ++ (item.0.now, record_of_parts m) ∷ []) is.1
+          ∙ ap (λ r. input_records record_of (take k xs) ++ (item.0.now, r) ∷ []) c.as_parts.ensures ∙ sym at;
     }

@@ -4,7 +4,7 @@ use Rattle.oxc_sourcemap_remap.specs.Inputs.{input_records}
 use Rattle.oxc_sourcemap_remap.proofs.inputs.all_ready.Given as goal
 
 abbrev pub invariant-loop-path : goal.invariant-loop-path
-invariant-loop-path l = record {
+invariant-loop-path g l = record {
   ready : AreReady l.ready.items;
-  inputs : ready_records l.ready.items ≡ input_records (take l.path-index l.inputs);
+  inputs : ready_records l.ready.items ≡ input_records g.M.AsParts.as_record (take l.path-index l.inputs);
 }

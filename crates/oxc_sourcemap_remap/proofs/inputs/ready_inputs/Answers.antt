@@ -4,7 +4,7 @@ use Rattle.oxc_sourcemap_remap.proofs.InputPlaces.{no-fault}
 use Rattle.oxc_sourcemap_remap.proofs.inputs.ready_inputs.Goals as goal
 
 pub returns-in-Ok-clause-well : goal.returns-in-Ok-clause-well
-returns-in-Ok-clause-well c = sym (ap inputs_fault c.in-Ok.ensures.inputs) ∙ no-fault _ c.in-Ok.ensures.ready
+returns-in-Ok-clause-well g c = sym (ap inputs_fault c.in-Ok.ensures.inputs) ∙ no-fault _ c.in-Ok.ensures.ready
 
 pub returns-in-Ok-clause-fault : goal.returns-in-Ok-clause-fault
-returns-in-Ok-clause-fault c = λ e f. absurd (cc (f, sym (ap inputs_fault c.in-Ok.ensures.inputs) ∙ no-fault _ c.in-Ok.ensures.ready))
+returns-in-Ok-clause-fault g c = λ e f. absurd (cc (f, sym (ap inputs_fault c.in-Ok.ensures.inputs) ∙ no-fault _ c.in-Ok.ensures.ready))

@@ -22,14 +22,14 @@ module _ (ready inputs : List (Text × MapRecord)) (a : MapRecord) (same : ready
   past-by h = subst (λ is. 4294967295 < length (remapped_sources (decoded_inputs is) (listed_sources a))) same h
 
 pub returns-in_err-ready-clause-error : goal.returns-in_err-ready-clause-error
-returns-in_err-ready-clause-error c =
+returns-in_err-ready-clause-error g c =
     let p = err_from_is_err_and c.from_residual.result c.from_residual.ensures.1 in
-    rw (p.1, p.2) (λ other. at-fault (record_of_parts c.args.map.now) (input_records c.args.inputs.now) _ (c.in_err-ready.ensures.error other))
+    rw (p.1, p.2) (λ other. at-fault (record_of_parts c.args.map.now) (input_records g.M.AsParts.as_record c.args.inputs.now) _ (c.in_err-ready.ensures.error other))
 
 pub returns-in_err-blocks-clause-error : goal.returns-in_err-blocks-clause-error
-returns-in_err-blocks-clause-error c =
+returns-in_err-blocks-clause-error g c =
     let a = record_of_parts c.args.map.now in
-    let inputs = input_records c.args.inputs.now in
+    let inputs = input_records g.M.AsParts.as_record c.args.inputs.now in
     let same = ap ready_records c.as_slice-2.ensures.value ∙ c.in_ok-ready.ensures.inputs in
     let p = err_from_is_err_and c.from_residual-in_err-blocks.result c.from_residual-in_err-blocks.ensures.1 in
     rw (p.1, p.2) (λ other.
@@ -37,17 +37,17 @@ returns-in_err-blocks-clause-error c =
     rw r.0 (too-many-sources a inputs c.in_ok-ready.ensures.well (past-by _ inputs a same r.1)))
 
 pub remapped_tokens-requires : goal.remapped_tokens-requires
-remapped_tokens-requires c =
+remapped_tokens-requires g c =
     let a = record_of_parts c.args.map.now in
-    let inputs = input_records c.args.inputs.now in
+    let inputs = input_records g.M.AsParts.as_record c.args.inputs.now in
     let bs = c.in_ok-blocks.blocks.items in
     let same = ap ready_records c.as_slice-2.ensures.value ∙ c.in_ok-ready.ensures.inputs in
     subst AreUsable (sym c.as_slice-5.ensures.value) (are-usable inputs a bs (blocks-by _ inputs a same bs c.in_ok-blocks.ensures.made))
 
 pub returns-in_err-tokens-clause-error : goal.returns-in_err-tokens-clause-error
-returns-in_err-tokens-clause-error c =
+returns-in_err-tokens-clause-error g c =
     let a = record_of_parts c.args.map.now in
-    let inputs = input_records c.args.inputs.now in
+    let inputs = input_records g.M.AsParts.as_record c.args.inputs.now in
     let bs = c.in_ok-blocks.blocks.items in
     let same = ap ready_records c.as_slice-2.ensures.value ∙ c.in_ok-ready.ensures.inputs in
     let p = err_from_is_err_and c.from_residual-in_err-tokens.result c.from_residual-in_err-tokens.ensures.1 in
@@ -56,17 +56,17 @@ returns-in_err-tokens-clause-error c =
     rw r.0 (too-many-names a inputs bs (blocks-by _ inputs a same bs c.in_ok-blocks.ensures.made) c.in_ok-ready.ensures.well r.1 r.2 r.3))
 
 pub put_together-requires : goal.put_together-requires
-put_together-requires c =
+put_together-requires g c =
     let a = record_of_parts c.args.map.now in
-    let inputs = input_records c.args.inputs.now in
+    let inputs = input_records g.M.AsParts.as_record c.args.inputs.now in
     let bs = c.in_ok-blocks.blocks.items in
     let same = ap ready_records c.as_slice-2.ensures.value ∙ c.in_ok-ready.ensures.inputs in
     subst AreUsable (sym c.as_slice-6.ensures.value) (are-usable inputs a bs (blocks-by _ inputs a same bs c.in_ok-blocks.ensures.made))
 
 pub returns-clause-made : goal.returns-clause-made
-returns-clause-made c =
+returns-clause-made g c =
     let a = record_of_parts c.args.map.now in
-    let inputs = input_records c.args.inputs.now in
+    let inputs = input_records g.M.AsParts.as_record c.args.inputs.now in
     let bs = c.in_ok-blocks.blocks.items in
     let tokens = c.in_ok-tokens.tokens.items in
     let names = names_in c.in_ok-tokens.needed in

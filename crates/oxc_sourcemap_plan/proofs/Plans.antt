@@ -86,6 +86,11 @@ outcomes-by_path : (inputs : List (Bor (List ℕ) × Plan)) → by_path (map (λ
 outcomes-by_path [] = refl
 outcomes-by_path (p ∷ inputs) = ap (λ xs. (p.0.now, outcome_of p.1) ∷ xs) (outcomes-by_path inputs)
 
+-- the outcomes of inputs, with one input more
+pub outcomes-inputs-pushed : (inputs : List (Bor (List ℕ) × Plan)) (p : Bor (List ℕ) × Plan) → input_outcomes (by_path (inputs ++ p ∷ [])) ≡ input_outcomes (by_path inputs) ++ (p.0.now, outcome_of p.1) ∷ []
+outcomes-inputs-pushed [] p = refl
+outcomes-inputs-pushed (q ∷ inputs) p = ap (λ xs. (q.0.now, outcome_of q.1) ∷ xs) (outcomes-inputs-pushed inputs p)
+
 pub outcome_remap : (p : Box Plan Global) (inputs : Vec (Bor (List ℕ) × Plan) Global) → outcome_of (Remap p inputs) ≡ remap_outcome (outcome_of p.value) (input_outcomes (by_path inputs.items))
 outcome_remap p inputs = ap outcome_of (sym (rolls-Remap p inputs)) ∙ fold-roll-Plan Outcome outcome_step (Plan-F.Remap p inputs) ∙ ap (remap_outcome (outcome_of p.value)) (outcomes-by_path inputs.items)
 

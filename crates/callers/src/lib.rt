@@ -11,7 +11,9 @@ ghost use Rattle.oxc_sourcemap.specs.Words.{read_map, said_in, map_text, trace, 
 ghost use Rattle.oxc_sourcemap.specs.Words.{view_original, joined, lent_maps, IsWithinLimits};
 ghost use Rattle.oxc_sourcemap.specs.Words.{without_chunks, grouped_left, grouped_right};
 ghost use Rattle.oxc_sourcemap.specs.Words.{IsSeveralSources, read_meaning, outcome, read_outcome};
-ghost use Rattle.oxc_sourcemap.specs.Words.{composition_outcome, IsEvaluated, OnlyMemory};
+ghost use Rattle.oxc_sourcemap.specs.Words.{composition_outcome, meaning, text_meaning};
+ghost use Rattle.oxc_sourcemap.specs.Words.{composition_meaning, IsEvaluated, HasOutcome};
+ghost use Rattle.oxc_sourcemap.specs.Words.{OnlyMemory};
 
 use oxc_sourcemap::laws::{
     canonical_unique, composition_associative, joins_associative, name_ids_unique, tokens_in_bounds,
@@ -242,6 +244,8 @@ pub fn minified_map(
     compiled: &str,
 ) -> std::result::Result<OwnedSourceMap, PlanError>
     ensures map { IfOk result (λ map. IsEvaluated map
+        (composition_meaning (text_meaning minified.now) (text_meaning compiled.now))) }
+    ensures outcome { IfOk result (λ map. HasOutcome map
         (composition_outcome (read_outcome (said_in minified.now))
         (read_outcome (said_in compiled.now)))) }
 {
@@ -252,8 +256,8 @@ pub fn minified_map(
 
 /// Evaluates a plan, and writes the JSON text of its map, which has all that `evaluate` promises.
 pub fn evaluated_text(alloc: Global, plan: &Plan<'_>) -> std::result::Result<String, PlanError>
-    ensures { IfOk result (λ text. (map : MapRecord) × IsEvaluated map (outcome plan.now)
-        × (map_text map ≡ Ok (string_bytes text))) }
+    ensures { IfOk result (λ text. (map : MapRecord) × IsEvaluated map (meaning plan.now)
+        × HasOutcome map (outcome plan.now) × (map_text map ≡ Ok (string_bytes text))) }
 {
     let map = evaluate(alloc, plan)?;
     Ok(map.to_json_string(alloc)?)

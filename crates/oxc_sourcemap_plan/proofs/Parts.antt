@@ -73,7 +73,7 @@ one_input_more [] (p ∷ os) m o h e g = absurd h
 one_input_more (n ∷ ms) [] m o h e g = absurd h
 one_input_more (n ∷ ms) (p ∷ os) m o h e g = (h.0, one_input_more ms os m o h.1 e g)
 
-input_at : Bor Text × Plan → Text × Outcome
+abbrev input_at : Bor Text × Plan → Text × Outcome
 input_at p = (p.0.now, outcome_of p.1)
 
 -- these lists with one item more, or cut at it

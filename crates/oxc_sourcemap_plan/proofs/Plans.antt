@@ -94,6 +94,8 @@ outcomes-inputs-pushed (q ∷ inputs) p = ap (λ xs. (q.0.now, outcome_of q.1) �
 pub outcome_remap : (p : Box Plan Global) (inputs : Vec (Bor (List ℕ) × Plan) Global) → outcome_of (Remap p inputs) ≡ remap_outcome (outcome_of p.value) (input_outcomes (by_path inputs.items))
 outcome_remap p inputs = ap outcome_of (sym (rolls-Remap p inputs)) ∙ fold-roll-Plan Outcome outcome_step (Plan-F.Remap p inputs) ∙ ap (remap_outcome (outcome_of p.value)) (outcomes-by_path inputs.items)
 
-pub outcome_inputs : (plan : Plan) (p : Box Plan Global) (inputs : Vec (Bor (List ℕ) × Plan) Global) (items : List (Bor (List ℕ) × Plan)) → plan ≡ Remap p inputs → items ≡ inputs.items
-    → outcome_of plan ≡ remap_outcome (outcome_of p.value) (input_outcomes (by_path items))
-outcome_inputs plan p inputs items e f = ap outcome_of e ∙ outcome_remap p inputs ∙ ap (λ xs. remap_outcome (outcome_of p.value) (input_outcomes (by_path xs))) (sym f)
+pub outcome_inputs : (plan first : Plan) (p : Box Plan Global) (inputs : Vec (Bor (List ℕ) × Plan) Global) (items : List (Bor (List ℕ) × Plan)) → plan ≡ Remap p inputs → first ≡ p.value → items ≡ inputs.items
+    → outcome_of plan ≡ remap_outcome (outcome_of first) (input_outcomes (by_path items))
+outcome_inputs plan first p inputs items e d f =
+    ap outcome_of e ∙ outcome_remap p inputs ∙ ap (λ q. remap_outcome (outcome_of q) (input_outcomes (by_path inputs.items))) (sym d)
+    ∙ ap (λ xs. remap_outcome (outcome_of first) (input_outcomes (by_path xs))) (sym f)

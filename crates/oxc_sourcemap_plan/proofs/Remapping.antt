@@ -103,7 +103,7 @@ pub inputs_sorted : (ms : List (Text × MapRecord)) (os : List (Text × Outcome)
 inputs_sorted ms os h = (ready ms os h).sorted
 
 module _ (laws : RemapLaws) (a : MapRecord) (ms : List (Text × MapRecord)) (p : Outcome) (os : List (Text × Outcome)) (g : Realizes a p) (h : InputsRealize ms os) where
-  meant : DecodedMap
+  abbrev meant : DecodedMap
   meant = remapped_decoded_map g.decoded_map (ready ms os h).decoded_maps
 
   means : remapped_meaning p os ≡ Ok meant

@@ -1,4 +1,5 @@
-use Rattle.std.proofs.Common.{◌+◌, refl, sym, subst, arith, take}
+use Rattle.std.proofs.Common.{◌≡◌, rules, ◌+◌, refl, sym, subst, arith, take}
+use Rattle.std.proofs.lemmas.List.{take_all}
 use Rattle.std.proofs.lemmas.Grind.{common_steps}
 use Rattle.std.proofs.lemmas.Result.{IfOk-weaker, IfErr-weaker}
 use Rattle.oxc_sourcemap_join.specs.Joined.{position, at_line, at_lines, at_positions}
@@ -93,19 +94,21 @@ evaluate_part-evaluate_remapping-requires t c = grind (arith, common_steps, dept
 
 pub evaluate_part-returns-in-Remap-clause-map : goal.evaluate_part-returns-in-Remap-clause-map
 evaluate_part-returns-in-Remap-clause-map t c =
-    let o = outcome_inputs c.args.plan.now c.in-Remap.first c.in-Remap.inputs c.as_slice-in-Remap.result.now c.in-Remap.is c.as_slice-in-Remap.ensures.value in
+    let first : c.deref-in-Remap.result.now ≡ c.in-Remap.first.value = search rules in
+    let o = outcome_inputs c.args.plan.now c.deref-in-Remap.result.now c.in-Remap.first c.in-Remap.inputs c.as_slice-in-Remap.result.now c.in-Remap.is first c.as_slice-in-Remap.ensures.value in
     IfOk-weaker c.evaluate_remapping.result _ _ (λ m g. subst (Realizes m) (sym o) g) c.evaluate_remapping.ensures.map
 
 pub evaluate_part-returns-in-Remap-clause-error : goal.evaluate_part-returns-in-Remap-clause-error
 evaluate_part-returns-in-Remap-clause-error t c =
-    let o = outcome_inputs c.args.plan.now c.in-Remap.first c.in-Remap.inputs c.as_slice-in-Remap.result.now c.in-Remap.is c.as_slice-in-Remap.ensures.value in
+    let first : c.deref-in-Remap.result.now ≡ c.in-Remap.first.value = search rules in
+    let o = outcome_inputs c.args.plan.now c.deref-in-Remap.result.now c.in-Remap.first c.in-Remap.inputs c.as_slice-in-Remap.result.now c.in-Remap.is first c.as_slice-in-Remap.ensures.value in
     IfErr-weaker c.evaluate_remapping.result _ _ (λ e g. subst (FailsAs e) (sym o) g) c.evaluate_remapping.ensures.error
 
 pub evaluate_root-returns-clause-map : goal.evaluate_root-returns-clause-map
 evaluate_root-returns-clause-map t c = IfOk-weaker c.apply_root.result _ _ (λ m realizes. realizes (outcome_of c.args.part.now) c.in_ok-map.ensures.map) c.apply_root.ensures.map
 
-pub evaluate_remapping-evaluate_part-2-requires : goal.evaluate_remapping-evaluate_part-2-requires
-evaluate_remapping-evaluate_part-2-requires t c =
+pub evaluate_remapping-evaluate_part-requires-in-loop-path : goal.evaluate_remapping-evaluate_part-requires-in-loop-path
+evaluate_remapping-evaluate_part-requires-in-loop-path t c =
     grind (arith, common_steps, part_below_deepest (λ p. depth p.1) c.args.inputs.now c.loop-path.path-index c.loop-path-item.result c.loop-path-test.true c.loop-path-item.is)
 
 pub evaluate_remapping-returns-in_err-map-clause-error : goal.evaluate_remapping-returns-in_err-map-clause-error
@@ -128,3 +131,27 @@ evaluate_remapping-loop-path-preserved t c =
     let i = c.loop-path.path-index in
     subst (λ ms. InputsRealize (by_path ms) (input_outcomes (by_path (take (i + 1) inputs)))) (sym c.in_ok-push.ensures.items)
     (more_inputs c.loop-path.maps.items inputs i (c.loop-path-item.result.0, c.in_ok-input.input) c.loop-path-item.result c.loop-path-test.true c.loop-path-item.is c.loop-path.invariant refl c.in_ok-input.ensures.map)
+
+pub evaluate_remapping-returns-clause-map : goal.evaluate_remapping-returns-clause-map
+evaluate_remapping-returns-clause-map t c =
+    let inputs = c.args.inputs.now in
+    let all = subst (λ xs. InputsRealize (by_path c.loop-path.maps.items) (input_outcomes (by_path xs))) (take_all c.loop-path.path-index inputs (let f = c.loop-path-test.false in omega (arith, f))) c.loop-path.invariant in
+    IfOk-weaker c.remap.result _ _ (λ m realizes. realizes (outcome_of c.args.first.now) (input_outcomes (by_path inputs)) c.in_ok-map.ensures.map all) c.remap.ensures.map
+
+pub evaluate_remapping-returns-clause-error : goal.evaluate_remapping-returns-clause-error
+evaluate_remapping-returns-clause-error t c =
+    let inputs = c.args.inputs.now in
+    let all = subst (λ xs. InputsRealize (by_path c.loop-path.maps.items) (input_outcomes (by_path xs))) (take_all c.loop-path.path-index inputs (let f = c.loop-path-test.false in omega (arith, f))) c.loop-path.invariant in
+    IfErr-weaker c.remap.result _ _ (λ e fails. fails (outcome_of c.args.first.now) (input_outcomes (by_path inputs)) c.in_ok-map.ensures.map all) c.remap.ensures.error
+
+pub evaluate_join-returns-clause-error : goal.evaluate_join-returns-clause-error
+evaluate_join-returns-clause-error t c =
+    let parts = c.args.parts.now in
+    let all = subst (λ ps. AllRealize c.loop-part.maps.items (outcomes (at_lines ps))) (take_all c.loop-part.part-index parts (let f = c.loop-part-test.false in omega (arith, f))) c.loop-part.invariant in
+    IfErr-weaker c.join.result _ _ (λ e fails. fails (outcomes (at_lines parts)) all) c.join.ensures.error
+
+pub evaluate_join_at-returns-clause-error : goal.evaluate_join_at-returns-clause-error
+evaluate_join_at-returns-clause-error t c =
+    let parts = c.args.parts.now in
+    let all = subst (λ ps. AllRealize c.loop-part.maps.items (outcomes (at_positions ps))) (take_all c.loop-part.part-index parts (let f = c.loop-part-test.false in omega (arith, f))) c.loop-part.invariant in
+    IfErr-weaker c.join.result _ _ (λ e fails. fails (outcomes (at_positions parts)) all) c.join.ensures.error

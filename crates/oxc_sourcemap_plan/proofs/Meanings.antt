@@ -1,9 +1,8 @@
 -- What a plan means is what its outcome means.
-use Rattle.std.proofs.Common.{◌≡◌, ℕ, Bool, true, false, cond, nat_le, List, [], ◌∷◌, map, refl, sym}
+use Rattle.std.proofs.Common.{◌≡◌, ℕ, true, false, cond, nat_le, List, [], ◌∷◌, map, refl, sym}
 use Rattle.std.proofs.Common.{ap, ◌∙◌, subst, Err}
 use Rattle.std.specs.Borrow.{Bor}
 use Rattle.oxc_sourcemap_parts.specs.Record.{Text}
-use Rattle.oxc_sourcemap_tokens.specs.declared.position.Position.{Position}
 use Rattle.oxc_sourcemap_tokens.specs.declared.plan_error.PlanError.TheVariants.{TooDeep}
 use Rattle.oxc_sourcemap_decode.specs.ReadMap.{Said, plain, indexed, said_in}
 use Rattle.oxc_sourcemap_join.specs.Joined.{at_line, at_lines, at_positions}

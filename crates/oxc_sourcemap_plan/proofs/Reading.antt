@@ -1,6 +1,6 @@
 -- What reading a text gives: a map by itself, or the join of the sections of an indexed map.
-use Rattle.std.proofs.Common.{◌≡◌, ◌≢◌, ℕ, ◌≤◌, ◌&&◌, Bool, true, false, cond, List, [], ◌∷◌, ◌++◌}
-use Rattle.std.proofs.Common.{map, length, refl, sym, ap, ◌∙◌, subst, arith, inl, inr, ◌⊎◌, Option}
+use Rattle.std.proofs.Common.{◌≡◌, ◌≢◌, true, false, cond, List, [], ◌∷◌}
+use Rattle.std.proofs.Common.{map, length, refl, sym, ap, ◌∙◌, subst, arith, inl, inr, Option}
 use Rattle.std.proofs.Common.{Some, None, Result, Ok, Err}
 use Rattle.std.specs.List.{flat_map, AllByRecursion}
 use Rattle.std.proofs.lemmas.Bool.{and_parts, both_ways, false_from_ne_true}
@@ -25,14 +25,14 @@ use Rattle.oxc_sourcemap_decode.proofs.Limits.{limits_decided}
 use Rattle.oxc_sourcemap_decode.proofs.WellRead.{IsWellRead, sections_well, read_is_said}
 use Rattle.oxc_sourcemap_laws.specs.Repeats.{EqualUpToRepeats, is_sorted_decoded_map}
 use Rattle.oxc_sourcemap_laws.specs.JoinedDecodedMaps.{lowered, joined_decoded_maps}
-use Rattle.oxc_sourcemap_laws.specs.JoinLaws.{AreAllInRange, AreIgnoreListsInRange, decoded_maps_of}
+use Rattle.oxc_sourcemap_laws.specs.JoinLaws.{AreIgnoreListsInRange, decoded_maps_of}
 use Rattle.oxc_sourcemap_laws.proofs.JoinStands.{sorted-mappings}
-use Rattle.oxc_sourcemap_laws.proofs.Sections.{all-in-range, FromSections, from-sections, joined-of}
+use Rattle.oxc_sourcemap_laws.proofs.Sections.{all-in-range, from-sections, joined-of}
 use Rattle.oxc_sourcemap_laws.proofs.UpToRepeats.{sorted_decoded_map_up_to_repeats}
 use Rattle.oxc_sourcemap_tokens.specs.declared.plan_error.PlanError.TheVariants.{Map, Unsorted}
 use Rattle.oxc_sourcemap_plan.specs.Limits.{are_counts_within_limits, are_positions_within_limits}
 use Rattle.oxc_sourcemap_plan.specs.Limits.{is_join_within_limits}
-use Rattle.oxc_sourcemap_plan.specs.Outcome.{Outcome, plain_outcome, names_of_sections}
+use Rattle.oxc_sourcemap_plan.specs.Outcome.{plain_outcome, names_of_sections}
 use Rattle.oxc_sourcemap_plan.specs.Outcome.{sections_outcome, read_outcome}
 use Rattle.oxc_sourcemap_plan.specs.Evaluated.{are_among}
 use Rattle.oxc_sourcemap_plan.specs.Realizes.{Realizes, FailsAs}

@@ -1,7 +1,7 @@
 -- Source roots and remappings realize their outcomes if their parts do.
-use Rattle.std.proofs.Common.{◌≡◌, ◌≢◌, ℕ, ◌≤◌, ◌<◌, ◌&&◌, Bool, true, false, List, [], ◌∷◌, ◌++◌, map, length}
-use Rattle.std.proofs.Common.{refl, sym, ap, ◌∙◌, subst, arith, Option, Some, None, option_map, Result, Ok, Err, inl}
-use Rattle.std.proofs.Common.{inr, ◌⊎◌}
+use Rattle.std.proofs.Common.{◌≡◌, ◌≤◌, ◌&&◌, true, false, List, [], ◌∷◌, ◌++◌, length}
+use Rattle.std.proofs.Common.{refl, sym, ap, ◌∙◌, subst, arith, Some, option_map, Ok, Err, inl}
+use Rattle.std.proofs.Common.{inr}
 use Rattle.std.specs.Option.{option_and_then}
 use Rattle.std.proofs.lemmas.Bool.{and_parts, and_left, and_right, false_from_ne_true, both_ways}
 use Rattle.std.proofs.lemmas.List.{length-append, length-map}

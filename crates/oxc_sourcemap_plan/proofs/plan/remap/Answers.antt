@@ -1,4 +1,4 @@
-use Rattle.std.proofs.Common.{subst, sym, ap, ◌∙◌}
+use Rattle.std.proofs.Common.{subst, sym}
 use Rattle.oxc_sourcemap_plan.specs.Meaning.{by_path}
 use Rattle.oxc_sourcemap_plan.specs.Outcome.{remap_outcome}
 use Rattle.oxc_sourcemap_plan.specs.Realizes.{FailsAs, InputsRealize}

@@ -2,9 +2,10 @@
 //! docs/CALLING.md shows them.
 #![tactic(auto)]
 
-ghost use Rattle.std.specs.Prelude.{◌≡◌, ◌≢◌, ◌≤◌, ◌+◌, ◌⊎◌, ◌↔◌, ◌∷◌, [], ℕ, length, take};
+ghost use Rattle.std.specs.Prelude.{◌≡◌, ◌≢◌, ◌≤◌, ◌+◌, ◌⊎◌, ◌↔◌, ◌∷◌, [], ℕ, List, length, take};
 ghost use Rattle.std.specs.Prelude.{option_map, string_bytes, false, IfOk, IfErr, OnOk, OnErr, Ok};
 ghost use Rattle.std.specs.Prelude.{Err, Some, None};
+ghost use Rattle.std.specs.List.{AllByRecursion};
 ghost use Rattle.oxc_sourcemap.specs.Words.{OutOfMemory, TooLarge, Map, Unsorted, as_written};
 ghost use Rattle.oxc_sourcemap.specs.Words.{are_tokens_sorted, IsSound, decoded_map_of, MapRecord};
 ghost use Rattle.oxc_sourcemap.specs.Words.{read_map, said_in, map_text, trace, view_of};
@@ -13,10 +14,14 @@ ghost use Rattle.oxc_sourcemap.specs.Words.{without_chunks, grouped_left, groupe
 ghost use Rattle.oxc_sourcemap.specs.Words.{IsSeveralSources, read_meaning, outcome, read_outcome};
 ghost use Rattle.oxc_sourcemap.specs.Words.{composition_outcome, meaning, text_meaning};
 ghost use Rattle.oxc_sourcemap.specs.Words.{composition_meaning, IsEvaluated, HasOutcome};
-ghost use Rattle.oxc_sourcemap.specs.Words.{OnlyMemory};
+ghost use Rattle.oxc_sourcemap.specs.Words.{OnlyMemory, Text, DecodedMap, EqualUpToRepeats};
+ghost use Rattle.oxc_sourcemap.specs.Words.{decoded_maps_of, joined_decoded_maps};
+ghost use Rattle.oxc_sourcemap.specs.Words.{composed_decoded_maps, remapped_decoded_map};
+ghost use Rattle.oxc_sourcemap.specs.Words.{each_remapped, SeveralSources};
 
 use oxc_sourcemap::laws::{
-    canonical_unique, composition_associative, joins_associative, name_ids_unique, tokens_in_bounds,
+    canonical_unique, composition_associative, dropping_harmless, joins_associative,
+    name_ids_unique, remapping_associative, tokens_in_bounds,
 };
 use oxc_sourcemap::{
     ConcatSourceMapBuilder, OwnedSourceMap, Plan, PlanError, Result, SourceMap, SourceMapBuilder,
@@ -234,6 +239,42 @@ pub fn compose_both_ways<'c>(
     let left = compose_left(alloc, first, second, third)?;
     let right = compose_right(alloc, first, second, third)?;
     Ok((left, right))
+}
+
+/// The map of a minified bundle: the maps of its modules, each at the line of the bundle where it begins, are joined, and the
+/// minifier's map is composed with the join.
+///
+/// The modules were compiled, and their maps lead to compiled files. Those may be remapped to the originals before they are
+/// joined, or the map that is returned, at the end: whatever the inputs are, both give the same decoded map, up to repeats.
+///
+/// Fails with `Map(TooLarge)` if a join of modules is past a limit, with `Unsorted` if it is not sorted, with
+/// `Map(SeveralSources(n))` if the minifier's map has several sources, and else only with `Map(OutOfMemory)` or, if the two have
+/// too many names, `Map(TooLarge)`.
+pub fn minified_bundle<'a>(
+    alloc: Global,
+    minified: &SourceMap<'_>,
+    modules: &[(&'a SourceMap<'_>, u32)],
+) -> std::result::Result<SourceMap<'a>, PlanError>
+    ensures remapped { IfOk result (λ map. IsSound minified.now
+        → AllByRecursion (λ m. IsSound m.0) (lent_maps modules.now)
+        → (inputs : List (Text × DecodedMap))
+        → EqualUpToRepeats (remapped_decoded_map (decoded_map_of map) inputs)
+        (composed_decoded_maps (decoded_map_of minified.now) (joined_decoded_maps
+        (each_remapped inputs (decoded_maps_of (lent_maps modules.now)))))) }
+    ensures error { IfErr result (λ e. (e ≢ Map OutOfMemory) → (e ≡ Map TooLarge)
+        ⊎ ((e ≡ Unsorted) × (are_tokens_sorted (joined (lent_maps modules.now)).tokens ≡ false))
+        ⊎ (e ≡ Map (SeveralSources (length minified.now.sources)))) }
+{
+    composition_associative();
+    dropping_harmless();
+    remapping_associative();
+    let bundle = join_one_by_one(alloc, modules)?;
+    if !bundle.is_sorted() {
+        return Err(PlanError::Unsorted);
+    }
+    let copy = minified.clone(alloc)?;
+    let map = copy.compose(alloc, bundle)?;
+    Ok(map)
 }
 
 /// The map of code that was compiled and then minified, from the JSON texts of the two maps: a plan that composes them.

@@ -261,7 +261,7 @@ through-position t id None = (refl, refl)
 through-position t id (Some f) = (refl, refl)
 
 module _ (f : TokenRecord → TokenRecord) (keeps : (t : TokenRecord) → ((f t).dst_line ≡ t.dst_line) × ((f t).dst_col ≡ t.dst_col)) where
-  pub sorted-moved : (xs : List TokenRecord) → is_sorted_by token_line token_column (map f xs) ≡ is_sorted_by token_line token_column xs
+  sorted-moved : (xs : List TokenRecord) → is_sorted_by token_line token_column (map f xs) ≡ is_sorted_by token_line token_column xs
   sorted-moved [] = refl
   sorted-moved (x ∷ []) = refl
   sorted-moved (x ∷ y ∷ xs) =

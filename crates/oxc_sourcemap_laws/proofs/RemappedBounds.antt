@@ -1,6 +1,6 @@
 -- The tokens of a remapped map are in bounds.
-use Rattle.std.proofs.Common.{◌≡◌, refl, sym, ap, subst, ℕ, ◌+◌, ◌<◌, ◌≤◌, Bool, true, false, cond}
-use Rattle.std.proofs.Common.{◌&&◌, List, [], ◌∷◌, map, length, slice_get, nat_lt, nat_le, Option, Some}
+use Rattle.std.proofs.Common.{◌≡◌, refl, sym, subst, ℕ, ◌+◌, ◌<◌, ◌≤◌, Bool, true, false, cond}
+use Rattle.std.proofs.Common.{List, [], ◌∷◌, map, length, slice_get, nat_lt, nat_le, Option, Some}
 use Rattle.std.proofs.Common.{None, Ok, Err, arith}
 use Rattle.std.proofs.lemmas.Bool.{and_parts}
 use Rattle.std.proofs.lemmas.Bool.Decides.{nat_tests}
@@ -18,12 +18,13 @@ use Rattle.oxc_sourcemap_parts.specs.Sound.{IsInRange}
 use Rattle.oxc_sourcemap_lookup.specs.Lookup.{clamped_pick}
 use Rattle.oxc_sourcemap_lookup.proofs.Targets.{clamped_pick-all}
 use Rattle.oxc_sourcemap_remap.specs.Inputs.{input_for, inputs_fault}
-use Rattle.oxc_sourcemap_remap.specs.Remapped.{listed_sources, Original, input_original, block_start}
+use Rattle.oxc_sourcemap_remap.specs.Remapped.{listed_sources, Original, input_original}
+use Rattle.oxc_sourcemap_remap.specs.Remapped.{block_start}
 use Rattle.oxc_sourcemap_remap.specs.Remapped.{token_to, remapped, has_few, remapping}
 use Rattle.oxc_sourcemap_remap.proofs.InputPlaces.{input_for-all}
 use Rattle.oxc_sourcemap_laws.specs.RemapLaws.{AreInputsInBounds}
 use Rattle.oxc_sourcemap_laws.proofs.RemappedRecords.{leads_in, leads_from, leads, tokens-remapped}
-use Rattle.oxc_sourcemap_laws.proofs.RemappedStands.{tokens-within}
+use Rattle.oxc_sourcemap_laws.proofs.RemappedStands.{range_remapped}
 
 -- a line and a column that a token can hold
 record IsPlaced (o : Original) : Type 0 where
@@ -94,5 +95,5 @@ bounds_remapped a m inputs h k e =
     let r = remapped a inputs in
     let g = given (inputs_fault inputs) (has_few r) r m e in
     let few = and_parts (nat_le (length r.sources) 4294967295) (nat_le (length r.names) 4294967295) g.0 in
-    let all = all-bounds a inputs k r.names (length r.sources) a.tokens (at-most (length r.names) few.1) (at-most (length r.sources) few.0) (recursion_from_All IsInBounds a.tokens h) (tokens-within a inputs) in
+    let all = all-bounds a inputs k r.names (length r.sources) a.tokens (at-most (length r.names) few.1) (at-most (length r.sources) few.0) (recursion_from_All IsInBounds a.tokens h) (subst (AllByRecursion (IsInRange (length r.names) (length r.sources))) (tokens-remapped inputs a) (range_remapped a inputs).tokens) in
     subst (λ (r : MapRecord). AreInBounds r.tokens) g.1 (All-from_recursion IsInBounds r.tokens (subst (AllByRecursion IsInBounds) (sym (tokens-remapped inputs a)) all))

@@ -4,7 +4,7 @@ use Rattle.std.proofs.Common.{◌∷◌, ◌++◌, map, length, Option, Some, No
 use Rattle.std.proofs.lemmas.Grind.{flat_map-append}
 use Rattle.std.proofs.lemmas.List.{map-append, append-nil}
 use Rattle.std.specs.Cmp.Lexicographic.{bytes_decides}
-use Rattle.std.specs.List.{flat_map, AllByRecursion}
+use Rattle.std.specs.List.{flat_map}
 use Rattle.std.specs.Option.{IfSome, option_map, option_and_then, option_or}
 use Rattle.std.specs.Str.{bytes_eq}
 use Rattle.oxc_sourcemap_tokens.specs.declared.position.Position.{Position}
@@ -36,7 +36,8 @@ use Rattle.oxc_sourcemap_laws.proofs.IgnoredSources.{ignore_list_append, marked_
 use Rattle.oxc_sourcemap_laws.proofs.JoinDecodedMaps.{map_within}
 use Rattle.oxc_sourcemap_laws.proofs.Joins.{map_same, map_twice}
 use Rattle.oxc_sourcemap_laws.proofs.Same.{decides_entry}
-use Rattle.oxc_sourcemap_laws.proofs.UpToRepeats.{map_up_to_repeats, Matches, matches, up_to_repeats}
+use Rattle.oxc_sourcemap_laws.proofs.UpToRepeats.{map_up_to_repeats, Matches, matches}
+use Rattle.oxc_sourcemap_laws.proofs.UpToRepeats.{up_to_repeats}
 
 -- ---- names
 or-assoc : {A : Type 0} (p q r : Option A) → option_or p (option_or q r) ≡ option_or (option_or p q) r

@@ -1,6 +1,7 @@
 -- The decoded map of a remapped map is the remapping of the decoded maps.
 use Rattle.std.proofs.Common.{◌≡◌, refl, sym, ap, subst, ◌∙◌, ℕ, ◌+◌, ◌<◌, ◌≤◌, Bool, true, false}
-use Rattle.std.proofs.Common.{cond, List, [], ◌∷◌, map, length, slice_get, nat_lt, Option, Some, None}
+use Rattle.std.proofs.Common.{cond, List, [], ◌∷◌, map, length, slice_get, nat_lt, Option, Some}
+use Rattle.std.proofs.Common.{None}
 use Rattle.std.proofs.Common.{arith}
 use Rattle.std.proofs.lemmas.Bool.Decides.{nat_tests}
 use Rattle.std.proofs.lemmas.Option.{slice_get_past}
@@ -20,10 +21,11 @@ use Rattle.oxc_sourcemap_lookup.proofs.Picks.{clamped_pick-map}
 use Rattle.oxc_sourcemap_remap.specs.Blocks.{sources_by, sources_for, remapped_sources}
 use Rattle.oxc_sourcemap_remap.specs.Blocks.{remapped_ignore_list}
 use Rattle.oxc_sourcemap_remap.specs.Inputs.{input_for, decoded_inputs}
-use Rattle.oxc_sourcemap_remap.specs.Remapped.{listed_sources, input_of, target_by, targets, Original}
-use Rattle.oxc_sourcemap_remap.specs.Remapped.{input_original_at, input_original, original_by}
+use Rattle.oxc_sourcemap_remap.specs.Remapped.{listed_sources, input_of, target_by, targets}
+use Rattle.oxc_sourcemap_remap.specs.Remapped.{Original}
+use Rattle.oxc_sourcemap_remap.specs.Remapped.{input_original, original_by}
 use Rattle.oxc_sourcemap_remap.specs.Remapped.{block_start, original, needed_name, token_to}
-use Rattle.oxc_sourcemap_remap.specs.Remapped.{remapped_token, remapped_names, remapped}
+use Rattle.oxc_sourcemap_remap.specs.Remapped.{remapped_token, remapped}
 use Rattle.oxc_sourcemap_remap.proofs.InputPlaces.{input_for-map}
 use Rattle.oxc_sourcemap_remap.proofs.NeededNames.{all-needed, name-back}
 use Rattle.oxc_sourcemap_laws.specs.ComposedDecodedMaps.{named_by}
@@ -63,6 +65,10 @@ unmapped-leads : (b : MapRecord) (start : ℕ) (name : Option Text) (o : Option 
 unmapped-leads b start name None = refl
 unmapped-leads b start name (Some u) = unmapped-by b start name u.dst_line u.dst_col u.src_line u.src_col u.source_id u.name_id
 
+pub unmap-all : {A B : Type 0} (Q : B → Type 0) (f : A → B) (xs : List A) → AllByRecursion Q (map f xs) → AllByRecursion (λ x. Q (f x)) xs
+unmap-all Q f [] h = tt
+unmap-all Q f (x ∷ xs) h = (h.0, unmap-all Q f xs h.1)
+
 module _ (inputs : List (Text × MapRecord)) (a : MapRecord) where
   abbrev pub target : TokenRecord → Target
   target t = target_by (input_of inputs a t) t
@@ -93,7 +99,7 @@ module _ (inputs : List (Text × MapRecord)) (a : MapRecord) where
   pub leads-is : (t : TokenRecord) → original inputs a (target t) ≡ leads inputs a t
   leads-is t = by-id t.dst_line t.dst_col t.src_line t.src_col t.name_id t.source_id
 
-  token-is-by : (q : Option MapRecord) (t : TokenRecord) → (target_by q t).token ≡ t
+  pub token-is-by : (q : Option MapRecord) (t : TokenRecord) → (target_by q t).token ≡ t
   token-is-by None t = refl
   token-is-by (Some b) t = refl
 
@@ -103,10 +109,6 @@ module _ (inputs : List (Text × MapRecord)) (a : MapRecord) where
 
   pub tokens-remapped : (remapped a inputs).tokens ≡ map (λ t. token_to (remapped a inputs).names t (leads inputs a t)) a.tokens
   tokens-remapped = map_twice target (remapped_token inputs a (remapped a inputs).names) (λ t. token_to (remapped a inputs).names t (leads inputs a t)) (remapped_token-is (remapped a inputs).names) a.tokens
-
-  unmap-all : {A B : Type 0} (Q : B → Type 0) (f : A → B) (xs : List A) → AllByRecursion Q (map f xs) → AllByRecursion (λ x. Q (f x)) xs
-  unmap-all Q f [] h = tt
-  unmap-all Q f (x ∷ xs) h = (h.0, unmap-all Q f xs h.1)
 
   -- the name that a token needs is among the names
   pub all-placed : AllByRecursion (λ t. IsPlaced (remapped a inputs).names (needed_name (leads inputs a t))) a.tokens

@@ -1,31 +1,39 @@
 -- Remapped maps: their order, their ids, their soundness, and the laws of decoded maps for them.
 use Rattle.std.proofs.Common.{◌≡◌, refl, sym, ap, subst, ◌∙◌, ℕ, zero, suc, ◌+◌, ◌<◌, ◌≤◌, Bool}
-use Rattle.std.proofs.Common.{true, false, cond, List, [], ◌∷◌, ◌++◌, map, length, take, slice_get}
+use Rattle.std.proofs.Common.{◌&&◌, Ok, Err}
+use Rattle.std.proofs.Common.{true, false, cond, List, [], ◌∷◌, map, length, take, slice_get}
 use Rattle.std.proofs.Common.{nat_lt, Option, Some, None, arith}
 use Rattle.std.proofs.lemmas.Bool.Decides.{nat_tests}
 use Rattle.std.proofs.lemmas.List.{length-append, length-map}
 use Rattle.std.specs.List.{flat_map, AllByRecursion}
 use Rattle.std.specs.Option.{IfSome, option_map, option_and_then, option_or}
+use Rattle.oxc_sourcemap_tokens.specs.declared.error.Error.{Error}
+use Rattle.oxc_sourcemap_tokens.specs.declared.error.Error.TheVariants.{TooLarge}
 use Rattle.oxc_sourcemap_tokens.specs.declared.position.Position.{Position}
+use Rattle.oxc_sourcemap_tokens.specs.Errors.{unless}
 use Rattle.oxc_sourcemap_tokens.specs.Token.{TokenRecord}
-use Rattle.oxc_sourcemap_parts.specs.DecodedMap.{DecodedSource, OriginalPosition, DecodedMap}
+use Rattle.oxc_sourcemap_parts.specs.DecodedMap.{DecodedSource, DecodedMap}
 use Rattle.oxc_sourcemap_parts.specs.DecodedMap.{sources_of, name_of, original_at, decoded_map_of}
 use Rattle.oxc_sourcemap_parts.specs.DecodedMap.{mapping_of}
 use Rattle.oxc_sourcemap_parts.specs.Record.{Text, MapRecord}
-use Rattle.oxc_sourcemap_parts.specs.Sorted.{token_line, token_column, are_tokens_sorted}
+use Rattle.oxc_sourcemap_parts.specs.Sorted.{token_line, token_column, may_precede}
+use Rattle.oxc_sourcemap_parts.specs.Sorted.{are_tokens_sorted}
 use Rattle.oxc_sourcemap_parts.specs.Sound.{IsInRange, AreIdsInRange, IsSound}
 use Rattle.oxc_sourcemap_parts.specs.Texts.{index_of}
 use Rattle.oxc_sourcemap_join.specs.Joined.{joined}
-use Rattle.oxc_sourcemap_lookup.specs.Composed.{composed}
-use Rattle.oxc_sourcemap_lookup.specs.Lookup.{clamped_pick}
+use Rattle.oxc_sourcemap_lookup.specs.Composed.{Target, composed}
 use Rattle.oxc_sourcemap_lookup.proofs.InheritedNames.{IsPlaced}
 use Rattle.oxc_sourcemap_remap.specs.Blocks.{sources_by, sources_for, remapped_sources}
 use Rattle.oxc_sourcemap_remap.specs.Blocks.{marked_sources, marked_for, ignored_from, unless_empty}
-use Rattle.oxc_sourcemap_remap.specs.Blocks.{remapped_ignore_list}
-use Rattle.oxc_sourcemap_remap.specs.Inputs.{input_for, decoded_inputs}
-use Rattle.oxc_sourcemap_remap.specs.Remapped.{listed_sources, Original, input_original, block_start}
-use Rattle.oxc_sourcemap_remap.specs.Remapped.{needed_name, token_to, remapped}
+use Rattle.oxc_sourcemap_remap.specs.Inputs.{input_for, decoded_inputs, inputs_fault}
+use Rattle.oxc_sourcemap_remap.specs.Remapped.{listed_sources, input_of, targets, Original}
+use Rattle.oxc_sourcemap_remap.specs.Remapped.{input_original, original_by, block_start}
+use Rattle.oxc_sourcemap_remap.specs.Remapped.{original_at as original_in}
+use Rattle.oxc_sourcemap_remap.specs.Remapped.{original, needed_name, token_to, remapped_token}
+use Rattle.oxc_sourcemap_remap.specs.Remapped.{remapped_names, remapped_by, remapped, has_few}
+use Rattle.oxc_sourcemap_remap.specs.Remapped.{SomeRemapping}
 use Rattle.oxc_sourcemap_remap.proofs.InputPlaces.{input_for-map}
+use Rattle.oxc_sourcemap_remap.proofs.NeededNames.{all-needed}
 use Rattle.oxc_sourcemap_laws.specs.Repeats.{decoded_map_without_repeats, EqualUpToRepeats}
 use Rattle.oxc_sourcemap_laws.specs.JoinedDecodedMaps.{joined_decoded_maps}
 use Rattle.oxc_sourcemap_laws.specs.JoinLaws.{AreAllInRange, AreIgnoreListsInRange, StandsFor}
@@ -33,29 +41,42 @@ use Rattle.oxc_sourcemap_laws.specs.JoinLaws.{decoded_maps_of}
 use Rattle.oxc_sourcemap_laws.specs.ComposedDecodedMaps.{composed_decoded_maps}
 use Rattle.oxc_sourcemap_laws.specs.ComposeLaws.{AreSourceIdsInRange, AreTokensInRange}
 use Rattle.oxc_sourcemap_laws.specs.RemappedDecodedMaps.{remapped_decoded_map}
-use Rattle.oxc_sourcemap_laws.specs.RemapLaws.{as_remapped, inputs_through, maps_through, PointsInto}
+use Rattle.oxc_sourcemap_laws.specs.RemapLaws.{as_remapped, inputs_through, maps_through}
+use Rattle.oxc_sourcemap_laws.specs.RemapLaws.{PointsInto}
 use Rattle.oxc_sourcemap_laws.specs.RemapLaws.{AreIgnoredInRange, AreInputsEqualUpToRepeats}
 use Rattle.oxc_sourcemap_laws.specs.RemapLaws.{InputsStandFor}
-use Rattle.oxc_sourcemap_laws.proofs.Compositions.{sorted-moved, index-below, decoded_map_composed}
+use Rattle.oxc_sourcemap_laws.proofs.Compositions.{index-below, decoded_map_composed}
 use Rattle.oxc_sourcemap_laws.proofs.IgnoredSources.{count_marked}
 use Rattle.oxc_sourcemap_laws.proofs.JoinDecodedMaps.{length-sources_of, decoded_map_joined}
-use Rattle.oxc_sourcemap_laws.proofs.Joins.{map_same, map_twice}
+use Rattle.oxc_sourcemap_laws.proofs.Joins.{map_twice}
 use Rattle.oxc_sourcemap_laws.proofs.JoinStands.{all_map}
 use Rattle.oxc_sourcemap_laws.proofs.RemappedMaps.{remappings_associative, composition_remapped}
 use Rattle.oxc_sourcemap_laws.proofs.RemappedMaps.{one_remapped, join_remapped}
-use Rattle.oxc_sourcemap_laws.proofs.RemappedMaps.{remapped_up_to_repeats}
-use Rattle.oxc_sourcemap_laws.proofs.RemappedRecords.{leads_in, leads_from, leads, tokens-remapped}
-use Rattle.oxc_sourcemap_laws.proofs.RemappedRecords.{all-placed, decoded_map_remapped}
+use Rattle.oxc_sourcemap_laws.proofs.RemappedMaps.{remapped_up_to_repeats, map-self}
+use Rattle.oxc_sourcemap_laws.proofs.RemappedRecords.{target, token-is-by, unmap-all}
+use Rattle.oxc_sourcemap_laws.proofs.RemappedRecords.{tokens-remapped, decoded_map_remapped}
 
 -- ---- order and counts
 position-kept : (names : List Text) (t : TokenRecord) (o : Option Original) → ((token_to names t o).dst_line ≡ t.dst_line) × ((token_to names t o).dst_col ≡ t.dst_col)
 position-kept names t None = (refl, refl)
 position-kept names t (Some o) = (refl, refl)
 
+-- for any targets
+sorted-by : (a : MapRecord) (inputs : List (Text × MapRecord)) (names : List Text) (ls : List Target) → are_tokens_sorted (map (remapped_token inputs a names) ls) ≡ are_tokens_sorted (map (λ l. l.token) ls)
+sorted-by a inputs names [] = refl
+sorted-by a inputs names (l ∷ []) = refl
+sorted-by a inputs names (l ∷ m ∷ ls) =
+    let first = position-kept names l.token (original inputs a l) in
+    let next = position-kept names m.token (original inputs a m) in
+    let e : may_precede token_line token_column (remapped_token inputs a names l) (remapped_token inputs a names m) ≡ may_precede token_line token_column l.token m.token = rw (first.0, first.1, next.0, next.1) in
+    ap (λ b. b && are_tokens_sorted (map (remapped_token inputs a names) (m ∷ ls))) e
+    ∙ ap (λ b. may_precede token_line token_column l.token m.token && b) (sorted-by a inputs names (m ∷ ls))
+
 pub sorted_remapped : (a : MapRecord) (inputs : List (Text × MapRecord)) → are_tokens_sorted (remapped a inputs).tokens ≡ are_tokens_sorted a.tokens
 sorted_remapped a inputs =
-    let names = (remapped a inputs).names in
-    ap are_tokens_sorted (tokens-remapped inputs a) ∙ sorted-moved (λ t. token_to names t (leads inputs a t)) (λ t. position-kept names t (leads inputs a t)) a.tokens
+    let tokens : map (λ l. l.token) (targets a inputs) ≡ a.tokens =
+    map_twice (target inputs a) (λ l. l.token) (λ t. t) (λ t. token-is-by inputs a (input_of inputs a t) t) a.tokens ∙ map-self (λ t. t) (λ t. refl) a.tokens in
+    sorted-by a inputs (remapped a inputs).names (targets a inputs) ∙ ap are_tokens_sorted tokens
 
 pub counts_remapped : (a : MapRecord) (inputs : List (Text × MapRecord)) → (length (remapped a inputs).tokens ≡ length a.tokens) × (length (remapped a inputs).source_contents ≡ length (remapped a inputs).sources)
 counts_remapped a inputs =
@@ -104,21 +125,21 @@ module _ (a : MapRecord) (inputs : List (Text × MapRecord)) where
     within-found b one name None = tt
     within-found b one name (Some u) = within-id b one u.dst_line u.dst_col u.src_line u.src_col u.source_id u.name_id name
 
-    within-input : (t : TokenRecord) (q : Option MapRecord) → input_for (decoded_inputs inputs) s.path ≡ option_map decoded_map_of q → IsWithin (leads_in q (block_start inputs a i) a.names t)
-    within-input t None e =
+    within-input : (l : Target) (q : Option MapRecord) → input_for (decoded_inputs inputs) s.path ≡ option_map decoded_map_of q → IsWithin (original_by q (block_start inputs a i) a.names l)
+    within-input l None e =
         let one : sources_for (decoded_inputs inputs) s ≡ s ∷ [] = ap (λ o. sources_by o s) e in
         let first = block-within (sources_for (decoded_inputs inputs)) (listed_sources a) i 0 s at (subst (λ xs. 0 < length xs) (sym one) (omega arith)) in
         omega (arith, first)
-    within-input t (Some b) e =
-        within-found b (ap (λ o. sources_by o s) e) (name_of a.names t) (clamped_pick token_line token_column b.tokens t.src_line t.src_col)
+    within-input l (Some b) e = within-found b (ap (λ o. sources_by o s) e) (name_of a.names l.token) l.found
 
-  within-source : (t : TokenRecord) (i : ℕ) (o : Option DecodedSource) → slice_get (listed_sources a) i ≡ o → IsWithin (leads_from inputs a t i o)
-  within-source t i None e = tt
-  within-source t i (Some s) e = within-input i s e t (input_for inputs s.path) (input_for-map decoded_map_of inputs s.path)
+  within-source : (l : Target) (i : ℕ) (o : Option DecodedSource) → slice_get (listed_sources a) i ≡ o
+      → IsWithin (option_and_then (λ s. original_by (input_for inputs s.path) (block_start inputs a i) a.names l) o)
+  within-source l i None e = tt
+  within-source l i (Some s) e = within-input i s e l (input_for inputs s.path) (input_for-map decoded_map_of inputs s.path)
 
-  within-token : (t : TokenRecord) (id : Option ℕ) → IsWithin (option_and_then (λ i. leads_from inputs a t i (slice_get (listed_sources a) i)) id)
-  within-token t None = tt
-  within-token t (Some i) = within-source t i (slice_get (listed_sources a) i) refl
+  within-target : (l : Target) (id : Option ℕ) → IsWithin (option_and_then (original_in inputs a l) id)
+  within-target l None = tt
+  within-target l (Some i) = within-source l i (slice_get (listed_sources a) i) refl
 
   name-within : (names : List Text) (n : Option Text) → IsPlaced names n → IfSome (option_and_then (λ x. index_of x names) n) (λ id. id < length names)
   name-within names None p = tt
@@ -127,13 +148,6 @@ module _ (a : MapRecord) (inputs : List (Text × MapRecord)) where
   token-within : (names : List Text) (t : TokenRecord) (o : Option Original) → IsWithin o → IsPlaced names (needed_name o) → IsInRange (length names) (length sources) (token_to names t o)
   token-within names t None h p = record { source_id = tt; name_id = tt }
   token-within names t (Some o) h p = record { source_id = h; name_id = name-within names o.name p }
-
-  pub tokens-within : AllByRecursion (IsInRange (length (remapped a inputs).names) (length (remapped a inputs).sources)) (map (λ t. token_to (remapped a inputs).names t (leads inputs a t)) a.tokens)
-  tokens-within =
-      let names = (remapped a inputs).names in
-      let n : length (remapped a inputs).sources ≡ length sources = length-map sources _ in
-      subst (λ n. AllByRecursion (IsInRange (length names) n) (map (λ t. token_to names t (leads inputs a t)) a.tokens)) (sym n)
-      (all_map _ _ (λ t. token_to names t (leads inputs a t)) (λ t p. token-within names t (leads inputs a t) (within-token t t.source_id) p) a.tokens (all-placed inputs a))
 
   below-by : (f : Bool) (i n : ℕ) (ids : List ℕ) → i < n → AllByRecursion (λ id. id < n) ids → AllByRecursion (λ id. id < n) (cond f (i ∷ ids) ids)
   below-by true i n ids h k = (h, k)
@@ -147,18 +161,38 @@ module _ (a : MapRecord) (inputs : List (Text × MapRecord)) where
   list-below n [] h = tt
   list-below n (id ∷ ids) h = h
 
-  pub range_remapped : AreIdsInRange (remapped a inputs)
-  range_remapped =
+  -- for any targets
+  range-by : (ls : List Target) → AreIdsInRange (remapped_by ls a inputs)
+  range-by ls =
+      let names = remapped_names ls a inputs in
       let ms = flat_map (marked_for (decoded_inputs inputs)) (marked_sources (decoded_map_of a)) in
       let count = count_marked (decoded_inputs inputs) (decoded_map_of a) in
-      let n : length (remapped a inputs).sources ≡ length sources = length-map sources _ in
+      let n : length (map (λ s. s.path) sources) ≡ length sources = length-map sources (λ s. s.path) in
+      let placed = unmap-all (λ o. IsPlaced names (needed_name o)) (original inputs a) ls (all-needed (map (original inputs a) ls)) in
       record {
-        tokens = subst (AllByRecursion (IsInRange (length (remapped a inputs).names) (length (remapped a inputs).sources))) (sym (tokens-remapped inputs a)) tokens-within;
-        ignore_list = list-below (length (remapped a inputs).sources) (ignored_from 0 ms) (ignored-below 0 (length (remapped a inputs).sources) ms (omega (arith, count, n)));
+        tokens = subst (λ n. AllByRecursion (IsInRange (length names) n) (map (remapped_token inputs a names) ls)) (sym n)
+            (all_map _ _ (remapped_token inputs a names) (λ l p. token-within names l.token (original inputs a l) (within-target l l.token.source_id) p) ls placed);
+        ignore_list = list-below (length (map (λ s. s.path) sources)) (ignored_from 0 ms) (ignored-below 0 (length (map (λ s. s.path) sources)) ms (omega (arith, count, n)));
       }
+
+  pub range_remapped : AreIdsInRange (remapped a inputs)
+  range_remapped = range-by (targets a inputs)
 
   pub sound_remapped : IsSound a → IsSound (remapped a inputs)
   sound_remapped h = record { sorted = sorted_remapped a inputs ∙ h.sorted; in_range = range_remapped; chunks = tt }
+
+  made : (fault : Option Error) (few : Bool) (r m : MapRecord) → unless fault (cond few (Ok r) (Err TooLarge)) ≡ Ok m → r ≡ m
+  made (Some f) few r m e = absurd (cc (e))
+  made None true r m e = cc (e)
+  made None false r m e = absurd (cc (e))
+
+  -- any result of the remapping
+  pub some_remapped : (m : MapRecord) → SomeRemapping a inputs (Ok m) → AreIdsInRange m × (are_tokens_sorted m.tokens ≡ are_tokens_sorted a.tokens)
+  some_remapped m some =
+      let ls = some.0 in
+      let is : remapped_by ls a inputs ≡ m = made (inputs_fault inputs) (has_few (remapped_by ls a inputs)) (remapped_by ls a inputs) m some.2 in
+      subst (λ (r : MapRecord). AreIdsInRange r × (are_tokens_sorted r.tokens ≡ are_tokens_sorted a.tokens)) is
+      (range-by ls, sorted-by a inputs (remapped_names ls a inputs) ls ∙ ap are_tokens_sorted some.1.0)
 
 -- ---- maps that stand for decoded maps
 inputs-stand : (inputs : List (Text × MapRecord)) (ss : List (Text × DecodedMap)) → InputsStandFor inputs ss → AreInputsEqualUpToRepeats (decoded_inputs inputs) ss

@@ -106,9 +106,9 @@ pathless-source (Some root) s = refl
 pathless-mapping : (root : Option Text) (e : DecodedMapping) → pathless_mapping (rooted_mapping root e) ≡ pathless_mapping e
 pathless-mapping root e = elim e.original as (λ (x : Option OriginalPosition). ◌≡◌ {A = DecodedMapping}
     (record { dst_line = e.dst_line; dst_col = e.dst_col; original = option_map pathless_original (option_map (rooted_original root) x) }) (record { dst_line = e.dst_line; dst_col = e.dst_col; original = option_map pathless_original x })) [
-  | None ↦ refl
-  | Some o ↦ ap (λ s. record { dst_line = e.dst_line; dst_col = e.dst_col; original = Some (record o { source = s }) }) (pathless-source root o.source)
-]
+      | None ↦ refl
+      | Some o ↦ ap (λ s. record { dst_line = e.dst_line; dst_col = e.dst_col; original = Some (record o { source = s }) }) (pathless-source root o.source)
+    ]
 
 pub rooted_decoded_map_keeps : (s : DecodedMap) → without_paths (rooted_decoded_map s) ≡ without_paths s
 rooted_decoded_map_keeps s =

@@ -8,8 +8,6 @@ use Rattle.oxc_sourcemap_parts.specs.DecodedMap.{DecodedSource, OriginalPosition
 use Rattle.oxc_sourcemap_parts.specs.DecodedMap.{DecodedMap, decoded_map_of}
 use Rattle.oxc_sourcemap_join.specs.Joined.{at_line}
 use Rattle.oxc_sourcemap_lookup.specs.Trace.{trace, clamped_trace}
-use Rattle.oxc_sourcemap_remap.specs.Inputs.{decoded_inputs}
-use Rattle.oxc_sourcemap_remap.specs.Remapped.{remapped}
 use Rattle.oxc_sourcemap_laws.specs.JoinedDecodedMaps.{joined_decoded_maps}
 use Rattle.oxc_sourcemap_laws.specs.ComposedDecodedMaps.{composed_decoded_maps}
 use Rattle.oxc_sourcemap_laws.specs.RemappedDecodedMaps.{remapped_decoded_map}

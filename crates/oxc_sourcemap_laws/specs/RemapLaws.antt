@@ -1,6 +1,6 @@
 -- What remapping keeps, and that it is associative.
-use Rattle.std.specs.Prelude.{◌≡◌, ◌⊎◌, ℕ, ◌+◌, ◌<◌, ◌≤◌, Bool, true, List, [], ◌∷◌, ◌++◌, map, length}
-use Rattle.std.specs.Prelude.{Option, None, Result, Ok, Err, IfSome}
+use Rattle.std.specs.Prelude.{◌≡◌, ◌⊎◌, ◌+◌, ◌<◌, ◌≤◌, Bool, true, List, [], ◌∷◌, ◌++◌, map, length}
+use Rattle.std.specs.Prelude.{None, Ok, Err, IfSome}
 use Rattle.std.specs.List.{AllByRecursion, AllZip, flat_map, list_all}
 use Rattle.oxc_sourcemap_tokens.specs.declared.error.Error.TheVariants.{TooLarge}
 use Rattle.oxc_sourcemap_tokens.specs.declared.position.Position.{Position}
@@ -13,7 +13,7 @@ use Rattle.oxc_sourcemap_lookup.specs.Composed.{composed}
 use Rattle.oxc_sourcemap_join.specs.Joined.{joined}
 use Rattle.oxc_sourcemap_remap.specs.Blocks.{marked_sources, marked_for, ignore_list_of}
 use Rattle.oxc_sourcemap_remap.specs.Inputs.{decoded_inputs, inputs_fault, NoInputColumnGoesBack}
-use Rattle.oxc_sourcemap_remap.specs.Remapped.{remapped, remapping}
+use Rattle.oxc_sourcemap_remap.specs.Remapped.{remapped, remapping, SomeRemapping}
 use Rattle.oxc_sourcemap_laws.specs.Repeats.{EqualUpToRepeats}
 use Rattle.oxc_sourcemap_laws.specs.JoinedDecodedMaps.{joined_decoded_maps}
 use Rattle.oxc_sourcemap_laws.specs.JoinLaws.{AreAllInRange, AreIgnoreListsInRange, StandsFor}
@@ -65,10 +65,14 @@ RemappedMapsAssociative = (a : MapRecord) (bs cs : List (Text × MapRecord))
 abbrev pub AreIgnoredInRange : List (DecodedMap × Position) → Type 0
 AreIgnoredInRange ss = AllByRecursion (λ s. IfSome s.0.ignore_list (AllByRecursion (λ id. id < length s.0.sources))) ss
 
+-- the parts of a join, each remapped
+abbrev pub each_remapped : List (Text × DecodedMap) → List (DecodedMap × Position) → List (DecodedMap × Position)
+each_remapped inputs ss = map (λ s. (remapped_decoded_map s.0 inputs, s.1)) ss
+
 -- A join that is remapped is the join of the remapped parts.
 abbrev pub JoinRemapped : Type 0
 JoinRemapped = (ss : List (DecodedMap × Position)) (inputs : List (Text × DecodedMap)) → AreIgnoredInRange ss
-    → remapped_decoded_map (joined_decoded_maps ss) inputs ≡ joined_decoded_maps (map (λ s. (remapped_decoded_map s.0 inputs, s.1)) ss)
+    → remapped_decoded_map (joined_decoded_maps ss) inputs ≡ joined_decoded_maps (each_remapped inputs ss)
 
 -- The same of maps, up to repeats, if all ids are in range.
 abbrev pub JoinedMapsRemapped : Type 0
@@ -135,6 +139,12 @@ RemappingInRange = (a : MapRecord) (inputs : List (Text × MapRecord)) → AreId
 -- So it is sound if the first map is, also if inputs are not.
 abbrev pub RemappingIsSound : Type 0
 RemappingIsSound = (a : MapRecord) (inputs : List (Text × MapRecord)) → IsSound a → IsSound (remapped a inputs)
+
+-- Where columns go back on a line of an input, there are several results. The ids of each are in range, and it is sorted exactly
+-- if the first map is.
+abbrev pub SomeRemappingIsSound : Type 0
+SomeRemappingIsSound = (a m : MapRecord) (inputs : List (Text × MapRecord)) → SomeRemapping a inputs (Ok m)
+    → AreIdsInRange m × (are_tokens_sorted m.tokens ≡ are_tokens_sorted a.tokens)
 
 -- A remapped map has as many tokens as the first map, and as many contents as sources.
 abbrev pub RemappingCounts : Type 0

@@ -8,7 +8,8 @@ use Rattle.oxc_sourcemap_parts.specs.Roots.{rooted}
 use Rattle.oxc_sourcemap_lookup.specs.Trace.{trace, clamped_trace}
 use Rattle.oxc_sourcemap_laws.specs.Repeats.{EqualUpToRepeats}
 use Rattle.oxc_sourcemap_laws.specs.JoinLaws.{StandsFor}
-use Rattle.oxc_sourcemap_laws.specs.RootedDecodedMaps.{rooted_original, rooted_decoded_map, without_paths}
+use Rattle.oxc_sourcemap_laws.specs.RootedDecodedMaps.{rooted_original, rooted_decoded_map}
+use Rattle.oxc_sourcemap_laws.specs.RootedDecodedMaps.{without_paths}
 
 -- The decoded map of a map whose source root is applied is the decoded map with its source root applied.
 abbrev pub DecodedMapOfRooting : Type 0

@@ -32,6 +32,7 @@ pub use Rattle.oxc_sourcemap_laws.specs.RemapLaws.{OneMapRemapped, RemappingStan
 pub use Rattle.oxc_sourcemap_laws.specs.RemapLaws.{RemappingKeepsEqualUpToRepeats}
 pub use Rattle.oxc_sourcemap_laws.specs.RemapLaws.{RemappingSorted, RemappingInRange}
 pub use Rattle.oxc_sourcemap_laws.specs.RemapLaws.{RemappingIsSound, RemappingCounts}
+pub use Rattle.oxc_sourcemap_laws.specs.RemapLaws.{SomeRemappingIsSound}
 pub use Rattle.oxc_sourcemap_laws.specs.RemapLaws.{RemappingNames, SortedInputsGoOn}
 pub use Rattle.oxc_sourcemap_laws.specs.RemapLaws.{RemappingAnswered, RemappingTooLarge}
 pub use Rattle.oxc_sourcemap_laws.specs.RemapLaws.{RemappingInBounds}

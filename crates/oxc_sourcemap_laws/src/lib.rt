@@ -31,11 +31,13 @@ ghost use Rattle.oxc_sourcemap_laws.specs.Words.{NothingRemapped, RemappedDecode
 ghost use Rattle.oxc_sourcemap_laws.specs.Words.{RemappedMapsAssociative, JoinRemapped};
 ghost use Rattle.oxc_sourcemap_laws.specs.Words.{JoinedMapsRemapped, CompositionRemapped};
 ghost use Rattle.oxc_sourcemap_laws.specs.Words.{ComposedMapsRemapped, OneRemapped, OneMapRemapped};
-ghost use Rattle.oxc_sourcemap_laws.specs.Words.{RemappingKeepsEqualUpToRepeats, RemappingStandsFor};
+ghost use Rattle.oxc_sourcemap_laws.specs.Words.{RemappingKeepsEqualUpToRepeats};
+ghost use Rattle.oxc_sourcemap_laws.specs.Words.{RemappingStandsFor};
 ghost use Rattle.oxc_sourcemap_laws.specs.Words.{RemappingSorted, RemappingInRange};
 ghost use Rattle.oxc_sourcemap_laws.specs.Words.{RemappingIsSound, RemappingCounts, RemappingNames};
 ghost use Rattle.oxc_sourcemap_laws.specs.Words.{SortedInputsGoOn, RemappingAnswered};
 ghost use Rattle.oxc_sourcemap_laws.specs.Words.{RemappingTooLarge, RemappingInBounds};
+ghost use Rattle.oxc_sourcemap_laws.specs.Words.{SomeRemappingIsSound};
 ghost use Rattle.oxc_sourcemap_laws.specs.Words.{DecodedMapOfRooting, RootingAgain};
 ghost use Rattle.oxc_sourcemap_laws.specs.Words.{RootedDecodedMapsAgain, RootingKeeps};
 ghost use Rattle.oxc_sourcemap_laws.specs.Words.{RootedDecodedMapsKeep, TracesOfRooting};
@@ -171,8 +173,8 @@ pub fn composition_associative()
 ///   sound and their decoded maps equal up to repeats to given ones, the remapped map is sound and equal up to repeats to the
 ///   remapping of the given ones (`stands_for`).
 /// - A remapped map is sorted exactly if the first map is (`sorted`), and its ids are in range (`in_range`), whatever the
-///   inputs are; so it is sound if the first map is (`sound`). It has as many tokens as that, and a content for each source
-///   (`counts`). Its names are names of the maps, and at most as many as they have together (`names`).
+///   inputs are; so it is sound if the first map is (`sound`). The same holds of any result where columns go back on a line of
+///   an input (`any_map`). It has as many tokens as the first map, and a content for each source (`counts`). Its names are names of the maps, and at most as many as they have together (`names`).
 /// - On no line of sorted inputs do columns go back, as the clauses `map` and `error` of `SourceMap::remap` ask, and they have
 ///   no fault (`sorted_goes_on`). If inputs have no fault, the result is a map or `TooLarge` (`answered`): only if the remapped
 ///   map has more than 4294967295 sources, or the maps more names (`too_large`). Its tokens are in bounds if those of the maps
@@ -194,6 +196,7 @@ pub fn remapping_associative()
     ensures sorted { RemappingSorted }
     ensures in_range { RemappingInRange }
     ensures sound { RemappingIsSound }
+    ensures any_map { SomeRemappingIsSound }
     ensures counts { RemappingCounts }
     ensures names { RemappingNames }
     ensures sorted_goes_on { SortedInputsGoOn }

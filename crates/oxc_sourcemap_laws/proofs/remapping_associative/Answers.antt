@@ -1,13 +1,16 @@
 use Rattle.oxc_sourcemap_laws.proofs.IgnoredSources.{marked_remapped}
 use Rattle.oxc_sourcemap_laws.proofs.RemappedBounds.{bounds_remapped}
 use Rattle.oxc_sourcemap_laws.proofs.RemappedMaps.{remappings_associative, nothing_remapped}
-use Rattle.oxc_sourcemap_laws.proofs.RemappedMaps.{composition_remapped, one_remapped, join_remapped}
+use Rattle.oxc_sourcemap_laws.proofs.RemappedMaps.{composition_remapped, one_remapped}
+use Rattle.oxc_sourcemap_laws.proofs.RemappedMaps.{join_remapped}
 use Rattle.oxc_sourcemap_laws.proofs.RemappedMaps.{remapped_up_to_repeats}
 use Rattle.oxc_sourcemap_laws.proofs.RemappedNames.{names-most, names-tested, room, answered}
 use Rattle.oxc_sourcemap_laws.proofs.RemappedNames.{sorted_inputs}
 use Rattle.oxc_sourcemap_laws.proofs.RemappedRecords.{decoded_map_remapped}
-use Rattle.oxc_sourcemap_laws.proofs.RemappedStands.{sorted_remapped, counts_remapped, range_remapped}
-use Rattle.oxc_sourcemap_laws.proofs.RemappedStands.{sound_remapped, remapping_stands}
+use Rattle.oxc_sourcemap_laws.proofs.RemappedStands.{sorted_remapped, counts_remapped}
+use Rattle.oxc_sourcemap_laws.proofs.RemappedStands.{range_remapped}
+use Rattle.oxc_sourcemap_laws.proofs.RemappedStands.{sound_remapped, some_remapped}
+use Rattle.oxc_sourcemap_laws.proofs.RemappedStands.{remapping_stands}
 use Rattle.oxc_sourcemap_laws.proofs.RemappedStands.{maps_associative, joined_maps_remapped}
 use Rattle.oxc_sourcemap_laws.proofs.RemappedStands.{composed_maps_remapped, one_map_remapped}
 use Rattle.oxc_sourcemap_laws.proofs.remapping_associative.Goals as goal
@@ -59,6 +62,9 @@ returns-clause-in_range c = range_remapped
 
 pub returns-clause-sound : goal.returns-clause-sound
 returns-clause-sound c = sound_remapped
+
+pub returns-clause-any_map : goal.returns-clause-any_map
+returns-clause-any_map c = λ a m inputs some. some_remapped a inputs m some
 
 pub returns-clause-counts : goal.returns-clause-counts
 returns-clause-counts c = counts_remapped

@@ -19,11 +19,21 @@ fn the_stages_of_a_map_are_timed(rt: HostRuntime) -> Result<(), Fault> {
 }
 
 #[test]
-fn a_composition_is_timed(rt: HostRuntime) -> Result<(), Fault> {
+fn a_composition_and_its_remapping_are_timed(rt: HostRuntime) -> Result<(), Fault> {
     stages::time_pipeline(
         &rt,
         &EACH,
         "{\"version\":3,\"names\":[],\"sources\":[\"o.ts\"],\"mappings\":\"AACA\"}\n---\n{\"version\":3,\"names\":[],\"sources\":[\"m.js\"],\"mappings\":\"AAAA\"}",
+    )
+}
+
+/// The last map has two sources.
+#[test]
+fn a_remapping_is_timed(rt: HostRuntime) -> Result<(), Fault> {
+    stages::time_pipeline(
+        &rt,
+        &EACH,
+        "{\"version\":3,\"sources\":[\"a.ts\"],\"mappings\":\"AACA\"}\n---\n{\"version\":3,\"sources\":[\"b.ts\"],\"mappings\":\"AACA\"}\n---\n{\"version\":3,\"sources\":[\"a.js\",\"b.js\"],\"mappings\":\"AAAA;ACAA\"}",
     )
 }
 

@@ -1,7 +1,7 @@
 //! Composition of maps, plain and owned.
-use crate::helpers::{has_text, same};
+use crate::helpers::{has_text, has_tokens_of, same};
 use crate::rows::{Row, map_of};
-use oxc_sourcemap::{Error, OwnedSourceMap, Result, SourceMap, Token};
+use oxc_sourcemap::{Error, OwnedSourceMap, Result, SourceMap};
 use std::alloc::Global;
 use std::process::Abort;
 
@@ -56,25 +56,6 @@ fn owned_composed(alloc: Global, first: &str, second: &str) -> Result<SourceMap<
     let input = OwnedSourceMap::from_json_string(alloc, second)?;
     let map = OwnedSourceMap::from_json_string(alloc, first)?;
     Ok(map.compose(alloc, input)?.into_inner())
-}
-
-/// A token, without a source position if it is unmapped.
-fn bare(token: Token) -> Token {
-    if token.get_source_id().is_some() {
-        token
-    } else {
-        Token::new(token.get_dst_line(), token.get_dst_col(), 0, 0, None, None)
-    }
-}
-
-/// Asserts that the tokens of a map are those that a JSON text reads as, the unmapped ones without a source position.
-fn has_tokens_of(rt: &impl Abort, alloc: Global, map: &SourceMap<'_>, text: &str) -> Result<()> {
-    let read = SourceMap::from_json_string(alloc, text)?;
-    same(rt, text, map.get_tokens().len(), read.get_tokens().len());
-    for (found, wanted) in map.get_tokens().zip(read.get_tokens()) {
-        same(rt, text, found, bare(wanted));
-    }
-    Ok(())
 }
 
 fn is_composed(

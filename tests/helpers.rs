@@ -36,6 +36,30 @@ pub fn is_written_as(rt: &impl Abort, alloc: Global, map: &SourceMap<'_>, wanted
     }
 }
 
+/// A token, without a source position if it is unmapped.
+fn bare(token: Token) -> Token {
+    if token.get_source_id().is_some() {
+        token
+    } else {
+        Token::new(token.get_dst_line(), token.get_dst_col(), 0, 0, None, None)
+    }
+}
+
+/// Asserts that the tokens of a map are those that a JSON text reads as, the unmapped ones without a source position.
+pub fn has_tokens_of(
+    rt: &impl Abort,
+    alloc: Global,
+    map: &SourceMap<'_>,
+    text: &str,
+) -> Result<()> {
+    let read = SourceMap::from_json_string(alloc, text)?;
+    same(rt, text, map.get_tokens().len(), read.get_tokens().len());
+    for (found, wanted) in map.get_tokens().zip(read.get_tokens()) {
+        same(rt, text, found, bare(wanted));
+    }
+    Ok(())
+}
+
 /// A text, borrowed.
 pub fn lent(text: &Result<String>) -> Result<&str> {
     match text {

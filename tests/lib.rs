@@ -19,6 +19,8 @@ mod owned;
 mod plans;
 mod program;
 mod refusals;
+mod remap;
+mod roots;
 mod rows;
 mod shapes;
 mod texts;

@@ -208,7 +208,7 @@ class SourceMap:
 
     @staticmethod
     def join(maps: Iterable[tuple["SourceMap", int, int]]) -> "SourceMap":
-        """Joins maps, each at a line and a column. The maps are closed."""
+        """Joins maps, each at a line and a column, without their source roots. The maps are closed."""
         parts = list(maps)
         offsets = (_Position * len(parts))(*((_number(line), _number(column)) for _, line, column in parts))
         handles = (_Handle * len(parts))(*(it._taken() for it, _, _ in parts))

@@ -61,7 +61,7 @@ const USUAL: Hostile = Hostile {
 };
 
 /// Names, sources and tokens of a map that others are joined and composed with.
-type Parts = (
+pub type Parts = (
     &'static [&'static str],
     &'static [&'static str],
     &'static [Row],

@@ -191,6 +191,24 @@ fn owned_source_map_compose(rt: HostRuntime) {
     refuse_each(&rt, two_owned_maps, |alloc, (map, input)| map.compose(alloc, input), |map| is_map(&rt, &map, COMPOSED));
 }
 
+/// What the map with every field is remapped to if its source a.js has an input.
+const REMAPPED: &str =
+    r#"{"version":3,"file":"out.js","names":["n0","n1"],"sources":["a.js","b.js","b.js"],"sourcesContent":["A",null,null],"ignoreList":[1,2],"mappings":"AAAAA,CEACC,C","debugId":"dbg"}"#;
+
+#[test]
+fn source_map_remap(rt: HostRuntime) -> Result<()> {
+    let (map, input) = (full_map(rt.alloc())?, SourceMap::from_json_string(rt.alloc(), INPUT_TEXT)?);
+    refuse_each(&rt, nothing, |alloc, ()| map.remap(alloc, &[("a.js", &input)]), |map| is_map(&rt, &map, REMAPPED));
+    Ok(())
+}
+
+#[test]
+fn owned_source_map_remap(rt: HostRuntime) -> Result<()> {
+    let (map, input) = (full_owned_map(rt.alloc())?, OwnedSourceMap::from_json_string(rt.alloc(), INPUT_TEXT)?);
+    refuse_each(&rt, nothing, |alloc, ()| map.remap(alloc, &[("a.js", &input)]), |map| is_map(&rt, &map, REMAPPED));
+    Ok(())
+}
+
 /// A plan with each kind of step: the first two maps are joined, each on a line, and composed with the last one.
 fn plan(alloc: Global) -> Result<Plan<'static>> {
     let first = Plan::Rewrite(Box::new(alloc, Plan::Read(LENT_TEXT))?);

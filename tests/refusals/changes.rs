@@ -67,6 +67,13 @@ fn contents(alloc: Global, parts: &mut SourceMapParts<'static>) -> Result<()> {
     Ok(())
 }
 
+/// The sources with the source root before them, which is gone.
+fn rooted(alloc: Global, parts: &mut SourceMapParts<'static>) -> Result<()> {
+    parts.source_root = None;
+    parts.sources = vec![in alloc; CowStr::Borrowed("root/a.js"), CowStr::Borrowed("root/b.js")]?;
+    Ok(())
+}
+
 #[test]
 fn source_map_set_file(rt: HostRuntime) {
     refuse_each_change(&rt, a_map, |alloc, map, ()| map.set_file(alloc, "new.js"), |map, is_set| has_set(&rt, map.into_parts(), is_set, file));
@@ -75,6 +82,16 @@ fn source_map_set_file(rt: HostRuntime) {
 #[test]
 fn owned_source_map_set_file(rt: HostRuntime) {
     refuse_each_change(&rt, an_owned_map, |alloc, map, ()| map.set_file(alloc, "new.js"), |map, is_set| has_set(&rt, map.into_parts(), is_set, file));
+}
+
+#[test]
+fn source_map_apply_source_root(rt: HostRuntime) {
+    refuse_each_change(&rt, a_map, |alloc, map, ()| map.apply_source_root(alloc), |map, is_set| has_set(&rt, map.into_parts(), is_set, rooted));
+}
+
+#[test]
+fn owned_source_map_apply_source_root(rt: HostRuntime) {
+    refuse_each_change(&rt, an_owned_map, |alloc, map, ()| map.apply_source_root(alloc), |map, is_set| has_set(&rt, map.into_parts(), is_set, rooted));
 }
 
 #[test]

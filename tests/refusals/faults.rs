@@ -1,10 +1,10 @@
-//! Faults that are found before any memory is taken. They are reported also wherever a request is refused.
+//! Faults that come before want of memory. They are reported also wherever a request is refused.
 use crate::helpers::same;
 use super::fixtures::{full_json, full_map, lent_map};
 use super::memory::{nothing, reports};
 use oxc_sourcemap::{
-    ConcatSourceMapBuilder, Error, JSONSourceMap, JsonFault, Result, SourceMap, SourceMapParts,
-    Token, TokenChunk,
+    ConcatSourceMapBuilder, Error, JSONSourceMap, JsonFault, OwnedSourceMap, Result, SourceMap,
+    SourceMapParts, Token, TokenChunk,
 };
 use std::alloc::Global;
 use std::process::Abort;
@@ -88,6 +88,15 @@ fn several_sources_of_compose(rt: HostRuntime) {
 #[test]
 fn line_order_of_compose(rt: HostRuntime) {
     reports(&rt, |alloc| Ok((lent_map(alloc)?, map_back(alloc)?)), |alloc, (map, input)| map.compose(alloc, input), Error::LineOrder(1));
+}
+
+#[test]
+fn input_line_order_of_remap(rt: HostRuntime) -> Result<()> {
+    let (map, back) = (full_map(rt.alloc())?, map_back(rt.alloc())?);
+    reports(&rt, nothing, |alloc, ()| map.remap(alloc, &[("a.js", &map), ("b.js", &back)]), Error::InputLineOrder(1));
+    let (map, back) = (OwnedSourceMap::new(map), OwnedSourceMap::new(back));
+    reports(&rt, nothing, |alloc, ()| map.remap(alloc, &[("a.js", &map), ("b.js", &back)]), Error::InputLineOrder(1));
+    Ok(())
 }
 
 #[test]

@@ -1,7 +1,7 @@
 //! Times the calls of `oxc_sourcemap` on the source map that standard input has as JSON text, on the composition of several,
-//! separated by lines `---`, the first nearest to the sources, or on the maps of modules, separated by lines `+++`. Prints a
-//! line of JSON for each stage: its name, the nanoseconds of the best run, and the number of tokens of the map (of the last
-//! one, for a composition; of all, for modules). Without input it prints nothing. `tools/bench/bench` runs it over files.
+//! separated by lines `---`, the first nearest to the sources, and the remapping of the last, or on the maps of modules,
+//! separated by lines `+++`. Prints a line of JSON for each stage: its name, the nanoseconds of the best run, and the number of
+//! tokens of the map (of the last one, for a composition or remapping; of all, for modules). Without input it prints nothing. `tools/bench/bench` runs it over files.
 //!
 //! Arguments STAGE RUNS run that stage alone, so many times, for who counts instructions.
 #![tactic(auto)]

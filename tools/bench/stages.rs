@@ -65,6 +65,8 @@ pub(crate) enum Stage<'s, 'd> {
     Join(&'s [(&'s SourceMap<'d>, u32)]),
     /// Composes maps, the first of which is nearest to the sources.
     Compose(&'s [SourceMap<'static>]),
+    /// Remaps a map by inputs.
+    Remap(&'s SourceMap<'d>, &'s [(&'s str, &'s SourceMap<'d>)]),
 }
 
 impl Stage<'_, '_> {
@@ -80,6 +82,7 @@ impl Stage<'_, '_> {
             Stage::Lookup(map, table, positions) => lookup(rt, map, table, positions),
             Stage::Join(copies) => join(rt, copies),
             Stage::Compose(maps) => compose(rt, maps),
+            Stage::Remap(map, inputs) => remap(rt, map, inputs),
         }
     }
 }
@@ -290,6 +293,16 @@ fn compose(rt: &HostRuntime, maps: &[SourceMap<'static>]) -> Result<Run, Fault> 
     Run::ended(rt, start, map.get_tokens().len())
 }
 
+fn remap(
+    rt: &HostRuntime,
+    map: &SourceMap<'_>,
+    inputs: &[(&str, &SourceMap<'_>)],
+) -> Result<Run, Fault> {
+    let start = Instant::now(rt)?;
+    let map = map.remap(rt.alloc(), inputs)?;
+    Run::ended(rt, start, map.get_tokens().len())
+}
+
 /// Copies of a map of so many lines, each with the line where it begins.
 fn copies_below<'m, 'd>(
     alloc: Global,
@@ -421,18 +434,47 @@ pub(crate) fn time_modules(rt: &HostRuntime, asked: &Asked, text: &str) -> Resul
     time(rt, asked, "join_each", Stage::Join(modules.as_slice()), tokens)
 }
 
-fn token_count(map: Option<&SourceMap<'_>>) -> usize {
-    match map {
-        Some(map) => map.get_tokens().len(),
-        None => 0,
+/// The sources of a map, each with the map of the same number, while there are both.
+fn inputs_of<'m>(
+    alloc: Global,
+    map: &'m SourceMap<'_>,
+    maps: &'m [SourceMap<'static>],
+) -> MapResult<Vec<(&'m str, &'m SourceMap<'static>)>> {
+    let mut inputs = Vec::new(alloc);
+    let mut maps = maps.iter();
+    for path in map.get_sources() {
+        if let Some(input) = maps.next() {
+            inputs.push((path, input))?;
+        }
     }
+    Ok(inputs)
 }
 
-/// Times the composition of several maps.
+/// Times the remapping of a map by maps for its sources, in order.
+fn time_remap(
+    rt: &HostRuntime,
+    asked: &Asked,
+    map: &SourceMap<'static>,
+    maps: &[SourceMap<'static>],
+) -> Result<(), Fault> {
+    let inputs = inputs_of(rt.alloc(), map, maps)?;
+    let stage = Stage::Remap(map, inputs.as_slice());
+    time(rt, asked, "remap", stage, map.get_tokens().len())
+}
+
+/// Times the composition of maps, and the remapping of the last one by the composition of the others; if the last one has
+/// several sources, its remapping by the others alone.
 pub(crate) fn time_pipeline(rt: &HostRuntime, asked: &Asked, text: &str) -> Result<(), Fault> {
     let texts = split(rt.alloc(), text, STEP)?;
     let maps = read_maps(rt.alloc(), texts.as_slice())?;
-    let maps = maps.as_slice();
-    let tokens = token_count(maps.last());
-    time(rt, asked, "compose", Stage::Compose(maps), tokens)
+    let Some((last, others)) = maps.as_slice().split_last() else {
+        return Ok(());
+    };
+    if last.get_sources().len() > 1 {
+        return time_remap(rt, asked, last, others);
+    }
+    let tokens = last.get_tokens().len();
+    time(rt, asked, "compose", Stage::Compose(maps.as_slice()), tokens)?;
+    let input = composed(rt.alloc(), copies_of(rt.alloc(), others)?)?;
+    time_remap(rt, asked, last, &[input])
 }

@@ -336,7 +336,7 @@ impl SourceMap {
         made(|map, fault| unsafe { raw::smap_compose(&mut first, &mut input, map, fault) }).map(SourceMap::of)
     }
 
-    /// Joins maps, each at the line and the column of the joined code where its code begins.
+    /// Joins maps, each at the line and the column of the joined code where its code begins. Their source roots are dropped.
     ///
     /// ```
     /// use oxc_sourcemap_native::SourceMap;

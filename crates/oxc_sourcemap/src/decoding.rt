@@ -37,9 +37,11 @@ pub fn decode(alloc: Global, json: JSONSourceMap) -> Result<SourceMap<'static>>
 }
 
 /// Reads the map of a JSON value. A value whose `sections` is there and is not null is an indexed map (ECMA-426, "Index source
-/// map"): the maps of its sections are joined, each at its offset, and the joined map gets the file of the value. Any other
-/// value is read by `JSONSourceMap::from_value` and `decode`. The value is cloned, and all strings of the map are owned. The map
-/// has no chunks, its ids are in range, and its tokens are in line order, so it is sound exactly if it is sorted.
+/// map"): the maps of its sections are joined, each at its offset, without their source roots, and the joined map gets the file
+/// of the value. To keep the roots, read the maps of the sections one by one, and call `apply_source_root` of each before it is
+/// joined. Any other value is read by `JSONSourceMap::from_value` and `decode`, and keeps its source root. The value is cloned,
+/// and all strings of the map are owned. The map has no chunks, its ids are in range, and its tokens are in line order, so it
+/// is sound exactly if it is sorted.
 ///
 /// ```rust
 /// use oxc_sourcemap::decode_value;

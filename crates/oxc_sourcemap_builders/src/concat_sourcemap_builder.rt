@@ -13,8 +13,9 @@ use oxc_sourcemap_tokens::{Position, Result};
 use std::alloc::Global;
 use std::marker::Model;
 
-/// Joins maps into one, each at a line and a column of the joined code. The strings of borrowed maps are borrowed for `'a`,
-/// those of owned maps are moved: adding a map copies no string.
+/// Joins maps into one, each at a line and a column of the joined code. Source roots are dropped: `apply_source_root` of a map,
+/// called before it is added, keeps its root, in its sources. The strings of borrowed maps are borrowed for `'a`, those of owned
+/// maps are moved: adding a map copies no string.
 ///
 /// ```rust
 /// use oxc_sourcemap::{ConcatSourceMapBuilder, SourceMap};
@@ -78,8 +79,8 @@ impl<'a> ConcatSourceMapBuilder<'a> {
         Ok(ConcatSourceMapBuilder { alloc, parts })
     }
 
-    /// Appends a map whose code begins at line `line_offset` (from 0) and column 0 of the joined code, as `add_sourcemap_at`
-    /// does, and fails as that does.
+    /// Appends a map, without its source root (`apply_source_root`, called before, keeps it), whose code begins at line
+    /// `line_offset` (from 0) and column 0 of the joined code, as `add_sourcemap_at` does, and fails as that does.
     pub fn add_sourcemap(&mut self, sourcemap: &'a SourceMap<'_>, line_offset: u32) -> Result<()>
         ensures joined { OnOk result (self.new
             ≡ added self.old sourcemap.now (at_line line_offset)) }
@@ -93,11 +94,12 @@ impl<'a> ConcatSourceMapBuilder<'a> {
         self.add_sourcemap_at(sourcemap, line_offset, 0)
     }
 
-    /// Appends a map whose code begins at this line and column of the joined code (docs/FORMAT.md, "Joins"). Lines and columns
-    /// count from 0; columns are in UTF-16 code units.
+    /// Appends a map, without its source root (`apply_source_root`, called before, keeps it), whose code begins at this line
+    /// and column of the joined code (docs/FORMAT.md, "Joins"). Lines and columns count from 0; columns are in UTF-16 code
+    /// units.
     ///
     /// - Its names, sources and contents are borrowed. Each source gets one content: missing ones become None, surplus ones
-    ///   are dropped. Its file, debug id and source root are dropped; the source root is not prepended to its sources.
+    ///   are dropped. Its file and debug id are dropped.
     /// - Its tokens are shifted by the line, and those on its line 0 by the column too; their ids by the numbers of names and
     ///   sources so far. The first token is left out if it is then the same, in all six fields, as the last token so far.
     /// - Records one chunk, possibly empty, whose header is the state before it.
@@ -126,8 +128,9 @@ impl<'a> ConcatSourceMapBuilder<'a> {
             .add_lent(parts_of(sourcemap), Position { line, column })
     }
 
-    /// Adds a map after the others as `add_sourcemap` does, with the same result, but moves its strings and drops the rest
-    /// of it. Fails as that does; the builder is then as it was, and the map is dropped.
+    /// Adds a map after the others as `add_sourcemap` does, with the same result, but moves its strings and drops the rest of
+    /// it, its source root as well (`apply_source_root`, called before, keeps it). Fails as that does; the builder is then as
+    /// it was, and the map is dropped.
     pub fn add_sourcemap_owned(&mut self, sourcemap: SourceMap<'a>, line_offset: u32) -> Result<()>
         ensures joined { OnOk result (self.new
             ≡ added self.old sourcemap.entry (at_line line_offset)) }
@@ -142,7 +145,8 @@ impl<'a> ConcatSourceMapBuilder<'a> {
     }
 
     /// Adds a map after the others as `add_sourcemap_at` does, with the same result, but moves its strings and drops the rest
-    /// of it. Fails as that does; the builder is then as it was, and the map is dropped.
+    /// of it, its source root as well (`apply_source_root`, called before, keeps it). Fails as that does; the builder is then
+    /// as it was, and the map is dropped.
     pub fn add_sourcemap_owned_at(
         &mut self,
         sourcemap: SourceMap<'a>,
@@ -162,8 +166,8 @@ impl<'a> ConcatSourceMapBuilder<'a> {
             .add_moved(sourcemap.into_parts(), Position { line, column })
     }
 
-    /// A builder of the join of these maps, each with its line offset, added in order as `add_sourcemap` does. Their
-    /// strings are borrowed.
+    /// A builder of the join of these maps, each with its line offset, added in order as `add_sourcemap` does. Their source
+    /// roots are dropped (`apply_source_root`, called before, keeps them); their strings are borrowed.
     ///
     /// Room is taken first for all of them (`OutOfMemory`); then the first error of an add is returned. The builder is then
     /// dropped.
@@ -187,8 +191,8 @@ impl<'a> ConcatSourceMapBuilder<'a> {
         Ok(builder)
     }
 
-    /// A builder of the join of these maps, as `from_sourcemaps` makes it, but their strings are moved. Fails as that does; the
-    /// builder and all maps are then dropped.
+    /// A builder of the join of these maps, as `from_sourcemaps` makes it, without their source roots (`apply_source_root`,
+    /// called before, keeps them), but their strings are moved. Fails as that does; the builder and all maps are then dropped.
     pub fn from_owned_sourcemaps(
         alloc: Global,
         sourcemap_and_line_offsets: Vec<(SourceMap<'a>, u32)>,

@@ -43,7 +43,8 @@ pub fn with_room<'a>(alloc: Global, lengths: Lengths, chunks: usize) -> Result<J
     )
 }
 
-/// The join of maps, each at the position where its code begins. Their strings are moved.
+/// The join of maps, each at the position where its code begins, without their source roots (`apply_source_root`, called
+/// before, keeps them). Their strings are moved.
 ///
 /// Room is taken first for all of them (`OutOfMemory`); then the first error of an add is returned. All maps are then
 /// dropped.

@@ -113,8 +113,8 @@ impl<'a> SourceMap<'a> {
         Ok(SourceMap::from_parts(decode_parts(alloc, value)?))
     }
 
-    /// Reads a map from its JSON text, as `decode_from_string` does: a map by itself, or the sections of an indexed map, joined.
-    /// All its strings are owned. Fails as `decode_from_string` does.
+    /// Reads a map from its JSON text, as `decode_from_string` does: a map by itself, or the sections of an indexed map, joined
+    /// without their source roots. All its strings are owned. Fails as `decode_from_string` does.
     ///
     /// Its ids are in range, its tokens in line order, and it has no chunks, so it is sound exactly if it is sorted. A text may
     /// list the columns of a line in any order; `is_sorted` checks that.

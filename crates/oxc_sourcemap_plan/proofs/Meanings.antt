@@ -11,9 +11,11 @@ use Rattle.oxc_sourcemap_plan.specs.declared.plan.Plan.TheOpen.{Plan-F}
 use Rattle.oxc_sourcemap_plan.specs.declared.plan.Plan.TheViews.{roll-Plan}
 use Rattle.oxc_sourcemap_plan.specs.declared.plan.Plan.TheFolds.{fold-roll-Plan, map-Plan, ind-Plan}
 use Rattle.oxc_sourcemap_plan.specs.Depth.{depth}
-use Rattle.oxc_sourcemap_plan.specs.Meaning.{Meaning, meaning_step, meaning_of, meaning, said_meaning}
+use Rattle.oxc_sourcemap_plan.specs.Meaning.{Meaning, meaning_step, meaning_of, meaning}
+use Rattle.oxc_sourcemap_plan.specs.Meaning.{said_meaning}
 use Rattle.oxc_sourcemap_plan.specs.Meaning.{root_meaning, all_decoded_maps, join_meaning}
-use Rattle.oxc_sourcemap_plan.specs.Meaning.{composition_meaning, by_path, all_inputs, remap_meaning}
+use Rattle.oxc_sourcemap_plan.specs.Meaning.{composition_meaning, by_path, all_inputs}
+use Rattle.oxc_sourcemap_plan.specs.Meaning.{remap_meaning}
 use Rattle.oxc_sourcemap_plan.specs.Outcome.{Outcome, outcome_step, outcome_of, outcome, too_deep}
 use Rattle.oxc_sourcemap_plan.specs.Outcome.{read_outcome, meanings, input_meanings}
 

@@ -17,19 +17,22 @@ use Rattle.oxc_sourcemap_laws.specs.RootedDecodedMaps.{rooted_mapping, rooted_de
 use Rattle.oxc_sourcemap_laws.specs.RootLaws.{RootingStandsFor}
 use Rattle.oxc_sourcemap_laws.specs.RemapLaws.{InputsStandFor, RemappingStandsFor, RemappingCounts}
 use Rattle.oxc_sourcemap_laws.specs.RemapLaws.{names_of_inputs, RemappingNames, AreInputsSorted}
-use Rattle.oxc_sourcemap_laws.specs.RemapLaws.{SortedInputsGoOn, RemappingAnswered, RemappingTooLarge}
+use Rattle.oxc_sourcemap_laws.specs.RemapLaws.{SortedInputsGoOn, RemappingAnswered}
+use Rattle.oxc_sourcemap_laws.specs.RemapLaws.{RemappingTooLarge}
 use Rattle.oxc_sourcemap_laws.specs.RemapLaws.{AreInputsInBounds, RemappingInBounds}
 use Rattle.oxc_sourcemap_tokens.specs.declared.plan_error.PlanError.{PlanError}
 use Rattle.oxc_sourcemap_tokens.specs.declared.plan_error.PlanError.TheVariants.{Map}
 use Rattle.oxc_sourcemap_plan.specs.Meaning.{root_meaning, onto_inputs, all_inputs, remap_meaning}
 use Rattle.oxc_sourcemap_plan.specs.Limits.{is_part_within_limits}
-use Rattle.oxc_sourcemap_plan.specs.Outcome.{Outcome, root_outcome, input_meanings, all_input_records}
+use Rattle.oxc_sourcemap_plan.specs.Outcome.{Outcome, root_outcome, input_meanings}
+use Rattle.oxc_sourcemap_plan.specs.Outcome.{all_input_records}
 use Rattle.oxc_sourcemap_plan.specs.Outcome.{input_names, are_inputs_within_limits, source_count}
 use Rattle.oxc_sourcemap_plan.specs.Outcome.{remapped_meaning, remap_outcome}
 use Rattle.oxc_sourcemap_plan.specs.Evaluated.{is_among, are_among}
 use Rattle.oxc_sourcemap_plan.specs.Realizes.{Realizes, FailsAs, InputsRealize}
 use Rattle.oxc_sourcemap_plan.proofs.KnownNames.{among-left, among-right, among-both}
-use Rattle.oxc_sourcemap_plan.proofs.Realizing.{same-sources, CountsFit, counts-fit, ok-same, err-same}
+use Rattle.oxc_sourcemap_plan.proofs.Realizing.{same-sources, CountsFit, counts-fit, ok-same}
+use Rattle.oxc_sourcemap_plan.proofs.Realizing.{err-same}
 use Rattle.oxc_sourcemap_plan.proofs.Realizing.{no-ok-err}
 
 -- ---- a source root

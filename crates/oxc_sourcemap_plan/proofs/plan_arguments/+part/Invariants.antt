@@ -2,7 +2,8 @@ use Rattle.std.proofs.Common.{◌≡◌, ◌≤◌, ◌-◌, ◌+◌, map, strin
 use Rattle.oxc_sourcemap_plan.specs.Depth.{depth, deepest}
 use Rattle.oxc_sourcemap_plan.specs.Meaning.{by_path}
 use Rattle.oxc_sourcemap_join.specs.Joined.{at_positions}
-use Rattle.oxc_sourcemap_plan.specs.PlanArguments.{parsed_beginning, parsed_placed, parsed_input_part}
+use Rattle.oxc_sourcemap_plan.specs.PlanArguments.{parsed_beginning, parsed_placed}
+use Rattle.oxc_sourcemap_plan.specs.PlanArguments.{parsed_input_part}
 use Rattle.oxc_sourcemap_plan.specs.PlanArguments.{parsed_items, parsed_part}
 use Rattle.oxc_sourcemap_plan.specs.Outcome.{outcomes, input_outcomes}
 use Rattle.oxc_sourcemap_plan.proofs.PlanArguments.{left_after}

@@ -34,7 +34,7 @@ use std::alloc::Global;
 /// Fails with `Map(e)` if the text cannot be read as a map, then with `Unsorted` if the map is not sorted, and with
 /// `Map(OutOfMemory)` for want of memory.
 pub fn read_sorted(alloc: Global, text: &str) -> std::result::Result<SourceMap<'static>, PlanError>
-    ensures meaning { IfOk result (λ map. read_meaning (read_map text.now)
+    ensures map { IfOk result (λ map. read_meaning (read_map text.now)
         ≡ Ok (decoded_map_of map)) }
     ensures sound { IfOk result IsSound }
     ensures error { IfErr result (λ e. (e ≢ Map OutOfMemory)

@@ -38,7 +38,7 @@ abbrev pub indexed_meaning : Option Text → Option Error → DecodedMap → Mea
 indexed_meaning file (Some fault) s = Err (Map fault)
 indexed_meaning file None s = if is_sorted_decoded_map s then Ok (record s { file = file }) else Err Unsorted
 
--- the meaning of a text
+-- the meaning of a text, by how it is read
 abbrev pub said_meaning : Said → Meaning
 said_meaning (plain answer) = read_meaning answer
 said_meaning (indexed file found) = indexed_meaning file found.fault (joined_decoded_maps (decoded_maps_of found.maps))

@@ -12,10 +12,12 @@ ghost use Rattle.oxc_sourcemap.specs.Words.{read_map, said_in, map_text, trace, 
 ghost use Rattle.oxc_sourcemap.specs.Words.{view_original, joined, lent_maps, IsWithinLimits};
 ghost use Rattle.oxc_sourcemap.specs.Words.{without_chunks, grouped_left, grouped_right};
 ghost use Rattle.oxc_sourcemap.specs.Words.{IsSeveralSources, read_meaning, outcome, read_outcome};
-ghost use Rattle.oxc_sourcemap.specs.Words.{composition_outcome, IsEvaluated, OnlyMemory, Text};
-ghost use Rattle.oxc_sourcemap.specs.Words.{DecodedMap, EqualUpToRepeats, decoded_maps_of};
-ghost use Rattle.oxc_sourcemap.specs.Words.{joined_decoded_maps, composed_decoded_maps};
-ghost use Rattle.oxc_sourcemap.specs.Words.{remapped_decoded_map, each_remapped, SeveralSources};
+ghost use Rattle.oxc_sourcemap.specs.Words.{composition_outcome, meaning, text_meaning};
+ghost use Rattle.oxc_sourcemap.specs.Words.{composition_meaning, IsEvaluated, HasOutcome};
+ghost use Rattle.oxc_sourcemap.specs.Words.{OnlyMemory, Text, DecodedMap, EqualUpToRepeats};
+ghost use Rattle.oxc_sourcemap.specs.Words.{decoded_maps_of, joined_decoded_maps};
+ghost use Rattle.oxc_sourcemap.specs.Words.{composed_decoded_maps, remapped_decoded_map};
+ghost use Rattle.oxc_sourcemap.specs.Words.{each_remapped, SeveralSources};
 
 use oxc_sourcemap::laws::{
     canonical_unique, composition_associative, dropping_harmless, joins_associative,
@@ -32,7 +34,7 @@ use std::alloc::Global;
 /// Fails with `Map(e)` if the text cannot be read as a map, then with `Unsorted` if the map is not sorted, and with
 /// `Map(OutOfMemory)` for want of memory.
 pub fn read_sorted(alloc: Global, text: &str) -> std::result::Result<SourceMap<'static>, PlanError>
-    ensures meaning { IfOk result (λ map. read_meaning (read_map text.now)
+    ensures map { IfOk result (λ map. read_meaning (read_map text.now)
         ≡ Ok (decoded_map_of map)) }
     ensures sound { IfOk result IsSound }
     ensures error { IfErr result (λ e. (e ≢ Map OutOfMemory)
@@ -283,6 +285,8 @@ pub fn minified_map(
     compiled: &str,
 ) -> std::result::Result<OwnedSourceMap, PlanError>
     ensures map { IfOk result (λ map. IsEvaluated map
+        (composition_meaning (text_meaning minified.now) (text_meaning compiled.now))) }
+    ensures outcome { IfOk result (λ map. HasOutcome map
         (composition_outcome (read_outcome (said_in minified.now))
         (read_outcome (said_in compiled.now)))) }
 {
@@ -293,8 +297,8 @@ pub fn minified_map(
 
 /// Evaluates a plan, and writes the JSON text of its map, which has all that `evaluate` promises.
 pub fn evaluated_text(alloc: Global, plan: &Plan<'_>) -> std::result::Result<String, PlanError>
-    ensures { IfOk result (λ text. (map : MapRecord) × IsEvaluated map (outcome plan.now)
-        × (map_text map ≡ Ok (string_bytes text))) }
+    ensures { IfOk result (λ text. (map : MapRecord) × IsEvaluated map (meaning plan.now)
+        × HasOutcome map (outcome plan.now) × (map_text map ≡ Ok (string_bytes text))) }
 {
     let map = evaluate(alloc, plan)?;
     Ok(map.to_json_string(alloc)?)

@@ -40,8 +40,10 @@ pub use Rattle.oxc_sourcemap_parts.specs.Texts.{index_of}
 pub use Rattle.oxc_sourcemap_parts.specs.Views.{record_of_parts, empty_record, text_of, texts_of}
 pub use Rattle.oxc_sourcemap_parts.specs.Views.{contents_of, chunks_of}
 pub use Rattle.oxc_sourcemap_plan.specs.Depth.{depth}
-pub use Rattle.oxc_sourcemap_plan.specs.Evaluated.{IsEvaluated, IsErrorOf}
-pub use Rattle.oxc_sourcemap_plan.specs.Meaning.{read_meaning}
+pub use Rattle.oxc_sourcemap_plan.specs.Evaluated.{IsEvaluated, HasOutcome, IsErrorOf}
+pub use Rattle.oxc_sourcemap_plan.specs.Meaning.{meaning, read_meaning, text_meaning, by_path}
+pub use Rattle.oxc_sourcemap_plan.specs.Meaning.{join_meaning, composition_meaning, remap_meaning}
+pub use Rattle.oxc_sourcemap_plan.specs.Meaning.{root_meaning}
 pub use Rattle.oxc_sourcemap_plan.specs.Numbers.{number_of}
 pub use Rattle.oxc_sourcemap_plan.specs.Outcome.{outcome, read_outcome, composition_outcome}
 pub use Rattle.oxc_sourcemap_plan.specs.Outcome.{Outcome, rewrite_outcome, join_outcome, outcome_of}

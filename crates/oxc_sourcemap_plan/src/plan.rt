@@ -5,12 +5,11 @@ ghost use Rattle.oxc_sourcemap_plan.specs.Words.{rewrite_outcome, root_outcome, 
 ghost use Rattle.oxc_sourcemap_plan.specs.Words.{composition_outcome, remap_outcome, by_path};
 ghost use Rattle.oxc_sourcemap_plan.specs.Words.{outcome_of, outcomes, input_outcomes, outcome};
 ghost use Rattle.oxc_sourcemap_plan.specs.Words.{at_lines, at_positions, meaning};
-ghost use Rattle.oxc_sourcemap_plan.specs.Words.{is_within_limits, InputsRealize, owned_input_records};
-ghost use Rattle.oxc_sourcemap_plan.specs.Words.{IsEvaluated, HasOutcome, IsErrorOf};
-ghost use Rattle.oxc_sourcemap_plan.specs.Words.{PartsRealize};
-ghost use Rattle.oxc_sourcemap_plan.specs.Words.{FailsAs, AllRealize, OutOfMemory, said_in};
-ghost use Rattle.oxc_sourcemap_plan.specs.Words.{are_tokens_sorted, Map, Unsorted};
-ghost use Rattle.oxc_sourcemap_plan.specs.Words.{record_of_parts, owned_records};
+ghost use Rattle.oxc_sourcemap_plan.specs.Words.{is_within_limits, InputsRealize};
+ghost use Rattle.oxc_sourcemap_plan.specs.Words.{owned_input_records, IsEvaluated, HasOutcome};
+ghost use Rattle.oxc_sourcemap_plan.specs.Words.{IsErrorOf, PartsRealize, FailsAs, AllRealize};
+ghost use Rattle.oxc_sourcemap_plan.specs.Words.{OutOfMemory, said_in, are_tokens_sorted, Map};
+ghost use Rattle.oxc_sourcemap_plan.specs.Words.{Unsorted, record_of_parts, owned_records};
 
 use oxc_sourcemap_decode::{decode_parts, decode_parts_from_string};
 use oxc_sourcemap_encode::encode_owned_parts;

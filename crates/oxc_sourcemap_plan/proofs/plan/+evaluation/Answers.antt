@@ -109,7 +109,7 @@ evaluate_part-returns-in-Remap-clause-error t c =
     IfErr-weaker c.evaluate_remapping.result _ _ (λ e g. subst (FailsAs e) (sym o) g) c.evaluate_remapping.ensures.error
 
 pub evaluate_root-returns-clause-map : goal.evaluate_root-returns-clause-map
-evaluate_root-returns-clause-map t c = IfOk-weaker c.apply_root.result _ _ (λ m realizes. realizes (outcome_of c.args.part.now) c.in_ok-map.ensures.map) c.apply_root.ensures.map
+evaluate_root-returns-clause-map t c = IfOk-weaker c.put_root.result _ _ (λ m realizes. realizes (outcome_of c.args.part.now) c.in_ok-map.ensures.map) c.put_root.ensures.map
 
 pub evaluate_remapping-evaluate_part-requires-in-loop-path : goal.evaluate_remapping-evaluate_part-requires-in-loop-path
 evaluate_remapping-evaluate_part-requires-in-loop-path t c =

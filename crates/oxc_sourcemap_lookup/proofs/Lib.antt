@@ -1,6 +1,7 @@
 pub mod InheritedNames
 pub mod KeptNames
 pub mod Targets
+pub mod Replaced
 pub mod Compositions
 mod WorkedCompositions
 pub mod Lookups

@@ -12,4 +12,5 @@ pub mod LineEnds
 pub mod Halving
 pub mod OwnTables
 pub mod Picks
+pub mod Neighbours
 mod Worked

@@ -14,7 +14,7 @@ ghost use Rattle.oxc_sourcemap_lookup.specs.Words.{IsInheriting, FailsBy, Report
 
 use crate::inherited_names::{InheritedNames, inherit_id, no_names, owned_names};
 use crate::line_index::LineIndex;
-use crate::lookup::search_clamped;
+use crate::near::{Near, lookup_near};
 use oxc_sourcemap_parts::{SourceMapParts, into_owned_text};
 use oxc_sourcemap_tokens::{Error, Result, Token};
 use std::alloc::Global;
@@ -66,14 +66,18 @@ fn composed_token<'n>(
 }
 
 /// The mapped token that a token leads to, by the clamped lookup of its source position among the tokens of the second map.
-/// `near` is that of `LineIndex::tokens_near`.
-fn target(index: &LineIndex, input: &[Token], token: &Token, near: &mut usize) -> Option<Token>
+fn target(index: &LineIndex, input: &[Token], token: &Token, near: &mut Near) -> Option<Token>
     requires { IsIndexOf input.now index.now }
     ensures { IsTarget (line_of input.now token.now) (target_of token.now result) }
 {
     token.get_source_id()?;
-    let line = index.tokens_near(input, token.get_src_line(), near);
-    let found = search_clamped(line, token.get_src_col())?;
+    let found = lookup_near(
+        index,
+        input,
+        token.get_src_line(),
+        token.get_src_col(),
+        near,
+    )?;
     found.get_source_id()?;
     Some(found)
 }
@@ -100,7 +104,7 @@ fn compose_tokens<'a>(
         × (are_ids olds (composed_names olds names ls) ls ≡ false)) }
 {
     let mut inherited = no_names(alloc, first, second)?;
-    let mut near = 0;
+    let mut near = Near::start();
     for token in tokens.iter_mut() {
         let found = target(index, input, token, &mut near);
         *token = composed_token(&mut inherited, first, second, token, found)?;

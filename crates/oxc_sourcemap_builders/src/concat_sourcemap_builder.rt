@@ -5,7 +5,7 @@ ghost use Rattle.oxc_sourcemap_builders.specs.Words.{at_lines, added, nothing_jo
 ghost use Rattle.oxc_sourcemap_builders.specs.Words.{lent_maps, IsWithinLimits, position};
 ghost use Rattle.oxc_sourcemap_builders.specs.Words.{OnlyMemory};
 
-use oxc_sourcemap_join::{JoinedParts, Lengths};
+use oxc_sourcemap_join::{JoinedParts, Lengths, with_lengths, with_room};
 use oxc_sourcemap_map::{OwnedSourceMap, SourceMap, parts_of};
 use oxc_sourcemap_tokens::{Position, Result};
 use std::alloc::Global;

@@ -19,6 +19,22 @@ const RIGHT: &str = r#"{"version":3,"sources":["b.js"],"mappings":"AAAA;AACA"}"#
 
 const UNSORTED: &str = r#"{"version":3,"sources":[],"mappings":"G,D"}"#;
 
+/// A bundle of two modules, and a map of each: the second one has two sources, of which it ignores one.
+const BUNDLE: &str = r#"{"version":3,"names":["x","y"],"sources":["a.js","b.js"],"mappings":"AAAAA,IAAIC;ACCA,KAAK"}"#;
+const OF_A: &str = r#"{"version":3,"names":["add"],"sources":["a.ts"],"sourcesContent":["let a"],"mappings":"AACEA,IAAE"}"#;
+const OF_B: &str = r#"{"version":3,"sources":["b.ts","c.ts"],"ignoreList":[1],"mappings":";ACGC,K"}"#;
+/// The bundle, led back through both maps.
+const ORIGINALS: &str = r#"{"version":3,"names":["add","y"],"sources":["a.ts","b.ts","c.ts"],"sourcesContent":["let a",null,null],"ignoreList":[2],"mappings":"AACEA,IAAEC;AEEH,K"}"#;
+/// A map of the source of `OF_A`, and the bundle, led back through both of these.
+const OF_A_TS: &str = r#"{"version":3,"sources":["a.coffee"],"mappings":";AAIA"}"#;
+const COFFEE: &str = r#"{"version":3,"names":["add","y"],"sources":["a.coffee","b.js"],"mappings":"AAIAA,IAAAC;ACHI,KAAK"}"#;
+
+/// Maps with source roots, whose sources are relative, absolute, or URLs.
+const ROOTED: &str = r#"{"version":3,"sourceRoot":"pkg/a/src","sources":["index.ts","/abs.ts","http://x/y.ts"],"mappings":"AAAA,CCAA,CCAA"}"#;
+const ROOTED_TOO: &str = r#"{"version":3,"sourceRoot":"pkg/b/src/","sources":["index.ts"],"mappings":"AAAA"}"#;
+/// A map whose source has the path `lib/a.js`.
+const ROOTED_JS: &str = r#"{"version":3,"sourceRoot":"lib","sources":["a.js"],"mappings":"AAAA"}"#;
+
 /// The words of a plan, its texts, and the JSON text or the error that is answered.
 type PlanRow = (
     &'static str,
@@ -46,6 +62,44 @@ const MADE: &[PlanRow] = &[
     ("join 0", &[], Ok(r#"{"version":3,"names":[],"sources":[],"mappings":""}"#)),
 ];
 
+/// Plans that remap maps and apply source roots.
+#[rattlefmt::skip]
+const REMADE: &[PlanRow] = &[
+    ("remap @0 2 a.js @1 b.js @2", &[BUNDLE, OF_A, OF_B], Ok(ORIGINALS)),
+    ("remap @0 2 b.js @2 a.js @1", &[BUNDLE, OF_A, OF_B], Ok(ORIGINALS)),
+    ("remap @0 0", &[BUNDLE], Ok(BUNDLE)),
+    ("remap @0 1 c.js @1", &[BUNDLE, OF_A], Ok(BUNDLE)),
+    // Of inputs for one path the first counts.
+    ("remap @0 3 a.js @1 b.js @2 a.js @2", &[BUNDLE, OF_A, OF_B], Ok(ORIGINALS)),
+    // Paths are taken as they are, also if they are words of plans.
+    ("remap @0 2 rewrite @1 @1 @2",
+     &[r#"{"version":3,"sources":["rewrite","@1"],"mappings":"AAAA;ACAA"}"#, OF_A, OF_B],
+     Ok(r#"{"version":3,"names":["add"],"sources":["a.ts","b.ts","c.ts"],"sourcesContent":["let a",null,null],"ignoreList":[2],"mappings":"AACEA;A"}"#)),
+    ("remap remap @0 1 a.js @1 1 a.ts @2", &[BUNDLE, OF_A, OF_A_TS], Ok(COFFEE)),
+    ("remap @0 1 a.js remap @1 1 a.ts @2", &[BUNDLE, OF_A, OF_A_TS], Ok(COFFEE)),
+    ("remap join 2 @0 0 @0 3 1 a.js @1",
+     &[BUNDLE, OF_A],
+     Ok(r#"{"version":3,"names":["add","y"],"sources":["a.ts","b.js","a.ts","b.js"],"sourcesContent":["let a",null,"let a",null],"mappings":"AACEA,IAAEC;ACAA,KAAK;;ACAPD,IAAEC;ACAA,KAAK"}"#)),
+    ("root @0",
+     &[ROOTED],
+     Ok(r#"{"version":3,"names":[],"sources":["pkg/a/src/index.ts","/abs.ts","http://x/y.ts"],"mappings":"AAAA,CCAA,CCAA"}"#)),
+    ("root @0", &[A], Ok(r#"{"version":3,"names":[],"sources":["a.js"],"mappings":"AAKG,I"}"#)),
+    // A join drops source roots that are not applied.
+    ("join 2 root @0 0 root @1 1",
+     &[ROOTED, ROOTED_TOO],
+     Ok(r#"{"version":3,"names":[],"sources":["pkg/a/src/index.ts","/abs.ts","http://x/y.ts","pkg/b/src/index.ts"],"mappings":"AAAA,CCAA,CCAA;ACAA"}"#)),
+    ("join 2 @0 0 @1 1",
+     &[ROOTED, ROOTED_TOO],
+     Ok(r#"{"version":3,"names":[],"sources":["index.ts","/abs.ts","http://x/y.ts","index.ts"],"mappings":"AAAA,CCAA,CCAA;ACAA"}"#)),
+    // Inputs are for the paths as they stand.
+    ("remap root @0 1 lib/a.js @1",
+     &[ROOTED_JS, OF_A],
+     Ok(r#"{"version":3,"names":["add"],"sources":["a.ts"],"sourcesContent":["let a"],"mappings":"AACEA"}"#)),
+    ("remap @0 1 lib/a.js @1",
+     &[ROOTED_JS, OF_A],
+     Ok(r#"{"version":3,"names":[],"sources":["a.js"],"mappings":"AAAA"}"#)),
+];
+
 /// Plans whose maps have an error.
 #[rattlefmt::skip]
 const FAULTY: &[PlanRow] = &[
@@ -55,6 +109,16 @@ const FAULTY: &[PlanRow] = &[
      Err(RunError::Plan(PlanError::Map(Error::TooLarge)))),
     ("@0", &[UNSORTED], Err(RunError::Plan(PlanError::Unsorted))),
     ("join 2 @0 1 @1 0", &[A, B], Err(RunError::Plan(PlanError::Unsorted))),
+    // The first part of a remapping comes before its inputs, and these in order, also one that is for no source.
+    ("remap @0 1 a.js @1", &[UNSORTED, "{"], Err(RunError::Plan(PlanError::Unsorted))),
+    ("remap @0 2 a.js @1 b.js @2", &[BUNDLE, UNSORTED, "{"], Err(RunError::Plan(PlanError::Unsorted))),
+    ("remap @0 2 a.js @2 b.js @1",
+     &[BUNDLE, UNSORTED, "{"],
+     Err(RunError::Plan(PlanError::Map(Error::BadJson(JsonFault::Reading))))),
+    ("remap @0 1 c.js @1",
+     &[BUNDLE, "{"],
+     Err(RunError::Plan(PlanError::Map(Error::BadJson(JsonFault::Reading))))),
+    ("root @0", &[UNSORTED], Err(RunError::Plan(PlanError::Unsorted))),
     ("compose @0 @0",
      &[r#"{"version":3,"sources":["a","b"],"mappings":""}"#],
      Err(RunError::Plan(PlanError::Map(Error::SeveralSources(2))))),
@@ -78,10 +142,18 @@ const MISREAD: &[PlanRow] = &[
     ("@0 @0", &["{}"], Err(RunError::Arguments)),
     ("@", &["{}"], Err(RunError::Arguments)),
     ("", &["{}"], Err(RunError::Arguments)),
+    ("root", &["{}"], Err(RunError::Arguments)),
+    ("remap @0", &["{}"], Err(RunError::Arguments)),
+    ("remap @0 1", &["{}"], Err(RunError::Arguments)),
+    ("remap @0 1 a.js", &["{}"], Err(RunError::Arguments)),
+    ("remap @0 a.js @0", &["{}"], Err(RunError::Arguments)),
+    ("remap @0 1 @0 a.js", &["{}"], Err(RunError::Arguments)),
+    ("remap @0 1 a.js @1 @0", &["{}"], Err(RunError::NoText(1))),
+    ("remap @0 1 a.js @0 b.js @0", &["{}"], Err(RunError::Arguments)),
 ];
 
-fn plans() -> [&'static [PlanRow]; 3] {
-    [MADE, FAULTY, MISREAD]
+fn plans() -> [&'static [PlanRow]; 4] {
+    [MADE, REMADE, FAULTY, MISREAD]
 }
 
 /// The input of these texts.
@@ -162,11 +234,19 @@ fn plans_are_run(rt: HostRuntime) -> Result<(), AllocError> {
     Ok(())
 }
 
-/// The words of a plan of so many rewrites of a text that is not there.
-fn rewrites(alloc: Global, count: u32) -> Result<Vec<&'static str>, AllocError> {
+/// The words of a plan that begins so, with so many steps of one part before a text that is not there.
+fn steps(
+    alloc: Global,
+    first: &[&'static str],
+    step: &'static str,
+    count: u32,
+) -> Result<Vec<&'static str>, AllocError> {
     let mut words = vec![in alloc; "plan"]?;
+    for word in first {
+        words.push(*word)?;
+    }
     for _ in 0..count {
-        words.push("rewrite")?;
+        words.push(step)?;
     }
     words.push("@9")?;
     Ok(words)
@@ -174,12 +254,43 @@ fn rewrites(alloc: Global, count: u32) -> Result<Vec<&'static str>, AllocError> 
 
 #[test]
 fn a_plan_is_at_most_64_deep(rt: HostRuntime) -> Result<(), AllocError> {
-    for (count, error) in [
-        (63, RunError::NoText(9)),
-        (64, RunError::Plan(PlanError::TooDeep)),
+    let deep = RunError::Plan(PlanError::TooDeep);
+    for (first, step, count, error) in [
+        ([].as_slice(), "rewrite", 63, RunError::NoText(9)),
+        (&[], "rewrite", 64, deep),
+        (&[], "root", 63, RunError::NoText(9)),
+        (&[], "root", 64, deep),
+        (&["remap"], "rewrite", 62, RunError::NoText(9)),
+        (&["remap"], "rewrite", 63, deep),
+        (&["remap", "@0", "1", "a.js"], "root", 62, RunError::NoText(9)),
+        (&["remap", "@0", "1", "a.js"], "root", 63, deep),
     ] {
-        let words = rewrites(rt.alloc(), count)?;
+        let words = steps(rt.alloc(), first, step, count)?;
         answers(&rt, rt.alloc(), words.as_slice(), b"{}", Err(error));
+    }
+    Ok(())
+}
+
+/// A remapping by one input: so many times a source root is applied to the first part, and to the input.
+fn deep_remap(alloc: Global, first: u32, input: u32) -> Result<Plan<'static>, AllocError> {
+    let mut map = Plan::Read(A);
+    for _ in 0..first {
+        map = Plan::ApplyRoot(Box::new(alloc, map)?);
+    }
+    let mut deep = Plan::Read(B);
+    for _ in 0..input {
+        deep = Plan::ApplyRoot(Box::new(alloc, deep)?);
+    }
+    Ok(Plan::Remap(Box::new(alloc, map)?, vec![in alloc; ("a.js", deep)]?))
+}
+
+#[test]
+fn a_remapping_is_as_deep_as_its_deepest_part(rt: HostRuntime) -> Result<(), PlanError> {
+    let alloc = rt.alloc();
+    for (first, input, is_deep) in [(62, 62, false), (63, 0, true), (0, 63, true)] {
+        let made = evaluate(alloc, &deep_remap(alloc, first, input)?);
+        let error = made.err();
+        same(&rt, "deep", error, if is_deep { Some(PlanError::TooDeep) } else { None });
     }
     Ok(())
 }

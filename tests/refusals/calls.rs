@@ -209,7 +209,7 @@ fn owned_source_map_remap(rt: HostRuntime) -> Result<()> {
     Ok(())
 }
 
-/// A plan with each kind of step: the first two maps are joined, each on a line, and composed with the last one.
+/// A plan of most kinds of steps: the first two maps are joined, each on a line, and composed with the last one.
 fn plan(alloc: Global) -> Result<Plan<'static>> {
     let first = Plan::Rewrite(Box::new(alloc, Plan::Read(LENT_TEXT))?);
     let empty = Plan::JoinAt(Vec::new(alloc));
@@ -224,6 +224,20 @@ const EVALUATED: &str =
 #[test]
 fn evaluate(rt: HostRuntime) {
     refuse_each(&rt, plan, |alloc, plan| oxc_sourcemap::evaluate(alloc, &plan), |map| is_map(&rt, &map, EVALUATED));
+}
+
+/// A plan that leads a map back through a map of its source, whose source root is applied.
+fn plan_to_originals(alloc: Global) -> Result<Plan<'static>> {
+    let input = Plan::ApplyRoot(Box::new(alloc, Plan::Read(INPUT_TEXT))?);
+    Ok(Plan::Remap(Box::new(alloc, Plan::Read(LENT_TEXT))?, vec![in alloc; ("a.js", input)]?))
+}
+
+const ORIGINALS: &str =
+    r#"{"version":3,"file":"f.js","names":["n"],"sources":["root/a.js","root/b.js"],"sourcesContent":["A",null],"ignoreList":[1],"mappings":"AAAAA"}"#;
+
+#[test]
+fn evaluate_of_a_remapping(rt: HostRuntime) {
+    refuse_each(&rt, plan_to_originals, |alloc, plan| oxc_sourcemap::evaluate(alloc, &plan), |map| is_map(&rt, &map, ORIGINALS));
 }
 
 /// A plan that joins a map with itself, at columns.

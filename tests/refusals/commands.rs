@@ -14,11 +14,17 @@ const INPUT: &str = r#"{"version":3,"names":["x"],"sources":["a.js"],"mappings":
 const URL: &str =
     "data:application/json;charset=utf-8;base64,eyJ2ZXJzaW9uIjozLCJuYW1lcyI6WyJ4Il0sInNvdXJjZXMiOlsiYS5qcyJdLCJtYXBwaW5ncyI6IkFBQUEsR0FBSUEifQ==";
 
+/// A map of its source, and both as the input of a plan.
+const OF_SOURCE: &str = r#"{"version":3,"sourceRoot":"src","names":["y"],"sources":["a.ts","b.ts"],"sourcesContent":["let a",null],"ignoreList":[1],"mappings":"AAAA,IACIA"}"#;
+const INPUTS: &str = r#"{"version":3,"names":["x"],"sources":["a.js"],"mappings":"AAAA,GAAIA"}
+---
+{"version":3,"sourceRoot":"src","names":["y"],"sources":["a.ts","b.ts"],"sourcesContent":["let a",null],"ignoreList":[1],"mappings":"AAAA,IACIA"}"#;
+
 /// The words of a plan with each kind of part, and the text of its map.
 const PLAN: &[&str] = &[
-    "join", "2", "compose", "@0", "rewrite", "@0", "0", "joinat", "2", "@0", "0", "2", "@0", "0", "9", "1",
+    "join", "3", "compose", "@0", "rewrite", "@0", "0", "joinat", "2", "@0", "0", "2", "@0", "0", "9", "1", "remap", "@0", "1", "a.js", "root", "@1", "2",
 ];
-const PLANNED: &str = r#"{"version":3,"names":["x","x","x"],"sources":["a.js","a.js","a.js"],"mappings":"AAAA,GAAIA;ECAJ,GAAIC,ICAJ,GAAIC"}"#;
+const PLANNED: &str = r#"{"version":3,"names":["x","x","x","y"],"sources":["a.js","a.js","a.js","src/a.ts","src/b.ts"],"sourcesContent":[null,null,null,"let a",null],"ignoreList":[4],"mappings":"AAAA,GAAIA;ECAJ,GAAIC,ICAJ,GAAIC;ACAJ,GACIC"}"#;
 
 /// A reader and a writer.
 type Ports = (Port<&'static [u8]>, Port<Vec<u8>>);
@@ -66,7 +72,7 @@ fn run_trace(rt: HostRuntime) {
 #[test]
 fn run_plan(rt: HostRuntime) -> Result<()> {
     let words = strings(rt.alloc(), PLAN)?;
-    writes(&rt, &Command::Plan(words.as_slice()), INPUT, PLANNED);
+    writes(&rt, &Command::Plan(words.as_slice()), INPUTS, PLANNED);
     Ok(())
 }
 
@@ -83,7 +89,7 @@ fn is_planned(rt: &(impl Abort + AllocGlobal), plan: &Plan<'_>) {
 #[test]
 fn read_plan(rt: HostRuntime) -> Result<()> {
     let words = strings(rt.alloc(), PLAN)?;
-    refuse_each(&rt, nothing, |alloc, ()| smap_run::read_plan(alloc, &[INPUT], words.as_slice()), |plan| is_planned(&rt, &plan));
+    refuse_each(&rt, nothing, |alloc, ()| smap_run::read_plan(alloc, &[INPUT, OF_SOURCE], words.as_slice()), |plan| is_planned(&rt, &plan));
     Ok(())
 }
 

@@ -42,7 +42,7 @@ both-true true q e = (refl, e)
 both-true false q e = cc
 
 -- sorted tokens are in line order
-sorted-order : (ts : List TokenRecord) → are_tokens_sorted ts ≡ true → first_out_of_order ts ≡ None
+pub sorted-order : (ts : List TokenRecord) → are_tokens_sorted ts ≡ true → first_out_of_order ts ≡ None
 sorted-order [] s = refl
 sorted-order (t ∷ []) s = refl
 sorted-order (t ∷ u ∷ ts) s =

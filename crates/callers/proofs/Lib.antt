@@ -4,3 +4,4 @@ pub mod Building
 pub mod Naming
 pub mod Joining
 pub mod Composing
+pub mod Bundling

@@ -2,19 +2,26 @@
 //! docs/CALLING.md shows them.
 #![tactic(auto)]
 
-ghost use Rattle.std.specs.Prelude.{◌≡◌, ◌≢◌, ◌≤◌, ◌+◌, ◌⊎◌, ◌↔◌, ◌∷◌, [], ℕ, length, take};
+ghost use Rattle.std.specs.Prelude.{◌≡◌, ◌≢◌, ◌≤◌, ◌+◌, ◌⊎◌, ◌↔◌, ◌∷◌, [], ℕ, List, length, take};
 ghost use Rattle.std.specs.Prelude.{option_map, string_bytes, false, IfOk, IfErr, OnOk, OnErr, Ok};
 ghost use Rattle.std.specs.Prelude.{Err, Some, None};
+ghost use Rattle.std.specs.List.{AllByRecursion};
 ghost use Rattle.oxc_sourcemap.specs.Words.{OutOfMemory, TooLarge, Map, Unsorted, as_written};
 ghost use Rattle.oxc_sourcemap.specs.Words.{are_tokens_sorted, IsSound, decoded_map_of, MapRecord};
 ghost use Rattle.oxc_sourcemap.specs.Words.{read_map, said_in, map_text, trace, view_of};
 ghost use Rattle.oxc_sourcemap.specs.Words.{view_original, joined, lent_maps, IsWithinLimits};
 ghost use Rattle.oxc_sourcemap.specs.Words.{without_chunks, grouped_left, grouped_right};
 ghost use Rattle.oxc_sourcemap.specs.Words.{IsSeveralSources, read_meaning, outcome, read_outcome};
-ghost use Rattle.oxc_sourcemap.specs.Words.{composition_outcome, IsEvaluated, OnlyMemory};
+ghost use Rattle.oxc_sourcemap.specs.Words.{composition_outcome, meaning, text_meaning};
+ghost use Rattle.oxc_sourcemap.specs.Words.{composition_meaning, IsEvaluated, HasOutcome};
+ghost use Rattle.oxc_sourcemap.specs.Words.{OnlyMemory, Text, DecodedMap, EqualUpToRepeats};
+ghost use Rattle.oxc_sourcemap.specs.Words.{decoded_maps_of, joined_decoded_maps};
+ghost use Rattle.oxc_sourcemap.specs.Words.{composed_decoded_maps, remapped_decoded_map};
+ghost use Rattle.oxc_sourcemap.specs.Words.{each_remapped, SeveralSources};
 
 use oxc_sourcemap::laws::{
-    canonical_unique, composition_associative, joins_associative, name_ids_unique, tokens_in_bounds,
+    canonical_unique, composition_associative, dropping_harmless, joins_associative,
+    name_ids_unique, remapping_associative, tokens_in_bounds,
 };
 use oxc_sourcemap::{
     ConcatSourceMapBuilder, OwnedSourceMap, Plan, PlanError, Result, SourceMap, SourceMapBuilder,
@@ -27,7 +34,7 @@ use std::alloc::Global;
 /// Fails with `Map(e)` if the text cannot be read as a map, then with `Unsorted` if the map is not sorted, and with
 /// `Map(OutOfMemory)` for want of memory.
 pub fn read_sorted(alloc: Global, text: &str) -> std::result::Result<SourceMap<'static>, PlanError>
-    ensures meaning { IfOk result (λ map. read_meaning (read_map text.now)
+    ensures map { IfOk result (λ map. read_meaning (read_map text.now)
         ≡ Ok (decoded_map_of map)) }
     ensures sound { IfOk result IsSound }
     ensures error { IfErr result (λ e. (e ≢ Map OutOfMemory)
@@ -234,6 +241,42 @@ pub fn compose_both_ways<'c>(
     Ok((left, right))
 }
 
+/// The map of a minified bundle: the maps of its modules, each at the line of the bundle where it begins, are joined, and the
+/// minifier's map is composed with the join.
+///
+/// The modules were compiled, and their maps lead to compiled files. Those may be remapped to the originals before they are
+/// joined, or the map that is returned, at the end: whatever the inputs are, both give the same decoded map, up to repeats.
+///
+/// Fails with `Map(TooLarge)` if a join of modules is past a limit, with `Unsorted` if it is not sorted, with
+/// `Map(SeveralSources(n))` if the minifier's map has several sources, and else only with `Map(OutOfMemory)` or, if the two have
+/// too many names, `Map(TooLarge)`.
+pub fn minified_bundle<'a>(
+    alloc: Global,
+    minified: &SourceMap<'_>,
+    modules: &[(&'a SourceMap<'_>, u32)],
+) -> std::result::Result<SourceMap<'a>, PlanError>
+    ensures remapped { IfOk result (λ map. IsSound minified.now
+        → AllByRecursion (λ m. IsSound m.0) (lent_maps modules.now)
+        → (inputs : List (Text × DecodedMap))
+        → EqualUpToRepeats (remapped_decoded_map (decoded_map_of map) inputs)
+        (composed_decoded_maps (decoded_map_of minified.now) (joined_decoded_maps
+        (each_remapped inputs (decoded_maps_of (lent_maps modules.now)))))) }
+    ensures error { IfErr result (λ e. (e ≢ Map OutOfMemory) → (e ≡ Map TooLarge)
+        ⊎ ((e ≡ Unsorted) × (are_tokens_sorted (joined (lent_maps modules.now)).tokens ≡ false))
+        ⊎ (e ≡ Map (SeveralSources (length minified.now.sources)))) }
+{
+    composition_associative();
+    dropping_harmless();
+    remapping_associative();
+    let bundle = join_one_by_one(alloc, modules)?;
+    if !bundle.is_sorted() {
+        return Err(PlanError::Unsorted);
+    }
+    let copy = minified.clone(alloc)?;
+    let map = copy.compose(alloc, bundle)?;
+    Ok(map)
+}
+
 /// The map of code that was compiled and then minified, from the JSON texts of the two maps: a plan that composes them.
 /// It has all that `evaluate` promises of that plan.
 pub fn minified_map(
@@ -242,6 +285,8 @@ pub fn minified_map(
     compiled: &str,
 ) -> std::result::Result<OwnedSourceMap, PlanError>
     ensures map { IfOk result (λ map. IsEvaluated map
+        (composition_meaning (text_meaning minified.now) (text_meaning compiled.now))) }
+    ensures outcome { IfOk result (λ map. HasOutcome map
         (composition_outcome (read_outcome (said_in minified.now))
         (read_outcome (said_in compiled.now)))) }
 {
@@ -252,8 +297,8 @@ pub fn minified_map(
 
 /// Evaluates a plan, and writes the JSON text of its map, which has all that `evaluate` promises.
 pub fn evaluated_text(alloc: Global, plan: &Plan<'_>) -> std::result::Result<String, PlanError>
-    ensures { IfOk result (λ text. (map : MapRecord) × IsEvaluated map (outcome plan.now)
-        × (map_text map ≡ Ok (string_bytes text))) }
+    ensures { IfOk result (λ text. (map : MapRecord) × IsEvaluated map (meaning plan.now)
+        × HasOutcome map (outcome plan.now) × (map_text map ≡ Ok (string_bytes text))) }
 {
     let map = evaluate(alloc, plan)?;
     Ok(map.to_json_string(alloc)?)

@@ -61,6 +61,10 @@ pub use Rattle.oxc_sourcemap_laws.specs.JoinLaws
 pub use Rattle.oxc_sourcemap_laws.specs.SectionLaws
 pub use Rattle.oxc_sourcemap_laws.specs.ComposedDecodedMaps
 pub use Rattle.oxc_sourcemap_laws.specs.ComposeLaws
+pub use Rattle.oxc_sourcemap_laws.specs.RemappedDecodedMaps
+pub use Rattle.oxc_sourcemap_laws.specs.RemapLaws
+pub use Rattle.oxc_sourcemap_laws.specs.RootedDecodedMaps
+pub use Rattle.oxc_sourcemap_laws.specs.RootLaws
 pub use Rattle.oxc_sourcemap_laws.specs.TraceLaws
 pub use Rattle.oxc_sourcemap_tokens.specs.PlanMessages
 pub use Rattle.oxc_sourcemap_plan.specs.Depth

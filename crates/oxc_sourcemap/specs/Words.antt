@@ -12,7 +12,12 @@ pub use Rattle.oxc_sourcemap_join.specs.Joined.{at_lines, added, nothing_joined,
 pub use Rattle.oxc_sourcemap_join.specs.Joined.{at_positions}
 pub use Rattle.oxc_sourcemap_json.specs.Json.{json_record}
 pub use Rattle.oxc_sourcemap_laws.specs.ComposeLaws.{grouped_left, grouped_right, IsSeveralSources}
-pub use Rattle.oxc_sourcemap_laws.specs.JoinLaws.{without_chunks}
+pub use Rattle.oxc_sourcemap_laws.specs.ComposedDecodedMaps.{composed_decoded_maps}
+pub use Rattle.oxc_sourcemap_laws.specs.JoinLaws.{without_chunks, decoded_maps_of}
+pub use Rattle.oxc_sourcemap_laws.specs.JoinedDecodedMaps.{joined_decoded_maps}
+pub use Rattle.oxc_sourcemap_laws.specs.RemapLaws.{each_remapped}
+pub use Rattle.oxc_sourcemap_laws.specs.RemappedDecodedMaps.{remapped_decoded_map}
+pub use Rattle.oxc_sourcemap_laws.specs.Repeats.{EqualUpToRepeats}
 pub use Rattle.oxc_sourcemap_lookup.specs.Composed.{composition, composition_fault, SomeComposition}
 pub use Rattle.oxc_sourcemap_lookup.specs.Composed.{NoColumnGoesBack}
 pub use Rattle.oxc_sourcemap_lookup.specs.Digits.{binary_digits}
@@ -26,7 +31,7 @@ pub use Rattle.oxc_sourcemap_map.specs.View.{view_content, view_source_and_conte
 pub use Rattle.oxc_sourcemap_map.specs.contracts.owned_sourcemap.OwnedSourceMap.{the_row}
 pub use Rattle.oxc_sourcemap_map.specs.contracts.sourcemap.SourceMap.{the_row as map_row}
 pub use Rattle.oxc_sourcemap_mappings.specs.Canonical.{as_written}
-pub use Rattle.oxc_sourcemap_parts.specs.DecodedMap.{decoded_map_of}
+pub use Rattle.oxc_sourcemap_parts.specs.DecodedMap.{DecodedMap, decoded_map_of}
 pub use Rattle.oxc_sourcemap_parts.specs.Record.{MapRecord, Text}
 pub use Rattle.oxc_sourcemap_parts.specs.Roots.{rooted}
 pub use Rattle.oxc_sourcemap_parts.specs.Sorted.{are_tokens_sorted, token_column}
@@ -35,8 +40,10 @@ pub use Rattle.oxc_sourcemap_parts.specs.Texts.{index_of}
 pub use Rattle.oxc_sourcemap_parts.specs.Views.{record_of_parts, empty_record, text_of, texts_of}
 pub use Rattle.oxc_sourcemap_parts.specs.Views.{contents_of, chunks_of}
 pub use Rattle.oxc_sourcemap_plan.specs.Depth.{depth}
-pub use Rattle.oxc_sourcemap_plan.specs.Evaluated.{IsEvaluated, IsErrorOf}
-pub use Rattle.oxc_sourcemap_plan.specs.Meaning.{read_meaning}
+pub use Rattle.oxc_sourcemap_plan.specs.Evaluated.{IsEvaluated, HasOutcome, IsErrorOf}
+pub use Rattle.oxc_sourcemap_plan.specs.Meaning.{meaning, read_meaning, text_meaning, by_path}
+pub use Rattle.oxc_sourcemap_plan.specs.Meaning.{join_meaning, composition_meaning, remap_meaning}
+pub use Rattle.oxc_sourcemap_plan.specs.Meaning.{root_meaning}
 pub use Rattle.oxc_sourcemap_plan.specs.Numbers.{number_of}
 pub use Rattle.oxc_sourcemap_plan.specs.Outcome.{outcome, read_outcome, composition_outcome}
 pub use Rattle.oxc_sourcemap_plan.specs.Outcome.{Outcome, rewrite_outcome, join_outcome, outcome_of}
@@ -56,6 +63,7 @@ pub use Rattle.oxc_sourcemap_tokens.specs.Results.{Answers, Reports, OnlyMemory,
 pub use Rattle.oxc_sourcemap_tokens.specs.Results.{lent_item, Gives, Pushes, GivesBut, FailsBy}
 pub use Rattle.oxc_sourcemap_tokens.specs.Token.{AreInBounds, kept_id}
 pub use Rattle.oxc_sourcemap_tokens.specs.declared.error.Error.TheVariants.{OutOfMemory, TooLarge}
+pub use Rattle.oxc_sourcemap_tokens.specs.declared.error.Error.TheVariants.{SeveralSources}
 pub use Rattle.oxc_sourcemap_tokens.specs.declared.plan_error.PlanError.TheVariants.{Map, Unsorted}
 pub use Rattle.oxc_sourcemap_visualizer.specs.Link.{counted, map_link}
 pub use Rattle.oxc_sourcemap_visualizer.specs.TextLines.{units_of, lines_of, text_lines, ends_line}

@@ -1,14 +1,15 @@
 //! The evaluation of plans.
 ghost use Rattle.std.specs.Prelude.{◌≡◌, ◌⊎◌, IfOk, IfErr};
-ghost use Rattle.oxc_sourcemap.specs.Words.{OutOfMemory, Map, IsEvaluated, IsErrorOf, outcome};
+ghost use Rattle.oxc_sourcemap.specs.Words.{OutOfMemory, Map, IsEvaluated, HasOutcome, IsErrorOf};
+ghost use Rattle.oxc_sourcemap.specs.Words.{meaning, outcome, is_within_limits};
 
 use oxc_sourcemap_map::OwnedSourceMap;
 use oxc_sourcemap_plan::{Plan, evaluate_to_parts};
 use oxc_sourcemap_tokens::PlanError;
 use std::alloc::Global;
 
-/// Evaluates a plan: reads, rewrites, joins and composes maps, parts from left to right, all parts of a join before they are
-/// joined.
+/// Evaluates a plan: reads, rewrites, joins, composes and remaps maps, parts from left to right, all parts of a join before they
+/// are joined, and all inputs of a remapping before it is made.
 ///
 /// ```rust
 /// use oxc_sourcemap::{Plan, evaluate};
@@ -20,9 +21,9 @@ use std::alloc::Global;
 /// assert_eq!(rt; evaluate(alloc, &plan)?.to_json_string(alloc)?.as_str(), text);
 /// ```
 ///
-/// The map is the one that the definitions of these steps make. At every generated position it has the exact and the clamped
-/// trace that the plan means, and it has the sources, contents and metadata that the plan means. `IsEvaluated` lists all that
-/// is promised of it, `outcome` what a plan means (docs/PROOFS.md, "The theorem").
+/// At every generated position the map has the exact and the clamped trace that the plan means, and it has the sources,
+/// contents and metadata that the plan means (`meaning`). `IsEvaluated` lists what is promised of it, `HasOutcome` what is
+/// besides: it is the map that the definitions of these steps make (docs/PROOFS.md, "The theorem").
 ///
 /// Fails with
 /// - `TooDeep` if the plan is deeper than 64, where a text alone is 1 deep, before anything is read;
@@ -34,8 +35,11 @@ use std::alloc::Global;
 /// mappings (repeated ones included), each counted by itself, or a joined line or column above that, where an indexed map
 /// counts as the join of its sections (`is_within_limits`), and with `Map(OutOfMemory)` for want of memory.
 pub fn evaluate(alloc: Global, plan: &Plan<'_>) -> Result<OwnedSourceMap, PlanError>
-    ensures map { IfOk result (λ map. IsEvaluated map (outcome plan.now)) }
-    ensures error { IfErr result (λ e. (e ≡ Map OutOfMemory) ⊎ IsErrorOf (outcome plan.now) e) }
+    ensures map { IfOk result (λ map. IsEvaluated map (meaning plan.now)) }
+    ensures error { IfErr result (λ e. (e ≡ Map OutOfMemory)
+        ⊎ IsErrorOf (meaning plan.now) (is_within_limits plan.now) e) }
+    ensures outcome { IfOk result (λ map. HasOutcome map (outcome plan.now)) }
+    ensures same_meaning { (outcome plan.now).meaning ≡ meaning plan.now }
 {
     let parts = evaluate_to_parts(alloc, plan)?;
     Ok(OwnedSourceMap::from_parts(parts))

@@ -4,5 +4,6 @@
 pub use oxc_sourcemap_builders::name_ids_unique;
 pub use oxc_sourcemap_laws::{
     canonical_unique, composition_associative, dropping_harmless, joins_associative,
-    tokens_in_bounds, trace_of_composition, trace_of_join,
+    remapping_associative, rooting_idempotent, tokens_in_bounds, trace_of_composition,
+    trace_of_join, trace_of_remap,
 };

@@ -6,8 +6,9 @@ use Rattle.oxc_sourcemap_tokens.specs.declared.plan_error.PlanError.TheVariants.
 use Rattle.std.specs.Prelude.{IsUtf8}
 use Rattle.std.specs.Result.{IfErr}
 use Rattle.oxc_sourcemap_parts.specs.Record.{Text, MapRecord}
+use Rattle.oxc_sourcemap_plan.specs.Meaning.{Meaning}
 use Rattle.oxc_sourcemap_plan.specs.Outcome.{Outcome}
-use Rattle.oxc_sourcemap_plan.specs.Evaluated.{IsEvaluated, IsErrorOf}
+use Rattle.oxc_sourcemap_plan.specs.Evaluated.{IsEvaluated, HasOutcome, IsErrorOf}
 use Rattle.oxc_sourcemap_plan.specs.declared.run_error.RunError.{RunError}
 use Rattle.oxc_sourcemap_plan.specs.RunErrors.{out_of_memory as run_out_of_memory}
 use Rattle.oxc_sourcemap_handles.specs.declared.call_error.CallError.{CallError}
@@ -16,12 +17,13 @@ use Rattle.oxc_sourcemap_handles.specs.CallErrors.{out_of_memory}
 use Rattle.oxc_sourcemap_c.specs.Plans.{plan_of, call_error_of_run, IsPlanMap, IsPlanErrorOf}
 use Rattle.oxc_sourcemap_c.specs.Plans.{IsPlanError}
 
-pub map_of_plan : (read : Result Outcome RunError) (o : Outcome) (m : MapRecord) → read ≡ Ok o → IsEvaluated m o → IsPlanMap read m
-map_of_plan read o m e is = subst (λ x. IsPlanMap x m) (sym e) is
+pub map_of_plan : (read : Result Outcome RunError) (o : Outcome) (w : Meaning) (m : MapRecord) → read ≡ Ok o → o.meaning ≡ w → IsEvaluated m w → HasOutcome m o → IsPlanMap read m
+map_of_plan read o w m e same is has = subst (λ x. IsPlanMap x m) (sym e) (subst (IsEvaluated m) (sym same) is, has)
 
-pub failure_of_plan : (read : Result Outcome RunError) (o : Outcome) (p : PlanError) → read ≡ Ok o → (p ≡ Map OutOfMemory) ⊎ IsErrorOf o p → Plan p ≢ out_of_memory
+pub failure_of_plan : (read : Result Outcome RunError) (o : Outcome) (w : Meaning) (p : PlanError) → read ≡ Ok o → o.meaning ≡ w → (p ≡ Map OutOfMemory) ⊎ IsErrorOf w o.is_within_limits p → Plan p ≢ out_of_memory
     → IsPlanErrorOf read (Plan p)
-failure_of_plan read o p e told n = subst (λ x. IsPlanErrorOf x (Plan p)) (sym e) (elim told [ inl m ↦ absurd (n (ap (λ x. Plan x) m)) | inr f ↦ (p, f, refl) ])
+failure_of_plan read o w p e same told n =
+    subst (λ x. IsPlanErrorOf x (Plan p)) (sym e) (elim told [ inl m ↦ absurd (n (ap (λ x. Plan x) m)) | inr f ↦ (p, subst (λ w. IsErrorOf w o.is_within_limits p) (sym same) f, refl) ])
 
 pub words_error : (read : Result Outcome RunError) (e : RunError) (r : CallError) → r ≡ call_error_of_run e → (e ≢ run_out_of_memory → read ≡ Err e) → r ≢ out_of_memory → IsPlanErrorOf read r
 words_error read e r is told n = subst (λ x. IsPlanErrorOf x r) (sym (told (λ q. n (is ∙ ap call_error_of_run q)))) is

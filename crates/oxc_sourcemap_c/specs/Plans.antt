@@ -4,7 +4,7 @@ use Rattle.std.specs.List.{slice_split}
 use Rattle.oxc_sourcemap_parts.specs.Record.{Text, MapRecord}
 use Rattle.oxc_sourcemap_tokens.specs.declared.plan_error.PlanError.{PlanError}
 use Rattle.oxc_sourcemap_plan.specs.Outcome.{Outcome}
-use Rattle.oxc_sourcemap_plan.specs.Evaluated.{IsEvaluated, IsErrorOf}
+use Rattle.oxc_sourcemap_plan.specs.Evaluated.{IsEvaluated, HasOutcome, IsErrorOf}
 use Rattle.oxc_sourcemap_plan.specs.declared.run_error.RunError.{RunError}
 use Rattle.oxc_sourcemap_plan.specs.declared.run_error.RunError.TheVariants.{Plan as PlanFails}
 use Rattle.oxc_sourcemap_plan.specs.declared.run_error.RunError.TheVariants.{Read, Write, Utf8}
@@ -34,15 +34,15 @@ call_error_of_run Utf8 = Words
 call_error_of_run Arguments = Words
 call_error_of_run (NoInput k) = NoText k
 
--- the map of a plan is as `IsEvaluated` promises for its outcome
+-- the map of a plan is as is promised for what the plan means, and for its outcome
 abbrev pub IsPlanMap : Result Outcome RunError → MapRecord → Type 0
 IsPlanMap (Err e) m = ⊥
-IsPlanMap (Ok o) m = IsEvaluated m o
+IsPlanMap (Ok o) m = IsEvaluated m o.meaning × HasOutcome m o
 
 -- an error of a plan: the first fault of its words, or an error of its evaluation
 abbrev pub IsPlanErrorOf : Result Outcome RunError → CallError → Type 0
 IsPlanErrorOf (Err e) r = r ≡ call_error_of_run e
-IsPlanErrorOf (Ok o) r = (p : PlanError) × IsErrorOf o p × (r ≡ Plan p)
+IsPlanErrorOf (Ok o) r = (p : PlanError) × IsErrorOf o.meaning o.is_within_limits p × (r ≡ Plan p)
 
 -- an error of words and texts in bytes: one is not UTF-8, or their plan fails
 abbrev pub IsPlanError : List ℕ → List ℕ → CallError → Type 0

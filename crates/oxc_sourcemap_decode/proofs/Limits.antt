@@ -8,7 +8,7 @@ use Rattle.oxc_sourcemap_tokens.specs.Token.{TokenRecord, IsInBounds}
 use Rattle.oxc_sourcemap_parts.specs.Record.{MapRecord}
 use Rattle.oxc_sourcemap_join.specs.Joined.{AreEntriesInBounds, IsWithinLimits}
 use Rattle.oxc_sourcemap_decode.specs.JoinLimits.{is_id_in_bounds, is_token_in_bounds}
-use Rattle.oxc_sourcemap_decode.specs.JoinLimits.{are_entries_in_bounds, is_within_limits}
+use Rattle.oxc_sourcemap_decode.specs.JoinLimits.{are_entries_in_bounds, is_map_within_limits}
 
 id-decided : (o : Option ℕ) → Decides (is_id_in_bounds o) (IfSome o (λ n. n < 4294967295))
 id-decided None = (λ e. tt, λ h. refl)
@@ -30,9 +30,9 @@ entries-decided (Some ids) =
 count-decided : (n : ℕ) → Decides (nat_lt n 4294967296) (n ≤ 4294967295)
 count-decided n = Decides-like (nat_lt n 4294967296) (λ h. omega (arith, h)) (λ h. omega (arith, h)) (Decides-ltb n 4294967296)
 
-pub limits_decided : (r : MapRecord) → Decides (is_within_limits r) (IsWithinLimits r)
+pub limits_decided : (r : MapRecord) → Decides (is_map_within_limits r) (IsWithinLimits r)
 limits_decided r =
-    Decides-like (is_within_limits r)
+    Decides-like (is_map_within_limits r)
     (λ h. record { names = h.0; sources = h.1.0; tokens = h.1.1.0; in_bounds = h.1.1.1.0; ignore_list = h.1.1.1.1 })
     (λ w. (w.names, (w.sources, (w.tokens, (w.in_bounds, w.ignore_list)))))
     (Decides-and _ _ (count-decided (length r.names)) (Decides-and _ _ (count-decided (length r.sources)) (Decides-and _ _ (count-decided (length r.tokens))

@@ -1,6 +1,6 @@
 -- Sections are read one by one: what is known of those so far, and what each step does to that.
-use Rattle.std.proofs.Common.{◌≡◌, ℕ, ◌&&◌, arith, Bool, true, false, cond, List, [], ◌∷◌, ◌++◌}
-use Rattle.std.proofs.Common.{map, length, refl, sym, ap, ◌∙◌, subst, append_assoc, Option, Some}
+use Rattle.std.proofs.Common.{◌≡◌, ℕ, ◌&&◌, arith, true, false, cond, List, [], ◌∷◌, ◌++◌}
+use Rattle.std.proofs.Common.{length, refl, sym, ap, ◌∙◌, subst, append_assoc, Option, Some}
 use Rattle.std.proofs.Common.{None, option_map, Result, Ok, Err}
 use Rattle.std.specs.Option.{unwrap_or}
 use Rattle.std.proofs.lemmas.List.{append-nil}
@@ -18,10 +18,12 @@ use Rattle.oxc_sourcemap_join.proofs.Joining.{added_all-append, fitting_chunks}
 use Rattle.oxc_sourcemap_join.proofs.Adding.{front-within, nothing-within}
 use Rattle.oxc_sourcemap_decode.specs.Section.{place_in}
 use Rattle.oxc_sourcemap_decode.specs.Sections.{Sections, position_of, may_follow, may_begin}
-use Rattle.oxc_sourcemap_decode.specs.Sections.{in_order, place_after, section_map, section_after}
+use Rattle.oxc_sourcemap_decode.specs.Sections.{token_positions, in_order, place_after, section_map}
+use Rattle.oxc_sourcemap_decode.specs.Sections.{section_after}
 use Rattle.oxc_sourcemap_decode.specs.Sections.{onto_section, sections_after, all_sections}
 use Rattle.oxc_sourcemap_decode.specs.Sections.{joined_sections}
-use Rattle.oxc_sourcemap_decode.specs.JoinLimits.{is_within_limits}
+use Rattle.oxc_sourcemap_decode.specs.JoinLimits.{is_map_within_limits}
+use Rattle.oxc_sourcemap_decode.proofs.Ends.{last_position}
 use Rattle.oxc_sourcemap_decode.proofs.Limits.{limits_decided}
 
 -- a map at its offset
@@ -41,18 +43,30 @@ last-more (y ∷ z ∷ ys) x = last-more (z ∷ ys) x
 pub chunk-count : (front : List Placed) → length (unwrap_or (joined front).token_chunks []) ≡ length front
 chunk-count front = let f = fitting_chunks front in ap (λ o. length (unwrap_or o [])) f.has ∙ f.count
 
+-- whether a section may begin, by the join of those in front of it
+begun-by : (front : List Placed) (place : Position) (j : MapRecord) (before : Option Position) → j ≡ joined front → before ≡ option_map (λ s. s.1) (last front)
+    → (may_follow before place && may_follow (option_map position_of (last j.tokens)) place) ≡ may_begin front place
+begun-by front place j before i b =
+    let lasts : option_map position_of (last j.tokens) ≡ last (token_positions front) = ap (λ (r : MapRecord). option_map position_of (last r.tokens)) i ∙ last_position front in
+    ap (λ o. may_follow o place && may_follow (option_map position_of (last j.tokens)) place) b
+    ∙ ap (λ o. may_follow (option_map (λ s. s.1) (last front)) place && may_follow o place) lasts
+
+-- a section whose offset is in order
+pub well-placed : (front : List Placed) (d : Data) (place : Position) (j : MapRecord) (before : Option Position) → j ≡ joined front
+    → before ≡ option_map (λ s. s.1) (last front) → place_in d ≡ Ok place
+    → (may_follow before place && may_follow (option_map position_of (last j.tokens)) place) ≡ true → place_after front d ≡ Ok place
+well-placed front d place j before i b e h =
+    ap (λ (r : Result Position Error). r >>= in_order front) e
+    ∙ ap (λ t. cond t (Ok place) (Err (SectionOrder (length front)))) (sym (begun-by front place j before i b) ∙ h)
+
 -- a section whose offset is out of order
 pub out-of-order : (front : List Placed) (d : Data) (place : Position) (j : MapRecord) (before : Option Position) (count : ℕ) → j ≡ joined front
     → before ≡ option_map (λ s. s.1) (last front) → count ≡ length (unwrap_or j.token_chunks []) → place_in d ≡ Ok place
     → (may_follow before place && may_follow (option_map position_of (last j.tokens)) place) ≡ false → place_after front d ≡ Err (SectionOrder count)
 out-of-order front d place j before count i b n e h =
-    let lasts : option_map position_of (last j.tokens) ≡ option_map position_of (last (joined front).tokens) = ap (λ (r : MapRecord). option_map position_of (last r.tokens)) i in
-    let begun : may_begin front place ≡ false =
-    ap (λ o. may_follow o place && may_follow (option_map position_of (last (joined front).tokens)) place) (sym b)
-    ∙ ap (λ o. may_follow before place && may_follow o place) (sym lasts) ∙ h in
     let number : length front ≡ count = sym (n ∙ ap (λ (r : MapRecord). length (unwrap_or r.token_chunks [])) i ∙ chunk-count front) in
     ap (λ (r : Result Position Error). r >>= in_order front) e
-    ∙ ap (λ t. cond t (Ok place) (Err (SectionOrder (length front)))) begun
+    ∙ ap (λ t. cond t (Ok place) (Err (SectionOrder (length front)))) (sym (begun-by front place j before i b) ∙ h)
     ∙ ap (λ k. Err (SectionOrder k)) number
 
 -- ---- one section
@@ -94,7 +108,7 @@ too-large front items n =
     let found = sections_after front items in
     let b = begins front items in
     let all : joined found.maps ≡ added_all (joined front) b.0 = ap joined b.1 ∙ added_all-append nothing_joined front b.0 in
-    elim (is_within_limits (joined found.maps)) as (λ t. is_within_limits (joined found.maps) ≡ t → cond t (unless found.fault (Ok (joined found.maps))) (Err TooLarge) ≡ Err TooLarge) [
+    elim (is_map_within_limits (joined found.maps)) as (λ t. is_map_within_limits (joined found.maps) ≡ t → cond t (unless found.fault (Ok (joined found.maps))) (Err TooLarge) ≡ Err TooLarge) [
       | true ↦ (λ e. absurd (n (front-within (joined front) b.0 (subst IsWithinLimits all ((limits_decided (joined found.maps)).0 e)))))
       | false ↦ (λ e. refl)
     ] refl

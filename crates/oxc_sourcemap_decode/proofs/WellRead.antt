@@ -1,5 +1,5 @@
 -- The map of a JSON text or value has its ids in range and no chunks, and its tokens are in bounds and in line order.
-use Rattle.std.proofs.Common.{◌≡◌, ◌↔◌, ℕ, ◌&&◌, Bool, true, false, cond, List, [], ◌∷◌, ◌++◌}
+use Rattle.std.proofs.Common.{◌≡◌, ◌↔◌, Bool, true, false, cond, List, [], ◌∷◌, ◌++◌}
 use Rattle.std.proofs.Common.{length, refl, sym, ap, ◌∙◌, subst, Option, Some, None, option_map}
 use Rattle.std.proofs.Common.{Result, Ok, Err}
 use Rattle.std.proofs.lemmas.Bool.{and_parts}
@@ -21,17 +21,18 @@ use Rattle.oxc_sourcemap_json.specs.Shape.{◌>>=◌, shape, file_of}
 use Rattle.oxc_sourcemap_decode.specs.Decoded.{decoded}
 use Rattle.oxc_sourcemap_decode.proofs.ReadSound.{IsWellRead as IsWellDecoded, decoded-well}
 use Rattle.oxc_sourcemap_tokens.specs.declared.position.Position.{Position}
-use Rattle.oxc_sourcemap_join.specs.Joined.{is_same_token, added, nothing_joined, joined}
-use Rattle.oxc_sourcemap_join.specs.Joined.{IsWithinLimits}
+use Rattle.oxc_sourcemap_join.specs.Joined.{is_same_token, joined}
 use Rattle.oxc_sourcemap_decode.specs.Section.{is_indexed, place_in, map_in}
-use Rattle.oxc_sourcemap_decode.specs.Sections.{Sections, position_of, may_follow, may_begin}
-use Rattle.oxc_sourcemap_decode.specs.Sections.{in_order, place_after, section_map, section_after}
+use Rattle.oxc_sourcemap_decode.specs.Sections.{Sections, may_follow, may_begin}
+use Rattle.oxc_sourcemap_decode.specs.Sections.{token_positions, in_order, place_after, section_map}
+use Rattle.oxc_sourcemap_decode.specs.Sections.{section_after}
 use Rattle.oxc_sourcemap_decode.specs.Sections.{onto_section, sections_after, all_sections}
 use Rattle.oxc_sourcemap_decode.specs.Sections.{joined_sections}
-use Rattle.oxc_sourcemap_decode.specs.JoinLimits.{is_within_limits}
-use Rattle.oxc_sourcemap_decode.specs.ReadMap.{Said, plain, indexed, sections_in, indexed_said}
+use Rattle.oxc_sourcemap_decode.specs.JoinLimits.{is_map_within_limits}
+use Rattle.oxc_sourcemap_decode.specs.ReadMap.{plain, indexed, sections_in, indexed_said}
 use Rattle.oxc_sourcemap_decode.specs.ReadMap.{said_by, indexed_record, map_said, said_of, said_in}
 use Rattle.oxc_sourcemap_decode.specs.ReadMap.{read_map, read_value}
+use Rattle.oxc_sourcemap_decode.proofs.Ends.{last_position}
 use Rattle.oxc_sourcemap_decode.proofs.Limits.{limits_decided}
 use Rattle.oxc_sourcemap_decode.proofs.LineOrder.{RunsFrom, runs-of, runs-order, runs-joined}
 use Rattle.oxc_sourcemap_decode.proofs.InRange.{added-in-range}
@@ -77,7 +78,8 @@ good-more : (front : List Placed) (m : MapRecord) (place : Position) → IsGood 
 good-more front m place g w b =
     let is = sym (joined-more front m place) in
     let r = joined front in
-    let follows = (and_parts (may_follow (option_map (λ s. s.1) (last front)) place) (may_follow (option_map position_of (last r.tokens)) place) b).1 in
+    let begins = (and_parts (may_follow (option_map (λ s. s.1) (last front)) place) (may_follow (last (token_positions front)) place) b).1 in
+    let follows = ap (λ o. may_follow o place) (last_position front) ∙ begins in
     record {
       in_range = subst AreIdsInRange is (added-in-range r m place g.in_range w.in_range);
       order = subst (λ (s : MapRecord). RunsFrom 0 s.tokens) is (runs-joined is_same_token (length r.names) (length r.sources) place r.tokens m.tokens g.order w.order follows);
@@ -115,7 +117,7 @@ indexed-well file items r e =
     let found = sections_after [] items in
     let j = joined found.maps in
     let g = given (joined_sections found) (λ r. Ok (indexed_record file r)) r e in
-    let w = where-joined (is_within_limits j) found.fault j g.value g.first in
+    let w = where-joined (is_map_within_limits j) found.fault j g.value g.first in
     let good = good-all [] items good-none in
     let is : indexed_record file j ≡ r = ap (indexed_record file) w.1 ∙ cc (g.second) in
     subst IsWellRead is (record {

@@ -21,7 +21,7 @@ are_entries_in_bounds None = true
 are_entries_in_bounds (Some ids) = list_all (λ id. nat_lt id 4294967295) ids
 
 -- at most 4294967295 names, sources and tokens, and all tokens and entries of the ignore list in bounds
-abbrev pub is_within_limits : MapRecord → Bool
-is_within_limits r =
+abbrev pub is_map_within_limits : MapRecord → Bool
+is_map_within_limits r =
     nat_lt (length r.names) 4294967296 && (nat_lt (length r.sources) 4294967296 && (nat_lt (length r.tokens) 4294967296
     && (list_all is_token_in_bounds r.tokens && are_entries_in_bounds r.ignore_list)))

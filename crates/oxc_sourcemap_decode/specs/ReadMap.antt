@@ -1,5 +1,5 @@
 -- The map of a JSON value or a JSON text, or its first fault.
-use Rattle.std.specs.Prelude.{codes, List, Option, Some, None, Result, Ok, Err, if◌then◌else◌}
+use Rattle.std.specs.Prelude.{codes, Option, Some, None, Result, Ok, Err, if◌then◌else◌}
 use Rattle.std.specs.Option.{option_and_then}
 use Rattle.serde_json.specs.Data.{Data, Items}
 use Rattle.serde_json.specs.Find.{get, as_array}
@@ -12,7 +12,6 @@ use Rattle.oxc_sourcemap_parts.specs.Record.{Text, MapRecord}
 use Rattle.oxc_sourcemap_parts.specs.DecodedMap.{DecodedMap, decoded_map_of}
 use Rattle.oxc_sourcemap_json.specs.Shape.{◌>>=◌, or_misshapen, shape, file_of}
 use Rattle.oxc_sourcemap_decode.specs.Decoded.{decoded}
-use Rattle.oxc_sourcemap_join.specs.Joined.{joined}
 use Rattle.oxc_sourcemap_decode.specs.Section.{is_indexed}
 use Rattle.oxc_sourcemap_decode.specs.Sections.{Sections, all_sections, joined_sections}
 

@@ -1,5 +1,5 @@
 -- A section of an indexed map (ECMA-426, "Index source map"): where it begins, and its map.
-use Rattle.std.specs.Prelude.{ℕ, List, codes, Bool, not, ◌&&◌, Option, Some, None, Result, Ok, Err}
+use Rattle.std.specs.Prelude.{ℕ, List, codes, Bool, not, ◌&&◌, Option, Some, None, Result}
 use Rattle.std.specs.Prelude.{if◌then◌else◌, is_some}
 use Rattle.std.specs.Option.{option_map, option_and_then}
 use Rattle.serde_json.specs.Data.{Data}

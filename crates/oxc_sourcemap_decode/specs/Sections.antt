@@ -1,20 +1,21 @@
 -- The sections of an indexed map: those in front of the first fault, and their join.
-use Rattle.std.specs.Prelude.{ℕ, Bool, true, ◌&&◌, List, [], ◌∷◌, ◌++◌, length, Option, Some, None}
-use Rattle.std.specs.Prelude.{Result, Ok, Err, if◌then◌else◌}
-use Rattle.std.specs.Option.{option_map, unwrap_or}
+use Rattle.std.specs.Prelude.{◌+◌, Bool, true, ◌&&◌, List, [], ◌∷◌, ◌++◌, length, map, Option}
+use Rattle.std.specs.Prelude.{Some, None, Result, Ok, Err, if◌then◌else◌}
+use Rattle.std.specs.List.{flat_map}
+use Rattle.std.specs.Option.{option_map}
 use Rattle.serde_json.specs.Data.{Data, Items, no_items, item}
 use Rattle.oxc_sourcemap_tokens.specs.declared.error.Error.{Error}
 use Rattle.oxc_sourcemap_tokens.specs.declared.error.Error.TheVariants.{SectionOrder, TooLarge}
 use Rattle.oxc_sourcemap_tokens.specs.Errors.{unless}
 use Rattle.oxc_sourcemap_tokens.specs.Token.{TokenRecord, last}
-use Rattle.oxc_sourcemap_parts.specs.Record.{Text, MapRecord}
+use Rattle.oxc_sourcemap_parts.specs.Record.{MapRecord}
 use Rattle.oxc_sourcemap_parts.specs.Sorted.{may_precede}
 use Rattle.oxc_sourcemap_json.specs.Shape.{◌>>=◌, shape}
 use Rattle.oxc_sourcemap_decode.specs.Decoded.{decoded}
 use Rattle.oxc_sourcemap_tokens.specs.declared.position.Position.{Position}
-use Rattle.oxc_sourcemap_join.specs.Joined.{joined}
+use Rattle.oxc_sourcemap_join.specs.Joined.{position, shifted_column, joined}
 use Rattle.oxc_sourcemap_decode.specs.Section.{place_in, map_in}
-use Rattle.oxc_sourcemap_decode.specs.JoinLimits.{is_within_limits}
+use Rattle.oxc_sourcemap_decode.specs.JoinLimits.{is_map_within_limits}
 
 -- the generated position of a token
 abbrev pub position_of : TokenRecord → Position
@@ -25,11 +26,18 @@ abbrev pub may_follow : Option Position → Position → Bool
 may_follow None place = true
 may_follow (Some before) place = may_precede (λ (p : Position). p.line) (λ (p : Position). p.column) before place
 
+-- where a token of a map is whose code begins at this offset
+abbrev pub moved_position : Position → TokenRecord → Position
+moved_position offset t = position (t.dst_line + offset.line) (shifted_column offset t.dst_line t.dst_col)
+
+-- where the tokens of sections are, in order
+abbrev pub token_positions : List (MapRecord × Position) → List Position
+token_positions sections = flat_map (λ s. map (moved_position s.1) s.0.tokens) sections
+
 -- A section may begin at a position that is not before the offset of the section in front of it, and not before the last token
 -- of the sections in front of it. Equal positions are allowed.
 abbrev pub may_begin : List (MapRecord × Position) → Position → Bool
-may_begin front place =
-    may_follow (option_map (λ s. s.1) (last front)) place && may_follow (option_map position_of (last (joined front).tokens)) place
+may_begin front place = may_follow (option_map (λ s. s.1) (last front)) place && may_follow (last (token_positions front)) place
 
 -- the position, if a section may begin there
 abbrev pub in_order : List (MapRecord × Position) → Position → Result Position Error
@@ -75,4 +83,4 @@ all_sections items = sections_after [] items
 -- The join of sections. If the maps in front of the first fault make a join past the limits, its fault is `TooLarge`; else it is
 -- the first fault of the sections, if there is one.
 abbrev pub joined_sections : Sections → Result MapRecord Error
-joined_sections found = if is_within_limits (joined found.maps) then unless found.fault (Ok (joined found.maps)) else Err TooLarge
+joined_sections found = if is_map_within_limits (joined found.maps) then unless found.fault (Ok (joined found.maps)) else Err TooLarge

@@ -16,10 +16,10 @@ use Rattle.oxc_sourcemap_lookup.specs.Composed.{composed}
 use Rattle.oxc_sourcemap_parts.proofs.Places.{index-last, index-front}
 
 -- a text that is in a list
-abbrev IsOf : List Text → Text → Type 0
+abbrev pub IsOf : List Text → Text → Type 0
 IsOf names x = (i : ℕ) × (index_of x names ≡ Some i)
 
-found-at : (x : Text) (names : List Text) (k i : ℕ) → slice_get names i ≡ Some x → (j : ℕ) × (position_from (bytes_eq x) k names ≡ Some j)
+pub found-at : (x : Text) (names : List Text) (k i : ℕ) → slice_get names i ≡ Some x → (j : ℕ) × (position_from (bytes_eq x) k names ≡ Some j)
 found-at x [] k i e = absurd (cc (e))
 found-at x (n ∷ ns) k zero e = (k, rw (let q : x ≡ n = cc (e) in (bytes_decides x n).1 q) refl)
 found-at x (n ∷ ns) k (suc i) e =
@@ -41,7 +41,7 @@ taken-of_found : (names : List Text) (t : TokenRecord) (found : Option TokenReco
 taken-of_found names t None x e = absurd (cc (e))
 taken-of_found names t (Some u) x e = kept-of names t u.name_id x e
 
-taken-are_of : (names : List Text) (o : Option Text) (rest : List Text) → ((x : Text) → o ≡ Some x → IsOf names x) → AllByRecursion (IsOf names) rest → AllByRecursion (IsOf names) (cons_option o rest)
+pub taken-are_of : (names : List Text) (o : Option Text) (rest : List Text) → ((x : Text) → o ≡ Some x → IsOf names x) → AllByRecursion (IsOf names) rest → AllByRecursion (IsOf names) (cons_option o rest)
 taken-are_of names None rest h k = k
 taken-are_of names (Some x) rest h k = (h x refl, k)
 
@@ -54,11 +54,11 @@ abbrev counted : Option ℕ → ℕ → ℕ
 counted None n = suc n
 counted (Some i) n = n
 
-abbrev missing : List Text → List Text → ℕ
+abbrev pub missing : List Text → List Text → ℕ
 missing names [] = 0
 missing names (o ∷ os) = counted (index_of o names) (missing names os)
 
-missing-most : (names os : List Text) → missing names os ≤ length os
+pub missing-most : (names os : List Text) → missing names os ≤ length os
 missing-most names [] = omega arith
 missing-most names (o ∷ os) = let h = missing-most names os in elim (index_of o names) as (λ p. counted p (missing names os) ≤ length (o ∷ os)) [ None ↦ omega (arith, h) | Some i ↦ omega (arith, h) ]
 
@@ -108,7 +108,7 @@ grown-at None names os x xs e h more =
     let k = length-append names (x ∷ []) in
     omega (arith, m, l, k)
 
-grown : (names os xs : List Text) → AllByRecursion (IsOf os) xs → length (with_texts names xs) + missing (with_texts names xs) os ≤ length names + missing names os
+pub grown : (names os xs : List Text) → AllByRecursion (IsOf os) xs → length (with_texts names xs) + missing (with_texts names xs) os ≤ length names + missing names os
 grown names os [] h = omega arith
 grown names os (x ∷ xs) h = grown-at (index_of x names) names os x xs refl h.0 (λ ns. grown ns os xs h.1)
 
@@ -125,7 +125,7 @@ module _ (test : Text → Bool) where
   tested-at (Some i) names x h k = h
   tested-at None names x h k = list_all-append test names (x ∷ []) ∙ rw (h, k) refl
 
-  tested : (names xs : List Text) → list_all test names ≡ true → AllByRecursion (λ x. test x ≡ true) xs → list_all test (with_texts names xs) ≡ true
+  pub tested : (names xs : List Text) → list_all test names ≡ true → AllByRecursion (λ x. test x ≡ true) xs → list_all test (with_texts names xs) ≡ true
   tested names [] h k = h
   tested names (x ∷ xs) h k = tested (with_text names x) xs (tested-at (index_of x names) names x h k.0) k.1
 
@@ -140,7 +140,7 @@ module _ (test : Text → Bool) where
         | false ↦ (λ q m. absurd (cc (m)))
       ] refl h
 
-  all-tested : (names xs : List Text) → list_all test names ≡ true → AllByRecursion (IsOf names) xs → AllByRecursion (λ x. test x ≡ true) xs
+  pub all-tested : (names xs : List Text) → list_all test names ≡ true → AllByRecursion (IsOf names) xs → AllByRecursion (λ x. test x ≡ true) xs
   all-tested names [] h k = tt
   all-tested names (x ∷ xs) h k = (tested-of names x 0 k.0.0 h k.0.1, all-tested names xs h k.1)
 

@@ -12,10 +12,20 @@ pub mod Compositions
 pub mod ComposedNames
 pub mod Groupings
 pub mod ComposedBounds
+pub mod Blocks
+pub mod IgnoredSources
+pub mod RemappedRecords
+pub mod RemappedMaps
+pub mod RemappedStands
+pub mod RemappedNames
+pub mod RemappedBounds
+pub mod Rooting
 pub mod TracesComposed
+pub mod TracesRemapped
 pub mod TracesMoved
 pub mod TracesRising
 pub mod TracesJoined
 mod TracesWorked
+mod WorkedRemaps
 mod Worked
 mod WorkedTexts

@@ -11,7 +11,7 @@ use Rattle.oxc_sourcemap_json.specs.Shape.{◌>>=◌}
 use Rattle.oxc_sourcemap_tokens.specs.declared.position.Position.{Position}
 use Rattle.oxc_sourcemap_join.specs.Joined.{joined}
 use Rattle.oxc_sourcemap_decode.specs.Sections.{Sections, joined_sections}
-use Rattle.oxc_sourcemap_decode.specs.JoinLimits.{is_within_limits}
+use Rattle.oxc_sourcemap_decode.specs.JoinLimits.{is_map_within_limits}
 use Rattle.oxc_sourcemap_decode.specs.ReadMap.{indexed, indexed_record, map_said}
 use Rattle.oxc_sourcemap_decode.proofs.WellRead.{IsWellRead, sections_well, value_sections_well}
 use Rattle.oxc_sourcemap_decode.proofs.WellRead.{read_is_said, value_is_said}
@@ -42,7 +42,7 @@ of-sections : (file : Option Text) (found : Sections) (r : MapRecord) → AllByR
     → EqualUpToRepeats (decoded_map_of r) (decoded_map_of_sections file found)
 of-sections file found r well e =
     let j = joined-of file (joined_sections found) r e in
-    let f = from-sections (is_within_limits (joined found.maps)) found.fault found.maps j.0 j.1 in
+    let f = from-sections (is_map_within_limits (joined found.maps)) found.fault found.maps j.0 j.1 in
     let is : indexed_record file (joined found.maps) ≡ r = ap (indexed_record file) f.is_join ∙ j.2 in
     subst (λ (m : MapRecord). EqualUpToRepeats (decoded_map_of m) (decoded_map_of_sections file found)) is
     (ap (λ (t : DecodedMap). record t { file = file }) (decoded_map_joined found.maps (all-in-range found.maps well)))

@@ -15,7 +15,7 @@ use Rattle.oxc_sourcemap_laws.specs.TraceLaws.{leads_to, led_through, TracesLedT
 use Rattle.oxc_sourcemap_laws.proofs.Compositions.{decoded_map_composed}
 
 -- what a mapping that was found in the second decoded map says
-leads : (o : OriginalPosition) (q : Option DecodedMapping) → option_map (named_by o) (option_and_then (λ e. e.original) q) ≡ leads_to o (option_map (λ e. e.original) q)
+pub leads : (o : OriginalPosition) (q : Option DecodedMapping) → option_map (named_by o) (option_and_then (λ e. e.original) q) ≡ leads_to o (option_map (λ e. e.original) q)
 leads o None = refl
 leads o (Some e) = elim e.original as (λ x. option_map (named_by o) x ≡ leads_to o (Some x)) [ None ↦ refl | Some found ↦ refl ]
 

@@ -14,7 +14,7 @@ use Rattle.oxc_sourcemap_laws.specs.JoinLaws.{decoded_maps_of, Group, groups_joi
 use Rattle.oxc_sourcemap_laws.specs.JoinLaws.{without_chunks}
 
 -- a token: generated line and column, source line and column, source id, name id
-abbrev token : ℕ → ℕ → ℕ → ℕ → Option ℕ → Option ℕ → TokenRecord
+abbrev pub token : ℕ → ℕ → ℕ → ℕ → Option ℕ → Option ℕ → TokenRecord
 token dst_line dst_col src_line src_col source_id name_id =
     record { dst_line = dst_line; dst_col = dst_col; src_line = src_line; src_col = src_col; source_id = source_id; name_id = name_id }
 

@@ -5,5 +5,9 @@ pub mod JoinLaws
 pub mod SectionLaws
 pub mod ComposedDecodedMaps
 pub mod ComposeLaws
+pub mod RemappedDecodedMaps
+pub mod RemapLaws
+pub mod RootedDecodedMaps
+pub mod RootLaws
 pub mod TraceLaws
 pub mod Words

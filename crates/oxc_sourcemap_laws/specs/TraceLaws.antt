@@ -1,4 +1,4 @@
--- What the traces of a composition and of a join are, by the traces of the decoded maps that they are made of.
+-- What the traces of a composition, of a remapped map and of a join are, by the traces of the decoded maps that they are made of.
 use Rattle.std.specs.Prelude.{◌≡◌, ℕ, ◌+◌, ◌-◌, Bool, true, false, ◌&&◌, ◌||◌, List, ◌∷◌, ◌++◌, map}
 use Rattle.std.specs.Prelude.{filter, Option, Some, None, is_some, if◌then◌else◌}
 use Rattle.std.specs.Prelude.{nat_lt, nat_le, ◌==◌}
@@ -6,18 +6,21 @@ use Rattle.std.specs.List.{list_any}
 use Rattle.std.specs.Option.{option_and_then, option_or}
 use Rattle.oxc_sourcemap_tokens.specs.Token.{last}
 use Rattle.oxc_sourcemap_tokens.specs.declared.position.Position.{Position}
-use Rattle.oxc_sourcemap_parts.specs.Record.{MapRecord}
+use Rattle.oxc_sourcemap_parts.specs.Record.{Text, MapRecord}
 use Rattle.oxc_sourcemap_parts.specs.Sorted.{are_tokens_sorted}
 use Rattle.oxc_sourcemap_parts.specs.DecodedMap.{OriginalPosition, DecodedMap, decoded_map_of}
 use Rattle.oxc_sourcemap_lookup.specs.Lookup.{first}
 use Rattle.oxc_sourcemap_lookup.specs.Trace.{trace, clamped_trace}
 use Rattle.oxc_sourcemap_lookup.specs.Composed.{composed}
 use Rattle.oxc_sourcemap_join.specs.Joined.{shifted_column, joined}
+use Rattle.oxc_sourcemap_remap.specs.Inputs.{input_for, decoded_inputs}
+use Rattle.oxc_sourcemap_remap.specs.Remapped.{remapped}
 use Rattle.oxc_sourcemap_laws.specs.Repeats.{is_sorted_decoded_map}
 use Rattle.oxc_sourcemap_laws.specs.JoinedDecodedMaps.{lowered, joined_decoded_maps}
 use Rattle.oxc_sourcemap_laws.specs.JoinLaws.{AreAllInRange, decoded_maps_of}
 use Rattle.oxc_sourcemap_laws.specs.ComposedDecodedMaps.{composed_decoded_maps}
 use Rattle.oxc_sourcemap_laws.specs.ComposeLaws.{AreSourceIdsInRange, AreTokensInRange}
+use Rattle.oxc_sourcemap_laws.specs.RemappedDecodedMaps.{remapped_decoded_map}
 
 -- ---- compositions
 -- What an original position leads to, by the trace found at its line and column: to what that trace says, with the name of the
@@ -48,6 +51,35 @@ TracesOfComposition = (a b : DecodedMap) → TracesLedThrough (composed_decoded_
 abbrev pub TracesOfComposedMaps : Type 0
 TracesOfComposedMaps = (a b : MapRecord) → AreSourceIdsInRange a → AreTokensInRange b
     → TracesLedThrough (decoded_map_of (composed a b)) (decoded_map_of a) (decoded_map_of b)
+
+-- ---- remapping
+-- What an original position leads to whose source has this input, or none: to itself without an input; with one to what the
+-- input's clamped trace says at its line and column, with the name of the position if that has none.
+abbrev pub leads_by_input : Option DecodedMap → OriginalPosition → Option OriginalPosition
+leads_by_input None o = Some o
+leads_by_input (Some b) o = leads_to o (clamped_trace b o.src_line o.src_col)
+
+-- A trace led on through the input for its source. Nothing stays nothing, and unmapped stays unmapped.
+abbrev pub led_through_inputs : List (Text × DecodedMap) → Option (Option OriginalPosition) → Option (Option OriginalPosition)
+led_through_inputs inputs None = None
+led_through_inputs inputs (Some None) = Some None
+led_through_inputs inputs (Some (Some o)) = Some (leads_by_input (input_for inputs o.source.path) o)
+
+-- The traces of c, exact and clamped, are those of a, led on through inputs.
+abbrev pub TracesLedThroughInputs : DecodedMap → DecodedMap → List (Text × DecodedMap) → Type 0
+TracesLedThroughInputs c a inputs = (line col : ℕ)
+    → (trace c line col ≡ led_through_inputs inputs (trace a line col))
+    × (clamped_trace c line col ≡ led_through_inputs inputs (clamped_trace a line col))
+
+-- The traces of a remapped decoded map are those of the first one, led on through the inputs.
+abbrev pub TracesOfRemapping : Type 0
+TracesOfRemapping = (a : DecodedMap) (inputs : List (Text × DecodedMap))
+    → TracesLedThroughInputs (remapped_decoded_map a inputs) a inputs
+
+-- The same of maps, whatever they are.
+abbrev pub TracesOfRemappedMaps : Type 0
+TracesOfRemappedMaps = (a : MapRecord) (inputs : List (Text × MapRecord))
+    → TracesLedThroughInputs (decoded_map_of (remapped a inputs)) (decoded_map_of a) (decoded_inputs inputs)
 
 -- ---- joins where a part has a line for itself
 -- A part of a join is a decoded map and the offset where its code begins.

@@ -22,3 +22,22 @@ pub use Rattle.oxc_sourcemap_laws.specs.SectionLaws.{ValueOfSections, TextOfSect
 pub use Rattle.oxc_sourcemap_laws.specs.TraceLaws.{TracesOfComposition, TracesOfComposedMaps}
 pub use Rattle.oxc_sourcemap_laws.specs.TraceLaws.{TracesOnOwnLine, TracesOfSortedJoin}
 pub use Rattle.oxc_sourcemap_laws.specs.TraceLaws.{TracesWithinPart, TracesOfJoinedMaps}
+pub use Rattle.oxc_sourcemap_laws.specs.TraceLaws.{TracesOfRemapping, TracesOfRemappedMaps}
+pub use Rattle.oxc_sourcemap_laws.specs.RemapLaws.{DecodedMapOfRemapping, RemappingIgnores}
+pub use Rattle.oxc_sourcemap_laws.specs.RemapLaws.{NothingRemapped, RemappedDecodedMapsAssociative}
+pub use Rattle.oxc_sourcemap_laws.specs.RemapLaws.{RemappedMapsAssociative, JoinRemapped}
+pub use Rattle.oxc_sourcemap_laws.specs.RemapLaws.{JoinedMapsRemapped, CompositionRemapped}
+pub use Rattle.oxc_sourcemap_laws.specs.RemapLaws.{ComposedMapsRemapped, OneRemapped}
+pub use Rattle.oxc_sourcemap_laws.specs.RemapLaws.{OneMapRemapped, RemappingStandsFor}
+pub use Rattle.oxc_sourcemap_laws.specs.RemapLaws.{RemappingKeepsEqualUpToRepeats}
+pub use Rattle.oxc_sourcemap_laws.specs.RemapLaws.{RemappingSorted, RemappingInRange}
+pub use Rattle.oxc_sourcemap_laws.specs.RemapLaws.{RemappingIsSound, RemappingCounts}
+pub use Rattle.oxc_sourcemap_laws.specs.RemapLaws.{SomeRemappingIsSound}
+pub use Rattle.oxc_sourcemap_laws.specs.RemapLaws.{RemappingNames, SortedInputsGoOn}
+pub use Rattle.oxc_sourcemap_laws.specs.RemapLaws.{RemappingAnswered, RemappingTooLarge}
+pub use Rattle.oxc_sourcemap_laws.specs.RemapLaws.{RemappingInBounds}
+pub use Rattle.oxc_sourcemap_laws.specs.RootLaws.{DecodedMapOfRooting, RootingAgain}
+pub use Rattle.oxc_sourcemap_laws.specs.RootLaws.{RootedDecodedMapsAgain, RootingKeeps}
+pub use Rattle.oxc_sourcemap_laws.specs.RootLaws.{RootedDecodedMapsKeep, TracesOfRooting}
+pub use Rattle.oxc_sourcemap_laws.specs.RootLaws.{RootingKeepsEqualUpToRepeats, RootingIsSound}
+pub use Rattle.oxc_sourcemap_laws.specs.RootLaws.{RootingStandsFor}

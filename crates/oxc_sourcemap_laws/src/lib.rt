@@ -25,6 +25,24 @@ ghost use Rattle.oxc_sourcemap_laws.specs.Words.{JoinChunksFit, JoinsAssociative
 ghost use Rattle.oxc_sourcemap_laws.specs.Words.{TracesOfComposition, TracesOfComposedMaps};
 ghost use Rattle.oxc_sourcemap_laws.specs.Words.{TracesOnOwnLine, TracesOfSortedJoin};
 ghost use Rattle.oxc_sourcemap_laws.specs.Words.{TracesWithinPart, TracesOfJoinedMaps};
+ghost use Rattle.oxc_sourcemap_laws.specs.Words.{TracesOfRemapping, TracesOfRemappedMaps};
+ghost use Rattle.oxc_sourcemap_laws.specs.Words.{DecodedMapOfRemapping, RemappingIgnores};
+ghost use Rattle.oxc_sourcemap_laws.specs.Words.{NothingRemapped, RemappedDecodedMapsAssociative};
+ghost use Rattle.oxc_sourcemap_laws.specs.Words.{RemappedMapsAssociative, JoinRemapped};
+ghost use Rattle.oxc_sourcemap_laws.specs.Words.{JoinedMapsRemapped, CompositionRemapped};
+ghost use Rattle.oxc_sourcemap_laws.specs.Words.{ComposedMapsRemapped, OneRemapped, OneMapRemapped};
+ghost use Rattle.oxc_sourcemap_laws.specs.Words.{RemappingKeepsEqualUpToRepeats};
+ghost use Rattle.oxc_sourcemap_laws.specs.Words.{RemappingStandsFor};
+ghost use Rattle.oxc_sourcemap_laws.specs.Words.{RemappingSorted, RemappingInRange};
+ghost use Rattle.oxc_sourcemap_laws.specs.Words.{RemappingIsSound, RemappingCounts, RemappingNames};
+ghost use Rattle.oxc_sourcemap_laws.specs.Words.{SortedInputsGoOn, RemappingAnswered};
+ghost use Rattle.oxc_sourcemap_laws.specs.Words.{RemappingTooLarge, RemappingInBounds};
+ghost use Rattle.oxc_sourcemap_laws.specs.Words.{SomeRemappingIsSound};
+ghost use Rattle.oxc_sourcemap_laws.specs.Words.{DecodedMapOfRooting, RootingAgain};
+ghost use Rattle.oxc_sourcemap_laws.specs.Words.{RootedDecodedMapsAgain, RootingKeeps};
+ghost use Rattle.oxc_sourcemap_laws.specs.Words.{RootedDecodedMapsKeep, TracesOfRooting};
+ghost use Rattle.oxc_sourcemap_laws.specs.Words.{RootingKeepsEqualUpToRepeats, RootingIsSound};
+ghost use Rattle.oxc_sourcemap_laws.specs.Words.{RootingStandsFor};
 
 pub use oxc_sourcemap_tokens::tokens_in_bounds;
 
@@ -138,6 +156,78 @@ pub fn composition_associative()
     ensures sorted_goes_on { SortedGoesOn }
 {}
 
+/// Remapping is associative: of records, as `SourceMap::remap` makes it, and of decoded maps, which have names and sources in
+/// place of ids. A map is remapped by inputs, each a map for the sources of one path, byte for byte; the first for a path counts.
+/// - The decoded map of a remapped map is the remapping of the decoded maps, whatever the maps are (`decoded_map_of_remapping`).
+///   A source that stays is ignored exactly if it was, and one of an input exactly if the input ignores it (`ignores`).
+/// - Remapping by inputs and then by others is remapping by the inputs, each remapped by the others, and after them the others:
+///   these count for a source that has no input among the first (`decoded_maps`, and `maps` of the decoded maps of records).
+/// - A join that is remapped is the join of its remapped parts, if the entries of their ignore lists are in range (`join`). Of
+///   records that is so up to repeats, if all ids are in range (`joined_maps`).
+/// - Composing with a remapped map is remapping the composed one (`composition`; of records, if the source ids of the first
+///   map and the ids of the second map's tokens are in range, `composed_maps`).
+/// - A map of one source that has an input is composed with the input (`one`, `one_map`), and a map without inputs stays
+///   (`nothing`), but for the source root, which is dropped, and for how the ignore list is written: ascending, each source
+///   once, and none without entries.
+/// - Decoded maps that are equal up to repeats stay so when they are remapped, inputs too (`keeps_up_to_repeats`). If maps are
+///   sound and their decoded maps equal up to repeats to given ones, the remapped map is sound and equal up to repeats to the
+///   remapping of the given ones (`stands_for`).
+/// - A remapped map is sorted exactly if the first map is (`sorted`), and its ids are in range (`in_range`), whatever the
+///   inputs are; so it is sound if the first map is (`sound`). The same holds of any result where columns go back on a line of
+///   an input (`any_map`). It has as many tokens as the first map, and a content for each source (`counts`). Its names are
+///   names of the maps, and at most as many as they have together (`names`).
+/// - On no line of sorted inputs do columns go back, as the clauses `map` and `error` of `SourceMap::remap` ask, and they have
+///   no fault (`sorted_goes_on`). If inputs have no fault, the result is a map or `TooLarge` (`answered`): only if the remapped
+///   map has more than 4294967295 sources, or the maps more names (`too_large`). Its tokens are in bounds if those of the maps
+///   are (`in_bounds`).
+pub fn remapping_associative()
+    ensures decoded_map_of_remapping { DecodedMapOfRemapping }
+    ensures ignores { RemappingIgnores }
+    ensures decoded_maps { RemappedDecodedMapsAssociative }
+    ensures maps { RemappedMapsAssociative }
+    ensures join { JoinRemapped }
+    ensures joined_maps { JoinedMapsRemapped }
+    ensures composition { CompositionRemapped }
+    ensures composed_maps { ComposedMapsRemapped }
+    ensures one { OneRemapped }
+    ensures one_map { OneMapRemapped }
+    ensures nothing { NothingRemapped }
+    ensures keeps_up_to_repeats { RemappingKeepsEqualUpToRepeats }
+    ensures stands_for { RemappingStandsFor }
+    ensures sorted { RemappingSorted }
+    ensures in_range { RemappingInRange }
+    ensures sound { RemappingIsSound }
+    ensures any_map { SomeRemappingIsSound }
+    ensures counts { RemappingCounts }
+    ensures names { RemappingNames }
+    ensures sorted_goes_on { SortedInputsGoOn }
+    ensures answered { RemappingAnswered }
+    ensures too_large { RemappingTooLarge }
+    ensures in_bounds { RemappingInBounds }
+{}
+
+/// A source root is applied once: each source gets the root before it, as `SourceMap::apply_source_root` does, and the root
+/// becomes none.
+/// - The decoded map of the result is the decoded map with its source root applied (`decoded_map_of_rooting`). Applied again,
+///   or without a root, nothing changes (`again`; of decoded maps, `decoded_maps_again`).
+/// - Nothing changes but the source root and the texts of sources, of which there are as many (`keeps`; of decoded maps,
+///   `decoded_maps_keep`). The traces, exact and clamped, lead to the same positions and names, with the root before the
+///   source (`traces`).
+/// - Decoded maps that are equal up to repeats stay so (`keeps_up_to_repeats`), a sound map stays sound (`sound`), and one
+///   that is sound and whose decoded map is equal up to repeats to a given one stays so, once the roots of both are applied
+///   (`stands_for`).
+pub fn rooting_idempotent()
+    ensures decoded_map_of_rooting { DecodedMapOfRooting }
+    ensures again { RootingAgain }
+    ensures decoded_maps_again { RootedDecodedMapsAgain }
+    ensures keeps { RootingKeeps }
+    ensures decoded_maps_keep { RootedDecodedMapsKeep }
+    ensures traces { TracesOfRooting }
+    ensures keeps_up_to_repeats { RootingKeepsEqualUpToRepeats }
+    ensures sound { RootingIsSound }
+    ensures stands_for { RootingStandsFor }
+{}
+
 /// The traces of a composition are those of its first decoded map, led on through the second. A trace is what the mapping
 /// found at a generated position points to.
 /// - The exact trace of the composition of two decoded maps at a line and a column is nothing where the exact trace of the
@@ -153,6 +243,21 @@ pub fn composition_associative()
 pub fn trace_of_composition()
     ensures decoded_maps { TracesOfComposition }
     ensures maps { TracesOfComposedMaps }
+{}
+
+/// The traces of a remapped map are those of the first map, led on through the input for the source.
+/// - The exact trace of a remapped decoded map at a line and a column is nothing where the exact trace of the first is nothing,
+///   and unmapped where that is unmapped. Else that gives an original position. If its source has no input, it is the trace.
+///   If it has one, the trace is what the clamped trace of the input says at its line and column, with the name of the original
+///   position if the input has none there; it is unmapped if the clamped trace of the input finds nothing, or an unmapped
+///   mapping. The clamped trace is the clamped trace of the first, led on in the same way (`decoded_maps`). Nothing is asked
+///   of the decoded maps.
+/// - The same holds of maps, whatever they are (`maps`).
+///
+/// It is not true with the exact trace of the input: in front of the first mapping of a line only the clamped trace finds one.
+pub fn trace_of_remap()
+    ensures decoded_maps { TracesOfRemapping }
+    ensures maps { TracesOfRemappedMaps }
 {}
 
 /// The traces of a join are those of its parts. A part is a decoded map and the offset where its code begins. A line and a

@@ -2,6 +2,8 @@ pub mod Plans
 pub mod KnownNames
 pub mod Decoding
 pub mod Realizing
+pub mod Remapping
+pub mod Meanings
 pub mod Reading
 pub mod Parts
 pub mod Answering

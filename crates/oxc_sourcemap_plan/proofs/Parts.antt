@@ -1,17 +1,24 @@
 -- The parts of a join, as far as they have come.
 use Rattle.std.proofs.Common.{◌≡◌, ℕ, ◌+◌, ◌<◌, ◌≤◌, List, [], ◌∷◌, ◌++◌, map, length, take, drop}
-use Rattle.std.proofs.Common.{get_or, sym, ap, ◌∙◌, subst, arith, Result, Ok, Err}
+use Rattle.std.proofs.Common.{get_or, refl, sym, ap, ◌∙◌, subst, arith, Result, Ok, Err}
 use Rattle.std.specs.Result.{IfErr, IsErrAnd}
 use Rattle.std.proofs.lemmas.List.{take_more, drop_more, take-append-drop, map-append}
-use Rattle.oxc_sourcemap_parts.specs.Record.{MapRecord}
+use Rattle.std.specs.Borrow.{Bor}
+use Rattle.oxc_sourcemap_parts.specs.Record.{Text, MapRecord}
+use Rattle.oxc_sourcemap_parts.specs.Views.{record_of_parts}
+use Rattle.oxc_sourcemap_parts.specs.declared.parts.SourceMapParts.{SourceMapParts}
+use Rattle.oxc_sourcemap_remap.specs.Inputs.{owned_input_records}
 use Rattle.oxc_sourcemap_tokens.specs.declared.position.Position.{Position}
 use Rattle.oxc_sourcemap_join.specs.Joined.{at_line}
 use Rattle.oxc_sourcemap_plan.specs.declared.plan.Plan.{Plan}
 use Rattle.oxc_sourcemap_tokens.specs.declared.plan_error.PlanError.{PlanError}
 use Rattle.oxc_sourcemap_plan.specs.Depth.{deepest}
-use Rattle.oxc_sourcemap_plan.specs.Outcome.{outcome_of, outcomes, join_outcome}
-use Rattle.oxc_sourcemap_plan.specs.Realizes.{Realizes, FailsAs, AllRealize}
+use Rattle.oxc_sourcemap_plan.specs.Meaning.{by_path}
+use Rattle.oxc_sourcemap_plan.specs.Outcome.{Outcome, outcome_of, outcomes, join_outcome}
+use Rattle.oxc_sourcemap_plan.specs.Outcome.{remap_outcome, input_outcomes}
+use Rattle.oxc_sourcemap_plan.specs.Realizes.{Realizes, FailsAs, AllRealize, InputsRealize}
 use Rattle.oxc_sourcemap_plan.proofs.Realizing.{part_fails}
+use Rattle.oxc_sourcemap_plan.proofs.Remapping.{input_fails}
 
 -- the error that a `?` returns
 pub from_err : {X E : Type 0} (r : Result X E) (P Q : E → Type 0) → IsErrAnd r P → ((e : E) → P e → Q e) → IfErr r Q
@@ -60,3 +67,36 @@ at_its_line item = (item.0, at_line item.1)
 -- a part of a join at lines and columns, at its position
 abbrev pub at_its_position : {A : Type 0} → A × ℕ × ℕ → A × Position
 at_its_position item = (item.0, record { line = item.1; column = item.2 })
+
+-- ---- the inputs of a remapping, as far as they have come
+-- the maps of inputs, with one input more
+one_input_more : (ms : List (Text × MapRecord)) (os : List (Text × Outcome)) (m : Text × MapRecord) (o : Text × Outcome) → InputsRealize ms os → m.0 ≡ o.0 → Realizes m.1 o.1 → InputsRealize (ms ++ m ∷ []) (os ++ o ∷ [])
+one_input_more [] [] m o h e g = ((e, g), tt)
+one_input_more [] (p ∷ os) m o h e g = absurd h
+one_input_more (n ∷ ms) [] m o h e g = absurd h
+one_input_more (n ∷ ms) (p ∷ os) m o h e g = (h.0, one_input_more ms os m o h.1 e g)
+
+abbrev input_at : Bor Text × Plan → Text × Outcome
+input_at p = (p.0.now, outcome_of p.1)
+
+-- these lists with one item more, or cut at it
+outcomes-of : (ps : List (Bor Text × Plan)) → input_outcomes (by_path ps) ≡ map input_at ps
+outcomes-of [] = refl
+outcomes-of (p ∷ ps) = ap (λ os. input_at p ∷ os) (outcomes-of ps)
+
+pub more_inputs : (ms : List (Bor Text × SourceMapParts)) (ps : List (Bor Text × Plan)) (i : ℕ) (m : Bor Text × SourceMapParts) (p : Bor Text × Plan) → i < length ps → p ≡ get_or ps i p
+    → InputsRealize (owned_input_records ms) (input_outcomes (by_path (take i ps))) → m.0.now ≡ p.0.now → Realizes (record_of_parts m.1) (outcome_of p.1) → InputsRealize (owned_input_records (ms ++ m ∷ [])) (input_outcomes (by_path (take (i + 1) ps)))
+more_inputs ms ps i m p l e h q g =
+    let next : take (i + 1) ps ≡ take i ps ++ p ∷ [] = take_more ps i p l ∙ ap (λ q. take i ps ++ q ∷ []) (sym e) in
+    let outcomes : input_outcomes (by_path (take (i + 1) ps)) ≡ map input_at (take i ps) ++ input_at p ∷ [] = outcomes-of (take (i + 1) ps) ∙ ap (map input_at) next ∙ map-append input_at (take i ps) (p ∷ []) in
+    let maps : owned_input_records (ms ++ m ∷ []) ≡ owned_input_records ms ++ (m.0.now, record_of_parts m.1) ∷ [] = map-append (λ (m : Bor Text × SourceMapParts). (m.0.now, record_of_parts m.1)) ms (m ∷ []) in
+    subst (λ xs. InputsRealize xs (input_outcomes (by_path (take (i + 1) ps)))) (sym maps) (subst (λ os. InputsRealize (owned_input_records ms ++ (m.0.now, record_of_parts m.1) ∷ []) os) (sym outcomes)
+    (one_input_more (owned_input_records ms) (map input_at (take i ps)) (m.0.now, record_of_parts m.1) (input_at p) (subst (λ os. InputsRealize (owned_input_records ms) os) (outcomes-of (take i ps)) h) q g))
+
+pub input_error : (a : MapRecord) (first : Outcome) (ms : List (Text × MapRecord)) (ps : List (Bor Text × Plan)) (i : ℕ) (p : Bor Text × Plan) (e : PlanError) → i < length ps → p ≡ get_or ps i p
+    → Realizes a first → InputsRealize ms (input_outcomes (by_path (take i ps))) → FailsAs e (outcome_of p.1) → FailsAs e (remap_outcome first (input_outcomes (by_path ps)))
+input_error a first ms ps i p e l q g h r =
+    let cut : input_outcomes (by_path ps) ≡ map input_at (take i ps) ++ input_at p ∷ map input_at (drop (i + 1) ps) =
+    outcomes-of ps ∙ ap (map input_at) (around ps i p l q) ∙ map-append input_at (take i ps) (p ∷ drop (i + 1) ps) in
+    subst (λ os. FailsAs e (remap_outcome first os)) (sym cut)
+    (input_fails a ms first (map input_at (take i ps)) (map input_at (drop (i + 1) ps)) (input_at p) e g (subst (λ os. InputsRealize ms os) (outcomes-of (take i ps)) h) r)

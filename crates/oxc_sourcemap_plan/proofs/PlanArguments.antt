@@ -15,13 +15,14 @@ use Rattle.oxc_sourcemap_plan.specs.Depth.{deepest}
 use Rattle.oxc_sourcemap_tokens.specs.declared.position.Position.{Position}
 use Rattle.oxc_sourcemap_plan.specs.declared.run_error.RunError.{RunError}
 use Rattle.oxc_sourcemap_plan.specs.declared.run_error.RunError.TheVariants.{Arguments, NoText}
-use Rattle.oxc_sourcemap_plan.specs.Outcome.{Outcome, read_outcome, rewrite_outcome, join_outcome}
-use Rattle.oxc_sourcemap_plan.specs.Outcome.{composition_outcome}
+use Rattle.oxc_sourcemap_plan.specs.Outcome.{Outcome, read_outcome, rewrite_outcome, root_outcome}
+use Rattle.oxc_sourcemap_plan.specs.Outcome.{join_outcome, composition_outcome, remap_outcome}
 use Rattle.oxc_sourcemap_plan.specs.PlanArguments.{Parsed, whole, then_parsed, parsed_number}
 use Rattle.oxc_sourcemap_plan.specs.PlanArguments.{parsed_line, parsed_position, read_or_fault}
 use Rattle.oxc_sourcemap_plan.specs.PlanArguments.{read_of_number, parsed_input, with_rest}
-use Rattle.oxc_sourcemap_plan.specs.PlanArguments.{parsed_parts, parsed_join, parsed_by}
-use Rattle.oxc_sourcemap_plan.specs.PlanArguments.{parsed_part}
+use Rattle.oxc_sourcemap_plan.specs.PlanArguments.{parsed_placed, parsed_path, parsed_input_part}
+use Rattle.oxc_sourcemap_plan.specs.PlanArguments.{parsed_items, parsed_list, parsed_join}
+use Rattle.oxc_sourcemap_plan.specs.PlanArguments.{parsed_remapping, parsed_by, parsed_part}
 
 pub part-named : (inputs : List Text) (room : ℕ) (argument : Text) (arguments : List Text) → room ≢ 0 → parsed_part inputs room (argument ∷ arguments) ≡ parsed_by inputs (parsed_part inputs (room - 1)) argument arguments
 part-named inputs zero argument arguments n = absurd (n refl)
@@ -64,59 +65,85 @@ module _ (inputs : List Text) (part : List Text → Parsed Outcome) (argument : 
   pub named-compose : argument ≡ codes "compose" → parsed_by inputs part argument arguments ≡ then_parsed (part arguments) (λ first after. then_parsed (part after) (λ second left. Ok (composition_outcome first second, left)))
   named-compose e = ap (λ w. parsed_by inputs part w arguments) e
 
-  pub named-text : (argument ≡ codes "rewrite" → ⊥) → (argument ≡ codes "join" → ⊥) → (argument ≡ codes "joinat" → ⊥) → (argument ≡ codes "compose" → ⊥) → parsed_by inputs part argument arguments ≡ with_rest (parsed_input inputs argument) arguments
-  named-text a b c d = rw (differ argument (codes "rewrite") a, differ argument (codes "join") b, differ argument (codes "joinat") c, differ argument (codes "compose") d) refl
+  pub named-root : argument ≡ codes "root" → parsed_by inputs part argument arguments ≡ then_parsed (part arguments) (λ o left. Ok (root_outcome o, left))
+  named-root e = ap (λ w. parsed_by inputs part w arguments) e
 
--- ---- parts of a join, as far as they have come
-module _ (part : List Text → Parsed Outcome) (offset : List Text → Parsed Position) where
-  -- what is read of the parts that are left, after those that are done
-  abbrev pub left_after : List (Outcome × Position) → ℕ → List Text → Parsed (List (Outcome × Position))
-  left_after done n arguments = then_parsed (parsed_parts part offset n arguments) (λ others rest. Ok (done ++ others, rest))
+  pub named-remap : argument ≡ codes "remap" → parsed_by inputs part argument arguments ≡ parsed_remapping part arguments
+  named-remap e = ap (λ w. parsed_by inputs part w arguments) e
 
-  next-part : (count i : ℕ) (arguments : List Text) → i < count → parsed_parts part offset (count - i) arguments ≡ parsed_parts part offset (suc (count - (i + 1))) arguments
-  next-part count i arguments l = let e : count - i ≡ suc (count - (i + 1)) = omega arith in ap (λ n. parsed_parts part offset n arguments) e
+  pub named-text : (argument ≡ codes "rewrite" → ⊥) → (argument ≡ codes "root" → ⊥) → (argument ≡ codes "join" → ⊥) → (argument ≡ codes "joinat" → ⊥) → (argument ≡ codes "compose" → ⊥) → (argument ≡ codes "remap" → ⊥)
+      → parsed_by inputs part argument arguments ≡ with_rest (parsed_input inputs argument) arguments
+  named-text a b c d e f = rw (differ argument (codes "rewrite") a, differ argument (codes "root") b, differ argument (codes "join") c, differ argument (codes "joinat") d, differ argument (codes "compose") e, differ argument (codes "remap") f) refl
 
-  pushed : (done : List (Outcome × Position)) (p : Outcome × Position) (others : Parsed (List (Outcome × Position)))
-      → then_parsed (then_parsed others (λ os rest. Ok (p ∷ os, rest))) (λ os rest. Ok (done ++ os, rest)) ≡ then_parsed others (λ os rest. Ok ((done ++ p ∷ []) ++ os, rest))
-  pushed done p (Ok r) = ap (λ os. Ok (os, r.1)) (sym (append_assoc done (p ∷ []) r.0))
-  pushed done p (Err e) = refl
+-- ---- items, as far as they have come
+module _ {A : Type 0} (item : List Text → Parsed A) where
+  -- what is read of the items that are left, after those that are done
+  abbrev pub left_after : List A → ℕ → List Text → Parsed (List A)
+  left_after done n arguments = then_parsed (parsed_items item n arguments) (λ others rest. Ok (done ++ others, rest))
 
-  after-part : (done : List (Outcome × Position)) (count i : ℕ) (arguments : List Text) → i < count → (read : Parsed Outcome) → part arguments ≡ read
-      → left_after done (count - i) arguments ≡ then_parsed (then_parsed read (λ o after. then_parsed (offset after) (λ place left. then_parsed (parsed_parts part offset (count - (i + 1)) left) (λ others rest. Ok ((o, place) ∷ others, rest))))) (λ others rest. Ok (done ++ others, rest))
-  after-part done count i arguments l read e =
+  next-item : (count i : ℕ) (arguments : List Text) → i < count → parsed_items item (count - i) arguments ≡ parsed_items item (suc (count - (i + 1))) arguments
+  next-item count i arguments l = let e : count - i ≡ suc (count - (i + 1)) = omega arith in ap (λ n. parsed_items item n arguments) e
+
+  pushed : (done : List A) (x : A) (others : Parsed (List A)) → then_parsed (then_parsed others (λ xs rest. Ok (x ∷ xs, rest))) (λ xs rest. Ok (done ++ xs, rest)) ≡ then_parsed others (λ xs rest. Ok ((done ++ x ∷ []) ++ xs, rest))
+  pushed done x (Ok r) = ap (λ xs. Ok (xs, r.1)) (sym (append_assoc done (x ∷ []) r.0))
+  pushed done x (Err e) = refl
+
+  after-item : (done : List A) (count i : ℕ) (arguments : List Text) → i < count → (read : Parsed A) → item arguments ≡ read
+      → left_after done (count - i) arguments ≡ then_parsed (then_parsed read (λ x left. then_parsed (parsed_items item (count - (i + 1)) left) (λ others rest. Ok (x ∷ others, rest)))) (λ others rest. Ok (done ++ others, rest))
+  after-item done count i arguments l read e =
       ap (λ r. then_parsed r (λ others rest. Ok (done ++ others, rest)))
-      (next-part count i arguments l ∙ ap (λ r. then_parsed r (λ o after. then_parsed (offset after) (λ place left. then_parsed (parsed_parts part offset (count - (i + 1)) left) (λ others rest. Ok ((o, place) ∷ others, rest))))) e)
+      (next-item count i arguments l ∙ ap (λ r. then_parsed r (λ x left. then_parsed (parsed_items item (count - (i + 1)) left) (λ others rest. Ok (x ∷ others, rest)))) e)
 
-  -- a part with a fault
-  pub part-error : (done : List (Outcome × Position)) (count i : ℕ) (arguments : List Text) (e : RunError) → i < count → part arguments ≡ Err e → left_after done (count - i) arguments ≡ Err e
-  part-error done count i arguments e l h = after-part done count i arguments l (Err e) h
+  -- an item with a fault
+  pub item-error : (done : List A) (count i : ℕ) (arguments : List Text) (e : RunError) → i < count → item arguments ≡ Err e → left_after done (count - i) arguments ≡ Err e
+  item-error done count i arguments e l h = after-item done count i arguments l (Err e) h
 
-  -- a position with a fault
-  pub offset-error : (done : List (Outcome × Position)) (count i : ℕ) (arguments after : List Text) (o : Outcome) (e : RunError) → i < count → part arguments ≡ Ok (o, after) → offset after ≡ Err e → left_after done (count - i) arguments ≡ Err e
-  offset-error done count i arguments after o e l h k =
-      after-part done count i arguments l (Ok (o, after)) h
-      ∙ ap (λ r. then_parsed (then_parsed r (λ place left. then_parsed (parsed_parts part offset (count - (i + 1)) left) (λ others rest. Ok ((o, place) ∷ others, rest)))) (λ others rest. Ok (done ++ others, rest))) k
+  -- one more item that was read
+  pub item-more : (done : List A) (count i : ℕ) (arguments left : List Text) (x : A) → i < count → item arguments ≡ Ok (x, left) → left_after done (count - i) arguments ≡ left_after (done ++ x ∷ []) (count - (i + 1)) left
+  item-more done count i arguments left x l h = after-item done count i arguments l (Ok (x, left)) h ∙ pushed done x (parsed_items item (count - (i + 1)) left)
 
-  -- one more part that was read
-  pub part-more : (done : List (Outcome × Position)) (count i : ℕ) (arguments after left : List Text) (o : Outcome) (place : Position) → i < count → part arguments ≡ Ok (o, after) → offset after ≡ Ok (place, left)
-      → left_after done (count - i) arguments ≡ left_after (done ++ (o, place) ∷ []) (count - (i + 1)) left
-  part-more done count i arguments after left o place l h k =
-      after-part done count i arguments l (Ok (o, after)) h
-      ∙ ap (λ r. then_parsed (then_parsed r (λ place left. then_parsed (parsed_parts part offset (count - (i + 1)) left) (λ others rest. Ok ((o, place) ∷ others, rest)))) (λ others rest. Ok (done ++ others, rest))) k
-      ∙ pushed done (o, place) (parsed_parts part offset (count - (i + 1)) left)
-
-  -- all parts were read
-  pub parts-end : (done : List (Outcome × Position)) (count i : ℕ) (arguments : List Text) → count ≤ i → left_after done (count - i) arguments ≡ Ok (done, arguments)
-  parts-end done count i arguments l =
+  -- all items were read
+  pub items-end : (done : List A) (count i : ℕ) (arguments : List Text) → count ≤ i → left_after done (count - i) arguments ≡ Ok (done, arguments)
+  items-end done count i arguments l =
       let none : count - i ≡ 0 = omega arith in
-      ap (λ k. left_after done k arguments) none ∙ ap (λ os. Ok (os, arguments)) (append-nil done)
+      ap (λ k. left_after done k arguments) none ∙ ap (λ xs. Ok (xs, arguments)) (append-nil done)
 
-  -- a join, after its parts were read
-  pub join-of-parts : (arguments after : List Text) (n : ℕ) (read : Parsed (List (Outcome × Position))) → parsed_number arguments ≡ Ok (n, after) → parsed_parts part offset n after ≡ read
+  -- a list, after its items were read
+  pub list-read : (arguments after : List Text) (n : ℕ) (read : Parsed (List A)) → parsed_number arguments ≡ Ok (n, after) → parsed_items item n after ≡ read → parsed_list item arguments ≡ read
+  list-read arguments after n read e f = ap (λ r. then_parsed r (parsed_items item)) e ∙ f
+
+-- ---- the parts of a join and of a remapping
+module _ (part : List Text → Parsed Outcome) where
+  pub placed-error : (offset : List Text → Parsed Position) (arguments : List Text) (e : RunError) → part arguments ≡ Err e → parsed_placed part offset arguments ≡ Err e
+  placed-error offset arguments e h = ap (λ r. then_parsed r (λ o after. then_parsed (offset after) (λ place left. Ok ((o, place), left)))) h
+
+  pub placed : (offset : List Text → Parsed Position) (arguments after : List Text) (o : Outcome) (place : Parsed Position) → part arguments ≡ Ok (o, after) → offset after ≡ place
+      → parsed_placed part offset arguments ≡ then_parsed place (λ place left. Ok ((o, place), left))
+  placed offset arguments after o place h k =
+      ap (λ r. then_parsed r (λ o after. then_parsed (offset after) (λ place left. Ok ((o, place), left)))) h
+      ∙ ap (λ r. then_parsed r (λ place left. Ok ((o, place), left))) k
+
+  pub join-read : (offset : List Text → Parsed Position) (arguments : List Text) (read : Parsed (List (Outcome × Position))) → parsed_list (parsed_placed part offset) arguments ≡ read
       → parsed_join part offset arguments ≡ then_parsed read (λ parts left. Ok (join_outcome parts, left))
-  join-of-parts arguments after n read e f =
-      ap (λ r. then_parsed r (λ n after. then_parsed (parsed_parts part offset n after) (λ parts left. Ok (join_outcome parts, left)))) e
-      ∙ ap (λ r. then_parsed r (λ parts left. Ok (join_outcome parts, left))) f
+  join-read offset arguments read e = ap (λ r. then_parsed r (λ parts left. Ok (join_outcome parts, left))) e
+
+  pub path-error : (arguments : List Text) (e : RunError) → parsed_path arguments ≡ Err e → parsed_input_part part arguments ≡ Err e
+  path-error arguments e h = ap (λ r. then_parsed r (λ path after. then_parsed (part after) (λ o left. Ok ((path, o), left)))) h
+
+  pub with_path : (arguments after : List Text) (path : Text) (read : Parsed Outcome) → parsed_path arguments ≡ Ok (path, after) → part after ≡ read
+      → parsed_input_part part arguments ≡ then_parsed read (λ o left. Ok ((path, o), left))
+  with_path arguments after path read h k =
+      ap (λ r. then_parsed r (λ path after. then_parsed (part after) (λ o left. Ok ((path, o), left)))) h
+      ∙ ap (λ r. then_parsed r (λ o left. Ok ((path, o), left))) k
+
+  pub first-error : (arguments : List Text) (e : RunError) → part arguments ≡ Err e → parsed_remapping part arguments ≡ Err e
+  first-error arguments e h = ap (λ r. then_parsed r (λ first after. then_parsed (parsed_list (parsed_input_part part) after) (λ inputs left. Ok (remap_outcome first inputs, left)))) h
+
+  pub remapping-read : (arguments after : List Text) (first : Outcome) (read : Parsed (List (Text × Outcome))) → part arguments ≡ Ok (first, after) → parsed_list (parsed_input_part part) after ≡ read
+      → parsed_remapping part arguments ≡ then_parsed read (λ inputs left. Ok (remap_outcome first inputs, left))
+  remapping-read arguments after first read h k =
+      ap (λ r. then_parsed r (λ first after. then_parsed (parsed_list (parsed_input_part part) after) (λ inputs left. Ok (remap_outcome first inputs, left)))) h
+      ∙ ap (λ r. then_parsed r (λ inputs left. Ok (remap_outcome first inputs, left))) k
 
 pub deepest-pushed : (parts : List ℕ) (p room : ℕ) → deepest parts ≤ room → p ≤ room → deepest (parts ++ p ∷ []) ≤ room
 deepest-pushed [] p room h k = omega arith

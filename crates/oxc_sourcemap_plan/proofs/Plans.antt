@@ -1,5 +1,6 @@
 -- Depth and outcome of plans, by cases.
-use Rattle.std.proofs.Common.{◌≡◌, ℕ, List, [], ◌∷◌, ◌++◌, map, ◌+◌, Vec, Box, refl, ap, sym, ◌∙◌}
+use Rattle.std.proofs.Common.{◌≡◌, ℕ, List, [], ◌∷◌, ◌++◌, map, ◌+◌, max, Vec, Box, refl, ap, sym}
+use Rattle.std.proofs.Common.{◌∙◌}
 use Rattle.std.specs.declared.alloc.Global.{Global}
 use Rattle.std.specs.Borrow.{Bor}
 use Rattle.oxc_sourcemap_decode.specs.ReadMap.{said_in}
@@ -8,13 +9,17 @@ use Rattle.oxc_sourcemap_plan.specs.declared.plan.Plan.{Plan}
 use Rattle.oxc_sourcemap_plan.specs.declared.plan.Plan.TheVariants.{Read, rolls-Read, Rewrite}
 use Rattle.oxc_sourcemap_plan.specs.declared.plan.Plan.TheVariants.{rolls-Rewrite, Join, rolls-Join}
 use Rattle.oxc_sourcemap_plan.specs.declared.plan.Plan.TheVariants.{JoinAt, rolls-JoinAt, Compose}
-use Rattle.oxc_sourcemap_plan.specs.declared.plan.Plan.TheVariants.{rolls-Compose}
+use Rattle.oxc_sourcemap_plan.specs.declared.plan.Plan.TheVariants.{rolls-Compose, ApplyRoot}
+use Rattle.oxc_sourcemap_plan.specs.declared.plan.Plan.TheVariants.{rolls-ApplyRoot, Remap}
+use Rattle.oxc_sourcemap_plan.specs.declared.plan.Plan.TheVariants.{rolls-Remap}
 use Rattle.oxc_sourcemap_plan.specs.declared.plan.Plan.TheOpen.{Plan-F}
 use Rattle.oxc_sourcemap_plan.specs.declared.plan.Plan.TheFolds.{fold-roll-Plan}
 use Rattle.oxc_sourcemap_plan.specs.Depth.{depth, depth_step, deepest}
+use Rattle.oxc_sourcemap_plan.specs.Meaning.{by_path}
 use Rattle.oxc_sourcemap_plan.specs.Outcome.{Outcome, outcome_of, outcomes, outcome_step}
-use Rattle.oxc_sourcemap_plan.specs.Outcome.{read_outcome, rewrite_outcome, join_outcome}
-use Rattle.oxc_sourcemap_plan.specs.Outcome.{composition_outcome}
+use Rattle.oxc_sourcemap_plan.specs.Outcome.{read_outcome, rewrite_outcome, root_outcome}
+use Rattle.oxc_sourcemap_plan.specs.Outcome.{join_outcome, composition_outcome, remap_outcome}
+use Rattle.oxc_sourcemap_plan.specs.Outcome.{input_outcomes}
 
 firsts : {A B C : Type 0} (f : A → C) (parts : List (A × B)) → map (λ (p : C × B). p.0) (map (λ (p : A × B). (f p.0, p.1)) parts) ≡ map (λ p. f p.0) parts
 firsts f [] = refl
@@ -67,3 +72,31 @@ outcome_read text = ap outcome_of (sym (rolls-Read text)) ∙ fold-roll-Plan Out
 
 pub outcome_rewrite : (p : Box Plan Global) → outcome_of (Rewrite p) ≡ rewrite_outcome (outcome_of p.value)
 outcome_rewrite p = ap outcome_of (sym (rolls-Rewrite p)) ∙ fold-roll-Plan Outcome outcome_step (Plan-F.Rewrite p)
+
+pub outcome_root : (p : Box Plan Global) → outcome_of (ApplyRoot p) ≡ root_outcome (outcome_of p.value)
+outcome_root p = ap outcome_of (sym (rolls-ApplyRoot p)) ∙ fold-roll-Plan Outcome outcome_step (Plan-F.ApplyRoot p)
+
+seconds : {A B C : Type 0} (f : A → C) (parts : List (B × A)) → map (λ (p : B × C). p.1) (map (λ (p : B × A). (p.0, f p.1)) parts) ≡ map (λ p. f p.1) parts
+seconds f [] = refl
+seconds f (p ∷ parts) = ap (λ xs. f p.1 ∷ xs) (seconds f parts)
+
+pub depth_remap : (p : Box Plan Global) (inputs : Vec (Bor (List ℕ) × Plan) Global) → depth (Remap p inputs) ≡ max (depth p.value) (deepest (map (λ p. depth p.1) inputs.items)) + 1
+depth_remap p inputs = ap depth (sym (rolls-Remap p inputs)) ∙ fold-roll-Plan ℕ depth_step (Plan-F.Remap p inputs) ∙ ap (λ ds. max (depth p.value) (deepest ds) + 1) (seconds depth inputs.items)
+
+outcomes-by_path : (inputs : List (Bor (List ℕ) × Plan)) → by_path (map (λ p. (p.0, outcome_of p.1)) inputs) ≡ input_outcomes (by_path inputs)
+outcomes-by_path [] = refl
+outcomes-by_path (p ∷ inputs) = ap (λ xs. (p.0.now, outcome_of p.1) ∷ xs) (outcomes-by_path inputs)
+
+-- the outcomes of inputs, with one input more
+pub outcomes-inputs-pushed : (inputs : List (Bor (List ℕ) × Plan)) (p : Bor (List ℕ) × Plan) → input_outcomes (by_path (inputs ++ p ∷ [])) ≡ input_outcomes (by_path inputs) ++ (p.0.now, outcome_of p.1) ∷ []
+outcomes-inputs-pushed [] p = refl
+outcomes-inputs-pushed (q ∷ inputs) p = ap (λ xs. (q.0.now, outcome_of q.1) ∷ xs) (outcomes-inputs-pushed inputs p)
+
+pub outcome_remap : (p : Box Plan Global) (inputs : Vec (Bor (List ℕ) × Plan) Global) → outcome_of (Remap p inputs) ≡ remap_outcome (outcome_of p.value) (input_outcomes (by_path inputs.items))
+outcome_remap p inputs = ap outcome_of (sym (rolls-Remap p inputs)) ∙ fold-roll-Plan Outcome outcome_step (Plan-F.Remap p inputs) ∙ ap (remap_outcome (outcome_of p.value)) (outcomes-by_path inputs.items)
+
+pub outcome_inputs : (plan first : Plan) (p : Box Plan Global) (inputs : Vec (Bor (List ℕ) × Plan) Global) (items : List (Bor (List ℕ) × Plan)) → plan ≡ Remap p inputs → first ≡ p.value → items ≡ inputs.items
+    → outcome_of plan ≡ remap_outcome (outcome_of first) (input_outcomes (by_path items))
+outcome_inputs plan first p inputs items e d f =
+    ap outcome_of e ∙ outcome_remap p inputs ∙ ap (λ q. remap_outcome (outcome_of q) (input_outcomes (by_path inputs.items))) (sym d)
+    ∙ ap (λ xs. remap_outcome (outcome_of first) (input_outcomes (by_path xs))) (sym f)

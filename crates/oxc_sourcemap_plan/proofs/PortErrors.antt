@@ -13,9 +13,11 @@ use Rattle.oxc_sourcemap_plan.specs.Outcome.{Outcome}
 use Rattle.oxc_sourcemap_plan.specs.PlanArguments.{Parsed, then_parsed, number_or_fault}
 use Rattle.oxc_sourcemap_plan.specs.PlanArguments.{parsed_number, read_or_fault, read_of_number}
 use Rattle.oxc_sourcemap_plan.specs.PlanArguments.{parsed_input, with_rest, parsed_beginning}
-use Rattle.oxc_sourcemap_plan.specs.PlanArguments.{parsed_parts, parsed_rewrite, parsed_join}
-use Rattle.oxc_sourcemap_plan.specs.PlanArguments.{parsed_composition, parsed_by, parsed_part}
-use Rattle.oxc_sourcemap_plan.specs.PlanArguments.{whole, parsed_plan}
+use Rattle.oxc_sourcemap_plan.specs.PlanArguments.{parsed_placed, parsed_path, parsed_input_part}
+use Rattle.oxc_sourcemap_plan.specs.PlanArguments.{parsed_items, parsed_list, parsed_rewrite}
+use Rattle.oxc_sourcemap_plan.specs.PlanArguments.{parsed_root, parsed_join, parsed_composition}
+use Rattle.oxc_sourcemap_plan.specs.PlanArguments.{parsed_remapping, parsed_by, parsed_part, whole}
+use Rattle.oxc_sourcemap_plan.specs.PlanArguments.{parsed_plan}
 
 -- a failed read or write
 abbrev pub is_of_port : RunError → Bool
@@ -69,17 +71,35 @@ left_over : (r : Result Outcome RunError) (arguments : List Text) → IsNotOfPor
 left_over (Ok o) arguments h = tt
 left_over (Err fault) arguments h = h
 
+-- ---- a path, and lists
+path : (arguments : List Text) → IsNotOfPort (parsed_path arguments)
+path [] = refl
+path (argument ∷ arguments) = tt
+
+items : {A : Type 0} (item : List Text → Parsed A) → ((arguments : List Text) → IsNotOfPort (item arguments)) → (n : ℕ) (arguments : List Text) → IsNotOfPort (parsed_items item n arguments)
+items item h zero arguments = tt
+items item h (suc n) arguments = after (item arguments) _ (h arguments) (λ x left. after (parsed_items item n left) _ (items item h n left) (λ others rest. tt))
+
+list : {A : Type 0} (item : List Text → Parsed A) → ((arguments : List Text) → IsNotOfPort (item arguments)) → (arguments : List Text) → IsNotOfPort (parsed_list item arguments)
+list item h arguments = after (parsed_number arguments) (parsed_items item) (number arguments) (items item h)
+
 -- ---- plans, if their parts are read like this
 module _ (part : List Text → Parsed Outcome) (h : (arguments : List Text) → IsNotOfPort (part arguments)) where
-  parts : (has_column : Bool) (n : ℕ) (arguments : List Text) → IsNotOfPort (parsed_parts part (parsed_beginning has_column) n arguments)
-  parts has_column zero arguments = tt
-  parts has_column (suc n) arguments =
-      after (part arguments) _ (h arguments) (λ o more. after (parsed_beginning has_column more) _ (beginning has_column more) (λ place left.
-      after (parsed_parts part (parsed_beginning has_column) n left) _ (parts has_column n left) (λ others rest. tt)))
+  placed : (has_column : Bool) (arguments : List Text) → IsNotOfPort (parsed_placed part (parsed_beginning has_column) arguments)
+  placed has_column arguments =
+      after (part arguments) _ (h arguments) (λ o more. after (parsed_beginning has_column more) _ (beginning has_column more) (λ place left. tt))
 
   join : (has_column : Bool) (arguments : List Text) → IsNotOfPort (parsed_join part (parsed_beginning has_column) arguments)
-  join has_column arguments =
-      after (parsed_number arguments) _ (number arguments) (λ n more. after (parsed_parts part (parsed_beginning has_column) n more) _ (parts has_column n more) (λ os left. tt))
+  join has_column arguments = after (parsed_list (parsed_placed part (parsed_beginning has_column)) arguments) _ (list _ (placed has_column) arguments) (λ os left. tt)
+
+  input_part : (arguments : List Text) → IsNotOfPort (parsed_input_part part arguments)
+  input_part arguments = after (parsed_path arguments) _ (path arguments) (λ p more. after (part more) _ (h more) (λ o left. tt))
+
+  remapping : (arguments : List Text) → IsNotOfPort (parsed_remapping part arguments)
+  remapping arguments = after (part arguments) _ (h arguments) (λ first more. after (parsed_list (parsed_input_part part) more) _ (list _ input_part more) (λ os left. tt))
+
+  root : (arguments : List Text) → IsNotOfPort (parsed_root part arguments)
+  root arguments = after (part arguments) _ (h arguments) (λ o left. tt)
 
   rewrite : (arguments : List Text) → IsNotOfPort (parsed_rewrite part arguments)
   rewrite arguments = after (part arguments) _ (h arguments) (λ o left. tt)
@@ -90,9 +110,11 @@ module _ (part : List Text → Parsed Outcome) (h : (arguments : List Text) → 
   by_argument : (inputs : List Text) (argument : Text) (rest : List Text) → IsNotOfPort (parsed_by inputs part argument rest)
   by_argument inputs argument rest =
       either (bytes_eq argument (codes "rewrite")) _ _ (rewrite rest)
+      (either (bytes_eq argument (codes "root")) _ _ (root rest)
       (either (bytes_eq argument (codes "join")) _ _ (join false rest)
       (either (bytes_eq argument (codes "joinat")) _ _ (join true rest)
-      (either (bytes_eq argument (codes "compose")) _ _ (composition rest) (left_over (parsed_input inputs argument) rest (input inputs argument)))))
+      (either (bytes_eq argument (codes "compose")) _ _ (composition rest)
+      (either (bytes_eq argument (codes "remap")) _ _ (remapping rest) (left_over (parsed_input inputs argument) rest (input inputs argument)))))))
 
 part : (inputs : List Text) (levels : ℕ) (arguments : List Text) → IsNotOfPort (parsed_part inputs levels arguments)
 part inputs zero [] = refl

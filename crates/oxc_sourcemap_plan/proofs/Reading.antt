@@ -1,6 +1,6 @@
 -- What reading a text gives: a map by itself, or the join of the sections of an indexed map.
-use Rattle.std.proofs.Common.{◌≡◌, ◌≢◌, ℕ, ◌≤◌, ◌&&◌, Bool, true, false, cond, List, [], ◌∷◌, ◌++◌}
-use Rattle.std.proofs.Common.{map, length, refl, sym, ap, ◌∙◌, subst, arith, inl, inr, ◌⊎◌, Option}
+use Rattle.std.proofs.Common.{◌≡◌, ◌≢◌, true, false, cond, List, [], ◌∷◌}
+use Rattle.std.proofs.Common.{map, length, refl, sym, ap, ◌∙◌, subst, arith, inl, inr, Option}
 use Rattle.std.proofs.Common.{Some, None, Result, Ok, Err}
 use Rattle.std.specs.List.{flat_map, AllByRecursion}
 use Rattle.std.proofs.lemmas.Bool.{and_parts, both_ways, false_from_ne_true}
@@ -18,21 +18,21 @@ use Rattle.oxc_sourcemap_json.specs.Shape.{◌>>=◌}
 use Rattle.oxc_sourcemap_tokens.specs.declared.position.Position.{Position}
 use Rattle.oxc_sourcemap_join.specs.Joined.{nothing_joined, joined, IsWithinLimits}
 use Rattle.oxc_sourcemap_decode.specs.Sections.{Sections, joined_sections}
-use Rattle.oxc_sourcemap_decode.specs.JoinLimits.{is_within_limits}
+use Rattle.oxc_sourcemap_decode.specs.JoinLimits.{is_map_within_limits}
 use Rattle.oxc_sourcemap_decode.specs.ReadMap.{Said, plain, indexed, indexed_record, map_said}
 use Rattle.oxc_sourcemap_decode.specs.ReadMap.{said_in, read_map}
 use Rattle.oxc_sourcemap_decode.proofs.Limits.{limits_decided}
 use Rattle.oxc_sourcemap_decode.proofs.WellRead.{IsWellRead, sections_well, read_is_said}
 use Rattle.oxc_sourcemap_laws.specs.Repeats.{EqualUpToRepeats, is_sorted_decoded_map}
 use Rattle.oxc_sourcemap_laws.specs.JoinedDecodedMaps.{lowered, joined_decoded_maps}
-use Rattle.oxc_sourcemap_laws.specs.JoinLaws.{AreAllInRange, AreIgnoreListsInRange, decoded_maps_of}
+use Rattle.oxc_sourcemap_laws.specs.JoinLaws.{AreIgnoreListsInRange, decoded_maps_of}
 use Rattle.oxc_sourcemap_laws.proofs.JoinStands.{sorted-mappings}
-use Rattle.oxc_sourcemap_laws.proofs.Sections.{all-in-range, FromSections, from-sections, joined-of}
+use Rattle.oxc_sourcemap_laws.proofs.Sections.{all-in-range, from-sections, joined-of}
 use Rattle.oxc_sourcemap_laws.proofs.UpToRepeats.{sorted_decoded_map_up_to_repeats}
 use Rattle.oxc_sourcemap_tokens.specs.declared.plan_error.PlanError.TheVariants.{Map, Unsorted}
 use Rattle.oxc_sourcemap_plan.specs.Limits.{are_counts_within_limits, are_positions_within_limits}
 use Rattle.oxc_sourcemap_plan.specs.Limits.{is_join_within_limits}
-use Rattle.oxc_sourcemap_plan.specs.Outcome.{Outcome, plain_outcome, names_of_sections}
+use Rattle.oxc_sourcemap_plan.specs.Outcome.{plain_outcome, names_of_sections}
 use Rattle.oxc_sourcemap_plan.specs.Outcome.{sections_outcome, read_outcome}
 use Rattle.oxc_sourcemap_plan.specs.Evaluated.{are_among}
 use Rattle.oxc_sourcemap_plan.specs.Realizes.{Realizes, FailsAs}
@@ -115,9 +115,9 @@ module _ (laws : JoinLaws) (file : Option Text) (ms : List (MapRecord × Positio
       let s = joined_decoded_maps (decoded_maps_of ms) in
       inr (inl (ap (λ b. cond b (Ok (record s { file = file })) (Err Unsorted)) (sym sorted-same ∙ e)))
 
-  sections_too_large : (fault : Option Error) → is_within_limits (joined ms) ≡ false → FailsAs (Map TooLarge) (sections_outcome file fault ms)
+  sections_too_large : (fault : Option Error) → is_map_within_limits (joined ms) ≡ false → FailsAs (Map TooLarge) (sections_outcome file fault ms)
   sections_too_large fault e =
-      inr (inr (refl, false_from_ne_true _ (λ k. both_ways (is_within_limits (joined ms)) e ((limits_decided (joined ms)).1 (within k)))))
+      inr (inr (refl, false_from_ne_true _ (λ k. both_ways (is_map_within_limits (joined ms)) e ((limits_decided (joined ms)).1 (within k)))))
 
 -- ---- by what the join of sections is
 error-of : (file : Option Text) (x : Result MapRecord Error) (f : Error) → (x >>= (λ j. Ok (indexed_record file j))) ≡ Err f → x ≡ Err f
@@ -130,7 +130,7 @@ gives : (laws : JoinLaws) (said : Said) (r : MapRecord) → ((file : Option Text
 gives laws (plain answer) r w e b h s = subst (λ a. Realizes r (plain_outcome a)) (sym e) (plain_gives r b h s)
 gives laws (indexed file found) r w e b h s =
     let j = joined-of file (joined_sections found) r e in
-    let f = from-sections (is_within_limits (joined found.maps)) found.fault found.maps j.0 j.1 in
+    let f = from-sections (is_map_within_limits (joined found.maps)) found.fault found.maps j.0 j.1 in
     let is : indexed_record file (joined found.maps) ≡ r = ap (indexed_record file) f.is_join ∙ j.2 in
     let back = sym is in
     subst (λ fault. Realizes r (sections_outcome file fault found.maps)) (sym f.no_fault) (subst (λ m. Realizes m (sections_outcome file None found.maps)) is
@@ -141,7 +141,7 @@ unsorted : (laws : JoinLaws) (said : Said) (r : MapRecord) → ((file : Option T
 unsorted laws (plain answer) r w e s = subst (λ a. FailsAs Unsorted (plain_outcome a)) (sym e) (plain_unsorted r s)
 unsorted laws (indexed file found) r w e s =
     let j = joined-of file (joined_sections found) r e in
-    let f = from-sections (is_within_limits (joined found.maps)) found.fault found.maps j.0 j.1 in
+    let f = from-sections (is_map_within_limits (joined found.maps)) found.fault found.maps j.0 j.1 in
     let is : indexed_record file (joined found.maps) ≡ r = ap (indexed_record file) f.is_join ∙ j.2 in
     subst (λ fault. FailsAs Unsorted (sections_outcome file fault found.maps)) (sym f.no_fault)
     (sections_unsorted laws file found.maps (w file found refl) (ap (λ (m : MapRecord). are_tokens_sorted m.tokens) is ∙ s))
@@ -155,7 +155,7 @@ error : (laws : JoinLaws) (said : Said) (e : Error) → ((file : Option Text) (f
 error laws (plain answer) e w h = subst (λ a. FailsAs (Map e) (plain_outcome a)) (sym h) (inr (inl refl))
 error laws (indexed file found) e w h =
     let j : joined_sections found ≡ Err e = error-of file (joined_sections found) e h in
-    elim (is_within_limits (joined found.maps)) as (λ b. is_within_limits (joined found.maps) ≡ b → cond b (unless found.fault (Ok (joined found.maps))) (Err TooLarge) ≡ Err e
+    elim (is_map_within_limits (joined found.maps)) as (λ b. is_map_within_limits (joined found.maps) ≡ b → cond b (unless found.fault (Ok (joined found.maps))) (Err TooLarge) ≡ Err e
     → FailsAs (Map e) (sections_outcome file found.fault found.maps)) [
       | true ↦ (λ t k. let f = fault-of found.fault (joined found.maps) e k in subst (λ fault. FailsAs (Map e) (sections_outcome file fault found.maps)) (sym f) (inr (inl refl)))
       | false ↦ (λ t k. let f : TooLarge ≡ e = cc (k) in subst (λ x. FailsAs (Map x) (sections_outcome file found.fault found.maps)) f (sections_too_large laws file found.maps (w file found refl) found.fault t))

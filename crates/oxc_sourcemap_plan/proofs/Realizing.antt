@@ -141,13 +141,13 @@ pub plain_unsorted : (r : MapRecord) → are_tokens_sorted r.tokens ≡ false �
 plain_unsorted r s = inr (inl (ap (λ b. cond b (Ok (decoded_map_of r)) (Err Unsorted)) s))
 
 -- ---- a rewriting
-ok-same : {A : Type 0} (x y : A) → ◌≡◌ {A = Result A Error} (Ok x) (Ok y) → x ≡ y
+pub ok-same : {A : Type 0} (x y : A) → ◌≡◌ {A = Result A Error} (Ok x) (Ok y) → x ≡ y
 ok-same x y e = cc (e)
 
-err-same : {A : Type 0} (x y : Error) → ◌≡◌ {A = Result A Error} (Err x) (Err y) → x ≡ y
+pub err-same : {A : Type 0} (x y : Error) → ◌≡◌ {A = Result A Error} (Err x) (Err y) → x ≡ y
 err-same x y e = cc (e)
 
-no-ok-err : {A B : Type 0} (x : A) (y : Error) → ◌≡◌ {A = Result A Error} (Ok x) (Err y) → B
+pub no-ok-err : {A B : Type 0} (x : A) (y : Error) → ◌≡◌ {A = Result A Error} (Ok x) (Err y) → B
 no-ok-err x y e = absurd (cc (e))
 
 written-is : (o : Option Error) (r : MapRecord) (j : JsonRecord) → unless o (Ok (encoded_record r)) ≡ Ok j → encoded_record r ≡ j

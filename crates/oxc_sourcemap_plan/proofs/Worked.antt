@@ -11,7 +11,7 @@ use Rattle.oxc_sourcemap_tokens.specs.declared.plan_error.PlanError.TheVariants.
 use Rattle.oxc_sourcemap_join.specs.Joined.{at_lines}
 use Rattle.oxc_sourcemap_plan.specs.Meaning.{Meaning}
 use Rattle.oxc_sourcemap_plan.specs.Outcome.{Outcome, plain_outcome, rewrite_outcome, join_outcome}
-use Rattle.oxc_sourcemap_plan.specs.Outcome.{composition_outcome}
+use Rattle.oxc_sourcemap_plan.specs.Outcome.{root_outcome, composition_outcome, remap_outcome}
 
 -- a token: generated line and column, source line and column, source id, name id
 abbrev token : ℕ → ℕ → ℕ → ℕ → Option ℕ → Option ℕ → TokenRecord
@@ -108,3 +108,27 @@ composes = refl
 -- compose @0 @0, of a map with two sources
 several : (composition_outcome (of_map (plain [] (codes "a" ∷ codes "b" ∷ []) [])) (of_map (plain [] (codes "a" ∷ codes "b" ∷ []) []))).meaning ≡ Err (Map (SeveralSources 2))
 several = refl
+
+-- remap @0 1 m.js @1, of a map with the sources m.js and n.js
+remaps : entries_of (remap_outcome
+    (of_map (plain (codes "x" ∷ []) (codes "m.js" ∷ codes "n.js" ∷ []) (token 0 0 0 0 (Some 0) (Some 0) ∷ token 0 3 0 9 (Some 1) None ∷ [])))
+    ((codes "m.js", of_map (plain [] (codes "o.ts" ∷ []) (token 0 0 4 4 (Some 0) None ∷ []))) ∷ [])).meaning
+    ≡ points 0 0 (codes "o.ts") 4 4 (Some (codes "x")) ∷ points 0 3 (codes "n.js") 0 9 None ∷ []
+remaps = refl
+
+-- the first part of a remapping has an error, and so has its input
+first-part-first : (remap_outcome (plain_outcome (Err (BadJson Reading))) ((codes "a.js", join_outcome ((of_map first_map, record { line = 1; column = 0 }) ∷ (of_map second_map, record { line = 0; column = 0 }) ∷ [])) ∷ [])).meaning
+    ≡ Err (Map (BadJson Reading))
+first-part-first = refl
+
+-- an input for no source has an error
+unused-input : (remap_outcome (of_map first_map) ((codes "z.js", plain_outcome (Err (BadJson Reading))) ∷ [])).meaning ≡ Err (Map (BadJson Reading))
+unused-input = refl
+
+-- join 2 root @0 0 @1 1, of two maps with the source root `src`: the second one is dropped
+abbrev with_src : MapRecord → MapRecord
+with_src r = record r { source_root = Some (codes "src") }
+
+roots : entries_of (lines_outcome ((root_outcome (of_map (with_src second_map)), 0) ∷ (of_map (with_src second_map), 1) ∷ [])).meaning
+    ≡ points 0 0 (codes "src/b.js") 7 1 None ∷ points 1 0 (codes "b.js") 7 1 None ∷ []
+roots = refl

@@ -42,6 +42,16 @@ no-text-first = refl
 left-over : parsed_plan one_text (codes "join" ∷ codes "0" ∷ codes "0" ∷ []) ≡ Err Arguments
 left-over = refl
 
+-- a path is any argument, also one that is a word of plans
+path-of-a-word : parsed_plan one_text (codes "remap" ∷ codes "@0" ∷ codes "1" ∷ codes "join" ∷ codes "@9" ∷ []) ≡ Err (NoText 9)
+path-of-a-word = refl
+
+path-of-an-input : parsed_plan one_text (codes "remap" ∷ codes "@0" ∷ codes "1" ∷ codes "@5" ∷ codes "@9" ∷ []) ≡ Err (NoText 9)
+path-of-an-input = refl
+
+no-path : parsed_plan one_text (codes "remap" ∷ codes "@0" ∷ codes "1" ∷ []) ≡ Err Arguments
+no-path = refl
+
 -- numbers have no sign, and are at most 4294967295
 zeros : number_of (codes "00") ≡ Some 0
 zeros = refl

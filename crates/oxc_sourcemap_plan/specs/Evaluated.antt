@@ -14,6 +14,7 @@ use Rattle.oxc_sourcemap_laws.specs.JoinLaws.{HaveSameTraces}
 use Rattle.oxc_sourcemap_tokens.specs.declared.plan_error.PlanError.{PlanError}
 use Rattle.oxc_sourcemap_tokens.specs.declared.plan_error.PlanError.TheVariants.{Map}
 use Rattle.oxc_sourcemap_tokens.specs.declared.error.Error.TheVariants.{TooLarge}
+use Rattle.oxc_sourcemap_plan.specs.Meaning.{Meaning}
 use Rattle.oxc_sourcemap_plan.specs.Outcome.{Outcome}
 
 -- whether a name is one of these
@@ -30,30 +31,33 @@ pub record IsReadBack (m : MapRecord) : Type 0 where
   pub tokens : reading (canonical m.tokens) (length m.names) (length m.sources) ≡ Ok m.tokens
 
 -- An error of an evaluation other than `OutOfMemory`: the one that is meant, or `TooLarge` if a part is not within the limits.
-abbrev pub IsErrorOf : Outcome → PlanError → Type 0
-IsErrorOf o e = (o.meaning ≡ Err e) ⊎ ((e ≡ Map TooLarge) × (o.is_within_limits ≡ false))
+abbrev pub IsErrorOf : Meaning → Bool → PlanError → Type 0
+IsErrorOf meaning is_within_limits e = (meaning ≡ Err e) ⊎ ((e ≡ Map TooLarge) × (is_within_limits ≡ false))
 
--- What is promised of the map that an evaluation returns, by the outcome of the plan.
-pub record IsEvaluated (m : MapRecord) (o : Outcome) : Type 0 where
-  -- it is exactly the map that reading, rewriting, joining and composing make
-  pub map_record : o.map_record ≡ Some m
+-- What the theorem promises of the map that an evaluation returns, by what the plan means.
+pub record IsEvaluated (m : MapRecord) (meaning : Meaning) : Type 0 where
   -- the plan means a decoded map, and the map is sound and means the same but for repeated mappings
   pub decoded_map : DecodedMap
-  pub means : o.meaning ≡ Ok decoded_map
+  pub means : meaning ≡ Ok decoded_map
   pub sound : IsSound m
   pub up_to_repeats : EqualUpToRepeats (decoded_map_of m) decoded_map
   pub traces : HaveSameTraces (decoded_map_of m) decoded_map
   pub metadata : EqualButForMappings (decoded_map_of m) decoded_map
-  -- it has no more tokens than the meant mappings, no more names than the texts, and no more contents than `o` counts
+  -- it has no more tokens than the meant mappings
   pub tokens : length m.tokens ≤ length decoded_map.mappings
+  -- if it is not too large, it is written; and what is written comes back
+  pub written : length m.tokens ≤ 4294967295 → encoded m ≡ Ok (encoded_record m)
+  pub comes_back : ComesBack m
+
+-- What is promised of it besides, by the outcome of the plan: for proofs of callers that go on with the map.
+pub record HasOutcome (m : MapRecord) (o : Outcome) : Type 0 where
+  -- it is exactly the map that the steps make
+  pub map_record : o.map_record ≡ Some m
+  -- it has no more names than the texts, and each is a name of one of these; no more contents than `o` counts
   pub names : length m.names ≤ length o.names
-  pub contents : length m.source_contents ≤ o.contents
-  -- each name is a name of one of the texts
   pub known : are_among o.names m.names ≡ true
+  pub contents : length m.source_contents ≤ o.contents
   -- after a rewriting, its mappings text is read as exactly its tokens
   pub rewritten : o.is_rewritten ≡ true → IsReadBack m
   -- it is not too large to be written if all parts are within the limits
   pub within_limits : o.is_within_limits ≡ true → length m.tokens ≤ 4294967295
-  -- if it is not too large, it is written; and what is written comes back
-  pub written : length m.tokens ≤ 4294967295 → encoded m ≡ Ok (encoded_record m)
-  pub comes_back : ComesBack m

@@ -1,17 +1,28 @@
--- What plans mean, by what their parts mean: a decoded map, or one error. `Outcome` has the cases of a plan.
-use Rattle.std.specs.Prelude.{List, [], ◌∷◌, length, Option, Some, None, Result, Ok, Err}
-use Rattle.std.specs.Prelude.{if◌then◌else◌, nat_lt}
+-- What a plan means: a decoded map, or one error. By a case for each kind of plan, from what its parts mean.
+use Rattle.std.specs.Prelude.{List, [], ◌∷◌, length, map, Option, Some, None, Result, Ok, Err}
+use Rattle.std.specs.Prelude.{if◌then◌else◌, nat_le, nat_lt}
+use Rattle.std.specs.Borrow.{Bor}
 use Rattle.oxc_sourcemap_tokens.specs.declared.error.Error.{Error}
 use Rattle.oxc_sourcemap_tokens.specs.declared.error.Error.TheVariants.{SeveralSources}
 use Rattle.oxc_sourcemap_parts.specs.Record.{Text, MapRecord}
 use Rattle.oxc_sourcemap_parts.specs.Sorted.{are_tokens_sorted}
 use Rattle.oxc_sourcemap_parts.specs.DecodedMap.{DecodedMap, decoded_map_of}
 use Rattle.oxc_sourcemap_tokens.specs.declared.position.Position.{Position}
+use Rattle.oxc_sourcemap_join.specs.Joined.{at_lines, at_positions}
+use Rattle.oxc_sourcemap_decode.specs.ReadMap.{Said, plain, indexed, said_in}
 use Rattle.oxc_sourcemap_laws.specs.Repeats.{is_sorted_decoded_map}
 use Rattle.oxc_sourcemap_laws.specs.JoinedDecodedMaps.{joined_decoded_maps}
+use Rattle.oxc_sourcemap_laws.specs.JoinLaws.{decoded_maps_of}
 use Rattle.oxc_sourcemap_laws.specs.ComposedDecodedMaps.{composed_decoded_maps}
+use Rattle.oxc_sourcemap_laws.specs.RemappedDecodedMaps.{remapped_decoded_map}
+use Rattle.oxc_sourcemap_laws.specs.RootedDecodedMaps.{rooted_decoded_map}
 use Rattle.oxc_sourcemap_tokens.specs.declared.plan_error.PlanError.{PlanError}
 use Rattle.oxc_sourcemap_tokens.specs.declared.plan_error.PlanError.TheVariants.{Map, Unsorted}
+use Rattle.oxc_sourcemap_tokens.specs.declared.plan_error.PlanError.TheVariants.{TooDeep}
+use Rattle.oxc_sourcemap_plan.specs.declared.plan.Plan.{Plan}
+use Rattle.oxc_sourcemap_plan.specs.declared.plan.Plan.TheOpen.{Plan-F}
+use Rattle.oxc_sourcemap_plan.specs.declared.plan.Plan.TheFolds.{fold-Plan}
+use Rattle.oxc_sourcemap_plan.specs.Depth.{depth}
 
 abbrev pub Meaning : Type 0
 Meaning = Result DecodedMap PlanError
@@ -26,6 +37,19 @@ read_meaning (Ok r) = if are_tokens_sorted r.tokens then Ok (decoded_map_of r) e
 abbrev pub indexed_meaning : Option Text → Option Error → DecodedMap → Meaning
 indexed_meaning file (Some fault) s = Err (Map fault)
 indexed_meaning file None s = if is_sorted_decoded_map s then Ok (record s { file = file }) else Err Unsorted
+
+-- the meaning of a text, by how it is read
+abbrev pub said_meaning : Said → Meaning
+said_meaning (plain answer) = read_meaning answer
+said_meaning (indexed file found) = indexed_meaning file found.fault (joined_decoded_maps (decoded_maps_of found.maps))
+
+abbrev pub text_meaning : Text → Meaning
+text_meaning text = said_meaning (said_in text)
+
+-- the meaning of a step that applies the source root
+abbrev pub root_meaning : Meaning → Meaning
+root_meaning (Err e) = Err e
+root_meaning (Ok s) = Ok (rooted_decoded_map s)
 
 -- a decoded map at its offset, before others; or the first error
 abbrev pub onto_decoded_maps : Meaning → Position → Result (List (DecodedMap × Position)) PlanError
@@ -51,3 +75,42 @@ composition_meaning (Err e) second = Err e
 composition_meaning (Ok s) (Err e) = Err e
 composition_meaning (Ok s) (Ok t) =
     if nat_lt 1 (length s.sources) then Err (Map (SeveralSources (length s.sources))) else Ok (composed_decoded_maps s t)
+
+-- inputs of a remapping, each with its path as a text
+abbrev pub by_path : {A : Type 0} → List (Bor Text × A) → List (Text × A)
+by_path inputs = map (λ input. (input.0.now, input.1)) inputs
+
+-- an input of a remapping, with its path, before others; or the first error
+abbrev pub onto_inputs : Text → Meaning → Result (List (Text × DecodedMap)) PlanError → Result (List (Text × DecodedMap)) PlanError
+onto_inputs path (Err e) others = Err e
+onto_inputs path (Ok s) (Err e) = Err e
+onto_inputs path (Ok s) (Ok others) = Ok ((path, s) ∷ others)
+
+-- the decoded maps of all inputs of a remapping, each with its path, or the first error of an input
+abbrev pub all_inputs : List (Text × Meaning) → Result (List (Text × DecodedMap)) PlanError
+all_inputs [] = Ok []
+all_inputs (input ∷ inputs) = onto_inputs input.0 input.1 (all_inputs inputs)
+
+-- the meaning of a remapping: the decoded map of its first part, remapped by those of its inputs
+abbrev pub remap_meaning : Meaning → Result (List (Text × DecodedMap)) PlanError → Meaning
+remap_meaning (Err e) inputs = Err e
+remap_meaning (Ok s) (Err e) = Err e
+remap_meaning (Ok s) (Ok inputs) = Ok (remapped_decoded_map s inputs)
+
+-- the cases of a plan, by what its parts mean
+abbrev pub meaning_step : Plan-F Meaning → Meaning
+meaning_step (Plan-F.Read text) = text_meaning text.now
+meaning_step (Plan-F.Rewrite part) = part.value
+meaning_step (Plan-F.ApplyRoot part) = root_meaning part.value
+meaning_step (Plan-F.Join parts) = join_meaning (all_decoded_maps (at_lines parts.items))
+meaning_step (Plan-F.JoinAt parts) = join_meaning (all_decoded_maps (at_positions parts.items))
+meaning_step (Plan-F.Compose first second) = composition_meaning first.value second.value
+meaning_step (Plan-F.Remap first inputs) = remap_meaning first.value (all_inputs (by_path inputs.items))
+
+-- what a plan of any depth means
+abbrev pub meaning_of : Plan → Meaning
+meaning_of = fold-Plan Meaning meaning_step
+
+-- what a plan means; `TooDeep` if it is deeper than 64
+abbrev pub meaning : Plan → Meaning
+meaning plan = if nat_le (depth plan) 64 then meaning_of plan else Err TooDeep

@@ -1,16 +1,18 @@
--- The outcome of a plan, by cases: what it means, the map itself, what bounds its counts, and whether it is within the limits.
+-- The outcome of a plan, by cases: all that is said of it. What it means (as `Meaning` has it by itself), the map that its steps
+-- make, what bounds its counts, and whether it is within the limits.
 use Rattle.std.specs.Prelude.{ℕ, Bool, true, false, ◌&&◌, List, [], ◌∷◌, ◌++◌, length, map, Option}
 use Rattle.std.specs.Prelude.{Some, None, Result, Ok, Err, if◌then◌else◌, nat_le}
 use Rattle.std.specs.List.{flat_map, list_all}
 use Rattle.std.specs.Option.{option_map, option_and_then}
 use Rattle.oxc_sourcemap_tokens.specs.declared.error.Error.{Error}
 use Rattle.oxc_sourcemap_parts.specs.Record.{Text, MapRecord}
+use Rattle.oxc_sourcemap_parts.specs.Roots.{rooted}
 use Rattle.oxc_sourcemap_parts.specs.DecodedMap.{DecodedMap}
 use Rattle.oxc_sourcemap_laws.specs.MapLaws.{rewritten}
 use Rattle.oxc_sourcemap_lookup.specs.Composed.{composed}
+use Rattle.oxc_sourcemap_remap.specs.Remapped.{remapped}
 use Rattle.oxc_sourcemap_tokens.specs.declared.position.Position.{Position}
 use Rattle.oxc_sourcemap_join.specs.Joined.{at_lines, at_positions, joined}
-use Rattle.oxc_sourcemap_decode.specs.Sections.{Sections}
 use Rattle.oxc_sourcemap_decode.specs.ReadMap.{Said, plain, indexed, indexed_record, said_in}
 use Rattle.oxc_sourcemap_laws.specs.JoinedDecodedMaps.{joined_decoded_maps}
 use Rattle.oxc_sourcemap_laws.specs.JoinLaws.{decoded_maps_of}
@@ -20,8 +22,9 @@ use Rattle.oxc_sourcemap_plan.specs.declared.plan.Plan.TheFolds.{fold-Plan}
 use Rattle.oxc_sourcemap_tokens.specs.declared.plan_error.PlanError.{PlanError}
 use Rattle.oxc_sourcemap_tokens.specs.declared.plan_error.PlanError.TheVariants.{TooDeep}
 use Rattle.oxc_sourcemap_plan.specs.Depth.{depth}
-use Rattle.oxc_sourcemap_plan.specs.Meaning.{Meaning, read_meaning, indexed_meaning}
+use Rattle.oxc_sourcemap_plan.specs.Meaning.{Meaning, read_meaning, indexed_meaning, root_meaning}
 use Rattle.oxc_sourcemap_plan.specs.Meaning.{all_decoded_maps, join_meaning, composition_meaning}
+use Rattle.oxc_sourcemap_plan.specs.Meaning.{by_path, all_inputs, remap_meaning}
 use Rattle.oxc_sourcemap_plan.specs.Limits.{is_part_within_limits, is_join_within_limits}
 
 pub record Outcome : Type 0 where
@@ -31,12 +34,13 @@ pub record Outcome : Type 0 where
   pub map_record : Option MapRecord
   -- the names of all texts that are read
   pub names : List Text
-  -- how many contents the map has at most: as many as the text that is read, as the join has sources, or as the second part of
-  -- the composition
+  -- how many contents the map has at most: as many as the text that is read, as the join or the remapping has sources, or as the
+  -- second part of the composition
   pub contents : ℕ
   -- No part has more than 4294967295 names, sources or mappings, and no join a line or column above that. A join counts what all
-  -- its parts have; a composition the names of both, the sources of the second and the mappings of the first. A part that means
-  -- an error counts nothing; but a join whose parts mean none counts, sorted or not, and an indexed map counts as the join of its
+  -- its parts have; a composition the names of both, the sources of the second and the mappings of the first; a remapping the
+  -- names of all its parts, the sources of the remapped map and the mappings of the first. A part that means an error counts
+  -- nothing; but a join whose parts mean none counts, sorted or not, and an indexed map counts as the join of its
   -- sections in front of the first fault, whatever it means.
   pub is_within_limits : Bool
   -- the last step is a rewriting
@@ -98,6 +102,11 @@ read_outcome (indexed file found) = sections_outcome file found.fault found.maps
 abbrev pub rewrite_outcome : Outcome → Outcome
 rewrite_outcome part = record part { map_record = option_map rewritten part.map_record; is_rewritten = true }
 
+-- the outcome of a step that applies the source root
+abbrev pub root_outcome : Outcome → Outcome
+root_outcome part =
+    record part { meaning = root_meaning part.meaning; map_record = option_map rooted part.map_record; is_rewritten = false }
+
 -- what the parts of a join mean, each at its offset
 abbrev pub meanings : List (Outcome × Position) → List (Meaning × Position)
 meanings parts = map (λ p. (p.0.meaning, p.1)) parts
@@ -141,13 +150,52 @@ composition_outcome first second = record {
   is_rewritten = false;
 }
 
+-- what the inputs of a remapping mean, each with its path
+abbrev pub input_meanings : List (Text × Outcome) → List (Text × Meaning)
+input_meanings inputs = map (λ p. (p.0, p.1.meaning)) inputs
+
+-- the maps of all inputs, each with its path
+abbrev pub all_input_records : List (Text × Outcome) → Option (List (Text × MapRecord))
+all_input_records [] = Some []
+all_input_records (p ∷ inputs) = option_and_then (λ m. option_map (λ ms. (p.0, m) ∷ ms) (all_input_records inputs)) p.1.map_record
+
+-- the names of all inputs, in order
+abbrev pub input_names : List (Text × Outcome) → List Text
+input_names inputs = flat_map (λ p. p.1.names) inputs
+
+-- whether all inputs are within the limits
+abbrev pub are_inputs_within_limits : List (Text × Outcome) → Bool
+are_inputs_within_limits inputs = list_all (λ p. p.1.is_within_limits) inputs
+
+-- how many sources a decoded map has; none if an error is meant
+abbrev pub source_count : Meaning → ℕ
+source_count (Err e) = 0
+source_count (Ok s) = length s.sources
+
+-- what a remapping of these means
+abbrev pub remapped_meaning : Outcome → List (Text × Outcome) → Meaning
+remapped_meaning first inputs = remap_meaning first.meaning (all_inputs (input_meanings inputs))
+
+abbrev pub remap_outcome : Outcome → List (Text × Outcome) → Outcome
+remap_outcome first inputs = record {
+  meaning = remapped_meaning first inputs;
+  map_record = option_and_then (λ a. option_map (remapped a) (all_input_records inputs)) first.map_record;
+  names = first.names ++ input_names inputs;
+  contents = source_count (remapped_meaning first inputs);
+  is_within_limits = (first.is_within_limits && are_inputs_within_limits inputs)
+      && is_part_within_limits (first.names ++ input_names inputs) (remapped_meaning first inputs);
+  is_rewritten = false;
+}
+
 -- the cases of a plan, by the outcomes of its parts
 abbrev pub outcome_step : Plan-F Outcome → Outcome
 outcome_step (Plan-F.Read text) = read_outcome (said_in text.now)
 outcome_step (Plan-F.Rewrite part) = rewrite_outcome part.value
+outcome_step (Plan-F.ApplyRoot part) = root_outcome part.value
 outcome_step (Plan-F.Join parts) = join_outcome (at_lines parts.items)
 outcome_step (Plan-F.JoinAt parts) = join_outcome (at_positions parts.items)
 outcome_step (Plan-F.Compose first second) = composition_outcome first.value second.value
+outcome_step (Plan-F.Remap first inputs) = remap_outcome first.value (by_path inputs.items)
 
 -- the outcome of a plan of any depth
 abbrev pub outcome_of : Plan → Outcome
@@ -157,6 +205,10 @@ outcome_of = fold-Plan Outcome outcome_step
 abbrev pub outcomes : List (Plan × Position) → List (Outcome × Position)
 outcomes parts = map (λ p. (outcome_of p.0, p.1)) parts
 
+-- the outcomes of the inputs of a remapping, each with its path
+abbrev pub input_outcomes : List (Text × Plan) → List (Text × Outcome)
+input_outcomes inputs = map (λ p. (p.0, outcome_of p.1)) inputs
+
 -- the outcome of a plan that is too deep, of which nothing is read
 abbrev pub too_deep : Outcome
 too_deep = record { meaning = Err TooDeep; map_record = None; names = []; contents = 0; is_within_limits = true; is_rewritten = false }
@@ -164,10 +216,6 @@ too_deep = record { meaning = Err TooDeep; map_record = None; names = []; conten
 -- the outcome of a plan, which is at most 64 deep
 abbrev pub outcome : Plan → Outcome
 outcome plan = if nat_le (depth plan) 64 then outcome_of plan else too_deep
-
--- what a plan means: a decoded map, or the first error, or `TooDeep` if it is deeper than 64
-abbrev pub meaning : Plan → Meaning
-meaning plan = (outcome plan).meaning
 
 -- whether a plan is within the limits
 abbrev pub is_within_limits : Plan → Bool

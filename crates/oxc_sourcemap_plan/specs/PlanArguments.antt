@@ -11,8 +11,8 @@ use Rattle.oxc_sourcemap_plan.specs.declared.run_error.RunError.{RunError}
 use Rattle.oxc_sourcemap_plan.specs.declared.run_error.RunError.TheVariants.{Plan, Arguments}
 use Rattle.oxc_sourcemap_plan.specs.declared.run_error.RunError.TheVariants.{NoText}
 use Rattle.oxc_sourcemap_plan.specs.Numbers.{number_of}
-use Rattle.oxc_sourcemap_plan.specs.Outcome.{Outcome, read_outcome, rewrite_outcome, join_outcome}
-use Rattle.oxc_sourcemap_plan.specs.Outcome.{composition_outcome}
+use Rattle.oxc_sourcemap_plan.specs.Outcome.{Outcome, read_outcome, rewrite_outcome, root_outcome}
+use Rattle.oxc_sourcemap_plan.specs.Outcome.{join_outcome, composition_outcome, remap_outcome}
 
 -- what was read of the first arguments, and the arguments that are left
 abbrev pub Parsed : Type 0 → Type 0
@@ -66,36 +66,63 @@ abbrev pub parsed_beginning : Bool → List Text → Parsed Position
 parsed_beginning false = parsed_line
 parsed_beginning true = parsed_position
 
--- so many parts, each followed by its position
-abbrev pub parsed_parts : (List Text → Parsed Outcome) → (List Text → Parsed Position) → ℕ → List Text
-    → Parsed (List (Outcome × Position))
-parsed_parts part offset zero arguments = Ok ([], arguments)
-parsed_parts part offset (suc n) arguments =
-    then_parsed (part arguments) (λ o after. then_parsed (offset after) (λ place left.
-    then_parsed (parsed_parts part offset n left) (λ others rest. Ok ((o, place) ∷ others, rest))))
+-- a part of a join, and its position after it
+abbrev pub parsed_placed : (List Text → Parsed Outcome) → (List Text → Parsed Position) → List Text → Parsed (Outcome × Position)
+parsed_placed part offset arguments =
+    then_parsed (part arguments) (λ o after. then_parsed (offset after) (λ place left. Ok ((o, place), left)))
 
--- `rewrite P`, after its first argument
+-- a path: any argument, taken as it is
+abbrev pub parsed_path : List Text → Parsed Text
+parsed_path [] = Err Arguments
+parsed_path (argument ∷ arguments) = Ok (argument, arguments)
+
+-- the path of an input of a remapping, and the input after it
+abbrev pub parsed_input_part : (List Text → Parsed Outcome) → List Text → Parsed (Text × Outcome)
+parsed_input_part part arguments =
+    then_parsed (parsed_path arguments) (λ path after. then_parsed (part after) (λ o left. Ok ((path, o), left)))
+
+-- so many items, one after the other
+abbrev pub parsed_items : {A : Type 0} → (List Text → Parsed A) → ℕ → List Text → Parsed (List A)
+parsed_items item zero arguments = Ok ([], arguments)
+parsed_items item (suc n) arguments =
+    then_parsed (item arguments) (λ x left. then_parsed (parsed_items item n left) (λ others rest. Ok (x ∷ others, rest)))
+
+-- N, and N items after it
+abbrev pub parsed_list : {A : Type 0} → (List Text → Parsed A) → List Text → Parsed (List A)
+parsed_list item arguments = then_parsed (parsed_number arguments) (parsed_items item)
+
+-- `rewrite P`, after its first argument; and so the others
 abbrev pub parsed_rewrite : (List Text → Parsed Outcome) → List Text → Parsed Outcome
 parsed_rewrite part rest = then_parsed (part rest) (λ o left. Ok (rewrite_outcome o, left))
 
+-- `root P`
+abbrev pub parsed_root : (List Text → Parsed Outcome) → List Text → Parsed Outcome
+parsed_root part rest = then_parsed (part rest) (λ o left. Ok (root_outcome o, left))
+
 -- N, and N times a part with its offset: the rest of `join` and of `joinat`
 abbrev pub parsed_join : (List Text → Parsed Outcome) → (List Text → Parsed Position) → List Text → Parsed Outcome
-parsed_join part offset rest =
-    then_parsed (parsed_number rest) (λ n after. then_parsed (parsed_parts part offset n after) (λ parts left.
-    Ok (join_outcome parts, left)))
+parsed_join part offset rest = then_parsed (parsed_list (parsed_placed part offset) rest) (λ parts left. Ok (join_outcome parts, left))
 
 -- `compose P P`
 abbrev pub parsed_composition : (List Text → Parsed Outcome) → List Text → Parsed Outcome
 parsed_composition part rest =
     then_parsed (part rest) (λ first after. then_parsed (part after) (λ second left. Ok (composition_outcome first second, left)))
 
+-- `remap P N`, and N times a path and a part
+abbrev pub parsed_remapping : (List Text → Parsed Outcome) → List Text → Parsed Outcome
+parsed_remapping part rest =
+    then_parsed (part rest) (λ first after. then_parsed (parsed_list (parsed_input_part part) after) (λ inputs left.
+    Ok (remap_outcome first inputs, left)))
+
 -- a plan by its first argument and those after it, if `part` reads the parts of a plan
 abbrev pub parsed_by : List Text → (List Text → Parsed Outcome) → Text → List Text → Parsed Outcome
 parsed_by inputs part argument rest =
     if bytes_eq argument (codes "rewrite") then parsed_rewrite part rest
+    else if bytes_eq argument (codes "root") then parsed_root part rest
     else if bytes_eq argument (codes "join") then parsed_join part (parsed_beginning false) rest
     else if bytes_eq argument (codes "joinat") then parsed_join part (parsed_beginning true) rest
     else if bytes_eq argument (codes "compose") then parsed_composition part rest
+    else if bytes_eq argument (codes "remap") then parsed_remapping part rest
     else with_rest (parsed_input inputs argument) rest
 
 -- A part that may be this many levels deep. If no level is left, any argument is too deep.

@@ -3,7 +3,7 @@ use Rattle.std.specs.Prelude.{◌≡◌, ◌≤◌, true, List, length, Ok, Some
 use Rattle.std.specs.List.{AllZip}
 use Rattle.oxc_sourcemap_tokens.specs.declared.error.Error.TheVariants.{OutOfMemory}
 use Rattle.oxc_sourcemap_tokens.specs.Token.{AreInBounds}
-use Rattle.oxc_sourcemap_parts.specs.Record.{MapRecord}
+use Rattle.oxc_sourcemap_parts.specs.Record.{Text, MapRecord}
 use Rattle.oxc_sourcemap_parts.specs.Views.{record_of_parts}
 use Rattle.oxc_sourcemap_parts.specs.declared.parts.SourceMapParts.{SourceMapParts}
 use Rattle.oxc_sourcemap_parts.specs.DecodedMap.{DecodedMap}
@@ -36,8 +36,12 @@ PartsRealize parts o = Realizes (record_of_parts parts) o
 
 -- An error is the one that is meant, or want of memory, or `TooLarge` if the plan is not within the limits.
 abbrev pub FailsAs : PlanError → Outcome → Type 0
-FailsAs e o = (e ≡ Map OutOfMemory) ⊎ IsErrorOf o e
+FailsAs e o = (e ≡ Map OutOfMemory) ⊎ IsErrorOf o.meaning o.is_within_limits e
 
 -- each map realizes the outcome at its index in the other list, at the same offset
 abbrev pub AllRealize : List (MapRecord × Position) → List (Outcome × Position) → Type 0
 AllRealize ms os = AllZip (λ m o. Realizes m.0 o.0 × (m.1 ≡ o.1)) ms os
+
+-- each input realizes the outcome at its index in the other list, for the same path
+abbrev pub InputsRealize : List (Text × MapRecord) → List (Text × Outcome) → Type 0
+InputsRealize ms os = AllZip (λ m o. (m.0 ≡ o.0) × Realizes m.1 o.1) ms os

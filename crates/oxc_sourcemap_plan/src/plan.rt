@@ -1,20 +1,26 @@
 //! Plans: pipelines of reading, rewriting, joining and composing maps, and their evaluation.
 ghost use Rattle.std.specs.Prelude.{◌≡◌, ◌≤◌, ◌↔◌, ◌⊎◌, List, true, false, IsTrue, IfOk, IfErr};
-ghost use Rattle.oxc_sourcemap_plan.specs.Words.{depth, Outcome, read_outcome, rewrite_outcome};
-ghost use Rattle.oxc_sourcemap_plan.specs.Words.{join_outcome, composition_outcome, outcome_of};
-ghost use Rattle.oxc_sourcemap_plan.specs.Words.{outcomes, outcome, Position, at_lines};
-ghost use Rattle.oxc_sourcemap_plan.specs.Words.{at_positions, IsEvaluated, IsErrorOf};
-ghost use Rattle.oxc_sourcemap_plan.specs.Words.{PartsRealize};
-ghost use Rattle.oxc_sourcemap_plan.specs.Words.{FailsAs, AllRealize, OutOfMemory, said_in};
-ghost use Rattle.oxc_sourcemap_plan.specs.Words.{are_tokens_sorted, Map, Unsorted};
-ghost use Rattle.oxc_sourcemap_plan.specs.Words.{record_of_parts, owned_records};
+ghost use Rattle.oxc_sourcemap_plan.specs.Words.{Text, Position, depth, Outcome, read_outcome};
+ghost use Rattle.oxc_sourcemap_plan.specs.Words.{rewrite_outcome, root_outcome, join_outcome};
+ghost use Rattle.oxc_sourcemap_plan.specs.Words.{composition_outcome, remap_outcome, by_path};
+ghost use Rattle.oxc_sourcemap_plan.specs.Words.{outcome_of, outcomes, input_outcomes, outcome};
+ghost use Rattle.oxc_sourcemap_plan.specs.Words.{at_lines, at_positions, meaning};
+ghost use Rattle.oxc_sourcemap_plan.specs.Words.{is_within_limits, InputsRealize};
+ghost use Rattle.oxc_sourcemap_plan.specs.Words.{owned_input_records, IsEvaluated, HasOutcome};
+ghost use Rattle.oxc_sourcemap_plan.specs.Words.{IsErrorOf, PartsRealize, FailsAs, AllRealize};
+ghost use Rattle.oxc_sourcemap_plan.specs.Words.{OutOfMemory, said_in, are_tokens_sorted, Map};
+ghost use Rattle.oxc_sourcemap_plan.specs.Words.{Unsorted, record_of_parts, owned_records};
 
 use oxc_sourcemap_decode::{decode_parts, decode_parts_from_string};
 use oxc_sourcemap_encode::encode_owned_parts;
 use oxc_sourcemap_join::join_owned_parts;
-use oxc_sourcemap_laws::{canonical_unique, composition_associative, dropping_harmless};
+use oxc_sourcemap_laws::{
+    canonical_unique, composition_associative, dropping_harmless, remapping_associative,
+    rooting_idempotent,
+};
 use oxc_sourcemap_lookup::compose_parts;
-use oxc_sourcemap_parts::{SourceMapParts, are_sorted};
+use oxc_sourcemap_parts::{SourceMapParts, apply_root, are_sorted};
+use oxc_sourcemap_remap::remap_owned_parts;
 use oxc_sourcemap_tokens::{PlanError, Position};
 use std::alloc::Global;
 
@@ -36,6 +42,8 @@ pub enum Plan<'t> {
     Read(&'t str),
     /// Write the map of a part as a JSON source map, and read it again.
     Rewrite(Box<Plan<'t>>),
+    /// Put the source root of the map of a part before each of its sources; the map has none then.
+    ApplyRoot(Box<Plan<'t>>),
     /// Join the maps of parts, each at the line of the joined code where its code begins, at column 0.
     Join(Vec<(Plan<'t>, u32)>),
     /// Join the maps of parts, each at the line and the column of the joined code where its code begins.
@@ -43,6 +51,8 @@ pub enum Plan<'t> {
     /// Compose the map of the first part, from generated to intermediate code, with that of the second, from there to
     /// original code.
     Compose(Box<Plan<'t>>, Box<Plan<'t>>),
+    /// Lead the map of the first part on through the maps of other parts, each for the sources that have its path, byte for byte.
+    Remap(Box<Plan<'t>>, Vec<(&'t str, Plan<'t>)>),
 }
 
 /// Whether a plan is at most `room` levels deep. A plan without parts has one level.
@@ -55,6 +65,7 @@ fn is_within_depth(plan: &Plan<'_>, room: u32) -> bool
     match plan {
         Plan::Read(_) => true,
         Plan::Rewrite(part) => is_within_depth(part, room - 1),
+        Plan::ApplyRoot(part) => is_within_depth(part, room - 1),
         Plan::Join(parts) => {
             for (part, _) in parts {
                 if !is_within_depth(part, room - 1) {
@@ -73,6 +84,14 @@ fn is_within_depth(plan: &Plan<'_>, room: u32) -> bool
         }
         Plan::Compose(first, second) => {
             is_within_depth(first, room - 1) && is_within_depth(second, room - 1)
+        }
+        Plan::Remap(first, inputs) => {
+            for (_, input) in inputs {
+                if !is_within_depth(input, room - 1) {
+                    return false;
+                }
+            }
+            is_within_depth(first, room - 1)
         }
     }
 }
@@ -149,6 +168,40 @@ fn compose(
     Ok(compose_parts(alloc, first, second)?)
 }
 
+/// A map with its source root before its sources.
+#[inline(never)]
+fn put_root(
+    alloc: Global,
+    map: SourceMapParts<'static>,
+) -> Result<SourceMapParts<'static>, PlanError>
+    ensures map { IfOk result (λ m. (o : Outcome) → PartsRealize map.entry o
+        → PartsRealize m (root_outcome o)) }
+    ensures error { IfErr result (λ e. (o : Outcome) → FailsAs e (root_outcome o)) }
+{
+    rooting_idempotent();
+    let mut map = map;
+    apply_root(alloc, &mut map)?;
+    Ok(map)
+}
+
+/// A map, led on through inputs.
+#[inline(never)]
+fn remap(
+    alloc: Global,
+    map: SourceMapParts<'static>,
+    inputs: Vec<(&str, SourceMapParts<'static>)>,
+) -> Result<SourceMapParts<'static>, PlanError>
+    ensures map { IfOk result (λ m. (o : Outcome) (os : List (Text × Outcome))
+        → PartsRealize map.entry o → InputsRealize (owned_input_records inputs.entry.items) os
+        → PartsRealize m (remap_outcome o os)) }
+    ensures error { IfErr result (λ e. (o : Outcome) (os : List (Text × Outcome))
+        → PartsRealize map.entry o → InputsRealize (owned_input_records inputs.entry.items) os
+        → FailsAs e (remap_outcome o os)) }
+{
+    remapping_associative();
+    Ok(remap_owned_parts(alloc, &map, inputs.as_slice())?)
+}
+
 /// The map of a plan of any depth.
 ///
 /// The stack has a frame for each level of a plan. To keep these small, each kind of part has a function of its own, and
@@ -161,9 +214,11 @@ fn evaluate_part(alloc: Global, plan: &Plan<'_>) -> Result<SourceMapParts<'stati
     match plan {
         Plan::Read(text) => read(alloc, text),
         Plan::Rewrite(part) => evaluate_rewrite(alloc, part),
+        Plan::ApplyRoot(part) => evaluate_root(alloc, part),
         Plan::Join(parts) => evaluate_join(alloc, parts.as_slice()),
         Plan::JoinAt(parts) => evaluate_join_at(alloc, parts.as_slice()),
         Plan::Compose(first, second) => evaluate_composition(alloc, first, second),
+        Plan::Remap(first, inputs) => evaluate_remapping(alloc, first, inputs.as_slice()),
     }
 }
 
@@ -176,6 +231,17 @@ fn evaluate_rewrite(alloc: Global, part: &Plan<'_>) -> Result<SourceMapParts<'st
 {
     let map = evaluate_part(alloc, part)?;
     rewrite(alloc, map)
+}
+
+/// The map of a part, with its source root before its sources.
+#[cycle(evaluation)]
+#[inline(never)]
+fn evaluate_root(alloc: Global, part: &Plan<'_>) -> Result<SourceMapParts<'static>, PlanError>
+    ensures map { IfOk result (λ map. PartsRealize map (root_outcome (outcome_of part.now))) }
+    ensures error { IfErr result (λ e. FailsAs e (root_outcome (outcome_of part.now))) }
+{
+    let map = evaluate_part(alloc, part)?;
+    put_root(alloc, map)
 }
 
 /// The join of the maps of parts, each at its line.
@@ -245,13 +311,38 @@ fn evaluate_composition(
     )
 }
 
+/// The map of the first part, led on through those of others.
+#[cycle(evaluation)]
+#[inline(never)]
+fn evaluate_remapping(
+    alloc: Global,
+    first: &Plan<'_>,
+    inputs: &[(&str, Plan<'_>)],
+) -> Result<SourceMapParts<'static>, PlanError>
+    ensures map { IfOk result (λ map. PartsRealize map
+        (remap_outcome (outcome_of first.now) (input_outcomes (by_path inputs.now)))) }
+    ensures error { IfErr result (λ e. FailsAs e
+        (remap_outcome (outcome_of first.now) (input_outcomes (by_path inputs.now)))) }
+{
+    let map = evaluate_part(alloc, first)?;
+    let mut maps = Vec::new(alloc);
+    for (path, input) in inputs {
+        let input = evaluate_part(alloc, input)?;
+        maps.push((*path, input))?;
+    }
+    remap(alloc, map, maps)
+}
+
 /// Evaluates a plan, as parts: `evaluate` of the crate `oxc_sourcemap` makes a map of these, and has the rules.
 pub fn evaluate_to_parts(
     alloc: Global,
     plan: &Plan<'_>,
 ) -> Result<SourceMapParts<'static>, PlanError>
-    ensures map { IfOk result (λ map. IsEvaluated (record_of_parts map) (outcome plan.now)) }
-    ensures error { IfErr result (λ e. (e ≡ Map OutOfMemory) ⊎ IsErrorOf (outcome plan.now) e) }
+    ensures map { IfOk result (λ map. IsEvaluated (record_of_parts map) (meaning plan.now)) }
+    ensures error { IfErr result (λ e. (e ≡ Map OutOfMemory)
+        ⊎ IsErrorOf (meaning plan.now) (is_within_limits plan.now) e) }
+    ensures outcome { IfOk result (λ map. HasOutcome (record_of_parts map) (outcome plan.now)) }
+    ensures same_meaning { (outcome plan.now).meaning ≡ meaning plan.now }
 {
     dropping_harmless();
     canonical_unique();

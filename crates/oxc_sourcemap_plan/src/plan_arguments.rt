@@ -2,11 +2,12 @@
 ghost use Rattle.std.specs.Prelude.{◌≡◌, ◌≢◌, ◌≤◌, ◌<◌, ◌+◌, ◌∷◌, [], false, length, map};
 ghost use Rattle.std.specs.Prelude.{string_bytes, Ok, Err, slice_get, MatchOption, IfOk, IfErr};
 ghost use Rattle.std.specs.Prelude.{IfSome};
-ghost use Rattle.oxc_sourcemap_plan.specs.Words.{out_of_memory, depth, outcome_of};
-ghost use Rattle.oxc_sourcemap_plan.specs.Words.{outcome, inputs_of, parsed_number};
-ghost use Rattle.oxc_sourcemap_plan.specs.Words.{parsed_beginning, parsed_input, parsed_join};
-ghost use Rattle.oxc_sourcemap_plan.specs.Words.{parsed_part, parsed_plan, Gives, lent_items};
-ghost use Rattle.oxc_sourcemap_plan.specs.Words.{lent_item};
+ghost use Rattle.oxc_sourcemap_plan.specs.Words.{out_of_memory, depth, deepest, outcome_of};
+ghost use Rattle.oxc_sourcemap_plan.specs.Words.{outcome, inputs_of, parsed_number, by_path};
+ghost use Rattle.oxc_sourcemap_plan.specs.Words.{input_outcomes, parsed_beginning, parsed_input};
+ghost use Rattle.oxc_sourcemap_plan.specs.Words.{parsed_join, parsed_path, parsed_list};
+ghost use Rattle.oxc_sourcemap_plan.specs.Words.{parsed_input_part, parsed_remapping, parsed_part};
+ghost use Rattle.oxc_sourcemap_plan.specs.Words.{parsed_plan, Gives, lent_items, lent_item};
 
 use crate::numbers::read_number;
 use crate::plan::Plan;
@@ -109,14 +110,25 @@ fn read_input<'t>(inputs: &'t [&'t str], argument: &str) -> Result<Plan<'t>, Run
     }
 }
 
+/// The first argument as a path, whatever it is, and the arguments after it.
+fn take_path(arguments: &[String]) -> Result<(&str, &[String]), RunError>
+    ensures { Gives (λ r. (r.0.now, map string_bytes r.1.now)) result
+        (parsed_path (map string_bytes arguments.now)) }
+{
+    match arguments.split_first() {
+        Some((path, others)) => Ok((path.as_str(), others)),
+        None => Err(RunError::Arguments),
+    }
+}
+
 /// The part that the arguments begin with, at most `room` levels deep, and the arguments after it.
 #[cycle(part)]
-fn read_part<'t, 'w>(
+fn read_part<'t>(
     alloc: Global,
     inputs: &'t [&'t str],
-    arguments: &'w [String],
+    arguments: &'t [String],
     room: u32,
-) -> Result<(Plan<'t>, &'w [String]), RunError>
+) -> Result<(Plan<'t>, &'t [String]), RunError>
     ensures part { IfOk result (λ r. parsed_part (lent_items inputs.now) room
         (map string_bytes arguments.now) ≡ Ok (outcome_of r.0, map string_bytes r.1.now)) }
     ensures depth { IfOk result (λ r. depth r.0 ≤ room) }
@@ -134,6 +146,10 @@ fn read_part<'t, 'w>(
             let (part, rest) = read_part(alloc, inputs, others, room - 1)?;
             Ok((Plan::Rewrite(Box::new(alloc, part)?), rest))
         }
+        "root" => {
+            let (part, rest) = read_part(alloc, inputs, others, room - 1)?;
+            Ok((Plan::ApplyRoot(Box::new(alloc, part)?), rest))
+        }
         "join" => read_join(alloc, inputs, others, room - 1, false),
         "joinat" => read_join(alloc, inputs, others, room - 1, true),
         "compose" => {
@@ -144,6 +160,7 @@ fn read_part<'t, 'w>(
                 rest,
             ))
         }
+        "remap" => read_remapping(alloc, inputs, others, room - 1),
         text => Ok((read_input(inputs, text)?, others)),
     }
 }
@@ -151,13 +168,13 @@ fn read_part<'t, 'w>(
 /// The join after the argument `join` or `joinat`: a number, and as many parts, at most `room` levels deep, each with its
 /// position. A join at lines is one at these lines and column 0.
 #[cycle(part)]
-fn read_join<'t, 'w>(
+fn read_join<'t>(
     alloc: Global,
     inputs: &'t [&'t str],
-    arguments: &'w [String],
+    arguments: &'t [String],
     room: u32,
     has_column: bool,
-) -> Result<(Plan<'t>, &'w [String]), RunError>
+) -> Result<(Plan<'t>, &'t [String]), RunError>
     ensures part { IfOk result (λ r.
         parsed_join (parsed_part (lent_items inputs.now) room) (parsed_beginning has_column)
         (map string_bytes arguments.now)
@@ -180,8 +197,58 @@ fn read_join<'t, 'w>(
     Ok((Plan::JoinAt(parts), rest))
 }
 
-/// The plan of these arguments, over these inputs: `@K` for input K (from 0), `rewrite P`, `join N` followed by N times
-/// `P LINE`, `joinat N` followed by N times `P LINE COLUMN`, or `compose P P`, each number as `read_number` reads it.
+/// The inputs of a remapping: a number, and as many times a path and a part, at most `room` levels deep.
+#[cycle(part)]
+fn read_remap_inputs<'t>(
+    alloc: Global,
+    inputs: &'t [&'t str],
+    arguments: &'t [String],
+    room: u32,
+) -> Result<(Vec<(&'t str, Plan<'t>)>, &'t [String]), RunError>
+    ensures parts { IfOk result (λ r.
+        parsed_list (parsed_input_part (parsed_part (lent_items inputs.now) room))
+        (map string_bytes arguments.now)
+        ≡ Ok (input_outcomes (by_path r.0.items), map string_bytes r.1.now)) }
+    ensures depth { IfOk result (λ r. deepest (map (λ p. depth p.1) r.0.items) ≤ room) }
+    ensures error { IfErr result (λ e. (e ≢ out_of_memory) →
+        parsed_list (parsed_input_part (parsed_part (lent_items inputs.now) room))
+        (map string_bytes arguments.now) ≡ Err e) }
+{
+    let (count, after) = take_number(arguments)?;
+    let mut parts = Vec::new(alloc);
+    let mut rest = after;
+    for i in 0..count {
+        let (path, left) = take_path(rest)?;
+        let (part, left) = read_part(alloc, inputs, left, room)?;
+        parts.push((path, part))?;
+        rest = left;
+    }
+    Ok((parts, rest))
+}
+
+/// The remapping after the argument `remap`: a part and its inputs, at most `room` levels deep.
+#[cycle(part)]
+fn read_remapping<'t>(
+    alloc: Global,
+    inputs: &'t [&'t str],
+    arguments: &'t [String],
+    room: u32,
+) -> Result<(Plan<'t>, &'t [String]), RunError>
+    ensures part { IfOk result (λ r. parsed_remapping (parsed_part (lent_items inputs.now) room)
+        (map string_bytes arguments.now) ≡ Ok (outcome_of r.0, map string_bytes r.1.now)) }
+    ensures depth { IfOk result (λ r. depth r.0 ≤ room + 1) }
+    ensures error { IfErr result (λ e. (e ≢ out_of_memory)
+        → parsed_remapping (parsed_part (lent_items inputs.now) room)
+        (map string_bytes arguments.now) ≡ Err e) }
+{
+    let (first, after) = read_part(alloc, inputs, arguments, room)?;
+    let (parts, rest) = read_remap_inputs(alloc, inputs, after, room)?;
+    Ok((Plan::Remap(Box::new(alloc, first)?, parts), rest))
+}
+
+/// The plan of these arguments, over these inputs: `@K` for input K (from 0), `rewrite P`, `root P`, `join N` followed by N
+/// times `P LINE`, `joinat N` followed by N times `P LINE COLUMN`, `compose P P`, or `remap P N` followed by N times `PATH P`,
+/// where PATH is any argument, taken as it is; each number as `read_number` reads it.
 ///
 /// Arguments are read from the left, and the first fault is the error:
 /// - `Plan(TooDeep)` for an argument where a part at depth 65 would begin;
@@ -192,7 +259,7 @@ fn read_join<'t, 'w>(
 pub fn read_plan<'t>(
     alloc: Global,
     inputs: &'t [&'t str],
-    arguments: &[String],
+    arguments: &'t [String],
 ) -> Result<Plan<'t>, RunError>
     ensures plan { IfOk result (λ plan. parsed_plan (lent_items inputs.now)
         (map string_bytes arguments.now) ≡ Ok (outcome plan)) }

@@ -1,8 +1,7 @@
 -- The answers and errors of a plan.
 use Rattle.std.proofs.Common.{◌≡◌, ◌≢◌, ℕ, List, length, sym, ap, ◌∙◌, subst, arith, Option}
-use Rattle.std.proofs.Common.{Some, None, Result, Ok, Err, inl, inr}
+use Rattle.std.proofs.Common.{Some, None, Result, Ok, Err, inl, inr, ◌⊎◌}
 use Rattle.std.specs.Result.{IsErrOf, OnErr}
-use Rattle.std.specs.Option.{IfSome}
 use Rattle.std.proofs.lemmas.Bool.{cases_lt, false_from_ne_true}
 use Rattle.oxc_sourcemap_tokens.specs.declared.error.Error.{Error}
 use Rattle.oxc_sourcemap_tokens.specs.declared.error.Error.TheVariants.{TooLarge, OutOfMemory}
@@ -16,15 +15,20 @@ use Rattle.oxc_sourcemap_tokens.specs.declared.plan_error.PlanError.TheVariants.
 use Rattle.oxc_sourcemap_plan.specs.declared.run_error.RunError.{RunError}
 use Rattle.oxc_sourcemap_plan.specs.declared.run_error.RunError.TheVariants.{Plan}
 use Rattle.oxc_sourcemap_plan.specs.RunErrors.{out_of_memory}
+use Rattle.oxc_sourcemap_plan.specs.Meaning.{Meaning}
 use Rattle.oxc_sourcemap_plan.specs.Outcome.{Outcome}
-use Rattle.oxc_sourcemap_plan.specs.Evaluated.{IsEvaluated, IsErrorOf}
+use Rattle.oxc_sourcemap_plan.specs.Evaluated.{IsEvaluated, HasOutcome, IsErrorOf}
 use Rattle.smap_run.specs.Answer.{IsPlanAnswer, IsPlanError}
 
 pub words_error : (r : Result Outcome RunError) (f e : RunError) → r ≡ Err f → e ≡ f → IsPlanError r e
 words_error r f e p q = subst (λ r. IsPlanError r e) (sym p) q
 
-pub plan_error_of : (r : Result Outcome RunError) (o : Outcome) (p : PlanError) (e : RunError) → r ≡ Ok o → e ≡ Plan p → e ≢ out_of_memory → (p ≢ Map OutOfMemory → IsErrorOf o p) → IsPlanError r e
+pub plan_error_of : (r : Result Outcome RunError) (o : Outcome) (p : PlanError) (e : RunError) → r ≡ Ok o → e ≡ Plan p → e ≢ out_of_memory → (p ≢ Map OutOfMemory → IsErrorOf o.meaning o.is_within_limits p) → IsPlanError r e
 plan_error_of r o p e k h n f = subst (λ r. IsPlanError r e) (sym k) (p, h, f (λ m. n (h ∙ ap (λ x. Plan x) m)))
+
+-- the error of a plan, by its outcome
+pub by_outcome : (o : Outcome) (w : Meaning) (p : PlanError) → o.meaning ≡ w → (p ≡ Map OutOfMemory) ⊎ IsErrorOf w o.is_within_limits p → p ≢ Map OutOfMemory → IsErrorOf o.meaning o.is_within_limits p
+by_outcome o w p is told n = elim told [ inl memory ↦ absurd (n memory) | inr error ↦ subst (λ w. IsErrorOf w o.is_within_limits p) (sym is) error ]
 
 text-of : (m : MapRecord) → encoded m ≡ Ok (encoded_record m) → map_text m ≡ Ok (json_text (encoded_record m))
 unfolding map_text
@@ -38,12 +42,13 @@ same-error : {A : Type 0} (x y : Error) → ◌≡◌ {A = Result A Error} (Err 
 same-error x y e = cc (e)
 
 -- a map that is not written has too many tokens
-pub writing_fails : SoundIsTooLarge → (o : Outcome) (m : MapRecord) (f : Error) → IsEvaluated m o → (f ≢ OutOfMemory → map_text m ≡ Err f) → f ≢ OutOfMemory → IsErrorOf o (Map f)
-writing_fails law o m f is error n =
+pub writing_fails : SoundIsTooLarge → (o : Outcome) (m : MapRecord) (f : Error) → IsEvaluated m o.meaning → HasOutcome m o → (f ≢ OutOfMemory → map_text m ≡ Err f) → f ≢ OutOfMemory
+    → IsErrorOf o.meaning o.is_within_limits (Map f)
+writing_fails law o m f is has error n =
     let told = error n in
     elim (cases_lt 4294967295 (length m.tokens)) [
       | inl l ↦ (let s = same-error f TooLarge (sym told ∙ fault-of m TooLarge (law m is.sound l)) in
-          inr (ap (λ x. Map x) s, false_from_ne_true o.is_within_limits (λ t. (let most = is.within_limits t in omega arith))))
+          inr (ap (λ x. Map x) s, false_from_ne_true o.is_within_limits (λ t. (let most = has.within_limits t in omega arith))))
       | inr l ↦ absurd (cc (sym told ∙ text-of m (is.written (omega arith))))
     ]
 
@@ -51,10 +56,6 @@ pub plan_answers : (r : Result Outcome RunError) (o : Outcome) (out : List ℕ) 
 plan_answers r o out k is = subst (λ r. IsPlanAnswer r out) (sym k) is
 
 -- ---- running
-pub some_weaker : {A : Type 0} (o : Option A) (P Q : A → Type 0) → ((x : A) → P x → Q x) → IfSome o P → IfSome o Q
-some_weaker None P Q f h = tt
-some_weaker (Some x) P Q f h = f x h
-
 pub of_err : {A E : Type 0} (r : Result A E) (e : E) (P : Type 0) → IsErrOf r e → OnErr r P → P
 of_err (Ok x) e P h p = absurd (cc (h))
 of_err (Err f) e P h p = p

@@ -1,5 +1,6 @@
 -- The answer of a command to an input, and its errors.
 use Rattle.std.specs.Prelude.{◌≡◌, ◌++◌, ℕ, List, Option, Some, None, Result, Ok, Err, ◌⊎◌, IsUtf8}
+use Rattle.std.specs.Prelude.{IfSome}
 use Rattle.std.specs.Io.BufRead.{strip_last}
 use Rattle.std.specs.Io.KnownBytes.{Appends}
 use Rattle.oxc_sourcemap_tokens.specs.declared.error.Error.{Error}
@@ -18,7 +19,7 @@ use Rattle.oxc_sourcemap_plan.specs.declared.run_error.RunError.TheVariants.{Pla
 use Rattle.smap_run.specs.Traced.{traced}
 use Rattle.smap_run.specs.Request.{Request, Mappings, Normalise, Plan as PlanOf, Trace, Url}
 use Rattle.oxc_sourcemap_plan.specs.Outcome.{Outcome}
-use Rattle.oxc_sourcemap_plan.specs.Evaluated.{IsEvaluated, IsErrorOf}
+use Rattle.oxc_sourcemap_plan.specs.Evaluated.{IsEvaluated, HasOutcome, IsErrorOf}
 use Rattle.oxc_sourcemap_plan.specs.PlanInputs.{inputs_of}
 use Rattle.oxc_sourcemap_plan.specs.PlanArguments.{parsed_plan}
 
@@ -54,15 +55,15 @@ abbrev pub of_plan : Result (List ℕ) PlanError → Result (List ℕ) RunError
 of_plan (Ok text) = Ok text
 of_plan (Err error) = Err (Plan error)
 
--- the answer to a plan: the JSON text of a map that is as `IsEvaluated` promises for the plan's outcome
+-- the answer to a plan: the JSON text of a map that is as is promised for what the plan means, and for its outcome
 abbrev pub IsPlanAnswer : Result Outcome RunError → List ℕ → Type 0
 IsPlanAnswer (Err fault) out = ⊥
-IsPlanAnswer (Ok o) out = (m : MapRecord) × IsEvaluated m o × (map_text m ≡ Ok out)
+IsPlanAnswer (Ok o) out = (m : MapRecord) × IsEvaluated m o.meaning × HasOutcome m o × (map_text m ≡ Ok out)
 
 -- an error of a plan: the first fault of its arguments, what the plan means, or `TooLarge` if it is not within the limits
 abbrev pub IsPlanError : Result Outcome RunError → RunError → Type 0
 IsPlanError (Err fault) e = e ≡ fault
-IsPlanError (Ok o) e = (p : PlanError) × (e ≡ Plan p) × IsErrorOf o p
+IsPlanError (Ok o) e = (p : PlanError) × (e ≡ Plan p) × IsErrorOf o.meaning o.is_within_limits p
 
 -- The answer of a command to a text. One line feed is written after it.
 abbrev pub IsAnswer : Request → List ℕ → List ℕ → Type 0
@@ -79,6 +80,10 @@ IsCommandError Normalise text e = of_map (normalised text) ≡ Err e
 IsCommandError Url text e = of_map (normalised_url text) ≡ Err e
 IsCommandError (Trace line col) text e = of_plan (traced text line col) ≡ Err e
 IsCommandError (PlanOf arguments) text e = IsPlanError (parsed_plan (inputs_of text) arguments) e
+
+-- an input is what a reader has left, if that is known
+abbrev pub IsInput : Option (List ℕ) → List ℕ → Type 0
+IsInput remaining input = IfSome remaining (λ all. input ≡ all)
 
 -- what is written, if it is known, grows by a beginning of these bytes, perhaps by none of them
 abbrev pub AppendsBeginning : Option (List ℕ) → Option (List ℕ) → List ℕ → Type 0

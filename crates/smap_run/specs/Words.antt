@@ -15,7 +15,7 @@ pub use Rattle.oxc_sourcemap_plan.specs.RunErrors.{out_of_memory}
 pub use Rattle.oxc_sourcemap_tokens.specs.Results.{Answers, OnlyMemory, Pushes, lent_item}
 pub use Rattle.smap_run.specs.Answer.{without_line_feed, mappings_answer, normalised}
 pub use Rattle.smap_run.specs.Answer.{normalised_url, IsPlanAnswer, IsPlanError, IsAnswer}
-pub use Rattle.smap_run.specs.Answer.{FailsWith, AppendsBeginning}
+pub use Rattle.smap_run.specs.Answer.{FailsWith, IsInput, AppendsBeginning}
 pub use Rattle.smap_run.specs.Arguments.{two_numbers, without_arguments, parsed_command, command_of}
 pub use Rattle.smap_run.specs.Flags.{read_flag, write_flag}
 pub use Rattle.smap_run.specs.Request.{request_of}

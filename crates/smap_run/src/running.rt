@@ -7,7 +7,7 @@ ghost use Rattle.std.specs.Io.KnownBytes.{Appends, Keeps};
 ghost use Rattle.smap_run.specs.Words.{out_of_memory, without_line_feed};
 ghost use Rattle.smap_run.specs.Words.{mappings_answer, normalised, normalised_url, IsPlanAnswer};
 ghost use Rattle.smap_run.specs.Words.{IsPlanError, IsAnswer, FailsWith, AppendsBeginning};
-ghost use Rattle.smap_run.specs.Words.{reading, inputs_of};
+ghost use Rattle.smap_run.specs.Words.{reading, inputs_of, IsInput};
 ghost use Rattle.smap_run.specs.Words.{parsed_plan, request_of, Answers, map_text};
 ghost use Rattle.smap_run.specs.Words.{record_of_parts};
 
@@ -193,25 +193,29 @@ fn answer(alloc: Global, command: &Command<'_>, input: Vec<u8>) -> Result<String
 ///   nothing at all before any other error.
 ///
 /// Also `Plan(Map(OutOfMemory))` for want of memory, or if the input has more than 9223372036854775807 bytes.
+///
+/// Contracts know what a reader has left and what a writer holds only of some, as those in memory (`IsInput`, `Appends`). Of any
+/// others there is some input whose answer was appended, or whose error this is.
 pub fn run<R: Read, W: Write>(
     alloc: Global,
     command: &Command<'_>,
     reader: &mut Port<R>,
     writer: &mut Port<W>,
 ) -> Result<(), RunError>
-    ensures written { OnOk result (IfSome (R.remaining reader.old.inner) (λ input.
-        (out : List ℕ) × IsUtf8 input × IsAnswer (request_of command.now) input out
-        × Appends (W.contents writer.old.inner) (W.contents writer.new.inner) (out ++ 10 ∷ []))) }
+    ensures written { OnOk result ((input : List ℕ) × (out : List ℕ)
+        × IsInput (R.remaining reader.old.inner) input × IsUtf8 input
+        × IsAnswer (request_of command.now) input out
+        × Appends (W.contents writer.old.inner) (W.contents writer.new.inner) (out ++ 10 ∷ [])) }
     ensures error { IfErr result (λ e. (e ≢ out_of_memory) → (e ≢ RunError.Read)
-        → (e ≢ RunError.Write)
-        → IfSome (R.remaining reader.old.inner)
-        (λ input. FailsWith (request_of command.now) input e)) }
+        → (e ≢ RunError.Write) → (input : List ℕ) × IsInput (R.remaining reader.old.inner) input
+        × FailsWith (request_of command.now) input e) }
     ensures nothing_written { IfErr result (λ e. (e ≢ RunError.Write)
         → Keeps (W.contents writer.old.inner) (W.contents writer.new.inner)) }
-    ensures begun { IsErrOf result RunError.Write → IfSome (R.remaining reader.old.inner) (λ input.
-        (out : List ℕ) × IsUtf8 input × IsAnswer (request_of command.now) input out
+    ensures begun { IsErrOf result RunError.Write → (input : List ℕ) × (out : List ℕ)
+        × IsInput (R.remaining reader.old.inner) input × IsUtf8 input
+        × IsAnswer (request_of command.now) input out
         × AppendsBeginning (W.contents writer.old.inner) (W.contents writer.new.inner)
-        (out ++ 10 ∷ [])) }
+        (out ++ 10 ∷ []) }
     ensures read { reader.old.failed ≡ false → IsErrOf result RunError.Read ↔
         (reader.new.failed ≡ true) }
     ensures write { writer.old.failed ≡ false → IsErrOf result RunError.Write ↔

@@ -1,4 +1,5 @@
 use Rattle.std.proofs.Common.{◌≡◌, map, string_bytes, ap, sym, ◌∙◌, Ok}
+use Rattle.oxc_sourcemap_plan.specs.Meaning.{meaning}
 use Rattle.oxc_sourcemap_plan.specs.Outcome.{outcome}
 use Rattle.oxc_sourcemap_handles.specs.declared.call_error.CallError.TheVariants.{Plan}
 use Rattle.oxc_sourcemap_plan.specs.PlanInputs.{inputs_of}
@@ -14,14 +15,16 @@ returns-in_err-map-in-Ok-clause-error c =
     let words : words_of c.args.words.now ≡ map string_bytes c.as_slice-2.result.now = sym (ap (map string_bytes) c.as_slice-2.ensures.value ∙ c.in_ok-words.ensures) in
     let read : plan_of c.args.words.now c.args.texts.now ≡ Ok (outcome c.in-Ok.plan) = ap (λ ts. parsed_plan ts (words_of c.args.words.now)) texts ∙ ap (parsed_plan (map (λ text. text.now) c.as_slice.result.now)) words ∙ c.in-Ok.ensures.plan in
     carried_error c.from_residual-in_err-map-in-Ok.result (Plan c.in_err-map-in-Ok.field-0.0) _ c.from_residual-in_err-map-in-Ok.ensures.1
-    (λ n. failure_of_plan (plan_of c.args.words.now c.args.texts.now) (outcome c.in-Ok.plan) c.in_err-map-in-Ok.field-0.0 read c.in_err-map-in-Ok.ensures.error n)
+    (λ n. failure_of_plan (plan_of c.args.words.now c.args.texts.now) (outcome c.in-Ok.plan) (meaning c.in-Ok.plan) c.in_err-map-in-Ok.field-0.0 read c.in_err-map-in-Ok.ensures.same_meaning
+    c.in_err-map-in-Ok.ensures.error n)
 
 pub returns-in-Ok-clause-map : goal.returns-in-Ok-clause-map
 returns-in-Ok-clause-map c =
     let texts : inputs_of c.args.texts.now ≡ map (λ text. text.now) c.as_slice.result.now = sym (ap (map (λ text. text.now)) c.as_slice.ensures.value ∙ c.in_ok-inputs.ensures) in
     let words : words_of c.args.words.now ≡ map string_bytes c.as_slice-2.result.now = sym (ap (map string_bytes) c.as_slice-2.ensures.value ∙ c.in_ok-words.ensures) in
     let read : plan_of c.args.words.now c.args.texts.now ≡ Ok (outcome c.in-Ok.plan) = ap (λ ts. parsed_plan ts (words_of c.args.words.now)) texts ∙ ap (parsed_plan (map (λ text. text.now) c.as_slice.result.now)) words ∙ c.in-Ok.ensures.plan in
-    map_of_plan (plan_of c.args.words.now c.args.texts.now) (outcome c.in-Ok.plan) _ read c.in_ok-map-in-Ok.ensures.map
+    map_of_plan (plan_of c.args.words.now c.args.texts.now) (outcome c.in-Ok.plan) (meaning c.in-Ok.plan) _ read c.in_ok-map-in-Ok.ensures.same_meaning c.in_ok-map-in-Ok.ensures.map
+    c.in_ok-map-in-Ok.ensures.outcome
 
 pub returns-clause-error : goal.returns-clause-error
 returns-clause-error c =

@@ -1,4 +1,4 @@
-use Rattle.std.proofs.Common.{rules, ap, sym, ◌∙◌, subst, option_map, inl, inr, Some, Err}
+use Rattle.std.proofs.Common.{rules, ap, sym, ◌∙◌, subst, inl, inr, Some, Err}
 use Rattle.std.specs.Vec.Iter.{into_iter_items}
 use Rattle.serde_json.specs.View.{view, items_view}
 use Rattle.oxc_sourcemap_parts.specs.Views.{record_of_parts}

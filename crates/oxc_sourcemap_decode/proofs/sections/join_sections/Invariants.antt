@@ -1,4 +1,4 @@
-use Rattle.std.proofs.Common.{◌≡◌, length, option_map}
+use Rattle.std.proofs.Common.{◌≡◌, length}
 use Rattle.std.specs.Vec.Iter.{into_iter_items, into_iter_len}
 use Rattle.serde_json.specs.View.{items_view}
 use Rattle.oxc_sourcemap_decode.proofs.Steps.{SoFar}

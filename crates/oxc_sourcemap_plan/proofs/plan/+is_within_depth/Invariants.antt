@@ -10,3 +10,6 @@ invariant-loop-part l = (deepest (map (λ p. depth p.0) l.part-items) < l.room) 
 
 abbrev pub invariant-loop-piece : goal.invariant-loop-piece
 invariant-loop-piece l = (deepest (map (λ p. depth p.0) l.piece-items) < l.room) ↔ (deepest (map (λ p. depth p.0) (drop l.piece-index l.piece-items)) < l.room)
+
+abbrev pub invariant-loop-input : goal.invariant-loop-input
+invariant-loop-input l = (deepest (map (λ p. depth p.1) l.input-items) < l.room) ↔ (deepest (map (λ p. depth p.1) (drop l.input-index l.input-items)) < l.room)

@@ -89,8 +89,13 @@ def types_of(folder):
     return {name: module_of(path) for path, text in files.items() for name in TYPE.findall(text)}
 
 
+def has_body(lines, at):
+    """Whether the function that begins at a line has a body. One that a trait declares has none, and ends in a semicolon."""
+    return next((line.endswith("{") for line in lines[at:] if line.endswith(("{", ";"))), True)
+
+
 def functions(path, text, types):
     lines, found = text.split("\n"), []
-    for at in [i for i, line in enumerate(lines) if FN.match(line)]:
+    for at in [i for i, line in enumerate(lines) if FN.match(line) and has_body(lines, i)]:
         found.append(Function(path, lines, at, sum(it.name == FN.match(lines[at])[2] for it in found), types))
     return found

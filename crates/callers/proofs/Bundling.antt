@@ -1,6 +1,7 @@
 -- A minified bundle, remapped: by the laws of joins, compositions and remapping.
-use Rattle.std.proofs.Common.{◌≡◌, ℕ, suc, ◌<◌, Bool, true, false, List, [], ◌∷◌, length, Option, Some}
-use Rattle.std.proofs.Common.{None, option_map, Result, Ok, Err, refl, sym, ap, ◌∙◌, subst, ◌⊎◌, inl, inr}
+use Rattle.std.proofs.Common.{◌≡◌, ℕ, suc, ◌<◌, Bool, true, false, List, [], ◌∷◌, length, Option}
+use Rattle.std.proofs.Common.{Some}
+use Rattle.std.proofs.Common.{None, option_map, Ok, Err, refl, sym, ap, ◌∙◌, subst, ◌⊎◌, inl, inr}
 use Rattle.std.specs.Prelude.{if◌then◌else◌, nat_lt}
 use Rattle.std.specs.List.{AllByRecursion}
 use Rattle.std.specs.Option.{IfSome}
@@ -19,7 +20,8 @@ use Rattle.oxc_sourcemap.specs.Composed.{targets, composed, composed_names, are_
 use Rattle.oxc_sourcemap.specs.Joined.{joined}
 use Rattle.oxc_sourcemap.specs.Repeats.{decoded_map_without_repeats, EqualUpToRepeats}
 use Rattle.oxc_sourcemap.specs.JoinedDecodedMaps.{joined_decoded_maps}
-use Rattle.oxc_sourcemap.specs.JoinLaws.{DecodedMapOfJoin, JoinInRange, AreAllInRange, decoded_maps_of}
+use Rattle.oxc_sourcemap.specs.JoinLaws.{DecodedMapOfJoin, JoinInRange, AreAllInRange}
+use Rattle.oxc_sourcemap.specs.JoinLaws.{decoded_maps_of}
 use Rattle.oxc_sourcemap.specs.ComposedDecodedMaps.{composed_decoded_maps}
 use Rattle.oxc_sourcemap.specs.ComposeLaws.{AreSourceIdsInRange, DecodedMapOfComposition}
 use Rattle.oxc_sourcemap.specs.ComposeLaws.{CompositionKeepsEqualUpToRepeats}

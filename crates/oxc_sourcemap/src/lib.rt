@@ -6,17 +6,19 @@
 
 mod decoding;
 mod encoding;
+mod evaluation;
 pub mod laws;
 
 pub use decoding::{decode, decode_from_string, decode_value};
 pub use encoding::{encode, encode_to_string};
+pub use evaluation::evaluate;
 pub use oxc_sourcemap_builders::{ConcatSourceMapBuilder, SourceMapBuilder};
 pub use oxc_sourcemap_encode::push_json_string;
 pub use oxc_sourcemap_json::{JSONSourceMap, file_from_value};
 pub use oxc_sourcemap_map::{OwnedSourceMap, SourceMap, SourceViewToken, ViewTokens};
 pub use oxc_sourcemap_mappings::{decode_mappings, encode_chunk, encode_mappings};
 pub use oxc_sourcemap_parts::{Contents, Names, SourceMapParts, Sources, Tokens};
-pub use oxc_sourcemap_plan::{Plan, evaluate};
+pub use oxc_sourcemap_plan::Plan;
 pub use oxc_sourcemap_tokens::{
     Error, Field, JsonFault, PlanError, Result, Token, TokenChunk, chunk_fault,
 };

@@ -6,9 +6,7 @@ ghost use Rattle.oxc_sourcemap_builders.specs.Words.{lent_maps, IsWithinLimits, 
 ghost use Rattle.oxc_sourcemap_builders.specs.Words.{OnlyMemory};
 
 use oxc_sourcemap_join::{JoinedParts, Lengths};
-use oxc_sourcemap_map::{
-    OwnedSourceMap, SourceMap, owned_lengths, parts_of, with_lengths, with_room,
-};
+use oxc_sourcemap_map::{OwnedSourceMap, SourceMap, parts_of};
 use oxc_sourcemap_tokens::{Position, Result};
 use std::alloc::Global;
 use std::marker::Model;
@@ -241,7 +239,16 @@ impl<'a> ConcatSourceMapBuilder<'a> {
 fn lent_lengths(maps: &[(&SourceMap<'_>, u32)]) -> Lengths {
     let mut lengths = Lengths::default();
     for (sourcemap, _) in maps {
-        lengths = with_lengths(lengths, sourcemap);
+        lengths = with_lengths(lengths, parts_of(sourcemap));
+    }
+    lengths
+}
+
+/// The lengths of owned maps, summed.
+fn owned_lengths(maps: &[(SourceMap<'_>, u32)]) -> Lengths {
+    let mut lengths = Lengths::default();
+    for (sourcemap, _) in maps {
+        lengths = with_lengths(lengths, parts_of(sourcemap));
     }
     lengths
 }

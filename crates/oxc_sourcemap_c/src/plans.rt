@@ -5,7 +5,7 @@ ghost use Rattle.oxc_sourcemap_c.specs.Words.{IsPlanMap, IsPlanErrorOf, IsPlanEr
 
 use oxc_sourcemap_handles::{CallError, text_of};
 use oxc_sourcemap_map::OwnedSourceMap;
-use oxc_sourcemap_plan::{RunError, evaluate, inputs_of, read_plan};
+use oxc_sourcemap_plan::{RunError, evaluate_to_parts, inputs_of, read_plan};
 use std::alloc::{AllocError, Global};
 
 /// The words of a text, which spaces separate.
@@ -39,7 +39,10 @@ fn evaluate_words(alloc: Global, words: &str, texts: &str) -> Result<OwnedSource
     let inputs = inputs_of(alloc, texts)?;
     let words = words_of(alloc, words)?;
     match read_plan(alloc, inputs.as_slice(), words.as_slice()) {
-        Ok(plan) => Ok(evaluate(alloc, &plan)?),
+        Ok(plan) => {
+            let map = evaluate_to_parts(alloc, &plan)?;
+            Ok(OwnedSourceMap::from_parts(map))
+        }
         Err(error) => Err(call_error_of(error)),
     }
 }

@@ -4,7 +4,7 @@ pub use Rattle.oxc_sourcemap_builders.specs.Building.{with_name, with_path}
 pub use Rattle.oxc_sourcemap_builders.specs.Built.{nothing_built}
 pub use Rattle.oxc_sourcemap_decode.specs.ReadMap.{read_map}
 pub use Rattle.oxc_sourcemap_encode.specs.JsonText.{map_text, map_url}
-pub use Rattle.oxc_sourcemap_join.specs.Joined.{joined}
+pub use Rattle.oxc_sourcemap_join.specs.Joined.{joined, owned_records}
 pub use Rattle.oxc_sourcemap_lookup.specs.Composed.{composition, SomeComposition, NoColumnGoesBack}
 pub use Rattle.oxc_sourcemap_lookup.specs.LineSpans.{IsIndexOf}
 pub use Rattle.oxc_sourcemap_map.specs.View.{view_of, view_original, seen_in}

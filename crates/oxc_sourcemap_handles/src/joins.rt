@@ -3,11 +3,14 @@ ghost use Rattle.std.specs.Prelude.{◌≡◌, ◌≢◌, None, Some, length, If
 ghost use Rattle.std.specs.List.{All};
 ghost use Rattle.oxc_sourcemap_handles.specs.Words.{joined, EmptyHandle, out_of_memory, all_held};
 ghost use Rattle.oxc_sourcemap_handles.specs.Words.{placed_maps, IsJoinOf, IsJoinError};
+ghost use Rattle.oxc_sourcemap_handles.specs.Words.{owned_records};
 
 use crate::call_error::CallError;
 use crate::handle::Handle;
 use crate::operations::take_map;
-use oxc_sourcemap_map::{OwnedSourceMap, SourceMap, join_owned};
+use oxc_sourcemap_join::join_owned_parts;
+use oxc_sourcemap_map::OwnedSourceMap;
+use oxc_sourcemap_parts::SourceMapParts;
 use oxc_sourcemap_tokens::Position;
 use std::alloc::Global;
 
@@ -16,17 +19,17 @@ fn take_maps(
     alloc: Global,
     handles: &mut [Handle],
     positions: &[Position],
-) -> Result<Vec<(SourceMap<'static>, Position)>, CallError>
+) -> Result<Vec<(SourceMapParts<'static>, Position)>, CallError>
     requires { length handles.old ≡ length positions.now }
     ensures maps { IfOk result (λ maps. placed_maps (all_held handles.old) positions.now
-        ≡ Some maps.items) }
+        ≡ Some (owned_records maps.items)) }
     ensures error { IfErr result (λ r. (r ≢ out_of_memory)
         → (r ≡ EmptyHandle) × (placed_maps (all_held handles.old) positions.now ≡ None)) }
 {
     let mut maps = Vec::new(alloc);
     for i in 0..handles.len() {
         let map = take_map(alloc, &mut handles[i])?.into_inner();
-        maps.push((map, positions[i]))?;
+        maps.push((map.into_parts(), positions[i]))?;
     }
     Ok(maps)
 }
@@ -54,7 +57,7 @@ fn join_taken(
         return Err(CallError::Lengths);
     }
     let maps = take_maps(alloc, handles, positions)?;
-    Ok(OwnedSourceMap::new(join_owned(alloc, maps)?))
+    Ok(OwnedSourceMap::from_parts(join_owned_parts(alloc, maps)?))
 }
 
 /// The join of the maps in handles, which are then empty.

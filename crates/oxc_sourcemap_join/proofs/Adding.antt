@@ -7,7 +7,7 @@ use Rattle.oxc_sourcemap_tokens.specs.declared.error.Error.{Error}
 use Rattle.oxc_sourcemap_tokens.specs.declared.error.Error.TheVariants.{OutOfMemory, TooLarge}
 use Rattle.std.specs.List.{AllByRecursion, All}
 use Rattle.std.specs.Option.{IfSome, unwrap_or}
-use Rattle.std.proofs.lemmas.List.{length-append, length-drop, take_all}
+use Rattle.std.proofs.lemmas.List.{length-append, length-drop, take_all, map-append}
 use Rattle.std.proofs.lemmas.List.Elements.{All-append, All-head, All-from_recursion}
 use Rattle.std.proofs.lemmas.List.Elements.{recursion_from_All}
 use Rattle.oxc_sourcemap_tokens.specs.declared.token.TokenChunk.{TokenChunk}
@@ -15,12 +15,14 @@ use Rattle.oxc_sourcemap_tokens.specs.Token.{TokenRecord, IsInBounds, AreInBound
 use Rattle.oxc_sourcemap_tokens.specs.State.{state_at}
 use Rattle.oxc_sourcemap_tokens.specs.Chunks.{chunk_from, ChunksFit}
 use Rattle.oxc_sourcemap_parts.specs.Record.{Text, MapRecord}
+use Rattle.oxc_sourcemap_parts.specs.Views.{record_of_parts}
+use Rattle.oxc_sourcemap_parts.specs.declared.parts.SourceMapParts.{SourceMapParts}
 use Rattle.oxc_sourcemap_tokens.specs.declared.position.Position.{Position}
 use Rattle.oxc_sourcemap_join.specs.Joined.{fitted, shifted, is_same_token, without_repeat}
 use Rattle.oxc_sourcemap_join.specs.Joined.{raised_ignore_list, appended_ignore_lists, added}
 use Rattle.oxc_sourcemap_join.specs.Joined.{added_tokens, added_chunk, added_ignore_list}
 use Rattle.oxc_sourcemap_join.specs.Joined.{nothing_joined, added_all, AreEntriesInBounds}
-use Rattle.oxc_sourcemap_join.specs.Joined.{IsWithinLimits}
+use Rattle.oxc_sourcemap_join.specs.Joined.{IsWithinLimits, owned_records}
 use Rattle.oxc_sourcemap_join.specs.Joining.{IsJoin, all_shifted, IsAddition}
 use Rattle.oxc_sourcemap_join.specs.declared.joined_parts.Shift.{Shift}
 use Rattle.oxc_sourcemap_join.specs.declared.joined_parts.Addition.{Addition}
@@ -179,3 +181,7 @@ pub error-of-all : (r m : MapRecord) (offset : Position) (ms rest : List (MapRec
 error-of-all r m offset ms rest all p q e (inl o) h = inl o
 error-of-all r m offset ms rest all p q e (inr l) h =
     inr (l, λ w. h l (front-within (added r m offset) rest (subst IsWithinLimits (sym p ∙ ap (added_all r) q) w)))
+
+-- the records of owned maps, with one map more
+pub records_pushed : (ms : List (SourceMapParts × Position)) (m : SourceMapParts × Position) (ns : List (SourceMapParts × Position)) → ns ≡ ms ++ m ∷ [] → owned_records ns ≡ owned_records ms ++ (record_of_parts m.0, m.1) ∷ []
+records_pushed ms m ns e = ap owned_records e ∙ map-append (λ (m : SourceMapParts × Position). (record_of_parts m.0, m.1)) ms (m ∷ [])

@@ -11,6 +11,8 @@ use Rattle.oxc_sourcemap_tokens.specs.Token.{TokenRecord, AreInBounds, last}
 use Rattle.oxc_sourcemap_tokens.specs.State.{state_at}
 use Rattle.oxc_sourcemap_tokens.specs.Chunks.{chunk_from}
 use Rattle.oxc_sourcemap_parts.specs.Record.{Text, MapRecord}
+use Rattle.oxc_sourcemap_parts.specs.Views.{record_of_parts}
+use Rattle.oxc_sourcemap_parts.specs.declared.parts.SourceMapParts.{SourceMapParts}
 
 -- contents padded with none, or cut, to this number
 abbrev pub fitted : ℕ → List (Option Text) → List (Option Text)
@@ -142,6 +144,10 @@ joined maps = added_all nothing_joined maps
 -- borrowed maps, each at the beginning of a line
 abbrev pub lent_maps : List (Bor MapRecord × ℕ) → List (MapRecord × Position)
 lent_maps maps = map (λ m. (m.0.now, at_line m.1)) maps
+
+-- owned maps, each at its position
+abbrev pub owned_records : List (SourceMapParts × Position) → List (MapRecord × Position)
+owned_records maps = map (λ m. (record_of_parts m.0, m.1)) maps
 
 -- an ignore list is none, or all its entries are 0 to 4294967294
 abbrev pub AreEntriesInBounds : Option (List ℕ) → Type 0

@@ -8,4 +8,5 @@ pub use Rattle.oxc_sourcemap_join.specs.Joined.{fitted, raised_id, shifted_colum
 pub use Rattle.oxc_sourcemap_join.specs.Joined.{is_same_token, without_repeat, raised_ignore_list}
 pub use Rattle.oxc_sourcemap_join.specs.Joined.{appended_ignore_lists, added, nothing_joined}
 pub use Rattle.oxc_sourcemap_join.specs.Joined.{AreEntriesInBounds, IsWithinLimits, position}
+pub use Rattle.oxc_sourcemap_join.specs.Joined.{joined, owned_records}
 pub use Rattle.oxc_sourcemap_join.specs.Joining.{all_shifted, id_limit, IsInReach, IsAddition}

@@ -174,7 +174,8 @@ pub fn composition_associative()
 ///   remapping of the given ones (`stands_for`).
 /// - A remapped map is sorted exactly if the first map is (`sorted`), and its ids are in range (`in_range`), whatever the
 ///   inputs are; so it is sound if the first map is (`sound`). The same holds of any result where columns go back on a line of
-///   an input (`any_map`). It has as many tokens as the first map, and a content for each source (`counts`). Its names are names of the maps, and at most as many as they have together (`names`).
+///   an input (`any_map`). It has as many tokens as the first map, and a content for each source (`counts`). Its names are
+///   names of the maps, and at most as many as they have together (`names`).
 /// - On no line of sorted inputs do columns go back, as the clauses `map` and `error` of `SourceMap::remap` ask, and they have
 ///   no fault (`sorted_goes_on`). If inputs have no fault, the result is a map or `TooLarge` (`answered`): only if the remapped
 ///   map has more than 4294967295 sources, or the maps more names (`too_large`). Its tokens are in bounds if those of the maps

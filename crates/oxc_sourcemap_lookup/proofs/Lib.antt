@@ -1,6 +1,7 @@
 pub mod InheritedNames
 pub mod KeptNames
 pub mod Targets
+pub mod Replaced
 pub mod Compositions
 mod WorkedCompositions
 pub mod Lookups
@@ -11,4 +12,6 @@ pub mod LineEnds
 pub mod Halving
 pub mod OwnTables
 pub mod Picks
+pub mod Traced
+pub mod Neighbours
 mod Worked

@@ -14,11 +14,12 @@ ghost use Rattle.oxc_sourcemap_lookup.specs.Words.{IsInheriting, FailsBy, Report
 
 use crate::inherited_names::{InheritedNames, inherit_id, no_names, owned_names};
 use crate::line_index::LineIndex;
-use crate::lookup::search_clamped;
+use crate::near::{Near, lookup_near};
 use oxc_sourcemap_parts::{SourceMapParts, into_owned_text};
 use oxc_sourcemap_tokens::{Error, Result, Token};
 use std::alloc::Global;
 use std::borrow::CowStr;
+use std::mem::swap;
 
 /// The token of the composed map for a token of the first one and the token that it leads to, if any. It may inherit a name
 /// of the first map.
@@ -65,48 +66,50 @@ fn composed_token<'n>(
 }
 
 /// The mapped token that a token leads to, by the clamped lookup of its source position among the tokens of the second map.
-/// `near` is that of `LineIndex::tokens_near`.
-fn target(index: &LineIndex, input: &[Token], token: &Token, near: &mut usize) -> Option<Token>
+fn target(index: &LineIndex, input: &[Token], token: &Token, near: &mut Near) -> Option<Token>
     requires { IsIndexOf input.now index.now }
     ensures { IsTarget (line_of input.now token.now) (target_of token.now result) }
 {
     token.get_source_id()?;
-    let line = index.tokens_near(input, token.get_src_line(), near);
-    let found = search_clamped(line, token.get_src_col())?;
+    let found = lookup_near(
+        index,
+        input,
+        token.get_src_line(),
+        token.get_src_col(),
+        near,
+    )?;
     found.get_source_id()?;
     Some(found)
 }
 
-/// The tokens of the composed map, from the tokens and names of the two maps, and copies of the names that it has after those
-/// of the second map.
-fn composed_tokens<'a>(
+/// Turns the tokens of the first map into those of the composed one, in place, and returns copies of the names that it has
+/// after those of the second map. After an error the tokens are partly turned.
+fn compose_tokens<'a>(
     alloc: Global,
     first: &[CowStr<'_>],
-    tokens: &[Token],
+    tokens: &mut [Token],
     second: &[CowStr<'_>],
     input: &[Token],
     index: &LineIndex,
-) -> Result<(Vec<Token>, Vec<CowStr<'a>>)>
+) -> Result<Vec<CowStr<'a>>>
     requires { IsIndexOf input.now index.now }
     ensures composed { let olds = cow_texts first.now in let names = cow_texts second.now in
-        IfOk result (λ made. (ls : List Target) × AreTargets tokens.now input.now ls
-        × (names ++ texts_of made.1 ≡ composed_names olds names ls)
-        × (made.0.items ≡ map (composed_token olds (names ++ texts_of made.1)) ls)
-        × (are_ids olds (names ++ texts_of made.1) ls ≡ true)) }
+        IfOk result (λ more. (ls : List Target) × AreTargets tokens.old input.now ls
+        × (names ++ texts_of more ≡ composed_names olds names ls)
+        × (tokens.new ≡ map (composed_token olds (names ++ texts_of more)) ls)
+        × (are_ids olds (names ++ texts_of more) ls ≡ true)) }
     ensures error { let olds = cow_texts first.now in let names = cow_texts second.now in
         IfErr result (λ e. (e ≢ OutOfMemory) → (e ≡ TooLarge) × (ls : List Target)
-        × AreTargets tokens.now input.now ls
+        × AreTargets tokens.old input.now ls
         × (are_ids olds (composed_names olds names ls) ls ≡ false)) }
 {
     let mut inherited = no_names(alloc, first, second)?;
-    let mut composed = Vec::with_capacity(alloc, tokens.len())?;
-    let mut near = 0;
-    for token in tokens {
+    let mut near = Near::start();
+    for token in tokens.iter_mut() {
         let found = target(index, input, token, &mut near);
-        composed.push(composed_token(&mut inherited, first, second, token, found)?)?;
+        *token = composed_token(&mut inherited, first, second, token, found)?;
     }
-    let names = owned_names(alloc, inherited)?;
-    Ok((composed, names))
+    Ok(owned_names(alloc, inherited)?)
 }
 
 /// The index of the second map's lines. It fails if the first map has several sources, or the tokens of the second go back
@@ -144,10 +147,10 @@ fn compose_into(
         (record_of_parts second.old)) result }
 {
     let index = input_index(alloc, first, second)?;
-    let (tokens, mut names) = composed_tokens(
+    let mut names = compose_tokens(
         alloc,
         first.names.as_slice(),
-        first.tokens.as_slice(),
+        first.tokens.as_mut_slice(),
         second.names.as_slice(),
         second.tokens.as_slice(),
         &index,
@@ -155,7 +158,7 @@ fn compose_into(
     second.names.append(&mut names)?;
     second.file = into_owned_text(alloc, first.file.take())?;
     second.debug_id = into_owned_text(alloc, first.debug_id.take())?;
-    second.tokens = tokens.into_boxed_slice();
+    swap(&mut first.tokens, &mut second.tokens);
     second.token_chunks = None;
     Ok(())
 }

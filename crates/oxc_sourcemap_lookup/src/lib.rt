@@ -6,6 +6,7 @@ mod compose;
 mod inherited_names;
 mod line_index;
 mod lookup;
+mod near;
 
 pub use compose::compose_parts;
 pub use line_index::LineIndex;

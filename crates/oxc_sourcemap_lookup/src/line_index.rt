@@ -8,9 +8,9 @@ ghost use Rattle.oxc_sourcemap_lookup.specs.Words.{first_out_of_order, are_token
 ghost use Rattle.oxc_sourcemap_lookup.specs.Words.{token_line, on_line, lines_through, token_for};
 ghost use Rattle.oxc_sourcemap_lookup.specs.Words.{clamped_token_for, last, AreStarts, AreSpans};
 ghost use Rattle.oxc_sourcemap_lookup.specs.Words.{DoLinesRise, AreLines, IsIndexOf, FailsBy};
-ghost use Rattle.oxc_sourcemap_lookup.specs.Words.{Reports};
+ghost use Rattle.oxc_sourcemap_lookup.specs.Words.{AreEnds, Reports};
 
-use crate::lookup::{line_count, line_length, search, search_clamped};
+use crate::lookup::{has_short_lines, line_count, line_length, search, search_clamped, store_ends};
 use oxc_sourcemap_tokens::{Error, Memory, Result, Token, line_order_fault};
 use std::alloc::Global;
 
@@ -71,6 +71,39 @@ fn starts_of(alloc: Global, tokens: &[Token]) -> Memory<Option<Vec<u32>>>
     }
 }
 
+/// Where each line begins, and where the last one ends, from where the lines end.
+fn starts_at_ends(alloc: Global, tokens: &[Token], ends: &[u32]) -> Memory<Vec<u32>>
+    requires ends { AreEnds tokens.now ends.now }
+    requires few { lines_through (last tokens.now) ≤ 4 * length tokens.now + 16 }
+    ensures { IfOk result (λ starts. AreStarts tokens.now starts.items) }
+{
+    let mut starts = Vec::with_capacity(alloc, line_count(tokens) as usize + 1)?;
+    starts.push(0)?;
+    let mut start = 0;
+    for end in ends {
+        start = start.max(*end);
+        starts.push(start)?;
+    }
+    Ok(starts)
+}
+
+/// As `starts_of`, with one step for each token and no branch on where a line ends, which would be mispredicted where lines
+/// are short.
+fn starts_of_short(alloc: Global, tokens: &[Token]) -> Memory<Option<Vec<u32>>>
+    requires small { length tokens.now < 2 ^ 32 }
+    requires few { lines_through (last tokens.now) ≤ 4 * length tokens.now + 16 }
+    ensures starts { IfOk result (λ found. IfSome found
+        (λ starts. AreStarts tokens.now starts.items)) }
+    ensures out_of_order { IfOk result (λ found. IsNone found → IsInLineOrder tokens.now → ⊥) }
+{
+    let mut ends = Vec::from_elem(alloc, 0, line_count(tokens) as usize)?;
+    if store_ends(tokens, ends.as_mut_slice()) {
+        Ok(Some(starts_at_ends(alloc, tokens, ends.as_slice())?))
+    } else {
+        Ok(None)
+    }
+}
+
 /// The spans of the lines that have tokens; None if the tokens are not in line order.
 fn spans_of(alloc: Global, tokens: &[Token]) -> Memory<Option<Vec<LineSpan>>>
     ensures spans { IfOk result (λ found. IfSome found (λ spans. AreSpans tokens.now spans.items)) }
@@ -99,7 +132,12 @@ fn lines_of(alloc: Global, tokens: &[Token]) -> Memory<Option<Lines>>
     ensures out_of_order { IfOk result (λ found. IsNone found → IsInLineOrder tokens.now → ⊥) }
 {
     if has_few_lines(tokens) {
-        Ok(starts_of(alloc, tokens)?.map(|starts| Lines::Starts(starts)))
+        let starts = if has_short_lines(tokens) {
+            starts_of_short(alloc, tokens)?
+        } else {
+            starts_of(alloc, tokens)?
+        };
+        Ok(starts.map(|starts| Lines::Starts(starts)))
     } else {
         Ok(spans_of(alloc, tokens)?.map(|spans| Lines::Spans(spans)))
     }
@@ -206,6 +244,14 @@ impl LineIndex {
         match &self.lines {
             Lines::Starts(starts) => tokens_by_start(starts.as_slice(), tokens, line),
             Lines::Spans(spans) => tokens_by_span(spans.as_slice(), tokens, line, near),
+        }
+    }
+
+    /// Where the tokens on a line begin, for a `near` that `tokens_near` found for it; some index if none is on it.
+    pub(crate) fn start_near(&self, line: u32, near: usize) -> usize {
+        match &self.lines {
+            Lines::Starts(starts) => starts.get(line as usize).copied().unwrap_or(0) as usize,
+            Lines::Spans(spans) => spans.get(near).map_or(0, |span: &LineSpan| span.start),
         }
     }
 

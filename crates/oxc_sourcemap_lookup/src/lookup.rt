@@ -97,7 +97,7 @@ fn cut_by_line<'s>(alloc: Global, tokens: &'s [Token]) -> Memory<Option<Vec<&'s 
 
 /// Stores for each line that has tokens how many there are up to its last one. False, with part of that stored, if the tokens
 /// are not in line order.
-fn store_ends(tokens: &[Token], ends: &mut [u32]) -> bool
+pub(crate) fn store_ends(tokens: &[Token], ends: &mut [u32]) -> bool
     requires zeros { All (λ end. end ≡ 0) ends.old }
     requires lines { length ends.old ≡ lines_through (last tokens.now) }
     requires small { length tokens.now < 2 ^ 32 }
@@ -151,7 +151,7 @@ fn cut_short_lines<'s>(alloc: Global, tokens: &'s [Token]) -> Memory<Option<Vec<
 }
 
 /// Whether there are fewer than eight tokens for each line, and they can be counted in 32 bits.
-fn has_short_lines(tokens: &[Token]) -> bool
+pub(crate) fn has_short_lines(tokens: &[Token]) -> bool
     ensures { IsTrue result ↔ ((length tokens.now < 2 ^ 32)
         × (length tokens.now < 8 * lines_through (last tokens.now))) }
 {
@@ -203,7 +203,7 @@ fn compare_column(token: &Token, col: u64, count: usize, steps: &mut u64) -> usi
 
 /// How many tokens at the front of a line lie before `col`, found by halving: the index of the first token that does not.
 /// On a line whose columns go back, it is some index up to the end of the line.
-fn count_before(line: &[Token], col: u32, steps: &mut u64) -> usize
+pub(crate) fn count_before(line: &[Token], col: u32, steps: &mut u64) -> usize
     requires { steps.old ≡ 0 }
     ensures count { no_column_goes_back token_column line.now ≡ true
         → result ≡ prefix_len (λ t. nat_lt t.dst_col col) line.now }

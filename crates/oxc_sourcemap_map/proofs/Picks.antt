@@ -1,41 +1,23 @@
 -- Views of tokens, in the words of the decoded map.
-use Rattle.std.proofs.Common.{◌≡◌, ℕ, List, [], ◌∷◌, refl, sym, ap, ◌∙◌, Option, Some, None, zero}
-use Rattle.std.proofs.Common.{suc, slice_get, MatchOption}
+use Rattle.std.proofs.Common.{◌≡◌, ℕ, refl, sym, ◌∙◌, Option, Some, None, slice_get, MatchOption}
 use Rattle.std.specs.Option.{option_map, option_and_then}
 use Rattle.oxc_sourcemap_parts.specs.Record.{Text, MapRecord}
 use Rattle.oxc_sourcemap_parts.specs.Sorted.{token_line, token_column}
 use Rattle.oxc_sourcemap_parts.specs.DecodedMap.{DecodedSource, OriginalPosition, decoded_map_of}
-use Rattle.oxc_sourcemap_parts.specs.DecodedMap.{sources_of, original_at, mapping_of}
-use Rattle.oxc_sourcemap_map.specs.View.{ViewRecord, seen_in, view_source, view_name, view_original}
-use Rattle.oxc_sourcemap_lookup.proofs.Picks.{pick-map, clamped_pick-map}
+use Rattle.oxc_sourcemap_parts.specs.DecodedMap.{sources_of, original_at}
+use Rattle.oxc_sourcemap_map.specs.View.{ViewRecord, seen_in, view_source, view_name}
+use Rattle.oxc_sourcemap_map.specs.View.{view_original}
+use Rattle.oxc_sourcemap_lookup.proofs.Traced.{twice, token_traced, token_clamped_traced}
+use Rattle.oxc_sourcemap_lookup.proofs.Traced.{source_path}
 use Rattle.oxc_sourcemap_lookup.specs.Lookup.{pick, clamped_pick}
 use Rattle.oxc_sourcemap_lookup.specs.Trace.{trace, clamped_trace}
-use Rattle.oxc_sourcemap_parts.specs.DecodedMap.{mapping_line, mapping_column}
-
-twice : {A B C : Type 0} (g : B → C) (f : A → B) (o : Option A) → option_map g (option_map f o) ≡ option_map (λ x. g (f x)) o
-twice g f None = refl
-twice g f (Some x) = refl
 
 -- the trace of a decoded map at a position is what the token found there in the map points to
 pub traced : (r : MapRecord) (line col : ℕ) → option_map view_original (option_map (seen_in r) (pick token_line token_column r.tokens line col)) ≡ trace (decoded_map_of r) line col
-traced r line col =
-    let f = mapping_of (sources_of r.sources r.source_contents) r.names in
-    twice view_original (seen_in r) _
-    ∙ sym (ap (option_map (λ e. e.original)) (pick-map f mapping_line mapping_column r.tokens line col) ∙ twice (λ e. e.original) f _)
+traced r line col = twice view_original (seen_in r) _ ∙ token_traced r line col
 
 pub clamped_traced : (r : MapRecord) (line col : ℕ) → option_map view_original (option_map (seen_in r) (clamped_pick token_line token_column r.tokens line col)) ≡ clamped_trace (decoded_map_of r) line col
-clamped_traced r line col =
-    let f = mapping_of (sources_of r.sources r.source_contents) r.names in
-    twice view_original (seen_in r) _
-    ∙ sym (ap (option_map (λ e. e.original)) (clamped_pick-map f mapping_line mapping_column r.tokens line col) ∙ twice (λ e. e.original) f _)
-
--- the paths of decoded sources are those listed in the map
-source-path : (paths : List Text) (contents : List (Option Text)) (i : ℕ) → option_map (λ s. s.path) (slice_get (sources_of paths contents) i) ≡ slice_get paths i
-source-path [] contents i = refl
-source-path (path ∷ paths) [] zero = refl
-source-path (path ∷ paths) [] (suc i) = source-path paths [] i
-source-path (path ∷ paths) (content ∷ contents) zero = refl
-source-path (path ∷ paths) (content ∷ contents) (suc i) = source-path paths contents i
+clamped_traced r line col = twice view_original (seen_in r) _ ∙ token_clamped_traced r line col
 
 -- the strings of a view are those of the original position
 abbrev SaysOrigin : ViewRecord → Option Text → Option OriginalPosition → Type 0
@@ -47,7 +29,7 @@ says-by v (Some s) path e = (sym e, refl, refl, refl)
 
 says-id : (v : ViewRecord) (id : Option ℕ) → SaysOrigin v (option_and_then (slice_get v.map.sources) id) (option_map (original_at v.map.names v.token) (option_and_then (slice_get (sources_of v.map.sources v.map.source_contents)) id))
 says-id v None = refl
-says-id v (Some i) = says-by v (slice_get (sources_of v.map.sources v.map.source_contents) i) (slice_get v.map.sources i) (source-path v.map.sources v.map.source_contents i)
+says-id v (Some i) = says-by v (slice_get (sources_of v.map.sources v.map.source_contents) i) (slice_get v.map.sources i) (source_path v.map.sources v.map.source_contents i)
 
 says_origin : (v : ViewRecord) → SaysOrigin v (view_source v) (view_original v)
 says_origin v = says-id v v.token.source_id

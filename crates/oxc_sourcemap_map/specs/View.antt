@@ -3,7 +3,8 @@ use Rattle.std.specs.Prelude.{ℕ, List, slice_get, Option}
 use Rattle.std.specs.Option.{option_and_then, option_zip}
 use Rattle.oxc_sourcemap_tokens.specs.Token.{TokenRecord}
 use Rattle.oxc_sourcemap_parts.specs.Record.{Text, MapRecord}
-use Rattle.oxc_sourcemap_parts.specs.DecodedMap.{OriginalPosition, sources_of, original_of, name_of}
+use Rattle.oxc_sourcemap_parts.specs.DecodedMap.{OriginalPosition, name_of}
+use Rattle.oxc_sourcemap_lookup.specs.Trace.{original_in}
 use Rattle.oxc_sourcemap_map.specs.declared.source_view_token.SourceViewToken.{SourceViewToken}
 
 -- a token of a map
@@ -42,4 +43,4 @@ view_source_and_content v = option_zip (view_source v) (view_content v)
 
 -- the original position that the token of a view points to in its map
 abbrev pub view_original : ViewRecord → Option OriginalPosition
-view_original v = original_of (sources_of v.map.sources v.map.source_contents) v.map.names v.token
+view_original v = original_in v.map v.token

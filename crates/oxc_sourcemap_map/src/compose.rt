@@ -38,7 +38,7 @@ impl<'a> SourceMap<'a> {
     /// `input`, it is left open which token of that line is found.
     ///
     /// Fails in this order; both maps are then dropped:
-    /// - `SeveralSources(n)` if this map has n sources, and n is above 1;
+    /// - `SeveralSources(n)` if this map has n sources, and n is above 1 (`remap` takes an input for each);
     /// - `LineOrder(i)` for the first token i of `input` whose line is smaller than that of the token before it;
     /// - `TooLarge` if a name from this map would have an id above 4294967294;
     /// - `OutOfMemory` for want of memory.

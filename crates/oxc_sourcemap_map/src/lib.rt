@@ -1,10 +1,8 @@
 //! `SourceMap` and `OwnedSourceMap`, with views of their tokens: thin calls over the crates that read, write, look up, compose
-//! and remap parts, and the join of owned maps. Part of `oxc_sourcemap`, but for the functions outside of types, which are only
-//! for crates of this library.
+//! and remap parts. Part of `oxc_sourcemap`, but for the functions outside of types, which are only for crates of this library.
 #![tactic(auto)]
 
 mod compose;
-mod join;
 mod lookup;
 mod owned_sourcemap;
 mod remap;
@@ -12,9 +10,7 @@ mod source_view_token;
 mod sourcemap;
 mod view_tokens;
 
-pub use join::{join_owned, owned_lengths, with_lengths, with_room};
 pub use owned_sourcemap::OwnedSourceMap;
-pub use remap::remap_owned;
 pub use source_view_token::SourceViewToken;
 pub use sourcemap::{SourceMap, parts_of};
 pub use view_tokens::ViewTokens;

@@ -2,13 +2,13 @@
 ghost use Rattle.std.specs.Prelude.{◌≡◌, ◌≢◌, IfOk, IfErr, Ok, Err};
 ghost use Rattle.oxc_sourcemap_map.specs.Words.{OutOfMemory, remapping, inputs_fault};
 ghost use Rattle.oxc_sourcemap_map.specs.Words.{SomeRemapping, NoInputColumnGoesBack, lent_inputs};
-ghost use Rattle.oxc_sourcemap_map.specs.Words.{owned_inputs, record_of_parts, Reports};
+ghost use Rattle.oxc_sourcemap_map.specs.Words.{Reports};
 
 use crate::owned_sourcemap::OwnedSourceMap;
 use crate::sourcemap::SourceMap;
 use oxc_sourcemap_parts::SourceMapParts;
 use oxc_sourcemap_remap::{AsParts, remap_parts};
-use oxc_sourcemap_tokens::{Memory, Result};
+use oxc_sourcemap_tokens::Result;
 use std::alloc::Global;
 
 impl<'a> AsParts for SourceMap<'a> {
@@ -105,34 +105,4 @@ impl OwnedSourceMap {
         let lent = SourceMap::from_parts(remap_parts(alloc, &map.parts, inputs)?);
         Ok(lent.into_owned_sourcemap(alloc)?)
     }
-}
-
-/// The maps of inputs, borrowed.
-fn lent_maps<'m>(
-    alloc: Global,
-    inputs: &'m [(&str, SourceMap<'_>)],
-) -> Memory<Vec<(&'m str, &'m SourceMap<'m>)>>
-    ensures { IfOk result (λ lent. lent_inputs lent.items ≡ owned_inputs inputs.now) }
-{
-    let mut lent = Vec::with_capacity(alloc, inputs.len())?;
-    for (path, map) in inputs {
-        lent.push((*path, map))?;
-    }
-    Ok(lent)
-}
-
-/// The remapping of a map by maps that are not borrowed, as `SourceMap::remap` makes it; the strings of the result are copies.
-/// Fails as that does, but that want of memory may come first.
-pub fn remap_owned(
-    alloc: Global,
-    map: &SourceMap<'_>,
-    inputs: &[(&str, SourceMap<'_>)],
-) -> Result<SourceMap<'static>>
-    ensures map { NoInputColumnGoesBack (owned_inputs inputs.now)
-        → IfOk result (λ made. remapping map.now (owned_inputs inputs.now) ≡ Ok made) }
-    ensures error { NoInputColumnGoesBack (owned_inputs inputs.now) → IfErr result
-        (λ e. (e ≢ OutOfMemory) → remapping map.now (owned_inputs inputs.now) ≡ Err e) }
-{
-    let lent = lent_maps(alloc, inputs)?;
-    Ok(map.remap(alloc, lent.as_slice())?.into_owned(alloc)?)
 }

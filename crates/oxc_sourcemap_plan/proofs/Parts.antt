@@ -5,6 +5,9 @@ use Rattle.std.specs.Result.{IfErr, IsErrAnd}
 use Rattle.std.proofs.lemmas.List.{take_more, drop_more, take-append-drop, map-append}
 use Rattle.std.specs.Borrow.{Bor}
 use Rattle.oxc_sourcemap_parts.specs.Record.{Text, MapRecord}
+use Rattle.oxc_sourcemap_parts.specs.Views.{record_of_parts}
+use Rattle.oxc_sourcemap_parts.specs.declared.parts.SourceMapParts.{SourceMapParts}
+use Rattle.oxc_sourcemap_remap.specs.Inputs.{owned_input_records}
 use Rattle.oxc_sourcemap_tokens.specs.declared.position.Position.{Position}
 use Rattle.oxc_sourcemap_join.specs.Joined.{at_line}
 use Rattle.oxc_sourcemap_plan.specs.declared.plan.Plan.{Plan}
@@ -81,14 +84,14 @@ outcomes-of : (ps : List (Bor Text × Plan)) → input_outcomes (by_path ps) ≡
 outcomes-of [] = refl
 outcomes-of (p ∷ ps) = ap (λ os. input_at p ∷ os) (outcomes-of ps)
 
-pub more_inputs : (ms : List (Bor Text × MapRecord)) (ps : List (Bor Text × Plan)) (i : ℕ) (m : Bor Text × MapRecord) (p : Bor Text × Plan) → i < length ps → p ≡ get_or ps i p
-    → InputsRealize (by_path ms) (input_outcomes (by_path (take i ps))) → m.0.now ≡ p.0.now → Realizes m.1 (outcome_of p.1) → InputsRealize (by_path (ms ++ m ∷ [])) (input_outcomes (by_path (take (i + 1) ps)))
+pub more_inputs : (ms : List (Bor Text × SourceMapParts)) (ps : List (Bor Text × Plan)) (i : ℕ) (m : Bor Text × SourceMapParts) (p : Bor Text × Plan) → i < length ps → p ≡ get_or ps i p
+    → InputsRealize (owned_input_records ms) (input_outcomes (by_path (take i ps))) → m.0.now ≡ p.0.now → Realizes (record_of_parts m.1) (outcome_of p.1) → InputsRealize (owned_input_records (ms ++ m ∷ [])) (input_outcomes (by_path (take (i + 1) ps)))
 more_inputs ms ps i m p l e h q g =
     let next : take (i + 1) ps ≡ take i ps ++ p ∷ [] = take_more ps i p l ∙ ap (λ q. take i ps ++ q ∷ []) (sym e) in
     let outcomes : input_outcomes (by_path (take (i + 1) ps)) ≡ map input_at (take i ps) ++ input_at p ∷ [] = outcomes-of (take (i + 1) ps) ∙ ap (map input_at) next ∙ map-append input_at (take i ps) (p ∷ []) in
-    let maps : by_path (ms ++ m ∷ []) ≡ by_path ms ++ (m.0.now, m.1) ∷ [] = map-append (λ (m : Bor Text × MapRecord). (m.0.now, m.1)) ms (m ∷ []) in
-    subst (λ xs. InputsRealize xs (input_outcomes (by_path (take (i + 1) ps)))) (sym maps) (subst (λ os. InputsRealize (by_path ms ++ (m.0.now, m.1) ∷ []) os) (sym outcomes)
-    (one_input_more (by_path ms) (map input_at (take i ps)) (m.0.now, m.1) (input_at p) (subst (λ os. InputsRealize (by_path ms) os) (outcomes-of (take i ps)) h) q g))
+    let maps : owned_input_records (ms ++ m ∷ []) ≡ owned_input_records ms ++ (m.0.now, record_of_parts m.1) ∷ [] = map-append (λ (m : Bor Text × SourceMapParts). (m.0.now, record_of_parts m.1)) ms (m ∷ []) in
+    subst (λ xs. InputsRealize xs (input_outcomes (by_path (take (i + 1) ps)))) (sym maps) (subst (λ os. InputsRealize (owned_input_records ms ++ (m.0.now, record_of_parts m.1) ∷ []) os) (sym outcomes)
+    (one_input_more (owned_input_records ms) (map input_at (take i ps)) (m.0.now, record_of_parts m.1) (input_at p) (subst (λ os. InputsRealize (owned_input_records ms) os) (outcomes-of (take i ps)) h) q g))
 
 pub input_error : (a : MapRecord) (first : Outcome) (ms : List (Text × MapRecord)) (ps : List (Bor Text × Plan)) (i : ℕ) (p : Bor Text × Plan) (e : PlanError) → i < length ps → p ≡ get_or ps i p
     → Realizes a first → InputsRealize ms (input_outcomes (by_path (take i ps))) → FailsAs e (outcome_of p.1) → FailsAs e (remap_outcome first (input_outcomes (by_path ps)))

@@ -4,6 +4,8 @@ use Rattle.std.specs.List.{AllZip}
 use Rattle.oxc_sourcemap_tokens.specs.declared.error.Error.TheVariants.{OutOfMemory}
 use Rattle.oxc_sourcemap_tokens.specs.Token.{AreInBounds}
 use Rattle.oxc_sourcemap_parts.specs.Record.{Text, MapRecord}
+use Rattle.oxc_sourcemap_parts.specs.Views.{record_of_parts}
+use Rattle.oxc_sourcemap_parts.specs.declared.parts.SourceMapParts.{SourceMapParts}
 use Rattle.oxc_sourcemap_parts.specs.DecodedMap.{DecodedMap}
 use Rattle.oxc_sourcemap_laws.specs.MapLaws.{rewritten}
 use Rattle.oxc_sourcemap_tokens.specs.declared.position.Position.{Position}
@@ -27,6 +29,10 @@ pub record Realizes (m : MapRecord) (o : Outcome) : Type 0 where
   pub known : are_among o.names m.names ≡ true
   pub within_limits : o.is_within_limits ≡ true → length decoded_map.mappings ≤ 4294967295
   pub rewritten : o.is_rewritten ≡ true → (m.token_chunks ≡ None) × ((rewritten m).tokens ≡ m.tokens)
+
+-- Parts of a map realize an outcome, as the map does.
+abbrev pub PartsRealize : SourceMapParts → Outcome → Type 0
+PartsRealize parts o = Realizes (record_of_parts parts) o
 
 -- An error is the one that is meant, or want of memory, or `TooLarge` if the plan is not within the limits.
 abbrev pub FailsAs : PlanError → Outcome → Type 0

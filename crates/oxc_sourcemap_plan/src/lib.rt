@@ -1,5 +1,5 @@
-//! Plans: pipelines of reading, rewriting, joining and composing maps. `evaluate` makes the map that a plan means, and
-//! `read_plan` reads a plan from words. Part of `oxc_sourcemap`.
+//! Plans: pipelines of reading, rewriting, joining and composing maps. `evaluate_to_parts` makes the map that a plan means,
+//! and `read_plan` reads a plan from words. Part of `oxc_sourcemap`.
 #![tactic(auto)]
 
 mod numbers;
@@ -8,6 +8,6 @@ mod plan_arguments;
 mod run_error;
 
 pub use numbers::read_number;
-pub use plan::{Plan, evaluate};
+pub use plan::{Plan, evaluate_to_parts};
 pub use plan_arguments::{inputs_of, read_plan};
 pub use run_error::RunError;

@@ -6,16 +6,21 @@ ghost use Rattle.oxc_sourcemap_plan.specs.Words.{composition_outcome, remap_outc
 ghost use Rattle.oxc_sourcemap_plan.specs.Words.{outcome_of, outcomes, input_outcomes, outcome};
 ghost use Rattle.oxc_sourcemap_plan.specs.Words.{at_lines, at_positions, meaning};
 ghost use Rattle.oxc_sourcemap_plan.specs.Words.{is_within_limits, InputsRealize};
-ghost use Rattle.oxc_sourcemap_plan.specs.Words.{IsEvaluated, HasOutcome, IsErrorOf, Realizes};
-ghost use Rattle.oxc_sourcemap_plan.specs.Words.{FailsAs, AllRealize, OutOfMemory, said_in};
-ghost use Rattle.oxc_sourcemap_plan.specs.Words.{are_tokens_sorted, Map, Unsorted};
+ghost use Rattle.oxc_sourcemap_plan.specs.Words.{owned_input_records, IsEvaluated, HasOutcome};
+ghost use Rattle.oxc_sourcemap_plan.specs.Words.{IsErrorOf, PartsRealize, FailsAs, AllRealize};
+ghost use Rattle.oxc_sourcemap_plan.specs.Words.{OutOfMemory, said_in, are_tokens_sorted, Map};
+ghost use Rattle.oxc_sourcemap_plan.specs.Words.{Unsorted, record_of_parts, owned_records};
 
+use oxc_sourcemap_decode::{decode_parts, decode_parts_from_string};
 use oxc_sourcemap_encode::encode_owned_parts;
+use oxc_sourcemap_join::join_owned_parts;
 use oxc_sourcemap_laws::{
     canonical_unique, composition_associative, dropping_harmless, remapping_associative,
     rooting_idempotent,
 };
-use oxc_sourcemap_map::{OwnedSourceMap, SourceMap, join_owned, remap_owned};
+use oxc_sourcemap_lookup::compose_parts;
+use oxc_sourcemap_parts::{SourceMapParts, apply_root, are_sorted};
+use oxc_sourcemap_remap::remap_owned_parts;
 use oxc_sourcemap_tokens::{PlanError, Position};
 use std::alloc::Global;
 
@@ -92,12 +97,13 @@ fn is_within_depth(plan: &Plan<'_>, room: u32) -> bool
 }
 
 /// This map, or `Unsorted` if its tokens are not sorted.
-fn check_sorted(map: SourceMap<'static>) -> Result<SourceMap<'static>, PlanError>
-    ensures map { IfOk result (λ m. (m ≡ map.entry) × (are_tokens_sorted map.entry.tokens ≡ true)) }
+fn check_sorted(map: SourceMapParts<'static>) -> Result<SourceMapParts<'static>, PlanError>
+    ensures map { IfOk result (λ m. (record_of_parts m ≡ record_of_parts map.entry)
+        × (are_tokens_sorted (record_of_parts map.entry).tokens ≡ true)) }
     ensures error { IfErr result (λ e. (e ≡ Unsorted)
-        × (are_tokens_sorted map.entry.tokens ≡ false)) }
+        × (are_tokens_sorted (record_of_parts map.entry).tokens ≡ false)) }
 {
-    if map.is_sorted() {
+    if are_sorted(map.tokens.as_slice()) {
         Ok(map)
     } else {
         Err(PlanError::Unsorted)
@@ -106,69 +112,75 @@ fn check_sorted(map: SourceMap<'static>) -> Result<SourceMap<'static>, PlanError
 
 /// The map of a JSON text, if it is sorted.
 #[inline(never)]
-fn read(alloc: Global, text: &str) -> Result<SourceMap<'static>, PlanError>
-    ensures map { IfOk result (λ map. Realizes map (read_outcome (said_in text.now))) }
+fn read(alloc: Global, text: &str) -> Result<SourceMapParts<'static>, PlanError>
+    ensures map { IfOk result (λ map. PartsRealize map (read_outcome (said_in text.now))) }
     ensures error { IfErr result (λ e. FailsAs e (read_outcome (said_in text.now))) }
 {
     canonical_unique();
     dropping_harmless();
-    check_sorted(SourceMap::from_json_string(alloc, text)?)
+    check_sorted(decode_parts_from_string(alloc, text)?)
 }
 
 /// A map, written and read again.
 #[inline(never)]
-fn rewrite(alloc: Global, map: SourceMap<'static>) -> Result<SourceMap<'static>, PlanError>
-    ensures map { IfOk result (λ m. (o : Outcome) → Realizes map.entry o
-        → Realizes m (rewrite_outcome o)) }
-    ensures error { IfErr result (λ e. (o : Outcome) → Realizes map.entry o
+fn rewrite(
+    alloc: Global,
+    map: SourceMapParts<'static>,
+) -> Result<SourceMapParts<'static>, PlanError>
+    ensures map { IfOk result (λ m. (o : Outcome) → PartsRealize map.entry o
+        → PartsRealize m (rewrite_outcome o)) }
+    ensures error { IfErr result (λ e. (o : Outcome) → PartsRealize map.entry o
         → FailsAs e (rewrite_outcome o)) }
 {
     canonical_unique();
-    let json = encode_owned_parts(alloc, map.into_parts())?;
-    Ok(SourceMap::from_json(alloc, json)?)
+    let json = encode_owned_parts(alloc, map)?;
+    Ok(decode_parts(alloc, json)?)
 }
 
 /// The join of maps, each at the position where its code begins, if it is sorted.
 #[inline(never)]
 fn join(
     alloc: Global,
-    maps: Vec<(SourceMap<'static>, Position)>,
-) -> Result<SourceMap<'static>, PlanError>
+    maps: Vec<(SourceMapParts<'static>, Position)>,
+) -> Result<SourceMapParts<'static>, PlanError>
     ensures map { IfOk result (λ m. (os : List (Outcome × Position))
-        → AllRealize maps.entry.items os → Realizes m (join_outcome os)) }
+        → AllRealize (owned_records maps.entry.items) os → PartsRealize m (join_outcome os)) }
     ensures error { IfErr result (λ e. (os : List (Outcome × Position))
-        → AllRealize maps.entry.items os → FailsAs e (join_outcome os)) }
+        → AllRealize (owned_records maps.entry.items) os → FailsAs e (join_outcome os)) }
 {
     dropping_harmless();
-    check_sorted(join_owned(alloc, maps)?)
+    check_sorted(join_owned_parts(alloc, maps)?)
 }
 
 /// The composition of two maps.
 #[inline(never)]
 fn compose(
     alloc: Global,
-    first: SourceMap<'static>,
-    second: SourceMap<'static>,
-) -> Result<SourceMap<'static>, PlanError>
-    ensures map { IfOk result (λ m. (p q : Outcome) → Realizes first.entry p
-        → Realizes second.entry q → Realizes m (composition_outcome p q)) }
-    ensures error { IfErr result (λ e. (p q : Outcome) → Realizes first.entry p
-        → Realizes second.entry q → FailsAs e (composition_outcome p q)) }
+    first: SourceMapParts<'static>,
+    second: SourceMapParts<'static>,
+) -> Result<SourceMapParts<'static>, PlanError>
+    ensures map { IfOk result (λ m. (p q : Outcome) → PartsRealize first.entry p
+        → PartsRealize second.entry q → PartsRealize m (composition_outcome p q)) }
+    ensures error { IfErr result (λ e. (p q : Outcome) → PartsRealize first.entry p
+        → PartsRealize second.entry q → FailsAs e (composition_outcome p q)) }
 {
     composition_associative();
-    Ok(first.compose(alloc, second)?)
+    Ok(compose_parts(alloc, first, second)?)
 }
 
 /// A map with its source root before its sources.
 #[inline(never)]
-fn apply_root(alloc: Global, map: SourceMap<'static>) -> Result<SourceMap<'static>, PlanError>
-    ensures map { IfOk result (λ m. (o : Outcome) → Realizes map.entry o
-        → Realizes m (root_outcome o)) }
+fn put_root(
+    alloc: Global,
+    map: SourceMapParts<'static>,
+) -> Result<SourceMapParts<'static>, PlanError>
+    ensures map { IfOk result (λ m. (o : Outcome) → PartsRealize map.entry o
+        → PartsRealize m (root_outcome o)) }
     ensures error { IfErr result (λ e. (o : Outcome) → FailsAs e (root_outcome o)) }
 {
     rooting_idempotent();
     let mut map = map;
-    map.apply_source_root(alloc)?;
+    apply_root(alloc, &mut map)?;
     Ok(map)
 }
 
@@ -176,18 +188,18 @@ fn apply_root(alloc: Global, map: SourceMap<'static>) -> Result<SourceMap<'stati
 #[inline(never)]
 fn remap(
     alloc: Global,
-    map: SourceMap<'static>,
-    inputs: Vec<(&str, SourceMap<'static>)>,
-) -> Result<SourceMap<'static>, PlanError>
+    map: SourceMapParts<'static>,
+    inputs: Vec<(&str, SourceMapParts<'static>)>,
+) -> Result<SourceMapParts<'static>, PlanError>
     ensures map { IfOk result (λ m. (o : Outcome) (os : List (Text × Outcome))
-        → Realizes map.entry o → InputsRealize (by_path inputs.entry.items) os
-        → Realizes m (remap_outcome o os)) }
+        → PartsRealize map.entry o → InputsRealize (owned_input_records inputs.entry.items) os
+        → PartsRealize m (remap_outcome o os)) }
     ensures error { IfErr result (λ e. (o : Outcome) (os : List (Text × Outcome))
-        → Realizes map.entry o → InputsRealize (by_path inputs.entry.items) os
+        → PartsRealize map.entry o → InputsRealize (owned_input_records inputs.entry.items) os
         → FailsAs e (remap_outcome o os)) }
 {
     remapping_associative();
-    Ok(remap_owned(alloc, &map, inputs.as_slice())?)
+    Ok(remap_owned_parts(alloc, &map, inputs.as_slice())?)
 }
 
 /// The map of a plan of any depth.
@@ -195,8 +207,8 @@ fn remap(
 /// The stack has a frame for each level of a plan. To keep these small, each kind of part has a function of its own, and
 /// what those call is not inlined.
 #[cycle(evaluation)]
-fn evaluate_part(alloc: Global, plan: &Plan<'_>) -> Result<SourceMap<'static>, PlanError>
-    ensures map { IfOk result (λ map. Realizes map (outcome_of plan.now)) }
+fn evaluate_part(alloc: Global, plan: &Plan<'_>) -> Result<SourceMapParts<'static>, PlanError>
+    ensures map { IfOk result (λ map. PartsRealize map (outcome_of plan.now)) }
     ensures error { IfErr result (λ e. FailsAs e (outcome_of plan.now)) }
 {
     match plan {
@@ -213,8 +225,8 @@ fn evaluate_part(alloc: Global, plan: &Plan<'_>) -> Result<SourceMap<'static>, P
 /// The map of a part, written and read again.
 #[cycle(evaluation)]
 #[inline(never)]
-fn evaluate_rewrite(alloc: Global, part: &Plan<'_>) -> Result<SourceMap<'static>, PlanError>
-    ensures map { IfOk result (λ map. Realizes map (rewrite_outcome (outcome_of part.now))) }
+fn evaluate_rewrite(alloc: Global, part: &Plan<'_>) -> Result<SourceMapParts<'static>, PlanError>
+    ensures map { IfOk result (λ map. PartsRealize map (rewrite_outcome (outcome_of part.now))) }
     ensures error { IfErr result (λ e. FailsAs e (rewrite_outcome (outcome_of part.now))) }
 {
     let map = evaluate_part(alloc, part)?;
@@ -224,19 +236,23 @@ fn evaluate_rewrite(alloc: Global, part: &Plan<'_>) -> Result<SourceMap<'static>
 /// The map of a part, with its source root before its sources.
 #[cycle(evaluation)]
 #[inline(never)]
-fn evaluate_root(alloc: Global, part: &Plan<'_>) -> Result<SourceMap<'static>, PlanError>
-    ensures map { IfOk result (λ map. Realizes map (root_outcome (outcome_of part.now))) }
+fn evaluate_root(alloc: Global, part: &Plan<'_>) -> Result<SourceMapParts<'static>, PlanError>
+    ensures map { IfOk result (λ map. PartsRealize map (root_outcome (outcome_of part.now))) }
     ensures error { IfErr result (λ e. FailsAs e (root_outcome (outcome_of part.now))) }
 {
     let map = evaluate_part(alloc, part)?;
-    apply_root(alloc, map)
+    put_root(alloc, map)
 }
 
 /// The join of the maps of parts, each at its line.
 #[cycle(evaluation)]
 #[inline(never)]
-fn evaluate_join(alloc: Global, parts: &[(Plan<'_>, u32)]) -> Result<SourceMap<'static>, PlanError>
-    ensures map { IfOk result (λ map. Realizes map (join_outcome (outcomes (at_lines parts.now)))) }
+fn evaluate_join(
+    alloc: Global,
+    parts: &[(Plan<'_>, u32)],
+) -> Result<SourceMapParts<'static>, PlanError>
+    ensures map { IfOk result (λ map. PartsRealize map
+        (join_outcome (outcomes (at_lines parts.now)))) }
     ensures error { IfErr result (λ e. FailsAs e (join_outcome (outcomes (at_lines parts.now)))) }
 {
     let mut maps = Vec::new(alloc);
@@ -257,8 +273,8 @@ fn evaluate_join(alloc: Global, parts: &[(Plan<'_>, u32)]) -> Result<SourceMap<'
 fn evaluate_join_at(
     alloc: Global,
     parts: &[(Plan<'_>, u32, u32)],
-) -> Result<SourceMap<'static>, PlanError>
-    ensures map { IfOk result (λ map. Realizes map
+) -> Result<SourceMapParts<'static>, PlanError>
+    ensures map { IfOk result (λ map. PartsRealize map
         (join_outcome (outcomes (at_positions parts.now)))) }
     ensures error { IfErr result (λ e. FailsAs e
         (join_outcome (outcomes (at_positions parts.now)))) }
@@ -282,8 +298,8 @@ fn evaluate_composition(
     alloc: Global,
     first: &Plan<'_>,
     second: &Plan<'_>,
-) -> Result<SourceMap<'static>, PlanError>
-    ensures map { IfOk result (λ map. Realizes map
+) -> Result<SourceMapParts<'static>, PlanError>
+    ensures map { IfOk result (λ map. PartsRealize map
         (composition_outcome (outcome_of first.now) (outcome_of second.now))) }
     ensures error { IfErr result (λ e. FailsAs e
         (composition_outcome (outcome_of first.now) (outcome_of second.now))) }
@@ -302,8 +318,8 @@ fn evaluate_remapping(
     alloc: Global,
     first: &Plan<'_>,
     inputs: &[(&str, Plan<'_>)],
-) -> Result<SourceMap<'static>, PlanError>
-    ensures map { IfOk result (λ map. Realizes map
+) -> Result<SourceMapParts<'static>, PlanError>
+    ensures map { IfOk result (λ map. PartsRealize map
         (remap_outcome (outcome_of first.now) (input_outcomes (by_path inputs.now)))) }
     ensures error { IfErr result (λ e. FailsAs e
         (remap_outcome (outcome_of first.now) (input_outcomes (by_path inputs.now)))) }
@@ -317,37 +333,15 @@ fn evaluate_remapping(
     remap(alloc, map, maps)
 }
 
-/// Evaluates a plan: reads, rewrites, joins, composes and remaps maps, parts from left to right, all parts of a join before they
-/// are joined, and all inputs of a remapping before it is made.
-///
-/// ```rust
-/// use oxc_sourcemap::{Plan, evaluate};
-///
-/// let first = Plan::Read(r#"{"version":3,"sources":["mid.js"],"mappings":"AACA"}"#);
-/// let second = Plan::Read(r#"{"version":3,"sources":["main.ts"],"mappings":";AAEE"}"#);
-/// let plan = Plan::Compose(Box::new(alloc, first)?, Box::new(alloc, second)?);
-/// let text = r#"{"version":3,"names":[],"sources":["main.ts"],"mappings":"AAEE"}"#;
-/// assert_eq!(rt; evaluate(alloc, &plan)?.to_json_string(alloc)?.as_str(), text);
-/// ```
-///
-/// At every generated position the map has the exact and the clamped trace that the plan means, and it has the sources,
-/// contents and metadata that the plan means (`meaning`). `IsEvaluated` lists what is promised of it, `HasOutcome` what is
-/// besides: it is the map that the definitions of these steps make (docs/PROOFS.md, "The theorem").
-///
-/// Fails with
-/// - `TooDeep` if the plan is deeper than 64, where a text alone is 1 deep, before anything is read;
-/// - else the first of these, from left to right: `Map(e)` if a text cannot be read as a source map, with the error `e` of
-///   `SourceMap::from_json_string`; `Unsorted` if the map of a text or of a join is not sorted; `Map(SeveralSources(n))` if
-///   the first map of a composition has n sources and n is above 1.
-///
-/// It may fail instead with `Map(TooLarge)` if some part has more than 4294967295 names (of all texts read for it), sources or
-/// mappings (repeated ones included), each counted by itself, or a joined line or column above that, where an indexed map
-/// counts as the join of its sections (`is_within_limits`), and with `Map(OutOfMemory)` for want of memory.
-pub fn evaluate(alloc: Global, plan: &Plan<'_>) -> Result<OwnedSourceMap, PlanError>
-    ensures map { IfOk result (λ map. IsEvaluated map (meaning plan.now)) }
+/// Evaluates a plan, as parts: `evaluate` of the crate `oxc_sourcemap` makes a map of these, and has the rules.
+pub fn evaluate_to_parts(
+    alloc: Global,
+    plan: &Plan<'_>,
+) -> Result<SourceMapParts<'static>, PlanError>
+    ensures map { IfOk result (λ map. IsEvaluated (record_of_parts map) (meaning plan.now)) }
     ensures error { IfErr result (λ e. (e ≡ Map OutOfMemory)
         ⊎ IsErrorOf (meaning plan.now) (is_within_limits plan.now) e) }
-    ensures outcome { IfOk result (λ map. HasOutcome map (outcome plan.now)) }
+    ensures outcome { IfOk result (λ map. HasOutcome (record_of_parts map) (outcome plan.now)) }
     ensures same_meaning { (outcome plan.now).meaning ≡ meaning plan.now }
 {
     dropping_harmless();
@@ -355,5 +349,5 @@ pub fn evaluate(alloc: Global, plan: &Plan<'_>) -> Result<OwnedSourceMap, PlanEr
     if !is_within_depth(plan, 64) {
         return Err(PlanError::TooDeep);
     }
-    Ok(OwnedSourceMap::new(evaluate_part(alloc, plan)?))
+    evaluate_part(alloc, plan)
 }

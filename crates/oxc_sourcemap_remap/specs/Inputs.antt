@@ -9,6 +9,8 @@ use Rattle.oxc_sourcemap_tokens.specs.declared.error.Error.TheVariants.{InputLin
 use Rattle.oxc_sourcemap_tokens.specs.LineOrder.{first_out_of_order}
 use Rattle.oxc_sourcemap_parts.specs.DecodedMap.{DecodedMap, decoded_map_of}
 use Rattle.oxc_sourcemap_parts.specs.Record.{Text, MapRecord}
+use Rattle.oxc_sourcemap_parts.specs.Views.{record_of_parts}
+use Rattle.oxc_sourcemap_parts.specs.declared.parts.SourceMapParts.{SourceMapParts}
 use Rattle.oxc_sourcemap_lookup.specs.Composed.{NoColumnGoesBack}
 
 -- the first input for a path; paths are compared byte for byte
@@ -25,8 +27,8 @@ abbrev pub lent_inputs : List (Bor Text × Bor MapRecord) → List (Text × MapR
 lent_inputs inputs = map (λ input. (input.0.now, input.1.now)) inputs
 
 -- the same of maps that are not borrowed
-abbrev pub owned_inputs : List (Bor Text × MapRecord) → List (Text × MapRecord)
-owned_inputs inputs = map (λ input. (input.0.now, input.1)) inputs
+abbrev pub owned_input_records : List (Bor Text × SourceMapParts) → List (Text × MapRecord)
+owned_input_records inputs = map (λ input. (input.0.now, record_of_parts input.1)) inputs
 
 -- the inputs with what their maps mean
 abbrev pub decoded_inputs : List (Text × MapRecord) → List (Text × DecodedMap)

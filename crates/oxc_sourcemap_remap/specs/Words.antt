@@ -18,7 +18,8 @@ pub use Rattle.oxc_sourcemap_remap.specs.Bodies.{block_of, block_original, IsBlo
 pub use Rattle.oxc_sourcemap_remap.specs.Bodies.{AreBlockTargets, set_from, block_ids}
 pub use Rattle.oxc_sourcemap_remap.specs.Bodies.{original_of_place, names_in, ArePlaced}
 pub use Rattle.oxc_sourcemap_remap.specs.Bodies.{put_together}
-pub use Rattle.oxc_sourcemap_remap.specs.Inputs.{input_records, decoded_inputs, goes_back}
+pub use Rattle.oxc_sourcemap_remap.specs.Inputs.{input_records, owned_input_records, decoded_inputs}
+pub use Rattle.oxc_sourcemap_remap.specs.Inputs.{goes_back}
 pub use Rattle.oxc_sourcemap_remap.specs.Inputs.{inputs_fault, NoInputColumnGoesBack}
 pub use Rattle.oxc_sourcemap_remap.specs.Remapped.{listed_sources, input_original, needed_name}
 pub use Rattle.oxc_sourcemap_remap.specs.Remapped.{needed_names, token_to, remapping, SomeRemapping}

@@ -12,3 +12,12 @@ pub trait AsParts {
     fn as_parts(&self) -> &SourceMapParts<'_>
         ensures { record_of_parts result.now ≡ as_record self.now };
 }
+
+impl<'a> AsParts for SourceMapParts<'a> {
+    ghost as_record = { record_of_parts };
+
+    /// These parts.
+    fn as_parts(&self) -> &SourceMapParts<'_> {
+        self
+    }
+}

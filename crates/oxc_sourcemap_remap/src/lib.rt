@@ -6,7 +6,9 @@ mod blocks;
 mod inputs;
 mod lists;
 mod needed_names;
+mod owned;
 mod remap;
 
 pub use as_parts::AsParts;
+pub use owned::remap_owned_parts;
 pub use remap::remap_parts;

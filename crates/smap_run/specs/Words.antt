@@ -1,13 +1,14 @@
 -- The words of this crate's clauses, from one place.
-pub use Rattle.oxc_sourcemap_parts.specs.DecodedMap.{decoded_map_of}
+pub use Rattle.oxc_sourcemap_lookup.specs.Lookup.{token_for}
+pub use Rattle.oxc_sourcemap_parts.specs.DecodedMap.{name_of}
 pub use Rattle.oxc_sourcemap_tokens.specs.declared.error.Error.TheVariants.{OutOfMemory}
 pub use Rattle.oxc_sourcemap_encode.specs.JsonText.{map_text}
 pub use Rattle.oxc_sourcemap_tokens.specs.LineOrder.{IsInLineOrder}
 pub use Rattle.oxc_sourcemap_tokens.specs.declared.plan_error.PlanError.TheVariants.{Map}
 pub use Rattle.oxc_sourcemap_mappings.specs.Reading.{reading}
 pub use Rattle.oxc_sourcemap_parts.specs.Sorted.{are_tokens_sorted}
-pub use Rattle.oxc_sourcemap_lookup.specs.Trace.{trace}
-pub use Rattle.oxc_sourcemap_map.specs.View.{view_of, seen_in, view_original}
+pub use Rattle.oxc_sourcemap_lookup.specs.Trace.{original_in}
+pub use Rattle.oxc_sourcemap_parts.specs.Views.{record_of_parts}
 pub use Rattle.oxc_sourcemap_plan.specs.PlanArguments.{parsed_plan}
 pub use Rattle.oxc_sourcemap_plan.specs.PlanInputs.{inputs_of}
 pub use Rattle.oxc_sourcemap_plan.specs.RunErrors.{out_of_memory}

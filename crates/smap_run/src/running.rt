@@ -9,14 +9,17 @@ ghost use Rattle.smap_run.specs.Words.{mappings_answer, normalised, normalised_u
 ghost use Rattle.smap_run.specs.Words.{IsPlanError, IsAnswer, FailsWith, AppendsBeginning};
 ghost use Rattle.smap_run.specs.Words.{reading, inputs_of, IsInput};
 ghost use Rattle.smap_run.specs.Words.{parsed_plan, request_of, Answers, map_text};
+ghost use Rattle.smap_run.specs.Words.{record_of_parts};
 
 use crate::arguments::Command;
 use crate::port::Port;
 use crate::tracing::trace;
+use oxc_sourcemap_decode::decode_parts_from_string;
+use oxc_sourcemap_encode::{encode_parts_into, encode_parts_to_data_url};
 use oxc_sourcemap_laws::canonical_unique;
-use oxc_sourcemap_map::SourceMap;
 use oxc_sourcemap_mappings::{decode_mappings, encode_mappings};
-use oxc_sourcemap_plan::{RunError, evaluate, inputs_of, read_plan};
+use oxc_sourcemap_parts::SourceMapParts;
+use oxc_sourcemap_plan::{RunError, evaluate_to_parts, inputs_of, read_plan};
 use oxc_sourcemap_tokens::Error;
 use std::alloc::{AllocError, Global};
 use std::io::{Read, Write};
@@ -102,11 +105,11 @@ fn rewrite_mappings(alloc: Global, text: &str, names: u32, sources: u32) -> Resu
 }
 
 /// The JSON text of a map, written over the text of the input, so that there are not both at once.
-fn write_over(mut text: String, map: &SourceMap<'_>) -> Result<String, Error>
-    ensures { Answers string_bytes result (map_text map.now) }
+fn write_over(mut text: String, map: &SourceMapParts<'_>) -> Result<String, Error>
+    ensures { Answers string_bytes result (map_text (record_of_parts map.now)) }
 {
     text.clear();
-    map.write_json_string(&mut text)?;
+    encode_parts_into(map, &mut text)?;
     Ok(text)
 }
 
@@ -114,7 +117,7 @@ fn write_over(mut text: String, map: &SourceMap<'_>) -> Result<String, Error>
 fn normalise(alloc: Global, text: String) -> Result<String, Error>
     ensures { Answers string_bytes result (normalised (string_bytes text)) }
 {
-    let map = SourceMap::from_json_string(alloc, text.as_str())?;
+    let map = decode_parts_from_string(alloc, text.as_str())?;
     write_over(text, &map)
 }
 
@@ -122,8 +125,8 @@ fn normalise(alloc: Global, text: String) -> Result<String, Error>
 fn data_url(alloc: Global, text: &str) -> Result<String, Error>
     ensures { Answers string_bytes result (normalised_url text.now) }
 {
-    let map = SourceMap::from_json_string(alloc, text)?;
-    map.to_data_url(alloc)
+    let map = decode_parts_from_string(alloc, text)?;
+    encode_parts_to_data_url(alloc, &map)
 }
 
 /// The JSON text of the map of the plan of these arguments, over the maps of an input. The parts of the plan borrow from it,
@@ -140,9 +143,9 @@ fn plan_text(alloc: Global, input: String, arguments: &[String]) -> Result<Strin
     let map = {
         let inputs = inputs_of(alloc, input.as_str())?;
         let plan = read_plan(alloc, inputs.as_slice(), arguments)?;
-        evaluate(alloc, &plan)?
+        evaluate_to_parts(alloc, &plan)?
     };
-    Ok(write_over(input, map.as_source_map())?)
+    Ok(write_over(input, &map)?)
 }
 
 /// The answer of a command to an input, without its line feed.

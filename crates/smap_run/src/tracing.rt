@@ -1,14 +1,16 @@
 //! The trace of a map at a generated position, as a line of text.
-ghost use Rattle.std.specs.Prelude.{◌≡◌, ◌≢◌, true, option_map, string_bytes, Some, IfOk, IfErr};
+ghost use Rattle.std.specs.Prelude.{◌≡◌, ◌≢◌, true, string_bytes, slice_get, Some, IfOk, IfErr};
 ghost use Rattle.std.specs.Prelude.{Ok, Err};
-ghost use Rattle.smap_run.specs.Words.{OutOfMemory, IsInLineOrder, are_tokens_sorted};
-ghost use Rattle.smap_run.specs.Words.{decoded_map_of, trace, view_of, seen_in, view_original, Map};
+ghost use Rattle.std.specs.Option.{option_and_then};
+ghost use Rattle.smap_run.specs.Words.{OutOfMemory, IsInLineOrder, are_tokens_sorted, token_for};
+ghost use Rattle.smap_run.specs.Words.{record_of_parts, original_in, name_of, Map};
 ghost use Rattle.smap_run.specs.Words.{number_part, name_part, original_text, trace_text};
 ghost use Rattle.smap_run.specs.Words.{traced_of, traced, OnlyMemory, Pushes, lent_item};
 
+use oxc_sourcemap_decode::decode_parts_from_string;
 use oxc_sourcemap_encode::push_json_string;
 use oxc_sourcemap_lookup::LineIndex;
-use oxc_sourcemap_map::{SourceMap, SourceViewToken};
+use oxc_sourcemap_parts::{SourceMapParts, are_sorted};
 use oxc_sourcemap_tokens::{Error, PlanError, Token};
 use std::alloc::Global;
 
@@ -54,45 +56,75 @@ fn original_text(
     Ok(out)
 }
 
+/// The source of a token. None if it has no source id, or one out of range.
+fn token_source<'m>(map: &'m SourceMapParts<'_>, token: &Token) -> Option<&'m str>
+    ensures { lent_item result ≡ option_and_then (slice_get (record_of_parts map.now).sources)
+        token.now.source_id }
+{
+    Some(map.sources.get(token.get_source_id()? as usize)?.as_str())
+}
+
+/// The name of a token. None if it has no name id, or one out of range.
+fn token_name<'m>(map: &'m SourceMapParts<'_>, token: &Token) -> Option<&'m str>
+    ensures { lent_item result ≡ name_of (record_of_parts map.now).names token.now }
+{
+    Some(map.names.get(token.get_name_id()? as usize)?.as_str())
+}
+
 /// The text of a token that was found.
-fn token_text(alloc: Global, view: &SourceViewToken<'_, '_>) -> Result<String, Error>
+fn token_text(alloc: Global, map: &SourceMapParts<'_>, token: &Token) -> Result<String, Error>
     ensures text { IfOk result (λ out. string_bytes out
-        ≡ trace_text (Some (view_original (view_of view.now)))) }
+        ≡ trace_text (Some (original_in (record_of_parts map.now) token.now))) }
     ensures error { OnlyMemory result }
 {
-    let (source, line, col, name) = view.to_tuple();
-    match source {
-        Some(source) => original_text(alloc, source, line, col, name),
+    match token_source(map, token) {
+        Some(source) => original_text(
+            alloc,
+            source,
+            token.get_src_line(),
+            token.get_src_col(),
+            token_name(map, token),
+        ),
         None => Ok(String::from_str(alloc, "unmapped")?),
     }
 }
 
 /// The token at a generated position of a sorted map. It is found by an index of the lines that have tokens, so the memory
 /// that this takes does not depend on line numbers.
-fn token_at(alloc: Global, map: &SourceMap<'_>, line: u32, col: u32) -> Result<Option<Token>, Error>
-    requires sorted { are_tokens_sorted map.now.tokens ≡ true }
-    requires in_line_order { IsInLineOrder map.now.tokens }
-    ensures found { IfOk result (λ token. option_map view_original
-        (option_map (seen_in map.now) token) ≡ trace (decoded_map_of map.now) line col) }
+fn token_at(
+    alloc: Global,
+    map: &SourceMapParts<'_>,
+    line: u32,
+    col: u32,
+) -> Result<Option<Token>, Error>
+    requires sorted { are_tokens_sorted (record_of_parts map.now).tokens ≡ true }
+    requires in_line_order { IsInLineOrder (record_of_parts map.now).tokens }
+    ensures found { IfOk result (λ token. token
+        ≡ token_for (record_of_parts map.now).tokens line col) }
     ensures error { IfErr result (λ e. (e ≢ OutOfMemory) → ⊥) }
 {
-    let tokens = map.get_tokens().as_slice();
+    let tokens = map.tokens.as_slice();
     let index = LineIndex::new(alloc, tokens)?;
     Ok(index.lookup(tokens, line, col))
 }
 
 /// The text of the trace of a map at a generated position.
-fn trace_in(alloc: Global, map: &SourceMap<'_>, line: u32, col: u32) -> Result<String, PlanError>
-    requires in_line_order { IsInLineOrder map.now.tokens }
-    ensures text { IfOk result (λ out. traced_of (Ok map.now) line col ≡ Ok (string_bytes out)) }
+fn trace_in(
+    alloc: Global,
+    map: &SourceMapParts<'_>,
+    line: u32,
+    col: u32,
+) -> Result<String, PlanError>
+    ensures text { IfOk result (λ out. traced_of (Ok (record_of_parts map.now)) line col
+        ≡ Ok (string_bytes out)) }
     ensures error { IfErr result (λ e. (e ≢ Map OutOfMemory)
-        → traced_of (Ok map.now) line col ≡ Err e) }
+        → traced_of (Ok (record_of_parts map.now)) line col ≡ Err e) }
 {
-    if !map.is_sorted() {
+    if !are_sorted(map.tokens.as_slice()) {
         return Err(PlanError::Unsorted);
     }
     match token_at(alloc, map, line, col)? {
-        Some(token) => Ok(token_text(alloc, &SourceViewToken::new(token, map))?),
+        Some(token) => Ok(token_text(alloc, map, &token)?),
         None => Ok(String::from_str(alloc, "nothing")?),
     }
 }
@@ -114,6 +146,6 @@ pub fn trace(alloc: Global, text: &str, line: u32, col: u32) -> Result<String, P
     ensures text { IfOk result (λ out. traced text.now line col ≡ Ok (string_bytes out)) }
     ensures error { IfErr result (λ e. (e ≢ Map OutOfMemory) → traced text.now line col ≡ Err e) }
 {
-    let map = SourceMap::from_json_string(alloc, text)?;
+    let map = decode_parts_from_string(alloc, text)?;
     trace_in(alloc, &map, line, col)
 }

@@ -9,22 +9,22 @@ use Rattle.oxc_sourcemap_c.specs.Plans.{plan_of, words_of}
 use Rattle.oxc_sourcemap_c.proofs.Planned.{map_of_plan, failure_of_plan, words_error}
 use Rattle.oxc_sourcemap_c.proofs.plans.evaluate_words.Goals as goal
 
-pub returns-in_err-evaluate-in-Ok-clause-error : goal.returns-in_err-evaluate-in-Ok-clause-error
-returns-in_err-evaluate-in-Ok-clause-error c =
+pub returns-in_err-map-in-Ok-clause-error : goal.returns-in_err-map-in-Ok-clause-error
+returns-in_err-map-in-Ok-clause-error c =
     let texts : inputs_of c.args.texts.now ≡ map (λ text. text.now) c.as_slice.result.now = sym (ap (map (λ text. text.now)) c.as_slice.ensures.value ∙ c.in_ok-inputs.ensures) in
     let words : words_of c.args.words.now ≡ map string_bytes c.as_slice-2.result.now = sym (ap (map string_bytes) c.as_slice-2.ensures.value ∙ c.in_ok-words.ensures) in
     let read : plan_of c.args.words.now c.args.texts.now ≡ Ok (outcome c.in-Ok.plan) = ap (λ ts. parsed_plan ts (words_of c.args.words.now)) texts ∙ ap (parsed_plan (map (λ text. text.now) c.as_slice.result.now)) words ∙ c.in-Ok.ensures.plan in
-    carried_error c.from_residual-in_err-evaluate-in-Ok.result (Plan c.in_err-evaluate-in-Ok.field-0.0) _ c.from_residual-in_err-evaluate-in-Ok.ensures.1
-    (λ n. failure_of_plan (plan_of c.args.words.now c.args.texts.now) (outcome c.in-Ok.plan) (meaning c.in-Ok.plan) c.in_err-evaluate-in-Ok.field-0.0 read c.in_err-evaluate-in-Ok.ensures.same_meaning
-    c.in_err-evaluate-in-Ok.ensures.error n)
+    carried_error c.from_residual-in_err-map-in-Ok.result (Plan c.in_err-map-in-Ok.field-0.0) _ c.from_residual-in_err-map-in-Ok.ensures.1
+    (λ n. failure_of_plan (plan_of c.args.words.now c.args.texts.now) (outcome c.in-Ok.plan) (meaning c.in-Ok.plan) c.in_err-map-in-Ok.field-0.0 read c.in_err-map-in-Ok.ensures.same_meaning
+    c.in_err-map-in-Ok.ensures.error n)
 
 pub returns-in-Ok-clause-map : goal.returns-in-Ok-clause-map
 returns-in-Ok-clause-map c =
     let texts : inputs_of c.args.texts.now ≡ map (λ text. text.now) c.as_slice.result.now = sym (ap (map (λ text. text.now)) c.as_slice.ensures.value ∙ c.in_ok-inputs.ensures) in
     let words : words_of c.args.words.now ≡ map string_bytes c.as_slice-2.result.now = sym (ap (map string_bytes) c.as_slice-2.ensures.value ∙ c.in_ok-words.ensures) in
     let read : plan_of c.args.words.now c.args.texts.now ≡ Ok (outcome c.in-Ok.plan) = ap (λ ts. parsed_plan ts (words_of c.args.words.now)) texts ∙ ap (parsed_plan (map (λ text. text.now) c.as_slice.result.now)) words ∙ c.in-Ok.ensures.plan in
-    map_of_plan (plan_of c.args.words.now c.args.texts.now) (outcome c.in-Ok.plan) (meaning c.in-Ok.plan) _ read c.in_ok-evaluate-in-Ok.ensures.same_meaning c.in_ok-evaluate-in-Ok.ensures.map
-    c.in_ok-evaluate-in-Ok.ensures.outcome
+    map_of_plan (plan_of c.args.words.now c.args.texts.now) (outcome c.in-Ok.plan) (meaning c.in-Ok.plan) _ read c.in_ok-map-in-Ok.ensures.same_meaning c.in_ok-map-in-Ok.ensures.map
+    c.in_ok-map-in-Ok.ensures.outcome
 
 pub returns-clause-error : goal.returns-clause-error
 returns-clause-error c =

@@ -3,6 +3,9 @@ use Rattle.std.proofs.lemmas.List.{take_all}
 use Rattle.std.proofs.lemmas.Grind.{common_steps}
 use Rattle.std.proofs.lemmas.Result.{IfOk-weaker, IfErr-weaker}
 use Rattle.oxc_sourcemap_join.specs.Joined.{position, at_line, at_lines, at_positions}
+use Rattle.oxc_sourcemap_join.specs.Joined.{owned_records}
+use Rattle.oxc_sourcemap_parts.specs.Views.{record_of_parts}
+use Rattle.oxc_sourcemap_remap.specs.Inputs.{owned_input_records}
 use Rattle.oxc_sourcemap_plan.specs.Depth.{depth}
 use Rattle.oxc_sourcemap_plan.specs.Meaning.{by_path}
 use Rattle.oxc_sourcemap_plan.specs.Outcome.{outcome_of, outcomes, join_outcome}
@@ -14,6 +17,7 @@ use Rattle.oxc_sourcemap_plan.proofs.Realizing.{second_fails}
 use Rattle.oxc_sourcemap_plan.proofs.Remapping.{remapped_fails}
 use Rattle.oxc_sourcemap_plan.proofs.Parts.{from_err, more_given, part_error, part_below_deepest}
 use Rattle.oxc_sourcemap_plan.proofs.Parts.{at_its_line, at_its_position, more_inputs, input_error}
+use Rattle.oxc_sourcemap_join.proofs.Adding.{records_pushed}
 use Rattle.oxc_sourcemap_plan.proofs.plan.+evaluation.Goals as goal
 
 pub evaluate_part-evaluate_join-requires : goal.evaluate_part-evaluate_join-requires
@@ -25,7 +29,7 @@ evaluate_part-evaluate_join_at-requires t c = grind (arith, common_steps, depth_
 pub evaluate_part-returns-in-Join-clause-map : goal.evaluate_part-returns-in-Join-clause-map
 evaluate_part-returns-in-Join-clause-map t c =
     let o = outcome_parts c.args.plan.now c.in-Join.parts c.as_slice.result.now c.in-Join.is c.as_slice.ensures.value in
-    IfOk-weaker c.evaluate_join.result _ _ (λ m g. subst (Realizes m) (sym o) g) c.evaluate_join.ensures.map
+    IfOk-weaker c.evaluate_join.result _ _ (λ m g. subst (Realizes (record_of_parts m)) (sym o) g) c.evaluate_join.ensures.map
 
 pub evaluate_part-returns-in-Join-clause-error : goal.evaluate_part-returns-in-Join-clause-error
 evaluate_part-returns-in-Join-clause-error t c =
@@ -35,7 +39,7 @@ evaluate_part-returns-in-Join-clause-error t c =
 pub evaluate_part-returns-in-JoinAt-clause-map : goal.evaluate_part-returns-in-JoinAt-clause-map
 evaluate_part-returns-in-JoinAt-clause-map t c =
     let o = outcome_parts_at c.args.plan.now c.in-JoinAt.parts c.as_slice-in-JoinAt.result.now c.in-JoinAt.is c.as_slice-in-JoinAt.ensures.value in
-    IfOk-weaker c.evaluate_join_at.result _ _ (λ m g. subst (Realizes m) (sym o) g) c.evaluate_join_at.ensures.map
+    IfOk-weaker c.evaluate_join_at.result _ _ (λ m g. subst (Realizes (record_of_parts m)) (sym o) g) c.evaluate_join_at.ensures.map
 
 pub evaluate_part-returns-in-JoinAt-clause-error : goal.evaluate_part-returns-in-JoinAt-clause-error
 evaluate_part-returns-in-JoinAt-clause-error t c =
@@ -49,15 +53,15 @@ evaluate_join-evaluate_part-requires t c =
 pub evaluate_join-returns-in_err-map-clause-error : goal.evaluate_join-returns-in_err-map-clause-error
 evaluate_join-returns-in_err-map-clause-error t c =
     let parts = c.args.parts.now in
-    let r = part_error at_its_line c.loop-part.maps.items parts c.loop-part.part-index c.loop-part-item.result c.in_err-map.field-0.0 c.loop-part-test.true c.loop-part-item.is c.loop-part.invariant c.in_err-map.ensures.error in
+    let r = part_error at_its_line (owned_records c.loop-part.maps.items) parts c.loop-part.part-index c.loop-part-item.result c.in_err-map.field-0.0 c.loop-part-test.true c.loop-part-item.is c.loop-part.invariant c.in_err-map.ensures.error in
     from_err c.from_residual.result _ _ c.from_residual.ensures.1 (λ e h. subst (λ e. FailsAs e (join_outcome (outcomes (at_lines parts)))) (sym h) r)
 
 pub evaluate_join-loop-part-preserved : goal.evaluate_join-loop-part-preserved
 evaluate_join-loop-part-preserved t c =
     let parts = c.args.parts.now in
     let i = c.loop-part.part-index in
-    subst (λ ms. AllRealize ms (outcomes (at_lines (take (i + 1) parts)))) (sym c.in_ok-push.ensures.items)
-    (more_given at_its_line c.loop-part.maps.items parts i (c.in_ok-map.map, at_line c.loop-part-item.result.1) c.loop-part-item.result c.loop-part-test.true c.loop-part-item.is c.loop-part.invariant c.in_ok-map.ensures.map refl)
+    subst (λ ms. AllRealize ms (outcomes (at_lines (take (i + 1) parts)))) (sym (records_pushed c.loop-part.maps.items _ _ c.in_ok-push.ensures.items))
+    (more_given at_its_line (owned_records c.loop-part.maps.items) parts i (record_of_parts c.in_ok-map.map, at_line c.loop-part-item.result.1) c.loop-part-item.result c.loop-part-test.true c.loop-part-item.is c.loop-part.invariant c.in_ok-map.ensures.map refl)
 
 pub evaluate_join_at-evaluate_part-requires : goal.evaluate_join_at-evaluate_part-requires
 evaluate_join_at-evaluate_part-requires t c =
@@ -66,22 +70,22 @@ evaluate_join_at-evaluate_part-requires t c =
 pub evaluate_join_at-returns-in_err-map-clause-error : goal.evaluate_join_at-returns-in_err-map-clause-error
 evaluate_join_at-returns-in_err-map-clause-error t c =
     let parts = c.args.parts.now in
-    let r = part_error at_its_position c.loop-part.maps.items parts c.loop-part.part-index c.loop-part-item.result c.in_err-map.field-0.0 c.loop-part-test.true c.loop-part-item.is c.loop-part.invariant c.in_err-map.ensures.error in
+    let r = part_error at_its_position (owned_records c.loop-part.maps.items) parts c.loop-part.part-index c.loop-part-item.result c.in_err-map.field-0.0 c.loop-part-test.true c.loop-part-item.is c.loop-part.invariant c.in_err-map.ensures.error in
     from_err c.from_residual.result _ _ c.from_residual.ensures.1 (λ e h. subst (λ e. FailsAs e (join_outcome (outcomes (at_positions parts)))) (sym h) r)
 
 pub evaluate_join_at-loop-part-preserved : goal.evaluate_join_at-loop-part-preserved
 evaluate_join_at-loop-part-preserved t c =
     let parts = c.args.parts.now in
     let i = c.loop-part.part-index in
-    subst (λ ms. AllRealize ms (outcomes (at_positions (take (i + 1) parts)))) (sym c.in_ok-push.ensures.items)
-    (more_given at_its_position c.loop-part.maps.items parts i (c.in_ok-map.map, position c.loop-part-item.result.1 c.loop-part-item.result.2) c.loop-part-item.result c.loop-part-test.true c.loop-part-item.is c.loop-part.invariant c.in_ok-map.ensures.map refl)
+    subst (λ ms. AllRealize ms (outcomes (at_positions (take (i + 1) parts)))) (sym (records_pushed c.loop-part.maps.items _ _ c.in_ok-push.ensures.items))
+    (more_given at_its_position (owned_records c.loop-part.maps.items) parts i (record_of_parts c.in_ok-map.map, position c.loop-part-item.result.1 c.loop-part-item.result.2) c.loop-part-item.result c.loop-part-test.true c.loop-part-item.is c.loop-part.invariant c.in_ok-map.ensures.map refl)
 
 pub evaluate_composition-returns-in_err-evaluate_part-2-clause-error : goal.evaluate_composition-returns-in_err-evaluate_part-2-clause-error
 evaluate_composition-returns-in_err-evaluate_part-2-clause-error t c =
     let first = outcome_of c.args.first.now in
     let second = outcome_of c.args.second.now in
     from_err c.from_residual-in_err-evaluate_part-2.result _ _ c.from_residual-in_err-evaluate_part-2.ensures.1
-    (λ e h. subst (λ e. FailsAs e (composition_outcome first second)) (sym h) (second_fails c.in_ok-evaluate_part.field-0 first second c.in_err-evaluate_part-2.field-0.0 c.in_ok-evaluate_part.ensures.map c.in_err-evaluate_part-2.ensures.error))
+    (λ e h. subst (λ e. FailsAs e (composition_outcome first second)) (sym h) (second_fails (record_of_parts c.in_ok-evaluate_part.field-0) first second c.in_err-evaluate_part-2.field-0.0 c.in_ok-evaluate_part.ensures.map c.in_err-evaluate_part-2.ensures.error))
 
 pub evaluate_rewrite-returns-clause-map : goal.evaluate_rewrite-returns-clause-map
 evaluate_rewrite-returns-clause-map t c = IfOk-weaker c.rewrite.result _ _ (λ m realizes. realizes (outcome_of c.args.part.now) c.in_ok-map.ensures.map) c.rewrite.ensures.map
@@ -96,7 +100,7 @@ pub evaluate_part-returns-in-Remap-clause-map : goal.evaluate_part-returns-in-Re
 evaluate_part-returns-in-Remap-clause-map t c =
     let first : c.deref-in-Remap.result.now ≡ c.in-Remap.first.value = search rules in
     let o = outcome_inputs c.args.plan.now c.deref-in-Remap.result.now c.in-Remap.first c.in-Remap.inputs c.as_slice-in-Remap.result.now c.in-Remap.is first c.as_slice-in-Remap.ensures.value in
-    IfOk-weaker c.evaluate_remapping.result _ _ (λ m g. subst (Realizes m) (sym o) g) c.evaluate_remapping.ensures.map
+    IfOk-weaker c.evaluate_remapping.result _ _ (λ m g. subst (Realizes (record_of_parts m)) (sym o) g) c.evaluate_remapping.ensures.map
 
 pub evaluate_part-returns-in-Remap-clause-error : goal.evaluate_part-returns-in-Remap-clause-error
 evaluate_part-returns-in-Remap-clause-error t c =
@@ -105,7 +109,7 @@ evaluate_part-returns-in-Remap-clause-error t c =
     IfErr-weaker c.evaluate_remapping.result _ _ (λ e g. subst (FailsAs e) (sym o) g) c.evaluate_remapping.ensures.error
 
 pub evaluate_root-returns-clause-map : goal.evaluate_root-returns-clause-map
-evaluate_root-returns-clause-map t c = IfOk-weaker c.apply_root.result _ _ (λ m realizes. realizes (outcome_of c.args.part.now) c.in_ok-map.ensures.map) c.apply_root.ensures.map
+evaluate_root-returns-clause-map t c = IfOk-weaker c.put_root.result _ _ (λ m realizes. realizes (outcome_of c.args.part.now) c.in_ok-map.ensures.map) c.put_root.ensures.map
 
 pub evaluate_remapping-evaluate_part-requires-in-loop-path : goal.evaluate_remapping-evaluate_part-requires-in-loop-path
 evaluate_remapping-evaluate_part-requires-in-loop-path t c =
@@ -122,36 +126,36 @@ pub evaluate_remapping-returns-in_err-input-clause-error : goal.evaluate_remappi
 evaluate_remapping-returns-in_err-input-clause-error t c =
     let first = outcome_of c.args.first.now in
     let inputs = c.args.inputs.now in
-    let r = input_error c.in_ok-map.map first (by_path c.loop-path.maps.items) inputs c.loop-path.path-index c.loop-path-item.result c.in_err-input.field-0.0 c.loop-path-test.true c.loop-path-item.is c.in_ok-map.ensures.map c.loop-path.invariant c.in_err-input.ensures.error in
+    let r = input_error (record_of_parts c.in_ok-map.map) first (owned_input_records c.loop-path.maps.items) inputs c.loop-path.path-index c.loop-path-item.result c.in_err-input.field-0.0 c.loop-path-test.true c.loop-path-item.is c.in_ok-map.ensures.map c.loop-path.invariant c.in_err-input.ensures.error in
     from_err c.from_residual-in_err-input.result _ _ c.from_residual-in_err-input.ensures.1 (λ e h. subst (λ e. FailsAs e (remap_outcome first (input_outcomes (by_path inputs)))) (sym h) r)
 
 pub evaluate_remapping-loop-path-preserved : goal.evaluate_remapping-loop-path-preserved
 evaluate_remapping-loop-path-preserved t c =
     let inputs = c.args.inputs.now in
     let i = c.loop-path.path-index in
-    subst (λ ms. InputsRealize (by_path ms) (input_outcomes (by_path (take (i + 1) inputs)))) (sym c.in_ok-push.ensures.items)
+    subst (λ ms. InputsRealize (owned_input_records ms) (input_outcomes (by_path (take (i + 1) inputs)))) (sym c.in_ok-push.ensures.items)
     (more_inputs c.loop-path.maps.items inputs i (c.loop-path-item.result.0, c.in_ok-input.input) c.loop-path-item.result c.loop-path-test.true c.loop-path-item.is c.loop-path.invariant refl c.in_ok-input.ensures.map)
 
 pub evaluate_remapping-returns-clause-map : goal.evaluate_remapping-returns-clause-map
 evaluate_remapping-returns-clause-map t c =
     let inputs = c.args.inputs.now in
-    let all = subst (λ xs. InputsRealize (by_path c.loop-path.maps.items) (input_outcomes (by_path xs))) (take_all c.loop-path.path-index inputs (let f = c.loop-path-test.false in omega (arith, f))) c.loop-path.invariant in
+    let all = subst (λ xs. InputsRealize (owned_input_records c.loop-path.maps.items) (input_outcomes (by_path xs))) (take_all c.loop-path.path-index inputs (let f = c.loop-path-test.false in omega (arith, f))) c.loop-path.invariant in
     IfOk-weaker c.remap.result _ _ (λ m realizes. realizes (outcome_of c.args.first.now) (input_outcomes (by_path inputs)) c.in_ok-map.ensures.map all) c.remap.ensures.map
 
 pub evaluate_remapping-returns-clause-error : goal.evaluate_remapping-returns-clause-error
 evaluate_remapping-returns-clause-error t c =
     let inputs = c.args.inputs.now in
-    let all = subst (λ xs. InputsRealize (by_path c.loop-path.maps.items) (input_outcomes (by_path xs))) (take_all c.loop-path.path-index inputs (let f = c.loop-path-test.false in omega (arith, f))) c.loop-path.invariant in
+    let all = subst (λ xs. InputsRealize (owned_input_records c.loop-path.maps.items) (input_outcomes (by_path xs))) (take_all c.loop-path.path-index inputs (let f = c.loop-path-test.false in omega (arith, f))) c.loop-path.invariant in
     IfErr-weaker c.remap.result _ _ (λ e fails. fails (outcome_of c.args.first.now) (input_outcomes (by_path inputs)) c.in_ok-map.ensures.map all) c.remap.ensures.error
 
 pub evaluate_join-returns-clause-error : goal.evaluate_join-returns-clause-error
 evaluate_join-returns-clause-error t c =
     let parts = c.args.parts.now in
-    let all = subst (λ ps. AllRealize c.loop-part.maps.items (outcomes (at_lines ps))) (take_all c.loop-part.part-index parts (let f = c.loop-part-test.false in omega (arith, f))) c.loop-part.invariant in
+    let all = subst (λ ps. AllRealize (owned_records c.loop-part.maps.items) (outcomes (at_lines ps))) (take_all c.loop-part.part-index parts (let f = c.loop-part-test.false in omega (arith, f))) c.loop-part.invariant in
     IfErr-weaker c.join.result _ _ (λ e fails. fails (outcomes (at_lines parts)) all) c.join.ensures.error
 
 pub evaluate_join_at-returns-clause-error : goal.evaluate_join_at-returns-clause-error
 evaluate_join_at-returns-clause-error t c =
     let parts = c.args.parts.now in
-    let all = subst (λ ps. AllRealize c.loop-part.maps.items (outcomes (at_positions ps))) (take_all c.loop-part.part-index parts (let f = c.loop-part-test.false in omega (arith, f))) c.loop-part.invariant in
+    let all = subst (λ ps. AllRealize (owned_records c.loop-part.maps.items) (outcomes (at_positions ps))) (take_all c.loop-part.part-index parts (let f = c.loop-part-test.false in omega (arith, f))) c.loop-part.invariant in
     IfErr-weaker c.join.result _ _ (λ e fails. fails (outcomes (at_positions parts)) all) c.join.ensures.error

@@ -1,5 +1,6 @@
 use Rattle.std.proofs.Common.{◌+◌, map, max, take}
-use Rattle.oxc_sourcemap_join.specs.Joined.{at_lines, at_positions}
+use Rattle.oxc_sourcemap_join.specs.Joined.{at_lines, at_positions, owned_records}
+use Rattle.oxc_sourcemap_remap.specs.Inputs.{owned_input_records}
 use Rattle.oxc_sourcemap_plan.specs.Depth.{depth, deepest}
 use Rattle.oxc_sourcemap_plan.specs.Meaning.{by_path}
 use Rattle.oxc_sourcemap_plan.specs.Outcome.{outcomes, input_outcomes}
@@ -29,10 +30,10 @@ decreases-evaluate_remapping l =
     max (depth l.first.now) (deepest (map (λ p. depth p.1) l.inputs.now)) + max (depth l.first.now) (deepest (map (λ p. depth p.1) l.inputs.now)) + 1
 
 abbrev pub invariant-evaluate_join-loop-part : goal.invariant-evaluate_join-loop-part
-invariant-evaluate_join-loop-part l = AllRealize l.maps.items (outcomes (at_lines (take l.part-index l.parts)))
+invariant-evaluate_join-loop-part l = AllRealize (owned_records l.maps.items) (outcomes (at_lines (take l.part-index l.parts)))
 
 abbrev pub invariant-evaluate_join_at-loop-part : goal.invariant-evaluate_join_at-loop-part
-invariant-evaluate_join_at-loop-part l = AllRealize l.maps.items (outcomes (at_positions (take l.part-index l.parts)))
+invariant-evaluate_join_at-loop-part l = AllRealize (owned_records l.maps.items) (outcomes (at_positions (take l.part-index l.parts)))
 
 abbrev pub invariant-evaluate_remapping-loop-path : goal.invariant-evaluate_remapping-loop-path
-invariant-evaluate_remapping-loop-path l = InputsRealize (by_path l.maps.items) (input_outcomes (by_path (take l.path-index l.inputs)))
+invariant-evaluate_remapping-loop-path l = InputsRealize (owned_input_records l.maps.items) (input_outcomes (by_path (take l.path-index l.inputs)))

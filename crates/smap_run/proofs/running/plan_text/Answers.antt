@@ -1,6 +1,6 @@
 use Rattle.std.proofs.Common.{◌≡◌, map, string_bytes, ap, sym, ◌∙◌, subst, Ok}
 use Rattle.oxc_sourcemap_tokens.specs.declared.plan_error.PlanError.TheVariants.{Map}
-use Rattle.oxc_sourcemap_encode.specs.JsonText.{map_text}
+use Rattle.oxc_sourcemap_parts.specs.Views.{record_of_parts}
 use Rattle.oxc_sourcemap_plan.specs.Meaning.{meaning}
 use Rattle.oxc_sourcemap_plan.specs.Outcome.{outcome}
 use Rattle.oxc_sourcemap_plan.specs.Evaluated.{IsEvaluated}
@@ -32,16 +32,16 @@ returns-in_err-write_over-clause-error c =
     let texts = ap (map (λ text. text.now)) c.as_slice.ensures.value ∙ c.in_ok-inputs.ensures ∙ ap inputs_of c.as_str.ensures.value in
     let named : parsed_plan (inputs_of (string_bytes c.args.input)) arguments ≡ Ok (outcome c.in_ok-plan.plan) = ap (λ ts. parsed_plan ts arguments) (sym texts) ∙ c.in_ok-plan.ensures.plan in
     let fault = c.in_err-write_over.field-0.0 in
-    let is = subst (IsEvaluated c.in_ok-map.map) (sym c.in_ok-map.ensures.same_meaning) c.in_ok-map.ensures.map in
+    let is = subst (IsEvaluated (record_of_parts c.in_ok-map.map)) (sym c.in_ok-map.ensures.same_meaning) c.in_ok-map.ensures.map in
     from_err c.from_residual-in_err-write_over.result _ _ c.from_residual-in_err-write_over.ensures.1 (λ e h n. plan_error_of (parsed_plan (inputs_of (string_bytes c.args.input)) arguments) (outcome c.in_ok-plan.plan) (Map fault) e named h n
-    (λ other. writing_fails c.canonical_unique.ensures.sound_is_too_large (outcome c.in_ok-plan.plan) c.in_ok-map.map fault is c.in_ok-map.ensures.outcome
-    (λ q. ap map_text (sym c.as_source_map.ensures) ∙ c.in_err-write_over.ensures.1 q) (λ q. other (ap Map q))))
+    (λ other. writing_fails c.canonical_unique.ensures.sound_is_too_large (outcome c.in_ok-plan.plan) (record_of_parts c.in_ok-map.map) fault is c.in_ok-map.ensures.outcome
+    c.in_err-write_over.ensures.1 (λ q. other (ap Map q))))
 
 pub returns-clause-text : goal.returns-clause-text
 returns-clause-text c =
     let arguments = map string_bytes c.args.arguments.now in
     let texts = ap (map (λ text. text.now)) c.as_slice.ensures.value ∙ c.in_ok-inputs.ensures ∙ ap inputs_of c.as_str.ensures.value in
     let named : parsed_plan (inputs_of (string_bytes c.args.input)) arguments ≡ Ok (outcome c.in_ok-plan.plan) = ap (λ ts. parsed_plan ts arguments) (sym texts) ∙ c.in_ok-plan.ensures.plan in
-    let is = subst (IsEvaluated c.in_ok-map.map) (sym c.in_ok-map.ensures.same_meaning) c.in_ok-map.ensures.map in
+    let is = subst (IsEvaluated (record_of_parts c.in_ok-map.map)) (sym c.in_ok-map.ensures.same_meaning) c.in_ok-map.ensures.map in
     plan_answers (parsed_plan (inputs_of (string_bytes c.args.input)) arguments) (outcome c.in_ok-plan.plan) (string_bytes c.in_ok-write_over.field-0) named
-    (c.in_ok-map.map, is, c.in_ok-map.ensures.outcome, ap map_text (sym c.as_source_map.ensures) ∙ c.in_ok-write_over.ensures.0)
+    (record_of_parts c.in_ok-map.map, is, c.in_ok-map.ensures.outcome, c.in_ok-write_over.ensures.0)

@@ -3,12 +3,14 @@
 
     tools/make_maps.py FOLDER
 
-Needs the commands of the packages esbuild, node-typescript, terser, sassc and nodejs. The packages in PACKAGES, whose files
+Needs the commands of the packages esbuild, node-typescript, terser, rollup, sassc and nodejs. The packages in PACKAGES, whose files
 are compiled or whose maps are copied, are downloaded with apt-get and unpacked in FOLDER/packages; none is installed.
 
 FOLDER/maps gets the single maps, and maps.json says how each was made. FOLDER/pipelines gets a folder for each pipeline of
 pipelines.json, with the code and the map of each step, 1.js and 1.js.map nearest to the sources; no step reads the map of the
-step before. FOLDER/modules gets the map of each module of lodash, and modules.json the lines of their codes.
+step before. FOLDER/modules gets the map of each module of lodash, and modules.json the lines of their codes. FOLDER/bundles
+gets a folder for each bundle of modules that tsc compiled: the map of each module, numbered as the source that it is for,
+bundle.js with its map, and minified/bundle.js with its map; bundles.json has the files of the modules' maps by their paths.
 """
 import glob, json, os, shutil, subprocess, sys
 
@@ -142,6 +144,9 @@ PIPELINES = [
     ("typescript-2", TYPESCRIPT, [BUNDLE, TERSER_CM]),
 ]
 
+# The modules of a folder, compiled by tsc, and the one that rollup bundles with all that it imports.
+BUNDLES = [("lodash", f"{NODEJS}/lodash-es", "lodash.js"), ("terser", f"{NODEJS}/terser", "main.js")]
+
 
 def edited(name, made, change):
     value = json.load(open(f"maps/{made}.map", encoding="utf-8"))
@@ -210,6 +215,36 @@ def make_modules():
     json.dump(lines, open("modules.json", "w"), indent=1)
 
 
+def compile_modules(modules, code):
+    """Compiles each module of a folder by itself; without its dependencies, a wrong type is no matter."""
+    inputs = sorted(glob.glob(f"{modules}/**/*.js", recursive=True))
+    options = [*INLINE, "--target", "es5", "--module", "es2015", "--skipLibCheck", "--noResolve"]
+    subprocess.run(["tsc", *options, "--rootDir", modules, "--outDir", code, *inputs], capture_output=True)
+
+
+def rollup(options, inputs, code):
+    run(["rollup", *inputs, "-o", code, "--silent", "--format=es", "--sourcemap", *options])
+
+
+def make_bundle(folder, modules, entry):
+    """Makes a bundle, and returns the files of the maps of its modules by the paths that it has for them."""
+    os.makedirs(f"{folder}/minified", exist_ok=True)
+    if not os.path.exists(f"{folder}/code"):
+        compile_modules(modules, f"{folder}/code")
+    make(rollup, [], [f"{folder}/code/{entry}"], f"{folder}/bundle.js")
+    make(terser, TERSER_CM[2], [f"{folder}/bundle.js"], f"{folder}/minified/bundle.js")
+    paths = json.load(open(f"{folder}/bundle.js.map", encoding="utf-8"))["sources"]
+    files = {path: f"{id:03}.js.map" for id, path in enumerate(paths)}
+    for path, file in files.items():
+        shutil.copy(f"{folder}/{path}.map", f"{folder}/{file}")
+    return files
+
+
+def make_bundles():
+    made = {name: make_bundle(f"bundles/{name}", modules, entry) for name, modules, entry in BUNDLES}
+    json.dump(made, open("bundles.json", "w"), indent=1)
+
+
 def main():
     if len(sys.argv) != 2:
         sys.exit(__doc__)
@@ -220,6 +255,7 @@ def main():
     make_maps()
     make_pipelines()
     make_modules()
+    make_bundles()
 
 
 main()

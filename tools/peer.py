@@ -3,11 +3,13 @@
 A map is the value that json.loads gives; its tokens are tuples (line, column, source, source line, source column, name),
 with None for a source or a name that is missing. Only valid maps are read.
 """
-import base64, json
+import base64, json, re
 from bisect import bisect_left
 
 ALPHABET = "ABCDEFGHIJKLMNOPQRSTUVWXYZabcdefghijklmnopqrstuvwxyz0123456789+/"
 VALUES = {ord(letter): value for value, letter in enumerate(ALPHABET)}
+# How a source begins that no source root is put before.
+ABSOLUTE = re.compile(r"/|[A-Za-z][A-Za-z0-9+.-]*:")
 
 
 def fields_of(segment):
@@ -66,14 +68,24 @@ def encode(tokens):
     return "".join(pieces)
 
 
+def ignored_in(value):
+    """The ignore list of a map, or None."""
+    ignored = value.get("ignoreList")
+    return value.get("x_google_ignoreList") if ignored is None else ignored
+
+
+def contents_in(value):
+    """The content of each source of a map, or None."""
+    contents = (value.get("sourcesContent") or [])[:len(value["sources"])]
+    return contents + [None] * (len(value["sources"]) - len(contents))
+
+
 def to_text(value, tokens):
     """The JSON text of a map that has these tokens: its known keys in order, and nothing for what is null."""
     contents = value.get("sourcesContent") or []
-    ignored = value.get("ignoreList")
-    ignored = value.get("x_google_ignoreList") if ignored is None else ignored
     members = {"version": 3, "file": value.get("file"), "sourceRoot": value.get("sourceRoot"), "names": value.get("names", []),
                "sources": value["sources"], "sourcesContent": contents if any(text is not None for text in contents) else None,
-               "ignoreList": ignored, "mappings": encode(tokens), "debugId": value.get("debugId")}
+               "ignoreList": ignored_in(value), "mappings": encode(tokens), "debugId": value.get("debugId")}
     known = {key: member for key, member in members.items() if member is not None}
     return json.dumps(known, ensure_ascii=False, separators=(",", ":"))
 
@@ -144,15 +156,63 @@ def join(parts):
         shifted = [(line + offset, column, None if source is None else source + sources, source_line, source_column,
                     None if name is None else name + names) for line, column, source, source_line, source_column, name in part]
         tokens += shifted[1:] if shifted and tokens and shifted[0] == tokens[-1] else shifted
-        contents = (value.get("sourcesContent") or [])[:len(value["sources"])]
         joined["names"] += value.get("names", [])
         joined["sources"] += value["sources"]
-        joined["sourcesContent"] += contents + [None] * (len(value["sources"]) - len(contents))
-        ignored = value.get("ignoreList")
-        ignored = value.get("x_google_ignoreList") if ignored is None else ignored
-        if ignored is not None:
+        joined["sourcesContent"] += contents_in(value)
+        if (ignored := ignored_in(value)) is not None:
             joined["ignoreList"] = (joined["ignoreList"] or []) + [source + sources for source in ignored]
     return joined, tokens
+
+
+def listed(value):
+    """The sources of a map, each with its content and whether it is ignored."""
+    ignored = ignored_in(value) or []
+    return [(path, content, id in ignored) for id, (path, content) in enumerate(zip(value["sources"], contents_in(value)))]
+
+
+def target(value, token, inputs):
+    """What a token points to, led on through the input of its source if that has one: the number of a source among those that
+    stand for its source, line, column, and the text of a name. None if it points nowhere."""
+    _, _, source, line, column, name = token
+    if source is None:
+        return None
+    text = None if name is None else value["names"][name]
+    if value["sources"][source] not in inputs:
+        return 0, line, column, text
+    under, table = inputs[value["sources"][source]]
+    found = table.find(line, column, clamped=True)
+    if found is None or found[2] is None:
+        return None
+    return *found[2:5], text if found[5] is None else under["names"][found[5]]
+
+
+def remap(value, tokens, inputs):
+    """A map remapped by inputs: a list of (path, value, tokens)."""
+    first = {path: (under, Table(under_tokens)) for path, under, under_tokens in reversed(inputs)}
+    sources, starts, ids, remapped = [], [], {}, []
+    for source in listed(value):
+        starts.append(len(sources))
+        sources += listed(first[source[0]][0]) if source[0] in first else [source]
+    for token in tokens:
+        found = target(value, token, first)
+        if found is None:
+            remapped.append((*token[:2], None, 0, 0, None))
+            continue
+        source, line, column, text = found
+        id = None if text is None else ids.setdefault(text, len(ids))
+        remapped.append((*token[:2], starts[token[2]] + source, line, column, id))
+    ignored = [id for id, (_, _, is_ignored) in enumerate(sources) if is_ignored]
+    return {"file": value.get("file"), "debugId": value.get("debugId"), "names": list(ids),
+            "sources": [path for path, _, _ in sources], "sourcesContent": [content for _, content, _ in sources],
+            "ignoreList": ignored or None}, remapped
+
+
+def rooted(value):
+    """A map with its source root before its sources."""
+    root = value.get("sourceRoot") or ""
+    before = root if root == "" or root.endswith("/") else root + "/"
+    sources = [source if ABSOLUTE.match(source) else before + source for source in value["sources"]]
+    return {**value, "sourceRoot": None, "sources": sources}
 
 
 def placed(value):

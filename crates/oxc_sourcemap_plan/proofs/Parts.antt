@@ -9,7 +9,8 @@ use Rattle.oxc_sourcemap_parts.specs.Views.{record_of_parts}
 use Rattle.oxc_sourcemap_parts.specs.declared.parts.SourceMapParts.{SourceMapParts}
 use Rattle.oxc_sourcemap_remap.specs.Inputs.{owned_input_records}
 use Rattle.oxc_sourcemap_tokens.specs.declared.position.Position.{Position}
-use Rattle.oxc_sourcemap_join.specs.Joined.{at_line}
+use Rattle.oxc_sourcemap_join.specs.Joined.{at_line, owned_records}
+use Rattle.oxc_sourcemap_join.proofs.Adding.{records_pushed}
 use Rattle.oxc_sourcemap_plan.specs.declared.plan.Plan.{Plan}
 use Rattle.oxc_sourcemap_tokens.specs.declared.plan_error.PlanError.{PlanError}
 use Rattle.oxc_sourcemap_plan.specs.Depth.{deepest}
@@ -53,6 +54,12 @@ module _ {A : Type 0} (part_at : A → Plan × Position) where
       let parts : map part_at (take (i + 1) ps) ≡ map part_at (take i ps) ++ part_at p ∷ [] = ap (map part_at) next ∙ map-append part_at (take i ps) (p ∷ []) in
       subst (λ qs. AllRealize (ms ++ m ∷ []) (outcomes qs)) (sym parts) (one_more ms (map part_at (take i ps)) m (part_at p) h g o)
 
+  -- the same of owned maps
+  pub more_owned : (ms : List (SourceMapParts × Position)) (ps : List A) (i : ℕ) (m : SourceMapParts × Position) (p : A) (ns : List (SourceMapParts × Position)) → ns ≡ ms ++ m ∷ [] → i < length ps → p ≡ get_or ps i p
+      → AllRealize (owned_records ms) (outcomes (map part_at (take i ps))) → Realizes (record_of_parts m.0) (outcome_of (part_at p).0) → m.1 ≡ (part_at p).1 → AllRealize (owned_records ns) (outcomes (map part_at (take (i + 1) ps)))
+  more_owned ms ps i m p ns pushed l e h g o =
+      subst (λ rs. AllRealize rs (outcomes (map part_at (take (i + 1) ps)))) (sym (records_pushed ms m ns pushed)) (more_given (owned_records ms) ps i (record_of_parts m.0, m.1) p l e h g o)
+
   pub part_error : (ms : List (MapRecord × Position)) (ps : List A) (i : ℕ) (p : A) (e : PlanError) → i < length ps → p ≡ get_or ps i p → AllRealize ms (outcomes (map part_at (take i ps)))
       → FailsAs e (outcome_of (part_at p).0) → FailsAs e (join_outcome (outcomes (map part_at ps)))
   part_error ms ps i p e l q h r =
@@ -84,12 +91,12 @@ outcomes-of : (ps : List (Bor Text × Plan)) → input_outcomes (by_path ps) ≡
 outcomes-of [] = refl
 outcomes-of (p ∷ ps) = ap (λ os. input_at p ∷ os) (outcomes-of ps)
 
-pub more_inputs : (ms : List (Bor Text × SourceMapParts)) (ps : List (Bor Text × Plan)) (i : ℕ) (m : Bor Text × SourceMapParts) (p : Bor Text × Plan) → i < length ps → p ≡ get_or ps i p
-    → InputsRealize (owned_input_records ms) (input_outcomes (by_path (take i ps))) → m.0.now ≡ p.0.now → Realizes (record_of_parts m.1) (outcome_of p.1) → InputsRealize (owned_input_records (ms ++ m ∷ [])) (input_outcomes (by_path (take (i + 1) ps)))
-more_inputs ms ps i m p l e h q g =
+pub more_inputs : (ms : List (Bor Text × SourceMapParts)) (ps : List (Bor Text × Plan)) (i : ℕ) (m : Bor Text × SourceMapParts) (p : Bor Text × Plan) (ns : List (Bor Text × SourceMapParts)) → ns ≡ ms ++ m ∷ [] → i < length ps → p ≡ get_or ps i p
+    → InputsRealize (owned_input_records ms) (input_outcomes (by_path (take i ps))) → m.0.now ≡ p.0.now → Realizes (record_of_parts m.1) (outcome_of p.1) → InputsRealize (owned_input_records ns) (input_outcomes (by_path (take (i + 1) ps)))
+more_inputs ms ps i m p ns pushed l e h q g =
     let next : take (i + 1) ps ≡ take i ps ++ p ∷ [] = take_more ps i p l ∙ ap (λ q. take i ps ++ q ∷ []) (sym e) in
     let outcomes : input_outcomes (by_path (take (i + 1) ps)) ≡ map input_at (take i ps) ++ input_at p ∷ [] = outcomes-of (take (i + 1) ps) ∙ ap (map input_at) next ∙ map-append input_at (take i ps) (p ∷ []) in
-    let maps : owned_input_records (ms ++ m ∷ []) ≡ owned_input_records ms ++ (m.0.now, record_of_parts m.1) ∷ [] = map-append (λ (m : Bor Text × SourceMapParts). (m.0.now, record_of_parts m.1)) ms (m ∷ []) in
+    let maps : owned_input_records ns ≡ owned_input_records ms ++ (m.0.now, record_of_parts m.1) ∷ [] = ap owned_input_records pushed ∙ map-append (λ (m : Bor Text × SourceMapParts). (m.0.now, record_of_parts m.1)) ms (m ∷ []) in
     subst (λ xs. InputsRealize xs (input_outcomes (by_path (take (i + 1) ps)))) (sym maps) (subst (λ os. InputsRealize (owned_input_records ms ++ (m.0.now, record_of_parts m.1) ∷ []) os) (sym outcomes)
     (one_input_more (owned_input_records ms) (map input_at (take i ps)) (m.0.now, record_of_parts m.1) (input_at p) (subst (λ os. InputsRealize (owned_input_records ms) os) (outcomes-of (take i ps)) h) q g))
 

@@ -15,9 +15,8 @@ use Rattle.oxc_sourcemap_plan.proofs.Plans.{depth_join, depth_join_at, outcome_p
 use Rattle.oxc_sourcemap_plan.proofs.Plans.{outcome_parts_at, depth_remap, outcome_inputs}
 use Rattle.oxc_sourcemap_plan.proofs.Realizing.{second_fails}
 use Rattle.oxc_sourcemap_plan.proofs.Remapping.{remapped_fails}
-use Rattle.oxc_sourcemap_plan.proofs.Parts.{from_err, more_given, part_error, part_below_deepest}
+use Rattle.oxc_sourcemap_plan.proofs.Parts.{from_err, more_owned, part_error, part_below_deepest}
 use Rattle.oxc_sourcemap_plan.proofs.Parts.{at_its_line, at_its_position, more_inputs, input_error}
-use Rattle.oxc_sourcemap_join.proofs.Adding.{records_pushed}
 use Rattle.oxc_sourcemap_plan.proofs.plan.+evaluation.Goals as goal
 
 pub evaluate_part-evaluate_join-requires : goal.evaluate_part-evaluate_join-requires
@@ -60,8 +59,8 @@ pub evaluate_join-loop-part-preserved : goal.evaluate_join-loop-part-preserved
 evaluate_join-loop-part-preserved t c =
     let parts = c.args.parts.now in
     let i = c.loop-part.part-index in
-    subst (λ ms. AllRealize ms (outcomes (at_lines (take (i + 1) parts)))) (sym (records_pushed c.loop-part.maps.items _ _ c.in_ok-push.ensures.items))
-    (more_given at_its_line (owned_records c.loop-part.maps.items) parts i (record_of_parts c.in_ok-map.map, at_line c.loop-part-item.result.1) c.loop-part-item.result c.loop-part-test.true c.loop-part-item.is c.loop-part.invariant c.in_ok-map.ensures.map refl)
+    more_owned at_its_line c.loop-part.maps.items parts i (c.in_ok-map.map, at_line c.loop-part-item.result.1) c.loop-part-item.result c.push.new.self.items c.in_ok-push.ensures.items
+    c.loop-part-test.true c.loop-part-item.is c.loop-part.invariant c.in_ok-map.ensures.map refl
 
 pub evaluate_join_at-evaluate_part-requires : goal.evaluate_join_at-evaluate_part-requires
 evaluate_join_at-evaluate_part-requires t c =
@@ -77,8 +76,8 @@ pub evaluate_join_at-loop-part-preserved : goal.evaluate_join_at-loop-part-prese
 evaluate_join_at-loop-part-preserved t c =
     let parts = c.args.parts.now in
     let i = c.loop-part.part-index in
-    subst (λ ms. AllRealize ms (outcomes (at_positions (take (i + 1) parts)))) (sym (records_pushed c.loop-part.maps.items _ _ c.in_ok-push.ensures.items))
-    (more_given at_its_position (owned_records c.loop-part.maps.items) parts i (record_of_parts c.in_ok-map.map, position c.loop-part-item.result.1 c.loop-part-item.result.2) c.loop-part-item.result c.loop-part-test.true c.loop-part-item.is c.loop-part.invariant c.in_ok-map.ensures.map refl)
+    more_owned at_its_position c.loop-part.maps.items parts i (c.in_ok-map.map, position c.loop-part-item.result.1 c.loop-part-item.result.2) c.loop-part-item.result c.push.new.self.items c.in_ok-push.ensures.items
+    c.loop-part-test.true c.loop-part-item.is c.loop-part.invariant c.in_ok-map.ensures.map refl
 
 pub evaluate_composition-returns-in_err-evaluate_part-2-clause-error : goal.evaluate_composition-returns-in_err-evaluate_part-2-clause-error
 evaluate_composition-returns-in_err-evaluate_part-2-clause-error t c =
@@ -133,8 +132,8 @@ pub evaluate_remapping-loop-path-preserved : goal.evaluate_remapping-loop-path-p
 evaluate_remapping-loop-path-preserved t c =
     let inputs = c.args.inputs.now in
     let i = c.loop-path.path-index in
-    subst (λ ms. InputsRealize (owned_input_records ms) (input_outcomes (by_path (take (i + 1) inputs)))) (sym c.in_ok-push.ensures.items)
-    (more_inputs c.loop-path.maps.items inputs i (c.loop-path-item.result.0, c.in_ok-input.input) c.loop-path-item.result c.loop-path-test.true c.loop-path-item.is c.loop-path.invariant refl c.in_ok-input.ensures.map)
+    more_inputs c.loop-path.maps.items inputs i (c.loop-path-item.result.0, c.in_ok-input.input) c.loop-path-item.result c.push.new.self.items c.in_ok-push.ensures.items c.loop-path-test.true c.loop-path-item.is c.loop-path.invariant refl
+    c.in_ok-input.ensures.map
 
 pub evaluate_remapping-returns-clause-map : goal.evaluate_remapping-returns-clause-map
 evaluate_remapping-returns-clause-map t c =

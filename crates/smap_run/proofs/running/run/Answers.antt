@@ -4,7 +4,6 @@ use Rattle.std.proofs.lemmas.Result.{IfOk-weaker}
 use Rattle.oxc_sourcemap_plan.specs.declared.run_error.RunError.TheVariants.{Read, Write}
 use Rattle.smap_run.specs.Request.{request_of}
 use Rattle.smap_run.specs.Answer.{FailsWith, AppendsBeginning}
-use Rattle.std.specs.Str.{IsUtf8}
 use Rattle.oxc_sourcemap_plan.proofs.Parts.{from_err}
 use Rattle.smap_run.proofs.PlanAnswers.{of_err}
 use Rattle.smap_run.proofs.PortErrors.{not_of_port, not_this_error}

@@ -32,7 +32,8 @@ enum Lines {
 }
 
 /// Where the tokens of each line lie in a list of tokens in line order. It takes memory for every line if there are few lines
-/// for so many tokens, else for those that have tokens: at most 24 bytes a token, and 68. It borrows nothing.
+/// for so many tokens, else for those that have tokens: at most 24 bytes a token, and 68; while it is made, at most 32, and
+/// 132. It borrows nothing.
 #[derive(Drop)]
 pub struct LineIndex {
     lines: Lines,

@@ -1,11 +1,12 @@
-use Rattle.std.proofs.Common.{◌≡◌, map, string_bytes, ap, sym, ◌∙◌, Ok}
+use Rattle.std.proofs.Common.{◌≡◌, map, string_bytes, ap, sym, ◌∙◌, subst, Ok}
+use Rattle.oxc_sourcemap_parts.specs.Views.{record_of_parts}
 use Rattle.oxc_sourcemap_plan.specs.Meaning.{meaning}
 use Rattle.oxc_sourcemap_plan.specs.Outcome.{outcome}
 use Rattle.oxc_sourcemap_handles.specs.declared.call_error.CallError.TheVariants.{Plan}
 use Rattle.oxc_sourcemap_plan.specs.PlanInputs.{inputs_of}
 use Rattle.oxc_sourcemap_plan.specs.PlanArguments.{parsed_plan}
 use Rattle.oxc_sourcemap_tokens.proofs.Carried.{carried_error}
-use Rattle.oxc_sourcemap_c.specs.Plans.{plan_of, words_of}
+use Rattle.oxc_sourcemap_c.specs.Plans.{plan_of, words_of, IsPlanMap}
 use Rattle.oxc_sourcemap_c.proofs.Planned.{map_of_plan, failure_of_plan, words_error}
 use Rattle.oxc_sourcemap_c.proofs.plans.evaluate_words.Goals as goal
 
@@ -23,8 +24,9 @@ returns-in-Ok-clause-map c =
     let texts : inputs_of c.args.texts.now ≡ map (λ text. text.now) c.as_slice.result.now = sym (ap (map (λ text. text.now)) c.as_slice.ensures.value ∙ c.in_ok-inputs.ensures) in
     let words : words_of c.args.words.now ≡ map string_bytes c.as_slice-2.result.now = sym (ap (map string_bytes) c.as_slice-2.ensures.value ∙ c.in_ok-words.ensures) in
     let read : plan_of c.args.words.now c.args.texts.now ≡ Ok (outcome c.in-Ok.plan) = ap (λ ts. parsed_plan ts (words_of c.args.words.now)) texts ∙ ap (parsed_plan (map (λ text. text.now) c.as_slice.result.now)) words ∙ c.in-Ok.ensures.plan in
-    map_of_plan (plan_of c.args.words.now c.args.texts.now) (outcome c.in-Ok.plan) (meaning c.in-Ok.plan) _ read c.in_ok-map-in-Ok.ensures.same_meaning c.in_ok-map-in-Ok.ensures.map
-    c.in_ok-map-in-Ok.ensures.outcome
+    subst (IsPlanMap (plan_of c.args.words.now c.args.texts.now)) (sym c.from_parts.ensures)
+    (map_of_plan (plan_of c.args.words.now c.args.texts.now) (outcome c.in-Ok.plan) (meaning c.in-Ok.plan) (record_of_parts c.in_ok-map-in-Ok.map) read c.in_ok-map-in-Ok.ensures.same_meaning c.in_ok-map-in-Ok.ensures.map
+    c.in_ok-map-in-Ok.ensures.outcome)
 
 pub returns-clause-error : goal.returns-clause-error
 returns-clause-error c =

@@ -8,8 +8,8 @@ use oxc_sourcemap_plan::{Plan, evaluate_to_parts};
 use oxc_sourcemap_tokens::PlanError;
 use std::alloc::Global;
 
-/// Evaluates a plan: reads, rewrites, joins, composes and remaps maps, parts from left to right, all parts of a join before they
-/// are joined, and all inputs of a remapping before it is made.
+/// Evaluates a plan: reads, rewrites, joins, composes and remaps maps, and puts source roots before sources; parts from left to
+/// right, all parts of a join before they are joined, and all inputs of a remapping before it is made.
 ///
 /// ```rust
 /// use oxc_sourcemap::{Plan, evaluate};

@@ -187,12 +187,17 @@ module _ (a : MapRecord) (inputs : List (Text × MapRecord)) where
   made None false r m e = absurd (cc (e))
 
   -- any result of the remapping
-  pub some_remapped : (m : MapRecord) → SomeRemapping a inputs (Ok m) → AreIdsInRange m × (are_tokens_sorted m.tokens ≡ are_tokens_sorted a.tokens)
+  abbrev SoundAs : MapRecord → Type 0
+  SoundAs m = AreIdsInRange m × (are_tokens_sorted m.tokens ≡ are_tokens_sorted a.tokens) × (IsSound a → IsSound m)
+
+  pub some_remapped : (m : MapRecord) → SomeRemapping a inputs (Ok m) → SoundAs m
   some_remapped m some =
       let ls = some.0 in
       let is : remapped_by ls a inputs ≡ m = made (inputs_fault inputs) (has_few (remapped_by ls a inputs)) (remapped_by ls a inputs) m some.2 in
-      subst (λ (r : MapRecord). AreIdsInRange r × (are_tokens_sorted r.tokens ≡ are_tokens_sorted a.tokens)) is
-      (range-by ls, sorted-by a inputs (remapped_names ls a inputs) ls ∙ ap are_tokens_sorted some.1.0)
+      let order : are_tokens_sorted (remapped_by ls a inputs).tokens ≡ are_tokens_sorted a.tokens =
+      sorted-by a inputs (remapped_names ls a inputs) ls ∙ ap are_tokens_sorted some.1.0 in
+      let sound : IsSound a → IsSound (remapped_by ls a inputs) = λ h. record { sorted = order ∙ h.sorted; in_range = range-by ls; chunks = tt } in
+      subst SoundAs is (range-by ls, order, sound)
 
 -- ---- maps that stand for decoded maps
 inputs-stand : (inputs : List (Text × MapRecord)) (ss : List (Text × DecodedMap)) → InputsStandFor inputs ss → AreInputsEqualUpToRepeats (decoded_inputs inputs) ss

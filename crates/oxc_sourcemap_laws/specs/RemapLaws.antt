@@ -140,11 +140,11 @@ RemappingInRange = (a : MapRecord) (inputs : List (Text × MapRecord)) → AreId
 abbrev pub RemappingIsSound : Type 0
 RemappingIsSound = (a : MapRecord) (inputs : List (Text × MapRecord)) → IsSound a → IsSound (remapped a inputs)
 
--- Where columns go back on a line of an input, there are several results. The ids of each are in range, and it is sorted exactly
--- if the first map is.
+-- Where columns go back on a line of an input, there are several results. The ids of each are in range, it is sorted exactly if
+-- the first map is, and it is sound if the first map is.
 abbrev pub SomeRemappingIsSound : Type 0
 SomeRemappingIsSound = (a m : MapRecord) (inputs : List (Text × MapRecord)) → SomeRemapping a inputs (Ok m)
-    → AreIdsInRange m × (are_tokens_sorted m.tokens ≡ are_tokens_sorted a.tokens)
+    → AreIdsInRange m × (are_tokens_sorted m.tokens ≡ are_tokens_sorted a.tokens) × (IsSound a → IsSound m)
 
 -- A remapped map has as many tokens as the first map, and as many contents as sources.
 abbrev pub RemappingCounts : Type 0

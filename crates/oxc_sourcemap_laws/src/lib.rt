@@ -157,18 +157,20 @@ pub fn composition_associative()
 {}
 
 /// Remapping is associative: of records, as `SourceMap::remap` makes it, and of decoded maps, which have names and sources in
-/// place of ids. A map is remapped by inputs, each a map for the sources of one path, byte for byte; the first for a path counts.
-/// - The decoded map of a remapped map is the remapping of the decoded maps, whatever the maps are (`decoded_map_of_remapping`).
-///   A source that stays is ignored exactly if it was, and one of an input exactly if the input ignores it (`ignores`).
+/// place of ids. A map is remapped by inputs, each a map for the sources of one path, byte for byte; the first for a path
+/// counts.
+/// - The decoded map of a remapped map is the remapping of the decoded maps, whatever the maps are
+///   (`decoded_map_of_remapping`). A source that stays is ignored exactly if it was, and one of an input exactly if the input
+///   ignores it (`ignores`).
 /// - Remapping by inputs and then by others is remapping by the inputs, each remapped by the others, and after them the others:
 ///   these count for a source that has no input among the first (`decoded_maps`, and `maps` of the decoded maps of records).
 /// - A join that is remapped is the join of its remapped parts, if the entries of their ignore lists are in range (`join`). Of
 ///   records that is so up to repeats, if all ids are in range (`joined_maps`).
 /// - Composing with a remapped map is remapping the composed one (`composition`; of records, if the source ids of the first
 ///   map and the ids of the second map's tokens are in range, `composed_maps`).
-/// - A map of one source that has an input is composed with the input (`one`, `one_map`), and a map without inputs stays
-///   (`nothing`), but for the source root, which is dropped, and for how the ignore list is written: ascending, each source
-///   once, and none without entries.
+/// - A map of one source that has an input is composed with the input (`one`, `one_map`), and a decoded map without inputs
+///   stays (`nothing`), but for the source root, which is dropped, and for how the ignore list is written: ascending, each
+///   source once, and none without entries.
 /// - Decoded maps that are equal up to repeats stay so when they are remapped, inputs too (`keeps_up_to_repeats`). If maps are
 ///   sound and their decoded maps equal up to repeats to given ones, the remapped map is sound and equal up to repeats to the
 ///   remapping of the given ones (`stands_for`).

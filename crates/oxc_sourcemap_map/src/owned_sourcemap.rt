@@ -197,7 +197,7 @@ impl OwnedSourceMap {
 
     /// Puts the source root before each source, and leaves the map without one. A `/` stands between the two, unless the root
     /// is empty or ends in one. A source that begins with `/`, or with a scheme and `:`, stays as it is. Without a source root
-    /// nothing changes. Joins and indexed maps drop the roots of their parts, so this is to be called before.
+    /// nothing changes. Joins and remappings drop roots: call this before them.
     ///
     /// Fails only with `OutOfMemory`; the map is then as it was.
     pub fn apply_source_root(&mut self, alloc: Global) -> Result<()>

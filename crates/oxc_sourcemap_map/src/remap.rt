@@ -50,8 +50,9 @@ impl<'a> SourceMap<'a> {
     /// Each token of this map gives one token at the same generated position, in the same order. If its source has an input,
     /// its source position is looked up there by the clamped lookup (`lookup_token_approx`), and it gets the source, the
     /// source position and the name of the token found; if that has no name, it keeps its own. If none is found, or an
-    /// unmapped one or one whose source id is out of range, it is unmapped, at source position 0:0 and without a name. A token
-    /// whose source has no input stays as it is. Ids out of range are dropped.
+    /// unmapped one or one whose source id is out of range, it is unmapped, at source position 0:0 and without a name. So is a
+    /// token without a source, or whose source id is out of range. One whose source has no input keeps source, source position
+    /// and name. A name id out of range counts as none.
     ///
     /// In place of a source that has an input stand all sources of the input, with their contents, also where equal ones come
     /// up several times. A source is ignored if the map that it comes from ignores it. Names are those that tokens need, each
@@ -62,12 +63,11 @@ impl<'a> SourceMap<'a> {
     /// line of an input, it is left open which token of that line is found. All strings of the result are borrowed from this
     /// map and the maps of `inputs`.
     ///
-    /// Fails in this order:
+    /// Fails with the first of
     /// - `InputLineOrder(k)` for the first input, k from 0, whose tokens go back in lines, used or not;
-    /// - `TooLarge` if sources or names would number above 4294967295;
-    /// - `OutOfMemory` for want of memory.
+    /// - `TooLarge` if sources or names would number above 4294967295.
     ///
-    /// The first is returned even if memory runs out.
+    /// `OutOfMemory`, for want of memory, may come in place of `TooLarge`; the first is reported whenever it holds.
     pub fn remap<'m>(
         &'m self,
         alloc: Global,

@@ -237,7 +237,7 @@ impl<'a> SourceMap<'a> {
 
     /// Puts the source root before each source, and leaves the map without one. A `/` stands between the two, unless the root
     /// is empty or ends in one. A source that begins with `/`, or with a scheme and `:`, stays as it is. Without a source root
-    /// nothing changes. Joins and indexed maps drop the roots of their parts, so this is to be called before.
+    /// nothing changes. Joins and remappings drop roots: call this before them.
     ///
     /// ```rust
     /// use oxc_sourcemap::SourceMap;

@@ -1,5 +1,5 @@
-//! Plans: pipelines of reading, rewriting, joining and composing maps. `evaluate_to_parts` makes the map that a plan means,
-//! and `read_plan` reads a plan from words. Part of `oxc_sourcemap`.
+//! Plans: pipelines of reading, rewriting, joining, composing and remapping maps and of applying source roots.
+//! `evaluate_to_parts` makes the map that a plan means, and `read_plan` reads a plan from words. Part of `oxc_sourcemap`.
 #![tactic(auto)]
 
 mod numbers;

@@ -1,4 +1,5 @@
-//! Plans: pipelines of reading, rewriting, joining and composing maps, and their evaluation.
+//! Plans: pipelines of reading, rewriting, joining, composing and remapping maps and of applying source roots, and their
+//! evaluation.
 ghost use Rattle.std.specs.Prelude.{◌≡◌, ◌≤◌, ◌↔◌, ◌⊎◌, List, true, false, IsTrue, IfOk, IfErr};
 ghost use Rattle.oxc_sourcemap_plan.specs.Words.{Text, Position, depth, Outcome, read_outcome};
 ghost use Rattle.oxc_sourcemap_plan.specs.Words.{rewrite_outcome, root_outcome, join_outcome};
@@ -44,14 +45,16 @@ pub enum Plan<'t> {
     Rewrite(Box<Plan<'t>>),
     /// Put the source root of the map of a part before each of its sources; the map has none then.
     ApplyRoot(Box<Plan<'t>>),
-    /// Join the maps of parts, each at the line of the joined code where its code begins, at column 0.
+    /// Join the maps of parts, each at the line of the joined code where its code begins, at column 0. Source roots are dropped.
     Join(Vec<(Plan<'t>, u32)>),
-    /// Join the maps of parts, each at the line and the column of the joined code where its code begins.
+    /// Join the maps of parts, each at the line and the column of the joined code where its code begins. Source roots are
+    /// dropped.
     JoinAt(Vec<(Plan<'t>, u32, u32)>),
     /// Compose the map of the first part, from generated to intermediate code, with that of the second, from there to
     /// original code.
     Compose(Box<Plan<'t>>, Box<Plan<'t>>),
-    /// Lead the map of the first part on through the maps of other parts, each for the sources that have its path, byte for byte.
+    /// Lead the map of the first part on through the maps of other parts, each for the sources that have its path, byte for
+    /// byte; the first for a path counts. Source roots are dropped.
     Remap(Box<Plan<'t>>, Vec<(&'t str, Plan<'t>)>),
 }
 

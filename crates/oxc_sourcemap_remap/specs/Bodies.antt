@@ -20,7 +20,7 @@ use Rattle.oxc_sourcemap_remap.specs.Remapped.{listed_sources, Original, origina
 use Rattle.oxc_sourcemap_remap.specs.declared.blocks.Block.{Block}
 use Rattle.oxc_sourcemap_remap.specs.declared.inputs.Input.{Input}
 use Rattle.oxc_sourcemap_remap.specs.declared.needed_names.NeededNames.{NeededNames}
-use Rattle.oxc_sourcemap_remap.specs.declared.remap.Place.{Place}
+use Rattle.oxc_sourcemap_remap.specs.declared.remap.LentOriginal.{LentOriginal}
 
 -- the map of an input
 abbrev pub record_of_input : Input → MapRecord
@@ -131,10 +131,10 @@ set_from i (flag ∷ flags) = if flag then i ∷ set_from (i + 1) flags else set
 abbrev pub block_ids : List Block → List ℕ
 block_ids bs = flat_map (λ b. set_from b.start b.ignored.now) bs
 
--- a place, its name as a text
-abbrev pub original_of_place : Place → Original
-original_of_place p =
-    record { source_id = p.source_id; src_line = p.src_line; src_col = p.src_col; name = option_map (λ name. name.now) p.name }
+-- where a token leads, with the name as a text
+abbrev pub lent_original : LentOriginal → Original
+lent_original o =
+    record { source_id = o.source_id; src_line = o.src_line; src_col = o.src_col; name = option_map (λ name. name.now) o.name }
 
 -- the names that are needed so far
 abbrev pub names_in : NeededNames → List Text

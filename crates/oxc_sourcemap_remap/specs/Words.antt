@@ -16,7 +16,7 @@ pub use Rattle.oxc_sourcemap_remap.specs.Bodies.{IsReady, AreReady, IsFor, block
 pub use Rattle.oxc_sourcemap_remap.specs.Bodies.{HasSources, AreBlocks, IsUsable, AreUsable}
 pub use Rattle.oxc_sourcemap_remap.specs.Bodies.{block_of, block_original, IsBlockTarget}
 pub use Rattle.oxc_sourcemap_remap.specs.Bodies.{AreBlockTargets, set_from, block_ids}
-pub use Rattle.oxc_sourcemap_remap.specs.Bodies.{original_of_place, names_in, ArePlaced}
+pub use Rattle.oxc_sourcemap_remap.specs.Bodies.{lent_original, names_in, ArePlaced}
 pub use Rattle.oxc_sourcemap_remap.specs.Bodies.{put_together}
 pub use Rattle.oxc_sourcemap_remap.specs.Inputs.{input_records, owned_input_records, decoded_inputs}
 pub use Rattle.oxc_sourcemap_remap.specs.Inputs.{goes_back}

@@ -5,7 +5,7 @@ ghost use Rattle.oxc_sourcemap_remap.specs.Words.{ready_records, decoded_inputs,
 ghost use Rattle.oxc_sourcemap_remap.specs.Words.{listed_sources, remapped_sources, HasSources};
 ghost use Rattle.oxc_sourcemap_remap.specs.Words.{AreBlocks, block_of};
 
-use crate::inputs::{Input, input_at, input_places};
+use crate::inputs::{Input, input_at, input_indices};
 use oxc_sourcemap_parts::SourceMapParts;
 use oxc_sourcemap_tokens::{Error, Result, Token};
 use std::alloc::Global;
@@ -89,12 +89,12 @@ pub(crate) fn blocks_of<'m, 'i>(
         × (4294967295 < length (remapped_sources (decoded_inputs (ready_records inputs.now))
         (listed_sources (record_of_parts map.now))))) }
 {
-    let places = input_places(alloc, inputs)?;
+    let indices = input_indices(alloc, inputs)?;
     let paths = map.sources.as_slice();
     let mut blocks = Vec::with_capacity(alloc, paths.len())?;
     let mut start: u32 = 0;
     for (i, path) in paths.iter().enumerate() {
-        let input = input_at(inputs, &places, path.as_str());
+        let input = input_at(inputs, &indices, path.as_str());
         let block = block_at(map, ignored, i, input, start);
         start = end_of(&block)?;
         blocks.push(block)?;

@@ -118,7 +118,7 @@ pub(crate) fn ready_inputs<'p, 'm, M: AsParts>(
 }
 
 /// The index of the first input for each path.
-pub(crate) fn input_places<'p>(
+pub(crate) fn input_indices<'p>(
     alloc: Global,
     inputs: &[Input<'p, '_>],
 ) -> Memory<HashMap<&'p str, usize>>

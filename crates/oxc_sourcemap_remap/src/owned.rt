@@ -2,7 +2,7 @@
 ghost use Rattle.std.specs.Prelude.{◌≡◌, ◌≢◌, IfOk, IfErr, Ok, Err};
 ghost use Rattle.oxc_sourcemap_remap.specs.Words.{OutOfMemory, record_of_parts, input_records};
 ghost use Rattle.oxc_sourcemap_remap.specs.Words.{owned_input_records, NoInputColumnGoesBack};
-ghost use Rattle.oxc_sourcemap_remap.specs.Words.{remapping};
+ghost use Rattle.oxc_sourcemap_remap.specs.Words.{remapping, SomeRemapping};
 
 use crate::remap::remap_parts;
 use oxc_sourcemap_parts::{SourceMapParts, owned_parts};
@@ -25,7 +25,8 @@ fn lent_maps<'m>(
 }
 
 /// The remapping of a map by maps that are not borrowed, as `remap_parts` makes it; the strings of the result are copies.
-/// Fails as that does, but that want of memory may come first.
+/// Fails as that does, but that `OutOfMemory` may come in place of every error, also of `InputLineOrder`: the list of the maps,
+/// borrowed, is made before they are looked at.
 pub fn remap_owned_parts(
     alloc: Global,
     map: &SourceMapParts<'_>,
@@ -37,6 +38,10 @@ pub fn remap_owned_parts(
     ensures error { let inputs = owned_input_records inputs.now in NoInputColumnGoesBack inputs
         → IfErr result (λ e. (e ≢ OutOfMemory)
         → remapping (record_of_parts map.now) inputs ≡ Err e) }
+    ensures any_map { IfOk result (λ parts. SomeRemapping (record_of_parts map.now)
+        (owned_input_records inputs.now) (Ok (record_of_parts parts))) }
+    ensures any_error { IfErr result (λ e. (e ≢ OutOfMemory)
+        → SomeRemapping (record_of_parts map.now) (owned_input_records inputs.now) (Err e)) }
 {
     let lent = lent_maps(alloc, inputs)?;
     Ok(owned_parts(alloc, remap_parts(alloc, map, lent.as_slice())?)?)

@@ -7,7 +7,7 @@ ghost use Rattle.oxc_sourcemap_remap.specs.Words.{input_records, inputs_fault, r
 ghost use Rattle.oxc_sourcemap_remap.specs.Words.{NoInputColumnGoesBack, SomeRemapping, IsUsable};
 ghost use Rattle.oxc_sourcemap_remap.specs.Words.{AreUsable, block_of, block_original};
 ghost use Rattle.oxc_sourcemap_remap.specs.Words.{IsBlockTarget, AreBlockTargets, input_original};
-ghost use Rattle.oxc_sourcemap_remap.specs.Words.{original_of_place, needed_name, needed_names};
+ghost use Rattle.oxc_sourcemap_remap.specs.Words.{lent_original, needed_name, needed_names};
 ghost use Rattle.oxc_sourcemap_remap.specs.Words.{token_to, names_in, ArePlaced, with_inherited};
 ghost use Rattle.oxc_sourcemap_remap.specs.Words.{put_together};
 
@@ -22,9 +22,9 @@ use oxc_sourcemap_tokens::{Memory, Result, Token};
 use std::alloc::Global;
 use std::borrow::CowStr;
 
-/// Where a token leads: a source by its id in the remapped map, a position in it, and a name.
+/// Where a token leads: a source by its id in the remapped map, a position in it, and a name, borrowed.
 #[derive(Drop)]
-pub(crate) struct Place<'m> {
+pub(crate) struct LentOriginal<'m> {
     source_id: u32,
     src_line: u32,
     src_col: u32,
@@ -59,23 +59,23 @@ fn target(block: Option<Block<'_, '_>>, token: &Token, near: &mut usize) -> Opti
 }
 
 /// Where a token of an input leads whose sources begin at the id `start`: with its own name, else with this one.
-fn input_place<'m>(
+fn input_original<'m>(
     input: &'m SourceMapParts<'_>,
     start: u32,
     name: Option<&'m str>,
     token: &Token,
-) -> Option<Place<'m>>
+) -> Option<LentOriginal<'m>>
     requires { start + length input.now.sources.items ≤ 4294967295 }
-    ensures original { option_map original_of_place result ≡ input_original
+    ensures original { option_map lent_original result ≡ input_original
         (record_of_parts input.now) start (option_map (λ name. name.now) name.entry) token.now }
-    ensures small { IfSome result (λ place. place.source_id < 4294967295) }
+    ensures small { IfSome result (λ o. o.source_id < 4294967295) }
 {
     let id = token.get_source_id()?;
     if id as usize >= input.sources.len() {
         return None;
     }
     let own_name = token_name(input.names.as_slice(), token);
-    Some(Place {
+    Some(LentOriginal {
         source_id: id + start,
         src_line: token.get_src_line(),
         src_col: token.get_src_col(),
@@ -84,22 +84,22 @@ fn input_place<'m>(
 }
 
 /// Where a token leads whose source has this block, if this is the token that it leads to in the input.
-fn place_of<'m>(
+fn block_original<'m>(
     names: &'m [CowStr<'_>],
     block: Option<Block<'m, '_>>,
     token: &Token,
     found: Option<Token>,
-) -> Option<Place<'m>>
+) -> Option<LentOriginal<'m>>
     requires { IfSome block IsUsable }
-    ensures original { option_map original_of_place result
+    ensures original { option_map lent_original result
         ≡ block_original block.entry (cow_texts names.now) (target_of token.now found) }
-    ensures small { IfSome result (λ place. place.source_id < 4294967295) }
+    ensures small { IfSome result (λ o. o.source_id < 4294967295) }
 {
     let block = block?;
     let name = token_name(names, token);
     match block.input {
-        Some(input) => input_place(input.map, block.start, name, &found?),
-        None => Some(Place {
+        Some(input) => input_original(input.map, block.start, name, &found?),
+        None => Some(LentOriginal {
             source_id: block.start,
             src_line: token.get_src_line(),
             src_col: token.get_src_col(),
@@ -108,37 +108,37 @@ fn place_of<'m>(
     }
 }
 
-/// The token of the remapped map for one that leads to this place, or nowhere.
+/// The token of the remapped map for one that leads to this original, or nowhere.
 fn token_at<'m>(
     needed: &mut NeededNames<'m>,
     token: &Token,
-    place: Option<Place<'m>>,
+    original: Option<LentOriginal<'m>>,
 ) -> Result<Token>
     requires placed { ArePlaced needed.old }
-    requires small { IfSome place (λ place. place.source_id < 4294967295) }
+    requires small { IfSome original (λ o. o.source_id < 4294967295) }
     ensures names { OnOk result (names_in needed.new ≡ with_inherited
-        (names_in needed.old) (needed_name (option_map original_of_place place.entry))) }
+        (names_in needed.old) (needed_name (option_map lent_original original.entry))) }
     ensures token { IfOk result (λ t. t ≡ token_to (names_in needed.new) token.now
-        (option_map original_of_place place.entry)) }
+        (option_map lent_original original.entry)) }
     ensures placed { OnOk result (ArePlaced needed.new) }
     ensures error { IfErr result (λ e. (e ≢ OutOfMemory) → (e ≡ TooLarge)
         × (4294967295 < length (with_inherited (names_in needed.old)
-        (needed_name (option_map original_of_place place.entry))))) }
+        (needed_name (option_map lent_original original.entry))))) }
 {
     let (line, col) = (token.get_dst_line(), token.get_dst_col());
-    let Some(place) = place else {
+    let Some(original) = original else {
         return Ok(Token::new(line, col, 0, 0, None, None));
     };
-    let name_id = match place.name {
+    let name_id = match original.name {
         Some(name) => Some(need_name(needed, name)?),
         None => None,
     };
     Ok(Token::new(
         line,
         col,
-        place.src_line,
-        place.src_col,
-        Some(place.source_id),
+        original.src_line,
+        original.src_col,
+        Some(original.source_id),
         name_id,
     ))
 }
@@ -169,8 +169,8 @@ fn remapped_tokens<'m>(
     for token in tokens {
         let block = block_of(blocks, token);
         let found = target(block, token, &mut near);
-        let place = place_of(names, block, token, found);
-        remapped.push(token_at(&mut needed, token, place)?)?;
+        let original = block_original(names, block, token, found);
+        remapped.push(token_at(&mut needed, token, original)?)?;
     }
     Ok((remapped, needed))
 }
@@ -234,8 +234,9 @@ fn remapped_parts<'m, M: AsParts>(
 ///
 /// - A token whose source has an input gets the source, the original position and the name of the input's token at its original
 ///   position (line and column from 0), or of the first one on that line if all are after it; its own name stays if that has
-///   none. It becomes unmapped if no token is on that line, or the one found is unmapped or has a source id out of range. Other
-///   tokens stay, but for a source id or name id out of range, which is left out.
+///   none. It becomes unmapped if no token is on that line, or the one found is unmapped or has a source id out of range.
+/// - A token without a source, or whose source id is out of range, is unmapped, at source position 0:0 and without a name; one
+///   whose source has no input keeps source, position and name. A name id out of range counts as none.
 /// - In place of a source that has an input stand all sources of the input, with their contents, also where sources are equal.
 ///   A source is ignored if the map that it is from ignores it.
 /// - The names are those that tokens need, each once, in the order of the tokens. File and debug id are those of `map`; the
@@ -243,9 +244,9 @@ fn remapped_parts<'m, M: AsParts>(
 ///
 /// Nothing is taken: all strings of the result are borrowed from `map` and from the maps of `inputs`, not from the list.
 ///
-/// Fails in this order: `InputLineOrder(k)` for the first input whose tokens go back in lines, used or not; `TooLarge` if
-/// sources or names would number above 4294967295; `OutOfMemory` for want of memory. The first is reported whenever it holds.
-/// If columns go back on a line of an input, it is open to which token of that line a token leads.
+/// Fails with the first of `InputLineOrder(k)` for the first input whose tokens go back in lines, used or not; `TooLarge` if
+/// sources would number above 4294967295; `TooLarge` if names would. `OutOfMemory` may come in place of each but the first, which
+/// is reported whenever it holds. If columns go back on a line of an input, it is open to which token of that line a token leads.
 pub fn remap_parts<'m, M: AsParts>(
     alloc: Global,
     map: &'m SourceMapParts<'_>,

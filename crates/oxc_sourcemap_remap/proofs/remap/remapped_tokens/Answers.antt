@@ -7,7 +7,7 @@ use Rattle.oxc_sourcemap_lookup.specs.Composed.{target_of}
 use Rattle.oxc_sourcemap_lookup.specs.InheritedNames.{with_inherited}
 use Rattle.oxc_sourcemap_remap.specs.Remapped.{Original, needed_name, token_to}
 use Rattle.oxc_sourcemap_remap.specs.Bodies.{block_of, block_original, IsBlockTarget, names_in}
-use Rattle.oxc_sourcemap_remap.specs.Bodies.{original_of_place}
+use Rattle.oxc_sourcemap_remap.specs.Bodies.{lent_original}
 use Rattle.oxc_sourcemap_remap.specs.declared.blocks.Block.{Block}
 use Rattle.oxc_sourcemap_remap.proofs.Gathered.{made-more, past-all}
 use Rattle.oxc_sourcemap_remap.proofs.remap.remapped_tokens.Goals as goal
@@ -20,8 +20,8 @@ returns-in_err-token_at-clause-error c =
     let l = target_of c.token-item.result c.target-found.result in
     let block = c.block_of-block.ensures in
     let is : IsBlockTarget (block_of bs l.token) l = subst (λ (b : Option Block). IsBlockTarget b l) block c.target-found.ensures in
-    let place : option_map original_of_place c.place_of-place.result ≡ block_original (block_of bs l.token) olds l =
-    c.place_of-place.ensures.original ∙ ap (λ (b : Option Block). block_original b olds l) block in
+    let place : option_map lent_original c.block_original-original.result ≡ block_original (block_of bs l.token) olds l =
+    c.block_original-original.ensures.original ∙ ap (λ (b : Option Block). block_original b olds l) block in
     let all : take k c.args.tokens.now ++ c.token-item.result ∷ drop (k + 1) c.args.tokens.now ≡ c.args.tokens.now = grind (arith, common_steps) in
     let p = err_from_is_err_and c.from_residual-in_err-token_at.result c.from_residual-in_err-token_at.ensures.1 in
     rw (p.1, p.2) (λ other.
@@ -38,8 +38,8 @@ loop-token-preserved c =
     let l = target_of c.token-item.result c.target-found.result in
     let block = c.block_of-block.ensures in
     let is : IsBlockTarget (block_of bs l.token) l = subst (λ (b : Option Block). IsBlockTarget b l) block c.target-found.ensures in
-    let place : option_map original_of_place c.place_of-place.result ≡ block_original (block_of bs l.token) olds l =
-    c.place_of-place.ensures.original ∙ ap (λ (b : Option Block). block_original b olds l) block in
+    let place : option_map lent_original c.block_original-original.result ≡ block_original (block_of bs l.token) olds l =
+    c.block_original-original.ensures.original ∙ ap (λ (b : Option Block). block_original b olds l) block in
     let more : take (k + 1) c.args.tokens.now ≡ take k c.args.tokens.now ++ c.token-item.result ∷ [] = grind (arith, common_steps) in record {
       placed = c.in_ok-token_at.ensures.placed;
       made = made-more bs olds (take k c.args.tokens.now) _ (names_in c.loop-token.needed) _ c.loop-token.remapped.items _ l c.loop-token.invariant.made more is

@@ -1,7 +1,7 @@
 use Rattle.std.proofs.Common.{arith}
 use Rattle.std.proofs.lemmas.Map.Text.{text_keys}
 use Rattle.oxc_sourcemap_lookup.proofs.KeptNames.{place_step}
-use Rattle.oxc_sourcemap_remap.proofs.inputs.input_places.Goals as goal
+use Rattle.oxc_sourcemap_remap.proofs.inputs.input_indices.Goals as goal
 
 pub loop-i-preserved : goal.loop-i-preserved
 loop-i-preserved c = λ text.

@@ -1,8 +1,9 @@
 -- A minified bundle, remapped: by the laws of joins, compositions and remapping.
 use Rattle.std.proofs.Common.{◌≡◌, ℕ, suc, ◌<◌, Bool, true, false, List, [], ◌∷◌, length, Option}
-use Rattle.std.proofs.Common.{Some}
+use Rattle.std.proofs.Common.{Some, arith}
 use Rattle.std.proofs.Common.{None, option_map, Ok, Err, refl, sym, ap, ◌∙◌, subst, ◌⊎◌, inl, inr}
 use Rattle.std.specs.Prelude.{if◌then◌else◌, nat_lt}
+use Rattle.std.proofs.lemmas.Bool.Decides.{nat_tests}
 use Rattle.std.specs.List.{AllByRecursion}
 use Rattle.std.specs.Option.{IfSome}
 use Rattle.oxc_sourcemap.specs.Error.{Error}
@@ -91,24 +92,31 @@ bundle-remapped laws a copy m ms same made sa sms inputs =
     ∙ laws.keeps (decoded_map_of a) (decoded_map_of a) (remapped_decoded_map (decoded_map_of bundle) inputs) (joined_decoded_maps (each_remapped inputs parts)) refl later
 
 -- the errors of a composition with a sorted map
+abbrev FailsBy : MapRecord → MapRecord → Error → Type 0
+FailsBy a b e = ((e ≡ TooLarge) × (composition a b ≡ Err TooLarge)) ⊎ ((e ≡ SeveralSources (length a.sources)) × (1 < length a.sources))
+
 error-by : (many : Bool) (n : ℕ) (fit : Bool) (r : MapRecord) (order : Option ℕ) (e : Error) → order ≡ None
-    → unless (if many then Some (SeveralSources n) else option_map LineOrder order) (if fit then Ok r else Err TooLarge) ≡ Err e → (e ≡ TooLarge) ⊎ (e ≡ SeveralSources n)
-error-by true n fit r order e o h = inr cc
+    → unless (if many then Some (SeveralSources n) else option_map LineOrder order) (if fit then Ok r else Err TooLarge) ≡ Err e
+    → (e ≡ TooLarge) ⊎ ((e ≡ SeveralSources n) × (many ≡ true))
+error-by true n fit r order e o h = inr (cc, refl)
 error-by false n true r None e o h = absurd cc
 error-by false n false r None e o h = inl cc
 error-by false n fit r (Some i) e o h = absurd cc
 
-composing-error : (a copy b : MapRecord) (e : Error) → copy ≡ a → are_tokens_sorted b.tokens ≡ true → composition copy b ≡ Err e → (e ≡ TooLarge) ⊎ (e ≡ SeveralSources (length a.sources))
+composing-error : (a copy b : MapRecord) (e : Error) → copy ≡ a → are_tokens_sorted b.tokens ≡ true → composition copy b ≡ Err e → FailsBy a b e
 composing-error a copy b e same sorted h =
-    subst (λ (r : MapRecord). (e ≡ TooLarge) ⊎ (e ≡ SeveralSources (length r.sources))) same
-    (error-by (nat_lt 1 (length copy.sources)) (length copy.sources) (are_ids copy.names (composed_names copy.names b.names (targets copy b)) (targets copy b)) (composed copy b)
-    (first_out_of_order b.tokens) e (sorted-order b.tokens sorted) h)
+    let of_a : composition a b ≡ Err e = ap (λ r. composition r b) (sym same) ∙ h in
+    elim (error-by (nat_lt 1 (length a.sources)) (length a.sources) (are_ids a.names (composed_names a.names b.names (targets a b)) (targets a b)) (composed a b)
+    (first_out_of_order b.tokens) e (sorted-order b.tokens sorted) of_a) [
+      | inl t ↦ inl (t, of_a ∙ ap Err t)
+      | inr n ↦ inr (n.0, grind (arith, nat_tests, n.1))
+    ]
 
 -- as errors of a plan
-pub bundle-error : (a copy b : MapRecord) (e : Error) (P : Type 0) → copy ≡ a → are_tokens_sorted b.tokens ≡ true → composition copy b ≡ Err e
-    → (Map e ≡ Map TooLarge) ⊎ P ⊎ (Map e ≡ Map (SeveralSources (length a.sources)))
-bundle-error a copy b e P same sorted h =
+pub bundle-error : (a copy b : MapRecord) (e : Error) (J P : Type 0) → copy ≡ a → are_tokens_sorted b.tokens ≡ true → composition copy b ≡ Err e
+    → J ⊎ P ⊎ ((Map e ≡ Map TooLarge) × (composition a b ≡ Err TooLarge)) ⊎ ((Map e ≡ Map (SeveralSources (length a.sources))) × (1 < length a.sources))
+bundle-error a copy b e J P same sorted h =
     elim (composing-error a copy b e same sorted h) [
-      | inl t ↦ inl (ap (λ x. Map x) t)
-      | inr n ↦ inr (inr (ap (λ x. Map x) n))
+      | inl t ↦ inr (inr (inl (ap (λ x. Map x) t.0, t.1)))
+      | inr n ↦ inr (inr (inr (ap (λ x. Map x) n.0, n.1)))
     ]

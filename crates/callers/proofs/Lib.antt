@@ -5,3 +5,4 @@ pub mod Naming
 pub mod Joining
 pub mod Composing
 pub mod Bundling
+pub mod Remapping

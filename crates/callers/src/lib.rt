@@ -2,9 +2,9 @@
 //! docs/CALLING.md shows them.
 #![tactic(auto)]
 
-ghost use Rattle.std.specs.Prelude.{◌≡◌, ◌≢◌, ◌≤◌, ◌+◌, ◌⊎◌, ◌↔◌, ◌∷◌, [], ℕ, List, length, take};
-ghost use Rattle.std.specs.Prelude.{option_map, string_bytes, false, IfOk, IfErr, OnOk, OnErr, Ok};
-ghost use Rattle.std.specs.Prelude.{Err, Some, None};
+ghost use Rattle.std.specs.Prelude.{◌≡◌, ◌≢◌, ◌≤◌, ◌<◌, ◌+◌, ◌⊎◌, ◌↔◌, ◌∷◌, [], ℕ, List, length};
+ghost use Rattle.std.specs.Prelude.{take, option_map, string_bytes, false, IfOk, IfErr, OnOk};
+ghost use Rattle.std.specs.Prelude.{OnErr, Ok, Err, Some, None};
 ghost use Rattle.std.specs.List.{AllByRecursion};
 ghost use Rattle.oxc_sourcemap.specs.Words.{OutOfMemory, TooLarge, Map, Unsorted, as_written};
 ghost use Rattle.oxc_sourcemap.specs.Words.{are_tokens_sorted, IsSound, decoded_map_of, MapRecord};
@@ -17,7 +17,10 @@ ghost use Rattle.oxc_sourcemap.specs.Words.{composition_meaning, IsEvaluated, Ha
 ghost use Rattle.oxc_sourcemap.specs.Words.{OnlyMemory, Text, DecodedMap, EqualUpToRepeats};
 ghost use Rattle.oxc_sourcemap.specs.Words.{decoded_maps_of, joined_decoded_maps};
 ghost use Rattle.oxc_sourcemap.specs.Words.{composed_decoded_maps, remapped_decoded_map};
-ghost use Rattle.oxc_sourcemap.specs.Words.{each_remapped, SeveralSources};
+ghost use Rattle.oxc_sourcemap.specs.Inputs.{decoded_inputs};
+ghost use Rattle.oxc_sourcemap.specs.Words.{each_remapped, SeveralSources, composition};
+ghost use Rattle.oxc_sourcemap.specs.Words.{lent_inputs, NoInputColumnGoesBack, remapping};
+ghost use Rattle.oxc_sourcemap.specs.Words.{inputs_fault, Reports};
 
 use oxc_sourcemap::laws::{
     canonical_unique, composition_associative, dropping_harmless, joins_associative,
@@ -247,9 +250,9 @@ pub fn compose_both_ways<'c>(
 /// The modules were compiled, and their maps lead to compiled files. Those may be remapped to the originals before they are
 /// joined, or the map that is returned, at the end: whatever the inputs are, both give the same decoded map, up to repeats.
 ///
-/// Fails with `Map(TooLarge)` if a join of modules is past a limit, with `Unsorted` if it is not sorted, with
-/// `Map(SeveralSources(n))` if the minifier's map has several sources, and else only with `Map(OutOfMemory)` or, if the two have
-/// too many names, `Map(TooLarge)`.
+/// Fails with `Map(TooLarge)` if the join of the first modules, up to some one of them, is past a limit, with `Unsorted` if the
+/// join is not sorted, with `Map(SeveralSources(n))` if the minifier's map has n sources, more than one, with `Map(TooLarge)` if
+/// the composition of the two needs too many names, and else only with `Map(OutOfMemory)`.
 pub fn minified_bundle<'a>(
     alloc: Global,
     minified: &SourceMap<'_>,
@@ -261,9 +264,14 @@ pub fn minified_bundle<'a>(
         → EqualUpToRepeats (remapped_decoded_map (decoded_map_of map) inputs)
         (composed_decoded_maps (decoded_map_of minified.now) (joined_decoded_maps
         (each_remapped inputs (decoded_maps_of (lent_maps modules.now)))))) }
-    ensures error { IfErr result (λ e. (e ≢ Map OutOfMemory) → (e ≡ Map TooLarge)
-        ⊎ ((e ≡ Unsorted) × (are_tokens_sorted (joined (lent_maps modules.now)).tokens ≡ false))
-        ⊎ (e ≡ Map (SeveralSources (length minified.now.sources)))) }
+    ensures error { let bundle = joined (lent_maps modules.now) in
+        IfErr result (λ e. (e ≢ Map OutOfMemory)
+        → ((e ≡ Map TooLarge)
+        × ((n : ℕ) × ¬ (IsWithinLimits (joined (lent_maps (take n modules.now))))))
+        ⊎ ((e ≡ Unsorted) × (are_tokens_sorted bundle.tokens ≡ false))
+        ⊎ ((e ≡ Map TooLarge) × (composition minified.now bundle ≡ Err TooLarge))
+        ⊎ ((e ≡ Map (SeveralSources (length minified.now.sources)))
+        × (1 < length minified.now.sources))) }
 {
     composition_associative();
     dropping_harmless();
@@ -275,6 +283,28 @@ pub fn minified_bundle<'a>(
     let copy = minified.clone(alloc)?;
     let map = copy.compose(alloc, bundle)?;
     Ok(map)
+}
+
+/// Leads the map of a bundle, whose modules were compiled, back to their originals, through the maps of the modules. Its decoded
+/// map is the remapping of the decoded maps, and it is sound if the bundle is, whatever the inputs are.
+///
+/// Fails as `SourceMap::remap` does.
+pub fn lead_back<'m>(
+    alloc: Global,
+    bundle: &'m SourceMap<'_>,
+    inputs: &[(&str, &'m SourceMap<'_>)],
+) -> Result<SourceMap<'m>>
+    ensures decoded_map { let inputs = lent_inputs inputs.now in NoInputColumnGoesBack inputs
+        → IfOk result (λ map. decoded_map_of map
+        ≡ remapped_decoded_map (decoded_map_of bundle.now) (decoded_inputs inputs)) }
+    ensures sound { let inputs = lent_inputs inputs.now in NoInputColumnGoesBack inputs
+        → IfOk result (λ map. IsSound bundle.now → IsSound map) }
+    ensures error { let inputs = lent_inputs inputs.now in NoInputColumnGoesBack inputs
+        → IfErr result (λ e. (e ≢ OutOfMemory) → remapping bundle.now inputs ≡ Err e) }
+    ensures fault { Reports (inputs_fault (lent_inputs inputs.now)) result }
+{
+    remapping_associative();
+    bundle.remap(alloc, inputs)
 }
 
 /// The map of code that was compiled and then minified, from the JSON texts of the two maps: a plan that composes them.

@@ -20,7 +20,7 @@ use Rattle.oxc_sourcemap_plan.specs.Outcome.{join_outcome, composition_outcome, 
 use Rattle.oxc_sourcemap_plan.specs.PlanArguments.{Parsed, whole, then_parsed, parsed_number}
 use Rattle.oxc_sourcemap_plan.specs.PlanArguments.{parsed_line, parsed_position, read_or_fault}
 use Rattle.oxc_sourcemap_plan.specs.PlanArguments.{read_of_number, parsed_input, with_rest}
-use Rattle.oxc_sourcemap_plan.specs.PlanArguments.{parsed_placed, parsed_path, parsed_input_part}
+use Rattle.oxc_sourcemap_plan.specs.PlanArguments.{parsed_join_part, parsed_path, parsed_input_part}
 use Rattle.oxc_sourcemap_plan.specs.PlanArguments.{parsed_items, parsed_list, parsed_join}
 use Rattle.oxc_sourcemap_plan.specs.PlanArguments.{parsed_remapping, parsed_by, parsed_part}
 
@@ -114,16 +114,16 @@ module _ {A : Type 0} (item : List Text → Parsed A) where
 
 -- ---- the parts of a join and of a remapping
 module _ (part : List Text → Parsed Outcome) where
-  pub placed-error : (offset : List Text → Parsed Position) (arguments : List Text) (e : RunError) → part arguments ≡ Err e → parsed_placed part offset arguments ≡ Err e
+  pub placed-error : (offset : List Text → Parsed Position) (arguments : List Text) (e : RunError) → part arguments ≡ Err e → parsed_join_part part offset arguments ≡ Err e
   placed-error offset arguments e h = ap (λ r. then_parsed r (λ o after. then_parsed (offset after) (λ place left. Ok ((o, place), left)))) h
 
   pub placed : (offset : List Text → Parsed Position) (arguments after : List Text) (o : Outcome) (place : Parsed Position) → part arguments ≡ Ok (o, after) → offset after ≡ place
-      → parsed_placed part offset arguments ≡ then_parsed place (λ place left. Ok ((o, place), left))
+      → parsed_join_part part offset arguments ≡ then_parsed place (λ place left. Ok ((o, place), left))
   placed offset arguments after o place h k =
       ap (λ r. then_parsed r (λ o after. then_parsed (offset after) (λ place left. Ok ((o, place), left)))) h
       ∙ ap (λ r. then_parsed r (λ place left. Ok ((o, place), left))) k
 
-  pub join-read : (offset : List Text → Parsed Position) (arguments : List Text) (read : Parsed (List (Outcome × Position))) → parsed_list (parsed_placed part offset) arguments ≡ read
+  pub join-read : (offset : List Text → Parsed Position) (arguments : List Text) (read : Parsed (List (Outcome × Position))) → parsed_list (parsed_join_part part offset) arguments ≡ read
       → parsed_join part offset arguments ≡ then_parsed read (λ parts left. Ok (join_outcome parts, left))
   join-read offset arguments read e = ap (λ r. then_parsed r (λ parts left. Ok (join_outcome parts, left))) e
 

@@ -13,7 +13,7 @@ use Rattle.oxc_sourcemap_plan.specs.Outcome.{Outcome}
 use Rattle.oxc_sourcemap_plan.specs.PlanArguments.{Parsed, then_parsed, number_or_fault}
 use Rattle.oxc_sourcemap_plan.specs.PlanArguments.{parsed_number, read_or_fault, read_of_number}
 use Rattle.oxc_sourcemap_plan.specs.PlanArguments.{parsed_input, with_rest, parsed_beginning}
-use Rattle.oxc_sourcemap_plan.specs.PlanArguments.{parsed_placed, parsed_path, parsed_input_part}
+use Rattle.oxc_sourcemap_plan.specs.PlanArguments.{parsed_join_part, parsed_path, parsed_input_part}
 use Rattle.oxc_sourcemap_plan.specs.PlanArguments.{parsed_items, parsed_list, parsed_rewrite}
 use Rattle.oxc_sourcemap_plan.specs.PlanArguments.{parsed_root, parsed_join, parsed_composition}
 use Rattle.oxc_sourcemap_plan.specs.PlanArguments.{parsed_remapping, parsed_by, parsed_part, whole}
@@ -85,12 +85,12 @@ list item h arguments = after (parsed_number arguments) (parsed_items item) (num
 
 -- ---- plans, if their parts are read like this
 module _ (part : List Text → Parsed Outcome) (h : (arguments : List Text) → IsNotOfPort (part arguments)) where
-  placed : (has_column : Bool) (arguments : List Text) → IsNotOfPort (parsed_placed part (parsed_beginning has_column) arguments)
+  placed : (has_column : Bool) (arguments : List Text) → IsNotOfPort (parsed_join_part part (parsed_beginning has_column) arguments)
   placed has_column arguments =
       after (part arguments) _ (h arguments) (λ o more. after (parsed_beginning has_column more) _ (beginning has_column more) (λ place left. tt))
 
   join : (has_column : Bool) (arguments : List Text) → IsNotOfPort (parsed_join part (parsed_beginning has_column) arguments)
-  join has_column arguments = after (parsed_list (parsed_placed part (parsed_beginning has_column)) arguments) _ (list _ (placed has_column) arguments) (λ os left. tt)
+  join has_column arguments = after (parsed_list (parsed_join_part part (parsed_beginning has_column)) arguments) _ (list _ (placed has_column) arguments) (λ os left. tt)
 
   input_part : (arguments : List Text) → IsNotOfPort (parsed_input_part part arguments)
   input_part arguments = after (parsed_path arguments) _ (path arguments) (λ p more. after (part more) _ (h more) (λ o left. tt))

@@ -67,8 +67,8 @@ parsed_beginning false = parsed_line
 parsed_beginning true = parsed_position
 
 -- a part of a join, and its position after it
-abbrev pub parsed_placed : (List Text → Parsed Outcome) → (List Text → Parsed Position) → List Text → Parsed (Outcome × Position)
-parsed_placed part offset arguments =
+abbrev pub parsed_join_part : (List Text → Parsed Outcome) → (List Text → Parsed Position) → List Text → Parsed (Outcome × Position)
+parsed_join_part part offset arguments =
     then_parsed (part arguments) (λ o after. then_parsed (offset after) (λ place left. Ok ((o, place), left)))
 
 -- a path: any argument, taken as it is
@@ -101,7 +101,7 @@ parsed_root part rest = then_parsed (part rest) (λ o left. Ok (root_outcome o, 
 
 -- N, and N times a part with its offset: the rest of `join` and of `joinat`
 abbrev pub parsed_join : (List Text → Parsed Outcome) → (List Text → Parsed Position) → List Text → Parsed Outcome
-parsed_join part offset rest = then_parsed (parsed_list (parsed_placed part offset) rest) (λ parts left. Ok (join_outcome parts, left))
+parsed_join part offset rest = then_parsed (parsed_list (parsed_join_part part offset) rest) (λ parts left. Ok (join_outcome parts, left))
 
 -- `compose P P`
 abbrev pub parsed_composition : (List Text → Parsed Outcome) → List Text → Parsed Outcome

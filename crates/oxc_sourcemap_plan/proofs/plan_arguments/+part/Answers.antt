@@ -11,7 +11,7 @@ use Rattle.oxc_sourcemap_plan.specs.Meaning.{by_path}
 use Rattle.oxc_sourcemap_plan.specs.Outcome.{outcome_of, outcomes, rewrite_outcome, root_outcome}
 use Rattle.oxc_sourcemap_plan.specs.Outcome.{composition_outcome, remap_outcome, input_outcomes}
 use Rattle.oxc_sourcemap_plan.specs.PlanArguments.{then_parsed, parsed_beginning, parsed_part}
-use Rattle.oxc_sourcemap_plan.specs.PlanArguments.{with_rest, parsed_placed, parsed_input_part}
+use Rattle.oxc_sourcemap_plan.specs.PlanArguments.{with_rest, parsed_join_part, parsed_input_part}
 use Rattle.oxc_sourcemap_plan.proofs.Parts.{from_err}
 use Rattle.oxc_sourcemap_plan.proofs.Plans.{outcomes-positions-pushed, outcomes-inputs-pushed}
 use Rattle.oxc_sourcemap_plan.proofs.Plans.{depth_join_at, depth_remap, outcome_rewrite}
@@ -157,7 +157,7 @@ pub read_join-returns-in_err-part-clause-error : goal.read_join-returns-in_err-p
 read_join-returns-in_err-part-clause-error t c =
     let part = parsed_part (map (λ text. text.now) c.args.inputs.now) c.args.room in
     let offset = parsed_beginning c.args.has_column in
-    let item = parsed_placed part offset in
+    let item = parsed_join_part part offset in
     let done = outcomes (at_positions c.loop-i.parts.items) in
     let arguments = map string_bytes c.args.arguments.now in
     let rest = map string_bytes c.loop-i.rest.now in
@@ -171,7 +171,7 @@ pub read_join-returns-in_err-position-clause-error : goal.read_join-returns-in_e
 read_join-returns-in_err-position-clause-error t c =
     let part = parsed_part (map (λ text. text.now) c.args.inputs.now) c.args.room in
     let offset = parsed_beginning c.args.has_column in
-    let item = parsed_placed part offset in
+    let item = parsed_join_part part offset in
     let done = outcomes (at_positions c.loop-i.parts.items) in
     let arguments = map string_bytes c.args.arguments.now in
     let rest = map string_bytes c.loop-i.rest.now in
@@ -185,7 +185,7 @@ pub read_join-loop-i-preserved : goal.read_join-loop-i-preserved
 read_join-loop-i-preserved t c =
     let part = parsed_part (map (λ text. text.now) c.args.inputs.now) c.args.room in
     let offset = parsed_beginning c.args.has_column in
-    let item = parsed_placed part offset in
+    let item = parsed_join_part part offset in
     let done = outcomes (at_positions c.loop-i.parts.items) in
     let arguments = map string_bytes c.args.arguments.now in
     let rest = map string_bytes c.loop-i.rest.now in
@@ -205,7 +205,7 @@ pub read_join-returns-clause-part : goal.read_join-returns-clause-part
 read_join-returns-clause-part t c =
     let part = parsed_part (map (λ text. text.now) c.args.inputs.now) c.args.room in
     let offset = parsed_beginning c.args.has_column in
-    let item = parsed_placed part offset in
+    let item = parsed_join_part part offset in
     let done = outcomes (at_positions c.loop-i.parts.items) in
     let arguments = map string_bytes c.args.arguments.now in
     let rest = map string_bytes c.loop-i.rest.now in

@@ -2,7 +2,7 @@ use Rattle.std.proofs.Common.{◌≡◌, ◌≤◌, ◌-◌, ◌+◌, map, strin
 use Rattle.oxc_sourcemap_plan.specs.Depth.{depth, deepest}
 use Rattle.oxc_sourcemap_plan.specs.Meaning.{by_path}
 use Rattle.oxc_sourcemap_join.specs.Joined.{at_positions}
-use Rattle.oxc_sourcemap_plan.specs.PlanArguments.{parsed_beginning, parsed_placed}
+use Rattle.oxc_sourcemap_plan.specs.PlanArguments.{parsed_beginning, parsed_join_part}
 use Rattle.oxc_sourcemap_plan.specs.PlanArguments.{parsed_input_part}
 use Rattle.oxc_sourcemap_plan.specs.PlanArguments.{parsed_items, parsed_part}
 use Rattle.oxc_sourcemap_plan.specs.Outcome.{outcomes, input_outcomes}
@@ -23,7 +23,7 @@ decreases-read_remapping l = l.room + l.room + l.room + 2
 
 abbrev pub invariant-read_join-loop-i : goal.invariant-read_join-loop-i
 invariant-read_join-loop-i l =
-    let item = parsed_placed (parsed_part (map (λ text. text.now) l.inputs) l.room) (parsed_beginning l.has_column) in
+    let item = parsed_join_part (parsed_part (map (λ text. text.now) l.inputs) l.room) (parsed_beginning l.has_column) in
     (parsed_items item l.count (map string_bytes l.initial.rest) ≡ left_after item (outcomes (at_positions l.parts.items)) (l.count - l.i) (map string_bytes l.rest))
     × (deepest (map (λ p. depth p.0) l.parts.items) ≤ l.room)
 

@@ -1,7 +1,6 @@
-// Remaps by the npm package @ampproject/remapping, for compare_remaps.py. Reads {map, inputs, rounds} as JSON, where inputs
-// has the map of each source that has one, by its name, as JSON texts, and writes {version, remapped, whole, alone}: the package's
-// version, the remapped map as JSON text, and the best milliseconds of so many rounds, from JSON texts to a JSON text, and from
-// decoded maps to one.
+// Remaps by the npm package @ampproject/remapping, for compare_remaps.py. Reads {map, inputs, rounds} as JSON: JSON texts of a
+// map and of those of its sources, by name. Writes {version, remapped, whole, alone}: the package's version, the remapped map as
+// JSON text, and the best milliseconds of so many rounds, from JSON texts to a JSON text, and from decoded maps to one.
 // Needs Debian's node-ampproject-remapping (for a Node that is not Debian's: NODE_PATH=/usr/share/nodejs).
 const { readFileSync } = require("fs");
 const remapping = require("@ampproject/remapping");

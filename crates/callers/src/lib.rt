@@ -285,8 +285,8 @@ pub fn minified_bundle<'a>(
     Ok(map)
 }
 
-/// Leads the map of a bundle, whose modules were compiled, back to their originals, through the maps of the modules. Its decoded
-/// map is the remapping of the decoded maps, and it is sound if the bundle is, whatever the inputs are.
+/// Leads the map of a bundle, whose modules were compiled, back to their originals, through the maps of the modules. If on no
+/// line of an input columns go back, its decoded map is the remapping of the decoded maps, and it is sound if the bundle is.
 ///
 /// Fails as `SourceMap::remap` does.
 pub fn lead_back<'m>(

@@ -11,8 +11,11 @@ pipelines.json, with the code and the map of each step, 1.js and 1.js.map neares
 step before. FOLDER/modules gets the map of each module of lodash, and modules.json the lines of their codes. FOLDER/bundles
 gets a folder for each bundle of modules that tsc compiled: the map of each module, numbered as the source that it is for,
 bundle.js with its map, and minified/bundle.js with its map; bundles.json has the files of the modules' maps by their paths.
+FOLDER/as-one gets for each bundle what composition alone can do: 1.js.map joins the maps of its modules, one below the other, and
+2.js.map is the bundle's, whose sources are one file in the same way.
 """
 import glob, json, os, shutil, subprocess, sys
+import peer
 
 PACKAGES = ["node-typescript", "node-lodash", "libjs-three", "libjs-pdf", "libjs-bootstrap5", "libjs-olm", "libjs-moment",
             "libjs-jquery", "libjs-underscore", "node-ampproject-remapping", "node-commander", "node-terser", "phpmyadmin"]
@@ -240,9 +243,26 @@ def make_bundle(folder, modules, entry):
     return files
 
 
+def make_as_one(bundle, folder):
+    """Makes the two maps of a bundle over one file, which is all its modules, one below the other."""
+    value, tokens = peer.read(json.load(open(f"{bundle}/bundle.js.map", encoding="utf-8")))
+    modules = [peer.read(json.load(open(file, encoding="utf-8"))) for file in sorted(glob.glob(f"{bundle}/[0-9]*.js.map"))]
+    lines = [module[-1][0] for _, module in modules]
+    for token in tokens:
+        lines[token[2]] = max(lines[token[2]], token[3])
+    starts = [sum(lines[:id]) + id for id in range(len(lines))]
+    shifted = [(*token[:2], 0, token[3] + starts[token[2]], *token[4:]) for token in tokens]
+    one = {**value, "sources": ["modules.js"], "sourcesContent": [None]}
+    os.makedirs(folder, exist_ok=True)
+    open(f"{folder}/1.js.map", "w").write(peer.to_text(*peer.join([(*module, start) for module, start in zip(modules, starts)])))
+    open(f"{folder}/2.js.map", "w").write(peer.to_text(one, shifted))
+
+
 def make_bundles():
     made = {name: make_bundle(f"bundles/{name}", modules, entry) for name, modules, entry in BUNDLES}
     json.dump(made, open("bundles.json", "w"), indent=1)
+    for name in made:
+        make_as_one(f"bundles/{name}", f"as-one/{name}")
 
 
 def main():

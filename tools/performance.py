@@ -15,8 +15,9 @@ from measuring import built, measure
 TOP = os.path.dirname(os.path.dirname(os.path.abspath(__file__)))
 MAPS = ["esbuild-lodash", "OpenLayers", "pdf.js", "pdf.worker", "theme.css", "olm_legacy.min", "esbuild-typescript"]
 PIPELINES = ["gen-mapping-5", "three-2", "typescript-2"]
+BUNDLES = ["lodash", "terser"]
 GOALS = {"parse": 0.6, "serialize": 0.75, "decode": 0.55, "encode": 0.7, "table": 0.6, "lookup": 1.0, "join": 0.9,
-         "compose": 0.5, "parse_each": 1.2, "join_each": 1.2}
+         "compose": 0.5, "remap": 1.0, "parse_each": 1.2, "join_each": 1.2}
 STAGES = ["parse", "serialize", "decode", "encode", "table", "lookup", "join"]
 COUNTED = ["esbuild-lodash", "pdf.js", "theme.css", "olm_legacy.min"]
 WHOLE_GOAL, PEAK_GOAL = 0.85, 0.8
@@ -84,6 +85,22 @@ def pipelines():
     for name in PIPELINES:
         counted = cell(counts[name, "compose"]) if (name, "compose") in counts else ""
         write(f"| {name} | {rows[name, 'compose']['tokens']} | {cell(rows[name, 'compose'])} | {counted} |")
+
+
+def remappings():
+    """Remapping of bundles by the maps of their modules, and of the same tokens where all modules are one file. Beside both, as
+    others have no remapping, their composition over that file."""
+    rounds = ["--rounds", str(options.rounds)]
+    bundles = bench([f"{options.folder}/bundles/{name}" for name in BUNDLES], *rounds)
+    as_one = bench([f"{options.folder}/as-one/{name}" for name in BUNDLES], *rounds)
+    write("\n### Remapping\n\n| bundle | tokens | remap | remap as one file | compose as one file |\n|---|---:|---|---|---|")
+    write(f"| *goal* | | {GOALS['remap']} | {GOALS['remap']} | {GOALS['compose']} |")
+    for name in BUNDLES:
+        composed = as_one[name, "compose"]
+        others = list(composed["best"].values())[1:]
+        cells = [beside([ns / composed["items"] for ns in [list(row["best"].values())[0], *others]], GOALS["remap"])
+                 for row in (bundles[name, "remap"], as_one[name, "remap"])]
+        write(f"| {name} | {composed['tokens']} | {' | '.join(cells)} | {cell(composed)} |")
 
 
 def small():
@@ -181,6 +198,7 @@ TABLES = {
     "stages": stages,
     "instructions": instructions,
     "pipelines": pipelines,
+    "remappings": remappings,
     "small": small,
     "processes": lambda: processes("Whole processes", [*single_maps(), *composed_maps()]),
     "growth": lambda: processes("Growth", grown_maps(), is_counted=False),

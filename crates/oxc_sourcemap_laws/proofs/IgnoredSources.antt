@@ -13,7 +13,7 @@ use Rattle.oxc_sourcemap_parts.specs.DecodedMap.{DecodedSource, DecodedMap}
 use Rattle.oxc_sourcemap_join.specs.Joined.{raised_ignore_list, appended_ignore_lists}
 use Rattle.oxc_sourcemap_remap.specs.Blocks.{sources_by, sources_for, remapped_sources, is_listed}
 use Rattle.oxc_sourcemap_remap.specs.Blocks.{marked_from, marked_sources, marked_by, marked_for}
-use Rattle.oxc_sourcemap_remap.specs.Blocks.{ignored_from, unless_empty, ignore_list_of}
+use Rattle.oxc_sourcemap_remap.specs.Blocks.{ignored_from, unless_empty, ignored_ids}
 use Rattle.oxc_sourcemap_remap.specs.Blocks.{remapped_ignore_list}
 use Rattle.oxc_sourcemap_remap.specs.Inputs.{input_for}
 use Rattle.oxc_sourcemap_remap.proofs.Flags.{marked-unmarked, ignored-append}
@@ -87,7 +87,7 @@ unless-empty : (i : ℕ) (ss : List DecodedSource) (ids : List ℕ) → marked_f
 unless-empty i ss [] = none-is-empty i ss
 unless-empty i ss (id ∷ ids) = refl
 
-pub marked-again : (ms : List (DecodedSource × Bool)) → marked_from 0 (map (λ m. m.0) ms) (ignore_list_of ms) ≡ ms
+pub marked-again : (ms : List (DecodedSource × Bool)) → marked_from 0 (map (λ m. m.0) ms) (ignored_ids ms) ≡ ms
 marked-again ms = unless-empty 0 (map (λ m. m.0) ms) (ignored_from 0 ms) ∙ back 0 [] ms tt
 
 pub marked_remapped : (inputs : List (Text × DecodedMap)) (a : DecodedMap) → marked_sources (remapped_decoded_map a inputs) ≡ flat_map (marked_for inputs) (marked_sources a)
@@ -113,7 +113,7 @@ lists-append [] (y ∷ ys) n = refl
 lists-append (x ∷ xs) [] n = ap (λ zs. Some (x ∷ zs)) (append-nil xs)
 lists-append (x ∷ xs) (y ∷ ys) n = refl
 
-pub ignore_list_append : (ms ns : List (DecodedSource × Bool)) → ignore_list_of (ms ++ ns) ≡ appended_ignore_lists (ignore_list_of ms) (raised_ignore_list (length ms) (ignore_list_of ns))
+pub ignore_list_append : (ms ns : List (DecodedSource × Bool)) → ignored_ids (ms ++ ns) ≡ appended_ignore_lists (ignored_ids ms) (raised_ignore_list (length ms) (ignored_ids ns))
 ignore_list_append ms ns =
     ap unless_empty (ignored-append 0 (length ms) ms ns (omega arith) ∙ ap (λ zs. ignored_from 0 ms ++ zs) (ignored-shifted 0 (length ms) (length ms) ns (omega arith)))
     ∙ lists-append (ignored_from 0 ms) (ignored_from 0 ns) (length ms)

@@ -16,7 +16,7 @@ use Rattle.oxc_sourcemap_lookup.specs.Lookup.{clamped_pick}
 use Rattle.oxc_sourcemap_lookup.proofs.Picks.{clamped_pick-map}
 use Rattle.oxc_sourcemap_remap.specs.Blocks.{sources_by, sources_for, remapped_sources, is_listed}
 use Rattle.oxc_sourcemap_remap.specs.Blocks.{marked_from, marked_sources, marked_by, marked_for}
-use Rattle.oxc_sourcemap_remap.specs.Blocks.{ignore_list_of, remapped_ignore_list}
+use Rattle.oxc_sourcemap_remap.specs.Blocks.{ignored_ids, remapped_ignore_list}
 use Rattle.oxc_sourcemap_remap.specs.Inputs.{input_for}
 use Rattle.oxc_sourcemap_remap.proofs.InputPlaces.{input_for-map}
 use Rattle.oxc_sourcemap_laws.specs.Repeats.{without_repeats, is_same_mapping, EqualUpToRepeats}
@@ -118,7 +118,7 @@ module _ (bs cs : List (Text × DecodedMap)) where
       let marks : flat_map (marked_for cs) (marked_sources (remapped_decoded_map a bs)) ≡ flat_map (marked_for (inputs_through bs cs)) (marked_sources a) =
       ap (flat_map (marked_for cs)) (marked_remapped bs a) ∙ flat_map-twice (marked_for bs) (marked_for cs) (marked_for (inputs_through bs cs)) mark-assoc (marked_sources a) in
       let mappings = map_twice (remapped_mapping bs) (remapped_mapping cs) (remapped_mapping (inputs_through bs cs)) mapping-assoc a.mappings in
-      ap (λ l. whole l (remapped_sources cs (remapped_sources bs a.sources)) (map (remapped_mapping cs) (map (remapped_mapping bs) a.mappings))) (ap ignore_list_of marks)
+      ap (λ l. whole l (remapped_sources cs (remapped_sources bs a.sources)) (map (remapped_mapping cs) (map (remapped_mapping bs) a.mappings))) (ap ignored_ids marks)
       ∙ ap (λ ss. whole (remapped_ignore_list (inputs_through bs cs) a) ss (map (remapped_mapping cs) (map (remapped_mapping bs) a.mappings))) sources
       ∙ ap (whole (remapped_ignore_list (inputs_through bs cs) a) (remapped_sources (inputs_through bs cs) a.sources)) mappings
 
@@ -150,9 +150,9 @@ mapping-stays e =
 pub nothing_remapped : (a : DecodedMap) → remapped_decoded_map a [] ≡ as_remapped a
 nothing_remapped a =
     let whole : Option (List ℕ) → List DecodedSource → List DecodedMapping → DecodedMap = λ l ss es. record { file = a.file; source_root = None; debug_id = a.debug_id; ignore_list = l; sources = ss; mappings = es } in
-    ap (λ ms. whole (ignore_list_of ms) (remapped_sources [] a.sources) (map (remapped_mapping []) a.mappings)) (flat_map-self (marked_for []) (λ m. refl) (marked_sources a))
-    ∙ ap (λ ss. whole (ignore_list_of (marked_sources a)) ss (map (remapped_mapping []) a.mappings)) (flat_map-self (sources_for []) (λ s. refl) a.sources)
-    ∙ ap (whole (ignore_list_of (marked_sources a)) a.sources) (map-self (remapped_mapping []) mapping-stays a.mappings)
+    ap (λ ms. whole (ignored_ids ms) (remapped_sources [] a.sources) (map (remapped_mapping []) a.mappings)) (flat_map-self (marked_for []) (λ m. refl) (marked_sources a))
+    ∙ ap (λ ss. whole (ignored_ids (marked_sources a)) ss (map (remapped_mapping []) a.mappings)) (flat_map-self (sources_for []) (λ s. refl) a.sources)
+    ∙ ap (whole (ignored_ids (marked_sources a)) a.sources) (map-self (remapped_mapping []) mapping-stays a.mappings)
 
 module _ (a b : DecodedMap) (s : DecodedSource) (others : List (Text × DecodedMap)) where
   abbrev inputs : List (Text × DecodedMap)
@@ -172,9 +172,9 @@ module _ (a b : DecodedMap) (s : DecodedSource) (others : List (Text × DecodedM
       let marks : flat_map (marked_for inputs) (marked_sources a) ≡ marked_sources b =
       ap (λ ss. flat_map (marked_for inputs) (marked_from 0 ss a.ignore_list)) e ∙ ap (λ q. marked_by q (s, is_listed a.ignore_list 0) ++ []) (first-input s.path refl) ∙ append-nil (marked_sources b) in
       let sources : remapped_sources inputs a.sources ≡ b.sources = ap (remapped_sources inputs) e ∙ ap (λ q. sources_by q s ++ []) (first-input s.path refl) ∙ append-nil b.sources in
-      ap (λ ms. whole (ignore_list_of ms) (remapped_sources inputs a.sources) (map (remapped_mapping inputs) a.mappings)) marks
-      ∙ ap (λ ss. whole (ignore_list_of (marked_sources b)) ss (map (remapped_mapping inputs) a.mappings)) sources
-      ∙ ap (whole (ignore_list_of (marked_sources b)) b.sources) (map_within (λ e. IfSome e.original (λ o. o.source.path ≡ s.path)) (remapped_mapping inputs) (composed_mapping b.mappings) (λ e h. one-original e e.original h) a.mappings h)
+      ap (λ ms. whole (ignored_ids ms) (remapped_sources inputs a.sources) (map (remapped_mapping inputs) a.mappings)) marks
+      ∙ ap (λ ss. whole (ignored_ids (marked_sources b)) ss (map (remapped_mapping inputs) a.mappings)) sources
+      ∙ ap (whole (ignored_ids (marked_sources b)) b.sources) (map_within (λ e. IfSome e.original (λ o. o.source.path ≡ s.path)) (remapped_mapping inputs) (composed_mapping b.mappings) (λ e h. one-original e e.original h) a.mappings h)
 
 -- ---- joins
 module _ (inputs : List (Text × DecodedMap)) where
@@ -200,7 +200,7 @@ module _ (inputs : List (Text × DecodedMap)) where
       let g = flat_map (marked_for inputs) in
       let marks : g (marked_sources (joined_decoded_maps (s ∷ ss))) ≡ g (marked_sources s.0) ++ g (marked_sources rest) =
       ap g (marked_after s.0.sources rest.sources s.0.ignore_list rest.ignore_list h.0) ∙ flat_map-append (marked_for inputs) (marked_sources s.0) (marked_sources rest) in
-      ap ignore_list_of marks ∙ ignore_list_append (g (marked_sources s.0)) (g (marked_sources rest))
+      ap ignored_ids marks ∙ ignore_list_append (g (marked_sources s.0)) (g (marked_sources rest))
       ∙ ap (λ n. appended_ignore_lists (remapped_ignore_list inputs s.0) (raised_ignore_list n (remapped_ignore_list inputs rest))) (count_marked inputs s.0)
       ∙ ap (λ l. appended_ignore_lists (remapped_ignore_list inputs s.0) (raised_ignore_list (length (remapped_sources inputs s.0.sources)) l)) (join-lists ss h.1)
 
@@ -270,7 +270,7 @@ remapped_up_to_repeats a a' bs cs e h =
         file = m.rest.file;
         source_root = refl;
         debug_id = m.rest.debug_id;
-        ignore_list = ap ignore_list_of marks;
+        ignore_list = ap ignored_ids marks;
         sources = flat_map-same (sources_for bs) (sources_for cs) (λ s. sources-agree _ _ (agree-for bs cs h s.path) s) a.sources ∙ ap (remapped_sources cs) m.rest.sources;
       };
       mappings = map_up_to_repeats (remapped_mapping bs) a.mappings a'.mappings m.mappings ∙ ap (without_repeats is_same_mapping) (map_same _ _ (mapping-agrees bs cs h) a'.mappings);

@@ -21,7 +21,7 @@ use Rattle.oxc_sourcemap_lookup.proofs.Picks.{clamped_pick-map}
 use Rattle.oxc_sourcemap_remap.specs.Blocks.{sources_by, sources_for, remapped_sources}
 use Rattle.oxc_sourcemap_remap.specs.Blocks.{remapped_ignore_list}
 use Rattle.oxc_sourcemap_remap.specs.Inputs.{input_for, decoded_inputs}
-use Rattle.oxc_sourcemap_remap.specs.Remapped.{listed_sources, input_of, target_by, targets}
+use Rattle.oxc_sourcemap_remap.specs.Remapped.{listed_sources, input_of, target_by, remap_targets}
 use Rattle.oxc_sourcemap_remap.specs.Remapped.{Original}
 use Rattle.oxc_sourcemap_remap.specs.Remapped.{input_original, original_by}
 use Rattle.oxc_sourcemap_remap.specs.Remapped.{block_start, original, needed_name, token_to}
@@ -114,7 +114,7 @@ module _ (inputs : List (Text × MapRecord)) (a : MapRecord) where
   pub all-placed : AllByRecursion (λ t. IsPlaced (remapped a inputs).names (needed_name (leads inputs a t))) a.tokens
   all-placed =
       let same = map_twice target (original inputs a) (leads inputs a) leads-is a.tokens in
-      let all = all-needed (map (original inputs a) (targets a inputs)) in
+      let all = all-needed (map (original inputs a) (remap_targets a inputs)) in
       unmap-all (λ o. IsPlaced (remapped a inputs).names (needed_name o)) (leads inputs a) a.tokens
       (subst (λ os. AllByRecursion (λ (o : Option Original). IsPlaced (remapped a inputs).names (needed_name o)) os) same all)
 

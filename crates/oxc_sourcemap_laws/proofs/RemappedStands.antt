@@ -26,7 +26,7 @@ use Rattle.oxc_sourcemap_lookup.proofs.InheritedNames.{IsPlaced}
 use Rattle.oxc_sourcemap_remap.specs.Blocks.{sources_by, sources_for, remapped_sources}
 use Rattle.oxc_sourcemap_remap.specs.Blocks.{marked_sources, marked_for, ignored_from, unless_empty}
 use Rattle.oxc_sourcemap_remap.specs.Inputs.{input_for, decoded_inputs, inputs_fault}
-use Rattle.oxc_sourcemap_remap.specs.Remapped.{listed_sources, input_of, targets, Original}
+use Rattle.oxc_sourcemap_remap.specs.Remapped.{listed_sources, input_of, remap_targets, Original}
 use Rattle.oxc_sourcemap_remap.specs.Remapped.{input_original, original_by, block_start}
 use Rattle.oxc_sourcemap_remap.specs.Remapped.{original_at as original_in}
 use Rattle.oxc_sourcemap_remap.specs.Remapped.{original, needed_name, token_to, remapped_token}
@@ -74,9 +74,9 @@ sorted-by a inputs names (l ∷ m ∷ ls) =
 
 pub sorted_remapped : (a : MapRecord) (inputs : List (Text × MapRecord)) → are_tokens_sorted (remapped a inputs).tokens ≡ are_tokens_sorted a.tokens
 sorted_remapped a inputs =
-    let tokens : map (λ l. l.token) (targets a inputs) ≡ a.tokens =
+    let tokens : map (λ l. l.token) (remap_targets a inputs) ≡ a.tokens =
     map_twice (target inputs a) (λ l. l.token) (λ t. t) (λ t. token-is-by inputs a (input_of inputs a t) t) a.tokens ∙ map-self (λ t. t) (λ t. refl) a.tokens in
-    sorted-by a inputs (remapped a inputs).names (targets a inputs) ∙ ap are_tokens_sorted tokens
+    sorted-by a inputs (remapped a inputs).names (remap_targets a inputs) ∙ ap are_tokens_sorted tokens
 
 pub counts_remapped : (a : MapRecord) (inputs : List (Text × MapRecord)) → (length (remapped a inputs).tokens ≡ length a.tokens) × (length (remapped a inputs).source_contents ≡ length (remapped a inputs).sources)
 counts_remapped a inputs =
@@ -176,7 +176,7 @@ module _ (a : MapRecord) (inputs : List (Text × MapRecord)) where
       }
 
   pub range_remapped : AreIdsInRange (remapped a inputs)
-  range_remapped = range-by (targets a inputs)
+  range_remapped = range-by (remap_targets a inputs)
 
   pub sound_remapped : IsSound a → IsSound (remapped a inputs)
   sound_remapped h = record { sorted = sorted_remapped a inputs ∙ h.sorted; in_range = range_remapped; chunks = tt }

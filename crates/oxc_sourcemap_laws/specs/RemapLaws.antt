@@ -11,7 +11,7 @@ use Rattle.oxc_sourcemap_parts.specs.Sound.{AreIdsInRange, IsSound}
 use Rattle.oxc_sourcemap_parts.specs.DecodedMap.{DecodedSource, DecodedMap, decoded_map_of}
 use Rattle.oxc_sourcemap_lookup.specs.Composed.{composed}
 use Rattle.oxc_sourcemap_join.specs.Joined.{joined}
-use Rattle.oxc_sourcemap_remap.specs.Blocks.{marked_sources, marked_for, ignore_list_of}
+use Rattle.oxc_sourcemap_remap.specs.Blocks.{marked_sources, marked_for, ignored_ids}
 use Rattle.oxc_sourcemap_remap.specs.Inputs.{decoded_inputs, inputs_fault, NoInputColumnGoesBack}
 use Rattle.oxc_sourcemap_remap.specs.Remapped.{remapped, remapping, SomeRemapping}
 use Rattle.oxc_sourcemap_laws.specs.Repeats.{EqualUpToRepeats}
@@ -36,7 +36,7 @@ RemappingIgnores = (a : DecodedMap) (inputs : List (Text × DecodedMap))
 -- a decoded map as remapping leaves it: without source root, and with its ignored sources listed ascending, each once; none
 -- without entries
 abbrev pub as_remapped : DecodedMap → DecodedMap
-as_remapped a = record a { source_root = None; ignore_list = ignore_list_of (marked_sources a) }
+as_remapped a = record a { source_root = None; ignore_list = ignored_ids (marked_sources a) }
 
 -- Without inputs a decoded map stays, but for its source root and for how its ignore list is written.
 abbrev pub NothingRemapped : Type 0

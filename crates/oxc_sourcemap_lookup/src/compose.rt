@@ -65,8 +65,9 @@ fn composed_token<'n>(
     ))
 }
 
-/// The mapped token that a token leads to, by the clamped lookup of its source position among the tokens of the second map.
-fn target(index: &LineIndex, input: &[Token], token: &Token, near: &mut Near) -> Option<Token>
+/// The mapped token that a token leads to, if any, by the clamped lookup of its source position among the tokens of an input,
+/// whose index this is. The lookup begins at `near`, and leaves there where it ended.
+pub fn target(index: &LineIndex, input: &[Token], token: &Token, near: &mut Near) -> Option<Token>
     requires { IsIndexOf input.now index.now }
     ensures { IsTarget (line_of input.now token.now) (target_of token.now result) }
 {

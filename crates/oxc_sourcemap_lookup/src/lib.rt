@@ -8,6 +8,7 @@ mod line_index;
 mod lookup;
 mod near;
 
-pub use compose::compose_parts;
+pub use compose::{compose_parts, target};
 pub use line_index::LineIndex;
 pub use lookup::{lookup_table, search, search_clamped, slice_of};
+pub use near::Near;

@@ -10,9 +10,9 @@ use crate::line_index::LineIndex;
 use crate::lookup::{count_before, search_clamped};
 use oxc_sourcemap_tokens::Token;
 
-/// Where the last lookup ended: any numbers will do, and good ones save time.
+/// Where the last lookup ended. It changes no answer, and saves time where lookups are close to each other.
 #[derive(Clone, Copy)]
-pub(crate) struct Near {
+pub struct Near {
     /// The index of the token before the position that was looked up.
     token: usize,
     /// That of the line's span, for `LineIndex::tokens_near`.
@@ -21,7 +21,7 @@ pub(crate) struct Near {
 
 impl Near {
     /// The first token, on the first line.
-    pub(crate) fn start() -> Near {
+    pub fn start() -> Near {
         Near { token: 0, span: 0 }
     }
 }

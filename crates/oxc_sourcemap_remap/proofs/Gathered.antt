@@ -20,7 +20,7 @@ use Rattle.oxc_sourcemap_remap.specs.Blocks.{remapped_sources, unless_empty}
 use Rattle.oxc_sourcemap_remap.specs.Inputs.{input_for, decoded_inputs, inputs_fault}
 use Rattle.oxc_sourcemap_remap.specs.Inputs.{NoInputColumnGoesBack}
 use Rattle.oxc_sourcemap_remap.specs.Remapped.{listed_sources, source_of, input_of, target_by}
-use Rattle.oxc_sourcemap_remap.specs.Remapped.{targets, Original, original, needed_name}
+use Rattle.oxc_sourcemap_remap.specs.Remapped.{remap_targets, Original, original, needed_name}
 use Rattle.oxc_sourcemap_remap.specs.Remapped.{needed_names, token_to, remapped_token}
 use Rattle.oxc_sourcemap_remap.specs.Remapped.{remapped_names, remapped_by, remapping_by, remapping}
 use Rattle.oxc_sourcemap_remap.specs.Remapped.{IsTargetBy, SomeRemapping}
@@ -173,10 +173,10 @@ module _ (a : MapRecord) (inputs : List (Text × MapRecord)) where
       )
 
   pub at-fault : (e : Error) → inputs_fault inputs ≡ Some e → SomeRemapping a inputs (Err e)
-  at-fault e f = (targets a inputs, are-targets a.tokens, rw f)
+  at-fault e f = (remap_targets a inputs, are-targets a.tokens, rw f)
 
   pub too-many-sources : inputs_fault inputs ≡ None → 4294967295 < length meant-sources → SomeRemapping a inputs (Err TooLarge)
-  too-many-sources e s = (targets a inputs, are-targets a.tokens, many-sources (targets a inputs) e s)
+  too-many-sources e s = (remap_targets a inputs, are-targets a.tokens, many-sources (remap_targets a inputs) e s)
 
   module _ (bs : List Block) (are : AreBlocks inputs a bs) where
     input-targets : (ls : List Target) → AllByRecursion (λ l. IsBlockTarget (block_of bs l.token) l) ls → AllByRecursion (λ l. IsTargetBy (input_of inputs a l.token) l) ls
@@ -244,7 +244,7 @@ module _ (a : MapRecord) (inputs : List (Text × MapRecord)) where
 
   exact : (answer : Result MapRecord Error) → NoInputColumnGoesBack inputs → SomeRemapping a inputs answer → remapping a inputs ≡ answer
   exact answer g s =
-      let is : s.0 ≡ targets a inputs = targets-are-all g s.0 s.1.1 ∙ ap (map (λ t. target_by (input_of inputs a t) t)) s.1.0 in
+      let is : s.0 ≡ remap_targets a inputs = targets-are-all g s.0 s.1.1 ∙ ap (map (λ t. target_by (input_of inputs a t) t)) s.1.0 in
       sym (ap (λ ls. remapping_by ls a inputs) is) ∙ s.2
 
   pub exact-map : {X : Type 0} (view : X → MapRecord) (r : Result X Error) → NoInputColumnGoesBack inputs → IfOk r (λ x. SomeRemapping a inputs (Ok (view x)))

@@ -1,6 +1,8 @@
 -- The names that tokens need: each has an index, and the text there is the name.
 use Rattle.std.proofs.Common.{◌≡◌, refl, sym, ap, subst, ◌∙◌, ℕ, suc, ◌+◌, ◌≤◌, true, false, cond}
 use Rattle.std.proofs.Common.{List, [], ◌∷◌, ◌++◌, length, slice_get, Option, Some, None, arith}
+use Rattle.std.proofs.Common.{◌<◌, zero, inl, inr}
+use Rattle.std.proofs.lemmas.Bool.{cases_lt}
 use Rattle.std.proofs.lemmas.List.{length-append}
 use Rattle.std.proofs.lemmas.List.Elements.{filter_map-append}
 use Rattle.std.specs.Cmp.Lexicographic.{bytes_decides}
@@ -10,11 +12,12 @@ use Rattle.std.specs.Str.{bytes_eq}
 use Rattle.oxc_sourcemap_tokens.specs.Token.{TokenRecord}
 use Rattle.oxc_sourcemap_parts.specs.Record.{Text}
 use Rattle.oxc_sourcemap_parts.specs.Texts.{index_of, with_texts}
-use Rattle.oxc_sourcemap_parts.proofs.Places.{index-stays, index-stays_with}
+use Rattle.oxc_sourcemap_parts.proofs.Places.{index-stays, index-stays_with, index-front, index-last}
 use Rattle.oxc_sourcemap_lookup.specs.InheritedNames.{with_inherited}
 use Rattle.oxc_sourcemap_lookup.proofs.InheritedNames.{IsPlaced, placed-inherited}
 use Rattle.oxc_sourcemap_lookup.proofs.InheritedNames.{with_texts-append, with_texts-front}
 use Rattle.oxc_sourcemap_remap.specs.Remapped.{Original, needed_name, needed_names, token_to}
+use Rattle.oxc_sourcemap_remap.specs.Bodies.{AreApart}
 
 placed-more : (names more : List Text) (o : Option Text) → IsPlaced names o → IsPlaced (with_texts names more) o
 placed-more names more None p = tt
@@ -55,6 +58,26 @@ index-from x k (n ∷ ns) i e =
 
 pub at-index : (x : Text) (ns : List Text) (i : ℕ) → index_of x ns ≡ Some i → slice_get ns i ≡ Some x
 at-index x ns i e = let r = index-from x 0 ns i e in let k : i ≡ r.j = omega (arith, r.is) in ap (slice_get ns) k ∙ r.at
+
+-- one more name, at the end
+at-last : (x : Text) (names : List Text) (i : ℕ) (y : Text) → slice_get (names ++ x ∷ []) i ≡ Some y → length names ≤ i → (i ≡ length names) × (x ≡ y)
+at-last x [] zero y e h = (refl, cc (e))
+at-last x [] (suc i) y e h = absurd (cc (e))
+at-last x (n ∷ names) zero y e h = absurd (omega (arith, h))
+at-last x (n ∷ names) (suc i) y e h = let r = at-last x names i y e (omega (arith, h)) in (ap suc r.0, r.1)
+
+at-front : (x : Text) (names : List Text) (i : ℕ) (y : Text) → slice_get (names ++ x ∷ []) i ≡ Some y → i < length names → slice_get names i ≡ Some y
+at-front x [] i y e h = absurd (omega (arith, h))
+at-front x (n ∷ names) zero y e h = e
+at-front x (n ∷ names) (suc i) y e h = at-front x names i y e (omega (arith, h))
+
+pub apart-more : (x : Text) (names : List Text) → index_of x names ≡ None → AreApart names → AreApart (names ++ x ∷ [])
+apart-more x names none apart i y e =
+    elim (cases_lt i (length names)) [
+      | inl l ↦ index-front y i names (x ∷ []) (apart i y (at-front x names i y e l))
+      | inr l ↦ (let r = at-last x names i y e (omega (arith, l)) in
+          subst (λ t. index_of t (names ++ x ∷ []) ≡ Some i) r.1 (index-last x names none ∙ ap (λ n. Some n) (sym r.0)))
+    ]
 
 -- a name is found again by its index
 pub name-back : (names : List Text) (n : Option Text) → IsPlaced names n → option_and_then (slice_get names) (option_and_then (λ x. index_of x names) n) ≡ n

@@ -50,9 +50,9 @@ abbrev pub unless_empty : List ℕ → Option (List ℕ)
 unless_empty [] = None
 unless_empty (id ∷ ids) = Some (id ∷ ids)
 
-abbrev pub ignore_list_of : List (DecodedSource × Bool) → Option (List ℕ)
-ignore_list_of sources = unless_empty (ignored_from 0 sources)
+abbrev pub ignored_ids : List (DecodedSource × Bool) → Option (List ℕ)
+ignored_ids sources = unless_empty (ignored_from 0 sources)
 
 -- the ignore list of a remapped map
 abbrev pub remapped_ignore_list : List (Text × DecodedMap) → DecodedMap → Option (List ℕ)
-remapped_ignore_list inputs a = ignore_list_of (flat_map (marked_for inputs) (marked_sources a))
+remapped_ignore_list inputs a = ignored_ids (flat_map (marked_for inputs) (marked_sources a))

@@ -9,6 +9,7 @@ use Rattle.oxc_sourcemap_tokens.specs.LineOrder.{first_out_of_order}
 use Rattle.oxc_sourcemap_tokens.specs.Token.{TokenRecord}
 use Rattle.oxc_sourcemap_parts.specs.DecodedMap.{DecodedSource, sources_of, decoded_map_of}
 use Rattle.oxc_sourcemap_parts.specs.Record.{Text, MapRecord}
+use Rattle.oxc_sourcemap_parts.specs.Texts.{index_of}
 use Rattle.oxc_sourcemap_parts.specs.Views.{cow_texts, text_of, record_of_parts}
 use Rattle.oxc_sourcemap_lookup.specs.Composed.{Target}
 use Rattle.oxc_sourcemap_lookup.specs.Inherited.{HasPlaces}
@@ -134,15 +135,20 @@ block_ids bs = flat_map (λ b. set_from b.start b.ignored.now) bs
 -- where a token leads, with the name as a text
 abbrev pub lent_original : LentOriginal → Original
 lent_original o =
-    record { source_id = o.source_id; src_line = o.src_line; src_col = o.src_col; name = option_map (λ name. name.now) o.name }
+    record { source_id = o.source_id; src_line = o.src_line; src_col = o.src_col; name = option_map (λ name. name.text.now) o.name }
 
 -- the names that are needed so far
 abbrev pub names_in : NeededNames → List Text
 names_in needed = map (λ name. name.now) needed.names.items
 
--- each has its place, and there are no more of them than ids
+-- each text is at its own index alone
+abbrev pub AreApart : List Text → Type 0
+AreApart names = (i : ℕ) (name : Text) → slice_get names i ≡ Some name → index_of name names ≡ Some i
+
+-- each has its place, no two are equal, and there are no more of them than ids
 pub record ArePlaced (needed : NeededNames) : Type 0 where
   pub places : HasPlaces (names_in needed) needed.places
+  pub apart : AreApart (names_in needed)
   pub few : length needed.names.items ≤ 4294967295
 
 -- the remapped map, from the first map and its blocks, with these tokens and names

@@ -31,8 +31,8 @@ abbrev pub target_by : Option MapRecord → TokenRecord → Target
 target_by None t = target_of t None
 target_by (Some b) t = target_in b.tokens t
 
-abbrev pub targets : MapRecord → List (Text × MapRecord) → List Target
-targets a inputs = map (λ t. target_by (input_of inputs a t) t) a.tokens
+abbrev pub remap_targets : MapRecord → List (Text × MapRecord) → List Target
+remap_targets a inputs = map (λ t. target_by (input_of inputs a t) t) a.tokens
 
 -- Where a token of the remapped map points to: a source by its id there, a position in it, and a name, as a text.
 pub record Original : Type 0 where
@@ -116,7 +116,7 @@ remapped_by ls a inputs =
 
 -- the remapped record
 abbrev pub remapped : MapRecord → List (Text × MapRecord) → MapRecord
-remapped a inputs = remapped_by (targets a inputs) a inputs
+remapped a inputs = remapped_by (remap_targets a inputs) a inputs
 
 -- whether sources and names number at most 4294967295 each
 abbrev pub has_few : MapRecord → Bool
@@ -128,7 +128,7 @@ remapping_by ls a inputs = unless (inputs_fault inputs) (if has_few (remapped_by
 
 -- The remapping of a map by these inputs: the remapped map, or the first fault.
 abbrev pub remapping : MapRecord → List (Text × MapRecord) → Result MapRecord Error
-remapping a inputs = remapping_by (targets a inputs) a inputs
+remapping a inputs = remapping_by (remap_targets a inputs) a inputs
 
 -- Where a token may lead in this input: to what a clamped lookup may find there, as in compositions; nowhere without an input.
 abbrev pub IsTargetBy : Option MapRecord → Target → Type 0

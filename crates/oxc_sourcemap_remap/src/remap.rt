@@ -16,58 +16,61 @@ use crate::blocks::{Block, block_of, blocks_of};
 use crate::inputs::{ignored_flags, ready_inputs};
 use crate::lists::{content_list, ignore_list, lent_text, source_list};
 use crate::needed_names::{NeededNames, lent_names, need_name, no_names};
-use oxc_sourcemap_lookup::search_clamped;
+use oxc_sourcemap_lookup::{Near, target};
 use oxc_sourcemap_parts::SourceMapParts;
 use oxc_sourcemap_tokens::{Memory, Result, Token};
 use std::alloc::Global;
 use std::borrow::CowStr;
 
-/// Where a token leads: a source by its id in the remapped map, a position in it, and a name, borrowed.
+/// A name, borrowed, and the id that it has in its own map.
+#[derive(Clone, Copy)]
+pub(crate) struct LentName<'m> {
+    text: &'m str,
+    id: u32,
+}
+
+/// Where a token leads: a source by its id in the remapped map, a position in it, and a name.
 #[derive(Drop)]
 pub(crate) struct LentOriginal<'m> {
     source_id: u32,
     src_line: u32,
     src_col: u32,
-    name: Option<&'m str>,
+    name: Option<LentName<'m>>,
 }
 
 /// The name of a token, if it has one.
-fn token_name<'m>(names: &'m [CowStr<'_>], token: &Token) -> Option<&'m str>
-    ensures { option_map (λ name. name.now) result ≡ name_of (cow_texts names.now) token.now }
+fn token_name<'m>(names: &'m [CowStr<'_>], token: &Token) -> Option<LentName<'m>>
+    ensures { option_map (λ name. name.text.now) result ≡ name_of (cow_texts names.now) token.now }
 {
     let id = token.get_name_id()?;
     match names.get(id as usize) {
-        Some(name) => Some(name.as_str()),
+        Some(name) => Some(LentName {
+            text: name.as_str(),
+            id,
+        }),
         None => None,
     }
 }
 
-/// The mapped token that a token leads to in the input of its source's block, if any. `near` is that of
-/// `LineIndex::tokens_near`.
-fn target(block: Option<Block<'_, '_>>, token: &Token, near: &mut usize) -> Option<Token>
+/// The mapped token that a token leads to in the input of its source's block, if any.
+fn block_target(block: Option<Block<'_, '_>>, token: &Token, near: &mut Near) -> Option<Token>
     requires { IfSome block IsUsable }
     ensures { IsBlockTarget block.entry (target_of token.now result) }
 {
-    token.get_source_id()?;
     let input = block?.input?;
-    let line = input
-        .index
-        .tokens_near(input.map.tokens.as_slice(), token.get_src_line(), near);
-    let found = search_clamped(line, token.get_src_col())?;
-    found.get_source_id()?;
-    Some(found)
+    target(&input.index, input.map.tokens.as_slice(), token, near)
 }
 
 /// Where a token of an input leads whose sources begin at the id `start`: with its own name, else with this one.
 fn input_original<'m>(
     input: &'m SourceMapParts<'_>,
     start: u32,
-    name: Option<&'m str>,
+    name: Option<LentName<'m>>,
     token: &Token,
 ) -> Option<LentOriginal<'m>>
     requires { start + length input.now.sources.items ≤ 4294967295 }
     ensures original { option_map lent_original result ≡ input_original
-        (record_of_parts input.now) start (option_map (λ name. name.now) name.entry) token.now }
+        (record_of_parts input.now) start (option_map (λ name. name.text.now) name.entry) token.now }
     ensures small { IfSome result (λ o. o.source_id < 4294967295) }
 {
     let id = token.get_source_id()?;
@@ -130,7 +133,7 @@ fn token_at<'m>(
         return Ok(Token::new(line, col, 0, 0, None, None));
     };
     let name_id = match original.name {
-        Some(name) => Some(need_name(needed, name)?),
+        Some(name) => Some(need_name(needed, name.text, name.id)?),
         None => None,
     };
     Ok(Token::new(
@@ -163,12 +166,12 @@ fn remapped_tokens<'m>(
         × (4294967295 < length (needed_names (map
         (λ l. block_original (block_of blocks.now l.token) old l) ls)))) }
 {
-    let mut needed = no_names(alloc);
+    let mut needed = no_names(alloc, names.len())?;
     let mut remapped = Vec::with_capacity(alloc, tokens.len())?;
-    let mut near = 0;
+    let mut near = Near::start();
     for token in tokens {
         let block = block_of(blocks, token);
-        let found = target(block, token, &mut near);
+        let found = block_target(block, token, &mut near);
         let original = block_original(names, block, token, found);
         remapped.push(token_at(&mut needed, token, original)?)?;
     }

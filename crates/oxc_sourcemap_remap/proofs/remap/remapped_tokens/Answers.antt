@@ -17,9 +17,9 @@ returns-in_err-token_at-clause-error c =
     let bs = c.args.blocks.now in
     let olds = cow_texts c.args.names.now in
     let k = c.loop-token.token-index in
-    let l = target_of c.token-item.result c.target-found.result in
+    let l = target_of c.token-item.result c.block_target-found.result in
     let block = c.block_of-block.ensures in
-    let is : IsBlockTarget (block_of bs l.token) l = subst (λ (b : Option Block). IsBlockTarget b l) block c.target-found.ensures in
+    let is : IsBlockTarget (block_of bs l.token) l = subst (λ (b : Option Block). IsBlockTarget b l) block c.block_target-found.ensures in
     let place : option_map lent_original c.block_original-original.result ≡ block_original (block_of bs l.token) olds l =
     c.block_original-original.ensures.original ∙ ap (λ (b : Option Block). block_original b olds l) block in
     let all : take k c.args.tokens.now ++ c.token-item.result ∷ drop (k + 1) c.args.tokens.now ≡ c.args.tokens.now = grind (arith, common_steps) in
@@ -35,9 +35,9 @@ loop-token-preserved c =
     let bs = c.args.blocks.now in
     let olds = cow_texts c.args.names.now in
     let k = c.loop-token.token-index in
-    let l = target_of c.token-item.result c.target-found.result in
+    let l = target_of c.token-item.result c.block_target-found.result in
     let block = c.block_of-block.ensures in
-    let is : IsBlockTarget (block_of bs l.token) l = subst (λ (b : Option Block). IsBlockTarget b l) block c.target-found.ensures in
+    let is : IsBlockTarget (block_of bs l.token) l = subst (λ (b : Option Block). IsBlockTarget b l) block c.block_target-found.ensures in
     let place : option_map lent_original c.block_original-original.result ≡ block_original (block_of bs l.token) olds l =
     c.block_original-original.ensures.original ∙ ap (λ (b : Option Block). block_original b olds l) block in
     let more : take (k + 1) c.args.tokens.now ≡ take k c.args.tokens.now ++ c.token-item.result ∷ [] = grind (arith, common_steps) in record {

@@ -1,4 +1,4 @@
-use Rattle.std.proofs.Common.{◌≡◌, ◌∙◌, ◌<◌, sym, ap, arith, map, length, cond, [], option_map}
+use Rattle.std.proofs.Common.{◌≡◌, ◌∙◌, ◌<◌, sym, subst, ap, arith, map, length, cond, [], option_map}
 use Rattle.std.proofs.Common.{Some, None}
 use Rattle.std.proofs.lemmas.Grind.{common_steps}
 use Rattle.std.proofs.lemmas.List.{length-map}
@@ -8,9 +8,9 @@ use Rattle.std.specs.Str.{bytes_eq}
 use Rattle.oxc_sourcemap_parts.specs.Texts.{index_of}
 use Rattle.oxc_sourcemap_parts.proofs.Places.{index-last}
 use Rattle.oxc_sourcemap_lookup.proofs.KeptNames.{names_push, put_place}
-use Rattle.oxc_sourcemap_remap.specs.Bodies.{names_in}
-use Rattle.oxc_sourcemap_remap.proofs.NeededNames.{at-index}
-use Rattle.oxc_sourcemap_remap.proofs.needed_names.need_name.Goals as goal
+use Rattle.oxc_sourcemap_remap.specs.Bodies.{names_in, AreApart}
+use Rattle.oxc_sourcemap_remap.proofs.NeededNames.{at-index, apart-more}
+use Rattle.oxc_sourcemap_remap.proofs.needed_names.place_name.Goals as goal
 
 pub returns-in-Some-clause-id : goal.returns-in-Some-clause-id
 returns-in-Some-clause-id c =
@@ -42,5 +42,6 @@ returns-clause-placed c =
           hash_map_updates_str c.args.name.now c.args.needed.now.places c.insert.new.self _ c.in_ok-insert.ensures.updates text
           ∙ ap (cond (bytes_eq c.args.name.now text) (Some c.len-count.result)) (c.requires.places text)
           ∙ put_place text c.args.name.now names c.len-count.result none id ∙ sym (ap (index_of text) more);
+      apart = subst AreApart (sym more) (apart-more c.args.name.now names none c.requires.apart);
       few = grind (arith, common_steps, len, c.len-count.ensures, c.if-count-ge4294967295.false);
     }

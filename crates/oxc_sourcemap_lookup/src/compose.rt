@@ -67,6 +67,8 @@ fn composed_token<'n>(
 
 /// The mapped token that a token leads to, if any, by the clamped lookup of its source position among the tokens of an input,
 /// whose index this is. The lookup begins at `near`, and leaves there where it ended.
+// Without the hint a call and a copy of the token take 18 of 250 instructions for each token of a composition.
+#[inline(always)]
 pub fn target(index: &LineIndex, input: &[Token], token: &Token, near: &mut Near) -> Option<Token>
     requires { IsIndexOf input.now index.now }
     ensures { IsTarget (line_of input.now token.now) (target_of token.now result) }

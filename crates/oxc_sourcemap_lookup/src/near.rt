@@ -92,6 +92,7 @@ fn find_near(tokens: &[Token], line: u32, col: u32, near: &mut usize) -> Option<
 }
 
 /// The clamped lookup of a position, as `LineIndex::lookup_clamped` has it. It looks first where the last one ended.
+#[inline(always)]
 pub(crate) fn lookup_near(
     index: &LineIndex,
     tokens: &[Token],

@@ -10,7 +10,8 @@ use Rattle.oxc_sourcemap_tokens.specs.Token.{last}
 use Rattle.oxc_sourcemap_lookup.specs.Lookup.{first, at, at_or_after, least, in_column}
 use Rattle.oxc_sourcemap_lookup.specs.Lookup.{not_before, no_column_goes_back}
 use Rattle.oxc_sourcemap_lookup.proofs.Lookups.{AreNotBefore, goes_on, at-front, at-here, at-past}
-use Rattle.oxc_sourcemap_lookup.proofs.Lookups.{or_else-some, or_else-none, last_or-else, none_among}
+use Rattle.oxc_sourcemap_lookup.proofs.Lookups.{or_else-some, or_else-none, last_or-else}
+use Rattle.oxc_sourcemap_lookup.proofs.Lookups.{none_among}
 use Rattle.oxc_sourcemap_lookup.proofs.Lookups as walks
 
 module _ {A : Type 0} (column : A → ℕ) where

@@ -1,5 +1,6 @@
 -- Indices on a line, and indices among all tokens.
-use Rattle.std.proofs.Common.{◌≡◌, refl, sym, ap, ◌∙◌, ℕ, zero, suc, ◌+◌, ◌<◌, ◌≤◌, Bool, true, false}
+use Rattle.std.proofs.Common.{◌≡◌, refl, sym, ap, ◌∙◌, ℕ, zero, suc, ◌+◌, ◌<◌, ◌≤◌, Bool, true}
+use Rattle.std.proofs.Common.{false}
 use Rattle.std.proofs.Common.{List, [], ◌∷◌, map, length, get_or, Option, Some, None, option_map}
 use Rattle.std.proofs.Common.{nat_lt, ◌==◌, arith, subst, IfSome, Ok}
 use Rattle.std.specs.List.Sorted.{IsNonDecreasingBy}

@@ -8,7 +8,8 @@ use Rattle.oxc_sourcemap_tokens.specs.Token.{TokenRecord}
 use Rattle.oxc_sourcemap_parts.specs.Sorted.{token_line, token_column}
 use Rattle.oxc_sourcemap_lookup.specs.Lookup.{first, at, clamped_at, at_or_after, greatest, least}
 use Rattle.oxc_sourcemap_lookup.specs.Lookup.{not_past, not_before, in_column, on_line, token_after}
-use Rattle.oxc_sourcemap_lookup.specs.Lookup.{pick, clamped_pick, pick_after, numbered_from, numbered}
+use Rattle.oxc_sourcemap_lookup.specs.Lookup.{pick, clamped_pick, pick_after, numbered_from}
+use Rattle.oxc_sourcemap_lookup.specs.Lookup.{numbered}
 use Rattle.oxc_sourcemap_lookup.specs.Lookup.{numbered_line, numbered_column, index_for, token_for}
 use Rattle.oxc_sourcemap_lookup.specs.Lookup.{clamped_index_for, clamped_token_for, index_after}
 use Rattle.oxc_sourcemap_lookup.specs.Lookup.{index_at_or_after}

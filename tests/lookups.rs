@@ -38,21 +38,31 @@ const LINES: &[Row] = &[
     (3, 2, 2, 2, Some(2), Some(3)),
 ];
 
-/// Tokens, a line and a column, and the index of the token found: exactly, and clamped.
-type Lookup = (&'static [Row], u32, u32, Option<usize>, Option<usize>);
+/// Two tokens at the last column.
+const END: &[Row] = &[
+    (0, 4294967295, 1, 0, Some(0), None),
+    (0, 4294967295, 2, 0, Some(0), None),
+];
+
+/// Tokens, a line and a column, and the index of the token found: exactly, clamped, and from the column on.
+type Lookup = (&'static [Row], u32, u32, Option<usize>, Option<usize>, Option<usize>);
 
 const LOOKUPS: &[Lookup] = &[
-    (COOL, 0, 3, Some(1), Some(1)),
-    (COOL, 0, 1000, Some(8), Some(8)),
-    (COOL, 1000, 0, None, None),
-    (EQUAL, 0, 7, Some(1), Some(1)),
-    (EQUAL, 0, 8, Some(5), Some(5)),
-    (FIVE, 0, 0, None, Some(0)),
-    (LINES, 1, 0, None, Some(0)),
-    (LINES, 2, 5, None, None),
-    (LINES, 3, 1, Some(1), Some(1)),
-    (LINES, 4, 0, None, None),
-    (&[], 0, 0, None, None),
+    (COOL, 0, 3, Some(1), Some(1), Some(1)),
+    (COOL, 0, 1000, Some(8), Some(8), None),
+    (COOL, 1000, 0, None, None, None),
+    (EQUAL, 0, 6, Some(0), Some(0), Some(1)),
+    (EQUAL, 0, 7, Some(1), Some(1), Some(5)),
+    (EQUAL, 0, 8, Some(5), Some(5), None),
+    (FIVE, 0, 0, None, Some(0), Some(0)),
+    (END, 0, 4294967294, None, Some(0), Some(0)),
+    (END, 0, 4294967295, Some(0), Some(0), Some(1)),
+    (LINES, 1, 0, None, Some(0), Some(0)),
+    (LINES, 2, 5, None, None, None),
+    (LINES, 3, 0, None, Some(1), Some(1)),
+    (LINES, 3, 1, Some(1), Some(1), Some(1)),
+    (LINES, 4, 0, None, None, None),
+    (&[], 0, 0, None, None, None),
 ];
 
 fn map_of_rows(alloc: Global, rows: &[Row]) -> Result<SourceMap<'static>> {
@@ -73,10 +83,14 @@ fn token_of(view: Option<SourceViewToken<'_, '_>>) -> Option<Token> {
 macro_rules! finds {
     ($rt:expr, $alloc:expr, $map:expr, $lookup:expr) => {
         let (rt, map) = ($rt, $map);
-        let (rows, line, col, exact, clamped) = *$lookup;
-        let (exact, clamped) = (token_at(rows, exact), token_at(rows, clamped));
+        let (rows, line, col, exact, clamped, after) = *$lookup;
         let table = map.generate_lookup_table($alloc)?;
         let table = table.as_slice();
+        same(rt, "exact index", map.lookup_token_index(table, line, col), exact);
+        same(rt, "clamped index", map.lookup_token_index_approx(table, line, col), clamped);
+        same(rt, "index after", map.lookup_token_index_after(table, line, col), after);
+        let (exact, clamped) = (token_at(rows, exact), token_at(rows, clamped));
+        same(rt, "after", map.lookup_token_after(table, line, col), token_at(rows, after));
         same(rt, "exact", map.lookup_token(table, line, col), exact);
         same(rt, "clamped", map.lookup_token_approx(table, line, col), clamped);
         let view = map.lookup_source_view_token(table, line, col);

@@ -120,9 +120,20 @@ fn are_found(rt: &impl Abort, map: &OwnedSourceMap, table: &[&[Token]]) {
         inside.lookup_token(table, 0, 1),
         inside.lookup_token_approx(table, 0, 1),
         SourceMap::search(map.get_tokens().as_slice(), 1, &mut steps),
+        map.lookup_token_after(table, 0, 1),
+        inside.lookup_token_after(table, 0, 1),
         map.get_token(1),
     ];
-    same(rt, "tokens", found, [Some(Token::new(0, 1, 0, 1, Some(1), Some(1))); 6]);
+    same(rt, "tokens", found, [Some(Token::new(0, 1, 0, 1, Some(1), Some(1))); 8]);
+    let indices = [
+        map.lookup_token_index(table, 0, 1),
+        map.lookup_token_index_approx(table, 0, 1),
+        map.lookup_token_index_after(table, 0, 1),
+        inside.lookup_token_index(table, 0, 1),
+        inside.lookup_token_index_approx(table, 0, 1),
+        inside.lookup_token_index_after(table, 0, 1),
+    ];
+    same(rt, "indices", indices, [Some(1); 6]);
     let view = map.lookup_source_view_token(table, 0, 1);
     same(rt, "view", view.map(|view| view.to_tuple()), Some((Some("b.js"), 0, 1, Some("n1"))));
     assert!(rt; map.lookup_source_view_token_approx(table, 0, 1).is_some());

@@ -23,7 +23,8 @@ pub use Rattle.oxc_sourcemap_lookup.specs.Composed.{NoColumnGoesBack}
 pub use Rattle.oxc_sourcemap_lookup.specs.Digits.{binary_digits}
 pub use Rattle.oxc_sourcemap_lookup.specs.Lookup.{at, clamped_at, no_column_goes_back, token_for}
 pub use Rattle.oxc_sourcemap_lookup.specs.Lookup.{clamped_token_for, IfOwnTable, table_fault}
-pub use Rattle.oxc_sourcemap_lookup.specs.Lookup.{line_table, slice_of}
+pub use Rattle.oxc_sourcemap_lookup.specs.Lookup.{line_table, slice_of, at_or_after, token_after}
+pub use Rattle.oxc_sourcemap_lookup.specs.Lookup.{index_for, clamped_index_for, index_after}
 pub use Rattle.oxc_sourcemap_lookup.specs.Trace.{trace, clamped_trace}
 pub use Rattle.oxc_sourcemap_map.specs.View.{view_of, view_original, seen_in, content_at}
 pub use Rattle.oxc_sourcemap_map.specs.View.{source_and_content_at, view_name, view_source}

@@ -5,6 +5,10 @@ pub mod Replaced
 pub mod Compositions
 mod WorkedCompositions
 pub mod Lookups
+pub mod Cuts
+pub mod Indices
+pub mod Numbers
+pub mod LineIndices
 pub mod Tables
 pub mod LineSpans
 pub mod LineStarts

@@ -45,17 +45,17 @@ greatest-within : {A : Type 0} (column : A → ℕ) (col : ℕ) (xs : List A) �
 greatest-within column col [] = omega arith
 greatest-within column col (x ∷ xs) = grind (arith, greatest-within column col xs)
 
-or_else-some : {A : Type 0} (o : Option A) (y : A) (other : Option A) → option_or (option_or o (Some y)) other ≡ option_or o (Some y)
+pub or_else-some : {A : Type 0} (o : Option A) (y : A) (other : Option A) → option_or (option_or o (Some y)) other ≡ option_or o (Some y)
 or_else-some None y other = refl
 or_else-some (Some z) y other = refl
 
-last_or-else : {A : Type 0} (x : A) (ys : List A) → last_or (Some x) ys ≡ option_or (last ys) (Some x)
+pub last_or-else : {A : Type 0} (x : A) (ys : List A) → last_or (Some x) ys ≡ option_or (last ys) (Some x)
 last_or-else x [] = refl
 last_or-else x (y ∷ ys) =
     let p = last_or-else y ys in
     p ∙ sym (or_else-some (last ys) y (Some x)) ∙ sym (ap (λ o. option_or o (Some x)) p)
 
-or_else-none : {A : Type 0} (o : Option A) → option_or o None ≡ o
+pub or_else-none : {A : Type 0} (o : Option A) → option_or o None ≡ o
 or_else-none None = refl
 or_else-none (Some x) = refl
 
@@ -87,7 +87,7 @@ at_among column col items =
     let near = in_column column best items in
     if best == col then first near else last near
 
-none_among : {A : Type 0} (column : A → ℕ) (col : ℕ) → at_among column col [] ≡ None
+pub none_among : {A : Type 0} (column : A → ℕ) (col : ℕ) → at_among column col [] ≡ None
 none_among column col = grind (arith)
 
 step_among : {A : Type 0} (column : A → ℕ) (col : ℕ) (x : A) (near : List A) (best : ℕ) → column x < col → is_some (first near) ≡ true
@@ -107,17 +107,17 @@ here_among column col x rest h le = grind (arith, h, le)
 
 -- if columns do not go back: an item before the given column counts only if no later one does, one at it is found, and one
 -- past it ends the search
-at-front : {A : Type 0} (column : A → ℕ) (col : ℕ) (x : A) (ys : List A) → column x < col → AreNotBefore column x ys → at column (x ∷ ys) col ≡ option_or (at column ys col) (Some x)
+pub at-front : {A : Type 0} (column : A → ℕ) (col : ℕ) (x : A) (ys : List A) → column x < col → AreNotBefore column x ys → at column (x ∷ ys) col ≡ option_or (at column ys col) (Some x)
 at-front column col x ys h all =
     let passes : not_past column col (x ∷ ys) ≡ x ∷ not_past column col ys = grind (arith, h) in
     ap (at_among column col) passes ∙ front_among column col x (not_past column col ys) h (all-not_past column col (column x) ys all)
 
-at-here : {A : Type 0} (column : A → ℕ) (col : ℕ) (x : A) (ys : List A) → column x ≡ col → at column (x ∷ ys) col ≡ Some x
+pub at-here : {A : Type 0} (column : A → ℕ) (col : ℕ) (x : A) (ys : List A) → column x ≡ col → at column (x ∷ ys) col ≡ Some x
 at-here column col x ys h =
     let passes : not_past column col (x ∷ ys) ≡ x ∷ not_past column col ys = grind (arith, h) in
     ap (at_among column col) passes ∙ here_among column col x (not_past column col ys) h (greatest-within column col ys)
 
-at-past : {A : Type 0} (column : A → ℕ) (col : ℕ) (x : A) (ys : List A) → col < column x → AreNotBefore column x ys → at column (x ∷ ys) col ≡ None
+pub at-past : {A : Type 0} (column : A → ℕ) (col : ℕ) (x : A) (ys : List A) → col < column x → AreNotBefore column x ys → at column (x ∷ ys) col ≡ None
 at-past column col x ys h all =
     let passes : not_past column col (x ∷ ys) ≡ [] = grind (arith, h, none_past column col x ys h all) in
     ap (at_among column col) passes ∙ none_among column col

@@ -1,10 +1,11 @@
 -- Lookups in lists of items that are made of other items.
 use Rattle.std.proofs.Common.{◌≡◌, ℕ, Bool, true, false, ◌==◌, nat_le, cond, List, [], ◌∷◌, map}
-use Rattle.std.proofs.Common.{max, refl, ap, ◌∙◌, Option, Some, None}
+use Rattle.std.proofs.Common.{max, min, refl, ap, ◌∙◌, Option, Some, None}
 use Rattle.std.specs.List.{filter, last_or}
 use Rattle.std.specs.Option.{option_map, option_or}
 use Rattle.oxc_sourcemap_lookup.specs.Lookup.{first, greatest, not_past, in_column, at, clamped_at}
-use Rattle.oxc_sourcemap_lookup.specs.Lookup.{on_line, pick, clamped_pick}
+use Rattle.oxc_sourcemap_lookup.specs.Lookup.{on_line, pick, clamped_pick, pick_after, least}
+use Rattle.oxc_sourcemap_lookup.specs.Lookup.{not_before, at_or_after}
 use Rattle.oxc_sourcemap_tokens.specs.Token.{last}
 
 module _ {A B : Type 0} (f : A → B) where
@@ -39,7 +40,7 @@ module _ {A B : Type 0} (f : A → B) where
   or_else-map None p = refl
   or_else-map (Some x) p = refl
 
-  at-map : (c : B → ℕ) (xs : List A) (col : ℕ) → at c (map f xs) col ≡ option_map f (at (λ x. c (f x)) xs col)
+  pub at-map : (c : B → ℕ) (xs : List A) (col : ℕ) → at c (map f xs) col ≡ option_map f (at (λ x. c (f x)) xs col)
   at-map c xs col =
       let rs = not_past (λ x. c (f x)) col xs in
       let best = greatest (λ x. c (f x)) rs in
@@ -56,10 +57,33 @@ module _ {A B : Type 0} (f : A → B) where
   pick-map l c xs n col =
       ap (λ zs. at c zs col) (filter-map (λ y. l y == n) xs) ∙ at-map c (on_line (λ x. l (f x)) n xs) col
 
-  pub clamped_pick-map : (l c : B → ℕ) (xs : List A) (n col : ℕ) → clamped_pick l c (map f xs) n col ≡ option_map f (clamped_pick (λ x. l (f x)) (λ x. c (f x)) xs n col)
-  clamped_pick-map l c xs n col =
-      let ys = on_line (λ x. l (f x)) n xs in
-      ap (λ zs. clamped_at c zs col) (filter-map (λ y. l y == n) xs)
-      ∙ ap (λ o. option_or o (first (map f ys))) (at-map c ys col)
+  pub clamped_at-map : (c : B → ℕ) (ys : List A) (col : ℕ) → clamped_at c (map f ys) col ≡ option_map f (clamped_at (λ x. c (f x)) ys col)
+  clamped_at-map c ys col =
+      ap (λ o. option_or o (first (map f ys))) (at-map c ys col)
       ∙ ap (option_or (option_map f (at (λ x. c (f x)) ys col))) (first-map ys)
       ∙ or_else-map (at (λ x. c (f x)) ys col) (first ys)
+
+  pub clamped_pick-map : (l c : B → ℕ) (xs : List A) (n col : ℕ) → clamped_pick l c (map f xs) n col ≡ option_map f (clamped_pick (λ x. l (f x)) (λ x. c (f x)) xs n col)
+  clamped_pick-map l c xs n col =
+      ap (λ zs. clamped_at c zs col) (filter-map (λ y. l y == n) xs) ∙ clamped_at-map c (on_line (λ x. l (f x)) n xs) col
+
+  least-map : (c : B → ℕ) (xs : List A) → least c (map f xs) ≡ least (λ x. c (f x)) xs
+  least-map c [] = refl
+  least-map c (x ∷ []) = refl
+  least-map c (x ∷ y ∷ ys) = ap (min (c (f x))) (least-map c (y ∷ ys))
+
+  pub at_or_after-map : (c : B → ℕ) (xs : List A) (col : ℕ) → at_or_after c (map f xs) col ≡ option_map f (at_or_after (λ x. c (f x)) xs col)
+  at_or_after-map c xs col =
+      let rs = not_before (λ x. c (f x)) col xs in
+      let best = least (λ x. c (f x)) rs in
+      let near = in_column (λ x. c (f x)) best rs in
+      ap (λ ys. cond (least c ys == col) (last (in_column c (least c ys) ys)) (first (in_column c (least c ys) ys))) (filter-map (λ y. nat_le col (c y)) xs)
+      ∙ ap (λ g. cond (g == col) (last (in_column c g (map f rs))) (first (in_column c g (map f rs)))) (least-map c rs)
+      ∙ ap (λ ys. cond (best == col) (last ys) (first ys)) (filter-map (λ y. c y == best) rs)
+      ∙ ap (λ o. cond (best == col) o (first (map f near))) (last-map near)
+      ∙ ap (λ o. cond (best == col) (option_map f (last near)) o) (first-map near)
+      ∙ cond-map (best == col) (last near) (first near)
+
+  pub pick_after-map : (l c : B → ℕ) (xs : List A) (n col : ℕ) → pick_after l c (map f xs) n col ≡ option_map f (pick_after (λ x. l (f x)) (λ x. c (f x)) xs n col)
+  pick_after-map l c xs n col =
+      ap (λ zs. at_or_after c zs col) (filter-map (λ y. l y == n) xs) ∙ at_or_after-map c (on_line (λ x. l (f x)) n xs) col

@@ -9,6 +9,8 @@ use Rattle.oxc_sourcemap_parts.specs.Sorted.{token_line, token_column}
 use Rattle.oxc_sourcemap_parts.specs.DecodedMap.{decoded_map_of}
 use Rattle.oxc_sourcemap_lookup.specs.Digits.{binary_digits}
 use Rattle.oxc_sourcemap_lookup.specs.Lookup.{pick, clamped_pick, line_table}
+use Rattle.oxc_sourcemap_lookup.specs.Lookup.{token_after, index_for, clamped_index_for}
+use Rattle.oxc_sourcemap_lookup.specs.Lookup.{index_after}
 use Rattle.oxc_sourcemap_lookup.specs.LineSpans.{AreStarts}
 use Rattle.oxc_sourcemap_lookup.specs.Trace.{trace}
 
@@ -42,6 +44,21 @@ looks_up-nothing_before = refl
 
 looks_up-the_first_when_clamped : clamped_pick token_line token_column (token 0 5 0 0 None None ∷ []) 0 0 ≡ Some (token 0 5 0 0 None None)
 looks_up-the_first_when_clamped = refl
+
+looks_after-the_last_of_equal_columns : token_after five_equal 0 7 ≡ Some (token 0 7 5 0 (Some 0) None)
+looks_after-the_last_of_equal_columns = refl
+
+looks_after-the_first_past_the_column : token_after five_equal 0 6 ≡ Some (token 0 7 1 0 (Some 0) None)
+looks_after-the_first_past_the_column = refl
+
+looks_after-nothing_past_the_last : token_after five_equal 0 8 ≡ None
+looks_after-nothing_past_the_last = refl
+
+indexes-the_first_and_the_last : (index_for five_equal 0 7 ≡ Some 1) × (index_for five_equal 0 8 ≡ Some 5) × (index_after five_equal 0 7 ≡ Some 5) × (index_after five_equal 0 6 ≡ Some 1)
+indexes-the_first_and_the_last = (refl, refl, refl, refl)
+
+indexes-when_clamped : clamped_index_for (token 0 5 0 0 None None ∷ token 1 5 0 0 None None ∷ []) 1 0 ≡ Some 1
+indexes-when_clamped = refl
 
 -- tokens on lines 1 and 3
 tables-have_each_line : line_table (token 1 1 1 1 (Some 0) (Some 0) ∷ token 3 1 1 1 (Some 1) (Some 2) ∷ token 3 2 2 2 (Some 2) (Some 3) ∷ [])

@@ -1,5 +1,5 @@
 -- Looking up by generated position, in any list of items that have a line and a column.
-use Rattle.std.specs.Prelude.{◌≡◌, ℕ, ◌+◌, Bool, true, ◌&&◌, List, [], ◌∷◌, map, filter, max}
+use Rattle.std.specs.Prelude.{◌≡◌, ℕ, ◌+◌, Bool, true, ◌&&◌, List, [], ◌∷◌, map, filter, max, min}
 use Rattle.std.specs.Prelude.{slice_get, Option, Some, None, option_map, Result, Ok, if◌then◌else◌}
 use Rattle.std.specs.Prelude.{nat_le, ◌==◌}
 use Rattle.std.specs.List.{range_with_len}
@@ -41,6 +41,24 @@ at column items col =
 abbrev pub clamped_at : {A : Type 0} → (A → ℕ) → List A → ℕ → Option A
 clamped_at column items col = option_or (at column items col) (first items)
 
+-- the least column, 0 where there are no items
+abbrev pub least : {A : Type 0} → (A → ℕ) → List A → ℕ
+least column [] = 0
+least column (x ∷ []) = column x
+least column (x ∷ y ∷ more) = min (column x) (least column (y ∷ more))
+
+-- the items whose column is not before this one
+abbrev pub not_before : {A : Type 0} → (A → ℕ) → ℕ → List A → List A
+not_before column col items = filter (λ x. nat_le col (column x)) items
+
+-- Of the items whose column is the least one not before the given one: the last if that is the given one, else the first.
+-- None if there are no such items.
+abbrev pub at_or_after : {A : Type 0} → (A → ℕ) → List A → ℕ → Option A
+at_or_after column items col =
+    let best = least column (not_before column col items) in
+    let near = in_column column best (not_before column col items) in
+    if best == col then last near else first near
+
 -- the items on a line
 abbrev pub on_line : {A : Type 0} → (A → ℕ) → ℕ → List A → List A
 on_line line n items = filter (λ x. line x == n) items
@@ -52,6 +70,19 @@ pick line column items n col = at column (on_line line n items) col
 -- `clamped_at` of the items on a line
 abbrev pub clamped_pick : {A : Type 0} → (A → ℕ) → (A → ℕ) → List A → ℕ → ℕ → Option A
 clamped_pick line column items n col = clamped_at column (on_line line n items) col
+
+-- `at_or_after` of the items on a line
+abbrev pub pick_after : {A : Type 0} → (A → ℕ) → (A → ℕ) → List A → ℕ → ℕ → Option A
+pick_after line column items n col = at_or_after column (on_line line n items) col
+
+-- the items, each with its number, from this number on
+abbrev pub numbered_from : {A : Type 0} → ℕ → List A → List (ℕ × A)
+numbered_from i [] = []
+numbered_from i (x ∷ xs) = (i, x) ∷ numbered_from (i + 1) xs
+
+-- the items, each with its index
+abbrev pub numbered : {A : Type 0} → List A → List (ℕ × A)
+numbered items = numbered_from 0 items
 
 -- no item's column is smaller than that of the item before it
 abbrev pub no_column_goes_back : {A : Type 0} → (A → ℕ) → List A → Bool
@@ -87,6 +118,42 @@ token_for tokens line col = pick token_line token_column tokens line col
 -- the token that the clamped lookup of a position finds
 abbrev pub clamped_token_for : List TokenRecord → ℕ → ℕ → Option TokenRecord
 clamped_token_for tokens line col = clamped_pick token_line token_column tokens line col
+
+-- the token that the lookup from a position on finds
+abbrev pub token_after : List TokenRecord → ℕ → ℕ → Option TokenRecord
+token_after tokens line col = pick_after token_line token_column tokens line col
+
+-- the generated line of a numbered token
+abbrev pub numbered_line : ℕ × TokenRecord → ℕ
+numbered_line p = token_line p.1
+
+-- the generated column of a numbered token
+abbrev pub numbered_column : ℕ × TokenRecord → ℕ
+numbered_column p = token_column p.1
+
+-- the index of the token that the lookup of a position finds
+abbrev pub index_for : List TokenRecord → ℕ → ℕ → Option ℕ
+index_for tokens line col = option_map (λ p. p.0) (pick numbered_line numbered_column (numbered tokens) line col)
+
+-- the index of the token that the clamped lookup of a position finds
+abbrev pub clamped_index_for : List TokenRecord → ℕ → ℕ → Option ℕ
+clamped_index_for tokens line col = option_map (λ p. p.0) (clamped_pick numbered_line numbered_column (numbered tokens) line col)
+
+-- the index of the token that the lookup from a position on finds
+abbrev pub index_after : List TokenRecord → ℕ → ℕ → Option ℕ
+index_after tokens line col = option_map (λ p. p.0) (pick_after numbered_line numbered_column (numbered tokens) line col)
+
+-- the index of the item of `at` on one line
+abbrev pub index_at : List TokenRecord → ℕ → Option ℕ
+index_at line col = option_map (λ p. p.0) (at numbered_column (numbered line) col)
+
+-- the index of the item of `clamped_at` on one line
+abbrev pub clamped_index_at : List TokenRecord → ℕ → Option ℕ
+clamped_index_at line col = option_map (λ p. p.0) (clamped_at numbered_column (numbered line) col)
+
+-- the index of the item of `at_or_after` on one line
+abbrev pub index_at_or_after : List TokenRecord → ℕ → Option ℕ
+index_at_or_after line col = option_map (λ p. p.0) (at_or_after numbered_column (numbered line) col)
 
 -- A statement holds, if the tokens are sorted and the table is their own.
 abbrev pub IfOwnTable : List TokenRecord → List (List TokenRecord) → Type 0 → Type 0

@@ -1,15 +1,18 @@
 //! Lookup tables over slices of tokens, and lookups on a line. (In the Rust crate they are in the module `sourcemap`.)
 ghost use Rattle.std.specs.Prelude.{◌≡◌, ◌↔◌, ◌==◌, ◌+◌, ◌*◌, ◌^◌, ◌<◌, ◌≤◌, nat_lt, true, false};
-ghost use Rattle.std.specs.Prelude.{length, take, slice_get, IsTrue, IfOk, IfSome, IsNone, Ok, Err};
+ghost use Rattle.std.specs.Prelude.{length, take, slice_get, option_map, IsTrue, IfOk, IfSome};
+ghost use Rattle.std.specs.Prelude.{IsNone, Ok, Err};
 ghost use Rattle.std.specs.Prelude.{Some, None, [], if◌then◌else◌};
-ghost use Rattle.std.specs.Option.{option_map_or};
+ghost use Rattle.std.specs.Option.{option_map_or, option_and_then};
 ghost use Rattle.std.specs.List.{All, Contains, prefix_len};
 ghost use Rattle.oxc_sourcemap_lookup.specs.Words.{Error, OutOfMemory, IsInLineOrder, token_column};
 ghost use Rattle.oxc_sourcemap_lookup.specs.Words.{binary_digits, at, clamped_at};
 ghost use Rattle.oxc_sourcemap_lookup.specs.Words.{no_column_goes_back, lines_through};
 ghost use Rattle.oxc_sourcemap_lookup.specs.Words.{tokens_by_line, table_fault, line_table};
 ghost use Rattle.oxc_sourcemap_lookup.specs.Words.{slice_of, last, Answers, Reports, lent_items};
-ghost use Rattle.oxc_sourcemap_lookup.specs.Words.{AreEnds};
+ghost use Rattle.oxc_sourcemap_lookup.specs.Words.{AreEnds, at_or_after, index_at};
+ghost use Rattle.oxc_sourcemap_lookup.specs.Words.{clamped_index_at, index_at_or_after, on_line};
+ghost use Rattle.oxc_sourcemap_lookup.specs.Words.{token_line, count_before_line};
 
 use oxc_sourcemap_tokens::{Error, Memory, Result, Token, line_order_fault};
 use std::alloc::Global;
@@ -203,7 +206,7 @@ fn compare_column(token: &Token, col: u64, count: usize, steps: &mut u64) -> usi
 
 /// How many tokens at the front of a line lie before `col`, found by halving: the index of the first token that does not.
 /// On a line whose columns go back, it is some index up to the end of the line.
-pub(crate) fn count_before(line: &[Token], col: u32, steps: &mut u64) -> usize
+fn count_below(line: &[Token], col: u64, steps: &mut u64) -> usize
     requires { steps.old ≡ 0 }
     ensures count { no_column_goes_back token_column line.now ≡ true
         → result ≡ prefix_len (λ t. nat_lt t.dst_col col) line.now }
@@ -216,10 +219,22 @@ pub(crate) fn count_before(line: &[Token], col: u32, steps: &mut u64) -> usize
     while size > 0 {
         let half = size / 2;
         let next = start + (size - half);
-        start += compare_column(&line[next - 1], u64::from(col), size - half, steps);
+        start += compare_column(&line[next - 1], col, size - half, steps);
         size = half;
     }
     start
+}
+
+/// As `count_below`, for a column of 32 bits.
+pub(crate) fn count_before(line: &[Token], col: u32, steps: &mut u64) -> usize
+    requires { steps.old ≡ 0 }
+    ensures count { no_column_goes_back token_column line.now ≡ true
+        → result ≡ prefix_len (λ t. nat_lt t.dst_col col) line.now }
+    ensures within { result ≤ length line.now }
+    ensures counted { steps.new ≡ binary_digits (length line.now) }
+    ensures few { steps.new ≤ 64 }
+{
+    count_below(line, u64::from(col), steps)
 }
 
 /// Looks up a column on one line. The result is the first token at `col`; if none is there, the last token of the greatest
@@ -252,6 +267,108 @@ pub fn search_clamped(line: &[Token], col: u32) -> Option<Token>
     ensures clamped { IsNone result → line.now ≡ [] }
 {
     search(line, col, &mut 0).or(line.first().copied())
+}
+
+/// Whether there is a token at an index of a line, and it lies in a column.
+fn is_at(line: &[Token], i: usize, col: u32) -> bool
+    ensures { IsTrue result ↔ (option_map token_column (slice_get line.now i) ≡ Some col) }
+{
+    match line.get(i) {
+        Some(token) => token.get_dst_col() == col,
+        None => false,
+    }
+}
+
+/// An index, if there is a token at it.
+fn index_within(line: &[Token], i: usize) -> Option<usize>
+    ensures { result ≡ (if nat_lt i (length line.now) then Some i else None) }
+{
+    if i < line.len() { Some(i) } else { None }
+}
+
+/// The index on a line of the token that `search` finds there. On a line whose columns go back, it is some index of the line,
+/// or None. Takes no memory.
+pub fn search_index(line: &[Token], col: u32) -> Option<usize>
+    ensures found { no_column_goes_back token_column line.now ≡ true
+        → result ≡ index_at line.now col }
+    ensures within { IfSome result (λ i. i < length line.now) }
+{
+    let before = count_before(line, col, &mut 0);
+    if is_at(line, before, col) {
+        return Some(before);
+    }
+    before.checked_sub(1)
+}
+
+/// As `search_index`, but with the first index of the line in place of None.
+pub fn search_index_clamped(line: &[Token], col: u32) -> Option<usize>
+    ensures found { no_column_goes_back token_column line.now ≡ true
+        → result ≡ clamped_index_at line.now col }
+    ensures within { IfSome result (λ i. i < length line.now) }
+    ensures clamped { IsNone result → line.now ≡ [] }
+{
+    search_index(line, col).or(index_within(line, 0))
+}
+
+/// The index on a line of the token that `search_after` finds there. On a line whose columns go back, it is some index of the
+/// line, or None. `steps` is set as `search_after` has it. Takes no memory.
+pub fn search_index_after(line: &[Token], col: u32, steps: &mut u64) -> Option<usize>
+    ensures found { no_column_goes_back token_column line.now ≡ true
+        → result ≡ index_at_or_after line.now col }
+    ensures token { no_column_goes_back token_column line.now ≡ true
+        → option_and_then (slice_get line.now) result ≡ at_or_after token_column line.now col }
+    ensures within { IfSome result (λ i. i < length line.now) }
+    ensures counted { (steps.new ≤ binary_digits (length line.now) + 1)
+        × (line.now ≡ [] → steps.new ≡ 0) }
+    ensures started { 0 < length line.now → 0 < steps.new }
+{
+    let mut compared = 0;
+    let through = count_below(line, u64::from(col) + 1, &mut compared);
+    let is_there = 0 < through
+        && compare_column(&line[through - 1], u64::from(col), 1, &mut compared) == 0;
+    *steps = compared;
+    if is_there {
+        return Some(through - 1);
+    }
+    index_within(line, through)
+}
+
+/// Looks up a column on one line, and from it on. The result is the last token at `col`; if none is there, the first token of
+/// the least column above `col`; if all are below, None. On a line whose columns go back, it is some token of the line, or
+/// None.
+///
+/// `steps` is set to the number of columns that were compared with `col`: at most as many as the number of tokens has binary
+/// digits, and one more. Takes no memory.
+pub fn search_after(line: &[Token], col: u32, steps: &mut u64) -> Option<Token>
+    ensures found { no_column_goes_back token_column line.now ≡ true
+        → result ≡ at_or_after token_column line.now col }
+    ensures among { IfSome result (Contains line.now) }
+    ensures counted { (steps.new ≤ binary_digits (length line.now) + 1)
+        × (line.now ≡ [] → steps.new ≡ 0) }
+    ensures started { 0 < length line.now → 0 < steps.new }
+{
+    let found = search_index_after(line, col, steps)?;
+    Some(line[found])
+}
+
+/// How many tokens lie on the lines before a line, for tokens in line order; for others, some number up to that of the tokens.
+fn line_start(tokens: &[Token], line: u32) -> usize
+    ensures start { IsInLineOrder tokens.now → result ≡ count_before_line line tokens.now }
+    ensures within { result ≤ length tokens.now }
+{
+    tokens.partition_point(|token: &Token| token.get_dst_line() < line)
+}
+
+/// The index among all tokens of the token that has this index on its line, for tokens in line order; for others, some index of
+/// a token, or None. None for None. Takes no memory.
+pub fn index_from_line(tokens: &[Token], line: u32, index: Option<usize>) -> Option<usize>
+    ensures found { IsInLineOrder tokens.now
+        → IfSome index (λ i. i < length (on_line token_line line tokens.now))
+        → result ≡ option_map (λ i. count_before_line line tokens.now + i) index }
+    ensures within { IfSome result (λ i. i < length tokens.now) }
+{
+    let index = index?;
+    index_within(tokens, line_start(tokens, line).saturating_add(index))
 }
 
 /// The lookup table of tokens: for each generated line up to the last token's, the tokens on it, borrowed, in order.

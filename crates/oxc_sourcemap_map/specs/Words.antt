@@ -10,7 +10,8 @@ pub use Rattle.oxc_sourcemap_lookup.specs.Composed.{NoColumnGoesBack}
 pub use Rattle.oxc_sourcemap_lookup.specs.Digits.{binary_digits}
 pub use Rattle.oxc_sourcemap_lookup.specs.Lookup.{at, clamped_at, no_column_goes_back, token_for}
 pub use Rattle.oxc_sourcemap_lookup.specs.Lookup.{clamped_token_for, IfOwnTable, table_fault}
-pub use Rattle.oxc_sourcemap_lookup.specs.Lookup.{line_table, slice_of}
+pub use Rattle.oxc_sourcemap_lookup.specs.Lookup.{line_table, slice_of, at_or_after, token_after}
+pub use Rattle.oxc_sourcemap_lookup.specs.Lookup.{index_for, clamped_index_for, index_after}
 pub use Rattle.oxc_sourcemap_lookup.specs.Trace.{trace, clamped_trace}
 pub use Rattle.oxc_sourcemap_parts.specs.DecodedMap.{decoded_map_of}
 pub use Rattle.oxc_sourcemap_parts.specs.Roots.{rooted}

@@ -1,17 +1,22 @@
 //! The lookups of `SourceMap` by generated position. (The Rust crate has these calls in the module `sourcemap`.)
 ghost use Rattle.std.specs.Prelude.{◌≡◌, ◌+◌, ◌<◌, ◌≤◌, true, length, map, option_map, IfSome};
-ghost use Rattle.std.specs.Prelude.{IsNone, Some, []};
+ghost use Rattle.std.specs.Prelude.{IsNone, Some, [], slice_get};
+ghost use Rattle.std.specs.Option.{option_and_then};
 ghost use Rattle.std.specs.List.{Contains};
 ghost use Rattle.oxc_sourcemap_map.specs.Words.{token_column, decoded_map_of, binary_digits, at};
 ghost use Rattle.oxc_sourcemap_map.specs.Words.{clamped_at, no_column_goes_back, token_for};
 ghost use Rattle.oxc_sourcemap_map.specs.Words.{clamped_token_for, IfOwnTable, table_fault};
 ghost use Rattle.oxc_sourcemap_map.specs.Words.{line_table, slice_of, trace, clamped_trace};
 ghost use Rattle.oxc_sourcemap_map.specs.Words.{view_of, seen_in, view_original, Answers, Reports};
-ghost use Rattle.oxc_sourcemap_map.specs.Words.{lent_items};
+ghost use Rattle.oxc_sourcemap_map.specs.Words.{lent_items, at_or_after, token_after, index_for};
+ghost use Rattle.oxc_sourcemap_map.specs.Words.{clamped_index_for, index_after};
 
 use crate::source_view_token::SourceViewToken;
 use crate::sourcemap::SourceMap;
-use oxc_sourcemap_lookup::{lookup_table, search, search_clamped, slice_of};
+use oxc_sourcemap_lookup::{
+    index_from_line, lookup_table, search, search_after, search_clamped, search_index,
+    search_index_after, search_index_clamped, slice_of,
+};
 use oxc_sourcemap_tokens::{Result, Token};
 use std::alloc::Global;
 
@@ -111,6 +116,28 @@ impl<'a> SourceMap<'a> {
         search_clamped(slice_of(lookup_table, line), col)
     }
 
+    /// The first token at or after a generated position on its line (line and column from 0, the column in UTF-16 code units): of
+    /// the tokens at the least column that is not before `col`, the last if that is `col`, else the first. None if there is none
+    /// on the line. On a line whose columns go back, it is some token of the line, or None.
+    ///
+    /// Pass the table that `generate_lookup_table` makes of this map: only the table is read, so the table of another map
+    /// gives tokens of that map. Takes no memory.
+    pub fn lookup_token_after(
+        &self,
+        lookup_table: &[&[Token]],
+        line: u32,
+        col: u32,
+    ) -> Option<Token>
+        ensures found { let tokens = slice_of (lent_items lookup_table.now) line in
+            no_column_goes_back token_column tokens ≡ true
+            → result ≡ at_or_after token_column tokens col }
+        ensures among { IfSome result (Contains (slice_of (lent_items lookup_table.now) line)) }
+        ensures own_table { IfOwnTable self.now.tokens (lent_items lookup_table.now)
+            (result ≡ token_after self.now.tokens line col) }
+    {
+        search_after(slice_of(lookup_table, line), col, &mut 0)
+    }
+
     /// The token that `lookup_token_approx` finds, as a view of this map. Takes no memory.
     pub fn lookup_source_view_token_approx(
         &self,
@@ -134,5 +161,68 @@ impl<'a> SourceMap<'a> {
         ensures clamped { IsNone result → slice_of (lent_items lookup_table.now) line ≡ [] }
     {
         self.view_token(self.lookup_token_approx(lookup_table, line, col))
+    }
+
+    /// The index in this map of the token that `lookup_token` finds.
+    ///
+    /// Pass the table that `generate_lookup_table` makes of this map, whose tokens must be sorted: for another table, or other
+    /// tokens, the result is the index of some token of this map, or None. Takes no memory.
+    pub fn lookup_token_index(
+        &self,
+        lookup_table: &[&[Token]],
+        line: u32,
+        col: u32,
+    ) -> Option<usize>
+        ensures own_table { IfOwnTable self.now.tokens (lent_items lookup_table.now)
+            (result ≡ index_for self.now.tokens line col) }
+        ensures token { IfOwnTable self.now.tokens (lent_items lookup_table.now)
+            (option_and_then (slice_get self.now.tokens) result
+            ≡ token_for self.now.tokens line col) }
+        ensures within { IfSome result (λ i. i < length self.now.tokens) }
+    {
+        let index = search_index(slice_of(lookup_table, line), col);
+        index_from_line(self.parts.tokens.as_slice(), line, index)
+    }
+
+    /// The index in this map of the token that `lookup_token_approx` finds.
+    ///
+    /// Pass the table that `generate_lookup_table` makes of this map, whose tokens must be sorted: for another table, or other
+    /// tokens, the result is the index of some token of this map, or None. Takes no memory.
+    pub fn lookup_token_index_approx(
+        &self,
+        lookup_table: &[&[Token]],
+        line: u32,
+        col: u32,
+    ) -> Option<usize>
+        ensures own_table { IfOwnTable self.now.tokens (lent_items lookup_table.now)
+            (result ≡ clamped_index_for self.now.tokens line col) }
+        ensures token { IfOwnTable self.now.tokens (lent_items lookup_table.now)
+            (option_and_then (slice_get self.now.tokens) result
+            ≡ clamped_token_for self.now.tokens line col) }
+        ensures within { IfSome result (λ i. i < length self.now.tokens) }
+    {
+        let index = search_index_clamped(slice_of(lookup_table, line), col);
+        index_from_line(self.parts.tokens.as_slice(), line, index)
+    }
+
+    /// The index in this map of the token that `lookup_token_after` finds.
+    ///
+    /// Pass the table that `generate_lookup_table` makes of this map, whose tokens must be sorted: for another table, or other
+    /// tokens, the result is the index of some token of this map, or None. Takes no memory.
+    pub fn lookup_token_index_after(
+        &self,
+        lookup_table: &[&[Token]],
+        line: u32,
+        col: u32,
+    ) -> Option<usize>
+        ensures own_table { IfOwnTable self.now.tokens (lent_items lookup_table.now)
+            (result ≡ index_after self.now.tokens line col) }
+        ensures token { IfOwnTable self.now.tokens (lent_items lookup_table.now)
+            (option_and_then (slice_get self.now.tokens) result
+            ≡ token_after self.now.tokens line col) }
+        ensures within { IfSome result (λ i. i < length self.now.tokens) }
+    {
+        let index = search_index_after(slice_of(lookup_table, line), col, &mut 0);
+        index_from_line(self.parts.tokens.as_slice(), line, index)
     }
 }

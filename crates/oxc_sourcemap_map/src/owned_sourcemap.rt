@@ -11,13 +11,16 @@ ghost use Rattle.oxc_sourcemap_map.specs.Words.{SomeComposition, NoColumnGoesBac
 ghost use Rattle.oxc_sourcemap_map.specs.Words.{clamped_trace, view_of, seen_in, view_original};
 ghost use Rattle.oxc_sourcemap_map.specs.Words.{content_at, source_and_content_at, the_row};
 ghost use Rattle.oxc_sourcemap_map.specs.Words.{map_row, Answers, OnlyMemory, Reports, lent_items};
-ghost use Rattle.oxc_sourcemap_map.specs.Words.{lent_item, appended, rooted};
+ghost use Rattle.oxc_sourcemap_map.specs.Words.{lent_item, appended, rooted, at_or_after};
+ghost use Rattle.oxc_sourcemap_map.specs.Words.{token_after, index_for, clamped_index_for};
+ghost use Rattle.oxc_sourcemap_map.specs.Words.{index_after};
 ghost use Rattle.std.specs.Prelude.{◌≡◌, ◌≢◌, List, [], map, option_map, slice_get, string_bytes};
 ghost use Rattle.std.specs.Prelude.{IfOk, IfErr, IfSome, IsNone, Ok, Err, Some, OnOk, OnErr, ◌↔◌};
-ghost use Rattle.std.specs.Prelude.{true};
+ghost use Rattle.std.specs.Prelude.{true, ◌<◌, length};
 ghost use Rattle.std.specs.Borrow.{Lends, sem};
 ghost use Rattle.std.specs.Iterator.{IsFinite, Drains};
 ghost use Rattle.std.specs.List.{Contains};
+ghost use Rattle.std.specs.Option.{option_and_then};
 
 use crate::source_view_token::SourceViewToken;
 use crate::sourcemap::SourceMap;
@@ -426,6 +429,28 @@ impl OwnedSourceMap {
         self.inner.lookup_token_approx(lookup_table, line, col)
     }
 
+    /// The first token at or after a generated position on its line (line and column from 0, the column in UTF-16 code units): of
+    /// the tokens at the least column that is not before `col`, the last if that is `col`, else the first. None if there is none
+    /// on the line. On a line whose columns go back, it is some token of the line, or None.
+    ///
+    /// Pass the table that `generate_lookup_table` makes of this map: only the table is read, so the table of another map
+    /// gives tokens of that map. Takes no memory.
+    pub fn lookup_token_after(
+        &self,
+        lookup_table: &[&[Token]],
+        line: u32,
+        col: u32,
+    ) -> Option<Token>
+        ensures found { let tokens = slice_of (lent_items lookup_table.now) line in
+            no_column_goes_back token_column tokens ≡ true
+            → result ≡ at_or_after token_column tokens col }
+        ensures among { IfSome result (Contains (slice_of (lent_items lookup_table.now) line)) }
+        ensures own_table { IfOwnTable self.now.tokens (lent_items lookup_table.now)
+            (result ≡ token_after self.now.tokens line col) }
+    {
+        self.inner.lookup_token_after(lookup_table, line, col)
+    }
+
     /// The token that `lookup_token_approx` finds, as a view of this map. Takes no memory.
     pub fn lookup_source_view_token_approx(
         &self,
@@ -450,6 +475,67 @@ impl OwnedSourceMap {
     {
         self.inner
             .lookup_source_view_token_approx(lookup_table, line, col)
+    }
+
+    /// The index in this map of the token that `lookup_token` finds.
+    ///
+    /// Pass the table that `generate_lookup_table` makes of this map, whose tokens must be sorted: for another table, or other
+    /// tokens, the result is the index of some token of this map, or None. Takes no memory.
+    pub fn lookup_token_index(
+        &self,
+        lookup_table: &[&[Token]],
+        line: u32,
+        col: u32,
+    ) -> Option<usize>
+        ensures own_table { IfOwnTable self.now.tokens (lent_items lookup_table.now)
+            (result ≡ index_for self.now.tokens line col) }
+        ensures token { IfOwnTable self.now.tokens (lent_items lookup_table.now)
+            (option_and_then (slice_get self.now.tokens) result
+            ≡ token_for self.now.tokens line col) }
+        ensures within { IfSome result (λ i. i < length self.now.tokens) }
+    {
+        self.inner.lookup_token_index(lookup_table, line, col)
+    }
+
+    /// The index in this map of the token that `lookup_token_approx` finds.
+    ///
+    /// Pass the table that `generate_lookup_table` makes of this map, whose tokens must be sorted: for another table, or other
+    /// tokens, the result is the index of some token of this map, or None. Takes no memory.
+    pub fn lookup_token_index_approx(
+        &self,
+        lookup_table: &[&[Token]],
+        line: u32,
+        col: u32,
+    ) -> Option<usize>
+        ensures own_table { IfOwnTable self.now.tokens (lent_items lookup_table.now)
+            (result ≡ clamped_index_for self.now.tokens line col) }
+        ensures token { IfOwnTable self.now.tokens (lent_items lookup_table.now)
+            (option_and_then (slice_get self.now.tokens) result
+            ≡ clamped_token_for self.now.tokens line col) }
+        ensures within { IfSome result (λ i. i < length self.now.tokens) }
+    {
+        self.inner
+            .lookup_token_index_approx(lookup_table, line, col)
+    }
+
+    /// The index in this map of the token that `lookup_token_after` finds.
+    ///
+    /// Pass the table that `generate_lookup_table` makes of this map, whose tokens must be sorted: for another table, or other
+    /// tokens, the result is the index of some token of this map, or None. Takes no memory.
+    pub fn lookup_token_index_after(
+        &self,
+        lookup_table: &[&[Token]],
+        line: u32,
+        col: u32,
+    ) -> Option<usize>
+        ensures own_table { IfOwnTable self.now.tokens (lent_items lookup_table.now)
+            (result ≡ index_after self.now.tokens line col) }
+        ensures token { IfOwnTable self.now.tokens (lent_items lookup_table.now)
+            (option_and_then (slice_get self.now.tokens) result
+            ≡ token_after self.now.tokens line col) }
+        ensures within { IfSome result (λ i. i < length self.now.tokens) }
+    {
+        self.inner.lookup_token_index_after(lookup_table, line, col)
     }
 
     /// The parts of this map, unchanged. Takes no memory.

@@ -3,7 +3,7 @@ use Rattle.std.specs.List.{prefix_len}
 use Rattle.oxc_sourcemap_parts.specs.Sorted.{token_column}
 use Rattle.oxc_sourcemap_lookup.specs.Digits.{binary_digits}
 use Rattle.oxc_sourcemap_lookup.specs.Lookup.{no_column_goes_back}
-use Rattle.oxc_sourcemap_lookup.proofs.lookup.count_before.Given as goal
+use Rattle.oxc_sourcemap_lookup.proofs.lookup.count_below.Given as goal
 
 abbrev pub invariant-loop-size : goal.invariant-loop-size
 invariant-loop-size l = record {

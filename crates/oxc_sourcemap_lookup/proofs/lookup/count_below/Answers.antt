@@ -4,7 +4,7 @@ use Rattle.std.proofs.lemmas.Grind.{common_steps}
 use Rattle.oxc_sourcemap_parts.specs.Sorted.{token_column}
 use Rattle.oxc_sourcemap_lookup.proofs.Halving.{digits-half, digits-below, before-all, chosen}
 use Rattle.oxc_sourcemap_lookup.proofs.Halving.{halved}
-use Rattle.oxc_sourcemap_lookup.proofs.lookup.count_before.Goals as goal
+use Rattle.oxc_sourcemap_lookup.proofs.lookup.count_below.Goals as goal
 
 pub loop-size-init : goal.loop-size-init
 loop-size-init c =

@@ -1,0 +1,171 @@
+-- Indices of what the lookups on a line find.
+use Rattle.std.proofs.Common.{◌≡◌, refl, sym, ap, ◌∙◌, ℕ, zero, suc, ◌+◌, ◌-◌, ◌<◌, ◌≤◌, Bool}
+use Rattle.std.proofs.Common.{true, false, List, [], ◌∷◌, length, slice_get}
+use Rattle.std.proofs.Common.{Option, Some, None, option_map, nat_lt, ◌==◌, ◌≢◌, arith}
+use Rattle.std.proofs.Common.{if◌then◌else◌, get_or}
+use Rattle.std.proofs.lemmas.Option.{slice_get_read}
+use Rattle.std.specs.Option.{option_or}
+use Rattle.oxc_sourcemap_tokens.specs.Token.{TokenRecord}
+use Rattle.oxc_sourcemap_parts.specs.Sorted.{token_column}
+use Rattle.oxc_sourcemap_lookup.specs.Lookup.{first, at, no_column_goes_back}
+use Rattle.oxc_sourcemap_lookup.specs.Lookup.{numbered_from, numbered, numbered_column}
+use Rattle.oxc_sourcemap_lookup.specs.Lookup.{index_at, index_at_or_after, clamped_index_at}
+use Rattle.oxc_sourcemap_lookup.proofs.Halving.{before-earlier}
+use Rattle.oxc_sourcemap_lookup.proofs.Cuts.{cut, here_or, get_before, at-cut, after-cut}
+
+pub numbered-goes_on : (i : ℕ) (ts : List TokenRecord) → no_column_goes_back numbered_column (numbered_from i ts) ≡ no_column_goes_back token_column ts
+numbered-goes_on i [] = refl
+numbered-goes_on i (t ∷ []) = refl
+numbered-goes_on i (t ∷ u ∷ ts) =
+    let more = numbered-goes_on (i + 1) (u ∷ ts) in
+    rw more
+
+numbered-cut-by : (b : Bool) (i col : ℕ) (t : TokenRecord) (ts : List TokenRecord) → nat_lt t.dst_col col ≡ b → cut numbered_column col (numbered_from (i + 1) ts) ≡ cut token_column col ts
+    → cut numbered_column col (numbered_from i (t ∷ ts)) ≡ cut token_column col (t ∷ ts)
+numbered-cut-by true i col t ts e more = rw e (ap (λ n. 1 + n) more)
+numbered-cut-by false i col t ts e more = rw e refl
+
+pub numbered-cut : (i col : ℕ) (ts : List TokenRecord) → cut numbered_column col (numbered_from i ts) ≡ cut token_column col ts
+numbered-cut i col [] = refl
+numbered-cut i col (t ∷ ts) = numbered-cut-by (nat_lt t.dst_col col) i col t ts refl (numbered-cut (i + 1) col ts)
+
+pub numbered-get : (i k : ℕ) (ts : List TokenRecord) → slice_get (numbered_from i ts) k ≡ option_map (λ t. (i + k, t)) (slice_get ts k)
+numbered-get i k [] = refl
+numbered-get i zero (t ∷ ts) = (let same : i ≡ i + 0 = omega arith in ap (λ n. Some (n, t)) same)
+numbered-get i (suc k) (t ∷ ts) =
+    let same : i + 1 + k ≡ i + suc k = omega arith in
+    numbered-get (i + 1) k ts ∙ ap (λ n. option_map (λ t. (n, t)) (slice_get ts k)) same
+
+-- this index if the token is at the column, else the other one
+abbrev pub index_here_or : ℕ → ℕ → Option TokenRecord → Option ℕ → Option ℕ
+index_here_or col n None other = other
+index_here_or col n (Some t) other = if t.dst_col == col then Some n else other
+
+-- the index before, if there is one
+abbrev pub index_before : ℕ → Option ℕ
+index_before n = if nat_lt 0 n then Some (n - 1) else None
+
+-- an index, if it is in range
+abbrev pub index_within : List TokenRecord → ℕ → Option ℕ
+index_within ts n = if nat_lt n (length ts) then Some n else None
+
+here-some : (b : Bool) (col n : ℕ) (t : TokenRecord) (p : Option (ℕ × TokenRecord)) → (t.dst_col == col) ≡ b
+    → option_map (λ p. p.0) (here_or numbered_column col (Some (n, t)) p) ≡ index_here_or col n (Some t) (option_map (λ p. p.0) p)
+here-some true col n t p e = rw e refl
+here-some false col n t p e = rw e refl
+
+here-index : (col n : ℕ) (o : Option TokenRecord) (p : Option (ℕ × TokenRecord))
+    → option_map (λ p. p.0) (here_or numbered_column col (option_map (λ t. (n, t)) o) p) ≡ index_here_or col n o (option_map (λ p. p.0) p)
+here-index col n None p = refl
+here-index col n (Some t) p = here-some (t.dst_col == col) col n t p refl
+
+index-get : (i n : ℕ) (ts : List TokenRecord) → n < length ts → option_map (λ p. p.0) (slice_get (numbered_from i ts) n) ≡ Some (i + n)
+index-get i n [] h = absurd (omega (arith, h))
+index-get i zero (t ∷ ts) h = (let same : i ≡ i + 0 = omega arith in ap Some same)
+index-get i (suc n) (t ∷ ts) h = (let same : i + 1 + n ≡ i + suc n = omega arith in index-get (i + 1) n ts (omega (arith, h)) ∙ ap Some same)
+
+index-past : (i n : ℕ) (ts : List TokenRecord) → length ts ≤ n → option_map (λ p. p.0) (slice_get (numbered_from i ts) n) ≡ None
+index-past i n [] h = refl
+index-past i zero (t ∷ ts) h = absurd (omega (arith, h))
+index-past i (suc n) (t ∷ ts) h = index-past (i + 1) n ts (omega (arith, h))
+
+get-within-by : (b : Bool) (n : ℕ) (ts : List TokenRecord) → nat_lt n (length ts) ≡ b → option_map (λ p. p.0) (slice_get (numbered ts) n) ≡ index_within ts n
+get-within-by true n ts e =
+    let same : 0 + n ≡ n = omega arith in
+    index-get 0 n ts (grind (arith, e)) ∙ ap Some same ∙ rw e refl
+get-within-by false n ts e = index-past 0 n ts (grind (arith, e)) ∙ rw e refl
+
+get-before-is : (n : ℕ) (ts : List TokenRecord) → n ≤ length ts → option_map (λ p. p.0) (get_before numbered_column (numbered ts) n) ≡ index_before n
+get-before-is zero ts h = refl
+get-before-is (suc n) ts h = index-get 0 n ts (omega (arith, h)) ∙ grind (arith)
+
+-- the lookup of a column, by index
+pub index-at : (col n : ℕ) (ts : List TokenRecord) → no_column_goes_back token_column ts ≡ true → n ≡ cut token_column col ts → n ≤ length ts
+    → index_at ts col ≡ index_here_or col n (slice_get ts n) (index_before n)
+index-at col n ts g e h =
+    let xs = numbered ts in
+    let same = numbered-cut 0 col ts ∙ sym e in
+    let start : 0 + n ≡ n = omega arith in
+    ap (option_map (λ p. p.0)) (at-cut numbered_column col xs (numbered-goes_on 0 ts ∙ g)
+    ∙ ap (λ k. here_or numbered_column col (slice_get xs k) (get_before numbered_column xs k)) same
+    ∙ ap (λ o. here_or numbered_column col o (get_before numbered_column xs n)) (numbered-get 0 n ts))
+    ∙ here-index col (0 + n) (slice_get ts n) (get_before numbered_column xs n)
+    ∙ ap (λ k. index_here_or col k (slice_get ts n) (option_map (λ p. p.0) (get_before numbered_column xs n))) start
+    ∙ ap (index_here_or col n (slice_get ts n)) (get-before-is n ts h)
+
+here-before : (col n : ℕ) (ts : List TokenRecord) (p : Option (ℕ × TokenRecord))
+    → option_map (λ p. p.0) (here_or numbered_column col (get_before numbered_column (numbered ts) n) p) ≡ index_here_or col (n - 1) (get_before token_column ts n) (option_map (λ p. p.0) p)
+here-before col zero ts p = refl
+here-before col (suc n) ts p =
+    let start : 0 + n ≡ suc n - 1 = omega arith in
+    ap (λ o. option_map (λ p. p.0) (here_or numbered_column col o p)) (numbered-get 0 n ts)
+    ∙ here-index col (0 + n) (slice_get ts n) p
+    ∙ ap (λ k. index_here_or col k (slice_get ts n) (option_map (λ p. p.0) p)) start
+
+-- the lookup from a column on, by index
+pub index-after : (col n : ℕ) (ts : List TokenRecord) → no_column_goes_back token_column ts ≡ true → n ≡ cut token_column (col + 1) ts
+    → index_at_or_after ts col ≡ index_here_or col (n - 1) (get_before token_column ts n) (index_within ts n)
+index-after col n ts g e =
+    let xs = numbered ts in
+    let same = numbered-cut 0 (col + 1) ts ∙ sym e in
+    ap (option_map (λ p. p.0)) (after-cut numbered_column col xs (numbered-goes_on 0 ts ∙ g)
+    ∙ ap (λ k. here_or numbered_column col (get_before numbered_column xs k) (slice_get xs k)) same)
+    ∙ here-before col n ts (slice_get xs n)
+    ∙ ap (index_here_or col (n - 1) (get_before token_column ts n)) (get-within-by (nat_lt n (length ts)) n ts refl)
+
+pub before-get : (n : ℕ) (ts : List TokenRecord) → 0 < n → get_before token_column ts n ≡ slice_get ts (n - 1)
+before-get zero ts h = absurd (omega (arith, h))
+before-get (suc n) ts h = (let same : n ≡ suc n - 1 = omega arith in ap (slice_get ts) same)
+
+-- the index that is looked up, by whether there is a token in the column
+pub index-here : (col n : ℕ) (o : Option TokenRecord) (other : Option ℕ) → option_map token_column o ≡ Some col → index_here_or col n o other ≡ Some n
+index-here col n None other h = absurd (cc (h))
+index-here col n (Some t) other h = (let same : (t.dst_col == col) ≡ true = grind (arith, h) in rw same refl)
+
+pub index-elsewhere : (col n : ℕ) (o : Option TokenRecord) (other : Option ℕ) → (option_map token_column o ≡ Some col → ⊥) → index_here_or col n o other ≡ other
+index-elsewhere col n None other h = refl
+index-elsewhere col n (Some t) other h = (let same : (t.dst_col == col) ≡ false = grind (arith, h) in rw same refl)
+
+pub column-of : (ts : List TokenRecord) (n col : ℕ) (t : TokenRecord) → 0 < n → n ≤ length ts → t ≡ get_or ts (n - 1) t → t.dst_col ≡ col
+    → option_map token_column (get_before token_column ts n) ≡ Some col
+column-of ts n col t some within read same =
+    ap (option_map token_column) (before-get n ts some ∙ slice_get_read ts (length ts) (n - 1) t refl (omega (arith, some, within)) read) ∙ ap Some same
+
+pub column-not : (ts : List TokenRecord) (n col : ℕ) (t : TokenRecord) → 0 < n → n ≤ length ts → t ≡ get_or ts (n - 1) t → t.dst_col ≢ col
+    → option_map token_column (get_before token_column ts n) ≡ Some col → ⊥
+column-not ts n col t some within read other h =
+    let is = ap (option_map token_column) (before-get n ts some ∙ slice_get_read ts (length ts) (n - 1) t refl (omega (arith, some, within)) read) in
+    let same : Some t.dst_col ≡ Some col = sym is ∙ h in
+    grind (arith, same, other)
+
+pub column-none : (ts : List TokenRecord) (n col : ℕ) → n ≡ 0 → option_map token_column (get_before token_column ts n) ≡ Some col → ⊥
+column-none ts n col e h = (let none : None ≡ Some col = sym (ap (λ k. option_map token_column (get_before token_column ts k)) e) ∙ h in cc (none))
+
+or-index : (o p : Option (ℕ × TokenRecord)) → option_map (λ p. p.0) (option_or o p) ≡ option_or (option_map (λ p. p.0) o) (option_map (λ p. p.0) p)
+or-index None p = refl
+or-index (Some x) p = refl
+
+first-index : (ts : List TokenRecord) → option_map (λ p. p.0) (first (numbered ts)) ≡ index_within ts 0
+first-index [] = refl
+first-index (t ∷ ts) = grind (arith)
+
+-- the clamped lookup of a column, by index
+pub index-clamped : (col : ℕ) (ts : List TokenRecord) → clamped_index_at ts col ≡ option_or (index_at ts col) (index_within ts 0)
+index-clamped col ts =
+    let xs = numbered ts in
+    or-index (at numbered_column xs col) (first xs) ∙ ap (option_or (index_at ts col)) (first-index ts)
+
+at-most-by : (b : Bool) (ts : List TokenRecord) (n col : ℕ) (t : TokenRecord) → nat_lt t.dst_col (col + 1) ≡ b → 0 < n → n ≤ length ts → t ≡ get_or ts (n - 1) t
+    → n ≡ cut token_column (col + 1) ts → t.dst_col ≤ col
+at-most-by true ts n col t e some within read count = grind (arith, e)
+at-most-by false ts n col t e some within read count =
+    let past : col + 1 ≤ t.dst_col = grind (arith, e) in
+    let most = before-earlier (col + 1) ts (n - 1) t (omega (arith, some, within)) (omega (arith, past, ap token_column read)) in
+    absurd (omega (arith, most, count, some))
+
+-- the last of the tokens that are not past a column is in it, if it is not before it
+pub column-from : (ts : List TokenRecord) (n col : ℕ) (t : TokenRecord) → 0 < n → n ≤ length ts → t ≡ get_or ts (n - 1) t → n ≡ cut token_column (col + 1) ts → col ≤ t.dst_col
+    → option_map token_column (get_before token_column ts n) ≡ Some col
+column-from ts n col t some within read count le =
+    let most = at-most-by (nat_lt t.dst_col (col + 1)) ts n col t refl some within read count in
+    column-of ts n col t some within read (omega (arith, le, most))

@@ -1,14 +1,11 @@
 -- Lines, cut one after the other.
 use Rattle.std.proofs.Common.{◌≡◌, ℕ, ◌+◌, ◌<◌, ◌≤◌, true, false, List, [], ◌∷◌, ◌++◌, length, take}
-use Rattle.std.proofs.Common.{drop, get_or, map, option_map, Option, Some, None, Vec, Global, refl}
-use Rattle.std.proofs.Common.{sym, ap, ◌∙◌, add-one, if◌then◌else◌}
+use Rattle.std.proofs.Common.{drop, get_or, refl, sym, ap, add-one, if◌then◌else◌}
 use Rattle.std.proofs.Math.Seq.{drop-cons}
 use Rattle.std.proofs.lemmas.List.{take_more, drop_all, take_all}
 use Rattle.std.proofs.lemmas.List.{append-nil}
 use mathlib.Core.List.{append_assoc}
-use Rattle.oxc_sourcemap_parts.specs.Record.{Text}
-use Rattle.oxc_sourcemap_visualizer.specs.TextLines.{units_of, ends_line, onto_first, lines_of}
-use Rattle.oxc_sourcemap_visualizer.specs.TextLines.{text_lines}
+use Rattle.oxc_sourcemap_text.specs.TextLines.{ends_line, onto_first, lines_of}
 
 -- these lines, with units put before the first line
 abbrev pub before_first : List ℕ → List (List ℕ) → List (List ℕ)
@@ -53,13 +50,3 @@ cut-here units i h e = rw (opened units i h, take_more units i 0 h, lines-end (g
 pub cut-nowhere : (units : List ℕ) (i : ℕ) → length units ≤ i → before_first (take i units) (lines_of (drop i units)) ≡ units ∷ []
 unfolding lines_of
 cut-nowhere units i h = rw (drop_all i units h, take_all i units h, append-nil units)
-
-known-twice : {A B C : Type 0} (f : A → B) (g : B → C) (xs : List (Option A)) → map (option_map g) (map (option_map f) xs) ≡ map (option_map (λ x. g (f x))) xs
-known-twice f g [] = refl
-known-twice f g (None ∷ xs) = ap (λ ys. None ∷ ys) (known-twice f g xs)
-known-twice f g (Some x ∷ xs) = ap (λ ys. Some (g (f x)) ∷ ys) (known-twice f g xs)
-
--- contents whose units were taken first, and then cut into lines
-pub cut-known : (units : List (Option (Vec ℕ Global))) (contents : List (Option Text)) → map (option_map (λ v. v.items)) units ≡ map (option_map units_of) contents
-    → map (option_map (λ v. lines_of v.items)) units ≡ map (option_map text_lines) contents
-cut-known units contents e = sym (known-twice (λ v. v.items) lines_of units) ∙ ap (map (option_map lines_of)) e ∙ known-twice units_of lines_of contents

@@ -1,13 +1,12 @@
--- The lines of a text, in UTF-16 units (docs/FORMAT.md, "The visual text").
+-- The lines of a text, in UTF-16 units (docs/FORMAT.md, "Positions in a text"). A text is given by its bytes.
 use Rattle.std.specs.Prelude.{ℕ, Bool, false, not, ◌&&◌, ◌||◌, List, [], ◌∷◌, flat_map, slice_get}
 use Rattle.std.specs.Prelude.{if◌then◌else◌, ◌==◌}
 use Rattle.std.specs.Option.{unwrap_or}
 use Rattle.std.specs.Str.{chars}
 use Rattle.std.specs.Char.Escape.{encode_utf16}
-use Rattle.oxc_sourcemap_parts.specs.Record.{Text}
 
 -- the UTF-16 units of a text, in which columns are counted
-abbrev pub units_of : Text → List ℕ
+abbrev pub units_of : List ℕ → List ℕ
 units_of text = flat_map encode_utf16 (chars text)
 
 -- these units begin with a line feed
@@ -30,7 +29,7 @@ lines_of [] = [] ∷ []
 lines_of (unit ∷ after) = if ends_line unit after then (unit ∷ []) ∷ lines_of after else onto_first unit (lines_of after)
 
 -- the lines of a text
-abbrev pub text_lines : Text → List (List ℕ)
+abbrev pub text_lines : List ℕ → List (List ℕ)
 text_lines text = lines_of (units_of text)
 
 -- the line of this number, from 0; one that is not there is empty

@@ -1,13 +1,13 @@
 //! The lines of a text, in UTF-16 units.
 ghost use Rattle.std.specs.Prelude.{◌≡◌, ◌+◌, ◌<◌, ◌≤◌, ◌∷◌, [], length, take, drop, slice_index};
 ghost use Rattle.std.specs.Prelude.{IfSome, IsNone, IfOk};
-ghost use Rattle.oxc_sourcemap_visualizer.specs.Words.{units_of, ends_line, lines_of, line_at};
+ghost use Rattle.oxc_sourcemap_text.specs.Words.{units_of, ends_line, lines_of, line_at};
 
 use std::alloc::{AllocError, Global};
 use std::marker::Model;
 
 /// The UTF-16 units of a text.
-pub(crate) fn utf16_units(alloc: Global, text: &str) -> Result<Vec<u16>, AllocError>
+pub fn utf16_units(alloc: Global, text: &str) -> Result<Vec<u16>, AllocError>
     ensures { IfOk result (λ units. units.items ≡ units_of text.now) }
 {
     let mut units = Vec::with_capacity(alloc, text.len())?;
@@ -20,7 +20,7 @@ pub(crate) fn utf16_units(alloc: Global, text: &str) -> Result<Vec<u16>, AllocEr
 
 /// The lines of a text. Each is a slice of the text's UTF-16 units, with its line end.
 #[derive(Drop)]
-pub(crate) struct Lines<'u> {
+pub struct Lines<'u> {
     lines: Vec<&'u [u16]>,
 }
 
@@ -34,7 +34,7 @@ impl<'u> Model for Lines<'u> {
 
 impl<'u> Lines<'u> {
     /// Cuts a text, given by its UTF-16 units, after each line end. No unit is copied.
-    pub(crate) fn cut(alloc: Global, units: &'u [u16]) -> Result<Lines<'u>, AllocError>
+    pub fn cut(alloc: Global, units: &'u [u16]) -> Result<Lines<'u>, AllocError>
         ensures { IfOk result (λ lines. lines ≡ lines_of units.now) }
     {
         let mut lines = Vec::new(alloc);
@@ -49,7 +49,7 @@ impl<'u> Lines<'u> {
     }
 
     /// The line of this number, from 0; one that is not there is empty.
-    pub(crate) fn line(&self, number: u32) -> &'u [u16]
+    pub fn line(&self, number: u32) -> &'u [u16]
         ensures { result.now ≡ line_at self.now number }
     {
         match self.lines.get(number as usize) {

@@ -1,6 +1,6 @@
 use Rattle.std.proofs.Common.{◌∙◌, sym, arith}
-use Rattle.oxc_sourcemap_visualizer.proofs.Cuts.{before-none, cut-further, cut-here, cut-nowhere}
-use Rattle.oxc_sourcemap_visualizer.proofs.text_lines.first_line_len.Goals as goal
+use Rattle.oxc_sourcemap_text.proofs.Cuts.{before-none, cut-further, cut-here, cut-nowhere}
+use Rattle.oxc_sourcemap_text.proofs.text_lines.first_line_len.Goals as goal
 
 pub loop-i-init : goal.loop-i-init
 loop-i-init c = before-none c.args.units.now

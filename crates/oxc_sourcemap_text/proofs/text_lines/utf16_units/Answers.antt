@@ -3,7 +3,7 @@ use Rattle.std.specs.List.{flat_map}
 use Rattle.std.specs.Char.Escape.{encode_utf16}
 use Rattle.std.proofs.lemmas.Iterator.{YieldsList-from_chars}
 use Rattle.std.proofs.lemmas.Iterator.Consumers.{YieldsList-end}
-use Rattle.oxc_sourcemap_visualizer.proofs.text_lines.utf16_units.Goals as goal
+use Rattle.oxc_sourcemap_text.proofs.text_lines.utf16_units.Goals as goal
 
 pub returns : goal.returns
 returns c =

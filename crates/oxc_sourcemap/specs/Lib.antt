@@ -7,6 +7,7 @@ pub use Rattle.oxc_sourcemap_tokens.specs.declared.position.Position
 pub use Rattle.oxc_sourcemap_json.specs.declared.json_source_map.JSONSourceMap
 pub use Rattle.oxc_sourcemap_parts.specs.declared.parts.SourceMapParts
 pub use Rattle.oxc_sourcemap_map.specs.declared.source_view_token.SourceViewToken
+pub use Rattle.oxc_sourcemap_text.specs.declared.position_error.PositionError
 pub use Rattle.oxc_sourcemap_plan.specs.declared.plan.Plan
 pub use Rattle.oxc_sourcemap_tokens.specs.declared.plan_error.PlanError
 pub use Rattle.oxc_sourcemap_tokens.specs.Token
@@ -51,7 +52,9 @@ pub use Rattle.oxc_sourcemap_map.specs.View
 pub use Rattle.oxc_sourcemap_builders.specs.Built
 pub use Rattle.oxc_sourcemap_builders.specs.Building
 pub use Rattle.oxc_sourcemap_builders.specs.NameLaws
-pub use Rattle.oxc_sourcemap_visualizer.specs.TextLines
+pub use Rattle.oxc_sourcemap_text.specs.TextLines
+pub use Rattle.oxc_sourcemap_text.specs.Positions
+pub use Rattle.oxc_sourcemap_text.specs.PositionLaws
 pub use Rattle.oxc_sourcemap_visualizer.specs.VisualText
 pub use Rattle.oxc_sourcemap_visualizer.specs.Link
 pub use Rattle.oxc_sourcemap_join.specs.Joined

@@ -68,8 +68,8 @@ pub use Rattle.oxc_sourcemap_tokens.specs.declared.error.Error.TheVariants.{OutO
 pub use Rattle.oxc_sourcemap_tokens.specs.declared.error.Error.TheVariants.{SeveralSources}
 pub use Rattle.oxc_sourcemap_tokens.specs.declared.plan_error.PlanError.TheVariants.{Map, Unsorted}
 pub use Rattle.oxc_sourcemap_visualizer.specs.Link.{counted, map_link}
-pub use Rattle.oxc_sourcemap_visualizer.specs.TextLines.{units_of, lines_of, text_lines, ends_line}
-pub use Rattle.oxc_sourcemap_visualizer.specs.TextLines.{line_at}
+pub use Rattle.oxc_sourcemap_text.specs.TextLines.{units_of, lines_of, text_lines, ends_line}
+pub use Rattle.oxc_sourcemap_text.specs.TextLines.{line_at}
 pub use Rattle.oxc_sourcemap_visualizer.specs.VisualText.{is_within, dst_end, src_end}
 pub use Rattle.oxc_sourcemap_visualizer.specs.VisualText.{is_on_source_line, between, part_text}
 pub use Rattle.oxc_sourcemap_visualizer.specs.VisualText.{position_text, mark, heading}

@@ -1,5 +1,5 @@
 pub mod Appends
-pub mod Cuts
+pub mod KnownContents
 pub mod Printing
 pub mod SourceEnds
 mod Worked

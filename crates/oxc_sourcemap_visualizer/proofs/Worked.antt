@@ -7,7 +7,7 @@ use lib.Utf8.{encode}
 use Rattle.base64.specs.Rfc4648.{encode_symbols}
 use Rattle.std.specs.Str.{chars}
 use Rattle.std.specs.Char.Utf16.{utf16_chars}
-use Rattle.oxc_sourcemap_visualizer.specs.TextLines.{lines_of}
+use Rattle.oxc_sourcemap_text.specs.TextLines.{lines_of}
 use Rattle.oxc_sourcemap_visualizer.specs.VisualText.{mapping_text, tokens_text, visual_text}
 use Rattle.oxc_sourcemap_visualizer.specs.Link.{visualization_link}
 

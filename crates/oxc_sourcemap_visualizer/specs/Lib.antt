@@ -1,4 +1,3 @@
-pub mod TextLines
 pub mod VisualText
 pub mod Link
 pub mod Words

@@ -10,7 +10,7 @@ use Rattle.std.specs.Char.Utf16.{utf16_lossy_chars}
 use Rattle.oxc_sourcemap_tokens.specs.Token.{TokenRecord}
 use Rattle.oxc_sourcemap_parts.specs.Record.{Text, MapRecord}
 use Rattle.oxc_sourcemap_map.specs.View.{source_and_content_at}
-use Rattle.oxc_sourcemap_visualizer.specs.TextLines.{line_at, text_lines}
+use Rattle.oxc_sourcemap_text.specs.TextLines.{line_at, text_lines}
 
 -- what a visualizer shows: a generated code and its map
 pub record CodeAndMap : Type 0 where

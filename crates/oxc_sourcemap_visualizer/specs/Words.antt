@@ -3,8 +3,8 @@ pub use Rattle.oxc_sourcemap_parts.specs.Record.{Text}
 pub use Rattle.oxc_sourcemap_tokens.specs.Results.{Answers, OnlyMemory, Pushes, lent_item}
 pub use Rattle.oxc_sourcemap_tokens.specs.declared.error.Error.TheVariants.{OutOfMemory}
 pub use Rattle.oxc_sourcemap_visualizer.specs.Link.{counted, map_link}
-pub use Rattle.oxc_sourcemap_visualizer.specs.TextLines.{units_of, lines_of, text_lines, ends_line}
-pub use Rattle.oxc_sourcemap_visualizer.specs.TextLines.{line_at}
+pub use Rattle.oxc_sourcemap_text.specs.TextLines.{units_of, lines_of, text_lines}
+pub use Rattle.oxc_sourcemap_text.specs.TextLines.{line_at}
 pub use Rattle.oxc_sourcemap_visualizer.specs.VisualText.{is_within, dst_end, src_end}
 pub use Rattle.oxc_sourcemap_visualizer.specs.VisualText.{is_on_source_line, between, part_text}
 pub use Rattle.oxc_sourcemap_visualizer.specs.VisualText.{position_text, mark, heading}

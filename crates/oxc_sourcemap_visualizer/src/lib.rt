@@ -2,6 +2,5 @@
 #![tactic(auto)]
 
 mod sourcemap_visualizer;
-mod text_lines;
 
 pub use sourcemap_visualizer::SourcemapVisualizer;

@@ -12,10 +12,10 @@ ghost use Rattle.oxc_sourcemap_visualizer.specs.Words.{mapping_text, shown, show
 ghost use Rattle.oxc_sourcemap_visualizer.specs.Words.{visual_token_text, tokens_text, visual_text};
 ghost use Rattle.oxc_sourcemap_visualizer.specs.Words.{Answers, OnlyMemory, Pushes, lent_item};
 
-use crate::text_lines::{Lines, utf16_units};
 use base64::engine::general_purpose::STANDARD;
 use oxc_sourcemap_map::SourceMap;
 use oxc_sourcemap_parts::Contents;
+use oxc_sourcemap_text::{Lines, utf16_units};
 use oxc_sourcemap_tokens::{Error, Memory, Result, Token};
 use std::alloc::Global;
 use std::fmt::Write;

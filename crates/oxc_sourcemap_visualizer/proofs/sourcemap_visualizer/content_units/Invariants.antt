@@ -1,5 +1,5 @@
 use Rattle.std.proofs.Common.{◌≡◌, ◌++◌, map, option_map}
-use Rattle.oxc_sourcemap_visualizer.specs.TextLines.{units_of}
+use Rattle.oxc_sourcemap_text.specs.TextLines.{units_of}
 use Rattle.oxc_sourcemap_visualizer.proofs.sourcemap_visualizer.content_units.Given as goal
 
 abbrev pub invariant-loop-content : goal.invariant-loop-content

@@ -1,7 +1,7 @@
 use Rattle.std.proofs.Common.{◌≡◌, map, option_map, arith}
 use Rattle.std.proofs.lemmas.Grind.{common_steps}
-use Rattle.oxc_sourcemap_visualizer.specs.TextLines.{lines_of, text_lines}
-use Rattle.oxc_sourcemap_visualizer.proofs.Cuts.{cut-known}
+use Rattle.oxc_sourcemap_text.specs.TextLines.{lines_of, text_lines}
+use Rattle.oxc_sourcemap_visualizer.proofs.KnownContents.{cut-known}
 use Rattle.oxc_sourcemap_visualizer.proofs.sourcemap_visualizer.SourcemapVisualizer.get_text.Goals as goal
 
 pub push_tokens-requires : goal.push_tokens-requires

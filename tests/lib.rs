@@ -23,5 +23,6 @@ mod remap;
 mod roots;
 mod rows;
 mod shapes;
+mod sorting;
 mod texts;
 mod visualizer;

@@ -62,6 +62,36 @@ const MADE: &[PlanRow] = &[
     ("join 0", &[], Ok(r#"{"version":3,"names":[],"sources":[],"mappings":""}"#)),
 ];
 
+/// A map whose columns go back, with two tokens at one column, and the same sorted.
+const BACK: &str = r#"{"version":3,"sources":["a.js"],"mappings":"GAAA,HACA,GACA"}"#;
+const SORTED: &str = r#"{"version":3,"names":[],"sources":["a.js"],"mappings":"AACA,GADA,AAEA"}"#;
+
+/// Plans that sort maps.
+#[rattlefmt::skip]
+const SORTS: &[PlanRow] = &[
+    ("sort @0", &[UNSORTED], Ok(r#"{"version":3,"names":[],"sources":[],"mappings":"E,C"}"#)),
+    ("sort @0", &[BACK], Ok(SORTED)),
+    ("sort @0", &[JOIN], Ok(JOIN)),
+    ("rewrite sort @0", &[BACK], Ok(SORTED)),
+    ("join 2 sort @0 0 sort @1 1",
+     &[UNSORTED, B],
+     Ok(r#"{"version":3,"names":[],"sources":["b.js"],"mappings":"E,C;AAOC"}"#)),
+    // The second section begins before the greatest column of the first one.
+    ("sort @0",
+     &[r#"{"version":3,"file":"f","sections":[{"offset":{"line":0,"column":0},"map":{"version":3,"sources":["a.js"],"mappings":"GAAA,HACA"}},{"offset":{"line":0,"column":1},"map":{"version":3,"sources":["b.js"],"mappings":"AAOC"}}]}"#],
+     Ok(r#"{"version":3,"file":"f","names":[],"sources":["a.js","b.js"],"mappings":"AACA,CCMC,EDPD"}"#)),
+    ("sort @0", &["{"], Err(RunError::Plan(PlanError::Map(Error::BadJson(JsonFault::Reading))))),
+    ("sort @0",
+     &[r#"{"version":3,"sections":[{"offset":{"line":1,"column":0},"map":{"version":3,"sources":[],"mappings":""}},{"offset":{"line":0,"column":0},"map":{"version":3,"sources":[],"mappings":""}}]}"#],
+     Err(RunError::Plan(PlanError::Map(Error::SectionOrder(1))))),
+    ("join 2 sort @0 0 @0 1", &[UNSORTED], Err(RunError::Plan(PlanError::Unsorted))),
+    ("sort", &["{}"], Err(RunError::Arguments)),
+    ("sort @1", &["{}"], Err(RunError::NoText(1))),
+    ("sort join 0", &["{}"], Err(RunError::Arguments)),
+    ("sort sort @0", &["{}"], Err(RunError::Arguments)),
+    ("sort @0 @0", &["{}"], Err(RunError::Arguments)),
+];
+
 /// Plans that remap maps and apply source roots.
 #[rattlefmt::skip]
 const REMADE: &[PlanRow] = &[

@@ -32,6 +32,8 @@ pub use Rattle.oxc_sourcemap_parts.specs.Texts
 pub use Rattle.oxc_sourcemap_lookup.specs.Digits
 pub use Rattle.oxc_sourcemap_lookup.specs.Lookup
 pub use Rattle.oxc_sourcemap_lookup.specs.Trace
+pub use Rattle.oxc_sourcemap_sort.specs.Sorting
+pub use Rattle.oxc_sourcemap_sort.specs.SortLaws
 pub use Rattle.oxc_sourcemap_json.specs.Json
 pub use Rattle.oxc_sourcemap_json.specs.Shape
 pub use Rattle.oxc_sourcemap_encode.specs.JsonString

@@ -15,6 +15,7 @@ pub use Rattle.oxc_sourcemap_lookup.specs.Lookup.{index_for, clamped_index_for, 
 pub use Rattle.oxc_sourcemap_lookup.specs.Trace.{trace, clamped_trace}
 pub use Rattle.oxc_sourcemap_parts.specs.DecodedMap.{decoded_map_of}
 pub use Rattle.oxc_sourcemap_parts.specs.Roots.{rooted}
+pub use Rattle.oxc_sourcemap_sort.specs.Sorting.{sorted_map}
 pub use Rattle.oxc_sourcemap_parts.specs.Sorted.{are_tokens_sorted, token_column}
 pub use Rattle.oxc_sourcemap_parts.specs.Sound.{IsSound}
 pub use Rattle.oxc_sourcemap_parts.specs.Views.{record_of_parts, empty_record, text_of, texts_of}

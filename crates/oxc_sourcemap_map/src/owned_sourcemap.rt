@@ -13,7 +13,8 @@ ghost use Rattle.oxc_sourcemap_map.specs.Words.{content_at, source_and_content_a
 ghost use Rattle.oxc_sourcemap_map.specs.Words.{map_row, Answers, OnlyMemory, Reports, lent_items};
 ghost use Rattle.oxc_sourcemap_map.specs.Words.{lent_item, appended, rooted, at_or_after};
 ghost use Rattle.oxc_sourcemap_map.specs.Words.{token_after, index_for, clamped_index_for};
-ghost use Rattle.oxc_sourcemap_map.specs.Words.{index_after};
+ghost use Rattle.oxc_sourcemap_map.specs.Words.{index_after, sorted_map};
+ghost use Rattle.std.specs.Prelude.{IsOk};
 ghost use Rattle.std.specs.Prelude.{◌≡◌, ◌≢◌, List, [], map, option_map, slice_get, string_bytes};
 ghost use Rattle.std.specs.Prelude.{IfOk, IfErr, IfSome, IsNone, Ok, Err, Some, OnOk, OnErr, ◌↔◌};
 ghost use Rattle.std.specs.Prelude.{true, ◌<◌, length};
@@ -209,6 +210,19 @@ impl OwnedSourceMap {
         ensures unchanged { OnErr result (self.new ≡ self.old) }
     {
         self.inner.apply_source_root(alloc)
+    }
+
+    /// Sorts the tokens by generated line, then by generated column; tokens at one position stay in their order. Chunks are dropped,
+    /// as they would not fit. A map that is sorted stays as it is, with its chunks, and takes no memory.
+    ///
+    /// Fails only with `OutOfMemory`; the map is then as it was.
+    pub fn sort(&mut self, alloc: Global) -> Result<()>
+        ensures sorted { OnOk result (self.new ≡ sorted_map self.old) }
+        ensures error { OnlyMemory result }
+        ensures unchanged { OnErr result (self.new ≡ self.old) }
+        ensures no_memory { are_tokens_sorted self.old.tokens ≡ true → IsOk result }
+    {
+        self.inner.sort(alloc)
     }
 
     /// The indices of third-party sources, which debuggers may skip.

@@ -1,7 +1,7 @@
 //! The type of a map, without its lookups and composition.
 ghost use Rattle.std.specs.Prelude.{◌≡◌, ◌↔◌, ◌<◌, List, map, option_map, slice_get, IsTrue};
 ghost use Rattle.std.specs.Prelude.{true, string_bytes, IfOk, Ok, Some, None, OnOk};
-ghost use Rattle.std.specs.Prelude.{OnErr};
+ghost use Rattle.std.specs.Prelude.{OnErr, IsOk};
 ghost use Rattle.std.specs.Iterator.{IsFinite, Drains};
 ghost use Rattle.std.specs.Box.{boxed_slice_items};
 ghost use Rattle.oxc_sourcemap_map.specs.Words.{IsInLineOrder};
@@ -12,7 +12,7 @@ ghost use Rattle.oxc_sourcemap_map.specs.Words.{encoded, decoded_map_of, read_ma
 ghost use Rattle.oxc_sourcemap_map.specs.Words.{read_decoded_map, map_text, map_url, view_of};
 ghost use Rattle.oxc_sourcemap_map.specs.Words.{seen_in, content_at, source_and_content_at};
 ghost use Rattle.oxc_sourcemap_map.specs.Words.{Answers, OnlyMemory, Reports, lent_item, appended};
-ghost use Rattle.oxc_sourcemap_map.specs.Words.{rooted};
+ghost use Rattle.oxc_sourcemap_map.specs.Words.{rooted, sorted_map};
 
 use crate::source_view_token::SourceViewToken;
 use crate::view_tokens::ViewTokens;
@@ -25,6 +25,7 @@ use oxc_sourcemap_parts::{
     Contents, Names, SourceMapParts, Sources, Tokens, apply_root, are_sorted, are_sound,
     contents_in, owned_contents, owned_parts, owned_texts, texts_in, tokens_in,
 };
+use oxc_sourcemap_sort::sort_parts;
 use oxc_sourcemap_tokens::{Result, Token, TokenChunk};
 use std::alloc::Global;
 use std::borrow::CowStr;
@@ -257,6 +258,29 @@ impl<'a> SourceMap<'a> {
         ensures unchanged { OnErr result (self.new ≡ self.old) }
     {
         Ok(apply_root(alloc, &mut self.parts)?)
+    }
+
+    /// Sorts the tokens by generated line, then by generated column; tokens at one position stay in their order. Bundlers write
+    /// maps whose columns go back on a line, and lookups want them sorted. Chunks are dropped, as they would not fit. A map that is
+    /// sorted stays as it is, with its chunks, and takes no memory.
+    ///
+    /// ```rust
+    /// use oxc_sourcemap::SourceMap;
+    ///
+    /// let json = r#"{"version":3,"sources":["a.js"],"mappings":"IAAI,JAAJ"}"#;
+    /// let mut map = SourceMap::from_json_string(alloc, json)?;
+    /// map.sort(alloc)?;
+    /// assert_eq!(rt; map.to_json(alloc)?.mappings.as_str(), "AAAA,IAAI");
+    /// ```
+    ///
+    /// Fails only with `OutOfMemory`; the map is then as it was.
+    pub fn sort(&mut self, alloc: Global) -> Result<()>
+        ensures sorted { OnOk result (self.new ≡ sorted_map self.old) }
+        ensures error { OnlyMemory result }
+        ensures unchanged { OnErr result (self.new ≡ self.old) }
+        ensures no_memory { are_tokens_sorted self.old.tokens ≡ true → IsOk result }
+    {
+        Ok(sort_parts(alloc, &mut self.parts)?)
     }
 
     /// The indices of third-party sources, which debuggers may skip.

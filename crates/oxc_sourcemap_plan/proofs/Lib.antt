@@ -7,6 +7,7 @@ pub mod Meanings
 pub mod Reading
 pub mod Parts
 pub mod Answering
+mod Sorting
 mod Worked
 pub mod Digits
 pub mod PlanInputs

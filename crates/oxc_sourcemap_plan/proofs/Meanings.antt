@@ -12,7 +12,8 @@ use Rattle.oxc_sourcemap_plan.specs.declared.plan.Plan.TheViews.{roll-Plan}
 use Rattle.oxc_sourcemap_plan.specs.declared.plan.Plan.TheFolds.{fold-roll-Plan, map-Plan, ind-Plan}
 use Rattle.oxc_sourcemap_plan.specs.Depth.{depth}
 use Rattle.oxc_sourcemap_plan.specs.Meaning.{Meaning, meaning_step, meaning_of, meaning}
-use Rattle.oxc_sourcemap_plan.specs.Meaning.{said_meaning}
+use Rattle.oxc_sourcemap_plan.specs.Meaning.{said_meaning, sorted_said_meaning}
+use Rattle.oxc_sourcemap_plan.specs.Outcome.{sorted_outcome}
 use Rattle.oxc_sourcemap_plan.specs.Meaning.{root_meaning, all_decoded_maps, join_meaning}
 use Rattle.oxc_sourcemap_plan.specs.Meaning.{composition_meaning, by_path, all_inputs}
 use Rattle.oxc_sourcemap_plan.specs.Meaning.{remap_meaning}
@@ -30,6 +31,10 @@ Part = (plan : Plan) × Agrees plan
 of-text : (said : Said) → (read_outcome said).meaning ≡ said_meaning said
 of-text (plain answer) = refl
 of-text (indexed file found) = refl
+
+of-sorted_text : (said : Said) → (sorted_outcome said).meaning ≡ sorted_said_meaning said
+of-sorted_text (plain answer) = refl
+of-sorted_text (indexed file found) = refl
 
 of-lines : (parts : List (Part × ℕ)) → meanings (at_lines (map (λ (p : Plan × ℕ). (outcome_of p.0, p.1)) (map (λ (p : Part × ℕ). (p.0.0, p.1)) parts))) ≡ at_lines (map (λ (p : Plan × ℕ). (meaning_of p.0, p.1)) (map (λ (p : Part × ℕ). (p.0.0, p.1)) parts))
 of-lines [] = refl
@@ -52,6 +57,7 @@ of-inputs (p ∷ inputs) =
 -- the cases agree if the parts do
 same : (y : Plan-F Part) → (outcome_step (map-Plan Plan Outcome outcome_of (map-Plan Part Plan (λ p. p.0) y))).meaning ≡ meaning_step (map-Plan Plan Meaning meaning_of (map-Plan Part Plan (λ p. p.0) y))
 same (Plan-F.Read text) = of-text (said_in text.now)
+same (Plan-F.ReadSorted text) = of-sorted_text (said_in text.now)
 same (Plan-F.Rewrite part) = part.value.1
 same (Plan-F.ApplyRoot part) = ap root_meaning part.value.1
 same (Plan-F.Join parts) = ap (λ ms. join_meaning (all_decoded_maps ms)) (of-lines parts.items)

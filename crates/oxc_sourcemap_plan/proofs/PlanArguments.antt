@@ -18,8 +18,9 @@ use Rattle.oxc_sourcemap_plan.specs.declared.run_error.RunError.TheVariants.{Arg
 use Rattle.oxc_sourcemap_plan.specs.Outcome.{Outcome, read_outcome, rewrite_outcome, root_outcome}
 use Rattle.oxc_sourcemap_plan.specs.Outcome.{join_outcome, composition_outcome, remap_outcome}
 use Rattle.oxc_sourcemap_plan.specs.PlanArguments.{Parsed, whole, then_parsed, parsed_number}
-use Rattle.oxc_sourcemap_plan.specs.PlanArguments.{parsed_line, parsed_position, read_or_fault}
-use Rattle.oxc_sourcemap_plan.specs.PlanArguments.{read_of_number, parsed_input, with_rest}
+use Rattle.oxc_sourcemap_plan.specs.PlanArguments.{parsed_line, parsed_position, text_or_fault}
+use Rattle.oxc_sourcemap_plan.specs.PlanArguments.{text_of_number, parsed_text, parsed_input, parsed_sort}
+use Rattle.oxc_sourcemap_plan.specs.PlanArguments.{with_rest}
 use Rattle.oxc_sourcemap_plan.specs.PlanArguments.{parsed_join_part, parsed_path, parsed_input_part}
 use Rattle.oxc_sourcemap_plan.specs.PlanArguments.{parsed_items, parsed_list, parsed_join}
 use Rattle.oxc_sourcemap_plan.specs.PlanArguments.{parsed_remapping, parsed_by, parsed_part}
@@ -29,16 +30,16 @@ part-named inputs zero argument arguments n = absurd (n refl)
 part-named inputs (suc room) argument arguments n = let e : suc room - 1 ≡ room = omega arith in ap (λ r. parsed_by inputs (parsed_part inputs r) argument arguments) (sym e)
 
 -- ---- the input with a number
-pub text-read : (inputs : List Text) (argument digits : Text) (k : ℕ) (text : Text) → argument ≡ 64 ∷ digits → number_of digits ≡ Some k → slice_get inputs k ≡ Some text → parsed_input inputs argument ≡ Ok (read_outcome (said_in text))
-text-read inputs argument digits k text e n g = ap (parsed_input inputs) e ∙ ap (read_of_number inputs) n ∙ ap (λ t. read_or_fault t k) g
+pub text-read : (inputs : List Text) (argument digits : Text) (k : ℕ) (text : Text) → argument ≡ 64 ∷ digits → number_of digits ≡ Some k → slice_get inputs k ≡ Some text → parsed_text inputs argument ≡ Ok text
+text-read inputs argument digits k text e n g = ap (parsed_text inputs) e ∙ ap (text_of_number inputs) n ∙ ap (λ t. text_or_fault t k) g
 
-pub text-missing : (inputs : List Text) (argument digits : Text) (k : ℕ) → argument ≡ 64 ∷ digits → number_of digits ≡ Some k → slice_get inputs k ≡ None → parsed_input inputs argument ≡ Err (NoText k)
-text-missing inputs argument digits k e n g = ap (parsed_input inputs) e ∙ ap (read_of_number inputs) n ∙ ap (λ t. read_or_fault t k) g
+pub text-missing : (inputs : List Text) (argument digits : Text) (k : ℕ) → argument ≡ 64 ∷ digits → number_of digits ≡ Some k → slice_get inputs k ≡ None → parsed_text inputs argument ≡ Err (NoText k)
+text-missing inputs argument digits k e n g = ap (parsed_text inputs) e ∙ ap (text_of_number inputs) n ∙ ap (λ t. text_or_fault t k) g
 
-pub text-bad : (inputs : List Text) (argument : Text) → ((digits : Text) → argument ≢ 64 ∷ digits) → parsed_input inputs argument ≡ Err Arguments
+pub text-bad : (inputs : List Text) (argument : Text) → ((digits : Text) → argument ≢ 64 ∷ digits) → parsed_text inputs argument ≡ Err Arguments
 text-bad inputs [] n = refl
 text-bad inputs (byte ∷ digits) n =
-    elim (byte == 64) as (λ b. byte == 64 ≡ b → cond b (read_of_number inputs (number_of digits)) (Err Arguments) ≡ Err Arguments) [
+    elim (byte == 64) as (λ b. byte == 64 ≡ b → cond b (text_of_number inputs (number_of digits)) (Err Arguments) ≡ Err Arguments) [
       | true ↦ (λ t. let e : byte ≡ 64 = grind (arith, nat_tests) in absurd (n digits (ap (λ b. b ∷ digits) e)))
       | false ↦ (λ t. refl)
     ] refl
@@ -71,9 +72,12 @@ module _ (inputs : List Text) (part : List Text → Parsed Outcome) (argument : 
   pub named-remap : argument ≡ codes "remap" → parsed_by inputs part argument arguments ≡ parsed_remapping part arguments
   named-remap e = ap (λ w. parsed_by inputs part w arguments) e
 
-  pub named-text : (argument ≡ codes "rewrite" → ⊥) → (argument ≡ codes "root" → ⊥) → (argument ≡ codes "join" → ⊥) → (argument ≡ codes "joinat" → ⊥) → (argument ≡ codes "compose" → ⊥) → (argument ≡ codes "remap" → ⊥)
+  pub named-sort : argument ≡ codes "sort" → parsed_by inputs part argument arguments ≡ parsed_sort inputs arguments
+  named-sort e = ap (λ w. parsed_by inputs part w arguments) e
+
+  pub named-text : (argument ≡ codes "rewrite" → ⊥) → (argument ≡ codes "root" → ⊥) → (argument ≡ codes "join" → ⊥) → (argument ≡ codes "joinat" → ⊥) → (argument ≡ codes "compose" → ⊥) → (argument ≡ codes "remap" → ⊥) → (argument ≡ codes "sort" → ⊥)
       → parsed_by inputs part argument arguments ≡ with_rest (parsed_input inputs argument) arguments
-  named-text a b c d e f = rw (differ argument (codes "rewrite") a, differ argument (codes "root") b, differ argument (codes "join") c, differ argument (codes "joinat") d, differ argument (codes "compose") e, differ argument (codes "remap") f) refl
+  named-text a b c d e f g = rw (differ argument (codes "rewrite") a, differ argument (codes "root") b, differ argument (codes "join") c, differ argument (codes "joinat") d, differ argument (codes "compose") e, differ argument (codes "remap") f, differ argument (codes "sort") g) refl
 
 -- ---- items, as far as they have come
 module _ {A : Type 0} (item : List Text → Parsed A) where

@@ -19,7 +19,8 @@ use Rattle.oxc_sourcemap_plan.specs.Meaning.{by_path}
 use Rattle.oxc_sourcemap_plan.specs.Outcome.{Outcome, outcome_of, outcomes, outcome_step}
 use Rattle.oxc_sourcemap_plan.specs.Outcome.{read_outcome, rewrite_outcome, root_outcome}
 use Rattle.oxc_sourcemap_plan.specs.Outcome.{join_outcome, composition_outcome, remap_outcome}
-use Rattle.oxc_sourcemap_plan.specs.Outcome.{input_outcomes}
+use Rattle.oxc_sourcemap_plan.specs.Outcome.{input_outcomes, sorted_outcome}
+use Rattle.oxc_sourcemap_plan.specs.declared.plan.Plan.TheVariants.{ReadSorted, rolls-ReadSorted}
 
 firsts : {A B C : Type 0} (f : A → C) (parts : List (A × B)) → map (λ (p : C × B). p.0) (map (λ (p : A × B). (f p.0, p.1)) parts) ≡ map (λ p. f p.0) parts
 firsts f [] = refl
@@ -66,6 +67,9 @@ outcome_parts_at plan parts items e f = ap outcome_of e ∙ outcome_join_at part
 
 pub outcome_compose : (p q : Box Plan Global) → outcome_of (Compose p q) ≡ composition_outcome (outcome_of p.value) (outcome_of q.value)
 outcome_compose p q = ap outcome_of (sym (rolls-Compose p q)) ∙ fold-roll-Plan Outcome outcome_step (Plan-F.Compose p q)
+
+pub outcome_read_sorted : (text : Bor (List ℕ)) → outcome_of (ReadSorted text) ≡ sorted_outcome (said_in text.now)
+outcome_read_sorted text = ap outcome_of (sym (rolls-ReadSorted text)) ∙ fold-roll-Plan Outcome outcome_step (Plan-F.ReadSorted text)
 
 pub outcome_read : (text : Bor (List ℕ)) → outcome_of (Read text) ≡ read_outcome (said_in text.now)
 outcome_read text = ap outcome_of (sym (rolls-Read text)) ∙ fold-roll-Plan Outcome outcome_step (Plan-F.Read text)

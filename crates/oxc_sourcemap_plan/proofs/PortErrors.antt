@@ -11,8 +11,10 @@ use Rattle.oxc_sourcemap_plan.specs.declared.run_error.RunError.TheVariants.{NoT
 use Rattle.oxc_sourcemap_plan.specs.Numbers.{number_of}
 use Rattle.oxc_sourcemap_plan.specs.Outcome.{Outcome}
 use Rattle.oxc_sourcemap_plan.specs.PlanArguments.{Parsed, then_parsed, number_or_fault}
-use Rattle.oxc_sourcemap_plan.specs.PlanArguments.{parsed_number, read_or_fault, read_of_number}
+use Rattle.oxc_sourcemap_plan.specs.PlanArguments.{parsed_number, text_or_fault, text_of_number}
 use Rattle.oxc_sourcemap_plan.specs.PlanArguments.{parsed_input, with_rest, parsed_beginning}
+use Rattle.oxc_sourcemap_plan.specs.PlanArguments.{parsed_text, read_of_text, sorted_of_text}
+use Rattle.oxc_sourcemap_plan.specs.PlanArguments.{parsed_sort}
 use Rattle.oxc_sourcemap_plan.specs.PlanArguments.{parsed_join_part, parsed_path, parsed_input_part}
 use Rattle.oxc_sourcemap_plan.specs.PlanArguments.{parsed_items, parsed_list, parsed_rewrite}
 use Rattle.oxc_sourcemap_plan.specs.PlanArguments.{parsed_root, parsed_join, parsed_composition}
@@ -55,21 +57,37 @@ beginning true arguments =
     after (parsed_number arguments) _ (number arguments) (λ line more. after (parsed_number more) _ (number more) (λ column left. tt))
 
 -- ---- an input
-text_or : (o : Option Text) (k : ℕ) → IsNotOfPort (read_or_fault o k)
+text_or : (o : Option Text) (k : ℕ) → IsNotOfPort (text_or_fault o k)
 text_or None k = refl
 text_or (Some text) k = tt
 
-text_of : (inputs : List Text) (o : Option ℕ) → IsNotOfPort (read_of_number inputs o)
+text_of : (inputs : List Text) (o : Option ℕ) → IsNotOfPort (text_of_number inputs o)
 text_of inputs None = refl
 text_of inputs (Some k) = text_or (slice_get inputs k) k
 
+text : (inputs : List Text) (argument : Text) → IsNotOfPort (parsed_text inputs argument)
+text inputs [] = refl
+text inputs (byte ∷ digits) = either (byte == 64) _ _ (text_of inputs (number_of digits)) refl
+
+of_read : (r : Result Text RunError) → IsNotOfPort r → IsNotOfPort (read_of_text r)
+of_read (Ok t) h = tt
+of_read (Err fault) h = h
+
+of_sort : (r : Result Text RunError) → IsNotOfPort r → IsNotOfPort (sorted_of_text r)
+of_sort (Ok t) h = tt
+of_sort (Err fault) h = h
+
 input : (inputs : List Text) (argument : Text) → IsNotOfPort (parsed_input inputs argument)
-input inputs [] = refl
-input inputs (byte ∷ digits) = either (byte == 64) _ _ (text_of inputs (number_of digits)) refl
+input inputs argument = of_read (parsed_text inputs argument) (text inputs argument)
 
 left_over : (r : Result Outcome RunError) (arguments : List Text) → IsNotOfPort r → IsNotOfPort (with_rest r arguments)
 left_over (Ok o) arguments h = tt
 left_over (Err fault) arguments h = h
+
+sort : (inputs : List Text) (arguments : List Text) → IsNotOfPort (parsed_sort inputs arguments)
+sort inputs [] = refl
+sort inputs (argument ∷ arguments) =
+    left_over (sorted_of_text (parsed_text inputs argument)) arguments (of_sort (parsed_text inputs argument) (text inputs argument))
 
 -- ---- a path, and lists
 path : (arguments : List Text) → IsNotOfPort (parsed_path arguments)
@@ -114,7 +132,8 @@ module _ (part : List Text → Parsed Outcome) (h : (arguments : List Text) → 
       (either (bytes_eq argument (codes "join")) _ _ (join false rest)
       (either (bytes_eq argument (codes "joinat")) _ _ (join true rest)
       (either (bytes_eq argument (codes "compose")) _ _ (composition rest)
-      (either (bytes_eq argument (codes "remap")) _ _ (remapping rest) (left_over (parsed_input inputs argument) rest (input inputs argument)))))))
+      (either (bytes_eq argument (codes "remap")) _ _ (remapping rest)
+      (either (bytes_eq argument (codes "sort")) _ _ (sort inputs rest) (left_over (parsed_input inputs argument) rest (input inputs argument))))))))
 
 part : (inputs : List Text) (levels : ℕ) (arguments : List Text) → IsNotOfPort (parsed_part inputs levels arguments)
 part inputs zero [] = refl

@@ -1,5 +1,5 @@
 -- What reading a text gives: a map by itself, or the join of the sections of an indexed map.
-use Rattle.std.proofs.Common.{◌≡◌, ◌≢◌, true, false, cond, List, [], ◌∷◌}
+use Rattle.std.proofs.Common.{◌≡◌, ◌≢◌, ◌≤◌, true, false, cond, List, [], ◌∷◌}
 use Rattle.std.proofs.Common.{map, length, refl, sym, ap, ◌∙◌, subst, arith, inl, inr, Option}
 use Rattle.std.proofs.Common.{Some, None, Result, Ok, Err}
 use Rattle.std.specs.List.{flat_map, AllByRecursion}
@@ -54,7 +54,7 @@ all-stay [] h = tt
 all-stay (m ∷ ms) h = (stay m.0.tokens (recursion_from_All IsInBounds m.0.tokens h.0.in_bounds), all-stay ms h.1)
 
 -- a join of decoded maps has as many mappings as their maps have tokens
-count-mappings : (ms : List (MapRecord × Position)) → length (flat_map (λ m. m.0.tokens) ms) ≡ length (joined_decoded_maps (decoded_maps_of ms)).mappings
+pub count-mappings : (ms : List (MapRecord × Position)) → length (flat_map (λ m. m.0.tokens) ms) ≡ length (joined_decoded_maps (decoded_maps_of ms)).mappings
 count-mappings [] = refl
 count-mappings (m ∷ ms) =
     let h = count-mappings ms in
@@ -66,13 +66,13 @@ count-mappings (m ∷ ms) =
     omega arith
 
 module _ (laws : JoinLaws) (file : Option Text) (ms : List (MapRecord × Position)) (well : AllByRecursion (λ m. IsWellRead m.0) ms) where
-  same : EqualUpToRepeats (decoded_map_of (joined ms)) (joined_decoded_maps (decoded_maps_of ms))
+  pub same : EqualUpToRepeats (decoded_map_of (joined ms)) (joined_decoded_maps (decoded_maps_of ms))
   same = laws.decoded_map ms (all-in-range ms well)
 
   sorted-same : are_tokens_sorted (joined ms).tokens ≡ is_sorted_decoded_map (joined_decoded_maps (decoded_maps_of ms))
   sorted-same = sym (sorted-mappings (joined ms)) ∙ sorted_decoded_map_up_to_repeats (decoded_map_of (joined ms)) (joined_decoded_maps (decoded_maps_of ms)) same
 
-  room : is_join_within_limits (names_of_sections ms) (Ok (decoded_maps_of ms)) ≡ true
+  pub room : is_join_within_limits (names_of_sections ms) (Ok (decoded_maps_of ms)) ≡ true
       → CountsFit (names_of_sections ms) (joined_decoded_maps (decoded_maps_of ms)) × (are_positions_within_limits (joined_decoded_maps (decoded_maps_of ms)).mappings ≡ true)
   room e =
       let s = joined_decoded_maps (decoded_maps_of ms) in
@@ -85,6 +85,15 @@ module _ (laws : JoinLaws) (file : Option Text) (ms : List (MapRecord × Positio
       let c = count-mappings ms in
       within_of laws ms (joined_decoded_maps (decoded_maps_of ms)) (names_of_sections ms) same (all-in-range ms well) (lists-in-range ms well) (all-stay ms well)
       (omega arith) (omega arith) r.0 r.1
+
+  pub sections-contents : length (joined ms).source_contents ≤ length (joined_decoded_maps (decoded_maps_of ms)).sources
+  sections-contents =
+      let one = contents-added nothing_joined ms refl in
+      let ss = same-sources (joined ms) (joined_decoded_maps (decoded_maps_of ms)) same in
+      omega arith
+
+  pub not-within : is_map_within_limits (joined ms) ≡ false → is_join_within_limits (names_of_sections ms) (Ok (decoded_maps_of ms)) ≡ false
+  not-within e = false_from_ne_true _ (λ k. both_ways (is_map_within_limits (joined ms)) e ((limits_decided (joined ms)).1 (within k)))
 
   sections_give : AreInBounds (joined ms).tokens → IsSound (indexed_record file (joined ms)) → are_tokens_sorted (joined ms).tokens ≡ true
       → Realizes (indexed_record file (joined ms)) (sections_outcome file None ms)
@@ -117,10 +126,10 @@ module _ (laws : JoinLaws) (file : Option Text) (ms : List (MapRecord × Positio
 
   sections_too_large : (fault : Option Error) → is_map_within_limits (joined ms) ≡ false → FailsAs (Map TooLarge) (sections_outcome file fault ms)
   sections_too_large fault e =
-      inr (inr (refl, false_from_ne_true _ (λ k. both_ways (is_map_within_limits (joined ms)) e ((limits_decided (joined ms)).1 (within k)))))
+      inr (inr (refl, not-within e))
 
 -- ---- by what the join of sections is
-error-of : (file : Option Text) (x : Result MapRecord Error) (f : Error) → (x >>= (λ j. Ok (indexed_record file j))) ≡ Err f → x ≡ Err f
+pub error-of : (file : Option Text) (x : Result MapRecord Error) (f : Error) → (x >>= (λ j. Ok (indexed_record file j))) ≡ Err f → x ≡ Err f
 error-of file (Ok j) f e = cc
 error-of file (Err g) f e = cc
 
@@ -146,7 +155,7 @@ unsorted laws (indexed file found) r w e s =
     subst (λ fault. FailsAs Unsorted (sections_outcome file fault found.maps)) (sym f.no_fault)
     (sections_unsorted laws file found.maps (w file found refl) (ap (λ (m : MapRecord). are_tokens_sorted m.tokens) is ∙ s))
 
-fault-of : (fault : Option Error) (r : MapRecord) (e : Error) → unless fault (Ok r) ≡ Err e → fault ≡ Some e
+pub fault-of : (fault : Option Error) (r : MapRecord) (e : Error) → unless fault (Ok r) ≡ Err e → fault ≡ Some e
 fault-of None r e h = cc
 fault-of (Some f) r e h = cc
 

@@ -11,6 +11,7 @@ use Rattle.oxc_sourcemap_tokens.specs.declared.plan_error.PlanError.TheVariants.
 use Rattle.oxc_sourcemap_join.specs.Joined.{at_lines}
 use Rattle.oxc_sourcemap_plan.specs.Meaning.{Meaning}
 use Rattle.oxc_sourcemap_plan.specs.Outcome.{Outcome, plain_outcome, rewrite_outcome, join_outcome}
+use Rattle.oxc_sourcemap_plan.specs.Outcome.{sorted_plain_outcome}
 use Rattle.oxc_sourcemap_plan.specs.Outcome.{root_outcome, composition_outcome, remap_outcome}
 
 -- a token: generated line and column, source line and column, source id, name id
@@ -64,6 +65,17 @@ joins-grouped = refl
 rewrites-a-join : (rewrite_outcome (lines_outcome ((of_map first_map, 0) ∷ (of_map second_map, 1) ∷ []))).meaning
     ≡ (lines_outcome ((of_map first_map, 0) ∷ (of_map second_map, 1) ∷ [])).meaning
 rewrites-a-join = refl
+
+-- sort @0, of a map whose columns go back, with two tokens at one column
+abbrev going_back : MapRecord
+going_back = plain [] (codes "a.js" ∷ []) (token 0 3 0 0 (Some 0) None ∷ token 0 0 1 0 (Some 0) None ∷ token 0 3 2 0 (Some 0) None ∷ [])
+
+reads-unsorted : (of_map going_back).meaning ≡ Err Unsorted
+reads-unsorted = refl
+
+reads-sorted : entries_of (sorted_plain_outcome (Ok going_back)).meaning
+    ≡ points 0 0 (codes "a.js") 1 0 None ∷ points 0 3 (codes "a.js") 0 0 None ∷ points 0 3 (codes "a.js") 2 0 None ∷ []
+reads-sorted = refl
 
 -- a join whose second map is at a line before the first
 joins-unsorted : (lines_outcome ((of_map first_map, 1) ∷ (of_map second_map, 0) ∷ [])).meaning ≡ Err Unsorted

@@ -12,6 +12,7 @@ deepest (part ∷ parts) = max part (deepest parts)
 -- one more than the greatest depth of the parts
 abbrev pub depth_step : Plan-F ℕ → ℕ
 depth_step (Plan-F.Read text) = 1
+depth_step (Plan-F.ReadSorted text) = 1
 depth_step (Plan-F.Rewrite part) = part.value + 1
 depth_step (Plan-F.ApplyRoot part) = part.value + 1
 depth_step (Plan-F.Join parts) = deepest (map (λ p. p.0) parts.items) + 1

@@ -7,6 +7,7 @@ use Rattle.oxc_sourcemap_tokens.specs.declared.error.Error.TheVariants.{SeveralS
 use Rattle.oxc_sourcemap_parts.specs.Record.{Text, MapRecord}
 use Rattle.oxc_sourcemap_parts.specs.Sorted.{are_tokens_sorted}
 use Rattle.oxc_sourcemap_parts.specs.DecodedMap.{DecodedMap, decoded_map_of}
+use Rattle.oxc_sourcemap_sort.specs.Sorting.{sorted_decoded_map}
 use Rattle.oxc_sourcemap_tokens.specs.declared.position.Position.{Position}
 use Rattle.oxc_sourcemap_join.specs.Joined.{at_lines, at_positions}
 use Rattle.oxc_sourcemap_decode.specs.ReadMap.{Said, plain, indexed, said_in}
@@ -45,6 +46,25 @@ said_meaning (indexed file found) = indexed_meaning file found.fault (joined_dec
 
 abbrev pub text_meaning : Text → Meaning
 text_meaning text = said_meaning (said_in text)
+
+-- the meaning of a map that is read by itself and sorted
+abbrev pub sorted_read_meaning : Result MapRecord Error → Meaning
+sorted_read_meaning (Err fault) = Err (Map fault)
+sorted_read_meaning (Ok r) = Ok (sorted_decoded_map (decoded_map_of r))
+
+-- the meaning of an indexed map that is read and sorted: the join of the decoded maps of its sections, with its file, sorted; or
+-- the fault of a section
+abbrev pub sorted_indexed_meaning : Option Text → Option Error → DecodedMap → Meaning
+sorted_indexed_meaning file (Some fault) s = Err (Map fault)
+sorted_indexed_meaning file None s = Ok (sorted_decoded_map (record s { file = file }))
+
+-- the meaning of a text that is read and sorted, by how it is read
+abbrev pub sorted_said_meaning : Said → Meaning
+sorted_said_meaning (plain answer) = sorted_read_meaning answer
+sorted_said_meaning (indexed file found) = sorted_indexed_meaning file found.fault (joined_decoded_maps (decoded_maps_of found.maps))
+
+abbrev pub sorted_text_meaning : Text → Meaning
+sorted_text_meaning text = sorted_said_meaning (said_in text)
 
 -- the meaning of a step that applies the source root
 abbrev pub root_meaning : Meaning → Meaning
@@ -100,6 +120,7 @@ remap_meaning (Ok s) (Ok inputs) = Ok (remapped_decoded_map s inputs)
 -- the cases of a plan, by what its parts mean
 abbrev pub meaning_step : Plan-F Meaning → Meaning
 meaning_step (Plan-F.Read text) = text_meaning text.now
+meaning_step (Plan-F.ReadSorted text) = sorted_text_meaning text.now
 meaning_step (Plan-F.Rewrite part) = part.value
 meaning_step (Plan-F.ApplyRoot part) = root_meaning part.value
 meaning_step (Plan-F.Join parts) = join_meaning (all_decoded_maps (at_lines parts.items))

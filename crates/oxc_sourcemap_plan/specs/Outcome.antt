@@ -11,6 +11,7 @@ use Rattle.oxc_sourcemap_parts.specs.DecodedMap.{DecodedMap}
 use Rattle.oxc_sourcemap_laws.specs.MapLaws.{rewritten}
 use Rattle.oxc_sourcemap_lookup.specs.Composed.{composed}
 use Rattle.oxc_sourcemap_remap.specs.Remapped.{remapped}
+use Rattle.oxc_sourcemap_sort.specs.Sorting.{sorted_map}
 use Rattle.oxc_sourcemap_tokens.specs.declared.position.Position.{Position}
 use Rattle.oxc_sourcemap_join.specs.Joined.{at_lines, at_positions, joined}
 use Rattle.oxc_sourcemap_decode.specs.ReadMap.{Said, plain, indexed, indexed_record, said_in}
@@ -25,6 +26,7 @@ use Rattle.oxc_sourcemap_plan.specs.Depth.{depth}
 use Rattle.oxc_sourcemap_plan.specs.Meaning.{Meaning, read_meaning, indexed_meaning, root_meaning}
 use Rattle.oxc_sourcemap_plan.specs.Meaning.{all_decoded_maps, join_meaning, composition_meaning}
 use Rattle.oxc_sourcemap_plan.specs.Meaning.{by_path, all_inputs, remap_meaning}
+use Rattle.oxc_sourcemap_plan.specs.Meaning.{sorted_read_meaning, sorted_indexed_meaning}
 use Rattle.oxc_sourcemap_plan.specs.Limits.{is_part_within_limits, is_join_within_limits}
 
 pub record Outcome : Type 0 where
@@ -97,6 +99,26 @@ sections_outcome file fault maps = record {
 abbrev pub read_outcome : Said → Outcome
 read_outcome (plain answer) = plain_outcome answer
 read_outcome (indexed file found) = sections_outcome file found.fault found.maps
+
+-- the outcome of a map that is read by itself and sorted
+abbrev pub sorted_plain_outcome : Result MapRecord Error → Outcome
+sorted_plain_outcome read = record (plain_outcome read) {
+  meaning = sorted_read_meaning read;
+  map_record = option_map sorted_map (record_read read);
+  is_within_limits = is_part_within_limits (names_of_read read) (sorted_read_meaning read);
+}
+
+-- The outcome of an indexed map that is read and sorted. It counts what it counts if it is only read.
+abbrev pub sorted_sections_outcome : Option Text → Option Error → List (MapRecord × Position) → Outcome
+sorted_sections_outcome file fault maps = record (sections_outcome file fault maps) {
+  meaning = sorted_indexed_meaning file fault (joined_decoded_maps (decoded_maps_of maps));
+  map_record = option_map sorted_map (map_of_sections fault (indexed_record file (joined maps)));
+}
+
+-- the outcome of a text that is read and sorted
+abbrev pub sorted_outcome : Said → Outcome
+sorted_outcome (plain answer) = sorted_plain_outcome answer
+sorted_outcome (indexed file found) = sorted_sections_outcome file found.fault found.maps
 
 -- the outcome of a rewriting, which means what its part means
 abbrev pub rewrite_outcome : Outcome → Outcome
@@ -190,6 +212,7 @@ remap_outcome first inputs = record {
 -- the cases of a plan, by the outcomes of its parts
 abbrev pub outcome_step : Plan-F Outcome → Outcome
 outcome_step (Plan-F.Read text) = read_outcome (said_in text.now)
+outcome_step (Plan-F.ReadSorted text) = sorted_outcome (said_in text.now)
 outcome_step (Plan-F.Rewrite part) = rewrite_outcome part.value
 outcome_step (Plan-F.ApplyRoot part) = root_outcome part.value
 outcome_step (Plan-F.Join parts) = join_outcome (at_lines parts.items)

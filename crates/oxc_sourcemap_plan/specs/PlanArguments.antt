@@ -12,6 +12,7 @@ use Rattle.oxc_sourcemap_plan.specs.declared.run_error.RunError.TheVariants.{Pla
 use Rattle.oxc_sourcemap_plan.specs.declared.run_error.RunError.TheVariants.{NoText}
 use Rattle.oxc_sourcemap_plan.specs.Numbers.{number_of}
 use Rattle.oxc_sourcemap_plan.specs.Outcome.{Outcome, read_outcome, rewrite_outcome, root_outcome}
+use Rattle.oxc_sourcemap_plan.specs.Outcome.{sorted_outcome}
 use Rattle.oxc_sourcemap_plan.specs.Outcome.{join_outcome, composition_outcome, remap_outcome}
 
 -- what was read of the first arguments, and the arguments that are left
@@ -32,24 +33,43 @@ abbrev pub parsed_number : List Text → Parsed ℕ
 parsed_number [] = Err Arguments
 parsed_number (argument ∷ arguments) = number_or_fault (number_of argument) arguments
 
--- the outcome of reading input `k`, or the fault of a missing one
-abbrev pub read_or_fault : Option Text → ℕ → Result Outcome RunError
-read_or_fault None k = Err (NoText k)
-read_or_fault (Some text) k = Ok (read_outcome (said_in text))
+-- text `k`, or the fault of a missing one
+abbrev pub text_or_fault : Option Text → ℕ → Result Text RunError
+text_or_fault None k = Err (NoText k)
+text_or_fault (Some text) k = Ok text
 
-abbrev pub read_of_number : List Text → Option ℕ → Result Outcome RunError
-read_of_number inputs None = Err Arguments
-read_of_number inputs (Some k) = read_or_fault (slice_get inputs k) k
+abbrev pub text_of_number : List Text → Option ℕ → Result Text RunError
+text_of_number inputs None = Err Arguments
+text_of_number inputs (Some k) = text_or_fault (slice_get inputs k) k
 
--- an argument `@K`, where K is a number
+-- the text of an argument `@K`, where K is a number
+abbrev pub parsed_text : List Text → Text → Result Text RunError
+parsed_text inputs [] = Err Arguments
+parsed_text inputs (byte ∷ digits) = if byte == 64 then text_of_number inputs (number_of digits) else Err Arguments
+
+-- the outcome of reading a text
+abbrev pub read_of_text : Result Text RunError → Result Outcome RunError
+read_of_text (Err fault) = Err fault
+read_of_text (Ok text) = Ok (read_outcome (said_in text))
+
+-- an argument `@K`: read text K
 abbrev pub parsed_input : List Text → Text → Result Outcome RunError
-parsed_input inputs [] = Err Arguments
-parsed_input inputs (byte ∷ digits) = if byte == 64 then read_of_number inputs (number_of digits) else Err Arguments
+parsed_input inputs argument = read_of_text (parsed_text inputs argument)
 
 -- what was read of one argument, and the arguments after it
 abbrev pub with_rest : Result Outcome RunError → List Text → Parsed Outcome
 with_rest (Ok o) arguments = Ok (o, arguments)
 with_rest (Err fault) arguments = Err fault
+
+-- the outcome of reading and sorting a text
+abbrev pub sorted_of_text : Result Text RunError → Result Outcome RunError
+sorted_of_text (Err fault) = Err fault
+sorted_of_text (Ok text) = Ok (sorted_outcome (said_in text))
+
+-- `sort @K`, after its first argument
+abbrev pub parsed_sort : List Text → List Text → Parsed Outcome
+parsed_sort inputs [] = Err Arguments
+parsed_sort inputs (argument ∷ arguments) = with_rest (sorted_of_text (parsed_text inputs argument)) arguments
 
 -- the position of a part of `join`: a line, and column 0
 abbrev pub parsed_line : List Text → Parsed Position
@@ -123,6 +143,7 @@ parsed_by inputs part argument rest =
     else if bytes_eq argument (codes "joinat") then parsed_join part (parsed_beginning true) rest
     else if bytes_eq argument (codes "compose") then parsed_composition part rest
     else if bytes_eq argument (codes "remap") then parsed_remapping part rest
+    else if bytes_eq argument (codes "sort") then parsed_sort inputs rest
     else with_rest (parsed_input inputs argument) rest
 
 -- A part that may be this many levels deep. If no level is left, any argument is too deep.

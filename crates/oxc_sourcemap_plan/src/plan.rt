@@ -2,6 +2,7 @@
 //! evaluation.
 ghost use Rattle.std.specs.Prelude.{◌≡◌, ◌≤◌, ◌↔◌, ◌⊎◌, List, true, false, IsTrue, IfOk, IfErr};
 ghost use Rattle.oxc_sourcemap_plan.specs.Words.{Text, Position, depth, Outcome, read_outcome};
+ghost use Rattle.oxc_sourcemap_plan.specs.Words.{sorted_outcome};
 ghost use Rattle.oxc_sourcemap_plan.specs.Words.{rewrite_outcome, root_outcome, join_outcome};
 ghost use Rattle.oxc_sourcemap_plan.specs.Words.{composition_outcome, remap_outcome, by_path};
 ghost use Rattle.oxc_sourcemap_plan.specs.Words.{outcome_of, outcomes, input_outcomes, outcome};
@@ -22,6 +23,7 @@ use oxc_sourcemap_laws::{
 use oxc_sourcemap_lookup::compose_parts;
 use oxc_sourcemap_parts::{SourceMapParts, apply_root, are_sorted};
 use oxc_sourcemap_remap::remap_owned_parts;
+use oxc_sourcemap_sort::sort_parts;
 use oxc_sourcemap_tokens::{PlanError, Position};
 use std::alloc::Global;
 
@@ -41,6 +43,8 @@ use std::alloc::Global;
 pub enum Plan<'t> {
     /// Read a map from its JSON text.
     Read(&'t str),
+    /// Read a map from its JSON text, and sort its tokens by line and column: for maps whose columns go back on a line.
+    ReadSorted(&'t str),
     /// Write the map of a part as a JSON source map, and read it again.
     Rewrite(Box<Plan<'t>>),
     /// Put the source root of the map of a part before each of its sources; the map has none then.
@@ -67,6 +71,7 @@ fn is_within_depth(plan: &Plan<'_>, room: u32) -> bool
     }
     match plan {
         Plan::Read(_) => true,
+        Plan::ReadSorted(_) => true,
         Plan::Rewrite(part) => is_within_depth(part, room - 1),
         Plan::ApplyRoot(part) => is_within_depth(part, room - 1),
         Plan::Join(parts) => {
@@ -122,6 +127,18 @@ fn read(alloc: Global, text: &str) -> Result<SourceMapParts<'static>, PlanError>
     canonical_unique();
     dropping_harmless();
     check_sorted(decode_parts_from_string(alloc, text)?)
+}
+
+/// The map of a JSON text, sorted.
+#[inline(never)]
+fn read_sorted(alloc: Global, text: &str) -> Result<SourceMapParts<'static>, PlanError>
+    ensures map { IfOk result (λ map. PartsRealize map (sorted_outcome (said_in text.now))) }
+    ensures error { IfErr result (λ e. FailsAs e (sorted_outcome (said_in text.now))) }
+{
+    dropping_harmless();
+    let mut map = decode_parts_from_string(alloc, text)?;
+    sort_parts(alloc, &mut map)?;
+    Ok(map)
 }
 
 /// A map, written and read again.
@@ -216,6 +233,7 @@ fn evaluate_part(alloc: Global, plan: &Plan<'_>) -> Result<SourceMapParts<'stati
 {
     match plan {
         Plan::Read(text) => read(alloc, text),
+        Plan::ReadSorted(text) => read_sorted(alloc, text),
         Plan::Rewrite(part) => evaluate_rewrite(alloc, part),
         Plan::ApplyRoot(part) => evaluate_root(alloc, part),
         Plan::Join(parts) => evaluate_join(alloc, parts.as_slice()),

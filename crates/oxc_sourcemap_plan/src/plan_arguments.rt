@@ -8,6 +8,7 @@ ghost use Rattle.oxc_sourcemap_plan.specs.Words.{input_outcomes, parsed_beginnin
 ghost use Rattle.oxc_sourcemap_plan.specs.Words.{parsed_join, parsed_path, parsed_list};
 ghost use Rattle.oxc_sourcemap_plan.specs.Words.{parsed_input_part, parsed_remapping, parsed_part};
 ghost use Rattle.oxc_sourcemap_plan.specs.Words.{parsed_plan, Gives, lent_items, lent_item};
+ghost use Rattle.oxc_sourcemap_plan.specs.Words.{parsed_text, parsed_sort};
 
 use crate::numbers::read_number;
 use crate::plan::Plan;
@@ -91,12 +92,10 @@ fn input_at<'t>(inputs: &'t [&'t str], number: u32) -> Option<&'t str>
     inputs.get(number as usize).copied()
 }
 
-/// The part of an argument `@K`: read input K.
-fn read_input<'t>(inputs: &'t [&'t str], argument: &str) -> Result<Plan<'t>, RunError>
-    ensures part { IfOk result (λ plan. parsed_input (lent_items inputs.now) argument.now
-        ≡ Ok (outcome_of plan)) }
-    ensures depth { IfOk result (λ plan. depth plan ≡ 1) }
-    ensures error { IfErr result (λ e. parsed_input (lent_items inputs.now) argument.now ≡ Err e) }
+/// The text of an argument `@K`: input K.
+fn input_text<'t>(inputs: &'t [&'t str], argument: &str) -> Result<&'t str, RunError>
+    ensures { Gives (λ text. text.now) result
+        (parsed_text (lent_items inputs.now) argument.now) }
 {
     let Some(digits) = argument.strip_prefix('@') else {
         return Err(RunError::Arguments);
@@ -105,9 +104,37 @@ fn read_input<'t>(inputs: &'t [&'t str], argument: &str) -> Result<Plan<'t>, Run
         return Err(RunError::Arguments);
     };
     match input_at(inputs, number) {
-        Some(text) => Ok(Plan::Read(text)),
+        Some(text) => Ok(text),
         None => Err(RunError::NoText(number)),
     }
+}
+
+/// The part of an argument `@K`: read input K.
+fn read_input<'t>(inputs: &'t [&'t str], argument: &str) -> Result<Plan<'t>, RunError>
+    ensures part { IfOk result (λ plan. parsed_input (lent_items inputs.now) argument.now
+        ≡ Ok (outcome_of plan)) }
+    ensures depth { IfOk result (λ plan. depth plan ≡ 1) }
+    ensures error { IfErr result (λ e. parsed_input (lent_items inputs.now) argument.now ≡ Err e) }
+{
+    Ok(Plan::Read(input_text(inputs, argument)?))
+}
+
+/// The part after the argument `sort`: an argument `@K`, to read input K and sort it; and the arguments after it.
+fn read_sort<'t>(
+    inputs: &'t [&'t str],
+    arguments: &'t [String],
+) -> Result<(Plan<'t>, &'t [String]), RunError>
+    ensures part { IfOk result (λ r. parsed_sort (lent_items inputs.now)
+        (map string_bytes arguments.now) ≡ Ok (outcome_of r.0, map string_bytes r.1.now)) }
+    ensures depth { IfOk result (λ r. depth r.0 ≡ 1) }
+    ensures error { IfErr result (λ e. parsed_sort (lent_items inputs.now)
+        (map string_bytes arguments.now) ≡ Err e) }
+{
+    let Some((argument, others)) = arguments.split_first() else {
+        return Err(RunError::Arguments);
+    };
+    let text = input_text(inputs, argument.as_str())?;
+    Ok((Plan::ReadSorted(text), others))
 }
 
 /// The first argument as a path, whatever it is, and the arguments after it.
@@ -161,6 +188,7 @@ fn read_part<'t>(
             ))
         }
         "remap" => read_remapping(alloc, inputs, others, room - 1),
+        "sort" => read_sort(inputs, others),
         text => Ok((read_input(inputs, text)?, others)),
     }
 }
@@ -246,8 +274,8 @@ fn read_remapping<'t>(
     Ok((Plan::Remap(Box::new(alloc, first)?, parts), rest))
 }
 
-/// The plan of these arguments, over these inputs: `@K` for input K (from 0), `rewrite P`, `root P`, `join N` followed by N
-/// times `P LINE`, `joinat N` followed by N times `P LINE COLUMN`, `compose P P`, or `remap P N` followed by N times `PATH P`,
+/// The plan of these arguments, over these inputs: `@K` for input K (from 0), `sort @K`, `rewrite P`, `root P`, `join N` followed
+/// by N times `P LINE`, `joinat N` followed by N times `P LINE COLUMN`, `compose P P`, or `remap P N` followed by N times `PATH P`,
 /// where PATH is any argument, taken as it is; each number as `read_number` reads it.
 ///
 /// Arguments are read from the left, and the first fault is the error:

@@ -19,7 +19,7 @@ use Rattle.oxc_sourcemap_plan.proofs.Plans.{outcome_root, outcome_join_at, outco
 use Rattle.oxc_sourcemap_plan.proofs.Plans.{outcome_remap}
 use Rattle.oxc_sourcemap_plan.proofs.PlanArguments.{named-start, named-rewrite, named-root}
 use Rattle.oxc_sourcemap_plan.proofs.PlanArguments.{named-join, named-join_at, named-compose}
-use Rattle.oxc_sourcemap_plan.proofs.PlanArguments.{named-remap, named-text, left_after, item-error}
+use Rattle.oxc_sourcemap_plan.proofs.PlanArguments.{named-sort, named-remap, named-text, left_after, item-error}
 use Rattle.oxc_sourcemap_plan.proofs.PlanArguments.{item-more, items-end, list-read, placed-error}
 use Rattle.oxc_sourcemap_plan.proofs.PlanArguments.{placed, join-read, path-error, with_path}
 use Rattle.oxc_sourcemap_plan.proofs.PlanArguments.{first-error, remapping-read, deepest-pushed}
@@ -70,7 +70,7 @@ read_part-returns-in_err-read_input-in_default-as_str-clause-error t c =
     let others = map string_bytes c.in-Some.others.now in
     let T = map (λ text. text.now) c.args.inputs.now in
     from_err c.from_residual-in_err-read_input-in_default-as_str.result _ _ c.from_residual-in_err-read_input-in_default-as_str.ensures.1 (λ e h n. start
-    ∙ named-text T part c.as_str.result.now others c.in_default-as_str.not-rewrite c.in_default-as_str.not-root c.in_default-as_str.not-join c.in_default-as_str.not-joinat c.in_default-as_str.not-compose c.in_default-as_str.not-remap
+    ∙ named-text T part c.as_str.result.now others c.in_default-as_str.not-rewrite c.in_default-as_str.not-root c.in_default-as_str.not-join c.in_default-as_str.not-joinat c.in_default-as_str.not-compose c.in_default-as_str.not-remap c.in_default-as_str.not-sort
     ∙ ap (λ r. with_rest r others) c.in_err-read_input-in_default-as_str.ensures.error ∙ ap Err (sym h))
 
 pub read_part-returns-in_ok-new-in-compose-2-clause-part : goal.read_part-returns-in_ok-new-in-compose-2-clause-part
@@ -152,6 +152,22 @@ read_part-returns-in-remap-clause-error t c =
     let others = map string_bytes c.in-Some.others.now in
     let T = map (λ text. text.now) c.args.inputs.now in
     IfErr-weaker c.read_remapping.result _ _ (λ e h n. start ∙ named-remap T part c.as_str.result.now others c.in-remap.is ∙ h n) c.read_remapping.ensures.error
+
+pub read_part-returns-in-sort-clause-part : goal.read_part-returns-in-sort-clause-part
+read_part-returns-in-sort-clause-part t c =
+    let start = named-start (map (λ text. text.now) c.args.inputs.now) c.args.room c.args.arguments.now c.in-Some.argument.now c.in-Some.others.now c.as_str.result.now c.if-room-eq0.false c.in-Some.ensures.cases.0 c.as_str.ensures.value in
+    let part = parsed_part (map (λ text. text.now) c.args.inputs.now) (c.args.room - 1) in
+    let others = map string_bytes c.in-Some.others.now in
+    let T = map (λ text. text.now) c.args.inputs.now in
+    IfOk-weaker c.read_sort.result _ _ (λ r h. start ∙ named-sort T part c.as_str.result.now others c.in-sort.is ∙ h) c.read_sort.ensures.part
+
+pub read_part-returns-in-sort-clause-error : goal.read_part-returns-in-sort-clause-error
+read_part-returns-in-sort-clause-error t c =
+    let start = named-start (map (λ text. text.now) c.args.inputs.now) c.args.room c.args.arguments.now c.in-Some.argument.now c.in-Some.others.now c.as_str.result.now c.if-room-eq0.false c.in-Some.ensures.cases.0 c.as_str.ensures.value in
+    let part = parsed_part (map (λ text. text.now) c.args.inputs.now) (c.args.room - 1) in
+    let others = map string_bytes c.in-Some.others.now in
+    let T = map (λ text. text.now) c.args.inputs.now in
+    IfErr-weaker c.read_sort.result _ _ (λ e h n. start ∙ named-sort T part c.as_str.result.now others c.in-sort.is ∙ h) c.read_sort.ensures.error
 
 pub read_join-returns-in_err-part-clause-error : goal.read_join-returns-in_err-part-clause-error
 read_join-returns-in_err-part-clause-error t c =

@@ -1,0 +1,3 @@
+pub mod Sorting
+pub mod SortLaws
+pub mod Words

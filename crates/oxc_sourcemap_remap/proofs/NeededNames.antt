@@ -12,7 +12,8 @@ use Rattle.std.specs.Str.{bytes_eq}
 use Rattle.oxc_sourcemap_tokens.specs.Token.{TokenRecord}
 use Rattle.oxc_sourcemap_parts.specs.Record.{Text}
 use Rattle.oxc_sourcemap_parts.specs.Texts.{index_of, with_texts}
-use Rattle.oxc_sourcemap_parts.proofs.Places.{index-stays, index-stays_with, index-front, index-last}
+use Rattle.oxc_sourcemap_parts.proofs.Places.{index-stays, index-stays_with, index-front}
+use Rattle.oxc_sourcemap_parts.proofs.Places.{index-last}
 use Rattle.oxc_sourcemap_lookup.specs.InheritedNames.{with_inherited}
 use Rattle.oxc_sourcemap_lookup.proofs.InheritedNames.{IsPlaced, placed-inherited}
 use Rattle.oxc_sourcemap_lookup.proofs.InheritedNames.{with_texts-append, with_texts-front}

@@ -69,8 +69,9 @@ fn input_original<'m>(
     token: &Token,
 ) -> Option<LentOriginal<'m>>
     requires { start + length input.now.sources.items ≤ 4294967295 }
-    ensures original { option_map lent_original result ≡ input_original
-        (record_of_parts input.now) start (option_map (λ name. name.text.now) name.entry) token.now }
+    ensures original { option_map lent_original result
+        ≡ input_original (record_of_parts input.now) start
+        (option_map (λ name. name.text.now) name.entry) token.now }
     ensures small { IfSome result (λ o. o.source_id < 4294967295) }
 {
     let id = token.get_source_id()?;

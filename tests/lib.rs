@@ -23,5 +23,6 @@ mod remap;
 mod roots;
 mod rows;
 mod shapes;
+mod text_positions;
 mod texts;
 mod visualizer;

@@ -8,7 +8,8 @@ use Rattle.std.proofs.lemmas.Bool.{cases_order}
 use Rattle.std.proofs.lemmas.List.Sorted.{IsNonDecreasingBy-from_default}
 use Rattle.std.proofs.lemmas.Option.{slice_get_within, get_or_from_slice_get, slice_get-get_or}
 use Rattle.oxc_sourcemap_text.specs.declared.position_error.PositionError.TheVariants.{PastText}
-use Rattle.oxc_sourcemap_text.specs.declared.position_error.PositionError.TheVariants.{NoLine, PastLine}
+use Rattle.oxc_sourcemap_text.specs.declared.position_error.PositionError.TheVariants.{NoLine}
+use Rattle.oxc_sourcemap_text.specs.declared.position_error.PositionError.TheVariants.{PastLine}
 use Rattle.oxc_sourcemap_text.specs.declared.position_error.PositionError.TheVariants.{InsidePair}
 use Rattle.oxc_sourcemap_tokens.specs.declared.error.Error.TheVariants.{TooLarge}
 use Rattle.oxc_sourcemap_text.specs.TextLines.{units_of, text_lines}
@@ -16,7 +17,8 @@ use Rattle.oxc_sourcemap_text.specs.Positions.{line_start, column_count, is_insi
 use Rattle.oxc_sourcemap_text.specs.Positions.{offset_of, position_of, in_size}
 use Rattle.oxc_sourcemap_text.specs.Scans.{starts_from, second_halves}
 use Rattle.oxc_sourcemap_text.proofs.Starts.{length-starts, starts-at, starts-between, line-of}
-use Rattle.oxc_sourcemap_text.proofs.Starts.{text-whole, limit-last, limit-other, from-true, from-false}
+use Rattle.oxc_sourcemap_text.proofs.Starts.{text-whole, limit-last, limit-other, from-true}
+use Rattle.oxc_sourcemap_text.proofs.Starts.{from-false}
 use Rattle.oxc_sourcemap_text.proofs.Pairs.{IsHalf, IsListed, halves-are, halves-rise, halves-all}
 use Rattle.oxc_sourcemap_text.proofs.Inverse.{lt-true, lt-false, last-end}
 

@@ -1,13 +1,16 @@
 -- Where lines begin, and the positions that follow from it.
-use Rattle.std.proofs.Common.{◌≡◌, ℕ, zero, suc, ◌+◌, ◌-◌, ◌<◌, ◌≤◌, Bool, true, false, List, [], ◌∷◌}
-use Rattle.std.proofs.Common.{length, take, get_or, refl, sym, ap, ◌∙◌, arith, cond, nat_le, add-zero}
+use Rattle.std.proofs.Common.{◌≡◌, ℕ, zero, suc, ◌+◌, ◌-◌, ◌<◌, ◌≤◌, Bool, true, false, List, []}
+use Rattle.std.proofs.Common.{◌∷◌}
+use Rattle.std.proofs.Common.{length, take, get_or, refl, sym, ap, ◌∙◌, arith, cond, nat_le}
+use Rattle.std.proofs.Common.{add-zero}
 use Rattle.std.proofs.Common.{◌⊎◌, inl, inr, ◌==◌}
 use Rattle.std.proofs.lemmas.Bool.{cases_order}
 use Rattle.std.proofs.lemmas.Bool.Decides.{nat_tests}
 use Rattle.std.proofs.lemmas.List.{take_all}
 use Rattle.std.specs.List.{sum_by, count_by, range_with_len}
 use Rattle.std.proofs.lemmas.List.Sums.{sum_by-cons, sum_by_more}
-use Rattle.oxc_sourcemap_text.specs.TextLines.{units_of, ends_line, onto_first, lines_of, text_lines, line_at}
+use Rattle.oxc_sourcemap_text.specs.TextLines.{units_of, ends_line, onto_first, lines_of}
+use Rattle.oxc_sourcemap_text.specs.TextLines.{text_lines, line_at}
 use Rattle.oxc_sourcemap_text.specs.Positions.{line_start, line_of, column_count}
 use Rattle.oxc_sourcemap_text.specs.Scans.{starts_from}
 use Rattle.oxc_sourcemap_text.proofs.Cuts.{lines-end, lines-no_end}

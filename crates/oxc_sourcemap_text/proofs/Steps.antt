@@ -1,16 +1,21 @@
 -- What a character adds to a scan.
-use Rattle.std.proofs.Common.{◌≡◌, ℕ, zero, suc, ◌+◌, ◌-◌, ◌/◌, ◌%◌, ◌<◌, ◌≤◌, Bool, true, false, not, ◌&&◌, ◌||◌}
-use Rattle.std.proofs.Common.{List, [], ◌∷◌, ◌++◌, length, refl, sym, ap, ◌∙◌, arith, if◌then◌else◌, ◌==◌}
+use Rattle.std.proofs.Common.{◌≡◌, ℕ, zero, suc, ◌+◌, ◌-◌, ◌/◌, ◌%◌, ◌<◌, ◌≤◌, Bool, true, false}
+use Rattle.std.proofs.Common.{not, ◌&&◌, ◌||◌}
+use Rattle.std.proofs.Common.{List, [], ◌∷◌, ◌++◌, length, refl, sym, ap, ◌∙◌, arith, if◌then◌else◌}
+use Rattle.std.proofs.Common.{◌==◌}
 use lib.Utf8.{scalar, scalar_cases}
 use Rattle.std.specs.List.{flat_map}
-use Rattle.std.proofs.Common.{take, get_or, ◌⊎◌, inl, inr, nat_lt, Vec, Global, Result, Ok, Err, OnOk}
+use Rattle.std.proofs.Common.{take, get_or, ◌⊎◌, inl, inr, nat_lt, Vec, Global, Result, Ok, Err}
+use Rattle.std.proofs.Common.{OnOk}
 use Rattle.std.proofs.lemmas.List.{append-nil, length-append}
 use Rattle.std.specs.Char.Escape.{encode_utf16}
 use Rattle.std.specs.Char.Utf16.{is_low_surrogate}
 use Rattle.std.proofs.lemmas.Bool.Decides.{nat_tests}
 use mathlib.Core.List.{append_assoc}
-use Rattle.oxc_sourcemap_text.specs.TextLines.{ends_line, onto_first, lines_of, begins_with_line_feed}
-use Rattle.oxc_sourcemap_text.specs.Scans.{starts_from, later_starts, second_halves, ends_line_alone}
+use Rattle.oxc_sourcemap_text.specs.TextLines.{ends_line, onto_first, lines_of}
+use Rattle.oxc_sourcemap_text.specs.TextLines.{begins_with_line_feed}
+use Rattle.oxc_sourcemap_text.specs.Scans.{starts_from, later_starts, second_halves}
+use Rattle.oxc_sourcemap_text.specs.Scans.{ends_line_alone}
 use Rattle.oxc_sourcemap_text.specs.Scans.{starts_ahead, IsScan}
 use Rattle.oxc_sourcemap_text.specs.declared.scan.Scan.{Scan}
 use Rattle.oxc_sourcemap_text.proofs.Cuts.{lines-end, lines-no_end}

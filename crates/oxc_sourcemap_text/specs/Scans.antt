@@ -3,7 +3,8 @@ use Rattle.std.specs.Prelude.{◌≡◌, ℕ, ◌+◌, ◌≤◌, Bool, true, fa
 use Rattle.std.specs.Prelude.{if◌then◌else◌, ◌||◌, ◌==◌}
 use Rattle.std.specs.Char.Utf16.{is_low_surrogate}
 use Rattle.oxc_sourcemap_text.specs.declared.scan.Scan.{Scan}
-use Rattle.oxc_sourcemap_text.specs.TextLines.{units_of, lines_of, text_lines, begins_with_line_feed}
+use Rattle.oxc_sourcemap_text.specs.TextLines.{units_of, lines_of, text_lines}
+use Rattle.oxc_sourcemap_text.specs.TextLines.{begins_with_line_feed}
 
 -- where each of these lines begins, the first at this offset
 abbrev pub starts_from : ℕ → List (List ℕ) → List ℕ

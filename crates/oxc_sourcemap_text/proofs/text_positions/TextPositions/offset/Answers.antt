@@ -4,7 +4,8 @@ use Rattle.oxc_sourcemap_text.specs.TextLines.{units_of, text_lines}
 use Rattle.oxc_sourcemap_text.specs.Positions.{line_start}
 use Rattle.oxc_sourcemap_text.specs.Scans.{starts_from}
 use Rattle.oxc_sourcemap_text.proofs.Inverse.{at-offset}
-use Rattle.oxc_sourcemap_text.proofs.Calls.{start-count, past-none, offset-no_line, offset-past, offset-inside, there-some, within-text}
+use Rattle.oxc_sourcemap_text.proofs.Calls.{start-count, past-none, offset-no_line, offset-past}
+use Rattle.oxc_sourcemap_text.proofs.Calls.{offset-inside, there-some, within-text}
 use Rattle.oxc_sourcemap_text.proofs.text_positions.TextPositions.offset.Goals as goal
 
 pub returns-in_default : goal.returns-in_default

@@ -24,5 +24,6 @@ mod roots;
 mod rows;
 mod shapes;
 mod sorting;
+mod text_positions;
 mod texts;
 mod visualizer;

@@ -7,7 +7,7 @@ use super::fixtures::{
 use super::memory::{nothing, refuse_each};
 use oxc_sourcemap::{
     ConcatSourceMapBuilder, JSONSourceMap, OwnedSourceMap, Plan, Result, SourceMap,
-    SourcemapVisualizer, Token,
+    SourcemapVisualizer, TextPositions, Token,
 };
 use serde_json::Value;
 use std::alloc::Global;
@@ -48,6 +48,11 @@ fn source_map_to_data_url(rt: HostRuntime) {
 #[test]
 fn owned_source_map_to_data_url(rt: HostRuntime) {
     refuse_each(&rt, full_owned_map, |alloc, map| map.to_data_url(alloc), |url| is_text(&rt, url, URL));
+}
+
+#[test]
+fn text_positions_new(rt: HostRuntime) {
+    refuse_each(&rt, nothing, |alloc, _| TextPositions::new(alloc, "a\n😀\r\n"), |positions| same(&rt, "offset", positions.offset(2, 0), Ok(6)));
 }
 
 #[test]

@@ -182,8 +182,8 @@ const MISREAD: &[PlanRow] = &[
     ("remap @0 1 a.js @0 b.js @0", &["{}"], Err(RunError::Arguments)),
 ];
 
-fn plans() -> [&'static [PlanRow]; 4] {
-    [MADE, REMADE, FAULTY, MISREAD]
+fn plans() -> [&'static [PlanRow]; 5] {
+    [MADE, SORTS, REMADE, FAULTY, MISREAD]
 }
 
 /// The input of these texts.

@@ -19,7 +19,8 @@ use Rattle.oxc_sourcemap_plan.specs.Outcome.{Outcome, read_outcome, rewrite_outc
 use Rattle.oxc_sourcemap_plan.specs.Outcome.{join_outcome, composition_outcome, remap_outcome}
 use Rattle.oxc_sourcemap_plan.specs.PlanArguments.{Parsed, whole, then_parsed, parsed_number}
 use Rattle.oxc_sourcemap_plan.specs.PlanArguments.{parsed_line, parsed_position, text_or_fault}
-use Rattle.oxc_sourcemap_plan.specs.PlanArguments.{text_of_number, parsed_text, parsed_input, parsed_sort}
+use Rattle.oxc_sourcemap_plan.specs.PlanArguments.{text_of_number, parsed_text, parsed_input}
+use Rattle.oxc_sourcemap_plan.specs.PlanArguments.{parsed_sort}
 use Rattle.oxc_sourcemap_plan.specs.PlanArguments.{with_rest}
 use Rattle.oxc_sourcemap_plan.specs.PlanArguments.{parsed_join_part, parsed_path, parsed_input_part}
 use Rattle.oxc_sourcemap_plan.specs.PlanArguments.{parsed_items, parsed_list, parsed_join}

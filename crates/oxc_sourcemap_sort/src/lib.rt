@@ -24,9 +24,11 @@ fn sort_tokens(alloc: Global, tokens: &mut [Token]) -> Memory<()>
 /// Chunks are dropped, as they would not fit. If the tokens are sorted, nothing changes, and no memory is taken. On an error the
 /// parts are as they were.
 pub fn sort_parts(alloc: Global, parts: &mut SourceMapParts<'_>) -> Memory<()>
-    ensures sorted { OnOk result (record_of_parts parts.new ≡ sorted_map (record_of_parts parts.old)) }
+    ensures sorted { OnOk result (record_of_parts parts.new
+        ≡ sorted_map (record_of_parts parts.old)) }
     ensures unchanged { OnErr result (record_of_parts parts.new ≡ record_of_parts parts.old) }
-    ensures no_memory { are_tokens_sorted (boxed_slice_items parts.old.tokens) ≡ true → IsOk result }
+    ensures no_memory { are_tokens_sorted (boxed_slice_items parts.old.tokens) ≡ true
+        → IsOk result }
 {
     if are_sorted(parts.tokens.as_slice()) {
         return Ok(());

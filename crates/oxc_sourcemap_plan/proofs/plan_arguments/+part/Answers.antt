@@ -19,7 +19,8 @@ use Rattle.oxc_sourcemap_plan.proofs.Plans.{outcome_root, outcome_join_at, outco
 use Rattle.oxc_sourcemap_plan.proofs.Plans.{outcome_remap}
 use Rattle.oxc_sourcemap_plan.proofs.PlanArguments.{named-start, named-rewrite, named-root}
 use Rattle.oxc_sourcemap_plan.proofs.PlanArguments.{named-join, named-join_at, named-compose}
-use Rattle.oxc_sourcemap_plan.proofs.PlanArguments.{named-sort, named-remap, named-text, left_after, item-error}
+use Rattle.oxc_sourcemap_plan.proofs.PlanArguments.{named-sort, named-remap, named-text, left_after}
+use Rattle.oxc_sourcemap_plan.proofs.PlanArguments.{item-error}
 use Rattle.oxc_sourcemap_plan.proofs.PlanArguments.{item-more, items-end, list-read, placed-error}
 use Rattle.oxc_sourcemap_plan.proofs.PlanArguments.{placed, join-read, path-error, with_path}
 use Rattle.oxc_sourcemap_plan.proofs.PlanArguments.{first-error, remapping-read, deepest-pushed}

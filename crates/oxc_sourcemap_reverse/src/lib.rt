@@ -1,0 +1,9 @@
+//! Lookups from original positions to generated ones. Part of `oxc_sourcemap`.
+#![tactic(auto)]
+
+mod index_tokens;
+mod order;
+mod source_index;
+
+pub use index_tokens::IndexTokens;
+pub use source_index::SourceIndex;

@@ -34,7 +34,7 @@ last_not_nil : {A : Type 0} (xs : List A) (y : A) → last xs ≡ Some y → xs 
 last_not_nil [] y h e = cc (h)
 last_not_nil (x ∷ xs) y h e = cc (e)
 
-same_read : {A : Type 0} (xs : List A) (i : ℕ) (d e : A) → i < length xs → get_or xs i d ≡ get_or xs i e
+pub same_read : {A : Type 0} (xs : List A) (i : ℕ) (d e : A) → i < length xs → get_or xs i d ≡ get_or xs i e
 same_read [] i d e h = absurd (omega (arith, h))
 same_read (x ∷ xs) zero d e h = refl
 same_read (x ∷ xs) (suc i) d e h = same_read xs i d e (omega (arith, h))
@@ -121,3 +121,47 @@ module _ (tokens : List TokenRecord) (order : List ℕ) (ord : IsOrderOf tokens 
           let k = rises i m x (omega (arith, q, e)) (omega (arith, e, within)) in
           let o = off x m e in omega (arith, k, o))
           (λ i x q v. let k = past i x q v in omega (arith, k, w)))
+
+      -- the mirror image: no token at the place, and one after it
+      pub from_near : (d : TokenRecord) → start < length (listed tokens order) → token_place (get_or (listed tokens order) start d) < place_number s l 4294967296
+          → generated_from s l col tokens ≡ Some (get_or (listed tokens order) start d)
+      from_near d lt on =
+          let xs = listed tokens order in
+          let t = get_or xs start d in
+          let best = token_place t - place_number s l 0 in
+          let more = past start d (omega arith) lt in
+          let place : token_place t ≡ place_number s l best = omega (arith, more) in
+          let after : col < best = omega (arith, place, more) in
+          let small_best : best < 4294967296 = omega (arith, place, on) in
+          let found : first (in_column source_column best (pointing_to s l tokens)) ≡ Some t =
+          ap first (column_of best small_best)
+          ∙ first_passing (place_test (place_number s l best)) xs start d lt (grind (arith, nat_tests, place))
+          (λ j x g. is_not _ _ (λ same. let k = before j x g in omega (arith, same, k, after))) in
+          let none = λ (c : ℕ) (g : col ≤ c) (w : c < best).
+          empty c start (omega (arith, w, small_best))
+          (λ i x q. let k = before i x q in omega (arith, k, g))
+          (λ i x q v. let k = rises start i d q v in let same = ap token_place (same_read xs i x d v) in omega (arith, k, same, place, w)) in
+          let other : (best == col) ≡ false = is_not best col (λ same. omega (arith, same, after)) in
+          from_nearest source_column col best (pointing_to s l tokens) (omega (arith, after)) none (some_not_nil _ _ found)
+          ∙ ap (λ b. if b then last (in_column source_column best (pointing_to s l tokens)) else first (in_column source_column best (pointing_to s l tokens))) other ∙ found
+
+      pub from_nothing : ((d : TokenRecord) → start < length (listed tokens order) → place_number s l 4294967296 ≤ token_place (get_or (listed tokens order) start d)) → generated_from s l col tokens ≡ None
+      from_nothing off =
+          from_none source_column col 4294967296 (pointing_to s l tokens) (bounded-filter (is_into s l) tokens bounds) (λ c g w.
+          empty c start w
+          (λ i x q. let k = before i x q in omega (arith, k, g))
+          (λ i x q v.
+          let k = rises start i x q v in
+          let o = off x (omega (arith, q, v)) in omega (arith, k, o, w)))
+
+    -- an exact hit, from above: the last token at the place
+    pub from_hit : (end : ℕ) (d : TokenRecord) → end < length (listed tokens order) → token_place (get_or (listed tokens order) end d) ≡ place_number s l col
+        → ((i : ℕ) (d : TokenRecord) → end < i → i < length (listed tokens order) → place_number s l col < token_place (get_or (listed tokens order) i d))
+        → generated_from s l col tokens ≡ Some (get_or (listed tokens order) end d)
+    from_hit end d lt e after =
+        let hit : last (in_column source_column col (pointing_to s l tokens)) ≡ Some (get_or (listed tokens order) end d) =
+        ap last (column_of col near)
+        ∙ last_passing (place_test (place_number s l col)) (listed tokens order) end d lt (grind (arith, nat_tests, e)) (λ j x g w. is_not _ _ (λ same. let k = after j x g w in omega (arith, same, k))) in
+        let self : (col == col) ≡ true = grind (arith, nat_tests) in
+        from_nearest source_column col col (pointing_to s l tokens) (omega arith) (λ c g w. absurd (omega (arith, g, w))) (last_not_nil _ _ hit)
+        ∙ ap (λ b. if b then last (in_column source_column col (pointing_to s l tokens)) else first (in_column source_column col (pointing_to s l tokens))) self ∙ hit

@@ -3,4 +3,6 @@ pub mod Runs
 pub mod Nearest
 pub mod Parts
 pub mod Found
+pub mod Searched
+pub mod Lines
 mod Worked

@@ -9,7 +9,7 @@ use Rattle.std.specs.List.{filter, All, AllByRecursion}
 use Rattle.std.specs.List.Sorted.{IsNonDecreasingBy, IsStableByKey, IsPermutation}
 use Rattle.std.specs.Option.{unwrap_or}
 use Rattle.std.specs.Ordering.{is_lt, nat_cmp}
-use Rattle.oxc_sourcemap_tokens.specs.Token.{TokenRecord, IsInBounds, is_mapped}
+use Rattle.oxc_sourcemap_tokens.specs.Token.{TokenRecord, IsInBounds, is_mapped, AreInBounds}
 use Rattle.oxc_sourcemap_reverse.specs.Reverse.{is_source, is_into, is_at}
 use Rattle.oxc_sourcemap_reverse.specs.Places.{place_number, token_place, numbered_from, no_token, listed, IsOrderOf}
 
@@ -155,9 +155,9 @@ pub is_at_place : (s l c : ℕ) (t : TokenRecord) → l < 4294967296 → c < 429
 is_at_place s l c t hl hc h = is_at-by s l c t.dst_line t.dst_col t.src_line t.src_col t.source_id t.name_id hl hc h.src_line h.src_col
 
 -- the indices behind the sorted numbers
-pub order_from : (tokens : List TokenRecord) (sorted order : List ℕ) → length tokens < 4294967296 → IsPermutation (numbered_from 0 tokens) sorted → length sorted ≡ length (numbered_from 0 tokens)
+pub order_from : (tokens : List TokenRecord) (sorted order : List ℕ) → AreInBounds tokens → length tokens < 4294967296 → IsPermutation (numbered_from 0 tokens) sorted → length sorted ≡ length (numbered_from 0 tokens)
     → IsNonDecreasingBy front sorted → IsStableByKey front nat_cmp (numbered_from 0 tokens) sorted → order ≡ map (λ n. n % 4294967296) sorted → IsOrderOf tokens order
-order_from tokens sorted order h perm len up stable e =
+order_from tokens sorted order bounds h perm len up stable e =
     let ns = numbered_from 0 tokens in
     let start : All (IsNumbered tokens) ns = All-from_recursion (IsNumbered tokens) ns (all_numbered tokens tokens 0 h refl) in
     let all : All (IsNumbered tokens) sorted = All-permutation (IsNumbered tokens) ns sorted perm start in
@@ -169,6 +169,7 @@ order_from tokens sorted order h perm len up stable e =
     let in_ : i < length sorted = omega (arith, le, jn) in
     omega (arith, up i j 0 le jn, (all i 0 in_).1, (all j 0 jn).1, ap token_place (get_or-map (behind tokens) sorted i 0 d in_), ap token_place (get_or-map (behind tokens) sorted j 0 d jn)) in
     record {
+      in_bounds = bounds;
       within = subst (λ xs. All (λ i. i < length tokens) xs) (sym e) (All-map (λ i. i < length tokens) (λ n. n % 4294967296) sorted (λ k d lt. (all k d lt).0));
       fewer = omega (arith, ap length e, length-map sorted (λ n. n % 4294967296), len, fewer_numbered tokens 0);
       rises = subst (λ xs. IsNonDecreasingBy token_place xs) (sym listing) rising;

@@ -4,7 +4,7 @@ use Rattle.std.specs.Prelude.{length, get_or, Option, None, if◌then◌else◌}
 use Rattle.std.specs.Option.{unwrap_or}
 use Rattle.std.specs.List.{All}
 use Rattle.std.specs.List.Sorted.{IsNonDecreasingBy}
-use Rattle.oxc_sourcemap_tokens.specs.Token.{TokenRecord, is_mapped}
+use Rattle.oxc_sourcemap_tokens.specs.Token.{TokenRecord, is_mapped, AreInBounds}
 
 -- a number that orders places: by source, then by line, then by column
 abbrev pub place_number : ℕ → ℕ → ℕ → ℕ
@@ -31,6 +31,7 @@ listed tokens order = map (λ i. get_or tokens i no_token) order
 
 -- These are the indices of the mapped tokens, by place, and for each place in the order of the map.
 pub record IsOrderOf (tokens : List TokenRecord) (order : List ℕ) : Type 0 where
+  pub in_bounds : AreInBounds tokens
   pub within : All (λ i. i < length tokens) order
   pub fewer : length order ≤ length tokens
   pub rises : IsNonDecreasingBy token_place (listed tokens order)

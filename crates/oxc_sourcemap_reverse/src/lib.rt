@@ -3,6 +3,7 @@
 
 mod index_tokens;
 mod order;
+mod search;
 mod source_index;
 
 pub use index_tokens::IndexTokens;

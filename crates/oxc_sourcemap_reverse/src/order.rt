@@ -5,9 +5,9 @@ ghost use Rattle.std.specs.List.{All};
 ghost use Rattle.std.specs.List.Sorted.{IsNonDecreasingBy};
 ghost use Rattle.oxc_sourcemap_reverse.specs.Words.{TokenRecord, place_number, token_place};
 ghost use Rattle.oxc_sourcemap_reverse.specs.Words.{numbered_from, listed, IsOrderOf};
-ghost use Rattle.oxc_sourcemap_reverse.specs.Words.{binary_digits, AreBetween};
+ghost use Rattle.oxc_sourcemap_reverse.specs.Words.{binary_digits, AreBetween, AreInBounds};
 
-use oxc_sourcemap_tokens::{Memory, Token};
+use oxc_sourcemap_tokens::{Memory, Token, tokens_in_bounds};
 use std::alloc::Global;
 
 /// A place in a source as a number, so that places compare as numbers do.
@@ -57,6 +57,7 @@ pub(crate) fn order_of(alloc: Global, tokens: &[Token]) -> Memory<Vec<u32>>
     requires { length tokens.now < 2 ^ 32 }
     ensures { IfOk result (λ order. IsOrderOf tokens.now order.items) }
 {
+    tokens_in_bounds(tokens);
     let mut numbers = numbered(alloc, tokens)?;
     numbers.sort_by_key(|number: &u128| *number / 4294967296)?;
     let order = indices_in(alloc, numbers.as_slice())?;
@@ -122,6 +123,7 @@ pub(crate) fn between<'o>(
     requires forward { from < to }
     requires few { steps.old ≤ 1024 }
     ensures within { All (λ i. i < length tokens.now) result.now }
+    ensures in_bounds { AreInBounds (listed tokens.now result.now) }
     ensures only { AreBetween from to (listed tokens.now result.now) }
     ensures rises { IsNonDecreasingBy token_place (listed tokens.now result.now) }
     ensures each { (place : ℕ) → from ≤ place → place < to

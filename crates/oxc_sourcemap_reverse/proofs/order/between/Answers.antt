@@ -1,11 +1,11 @@
 use Rattle.std.proofs.Common.{◌≡◌, ◌∙◌, sym, ap, subst, ℕ, ◌+◌, ◌-◌, ◌<◌, ◌≤◌, ◌==◌, inl, inr, List, length, get_or, take, drop, arith}
 use Rattle.std.proofs.lemmas.Bool.{cases_lt}
 use Rattle.std.proofs.lemmas.List.{length-map}
-use Rattle.std.proofs.lemmas.List.Elements.{All-take, All-drop}
+use Rattle.std.proofs.lemmas.List.Elements.{All-take, All-drop, All-map}
 use Rattle.std.proofs.lemmas.List.Sorted.{IsNonDecreasingBy-take, IsNonDecreasingBy-drop}
 use Rattle.std.specs.List.{filter, All}
 use Rattle.std.specs.List.Sorted.{IsNonDecreasingBy}
-use Rattle.oxc_sourcemap_tokens.specs.Token.{TokenRecord}
+use Rattle.oxc_sourcemap_tokens.specs.Token.{TokenRecord, IsInBounds}
 use Rattle.oxc_sourcemap_reverse.specs.Places.{token_place, no_token, listed, AreBetween}
 use Rattle.oxc_sourcemap_reverse.proofs.Runs.{map_part}
 use Rattle.oxc_sourcemap_reverse.proofs.Parts.{in_order, part_between, part_same}
@@ -20,6 +20,12 @@ pub returns-clause-within : goal.returns-clause-within
 returns-clause-within c =
     let P : ℕ → Type 0 = λ i. i < length c.args.tokens.now in
     subst (λ xs. All P xs) (sym c.part_of.ensures) (All-take P _ _ (All-drop P _ _ c.requires.order.within))
+
+pub returns-clause-in_bounds : goal.returns-clause-in_bounds
+returns-clause-in_bounds c =
+    let P : ℕ → Type 0 = λ i. i < length c.args.tokens.now in
+    let part = subst (λ xs. All P xs) (sym c.part_of.ensures) (All-take P _ _ (All-drop P _ _ c.requires.order.within)) in
+    All-map IsInBounds (λ i. get_or c.args.tokens.now i no_token) c.part_of.result.now (λ k d lt. c.requires.order.in_bounds _ no_token (part k d lt))
 
 pub returns-clause-rises : goal.returns-clause-rises
 returns-clause-rises c =

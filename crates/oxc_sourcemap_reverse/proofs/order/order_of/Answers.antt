@@ -17,4 +17,4 @@ returns c =
     let perm = subst (λ xs. IsPermutation xs sorted) is c.sort_by_key.ensures.permutation in
     let stable = subst (λ xs. IsStableByKey front nat_cmp xs sorted) is (c.sort_by_key.ensures.stable front keys) in
     let up = IsNonDecreasingBy-from_sort_by_key front sorted c.in_ok-sort_by_key.ensures.sorted (λ a r q k. search rules) in
-    order_from tokens sorted c.in_ok-order.order.items (omega (arith, c.requires)) perm (length_permutation _ sorted perm) up stable (c.in_ok-order.ensures ∙ ap (map (λ n. n % 4294967296)) c.as_slice.ensures.value)
+    order_from tokens sorted c.in_ok-order.order.items c.tokens_in_bounds.ensures (omega (arith, c.requires)) perm (length_permutation _ sorted perm) up stable (c.in_ok-order.ensures ∙ ap (map (λ n. n % 4294967296)) c.as_slice.ensures.value)

@@ -1,25 +1,23 @@
 -- What stands around an index in tokens by place, and what the definitions find.
-use Rattle.std.proofs.Common.{◌≡◌, ◌≢◌, refl, sym, ap, subst, ◌∙◌, ℕ, zero, suc, ◌+◌, ◌-◌, ◌*◌, ◌<◌, ◌≤◌, Bool, true, false, cond, ◌&&◌, ◌==◌, List, [], ◌∷◌}
-use Rattle.std.proofs.Common.{length, get_or, take, drop, if◌then◌else◌, Option, Some, None, inl, inr, arith}
+use Rattle.std.proofs.Common.{◌≡◌, ◌≢◌, refl, sym, ap, ◌∙◌, ℕ, zero, suc, ◌+◌, ◌-◌, ◌<◌, ◌≤◌, Bool, true, false, cond, ◌&&◌, ◌==◌, List, [], ◌∷◌}
+use Rattle.std.proofs.Common.{length, get_or, if◌then◌else◌, Some, None, inl, inr, arith}
 use Rattle.std.proofs.lemmas.Bool.{cases_lt}
 use Rattle.std.proofs.lemmas.Bool.Decides.{nat_tests}
-use Rattle.std.proofs.lemmas.List.{length-map}
-use Rattle.std.proofs.lemmas.List.Elements.{recursion_from_All}
-use Rattle.std.specs.List.{filter, All, AllByRecursion}
+use Rattle.std.specs.List.{filter, AllByRecursion}
 use Rattle.std.specs.List.Sorted.{IsNonDecreasingBy}
-use Rattle.oxc_sourcemap_tokens.specs.Token.{TokenRecord, IsInBounds, is_mapped, last}
+use Rattle.oxc_sourcemap_tokens.specs.Token.{TokenRecord, IsInBounds, last}
 use Rattle.oxc_sourcemap_lookup.specs.Lookup.{first, in_column}
-use Rattle.oxc_sourcemap_reverse.specs.Reverse.{is_into, is_at, source_column, pointing_to, generated_at, generated_for, generated_from}
-use Rattle.oxc_sourcemap_reverse.specs.Places.{place_number, token_place, no_token, listed, IsOrderOf}
+use Rattle.oxc_sourcemap_reverse.specs.Reverse.{is_into, source_column, pointing_to, generated_at, generated_for, generated_from}
+use Rattle.oxc_sourcemap_reverse.specs.Places.{place_number, token_place, listed, IsOrderOf}
 use Rattle.oxc_sourcemap_reverse.proofs.Numbers.{is_at_place, filter_same}
-use Rattle.oxc_sourcemap_reverse.proofs.Runs.{filter_none, filter_part, first_passing, last_passing}
+use Rattle.oxc_sourcemap_reverse.proofs.Runs.{filter_none, first_passing, last_passing}
 use Rattle.oxc_sourcemap_reverse.proofs.Nearest.{at_nearest, at_none, from_nearest, from_none}
 
 filter_twice-by : {A : Type 0} (b : Bool) (p q : A → Bool) (x : A) (xs ys : List A) → filter q xs ≡ ys → filter q (cond b (x ∷ xs) xs) ≡ cond (b && q x) (x ∷ ys) ys
 filter_twice-by true p q x xs ys e = ap (λ zs. cond (q x) (x ∷ zs) zs) e
 filter_twice-by false p q x xs ys e = e
 
-filter_twice : {A : Type 0} (p q : A → Bool) (xs : List A) → filter q (filter p xs) ≡ filter (λ x. p x && q x) xs
+pub filter_twice : {A : Type 0} (p q : A → Bool) (xs : List A) → filter q (filter p xs) ≡ filter (λ x. p x && q x) xs
 filter_twice p q [] = refl
 filter_twice p q (x ∷ xs) = filter_twice-by (p x) p q x (filter p xs) (filter (λ x. p x && q x) xs) (filter_twice p q xs)
 

@@ -5,4 +5,5 @@ pub mod Parts
 pub mod Found
 pub mod Searched
 pub mod Lines
+pub mod LeadBack
 mod Worked

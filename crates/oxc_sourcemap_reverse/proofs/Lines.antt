@@ -1,12 +1,11 @@
 -- The tokens between two places: those at one place, and those of one line.
-use Rattle.std.proofs.Common.{◌≡◌, refl, sym, ap, ◌∙◌, ℕ, ◌+◌, ◌*◌, ◌<◌, ◌≤◌, Bool, true, false, cond, ◌&&◌, ◌==◌, List, [], ◌∷◌, length, get_or, inl, inr, arith}
+use Rattle.std.proofs.Common.{◌≡◌, refl, sym, ap, ◌∙◌, ℕ, ◌+◌, ◌<◌, ◌≤◌, Bool, true, false, cond, ◌&&◌, ◌==◌, List, [], ◌∷◌, length, get_or, inl, inr, arith}
 use Rattle.std.proofs.lemmas.Bool.{cases_lt}
 use Rattle.std.proofs.lemmas.Bool.Decides.{nat_tests}
 use Rattle.std.proofs.lemmas.List.Elements.{recursion_from_All}
-use Rattle.std.specs.List.{filter, All, AllByRecursion}
+use Rattle.std.specs.List.{filter, AllByRecursion}
 use Rattle.std.specs.List.Sorted.{IsNonDecreasingBy}
 use Rattle.oxc_sourcemap_tokens.specs.Token.{TokenRecord, IsInBounds, AreInBounds, is_mapped}
-use Rattle.oxc_sourcemap_lookup.specs.Lookup.{in_column}
 use Rattle.oxc_sourcemap_reverse.specs.Reverse.{is_at, source_column, generated_at, IsLineByColumn}
 use Rattle.oxc_sourcemap_reverse.specs.Places.{place_number, token_place, AreBetween}
 use Rattle.oxc_sourcemap_reverse.proofs.Numbers.{is_at_place, filter_same}

@@ -1,3 +1,4 @@
 pub mod Reverse
 pub mod Places
+pub mod ReverseLaws
 pub mod Words

@@ -8,3 +8,5 @@ pub use Rattle.oxc_sourcemap_reverse.specs.Reverse.{all_generated_from, IsLineBy
 pub use Rattle.oxc_sourcemap_reverse.specs.Reverse.{index_fault, indexed}
 pub use Rattle.oxc_sourcemap_reverse.specs.Places.{place_number, token_place, numbered_from}
 pub use Rattle.oxc_sourcemap_reverse.specs.Places.{no_token, listed, IsOrderOf, AreBetween}
+pub use Rattle.oxc_sourcemap_reverse.specs.ReverseLaws.{LookupLeadsBack, FoundAtPlace, FoundOnLine}
+pub use Rattle.oxc_sourcemap_reverse.specs.ReverseLaws.{FoundBefore, FoundAfter, AllFoundOnLine}

@@ -2,9 +2,11 @@
 #![tactic(auto)]
 
 mod index_tokens;
+mod laws;
 mod order;
 mod search;
 mod source_index;
 
 pub use index_tokens::IndexTokens;
+pub use laws::reverse_lookups;
 pub use source_index::SourceIndex;

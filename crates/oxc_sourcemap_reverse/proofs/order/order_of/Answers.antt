@@ -1,10 +1,9 @@
-use Rattle.std.proofs.Common.{◌≡◌, ◌∙◌, sym, ap, subst, ℕ, List, map, ◌%◌, length, arith, rules}
-use Rattle.std.proofs.lemmas.Grind.{common_steps}
+use Rattle.std.proofs.Common.{◌≡◌, ◌∙◌, ap, subst, map, ◌%◌, arith, rules}
 use Rattle.std.proofs.lemmas.Fn.{always_returns_same}
 use Rattle.std.proofs.lemmas.List.Sorted.{IsNonDecreasingBy-from_sort_by_key, length_permutation}
 use Rattle.std.specs.List.Sorted.{IsPermutation, IsStableByKey}
 use Rattle.std.specs.Ordering.{nat_cmp}
-use Rattle.oxc_sourcemap_reverse.specs.Places.{numbered_from, IsOrderOf}
+use Rattle.oxc_sourcemap_reverse.specs.Places.{numbered_from}
 use Rattle.oxc_sourcemap_reverse.proofs.Numbers.{front, order_from}
 use Rattle.oxc_sourcemap_reverse.proofs.order.order_of.Goals as goal
 

@@ -1,5 +1,5 @@
-use Rattle.std.proofs.Common.{◌≡◌, refl, ◌∙◌, sym, ap, ℕ, ◌+◌, ◌-◌, ◌<◌, ◌≤◌, true, length, get_or, Some, arith, rules}
-use Rattle.oxc_sourcemap_reverse.specs.Places.{place_number, token_place, no_token, listed}
+use Rattle.std.proofs.Common.{refl, ◌∙◌, sym, ap, Some, arith}
+use Rattle.oxc_sourcemap_reverse.specs.Places.{token_place}
 use Rattle.oxc_sourcemap_reverse.proofs.Searched.{for_found, for_before, for_nothing}
 use Rattle.oxc_sourcemap_reverse.proofs.search.find_for.Goals as goal
 

@@ -1,5 +1,5 @@
-use Rattle.std.proofs.Common.{◌≡◌, ◌∙◌, sym, ap, ℕ, ◌+◌, ◌-◌, ◌<◌, ◌≤◌, true, length, get_or, Some, arith, rules}
-use Rattle.oxc_sourcemap_reverse.specs.Places.{place_number, token_place, no_token, listed}
+use Rattle.std.proofs.Common.{◌∙◌, sym, ap, Some, arith}
+use Rattle.oxc_sourcemap_reverse.specs.Places.{token_place}
 use Rattle.oxc_sourcemap_reverse.proofs.Searched.{from_after, from_none_left, from_found}
 use Rattle.oxc_sourcemap_reverse.proofs.search.find_from.Goals as goal
 

@@ -1,5 +1,4 @@
-use Rattle.std.proofs.Common.{◌≡◌, sym, ap, ◌∙◌, ◌<◌, ℕ, List, ◌∷◌, length, arith, rules}
-use Rattle.std.proofs.lemmas.Grind.{common_steps}
+use Rattle.std.proofs.Common.{◌<◌, length}
 use Rattle.std.proofs.lemmas.List.Elements.{All-rest}
 use Rattle.std.specs.Slice.Iter.{iter_rest}
 use Rattle.oxc_sourcemap_reverse.proofs.index_tokens.IndexTokensIterator.next.Goals as goal

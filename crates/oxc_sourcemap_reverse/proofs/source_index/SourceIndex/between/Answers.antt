@@ -1,4 +1,4 @@
-use Rattle.std.proofs.Common.{◌≡◌, ◌∙◌, sym, ap, subst, ◌+◌, ◌*◌, ◌≤◌, length, arith, rules}
+use Rattle.std.proofs.Common.{sym, ap, subst, length, arith}
 use Rattle.std.specs.List.Sorted.{IsNonDecreasingBy}
 use Rattle.oxc_sourcemap_lookup.proofs.Halving.{fewer-digits}
 use Rattle.oxc_sourcemap_tokens.specs.Token.{AreInBounds}

@@ -1,4 +1,4 @@
-use Rattle.std.proofs.Common.{◌≡◌, ◌∙◌, sym, ap, subst, ◌+◌, ◌*◌, ◌≤◌, length, arith, rules}
+use Rattle.std.proofs.Common.{ap, length, arith}
 use Rattle.oxc_sourcemap_lookup.proofs.Halving.{fewer-digits}
 use Rattle.oxc_sourcemap_reverse.proofs.source_index.SourceIndex.find_for.Goals as goal
 

@@ -1,4 +1,4 @@
-use Rattle.std.proofs.Common.{◌≡◌, ◌∙◌, sym, ap, subst, ◌+◌, ◌*◌, ◌≤◌, length, arith, rules}
+use Rattle.std.proofs.Common.{◌≡◌, subst, arith}
 use Rattle.oxc_sourcemap_tokens.specs.Token.{AreInBounds}
 use Rattle.oxc_sourcemap_reverse.proofs.Lines.{exactly_there}
 use Rattle.oxc_sourcemap_reverse.proofs.source_index.SourceIndex.generated_at.Goals as goal

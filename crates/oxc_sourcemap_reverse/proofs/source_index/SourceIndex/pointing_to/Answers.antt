@@ -1,4 +1,4 @@
-use Rattle.std.proofs.Common.{◌≡◌, ◌∙◌, sym, ap, subst, ◌+◌, ◌*◌, ◌≤◌, length, arith, rules}
+use Rattle.std.proofs.Common.{◌≡◌, subst, arith}
 use Rattle.oxc_sourcemap_tokens.specs.Token.{AreInBounds}
 use Rattle.oxc_sourcemap_reverse.proofs.Lines.{all_of_line}
 use Rattle.oxc_sourcemap_reverse.proofs.source_index.SourceIndex.pointing_to.Goals as goal

@@ -51,6 +51,8 @@ pub use Rattle.oxc_sourcemap_remap.specs.Inputs
 pub use Rattle.oxc_sourcemap_remap.specs.Blocks
 pub use Rattle.oxc_sourcemap_remap.specs.Remapped
 pub use Rattle.oxc_sourcemap_map.specs.View
+pub use Rattle.oxc_sourcemap_reverse.specs.Reverse
+pub use Rattle.oxc_sourcemap_reverse.specs.ReverseLaws
 pub use Rattle.oxc_sourcemap_builders.specs.Built
 pub use Rattle.oxc_sourcemap_builders.specs.Building
 pub use Rattle.oxc_sourcemap_builders.specs.NameLaws

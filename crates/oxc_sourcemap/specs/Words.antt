@@ -61,6 +61,9 @@ pub use Rattle.oxc_sourcemap_plan.specs.RunErrors.{out_of_memory, run_error_text
 pub use Rattle.oxc_sourcemap_plan.specs.declared.run_error.RunError.TheVariants.{Plan}
 pub use Rattle.oxc_sourcemap_remap.specs.Inputs.{lent_inputs, inputs_fault, NoInputColumnGoesBack}
 pub use Rattle.oxc_sourcemap_remap.specs.Remapped.{remapping, SomeRemapping}
+pub use Rattle.oxc_sourcemap_reverse.specs.Reverse.{generated_at, generated_for, generated_from}
+pub use Rattle.oxc_sourcemap_reverse.specs.Reverse.{all_generated_for, all_generated_from}
+pub use Rattle.oxc_sourcemap_reverse.specs.Reverse.{IsLineByColumn, index_fault, indexed}
 pub use Rattle.oxc_sourcemap_tokens.specs.Chunks.{ChunksFit}
 pub use Rattle.oxc_sourcemap_tokens.specs.LineOrder.{IsInLineOrder}
 pub use Rattle.oxc_sourcemap_tokens.specs.Results.{Answers, Reports, OnlyMemory, lent_items}

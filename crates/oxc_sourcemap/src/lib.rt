@@ -19,6 +19,7 @@ pub use oxc_sourcemap_map::{OwnedSourceMap, SourceMap, SourceViewToken, ViewToke
 pub use oxc_sourcemap_mappings::{decode_mappings, encode_chunk, encode_mappings};
 pub use oxc_sourcemap_parts::{Contents, Names, SourceMapParts, Sources, Tokens};
 pub use oxc_sourcemap_plan::Plan;
+pub use oxc_sourcemap_reverse::{IndexTokens, SourceIndex};
 pub use oxc_sourcemap_text::{PositionError, TextPositions};
 pub use oxc_sourcemap_tokens::{
     Error, Field, JsonFault, PlanError, Result, Token, TokenChunk, chunk_fault,

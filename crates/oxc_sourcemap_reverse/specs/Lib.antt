@@ -1,0 +1,4 @@
+pub mod Reverse
+pub mod Places
+pub mod ReverseLaws
+pub mod Words

@@ -1,0 +1,93 @@
+-- From original positions to generated ones: which tokens of a map point to a place of a source.
+use Rattle.std.specs.Prelude.{◌≡◌, ℕ, Bool, false, ◌&&◌, List, [], ◌∷◌, filter, min, length}
+use Rattle.std.specs.Prelude.{Option, Some, None, Result, Ok, if◌then◌else◌, nat_le, ◌==◌}
+use Rattle.std.specs.Option.{unwrap_or}
+use Rattle.std.specs.List.Sorted.{IsNonDecreasingBy}
+use Rattle.oxc_sourcemap_tokens.specs.declared.error.Error.{Error}
+use Rattle.oxc_sourcemap_tokens.specs.declared.error.Error.TheVariants.{TooLarge}
+use Rattle.oxc_sourcemap_tokens.specs.Errors.{unless}
+use Rattle.oxc_sourcemap_tokens.specs.Token.{last, TokenRecord}
+use Rattle.oxc_sourcemap_lookup.specs.Lookup.{first, in_column, at}
+
+-- whether an id is that of this source
+abbrev pub is_source : ℕ → Option ℕ → Bool
+is_source source None = false
+is_source source (Some id) = id == source
+
+-- whether a token points to this line of this source
+abbrev pub is_into : ℕ → ℕ → TokenRecord → Bool
+is_into source line t = is_source source t.source_id && t.src_line == line
+
+-- whether a token points to this place in this source
+abbrev pub is_at : ℕ → ℕ → ℕ → TokenRecord → Bool
+is_at source line col t = is_into source line t && t.src_col == col
+
+-- the source column of a token
+abbrev pub source_column : TokenRecord → ℕ
+source_column t = t.src_col
+
+-- the tokens that point to a line of a source, in the order of the map
+abbrev pub pointing_to : ℕ → ℕ → List TokenRecord → List TokenRecord
+pointing_to source line tokens = filter (is_into source line) tokens
+
+-- the tokens that point to exactly this place, in the order of the map
+abbrev pub generated_at : ℕ → ℕ → ℕ → List TokenRecord → List TokenRecord
+generated_at source line col tokens = filter (is_at source line col) tokens
+
+-- the items whose column is not before this one
+abbrev pub not_before : {A : Type 0} → (A → ℕ) → ℕ → List A → List A
+not_before column col items = filter (λ x. nat_le col (column x)) items
+
+-- the least column of these items, or none where there are no items
+abbrev pub least_of : ℕ → Option ℕ → Option ℕ
+least_of n others = Some (min n (unwrap_or others n))
+
+abbrev pub least : {A : Type 0} → (A → ℕ) → List A → Option ℕ
+least column [] = None
+least column (x ∷ xs) = least_of (column x) (least column xs)
+
+-- Of the items at the least column: the last if that is the given one, else the first. None where there is no column.
+abbrev pub from_least : {A : Type 0} → (A → ℕ) → ℕ → List A → Option ℕ → Option A
+from_least column col items None = None
+from_least column col items (Some best) =
+    if best == col then last (in_column column best items) else first (in_column column best items)
+
+-- The mirror image of `at`. Of the items whose column is the least one not before the given one: the last if that is the
+-- given one, else the first. None if there are no such items.
+abbrev pub at_or_after : {A : Type 0} → (A → ℕ) → List A → ℕ → Option A
+at_or_after column items col =
+    from_least column col (not_before column col items) (least column (not_before column col items))
+
+-- the token of the greatest source column not past the given one, on this line of this source
+abbrev pub generated_for : ℕ → ℕ → ℕ → List TokenRecord → Option TokenRecord
+generated_for source line col tokens = at source_column (pointing_to source line tokens) col
+
+-- the token of the least source column not before the given one, on this line of this source
+abbrev pub generated_from : ℕ → ℕ → ℕ → List TokenRecord → Option TokenRecord
+generated_from source line col tokens = at_or_after source_column (pointing_to source line tokens) col
+
+-- all tokens that point where this one does, in the order of the map
+abbrev pub all_beside : ℕ → ℕ → Option TokenRecord → List TokenRecord → List TokenRecord
+all_beside source line None tokens = []
+all_beside source line (Some t) tokens = generated_at source line t.src_col tokens
+
+-- all tokens at the place of `generated_for`, and of `generated_from`
+abbrev pub all_generated_for : ℕ → ℕ → ℕ → List TokenRecord → List TokenRecord
+all_generated_for source line col tokens = all_beside source line (generated_for source line col tokens) tokens
+
+abbrev pub all_generated_from : ℕ → ℕ → ℕ → List TokenRecord → List TokenRecord
+all_generated_from source line col tokens =
+    all_beside source line (generated_from source line col tokens) tokens
+
+-- These are all tokens that point to a line of a source, by source column, and those of one column in the order of the map.
+pub record IsLineByColumn (source line : ℕ) (tokens : List TokenRecord) (found : List TokenRecord) : Type 0 where
+  pub order : IsNonDecreasingBy source_column found
+  pub each : (col : ℕ) → in_column source_column col found ≡ generated_at source line col tokens
+
+-- the fault of a list of tokens that cannot be indexed: there are too many
+abbrev pub index_fault : List TokenRecord → Option Error
+index_fault tokens = if nat_le (length tokens) 4294967295 then None else Some TooLarge
+
+-- the tokens that an index has, in the order of the map
+abbrev pub indexed : List TokenRecord → Result (List TokenRecord) Error
+indexed tokens = unless (index_fault tokens) (Ok tokens)

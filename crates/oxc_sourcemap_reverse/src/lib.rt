@@ -1,0 +1,12 @@
+//! Lookups from original positions to generated ones. Part of `oxc_sourcemap`.
+#![tactic(auto)]
+
+mod index_tokens;
+mod laws;
+mod order;
+mod search;
+mod source_index;
+
+pub use index_tokens::IndexTokens;
+pub use laws::reverse_lookups;
+pub use source_index::SourceIndex;

@@ -1,5 +1,6 @@
 -- What stands around an index in tokens by place, and what the definitions find.
-use Rattle.std.proofs.Common.{◌≡◌, ◌≢◌, refl, sym, ap, ◌∙◌, ℕ, zero, suc, ◌+◌, ◌-◌, ◌<◌, ◌≤◌, Bool, true, false, cond, ◌&&◌, ◌==◌, List, [], ◌∷◌}
+use Rattle.std.proofs.Common.{◌≡◌, ◌≢◌, refl, sym, ap, ◌∙◌, ℕ, zero, suc, ◌+◌, ◌-◌, ◌<◌, ◌≤◌, Bool}
+use Rattle.std.proofs.Common.{true, false, cond, ◌&&◌, ◌==◌, List, [], ◌∷◌}
 use Rattle.std.proofs.Common.{length, get_or, if◌then◌else◌, Some, None, inl, inr, arith}
 use Rattle.std.proofs.lemmas.Bool.{cases_lt}
 use Rattle.std.proofs.lemmas.Bool.Decides.{nat_tests}
@@ -7,7 +8,8 @@ use Rattle.std.specs.List.{filter, AllByRecursion}
 use Rattle.std.specs.List.Sorted.{IsNonDecreasingBy}
 use Rattle.oxc_sourcemap_tokens.specs.Token.{TokenRecord, IsInBounds, last}
 use Rattle.oxc_sourcemap_lookup.specs.Lookup.{first, in_column}
-use Rattle.oxc_sourcemap_reverse.specs.Reverse.{is_into, source_column, pointing_to, generated_at, generated_for, generated_from}
+use Rattle.oxc_sourcemap_reverse.specs.Reverse.{is_into, source_column, pointing_to, generated_at}
+use Rattle.oxc_sourcemap_reverse.specs.Reverse.{generated_for, generated_from}
 use Rattle.oxc_sourcemap_reverse.specs.Places.{place_number, token_place, listed, IsOrderOf}
 use Rattle.oxc_sourcemap_reverse.proofs.Numbers.{is_at_place, filter_same}
 use Rattle.oxc_sourcemap_reverse.proofs.Runs.{filter_none, first_passing, last_passing}

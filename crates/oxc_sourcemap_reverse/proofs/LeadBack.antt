@@ -1,15 +1,19 @@
 -- What passes a filter, and what lookups find among it.
-use Rattle.std.proofs.Common.{◌≡◌, ◌≢◌, refl, sym, ap, ◌∙◌, ℕ, ◌≤◌, Bool, true, false, cond, ◌&&◌, ◌==◌, List, [], ◌∷◌}
+use Rattle.std.proofs.Common.{◌≡◌, ◌≢◌, refl, sym, ap, ◌∙◌, ℕ, ◌≤◌, Bool, true, false, cond, ◌&&◌}
+use Rattle.std.proofs.Common.{◌==◌, List, [], ◌∷◌}
 use Rattle.std.proofs.Common.{nat_le, if◌then◌else◌, Option, Some, None, IfSome, arith}
 use Rattle.std.proofs.lemmas.Bool.Decides.{nat_tests}
 use Rattle.std.proofs.lemmas.List.Elements.{All-contains, All-from_recursion}
 use Rattle.std.specs.List.{filter, last_or, AllByRecursion, Contains}
 use Rattle.oxc_sourcemap_tokens.specs.Token.{TokenRecord, last}
 use Rattle.oxc_sourcemap_parts.specs.Sorted.{token_line, token_column}
-use Rattle.oxc_sourcemap_lookup.specs.Lookup.{first, greatest, in_column, not_past, on_line as lookup_line}
-use Rattle.oxc_sourcemap_reverse.specs.Reverse.{is_into, is_at, source_column, not_before, least, from_least, all_beside}
+use Rattle.oxc_sourcemap_lookup.specs.Lookup.{first, greatest, in_column, not_past}
+use Rattle.oxc_sourcemap_lookup.specs.Lookup.{on_line as lookup_line}
+use Rattle.oxc_sourcemap_reverse.specs.Reverse.{is_into, is_at, source_column, not_before, least}
+use Rattle.oxc_sourcemap_reverse.specs.Reverse.{from_least, all_beside}
 use Rattle.oxc_sourcemap_reverse.specs.Reverse.{generated_for, generated_from, pointing_to}
-use Rattle.oxc_sourcemap_reverse.specs.ReverseLaws.{LookupLeadsBack, FoundAtPlace, FoundOnLine, FoundBefore, FoundAfter, AllFoundOnLine}
+use Rattle.oxc_sourcemap_reverse.specs.ReverseLaws.{LookupLeadsBack, FoundAtPlace, FoundOnLine}
+use Rattle.oxc_sourcemap_reverse.specs.ReverseLaws.{FoundBefore, FoundAfter, AllFoundOnLine}
 use Rattle.oxc_sourcemap_reverse.proofs.Found.{filter_twice}
 use Rattle.oxc_sourcemap_reverse.proofs.Nearest.{at_nearest}
 

@@ -1,12 +1,14 @@
 -- What is found at a column: by which columns have items.
-use Rattle.std.proofs.Common.{◌≡◌, ◌≢◌, refl, ap, ◌∙◌, ℕ, ◌<◌, ◌≤◌, Bool, true, false, cond, List, [], ◌∷◌}
+use Rattle.std.proofs.Common.{◌≡◌, ◌≢◌, refl, ap, ◌∙◌, ℕ, ◌<◌, ◌≤◌, Bool, true, false, cond, List}
+use Rattle.std.proofs.Common.{[], ◌∷◌}
 use Rattle.std.proofs.Common.{◌==◌, nat_le, inl, inr, if◌then◌else◌, Option, Some, None, arith}
 use Rattle.std.proofs.lemmas.Bool.{cases_lt}
 use Rattle.std.proofs.lemmas.Bool.Decides.{nat_tests}
 use Rattle.std.specs.List.{AllByRecursion}
 use Rattle.oxc_sourcemap_tokens.specs.Token.{last}
 use Rattle.oxc_sourcemap_lookup.specs.Lookup.{first, greatest, not_past, in_column, at}
-use Rattle.oxc_sourcemap_reverse.specs.Reverse.{not_before, least, least_of, from_least, at_or_after}
+use Rattle.oxc_sourcemap_reverse.specs.Reverse.{not_before, least, least_of, from_least}
+use Rattle.oxc_sourcemap_reverse.specs.Reverse.{at_or_after}
 
 empty_tail : {A : Type 0} (b : Bool) (x : A) (ys : List A) → cond b (x ∷ ys) ys ≡ [] → ys ≡ []
 empty_tail true x ys h = cc (h)

@@ -1,6 +1,8 @@
 -- The numbers of places with indices behind them: what stands at the index, and which numbers there are for a place.
-use Rattle.std.proofs.Common.{◌≡◌, refl, sym, ap, subst, ◌∙◌, ℕ, zero, suc, ◌+◌, ◌*◌, ◌/◌, ◌%◌, ◌<◌, ◌≤◌, Bool, true, false, cond}
-use Rattle.std.proofs.Common.{not, ◌&&◌, ◌==◌, nat_lt, List, [], ◌∷◌, length, get_or, drop, map, Option, Some, None, arith}
+use Rattle.std.proofs.Common.{◌≡◌, refl, sym, ap, subst, ◌∙◌, ℕ, zero, suc, ◌+◌, ◌*◌, ◌/◌, ◌%◌, ◌<◌}
+use Rattle.std.proofs.Common.{◌≤◌, Bool, true, false, cond}
+use Rattle.std.proofs.Common.{not, ◌&&◌, ◌==◌, nat_lt, List, [], ◌∷◌, length, get_or, drop, map}
+use Rattle.std.proofs.Common.{Option, Some, None, arith}
 use Rattle.std.proofs.lemmas.Bool.Decides.{nat_tests}
 use Rattle.std.proofs.lemmas.List.{length-map, get_or-map}
 use Rattle.std.proofs.lemmas.List.Elements.{All-map, All-from_recursion, recursion_from_All}
@@ -10,7 +12,8 @@ use Rattle.std.specs.List.Sorted.{IsNonDecreasingBy, IsStableByKey, IsPermutatio
 use Rattle.std.specs.Ordering.{is_lt, nat_cmp}
 use Rattle.oxc_sourcemap_tokens.specs.Token.{TokenRecord, IsInBounds, is_mapped, AreInBounds}
 use Rattle.oxc_sourcemap_reverse.specs.Reverse.{is_at}
-use Rattle.oxc_sourcemap_reverse.specs.Places.{place_number, token_place, numbered_from, no_token, listed, IsOrderOf}
+use Rattle.oxc_sourcemap_reverse.specs.Places.{place_number, token_place, numbered_from, no_token}
+use Rattle.oxc_sourcemap_reverse.specs.Places.{listed, IsOrderOf}
 
 -- the number before the 32 digits, and the digits
 pub front_of : (p i : ℕ) → i < 4294967296 → (p * 4294967296 + i) / 4294967296 ≡ p

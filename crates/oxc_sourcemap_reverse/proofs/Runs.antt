@@ -1,5 +1,6 @@
 -- Parts of a list between two indices, and the first and last items that pass a test.
-use Rattle.std.proofs.Common.{◌≡◌, refl, sym, ap, ◌∙◌, ℕ, zero, suc, ◌+◌, ◌<◌, ◌≤◌, Bool, true, false, cond, List, [], ◌∷◌}
+use Rattle.std.proofs.Common.{◌≡◌, refl, sym, ap, ◌∙◌, ℕ, zero, suc, ◌+◌, ◌<◌, ◌≤◌, Bool, true}
+use Rattle.std.proofs.Common.{false, cond, List, [], ◌∷◌}
 use Rattle.std.proofs.Common.{length, get_or, take, drop, map, Option, Some, None, arith}
 use Rattle.std.specs.List.{filter, last_or}
 use Rattle.oxc_sourcemap_tokens.specs.Token.{last}

@@ -1,12 +1,15 @@
 -- What a search of a place knows, and what the definitions find.
-use Rattle.std.proofs.Common.{◌≡◌, ap, ◌∙◌, ℕ, ◌+◌, ◌-◌, ◌<◌, ◌≤◌, List, length, get_or, Some, None, inl, inr, arith}
+use Rattle.std.proofs.Common.{◌≡◌, ap, ◌∙◌, ℕ, ◌+◌, ◌-◌, ◌<◌, ◌≤◌, List, length, get_or, Some, None}
+use Rattle.std.proofs.Common.{inl, inr, arith}
 use Rattle.std.proofs.lemmas.Bool.{cases_lt}
 use Rattle.std.proofs.lemmas.List.{length-map}
 use Rattle.std.proofs.lemmas.List.Elements.{recursion_from_All}
 use Rattle.oxc_sourcemap_tokens.specs.Token.{TokenRecord, IsInBounds}
 use Rattle.oxc_sourcemap_reverse.specs.Reverse.{generated_for, generated_from}
-use Rattle.oxc_sourcemap_reverse.specs.Places.{place_number, token_place, no_token, listed, IsOrderOf}
-use Rattle.oxc_sourcemap_reverse.proofs.Found.{for_hit, for_near, for_none, from_near, from_nothing, from_hit, same_read}
+use Rattle.oxc_sourcemap_reverse.specs.Places.{place_number, token_place, no_token, listed}
+use Rattle.oxc_sourcemap_reverse.specs.Places.{IsOrderOf}
+use Rattle.oxc_sourcemap_reverse.proofs.Found.{for_hit, for_near, for_none, from_near, from_nothing}
+use Rattle.oxc_sourcemap_reverse.proofs.Found.{from_hit, same_read}
 
 module _ (tokens : List TokenRecord) (order : List ℕ) (ord : IsOrderOf tokens order) (s l col place start : ℕ) (small : l < 4294967296) (near : col < 4294967296) (is : place ≡ place_number s l col)
     (bound : start ≤ length order)

@@ -1,7 +1,8 @@
 -- Worked examples, computed by the definitions themselves.
 use Rattle.std.specs.Prelude.{◌≡◌, refl, ℕ, List, [], ◌∷◌, Some, None}
 use Rattle.oxc_sourcemap_tokens.specs.Token.{TokenRecord}
-use Rattle.oxc_sourcemap_reverse.specs.Reverse.{generated_for, generated_from, all_generated_for, all_generated_from}
+use Rattle.oxc_sourcemap_reverse.specs.Reverse.{generated_for, generated_from, all_generated_for}
+use Rattle.oxc_sourcemap_reverse.specs.Reverse.{all_generated_from}
 
 -- a generated column, and a source column on line 0 of source 1
 abbrev token : ℕ → ℕ → TokenRecord

@@ -1,5 +1,6 @@
 //! Tokens in the order of the places that they point to.
-ghost use Rattle.std.specs.Prelude.{◌≡◌, ◌+◌, ◌*◌, ◌%◌, ◌^◌, ℕ, ◌<◌, ◌≤◌, length, map, get_or, IfOk};
+ghost use Rattle.std.specs.Prelude.{◌≡◌, ◌+◌, ◌*◌, ◌%◌, ◌^◌, ℕ, ◌<◌, ◌≤◌, length, map, get_or};
+ghost use Rattle.std.specs.Prelude.{IfOk};
 ghost use Rattle.std.specs.Prelude.{nat_lt, ◌==◌, ◌-◌, take, drop, filter};
 ghost use Rattle.std.specs.List.{All};
 ghost use Rattle.std.specs.List.Sorted.{IsNonDecreasingBy};
@@ -68,7 +69,8 @@ pub(crate) fn order_of(alloc: Global, tokens: &[Token]) -> Memory<Vec<u32>>
 fn compare_place(tokens: &[Token], i: u32, place: u128, steps: &mut u64) -> bool
     requires within { i < length tokens.now }
     requires few { steps.old < 18446744073709551615 }
-    ensures value { (t : TokenRecord) → result ≡ nat_lt (token_place (get_or tokens.now i t)) place }
+    ensures value { (t : TokenRecord)
+        → result ≡ nat_lt (token_place (get_or tokens.now i t)) place }
     ensures counted { steps.new ≡ steps.old + 1 }
 {
     *steps += 1;

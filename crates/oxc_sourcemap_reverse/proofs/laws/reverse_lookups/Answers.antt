@@ -1,4 +1,5 @@
-use Rattle.oxc_sourcemap_reverse.proofs.LeadBack.{leads_back, at_place, on_line, before, after, all_on_line}
+use Rattle.oxc_sourcemap_reverse.proofs.LeadBack.{leads_back, at_place, on_line, before, after}
+use Rattle.oxc_sourcemap_reverse.proofs.LeadBack.{all_on_line}
 use Rattle.oxc_sourcemap_reverse.proofs.laws.reverse_lookups.Goals as goal
 
 pub returns-clause-leads_back : goal.returns-clause-leads_back

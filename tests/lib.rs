@@ -20,6 +20,7 @@ mod plans;
 mod program;
 mod refusals;
 mod remap;
+mod reverse;
 mod roots;
 mod rows;
 mod shapes;

@@ -6,6 +6,7 @@ use Rattle.std.specs.List.{flat_map, list_any, AllByRecursion}
 use Rattle.std.specs.Option.{option_map, option_or}
 use Rattle.std.proofs.lemmas.Bool.Decides.{nat_tests}
 use Rattle.std.proofs.lemmas.Grind.{flat_map-append}
+use Rattle.std.proofs.lemmas.List.{map-append}
 use Rattle.std.proofs.lemmas.List.Elements.{filter-append}
 use Rattle.oxc_sourcemap_tokens.specs.declared.position.Position.{Position}
 use Rattle.oxc_sourcemap_parts.specs.Record.{MapRecord}
@@ -27,6 +28,7 @@ use Rattle.oxc_sourcemap_laws.proofs.JoinDecodedMaps.{decoded_map_joined}
 use Rattle.oxc_sourcemap_laws.proofs.UpToRepeats.{trace_up_to_repeats, clamped_trace_up_to_repeats}
 use Rattle.oxc_sourcemap_laws.proofs.UpToRepeats.{sorted_decoded_map_up_to_repeats}
 use Rattle.oxc_sourcemap_laws.proofs.TracesMoved.{or_false, placed, pick_placed}
+use Rattle.oxc_sourcemap_laws.proofs.TracesMoved.{traces_on_own_line}
 use Rattle.oxc_sourcemap_laws.proofs.TracesMoved.{clamped_pick_placed}
 use Rattle.oxc_sourcemap_laws.proofs.TracesRising.{or_kept, map_or, Rises, rises_left}
 use Rattle.oxc_sourcemap_laws.proofs.TracesRising.{rises_right, at_rising, at_none, at_between}
@@ -298,3 +300,22 @@ traces_of_joined_maps ms h k =
     let e : EqualUpToRepeats s t = decoded_map_joined ms h in
     let are = traces_joined (decoded_maps_of ms) (sym (sorted_decoded_map_up_to_repeats s t e) ∙ sorted-mappings (joined ms) ∙ k) in
     λ line col. (trace_up_to_repeats s t e line col ∙ (are line col).0, clamped_trace_up_to_repeats s t e line col ∙ (are line col).1)
+
+pub traces_on_own_line_of_maps : (before : List (MapRecord × Position)) (m : MapRecord × Position) (after : List (MapRecord × Position)) (line col : ℕ) → AreAllInRange (before ++ m ∷ after)
+    → list_any (has_mapping_on (line + m.1.line)) (decoded_maps_of (before ++ after)) ≡ false
+    → (trace (decoded_map_of (joined (before ++ m ∷ after))) (line + m.1.line) (shifted_column m.1 line col) ≡ trace (decoded_map_of m.0) line col)
+    × (clamped_trace (decoded_map_of (joined (before ++ m ∷ after))) (line + m.1.line) (shifted_column m.1 line col) ≡ clamped_trace (decoded_map_of m.0) line col)
+traces_on_own_line_of_maps before m after line col h none =
+    let ms = before ++ m ∷ after in
+    let s = decoded_map_of (joined ms) in
+    let t = joined_decoded_maps (decoded_maps_of ms) in
+    let line' = line + m.1.line in
+    let col' = shifted_column m.1 line col in
+    let decoded : MapRecord × Position → Part = λ m. (decoded_map_of m.0, m.1) in
+    let e : EqualUpToRepeats s t = decoded_map_joined ms h in
+    let others = ap (list_any (has_mapping_on line')) (sym (map-append decoded before after)) ∙ none in
+    let own = traces_on_own_line (decoded_maps_of before) (decoded_map_of m.0, m.1) (decoded_maps_of after) line col others in
+    let parts = ap joined_decoded_maps (map-append decoded before (m ∷ after)) in (
+      trace_up_to_repeats s t e line' col' ∙ ap (λ u. trace u line' col') parts ∙ own.0,
+      clamped_trace_up_to_repeats s t e line' col' ∙ ap (λ u. clamped_trace u line' col') parts ∙ own.1,
+    )

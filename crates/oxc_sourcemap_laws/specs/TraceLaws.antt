@@ -162,3 +162,14 @@ TracesWithinPart = (before : List Part) (part : Part) (after : List Part) (line 
 abbrev pub TracesOfJoinedMaps : Type 0
 TracesOfJoinedMaps = (ms : List (MapRecord × Position)) → AreAllInRange ms → are_tokens_sorted (joined ms).tokens ≡ true
     → TracesAreOfParts (decoded_map_of (joined ms)) (decoded_maps_of ms)
+
+-- The same on a line of a map where no other map has a token, sorted or not, if all ids are in range.
+abbrev pub TracesOnOwnLineOfMaps : Type 0
+TracesOnOwnLineOfMaps = (before : List (MapRecord × Position)) (m : MapRecord × Position) (after : List (MapRecord × Position)) (line col : ℕ)
+    → AreAllInRange (before ++ m ∷ after)
+    → list_any (has_mapping_on (line + m.1.line)) (decoded_maps_of (before ++ after)) ≡ false
+    → let s = decoded_map_of (joined (before ++ m ∷ after)) in
+    let line' = line + m.1.line in
+    let col' = shifted_column m.1 line col in
+    (trace s line' col' ≡ trace (decoded_map_of m.0) line col)
+    × (clamped_trace s line' col' ≡ clamped_trace (decoded_map_of m.0) line col)

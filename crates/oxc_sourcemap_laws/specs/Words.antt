@@ -22,6 +22,7 @@ pub use Rattle.oxc_sourcemap_laws.specs.SectionLaws.{ValueOfSections, TextOfSect
 pub use Rattle.oxc_sourcemap_laws.specs.TraceLaws.{TracesOfComposition, TracesOfComposedMaps}
 pub use Rattle.oxc_sourcemap_laws.specs.TraceLaws.{TracesOnOwnLine, TracesOfSortedJoin}
 pub use Rattle.oxc_sourcemap_laws.specs.TraceLaws.{TracesWithinPart, TracesOfJoinedMaps}
+pub use Rattle.oxc_sourcemap_laws.specs.TraceLaws.{TracesOnOwnLineOfMaps}
 pub use Rattle.oxc_sourcemap_laws.specs.TraceLaws.{TracesOfRemapping, TracesOfRemappedMaps}
 pub use Rattle.oxc_sourcemap_laws.specs.RemapLaws.{DecodedMapOfRemapping, RemappingIgnores}
 pub use Rattle.oxc_sourcemap_laws.specs.RemapLaws.{NothingRemapped, RemappedDecodedMapsAssociative}

@@ -25,6 +25,7 @@ ghost use Rattle.oxc_sourcemap_laws.specs.Words.{JoinChunksFit, JoinsAssociative
 ghost use Rattle.oxc_sourcemap_laws.specs.Words.{TracesOfComposition, TracesOfComposedMaps};
 ghost use Rattle.oxc_sourcemap_laws.specs.Words.{TracesOnOwnLine, TracesOfSortedJoin};
 ghost use Rattle.oxc_sourcemap_laws.specs.Words.{TracesWithinPart, TracesOfJoinedMaps};
+ghost use Rattle.oxc_sourcemap_laws.specs.Words.{TracesOnOwnLineOfMaps};
 ghost use Rattle.oxc_sourcemap_laws.specs.Words.{TracesOfRemapping, TracesOfRemappedMaps};
 ghost use Rattle.oxc_sourcemap_laws.specs.Words.{DecodedMapOfRemapping, RemappingIgnores};
 ghost use Rattle.oxc_sourcemap_laws.specs.Words.{NothingRemapped, RemappedDecodedMapsAssociative};
@@ -266,8 +267,9 @@ pub fn trace_of_remap()
 /// column of it come to stand at a position of the join: further down by the line of the offset, and on line 0 of the part
 /// further right by the column of the offset.
 /// - On a line of a part where no other part has a mapping, the traces of the join, exact and clamped, are those of the part,
-///   at every column (`own_line`). The join need not be sorted. So if each part begins on a line past all lines of the parts
-///   before it, a part is traced in the join as by itself, on every line before that where the next part begins.
+///   at every column (`own_line`; of maps `own_line_of_maps`, if all ids are in range). The join need not be sorted. So if each
+///   part begins on a line past all lines of the parts before it, a part is traced in the join as by itself, on every line
+///   before that where the next part begins.
 /// - In a sorted join, one part answers at a position: the first one with a mapping at the position itself, or else the last
 ///   one with a mapping before it on its line. The exact trace of the join is that of this part, and nothing if there is no
 ///   such part. The clamped trace is the clamped trace of this part, or else of the first part with a mapping on the line
@@ -284,4 +286,5 @@ pub fn trace_of_join()
     ensures in_order { TracesOfSortedJoin }
     ensures within_part { TracesWithinPart }
     ensures maps { TracesOfJoinedMaps }
+    ensures own_line_of_maps { TracesOnOwnLineOfMaps }
 {}

@@ -17,5 +17,4 @@ pub mod Halving
 pub mod OwnTables
 pub mod Picks
 pub mod Traced
-pub mod Neighbours
 mod Worked

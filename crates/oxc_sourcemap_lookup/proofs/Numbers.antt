@@ -12,9 +12,9 @@ use Rattle.oxc_sourcemap_lookup.specs.Lookup.{pick, clamped_pick, pick_after, nu
 use Rattle.oxc_sourcemap_lookup.specs.Lookup.{numbered}
 use Rattle.oxc_sourcemap_lookup.specs.Lookup.{numbered_line, numbered_column, index_for, token_for}
 use Rattle.oxc_sourcemap_lookup.specs.Lookup.{clamped_index_for, clamped_token_for, index_after}
-use Rattle.oxc_sourcemap_lookup.specs.Lookup.{index_at_or_after}
+use Rattle.oxc_sourcemap_lookup.specs.Lookup.{index_at_or_after, clamped_index_at}
 use Rattle.oxc_sourcemap_lookup.proofs.Picks.{pick-map, clamped_pick-map, pick_after-map}
-use Rattle.oxc_sourcemap_lookup.proofs.Picks.{at_or_after-map}
+use Rattle.oxc_sourcemap_lookup.proofs.Picks.{clamped_at-map, at_or_after-map}
 
 module _ {A : Type 0} (P : A → Type 0) where
   -- an item that is found has the property
@@ -112,3 +112,8 @@ pub token_of-index_at_or_after : (ts : List TokenRecord) (col : ℕ) → option_
 token_of-index_at_or_after ts col =
     token-at ts _ (holds-after (IsNumbered ts) numbered_column (numbered ts) col (numbered-all ts))
     ∙ sym (at_or_after-map (λ p. p.1) token_column (numbered ts) col) ∙ ap (λ us. at_or_after token_column us col) (numbered-tokens 0 ts)
+
+pub token_of-clamped_index_at : (ts : List TokenRecord) (col : ℕ) → option_and_then (slice_get ts) (clamped_index_at ts col) ≡ clamped_at token_column ts col
+token_of-clamped_index_at ts col =
+    token-at ts _ (holds-clamped_at (IsNumbered ts) numbered_column (numbered ts) col (numbered-all ts))
+    ∙ sym (clamped_at-map (λ p. p.1) token_column (numbered ts) col) ∙ ap (λ us. clamped_at token_column us col) (numbered-tokens 0 ts)

@@ -248,14 +248,6 @@ impl LineIndex {
         }
     }
 
-    /// Where the tokens on a line begin, for a `near` that `tokens_near` found for it; some index if none is on it.
-    pub(crate) fn start_near(&self, line: u32, near: usize) -> usize {
-        match &self.lines {
-            Lines::Starts(starts) => starts.get(line as usize).copied().unwrap_or(0) as usize,
-            Lines::Spans(spans) => spans.get(near).map_or(0, |span: &LineSpan| span.start),
-        }
-    }
-
     /// The token at a generated position of sorted tokens, by the rule of `search`; None if the position is before the first
     /// token of its line, or no token is on the line. On a line whose columns go back, it is some token of the line, or None.
     /// Takes no memory.

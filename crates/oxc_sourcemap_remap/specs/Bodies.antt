@@ -108,6 +108,10 @@ pub record IsUsable (b : Block) : Type 0 where
 abbrev pub AreUsable : List Block → Type 0
 AreUsable bs = AllByRecursion IsUsable bs
 
+-- a block behind a borrow
+abbrev pub lent_block : Option (Bor Block) → Option Block
+lent_block block = option_map (λ b. b.now) block
+
 -- the block of a token's source
 abbrev pub block_of : List Block → TokenRecord → Option Block
 block_of bs t = option_and_then (slice_get bs) t.source_id

@@ -14,7 +14,8 @@ pub use Rattle.oxc_sourcemap_remap.specs.Blocks.{remapped_sources, unless_empty}
 pub use Rattle.oxc_sourcemap_remap.specs.Bodies.{ready_records, input_paths, listed_flags, flags_of}
 pub use Rattle.oxc_sourcemap_remap.specs.Bodies.{IsReady, AreReady, IsFor, block_sources}
 pub use Rattle.oxc_sourcemap_remap.specs.Bodies.{HasSources, AreBlocks, IsUsable, AreUsable}
-pub use Rattle.oxc_sourcemap_remap.specs.Bodies.{block_of, block_original, IsBlockTarget}
+pub use Rattle.oxc_sourcemap_remap.specs.Bodies.{block_of, lent_block, block_original}
+pub use Rattle.oxc_sourcemap_remap.specs.Bodies.{IsBlockTarget}
 pub use Rattle.oxc_sourcemap_remap.specs.Bodies.{AreBlockTargets, set_from, block_ids}
 pub use Rattle.oxc_sourcemap_remap.specs.Bodies.{lent_original, names_in, ArePlaced}
 pub use Rattle.oxc_sourcemap_remap.specs.Bodies.{put_together}

@@ -3,7 +3,7 @@ ghost use Rattle.std.specs.Prelude.{◌≡◌, ◌≢◌, ◌+◌, ◌<◌, leng
 ghost use Rattle.oxc_sourcemap_remap.specs.Words.{OutOfMemory, TooLarge, record_of_parts, flags_of};
 ghost use Rattle.oxc_sourcemap_remap.specs.Words.{ready_records, decoded_inputs, AreReady};
 ghost use Rattle.oxc_sourcemap_remap.specs.Words.{listed_sources, remapped_sources, HasSources};
-ghost use Rattle.oxc_sourcemap_remap.specs.Words.{AreBlocks, block_of};
+ghost use Rattle.oxc_sourcemap_remap.specs.Words.{AreBlocks, block_of, lent_block};
 
 use crate::inputs::{Input, input_at, input_indices};
 use oxc_sourcemap_parts::SourceMapParts;
@@ -103,8 +103,11 @@ pub(crate) fn blocks_of<'m, 'i>(
 }
 
 /// The block of a token's source.
-pub(crate) fn block_of<'m, 'i>(blocks: &[Block<'m, 'i>], token: &Token) -> Option<Block<'m, 'i>>
-    ensures { result ≡ block_of blocks.now token.now }
+pub(crate) fn block_of<'b, 'm, 'i>(
+    blocks: &'b [Block<'m, 'i>],
+    token: &Token,
+) -> Option<&'b Block<'m, 'i>>
+    ensures { lent_block result ≡ block_of blocks.now token.now }
 {
-    blocks.get(token.get_source_id()? as usize).copied()
+    blocks.get(token.get_source_id()? as usize)
 }

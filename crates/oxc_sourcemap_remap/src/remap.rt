@@ -5,7 +5,7 @@ ghost use Rattle.oxc_sourcemap_remap.specs.Words.{OutOfMemory, TooLarge, Reports
 ghost use Rattle.oxc_sourcemap_remap.specs.Words.{record_of_parts, cow_texts, Target, target_of};
 ghost use Rattle.oxc_sourcemap_remap.specs.Words.{input_records, inputs_fault, remapping};
 ghost use Rattle.oxc_sourcemap_remap.specs.Words.{NoInputColumnGoesBack, SomeRemapping, IsUsable};
-ghost use Rattle.oxc_sourcemap_remap.specs.Words.{AreUsable, block_of, block_original};
+ghost use Rattle.oxc_sourcemap_remap.specs.Words.{AreUsable, block_of, lent_block, block_original};
 ghost use Rattle.oxc_sourcemap_remap.specs.Words.{IsBlockTarget, AreBlockTargets, input_original};
 ghost use Rattle.oxc_sourcemap_remap.specs.Words.{lent_original, needed_name, needed_names};
 ghost use Rattle.oxc_sourcemap_remap.specs.Words.{token_to, names_in, ArePlaced, with_inherited};
@@ -53,9 +53,9 @@ fn token_name<'m>(names: &'m [CowStr<'_>], token: &Token) -> Option<LentName<'m>
 }
 
 /// The mapped token that a token leads to in the input of its source's block, if any.
-fn block_target(block: Option<Block<'_, '_>>, token: &Token, near: &mut Near) -> Option<Token>
-    requires { IfSome block IsUsable }
-    ensures { IsBlockTarget block.entry (target_of token.now result) }
+fn block_target(block: Option<&Block<'_, '_>>, token: &Token, near: &mut Near) -> Option<Token>
+    requires { IfSome (lent_block block) IsUsable }
+    ensures { IsBlockTarget (lent_block block.entry) (target_of token.now result) }
 {
     let input = block?.input?;
     target(&input.index, input.map.tokens.as_slice(), token, near)
@@ -90,13 +90,14 @@ fn input_original<'m>(
 /// Where a token leads whose source has this block, if this is the token that it leads to in the input.
 fn block_original<'m>(
     names: &'m [CowStr<'_>],
-    block: Option<Block<'m, '_>>,
+    block: Option<&Block<'m, '_>>,
     token: &Token,
     found: Option<Token>,
 ) -> Option<LentOriginal<'m>>
-    requires { IfSome block IsUsable }
+    requires { IfSome (lent_block block) IsUsable }
     ensures original { option_map lent_original result
-        ≡ block_original block.entry (cow_texts names.now) (target_of token.now found) }
+        ≡ block_original (lent_block block.entry) (cow_texts names.now)
+        (target_of token.now found) }
     ensures small { IfSome result (λ o. o.source_id < 4294967295) }
 {
     let block = block?;

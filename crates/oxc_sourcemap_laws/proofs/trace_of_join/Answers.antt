@@ -1,6 +1,7 @@
 use Rattle.oxc_sourcemap_laws.proofs.TracesMoved.{traces_on_own_line}
 use Rattle.oxc_sourcemap_laws.proofs.TracesJoined.{traces_joined, traces_within}
 use Rattle.oxc_sourcemap_laws.proofs.TracesJoined.{traces_of_joined_maps}
+use Rattle.oxc_sourcemap_laws.proofs.TracesJoined.{traces_on_own_line_of_maps}
 use Rattle.oxc_sourcemap_laws.proofs.trace_of_join.Goals as goal
 
 pub returns-clause-own_line : goal.returns-clause-own_line
@@ -14,3 +15,6 @@ returns-clause-within_part c = traces_within
 
 pub returns-clause-maps : goal.returns-clause-maps
 returns-clause-maps c = traces_of_joined_maps
+
+pub returns-clause-own_line_of_maps : goal.returns-clause-own_line_of_maps
+returns-clause-own_line_of_maps c = traces_on_own_line_of_maps

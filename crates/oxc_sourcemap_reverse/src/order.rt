@@ -47,7 +47,9 @@ fn indices_in(alloc: Global, numbers: &[u128]) -> Memory<Vec<u32>>
     ensures { IfOk result (λ order. order.items ≡ map (λ n. n % 4294967296) numbers.now) }
 {
     let mut order = Vec::with_capacity(alloc, numbers.len())?;
-    order.extend(numbers.iter().map(|number| (*number % 4294967296) as u32))?;
+    for number in numbers {
+        order.push((*number % 4294967296) as u32)?;
+    }
     Ok(order)
 }
 

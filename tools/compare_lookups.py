@@ -56,7 +56,7 @@ def header(line):
 def compiled_and_run(requests):
     with tempfile.TemporaryDirectory(prefix="ask-") as room:
         copied(f"{HERE}/ask", f"{room}/src")
-        words = command("ask", USED, ["--seconds", "600", "--steps", "1", "--stdin", requests], "src/main.rt")
+        words = command("ask", USED, ["--seconds", "3600", "--steps", "1", "--stdin", requests], "src/main.rt")
         return subprocess.run(words, cwd=room, capture_output=True, text=True, env={**os.environ, "TMPDIR": room})
 
 
@@ -200,8 +200,16 @@ def cases():
         row(name, *[counts[call] for call in [*BACK, "line", *FORWARD, "sort", "position", "offset"]])
 
 
+def nearest(items, columns, col):
+    """The items at the greatest column that is not past `col`, and at the least that is not before; they are sorted by columns."""
+    at, past = bisect_left(columns, col), bisect_right(columns, col)
+    start = bisect_left(columns, columns[at - 1]) if at else 0
+    return items[start:bisect_right(columns, columns[past]) if past < len(columns) else past]
+
+
 class Map:
-    """A map, its tokens, and these by original line, by generated line and by generated position."""
+    """A map, its tokens, and these by original line, by generated line and by generated position. The reference is asked about the
+    nearest columns of a line alone."""
 
     def __init__(self, value, tokens):
         self.value = {key: value[key] for key in ("version", "names", "sources", "mappings")}
@@ -210,19 +218,18 @@ class Map:
             self.back.setdefault((token[4], token[2]), []).append(token)
             self.forward.setdefault(token[0], []).append((i, token))
             self.at.setdefault(token[:2], []).append(token)
-        self.columns = {line: [token[1] for _, token in items] for line, items in self.forward.items()}
+        for line in self.back.values():
+            line.sort(key=lambda t: t[3])
+        self.back_columns = {line: [t[3] for t in items] for line, items in self.back.items()}
+        self.columns = {line: [t[1] for _, t in items] for line, items in self.forward.items()}
 
-    def looked_back(self, call, source, line, column):
-        return BACK[call](self.back.get((source, line), []), source, line, column)
+    def looked_back(self, call, source, line, col):
+        items = nearest(self.back.get((source, line), []), self.back_columns.get((source, line), []), col)
+        return BACK[call](items, source, line, col)
 
-    def looked_up(self, call, line, column):
-        """The reference is asked about the nearest columns alone."""
-        items, columns = self.forward.get(line, []), self.columns.get(line, [])
-        at, past = bisect_left(columns, column), bisect_right(columns, column)
-        start = bisect_left(columns, columns[at - 1]) if at else 0
-        end = bisect_right(columns, columns[past]) if past < len(columns) else past
+    def looked_up(self, call, line, col):
         find = reference.near_before if call == "find" else reference.near_after
-        return find(items[start:end], column, lambda it: it[1][1])
+        return find(nearest(self.forward.get(line, []), self.columns.get(line, []), col), col, lambda it: it[1][1])
 
     def original(self, token):
         """What the peers answer of a token."""
@@ -249,7 +256,7 @@ def peers_answers(asked):
     return json.loads(ran.stdout)
 
 
-def why_back(of, place, ours, theirs):
+def why_back(of, call, place, ours, theirs):
     """Why a peer finds other generated positions than those of our tokens, or None."""
     source, line, _ = place
     if sorted(theirs) == sorted([*t[:2]] for t in ours):
@@ -257,9 +264,9 @@ def why_back(of, place, ours, theirs):
     tokens = [[t for t in of.at[tuple(it)] if t[4] is not None] for it in theirs]
     if tokens and ours and all(any((t[4], *t[2:4]) == (source, line, ours[0][3]) for t in here) for here in tokens):
         return "another of several"
-    if tokens and not ours and any(t[4] == source and t[2] != line for t in tokens[0]):
-        return "another line"
-    return "another source" if any(t[4] != source and t[2] == line for here in tokens for t in here) else None
+    if call.startswith("all"):
+        return "another source" if any(t[4] != source and t[2] == line for here in tokens for t in here) else None
+    return "another line" if tokens and not ours and any(t[4] == source and t[2] != line for t in tokens[0]) else None
 
 
 def why_forward(of, ours, theirs):
@@ -271,7 +278,7 @@ def why(of, call, place, ours, theirs):
     """Why the answer of a peer is not ours: "equal" if it is, and None if it is not known why."""
     if CALLS[call] in BACK:
         ours = [ours] if isinstance(ours, tuple) else ours or []
-        return "equal" if theirs == [[*t[:2]] for t in ours] else why_back(of, place, ours, theirs)
+        return "equal" if theirs == [[*t[:2]] for t in ours] else why_back(of, call, place, ours, theirs)
     token = None if ours is None else ours[1]
     return "equal" if theirs == of.original(token) else why_forward(of, token, theirs)
 

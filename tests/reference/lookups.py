@@ -8,16 +8,16 @@ text is a list of UTF-16 units.
 
 def near_before(items, col, column):
     """Of the items with the greatest column not past `col` the first if that is `col`, else the last; None without items."""
-    columns = [column(it) for it in items if column(it) <= col]
-    near = [it for it in items if columns and column(it) == max(columns)]
-    return None if not near else near[0] if max(columns) == col else near[-1]
+    best = max((column(it) for it in items if column(it) <= col), default=None)
+    near = [it for it in items if column(it) == best]
+    return None if not near else near[0] if best == col else near[-1]
 
 
 def near_after(items, col, column):
     """Of the items with the least column not before `col` the last if that is `col`, else the first; None without items."""
-    columns = [column(it) for it in items if column(it) >= col]
-    near = [it for it in items if columns and column(it) == min(columns)]
-    return None if not near else near[-1] if min(columns) == col else near[0]
+    best = min((column(it) for it in items if column(it) >= col), default=None)
+    near = [it for it in items if column(it) == best]
+    return None if not near else near[-1] if best == col else near[0]
 
 
 # Reverse lookups.

@@ -7,6 +7,7 @@ mod lists;
 mod lookups;
 mod maps;
 mod owned;
+mod places;
 mod remaps;
 mod runs;
 mod streams;

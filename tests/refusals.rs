@@ -6,6 +6,6 @@ mod calls;
 mod changes;
 mod commands;
 mod faults;
-mod fixtures;
+pub mod fixtures;
 mod memory;
 mod takes_none;

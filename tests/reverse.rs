@@ -2,7 +2,7 @@
 //! first map is worked by hand.
 use crate::helpers::same;
 use crate::rows::{Row, map_of, tokens_of};
-use oxc_sourcemap::{OwnedSourceMap, Result, SourceIndex, Token};
+use oxc_sourcemap::{OwnedSourceMap, Result, SourceIndex, SourceMap, Token};
 use std::alloc::Global;
 use std::process::Abort;
 
@@ -93,6 +93,47 @@ fn reverse_lookups(rt: HostRuntime) -> Result<()> {
         finds(&rt, tokens.as_slice(), &SourceIndex::new(alloc, &map)?, lookup);
         let owned = OwnedSourceMap::from(map.into_owned(alloc)?);
         finds(&rt, tokens.as_slice(), &SourceIndex::new(alloc, &owned)?, lookup);
+    }
+    Ok(())
+}
+
+/// Source ids, lines and columns that differ in high bits alone.
+const NUMBERS: [u32; 6] = [0, 1, 65536, 2147483648, 2147483649, 4294967294];
+
+/// A token for each place of these.
+fn token_at(place: [usize; 3]) -> Token {
+    let [source, line, col] = place;
+    Token::new(7, (source * 36 + line * 6 + col) as u32, NUMBERS[line], NUMBERS[col], Some(NUMBERS[source]), None)
+}
+
+fn is_found_alone(rt: &impl Abort, index: &SourceIndex<'_>, place: [usize; 3]) {
+    let wanted = token_at(place);
+    let [source, line, col] = place.map(|i| NUMBERS[i]);
+    are(rt, "at", index.generated_at(source, line, col), &[wanted], &[0]);
+    same(rt, "for", index.generated_for(source, line, col), Some(wanted));
+    same(rt, "from", index.generated_from(source, line, col), Some(wanted));
+    let above = (place[2] < 5).then(|| token_at([place[0], place[1], place[2] + 1]));
+    let next = if above.is_some_and(|token| token.get_src_col() == col + 1) { above } else { Some(wanted) };
+    same(rt, "for the next", index.generated_for(source, line, col + 1), next);
+    same(rt, "from the next", index.generated_from(source, line, col + 1), above);
+}
+
+#[test]
+fn places_differ_in_high_bits(rt: HostRuntime) -> Result<()> {
+    let alloc = rt.alloc();
+    let mut parts = SourceMap::empty(alloc)?.into_parts();
+    let mut tokens = Vec::new(alloc);
+    for i in 0..216 {
+        // In no order of places.
+        let at = i * 125 % 216;
+        tokens.push(token_at([at / 36, at / 6 % 6, at % 6]))?;
+    }
+    parts.tokens = tokens.into_boxed_slice();
+    let map = SourceMap::from_parts(parts);
+    let index = SourceIndex::new(alloc, &map)?;
+    for at in 0..216 {
+        is_found_alone(&rt, &index, [at / 36, at / 6 % 6, at % 6]);
+        same(&rt, "line", index.pointing_to(NUMBERS[at / 36], NUMBERS[at / 6 % 6]).len(), 6);
     }
     Ok(())
 }

@@ -22,6 +22,8 @@ const TEXTS: &[Text] = &[
     // Two units for a character past U+FFFF, one for others.
     ("é😀x", &[Ok((0, 0)), Ok((0, 1)), INSIDE, Ok((0, 3)), Ok((0, 4)), PAST_TEXT]),
     ("😀\r😀", &[Ok((0, 0)), INSIDE, Ok((0, 2)), Ok((1, 0)), INSIDE, Ok((1, 2)), PAST_TEXT]),
+    // The last character of one unit, and the first and the last of two.
+    ("\u{ffff}\u{10000}\u{10ffff}", &[Ok((0, 0)), Ok((0, 1)), INSIDE, Ok((0, 3)), INSIDE, Ok((0, 5)), PAST_TEXT]),
     ("\u{2028}a\u{2029}", &[Ok((0, 0)), Ok((1, 0)), Ok((1, 1)), Ok((2, 0)), PAST_TEXT]),
     // No line ends in JavaScript.
     ("\u{b}\u{c}\u{85}", &[Ok((0, 0)), Ok((0, 1)), Ok((0, 2)), Ok((0, 3)), PAST_TEXT]),

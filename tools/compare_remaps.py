@@ -4,10 +4,11 @@ docs/FIGURES.md, "Real maps".
 
     tools/compare_remaps.py [--smap PROGRAM] [--cases N] [--rounds N] [--only cases|bundles] FOLDER
 
-A random case is a plan over small maps, whose output has to be that of peer.py, byte for byte. Bundles are those that
-make_maps.py made: of several modules, each with its map. They are also compared with Debian's npm package @ampproject/remapping
-(remap_peer.js), at the column of each token and at the one before it; --rounds times it, too. Without --smap, the program of
-this repository is proved and built, and run. The status is 1 if there is a difference that is not explained.
+A random case is a plan over small maps, some of which are not sorted and read by `sort`, whose output has to be that of peer.py,
+byte for byte. Bundles are those that make_maps.py made: of several modules, each with its map. They are also compared with
+Debian's npm package @ampproject/remapping (remap_peer.js), at the column of each token and at the one before it; --rounds times
+it, too. Without --smap, the program of this repository is proved and built, and run. The status is 1 if there is a difference
+that is not explained.
 """
 import argparse, glob, json, os, random, subprocess, sys
 from collections import Counter
@@ -59,8 +60,10 @@ class Case:
     def some(self, values, most):
         return [self.chosen.choice(values) for _ in range(self.chosen.randint(0, most))]
 
-    def tokens(self, sources, names):
-        places = sorted((self.chosen.randrange(LINES), self.chosen.randrange(COLUMNS)) for _ in range(self.chosen.randrange(9)))
+    def tokens(self, sources, names, is_sorted):
+        places = [(self.chosen.randrange(LINES), self.chosen.randrange(COLUMNS)) for _ in range(self.chosen.randrange(9))]
+        # What a text can hold: only columns go back.
+        places.sort(key=None if is_sorted else lambda place: place[0])
         ids = [None, *range(sources), *range(sources)]
         for line, column in places:
             source = self.chosen.choice(ids)
@@ -75,10 +78,14 @@ class Case:
         value["sourcesContent"] = some(self.some(["x", "y", None], 4))
         for key in ("ignoreList", "x_google_ignoreList"):
             value[key] = some([], self.some(range(len(sources)), 3)) if sources else some([])
-        value["mappings"] = peer.encode(list(self.tokens(len(sources), len(names))))
+        is_sorted = self.chosen.random() < 0.7
+        value["mappings"] = peer.encode(list(self.tokens(len(sources), len(names), is_sorted)))
         kept = {key: member for key, member in value.items() if member is not None or self.chosen.random() < 0.5}
         self.texts.append(json.dumps(kept, ensure_ascii=self.chosen.random() < 0.5))
-        return [f"@{len(self.texts) - 1}"], value, peer.decode(value["mappings"])
+        tokens, word = peer.decode(value["mappings"]), f"@{len(self.texts) - 1}"
+        if is_sorted and self.chosen.random() < 0.9:
+            return [word], value, tokens
+        return ["sort", word], value, peer.sort(tokens)
 
     def plan(self, depth):
         """Words, a value and its tokens."""

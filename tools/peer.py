@@ -215,6 +215,11 @@ def rooted(value):
     return {**value, "sourceRoot": None, "sources": sources}
 
 
+def sort(tokens):
+    """Tokens by generated line and column; those at one position stay in their order."""
+    return sorted(tokens, key=lambda token: token[:2])
+
+
 def placed(value):
     """The maps of an indexed map, each with its tokens at their place in the generated code."""
     maps = []

@@ -9,6 +9,7 @@ rounds counts. --only prints one of the tables (TABLES below). --into replaces t
 `<!-- measured -->` and `<!-- end -->`. Needs Debian's packages `time` and, for instructions, `valgrind`.
 """
 import argparse, glob, json, os, platform, re, subprocess, sys, tempfile
+import peer
 from concurrent.futures import ThreadPoolExecutor
 from measuring import built, measure
 
@@ -17,7 +18,7 @@ MAPS = ["esbuild-lodash", "OpenLayers", "pdf.js", "pdf.worker", "theme.css", "ol
 PIPELINES = ["gen-mapping-5", "three-2", "typescript-2"]
 BUNDLES = ["lodash", "terser"]
 GOALS = {"parse": 0.6, "serialize": 0.75, "decode": 0.55, "encode": 0.7, "table": 0.6, "lookup": 1.0, "join": 0.9,
-         "compose": 0.5, "remap": 1.0, "parse_each": 1.2, "join_each": 1.2}
+         "compose": 0.5, "remap": 1.0, "parse_each": 1.2, "join_each": 1.2, "index": 0.2, "back": 0.5}
 STAGES = ["parse", "serialize", "decode", "encode", "table", "lookup", "join"]
 COUNTED = ["esbuild-lodash", "pdf.js", "theme.css", "olm_legacy.min"]
 WHOLE_GOAL, PEAK_GOAL = 0.85, 0.8
@@ -101,6 +102,46 @@ def remappings():
         cells = [beside([ns / composed["items"] for ns in [list(row["best"].values())[0], *others]], GOALS["remap"])
                  for row in (bundles[name, "remap"], as_one[name, "remap"])]
         write(f"| {name} | {composed['tokens']} | {' | '.join(cells)} | {cell(composed)} |")
+
+
+def million(path):
+    """Writes a map of 1,000,000 tokens: pdf.js below itself, often enough."""
+    value = json.load(open(f"{options.folder}/maps/pdf.js.map", encoding="utf-8"))
+    tokens, lines = peer.decode(value["mappings"]), value["mappings"].count(";") + 1
+    copies = -(-1_000_000 // len(tokens))
+    joined, tokens = peer.join([({**value, "sourcesContent": None}, tokens, k * lines) for k in range(copies)])
+    open(path, "w", encoding="utf-8").write(peer.to_text(joined, tokens[:1_000_000]))
+
+
+def reverse_peer(path):
+    """The nanoseconds of @jridgewell/trace-mapping: for its first lookup from an original position once it has decoded the mappings,
+    which makes its index, and for 100,000 further ones."""
+    environment = {"NODE_PATH": "/usr/share/nodejs", **os.environ}
+    node = ["node", f"{TOP}/tools/reverse_peer.js", str(options.rounds)]
+    return json.loads(subprocess.run(node, stdin=open(path), capture_output=True, check=True, env=environment).stdout)
+
+
+def reverse_cells(path):
+    """For the index and for lookups in it: nanoseconds with the ratio to the peer's, and instructions."""
+    rows = bench([path], "--only", "index,back", "--rounds", str(options.rounds))
+    counts, peers = bench([path], "--only", "index,back", "--count"), reverse_peer(path)
+    for stage in ("index", "back"):
+        row, counted = rows[os.path.basename(path), stage], counts[os.path.basename(path), stage]
+        ours, count = (list(it["best"].values())[0] / row["items"] for it in (row, counted))
+        yield row["tokens"], beside([ours, peers[stage] / row["items"]], GOALS[stage]), f"{count:.0f}"
+
+
+def reverse():
+    """The index by original positions and lookups in it, beside those of an npm package."""
+    write("\n### Reverse lookup\n\nNanoseconds for each token of the index by original positions, and for each of 100,000 lookups in it, with the ratios to "
+          "`@jridgewell/trace-mapping`: to its first lookup once it has decoded the mappings, which makes its index, and to further ones.\n")
+    write("| map | tokens | index | instructions | lookup | instructions |\n|---|---:|---|---:|---|---:|")
+    write(f"| *goal* | | {GOALS['index']} | | {GOALS['back']} | |")
+    with tempfile.TemporaryDirectory() as folder:
+        million(f"{folder}/million.map")
+        for path in [*(f"{options.folder}/maps/{name}.map" for name in MAPS), f"{folder}/million.map"]:
+            (tokens, *index), (_, *back) = reverse_cells(path)
+            write(f"| {os.path.basename(path).removesuffix('.map')} | {tokens} | {' | '.join([*index, *back])} |")
 
 
 def small():
@@ -199,6 +240,7 @@ TABLES = {
     "instructions": instructions,
     "pipelines": pipelines,
     "remappings": remappings,
+    "reverse": reverse,
     "small": small,
     "processes": lambda: processes("Whole processes", [*single_maps(), *composed_maps()]),
     "growth": lambda: processes("Growth", grown_maps(), is_counted=False),

@@ -128,6 +128,19 @@ fn the_same_is_found(rt: &impl Abort, owned: &OwnedSourceMap, map: &Map, table: 
             owned.lookup_token_approx(table, line, col),
             found,
         );
+        let found = map.lookup_token_after(table, line, col);
+        same(rt, "after", owned.lookup_token_after(table, line, col), found);
+        let indices = [
+            map.lookup_token_index(table, line, col),
+            map.lookup_token_index_approx(table, line, col),
+            map.lookup_token_index_after(table, line, col),
+        ];
+        let found = [
+            owned.lookup_token_index(table, line, col),
+            owned.lookup_token_index_approx(table, line, col),
+            owned.lookup_token_index_after(table, line, col),
+        ];
+        same(rt, "indices", found, indices);
         let view = map.lookup_source_view_token(table, line, col).map(seen);
         let found = owned.lookup_source_view_token(table, line, col).map(seen);
         same(rt, "exact view", found, view);

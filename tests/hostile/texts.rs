@@ -1,8 +1,8 @@
 //! Hostile texts, and plans that nest as deep as they may.
 use crate::helpers::{is_text, same};
 use oxc_sourcemap::{
-    Error, JsonFault, Plan, PlanError, Result, SourceMap, decode_mappings, encode_mappings,
-    evaluate,
+    Error, JsonFault, Plan, PlanError, PositionError, Result, SourceMap, TextPositions,
+    decode_mappings, encode_mappings, evaluate,
 };
 use std::alloc::{AllocError, Global};
 use std::process::Abort;
@@ -123,6 +123,43 @@ fn a_plan_is_at_most_64_deep(rt: HostRuntime) -> std::result::Result<(), AllocEr
     let reading = PlanError::Map(Error::BadJson(JsonFault::Reading));
     for (count, wanted) in [(64, PlanError::TooDeep), (63, reading)] {
         is_not_evaluated(&rt, rt.alloc(), &rewrites(rt.alloc(), count)?, wanted);
+    }
+    Ok(())
+}
+
+/// A text, repeated this often, has so many units and lines each time.
+const REPEATED: &[(&str, u32, u32)] = &[("\r", 1, 1), ("\r\n", 2, 1), ("😀", 2, 0), ("\u{0}\u{2028}", 2, 1)];
+const TIMES: u32 = 65536;
+
+fn repeated(alloc: Global, text: &str) -> Result<String> {
+    let mut all = String::new(alloc);
+    for _ in 0..TIMES {
+        all.push_str(text)?;
+    }
+    Ok(all)
+}
+
+/// What follows a line end begins a line. Without line ends all is one line.
+fn positions_are_found(rt: &impl Abort, positions: &TextPositions<'_>, units: u32, lines: u32) {
+    for i in 0..TIMES + 1 {
+        let position = if lines == 0 { (0, i * units) } else { (i * lines, 0) };
+        same(rt, "position", positions.position(i * units), Ok(position));
+        same(rt, "offset", positions.offset(position.0, position.1), Ok(i * units));
+    }
+    let past = [positions.position(TIMES * units + 1), positions.position(4294967295)];
+    same(rt, "past", past, [Err(PositionError::PastText); 2]);
+    let none = [positions.offset(TIMES * lines + 1, 0), positions.offset(4294967295, 4294967295)];
+    same(rt, "no line", none, [Err(PositionError::NoLine); 2]);
+    let last = TIMES * lines;
+    let past = [positions.offset(0, 4294967295), positions.offset(last, 4294967295)];
+    same(rt, "past the line", past, [Err(PositionError::PastLine); 2]);
+}
+
+#[test]
+fn positions_in_texts_of_line_ends_and_pairs(rt: HostRuntime) -> Result<()> {
+    for (text, units, lines) in REPEATED {
+        let all = repeated(rt.alloc(), text)?;
+        positions_are_found(&rt, &TextPositions::new(rt.alloc(), all.as_str())?, *units, *lines);
     }
     Ok(())
 }

@@ -2,11 +2,11 @@
 use crate::helpers::same;
 use super::fixtures::{
     INPUT_TEXT, LENT_TEXT, TEXT, full_json, full_map, full_owned_map, full_value, is_json, is_map,
-    lent_map, lent_parts,
+    lent_map, lent_parts, shuffled_parts,
 };
 use super::memory::{nothing, refuse_each};
 use oxc_sourcemap::{
-    ConcatSourceMapBuilder, JSONSourceMap, OwnedSourceMap, Plan, Result, SourceMap,
+    ConcatSourceMapBuilder, JSONSourceMap, OwnedSourceMap, Plan, Result, SourceIndex, SourceMap,
     SourcemapVisualizer, TextPositions, Token,
 };
 use serde_json::Value;
@@ -53,6 +53,21 @@ fn owned_source_map_to_data_url(rt: HostRuntime) {
 #[test]
 fn text_positions_new(rt: HostRuntime) {
     refuse_each(&rt, nothing, |alloc, _| TextPositions::new(alloc, "a\n😀\r\n"), |positions| same(&rt, "offset", positions.offset(2, 0), Ok(6)));
+}
+
+/// Asserts where the token stands that points to column 36.
+fn is_index(rt: &impl Abort, index: &SourceIndex<'_>) {
+    let found = index.generated_for(0, 0, 36).map(|token| token.get_dst_col());
+    same(rt, "generated column", found, Some(32));
+    same(rt, "tokens", index.pointing_to(0, 0).len(), 70);
+}
+
+/// It asks for the numbers of places, for the buffer of the sort, and for the indices.
+#[test]
+fn source_index_new(rt: HostRuntime) -> Result<()> {
+    let map = SourceMap::from_parts(shuffled_parts(rt.alloc())?);
+    refuse_each(&rt, nothing, |alloc, ()| SourceIndex::new(alloc, &map), |index| is_index(&rt, &index));
+    Ok(())
 }
 
 #[test]
@@ -243,6 +258,15 @@ const ORIGINALS: &str =
 #[test]
 fn evaluate_of_a_remapping(rt: HostRuntime) {
     refuse_each(&rt, plan_to_originals, |alloc, plan| oxc_sourcemap::evaluate(alloc, &plan), |map| is_map(&rt, &map, ORIGINALS));
+}
+
+/// A map of 22 tokens whose columns go back.
+const BACK: &str = r#"{"version":3,"sources":["a.js"],"names":[],"mappings":"IAAA,HACA,CACA,CACA,CACA,CACA,CACA,CACA,CACA,CACA,CACA,CACA,CACA,CACA,CACA,CACA,CACA,CACA,CACA,CACA,CACA,CACA"}"#;
+
+#[test]
+fn evaluate_of_a_map_that_is_sorted(rt: HostRuntime) {
+    let sorted = r#"{"version":3,"names":[],"sources":["a.js"],"mappings":"CACA,CACA,CACA,CAHA,AAIA,CACA,CACA,CACA,CACA,CACA,CACA,CACA,CACA,CACA,CACA,CACA,CACA,CACA,CACA,CACA,CACA,CACA"}"#;
+    refuse_each(&rt, |_| Ok(Plan::ReadSorted(BACK)), |alloc, plan| oxc_sourcemap::evaluate(alloc, &plan), |map| is_map(&rt, &map, sorted));
 }
 
 /// A plan that joins a map with itself, at columns.

@@ -1,7 +1,7 @@
 //! Calls that change what they are lent: a map, a builder, or a text. Where a request is refused, it is as if the call had not
 //! been made.
 use crate::helpers::same;
-use super::fixtures::{are_parts, chunked_parts, full_map, is_map, lent_map};
+use super::fixtures::{are_parts, chunked_parts, full_map, is_map, lent_map, shuffled_parts};
 use super::memory::{refuse_each, refuse_each_change, takes_none};
 use oxc_sourcemap::{
     ConcatSourceMapBuilder, OwnedSourceMap, Result, SourceMap, SourceMapBuilder, SourceMapParts,
@@ -92,6 +92,43 @@ fn source_map_apply_source_root(rt: HostRuntime) {
 #[test]
 fn owned_source_map_apply_source_root(rt: HostRuntime) {
     refuse_each_change(&rt, an_owned_map, |alloc, map, ()| map.apply_source_root(alloc), |map, is_set| has_set(&rt, map.into_parts(), is_set, rooted));
+}
+
+/// The 70 tokens by column. That of index i is at column i * 29, and 29 * 29 is 1 modulo 70.
+fn by_column(alloc: Global, tokens: &[Token]) -> Result<Vec<Token>> {
+    let mut sorted = Vec::new(alloc);
+    for col in 0..70usize {
+        sorted.push(tokens[col * 29 % 70])?;
+    }
+    Ok(sorted)
+}
+
+/// Asserts that the 70 tokens are sorted, without chunks, or all as it was.
+fn is_sorted(rt: &(impl Abort + AllocGlobal), parts: SourceMapParts<'static>, is_sorted: bool) {
+    let mut wanted = shuffled_parts(rt.alloc()).expect(rt, "parts");
+    if is_sorted {
+        wanted.tokens = by_column(rt.alloc(), wanted.tokens.as_slice()).expect(rt, "tokens").into_boxed_slice();
+        wanted.token_chunks = None;
+    }
+    are_parts(rt, &parts, &wanted);
+}
+
+fn a_shuffled_map(alloc: Global) -> Result<(SourceMap<'static>, ())> {
+    Ok((SourceMap::from_parts(shuffled_parts(alloc)?), ()))
+}
+
+fn a_shuffled_owned_map(alloc: Global) -> Result<(OwnedSourceMap, ())> {
+    Ok((OwnedSourceMap::from_parts(shuffled_parts(alloc)?), ()))
+}
+
+#[test]
+fn source_map_sort(rt: HostRuntime) {
+    refuse_each_change(&rt, a_shuffled_map, |alloc, map, ()| map.sort(alloc), |map, has_sorted| is_sorted(&rt, map.into_parts(), has_sorted));
+}
+
+#[test]
+fn owned_source_map_sort(rt: HostRuntime) {
+    refuse_each_change(&rt, a_shuffled_owned_map, |alloc, map, ()| map.sort(alloc), |map, has_sorted| is_sorted(&rt, map.into_parts(), has_sorted));
 }
 
 #[test]

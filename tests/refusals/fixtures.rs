@@ -66,6 +66,18 @@ pub fn chunked_parts(alloc: Global) -> Result<SourceMapParts<'static>> {
     Ok(parts)
 }
 
+/// A map whose 70 tokens go back and forth, in generated and in original columns, with a chunk. A sort of up to 20 takes no memory.
+pub fn shuffled_parts(alloc: Global) -> Result<SourceMapParts<'static>> {
+    let mut parts = full_map(alloc)?.into_parts();
+    let mut tokens = Vec::with_capacity(alloc, 70)?;
+    for i in 0..70 {
+        tokens.push(Token::new(0, i * 29 % 70, 0, i * 37 % 70, Some(0), Some(i)))?;
+    }
+    parts.tokens = tokens.into_boxed_slice();
+    parts.token_chunks = Some(vec![in alloc; TokenChunk::new(0, 70, 0, 0, 0, 0, 0, 0)]?);
+    Ok(parts)
+}
+
 /// Asserts the JSON text of a map.
 pub fn is_map(rt: &(impl Abort + AllocGlobal), map: &SourceMap<'_>, text: &str) {
     let found = map.to_json_string(rt.alloc());

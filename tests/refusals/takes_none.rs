@@ -3,8 +3,8 @@ use crate::helpers::same;
 use super::fixtures::{are_parts, chunked_parts, full_map, full_owned_map};
 use super::memory::{nothing, takes_none};
 use oxc_sourcemap::{
-    ConcatSourceMapBuilder, Error, JsonFault, OwnedSourceMap, PlanError, Result, SourceMap,
-    SourceMapBuilder, SourceMapParts, SourceViewToken, SourcemapVisualizer, Token, TokenChunk,
+    ConcatSourceMapBuilder, Error, JsonFault, OwnedSourceMap, PlanError, Result, SourceIndex, SourceMap,
+    SourceMapBuilder, SourceMapParts, SourceViewToken, SourcemapVisualizer, TextPositions, Token, TokenChunk,
 };
 use serde_json::Value;
 use smap_run::RunError;
@@ -147,6 +147,55 @@ fn lookups_and_search(rt: HostRuntime) -> Result<()> {
     let table = map.generate_lookup_table(rt.alloc())?;
     takes_none(&rt, nothing, |_, ()| are_found(&rt, &map, table.as_slice()), |()| ());
     Ok(())
+}
+
+/// Lookups in an index, and positions in a text.
+fn places_are_found(rt: &impl Abort, index: &SourceIndex<'_>, positions: &TextPositions<'_>) {
+    let token = Some(Token::new(0, 1, 0, 1, Some(1), Some(1)));
+    same(rt, "tokens", [index.generated_for(1, 0, 5), index.generated_from(1, 0, 0)], [token; 2]);
+    let found = [index.generated_at(1, 0, 1), index.all_generated_for(1, 0, 5), index.all_generated_from(1, 0, 0), index.pointing_to(1, 0)];
+    for mut tokens in found {
+        same(rt, "token", (tokens.size_hint(), tokens.next(), tokens.next()), ((1, Some(1)), token, None));
+    }
+    same(rt, "position", positions.position(3), Ok((1, 1)));
+    same(rt, "offset", positions.offset(1, 1), Ok(3));
+}
+
+#[test]
+fn lookups_from_places(rt: HostRuntime) -> Result<()> {
+    let map = full_owned_map(rt.alloc())?;
+    let index = SourceIndex::new(rt.alloc(), &map)?;
+    let positions = TextPositions::new(rt.alloc(), "a\nbc")?;
+    takes_none(&rt, nothing, |_, ()| places_are_found(&rt, &index, &positions), |()| ());
+    Ok(())
+}
+
+/// Parts whose tokens are sorted, and 20 tokens whose columns go back and forth.
+fn sorted_and_small_parts(alloc: Global) -> Result<[SourceMapParts<'static>; 2]> {
+    let (sorted, mut small) = (chunked_parts(alloc)?, chunked_parts(alloc)?);
+    let mut tokens = Vec::new(alloc);
+    for i in 0..20 {
+        tokens.push(Token::new(0, i * 7 % 20, 0, 0, None, None))?;
+    }
+    small.tokens = tokens.into_boxed_slice();
+    Ok([sorted, small])
+}
+
+/// Sorts both, and gives the first one back.
+fn sort_both(rt: &(impl Abort + AllocGlobal), both: [SourceMapParts<'static>; 2]) -> SourceMapParts<'static> {
+    let [sorted, small] = both.map(|parts| {
+        let mut map = SourceMap::from_parts(parts);
+        same(rt, "done", map.sort(rt.alloc()), Ok(()));
+        map
+    });
+    same(rt, "sorted", small.is_sorted(), true);
+    sorted.into_parts()
+}
+
+/// A map that is sorted stays as it is.
+#[test]
+fn sort_of_sorted_and_of_small_maps(rt: HostRuntime) {
+    takes_none(&rt, sorted_and_small_parts, |_, both| sort_both(&rt, both), |parts| has_parts(&rt, &parts));
 }
 
 /// Asserts the parts of a map, which has chunks.

@@ -3,7 +3,8 @@
 use super::fault::Fault;
 use super::timing::{Asked, Run, best};
 use oxc_sourcemap::{
-    ConcatSourceMapBuilder, JSONSourceMap, Result as MapResult, SourceMap, SourceMapBuilder, Token,
+    ConcatSourceMapBuilder, JSONSourceMap, Result as MapResult, SourceIndex, SourceMap,
+    SourceMapBuilder, Token,
 };
 use std::alloc::Global;
 use std::time::Instant;
@@ -61,6 +62,10 @@ pub(crate) enum Stage<'s, 'd> {
     Build(&'s SourceMap<'d>),
     /// Looks up positions, by the table of the map.
     Lookup(&'s SourceMap<'d>, &'s [&'s [Token]], &'s [(u32, u32)]),
+    /// Makes the index by original positions.
+    Index(&'s SourceMap<'d>),
+    /// Looks up original positions: source ids, lines and columns.
+    Back(&'s SourceIndex<'s>, &'s [(u32, u32, u32)]),
     /// Joins maps.
     Join(&'s [(&'s SourceMap<'d>, u32)]),
     /// Composes maps, the first of which is nearest to the sources.
@@ -80,6 +85,8 @@ impl Stage<'_, '_> {
             Stage::Decode(mappings, names, sources) => decode(rt, mappings, names, sources),
             Stage::Build(map) => build(rt, map),
             Stage::Lookup(map, table, positions) => lookup(rt, map, table, positions),
+            Stage::Index(map) => index(rt, map),
+            Stage::Back(index, places) => back(rt, index, places),
             Stage::Join(copies) => join(rt, copies),
             Stage::Compose(maps) => compose(rt, maps),
             Stage::Remap(map, inputs) => remap(rt, map, inputs),
@@ -242,6 +249,49 @@ fn lookup(
     Run::ended(rt, start, sum)
 }
 
+fn index(rt: &HostRuntime, map: &SourceMap<'_>) -> Result<Run, Fault> {
+    let start = Instant::now(rt)?;
+    let index = SourceIndex::new(rt.alloc(), map)?;
+    Run::ended(rt, start, index.generated_at(0, 0, 0).len())
+}
+
+/// Places that tokens point to, or up to three columns behind, the same ones in each run.
+fn some_places(alloc: Global, tokens: &[Token]) -> MapResult<Vec<(u32, u32, u32)>> {
+    let mut random = XorShift(SEED);
+    let mut places = Vec::new(alloc);
+    for _ in 0..LOOKUPS {
+        let i = random.below(u32::try_from(tokens.len()).unwrap_or(u32::MAX));
+        let columns = random.below(4);
+        if let Some(token) = tokens.get(i as usize) {
+            let source_id = token.get_source_id().unwrap_or(u32::MAX);
+            let col = token.get_src_col().saturating_add(columns);
+            places.push((source_id, token.get_src_line(), col))?;
+        }
+    }
+    Ok(places)
+}
+
+/// The sum of the generated lines that are found, each plus 1.
+fn sum_of_places(index: &SourceIndex<'_>, places: &[(u32, u32, u32)]) -> usize {
+    let mut sum: usize = 0;
+    for (source_id, line, col) in places {
+        if let Some(token) = index.generated_for(*source_id, *line, *col) {
+            sum = sum.wrapping_add(token.get_dst_line() as usize + 1);
+        }
+    }
+    sum
+}
+
+fn back(
+    rt: &HostRuntime,
+    index: &SourceIndex<'_>,
+    places: &[(u32, u32, u32)],
+) -> Result<Run, Fault> {
+    let start = Instant::now(rt)?;
+    let sum = sum_of_places(index, places);
+    Run::ended(rt, start, sum)
+}
+
 fn join(rt: &HostRuntime, copies: &[(&SourceMap<'_>, u32)]) -> Result<Run, Fault> {
     let start = Instant::now(rt)?;
     let map = ConcatSourceMapBuilder::from_sourcemaps(rt.alloc(), copies)?.into_sourcemap()?;
@@ -383,6 +433,15 @@ fn time_lookups(rt: &HostRuntime, asked: &Asked, map: &SourceMap<'_>) -> Result<
     time_join(rt, asked, map, table.len())
 }
 
+/// Times the index by original positions, and lookups in it.
+fn time_index(rt: &HostRuntime, asked: &Asked, map: &SourceMap<'_>) -> Result<(), Fault> {
+    let tokens = map.get_tokens().len();
+    time(rt, asked, "index", Stage::Index(map), tokens)?;
+    let index = SourceIndex::new(rt.alloc(), map)?;
+    let places = some_places(rt.alloc(), map.get_tokens().as_slice())?;
+    time(rt, asked, "back", Stage::Back(&index, places.as_slice()), tokens)
+}
+
 /// Times each stage on the map that a text reads as.
 fn time_stages(
     rt: &HostRuntime,
@@ -397,7 +456,8 @@ fn time_stages(
     time_decode(rt, asked, map)?;
     time_encode(rt, asked, map)?;
     time(rt, asked, "build", Stage::Build(map), tokens)?;
-    time_lookups(rt, asked, map)
+    time_lookups(rt, asked, map)?;
+    time_index(rt, asked, map)
 }
 
 /// Times each stage on one map.

@@ -46,10 +46,11 @@ fn numbered(alloc: Global, tokens: &[Token]) -> Memory<Vec<u128>>
 fn indices_in(alloc: Global, numbers: &[u128]) -> Memory<Vec<u32>>
     ensures { IfOk result (λ order. order.items ≡ map (λ n. n % 4294967296) numbers.now) }
 {
-    numbers
-        .iter()
-        .map(|number| (*number % 4294967296) as u32)
-        .collect(alloc)
+    let mut order = Vec::with_capacity(alloc, numbers.len())?;
+    for number in numbers {
+        order.push((*number % 4294967296) as u32)?;
+    }
+    Ok(order)
 }
 
 /// The indices of the mapped tokens by place, and for each place in the order of the map. The sort is over numbers that stand

@@ -14,7 +14,7 @@ use std::marker::Model;
 /// units, as in JavaScript's strings. A text is cut into lines as docs/FORMAT.md, "Positions in a text", says: a line has its
 /// line end in it.
 ///
-/// It holds 4 bytes for each line and for each character past U+FFFF.
+/// It holds 4 to 8 bytes for each line and for each character past U+FFFF.
 ///
 /// ```rust
 /// use oxc_sourcemap::{PositionError, TextPositions};

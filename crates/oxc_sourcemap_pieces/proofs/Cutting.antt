@@ -1,6 +1,6 @@
 -- Cuts go forward, and in sorted tokens each piece is the longest run of places at which the same is found.
-use Rattle.std.proofs.Common.{◌≡◌, ◌≢◌, refl, sym, ap, subst, ◌∙◌, ℕ, zero, suc, ◌+◌, ◌-◌, ◌*◌, ◌<◌}
-use Rattle.std.proofs.Common.{◌≤◌, ◌==◌, nat_lt, nat_le, Bool, true, false, List, [], ◌∷◌, map}
+use Rattle.std.proofs.Common.{◌≡◌, ◌≢◌, refl, sym, ap, subst, ◌∙◌, ℕ, zero, suc, ◌+◌, ◌-◌, ◌<◌}
+use Rattle.std.proofs.Common.{◌≤◌, ◌==◌, nat_lt, nat_le, Bool, true, false, List, ◌∷◌, map}
 use Rattle.std.proofs.Common.{length}
 use Rattle.std.proofs.Common.{get_or, drop, slice_get, min, Option, Some, None, is_some}
 use Rattle.std.proofs.Common.{if◌then◌else◌, inl, inr, arith}
@@ -13,7 +13,7 @@ use Rattle.std.specs.Option.{option_map_or}
 use Rattle.oxc_sourcemap_tokens.specs.Token.{TokenRecord, AreInBounds}
 use Rattle.oxc_sourcemap_parts.specs.Sorted.{are_tokens_sorted}
 use Rattle.oxc_sourcemap_pieces.specs.declared.cuts.Cut.{Cut}
-use Rattle.oxc_sourcemap_pieces.specs.RangePieces.{place, line_of, column_of, index_at_place}
+use Rattle.oxc_sourcemap_pieces.specs.RangePieces.{place, line_of, index_at_place}
 use Rattle.oxc_sourcemap_pieces.specs.RangePieces.{runs_from, piece_of, pieces_of, DoCover}
 use Rattle.oxc_sourcemap_pieces.specs.Cuts.{token_place, holder, holder_before, passed, line_end}
 use Rattle.oxc_sourcemap_pieces.specs.Cuts.{end_before, run_end, cut_at, pieces_left, AreLeft}

@@ -1,5 +1,5 @@
 -- Which token the lookup of a place finds in sorted tokens, by how many of them lie before the place.
-use Rattle.std.proofs.Common.{◌≡◌, ◌≢◌, refl, sym, ap, subst, ◌∙◌, ℕ, zero, suc, ◌+◌, ◌-◌, ◌*◌, ◌<◌}
+use Rattle.std.proofs.Common.{◌≡◌, ◌≢◌, refl, sym, ap, subst, ◌∙◌, ℕ, zero, suc, ◌+◌, ◌-◌, ◌<◌}
 use Rattle.std.proofs.Common.{◌≤◌, ◌==◌, nat_lt, Bool, true, false, List, [], ◌∷◌, length, get_or}
 use Rattle.std.proofs.Common.{take}
 use Rattle.std.proofs.Common.{drop, slice_get, Option, Some, None, option_map, if◌then◌else◌, inl}
@@ -13,7 +13,7 @@ use Rattle.std.specs.Option.{option_map_or}
 use Rattle.oxc_sourcemap_tokens.specs.Token.{TokenRecord, AreInBounds}
 use Rattle.oxc_sourcemap_parts.specs.Sorted.{are_tokens_sorted, token_line, token_column}
 use Rattle.oxc_sourcemap_parts.proofs.Order.{sorted_in_order}
-use Rattle.oxc_sourcemap_lookup.specs.Lookup.{on_line, index_for, index_at, no_column_goes_back}
+use Rattle.oxc_sourcemap_lookup.specs.Lookup.{on_line, index_at, no_column_goes_back}
 use Rattle.oxc_sourcemap_lookup.specs.LineSpans.{count_before_line}
 use Rattle.oxc_sourcemap_lookup.proofs.Cuts.{cut}
 use Rattle.oxc_sourcemap_lookup.proofs.Indices.{index-at, index_here_or, index_before}

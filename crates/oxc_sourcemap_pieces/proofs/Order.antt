@@ -1,7 +1,6 @@
 -- The order of places in sorted tokens, and which of them lie on lines before a line.
-use Rattle.std.proofs.Common.{◌≡◌, ℕ, zero, suc, ◌+◌, ◌*◌, ◌<◌, ◌≤◌, ◌==◌, nat_lt, nat_le, ◌||◌}
-use Rattle.std.proofs.Common.{◌&&◌}
-use Rattle.std.proofs.Common.{Bool, true, false, List, [], ◌∷◌, length, get_or, refl, sym, ap}
+use Rattle.std.proofs.Common.{◌≡◌, ℕ, zero, suc, ◌+◌, ◌<◌, ◌≤◌, nat_lt}
+use Rattle.std.proofs.Common.{Bool, true, false, List, [], ◌∷◌, length, get_or, refl, sym}
 use Rattle.std.proofs.Common.{subst}
 use Rattle.std.proofs.Common.{arith}
 use Rattle.std.proofs.lemmas.Bool.Decides.{nat_tests}
@@ -12,8 +11,8 @@ use Rattle.oxc_sourcemap_parts.specs.Sorted.{are_tokens_sorted, token_line, toke
 use Rattle.oxc_sourcemap_parts.specs.Sorted.{may_precede}
 use Rattle.oxc_sourcemap_parts.proofs.Order.{sorted-head}
 use Rattle.oxc_sourcemap_lookup.specs.LineSpans.{count_before_line}
-use Rattle.oxc_sourcemap_lookup.proofs.LineStarts.{counts-one, counts-none, none-before}
-use Rattle.oxc_sourcemap_lookup.proofs.Tables.{IsFrom, IsFrom-le}
+use Rattle.oxc_sourcemap_lookup.proofs.LineStarts.{counts-one, none-before}
+use Rattle.oxc_sourcemap_lookup.proofs.Tables.{IsFrom}
 use Rattle.oxc_sourcemap_pieces.specs.Cuts.{token_place}
 
 precede-place : (x y : TokenRecord) → may_precede token_line token_column x y ≡ true → x.dst_col < 4294967296 → token_place x ≤ token_place y

@@ -16,6 +16,7 @@ mod lookups;
 mod mappings;
 mod maps;
 mod owned;
+mod pieces;
 mod plans;
 mod program;
 mod refusals;

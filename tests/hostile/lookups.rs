@@ -149,3 +149,55 @@ fn lines_that_go_back_are_searched(rt: HostRuntime) -> Result<()> {
     }
     Ok(())
 }
+
+/// Ranges of a map, whose pieces are in order and together the range, with tokens of their own lines.
+const RANGES: &[[u32; 4]] = &[
+    [0, 0, 9, 9],
+    [0, 0, 4294967295, 4294967295],
+    [0, 2, 0, 3],
+    [0, 4294967295, 1, 0],
+    [4294967294, 7, 4294967295, 0],
+    [1, 1, 1, 1],
+    [2, 0, 1, 9],
+];
+
+fn pieces_are_the_range(rt: &impl Abort, map: &SourceMap<'_>, range: [u32; 4]) {
+    let [line, col, end_line, end_col] = range;
+    let (mut at, end) = ((line, col), (end_line, end_col));
+    let pieces = map.pieces(line, col, end_line, end_col);
+    let (len, mut count) = (pieces.len(), 0);
+    for piece in pieces {
+        same(rt, "start", (piece.line, piece.col), at);
+        at = (piece.end_line, piece.end_col);
+        assert!(rt; (piece.line, piece.col) < at && at <= end);
+        assert!(rt; piece.token.is_none_or(|token| token.get_dst_line() == piece.line));
+        count += 1;
+    }
+    same(rt, "length", count, len);
+    same(rt, "end", at.max(end), at);
+}
+
+#[test]
+fn pieces_of_hostile_maps_are_their_range(rt: HostRuntime) -> Result<()> {
+    each_hostile(|hostile| {
+        let map = hostile_map(rt.alloc(), hostile)?;
+        for range in RANGES {
+            pieces_are_the_range(&rt, &map, *range);
+        }
+        Ok(())
+    })
+}
+
+#[test]
+fn pieces_of_lines_that_go_back_are_their_range(rt: HostRuntime) -> Result<()> {
+    for (columns, _) in LINES {
+        let tokens = line_of(rt.alloc(), columns)?.into_boxed_slice();
+        let mut map = SourceMap::empty(rt.alloc())?.into_parts();
+        map.tokens = tokens;
+        let map = SourceMap::from_parts(map);
+        for range in RANGES {
+            pieces_are_the_range(&rt, &map, *range);
+        }
+    }
+    Ok(())
+}

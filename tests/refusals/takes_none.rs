@@ -141,6 +141,19 @@ fn are_found(rt: &impl Abort, map: &OwnedSourceMap, table: &[&[Token]]) {
     assert!(rt; inside.lookup_source_view_token_approx(table, 0, 1).is_some());
 }
 
+/// The pieces of a range: one for each of the three tokens.
+fn are_cut(rt: &impl Abort, map: &OwnedSourceMap) {
+    let inside = map.as_source_map();
+    let ends = [map.pieces(0, 0, 0, 9).last(), inside.pieces(0, 0, 0, 9).last()];
+    same(rt, "ends", ends.map(|piece| piece.map(|piece| (piece.col, piece.end_col))), [Some((2, 9)); 2]);
+    same(rt, "lengths", [map.pieces(0, 0, 0, 9).len(), inside.pieces(0, 0, 0, 9).count()], [3; 2]);
+}
+
+#[test]
+fn pieces(rt: HostRuntime) {
+    takes_none(&rt, full_owned_map, |_, map| are_cut(&rt, &map), |()| ());
+}
+
 #[test]
 fn lookups_and_search(rt: HostRuntime) -> Result<()> {
     let map = full_owned_map(rt.alloc())?;

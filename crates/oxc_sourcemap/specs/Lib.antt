@@ -8,6 +8,7 @@ pub use Rattle.oxc_sourcemap_json.specs.declared.json_source_map.JSONSourceMap
 pub use Rattle.oxc_sourcemap_parts.specs.declared.parts.SourceMapParts
 pub use Rattle.oxc_sourcemap_map.specs.declared.source_view_token.SourceViewToken
 pub use Rattle.oxc_sourcemap_text.specs.declared.position_error.PositionError
+pub use Rattle.oxc_sourcemap_pieces.specs.declared.cuts.Piece
 pub use Rattle.oxc_sourcemap_plan.specs.declared.plan.Plan
 pub use Rattle.oxc_sourcemap_tokens.specs.declared.plan_error.PlanError
 pub use Rattle.oxc_sourcemap_tokens.specs.Token
@@ -32,6 +33,8 @@ pub use Rattle.oxc_sourcemap_parts.specs.Texts
 pub use Rattle.oxc_sourcemap_lookup.specs.Digits
 pub use Rattle.oxc_sourcemap_lookup.specs.Lookup
 pub use Rattle.oxc_sourcemap_lookup.specs.Trace
+pub use Rattle.oxc_sourcemap_pieces.specs.RangePieces
+pub use Rattle.oxc_sourcemap_pieces.specs.RangeLaws
 pub use Rattle.oxc_sourcemap_sort.specs.Sorting
 pub use Rattle.oxc_sourcemap_sort.specs.SortLaws
 pub use Rattle.oxc_sourcemap_json.specs.Json

@@ -7,6 +7,7 @@ pub use oxc_sourcemap_laws::{
     remapping_associative, rooting_idempotent, tokens_in_bounds, trace_of_composition,
     trace_of_join, trace_of_remap,
 };
+pub use oxc_sourcemap_pieces::range_pieces;
 pub use oxc_sourcemap_reverse::reverse_lookups;
 pub use oxc_sourcemap_sort::sorting_harmless;
 pub use oxc_sourcemap_text::positions_and_offsets_inverse;

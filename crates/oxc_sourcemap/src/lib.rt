@@ -18,6 +18,7 @@ pub use oxc_sourcemap_json::{JSONSourceMap, file_from_value};
 pub use oxc_sourcemap_map::{OwnedSourceMap, SourceMap, SourceViewToken, ViewTokens};
 pub use oxc_sourcemap_mappings::{decode_mappings, encode_chunk, encode_mappings};
 pub use oxc_sourcemap_parts::{Contents, Names, SourceMapParts, Sources, Tokens};
+pub use oxc_sourcemap_pieces::{Piece, Pieces};
 pub use oxc_sourcemap_plan::Plan;
 pub use oxc_sourcemap_reverse::{IndexTokens, SourceIndex};
 pub use oxc_sourcemap_text::{PositionError, TextPositions};

@@ -20,6 +20,7 @@ pub use Rattle.oxc_sourcemap_parts.specs.Sorted.{are_tokens_sorted, token_column
 pub use Rattle.oxc_sourcemap_parts.specs.Sound.{IsSound}
 pub use Rattle.oxc_sourcemap_parts.specs.Views.{record_of_parts, empty_record, text_of, texts_of}
 pub use Rattle.oxc_sourcemap_parts.specs.Views.{contents_of, chunks_of}
+pub use Rattle.oxc_sourcemap_pieces.specs.RangePieces.{place, pieces_of, DoCover}
 pub use Rattle.oxc_sourcemap_remap.specs.Inputs.{lent_inputs, inputs_fault, NoInputColumnGoesBack}
 pub use Rattle.oxc_sourcemap_remap.specs.Remapped.{remapping, SomeRemapping}
 pub use Rattle.oxc_sourcemap_tokens.specs.Chunks.{ChunksFit}

@@ -9,7 +9,8 @@ ghost use Rattle.oxc_sourcemap_map.specs.Words.{clamped_token_for, IfOwnTable, t
 ghost use Rattle.oxc_sourcemap_map.specs.Words.{line_table, slice_of, trace, clamped_trace};
 ghost use Rattle.oxc_sourcemap_map.specs.Words.{view_of, seen_in, view_original, Answers, Reports};
 ghost use Rattle.oxc_sourcemap_map.specs.Words.{lent_items, at_or_after, token_after, index_for};
-ghost use Rattle.oxc_sourcemap_map.specs.Words.{clamped_index_for, index_after};
+ghost use Rattle.oxc_sourcemap_map.specs.Words.{clamped_index_for, index_after, place, pieces_of};
+ghost use Rattle.oxc_sourcemap_map.specs.Words.{DoCover, are_tokens_sorted};
 
 use crate::source_view_token::SourceViewToken;
 use crate::sourcemap::SourceMap;
@@ -17,6 +18,7 @@ use oxc_sourcemap_lookup::{
     index_from_line, lookup_table, search, search_after, search_clamped, search_index,
     search_index_after, search_index_clamped, slice_of,
 };
+use oxc_sourcemap_pieces::{Pieces, pieces_in};
 use oxc_sourcemap_tokens::{Result, Token};
 use std::alloc::Global;
 
@@ -224,5 +226,35 @@ impl<'a> SourceMap<'a> {
     {
         let index = search_index_after(slice_of(lookup_table, line), col, &mut 0);
         index_from_line(self.parts.tokens.as_slice(), line, index)
+    }
+
+    /// The pieces of the range of generated code from a line and a column up to but not including another: for each, where it
+    /// begins and ends, and the token that `lookup_token` finds at each of its positions, or None. They are in order, none is
+    /// empty, and together they are the range; one that ends at or before its beginning has none. (Lines and columns count from
+    /// 0, columns in UTF-16 code units.)
+    ///
+    /// A token holds to the end of its line at most, so its last piece there ends at column 0 of the next line, unless the range
+    /// ends before. Several tokens at one column: the first holds there, and the last from the next column on. In a map that is
+    /// not sorted the pieces are still in order and together the range, but which tokens they have is open.
+    ///
+    /// ```rust
+    /// use oxc_sourcemap::SourceMap;
+    ///
+    /// let map = SourceMap::from_json_string(alloc, r#"{"version":3,"sources":["a.js"],"mappings":"EAAA,GAAG"}"#)?;
+    /// let mut pieces = map.pieces(0, 0, 0, 9);
+    /// assert_eq!(rt; pieces.len(), 3);
+    /// let first = pieces.next().map(|piece| (piece.col, piece.end_col, piece.token));
+    /// assert_eq!(rt; first, Some((0, 2, None)));
+    /// let second = pieces.next().map(|piece| (piece.col, piece.end_col, piece.token));
+    /// assert_eq!(rt; second, Some((2, 5, map.get_token(0))));
+    /// ```
+    ///
+    /// It halves the tokens once, goes over those in the range, and takes no memory.
+    pub fn pieces(&self, line: u32, col: u32, end_line: u32, end_col: u32) -> Pieces<'_>
+        ensures cover { DoCover (place line col) (place end_line end_col) result }
+        ensures pieces { are_tokens_sorted self.now.tokens ≡ true
+            → result ≡ pieces_of self.now.tokens line col end_line end_col }
+    {
+        pieces_in(self.parts.tokens.as_slice(), line, col, end_line, end_col)
     }
 }

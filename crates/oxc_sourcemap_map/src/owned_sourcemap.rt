@@ -13,7 +13,7 @@ ghost use Rattle.oxc_sourcemap_map.specs.Words.{content_at, source_and_content_a
 ghost use Rattle.oxc_sourcemap_map.specs.Words.{map_row, Answers, OnlyMemory, Reports, lent_items};
 ghost use Rattle.oxc_sourcemap_map.specs.Words.{lent_item, appended, rooted, at_or_after};
 ghost use Rattle.oxc_sourcemap_map.specs.Words.{token_after, index_for, clamped_index_for};
-ghost use Rattle.oxc_sourcemap_map.specs.Words.{index_after, sorted_map};
+ghost use Rattle.oxc_sourcemap_map.specs.Words.{index_after, sorted_map, place, pieces_of, DoCover};
 ghost use Rattle.std.specs.Prelude.{IsOk};
 ghost use Rattle.std.specs.Prelude.{◌≡◌, ◌≢◌, List, [], map, option_map, slice_get, string_bytes};
 ghost use Rattle.std.specs.Prelude.{IfOk, IfErr, IfSome, IsNone, Ok, Err, Some, OnOk, OnErr, ◌↔◌};
@@ -28,6 +28,7 @@ use crate::sourcemap::SourceMap;
 use crate::view_tokens::ViewTokens;
 use oxc_sourcemap_json::JSONSourceMap;
 use oxc_sourcemap_parts::{Contents, Names, SourceMapParts, Sources, Tokens};
+use oxc_sourcemap_pieces::Pieces;
 use oxc_sourcemap_tokens::{Result, Token};
 use std::alloc::Global;
 use std::convert::AsStr;
@@ -550,6 +551,15 @@ impl OwnedSourceMap {
         ensures within { IfSome result (λ i. i < length self.now.tokens) }
     {
         self.inner.lookup_token_index_after(lookup_table, line, col)
+    }
+
+    /// The pieces of a range of generated code, as `SourceMap::pieces` has them. Takes no memory.
+    pub fn pieces(&self, line: u32, col: u32, end_line: u32, end_col: u32) -> Pieces<'_>
+        ensures cover { DoCover (place line col) (place end_line end_col) result }
+        ensures pieces { are_tokens_sorted self.now.tokens ≡ true
+            → result ≡ pieces_of self.now.tokens line col end_line end_col }
+    {
+        self.inner.pieces(line, col, end_line, end_col)
     }
 
     /// The parts of this map, unchanged. Takes no memory.

@@ -1,0 +1,4 @@
+pub mod RangePieces
+pub mod Cuts
+pub mod RangeLaws
+pub mod Words

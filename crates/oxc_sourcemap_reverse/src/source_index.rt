@@ -35,7 +35,8 @@ use std::marker::Model;
 /// ids may be out of range. A source id that no token has gives nothing, and so does 4294967295. The index lends the tokens of
 /// the map, and holds 4 bytes for each token that has a source; while it is made, up to 32 for each token.
 ///
-/// No lookup takes memory. One compares at most four times as many places as the number of tokens has binary digits, and two.
+/// No lookup takes memory. One compares at most four times as many places as the number of tokens has binary digits, and two:
+/// `search_at`, `search_for` and `search_from` count them, and the other calls make up to two of these.
 #[derive(Drop)]
 pub struct SourceIndex<'m> {
     tokens: &'m [Token],
@@ -73,9 +74,7 @@ impl<'m> SourceIndex<'m> {
     pub fn generated_at(&self, source_id: u32, line: u32, col: u32) -> IndexTokens<'_>
         ensures { result ≡ generated_at source_id line col self.now }
     {
-        let _ = &self.tokens;
-        let place = place_number(source_id, line, col);
-        self.between(place, place + 1, &mut 0)
+        self.search_at(source_id, line, col, &mut 0)
     }
 
     /// All tokens that point to this line, by source column, and those of one column in the order of the map.
@@ -92,7 +91,7 @@ impl<'m> SourceIndex<'m> {
     pub fn generated_for(&self, source_id: u32, line: u32, col: u32) -> Option<Token>
         ensures { result ≡ generated_for source_id line col self.now }
     {
-        self.find_for(source_id, line, col, &mut 0)
+        self.search_for(source_id, line, col, &mut 0)
     }
 
     /// The mirror image of `generated_for`. On this line, the tokens of the least source column that is not before `col` are
@@ -101,7 +100,7 @@ impl<'m> SourceIndex<'m> {
     pub fn generated_from(&self, source_id: u32, line: u32, col: u32) -> Option<Token>
         ensures { result ≡ generated_from source_id line col self.now }
     {
-        self.find_from(source_id, line, col, &mut 0)
+        self.search_from(source_id, line, col, &mut 0)
     }
 
     /// All tokens that point where the one that `generated_for` finds does, in the order of the map.
@@ -122,6 +121,38 @@ impl<'m> SourceIndex<'m> {
             Some(found) => self.generated_at(source_id, line, found.get_src_col()),
             None => IndexTokens::new(self.tokens, &[]),
         }
+    }
+
+    /// As `generated_at`. `steps` is set to the number of places that were compared with the given one: at most twice as many as
+    /// the number of tokens has binary digits.
+    pub fn search_at(&self, source_id: u32, line: u32, col: u32, steps: &mut u64) -> IndexTokens<'_>
+        ensures found { result ≡ generated_at source_id line col self.now }
+        ensures counted { steps.new ≤ 2 * binary_digits (length self.now) }
+    {
+        let _ = &self.tokens;
+        *steps = 0;
+        let place = place_number(source_id, line, col);
+        self.between(place, place + 1, steps)
+    }
+
+    /// As `generated_for`. `steps` is set to the number of places that were compared with the given one, or with its line: at most
+    /// two more than the number of tokens has binary digits.
+    pub fn search_for(&self, source_id: u32, line: u32, col: u32, steps: &mut u64) -> Option<Token>
+        ensures found { result ≡ generated_for source_id line col self.now }
+        ensures counted { steps.new ≤ binary_digits (length self.now) + 2 }
+    {
+        *steps = 0;
+        self.find_for(source_id, line, col, steps)
+    }
+
+    /// As `generated_from`. `steps` is set to the number of places that were compared with the given one, or with its line: at most
+    /// one more than twice as many as the number of tokens has binary digits.
+    pub fn search_from(&self, source_id: u32, line: u32, col: u32, steps: &mut u64) -> Option<Token>
+        ensures found { result ≡ generated_from source_id line col self.now }
+        ensures counted { steps.new ≤ 2 * binary_digits (length self.now) + 1 }
+    {
+        *steps = 0;
+        self.find_from(source_id, line, col, steps)
     }
 
     /// The tokens from one place up to but not including another, by place, and those of one place in the order of the map.

@@ -1,0 +1,4 @@
+pub mod DataUrls
+pub mod DataUrlMessages
+pub mod DataUrlLaws
+pub mod Words

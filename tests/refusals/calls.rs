@@ -6,7 +6,7 @@ use super::fixtures::{
 };
 use super::memory::{nothing, refuse_each};
 use oxc_sourcemap::{
-    ConcatSourceMapBuilder, JSONSourceMap, OwnedSourceMap, Plan, Result, SourceMap,
+    ConcatSourceMapBuilder, DataUrlError, Error, FaultSpot, Field, JSONSourceMap, OwnedSourceMap, Plan, Result, SourceMap,
     SourcemapVisualizer, TextPositions, Token,
 };
 use serde_json::Value;
@@ -53,6 +53,38 @@ fn owned_source_map_to_data_url(rt: HostRuntime) {
 #[test]
 fn text_positions_new(rt: HostRuntime) {
     refuse_each(&rt, nothing, |alloc, _| TextPositions::new(alloc, "a\n😀\r\n"), |positions| same(&rt, "offset", positions.offset(2, 0), Ok(6)));
+}
+
+fn error_of(error: DataUrlError) -> Error {
+    match error {
+        DataUrlError::OutOfMemory => Error::OutOfMemory,
+        _ => Error::TooLarge,
+    }
+}
+
+#[test]
+fn decode_data_url_of_base64(rt: HostRuntime) {
+    refuse_each(&rt, nothing, |alloc, _| oxc_sourcemap::decode_data_url(alloc, "data:application/json;base64,e30%3D").map_err(|error| error_of(error)), |text| {
+        same(&rt, "text", text.as_ref().map(|text| text.as_str()), Some("{}"))
+    });
+}
+
+#[test]
+fn decode_data_url_of_escapes(rt: HostRuntime) {
+    refuse_each(&rt, nothing, |alloc, _| oxc_sourcemap::decode_data_url(alloc, "data:application/json,%7b}").map_err(|error| error_of(error)), |text| {
+        same(&rt, "text", text.as_ref().map(|text| text.as_str()), Some("{}"))
+    });
+}
+
+#[test]
+fn json_fault_at(rt: HostRuntime) {
+    let text = r#"{"version":3,"mappings":"","sources":["a.js"],"names":["x",null]}"#;
+    refuse_each(&rt, nothing, |alloc, _| oxc_sourcemap::json_fault_at(alloc, text), |spot| same(&rt, "spot", spot, Some(FaultSpot::Entry(Field::Names, 1))));
+}
+
+#[test]
+fn value_fault_at(rt: HostRuntime) {
+    refuse_each(&rt, full_value, |alloc, value| oxc_sourcemap::value_fault_at(alloc, &value), |spot| same(&rt, "spot", spot, None));
 }
 
 #[test]

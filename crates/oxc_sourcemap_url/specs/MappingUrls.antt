@@ -6,17 +6,22 @@ use Rattle.std.specs.Prelude.{nat_eq, is_some}
 use Rattle.std.specs.Option.{option_map, option_or}
 use Rattle.std.specs.List.{list_any, starts_with}
 use Rattle.std.specs.Char.{is_whitespace}
-use Rattle.std.specs.Str.{skip_leading_whitespace, drop_trailing_whitespace}
+use Rattle.std.specs.Borrow.{Bor}
+use Rattle.std.specs.Str.{chars, skip_leading_whitespace, drop_trailing_whitespace}
 use Rattle.oxc_sourcemap_text.specs.TextLines.{lines_of}
 use Rattle.oxc_sourcemap_url.specs.declared.language.Language.{Language}
 use Rattle.oxc_sourcemap_url.specs.declared.language.Language.TheVariants.{JavaScript, Css}
 
 -- ---- one comment
 
--- what is behind the first character, if that is `#` or `@`
+-- `#`, and the older `@`
+abbrev pub is_mark : ℕ → Bool
+is_mark c = c == 35 || c == 64
+
+-- what is behind the first character, if that is a mark
 abbrev pub behind_mark : List ℕ → Option (List ℕ)
 behind_mark [] = None
-behind_mark (c ∷ cs) = if c == 35 || c == 64 then Some cs else None
+behind_mark (c ∷ cs) = if is_mark c then Some cs else None
 
 -- the text, if it has no white space
 abbrev pub unbroken : List ℕ → Option (List ℕ)
@@ -92,3 +97,7 @@ known_after known (Some text) =
 unfoldable pub mapping_url : Language → List ℕ → Option (List ℕ)
 mapping_url language code =
     fold known_after None (flat_map (pieces (has_line_comments language) None) (lines_of code))
+
+-- the characters of a text behind a borrow
+abbrev pub lent_chars : Option (Bor (List ℕ)) → Option (List ℕ)
+lent_chars text = option_map (λ found. chars found.now) text

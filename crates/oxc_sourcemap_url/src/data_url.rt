@@ -4,7 +4,8 @@ ghost use Rattle.std.specs.Prelude.{string_bytes, IfSome, IsNone, true, false};
 ghost use Rattle.std.specs.List.{before_first, after_first};
 ghost use Rattle.oxc_sourcemap_url.specs.Words.{GivesBut, OutOfMemory, has_data_scheme};
 ghost use Rattle.oxc_sourcemap_url.specs.Words.{behind_scheme, head_of, data_of, is_json_type};
-ghost use Rattle.oxc_sourcemap_url.specs.Words.{media_type, is_base64, is_json_url, base64_fault_at};
+ghost use Rattle.oxc_sourcemap_url.specs.Words.{media_type, is_base64, is_json_url};
+ghost use Rattle.oxc_sourcemap_url.specs.Words.{base64_fault_at};
 ghost use Rattle.oxc_sourcemap_url.specs.Words.{base64_bytes, data_bytes, utf8_text, data_text};
 ghost use Rattle.oxc_sourcemap_url.specs.Words.{decoded_data_url};
 

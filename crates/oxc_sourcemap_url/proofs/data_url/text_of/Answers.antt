@@ -14,7 +14,7 @@ pub returns-in-Err : goal.returns-in-Err
 returns-in-Err c =
     let other : is_utf8 c.args.bytes.items ≡ false =
     elim (cases_Bool (is_utf8 c.args.bytes.items)) [
-      | inl is ↦ sym (c.in-Err.ensures.succeeds (IsUtf8-from_is_utf8 _ is)) ∙ is
-      | inr isnt ↦ isnt
+      | inl is ↦ (let bad : false ≡ true = c.in-Err.ensures.succeeds (IsUtf8-from_is_utf8 c.args.bytes.items is) in cc)
+      | inr is ↦ is
     ] in
     grind (arith, common_steps, other, c.in-Err.ensures.valid_len)

@@ -1,0 +1,63 @@
+//! Where a JSON text has its first fault.
+ghost use Rattle.std.specs.Prelude.{◌≡◌, ◌+◌, ◌≤◌, length, IfOk, Some, None, IsSomeAnd};
+ghost use Rattle.serde_json.specs.Data.{Data};
+ghost use Rattle.oxc_sourcemap_places.specs.Words.{value_spot, read, OnlyMemory, IsReading};
+
+use crate::fault_place::FaultSpot;
+use crate::value_fault::value_fault_at;
+use oxc_sourcemap_tokens::{Error, Result};
+use serde_json::Value;
+use std::alloc::Global;
+
+/// The index of the first byte of a line, or the length of the text if there is no such line. Lines end in line feeds.
+fn line_start(text: &[u8], line: usize) -> usize
+    ensures { result ≤ length text.now }
+{
+    let mut left = line;
+    for (i, byte) in text.iter().enumerate() {
+        if left == 0 {
+            return i;
+        }
+        if *byte == b'\n' {
+            left -= 1;
+        }
+    }
+    text.len()
+}
+
+/// Where a text is not JSON.
+fn reading_spot(text: &str, error: &serde_json::Error) -> FaultSpot
+    ensures { IsReading result }
+{
+    let line = error.line().saturating_sub(1);
+    let column = error.column();
+    let byte = line_start(text.as_bytes(), line).saturating_add(column);
+    FaultSpot::Reading { line, column, byte }
+}
+
+/// Where a JSON text has its first fault, read as a map by itself. If it is not JSON, the place that the reader gives: its line and
+/// column, which counts bytes, and the byte of the text. Else the place that `value_fault_at` gives. None if there is no fault.
+/// Fails only with `OutOfMemory`.
+///
+/// ```rust
+/// use oxc_sourcemap::{FaultSpot, json_fault_at};
+///
+/// let spot = json_fault_at(alloc, "{\n\"version\":3,\n}")?;
+/// assert_eq!(rt; spot, Some(FaultSpot::Reading { line: 2, column: 0, byte: 15 }));
+/// ```
+pub fn json_fault_at(alloc: Global, text: &str) -> Result<Option<FaultSpot>>
+    ensures json { (d : Data) → read text.now ≡ Some d
+        → IfOk result (λ spot. spot ≡ value_spot d) }
+    ensures reading { read text.now ≡ None → IfOk result (λ spot. IsSomeAnd spot IsReading) }
+    ensures error { OnlyMemory result }
+{
+    match Value::from_str(alloc, text) {
+        Ok(value) => value_fault_at(alloc, &value),
+        Err(error) => {
+            if error.is_memory() {
+                return Err(Error::OutOfMemory);
+            }
+            Ok(Some(reading_spot(text, &error)))
+        }
+    }
+}

@@ -72,9 +72,10 @@ fn reading(line: usize, column: usize, byte: usize) -> Option<FaultSpot> {
 fn texts_have_faults(rt: HostRuntime) {
     for (text, wanted) in [
         (r#"{"version":3,"sources":["a"],"mappings":"AAAA"}"#, None),
-        // Not JSON: the column counts bytes.
+        // Not JSON: the token that cannot be read. The column counts bytes.
         ("", reading(0, 0, 0)),
-        ("{\n\"é\": ]}", reading(1, 6, 8)),
+        ("<!doctype html>\n<html>", reading(0, 0, 0)),
+        ("{\n\n  \"é\": tru\n}", reading(2, 8, 11)),
         // The value, and its members in order.
         ("[]", Some(FaultSpot::Member(Field::Object))),
         (r#"{"version":2,"sources":[1]}"#, Some(FaultSpot::Member(Field::Version))),
@@ -93,8 +94,32 @@ fn texts_have_faults(rt: HostRuntime) {
         (r#"{"version":3,"mappings":"AAAAA","sources":["a"],"names":["n"]}"#, None),
         (r#"{"version":3,"mappings":"AAAAA","sources":["a"],"names":[]}"#, Some(FaultSpot::Segment(SegmentPlace { byte: 0, line: 0, segment: 0 }))),
     ] {
-        same(&rt, text, json_fault_at(rt.alloc(), text).ok(), Some(wanted));
+        let place = json_fault_at(rt.alloc(), text).ok().flatten();
+        same(&rt, text, place.map(|place| place.spot), wanted);
+        same(&rt, text, place.and_then(|place| place.section), None);
     }
+}
+
+#[test]
+fn sections_have_faults(rt: HostRuntime) -> std::result::Result<(), Fail> {
+    for (text, wanted) in [
+        (r#"{"version":3,"sections":[]}"#, None),
+        (r#"{"version":3,"sections":{}}"#, Some("sections")),
+        (r#"{"version":3,"sections":[{"offset":{"line":0,"column":0},"map":{"version":3,"sources":[],"mappings":""}},{"map":{"version":3,"sources":[],"mappings":";A,AA"}}]}"#, Some("section 1, line 1, segment 1 (byte 3)")),
+        (r#"{"version":3,"sections":[{}]}"#, Some("section 0, map")),
+        (r#"{"version":3,"sections":[{"map":{"sections":[]}}]}"#, Some("section 0, map")),
+        (r#"{"version":3,"sections":[{"map":{"version":3,"sources":[0],"mappings":""}}]}"#, Some("section 0, entry 0 of sources")),
+        (r#"{"version":3,"sections":null,"sources":[0],"mappings":""}"#, Some("entry 0 of sources")),
+    ] {
+        match json_fault_at(rt.alloc(), text)? {
+            Some(place) => {
+                let found = place.in_text(7).to_string(rt.alloc())?;
+                same(&rt, text, found.as_str().strip_prefix("text 7, "), wanted);
+            }
+            None => same(&rt, text, None, wanted),
+        }
+    }
+    Ok(())
 }
 
 #[test]

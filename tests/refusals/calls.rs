@@ -79,12 +79,14 @@ fn decode_data_url_of_escapes(rt: HostRuntime) {
 #[test]
 fn json_fault_at(rt: HostRuntime) {
     let text = r#"{"version":3,"mappings":"","sources":["a.js"],"names":["x",null]}"#;
-    refuse_each(&rt, nothing, |alloc, _| oxc_sourcemap::json_fault_at(alloc, text), |spot| same(&rt, "spot", spot, Some(FaultSpot::Entry(Field::Names, 1))));
+    refuse_each(&rt, nothing, |alloc, _| oxc_sourcemap::json_fault_at(alloc, text), |place| {
+        same(&rt, "spot", place.map(|place| place.spot), Some(FaultSpot::Entry(Field::Names, 1)))
+    });
 }
 
 #[test]
 fn value_fault_at(rt: HostRuntime) {
-    refuse_each(&rt, full_value, |alloc, value| oxc_sourcemap::value_fault_at(alloc, &value), |spot| same(&rt, "spot", spot, None));
+    refuse_each(&rt, full_value, |alloc, value| oxc_sourcemap::value_fault_at(alloc, &value), |place| same(&rt, "place", place, None));
 }
 
 #[test]

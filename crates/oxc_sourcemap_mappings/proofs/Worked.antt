@@ -390,11 +390,11 @@ places-too_large : places_from (record { byte = 7; line = 4294967295; segment = 
 unfolding places_from
 places-too_large = refl
 
-place-none : fault_place (codes "AAAA;AACA") 0 1 ≡ None
+place-none : fault_place (codes "A;C,C") 0 0 ≡ None
 unfolding fault_place places_from text_results line_results place_fault digit_fault digit
 place-none = refl
 
-place-second_line : fault_place (codes "AAAA;AACA,AA,D") 0 1 ≡ Some (record { byte = 10; line = 1; segment = 1 })
+place-second_line : fault_place (codes "A;A,D") 0 0 ≡ Some (record { byte = 4; line = 1; segment = 1 })
 unfolding fault_place places_from text_results line_results place_fault digit_fault digit
 place-second_line = refl
 

@@ -1,5 +1,5 @@
 -- Where a JSON value that is no map has its first fault, in the order of `shape` and then of the fields that it gives.
-use Rattle.std.specs.Prelude.{ℕ, ◌+◌, Bool, true, not, ◌||◌, List, length, codes, Option, Some}
+use Rattle.std.specs.Prelude.{◌≡◌, ℕ, ◌+◌, Bool, true, not, ◌||◌, List, length, codes, Option, Some}
 use Rattle.std.specs.Prelude.{None, Result, Ok, Err, if◌then◌else◌, is_some, nat_le, position, ⊤}
 use Rattle.std.specs.Option.{option_map, option_and_then, option_or}
 use Rattle.serde_json.specs.Data.{Data, Items, no_items, item}
@@ -13,9 +13,12 @@ use Rattle.oxc_sourcemap_tokens.specs.declared.error.Field.TheVariants.{Sources,
 use Rattle.oxc_sourcemap_tokens.specs.declared.error.Field.TheVariants.{Names, IgnoreList}
 use Rattle.oxc_sourcemap_tokens.specs.declared.error.Field.TheVariants.{GoogleIgnoreList}
 use Rattle.oxc_sourcemap_tokens.specs.declared.error.Field.TheVariants.{Version as VersionField}
+use Rattle.oxc_sourcemap_tokens.specs.declared.error.Field.TheVariants.{Map as MapField}
+use Rattle.oxc_sourcemap_tokens.specs.declared.error.Field.TheVariants.{Sections as SectionsField}
 use Rattle.oxc_sourcemap_mappings.specs.SegmentPlaces.{fault_place}
 use Rattle.oxc_sourcemap_json.specs.Json.{JsonRecord}
-use Rattle.oxc_sourcemap_json.specs.Shape.{as_content, as_id, shape}
+use Rattle.oxc_sourcemap_json.specs.Shape.{as_content, as_id, present, shape}
+use Rattle.oxc_sourcemap_places.specs.declared.fault_place.FaultPlace.{FaultPlace}
 use Rattle.oxc_sourcemap_places.specs.declared.fault_place.FaultSpot.{FaultSpot}
 use Rattle.oxc_sourcemap_places.specs.declared.fault_place.FaultSpot.TheVariants.{Segment, Member}
 use Rattle.oxc_sourcemap_places.specs.declared.fault_place.FaultSpot.TheVariants.{Entry}
@@ -78,7 +81,46 @@ spot_in d (Err error) = shape_spot d error
 unfoldable pub value_spot : Data → Option FaultSpot
 value_spot d = spot_in d (shape d)
 
+-- ---- with the sections of an indexed map
+
+-- the sections of an indexed map: a member that is there and is not null
+abbrev pub sections_of : Data → Option Data
+sections_of d = present (get (codes "sections") d)
+
+-- where the map of a section has its first fault: it must be there, and be no indexed map itself
+abbrev pub map_spot : Option Data → Option FaultSpot
+map_spot None = Some (Member MapField)
+map_spot (Some d) = if is_some (sections_of d) then Some (Member MapField) else value_spot d
+
+abbrev pub section_spot : Data → Option FaultSpot
+section_spot d = map_spot (get (codes "map") d)
+
+-- a place in this section, or in a text without sections
+abbrev pub place_in : Option ℕ → FaultSpot → FaultPlace
+place_in section spot = record { text = None; section = section; spot = spot }
+
+-- the place of the first section whose map has a fault, of sections from this number on
+abbrev pub first_place : ℕ → Items → Option FaultPlace
+first_place k no_items = None
+first_place k (item d ds) = option_or (option_map (place_in (Some k)) (section_spot d)) (first_place (k + 1) ds)
+
+-- the sections have to be a list
+abbrev pub list_place : Option Items → Option FaultPlace
+list_place None = Some (place_in None (Member SectionsField))
+list_place (Some ds) = first_place 0 ds
+
+abbrev pub place_of : Option Data → Data → Option FaultPlace
+place_of None d = option_map (place_in None) (value_spot d)
+place_of (Some sections) d = list_place (as_array sections)
+
+-- Where a value has its first fault: as a map by itself, or in the map of the first section that has one by itself.
+unfoldable pub value_place : Data → Option FaultPlace
+value_place d = place_of (sections_of d) d
+
 -- a place at which a text is not JSON
-abbrev pub IsReading : FaultSpot → Type 0
-IsReading (ReadingSpot line column byte) = ⊤
-IsReading spot = ⊥
+abbrev pub IsReadingSpot : FaultSpot → Type 0
+IsReadingSpot (ReadingSpot line column byte) = ⊤
+IsReadingSpot spot = ⊥
+
+abbrev pub IsReading : FaultPlace → Type 0
+IsReading place = (place.text ≡ None) × (place.section ≡ None) × IsReadingSpot place.spot

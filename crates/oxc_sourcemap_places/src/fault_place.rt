@@ -34,6 +34,31 @@ pub enum FaultSpot {
     Entry(Field, usize),
 }
 
+impl FaultPlace {
+    ghost use Rattle.oxc_sourcemap_places.specs.Words.{place_in};
+
+    /// A place in this section, or in a text without sections.
+    pub(crate) fn new(section: Option<usize>, spot: FaultSpot) -> Self
+        ensures { result ≡ place_in section spot }
+    {
+        Self {
+            text: None,
+            section,
+            spot,
+        }
+    }
+
+    /// The same place in the text with this number, of several.
+    pub fn in_text(self, text: usize) -> Self
+        ensures { result ≡ record self { text = Some text } }
+    {
+        Self {
+            text: Some(text),
+            ..self
+        }
+    }
+}
+
 /// The key of a member, and `the value` for the value itself.
 pub(crate) fn name_of(field: Field) -> &'static str
     ensures { result.now ≡ name_of field }

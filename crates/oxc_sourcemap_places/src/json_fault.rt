@@ -1,9 +1,9 @@
 //! Where a JSON text has its first fault.
 ghost use Rattle.std.specs.Prelude.{◌≡◌, ◌+◌, ◌≤◌, length, IfOk, Some, None, IsSomeAnd};
 ghost use Rattle.serde_json.specs.Data.{Data};
-ghost use Rattle.oxc_sourcemap_places.specs.Words.{value_spot, read, OnlyMemory, IsReading};
+ghost use Rattle.oxc_sourcemap_places.specs.Words.{value_place, read, OnlyMemory, IsReading};
 
-use crate::fault_place::FaultSpot;
+use crate::fault_place::{FaultPlace, FaultSpot};
 use crate::value_fault::value_fault_at;
 use oxc_sourcemap_tokens::{Error, Result};
 use serde_json::Value;
@@ -26,29 +26,29 @@ fn line_start(text: &[u8], line: usize) -> usize
 }
 
 /// Where a text is not JSON.
-fn reading_spot(text: &str, error: &serde_json::Error) -> FaultSpot
+fn reading_place(text: &str, error: &serde_json::Error) -> FaultPlace
     ensures { IsReading result }
 {
     let line = error.line().saturating_sub(1);
     let column = error.column();
     let byte = line_start(text.as_bytes(), line).saturating_add(column);
-    FaultSpot::Reading { line, column, byte }
+    FaultPlace::new(None, FaultSpot::Reading { line, column, byte })
 }
 
-/// Where a JSON text has its first fault, read as a map by itself. If it is not JSON, the place that the reader gives: its line and
-/// column, which counts bytes, and the byte of the text. Else the place that `value_fault_at` gives. None if there is no fault.
-/// Fails only with `OutOfMemory`.
+/// Where a JSON text has its first fault. If it is not JSON, the place that the reader gives: that of the token that it cannot
+/// read, or of what follows one that may not stand there. Else the place that `value_fault_at` gives. None if there is no fault. Fails only with
+/// `OutOfMemory`.
 ///
 /// ```rust
 /// use oxc_sourcemap::{FaultSpot, json_fault_at};
 ///
-/// let spot = json_fault_at(alloc, "{\n\"version\":3,\n}")?;
-/// assert_eq!(rt; spot, Some(FaultSpot::Reading { line: 2, column: 0, byte: 15 }));
+/// let place = json_fault_at(alloc, "{\n\"version\": x\n}")?;
+/// assert_eq!(rt; place.map(|place| place.spot), Some(FaultSpot::Reading { line: 1, column: 11, byte: 13 }));
 /// ```
-pub fn json_fault_at(alloc: Global, text: &str) -> Result<Option<FaultSpot>>
+pub fn json_fault_at(alloc: Global, text: &str) -> Result<Option<FaultPlace>>
     ensures json { (d : Data) → read text.now ≡ Some d
-        → IfOk result (λ spot. spot ≡ value_spot d) }
-    ensures reading { read text.now ≡ None → IfOk result (λ spot. IsSomeAnd spot IsReading) }
+        → IfOk result (λ place. place ≡ value_place d) }
+    ensures reading { read text.now ≡ None → IfOk result (λ place. IsSomeAnd place IsReading) }
     ensures error { OnlyMemory result }
 {
     match Value::from_str(alloc, text) {
@@ -57,7 +57,7 @@ pub fn json_fault_at(alloc: Global, text: &str) -> Result<Option<FaultSpot>>
             if error.is_memory() {
                 return Err(Error::OutOfMemory);
             }
-            Ok(Some(reading_spot(text, &error)))
+            Ok(Some(reading_place(text, &error)))
         }
     }
 }

@@ -56,9 +56,9 @@ returns-in_err-comment c =
     let spelt = chars_past_char _ _ c.in-Some.ch inv.utf8 c.in-Some.ensures.steps.0 in
     let found = c.in-Some-comment_at.ensures in
     let second = sym (ap chars c.as_str.ensures) ∙ found.1 ∙ ap (λ b. second_of b ∷ chars c.in-Some-comment_at.text.now) c.if-ends_with_line.false in
-    let open = past-open c.args.slashes (lent_chars c.loop-ch.known) _ c.in-Some.ch _ _ spelt inv.known
+    let ended = past-open c.args.slashes (lent_chars c.loop-ch.known) _ c.in-Some.ch _ _ spelt inv.known
     (chars c.in-Some-comment_at.text.now) found.0 second (sym c.in_err-comment.ensures.parts) in
-    rw c.from_residual.ensures open
+    rw c.from_residual.ensures ended
 
 pub loop-ch-smaller : goal.loop-ch-smaller
 loop-ch-smaller c =

@@ -74,6 +74,8 @@ fn texts_have_faults(rt: HostRuntime) {
         (r#"{"version":3,"sources":["a"],"mappings":"AAAA"}"#, None),
         // Not JSON: the token that cannot be read. The column counts bytes.
         ("", reading(0, 0, 0)),
+        ("{\n\"a\":", reading(1, 4, 6)),
+        ("{}\n}", reading(1, 0, 3)),
         ("<!doctype html>\n<html>", reading(0, 0, 0)),
         ("{\n\n  \"é\": tru\n}", reading(2, 8, 11)),
         // The value, and its members in order.

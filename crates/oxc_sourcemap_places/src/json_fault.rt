@@ -30,7 +30,12 @@ fn reading_place(text: &str, error: &serde_json::Error) -> FaultPlace
     ensures { IsReading result }
 {
     let line = error.line().saturating_sub(1);
-    let column = error.column();
+    // The reader counts the byte at fault with those before it, but at the end of the text, where there is none.
+    let column = if error.is_eof() {
+        error.column()
+    } else {
+        error.column().saturating_sub(1)
+    };
     let byte = line_start(text.as_bytes(), line).saturating_add(column);
     FaultPlace::new(None, FaultSpot::Reading { line, column, byte })
 }

@@ -1,7 +1,8 @@
 //! Where a JSON value has its first fault.
-ghost use Rattle.std.specs.Prelude.{◌≡◌, IfOk};
+ghost use Rattle.std.specs.Prelude.{◌≡◌, nat_le, position, IfOk};
 ghost use Rattle.oxc_sourcemap_places.specs.Words.{is_entry, bad_entry, member_spot, view};
 ghost use Rattle.oxc_sourcemap_places.specs.Words.{shape_spot, fields_spot, value_spot};
+ghost use Rattle.oxc_sourcemap_places.specs.Words.{mappings_spot};
 ghost use Rattle.oxc_sourcemap_places.specs.Words.{json_record, OnlyMemory, ignored_spot};
 ghost use Rattle.oxc_sourcemap_places.specs.Words.{lent_member, sections_of, section_spot};
 ghost use Rattle.oxc_sourcemap_places.specs.Words.{list_place, value_place};
@@ -68,6 +69,13 @@ fn shape_spot(value: &Value, error: Error) -> Option<FaultSpot>
     }
 }
 
+/// The index of the first id that is not below this count.
+fn first_past(ids: &[u32], count: usize) -> Option<usize>
+    ensures { result ≡ position (λ id. nat_le count id) ids.now }
+{
+    ids.iter().position(|id| *id as usize >= count)
+}
+
 /// The entry of the ignore list that is no source.
 fn ignored_spot(json: &JSONSourceMap) -> Option<FaultSpot>
     ensures { result ≡ ignored_spot (json_record json.now) }
@@ -75,20 +83,30 @@ fn ignored_spot(json: &JSONSourceMap) -> Option<FaultSpot>
     let Some(ids) = &json.ignore_list else {
         return None;
     };
-    let count = json.sources.len();
-    let index = ids.iter().position(|id| *id as usize >= count)?;
-    Some(FaultSpot::Entry(Field::IgnoreList, index))
+    match first_past(ids.as_slice(), json.sources.len()) {
+        Some(index) => Some(FaultSpot::Entry(Field::IgnoreList, index)),
+        None => None,
+    }
+}
+
+/// The segment with a fault.
+fn mappings_spot(json: &JSONSourceMap) -> Option<FaultSpot>
+    ensures { result ≡ mappings_spot (json_record json.now) }
+{
+    match mappings_fault_at(json.mappings.as_str(), json.names.len(), json.sources.len()) {
+        Some(place) => Some(FaultSpot::Segment(place)),
+        None => None,
+    }
 }
 
 /// Where the fields of a map have a fault.
 fn fields_spot(json: &JSONSourceMap) -> Option<FaultSpot>
     ensures { result ≡ fields_spot (json_record json.now) }
 {
-    if let Some(spot) = ignored_spot(json) {
-        return Some(spot);
+    match ignored_spot(json) {
+        Some(spot) => Some(spot),
+        None => mappings_spot(json),
     }
-    let place = mappings_fault_at(json.mappings.as_str(), json.names.len(), json.sources.len())?;
-    Some(FaultSpot::Segment(place))
 }
 
 /// Where a value, as a map by itself, has its first fault.

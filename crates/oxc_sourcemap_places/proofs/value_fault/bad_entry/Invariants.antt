@@ -6,5 +6,5 @@ use Rattle.oxc_sourcemap_places.proofs.value_fault.bad_entry.Given as goal
 -- the first entry of the wrong type is among those that are left
 abbrev pub invariant-loop-i : goal.invariant-loop-i
 invariant-loop-i l =
-    first_failing (is_entry l.field) (items_view l.items.items)
-    ≡ option_map (λ n. n + l.i) (first_failing (is_entry l.field) (items_view (drop l.i l.items.items)))
+    first_failing (is_entry l.field) (items_view l.item-items)
+    ≡ option_map (λ n. n + l.i) (first_failing (is_entry l.field) (items_view (drop l.i l.item-items)))

@@ -82,9 +82,9 @@ places-mark : (p : SegmentPlace) (b : ℕ) (bs : List ℕ) → ends_segment b �
 unfolding places_from
 places-mark p b bs h =
     elim (is_semicolon b) as (λ v. is_semicolon b ≡ v → (if v then (if p.line == 4294967295 then p ∷ [] else places_from (line_on p) false bs)
-        else if is_comma b then places_from (bytes_on p 1) false bs else places_from (bytes_on p 1) true bs)
-        ≡ (if v then (if p.line == 4294967295 then p ∷ [] else places_from (line_on p) false bs)
-        else if is_comma b then places_from (bytes_on p 1) false bs else p ∷ places_from (segment_on p) true bs)) [
+    else if is_comma b then places_from (bytes_on p 1) false bs else places_from (bytes_on p 1) true bs)
+    ≡ (if v then (if p.line == 4294967295 then p ∷ [] else places_from (line_on p) false bs)
+    else if is_comma b then places_from (bytes_on p 1) false bs else p ∷ places_from (segment_on p) true bs)) [
       | true ↦ (λ e. refl)
       | false ↦ (λ e. let k : is_comma b ≡ true = grind (arith, nat_tests) in rw k refl)
     ] refl
@@ -96,7 +96,7 @@ unfolding places_from
 places-inside p [] = refl
 places-inside p (b ∷ bs) =
     elim (ends_segment b) as (λ v. ends_segment b ≡ v → places_from p true (b ∷ bs)
-        ≡ (let ds = (if v then [] else digit b ∷ front_digits bs) in places_from (bytes_on p (length ds)) false (drop (length ds) (b ∷ bs)))) [
+    ≡ (let ds = (if v then [] else digit b ∷ front_digits bs) in places_from (bytes_on p (length ds)) false (drop (length ds) (b ∷ bs)))) [
       | true ↦ (λ e. places-mark p b bs e ∙ ap (λ q. places_from q false (b ∷ bs)) (sym (bytes_on-none p)))
       | false ↦ (λ e.
           let s : is_semicolon b ≡ false = grind (arith, nat_tests) in
@@ -115,7 +115,7 @@ places-segment p (a ∷ bs) b g m =
     let s : is_semicolon a ≡ false = grind (arith, nat_tests) in
     let k : is_comma a ≡ false = grind (arith, nat_tests) in
     rw (e, s, k) (ap (λ ps. p ∷ ps) (places-inside (segment_on p) bs
-        ∙ ap (λ n. places_from (record p { byte = n; segment = p.segment + 1 }) false (drop (length (front_digits bs)) bs)) (omega arith)))
+    ∙ ap (λ n. places_from (record p { byte = n; segment = p.segment + 1 }) false (drop (length (front_digits bs)) bs)) (omega arith)))
 
 result_err-onto : (token : TokenRecord) (r : Result (List TokenRecord) Error) → result_err (onto token r) ≡ result_err r
 result_err-onto token (Ok tokens) = refl
@@ -147,11 +147,12 @@ pub place-fault : (c : Counts) (p : SegmentPlace) (reached : Place) (rest : List
     → slice_get rest 0 ≡ Some b → ends_segment b ≡ false → segment_result c p.line reached (front_segment rest) (moved_by reached (front_segment rest)) ≡ Err e
     → (rest_place c p reached rest ≡ Some p) × (rest_fault c p.line reached rest ≡ Some e)
 place-fault c p reached rest b e g m bad =
-    let left = left-segment c p.line reached rest (front-filled rest b g m) in
-    (ap (λ os. first_fault os (places_from p false rest)) left
-    ∙ ap (first_fault (segment_result c p.line reached (front_segment rest) (moved_by reached (front_segment rest)) ∷ left_outcomes c p.line (moved_by reached (front_segment rest)) (drop (length (front_digits rest)) rest))) (places-segment p rest b g m)
-    ∙ rw bad refl,
-    ap (λ os. result_err (gathered os)) left ∙ rw bad refl)
+    let left = left-segment c p.line reached rest (front-filled rest b g m) in (
+      ap (λ os. first_fault os (places_from p false rest)) left
+          ∙ ap (first_fault (segment_result c p.line reached (front_segment rest) (moved_by reached (front_segment rest)) ∷ left_outcomes c p.line (moved_by reached (front_segment rest)) (drop (length (front_digits rest)) rest))) (places-segment p rest b g m)
+          ∙ rw bad refl,
+      ap (λ os. result_err (gathered os)) left ∙ rw bad refl,
+    )
 
 -- a segment is not empty
 pub front-some : (rest : List ℕ) (b : ℕ) → slice_get rest 0 ≡ Some b → ends_segment b ≡ false → 0 < length (front_digits rest)

@@ -98,9 +98,7 @@ impl fmt::Display for FaultSpot {
                 write!(f, "line {line}, column {column} (byte {byte})")
             }
             FaultSpot::Member(field) => write!(f, "{}", name_of(*field)),
-            FaultSpot::Entry(field, index) => {
-                write!(f, "entry {index} of {}", name_of(*field))
-            }
+            FaultSpot::Entry(field, index) => { write!(f, "entry {index} of {}", name_of(*field)) }
         }
     }
 }

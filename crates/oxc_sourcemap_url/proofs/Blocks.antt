@@ -36,7 +36,7 @@ around-first [] ys h = refl
 around-first (x ∷ xs) ys h =
     let rest : List ℕ = xs ++ 42 ∷ 47 ∷ ys in
     elim (x == 42 && begins_with 47 rest) as (λ v. (x == 42 && begins_with 47 rest) ≡ v
-        → (if v then Some ([], drop 1 rest) else onto_front x (around_block_end rest)) ≡ Some (x ∷ xs, ys)) [
+    → (if v then Some ([], drop 1 rest) else onto_front x (around_block_end rest)) ≡ Some (x ∷ xs, ys)) [
       | true ↦ (λ e.
           let star : x ≡ 42 = eqb-true x 42 ((and_parts (x == 42) (begins_with 47 rest) e).0) in
           let slash : rest ≡ 47 ∷ drop 1 rest = begins-cons 47 rest ((and_parts (x == 42) (begins_with 47 rest) e).1) in
@@ -50,7 +50,7 @@ around-none : (cs : List ℕ) → ((zs ws : List ℕ) → cs ≢ zs ++ 42 ∷ 47
 around-none [] h = refl
 around-none (c ∷ cs) h =
     elim (c == 42 && begins_with 47 cs) as (λ v. (c == 42 && begins_with 47 cs) ≡ v
-        → (if v then Some ([], drop 1 cs) else onto_front c (around_block_end cs)) ≡ None) [
+    → (if v then Some ([], drop 1 cs) else onto_front c (around_block_end cs)) ≡ None) [
       | true ↦ (λ e.
           let star : c ≡ 42 = eqb-true c 42 ((and_parts (c == 42) (begins_with 47 cs) e).0) in
           let slash : cs ≡ 47 ∷ drop 1 cs = begins-cons 47 cs ((and_parts (c == 42) (begins_with 47 cs) e).1) in
@@ -72,10 +72,10 @@ bytes-before s zs ws utf8 e = sym (encodes-chars s utf8) ∙ ap encodes e ∙ en
 pub block-missing : (s : List ℕ) → IsUtf8 s → ((i : ℕ) → i ≤ length s → LacksTextAt (codes "*/") s i) → around_block_end (chars s) ≡ None
 block-missing s utf8 lacks =
     around-none (chars s) (λ zs ws e.
-        let split = bytes-before s zs ws utf8 e in
-        let size : length s ≡ length (encodes zs) + length (42 ∷ 47 ∷ encodes ws) = ap length split ∙ length-append (encodes zs) (42 ∷ 47 ∷ encodes ws) in
-        lacks (length (encodes zs)) (omega arith) (encodes ws)
-        (ap (drop (length (encodes zs))) split ∙ drop_at (encodes zs) (42 ∷ 47 ∷ encodes ws) (length (encodes zs)) refl))
+    let split = bytes-before s zs ws utf8 e in
+    let size : length s ≡ length (encodes zs) + length (42 ∷ 47 ∷ encodes ws) = ap length split ∙ length-append (encodes zs) (42 ∷ 47 ∷ encodes ws) in
+    lacks (length (encodes zs)) (omega arith) (encodes ws)
+    (ap (drop (length (encodes zs))) split ∙ drop_at (encodes zs) (42 ∷ 47 ∷ encodes ws) (length (encodes zs)) refl))
 
 -- a shorter front of some characters has fewer bytes
 fewer-bytes : (fs rest zs ws : List ℕ) → fs ++ rest ≡ zs ++ ws → length zs < length fs → length (encodes zs) < length (encodes fs)
@@ -117,11 +117,11 @@ block-found s i j utf8 within lacks has =
     let first : IsFirstEnd (chars f) (chars b) = λ zs ws e.
     ⊎_elim
     (λ short.
-        let fewer = fewer-bytes (chars f) (42 ∷ 47 ∷ chars b) zs (42 ∷ 47 ∷ ws) e short in
-        let size : length (encodes (chars f)) ≡ i = ap length (encodes-chars f front) ∙ length-take-le i s within in
-        let split = bytes-before s zs ws utf8 (spelt ∙ e) in
-        absurd (lacks (length (encodes zs)) (omega arith) (encodes ws)
-        (ap (drop (length (encodes zs))) split ∙ drop_at (encodes zs) (42 ∷ 47 ∷ encodes ws) (length (encodes zs)) refl)))
+    let fewer = fewer-bytes (chars f) (42 ∷ 47 ∷ chars b) zs (42 ∷ 47 ∷ ws) e short in
+    let size : length (encodes (chars f)) ≡ i = ap length (encodes-chars f front) ∙ length-take-le i s within in
+    let split = bytes-before s zs ws utf8 (spelt ∙ e) in
+    absurd (lacks (length (encodes zs)) (omega arith) (encodes ws)
+    (ap (drop (length (encodes zs))) split ∙ drop_at (encodes zs) (42 ∷ 47 ∷ encodes ws) (length (encodes zs)) refl)))
     (λ long. long)
     (cases_lt (length zs) (length (chars f))) in
     rw spelt (around-first (chars f) (chars b) first)

@@ -46,7 +46,7 @@ pieces-inside s text (a ∷ []) =
     elim (a == 42) as (λ v. None ∷ [] ≡ inside s text (if v && false then Some ([], []) else None)) [ true ↦ refl | false ↦ refl ]
 pieces-inside s text (a ∷ b ∷ cs) =
     elim (a == 42 && b == 47) as (λ v. (if v then Some text ∷ pieces s None cs else pieces s (Some (text ++ a ∷ [])) (b ∷ cs))
-        ≡ inside s text (if v then Some ([], cs) else option_map (λ parts. (a ∷ parts.0, parts.1)) (around_block_end (b ∷ cs)))) [
+    ≡ inside s text (if v then Some ([], cs) else option_map (λ parts. (a ∷ parts.0, parts.1)) (around_block_end (b ∷ cs)))) [
       | true ↦ ap (λ t. Some t ∷ pieces s None cs) (sym (append-nil text))
       | false ↦ pieces-inside s (text ++ a ∷ []) (b ∷ cs) ∙ inside-next s text a (around_block_end (b ∷ cs))
     ]

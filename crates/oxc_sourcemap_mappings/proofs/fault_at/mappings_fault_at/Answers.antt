@@ -89,9 +89,10 @@ pub returns-then-place-clause-fault : goal.returns-then-place-clause-fault
 returns-then-place-clause-fault c =
     let rest = c.loop-byte.rest.now in
     let g = front-byte rest 59 (sym c.in-Some.ensures.value ∙ ap Some c.if-byte-eq59.true) in
-    let bad = fault-last_line (counts_of c.args.names c.args.sources) c.loop-byte.place.line (place_of c.loop-byte.sums) (drop 1 rest) c.if-place.true in
-    (λ _. err_from _ bad.0 (sym c.loop-byte.invariant.fault ∙ ap (rest_fault (counts_of c.args.names c.args.sources) c.loop-byte.place.line (place_of c.loop-byte.sums)) g ∙ bad.1),
-    λ _. refl)
+    let bad = fault-last_line (counts_of c.args.names c.args.sources) c.loop-byte.place.line (place_of c.loop-byte.sums) (drop 1 rest) c.if-place.true in (
+      λ _. err_from _ bad.0 (sym c.loop-byte.invariant.fault ∙ ap (rest_fault (counts_of c.args.names c.args.sources) c.loop-byte.place.line (place_of c.loop-byte.sums)) g ∙ bad.1),
+      λ _. refl,
+    )
 
 -- where the segment has a fault
 pub returns-in_default-any_token-clause-place : goal.returns-in_default-any_token-clause-place

@@ -29,9 +29,10 @@ returns-then-ends_line-clause-utf8 c =
 pub loop-ch-preserved : goal.loop-ch-preserved
 loop-ch-preserved c =
     let passed = c.loop-ch.invariant in
-    let on = sym c.ends_line.ensures ∙ c.if-ends_line.false in
-    (passed.0 ++ encode c.in-Some.ch,
-    pass c.args.text.now _ passed.0 _ c.in-Some.ch passed.1 c.in-Some.ensures.steps.0 (rw c.as_str-after.ensures at on))
+    let on = sym c.ends_line.ensures ∙ c.if-ends_line.false in (
+      passed.0 ++ encode c.in-Some.ch,
+      pass c.args.text.now _ passed.0 _ c.in-Some.ch passed.1 c.in-Some.ensures.steps.0 (rw c.as_str-after.ensures at on),
+    )
 
 pub returns-clause-last : goal.returns-clause-last
 returns-clause-last c = λ _. one-line c.args.text.now _ c.loop-ch.invariant.0 c.loop-ch.invariant.1 c.in_default.ensures.steps.0.0

@@ -6,7 +6,7 @@ use super::fixtures::{
 };
 use super::memory::{nothing, refuse_each};
 use oxc_sourcemap::{
-    ConcatSourceMapBuilder, JSONSourceMap, OwnedSourceMap, Plan, Result, SourceIndex, SourceMap,
+    ConcatSourceMapBuilder, DataUrlError, Error, FaultSpot, Field, JSONSourceMap, OwnedSourceMap, Plan, Result, SourceIndex, SourceMap,
     SourcemapVisualizer, TextPositions, Token,
 };
 use serde_json::Value;
@@ -68,6 +68,40 @@ fn source_index_new(rt: HostRuntime) -> Result<()> {
     let map = SourceMap::from_parts(shuffled_parts(rt.alloc())?);
     refuse_each(&rt, nothing, |alloc, ()| SourceIndex::new(alloc, &map), |index| is_index(&rt, &index));
     Ok(())
+}
+
+fn error_of(error: DataUrlError) -> Error {
+    match error {
+        DataUrlError::OutOfMemory => Error::OutOfMemory,
+        _ => Error::TooLarge,
+    }
+}
+
+#[test]
+fn decode_data_url_of_base64(rt: HostRuntime) {
+    refuse_each(&rt, nothing, |alloc, _| oxc_sourcemap::decode_data_url(alloc, "data:application/json;base64,e30%3D").map_err(|error| error_of(error)), |text| {
+        same(&rt, "text", text.as_ref().map(|text| text.as_str()), Some("{}"))
+    });
+}
+
+#[test]
+fn decode_data_url_of_escapes(rt: HostRuntime) {
+    refuse_each(&rt, nothing, |alloc, _| oxc_sourcemap::decode_data_url(alloc, "data:application/json,%7b}").map_err(|error| error_of(error)), |text| {
+        same(&rt, "text", text.as_ref().map(|text| text.as_str()), Some("{}"))
+    });
+}
+
+#[test]
+fn json_fault_at(rt: HostRuntime) {
+    let text = r#"{"version":3,"mappings":"","sources":["a.js"],"names":["x",null]}"#;
+    refuse_each(&rt, nothing, |alloc, _| oxc_sourcemap::json_fault_at(alloc, text), |place| {
+        same(&rt, "spot", place.map(|place| place.spot), Some(FaultSpot::Entry(Field::Names, 1)))
+    });
+}
+
+#[test]
+fn value_fault_at(rt: HostRuntime) {
+    refuse_each(&rt, full_value, |alloc, value| oxc_sourcemap::value_fault_at(alloc, &value), |place| same(&rt, "place", place, None));
 }
 
 #[test]

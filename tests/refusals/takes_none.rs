@@ -3,7 +3,7 @@ use crate::helpers::same;
 use super::fixtures::{are_parts, chunked_parts, full_map, full_owned_map};
 use super::memory::{nothing, takes_none};
 use oxc_sourcemap::{
-    ConcatSourceMapBuilder, Error, JsonFault, OwnedSourceMap, PlanError, Result, SourceIndex, SourceMap,
+    ConcatSourceMapBuilder, Error, JsonFault, Language, OwnedSourceMap, PlanError, Result, SourceIndex, SourceMap,
     SourceMapBuilder, SourceMapParts, SourceViewToken, SourcemapVisualizer, TextPositions, Token, TokenChunk,
 };
 use serde_json::Value;
@@ -308,6 +308,17 @@ fn are_made(rt: &impl Abort, map: &SourceMap<'_>) -> Result<()> {
 #[test]
 fn chunk_fault(rt: HostRuntime) {
     takes_none(&rt, full_map, |_, map| are_made(&rt, &map), |done| same(&rt, "done", done, Ok(())));
+}
+
+#[test]
+fn source_mapping_url(rt: HostRuntime) {
+    let code = "x\n//# sourceMappingURL=a.map\n// y";
+    takes_none(&rt, nothing, |_, ()| oxc_sourcemap::source_mapping_url(code, Language::JavaScript), |url| same(&rt, "URL", url, Some("a.map")));
+}
+
+#[test]
+fn mappings_fault_at(rt: HostRuntime) {
+    takes_none(&rt, nothing, |_, ()| oxc_sourcemap::mappings_fault_at("A,AA", 0, 0), |place| same(&rt, "byte", place.map(|place| place.byte), Some(2)));
 }
 
 fn token_gives_its_numbers(rt: &impl Abort) {

@@ -14,6 +14,8 @@ pub use Rattle.oxc_sourcemap_tokens.specs.declared.plan_error.PlanError
 pub use Rattle.oxc_sourcemap_tokens.specs.Token
 pub use Rattle.oxc_sourcemap_mappings.specs.Faults
 pub use Rattle.oxc_sourcemap_mappings.specs.Reading
+pub use Rattle.oxc_sourcemap_mappings.specs.declared.fault_at.SegmentPlace
+pub use Rattle.oxc_sourcemap_mappings.specs.SegmentPlaces
 pub use Rattle.oxc_sourcemap_tokens.specs.State
 pub use Rattle.oxc_sourcemap_tokens.specs.LineOrder
 pub use Rattle.oxc_sourcemap_mappings.specs.Canonical
@@ -62,6 +64,16 @@ pub use Rattle.oxc_sourcemap_builders.specs.NameLaws
 pub use Rattle.oxc_sourcemap_text.specs.TextLines
 pub use Rattle.oxc_sourcemap_text.specs.Positions
 pub use Rattle.oxc_sourcemap_text.specs.PositionLaws
+pub use Rattle.oxc_sourcemap_places.specs.declared.fault_place.FaultPlace
+pub use Rattle.oxc_sourcemap_places.specs.declared.fault_place.FaultSpot
+pub use Rattle.oxc_sourcemap_places.specs.PlaceMessages
+pub use Rattle.oxc_sourcemap_places.specs.ValueSpots
+pub use Rattle.oxc_sourcemap_url.specs.declared.data_url_error.DataUrlError
+pub use Rattle.oxc_sourcemap_url.specs.declared.language.Language
+pub use Rattle.oxc_sourcemap_url.specs.DataUrls
+pub use Rattle.oxc_sourcemap_url.specs.DataUrlMessages
+pub use Rattle.oxc_sourcemap_url.specs.DataUrlLaws
+pub use Rattle.oxc_sourcemap_url.specs.MappingUrls
 pub use Rattle.oxc_sourcemap_visualizer.specs.VisualText
 pub use Rattle.oxc_sourcemap_visualizer.specs.Link
 pub use Rattle.oxc_sourcemap_join.specs.Joined

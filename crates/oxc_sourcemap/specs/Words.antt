@@ -32,6 +32,8 @@ pub use Rattle.oxc_sourcemap_map.specs.View.{view_content, view_source_and_conte
 pub use Rattle.oxc_sourcemap_map.specs.contracts.owned_sourcemap.OwnedSourceMap.{the_row}
 pub use Rattle.oxc_sourcemap_map.specs.contracts.sourcemap.SourceMap.{the_row as map_row}
 pub use Rattle.oxc_sourcemap_mappings.specs.Canonical.{as_written}
+pub use Rattle.oxc_sourcemap_mappings.specs.Reading.{reading}
+pub use Rattle.oxc_sourcemap_mappings.specs.SegmentPlaces.{fault_place}
 pub use Rattle.oxc_sourcemap_parts.specs.DecodedMap.{DecodedMap, decoded_map_of}
 pub use Rattle.oxc_sourcemap_parts.specs.Record.{MapRecord, Text}
 pub use Rattle.oxc_sourcemap_parts.specs.Roots.{rooted}
@@ -43,6 +45,8 @@ pub use Rattle.oxc_sourcemap_parts.specs.Texts.{index_of}
 pub use Rattle.oxc_sourcemap_parts.specs.Views.{record_of_parts, empty_record, text_of, texts_of}
 pub use Rattle.oxc_sourcemap_parts.specs.Views.{contents_of, chunks_of}
 pub use Rattle.oxc_sourcemap_pieces.specs.RangePieces.{place, pieces_of, DoCover}
+pub use Rattle.oxc_sourcemap_places.specs.PlaceMessages.{place_text, spot_text}
+pub use Rattle.oxc_sourcemap_places.specs.ValueSpots.{value_spot, value_place, IsReading}
 pub use Rattle.oxc_sourcemap_plan.specs.Depth.{depth}
 pub use Rattle.oxc_sourcemap_plan.specs.Evaluated.{IsEvaluated, HasOutcome, IsErrorOf}
 pub use Rattle.oxc_sourcemap_plan.specs.Meaning.{meaning, read_meaning, text_meaning, by_path}
@@ -76,6 +80,8 @@ pub use Rattle.oxc_sourcemap_tokens.specs.declared.plan_error.PlanError.TheVaria
 pub use Rattle.oxc_sourcemap_visualizer.specs.Link.{counted, map_link}
 pub use Rattle.oxc_sourcemap_text.specs.TextLines.{units_of, lines_of, text_lines, ends_line}
 pub use Rattle.oxc_sourcemap_text.specs.TextLines.{line_at}
+pub use Rattle.oxc_sourcemap_url.specs.DataUrls.{decoded_data_url}
+pub use Rattle.oxc_sourcemap_url.specs.MappingUrls.{mapping_url, lent_chars}
 pub use Rattle.oxc_sourcemap_visualizer.specs.VisualText.{is_within, dst_end, src_end}
 pub use Rattle.oxc_sourcemap_visualizer.specs.VisualText.{is_on_source_line, between, part_text}
 pub use Rattle.oxc_sourcemap_visualizer.specs.VisualText.{position_text, mark, heading}

@@ -11,3 +11,4 @@ pub use oxc_sourcemap_pieces::range_pieces;
 pub use oxc_sourcemap_reverse::reverse_lookups;
 pub use oxc_sourcemap_sort::sorting_harmless;
 pub use oxc_sourcemap_text::positions_and_offsets_inverse;
+pub use oxc_sourcemap_url::data_urls_read_back;

@@ -16,13 +16,17 @@ pub use oxc_sourcemap_builders::{ConcatSourceMapBuilder, SourceMapBuilder};
 pub use oxc_sourcemap_encode::push_json_string;
 pub use oxc_sourcemap_json::{JSONSourceMap, file_from_value};
 pub use oxc_sourcemap_map::{OwnedSourceMap, SourceMap, SourceViewToken, ViewTokens};
-pub use oxc_sourcemap_mappings::{decode_mappings, encode_chunk, encode_mappings};
+pub use oxc_sourcemap_mappings::{
+    SegmentPlace, decode_mappings, encode_chunk, encode_mappings, mappings_fault_at,
+};
 pub use oxc_sourcemap_parts::{Contents, Names, SourceMapParts, Sources, Tokens};
 pub use oxc_sourcemap_pieces::{Piece, Pieces};
+pub use oxc_sourcemap_places::{FaultPlace, FaultSpot, json_fault_at, value_fault_at};
 pub use oxc_sourcemap_plan::Plan;
 pub use oxc_sourcemap_reverse::{IndexTokens, SourceIndex};
 pub use oxc_sourcemap_text::{PositionError, TextPositions};
 pub use oxc_sourcemap_tokens::{
     Error, Field, JsonFault, PlanError, Result, Token, TokenChunk, chunk_fault,
 };
+pub use oxc_sourcemap_url::{DataUrlError, Language, decode_data_url, source_mapping_url};
 pub use oxc_sourcemap_visualizer::SourcemapVisualizer;

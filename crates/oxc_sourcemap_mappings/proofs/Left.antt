@@ -111,6 +111,11 @@ pub reading-is : (text : List ℕ) (names sources : ℕ) → reading text names 
 reading-is text names sources =
     reading-lines text names sources ∙ ap gathered (along_lines-parts (counts_of names sources) 0 (place nothing_before) (slice_split is_semicolon text) (omega arith))
 
+pub results-left : (text : List ℕ) (c : Counts) → text_results c 0 nothing_before (lines text) ≡ left_outcomes c 0 (place nothing_before) text
+results-left text c =
+    text_results-is c 0 (lines text) nothing_before (place nothing_before) refl
+    ∙ along_lines-parts c 0 (place nothing_before) (slice_split is_semicolon text) (omega arith)
+
 -- what is left after a `;`
 pub left-semicolon : (c : Counts) (line : ℕ) (p : Place) (text : List ℕ) → line + 1 < 4294967296 → left_outcomes c line p (59 ∷ text) ≡ left_outcomes c (line + 1) (at_line_start p) text
 left-semicolon c line p text h = along_lines-parts c (line + 1) p (slice_split is_semicolon text) h

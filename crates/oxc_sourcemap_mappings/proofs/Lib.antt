@@ -4,6 +4,7 @@ pub mod Table
 pub mod Usual
 pub mod Left
 pub mod Room
+pub mod FaultPlaces
 pub mod Vlq
 pub mod Letters
 pub mod Placing

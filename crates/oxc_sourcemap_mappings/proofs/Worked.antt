@@ -1,5 +1,6 @@
 -- Worked examples, computed by the definitions themselves.
-use Rattle.std.specs.Prelude.{◌≡◌, refl, ℕ, [], ◌∷◌, ◌++◌, codes, Ok, Err, Option, Some, None}
+use Rattle.std.specs.Prelude.{◌≡◌, refl, ℕ, true, false, [], ◌∷◌, ◌++◌, codes, Ok, Err, Option}
+use Rattle.std.specs.Prelude.{Some, None}
 use Rattle.std.specs.List.{flat_map}
 use Rattle.oxc_sourcemap_tokens.specs.declared.error.Error.TheVariants.{VlqLeftover, VlqOverflow}
 use Rattle.oxc_sourcemap_tokens.specs.declared.error.Error.TheVariants.{BadSegmentSize}
@@ -11,6 +12,7 @@ use Rattle.oxc_sourcemap_mappings.specs.Number.{digit}
 use Rattle.oxc_sourcemap_mappings.specs.Faults.{digit_fault, place_fault}
 use Rattle.oxc_sourcemap_tokens.specs.Token.{TokenRecord}
 use Rattle.oxc_sourcemap_mappings.specs.Reading.{reading, text_results, line_results}
+use Rattle.oxc_sourcemap_mappings.specs.SegmentPlaces.{fault_place, places_from, text_start}
 use Rattle.oxc_sourcemap_mappings.specs.Canonical.{canonical, text_after, token_text, separator}
 use Rattle.oxc_sourcemap_mappings.specs.Canonical.{delta_text, vlq_text, digits, letter}
 use Rattle.oxc_sourcemap_mappings.specs.Pieces.{piece, piece_after, writing_fault}
@@ -375,3 +377,27 @@ delta-minus_536870912 = refl
 delta-minus_4294967295 : delta_text 0 4294967295 ≡ codes "//////H"
 unfolding vlq_text digits letter
 delta-minus_4294967295 = refl
+
+-- the places of segments: empty ones do not count
+places-of_segments : places_from text_start false (codes ",A,,C;;D")
+    ≡ record { byte = 1; line = 0; segment = 0 } ∷ record { byte = 4; line = 0; segment = 1 } ∷ record { byte = 7; line = 2; segment = 0 } ∷ []
+unfolding places_from
+places-of_segments = refl
+
+-- nothing is read behind the `;` that begins line 4294967296
+places-too_large : places_from (record { byte = 7; line = 4294967295; segment = 2 }) true (codes "A,C;D")
+    ≡ record { byte = 9; line = 4294967295; segment = 2 } ∷ record { byte = 10; line = 4294967295; segment = 3 } ∷ []
+unfolding places_from
+places-too_large = refl
+
+place-none : fault_place (codes "A;C,C") 0 0 ≡ None
+unfolding fault_place places_from text_results line_results place_fault digit_fault digit
+place-none = refl
+
+place-second_line : fault_place (codes "A;A,D") 0 0 ≡ Some (record { byte = 4; line = 1; segment = 1 })
+unfolding fault_place places_from text_results line_results place_fault digit_fault digit
+place-second_line = refl
+
+place-first : fault_place (codes "AAAA") 0 0 ≡ Some (record { byte = 0; line = 0; segment = 0 })
+unfolding fault_place places_from text_results line_results place_fault digit_fault digit
+place-first = refl

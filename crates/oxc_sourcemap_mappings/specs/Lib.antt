@@ -3,6 +3,7 @@ pub mod Parts
 pub mod Places
 pub mod Faults
 pub mod Reading
+pub mod SegmentPlaces
 pub mod Canonical
 pub mod Pieces
 pub mod TextLaws

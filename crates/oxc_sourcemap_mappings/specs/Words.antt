@@ -12,6 +12,7 @@ pub use Rattle.oxc_sourcemap_mappings.specs.Decoding.{ends_segment, front_digits
 pub use Rattle.oxc_sourcemap_mappings.specs.Decoding.{segments_after, is_over, IsNumberAt}
 pub use Rattle.oxc_sourcemap_mappings.specs.Decoding.{AreFieldsOf, AreSmall, value, place_of}
 pub use Rattle.oxc_sourcemap_mappings.specs.Decoding.{source_moved, moved, moved_by, IsFrontOf}
+pub use Rattle.oxc_sourcemap_mappings.specs.Decoding.{at_line_start}
 pub use Rattle.oxc_sourcemap_mappings.specs.Encoding.{text_from, OnlyAdds, line_marks}
 pub use Rattle.oxc_sourcemap_mappings.specs.Encoding.{column_from, fields_text, raw_at}
 pub use Rattle.oxc_sourcemap_mappings.specs.Encoding.{IfWritten, AreWritten}
@@ -21,3 +22,4 @@ pub use Rattle.oxc_sourcemap_mappings.specs.Number.{digit, payload, signed}
 pub use Rattle.oxc_sourcemap_mappings.specs.Pieces.{piece, piece_fault, writing_fault}
 pub use Rattle.oxc_sourcemap_mappings.specs.Places.{nothing_before, place}
 pub use Rattle.oxc_sourcemap_mappings.specs.Reading.{token_at, segment_result, reading}
+pub use Rattle.oxc_sourcemap_mappings.specs.SegmentPlaces.{fault_place}

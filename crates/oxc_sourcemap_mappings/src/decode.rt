@@ -13,7 +13,7 @@ ghost use Rattle.oxc_sourcemap_mappings.specs.Words.{ends_segment, front_digits,
 ghost use Rattle.oxc_sourcemap_mappings.specs.Words.{segments_after, is_over, IsNumberAt};
 ghost use Rattle.oxc_sourcemap_mappings.specs.Words.{AreFieldsOf, AreSmall, value, place_of};
 ghost use Rattle.oxc_sourcemap_mappings.specs.Words.{source_moved, moved, moved_by, IsFrontOf};
-ghost use Rattle.oxc_sourcemap_mappings.specs.Words.{Answers};
+ghost use Rattle.oxc_sourcemap_mappings.specs.Words.{Answers, at_line_start};
 
 use oxc_sourcemap_tokens::{Error, Result, Token};
 use std::alloc::Global;
@@ -32,7 +32,7 @@ struct Fields {
 
 /// The sums of the fields read so far.
 #[derive(Clone, Copy)]
-struct Sums {
+pub(crate) struct Sums {
     dst_col: u32,
     source_id: u32,
     src_line: u32,
@@ -255,7 +255,7 @@ fn low_bits_of(id: u32, by: i64) -> u32
 
 impl Sums {
     /// The sums before the first segment.
-    fn new() -> Self
+    pub(crate) fn new() -> Self
         ensures { place_of result ≡ place nothing_before }
     {
         Self {
@@ -265,6 +265,13 @@ impl Sums {
             src_col: 0,
             name_id: 0,
         }
+    }
+
+    /// Goes to the start of the next line.
+    pub(crate) fn begin_line(&mut self)
+        ensures { place_of self.new ≡ at_line_start (place_of self.old) }
+    {
+        self.dst_col = 0;
     }
 
     /// Adds the fields of a segment to the source id, line and column. After an `Err` some of them are moved.
@@ -405,7 +412,7 @@ impl Sums {
     /// Reads the segment at the front of a text, digit by digit and field by field: moves the sums by it, and gives its
     /// token and the number of its bytes. After an `Err` some of the sums are moved.
     #[cold]
-    fn any_token(
+    pub(crate) fn any_token(
         &mut self,
         line: u32,
         text: &[u8],

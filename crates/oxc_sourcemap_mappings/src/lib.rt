@@ -4,7 +4,9 @@
 
 mod decode;
 mod encode;
+mod fault_at;
 mod near;
 
 pub use decode::decode_mappings;
 pub use encode::{encode_chunk, encode_mappings};
+pub use fault_at::{SegmentPlace, mappings_fault_at};

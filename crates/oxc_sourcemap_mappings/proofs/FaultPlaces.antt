@@ -1,0 +1,167 @@
+-- The place of the first fault, one segment at a time.
+use Rattle.std.proofs.Common.{◌≡◌, ℕ, ◌+◌, ◌<◌, Bool, true, false, List, [], ◌∷◌, ◌==◌, length}
+use Rattle.std.proofs.Common.{drop, Option, Some, None, Result, Ok, Err, if◌then◌else◌, arith, refl}
+use Rattle.std.proofs.Common.{sym, ap, ◌∙◌, add-zero, slice_get, suc, IsErr}
+use Rattle.std.specs.Result.{result_err}
+use Rattle.std.proofs.lemmas.Bool.{ne_eqb, eq-eqb}
+use Rattle.std.proofs.lemmas.Bool.Decides.{nat_tests}
+use Rattle.oxc_sourcemap_tokens.specs.declared.error.Error.{Error}
+use Rattle.oxc_sourcemap_tokens.specs.Token.{TokenRecord}
+use Rattle.oxc_sourcemap_mappings.specs.declared.fault_at.SegmentPlace.{SegmentPlace}
+use Rattle.oxc_sourcemap_mappings.specs.Parts.{is_semicolon, is_comma}
+use Rattle.oxc_sourcemap_mappings.specs.Places.{Place, place, nothing_before}
+use Rattle.oxc_sourcemap_mappings.specs.Faults.{Counts, counts_of}
+use Rattle.oxc_sourcemap_mappings.specs.Reading.{segment_result, gathered, onto, reading}
+use Rattle.oxc_sourcemap_mappings.specs.Decoding.{ends_segment, front_digits, front_segment}
+use Rattle.oxc_sourcemap_mappings.specs.Decoding.{moved_by, at_line_start, IsFrontOf}
+use Rattle.oxc_sourcemap_mappings.specs.Number.{digit}
+use Rattle.oxc_sourcemap_mappings.specs.SegmentPlaces.{text_start, bytes_on, line_on, segment_on}
+use Rattle.oxc_sourcemap_mappings.specs.SegmentPlaces.{places_from, first_fault, fault_place}
+use Rattle.oxc_sourcemap_mappings.proofs.Left.{left_outcomes, results-left, reading-is}
+use Rattle.oxc_sourcemap_mappings.proofs.Left.{left-semicolon, left-comma, left-too_large}
+use Rattle.oxc_sourcemap_mappings.proofs.Left.{left-segment, front-filled, front-byte}
+
+-- the place of the first fault in the rest of a text, which begins at this place of it
+abbrev pub rest_place : Counts → SegmentPlace → Place → List ℕ → Option SegmentPlace
+rest_place c p reached rest = first_fault (left_outcomes c p.line reached rest) (places_from p false rest)
+
+-- the fault in the rest of a text
+abbrev pub rest_fault : Counts → ℕ → Place → List ℕ → Option Error
+rest_fault c line reached rest = result_err (gathered (left_outcomes c line reached rest))
+
+pub fault_place-is : (text : List ℕ) (names sources : ℕ) → fault_place text names sources ≡ rest_place (counts_of names sources) text_start (place nothing_before) text
+unfolding fault_place
+fault_place-is text names sources =
+    ap (λ os. first_fault os (places_from text_start false text)) (results-left text (counts_of names sources))
+
+pub fault-is : (text : List ℕ) (names sources : ℕ) → result_err (reading text names sources) ≡ rest_fault (counts_of names sources) 0 (place nothing_before) text
+fault-is text names sources = ap result_err (reading-is text names sources)
+
+-- ---- past a `;` and a `,`
+
+pub place-semicolon : (c : Counts) (p : SegmentPlace) (reached : Place) (rest : List ℕ) → p.line < 4294967295
+    → rest_place c p reached (59 ∷ rest) ≡ rest_place c (line_on p) (at_line_start reached) rest
+unfolding places_from
+place-semicolon c p reached rest h =
+    let other : (p.line == 4294967295) ≡ false = grind (arith, nat_tests) in
+    rw other (ap (λ os. first_fault os (places_from (line_on p) false rest)) (left-semicolon c p.line reached rest (omega arith)))
+
+pub fault-semicolon : (c : Counts) (line : ℕ) (reached : Place) (rest : List ℕ) → line < 4294967295
+    → rest_fault c line reached (59 ∷ rest) ≡ rest_fault c (line + 1) (at_line_start reached) rest
+fault-semicolon c line reached rest h = ap (λ os. result_err (gathered os)) (left-semicolon c line reached rest (omega arith))
+
+pub place-last_line : (c : Counts) (p : SegmentPlace) (reached : Place) (rest : List ℕ) → p.line ≡ 4294967295
+    → rest_place c p reached (59 ∷ rest) ≡ Some p
+unfolding places_from
+place-last_line c p reached rest e =
+    let last : (p.line == 4294967295) ≡ true = eq-eqb p.line 4294967295 e in
+    rw last (ap (λ os. first_fault os (p ∷ [])) (left-too_large c p.line reached rest e))
+
+pub fault-last_line : (c : Counts) (line : ℕ) (reached : Place) (rest : List ℕ) → line ≡ 4294967295
+    → (e : Error) × (rest_fault c line reached (59 ∷ rest) ≡ Some e)
+fault-last_line c line reached rest e = (_, ap (λ os. result_err (gathered os)) (left-too_large c line reached rest e))
+
+pub place-comma : (c : Counts) (p : SegmentPlace) (reached : Place) (rest : List ℕ)
+    → rest_place c p reached (44 ∷ rest) ≡ rest_place c (bytes_on p 1) reached rest
+unfolding places_from
+place-comma c p reached rest = ap (λ os. first_fault os (places_from (bytes_on p 1) false rest)) (left-comma c p.line reached rest)
+
+pub fault-comma : (c : Counts) (line : ℕ) (reached : Place) (rest : List ℕ) → rest_fault c line reached (44 ∷ rest) ≡ rest_fault c line reached rest
+fault-comma c line reached rest = ap (λ os. result_err (gathered os)) (left-comma c line reached rest)
+
+-- ---- past a segment
+
+bytes_on-none : (p : SegmentPlace) → bytes_on p 0 ≡ p
+bytes_on-none p = ap (λ n. record p { byte = n }) (add-zero p.byte)
+
+bytes_on-next : (p : SegmentPlace) (n : ℕ) → bytes_on (bytes_on p 1) n ≡ bytes_on p (suc n)
+bytes_on-next p n = ap (λ k. record p { byte = k }) (omega arith)
+
+-- at a mark it does not matter whether a segment is before it
+places-mark : (p : SegmentPlace) (b : ℕ) (bs : List ℕ) → ends_segment b ≡ true → places_from p true (b ∷ bs) ≡ places_from p false (b ∷ bs)
+unfolding places_from
+places-mark p b bs h =
+    elim (is_semicolon b) as (λ v. is_semicolon b ≡ v → (if v then (if p.line == 4294967295 then p ∷ [] else places_from (line_on p) false bs)
+    else if is_comma b then places_from (bytes_on p 1) false bs else places_from (bytes_on p 1) true bs)
+    ≡ (if v then (if p.line == 4294967295 then p ∷ [] else places_from (line_on p) false bs)
+    else if is_comma b then places_from (bytes_on p 1) false bs else p ∷ places_from (segment_on p) true bs)) [
+      | true ↦ (λ e. refl)
+      | false ↦ (λ e. let k : is_comma b ≡ true = grind (arith, nat_tests) in rw k refl)
+    ] refl
+
+-- the rest of a segment is passed over
+places-inside : (p : SegmentPlace) (rest : List ℕ)
+    → places_from p true rest ≡ places_from (bytes_on p (length (front_digits rest))) false (drop (length (front_digits rest)) rest)
+unfolding places_from
+places-inside p [] = refl
+places-inside p (b ∷ bs) =
+    elim (ends_segment b) as (λ v. ends_segment b ≡ v → places_from p true (b ∷ bs)
+    ≡ (let ds = (if v then [] else digit b ∷ front_digits bs) in places_from (bytes_on p (length ds)) false (drop (length ds) (b ∷ bs)))) [
+      | true ↦ (λ e. places-mark p b bs e ∙ ap (λ q. places_from q false (b ∷ bs)) (sym (bytes_on-none p)))
+      | false ↦ (λ e.
+          let s : is_semicolon b ≡ false = grind (arith, nat_tests) in
+          let k : is_comma b ≡ false = grind (arith, nat_tests) in
+          rw (s, k) (places-inside (bytes_on p 1) bs ∙ ap (λ q. places_from q false (drop (length (front_digits bs)) bs)) (bytes_on-next p (length (front_digits bs)))))
+    ] refl
+
+-- a segment begins at its place
+places-segment : (p : SegmentPlace) (rest : List ℕ) (b : ℕ) → slice_get rest 0 ≡ Some b → ends_segment b ≡ false
+    → places_from p false rest ≡ p ∷ places_from (record p { byte = p.byte + length (front_digits rest); segment = p.segment + 1 }) false (drop (length (front_digits rest)) rest)
+unfolding places_from
+places-segment p [] b g m = cc
+places-segment p (a ∷ bs) b g m =
+    let same : a ≡ b = cc in
+    let e : ends_segment a ≡ false = rw same m in
+    let s : is_semicolon a ≡ false = grind (arith, nat_tests) in
+    let k : is_comma a ≡ false = grind (arith, nat_tests) in
+    rw (e, s, k) (ap (λ ps. p ∷ ps) (places-inside (segment_on p) bs
+    ∙ ap (λ n. places_from (record p { byte = n; segment = p.segment + 1 }) false (drop (length (front_digits bs)) bs)) (omega arith)))
+
+result_err-onto : (token : TokenRecord) (r : Result (List TokenRecord) Error) → result_err (onto token r) ≡ result_err r
+result_err-onto token (Ok tokens) = refl
+result_err-onto token (Err e) = refl
+
+-- past a segment with no fault
+pub place-token : (c : Counts) (p : SegmentPlace) (reached here : Place) (rest : List ℕ) (b len : ℕ) (token : TokenRecord)
+    → slice_get rest 0 ≡ Some b → ends_segment b ≡ false → IsFrontOf c p.line reached rest here token len
+    → rest_place c p reached rest ≡ rest_place c (record p { byte = p.byte + len; segment = p.segment + 1 }) here (drop len rest)
+place-token c p reached here rest b len token g m is =
+    ap (λ os. first_fault os (places_from p false rest)) (left-segment c p.line reached rest (front-filled rest b g m))
+    ∙ ap (first_fault (segment_result c p.line reached (front_segment rest) (moved_by reached (front_segment rest)) ∷ left_outcomes c p.line (moved_by reached (front_segment rest)) (drop (length (front_digits rest)) rest))) (places-segment p rest b g m)
+    ∙ rw (is.result, ← is.place, ← is.len_is) refl
+
+pub fault-token : (c : Counts) (line : ℕ) (reached here : Place) (rest : List ℕ) (b len : ℕ) (token : TokenRecord)
+    → slice_get rest 0 ≡ Some b → ends_segment b ≡ false → IsFrontOf c line reached rest here token len
+    → rest_fault c line reached rest ≡ rest_fault c line here (drop len rest)
+fault-token c line reached here rest b len token g m is =
+    let s = front_segment rest in
+    let n = length (front_digits rest) in
+    ap (λ os. result_err (gathered os)) (left-segment c line reached rest (front-filled rest b g m))
+    ∙ ap (λ r. result_err (gathered (r ∷ left_outcomes c line (moved_by reached s) (drop n rest)))) is.result
+    ∙ result_err-onto token (gathered (left_outcomes c line (moved_by reached s) (drop n rest)))
+    ∙ ap (λ q. rest_fault c line q (drop n rest)) (sym is.place)
+    ∙ ap (λ k. rest_fault c line here (drop k rest)) (sym is.len_is)
+
+-- at a segment with a fault
+pub place-fault : (c : Counts) (p : SegmentPlace) (reached : Place) (rest : List ℕ) (b : ℕ) (e : Error)
+    → slice_get rest 0 ≡ Some b → ends_segment b ≡ false → segment_result c p.line reached (front_segment rest) (moved_by reached (front_segment rest)) ≡ Err e
+    → (rest_place c p reached rest ≡ Some p) × (rest_fault c p.line reached rest ≡ Some e)
+place-fault c p reached rest b e g m bad =
+    let left = left-segment c p.line reached rest (front-filled rest b g m) in (
+      ap (λ os. first_fault os (places_from p false rest)) left
+          ∙ ap (first_fault (segment_result c p.line reached (front_segment rest) (moved_by reached (front_segment rest)) ∷ left_outcomes c p.line (moved_by reached (front_segment rest)) (drop (length (front_digits rest)) rest))) (places-segment p rest b g m)
+          ∙ rw bad refl,
+      ap (λ os. result_err (gathered os)) left ∙ rw bad refl,
+    )
+
+-- a segment is not empty
+pub front-some : (rest : List ℕ) (b : ℕ) → slice_get rest 0 ≡ Some b → ends_segment b ≡ false → 0 < length (front_digits rest)
+front-some [] b g m = cc
+front-some (a ∷ bs) b g m =
+    let same : a ≡ b = cc in
+    let e : ends_segment a ≡ false = rw same m in
+    rw e (omega arith)
+
+pub err_from : {A : Type 0} (r : Result A Error) (e : Error) → result_err r ≡ Some e → IsErr r
+err_from (Ok x) e h = cc
+err_from (Err f) e h = refl

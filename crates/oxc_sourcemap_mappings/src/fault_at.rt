@@ -1,0 +1,64 @@
+//! Where a `mappings` text has its first fault.
+ghost use Rattle.std.specs.Prelude.{◌≡◌, ◌↔◌, IsSome, IsErr};
+ghost use Rattle.oxc_sourcemap_mappings.specs.Words.{reading, fault_place};
+
+use crate::decode::Sums;
+
+/// Where a segment of a `mappings` text begins. All three count from 0.
+#[derive(Clone, Copy, Debug, PartialEq, Eq)]
+pub struct SegmentPlace {
+    /// The index of its first byte in the text.
+    pub byte: usize,
+    /// Its generated line: how many `;` are before it.
+    pub line: u32,
+    /// How many segments are before it on its line. Empty segments do not count.
+    pub segment: usize,
+}
+
+/// Where the first segment with a fault begins: the one whose error `decode_mappings` returns. For a `;` that begins line
+/// 4294967296 (`TooLarge`) the place of that `;`. None if the text has no fault. Takes no memory.
+///
+/// ```rust
+/// use oxc_sourcemap::{SegmentPlace, mappings_fault_at};
+///
+/// // The second segment of line 1 has two fields.
+/// let place = mappings_fault_at("AAAA;AACA,AA", 0, 1);
+/// assert_eq!(rt; place, Some(SegmentPlace { byte: 10, line: 1, segment: 1 }));
+/// ```
+pub fn mappings_fault_at(text: &str, names: usize, sources: usize) -> Option<SegmentPlace>
+    ensures place { result ≡ fault_place text.now names sources }
+    ensures fault { IsSome result ↔ IsErr (reading text.now names sources) }
+{
+    let mut rest = text.as_bytes();
+    let mut sums = Sums::new();
+    let mut place = SegmentPlace {
+        byte: 0,
+        line: 0,
+        segment: 0,
+    };
+    while let Some(byte) = rest.first() {
+        if *byte == b',' {
+            place.byte += 1;
+            rest = &rest[1..];
+            continue;
+        }
+        if *byte == b';' {
+            if place.line == 4294967295 {
+                return Some(place);
+            }
+            sums.begin_line();
+            place.byte += 1;
+            place.line += 1;
+            place.segment = 0;
+            rest = &rest[1..];
+            continue;
+        }
+        let Ok((_, len)) = sums.any_token(place.line, rest, names, sources) else {
+            return Some(place);
+        };
+        place.byte += len;
+        place.segment += 1;
+        rest = &rest[len..];
+    }
+    None
+}

@@ -1,0 +1,3 @@
+pub mod PlaceMessages
+pub mod ValueSpots
+pub mod Words

@@ -1,0 +1,10 @@
+//! Where an input has its first fault: beside the errors, which do not tell. Part of `oxc_sourcemap`.
+#![tactic(auto)]
+
+mod fault_place;
+mod json_fault;
+mod value_fault;
+
+pub use fault_place::{FaultPlace, FaultSpot};
+pub use json_fault::json_fault_at;
+pub use value_fault::value_fault_at;

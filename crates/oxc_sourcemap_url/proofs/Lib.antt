@@ -1,0 +1,7 @@
+pub mod Bytes
+mod ReadBack
+mod Chars
+mod Pieces
+mod Blocks
+mod LineCuts
+mod Worked

@@ -1,0 +1,16 @@
+use Rattle.std.proofs.Common.{◌≡◌, length, fold, flat_map, None}
+use Rattle.std.specs.Str.{chars, IsUtf8}
+use Rattle.oxc_sourcemap_text.specs.TextLines.{lines_of}
+use Rattle.oxc_sourcemap_url.specs.MappingUrls.{known_after, pieces, lent_chars}
+use Rattle.oxc_sourcemap_url.proofs.mapping_url.source_mapping_url.Given as goal
+
+-- what is known after the code is what is known after the rest of its lines
+abbrev pub invariant-loop-line : goal.invariant-loop-line
+invariant-loop-line l = record {
+  utf8 : IsUtf8 l.rest;
+  known : fold known_after (lent_chars l.known) (flat_map (pieces l.slashes None) (lines_of (chars l.rest)))
+      ≡ fold known_after None (flat_map (pieces l.slashes None) (lines_of (chars l.code)));
+}
+
+abbrev pub decreases-loop-line : goal.decreases-loop-line
+decreases-loop-line l = length l.rest

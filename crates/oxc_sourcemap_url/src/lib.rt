@@ -1,0 +1,16 @@
+//! Data URLs of maps, and the URL that a code names for its map. Part of `oxc_sourcemap`.
+#![tactic(auto)]
+
+mod comment;
+mod data_url;
+mod data_url_error;
+mod language;
+mod laws;
+mod line;
+mod mapping_url;
+
+pub use data_url::decode_data_url;
+pub use data_url_error::DataUrlError;
+pub use language::Language;
+pub use laws::data_urls_read_back;
+pub use mapping_url::source_mapping_url;

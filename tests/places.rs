@@ -1,0 +1,142 @@
+//! Where faults are. tests/reference/fault_places.py has the number of the random texts.
+use crate::helpers::same;
+use oxc_sourcemap::{
+    FaultPlace, FaultSpot, Field, SegmentPlace, decode_mappings, json_fault_at, mappings_fault_at,
+};
+use std::alloc::Global;
+use std::test::Fail;
+
+fn place(byte: usize, line: u32, segment: usize) -> Option<SegmentPlace> {
+    Some(SegmentPlace {
+        byte,
+        line,
+        segment,
+    })
+}
+
+#[test]
+fn mappings_have_faults(rt: HostRuntime) {
+    // A text, the counts of names and sources, and where the first fault is: byte, line, and number on the line.
+    for (text, names, sources, wanted) in [
+        ("", 0, 0, None),
+        ("AAAA", 0, 1, None),
+        ("AAAA", 0, 0, place(0, 0, 0)),
+        ("AAAA;AACA,AA", 0, 1, place(10, 1, 1)),
+        // Empty segments do not count.
+        (",,;A,,A,D", 0, 0, place(8, 1, 2)),
+        ("A,C;;A,gggggggggggggg", 0, 0, place(7, 2, 1)),
+        ("A;g", 0, 0, place(2, 1, 0)),
+        ("A,,,;;;,D,,D", 0, 0, place(8, 3, 0)),
+        // A byte past ASCII is a digit, so a segment of one ends in a digit that goes on.
+        ("A,é", 0, 0, place(2, 0, 1)),
+        ("AAAAC", 1, 1, place(0, 0, 0)),
+        ("AAAAC", 2, 1, None),
+        ("A;;A,;,AAAA,CAAAC,CAAAD,CAAAD", 2, 1, place(24, 3, 3)),
+    ] {
+        same(&rt, text, mappings_fault_at(text, names, sources), wanted);
+    }
+}
+
+const PIECES: [&str; 17] = [
+    "A", "C", "AAAA", "CACA", "AAAAA", "CAAAC", "KAAAD", "gBAAA", "", "", ";", ";,;", "IAAA", "CCAA", "D", "AA", "é",
+];
+
+#[test]
+fn random_mappings_have_faults(rt: HostRuntime) -> std::result::Result<(), Fail> {
+    let (mut seed, mut faults, mut sum) = (1u32, 0u32, 0u32);
+    for _ in 0..5000 {
+        let mut text = String::new(rt.alloc());
+        for _ in 0..14 {
+            seed = seed.wrapping_mul(1103515245).wrapping_add(12345) % 2147483648;
+            text.push_str(PIECES[((seed >> 16) % 17) as usize])?;
+            text.push(',')?;
+        }
+        let found = mappings_fault_at(text.as_str(), 2, 2);
+        same(&rt, text.as_str(), found.is_some(), decode_mappings(rt.alloc(), text.as_str(), 2, 2).is_err());
+        let number = match found {
+            Some(place) => (place.byte as u32).wrapping_mul(10007).wrapping_add(place.line.wrapping_mul(101)).wrapping_add(place.segment as u32),
+            None => 7,
+        };
+        faults += u32::from(found.is_some());
+        sum = sum.wrapping_mul(31).wrapping_add(number);
+    }
+    same(&rt, "faults", (faults, sum), (4811, 1734738861));
+    Ok(())
+}
+
+fn reading(line: usize, column: usize, byte: usize) -> Option<FaultSpot> {
+    Some(FaultSpot::Reading { line, column, byte })
+}
+
+#[test]
+fn texts_have_faults(rt: HostRuntime) {
+    for (text, wanted) in [
+        (r#"{"version":3,"sources":["a"],"mappings":"AAAA"}"#, None),
+        // Not JSON: the token that cannot be read. The column counts bytes.
+        ("", reading(0, 0, 0)),
+        ("{\n\"a\":", reading(1, 4, 6)),
+        ("{}\n}", reading(1, 0, 3)),
+        ("<!doctype html>\n<html>", reading(0, 0, 0)),
+        ("{\n\n  \"é\": tru\n}", reading(2, 8, 11)),
+        // The value, and its members in order.
+        ("[]", Some(FaultSpot::Member(Field::Object))),
+        (r#"{"version":2,"sources":[1]}"#, Some(FaultSpot::Member(Field::Version))),
+        (r#"{"version":3,"sources":[]}"#, Some(FaultSpot::Member(Field::Mappings))),
+        (r#"{"version":3,"mappings":""}"#, Some(FaultSpot::Member(Field::Sources))),
+        (r#"{"version":3,"mappings":"","sources":{}}"#, Some(FaultSpot::Member(Field::Sources))),
+        // The first entry of the wrong type.
+        (r#"{"version":3,"mappings":"","sources":["a","b",null,1]}"#, Some(FaultSpot::Entry(Field::Sources, 2))),
+        (r#"{"version":3,"mappings":"","sources":[],"names":[[]]}"#, Some(FaultSpot::Entry(Field::Names, 0))),
+        (r#"{"version":3,"mappings":"","sources":[],"sourcesContent":["a",null,3]}"#, Some(FaultSpot::Entry(Field::SourcesContent, 2))),
+        (r#"{"version":3,"mappings":"","sources":["a"],"ignoreList":[0,0.5]}"#, Some(FaultSpot::Entry(Field::IgnoreList, 1))),
+        (r#"{"version":3,"mappings":"","sources":["a"],"x_google_ignoreList":[-1]}"#, Some(FaultSpot::Entry(Field::GoogleIgnoreList, 0))),
+        // The entries of the ignore list come before the mappings.
+        (r#"{"version":3,"mappings":"A,A,AA","sources":["a"],"ignoreList":[0,1]}"#, Some(FaultSpot::Entry(Field::IgnoreList, 1))),
+        (r#"{"version":3,"mappings":"A,A;A,AA","sources":["a"],"ignoreList":[0]}"#, Some(FaultSpot::Segment(SegmentPlace { byte: 6, line: 1, segment: 1 }))),
+        (r#"{"version":3,"mappings":"AAAAA","sources":["a"],"names":["n"]}"#, None),
+        (r#"{"version":3,"mappings":"AAAAA","sources":["a"],"names":[]}"#, Some(FaultSpot::Segment(SegmentPlace { byte: 0, line: 0, segment: 0 }))),
+    ] {
+        let place = json_fault_at(rt.alloc(), text).ok().flatten();
+        same(&rt, text, place.map(|place| place.spot), wanted);
+        same(&rt, text, place.and_then(|place| place.section), None);
+    }
+}
+
+#[test]
+fn sections_have_faults(rt: HostRuntime) -> std::result::Result<(), Fail> {
+    for (text, wanted) in [
+        (r#"{"version":3,"sections":[]}"#, None),
+        (r#"{"version":3,"sections":{}}"#, Some("sections")),
+        (r#"{"version":3,"sections":[{"offset":{"line":0,"column":0},"map":{"version":3,"sources":[],"mappings":""}},{"map":{"version":3,"sources":[],"mappings":";A,AA"}}]}"#, Some("section 1, line 1, segment 1 (byte 3)")),
+        (r#"{"version":3,"sections":[{}]}"#, Some("section 0, map")),
+        (r#"{"version":3,"sections":[{"map":{"sections":[]}}]}"#, Some("section 0, map")),
+        (r#"{"version":3,"sections":[{"map":{"version":3,"sources":[0],"mappings":""}}]}"#, Some("section 0, entry 0 of sources")),
+        (r#"{"version":3,"sections":null,"sources":[0],"mappings":""}"#, Some("entry 0 of sources")),
+    ] {
+        match json_fault_at(rt.alloc(), text)? {
+            Some(place) => {
+                let found = place.in_text(7).to_string(rt.alloc())?;
+                same(&rt, text, found.as_str().strip_prefix("text 7, "), wanted);
+            }
+            None => same(&rt, text, None, wanted),
+        }
+    }
+    Ok(())
+}
+
+#[test]
+fn places_are_texts(rt: HostRuntime) -> std::result::Result<(), Fail> {
+    let segment = FaultSpot::Segment(SegmentPlace { byte: 12, line: 0, segment: 3 });
+    for (text, section, spot, wanted) in [
+        (Some(700), None, segment, "text 700, line 0, segment 3 (byte 12)"),
+        (Some(1), Some(2), segment, "text 1, section 2, line 0, segment 3 (byte 12)"),
+        (None, Some(0), FaultSpot::Entry(Field::Sources, 2), "section 0, entry 2 of sources"),
+        (None, None, FaultSpot::Member(Field::GoogleIgnoreList), "x_google_ignoreList"),
+        (None, None, FaultSpot::Member(Field::Object), "the value"),
+        (None, None, FaultSpot::Reading { line: 4, column: 0, byte: 99 }, "line 4, column 0 (byte 99)"),
+    ] {
+        let found = FaultPlace { text, section, spot }.to_string(rt.alloc())?;
+        same(&rt, wanted, found.as_str(), wanted);
+    }
+    Ok(())
+}

@@ -5,10 +5,11 @@ mod as_parts;
 mod blocks;
 mod inputs;
 mod lists;
-mod needed_names;
+pub mod needed_names;
 mod owned;
 mod remap;
 
 pub use as_parts::AsParts;
+pub use inputs::ignored_flags;
 pub use owned::remap_owned_parts;
 pub use remap::remap_parts;

@@ -1,0 +1,1 @@
+//! Tokens with the ids that they have in a simplified map.

@@ -1,8 +1,9 @@
 pub mod Same
 pub mod Scan
-pub mod Kept
+pub mod Keeping
 pub mod Lists
 pub mod Unique
 pub mod Traces
 pub mod Steps
 pub mod Numbers
+pub mod Firsts

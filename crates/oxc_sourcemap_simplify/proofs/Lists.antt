@@ -7,7 +7,7 @@ use Rattle.oxc_sourcemap_parts.specs.Sorted.{is_sorted_by, may_precede}
 use Rattle.oxc_sourcemap_lookup.specs.Lookup.{first, on_line}
 use Rattle.oxc_sourcemap_simplify.specs.Simple.{is_further, is_followed, found_after, found_items}
 use Rattle.oxc_sourcemap_simplify.specs.Simple.{is_repeat, is_after_repeat, kept_item, kept_after, are_together}
-use Rattle.oxc_sourcemap_simplify.proofs.Kept.{Apart, Sorted, sorted-rest, sorted-two, together-is, together-not, follows-not, precedes-parts}
+use Rattle.oxc_sourcemap_simplify.proofs.Keeping.{Apart, Sorted, sorted-rest, sorted-two, together-is, together-not, follows-not, precedes-parts}
 
 pub precedes-by : (a b c d : ℕ) → a ≤ c → (a ≡ c → b ≤ d) → (nat_lt a c || (a == c && nat_le b d)) ≡ true
 precedes-by a b c d e f = grind (arith, nat_tests, e, f)

@@ -1,7 +1,7 @@
 -- Lists of items by their indices in another list, each item at the first index that has it.
 use Rattle.std.proofs.Common.{◌≡◌, ◌≢◌, ℕ, ◌+◌, ◌<◌, ◌≤◌, zero, suc, Bool, true, false, cond, ◌==◌, ◌&&◌, ◌||◌, Option, Some, None}
 use Rattle.std.proofs.Common.{List, [], ◌∷◌, ◌++◌, map, refl, sym, ap, subst, ◌∙◌, arith, length, slice_get, append_assoc}
-use Rattle.std.specs.Bool.{Decides}
+use Rattle.std.specs.Bool.{Decides, beq}
 use Rattle.std.specs.List.{flat_map, list_any, position_from, filter, AllByRecursion}
 use Rattle.std.specs.Option.{option_map, option_and_then, option_or, unwrap_or, is_some}
 use Rattle.std.proofs.lemmas.Bool.{and_parts}
@@ -140,17 +140,17 @@ module _ where
 
   pub marked-decides : (a b : T × Bool) → Decides (is_same_marked a b) (a ≡ b)
   marked-decides (x, b) (y, c) = (
-    λ h. let p = and_parts (same x y) (cond b c (cond c false true)) h in pair-same ((decides x y).0 p.0) (mark-same b c p.1),
+    λ h. let p = and_parts (same x y) (beq b c) h in pair-same ((decides x y).0 p.0) (mark-same b c p.1),
     λ e. let f : x ≡ y = ap (λ (p : T × Bool). p.0) e in let g : b ≡ c = ap (λ (p : T × Bool). p.1) e in rw ((decides x y).1 f, g) (mark-refl c),
   ) where
     pair-same : {x y : T} {b c : Bool} → x ≡ y → b ≡ c → ◌≡◌ {A = T × Bool} (x, b) (y, c)
     pair-same e f = rw (e, f) refl
-    mark-same : (b c : Bool) → cond b c (cond c false true) ≡ true → b ≡ c
+    mark-same : (b c : Bool) → beq b c ≡ true → b ≡ c
     mark-same true true h = refl
     mark-same true false h = cc
     mark-same false true h = cc
     mark-same false false h = refl
-    mark-refl : (c : Bool) → cond c c (cond c false true) ≡ true
+    mark-refl : (c : Bool) → beq c c ≡ true
     mark-refl true = refl
     mark-refl false = refl
 

@@ -2,6 +2,7 @@
 use Rattle.std.specs.Prelude.{ℕ, ◌+◌, Bool, true, false, ◌&&◌, List, [], ◌∷◌, ◌++◌, map, filter, length}
 use Rattle.std.specs.Prelude.{slice_get, Option, Some, None, option_map, Result, Ok, Err}
 use Rattle.std.specs.Prelude.{if◌then◌else◌, nat_le}
+use Rattle.std.specs.Bool.{beq}
 use Rattle.std.specs.List.{filter_map, flat_map, list_any, list_all, position_from}
 use Rattle.std.specs.Option.{option_and_then}
 use Rattle.oxc_sourcemap_tokens.specs.declared.error.Error.TheVariants.{TooLarge}
@@ -37,7 +38,7 @@ simple_mappings mappings = simple_items mapping_line mapping_column point_alike 
 -- Sources are marked with whether they are ignored.
 -- equality of marked sources, as a test
 abbrev pub is_same_marked : DecodedSource × Bool → DecodedSource × Bool → Bool
-is_same_marked a b = is_same_source a.0 b.0 && (if a.1 then b.1 else (if b.1 then false else true))
+is_same_marked a b = is_same_source a.0 b.0 && beq a.1 b.1
 
 -- where a marked source is listed first
 abbrev pub index_of_marked : DecodedSource × Bool → List (DecodedSource × Bool) → Option ℕ

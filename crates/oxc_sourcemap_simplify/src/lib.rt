@@ -7,6 +7,7 @@ ghost use Rattle.oxc_sourcemap_simplify.specs.Words.{MappingsStay};
 mod found;
 mod kept;
 mod needed;
+mod renumber;
 mod sources;
 
 /// Simplifying is harmless to traces, and nothing smaller would do.

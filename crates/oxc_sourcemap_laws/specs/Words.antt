@@ -23,6 +23,8 @@ pub use Rattle.oxc_sourcemap_laws.specs.TraceLaws.{TracesOfComposition, TracesOf
 pub use Rattle.oxc_sourcemap_laws.specs.TraceLaws.{TracesOnOwnLine, TracesOfSortedJoin}
 pub use Rattle.oxc_sourcemap_laws.specs.TraceLaws.{TracesWithinPart, TracesOfJoinedMaps}
 pub use Rattle.oxc_sourcemap_laws.specs.TraceLaws.{TracesOfRemapping, TracesOfRemappedMaps}
+pub use Rattle.oxc_sourcemap_laws.specs.SimplifyTraces.{SimplifiedComposed, SimplifiedRemapped}
+pub use Rattle.oxc_sourcemap_laws.specs.SimplifyTraces.{SimplifiedJoined}
 pub use Rattle.oxc_sourcemap_laws.specs.RemapLaws.{DecodedMapOfRemapping, RemappingIgnores}
 pub use Rattle.oxc_sourcemap_laws.specs.RemapLaws.{NothingRemapped, RemappedDecodedMapsAssociative}
 pub use Rattle.oxc_sourcemap_laws.specs.RemapLaws.{RemappedMapsAssociative, JoinRemapped}

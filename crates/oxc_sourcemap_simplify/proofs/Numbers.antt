@@ -16,7 +16,7 @@ use Rattle.oxc_sourcemap_simplify.proofs.Same.{decides_source}
 some-same : {A : Type 0} {x y : A} → Some x ≡ Some y → x ≡ y
 some-same e = cc
 
-position-append : {A : Type 0} (t : A → Bool) (i : ℕ) (xs ys : List A) → position_from t i (xs ++ ys) ≡ option_or (position_from t i xs) (position_from t (i + length xs) ys)
+pub position-append : {A : Type 0} (t : A → Bool) (i : ℕ) (xs ys : List A) → position_from t i (xs ++ ys) ≡ option_or (position_from t i xs) (position_from t (i + length xs) ys)
 position-append t i [] ys = ap (λ n. position_from t n ys) (omega arith)
 position-append t i (x ∷ xs) ys =
     elim (t x) as (λ b. cond b (Some i) (position_from t (i + 1) (xs ++ ys)) ≡ option_or (cond b (Some i) (position_from t (i + 1) xs)) (position_from t (i + suc (length xs)) ys)) [
@@ -24,7 +24,7 @@ position-append t i (x ∷ xs) ys =
       | false ↦ position-append t (i + 1) xs ys ∙ ap (λ n. option_or (position_from t (i + 1) xs) (position_from t n ys)) (omega arith)
     ]
 
-position-some : {A : Type 0} (t : A → Bool) (i : ℕ) (xs : List A) → is_some (position_from t i xs) ≡ list_any t xs
+pub position-some : {A : Type 0} (t : A → Bool) (i : ℕ) (xs : List A) → is_some (position_from t i xs) ≡ list_any t xs
 position-some t i [] = refl
 position-some t i (x ∷ xs) = elim (t x) as (λ b. is_some (cond b (Some i) (position_from t (i + 1) xs)) ≡ (b || list_any t xs)) [ true ↦ refl | false ↦ position-some t (i + 1) xs ]
 
@@ -230,7 +230,7 @@ module _ where
         ∙ ap (λ c. (same s t && has (s, b) marked) || c) (has-flat s b ts)
         ∙ or-and (same s t) (list_any (same s) ts) (has (s, b) marked)
 
-    flat-append : (ts : List T) (s : T) → flat_map (listings marked) (ts ++ s ∷ []) ≡ flat_map (listings marked) ts ++ listings marked s
+    pub flat-append : (ts : List T) (s : T) → flat_map (listings marked) (ts ++ s ∷ []) ≡ flat_map (listings marked) ts ++ listings marked s
     flat-append [] s = append-nil (listings marked s)
     flat-append (t ∷ ts) s = ap (λ l. listings marked t ++ l) (flat-append ts s) ∙ sym (append_assoc (listings marked t) (flat_map (listings marked) ts) (listings marked s))
 

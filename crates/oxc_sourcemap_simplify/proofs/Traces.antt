@@ -17,7 +17,7 @@ use Rattle.oxc_sourcemap_simplify.specs.SimplifyLaws.{IsSortedMap, TracesStay, S
 use Rattle.oxc_sourcemap_simplify.proofs.Same.{decides_originals, entry_by}
 use Rattle.oxc_sourcemap_simplify.proofs.Scan.{scan, found-scan}
 use Rattle.oxc_sourcemap_simplify.proofs.Keeping.{Place, place_of, off, front, here, past, sorted-two, sorted-rest, scan-off, scan-front, scan-here, scan-beyond, kept-scan}
-use Rattle.oxc_sourcemap_simplify.proofs.Lists.{found-sorted, found-is-apart, found-first, found-length, found-all, keeps, keep-sorted, keep-first, keep-length, keep-all}
+use Rattle.oxc_sourcemap_simplify.proofs.Order.{found-sorted, found-is-apart, found-first, found-length, found-all, keeps, keep-sorted, keep-first, keep-length, keep-all}
 use Rattle.oxc_sourcemap_simplify.proofs.Unique.{Rising, TellSame, rising-unique, spread-rising}
 
 module _ {A : Type 0} (line column : A → ℕ) where

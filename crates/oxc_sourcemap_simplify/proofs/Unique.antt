@@ -8,7 +8,7 @@ use Rattle.oxc_sourcemap_simplify.specs.Simple.{is_further, is_followed}
 use Rattle.oxc_sourcemap_simplify.specs.Simple.{is_repeat, is_after_repeat, kept_after, are_together}
 use Rattle.oxc_sourcemap_simplify.proofs.Scan.{scan}
 use Rattle.oxc_sourcemap_simplify.proofs.Keeping.{Apart, Sorted, sorted-rest, sorted-two, together-is, together-not, follows-not, Past, scan-past, scan-off, scan-front, scan-here}
-use Rattle.oxc_sourcemap_simplify.proofs.Lists.{keeps, near-by}
+use Rattle.oxc_sourcemap_simplify.proofs.Order.{keeps, near-by}
 
 -- how two positions lie to one another
 pub data Order (a b c d : ℕ) : Type 0 where

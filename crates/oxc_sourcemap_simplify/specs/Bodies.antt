@@ -8,7 +8,7 @@ use Rattle.std.specs.Bool.{beq}
 use Rattle.std.specs.HashMap as hash
 use Rattle.std.specs.HashMap.{HashMap}
 use Rattle.std.specs.List.{position_from, filter_map, list_any, AllByRecursion}
-use Rattle.std.specs.Option.{option_and_then, option_eq, unwrap_or}
+use Rattle.std.specs.Option.{option_and_then, option_eq, option_or, unwrap_or}
 use Rattle.std.specs.Str.{bytes_eq}
 use Rattle.oxc_sourcemap_tokens.specs.Token.{TokenRecord}
 use Rattle.oxc_sourcemap_parts.specs.DecodedMap.{DecodedSource, OriginalPosition, decoded_map_of}
@@ -50,6 +50,10 @@ is_within_columns t = nat_le t.dst_col 4294967295
 abbrev pub marked_source : MarkedSource → DecodedSource × Bool
 marked_source s = (record { path = s.path.now; content = option_map (λ c. c.now) s.content }, s.is_ignored)
 
+-- sources, as stored
+abbrev pub sources_in : List MarkedSource → List (DecodedSource × Bool)
+sources_in sources = map marked_source sources
+
 -- equality of stored sources, as a test
 abbrev pub is_same_stored : MarkedSource → MarkedSource → Bool
 is_same_stored a b =
@@ -78,11 +82,14 @@ pub record HasIds (count : ℕ) (needed : NeededSources) : Type 0 where
   pub ids : (i : ℕ) → i < count → slice_get needed.ids.items i ≡ Some (index_in i needed.listed.items)
   pub few : length needed.listed.items ≤ 4294967295
 
--- this is the table of marked sources
-pub record IsTableOf (marked : List (DecodedSource × Bool)) (table : SourceTable) : Type 0 where
-  pub sources : map marked_source table.sources.items ≡ marked
-  pub plain : table.plain.items ≡ map (first_as false marked) marked
-  pub ignored : table.ignored.items ≡ map (first_as true marked) marked
+-- the sources of a table
+abbrev pub table_sources : SourceTable → List (DecodedSource × Bool)
+table_sources table = sources_in table.sources.items
+
+-- a table has for each of its sources where it stands first, not ignored and ignored
+pub record IsTable (table : SourceTable) : Type 0 where
+  pub plain : table.plain.items ≡ map (first_as false (table_sources table)) (table_sources table)
+  pub ignored : table.ignored.items ≡ map (first_as true (table_sources table)) (table_sources table)
 
 -- the list with the indices of a source, one for each mark that it is listed with
 abbrev pub with_indices : List (DecodedSource × Bool) → List ℕ → Option (DecodedSource × Bool) → List ℕ
@@ -140,3 +147,11 @@ pub record AreRenumbered (r : MapRecord) (ts us : List TokenRecord) (names : Lis
 -- tokens need more names or sources than there are ids
 abbrev pub AreTooMany : MapRecord → List TokenRecord → Type 0
 AreTooMany r ts = (4294967295 < length (sources_for r ts)) ⊎ (4294967295 < length (names_for r ts))
+
+-- an entry of a list of indices
+abbrev pub entry_at : List (Option ℕ) → ℕ → Option ℕ
+entry_at indices i = unwrap_or (slice_get indices i) None
+
+-- a number for the source at an index, by where its equals stand first
+abbrev pub class_at : List (Option ℕ) → List (Option ℕ) → ℕ → ℕ
+class_at plain ignored i = unwrap_or (option_or (entry_at plain i) (entry_at ignored i)) 0

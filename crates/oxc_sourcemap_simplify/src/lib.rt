@@ -6,6 +6,7 @@ ghost use Rattle.oxc_sourcemap_simplify.specs.Words.{MappingsStay};
 
 mod found;
 mod kept;
+mod lists;
 mod needed;
 mod renumber;
 mod sources;

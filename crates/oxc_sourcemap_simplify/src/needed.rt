@@ -1,6 +1,6 @@
 //! The sources that tokens need, by the indices at which they are listed first.
-ghost use Rattle.std.specs.Prelude.{◌≡◌, ◌≢◌, ℕ, ◌<◌, [], length, IfOk, OnOk, IfErr, IfSome};
-ghost use Rattle.std.specs.Prelude.{Some};
+ghost use Rattle.std.specs.Prelude.{◌≡◌, ◌≢◌, ◌<◌, [], length, IfOk, OnOk, IfErr, IfSome, Some};
+ghost use Rattle.std.specs.Prelude.{slice_get};
 ghost use Rattle.std.specs.Option.{option_and_then};
 ghost use Rattle.oxc_sourcemap_simplify.specs.Words.{OutOfMemory, TooLarge, index_in, with_index};
 ghost use Rattle.oxc_sourcemap_simplify.specs.Words.{HasIds};
@@ -29,18 +29,26 @@ pub(crate) fn no_sources(alloc: Global, count: usize) -> Memory<NeededSources>
     })
 }
 
+/// The item at an index.
+fn id_at(ids: &[Option<u32>], i: usize) -> Option<u32>
+    requires { i < length ids.now }
+    ensures { slice_get ids.now i ≡ Some result }
+{
+    ids[i]
+}
+
 /// Puts an index last, unless it is there.
 fn list_index(needed: &mut NeededSources, i: usize) -> Result<()>
-    ghost count: { ℕ }
-    requires ids { HasIds count needed.old }
-    requires below { i < count }
+    requires ids { HasIds (length needed.old.ids.items) needed.old }
+    requires below { i < length needed.old.ids.items }
     ensures listed { OnOk result (needed.new.listed.items
         ≡ with_index needed.old.listed.items (Some i)) }
-    ensures ids { OnOk result (HasIds count needed.new) }
+    ensures ids { OnOk result (HasIds (length needed.old.ids.items) needed.new) }
     ensures error { IfErr result (λ e. (e ≢ OutOfMemory) → (e ≡ TooLarge)
         × (4294967295 < length (with_index needed.old.listed.items (Some i)))) }
 {
-    if needed.ids[i].is_some() {
+    let id = id_at(needed.ids.as_slice(), i);
+    if id.is_some() {
         return Ok(());
     }
     let count = needed.listed.len();
@@ -54,11 +62,10 @@ fn list_index(needed: &mut NeededSources, i: usize) -> Result<()>
 
 /// Puts an index last, unless it is there or there is none.
 pub(crate) fn need_index(needed: &mut NeededSources, i: Option<usize>) -> Result<()>
-    ghost count: { ℕ }
-    requires ids { HasIds count needed.old }
-    requires below { IfSome i (λ i. i < count) }
+    requires ids { HasIds (length needed.old.ids.items) needed.old }
+    requires below { IfSome i (λ i. i < length needed.old.ids.items) }
     ensures listed { OnOk result (needed.new.listed.items ≡ with_index needed.old.listed.items i) }
-    ensures ids { OnOk result (HasIds count needed.new) }
+    ensures ids { OnOk result (HasIds (length needed.old.ids.items) needed.new) }
     ensures error { IfErr result (λ e. (e ≢ OutOfMemory) → (e ≡ TooLarge)
         × (4294967295 < length (with_index needed.old.listed.items i))) }
 {
@@ -70,11 +77,13 @@ pub(crate) fn need_index(needed: &mut NeededSources, i: Option<usize>) -> Result
 
 /// The place of an index among those that are needed.
 pub(crate) fn id_of(needed: &NeededSources, i: Option<usize>) -> Option<u32>
-    ghost count: { ℕ }
-    requires ids { HasIds count needed.now }
-    requires below { IfSome i (λ i. i < count) }
+    requires ids { HasIds (length needed.now.ids.items) needed.now }
+    requires below { IfSome i (λ i. i < length needed.now.ids.items) }
     ensures id { result ≡ option_and_then (λ i. index_in i needed.now.listed.items) i }
     ensures small { IfSome result (λ id. id < 4294967295) }
 {
-    needed.ids[i?]
+    match i {
+        Some(i) => id_at(needed.ids.as_slice(), i),
+        None => None,
+    }
 }

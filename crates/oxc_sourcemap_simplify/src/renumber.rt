@@ -1,13 +1,14 @@
 //! Tokens with the ids that they have in a simplified map.
-ghost use Rattle.std.specs.Prelude.{◌≡◌, ◌≢◌, ◌<◌, ◌≤◌, List, [], Bool, length, slice_get, IfOk, OnOk};
-ghost use Rattle.std.specs.Prelude.{IfErr, IfSome};
+ghost use Rattle.std.specs.Prelude.{◌≡◌, ◌≢◌, ◌<◌, ◌≤◌, length, slice_get, IfOk, OnOk};
+ghost use Rattle.std.specs.Prelude.{IfErr, IfSome, is_some};
 ghost use Rattle.std.specs.Option.{option_and_then};
 ghost use Rattle.oxc_sourcemap_simplify.specs.Words.{OutOfMemory, TooLarge};
 ghost use Rattle.oxc_sourcemap_simplify.specs.Words.{name_beside_source, token_by_index};
 ghost use Rattle.oxc_sourcemap_simplify.specs.Words.{IsTooMany, AreRenumbered, AreTooMany};
-ghost use Rattle.oxc_sourcemap_simplify.specs.Words.{DecodedSource, marked_sources, decoded_map_of};
+ghost use Rattle.oxc_sourcemap_simplify.specs.Words.{marked_sources, decoded_map_of};
 ghost use Rattle.oxc_sourcemap_simplify.specs.Words.{record_of_parts, cow_texts, name_of, HasIds};
-ghost use Rattle.oxc_sourcemap_simplify.specs.Words.{IsTableOf, with_indices, own_index, names_in};
+ghost use Rattle.oxc_sourcemap_simplify.specs.Words.{table_sources, IsTable, with_indices};
+ghost use Rattle.oxc_sourcemap_simplify.specs.Words.{own_index, names_in};
 ghost use Rattle.oxc_sourcemap_simplify.specs.Words.{ArePlaced, with_inherited, inherited_index};
 
 use crate::needed::{NeededSources, id_of, need_index, no_sources};
@@ -31,8 +32,9 @@ pub(crate) fn source_table<'m>(
     alloc: Global,
     map: &'m SourceMapParts<'_>,
 ) -> Memory<SourceTable<'m>>
-    ensures { IfOk result (IsTableOf (marked_sources
-        (decoded_map_of (record_of_parts map.now)))) }
+    ensures sources { IfOk result (λ table. table_sources table
+        ≡ marked_sources (decoded_map_of (record_of_parts map.now))) }
+    ensures table { IfOk result IsTable }
 {
     let sources = marked_sources(alloc, map)?;
     let places = first_places(alloc, sources.as_slice())?;
@@ -51,18 +53,19 @@ fn source_id(
     needed: &mut NeededSources,
     token: &Token,
 ) -> Result<Option<u32>>
-    ghost marked: { List (DecodedSource × Bool) }
-    requires table { IsTableOf marked table.now }
-    requires ids { HasIds (length marked) needed.old }
-    ensures listed { OnOk result (needed.new.listed.items ≡ with_indices marked
-        needed.old.listed.items (option_and_then (slice_get marked) token.now.source_id)) }
-    ensures id { IfOk result (λ id. id ≡ option_and_then (own_index marked needed.new.listed.items)
-        (option_and_then (slice_get marked) token.now.source_id)) }
+    requires table { IsTable table.now }
+    requires ids { HasIds (length (table_sources table.now)) needed.old }
+    ensures listed { OnOk result (needed.new.listed.items ≡ with_indices (table_sources table.now)
+        needed.old.listed.items (option_and_then (slice_get (table_sources table.now)) token.now.source_id)) }
+    ensures id { IfOk result (λ id. id ≡ option_and_then (own_index (table_sources table.now) needed.new.listed.items)
+        (option_and_then (slice_get (table_sources table.now)) token.now.source_id)) }
+    ensures found { IfOk result (λ id. is_some id ≡ is_some (option_and_then
+        (slice_get (table_sources table.now)) token.now.source_id)) }
     ensures small { IfOk result (λ id. IfSome id (λ id. id < 4294967295)) }
-    ensures ids { OnOk result (HasIds (length marked) needed.new) }
+    ensures ids { OnOk result (HasIds (length (table_sources table.now)) needed.new) }
     ensures error { IfErr result (λ e. (e ≢ OutOfMemory) → (e ≡ TooLarge)
-        × (4294967295 < length (with_indices marked needed.old.listed.items
-        (option_and_then (slice_get marked) token.now.source_id)))) }
+        × (4294967295 < length (with_indices (table_sources table.now) needed.old.listed.items
+        (option_and_then (slice_get (table_sources table.now)) token.now.source_id)))) }
 {
     let Some(id) = token.get_source_id() else {
         return Ok(None);
@@ -118,23 +121,22 @@ fn renumbered_token<'m>(
     names: &mut NeededNames<'m>,
     token: &Token,
 ) -> Result<Token>
-    ghost marked: { List (DecodedSource × Bool) }
-    requires table { IsTableOf marked table.now }
-    requires ids { HasIds (length marked) sources.old }
+    requires table { IsTable table.now }
+    requires ids { HasIds (length (table_sources table.now)) sources.old }
     requires placed { ArePlaced names.old }
-    ensures listed { OnOk result (sources.new.listed.items ≡ with_indices marked
-        sources.old.listed.items (option_and_then (slice_get marked) token.now.source_id)) }
+    ensures listed { OnOk result (sources.new.listed.items ≡ with_indices (table_sources table.now)
+        sources.old.listed.items (option_and_then (slice_get (table_sources table.now)) token.now.source_id)) }
     ensures names { OnOk result (names_in names.new ≡ with_inherited (names_in names.old)
-        (name_beside_source (option_and_then (slice_get marked) token.now.source_id)
+        (name_beside_source (option_and_then (slice_get (table_sources table.now)) token.now.source_id)
         (name_of (cow_texts map_names.now) token.now))) }
-    ensures token { IfOk result (λ t. t ≡ token_by_index marked sources.new.listed.items
+    ensures token { IfOk result (λ t. t ≡ token_by_index (table_sources table.now) sources.new.listed.items
         (names_in names.new) (name_of (cow_texts map_names.now) token.now) token.now
-        (option_and_then (slice_get marked) token.now.source_id)) }
-    ensures ids { OnOk result (HasIds (length marked) sources.new) }
+        (option_and_then (slice_get (table_sources table.now)) token.now.source_id)) }
+    ensures ids { OnOk result (HasIds (length (table_sources table.now)) sources.new) }
     ensures placed { OnOk result (ArePlaced names.new) }
     ensures error { IfErr result (λ e. (e ≢ OutOfMemory) → (e ≡ TooLarge)
-        × IsTooMany marked sources.old.listed.items (names_in names.old)
-        (option_and_then (slice_get marked) token.now.source_id)
+        × IsTooMany (table_sources table.now) sources.old.listed.items (names_in names.old)
+        (option_and_then (slice_get (table_sources table.now)) token.now.source_id)
         (name_of (cow_texts map_names.now) token.now)) }
 {
     let (line, col) = (token.get_dst_line(), token.get_dst_col());
@@ -159,7 +161,9 @@ pub(crate) fn renumbered_tokens<'m>(
     table: &SourceTable<'_>,
     tokens: &[Token],
 ) -> Result<(Vec<Token>, NeededNames<'m>, NeededSources)>
-    requires { IsTableOf (marked_sources (decoded_map_of (record_of_parts map.now))) table.now }
+    requires sources { table_sources table.now
+        ≡ marked_sources (decoded_map_of (record_of_parts map.now)) }
+    requires table { IsTable table.now }
     ensures made { IfOk result (λ made. AreRenumbered (record_of_parts map.now) tokens.now
         made.0.items (names_in made.1) made.2.listed.items) }
     ensures few { IfOk result (λ made. (length (names_in made.1) ≤ 4294967295)

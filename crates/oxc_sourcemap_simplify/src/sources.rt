@@ -2,7 +2,7 @@
 ghost use Rattle.std.specs.Prelude.{◌≡◌, map, IfOk};
 ghost use Rattle.oxc_sourcemap_simplify.specs.Words.{marked_sources, decoded_map_of};
 ghost use Rattle.oxc_sourcemap_simplify.specs.Words.{record_of_parts, marked_source, HasFirsts};
-ghost use Rattle.oxc_sourcemap_simplify.specs.Words.{first_as};
+ghost use Rattle.oxc_sourcemap_simplify.specs.Words.{first_as, sources_in};
 
 use oxc_sourcemap_parts::SourceMapParts;
 use oxc_sourcemap_remap::ignored_flags;
@@ -23,7 +23,7 @@ pub(crate) fn marked_sources<'m>(
     alloc: Global,
     map: &'m SourceMapParts<'_>,
 ) -> Memory<Vec<MarkedSource<'m>>>
-    ensures { IfOk result (λ sources. map marked_source sources.items
+    ensures { IfOk result (λ sources. sources_in sources.items
         ≡ marked_sources (decoded_map_of (record_of_parts map.now))) }
 {
     let flags = ignored_flags(alloc, map)?;

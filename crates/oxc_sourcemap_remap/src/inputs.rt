@@ -37,7 +37,7 @@ fn set_flags(flags: &mut Vec<bool>, ids: &[u32])
 }
 
 /// Whether each source of a map is ignored.
-pub fn ignored_flags(alloc: Global, map: &SourceMapParts<'_>) -> Memory<Vec<bool>>
+pub(crate) fn ignored_flags(alloc: Global, map: &SourceMapParts<'_>) -> Memory<Vec<bool>>
     ensures { IfOk result (λ flags. flags.items ≡ flags_of (record_of_parts map.now)) }
 {
     let mut flags = Vec::with_capacity(alloc, map.sources.len())?;

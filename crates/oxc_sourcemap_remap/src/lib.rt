@@ -5,11 +5,10 @@ mod as_parts;
 mod blocks;
 mod inputs;
 mod lists;
-pub mod needed_names;
+mod needed_names;
 mod owned;
 mod remap;
 
 pub use as_parts::AsParts;
-pub use inputs::ignored_flags;
 pub use owned::remap_owned_parts;
 pub use remap::remap_parts;

@@ -10,7 +10,7 @@ use std::collections::HashMap;
 
 /// Names, each once, in the order in which they were first needed.
 #[derive(Drop)]
-pub struct NeededNames<'m> {
+pub(crate) struct NeededNames<'m> {
     names: Vec<&'m str>,
     /// The index of each of them.
     places: HashMap<&'m str, u32>,
@@ -19,7 +19,7 @@ pub struct NeededNames<'m> {
 }
 
 /// No names. There will be hints for ids below `hint_count`.
-pub fn no_names<'m>(alloc: Global, hint_count: usize) -> Memory<NeededNames<'m>>
+pub(crate) fn no_names<'m>(alloc: Global, hint_count: usize) -> Memory<NeededNames<'m>>
     ensures placed { IfOk result ArePlaced }
     ensures none { IfOk result (λ needed. names_in needed ≡ []) }
 {
@@ -75,7 +75,7 @@ fn place_name<'m>(needed: &mut NeededNames<'m>, name: &'m str) -> Result<u32>
 }
 
 /// The id of a name, which has this id in its own map: that of the equal one, else that of a new last one.
-pub fn need_name<'m>(needed: &mut NeededNames<'m>, name: &'m str, own_id: u32) -> Result<u32>
+pub(crate) fn need_name<'m>(needed: &mut NeededNames<'m>, name: &'m str, own_id: u32) -> Result<u32>
     requires { ArePlaced needed.old }
     ensures names { OnOk result (names_in needed.new ≡ with_text (names_in needed.old) name.now) }
     ensures id { IfOk result (λ id. (index_of name.now (names_in needed.new) ≡ Some id)
@@ -93,7 +93,7 @@ pub fn need_name<'m>(needed: &mut NeededNames<'m>, name: &'m str, own_id: u32) -
 }
 
 /// The names, borrowed.
-pub fn lent_names<'m>(alloc: Global, needed: NeededNames<'m>) -> Memory<Vec<CowStr<'m>>>
+pub(crate) fn lent_names<'m>(alloc: Global, needed: NeededNames<'m>) -> Memory<Vec<CowStr<'m>>>
     ensures { IfOk result (λ names. texts_of names ≡ names_in needed.entry) }
 {
     let NeededNames { names, .. } = needed;

@@ -2,5 +2,4 @@ pub mod Same
 pub mod Simple
 pub mod Simplified
 pub mod SimplifyLaws
-pub mod Bodies
 pub mod Words

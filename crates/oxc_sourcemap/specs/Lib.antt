@@ -55,6 +55,10 @@ pub use Rattle.oxc_sourcemap_lookup.specs.Composed
 pub use Rattle.oxc_sourcemap_remap.specs.Inputs
 pub use Rattle.oxc_sourcemap_remap.specs.Blocks
 pub use Rattle.oxc_sourcemap_remap.specs.Remapped
+pub use Rattle.oxc_sourcemap_simplify.specs.Same
+pub use Rattle.oxc_sourcemap_simplify.specs.Simple
+pub use Rattle.oxc_sourcemap_simplify.specs.Simplified
+pub use Rattle.oxc_sourcemap_simplify.specs.SimplifyLaws
 pub use Rattle.oxc_sourcemap_map.specs.View
 pub use Rattle.oxc_sourcemap_reverse.specs.Reverse
 pub use Rattle.oxc_sourcemap_reverse.specs.ReverseLaws
@@ -88,6 +92,7 @@ pub use Rattle.oxc_sourcemap_laws.specs.RemapLaws
 pub use Rattle.oxc_sourcemap_laws.specs.RootedDecodedMaps
 pub use Rattle.oxc_sourcemap_laws.specs.RootLaws
 pub use Rattle.oxc_sourcemap_laws.specs.TraceLaws
+pub use Rattle.oxc_sourcemap_laws.specs.SimplifyTraces
 pub use Rattle.oxc_sourcemap_tokens.specs.PlanMessages
 pub use Rattle.oxc_sourcemap_plan.specs.Depth
 pub use Rattle.oxc_sourcemap_plan.specs.Meaning

@@ -25,6 +25,7 @@ pub mod TracesRemapped
 pub mod TracesMoved
 pub mod TracesRising
 pub mod TracesJoined
+pub mod TracesSimplified
 mod TracesWorked
 mod WorkedRemaps
 mod Worked

@@ -10,4 +10,5 @@ pub mod RemapLaws
 pub mod RootedDecodedMaps
 pub mod RootLaws
 pub mod TraceLaws
+pub mod SimplifyTraces
 pub mod Words

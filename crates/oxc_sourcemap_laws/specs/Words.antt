@@ -24,6 +24,8 @@ pub use Rattle.oxc_sourcemap_laws.specs.TraceLaws.{TracesOnOwnLine, TracesOfSort
 pub use Rattle.oxc_sourcemap_laws.specs.TraceLaws.{TracesWithinPart, TracesOfJoinedMaps}
 pub use Rattle.oxc_sourcemap_laws.specs.TraceLaws.{TracesOnOwnLineOfMaps}
 pub use Rattle.oxc_sourcemap_laws.specs.TraceLaws.{TracesOfRemapping, TracesOfRemappedMaps}
+pub use Rattle.oxc_sourcemap_laws.specs.SimplifyTraces.{SimplifiedComposed, SimplifiedRemapped}
+pub use Rattle.oxc_sourcemap_laws.specs.SimplifyTraces.{SimplifiedJoined}
 pub use Rattle.oxc_sourcemap_laws.specs.RemapLaws.{DecodedMapOfRemapping, RemappingIgnores}
 pub use Rattle.oxc_sourcemap_laws.specs.RemapLaws.{NothingRemapped, RemappedDecodedMapsAssociative}
 pub use Rattle.oxc_sourcemap_laws.specs.RemapLaws.{RemappedMapsAssociative, JoinRemapped}

@@ -27,6 +27,8 @@ ghost use Rattle.oxc_sourcemap_laws.specs.Words.{TracesOnOwnLine, TracesOfSorted
 ghost use Rattle.oxc_sourcemap_laws.specs.Words.{TracesWithinPart, TracesOfJoinedMaps};
 ghost use Rattle.oxc_sourcemap_laws.specs.Words.{TracesOnOwnLineOfMaps};
 ghost use Rattle.oxc_sourcemap_laws.specs.Words.{TracesOfRemapping, TracesOfRemappedMaps};
+ghost use Rattle.oxc_sourcemap_laws.specs.Words.{SimplifiedComposed, SimplifiedRemapped};
+ghost use Rattle.oxc_sourcemap_laws.specs.Words.{SimplifiedJoined};
 ghost use Rattle.oxc_sourcemap_laws.specs.Words.{DecodedMapOfRemapping, RemappingIgnores};
 ghost use Rattle.oxc_sourcemap_laws.specs.Words.{NothingRemapped, RemappedDecodedMapsAssociative};
 ghost use Rattle.oxc_sourcemap_laws.specs.Words.{RemappedMapsAssociative, JoinRemapped};
@@ -287,4 +289,16 @@ pub fn trace_of_join()
     ensures within_part { TracesWithinPart }
     ensures maps { TracesOfJoinedMaps }
     ensures own_line_of_maps { TracesOnOwnLineOfMaps }
+{}
+
+/// Steps over simplified decoded maps have the traces, exact and clamped, that they have over the decoded maps themselves, at every
+/// position. All that are simplified have to be sorted.
+/// - The composition of two, both simplified (`composed`).
+/// - One remapped by inputs, it and all inputs simplified (`remapped`).
+/// - A join with one part simplified, at each position of that part that comes to stand on a line where no other part has a
+///   mapping: so everywhere, if each part begins on a line past all lines of the parts before it (`joined`).
+pub fn steps_over_simplified()
+    ensures composed { SimplifiedComposed }
+    ensures remapped { SimplifiedRemapped }
+    ensures joined { SimplifiedJoined }
 {}

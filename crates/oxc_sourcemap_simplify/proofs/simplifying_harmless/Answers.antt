@@ -1,0 +1,5 @@
+use Rattle.oxc_sourcemap_simplify.proofs.Traces.{traces-stay, stays-sorted, is-least, mappings-stay}
+use Rattle.oxc_sourcemap_simplify.proofs.simplifying_harmless.Goals as goal
+
+pub returns : goal.returns
+returns c = record { traces = traces-stay; sorted = stays-sorted; least = is-least; once = mappings-stay }

@@ -1,0 +1,16 @@
+//! Maps with no more tokens, names and sources than their traces need, and where two maps differ. Part of `oxc_sourcemap`.
+#![tactic(auto)]
+
+ghost use Rattle.oxc_sourcemap_simplify.specs.Words.{TracesStay, StaysSorted, IsLeast};
+ghost use Rattle.oxc_sourcemap_simplify.specs.Words.{MappingsStay};
+
+/// Simplifying is harmless to traces, and nothing smaller would do.
+/// - Every trace of a sorted decoded map stays, exact and clamped (`traces`), and it stays sorted (`sorted`).
+/// - No sorted decoded map with the same exact traces has fewer mappings (`least`).
+/// - Mappings that were simplified stay as they are (`once`).
+pub fn simplifying_harmless()
+    ensures traces { TracesStay }
+    ensures sorted { StaysSorted }
+    ensures least { IsLeast }
+    ensures once { MappingsStay }
+{}

@@ -1,13 +1,18 @@
-use Rattle.std.proofs.Common.{◌≡◌, ◌≢◌, ℕ, ◌+◌, ◌<◌, ◌≤◌, Bool, true, false, cond, ◌==◌, ◌&&◌, ◌||◌, max, nat_le, nat_lt, Option}
-use Rattle.std.proofs.Common.{Some, None, List, [], ◌∷◌, ◌++◌, map, refl, sym, ap, ◌∙◌, arith, length}
+use Rattle.std.proofs.Common.{◌≡◌, ◌≢◌, ℕ, ◌+◌, ◌<◌, ◌≤◌, Bool, true, false, cond, ◌==◌, ◌&&◌, ◌||◌}
+use Rattle.std.proofs.Common.{max, nat_le, nat_lt, Option}
+use Rattle.std.proofs.Common.{Some, None, List, [], ◌∷◌, ◌++◌, map, refl, sym, ap, ◌∙◌, arith}
+use Rattle.std.proofs.Common.{length}
 use Rattle.std.specs.Option.{option_map, option_or}
 use Rattle.std.proofs.lemmas.Bool.{and_parts}
 use Rattle.std.proofs.lemmas.Bool.Decides.{nat_tests}
 use Rattle.oxc_sourcemap_parts.specs.Sorted.{is_sorted_by, may_precede}
 use Rattle.oxc_sourcemap_lookup.specs.Lookup.{first, on_line}
 use Rattle.oxc_sourcemap_simplify.specs.Simple.{is_further, is_followed, found_after, found_items}
-use Rattle.oxc_sourcemap_simplify.specs.Simple.{is_repeat, is_after_repeat, kept_item, kept_after, are_together}
-use Rattle.oxc_sourcemap_simplify.proofs.Keeping.{Apart, Sorted, sorted-rest, sorted-two, together-is, together-not, follows-not, precedes-parts}
+use Rattle.oxc_sourcemap_simplify.specs.Simple.{is_repeat, is_after_repeat, kept_item, kept_after}
+use Rattle.oxc_sourcemap_simplify.specs.Simple.{are_together}
+use Rattle.oxc_sourcemap_simplify.proofs.Keeping.{Apart, Sorted, sorted-rest, sorted-two}
+use Rattle.oxc_sourcemap_simplify.proofs.Keeping.{together-is, together-not, follows-not}
+use Rattle.oxc_sourcemap_simplify.proofs.Keeping.{precedes-parts}
 
 pub precedes-by : (a b c d : ℕ) → a ≤ c → (a ≡ c → b ≤ d) → (nat_lt a c || (a == c && nat_le b d)) ≡ true
 precedes-by a b c d e f = grind (arith, nat_tests, e, f)

@@ -1,4 +1,5 @@
-use Rattle.std.proofs.Common.{◌≡◌, ◌≢◌, ℕ, ◌+◌, ◌<◌, ◌≤◌, Bool, true, false, cond, ◌==◌, ◌&&◌, max, nat_le, nat_lt, Option}
+use Rattle.std.proofs.Common.{◌≡◌, ◌≢◌, ℕ, ◌+◌, ◌<◌, ◌≤◌, Bool, true, false, cond, ◌==◌, ◌&&◌, max}
+use Rattle.std.proofs.Common.{nat_le, nat_lt, Option}
 use Rattle.std.proofs.Common.{Some, None, List, [], ◌∷◌, ◌++◌, map, refl, sym, ap, ◌∙◌, arith}
 use Rattle.std.specs.Option.{option_map, option_or}
 use Rattle.std.specs.List.{filter}
@@ -6,9 +7,11 @@ use Rattle.std.proofs.lemmas.Bool.{and_parts}
 use Rattle.std.proofs.lemmas.Bool.Decides.{nat_tests}
 use Rattle.std.proofs.lemmas.Grind.{common_steps}
 use Rattle.oxc_sourcemap_parts.specs.Sorted.{is_sorted_by, may_precede}
-use Rattle.oxc_sourcemap_lookup.specs.Lookup.{pick, first, greatest, not_past, in_column, at, on_line}
+use Rattle.oxc_sourcemap_lookup.specs.Lookup.{pick, first, greatest, not_past, in_column, at}
+use Rattle.oxc_sourcemap_lookup.specs.Lookup.{on_line}
 use Rattle.oxc_sourcemap_simplify.specs.Simple.{is_further, is_followed, found_after, found_items}
-use Rattle.oxc_sourcemap_simplify.specs.Simple.{is_repeat, is_after_repeat, kept_item, kept_after, are_together}
+use Rattle.oxc_sourcemap_simplify.specs.Simple.{is_repeat, is_after_repeat, kept_item, kept_after}
+use Rattle.oxc_sourcemap_simplify.specs.Simple.{are_together}
 
 module _ {A : Type 0} (line column : A → ℕ) (n col : ℕ) where
   -- what a lookup finds that goes over items from the first one on, if this was found so far

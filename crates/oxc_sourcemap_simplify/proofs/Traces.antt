@@ -1,23 +1,35 @@
 -- Traces of simplified decoded maps.
-use Rattle.std.proofs.Common.{◌≡◌, ◌≢◌, ℕ, zero, ◌+◌, ◌<◌, ◌≤◌, Bool, true, false, cond, ◌==◌, ◌&&◌, nat_le, nat_lt, Option}
-use Rattle.std.proofs.Common.{Some, None, List, [], ◌∷◌, ◌++◌, map, refl, sym, ap, subst, ◌∙◌, arith, length}
+use Rattle.std.proofs.Common.{◌≡◌, ◌≢◌, ℕ, zero, ◌+◌, ◌<◌, ◌≤◌, Bool, true, false, cond, ◌==◌, ◌&&◌}
+use Rattle.std.proofs.Common.{nat_le, nat_lt, Option}
+use Rattle.std.proofs.Common.{Some, None, List, [], ◌∷◌, ◌++◌, map, refl, sym, ap, subst, ◌∙◌}
+use Rattle.std.proofs.Common.{arith, length}
 use Rattle.std.specs.List.{AllByRecursion}
 use Rattle.std.specs.Option.{option_map, option_or}
 use Rattle.std.proofs.lemmas.Bool.{and_parts}
 use Rattle.std.proofs.lemmas.Bool.Decides.{nat_tests, not_from_Decides}
-use Rattle.oxc_sourcemap_parts.specs.DecodedMap.{DecodedMap, DecodedMapping, OriginalPosition, mapping_line, mapping_column}
+use Rattle.oxc_sourcemap_parts.specs.DecodedMap.{DecodedMap, DecodedMapping, OriginalPosition}
+use Rattle.oxc_sourcemap_parts.specs.DecodedMap.{mapping_line, mapping_column}
 use Rattle.oxc_sourcemap_parts.specs.Sorted.{is_sorted_by}
 use Rattle.oxc_sourcemap_lookup.specs.Lookup.{pick, clamped_pick, first, at, on_line}
 use Rattle.oxc_sourcemap_lookup.specs.Trace.{trace, clamped_trace}
-use Rattle.oxc_sourcemap_lookup.proofs.Lookups.{AreNotBefore, at-front, at-here, at-past, or_else-some}
-use Rattle.oxc_sourcemap_simplify.specs.Simple.{are_together, is_repeat, is_further, is_after_repeat, kept_after, found_items, simple_items}
-use Rattle.oxc_sourcemap_simplify.specs.Simplified.{at_next_column, simple_mappings, simplified_decoded_map}
+use Rattle.oxc_sourcemap_lookup.proofs.Lookups.{AreNotBefore, at-front, at-here, at-past}
+use Rattle.oxc_sourcemap_lookup.proofs.Lookups.{or_else-some}
+use Rattle.oxc_sourcemap_simplify.specs.Simple.{are_together, is_repeat, is_further}
+use Rattle.oxc_sourcemap_simplify.specs.Simple.{is_after_repeat, kept_after, found_items}
+use Rattle.oxc_sourcemap_simplify.specs.Simple.{simple_items}
+use Rattle.oxc_sourcemap_simplify.specs.Simplified.{at_next_column, simple_mappings}
+use Rattle.oxc_sourcemap_simplify.specs.Simplified.{simplified_decoded_map}
 use Rattle.oxc_sourcemap_simplify.specs.Same.{point_alike}
-use Rattle.oxc_sourcemap_simplify.specs.SimplifyLaws.{IsSortedMap, TracesStay, StaysSorted, IsLeast, MappingsStay}
+use Rattle.oxc_sourcemap_simplify.specs.SimplifyLaws.{IsSortedMap, TracesStay, StaysSorted, IsLeast}
+use Rattle.oxc_sourcemap_simplify.specs.SimplifyLaws.{MappingsStay}
 use Rattle.oxc_sourcemap_simplify.proofs.Same.{decides_originals, entry_by}
 use Rattle.oxc_sourcemap_simplify.proofs.Scan.{scan, found-scan}
-use Rattle.oxc_sourcemap_simplify.proofs.Keeping.{Place, place_of, off, front, here, past, sorted-two, sorted-rest, scan-off, scan-front, scan-here, scan-beyond, kept-scan}
-use Rattle.oxc_sourcemap_simplify.proofs.Order.{found-sorted, found-is-apart, found-first, found-length, found-all, keeps, keep-sorted, keep-first, keep-length, keep-all}
+use Rattle.oxc_sourcemap_simplify.proofs.Keeping.{Place, place_of, off, front, here, past}
+use Rattle.oxc_sourcemap_simplify.proofs.Keeping.{sorted-two, sorted-rest, scan-off, scan-front}
+use Rattle.oxc_sourcemap_simplify.proofs.Keeping.{scan-here, scan-beyond, kept-scan}
+use Rattle.oxc_sourcemap_simplify.proofs.Order.{found-sorted, found-is-apart, found-first}
+use Rattle.oxc_sourcemap_simplify.proofs.Order.{found-length, found-all, keeps, keep-sorted}
+use Rattle.oxc_sourcemap_simplify.proofs.Order.{keep-first, keep-length, keep-all}
 use Rattle.oxc_sourcemap_simplify.proofs.Unique.{Rising, TellSame, rising-unique, spread-rising}
 
 module _ {A : Type 0} (line column : A → ℕ) where

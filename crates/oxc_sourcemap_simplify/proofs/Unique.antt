@@ -1,13 +1,18 @@
-use Rattle.std.proofs.Common.{◌≡◌, ◌≢◌, ℕ, ◌+◌, ◌<◌, ◌≤◌, Bool, true, false, cond, ◌==◌, ◌&&◌, ◌||◌, max, nat_le, nat_lt, Option}
-use Rattle.std.proofs.Common.{Some, None, List, [], ◌∷◌, ◌++◌, map, refl, sym, ap, subst, ◌⊎◌, inl, inr, ◌∙◌, arith, length}
+use Rattle.std.proofs.Common.{◌≡◌, ◌≢◌, ℕ, ◌+◌, ◌<◌, ◌≤◌, Bool, true, false, cond, ◌==◌, ◌&&◌, ◌||◌}
+use Rattle.std.proofs.Common.{max, nat_le, nat_lt, Option}
+use Rattle.std.proofs.Common.{Some, None, List, [], ◌∷◌, ◌++◌, map, refl, sym, ap, subst, ◌⊎◌, inl}
+use Rattle.std.proofs.Common.{inr, ◌∙◌, arith, length}
 use Rattle.std.specs.Option.{option_map, option_or}
 use Rattle.std.proofs.lemmas.Bool.{and_parts}
 use Rattle.std.proofs.lemmas.Bool.Decides.{nat_tests}
 use Rattle.oxc_sourcemap_parts.specs.Sorted.{is_sorted_by, may_precede}
 use Rattle.oxc_sourcemap_simplify.specs.Simple.{is_further, is_followed}
-use Rattle.oxc_sourcemap_simplify.specs.Simple.{is_repeat, is_after_repeat, kept_after, are_together}
+use Rattle.oxc_sourcemap_simplify.specs.Simple.{is_repeat, is_after_repeat, kept_after}
+use Rattle.oxc_sourcemap_simplify.specs.Simple.{are_together}
 use Rattle.oxc_sourcemap_simplify.proofs.Scan.{scan}
-use Rattle.oxc_sourcemap_simplify.proofs.Keeping.{Apart, Sorted, sorted-rest, sorted-two, together-is, together-not, follows-not, Past, scan-past, scan-off, scan-front, scan-here}
+use Rattle.oxc_sourcemap_simplify.proofs.Keeping.{Apart, Sorted, sorted-rest, sorted-two}
+use Rattle.oxc_sourcemap_simplify.proofs.Keeping.{together-is, together-not, follows-not, Past}
+use Rattle.oxc_sourcemap_simplify.proofs.Keeping.{scan-past, scan-off, scan-front, scan-here}
 use Rattle.oxc_sourcemap_simplify.proofs.Order.{keeps, near-by}
 
 -- how two positions lie to one another

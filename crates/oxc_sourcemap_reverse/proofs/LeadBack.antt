@@ -7,10 +7,10 @@ use Rattle.std.proofs.lemmas.List.Elements.{All-contains, All-from_recursion}
 use Rattle.std.specs.List.{filter, last_or, AllByRecursion, Contains}
 use Rattle.oxc_sourcemap_tokens.specs.Token.{TokenRecord, last}
 use Rattle.oxc_sourcemap_parts.specs.Sorted.{token_line, token_column}
-use Rattle.oxc_sourcemap_lookup.specs.Lookup.{first, greatest, in_column, not_past}
+use Rattle.oxc_sourcemap_lookup.specs.Lookup.{first, greatest, least, in_column, not_past}
+use Rattle.oxc_sourcemap_lookup.specs.Lookup.{not_before}
 use Rattle.oxc_sourcemap_lookup.specs.Lookup.{on_line as lookup_line}
-use Rattle.oxc_sourcemap_reverse.specs.Reverse.{is_into, is_at, source_column, not_before, least}
-use Rattle.oxc_sourcemap_reverse.specs.Reverse.{from_least, all_beside}
+use Rattle.oxc_sourcemap_reverse.specs.Reverse.{is_into, is_at, source_column, all_beside}
 use Rattle.oxc_sourcemap_reverse.specs.Reverse.{generated_for, generated_from, pointing_to}
 use Rattle.oxc_sourcemap_reverse.specs.ReverseLaws.{LookupLeadsBack, FoundAtPlace, FoundOnLine}
 use Rattle.oxc_sourcemap_reverse.specs.ReverseLaws.{FoundBefore, FoundAfter, AllFoundOnLine}
@@ -82,20 +82,16 @@ before s l col tokens =
     let all = still P (λ t. source_column t == best) near (both (λ t. is_into s l t ≡ true) (λ t. t.src_col ≤ col) near line low) in
     of_either P (best == col) _ _ (of_first P _ all) (of_last P _ all)
 
-after-by : (P : TokenRecord → Type 0) (col : ℕ) (items : List TokenRecord) (o : Option ℕ) → AllByRecursion P items → IfSome (from_least source_column col items o) P
-after-by P col items None all = tt
-after-by P col items (Some best) all =
-    let kept = still P (λ t. source_column t == best) items all in
-    of_either P (best == col) _ _ (of_last P _ kept) (of_first P _ kept)
-
 pub after : FoundAfter
 after s l col tokens =
     let xs = pointing_to s l tokens in
     let near = not_before source_column col xs in
+    let best = least source_column near in
     let P : TokenRecord → Type 0 = λ t. (is_into s l t ≡ true) × (col ≤ t.src_col) in
     let line = still (λ t. is_into s l t ≡ true) (λ t. nat_le col (source_column t)) xs (on_line s l tokens) in
     let high = passing (λ t. col ≤ t.src_col) (λ t. nat_le col (source_column t)) (λ t e. le_from_test col t.src_col e) xs in
-    after-by P col near (least source_column near) (both (λ t. is_into s l t ≡ true) (λ t. col ≤ t.src_col) near line high)
+    let all = still P (λ t. source_column t == best) near (both (λ t. is_into s l t ≡ true) (λ t. col ≤ t.src_col) near line high) in
+    of_either P (best == col) _ _ (of_last P _ all) (of_first P _ all)
 
 beside : (s l : ℕ) (o : Option TokenRecord) (tokens : List TokenRecord) → AllByRecursion (λ t. is_into s l t ≡ true) (all_beside s l o tokens)
 beside s l None tokens = tt

@@ -1,14 +1,13 @@
 -- What is found at a column: by which columns have items.
 use Rattle.std.proofs.Common.{◌≡◌, ◌≢◌, refl, ap, ◌∙◌, ℕ, ◌<◌, ◌≤◌, Bool, true, false, cond, List}
 use Rattle.std.proofs.Common.{[], ◌∷◌}
-use Rattle.std.proofs.Common.{◌==◌, nat_le, inl, inr, if◌then◌else◌, Option, Some, None, arith}
+use Rattle.std.proofs.Common.{◌==◌, nat_le, inl, inr, if◌then◌else◌, None, arith}
 use Rattle.std.proofs.lemmas.Bool.{cases_lt}
 use Rattle.std.proofs.lemmas.Bool.Decides.{nat_tests}
 use Rattle.std.specs.List.{AllByRecursion}
 use Rattle.oxc_sourcemap_tokens.specs.Token.{last}
-use Rattle.oxc_sourcemap_lookup.specs.Lookup.{first, greatest, not_past, in_column, at}
-use Rattle.oxc_sourcemap_reverse.specs.Reverse.{not_before, least, least_of, from_least}
-use Rattle.oxc_sourcemap_reverse.specs.Reverse.{at_or_after}
+use Rattle.oxc_sourcemap_lookup.specs.Lookup.{first, greatest, least, not_past, not_before}
+use Rattle.oxc_sourcemap_lookup.specs.Lookup.{in_column, at, at_or_after}
 
 empty_tail : {A : Type 0} (b : Bool) (x : A) (ys : List A) → cond b (x ∷ ys) ys ≡ [] → ys ≡ []
 empty_tail true x ys h = cc (h)
@@ -85,51 +84,51 @@ module _ {A : Type 0} (column : A → ℕ) where
       ∙ both (0 == col) None
 
   -- ---- the mirror image
-  abbrev Lower : ℕ → Option ℕ → Type 0
-  Lower best None = Unit {0}
-  Lower best (Some n) = best ≤ n
+  abbrev Lower : ℕ → List A → Type 0
+  Lower best [] = Unit {0}
+  Lower best (x ∷ xs) = best ≤ least column (x ∷ xs)
 
-  abbrev Upper : ℕ → Option ℕ → Type 0
-  Upper best None = ⊥
-  Upper best (Some n) = n ≤ best
+  abbrev Upper : ℕ → List A → Type 0
+  Upper best [] = ⊥
+  Upper best (x ∷ xs) = least column (x ∷ xs) ≤ best
 
-  lower-more : (best n : ℕ) (o : Option ℕ) → best ≤ n → Lower best o → Lower best (least_of n o)
-  lower-more best n None h more = grind (arith, h)
-  lower-more best n (Some m) h more = grind (arith, h, more)
+  lower-more : (best : ℕ) (x : A) (xs : List A) → best ≤ column x → Lower best xs → Lower best (x ∷ xs)
+  lower-more best x [] h more = h
+  lower-more best x (y ∷ ys) h more = omega (arith, h, more)
 
-  upper-here : (best n : ℕ) (o : Option ℕ) → n ≤ best → Upper best (least_of n o)
-  upper-here best n None h = grind (arith, h)
-  upper-here best n (Some m) h = grind (arith, h)
+  upper-here : (best : ℕ) (x : A) (xs : List A) → column x ≤ best → Upper best (x ∷ xs)
+  upper-here best x [] h = h
+  upper-here best x (y ∷ ys) h = omega (arith, h)
 
-  upper-more : (best n : ℕ) (o : Option ℕ) → Upper best o → Upper best (least_of n o)
-  upper-more best n None more = absurd more
-  upper-more best n (Some m) more = grind (arith, more)
+  upper-more : (best : ℕ) (x : A) (xs : List A) → Upper best xs → Upper best (x ∷ xs)
+  upper-more best x [] more = absurd more
+  upper-more best x (y ∷ ys) more = omega (arith, more)
 
-  exactly : (best : ℕ) (o : Option ℕ) → Lower best o → Upper best o → o ≡ Some best
-  exactly best None l u = absurd u
-  exactly best (Some n) l u = (let e : n ≡ best = omega (arith, l, u) in ap Some e)
+  exactly : (best : ℕ) (xs : List A) → Lower best xs → Upper best xs → least column xs ≡ best
+  exactly best [] l u = absurd u
+  exactly best (x ∷ xs) l u = omega (arith, l, u)
 
-  lower-by : (b : Bool) (col best : ℕ) (x : A) (nb : List A) → nat_le col (column x) ≡ b → (col ≤ column x → column x < best → ⊥) → Lower best (least column nb) → Lower best (least column (cond b (x ∷ nb) nb))
+  lower-by : (b : Bool) (col best : ℕ) (x : A) (nb : List A) → nat_le col (column x) ≡ b → (col ≤ column x → column x < best → ⊥) → Lower best nb → Lower best (cond b (x ∷ nb) nb)
   lower-by true col best x nb e bar more =
       elim (cases_lt (column x) best) [
         | inl l ↦ (let k : col ≤ column x = grind (arith, nat_tests, e) in absurd (bar k l))
-        | inr r ↦ lower-more best (column x) (least column nb) r more
+        | inr r ↦ lower-more best x nb r more
       ]
   lower-by false col best x nb e bar more = more
 
-  lower : (col best : ℕ) (xs : List A) → ((c : ℕ) → col ≤ c → c < best → in_column column c xs ≡ []) → Lower best (least column (not_before column col xs))
+  lower : (col best : ℕ) (xs : List A) → ((c : ℕ) → col ≤ c → c < best → in_column column c xs ≡ []) → Lower best (not_before column col xs)
   lower col best [] h = tt
   lower col best (x ∷ xs) h =
       lower-by (nat_le col (column x)) col best x (not_before column col xs) refl (λ g w. empty_head (column x == column x) x (in_column column (column x) xs) (same_self (column x)) (h (column x) g w))
       (lower col best xs (λ c g w. empty_tail (column x == c) x (in_column column c xs) (h c g w)))
 
-  upper-by : (b c : Bool) (col best : ℕ) (x : A) (nb ys : List A) → nat_le col (column x) ≡ b → (column x == best) ≡ c → col ≤ best → cond c (x ∷ ys) ys ≢ [] → (ys ≢ [] → Upper best (least column nb)) → Upper best (least column (cond b (x ∷ nb) nb))
-  upper-by true true col best x nb ys e f le h more = (let k : column x ≡ best = grind (arith, nat_tests, f) in upper-here best (column x) (least column nb) (omega (arith, k)))
+  upper-by : (b c : Bool) (col best : ℕ) (x : A) (nb ys : List A) → nat_le col (column x) ≡ b → (column x == best) ≡ c → col ≤ best → cond c (x ∷ ys) ys ≢ [] → (ys ≢ [] → Upper best nb) → Upper best (cond b (x ∷ nb) nb)
+  upper-by true true col best x nb ys e f le h more = (let k : column x ≡ best = grind (arith, nat_tests, f) in upper-here best x nb (omega (arith, k)))
   upper-by false true col best x nb ys e f le h more = (let k : column x ≡ best = grind (arith, nat_tests, f) in let g : column x < col = grind (arith, nat_tests, e) in absurd (omega (arith, k, g, le)))
-  upper-by true false col best x nb ys e f le h more = upper-more best (column x) (least column nb) (more h)
+  upper-by true false col best x nb ys e f le h more = upper-more best x nb (more h)
   upper-by false false col best x nb ys e f le h more = more h
 
-  upper : (col best : ℕ) (xs : List A) → col ≤ best → in_column column best xs ≢ [] → Upper best (least column (not_before column col xs))
+  upper : (col best : ℕ) (xs : List A) → col ≤ best → in_column column best xs ≢ [] → Upper best (not_before column col xs)
   upper col best [] le h = absurd (h refl)
   upper col best (x ∷ xs) le h =
       upper-by (nat_le col (column x)) (column x == best) col best x (not_before column col xs) (in_column column best xs) refl refl le h (upper col best xs le)
@@ -143,8 +142,8 @@ module _ {A : Type 0} (column : A → ℕ) where
   pub from_nearest : (col best : ℕ) (xs : List A) → col ≤ best → ((c : ℕ) → col ≤ c → c < best → in_column column c xs ≡ []) → in_column column best xs ≢ []
       → at_or_after column xs col ≡ (if best == col then last (in_column column best xs) else first (in_column column best xs))
   from_nearest col best xs le none some =
-      let low : least column (not_before column col xs) ≡ Some best = exactly best _ (lower col best xs none) (upper col best xs le some) in
-      ap (from_least column col (not_before column col xs)) low
+      let low : least column (not_before column col xs) ≡ best = exactly best _ (lower col best xs none) (upper col best xs le some) in
+      ap (λ b. if b == col then last (in_column column b (not_before column col xs)) else first (in_column column b (not_before column col xs))) low
       ∙ ap (λ ys. if best == col then last ys else first ys) (kept_before col best xs le)
 
   none_before-by : (b : Bool) (col : ℕ) (x : A) (nb : List A) → nat_le col (column x) ≡ b → (col ≤ column x → ⊥) → nb ≡ [] → cond b (x ∷ nb) nb ≡ []
@@ -158,4 +157,6 @@ module _ {A : Type 0} (column : A → ℕ) where
       (none_before col limit xs all.1 (λ c g w. empty_tail (column x == c) x (in_column column c xs) (h c g w)))
 
   pub from_none : (col limit : ℕ) (xs : List A) → AllByRecursion (λ x. column x < limit) xs → ((c : ℕ) → col ≤ c → c < limit → in_column column c xs ≡ []) → at_or_after column xs col ≡ None
-  from_none col limit xs all h = ap (λ items. from_least column col items (least column items)) (none_before col limit xs all h)
+  from_none col limit xs all h =
+      ap (λ items. if least column items == col then last (in_column column (least column items) items) else first (in_column column (least column items) items)) (none_before col limit xs all h)
+      ∙ both (0 == col) None

@@ -1,13 +1,13 @@
 -- From original positions to generated ones: which tokens of a map point to a place of a source.
-use Rattle.std.specs.Prelude.{◌≡◌, ℕ, Bool, false, ◌&&◌, List, [], ◌∷◌, filter, min, length}
-use Rattle.std.specs.Prelude.{Option, Some, None, Result, Ok, if◌then◌else◌, nat_le, ◌==◌}
-use Rattle.std.specs.Option.{unwrap_or}
+use Rattle.std.specs.Prelude.{◌≡◌, ℕ, Bool, false, ◌&&◌, List, [], filter, length, Option, Some}
+use Rattle.std.specs.Prelude.{None}
+use Rattle.std.specs.Prelude.{Result, Ok, if◌then◌else◌, nat_le, ◌==◌}
 use Rattle.std.specs.List.Sorted.{IsNonDecreasingBy}
 use Rattle.oxc_sourcemap_tokens.specs.declared.error.Error.{Error}
 use Rattle.oxc_sourcemap_tokens.specs.declared.error.Error.TheVariants.{TooLarge}
 use Rattle.oxc_sourcemap_tokens.specs.Errors.{unless}
-use Rattle.oxc_sourcemap_tokens.specs.Token.{last, TokenRecord}
-use Rattle.oxc_sourcemap_lookup.specs.Lookup.{first, in_column, at}
+use Rattle.oxc_sourcemap_tokens.specs.Token.{TokenRecord}
+use Rattle.oxc_sourcemap_lookup.specs.Lookup.{in_column, at, at_or_after}
 
 -- whether an id is that of this source
 abbrev pub is_source : ℕ → Option ℕ → Bool
@@ -33,30 +33,6 @@ pointing_to source line tokens = filter (is_into source line) tokens
 -- the tokens that point to exactly this place, in the order of the map
 abbrev pub generated_at : ℕ → ℕ → ℕ → List TokenRecord → List TokenRecord
 generated_at source line col tokens = filter (is_at source line col) tokens
-
--- the items whose column is not before this one
-abbrev pub not_before : {A : Type 0} → (A → ℕ) → ℕ → List A → List A
-not_before column col items = filter (λ x. nat_le col (column x)) items
-
--- the least column of these items, or none where there are no items
-abbrev pub least_of : ℕ → Option ℕ → Option ℕ
-least_of n others = Some (min n (unwrap_or others n))
-
-abbrev pub least : {A : Type 0} → (A → ℕ) → List A → Option ℕ
-least column [] = None
-least column (x ∷ xs) = least_of (column x) (least column xs)
-
--- Of the items at the least column: the last if that is the given one, else the first. None where there is no column.
-abbrev pub from_least : {A : Type 0} → (A → ℕ) → ℕ → List A → Option ℕ → Option A
-from_least column col items None = None
-from_least column col items (Some best) =
-    if best == col then last (in_column column best items) else first (in_column column best items)
-
--- The mirror image of `at`. Of the items whose column is the least one not before the given one: the last if that is the
--- given one, else the first. None if there are no such items.
-abbrev pub at_or_after : {A : Type 0} → (A → ℕ) → List A → ℕ → Option A
-at_or_after column items col =
-    from_least column col (not_before column col items) (least column (not_before column col items))
 
 -- the token of the greatest source column not past the given one, on this line of this source
 abbrev pub generated_for : ℕ → ℕ → ℕ → List TokenRecord → Option TokenRecord

@@ -1,12 +1,13 @@
 -- Worked examples, computed by the definitions themselves.
-use Rattle.std.specs.Prelude.{◌≡◌, refl, ℕ, Bool, true, false, List, [], ◌∷◌, Option, Some, None, Ok, Err, map}
+use Rattle.std.specs.Prelude.{◌≡◌, refl, ℕ, List, [], ◌∷◌, Some, None, Err}
 use Rattle.oxc_sourcemap_tokens.specs.Token.{TokenRecord}
 use Rattle.oxc_sourcemap_tokens.specs.declared.error.Error.TheVariants.{TooLarge}
 use Rattle.oxc_sourcemap_tokens.specs.declared.plan_error.PlanError.TheVariants.{Map, Unsorted}
 use Rattle.oxc_sourcemap_parts.specs.DecodedMap.{decoded_map_of}
 use Rattle.oxc_sourcemap_parts.specs.Record.{Text, MapRecord}
 use Rattle.oxc_sourcemap_parts.specs.Views.{empty_record}
-use Rattle.oxc_sourcemap_simplify.specs.Simplified.{simplified, simplification, simplified_decoded_map}
+use Rattle.oxc_sourcemap_simplify.specs.Simplified.{simplified, simplification}
+use Rattle.oxc_sourcemap_simplify.specs.Simplified.{simplified_decoded_map}
 
 -- a token of the first source at a generated column, with a source line that tells it from others
 abbrev token : ℕ → ℕ → TokenRecord

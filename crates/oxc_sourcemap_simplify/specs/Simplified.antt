@@ -1,5 +1,6 @@
 -- What simplifying makes of a map: no more mappings than its traces need, and the names and sources that these need, each once.
-use Rattle.std.specs.Prelude.{ℕ, ◌+◌, Bool, true, false, ◌&&◌, List, [], ◌∷◌, ◌++◌, map, filter, length}
+use Rattle.std.specs.Prelude.{ℕ, ◌+◌, Bool, true, false, ◌&&◌, List, [], ◌∷◌, ◌++◌, map, filter}
+use Rattle.std.specs.Prelude.{length}
 use Rattle.std.specs.Prelude.{slice_get, Option, Some, None, option_map, Result, Ok, Err}
 use Rattle.std.specs.Prelude.{if◌then◌else◌, nat_le}
 use Rattle.std.specs.Bool.{beq}

@@ -1,8 +1,7 @@
 -- Steps over simplified decoded maps.
-use Rattle.std.proofs.Common.{◌≡◌, refl, sym, ap, ◌∙◌, ℕ, ◌+◌, Bool, true, false, cond, List, []}
-use Rattle.std.proofs.Common.{◌∷◌, ◌++◌, map, Option, Some, None}
-use Rattle.std.specs.List.{list_any, AllByRecursion}
-use Rattle.std.specs.Option.{option_map}
+use Rattle.std.proofs.Common.{◌≡◌, refl, sym, ap, ◌∙◌, true, false, cond, List, [], ◌∷◌, Option}
+use Rattle.std.proofs.Common.{Some, None}
+use Rattle.std.specs.List.{AllByRecursion}
 use Rattle.std.specs.Str.{bytes_eq}
 use Rattle.oxc_sourcemap_parts.specs.DecodedMap.{DecodedMap, OriginalPosition}
 use Rattle.oxc_sourcemap_parts.specs.Record.{Text}
@@ -12,7 +11,7 @@ use Rattle.oxc_sourcemap_simplify.specs.Simplified.{simplified_decoded_map}
 use Rattle.oxc_sourcemap_simplify.specs.SimplifyLaws.{IsSortedMap}
 use Rattle.oxc_sourcemap_simplify.proofs.Traces.{traces-stay}
 use Rattle.oxc_sourcemap_laws.specs.TraceLaws.{leads_to, led_through, leads_by_input}
-use Rattle.oxc_sourcemap_laws.specs.TraceLaws.{led_through_inputs, Part, has_mapping_on}
+use Rattle.oxc_sourcemap_laws.specs.TraceLaws.{led_through_inputs}
 use Rattle.oxc_sourcemap_laws.specs.SimplifyTraces.{SimplifiedComposed, SimplifiedRemapped}
 use Rattle.oxc_sourcemap_laws.specs.SimplifyTraces.{SimplifiedJoined, simplified_inputs}
 use Rattle.oxc_sourcemap_laws.proofs.TracesComposed.{traces_composed}

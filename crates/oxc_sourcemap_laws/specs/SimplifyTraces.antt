@@ -36,4 +36,4 @@ abbrev pub SimplifiedJoined : Type 0
 SimplifiedJoined = (before : List Part) (part : Part) (after : List Part) (line col : ℕ) → IsSortedMap part.0
     → list_any (has_mapping_on (line + part.1.line)) (before ++ after) ≡ false
     → TraceAlikeAt (joined_decoded_maps (before ++ (simplified_decoded_map part.0, part.1) ∷ after)) (joined_decoded_maps (before ++ part ∷ after))
-        (line + part.1.line) (shifted_column part.1 line col)
+    (line + part.1.line) (shifted_column part.1 line col)

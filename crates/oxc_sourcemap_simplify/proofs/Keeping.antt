@@ -1,12 +1,13 @@
+-- What is kept of a list has, wherever it is looked up, the values of the list.
 use Rattle.std.proofs.Common.{◌≡◌, ◌≢◌, ℕ, ◌+◌, ◌<◌, ◌≤◌, Bool, true, false, cond, ◌==◌, ◌&&◌, ◌||◌}
-use Rattle.std.proofs.Common.{max, nat_le, nat_lt, Option}
-use Rattle.std.proofs.Common.{Some, None, List, [], ◌∷◌, ◌++◌, map, refl, sym, ap, ◌∙◌, arith}
-use Rattle.std.specs.Option.{option_map, option_or}
+use Rattle.std.proofs.Common.{nat_le, nat_lt, Option}
+use Rattle.std.proofs.Common.{Some, List, [], ◌∷◌, ◌++◌, refl, sym, ap, ◌∙◌, arith}
+use Rattle.std.specs.Option.{option_map}
 use Rattle.std.proofs.lemmas.Bool.{and_parts}
 use Rattle.std.proofs.lemmas.Bool.Decides.{nat_tests}
 use Rattle.oxc_sourcemap_parts.specs.Sorted.{is_sorted_by, may_precede}
-use Rattle.oxc_sourcemap_simplify.specs.Simple.{is_further, is_followed, found_after}
-use Rattle.oxc_sourcemap_simplify.specs.Simple.{is_repeat, is_after_repeat, kept_item, kept_after}
+use Rattle.oxc_sourcemap_simplify.specs.Simple.{is_further, is_followed}
+use Rattle.oxc_sourcemap_simplify.specs.Simple.{is_repeat, is_after_repeat, kept_after}
 use Rattle.oxc_sourcemap_simplify.specs.Simple.{are_together}
 use Rattle.oxc_sourcemap_simplify.proofs.Scan.{scan, Reached}
 
@@ -21,12 +22,12 @@ pub place_of : (l c n col : ℕ) → Place l c n col
 place_of l c n col =
     elim (l == n) as (λ b. (l == n) ≡ b → Place l c n col) [
       | true ↦ (λ e. elim (nat_lt c col) as (λ b. nat_lt c col ≡ b → Place l c n col) [
-          | true ↦ (λ f. front (grind (arith, nat_tests, e)) (grind (arith, nat_tests, f)))
-          | false ↦ (λ f. elim (c == col) as (λ b. (c == col) ≡ b → Place l c n col) [
-              | true ↦ (λ g. here (grind (arith, nat_tests, e)) (grind (arith, nat_tests, g)))
-              | false ↦ (λ g. past (grind (arith, nat_tests, e)) (grind (arith, nat_tests, f, g)))
-            ] refl)
+        | true ↦ (λ f. front (grind (arith, nat_tests, e)) (grind (arith, nat_tests, f)))
+        | false ↦ (λ f. elim (c == col) as (λ b. (c == col) ≡ b → Place l c n col) [
+          | true ↦ (λ g. here (grind (arith, nat_tests, e)) (grind (arith, nat_tests, g)))
+          | false ↦ (λ g. past (grind (arith, nat_tests, e)) (grind (arith, nat_tests, f, g)))
         ] refl)
+      ] refl)
       | false ↦ (λ e. off (grind (arith, nat_tests, e)))
     ] refl
 
@@ -105,7 +106,6 @@ module _ {A : Type 0} (line column : A → ℕ) where
       (moves_further : (before : List A) (y : A) → moves before y ≡ true → is_further line column before y ≡ true)
       (moves_repeat : (before : List A) (y : A) → is_after_repeat line column same before y ≡ true → moves before y ≡ true)
       (n col : ℕ) where
-
     abbrev pub keep : List A → List A → List A
     keep before xs = kept_after line same move moves before xs
 
@@ -115,10 +115,13 @@ module _ {A : Type 0} (line column : A → ℕ) where
         let ih = kept-past (y ∷ before) ys p.1 in
         elim (is_repeat line same before y) as (λ b. Past n col (cond b [] ((cond (moves before y) (move y) y) ∷ []) ++ keep (y ∷ before) ys)) [
           | true ↦ ih
-          | false ↦ (elim (moves before y) as (λ b. line (cond b (move y) y) ≡ n → col < column (cond b (move y) y)) [
+          | false ↦ (
+            elim (moves before y) as (λ b. line (cond b (move y) y) ≡ n → col < column (cond b (move y) y)) [
               | true ↦ (λ e. let l = move_line y in let c = move_column y in let h = p.0 (sym l ∙ e) in omega (arith, c, h))
               | false ↦ p.0
-            ], ih)
+            ],
+            ih,
+          )
         ]
 
     -- what follows a dropped repeat is after its column
@@ -169,7 +172,6 @@ module _ {A : Type 0} (line column : A → ℕ) where
         let l : line p ≡ line y = grind (arith, nat_tests, parts.0) in
         ap (option_map val) (s (l ∙ e)) ∙ ap (λ v. Some v) (same_val p y parts.1)
 
-
     alike-by : (o' o p' p : Option A) → o' ≡ p' → o ≡ p → Alike p' p → Alike o' o
     alike-by o' o p' p e f h = ap (option_map val) e ∙ h ∙ sym (ap (option_map val) f)
 
@@ -198,35 +200,35 @@ module _ {A : Type 0} (line column : A → ℕ) where
         let ih = λ (cur2' cur2 : Option A) (r : line y ≡ n → column y < col) (s : line y ≡ n → cur2 ≡ Some y) (h : Alike cur2' cur2). kept-scan cur2' cur2 (y ∷ before) ys (behind cur' cur cur2' cur2 before y ys st r s h) in
         elim (is_repeat line same before y) as (λ b. is_repeat line same before y ≡ b → Alike (find cur' (cond b [] ((cond (moves before y) (move y) y) ∷ []) ++ keep (y ∷ before) ys)) (find cur (y ∷ ys))) [
           | true ↦ (λ r. elim (place_of (line y) (column y) n col) [
-              | off ne ↦ alike-by _ _ _ _ refl (scan-off n col cur y ys ne) (ih cur' cur (λ e. absurd (ne e)) (λ e. absurd (ne e)) st.alike)
-              | front e h ↦ alike-by _ _ _ _ refl (scan-front n col cur y ys e h) (ih cur' (Some y) (λ _. h) (λ _. refl) (st.alike ∙ repeat-val cur before y r e st.stands))
-              | here e h ↦ alike-by _ _ _ _ (scan-past n col cur' (keep (y ∷ before) ys) (dropped-past before y ys r e (omega (arith, h)) rest st.apart.1)) (scan-here n col cur y ys e h) (st.alike ∙ repeat-val cur before y r e st.stands)
-              | past e h ↦ alike-by _ _ _ _ (scan-past n col cur' (keep (y ∷ before) ys) (dropped-past before y ys r e (omega (arith, h)) rest st.apart.1)) (scan-beyond n col cur y ys e h) st.alike
-            ])
+            | off ne ↦ alike-by _ _ _ _ refl (scan-off n col cur y ys ne) (ih cur' cur (λ e. absurd (ne e)) (λ e. absurd (ne e)) st.alike)
+            | front e h ↦ alike-by _ _ _ _ refl (scan-front n col cur y ys e h) (ih cur' (Some y) (λ _. h) (λ _. refl) (st.alike ∙ repeat-val cur before y r e st.stands))
+            | here e h ↦ alike-by _ _ _ _ (scan-past n col cur' (keep (y ∷ before) ys) (dropped-past before y ys r e (omega (arith, h)) rest st.apart.1)) (scan-here n col cur y ys e h) (st.alike ∙ repeat-val cur before y r e st.stands)
+            | past e h ↦ alike-by _ _ _ _ (scan-past n col cur' (keep (y ∷ before) ys) (dropped-past before y ys r e (omega (arith, h)) rest st.apart.1)) (scan-beyond n col cur y ys e h) st.alike
+          ])
           | false ↦ (λ r. elim (moves before y) as (λ b. moves before y ≡ b → Alike (find cur' ((cond b (move y) y) ∷ keep (y ∷ before) ys)) (find cur (y ∷ ys))) [
-              | true ↦ (λ m.
-                  let further = moves_further before y m in
-                  let reached = further-reached before y further st.reached in
-                  let l = move_line y in
-                  let c = move_column y in
-                  let v = ap (λ v. Some v) (move_val y) in
-                  elim (place_of (line y) (column y) n col) [
-                    | off ne ↦ alike-by _ _ _ _ (scan-off n col cur' (move y) _ (λ e. ne (sym l ∙ e))) (scan-off n col cur y ys ne) (ih cur' cur (λ e. absurd (ne e)) (λ e. absurd (ne e)) st.alike)
-                    | front e h ↦ elim (place_of (line y) (column y + 1) n col) [
-                        | off ne ↦ absurd (ne e)
-                        | front e' h' ↦ alike-by _ _ _ _ (scan-front n col cur' (move y) _ (l ∙ e) (omega (arith, c, h'))) (scan-front n col cur y ys e h) (ih (Some (move y)) (Some y) (λ _. h) (λ _. refl) v)
-                        | here e' h' ↦ alike-by _ _ _ _ (scan-here n col cur' (move y) _ (l ∙ e) (c ∙ h'))
-                            (scan-front n col cur y ys e h ∙ scan-past n col (Some y) ys (past-after n col y ys e (omega (arith, h')) (st.apart.0 further) rest)) v
-                        | past e' h' ↦ absurd (omega (arith, h, h'))
-                      ]
-                    | here e h ↦ let r = reached e in absurd (omega (arith, h, r))
-                    | past e h ↦ let r = reached e in absurd (omega (arith, h, r))
-                  ])
-              | false ↦ (λ m. elim (place_of (line y) (column y) n col) [
-                  | off ne ↦ alike-by _ _ _ _ (scan-off n col cur' y _ ne) (scan-off n col cur y ys ne) (ih cur' cur (λ e. absurd (ne e)) (λ e. absurd (ne e)) st.alike)
-                  | front e h ↦ alike-by _ _ _ _ (scan-front n col cur' y _ e h) (scan-front n col cur y ys e h) (ih (Some y) (Some y) (λ _. h) (λ _. refl) refl)
-                  | here e h ↦ alike-by _ _ _ _ (scan-here n col cur' y _ e h) (scan-here n col cur y ys e h) refl
-                  | past e h ↦ alike-by _ _ _ _ (scan-beyond n col cur' y _ e h) (scan-beyond n col cur y ys e h) st.alike
+            | true ↦ (λ m.
+                let further = moves_further before y m in
+                let reached = further-reached before y further st.reached in
+                let l = move_line y in
+                let c = move_column y in
+                let v = ap (λ v. Some v) (move_val y) in
+                elim (place_of (line y) (column y) n col) [
+                  | off ne ↦ alike-by _ _ _ _ (scan-off n col cur' (move y) _ (λ e. ne (sym l ∙ e))) (scan-off n col cur y ys ne) (ih cur' cur (λ e. absurd (ne e)) (λ e. absurd (ne e)) st.alike)
+                  | front e h ↦ elim (place_of (line y) (column y + 1) n col) [
+                    | off ne ↦ absurd (ne e)
+                    | front e' h' ↦ alike-by _ _ _ _ (scan-front n col cur' (move y) _ (l ∙ e) (omega (arith, c, h'))) (scan-front n col cur y ys e h) (ih (Some (move y)) (Some y) (λ _. h) (λ _. refl) v)
+                    | here e' h' ↦ alike-by _ _ _ _ (scan-here n col cur' (move y) _ (l ∙ e) (c ∙ h'))
+                        (scan-front n col cur y ys e h ∙ scan-past n col (Some y) ys (past-after n col y ys e (omega (arith, h')) (st.apart.0 further) rest)) v
+                    | past e' h' ↦ absurd (omega (arith, h, h'))
+                  ]
+                  | here e h ↦ let r = reached e in absurd (omega (arith, h, r))
+                  | past e h ↦ let r = reached e in absurd (omega (arith, h, r))
                 ])
-            ] refl)
+            | false ↦ (λ m. elim (place_of (line y) (column y) n col) [
+              | off ne ↦ alike-by _ _ _ _ (scan-off n col cur' y _ ne) (scan-off n col cur y ys ne) (ih cur' cur (λ e. absurd (ne e)) (λ e. absurd (ne e)) st.alike)
+              | front e h ↦ alike-by _ _ _ _ (scan-front n col cur' y _ e h) (scan-front n col cur y ys e h) (ih (Some y) (Some y) (λ _. h) (λ _. refl) refl)
+              | here e h ↦ alike-by _ _ _ _ (scan-here n col cur' y _ e h) (scan-here n col cur y ys e h) refl
+              | past e h ↦ alike-by _ _ _ _ (scan-beyond n col cur' y _ e h) (scan-beyond n col cur y ys e h) st.alike
+            ])
+          ] refl)
         ] refl

@@ -1,18 +1,16 @@
-use Rattle.std.proofs.Common.{◌≡◌, ◌≢◌, ℕ, ◌+◌, ◌<◌, ◌≤◌, Bool, true, false, cond, ◌==◌, ◌&&◌, ◌||◌}
-use Rattle.std.proofs.Common.{max, nat_le, nat_lt, Option}
-use Rattle.std.proofs.Common.{Some, None, List, [], ◌∷◌, ◌++◌, map, refl, sym, ap, ◌∙◌, arith}
-use Rattle.std.proofs.Common.{length}
-use Rattle.std.specs.Option.{option_map, option_or}
+-- What may be found, and what is kept, of a list: it is sorted, not longer, and has the same first items of lines.
+use Rattle.std.proofs.Common.{◌≡◌, ℕ, ◌+◌, ◌≤◌, Bool, true, false, cond, ◌==◌, ◌&&◌, ◌||◌, nat_le}
+use Rattle.std.proofs.Common.{nat_lt}
+use Rattle.std.proofs.Common.{Some, List, [], ◌∷◌, ◌++◌, refl, sym, ap, ◌∙◌, arith, length}
 use Rattle.std.proofs.lemmas.Bool.{and_parts}
 use Rattle.std.proofs.lemmas.Bool.Decides.{nat_tests}
-use Rattle.oxc_sourcemap_parts.specs.Sorted.{is_sorted_by, may_precede}
+use Rattle.oxc_sourcemap_parts.specs.Sorted.{is_sorted_by}
 use Rattle.oxc_sourcemap_lookup.specs.Lookup.{first, on_line}
 use Rattle.oxc_sourcemap_simplify.specs.Simple.{is_further, is_followed, found_after, found_items}
-use Rattle.oxc_sourcemap_simplify.specs.Simple.{is_repeat, is_after_repeat, kept_item, kept_after}
+use Rattle.oxc_sourcemap_simplify.specs.Simple.{is_repeat, is_after_repeat, kept_after}
 use Rattle.oxc_sourcemap_simplify.specs.Simple.{are_together}
-use Rattle.oxc_sourcemap_simplify.proofs.Keeping.{Apart, Sorted, sorted-rest, sorted-two}
-use Rattle.oxc_sourcemap_simplify.proofs.Keeping.{together-is, together-not, follows-not}
-use Rattle.oxc_sourcemap_simplify.proofs.Keeping.{precedes-parts}
+use Rattle.oxc_sourcemap_simplify.proofs.Keeping.{Apart, sorted-rest, sorted-two, together-is}
+use Rattle.oxc_sourcemap_simplify.proofs.Keeping.{follows-not}
 
 pub precedes-by : (a b c d : ℕ) → a ≤ c → (a ≡ c → b ≤ d) → (nat_lt a c || (a == c && nat_le b d)) ≡ true
 precedes-by a b c d e f = grind (arith, nat_tests, e, f)
@@ -49,7 +47,7 @@ module _ {A : Type 0} (line column : A → ℕ) where
   found-all before (x ∷ xs) h =
       let le = found-length (x ∷ before) xs in
       elim (is_further line column before x && is_followed line column x xs) as (λ b. length (cond b (found_after line column (x ∷ before) xs) (x ∷ found_after line column (x ∷ before) xs)) ≡ length (x ∷ xs)
-          → cond b (found_after line column (x ∷ before) xs) (x ∷ found_after line column (x ∷ before) xs) ≡ x ∷ xs) [
+      → cond b (found_after line column (x ∷ before) xs) (x ∷ found_after line column (x ∷ before) xs) ≡ x ∷ xs) [
         | true ↦ (λ h. absurd (omega (arith, h, le)))
         | false ↦ (λ h. ap (λ l. x ∷ l) (found-all (x ∷ before) xs (omega (arith, h))))
       ] h
@@ -103,11 +101,12 @@ module _ {A : Type 0} (line column : A → ℕ) where
   found-apart before kept [] l = tt
   found-apart before kept (x ∷ xs) l =
       elim (is_further line column before x && is_followed line column x xs) as (λ b. (is_further line column before x && is_followed line column x xs) ≡ b
-          → Apart line column kept (cond b (found_after line column (x ∷ before) xs) (x ∷ found_after line column (x ∷ before) xs))) [
+      → Apart line column kept (cond b (found_after line column (x ∷ before) xs) (x ∷ found_after line column (x ∷ before) xs))) [
         | true ↦ (λ e. found-apart (x ∷ before) kept xs (level-passed before kept x l (and_parts (is_further line column before x) (is_followed line column x xs) e).0))
         | false ↦ (λ e. (
-            λ f. found-apart-one before x xs (not-both (is_further line column before x) (is_followed line column x xs) e (sym (level-further before kept x l) ∙ f)),
-            found-apart (x ∷ before) (x ∷ kept) xs (refl, refl)))
+          λ f. found-apart-one before x xs (not-both (is_further line column before x) (is_followed line column x xs) e (sym (level-further before kept x l) ∙ f)),
+          found-apart (x ∷ before) (x ∷ kept) xs (refl, refl),
+        ))
       ] refl
 
   pub found-is-apart : (xs : List A) → Apart line column [] (found_items line column xs)
@@ -170,7 +169,7 @@ module _ {A : Type 0} (line column : A → ℕ) where
       keep-all before (y ∷ ys) h e =
           let le = keep-length (y ∷ before) ys in
           elim (is_repeat line same before y) as (λ b. is_repeat line same before y ≡ b → length (cond b [] ((cond (moves before y) (move y) y) ∷ []) ++ keeps (y ∷ before) ys) ≡ length (y ∷ ys)
-              → cond b [] ((cond (moves before y) (move y) y) ∷ []) ++ keeps (y ∷ before) ys ≡ y ∷ ys) [
+          → cond b [] ((cond (moves before y) (move y) y) ∷ []) ++ keeps (y ∷ before) ys ≡ y ∷ ys) [
             | true ↦ (λ r e. absurd (omega (arith, e, le)))
             | false ↦ (λ r e. rw (moves_only before y (no-move before y h)) (ap (λ l. y ∷ l) (keep-all (y ∷ before) ys r (omega (arith, e)))))
           ] refl e
@@ -194,13 +193,13 @@ module _ {A : Type 0} (line column : A → ℕ) where
           elim (is_repeat line same before y) as (λ b. is_sorted_by line column (q ∷ (cond b [] ((cond (moves before y) (move y) y) ∷ []) ++ keeps (y ∷ before) ys)) ≡ true) [
             | true ↦ keep-follows q (y ∷ before) ys (sorted-skip q y ys s) a.1
             | false ↦ elim (moves before y) as (λ b. moves before y ≡ b → is_sorted_by line column (q ∷ (cond b (move y) y) ∷ keeps (y ∷ before) ys) ≡ true) [
-                | true ↦ (λ m.
-                    let l = move_line y in
-                    let c = move_column y in
-                    let le : line q ≡ line (move y) → column q ≤ column (move y) = λ e. let h = two.1 (e ∙ l) in omega (arith, c, h) in
-                    sorted-by q (move y) _ (omega (arith, l, two.0)) le (keep-follows (move y) (y ∷ before) ys (moved-sorted y ys (a.0 (moves_further before y m)) rest) a.1))
-                | false ↦ (λ m. sorted-by q y _ two.0 two.1 (keep-follows y (y ∷ before) ys rest a.1))
-              ] refl
+              | true ↦ (λ m.
+                  let l = move_line y in
+                  let c = move_column y in
+                  let le : line q ≡ line (move y) → column q ≤ column (move y) = λ e. let h = two.1 (e ∙ l) in omega (arith, c, h) in
+                  sorted-by q (move y) _ (omega (arith, l, two.0)) le (keep-follows (move y) (y ∷ before) ys (moved-sorted y ys (a.0 (moves_further before y m)) rest) a.1))
+              | false ↦ (λ m. sorted-by q y _ two.0 two.1 (keep-follows y (y ∷ before) ys rest a.1))
+            ] refl
           ]
 
       pub keep-sorted : (xs : List A) → is_sorted_by line column xs ≡ true → Apart line column [] xs → is_sorted_by line column (keeps [] xs) ≡ true
@@ -227,8 +226,8 @@ module _ {A : Type 0} (line column : A → ℕ) where
                 elim (is_repeat line same before y) as (λ b. first (on_line line n (cond b [] ((cond (moves before y) (move y) y) ∷ []) ++ keeps (y ∷ before) ys)) ≡ first (on_line line n (y ∷ ys))) [
                   | true ↦ rw e ih
                   | false ↦ elim (moves before y) as (λ b. first (on_line line n ((cond b (move y) y) ∷ keeps (y ∷ before) ys)) ≡ first (on_line line n (y ∷ ys))) [
-                      | true ↦ rw (l, e) ih
-                      | false ↦ rw e ih
-                    ]
+                    | true ↦ rw (l, e) ih
+                    | false ↦ rw e ih
+                  ]
                 ])
           ] refl

@@ -1,16 +1,10 @@
-use Rattle.std.proofs.Common.{◌≡◌, ◌≢◌, ℕ, ◌+◌, ◌<◌, ◌≤◌, Bool, true, false, cond, ◌==◌, ◌&&◌, max}
-use Rattle.std.proofs.Common.{nat_le, nat_lt, Option}
-use Rattle.std.proofs.Common.{Some, None, List, [], ◌∷◌, ◌++◌, map, refl, sym, ap, ◌∙◌, arith}
-use Rattle.std.specs.Option.{option_map, option_or}
-use Rattle.std.specs.List.{filter}
+-- Lookups in a sorted list, by going over its items; the items that a lookup may find.
+use Rattle.std.proofs.Common.{◌≡◌, ◌≢◌, ℕ, ◌+◌, ◌<◌, ◌≤◌, true, false, cond, ◌==◌, ◌&&◌, nat_le}
+use Rattle.std.proofs.Common.{nat_lt, Option}
+use Rattle.std.proofs.Common.{Some, List, [], ◌∷◌, refl, ◌∙◌, arith}
 use Rattle.std.proofs.lemmas.Bool.{and_parts}
 use Rattle.std.proofs.lemmas.Bool.Decides.{nat_tests}
-use Rattle.std.proofs.lemmas.Grind.{common_steps}
-use Rattle.oxc_sourcemap_parts.specs.Sorted.{is_sorted_by, may_precede}
-use Rattle.oxc_sourcemap_lookup.specs.Lookup.{pick, first, greatest, not_past, in_column, at}
-use Rattle.oxc_sourcemap_lookup.specs.Lookup.{on_line}
-use Rattle.oxc_sourcemap_simplify.specs.Simple.{is_further, is_followed, found_after, found_items}
-use Rattle.oxc_sourcemap_simplify.specs.Simple.{is_repeat, is_after_repeat, kept_item, kept_after}
+use Rattle.oxc_sourcemap_simplify.specs.Simple.{is_further, is_followed, found_after}
 use Rattle.oxc_sourcemap_simplify.specs.Simple.{are_together}
 
 module _ {A : Type 0} (line column : A → ℕ) (n col : ℕ) where
@@ -28,11 +22,11 @@ module _ {A : Type 0} (line column : A → ℕ) (n col : ℕ) where
       → scan cur (x ∷ xs) ≡ scan cur (x ∷ ys)
   scan-same cur x xs ys on off =
       elim (line x == n) as (λ b. (line x == n) ≡ b → cond b (cond (nat_lt (column x) col) (scan (Some x) xs) (cond (column x == col) (Some x) cur)) (scan cur xs)
-          ≡ cond b (cond (nat_lt (column x) col) (scan (Some x) ys) (cond (column x == col) (Some x) cur)) (scan cur ys)) [
+      ≡ cond b (cond (nat_lt (column x) col) (scan (Some x) ys) (cond (column x == col) (Some x) cur)) (scan cur ys)) [
         | true ↦ (λ e. elim (nat_lt (column x) col) as (λ b. nat_lt (column x) col ≡ b → cond b (scan (Some x) xs) (cond (column x == col) (Some x) cur) ≡ cond b (scan (Some x) ys) (cond (column x == col) (Some x) cur)) [
-            | true ↦ (λ f. on (grind (arith, nat_tests, e)) (grind (arith, nat_tests, f)))
-            | false ↦ (λ f. refl)
-          ] refl)
+          | true ↦ (λ f. on (grind (arith, nat_tests, e)) (grind (arith, nat_tests, f)))
+          | false ↦ (λ f. refl)
+        ] refl)
         | false ↦ (λ e. off (grind (arith, nat_tests, e)))
       ] refl
 
@@ -64,7 +58,7 @@ module _ {A : Type 0} (line column : A → ℕ) (n col : ℕ) where
   found-scan cur before [] r = refl
   found-scan cur before (x ∷ xs) r =
       elim (is_further line column before x && is_followed line column x xs) as (λ b. (is_further line column before x && is_followed line column x xs) ≡ b
-          → scan cur (cond b (found_after line column (x ∷ before) xs) (x ∷ found_after line column (x ∷ before) xs)) ≡ scan cur (x ∷ xs)) [
+      → scan cur (cond b (found_after line column (x ∷ before) xs) (x ∷ found_after line column (x ∷ before) xs)) ≡ scan cur (x ∷ xs)) [
         | true ↦ (λ e. let p = found-passed cur before x xs r e in found-scan cur (x ∷ before) xs p.0 ∙ p.1)
         | false ↦ (λ e. scan-same cur x (found_after line column (x ∷ before) xs) xs (λ on f. found-scan (Some x) (x ∷ before) xs (λ _. f)) (λ off. found-scan cur (x ∷ before) xs (λ on. absurd (off on))))
       ] refl

@@ -1,36 +1,31 @@
 -- Traces of simplified decoded maps.
-use Rattle.std.proofs.Common.{◌≡◌, ◌≢◌, ℕ, zero, ◌+◌, ◌<◌, ◌≤◌, Bool, true, false, cond, ◌==◌, ◌&&◌}
-use Rattle.std.proofs.Common.{nat_le, nat_lt, Option}
-use Rattle.std.proofs.Common.{Some, None, List, [], ◌∷◌, ◌++◌, map, refl, sym, ap, subst, ◌∙◌}
-use Rattle.std.proofs.Common.{arith, length}
+use Rattle.std.proofs.Common.{◌≡◌, ◌≢◌, ℕ, ◌+◌, ◌≤◌, Bool, true, false, cond, ◌==◌, Option}
+use Rattle.std.proofs.Common.{Some, None, List, [], ◌∷◌, ◌++◌, refl, sym, ap, ◌∙◌, arith, length}
 use Rattle.std.specs.List.{AllByRecursion}
 use Rattle.std.specs.Option.{option_map, option_or}
 use Rattle.std.proofs.lemmas.Bool.{and_parts}
 use Rattle.std.proofs.lemmas.Bool.Decides.{nat_tests, not_from_Decides}
-use Rattle.oxc_sourcemap_parts.specs.DecodedMap.{DecodedMap, DecodedMapping, OriginalPosition}
-use Rattle.oxc_sourcemap_parts.specs.DecodedMap.{mapping_line, mapping_column}
+use Rattle.oxc_sourcemap_parts.specs.DecodedMap.{DecodedMapping, OriginalPosition, mapping_line}
+use Rattle.oxc_sourcemap_parts.specs.DecodedMap.{mapping_column}
 use Rattle.oxc_sourcemap_parts.specs.Sorted.{is_sorted_by}
 use Rattle.oxc_sourcemap_lookup.specs.Lookup.{pick, clamped_pick, first, at, on_line}
-use Rattle.oxc_sourcemap_lookup.specs.Trace.{trace, clamped_trace}
 use Rattle.oxc_sourcemap_lookup.proofs.Lookups.{AreNotBefore, at-front, at-here, at-past}
 use Rattle.oxc_sourcemap_lookup.proofs.Lookups.{or_else-some}
 use Rattle.oxc_sourcemap_simplify.specs.Simple.{are_together, is_repeat, is_further}
-use Rattle.oxc_sourcemap_simplify.specs.Simple.{is_after_repeat, kept_after, found_items}
-use Rattle.oxc_sourcemap_simplify.specs.Simple.{simple_items}
-use Rattle.oxc_sourcemap_simplify.specs.Simplified.{at_next_column, simple_mappings}
-use Rattle.oxc_sourcemap_simplify.specs.Simplified.{simplified_decoded_map}
+use Rattle.oxc_sourcemap_simplify.specs.Simple.{is_after_repeat, found_items, simple_items}
+use Rattle.oxc_sourcemap_simplify.specs.Simplified.{at_next_column}
 use Rattle.oxc_sourcemap_simplify.specs.Same.{point_alike}
-use Rattle.oxc_sourcemap_simplify.specs.SimplifyLaws.{IsSortedMap, TracesStay, StaysSorted, IsLeast}
+use Rattle.oxc_sourcemap_simplify.specs.SimplifyLaws.{TracesStay, StaysSorted, IsLeast}
 use Rattle.oxc_sourcemap_simplify.specs.SimplifyLaws.{MappingsStay}
 use Rattle.oxc_sourcemap_simplify.proofs.Same.{decides_originals, entry_by}
 use Rattle.oxc_sourcemap_simplify.proofs.Scan.{scan, found-scan}
-use Rattle.oxc_sourcemap_simplify.proofs.Keeping.{Place, place_of, off, front, here, past}
-use Rattle.oxc_sourcemap_simplify.proofs.Keeping.{sorted-two, sorted-rest, scan-off, scan-front}
-use Rattle.oxc_sourcemap_simplify.proofs.Keeping.{scan-here, scan-beyond, kept-scan}
+use Rattle.oxc_sourcemap_simplify.proofs.Keeping.{place_of, off, front, here, past, sorted-two}
+use Rattle.oxc_sourcemap_simplify.proofs.Keeping.{sorted-rest, scan-off, scan-front, scan-here}
+use Rattle.oxc_sourcemap_simplify.proofs.Keeping.{scan-beyond, kept-scan}
 use Rattle.oxc_sourcemap_simplify.proofs.Order.{found-sorted, found-is-apart, found-first}
 use Rattle.oxc_sourcemap_simplify.proofs.Order.{found-length, found-all, keeps, keep-sorted}
 use Rattle.oxc_sourcemap_simplify.proofs.Order.{keep-first, keep-length, keep-all}
-use Rattle.oxc_sourcemap_simplify.proofs.Unique.{Rising, TellSame, rising-unique, spread-rising}
+use Rattle.oxc_sourcemap_simplify.proofs.Unique.{Rising, rising-unique, spread-rising}
 
 module _ {A : Type 0} (line column : A → ℕ) where
   module _ (n col : ℕ) where
@@ -84,9 +79,9 @@ module _ {A : Type 0} (line column : A → ℕ) where
           | here e h ↦ scan-here line column n col None x xs e h ∙ sym (at-here column col x ys h) ∙ at-of (on_line line n (x ∷ xs)) (x ∷ ys) (its-line x xs e)
           | past e h ↦ scan-beyond line column n col None x xs e h ∙ sym (at-past column col x ys h (not-before x xs e s)) ∙ at-of (on_line line n (x ∷ xs)) (x ∷ ys) (its-line x xs e)
         ] where
-      sorted-tail : (x : A) (xs : List A) → is_sorted_by line column (x ∷ xs) ≡ true → is_sorted_by line column xs ≡ true
-      sorted-tail x [] s = refl
-      sorted-tail x (y ∷ ys) s = sorted-rest line column (x ∷ []) y ys s
+          sorted-tail : (x : A) (xs : List A) → is_sorted_by line column (x ∷ xs) ≡ true → is_sorted_by line column xs ≡ true
+          sorted-tail x [] s = refl
+          sorted-tail x (y ∷ ys) s = sorted-rest line column (x ∷ []) y ys s
 
   -- ---- simple items
   module _ {V : Type 0} (val : A → V) (same : A → A → Bool) (move : A → A)
@@ -119,7 +114,7 @@ module _ {A : Type 0} (line column : A → ℕ) where
           let sk = keep-sorted line column same move moves move_line move_column moves_further fs sf (found-is-apart line column xs) in
           ap (option_map val) (sym (scan-pick n col (keeps line column same move moves [] fs) sk))
           ∙ kept-scan line column val same move moves move_line move_column move_val same_val moves_further moves_repeat n col None None [] fs
-              (record { reached = tt; stands = tt; alike = refl; sorted = sf; apart = found-is-apart line column xs })
+          (record { reached = tt; stands = tt; alike = refl; sorted = sf; apart = found-is-apart line column xs })
           ∙ ap (option_map val) (found-scan line column n col None [] xs tt ∙ scan-pick n col xs s)
 
     pub simple-pick : (xs : List A) (n col : ℕ) → is_sorted_by line column xs ≡ true → option_map val (pick line column (simple xs) n col) ≡ option_map val (pick line column xs n col)
@@ -147,7 +142,7 @@ module _ {A : Type 0} (line column : A → ℕ) where
     simple-length before (y ∷ ys) =
         let ih = simple-length (y ∷ before) ys in
         elim (is_repeat line same before y) as (λ b. length (cond b [] ((cond (is_after_repeat line column same before y) (move y) y) ∷ []) ++ keeps line column same move (is_after_repeat line column same) (y ∷ before) ys)
-            ≡ length (cond b [] ((cond (is_further line column before y) (move y) y) ∷ []) ++ keeps line column same move (is_further line column) (y ∷ before) ys)) [
+        ≡ length (cond b [] ((cond (is_further line column before y) (move y) y) ∷ []) ++ keeps line column same move (is_further line column) (y ∷ before) ys)) [
           | true ↦ ih
           | false ↦ omega (arith, ih)
         ]
@@ -161,8 +156,8 @@ module _ {A : Type 0} (line column : A → ℕ) where
           → ((n col : ℕ) → option_map val (pick line column xs n col) ≡ option_map val (pick line column ys n col)) → apart_items xs ≡ apart_items ys
       apart-unique xs ys s q h =
           rising-unique line column val determined None (apart_items xs) (apart_items ys) (rising xs s) (rising ys q)
-              (λ n col _. ap (option_map val) (scan-pick n col (apart_items xs) (apart-sorted xs s)) ∙ apart-pick xs n col s ∙ h n col
-                ∙ sym (ap (option_map val) (scan-pick n col (apart_items ys) (apart-sorted ys q)) ∙ apart-pick ys n col q))
+          (λ n col _. ap (option_map val) (scan-pick n col (apart_items xs) (apart-sorted xs s)) ∙ apart-pick xs n col s ∙ h n col
+          ∙ sym (ap (option_map val) (scan-pick n col (apart_items ys) (apart-sorted ys q)) ∙ apart-pick ys n col q))
 
       pub simple-least : (xs ys : List A) → is_sorted_by line column xs ≡ true → is_sorted_by line column ys ≡ true
           → ((n col : ℕ) → option_map val (pick line column xs n col) ≡ option_map val (pick line column ys n col)) → length (simple xs) ≤ length ys

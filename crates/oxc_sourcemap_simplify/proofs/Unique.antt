@@ -1,14 +1,13 @@
-use Rattle.std.proofs.Common.{◌≡◌, ◌≢◌, ℕ, ◌+◌, ◌<◌, ◌≤◌, Bool, true, false, cond, ◌==◌, ◌&&◌, ◌||◌}
-use Rattle.std.proofs.Common.{max, nat_le, nat_lt, Option}
-use Rattle.std.proofs.Common.{Some, None, List, [], ◌∷◌, ◌++◌, map, refl, sym, ap, subst, ◌⊎◌, inl}
-use Rattle.std.proofs.Common.{inr, ◌∙◌, arith, length}
-use Rattle.std.specs.Option.{option_map, option_or}
+-- Lists of which each item is behind the one before it and has another value are equal if lookups find the same values.
+use Rattle.std.proofs.Common.{◌≡◌, ◌≢◌, ℕ, ◌+◌, ◌<◌, ◌≤◌, Bool, true, false, cond, ◌==◌, ◌&&◌}
+use Rattle.std.proofs.Common.{nat_lt, Option}
+use Rattle.std.proofs.Common.{Some, None, List, [], ◌∷◌, ◌++◌, refl, sym, ap, subst, ◌⊎◌, inl, inr}
+use Rattle.std.proofs.Common.{◌∙◌, arith}
+use Rattle.std.specs.Option.{option_map}
 use Rattle.std.proofs.lemmas.Bool.{and_parts}
 use Rattle.std.proofs.lemmas.Bool.Decides.{nat_tests}
-use Rattle.oxc_sourcemap_parts.specs.Sorted.{is_sorted_by, may_precede}
 use Rattle.oxc_sourcemap_simplify.specs.Simple.{is_further, is_followed}
-use Rattle.oxc_sourcemap_simplify.specs.Simple.{is_repeat, is_after_repeat, kept_after}
-use Rattle.oxc_sourcemap_simplify.specs.Simple.{are_together}
+use Rattle.oxc_sourcemap_simplify.specs.Simple.{is_repeat}
 use Rattle.oxc_sourcemap_simplify.proofs.Scan.{scan}
 use Rattle.oxc_sourcemap_simplify.proofs.Keeping.{Apart, Sorted, sorted-rest, sorted-two}
 use Rattle.oxc_sourcemap_simplify.proofs.Keeping.{together-is, together-not, follows-not, Past}
@@ -26,15 +25,15 @@ order_of a b c d =
     elim (nat_lt a c) as (λ t. nat_lt a c ≡ t → Order a b c d) [
       | true ↦ (λ e. first-less (grind (arith, nat_tests, e)) (λ f. absurd (grind (arith, nat_tests, e, f))))
       | false ↦ (λ e. elim (nat_lt c a) as (λ t. nat_lt c a ≡ t → Order a b c d) [
-          | true ↦ (λ f. second-less (grind (arith, nat_tests, f)) (λ g. absurd (grind (arith, nat_tests, f, g))))
-          | false ↦ (λ f. elim (nat_lt b d) as (λ t. nat_lt b d ≡ t → Order a b c d) [
-              | true ↦ (λ g. first-less (grind (arith, nat_tests, e, f)) (λ _. grind (arith, nat_tests, g)))
-              | false ↦ (λ g. elim (b == d) as (λ t. (b == d) ≡ t → Order a b c d) [
-                  | true ↦ (λ k. level (grind (arith, nat_tests, e, f)) (grind (arith, nat_tests, k)))
-                  | false ↦ (λ k. second-less (grind (arith, nat_tests, e, f)) (λ _. grind (arith, nat_tests, g, k)))
-                ] refl)
-            ] refl)
+        | true ↦ (λ f. second-less (grind (arith, nat_tests, f)) (λ g. absurd (grind (arith, nat_tests, f, g))))
+        | false ↦ (λ f. elim (nat_lt b d) as (λ t. nat_lt b d ≡ t → Order a b c d) [
+          | true ↦ (λ g. first-less (grind (arith, nat_tests, e, f)) (λ _. grind (arith, nat_tests, g)))
+          | false ↦ (λ g. elim (b == d) as (λ t. (b == d) ≡ t → Order a b c d) [
+            | true ↦ (λ k. level (grind (arith, nat_tests, e, f)) (grind (arith, nat_tests, k)))
+            | false ↦ (λ k. second-less (grind (arith, nat_tests, e, f)) (λ _. grind (arith, nat_tests, g, k)))
+          ] refl)
         ] refl)
+      ] refl)
     ] refl
 
 module _ {A : Type 0} (line column : A → ℕ) {V : Type 0} (val : A → V) where
@@ -142,8 +141,8 @@ module _ {A : Type 0} (line column : A → ℕ) {V : Type 0} (val : A → V) whe
               let v : val x ≡ val y = some-same (sym (told-here p x xs) ∙ at-x ∙ told-at p y ys (line x) (column x) e f) in
               let same : x ≡ y = determined x y e f v in
               let rest : TellSame (Some x) xs ys = λ n col k.
-                  let k' : Position (Some y) n col = moved same k in
-                  sym (told-rest p x xs n col r.0 k) ∙ h n col (behind-start p x n col r.0 k) ∙ told-rest p y ys n col q.0 k' ∙ ap (λ z. told (Some z) ys n col) (sym same) in
+              let k' : Position (Some y) n col = moved same k in
+              sym (told-rest p x xs n col r.0 k) ∙ h n col (behind-start p x n col r.0 k) ∙ told-rest p y ys n col q.0 k' ∙ ap (λ z. told (Some z) ys n col) (sym same) in
               cons-same same (rising-unique (Some x) xs ys r.1 (rising-moved x y ys same q.1) rest)
         ]
 
@@ -184,7 +183,7 @@ module _ {A : Type 0} (line column : A → ℕ) {V : Type 0} (val : A → V) whe
         let two = sorted-two line column p y ys s in
         let on = near.on in
         elim (is_repeat line same (p ∷ before) y) as (λ b. is_repeat line same (p ∷ before) y ≡ b
-            → Rising (Some k) (cond b [] ((cond (is_further line column (p ∷ before) y) (move y) y) ∷ []) ++ spread (y ∷ p ∷ before) ys)) [
+        → Rising (Some k) (cond b [] ((cond (is_further line column (p ∷ before) y) (move y) y) ∷ []) ++ spread (y ∷ p ∷ before) ys)) [
           | true ↦ (λ r.
               let is = same-on p y r in
               let front : (column k ≤ column y) ⊎ ((column k ≡ column y + 1) × (is_further line column (p ∷ before) y ≡ true)) = elim near.front [
@@ -194,26 +193,28 @@ module _ {A : Type 0} (line column : A → ℕ) {V : Type 0} (val : A → V) whe
               spread-rising (Some k) (y ∷ p ∷ before) ys (record { on = near.on ∙ is.0; alike = near.alike ∙ is.1; front = front; apart = a.0 }) rest a.1)
           | false ↦ (λ r. elim (is_further line column (p ∷ before) y) as (λ b. is_further line column (p ∷ before) y ≡ b
               → Rising (Some k) ((cond b (move y) y) ∷ spread (y ∷ p ∷ before) ys)) [
-              | true ↦ (λ f.
-                  let is = together-is line column p y f in
-                  let l = move_line y in
-                  let c = move_column y in
-                  let lt : column k < column (move y) = elim near.front [
-                    | inl h ↦ omega (arith, h, is.1, c)
-                    | inr h ↦ (let no : is_followed line column p (y ∷ ys) ≡ true = near-by line column p y is.0 is.1 in let never = near.apart h.1 in absurd (let g : false ≡ true = sym never ∙ no in cc))
-                  ] in
-                  ((omega (arith, on, is.0, l), λ e. (lt, λ v. same-not p y r is.0 (sym near.alike ∙ v ∙ move_val y))),
-                    spread-rising (Some (move y)) (y ∷ p ∷ before) ys (record { on = l; alike = move_val y; front = inr (c, f); apart = a.0 }) rest a.1))
-              | false ↦ (λ f.
-                  let lt : line k ≡ line y → column k < column y = λ e.
-                      let m : line p ≡ line y = sym near.on ∙ e in
-                      let ne = together-not line column p y f m in
-                      let le = two.1 m in
-                      elim near.front [
-                        | inl h ↦ omega (arith, h, ne, le)
-                        | inr h ↦ (let far = follows-not line column p y (near.apart h.1) m in omega (arith, h.0, far))
-                      ] in
-                  ((omega (arith, on, two.0), λ e. (lt e, λ v. same-not p y r (sym near.on ∙ e) (sym near.alike ∙ v))),
-                    spread-rising (Some y) (y ∷ p ∷ before) ys (record { on = refl; alike = refl; front = inl (omega arith); apart = a.0 }) rest a.1))
-            ] refl)
+                | true ↦ (λ f.
+                    let is = together-is line column p y f in
+                    let l = move_line y in
+                    let c = move_column y in
+                    let lt : column k < column (move y) = elim near.front [
+                      | inl h ↦ omega (arith, h, is.1, c)
+                      | inr h ↦ (let no : is_followed line column p (y ∷ ys) ≡ true = near-by line column p y is.0 is.1 in let never = near.apart h.1 in absurd (let g : false ≡ true = sym never ∙ no in cc))
+                    ] in (
+                      (omega (arith, on, is.0, l), λ e. (lt, λ v. same-not p y r is.0 (sym near.alike ∙ v ∙ move_val y))),
+                      spread-rising (Some (move y)) (y ∷ p ∷ before) ys (record { on = l; alike = move_val y; front = inr (c, f); apart = a.0 }) rest a.1,
+                    ))
+                | false ↦ (λ f.
+                    let lt : line k ≡ line y → column k < column y = λ e.
+                    let m : line p ≡ line y = sym near.on ∙ e in
+                    let ne = together-not line column p y f m in
+                    let le = two.1 m in
+                    elim near.front [
+                      | inl h ↦ omega (arith, h, ne, le)
+                      | inr h ↦ (let far = follows-not line column p y (near.apart h.1) m in omega (arith, h.0, far))
+                    ] in (
+                      (omega (arith, on, two.0), λ e. (lt e, λ v. same-not p y r (sym near.on ∙ e) (sym near.alike ∙ v))),
+                      spread-rising (Some y) (y ∷ p ∷ before) ys (record { on = refl; alike = refl; front = inl (omega arith); apart = a.0 }) rest a.1,
+                    ))
+              ] refl)
         ] refl

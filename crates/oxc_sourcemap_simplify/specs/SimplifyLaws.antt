@@ -1,7 +1,6 @@
 -- What simplifying leaves as it is, and that nothing smaller would do.
-use Rattle.std.specs.Prelude.{◌≡◌, ◌↔◌, ℕ, ◌≤◌, true, length}
+use Rattle.std.specs.Prelude.{◌≡◌, ℕ, ◌≤◌, true, length}
 use Rattle.oxc_sourcemap_parts.specs.DecodedMap.{DecodedMap, mapping_line, mapping_column}
-use Rattle.oxc_sourcemap_parts.specs.Record.{MapRecord}
 use Rattle.oxc_sourcemap_parts.specs.Sorted.{is_sorted_by}
 use Rattle.oxc_sourcemap_lookup.specs.Trace.{trace, clamped_trace}
 use Rattle.oxc_sourcemap_simplify.specs.Simplified.{simplified_decoded_map}

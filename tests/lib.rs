@@ -8,6 +8,7 @@ mod builder;
 mod composition;
 // The examples of docstrings: `./check tests` writes this module.
 mod examples;
+mod found;
 mod helpers;
 mod hostile;
 mod indexed;

@@ -2,7 +2,7 @@
 use crate::helpers::{is_text, same};
 use oxc_sourcemap::{
     Error, JsonFault, Plan, PlanError, PositionError, Result, SourceMap, TextPositions,
-    decode_mappings, encode_mappings, evaluate,
+    decode_mappings, encode_mappings, evaluate, push_json_string, read_found,
 };
 use std::alloc::{AllocError, Global};
 use std::process::Abort;
@@ -102,6 +102,32 @@ fn json_texts_are_refused(rt: HostRuntime) {
     for (text, error) in NOT_READ {
         let read = SourceMap::from_json_string(rt.alloc(), text);
         same(&rt, text, read.err(), Some(*error));
+    }
+}
+
+/// JSON texts of hostile `mappings`, for one name and one source: where the exact reader reads one, `read_found` does.
+#[test]
+fn what_is_read_is_found(rt: HostRuntime) -> Result<()> {
+    for (text, _) in texts().iter().flat_map(|rows| rows.iter()) {
+        let mut json = String::from_str(rt.alloc(), r#"{"version":3,"names":["n"],"sources":["s"],"mappings":"#)?;
+        push_json_string(text, &mut json)?;
+        json.push_str("}")?;
+        let read = SourceMap::from_json_string(rt.alloc(), json.as_str());
+        let found = read_found(rt.alloc(), json.as_str());
+        if read.is_ok() {
+            same(&rt, text, found.is_ok(), true);
+        }
+    }
+    Ok(())
+}
+
+/// Of texts that the exact reader refuses, a bad version, a text that is not JSON and a fault of the mappings are refused, too.
+#[test]
+fn json_texts_are_not_found(rt: HostRuntime) {
+    for (text, error) in NOT_READ {
+        let found = read_found(rt.alloc(), text);
+        let is_mended = *error == Error::BadSourceReference(4294967295);
+        same(&rt, text, found.err(), if is_mended { None } else { Some(*error) });
     }
 }
 

@@ -1,7 +1,7 @@
 //! Calls that give something.
 use crate::helpers::same;
 use super::fixtures::{
-    INPUT_TEXT, LENT_TEXT, TEXT, full_json, full_map, full_owned_map, full_value, is_json, is_map,
+    FOUND_TEXT, INPUT_TEXT, LENT_TEXT, MENDED_TEXT, TEXT, full_json, full_map, full_owned_map, full_value, is_json, is_map,
     lent_map, lent_parts, shuffled_parts,
 };
 use super::memory::{nothing, refuse_each};
@@ -137,6 +137,14 @@ fn owned_source_map_to_json(rt: HostRuntime) {
 #[test]
 fn decode_from_string(rt: HostRuntime) {
     refuse_each(&rt, nothing, |alloc, ()| oxc_sourcemap::decode_from_string(alloc, TEXT), |map| is_map(&rt, &map, TEXT));
+}
+
+#[test]
+fn read_found(rt: HostRuntime) {
+    refuse_each(&rt, nothing, |alloc, ()| oxc_sourcemap::read_found(alloc, MENDED_TEXT), |found| {
+        same(&rt, "mends", found.mends.len(), 8);
+        is_map(&rt, &found.map, FOUND_TEXT);
+    });
 }
 
 #[test]

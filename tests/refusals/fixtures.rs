@@ -34,6 +34,12 @@ pub fn full_value(alloc: Global) -> Result<Value> {
 pub const INPUT_TEXT: &str =
     r#"{"version":3,"sourceRoot":"root","names":["n0","n1"],"sources":["a.js","b.js"],"sourcesContent":["A",null],"ignoreList":[1],"mappings":"AAAA"}"#;
 
+/// A map in which much is mended, and the map that is found in it.
+pub const MENDED_TEXT: &str =
+    r#"{"version":"3","sourceRoot":"root","sources":[null,"b.js"],"sourcesContent":["A",1],"names":null,"ignoreList":[1,7],"mappings":"CAAAA,DCACA,CDCA,CEAA"}"#;
+pub const FOUND_TEXT: &str =
+    r#"{"version":3,"sourceRoot":"root","names":[],"sources":["","b.js"],"sourcesContent":["A",null],"ignoreList":[1],"mappings":"ACAC,CDAD,AACC,C"}"#;
+
 /// A map of one source, name and content, and of one token with them.
 pub const LENT_TEXT: &str =
     r#"{"version":3,"file":"f.js","names":["n"],"sources":["a.js"],"sourcesContent":["A"],"mappings":"AAAAA"}"#;

@@ -99,4 +99,12 @@ pub use Rattle.oxc_sourcemap_plan.specs.Meaning
 pub use Rattle.oxc_sourcemap_plan.specs.Limits
 pub use Rattle.oxc_sourcemap_plan.specs.Outcome
 pub use Rattle.oxc_sourcemap_plan.specs.Evaluated
+pub use Rattle.oxc_sourcemap_found.specs.declared.mend.Mend
+pub use Rattle.oxc_sourcemap_found.specs.declared.mend.MendKind
+pub use Rattle.oxc_sourcemap_found.specs.declared.found.Found
+pub use Rattle.oxc_sourcemap_found.specs.MendText
+pub use Rattle.oxc_sourcemap_found.specs.Mended
+pub use Rattle.oxc_sourcemap_found.specs.InRange
+pub use Rattle.oxc_sourcemap_found.specs.FoundMaps
+pub use Rattle.oxc_sourcemap_found.specs.FoundLaws
 pub mod Words

@@ -2,6 +2,7 @@
 //! function. All but `tokens_in_bounds` have no parameters, result or body.
 
 pub use oxc_sourcemap_builders::name_ids_unique;
+pub use oxc_sourcemap_found::mending_harmless;
 pub use oxc_sourcemap_laws::{
     canonical_unique, composition_associative, dropping_harmless, joins_associative,
     remapping_associative, rooting_idempotent, steps_over_simplified, tokens_in_bounds,

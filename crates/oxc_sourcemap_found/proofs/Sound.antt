@@ -1,0 +1,280 @@
+-- Maps that are found: of an exact map nothing is mended, and each is sound.
+use Rattle.std.proofs.Common.{◌≡◌, ℕ, ◌+◌, ◌<◌, Bool, true, false, cond, not, ◌&&◌, nat_lt, ◌==◌}
+use Rattle.std.proofs.Common.{List, [], ◌∷◌, ◌++◌, map, length, refl, ap, sym, ◌∙◌, subst, inl, inr}
+use Rattle.std.proofs.Common.{arith, Option, Some, None, option_map, Result, Ok, Err}
+use Rattle.std.proofs.lemmas.Bool.Decides.{nat_tests}
+use Rattle.std.specs.List.{AllByRecursion, count_by}
+use Rattle.std.specs.Option.{IfSome, option_map_or}
+use Rattle.serde_json.specs.Data.{Data, null, boolean, number, string, array, object, Members}
+use Rattle.serde_json.specs.Read.{read}
+use Rattle.oxc_sourcemap_tokens.specs.declared.error.Error.{Error}
+use Rattle.oxc_sourcemap_tokens.specs.declared.error.Error.TheVariants.{BadSourceReference}
+use Rattle.oxc_sourcemap_tokens.specs.Errors.{unless}
+use Rattle.oxc_sourcemap_tokens.specs.Token.{TokenRecord}
+use Rattle.oxc_sourcemap_mappings.specs.Reading.{reading}
+use Rattle.oxc_sourcemap_parts.specs.Record.{Text, MapRecord}
+use Rattle.oxc_sourcemap_parts.specs.Sorted.{may_precede, are_tokens_sorted, token_line, token_column}
+use Rattle.oxc_sourcemap_parts.specs.Sound.{IsInRange, AreIdsInRange, IsSound}
+use Rattle.oxc_sourcemap_json.specs.Json.{JsonRecord}
+use Rattle.oxc_sourcemap_tokens.specs.declared.error.Field.TheVariants.{Object}
+use Rattle.oxc_sourcemap_json.specs.Shape.{◌>>=◌, or_misshapen, shape}
+use Rattle.serde_json.specs.Find.{as_object}
+use Rattle.oxc_sourcemap_sort.specs.Sorting.{put_in, sorted_by, sorted_tokens, sorted_map}
+use Rattle.oxc_sourcemap_sort.proofs.Sorting.{sorted-once}
+use Rattle.oxc_sourcemap_decode.specs.Decoded.{decoded_record, with_tokens, json_fault, decoded}
+use Rattle.oxc_sourcemap_decode.specs.Decoded.{ignore_list_fault}
+use Rattle.oxc_sourcemap_decode.specs.Section.{is_indexed}
+use Rattle.oxc_sourcemap_decode.specs.ReadMap.{read_map, read_value, said_by, map_said}
+use Rattle.oxc_sourcemap_decode.proofs.ReadSound.{decoded-well}
+use Rattle.oxc_sourcemap_decode.proofs.WellRead.{read_well, read_is_said, value_is_said}
+use Rattle.oxc_sourcemap_found.specs.InRange.{is_past, has_bad_source, has_bad_name, token_in_range}
+use Rattle.oxc_sourcemap_found.specs.InRange.{map_in_range, source_kinds, name_kinds}
+use Rattle.oxc_sourcemap_found.specs.declared.mend.Mend.{Mend}
+use Rattle.oxc_sourcemap_found.specs.declared.mend.MendKind.{MendKind}
+use Rattle.oxc_sourcemap_found.specs.declared.mend.MendKind.TheVariants.{Unsorted}
+use Rattle.oxc_sourcemap_found.specs.FoundMaps.{FoundRecord, decoded_with_any_ids, found_record}
+use Rattle.oxc_sourcemap_found.specs.FoundMaps.{mend_of, order_kinds}
+use Rattle.oxc_sourcemap_found.specs.FoundMaps.{found_members, found_indexed, found_value, found}
+use Rattle.oxc_sourcemap_found.specs.Mended.{MendedMembers, mended_members, as_found}
+use Rattle.oxc_sourcemap_found.proofs.AnyIds.{reading-any_ids, reading-empty}
+use Rattle.oxc_sourcemap_found.proofs.Kept.{Step, step, members-kept}
+
+-- ---- tokens
+
+past-not : (count : ℕ) (o : Option ℕ) → IfSome o (λ id. id < count) → is_past count o ≡ false
+past-not count None h = refl
+past-not count (Some n) h = let t : nat_lt n count ≡ true = grind (arith, nat_tests) in rw t refl
+
+below-if : (n count : ℕ) (b : Bool) → nat_lt n count ≡ b → not b ≡ false → n < count
+below-if n count true t e = grind (arith, nat_tests)
+below-if n count false t e = cc
+
+not-past : (count : ℕ) (o : Option ℕ) → is_past count o ≡ false → IfSome o (λ id. id < count)
+not-past count None e = tt
+not-past count (Some n) e = below-if n count (nat_lt n count) refl e
+
+token-kept : (names sources : ℕ) (t : TokenRecord) → IsInRange names sources t → token_in_range names sources t ≡ t
+token-kept names sources t h =
+    let a = past-not sources t.source_id h.source_id in
+    let b = past-not names t.name_id h.name_id in
+    rw (a, b) refl
+
+tokens-kept : (names sources : ℕ) (ts : List TokenRecord) → AllByRecursion (IsInRange names sources) ts → map (token_in_range names sources) ts ≡ ts
+tokens-kept names sources [] h = refl
+tokens-kept names sources (t ∷ ts) h =
+    ap (λ u. u ∷ map (token_in_range names sources) ts) (token-kept names sources t h.0) ∙ ap (λ us. t ∷ us) (tokens-kept names sources ts h.1)
+
+no-bad-source : (names sources : ℕ) (ts : List TokenRecord) → AllByRecursion (IsInRange names sources) ts → count_by (has_bad_source sources) ts ≡ 0
+no-bad-source names sources [] h = refl
+no-bad-source names sources (t ∷ ts) h =
+    let a = past-not sources t.source_id h.0.source_id in
+    rw a (no-bad-source names sources ts h.1)
+
+no-bad-name : (names sources : ℕ) (ts : List TokenRecord) → AllByRecursion (IsInRange names sources) ts → count_by (has_bad_name names sources) ts ≡ 0
+no-bad-name names sources [] h = refl
+no-bad-name names sources (t ∷ ts) h =
+    let a = past-not sources t.source_id h.0.source_id in
+    let b = past-not names t.name_id h.0.name_id in
+    rw (a, b) (no-bad-name names sources ts h.1)
+
+map-kept : (r : MapRecord) → AreIdsInRange r → map_in_range r ≡ r
+map-kept r h = ap (λ ts. record r { tokens = ts }) (tokens-kept (length r.names) (length r.sources) r.tokens h.tokens)
+
+sources-none : (r : MapRecord) → AreIdsInRange r → source_kinds r ≡ []
+sources-none r h = let a = no-bad-source (length r.names) (length r.sources) r.tokens h.tokens in rw a refl
+
+names-none : (r : MapRecord) → AreIdsInRange r → name_kinds r ≡ []
+names-none r h = let b = no-bad-name (length r.names) (length r.sources) r.tokens h.tokens in rw b refl
+
+abbrev found_of : MapRecord → List Mend → FoundRecord
+found_of r mends = record { map = r; mends = mends }
+
+-- of a map that is sorted and has its ids in range nothing is mended
+record-kept : (r : MapRecord) → AreIdsInRange r → are_tokens_sorted r.tokens ≡ true → found_record [] r ≡ record { map = r; mends = [] }
+record-kept r h s =
+    ap (λ (q : MapRecord). found_of (sorted_map q) (map mend_of ([] ++ source_kinds r ++ name_kinds r ++ order_kinds q.tokens))) (map-kept r h)
+    ∙ ap (λ (ks : List MendKind). found_of (sorted_map r) (map mend_of ([] ++ ks ++ name_kinds r ++ order_kinds r.tokens))) (sources-none r h)
+    ∙ ap (λ (ks : List MendKind). found_of (sorted_map r) (map mend_of ([] ++ [] ++ ks ++ order_kinds r.tokens))) (names-none r h)
+    ∙ ap (λ (t : Bool). found_of (cond t r (record r { tokens = sorted_tokens r.tokens; token_chunks = None })) (map mend_of ([] ++ [] ++ [] ++ cond t [] (Unsorted ∷ [])))) s
+
+-- ---- exact maps
+
+record Clear (o : Option Error) (x : Result MapRecord Error) (r : MapRecord) : Type 0 where
+  fault : o ≡ None
+  is : x ≡ Ok r
+
+clear : (o : Option Error) (x : Result MapRecord Error) (r : MapRecord) → unless o x ≡ Ok r → Clear o x r
+clear None x r e = record { fault = refl; is = e }
+clear (Some fault) x r e = cc
+
+no-entry : (o : Option ℕ) → option_map BadSourceReference o ≡ None → o ≡ None
+no-entry None e = refl
+no-entry (Some id) e = cc
+
+list-clear : (b : Bool) (fault : Error) (o : Option ℕ) → cond b (option_map BadSourceReference o) (Some fault) ≡ None → o ≡ None
+list-clear true fault o e = no-entry o e
+list-clear false fault o e = cc
+
+-- the tokens of a map that was decoded
+record Tokens (j : JsonRecord) (x : Result (List TokenRecord) Error) (r : MapRecord) : Type 0 where
+  tokens : List TokenRecord
+  are_read : x ≡ Ok tokens
+  is_map : decoded_record j tokens ≡ r
+
+tokens-of : (j : JsonRecord) (x : Result (List TokenRecord) Error) (r : MapRecord) → with_tokens j x ≡ Ok r → Tokens j x r
+tokens-of j (Ok ts) r e = record { tokens = ts; are_read = refl; is_map = cc }
+tokens-of j (Err fault) r e = cc
+
+any-ids : (j : JsonRecord) (r : MapRecord) → decoded j ≡ Ok r → decoded_with_any_ids j ≡ Ok r
+any-ids j r e =
+    let c = clear (json_fault j) _ r e in
+    let t = tokens-of j _ r c.is in
+    let any = reading-any_ids j.mappings (length j.names) (length j.sources) t.tokens t.are_read in
+    let same = t.is_map in
+    rw (c.fault, any, same) refl
+
+plain-kept : (ms : Members) (r : MapRecord) → (shape (object ms) >>= decoded) ≡ Ok r → are_tokens_sorted r.tokens ≡ true
+    → found_members (mended_members ms) ≡ Ok (record { map = r; mends = [] })
+plain-kept ms r e s =
+    let j = step (shape (object ms)) decoded r e in
+    let c = clear (json_fault j.value) _ r j.later in
+    let list = list-clear (j.value.version == 3) _ (ignore_list_fault j.value) c.fault in
+    let kept = members-kept ms j.value j.first list in
+    let any = any-ids j.value r j.later in
+    let done = record-kept r (decoded-well j.value r j.later).in_range s in
+    let fields = j.first in
+    rw (kept, fields, any, done) refl
+
+indexed-kept : (d : Data) (r : MapRecord) → AreIdsInRange r → read_value d ≡ Ok r → are_tokens_sorted r.tokens ≡ true → found_indexed d ≡ Ok (record { map = r; mends = [] })
+indexed-kept d r h e s = let done = record-kept r h s in rw (e, done) refl
+
+indexed-value : (d : Data) (r : MapRecord) → is_indexed d ≡ true → AreIdsInRange r → read_value d ≡ Ok r → are_tokens_sorted r.tokens ≡ true
+    → found_value d ≡ Ok (record { map = r; mends = [] })
+indexed-value d r b h e s = let done = indexed-kept d r h e s in rw b done
+
+plain-value : (d : Data) (r : MapRecord) → is_indexed d ≡ false → read_value d ≡ Ok r → are_tokens_sorted r.tokens ≡ true
+    → found_value d ≡ Ok (record { map = r; mends = [] })
+unfolding read_value shape
+plain-value null r b e s = cc
+plain-value (boolean x) r b e s = cc
+plain-value (number n) r b e s = cc
+plain-value (string t) r b e s = cc
+plain-value (array ds) r b e s = cc
+plain-value (object ms) r b e s = let plain = rw b at e in let done = plain-kept ms r plain s in rw b done
+
+value-kept : (b : Bool) (d : Data) (r : MapRecord) → is_indexed d ≡ b → AreIdsInRange r → read_value d ≡ Ok r → are_tokens_sorted r.tokens ≡ true
+    → found_value d ≡ Ok (record { map = r; mends = [] })
+value-kept true d r b h e s = indexed-value d r b h e s
+value-kept false d r b h e s = plain-value d r b e s
+
+-- the value of a text that is a map
+record Valued (text : Text) (r : MapRecord) : Type 0 where
+  value : Data
+  is : read text ≡ Some value
+  map : read_value value ≡ Ok r
+
+valued-at : (o : Option Data) (text : Text) (r : MapRecord) → read text ≡ o → read_map text ≡ Ok r → Valued text r
+unfolding read_map read_value
+valued-at None text r is e = let h = rw is at e in cc
+valued-at (Some d) text r is e = record { value = d; is = is; map = rw is at e }
+
+valued : (text : Text) (r : MapRecord) → read_map text ≡ Ok r → Valued text r
+valued text r e = valued-at (read text) text r refl e
+
+-- What the exact reader reads with sorted tokens is read as the same map, and nothing is mended.
+pub exact-found : (text : Text) (r : MapRecord) → read_map text ≡ Ok r → are_tokens_sorted r.tokens ≡ true → found text ≡ Ok (record { map = r; mends = [] })
+unfolding found
+exact-found text r e s =
+    let v = valued text r e in
+    let is = v.is in
+    rw is (value-kept (is_indexed v.value) v.value r refl (read_well text r e).in_range v.map s)
+
+-- ---- sound maps
+
+in-of : (names sources : ℕ) (t : TokenRecord) (b c : Bool) → is_past sources t.source_id ≡ b → is_past names t.name_id ≡ c
+    → IsInRange names sources (cond b (record t { src_line = 0; src_col = 0; source_id = None; name_id = None }) (cond c (record t { name_id = None }) t))
+in-of names sources t true c p q = record { source_id = tt; name_id = tt }
+in-of names sources t false true p q = record { source_id = not-past sources t.source_id p; name_id = tt }
+in-of names sources t false false p q = record { source_id = not-past sources t.source_id p; name_id = not-past names t.name_id q }
+
+all-in : (names sources : ℕ) (ts : List TokenRecord) → AllByRecursion (IsInRange names sources) (map (token_in_range names sources) ts)
+all-in names sources [] = tt
+all-in names sources (t ∷ ts) = (in-of names sources t (is_past sources t.source_id) (is_past names t.name_id) refl refl, all-in names sources ts)
+
+put-if : (P : TokenRecord → Type 0) (b : Bool) (t u : TokenRecord) (us vs : List TokenRecord) → P t → P u → AllByRecursion P us → AllByRecursion P vs
+    → AllByRecursion P (cond b (t ∷ u ∷ us) (u ∷ vs))
+put-if P true t u us vs p q h k = (p, (q, h))
+put-if P false t u us vs p q h k = (q, k)
+
+all-put : (P : TokenRecord → Type 0) (t : TokenRecord) (us : List TokenRecord) → P t → AllByRecursion P us → AllByRecursion P (put_in token_line token_column t us)
+all-put P t [] p h = (p, tt)
+all-put P t (u ∷ us) p h = put-if P (may_precede token_line token_column t u) t u us _ p h.0 h.1 (all-put P t us p h.1)
+
+all-sorted : (P : TokenRecord → Type 0) (ts : List TokenRecord) → AllByRecursion P ts → AllByRecursion P (sorted_tokens ts)
+all-sorted P [] h = tt
+all-sorted P (t ∷ ts) h = all-put P t (sorted_tokens ts) h.0 (all-sorted P ts h.1)
+
+sound-sorted : (b : Bool) (m : MapRecord) → are_tokens_sorted m.tokens ≡ b → m.token_chunks ≡ None → AreIdsInRange m
+    → IsSound (cond b m (record m { tokens = sorted_tokens m.tokens; token_chunks = None }))
+sound-sorted true m s n h = record { sorted = s; in_range = h; chunks = rw n tt }
+sound-sorted false m s n h = record {
+  sorted = sorted-once token_line token_column m.tokens;
+  in_range = record { tokens = all-sorted (IsInRange (length m.names) (length m.sources)) m.tokens h.tokens; ignore_list = h.ignore_list };
+  chunks = tt;
+}
+
+-- what is known of a map before its ids are put in range
+record IsReady (r : MapRecord) : Type 0 where
+  chunks : r.token_chunks ≡ None
+  ignore_list : IfSome r.ignore_list (AllByRecursion (λ id. id < length r.sources))
+
+sound-of : (r : MapRecord) → IsReady r → IsSound (sorted_map (map_in_range r))
+sound-of r h = sound-sorted (are_tokens_sorted (map_in_range r).tokens) (map_in_range r) refl h.chunks
+    (record { tokens = all-in (length r.names) (length r.sources) r.tokens; ignore_list = h.ignore_list })
+
+ready-plain : (j : JsonRecord) (r : MapRecord) → decoded_with_any_ids j ≡ Ok r → IsReady r
+ready-plain j r e =
+    let c = clear (json_fault j) _ r e in
+    let t = tokens-of j _ r c.is in
+    let none = c.fault in
+    let empty = reading-empty (length j.names) (length j.sources) in
+    let well = decoded-well (record j { mappings = [] }) (decoded_record (record j { mappings = [] }) []) (rw (none, empty) refl) in
+    subst IsReady t.is_map (record { chunks = refl; ignore_list = well.in_range.ignore_list })
+
+abbrev fine : {A : Type 0} → A → Result A Error
+fine x = Ok x
+
+ok-same : {A : Type 0} (x y : A) → fine x ≡ fine y → x ≡ y
+ok-same x y e = cc
+
+members-sound : (m : MendedMembers) (f : FoundRecord) → found_members m ≡ Ok f → IsSound f.map
+members-sound m f e =
+    let fields = step (shape (object m.members)) (λ j. decoded_with_any_ids j >>= (λ r. Ok (found_record m.kinds r))) f e in
+    let map = step (decoded_with_any_ids fields.value) (λ r. Ok (found_record m.kinds r)) f fields.later in
+    let is : found_record m.kinds map.value ≡ f = ok-same _ _ map.later in
+    subst (λ (g : FoundRecord). IsSound g.map) is (sound-of map.value (ready-plain fields.value map.value map.first))
+
+indexed-sound : (text : Text) (d : Data) (f : FoundRecord) → read text ≡ Some d → found_indexed d ≡ Ok f → IsSound f.map
+unfolding read_map read_value
+indexed-sound text d f is e =
+    let map = step (read_value d) (λ r. Ok (found_record [] r)) f e in
+    let whole : read_map text ≡ Ok map.value = rw is map.first in
+    let well = read_well text map.value whole in
+    let same : found_record [] map.value ≡ f = ok-same _ _ map.later in
+    subst (λ (g : FoundRecord). IsSound g.map) same (sound-of map.value (record { chunks = well.chunks; ignore_list = well.in_range.ignore_list }))
+
+value-sound : (text : Text) (b : Bool) (d : Data) (f : FoundRecord) → read text ≡ Some d → is_indexed d ≡ b → found_value d ≡ Ok f → IsSound f.map
+value-sound text true d f is b e = indexed-sound text d f is (rw b at e)
+value-sound text false d f is b e =
+    let plain = rw b at e in
+    let ms = step (or_misshapen Object (as_object d)) (λ ms. found_members (mended_members ms)) f plain in
+    members-sound (mended_members ms.value) f ms.later
+
+found-sound-at : (o : Option Data) (text : Text) (f : FoundRecord) → read text ≡ o → found text ≡ Ok f → IsSound f.map
+unfolding found
+found-sound-at None text f is e = let h = rw is at e in cc
+found-sound-at (Some d) text f is e = value-sound text (is_indexed d) d f is refl (rw is at e)
+
+-- a map that is found is sound
+pub found-sound : (text : Text) (f : FoundRecord) → found text ≡ Ok f → IsSound f.map
+found-sound text f e = found-sound-at (read text) text f refl e

@@ -1,0 +1,22 @@
+-- The laws of maps as they are found.
+use Rattle.std.specs.Prelude.{◌≡◌, true, [], Ok}
+use Rattle.serde_json.specs.Data.{Members}
+use Rattle.oxc_sourcemap_parts.specs.Record.{Text, MapRecord}
+use Rattle.oxc_sourcemap_parts.specs.Sorted.{are_tokens_sorted}
+use Rattle.oxc_sourcemap_parts.specs.Sound.{IsSound}
+use Rattle.oxc_sourcemap_decode.specs.ReadMap.{read_map}
+use Rattle.oxc_sourcemap_found.specs.Mended.{mended_members}
+use Rattle.oxc_sourcemap_found.specs.FoundMaps.{FoundRecord, found}
+
+-- A text that the exact reader reads as a sorted map is read as this map, and nothing is mended.
+abbrev pub ExactIsFound : Type 0
+ExactIsFound = (text : Text) (r : MapRecord) → read_map text ≡ Ok r → are_tokens_sorted r.tokens ≡ true
+    → found text ≡ Ok (record { map = r; mends = [] })
+
+-- The members of a mended object have nothing to mend.
+abbrev pub MendedIsMended : Type 0
+MendedIsMended = (ms : Members) → (mended_members (mended_members ms).members).kinds ≡ []
+
+-- A map that is found is sound.
+abbrev pub FoundIsSound : Type 0
+FoundIsSound = (text : Text) (f : FoundRecord) → found text ≡ Ok f → IsSound f.map

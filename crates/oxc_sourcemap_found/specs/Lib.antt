@@ -1,0 +1,7 @@
+pub mod MendText
+pub mod Mended
+pub mod InRange
+pub mod FoundMaps
+pub mod FoundLaws
+pub mod States
+pub mod Words

@@ -1,0 +1,38 @@
+-- The lines that tell what was mended, as bytes.
+use Rattle.std.specs.Prelude.{ℕ, List, ◌++◌, codes, Option, Some, None}
+use Rattle.std.specs.Fmt.{decimal}
+use Rattle.oxc_sourcemap_found.specs.declared.mend.Mend.{Mend}
+use Rattle.oxc_sourcemap_found.specs.declared.mend.MendKind.{MendKind}
+use Rattle.oxc_sourcemap_found.specs.declared.mend.MendKind.TheVariants.{Version, NoSources}
+use Rattle.oxc_sourcemap_found.specs.declared.mend.MendKind.TheVariants.{NullSource, NoContents}
+use Rattle.oxc_sourcemap_found.specs.declared.mend.MendKind.TheVariants.{BadContent, NullNames}
+use Rattle.oxc_sourcemap_found.specs.declared.mend.MendKind.TheVariants.{NoIgnoreList, BadIgnoredId}
+use Rattle.oxc_sourcemap_found.specs.declared.mend.MendKind.TheVariants.{NoGoogleIgnoreList}
+use Rattle.oxc_sourcemap_found.specs.declared.mend.MendKind.TheVariants.{BadGoogleIgnoredId}
+use Rattle.oxc_sourcemap_found.specs.declared.mend.MendKind.TheVariants.{SourceIds, NameIds}
+use Rattle.oxc_sourcemap_found.specs.declared.mend.MendKind.TheVariants.{Unsorted}
+
+-- what was mended
+abbrev pub kind_text : MendKind → List ℕ
+kind_text Version = codes "version is 3.0 or the text 3, and is read as 3"
+kind_text NoSources = codes "sources is missing, and is read as an empty list"
+kind_text (NullSource k) = codes "source " ++ decimal k ++ codes " is null, and is read as an empty text"
+kind_text NoContents = codes "sourcesContent is no list, and is read as missing"
+kind_text (BadContent k) = codes "content " ++ decimal k ++ codes " is neither a text nor null, and is read as null"
+kind_text NullNames = codes "names is null, and is read as missing"
+kind_text NoIgnoreList = codes "ignoreList is no list, and is read as missing"
+kind_text (BadIgnoredId k) = codes "entry " ++ decimal k ++ codes " of ignoreList is no id of a source, and is left out"
+kind_text NoGoogleIgnoreList = codes "x_google_ignoreList is no list, and is read as missing"
+kind_text (BadGoogleIgnoredId k) = codes "entry " ++ decimal k ++ codes " of x_google_ignoreList is no id of a source, and is left out"
+kind_text (SourceIds count) = codes "tokens with a source id out of range, which are read as unmapped: " ++ decimal count
+kind_text (NameIds count) = codes "tokens with a name id out of range, which are read without a name: " ++ decimal count
+kind_text Unsorted = codes "the tokens are not in order, and are sorted"
+
+-- the section in front of it, if there is one
+abbrev pub section_text : Option ℕ → List ℕ
+section_text None = codes ""
+section_text (Some k) = codes "section " ++ decimal k ++ codes ": "
+
+-- a mend, as one line
+abbrev pub mend_text : Mend → List ℕ
+mend_text mend = section_text mend.section ++ kind_text mend.kind

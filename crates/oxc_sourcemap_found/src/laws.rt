@@ -1,0 +1,12 @@
+//! The laws of maps as they are found.
+ghost use Rattle.oxc_sourcemap_found.specs.Words.{ExactIsFound, MendedIsMended, FoundIsSound};
+
+/// Mending harms no map.
+/// - A text that the exact reader reads as a sorted map is read as this map, and nothing is mended (`exact`).
+/// - The members of a mended object have nothing to mend (`mended`).
+/// - A map that is found is sound: sorted, with its ids in range (`sound`).
+pub fn mending_harmless()
+    ensures exact { ExactIsFound }
+    ensures mended { MendedIsMended }
+    ensures sound { FoundIsSound }
+{}

@@ -1,0 +1,12 @@
+//! Maps as they are found: a reader that mends what the exact reader refuses. Part of `oxc_sourcemap`.
+#![tactic(auto)]
+
+mod found;
+mod laws;
+mod members;
+mod mend;
+mod tokens;
+
+pub use found::{Found, read_found};
+pub use laws::mending_harmless;
+pub use mend::{Mend, MendKind};

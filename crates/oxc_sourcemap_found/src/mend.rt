@@ -1,0 +1,118 @@
+//! What was mended in a map that was found.
+ghost use Rattle.std.specs.Prelude.{◌≡◌, Some};
+ghost use Rattle.oxc_sourcemap_found.specs.Words.{kind_text, mend_text};
+
+use std::fmt;
+
+/// One thing that was mended in a map that was found: what, and in which section if the map is an indexed map. `Display` writes it
+/// as one line.
+///
+/// ```rust
+/// use oxc_sourcemap::{Mend, MendKind};
+///
+/// let mend = Mend { section: Some(2), kind: MendKind::NullSource(0) };
+/// assert_eq!(rt; format!(in alloc; "{mend}")?.as_str(), "section 2: source 0 is null, and is read as an empty text");
+/// ```
+#[derive(Clone, Copy, Debug, PartialEq, Eq)]
+pub struct Mend {
+    /// The index of the section, None for a map by itself and for what is outside of sections.
+    pub section: Option<usize>,
+    /// What was mended.
+    pub kind: MendKind,
+}
+
+/// What was mended (docs/FORMAT.md, "Maps as they are found"). Entries of lists count from 0.
+#[derive(Clone, Copy, Debug, PartialEq, Eq)]
+pub enum MendKind {
+    /// `version` is the number 3.0 or the text `3`, and is read as 3.
+    Version,
+    /// `sources` is missing, and is read as an empty list.
+    NoSources,
+    /// This source is null, and is read as an empty text.
+    NullSource(usize),
+    /// `sourcesContent` is no list, and is read as missing.
+    NoContents,
+    /// This entry of `sourcesContent` is neither a text nor null, and is read as null.
+    BadContent(usize),
+    /// `names` is null, and is read as missing.
+    NullNames,
+    /// `ignoreList` is no list, and is read as missing.
+    NoIgnoreList,
+    /// This entry of `ignoreList` is not the id of a source, and is left out.
+    BadIgnoredId(usize),
+    /// `x_google_ignoreList` is no list, and is read as missing.
+    NoGoogleIgnoreList,
+    /// This entry of `x_google_ignoreList` is not the id of a source, and is left out.
+    BadGoogleIgnoredId(usize),
+    /// So many tokens have a source id that is not below the number of sources, and are read as unmapped.
+    SourceIds(usize),
+    /// So many tokens have a name id that is not below the number of names, and are read without a name.
+    NameIds(usize),
+    /// The tokens are not in order of generated line and column, and are sorted.
+    Unsorted,
+}
+
+impl fmt::Display for MendKind {
+    ghost output = { λ kind. Some (kind_text kind) };
+
+    fn fmt<W: fmt::Write>(&self, f: &mut fmt::Formatter<W>) -> fmt::Result {
+        match self {
+            MendKind::Version => write!(f, "version is 3.0 or the text 3, and is read as 3"),
+            MendKind::NoSources => write!(f, "sources is missing, and is read as an empty list"),
+            MendKind::NullSource(k) => {
+                write!(f, "source {k} is null, and is read as an empty text")
+            }
+            MendKind::NoContents => {
+                write!(f, "sourcesContent is no list, and is read as missing")
+            }
+            MendKind::BadContent(k) => {
+                write!(
+                    f,
+                    "content {k} is neither a text nor null, and is read as null"
+                )
+            }
+            MendKind::NullNames => write!(f, "names is null, and is read as missing"),
+            MendKind::NoIgnoreList => write!(f, "ignoreList is no list, and is read as missing"),
+            MendKind::BadIgnoredId(k) => {
+                write!(
+                    f,
+                    "entry {k} of ignoreList is no id of a source, and is left out"
+                )
+            }
+            MendKind::NoGoogleIgnoreList => {
+                write!(f, "x_google_ignoreList is no list, and is read as missing")
+            }
+            MendKind::BadGoogleIgnoredId(k) => {
+                write!(
+                    f,
+                    "entry {k} of x_google_ignoreList is no id of a source, and is left out"
+                )
+            }
+            MendKind::SourceIds(count) => {
+                write!(
+                    f,
+                    "tokens with a source id out of range, which are read as unmapped: {count}"
+                )
+            }
+            MendKind::NameIds(count) => {
+                write!(
+                    f,
+                    "tokens with a name id out of range, which are read without a name: {count}"
+                )
+            }
+            MendKind::Unsorted => write!(f, "the tokens are not in order, and are sorted"),
+        }
+    }
+}
+
+impl fmt::Display for Mend {
+    ghost output = { λ mend. Some (mend_text mend) };
+
+    fn fmt<W: fmt::Write>(&self, f: &mut fmt::Formatter<W>) -> fmt::Result {
+        let kind = &self.kind;
+        match self.section {
+            Some(section) => write!(f, "section {section}: {kind}"),
+            None => write!(f, "{kind}"),
+        }
+    }
+}

@@ -1,0 +1,132 @@
+//! Maps as they are found. The answers are those of tests/reference/found.py.
+use crate::helpers::{has_text, same};
+use oxc_sourcemap::{Found, Result, SourceMap, read_found};
+use std::alloc::Global;
+use std::process::Abort;
+
+/// A text, and the JSON text of the map that is found in it and the lines of its mends, or the text of the error.
+type Row = (&'static str, &'static str);
+
+/// Maps of the shapes that tools write and the exact reader refuses.
+#[rattlefmt::skip]
+const OF_TOOLS: &[Row] = &[
+    // Sources that are null.
+    (r#"{"version":3,"sources":[null,"b.js"],"names":[],"mappings":"AAAA,CCAA"}"#,
+     "{\"version\":3,\"names\":[],\"sources\":[\"\",\"b.js\"],\"mappings\":\"AAAA,CCAA\"}\nsource 0 is null, and is read as an empty text"),
+    // The version as a text, and as a float.
+    (r#"{"version":"3","sources":["a.js"],"names":[],"mappings":"AAAA"}"#,
+     "{\"version\":3,\"names\":[],\"sources\":[\"a.js\"],\"mappings\":\"AAAA\"}\nversion is 3.0 or the text 3, and is read as 3"),
+    (r#"{"version":3.0,"sources":["a.js"],"names":[],"mappings":"AAAA"}"#,
+     "{\"version\":3,\"names\":[],\"sources\":[\"a.js\"],\"mappings\":\"AAAA\"}\nversion is 3.0 or the text 3, and is read as 3"),
+    // Names that are null.
+    (r#"{"version":3,"sources":["a.js"],"names":null,"mappings":"AAAA"}"#,
+     "{\"version\":3,\"names\":[],\"sources\":[\"a.js\"],\"mappings\":\"AAAA\"}\nnames is null, and is read as missing"),
+    // Ids out of range: of sources, and of names.
+    (r#"{"version":3,"sources":["a.js"],"names":["x"],"mappings":"AAAAA,CAAAC,CCAA,CDAAD"}"#,
+     "{\"version\":3,\"names\":[\"x\"],\"sources\":[\"a.js\"],\"mappings\":\"AAAAA,CAAA,C,CAAAA\"}\ntokens with a source id out of range, which are read as unmapped: 1\ntokens with a name id out of range, which are read without a name: 1"),
+    // Columns that go back.
+    (r#"{"version":3,"sources":["a.js"],"names":[],"mappings":"GAAA,HACA,GACA"}"#,
+     "{\"version\":3,\"names\":[],\"sources\":[\"a.js\"],\"mappings\":\"AACA,GADA,AAEA\"}\nthe tokens are not in order, and are sorted"),
+];
+
+/// What else is mended, and what is refused.
+#[rattlefmt::skip]
+const OTHERS: &[Row] = &[
+    // Nothing to mend.
+    (r#"{"version":3,"file":"f","names":["x"],"sources":["a.js"],"sourcesContent":["A",null],"ignoreList":[0],"mappings":"AAAAA","debugId":"d"}"#,
+     "{\"version\":3,\"file\":\"f\",\"names\":[\"x\"],\"sources\":[\"a.js\"],\"sourcesContent\":[\"A\",null],\"ignoreList\":[0],\"mappings\":\"AAAAA\",\"debugId\":\"d\"}"),
+    // All lists at once; entries count from 0.
+    (r#"{"version":3,"sources":[null,"b",null],"sourcesContent":[1,null,"t",true],"ignoreList":["a",0,3,2.0,2,-1],"mappings":""}"#,
+     "{\"version\":3,\"names\":[],\"sources\":[\"\",\"b\",\"\"],\"sourcesContent\":[null,null,\"t\",null],\"ignoreList\":[0,2],\"mappings\":\"\"}\nsource 0 is null, and is read as an empty text\nsource 2 is null, and is read as an empty text\ncontent 0 is neither a text nor null, and is read as null\ncontent 3 is neither a text nor null, and is read as null\nentry 0 of ignoreList is no id of a source, and is left out\nentry 2 of ignoreList is no id of a source, and is left out\nentry 3 of ignoreList is no id of a source, and is left out\nentry 5 of ignoreList is no id of a source, and is left out"),
+    // No list at all: the older ignore list counts.
+    (r#"{"version":3,"sources":["a"],"sourcesContent":"A","ignoreList":{},"x_google_ignoreList":[0,1,null],"mappings":""}"#,
+     "{\"version\":3,\"names\":[],\"sources\":[\"a\"],\"ignoreList\":[0],\"mappings\":\"\"}\nsourcesContent is no list, and is read as missing\nignoreList is no list, and is read as missing\nentry 1 of x_google_ignoreList is no id of a source, and is left out\nentry 2 of x_google_ignoreList is no id of a source, and is left out"),
+    (r#"{"version":3,"sources":["a"],"ignoreList":0,"x_google_ignoreList":"a","mappings":""}"#,
+     "{\"version\":3,\"names\":[],\"sources\":[\"a\"],\"mappings\":\"\"}\nignoreList is no list, and is read as missing\nx_google_ignoreList is no list, and is read as missing"),
+    // The older list is not looked at beside an `ignoreList`.
+    (r#"{"version":3,"sources":["a"],"ignoreList":[0],"x_google_ignoreList":[7,"a"],"mappings":""}"#,
+     "{\"version\":3,\"names\":[],\"sources\":[\"a\"],\"ignoreList\":[0],\"mappings\":\"\"}"),
+    // Missing sources; then no id of a source is in range.
+    (r#"{"version":3,"names":["x"],"mappings":"AAAAA,I","ignoreList":[0]}"#,
+     "{\"version\":3,\"names\":[\"x\"],\"sources\":[],\"ignoreList\":[],\"mappings\":\"A,I\"}\nsources is missing, and is read as an empty list\nentry 0 of ignoreList is no id of a source, and is left out\ntokens with a source id out of range, which are read as unmapped: 1"),
+    // What is refused as by the exact reader.
+    ("",
+     "error: JSON parsing error: the text is not JSON"),
+    ("[]",
+     "error: JSON parsing error: the value is not an object"),
+    ("3",
+     "error: JSON parsing error: the value is not an object"),
+    ("{}",
+     "error: JSON parsing error: field version is missing or has the wrong type"),
+    (r#"{"version":2,"sources":[null],"mappings":""}"#,
+     "error: JSON parsing error: unsupported source map version: 2"),
+    (r#"{"version":"4","mappings":""}"#,
+     "error: JSON parsing error: field version is missing or has the wrong type"),
+    (r#"{"version":3.5,"mappings":""}"#,
+     "error: JSON parsing error: field version is missing or has the wrong type"),
+    (r#"{"version":3,"sources":null,"mappings":""}"#,
+     "error: JSON parsing error: field sources is missing or has the wrong type"),
+    (r#"{"version":3,"sources":[1],"mappings":""}"#,
+     "error: JSON parsing error: field sources is missing or has the wrong type"),
+    (r#"{"version":3,"names":[null],"mappings":""}"#,
+     "error: JSON parsing error: field names is missing or has the wrong type"),
+    (r#"{"version":3}"#,
+     "error: JSON parsing error: field mappings is missing or has the wrong type"),
+    (r#"{"version":3,"mappings":null}"#,
+     "error: JSON parsing error: field mappings is missing or has the wrong type"),
+    (r#"{"version":3,"file":1,"mappings":""}"#,
+     "error: JSON parsing error: field file is missing or has the wrong type"),
+    (r#"{"version":3,"sources":["a"],"mappings":"AA"}"#,
+     "error: Mapping segment had an unsupported size of 2"),
+    (r#"{"version":3,"sources":["a"],"mappings":"g"}"#,
+     "error: VLQ string was malformed and data was left over"),
+    (r#"{"version":3,"sources":["a"],"mappings":"ADAA"}"#,
+     "error: Reference to non-existing source at position 0"),
+    (r#"{"version":3,"sources":["a"],"mappings":"A+/////HAA"}"#,
+     "error: Reference to non-existing source at position 0"),
+];
+
+/// What is found, as a row has it.
+fn answer(alloc: Global, text: &str) -> Result<String> {
+    let found = match read_found(alloc, text) {
+        Ok(found) => found,
+        Err(error) => return Ok(format!(in alloc; "error: {error}")?),
+    };
+    let mut out = found.map.to_json_string(alloc)?;
+    for mend in &found.mends {
+        let line = format!(in alloc; "\n{mend}")?;
+        out.push_str(line.as_str())?;
+    }
+    Ok(out)
+}
+
+fn are_found(rt: &(impl Abort + AllocGlobal), rows: &[Row]) -> Result<()> {
+    for (text, wanted) in rows {
+        let found = answer(rt.alloc(), text)?;
+        same(rt, text, found.as_str(), *wanted);
+    }
+    Ok(())
+}
+
+#[test]
+fn maps_of_tools_are_read(rt: HostRuntime) -> Result<()> {
+    are_found(&rt, OF_TOOLS)
+}
+
+#[test]
+fn what_is_not_mended_is_refused(rt: HostRuntime) -> Result<()> {
+    are_found(&rt, OTHERS)
+}
+
+/// A map that the exact reader reads, and that is sorted, is read as the same.
+#[test]
+fn exact_maps_are_found_as_they_are(rt: HostRuntime) -> Result<()> {
+    let text = r#"{"version":3,"sections":[
+        {"offset":{"line":0,"column":0},"map":{"version":3,"sources":["a.js"],"mappings":"AAAA"}},
+        {"offset":{"line":2,"column":0},"map":{"version":3,"sources":["b.js"],"mappings":"AAAA"}}]}"#;
+    let map = SourceMap::from_json_string(rt.alloc(), text)?.to_json_string(rt.alloc())?;
+    let Found { map: found, mends } = read_found(rt.alloc(), text)?;
+    has_text(&rt, rt.alloc(), "indexed", &Ok(found), Ok(map.as_str()));
+    same(&rt, "mends", mends.len(), 0);
+    Ok(())
+}

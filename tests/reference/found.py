@@ -1,0 +1,222 @@
+#!/usr/bin/env python3
+"""What a map means as it is found: the map, and what was mended. For each JSON string a line of standard input, a line of output: the
+canonical JSON text of the map and the lines of its mends, or the error as `error: ..`."""
+import json, sys
+from pathlib import Path
+
+sys.path.insert(0, str(Path(__file__).resolve().parents[2] / "tools"))
+import peer
+
+MAX, DIGITS = 4294967295, "ABCDEFGHIJKLMNOPQRSTUVWXYZabcdefghijklmnopqrstuvwxyz0123456789+/"
+NONE = {"version": None, "file": None, "sourceRoot": None, "names": [], "sourcesContent": None, "debugId": None, "ignoreList": None}
+
+
+class Fault(Exception):
+    """What is read instead of a map."""
+
+
+def shape(key):
+    return Fault(f"JSON parsing error: field {key} is missing or has the wrong type")
+
+
+# ---- the text: `serde_json` reads no more than this
+
+def refused(_):
+    raise ValueError
+
+
+def number(text):
+    value = float(text)
+    if value in (float("inf"), float("-inf")):
+        raise ValueError
+    return value
+
+
+def whole(text):
+    value = int(text)
+    return value if -2**63 <= value < 2**64 and text != "-0" else number(text)
+
+
+def depth(value):
+    inner = value.values() if isinstance(value, dict) else value if isinstance(value, list) else None
+    return 0 if inner is None else 1 + max(map(depth, inner), default=0)
+
+
+def json_value(text):
+    try:
+        value = json.loads(text, parse_float=number, parse_int=whole, parse_constant=refused)
+        text.encode(), json.dumps(value, ensure_ascii=False).encode()
+        if depth(value) > 127:
+            raise ValueError
+        return value
+    except (ValueError, RecursionError):
+        raise Fault("JSON parsing error: the text is not JSON")
+
+
+# ---- the value, mended
+
+def is_id(value, count=MAX + 1):
+    return type(value) is int and 0 <= value < count
+
+
+def bad(entries, may_stay):
+    return [k for k, entry in enumerate(entries) if not may_stay(entry)]
+
+
+def mended_list(value, key, may_stay, stand_in, no_list, line):
+    """A list that may be missing, with its bad entries replaced or, if `stand_in` is empty, left out."""
+    given = value.get(key)
+    if given is None:
+        return []
+    if not isinstance(given, list):
+        value[key] = None
+        return [no_list]
+    value[key] = [it for entry in given for it in ([entry] if may_stay(entry) else stand_in)]
+    return [line.format(k) for k in bad(given, may_stay)]
+
+
+def mended(value):
+    """Mends an object in place, and lists what was mended."""
+    lines = []
+    version = value.get("version")
+    if version == "3" or type(version) is float and version == 3:
+        value["version"] = 3
+        lines.append("version is 3.0 or the text 3, and is read as 3")
+    if "sources" not in value:
+        value["sources"] = []
+        lines.append("sources is missing, and is read as an empty list")
+    elif isinstance(value["sources"], list):
+        lines += mended_list(value, "sources", lambda it: it is not None, [""], "", "source {} is null, and is read as an empty text")
+    lines += mended_list(value, "sourcesContent", lambda it: it is None or isinstance(it, str), [None],
+                         "sourcesContent is no list, and is read as missing", "content {} is neither a text nor null, and is read as null")
+    if value.get("names", []) is None:
+        value["names"] = []
+        lines.append("names is null, and is read as missing")
+    count = len(value["sources"]) if isinstance(value["sources"], list) else 0
+    for key in ("ignoreList", "x_google_ignoreList"):
+        if key == "ignoreList" or value.get("ignoreList") is None:
+            lines += mended_list(value, key, lambda it: is_id(it, count), [], f"{key} is no list, and is read as missing",
+                                 f"entry {{}} of {key} is no id of a source, and is left out")
+    return lines
+
+
+# ---- the exact reader, by its rules
+
+def checked(value, key, holds, missing):
+    given = value.get(key)
+    if given is None and (missing == "null" or missing == "missing" and key not in value):
+        return NONE[key]
+    if not holds(given):
+        raise shape(key)
+    return given
+
+
+def is_text(value):
+    return isinstance(value, str)
+
+
+def all_of(holds):
+    return lambda value: isinstance(value, list) and all(map(holds, value))
+
+
+def fields(value):
+    if not isinstance(value, dict):
+        raise Fault("JSON parsing error: the value is not an object")
+    if not is_id(value.get("version")):
+        raise shape("version")
+    if value["version"] != 3:
+        raise Fault(f"JSON parsing error: unsupported source map version: {value['version']}")
+    ids = "ignoreList" if value.get("ignoreList") is not None else "x_google_ignoreList"
+    found = {}
+    for key, holds, missing in (
+            ("file", is_text, "null"), ("mappings", is_text, ""), ("sourceRoot", is_text, "null"), ("sources", all_of(is_text), ""),
+            ("sourcesContent", all_of(lambda it: it is None or is_text(it)), "null"), ("names", all_of(is_text), "missing"),
+            ("debugId", is_text, "null")):
+        found[key] = checked(value, key, holds, missing)
+    given = value.get(ids)
+    if given is not None and not all_of(is_id)(given):
+        raise shape(ids)
+    for id in given or []:
+        if id >= len(found["sources"]):
+            raise Fault(f"Reference to non-existing source at position {id}")
+    return found | {"ignoreList": given}
+
+
+def in_range(value):
+    if value < 0:
+        raise Fault("Mapping segment had an unsupported size of 0")
+    if value > MAX:
+        raise Fault("The input encoded a number that didn't fit into i64")
+    return value
+
+
+def numbers(segment):
+    values = [max(DIGITS.find(chr(byte)), -1) % 64 for byte in segment]
+    ends = [k + 1 for k, it in enumerate(values) if it < 32]
+    for start, end in zip([0, *ends], ends if ends and ends[-1] == len(values) else [*ends, len(values)]):
+        run = values[start:end]
+        if len(run) > 13 or len(run) == 13 and run[12] % 32 > 7:
+            raise Fault("The input encoded a number that didn't fit into i64")
+        if run[-1] >= 32:
+            raise Fault("VLQ string was malformed and data was left over")
+        raw = sum(it % 32 << 5 * k for k, it in enumerate(run))
+        yield raw // 2 * (-1 if raw % 2 else 1)
+
+
+def tokens_of(mappings, names, sources):
+    """Lists of line, column, source line and column, source id and name id; the counts are taken as at most MAX."""
+    sums, tokens = [0] * 5, []
+    for line, segments in enumerate(mappings.encode().split(b";")):
+        sums[0] = 0
+        for segment in filter(None, segments.split(b",")):
+            given = list(numbers(segment))
+            sums[0] = in_range(sums[0] + given[0])
+            if len(given) not in (1, 4, 5):
+                raise Fault(f"Mapping segment had an unsupported size of {len(given)}")
+            before = sums[1]
+            sums = [it + (given[k] if 0 < k < len(given) else 0) for k, it in enumerate(sums)]
+            if len(given) > 1:
+                if not 0 <= sums[1] < min(sources, MAX):
+                    raise Fault(f"Reference to non-existing source at position {before}")
+                in_range(sums[2]), in_range(sums[3])
+            if len(given) == 5 and not 0 <= sums[4] < min(names, MAX):
+                raise Fault(f"Reference to non-existing name at position {sums[4] % 2**32}")
+            tokens.append([line, sums[0], sums[2], sums[3], sums[1] if len(given) > 1 else None, sums[4] if len(given) == 5 else None])
+    return tokens
+
+
+# ---- what is found
+
+def found_map(value):
+    """A map by itself: its fields, with `tokens`, and what was mended in them."""
+    given = fields(value)
+    tokens, names, sources = tokens_of(given["mappings"], MAX, MAX), len(given["names"]), len(given["sources"])
+    unmapped = [t for t in tokens if t[4] is not None and t[4] >= sources]
+    nameless = [t for t in tokens if t not in unmapped and t[5] is not None and t[5] >= names]
+    given["tokens"] = [[*t[:2], 0, 0, None, None] if t in unmapped else [*t[:5], None] if t in nameless else t for t in tokens]
+    lines = [(unmapped, "tokens with a source id out of range, which are read as unmapped: {}"),
+             (nameless, "tokens with a name id out of range, which are read without a name: {}")]
+    return given, [line.format(len(them)) for them, line in lines if them]
+
+
+def found(text):
+    value = json_value(text)
+    mends = mended(value) if isinstance(value, dict) else []
+    given, lines = found_map(value)
+    tokens = sorted(given["tokens"], key=lambda t: t[:2])
+    lines += ["the tokens are not in order, and are sorted"] * (tokens != given["tokens"])
+    return given | {"tokens": tokens}, mends + lines
+
+
+def answer(text):
+    try:
+        given, lines = found(text)
+        tokens = [(line, column, source, src_line, src_col, name) for line, column, src_line, src_col, source, name in given["tokens"]]
+        return "\n".join([peer.to_text(given, tokens), *lines])
+    except Fault as fault:
+        return f"error: {fault}"
+
+
+if __name__ == "__main__":
+    for line in sys.stdin:
+        print(json.dumps(answer(json.loads(line))))

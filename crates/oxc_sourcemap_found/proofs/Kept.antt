@@ -5,7 +5,8 @@ use Rattle.std.proofs.Common.{Option, Some, None, option_map, Result, Ok, Err}
 use Rattle.std.proofs.lemmas.Bool.{cases_lt}
 use Rattle.std.proofs.lemmas.Bool.Decides.{nat_tests}
 use Rattle.std.specs.Option.{is_some, option_and_then, option_map_or}
-use Rattle.serde_json.specs.Data.{Num, unsigned, negative, float, Data, null, boolean, number, string}
+use Rattle.serde_json.specs.Data.{Num, unsigned, negative, float, Data, null, boolean, number}
+use Rattle.serde_json.specs.Data.{string}
 use Rattle.serde_json.specs.Data.{array, object, Items, no_items, item, Members}
 use Rattle.serde_json.specs.Find.{get, get_member, as_str, as_array, as_object, as_number, as_u64}
 use Rattle.oxc_sourcemap_tokens.specs.declared.error.Error.{Error}
@@ -14,7 +15,8 @@ use Rattle.oxc_sourcemap_tokens.specs.declared.error.Field.{Field}
 use Rattle.oxc_sourcemap_tokens.specs.declared.error.Field.TheVariants.{Version as VersionField}
 use Rattle.oxc_sourcemap_tokens.specs.declared.error.Field.TheVariants.{Sources as SourcesField}
 use Rattle.oxc_sourcemap_tokens.specs.declared.error.Field.TheVariants.{Names, SourcesContent}
-use Rattle.oxc_sourcemap_tokens.specs.declared.error.Field.TheVariants.{IgnoreList, GoogleIgnoreList}
+use Rattle.oxc_sourcemap_tokens.specs.declared.error.Field.TheVariants.{IgnoreList}
+use Rattle.oxc_sourcemap_tokens.specs.declared.error.Field.TheVariants.{GoogleIgnoreList}
 use Rattle.oxc_sourcemap_tokens.specs.declared.error.Field.TheVariants.{File, Mappings, SourceRoot}
 use Rattle.oxc_sourcemap_tokens.specs.declared.error.Field.TheVariants.{DebugId}
 use Rattle.oxc_sourcemap_json.specs.Json.{JsonRecord}
@@ -30,7 +32,8 @@ use Rattle.oxc_sourcemap_found.specs.Mended.{entries, is_id_of, may_stay, kinds_
 use Rattle.oxc_sourcemap_found.specs.Mended.{sources_change, list_or_null_change}
 use Rattle.oxc_sourcemap_found.specs.Mended.{optional_list_change, MendedMembers, changed, as_found}
 use Rattle.oxc_sourcemap_found.specs.Mended.{with_version, with_sources, with_contents, with_names}
-use Rattle.oxc_sourcemap_found.specs.Mended.{source_count, with_ignore_list, with_google_ignore_list}
+use Rattle.oxc_sourcemap_found.specs.Mended.{source_count, with_ignore_list}
+use Rattle.oxc_sourcemap_found.specs.Mended.{with_google_ignore_list}
 use Rattle.oxc_sourcemap_found.specs.Mended.{mended_members}
 use Rattle.oxc_sourcemap_decode.specs.Decoded.{first_not_below}
 

@@ -5,7 +5,8 @@ use Rattle.std.specs.Float.Ieee.{eq}
 use Rattle.std.specs.List.{flat_map}
 use Rattle.std.specs.Option.{option_and_then, option_map_or, option_to_list}
 use Rattle.std.specs.Str.{bytes_eq}
-use Rattle.serde_json.specs.Data.{Num, unsigned, negative, float, Data, null, boolean, number, string}
+use Rattle.serde_json.specs.Data.{Num, unsigned, negative, float, Data, null, boolean, number}
+use Rattle.serde_json.specs.Data.{string}
 use Rattle.serde_json.specs.Data.{array, object, Items, no_items, item, Members, put}
 use Rattle.serde_json.specs.Find.{get_member, as_null, as_array, as_object}
 use Rattle.serde_json.specs.View.{items_of}

@@ -12,7 +12,8 @@ pub use Rattle.oxc_sourcemap_parts.specs.Views.{record_of_parts}
 pub use Rattle.oxc_sourcemap_sort.specs.Sorting.{sorted_map}
 pub use Rattle.oxc_sourcemap_tokens.specs.Results.{Answers, OnlyMemory}
 pub use Rattle.oxc_sourcemap_found.specs.FoundMaps.{mend_of, decoded_with_any_ids, order_kinds}
-pub use Rattle.oxc_sourcemap_found.specs.FoundMaps.{found_record, found_members, found_indexed, found_value, found}
+pub use Rattle.oxc_sourcemap_found.specs.FoundMaps.{found_record, found_members, found_indexed}
+pub use Rattle.oxc_sourcemap_found.specs.FoundMaps.{found_value, found}
 pub use Rattle.oxc_sourcemap_found.specs.InRange.{is_past, has_bad_source, has_bad_name}
 pub use Rattle.oxc_sourcemap_found.specs.InRange.{token_in_range, map_in_range}
 pub use Rattle.oxc_sourcemap_found.specs.InRange.{source_kinds, name_kinds}

@@ -4,7 +4,8 @@ ghost use Rattle.std.specs.Prelude.{if◌then◌else◌};
 ghost use Rattle.std.specs.Box.{boxed_slice_items};
 ghost use Rattle.oxc_sourcemap_found.specs.Words.{record_of_parts, is_past, has_bad_source};
 ghost use Rattle.oxc_sourcemap_found.specs.Words.{has_bad_name, token_in_range, map_in_range};
-ghost use Rattle.oxc_sourcemap_found.specs.Words.{source_kinds, name_kinds, order_kinds, sorted_map};
+ghost use Rattle.oxc_sourcemap_found.specs.Words.{source_kinds, name_kinds, order_kinds};
+ghost use Rattle.oxc_sourcemap_found.specs.Words.{sorted_map};
 
 use crate::mend::MendKind;
 use oxc_sourcemap_parts::{SourceMapParts, are_sorted};

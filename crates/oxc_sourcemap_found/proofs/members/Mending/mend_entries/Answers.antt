@@ -6,7 +6,8 @@ use Rattle.serde_json.specs.Find.{get_member}
 use Rattle.serde_json.specs.View.{items_view, members_view}
 use Rattle.serde_json.proofs.Views.{view-Array}
 use Rattle.oxc_sourcemap_found.specs.States.{state_of}
-use Rattle.oxc_sourcemap_found.proofs.Entries.{entries-kept, entries-changed, items-mended, mended_of, some-array, on_ok_if}
+use Rattle.oxc_sourcemap_found.proofs.Entries.{entries-kept, entries-changed, items-mended}
+use Rattle.oxc_sourcemap_found.proofs.Entries.{mended_of, some-array, on_ok_if}
 use Rattle.oxc_sourcemap_found.proofs.members.Mending.mend_entries.Goals as goal
 
 pub returns-then-is_empty : goal.returns-then-is_empty

@@ -15,7 +15,8 @@ use Rattle.oxc_sourcemap_parts.specs.Sorted.{are_tokens_sorted}
 use Rattle.oxc_sourcemap_pieces.specs.declared.cuts.Cut.{Cut}
 use Rattle.oxc_sourcemap_pieces.specs.RangePieces.{place, line_of, index_at_place}
 use Rattle.oxc_sourcemap_pieces.specs.RangePieces.{runs_from, piece_of, pieces_of, DoCover}
-use Rattle.oxc_sourcemap_pieces.specs.Cuts.{token_place, holder, holder_before, passed, line_end}
+use Rattle.oxc_sourcemap_pieces.specs.Cuts.{token_place, holder, holder_before, passed_count}
+use Rattle.oxc_sourcemap_pieces.specs.Cuts.{line_end}
 use Rattle.oxc_sourcemap_pieces.specs.Cuts.{end_before, run_end, cut_at, pieces_left, AreLeft}
 use Rattle.oxc_sourcemap_pieces.specs.Cuts.{IsStart}
 use Rattle.oxc_sourcemap_pieces.specs.Cuts.{no_token}
@@ -28,7 +29,7 @@ d = no_token
 
 module _ (ts : List TokenRecord) (next p : ℕ) (within : next ≤ length ts) where
   abbrev count : ℕ
-  count = passed ts next p
+  count = passed_count ts next p
 
   -- the first token after the place
   abbrev after : ℕ
@@ -176,7 +177,7 @@ same-before ts (suc i) p q within low le line =
 
 module _ (ts : List TokenRecord) (sorted : are_tokens_sorted ts ≡ true) (bounds : AreInBounds ts) (next p end : ℕ) (start : IsStart ts p next) (some : p < end) where
   abbrev total : ℕ
-  total = passed ts next p
+  total = passed_count ts next p
 
   abbrev past : ℕ
   past = next + total

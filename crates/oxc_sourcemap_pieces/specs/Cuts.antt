@@ -26,8 +26,8 @@ holder tokens next p =
     if option_map_or (λ t. token_place t == p) (slice_get tokens next) false then Some next else holder_before tokens next p
 
 -- how many tokens from index `next` on do not lie after a place, up to the first that does
-abbrev pub passed : List TokenRecord → ℕ → ℕ → ℕ
-passed tokens next p = prefix_len (λ t. nat_le (token_place t) p) (drop next tokens)
+abbrev pub passed_count : List TokenRecord → ℕ → ℕ → ℕ
+passed_count tokens next p = prefix_len (λ t. nat_le (token_place t) p) (drop next tokens)
 
 -- where the line after that of a place begins
 abbrev pub line_end : ℕ → ℕ
@@ -45,7 +45,7 @@ run_end tokens after found p end =
 -- the first cut of the range from a place up to an end: of several tokens there the first is found at one place
 abbrev pub cut_at : List TokenRecord → ℕ → ℕ → ℕ → Cut
 cut_at tokens next p end =
-    let count = passed tokens next p in
+    let count = passed_count tokens next p in
     let found = holder tokens next p in
     record { found = found; next = next + count; end = if nat_lt 1 count then p + 1 else run_end tokens (next + count) found p end }
 

@@ -1,9 +1,9 @@
 -- The place of the first fault, one segment at a time.
-use Rattle.std.proofs.Common.{◌≡◌, ℕ, ◌+◌, ◌<◌, Bool, true, false, List, [], ◌∷◌, ◌==◌, length}
-use Rattle.std.proofs.Common.{drop, Option, Some, None, Result, Ok, Err, if◌then◌else◌, arith, refl}
+use Rattle.std.proofs.Common.{◌≡◌, ℕ, ◌+◌, ◌<◌, true, false, List, [], ◌∷◌, ◌==◌, length}
+use Rattle.std.proofs.Common.{drop, Option, Some, Result, Ok, Err, if◌then◌else◌, arith, refl}
 use Rattle.std.proofs.Common.{sym, ap, ◌∙◌, add-zero, slice_get, suc, IsErr}
 use Rattle.std.specs.Result.{result_err}
-use Rattle.std.proofs.lemmas.Bool.{ne_eqb, eq-eqb}
+use Rattle.std.proofs.lemmas.Bool.{eq-eqb}
 use Rattle.std.proofs.lemmas.Bool.Decides.{nat_tests}
 use Rattle.oxc_sourcemap_tokens.specs.declared.error.Error.{Error}
 use Rattle.oxc_sourcemap_tokens.specs.Token.{TokenRecord}
@@ -19,7 +19,7 @@ use Rattle.oxc_sourcemap_mappings.specs.SegmentPlaces.{text_start, bytes_on, lin
 use Rattle.oxc_sourcemap_mappings.specs.SegmentPlaces.{places_from, first_fault, fault_place}
 use Rattle.oxc_sourcemap_mappings.proofs.Left.{left_outcomes, results-left, reading-is}
 use Rattle.oxc_sourcemap_mappings.proofs.Left.{left-semicolon, left-comma, left-too_large}
-use Rattle.oxc_sourcemap_mappings.proofs.Left.{left-segment, front-filled, front-byte}
+use Rattle.oxc_sourcemap_mappings.proofs.Left.{left-segment, front-filled}
 
 -- the place of the first fault in the rest of a text, which begins at this place of it
 abbrev pub rest_place : Counts → SegmentPlace → Place → List ℕ → Option SegmentPlace

@@ -1,9 +1,9 @@
 -- Where a JSON value that is no map has its first fault, in the order of `shape` and then of the fields that it gives.
-use Rattle.std.specs.Prelude.{◌≡◌, ℕ, ◌+◌, Bool, true, not, ◌||◌, List, length, codes, Option, Some}
+use Rattle.std.specs.Prelude.{◌≡◌, ℕ, ◌+◌, Bool, true, length, codes, Option, Some}
 use Rattle.std.specs.Prelude.{None, Result, Ok, Err, if◌then◌else◌, is_some, nat_le, position, ⊤}
 use Rattle.std.specs.Option.{option_map, option_and_then, option_or}
 use Rattle.serde_json.specs.Data.{Data, Items, no_items, item}
-use Rattle.serde_json.specs.Find.{get, as_str, as_array, as_object}
+use Rattle.serde_json.specs.Find.{get, as_str, as_array}
 use Rattle.oxc_sourcemap_tokens.specs.declared.error.Error.{Error}
 use Rattle.oxc_sourcemap_tokens.specs.declared.error.Error.TheVariants.{BadJson}
 use Rattle.oxc_sourcemap_tokens.specs.declared.error.JsonFault.{JsonFault}

@@ -1,11 +1,11 @@
 -- The first `*/` of a text, by bytes and by characters.
-use Rattle.std.proofs.Common.{◌≡◌, ◌≢◌, ℕ, ◌+◌, ◌-◌, ◌<◌, ◌≤◌, Bool, true, false, List, [], ◌∷◌}
+use Rattle.std.proofs.Common.{◌≡◌, ◌≢◌, ℕ, ◌+◌, ◌<◌, ◌≤◌, true, false, List, [], ◌∷◌}
 use Rattle.std.proofs.Common.{◌++◌, ◌==◌, ◌&&◌, length, take, drop, get_or, arith, refl, sym, ap}
 use Rattle.std.proofs.Common.{◌∙◌, Option, Some, None, if◌then◌else◌, codes, ⊎_elim, suc, IfSome}
 use Rattle.std.proofs.Common.{add-zero}
 use lib.Utf8.{encodes}
 use Rattle.std.specs.Option.{option_map}
-use Rattle.std.specs.Str.{chars, IsUtf8, IsCharBoundary}
+use Rattle.std.specs.Str.{chars, IsUtf8}
 use Rattle.std.specs.Str.Pattern.{LacksTextAt, HasTextAt}
 use Rattle.std.proofs.lemmas.Bool.{cases_lt, and_parts, eqb-true}
 use Rattle.std.proofs.lemmas.Bool.Decides.{nat_tests}
@@ -14,7 +14,7 @@ use Rattle.std.proofs.lemmas.List.{length-append}
 use Rattle.std.proofs.lemmas.List.{length-take-le, length-drop, get_or-drop}
 use Rattle.std.proofs.lemmas.Str.{chars-append, chars-IsAscii, encodes-append, encodes-chars}
 use Rattle.std.proofs.lemmas.Str.{length-le-encodes, IsUtf8-take, IsUtf8-drop, encode_ascii}
-use Rattle.std.proofs.lemmas.Str.{IsCharBoundary-before_ascii, IsUtf8-from_ascii, chars_past_char}
+use Rattle.std.proofs.lemmas.Str.{IsCharBoundary-before_ascii, IsUtf8-from_ascii}
 use Rattle.oxc_sourcemap_url.specs.MappingUrls.{around_block_end, begins_with}
 
 begins-cons : (c : ℕ) (cs : List ℕ) → begins_with c cs ≡ true → cs ≡ c ∷ drop 1 cs

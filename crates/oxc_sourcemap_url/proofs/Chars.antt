@@ -1,18 +1,16 @@
 -- The characters of a text, one at a time.
-use Rattle.std.proofs.Common.{◌≡◌, ◌≢◌, ℕ, Bool, true, false, List, [], ◌∷◌, ◌++◌, ◌&&◌, ◌||◌, ◌==◌}
-use Rattle.std.proofs.Common.{nat_eq, length, take, drop, codes, get_or, ◌<◌, arith, refl, sym, ap}
+use Rattle.std.proofs.Common.{◌≡◌, ◌≢◌, ℕ, Bool, true, false, List, [], ◌∷◌, ◌++◌, ◌||◌, ◌==◌}
+use Rattle.std.proofs.Common.{nat_eq, take, drop, codes, get_or, ◌<◌, arith, refl, sym, ap}
 use Rattle.std.proofs.Common.{◌∙◌, inl, inr}
 use lib.Utf8.{encode, encodes}
 use lib.Pointwise.{pointwise}
 use Rattle.std.specs.List.{list_any, starts_with}
 use Rattle.std.specs.Str.{chars, IsUtf8}
-use Rattle.std.specs.Str.Pattern.{LacksTextAt}
 use Rattle.std.proofs.lemmas.Bool.{and_parts, eqb-true, cases_Bool}
 use Rattle.std.proofs.lemmas.Bool.Decides.{nat_tests}
 use Rattle.std.proofs.lemmas.List.{take-append-drop}
 use Rattle.std.proofs.lemmas.Str.{chars-append, chars-IsAscii, chars_past_char, encodes-append}
 use Rattle.std.proofs.lemmas.Str.{encodes-chars, encodes-IsAscii, IsUtf8-from_ascii}
-use Rattle.std.proofs.lemmas.Str.{IsUtf8-past_char}
 
 -- a test of the characters of a text, past the first one
 pub list_any-next : (p : ℕ → Bool) (s t : List ℕ) (c : ℕ) → IsUtf8 s → s ≡ encode c ++ t → list_any p (chars s) ≡ (p c || list_any p (chars t))

@@ -1,10 +1,9 @@
 -- The pieces of a line, one step at a time.
 use Rattle.std.proofs.Common.{◌≡◌, ℕ, Bool, true, false, List, [], ◌∷◌, ◌++◌, ◌==◌, ◌&&◌, refl}
-use Rattle.std.proofs.Common.{sym, ap, ◌∙◌, arith, append_assoc, Option, Some, None}
+use Rattle.std.proofs.Common.{sym, ap, ◌∙◌, append_assoc, Option, Some, None}
 use Rattle.std.proofs.Common.{if◌then◌else◌, fold}
 use Rattle.std.specs.Option.{option_map}
 use Rattle.std.specs.Char.{is_whitespace}
-use Rattle.std.proofs.lemmas.Bool.Decides.{nat_tests}
 use Rattle.std.proofs.lemmas.List.{append-nil}
 use Rattle.oxc_sourcemap_url.specs.MappingUrls.{Piece, pieces, around_block_end, begins_with}
 use Rattle.oxc_sourcemap_url.specs.MappingUrls.{known_after}

@@ -1,7 +1,7 @@
 -- The law that data URLs are read back.
 use Rattle.std.proofs.Common.{◌≡◌, ◌≢◌, ℕ, ◌+◌, ◌*◌, ◌/◌, ◌%◌, ◌<◌, Bool, true, false, not, ltb}
-use Rattle.std.proofs.Common.{List, [], ◌∷◌, ◌++◌, ◌==◌, ◌||◌, ◌&&◌, zero, suc, length, take}
-use Rattle.std.proofs.Common.{replicate, codes, arith, refl, sym, ap, ◌∙◌, Some, Ok, slice_index}
+use Rattle.std.proofs.Common.{List, [], ◌∷◌, ◌++◌, ◌==◌, ◌&&◌, zero, suc, length}
+use Rattle.std.proofs.Common.{replicate, codes, arith, refl, ap, ◌∙◌, Some, Ok, slice_index}
 use Rattle.std.proofs.Common.{⊎_elim, subst}
 use lib.Utf8.{encode, encodes, scalar, scalars, scalar_cases}
 use Rattle.std.specs.List.{position_or_len, before_first, list_all, All}
@@ -13,7 +13,6 @@ use Rattle.std.proofs.lemmas.List.Folds.{list_all-append}
 use Rattle.std.proofs.lemmas.List.{get_or_past}
 use Rattle.std.proofs.lemmas.Str.{is_utf8-from_IsUtf8}
 use Rattle.std.proofs.lemmas.Bool.{cases_lt}
-use Rattle.std.proofs.Common.{inl, inr}
 use Rattle.base64.specs.Engines.{standard, standard_pad_indifferent}
 use Rattle.base64.specs.GeneralPurpose.{IsBytes, encode_of, decode_of}
 use Rattle.base64.specs.Rfc4648.{encode_symbols, padding_len}
@@ -22,7 +21,7 @@ use Rattle.percent_encoding.specs.Percent.{percent_decode}
 use Rattle.percent_encoding.proofs.PercentLemmas.{percent_decode_not_percent, percent_decode-nil}
 use Rattle.oxc_sourcemap_encode.specs.JsonText.{data_url, map_text, map_url}
 use Rattle.oxc_sourcemap_parts.specs.Record.{Text, MapRecord}
-use Rattle.oxc_sourcemap_url.specs.DataUrls.{behind_scheme, decoded_data_url, data_text}
+use Rattle.oxc_sourcemap_url.specs.DataUrls.{decoded_data_url, data_text}
 
 -- ---- texts without `#` and `%`
 

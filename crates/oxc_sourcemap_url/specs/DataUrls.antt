@@ -1,6 +1,6 @@
 -- The JSON text in a data URL (RFC 2397, and where that is silent the Fetch standard; docs/FORMAT.md, "Data URLs"). Texts are given
 -- by their bytes.
-use Rattle.std.specs.Prelude.{ℕ, ◌-◌, Bool, ◌&&◌, ◌||◌, List, length, take, drop, codes, Option}
+use Rattle.std.specs.Prelude.{ℕ, ◌-◌, Bool, ◌&&◌, ◌||◌, List, length, drop, codes, Option}
 use Rattle.std.specs.Prelude.{Some, None, Result, Ok, Err, if◌then◌else◌, ◌==◌}
 use Rattle.std.specs.List.{before_first, after_first, list_any}
 use Rattle.std.specs.Str.{str_eq_ignore_ascii_case, is_utf8}

@@ -1,4 +1,4 @@
-use Rattle.std.proofs.Common.{rules, string_bytes, ◌∙◌, sym, subst}
+use Rattle.std.proofs.Common.{rules, string_bytes, ◌∙◌}
 use Rattle.oxc_sourcemap_mappings.proofs.Writing.{extends-none, cut-back, cut-place}
 use Rattle.oxc_sourcemap_mappings.proofs.encode.encode_chunk.Goals as goal
 

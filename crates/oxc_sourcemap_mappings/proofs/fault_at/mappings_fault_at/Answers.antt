@@ -1,6 +1,6 @@
-use Rattle.std.proofs.Common.{◌≡◌, ℕ, ◌+◌, ◌∷◌, ◌∙◌, sym, ap, arith, refl, drop, length, Some}
+use Rattle.std.proofs.Common.{◌≡◌, ◌+◌, ◌∙◌, sym, ap, arith, refl, drop, length, Some}
 use Rattle.std.proofs.Common.{slice_get}
-use Rattle.std.proofs.Common.{false, true}
+use Rattle.std.proofs.Common.{false}
 use Rattle.std.proofs.lemmas.Bool.Decides.{nat_tests}
 use Rattle.std.proofs.lemmas.List.{take_rest, length-drop}
 use Rattle.oxc_sourcemap_mappings.specs.Faults.{counts_of}

@@ -1,4 +1,4 @@
-use Rattle.std.proofs.Common.{◌≡◌, sym, ap, arith}
+use Rattle.std.proofs.Common.{sym, arith}
 use Rattle.oxc_sourcemap_url.proofs.Blocks.{block-missing, block-found, back-utf8}
 use Rattle.oxc_sourcemap_url.proofs.comment.around_block_end.Goals as goal
 

@@ -1,4 +1,4 @@
-use Rattle.std.proofs.Common.{◌≡◌, true, false, arith, ap, inl, inr, ◌∙◌, sym}
+use Rattle.std.proofs.Common.{◌≡◌, true, false, arith, inl, inr}
 use Rattle.std.proofs.lemmas.Bool.{cases_Bool}
 use Rattle.std.proofs.lemmas.Grind.{common_steps}
 use Rattle.std.proofs.lemmas.Str.{IsUtf8-had, IsUtf8-from_is_utf8, is_utf8-from_IsUtf8}

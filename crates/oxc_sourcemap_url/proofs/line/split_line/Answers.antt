@@ -1,4 +1,4 @@
-use Rattle.std.proofs.Common.{◌≡◌, ◌++◌, ◌∙◌, sym, ap, [], List, length, arith, refl}
+use Rattle.std.proofs.Common.{◌++◌, ◌∙◌, sym, []}
 use lib.Utf8.{encode}
 use Rattle.std.specs.Str.Iter.{chars_rest}
 use Rattle.oxc_sourcemap_url.proofs.LineCuts.{start, pass, cut-boundary, cut-utf8, cut-lines}

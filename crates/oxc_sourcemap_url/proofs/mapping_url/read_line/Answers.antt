@@ -1,11 +1,11 @@
-use Rattle.std.proofs.Common.{◌≡◌, ◌<◌, ◌∷◌, ◌∙◌, sym, ap, true, false, arith, length, subst, Some}
-use Rattle.std.proofs.Common.{None, fold, IfSome}
+use Rattle.std.proofs.Common.{◌∷◌, ◌∙◌, sym, ap, arith, length, subst}
+use Rattle.std.proofs.Common.{None, fold}
 use Rattle.std.specs.Str.{chars, IsUtf8}
 use Rattle.std.specs.Str.Iter.{chars_rest}
 use Rattle.std.proofs.lemmas.List.{nil_from_length}
 use Rattle.std.proofs.lemmas.Str.{chars_past_char, chars-nil, IsUtf8-past_char}
 use Rattle.oxc_sourcemap_url.specs.Comments.{second_of}
-use Rattle.oxc_sourcemap_url.specs.MappingUrls.{known_after, pieces, lent_chars, around_block_end}
+use Rattle.oxc_sourcemap_url.specs.MappingUrls.{known_after, pieces, lent_chars}
 use Rattle.oxc_sourcemap_url.proofs.Pieces.{past-space, past-code, past-line, past-block, past-open}
 use Rattle.oxc_sourcemap_url.proofs.Pieces.{pieces-nil}
 use Rattle.oxc_sourcemap_url.proofs.Blocks.{around-shorter}

@@ -42,13 +42,14 @@ fn is_indexed(value: &Value) -> bool
 fn mends_of(alloc: Global, kinds: &[MendKind]) -> Memory<Vec<Mend>>
     ensures { IfOk result (λ mends. mends.items ≡ map mend_of kinds.now) }
 {
-    kinds
-        .iter()
-        .map(|kind| Mend {
+    let mut mends = Vec::with_capacity(alloc, kinds.len())?;
+    for kind in kinds {
+        mends.push(Mend {
             section: None,
             kind: *kind,
-        })
-        .collect(alloc)
+        })?;
+    }
+    Ok(mends)
 }
 
 /// The parts of the map of a JSON source map, whose mappings may have any ids.

@@ -85,10 +85,11 @@ impl Counts {
         ensures { IfOk result (λ v. v.items
             ≡ map (token_in_range self.names self.sources) tokens.now) }
     {
-        tokens
-            .iter()
-            .map(|token| self.token_in_range(*token))
-            .collect(alloc)
+        let mut read = Vec::with_capacity(alloc, tokens.len())?;
+        for token in tokens {
+            read.push(self.token_in_range(*token))?;
+        }
+        Ok(read)
     }
 }
 

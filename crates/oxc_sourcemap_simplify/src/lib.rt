@@ -4,7 +4,12 @@
 ghost use Rattle.oxc_sourcemap_simplify.specs.Words.{TracesStay, StaysSorted, IsLeast};
 ghost use Rattle.oxc_sourcemap_simplify.specs.Words.{MappingsStay};
 
+mod firsts;
+mod moves;
+mod numbering;
 mod simplify;
+mod sources;
+mod tokens;
 
 pub use simplify::simplify_parts;
 

@@ -1,6 +1,6 @@
 -- What a simplified map is made of, from the tables of the map.
 use Rattle.std.proofs.Common.{◌≡◌, refl, sym, ap, subst, ◌∙◌, ℕ, zero, suc, ◌+◌, ◌<◌, ◌≤◌, Bool}
-use Rattle.std.proofs.Common.{true, false, cond, ◌&&◌, ◌==◌, nat_le, List, [], ◌∷◌, ◌++◌, map, length}
+use Rattle.std.proofs.Common.{true, false, cond, ◌&&◌, ◌==◌, nat_le, List, [], ◌∷◌, map, length}
 use Rattle.std.proofs.Common.{slice_get, get_or, Option, Some, None, option_map, arith}
 use Rattle.std.proofs.lemmas.Bool.Decides.{nat_tests}
 use Rattle.std.proofs.lemmas.List.{length-map}
@@ -11,7 +11,7 @@ use Rattle.std.specs.Str.{bytes_eq}
 use Rattle.oxc_sourcemap_tokens.specs.Token.{TokenRecord}
 use Rattle.oxc_sourcemap_parts.specs.DecodedMap.{DecodedSource, sources_of, name_of}
 use Rattle.oxc_sourcemap_parts.specs.Record.{Text, MapRecord}
-use Rattle.oxc_sourcemap_remap.specs.Blocks.{flags_of, unless_empty, ignored_ids}
+use Rattle.oxc_sourcemap_remap.specs.Blocks.{flags_of, unless_empty}
 use Rattle.oxc_sourcemap_remap.specs.Bodies.{set_from}
 use Rattle.oxc_sourcemap_remap.proofs.Flags.{marked-unmarked, set-ignored}
 use Rattle.oxc_sourcemap_remap.proofs.SourceBlocks.{flags-are, paths-of}
@@ -26,7 +26,7 @@ use Rattle.oxc_sourcemap_simplify.specs.Bodies.{with_name, with_source, with_all
 use Rattle.oxc_sourcemap_simplify.specs.Bodies.{IsSourceBelow, AreWithin}
 use Rattle.oxc_sourcemap_simplify.specs.declared.tokens.Tables.{Tables}
 use Rattle.oxc_sourcemap_simplify.proofs.Same.{decides_source}
-use Rattle.oxc_sourcemap_simplify.proofs.Codes.{AreCodes, IsCode, eq-codes, items-back, count-codes}
+use Rattle.oxc_sourcemap_simplify.proofs.Codes.{AreCodes, eq-codes, items-back, count-codes}
 use Rattle.oxc_sourcemap_simplify.proofs.Listed.{decides_marked, AreMarkedCodes}
 use Rattle.oxc_sourcemap_simplify.proofs.NextNumbers.{position-below, get-of}
 use Rattle.oxc_sourcemap_simplify.proofs.Tables.{kept-is, names-are, sources-are, token-is, get-map}

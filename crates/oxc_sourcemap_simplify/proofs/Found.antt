@@ -1,6 +1,6 @@
 -- The tokens that a lookup may find, one by one.
-use Rattle.std.proofs.Common.{◌≡◌, refl, sym, ap, ◌∙◌, Bool, true, false, cond, ◌&&◌, ℕ, zero, suc}
-use Rattle.std.proofs.Common.{List, [], ◌∷◌, ◌++◌, drop, slice_get, Option, Some, None, ◌+◌, arith}
+use Rattle.std.proofs.Common.{◌≡◌, refl, ap, ◌∙◌, cond, ◌&&◌, ℕ, zero, suc}
+use Rattle.std.proofs.Common.{List, [], ◌∷◌, drop, slice_get, Option, Some, None}
 use Rattle.oxc_sourcemap_tokens.specs.Token.{TokenRecord}
 use Rattle.oxc_sourcemap_parts.specs.Sorted.{token_line, token_column}
 use Rattle.oxc_sourcemap_simplify.specs.Simple.{found_after, found_items, is_followed, is_further}

@@ -1,17 +1,15 @@
 -- Sources with their marks: the lists of them, and the indices that stand for them.
-use Rattle.std.proofs.Common.{◌≡◌, refl, sym, ap, subst, ◌∙◌, ℕ, zero, suc, ◌+◌, Bool, true, false}
-use Rattle.std.proofs.Common.{cond, ◌&&◌, ◌||◌, ◌==◌, List, [], ◌∷◌, ◌++◌, map, length, slice_get}
-use Rattle.std.proofs.Common.{Option, Some, None, is_some, option_map, arith, append_assoc, append-nil}
+use Rattle.std.proofs.Common.{◌≡◌, refl, sym, ap, subst, ◌∙◌, ℕ, Bool, true, false}
+use Rattle.std.proofs.Common.{cond, ◌&&◌, ◌||◌, List, [], ◌∷◌, ◌++◌}
+use Rattle.std.proofs.Common.{Option, Some, None, is_some, append_assoc, append-nil}
 use Rattle.std.specs.Bool.{Decides, beq}
-use Rattle.std.proofs.lemmas.Bool.{and_parts}
-use Rattle.std.specs.List.{position_from, list_any, flat_map, filter, filter_map}
-use Rattle.std.specs.Option.{option_and_then}
+use Rattle.std.specs.List.{list_any, flat_map}
 use Rattle.oxc_sourcemap_parts.specs.DecodedMap.{DecodedSource}
 use Rattle.oxc_sourcemap_join.proofs.SameToken.{decides_and, decides_as}
 use Rattle.oxc_sourcemap_simplify.specs.Same.{is_same_source}
 use Rattle.oxc_sourcemap_simplify.specs.Simplified.{is_same_marked, index_of_marked, listings}
-use Rattle.oxc_sourcemap_simplify.specs.Simplified.{with_source, with_sources}
-use Rattle.oxc_sourcemap_simplify.specs.Bodies.{with_number, with_any}
+use Rattle.oxc_sourcemap_simplify.specs.Simplified.{with_source}
+use Rattle.oxc_sourcemap_simplify.specs.Bodies.{with_any}
 use Rattle.oxc_sourcemap_simplify.proofs.Same.{decides_source}
 use Rattle.oxc_sourcemap_simplify.proofs.Codes.{any-is, with_one, AreCodes, codes-with}
 

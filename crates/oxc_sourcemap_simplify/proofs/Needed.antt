@@ -1,5 +1,5 @@
 -- What tokens need, one by one.
-use Rattle.std.proofs.Common.{◌≡◌, refl, sym, ap, ◌∙◌, ℕ, ◌+◌, ◌<◌, ◌≤◌, List, [], ◌∷◌, length, get_or}
+use Rattle.std.proofs.Common.{◌≡◌, sym, ap, ◌∙◌, ℕ, ◌+◌, ◌<◌, ◌≤◌, List, [], ◌∷◌, length, get_or}
 use Rattle.std.proofs.Common.{drop, Option, Some, None, arith}
 use Rattle.std.proofs.lemmas.List.{drop_more}
 use Rattle.std.specs.Option.{option_and_then}

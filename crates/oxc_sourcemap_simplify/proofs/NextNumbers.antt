@@ -1,13 +1,12 @@
 -- Numbers given to indices, one after the other.
-use Rattle.std.proofs.Common.{◌≡◌, refl, sym, ap, subst, ◌∙◌, ℕ, zero, suc, ◌+◌, ◌<◌, ◌≤◌, Bool}
-use Rattle.std.proofs.Common.{true, false, cond, ◌&&◌, ◌||◌, ◌==◌, List, [], ◌∷◌, ◌++◌, length, set}
-use Rattle.std.proofs.Common.{slice_get, get_or, take, Option, Some, None, is_some, IfSome, arith}
+use Rattle.std.proofs.Common.{◌≡◌, refl, sym, ap, ◌∙◌, ℕ, zero, suc, ◌+◌, ◌<◌, ◌≤◌, Bool}
+use Rattle.std.proofs.Common.{true, false, cond, ◌&&◌, ◌==◌, List, [], ◌∷◌, ◌++◌, length, set}
+use Rattle.std.proofs.Common.{slice_get, get_or, Option, Some, None, is_some, IfSome, arith}
 use Rattle.std.proofs.lemmas.Bool.Decides.{nat_tests}
-use Rattle.std.proofs.lemmas.Option.{slice_get_within}
 use Rattle.std.specs.Bool.{beq}
 use Rattle.std.specs.List.{position_from, AllByRecursion}
 use Rattle.std.specs.Option.{option_or}
-use Rattle.oxc_sourcemap_simplify.specs.Bodies.{place_of, with_number, with_any, AreApart}
+use Rattle.oxc_sourcemap_simplify.specs.Bodies.{place_of, with_any, AreApart}
 use Rattle.oxc_sourcemap_simplify.specs.Bodies.{first_marked}
 
 pub position-append : {A : Type 0} (t : A → Bool) (k : ℕ) (xs ys : List A) → position_from t k (xs ++ ys) ≡ option_or (position_from t k xs) (position_from t (k + length xs) ys)

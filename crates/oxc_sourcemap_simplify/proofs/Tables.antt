@@ -1,8 +1,8 @@
 -- What tokens point to by the tables of a map, and by the map.
-use Rattle.std.proofs.Common.{◌≡◌, refl, sym, ap, subst, ◌∙◌, ℕ, zero, suc, ◌+◌, Bool, true, false}
-use Rattle.std.proofs.Common.{cond, ◌&&◌, ◌||◌, ◌==◌, List, [], ◌∷◌, ◌++◌, map, length, slice_get}
-use Rattle.std.proofs.Common.{Option, Some, None, is_some, option_map, get_or, arith}
-use Rattle.std.specs.Bool.{Decides, beq}
+use Rattle.std.proofs.Common.{◌≡◌, refl, sym, ap, subst, ◌∙◌, ℕ, zero, suc, Bool, true, false}
+use Rattle.std.proofs.Common.{cond, ◌&&◌, ◌||◌, ◌==◌, List, [], ◌∷◌, ◌++◌, map, slice_get}
+use Rattle.std.proofs.Common.{Option, Some, None, is_some, option_map}
+use Rattle.std.specs.Bool.{Decides}
 use Rattle.std.proofs.lemmas.Bool.Decides.{Decides-eqb}
 use Rattle.std.specs.Cmp.Lexicographic.{bytes_decides}
 use Rattle.std.specs.List.{position_from, list_any, flat_map, filter_map}
@@ -10,33 +10,31 @@ use Rattle.std.specs.Option.{option_and_then}
 use Rattle.std.specs.Str.{bytes_eq}
 use Rattle.oxc_sourcemap_tokens.specs.Token.{TokenRecord}
 use Rattle.oxc_sourcemap_parts.specs.DecodedMap.{DecodedSource, OriginalPosition, original_at}
-use Rattle.oxc_sourcemap_parts.specs.DecodedMap.{name_of, decoded_map_of, sources_of}
+use Rattle.oxc_sourcemap_parts.specs.DecodedMap.{name_of, sources_of}
 use Rattle.oxc_sourcemap_parts.specs.Record.{Text, MapRecord}
 use Rattle.oxc_sourcemap_parts.specs.Sorted.{token_line, token_column}
 use Rattle.oxc_sourcemap_parts.specs.Texts.{index_of, with_text_at, with_text, with_texts}
 use Rattle.oxc_sourcemap_lookup.specs.Trace.{original_in}
 use Rattle.oxc_sourcemap_join.specs.Joined.{is_same_option, is_same_id}
 use Rattle.oxc_sourcemap_join.proofs.SameToken.{decides_option}
-use Rattle.oxc_sourcemap_remap.specs.Blocks.{marked_from, is_listed}
 use Rattle.oxc_sourcemap_remap.proofs.Flags.{marked-unmarked}
 use Rattle.oxc_sourcemap_simplify.specs.Same.{is_same_source, is_same_original}
-use Rattle.oxc_sourcemap_simplify.specs.Simple.{is_further, is_repeat, is_after_repeat, kept_after}
+use Rattle.oxc_sourcemap_simplify.specs.Simple.{is_repeat, is_after_repeat, kept_after}
 use Rattle.oxc_sourcemap_simplify.specs.Simple.{kept_item, are_together}
 use Rattle.oxc_sourcemap_simplify.specs.Simplified.{is_same_marked, index_of_marked, listings}
 use Rattle.oxc_sourcemap_simplify.specs.Simplified.{with_sources, source_in, name_in}
 use Rattle.oxc_sourcemap_simplify.specs.Simplified.{are_alike_in, token_at_next_column}
 use Rattle.oxc_sourcemap_simplify.specs.Simplified.{marked_source_of, token_among}
-use Rattle.oxc_sourcemap_simplify.specs.Bodies.{place_of, with_any, AreFirsts, listed_in}
+use Rattle.oxc_sourcemap_simplify.specs.Bodies.{place_of, with_any, listed_in}
 use Rattle.oxc_sourcemap_simplify.specs.Bodies.{source_among, own_place, AreTables, target_at}
 use Rattle.oxc_sourcemap_simplify.specs.Bodies.{target_by, is_same_target, are_alike_by, is_behind}
 use Rattle.oxc_sourcemap_simplify.specs.Bodies.{repeats_by, kept_from, with_name, with_source}
 use Rattle.oxc_sourcemap_simplify.specs.Bodies.{with_all, token_to}
 use Rattle.oxc_sourcemap_simplify.specs.declared.sources.Source.{Source}
 use Rattle.oxc_sourcemap_simplify.specs.declared.tokens.Tables.{Tables}
-use Rattle.oxc_sourcemap_simplify.specs.declared.tokens.Target.{Target}
 use Rattle.oxc_sourcemap_simplify.proofs.Same.{decides_source}
-use Rattle.oxc_sourcemap_simplify.proofs.Codes.{AreCodes, IsCode, IsAnyCode, any-code-at, any-is}
-use Rattle.oxc_sourcemap_simplify.proofs.Codes.{at-index, same-code, eq-codes, place-same, codes-with}
+use Rattle.oxc_sourcemap_simplify.proofs.Codes.{AreCodes, IsAnyCode, any-code-at, any-is}
+use Rattle.oxc_sourcemap_simplify.proofs.Codes.{same-code, eq-codes, place-same, codes-with}
 use Rattle.oxc_sourcemap_simplify.proofs.Codes.{with_one}
 use Rattle.oxc_sourcemap_simplify.proofs.Listed.{decides_marked, AreMarkedCodes, codes-source}
 

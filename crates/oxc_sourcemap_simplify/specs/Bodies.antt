@@ -19,8 +19,7 @@ use Rattle.oxc_sourcemap_parts.specs.declared.parts.SourceMapParts.{SourceMapPar
 use Rattle.oxc_sourcemap_parts.specs.Sorted.{token_line, token_column}
 use Rattle.oxc_sourcemap_join.specs.Joined.{is_same_option, is_same_id}
 use Rattle.oxc_sourcemap_remap.specs.Blocks.{marked_sources}
-use Rattle.oxc_sourcemap_simplify.specs.Same.{is_same_source}
-use Rattle.oxc_sourcemap_simplify.specs.Simple.{are_together, is_followed, found_items}
+use Rattle.oxc_sourcemap_simplify.specs.Simple.{are_together, is_followed}
 use Rattle.oxc_sourcemap_simplify.specs.Simplified.{index_of_marked, token_at_next_column}
 use Rattle.oxc_sourcemap_simplify.specs.Simplified.{simple_names, simplified}
 use Rattle.oxc_sourcemap_simplify.specs.declared.numbering.Numbering.{Numbering}

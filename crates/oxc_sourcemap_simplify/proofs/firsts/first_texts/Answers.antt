@@ -1,5 +1,4 @@
-use Rattle.std.proofs.Common.{◌≡◌, ◌∙◌, ◌+◌, ◌++◌, ◌∷◌, [], refl, sym, ap, arith, take, drop, map, length, Some}
-use Rattle.std.proofs.lemmas.List.{map-append, length-map, length-take-le, take-append-drop, take_more}
+use Rattle.std.proofs.Common.{◌≡◌, refl, arith, take}
 use Rattle.std.proofs.lemmas.Map.Text.{text_keys}
 use Rattle.std.proofs.lemmas.Slice.Eq.{bytes_eq-Decides}
 use Rattle.std.specs.Cow.{cow_str_bytes}
@@ -8,7 +7,7 @@ use Rattle.std.specs.Str.{bytes_eq}
 use Rattle.oxc_sourcemap_parts.specs.Texts.{index_of}
 use Rattle.oxc_sourcemap_parts.specs.Views.{cow_texts}
 use Rattle.oxc_sourcemap_lookup.proofs.KeptNames.{place_step}
-use Rattle.oxc_sourcemap_simplify.proofs.FirstOnes.{first-of-all, firsts-more}
+use Rattle.oxc_sourcemap_simplify.proofs.FirstOnes.{firsts-more}
 use Rattle.oxc_sourcemap_simplify.proofs.firsts.first_texts.Goals as goal
 
 pub loop-i-preserved : goal.loop-i-preserved

@@ -4,7 +4,6 @@ use Rattle.std.specs.Cow.{cow_str_bytes}
 use Rattle.oxc_sourcemap_parts.specs.DecodedMap.{DecodedSource}
 use Rattle.oxc_sourcemap_parts.specs.Record.{Text}
 use Rattle.oxc_sourcemap_parts.specs.Views.{text_of}
-use Rattle.oxc_sourcemap_tokens.specs.Results.{lent_item}
 use Rattle.oxc_sourcemap_simplify.proofs.FirstOnes.{source-seen}
 use Rattle.oxc_sourcemap_simplify.proofs.firsts.source_at.Goals as goal
 

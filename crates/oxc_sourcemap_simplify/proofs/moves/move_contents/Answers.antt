@@ -1,5 +1,5 @@
-use Rattle.std.proofs.Common.{◌≡◌, ◌∙◌, ◌+◌, ◌∷◌, sym, ap, subst, arith, length, get_or, drop, set}
-use Rattle.std.proofs.Common.{None, List, ◌++◌, map}
+use Rattle.std.proofs.Common.{◌≡◌, ◌∙◌, ◌+◌, ◌∷◌, ap, subst, arith, length, get_or, drop}
+use Rattle.std.proofs.Common.{None, ◌++◌, map}
 use Rattle.std.proofs.lemmas.List.{drop_more}
 use Rattle.oxc_sourcemap_parts.specs.Views.{text_of, contents_of}
 use Rattle.oxc_sourcemap_simplify.specs.Bodies.{AreApart}

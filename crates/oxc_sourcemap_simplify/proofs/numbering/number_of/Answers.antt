@@ -1,4 +1,4 @@
-use Rattle.std.proofs.Common.{◌≡◌, ◌∙◌, ◌<◌, sym, subst, ap, length, Option, Some}
+use Rattle.std.proofs.Common.{◌<◌, subst, length}
 use Rattle.oxc_sourcemap_simplify.specs.Bodies.{IsBelow}
 use Rattle.oxc_sourcemap_simplify.proofs.NextNumbers.{place-small}
 use Rattle.oxc_sourcemap_simplify.proofs.numbering.number_of.Goals as goal

@@ -1,4 +1,4 @@
-use Rattle.std.proofs.Common.{◌≡◌, ◌∙◌, ◌++◌, [], None, sym, ap, map, get_or}
+use Rattle.std.proofs.Common.{◌∙◌, ◌++◌, [], None, ap, map, get_or}
 use Rattle.std.specs.Cow.{cow_str_bytes}
 use Rattle.oxc_sourcemap_parts.specs.Views.{record_of_parts, text_of}
 use Rattle.oxc_sourcemap_simplify.proofs.Assembled.{together}

@@ -1,12 +1,10 @@
-use Rattle.std.proofs.Common.{◌≡◌, ◌∙◌, ◌<◌, sym, ap, subst, arith, map, length}
-use Rattle.std.proofs.lemmas.List.{length-map}
-use Rattle.std.specs.Cow.{cow_str_bytes}
+use Rattle.std.proofs.Common.{◌∙◌, ◌<◌, sym, ap, subst, map, length}
 use Rattle.std.specs.List.{zip, AllByRecursion}
 use Rattle.std.specs.Str.{bytes_eq}
 use Rattle.oxc_sourcemap_parts.specs.Views.{cow_texts, record_of_parts, texts_of, contents_of}
 use Rattle.oxc_sourcemap_remap.proofs.SourceBlocks.{count-flags, length-sources_of}
 use Rattle.oxc_sourcemap_simplify.specs.Same.{is_same_source}
-use Rattle.oxc_sourcemap_simplify.specs.Bodies.{AreFirsts, AreTables, source_by, sources_in}
+use Rattle.oxc_sourcemap_simplify.specs.Bodies.{AreFirsts, source_by, sources_in}
 use Rattle.oxc_sourcemap_simplify.proofs.Assembled.{count-firsts, firsts-within, sources-table}
 use Rattle.oxc_sourcemap_simplify.proofs.Assembled.{tables-within}
 use Rattle.oxc_sourcemap_simplify.proofs.simplify.tables_of.Goals as goal

@@ -1,8 +1,8 @@
-use Rattle.std.proofs.Common.{◌≡◌, ◌∙◌, ◌+◌, ◌++◌, ◌∷◌, ◌<◌, [], sym, ap, subst, arith, length, get_or}
-use Rattle.std.proofs.Common.{set, take, slice_get, Some, None, cond, Bool, ℕ, Option}
+use Rattle.std.proofs.Common.{◌≡◌, ◌∙◌, ◌+◌, ◌<◌, sym, ap, arith, length, get_or}
+use Rattle.std.proofs.Common.{set, take, slice_get, Some, None, cond}
 use Rattle.std.proofs.lemmas.List.{length-take-le, take_all}
 use Rattle.std.specs.Bool.{beq}
-use Rattle.std.specs.List.{zip, AllByRecursion}
+use Rattle.std.specs.List.{zip}
 use Rattle.std.specs.Option.{option_or}
 use Rattle.oxc_sourcemap_remap.proofs.Indices.{take-one}
 use Rattle.oxc_sourcemap_simplify.specs.Bodies.{first_marked}

@@ -1,7 +1,7 @@
-use Rattle.std.proofs.Common.{◌≡◌, ◌∙◌, ◌+◌, ◌++◌, ◌∷◌, ◌<◌, [], sym, ap, arith, length, get_or, map}
-use Rattle.std.proofs.Common.{take, slice_get, Some, None, Bool, true, false, ℕ, Option}
+use Rattle.std.proofs.Common.{◌≡◌, ◌∙◌, ◌++◌, ◌∷◌, ◌<◌, [], sym, ap, arith, length, get_or, map}
+use Rattle.std.proofs.Common.{take, slice_get, Some, Bool, true, false, ℕ, Option}
 use Rattle.std.proofs.lemmas.List.{map-append, take_all}
-use Rattle.std.specs.List.{zip, AllByRecursion}
+use Rattle.std.specs.List.{zip}
 use Rattle.oxc_sourcemap_remap.proofs.Indices.{take-one}
 use Rattle.oxc_sourcemap_simplify.specs.Bodies.{first_marked, source_by}
 use Rattle.oxc_sourcemap_simplify.specs.declared.sources.Source.{Source}

@@ -1,4 +1,4 @@
-use Rattle.std.proofs.Common.{◌≡◌, ◌∙◌, ◌++◌, sym, ap, append-nil, []}
+use Rattle.std.proofs.Common.{◌∙◌, ◌++◌, sym, ap, append-nil}
 use Rattle.std.proofs.lemmas.List.{drop_all}
 use Rattle.oxc_sourcemap_tokens.specs.Results.{lent_item}
 use Rattle.oxc_sourcemap_simplify.proofs.Found.{found_from, found-is}

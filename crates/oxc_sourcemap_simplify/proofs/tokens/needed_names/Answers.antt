@@ -1,9 +1,7 @@
-use Rattle.std.proofs.Common.{◌≡◌, ◌∙◌, ◌+◌, ◌∷◌, ◌<◌, [], sym, ap, subst, arith, length, drop, Option}
-use Rattle.std.proofs.Common.{Some}
-use Rattle.std.proofs.lemmas.List.{at_drop_more}
+use Rattle.std.proofs.Common.{◌≡◌, ◌∙◌, ◌+◌, sym, ap, arith, length, drop}
 use Rattle.std.proofs.lemmas.Result.{err_from_is_err_and}
 use Rattle.std.specs.Option.{option_and_then}
-use Rattle.oxc_sourcemap_simplify.specs.Bodies.{with_name, with_all, with_any}
+use Rattle.oxc_sourcemap_simplify.specs.Bodies.{with_name, with_any}
 use Rattle.oxc_sourcemap_simplify.specs.declared.tokens.Target.{Target}
 use Rattle.oxc_sourcemap_simplify.proofs.Needed.{names-grow, read-more}
 use Rattle.oxc_sourcemap_simplify.proofs.tokens.needed_names.Goals as goal

@@ -1,7 +1,6 @@
-use Rattle.std.proofs.Common.{◌≡◌, ◌∙◌, ◌+◌, ◌∷◌, ◌<◌, [], sym, ap, subst, arith, length, drop, Option}
-use Rattle.std.proofs.Common.{Some}
+use Rattle.std.proofs.Common.{◌≡◌, ◌∙◌, ◌+◌, sym, ap, arith, length, drop}
 use Rattle.std.proofs.lemmas.Result.{err_from_is_err_and}
-use Rattle.oxc_sourcemap_simplify.specs.Bodies.{with_source, with_listings, with_all, with_any}
+use Rattle.oxc_sourcemap_simplify.specs.Bodies.{with_source, with_listings, with_any}
 use Rattle.oxc_sourcemap_simplify.proofs.Needed.{sources-grow, read-more}
 use Rattle.oxc_sourcemap_simplify.proofs.NextNumbers.{any-more}
 use Rattle.oxc_sourcemap_simplify.proofs.tokens.needed_sources.Goals as goal

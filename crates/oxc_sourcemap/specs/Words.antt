@@ -37,6 +37,7 @@ pub use Rattle.oxc_sourcemap_mappings.specs.SegmentPlaces.{fault_place}
 pub use Rattle.oxc_sourcemap_parts.specs.DecodedMap.{DecodedMap, decoded_map_of}
 pub use Rattle.oxc_sourcemap_parts.specs.Record.{MapRecord, Text}
 pub use Rattle.oxc_sourcemap_parts.specs.Roots.{rooted}
+pub use Rattle.oxc_sourcemap_simplify.specs.Simplified.{simplified, simplification}
 pub use Rattle.oxc_sourcemap_sort.specs.Sorting.{sorted_by, sorted_tokens, sorted_map}
 pub use Rattle.oxc_sourcemap_sort.specs.Sorting.{sorted_decoded_map}
 pub use Rattle.oxc_sourcemap_parts.specs.Sorted.{are_tokens_sorted, token_column}

@@ -57,8 +57,8 @@ const ROWS: &[(&str, &str)] = &[
 ];
 
 /// What a call that may fail as plans do gave, or that it lacked memory.
-fn done(result: std::result::Result<(), PlanError>) -> Result<()> {
-    result.map_err(|_| Error::OutOfMemory)
+fn done(made: std::result::Result<(), PlanError>) -> Result<()> {
+    made.map_err(|_| Error::OutOfMemory)
 }
 
 #[test]

@@ -141,16 +141,19 @@ fn a_repeating_owned_map(alloc: Global) -> Result<(OwnedSourceMap, ())> {
     Ok((OwnedSourceMap::from_json_string(alloc, REPEATED_TEXT)?, ()))
 }
 
+/// The text of the map that repeats, or of that map, simplified.
+fn repeating_text(is_simple: bool) -> &'static str {
+    if is_simple { SIMPLE_TEXT } else { REPEATED_TEXT }
+}
+
 #[test]
 fn source_map_simplify(rt: HostRuntime) {
-    let look = |map: SourceMap<'static>, is_simple| is_map(&rt, &map, if is_simple { SIMPLE_TEXT } else { REPEATED_TEXT });
-    refuse_each_change(&rt, a_repeating_map, |alloc, map, ()| map.simplify(alloc), look);
+    refuse_each_change(&rt, a_repeating_map, |alloc, map, ()| map.simplify(alloc), |map, is_simple| is_map(&rt, &map, repeating_text(is_simple)));
 }
 
 #[test]
 fn owned_source_map_simplify(rt: HostRuntime) {
-    let look = |map: OwnedSourceMap, is_simple| is_map(&rt, &map, if is_simple { SIMPLE_TEXT } else { REPEATED_TEXT });
-    refuse_each_change(&rt, a_repeating_owned_map, |alloc, map, ()| map.simplify(alloc), look);
+    refuse_each_change(&rt, a_repeating_owned_map, |alloc, map, ()| map.simplify(alloc), |map, is_simple| is_map(&rt, &map, repeating_text(is_simple)));
 }
 
 #[test]

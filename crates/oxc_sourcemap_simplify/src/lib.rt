@@ -4,6 +4,10 @@
 ghost use Rattle.oxc_sourcemap_simplify.specs.Words.{TracesStay, StaysSorted, IsLeast};
 ghost use Rattle.oxc_sourcemap_simplify.specs.Words.{MappingsStay};
 
+mod simplify;
+
+pub use simplify::simplify_parts;
+
 /// Simplifying is harmless to traces, and nothing smaller would do.
 /// - Every trace of a sorted decoded map stays, exact and clamped (`traces`), and it stays sorted (`sorted`).
 /// - No sorted decoded map with the same exact traces has fewer mappings (`least`).

@@ -1,7 +1,7 @@
 -- What a simplified map means: the simplified decoded map.
-use Rattle.std.proofs.Common.{◌≡◌, ℕ, ◌+◌, Bool, true, false, cond, ◌&&◌, ◌||◌, List, [], ◌∷◌, ◌++◌}
+use Rattle.std.proofs.Common.{◌≡◌, ℕ, Bool, true, false, cond, ◌&&◌, List, [], ◌∷◌, ◌++◌}
 use Rattle.std.proofs.Common.{map, refl, sym, ap, ◌∙◌, subst, slice_get, Option, Some, None}
-use Rattle.std.specs.List.{filter, filter_map, flat_map, list_any, AllByRecursion}
+use Rattle.std.specs.List.{list_any, AllByRecursion}
 use Rattle.std.specs.Option.{option_map, option_and_then}
 use Rattle.std.proofs.lemmas.Option.{slice_get-map}
 use Rattle.oxc_sourcemap_tokens.specs.Token.{TokenRecord}
@@ -18,8 +18,10 @@ use Rattle.oxc_sourcemap_remap.proofs.Flags.{marked-unmarked}
 use Rattle.oxc_sourcemap_remap.proofs.NeededNames.{name-back}
 use Rattle.oxc_sourcemap_simplify.specs.Same.{point_alike}
 use Rattle.oxc_sourcemap_simplify.specs.Simple.{is_further, is_followed, found_after}
-use Rattle.oxc_sourcemap_simplify.specs.Simple.{are_together, is_repeat, is_after_repeat, kept_after}
-use Rattle.oxc_sourcemap_simplify.specs.Simplified.{at_next_column, simple_mappings, index_of_marked}
+use Rattle.oxc_sourcemap_simplify.specs.Simple.{are_together, is_repeat, is_after_repeat}
+use Rattle.oxc_sourcemap_simplify.specs.Simple.{kept_after}
+use Rattle.oxc_sourcemap_simplify.specs.Simplified.{at_next_column, simple_mappings}
+use Rattle.oxc_sourcemap_simplify.specs.Simplified.{index_of_marked}
 use Rattle.oxc_sourcemap_simplify.specs.Simplified.{is_same_marked}
 use Rattle.oxc_sourcemap_simplify.specs.Simplified.{source_in, needed_sources, simple_sources}
 use Rattle.oxc_sourcemap_simplify.specs.Simplified.{pointed_to, simplified_decoded_map}

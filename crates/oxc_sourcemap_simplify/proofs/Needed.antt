@@ -1,10 +1,10 @@
 -- The sources and names that are needed have a place in the lists of what is needed.
-use Rattle.std.proofs.Common.{◌≡◌, ℕ, zero, suc, ◌+◌, ◌<◌, Bool, true, false, cond, ◌&&◌, ◌||◌, List}
-use Rattle.std.proofs.Common.{[], ◌∷◌, ◌++◌, refl, sym, ap, ◌∙◌, subst, slice_get, Option, Some, None}
-use Rattle.std.proofs.Common.{arith, length}
+use Rattle.std.proofs.Common.{◌≡◌, ℕ, zero, suc, ◌+◌, Bool, true, false, cond, ◌||◌, List}
+use Rattle.std.proofs.Common.{[], ◌∷◌, ◌++◌, refl, sym, ap, ◌∙◌, subst, slice_get, Option, Some}
+use Rattle.std.proofs.Common.{None}
+use Rattle.std.proofs.Common.{arith}
 use Rattle.std.specs.Bool.{beq, Decides}
-use Rattle.std.specs.List.{filter, filter_map, flat_map, list_any, position_from, AllByRecursion}
-use Rattle.std.specs.Option.{option_map, option_and_then}
+use Rattle.std.specs.List.{filter_map, flat_map, list_any, position_from, AllByRecursion}
 use Rattle.std.proofs.lemmas.List.Folds.{list_any-append}
 use Rattle.oxc_sourcemap_parts.specs.DecodedMap.{DecodedSource, OriginalPosition}
 use Rattle.oxc_sourcemap_parts.specs.Record.{Text}

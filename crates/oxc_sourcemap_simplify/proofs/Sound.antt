@@ -13,7 +13,7 @@ use Rattle.oxc_sourcemap_parts.specs.Sorted.{token_line, token_column}
 use Rattle.oxc_sourcemap_parts.specs.Sound.{IsInRange, IsSound}
 use Rattle.oxc_sourcemap_parts.specs.Texts.{index_of}
 use Rattle.oxc_sourcemap_remap.specs.Blocks.{ignored_from, unless_empty, ignored_ids}
-use Rattle.oxc_sourcemap_simplify.specs.Simplified.{simplified_decoded_map, index_of_marked}
+use Rattle.oxc_sourcemap_simplify.specs.Simplified.{index_of_marked}
 use Rattle.oxc_sourcemap_simplify.specs.Simplified.{simple_tokens, simple_names, simple_sources_of}
 use Rattle.oxc_sourcemap_simplify.specs.Simplified.{is_same_marked}
 use Rattle.oxc_sourcemap_simplify.specs.Simplified.{marked_source_of, token_among, renumbered}

@@ -1,16 +1,15 @@
 -- An item that stands twice in a row counts once: simplifying gives the same.
-use Rattle.std.proofs.Common.{◌≡◌, ℕ, Bool, true, false, cond, ◌&&◌, ◌==◌, nat_le, ◌+◌, List, [], ◌∷◌}
+use Rattle.std.proofs.Common.{◌≡◌, ℕ, Bool, true, false, cond, ◌&&◌, ◌==◌, List, [], ◌∷◌}
 use Rattle.std.proofs.Common.{◌++◌, map, refl, sym, ap, ◌∙◌, subst, Option, Some, None, arith}
-use Rattle.std.specs.List.{filter_map, list_any}
-use Rattle.std.proofs.lemmas.Bool.{and_parts}
+use Rattle.std.specs.List.{filter_map}
 use Rattle.std.proofs.lemmas.Bool.Decides.{nat_tests}
 use Rattle.std.proofs.lemmas.List.{map-append}
 use Rattle.std.proofs.lemmas.List.Elements.{filter_map-append}
 use Rattle.oxc_sourcemap_parts.specs.DecodedMap.{DecodedSource, OriginalPosition, DecodedMapping}
 use Rattle.oxc_sourcemap_parts.specs.DecodedMap.{mapping_line, mapping_column}
-use Rattle.oxc_sourcemap_simplify.specs.Same.{is_same_source, point_alike}
+use Rattle.oxc_sourcemap_simplify.specs.Same.{point_alike}
 use Rattle.oxc_sourcemap_simplify.specs.Simple.{are_together, is_further, is_followed, found_after}
-use Rattle.oxc_sourcemap_simplify.specs.Simple.{found_items, is_repeat, is_after_repeat, kept_after}
+use Rattle.oxc_sourcemap_simplify.specs.Simple.{is_repeat, is_after_repeat, kept_after}
 use Rattle.oxc_sourcemap_simplify.specs.Simplified.{at_next_column, found_mappings, simple_mappings}
 use Rattle.oxc_sourcemap_simplify.specs.Simplified.{with_source, with_sources, source_in}
 use Rattle.oxc_sourcemap_simplify.specs.Simplified.{needed_sources}

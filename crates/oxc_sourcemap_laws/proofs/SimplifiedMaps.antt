@@ -14,6 +14,7 @@ use Rattle.oxc_sourcemap_parts.specs.Record.{Text, MapRecord}
 use Rattle.oxc_sourcemap_parts.specs.Sorted.{token_line, token_column}
 use Rattle.oxc_sourcemap_lookup.specs.Trace.{original_in}
 use Rattle.oxc_sourcemap_remap.specs.Blocks.{marked_from, marked_sources, ignored_ids}
+use Rattle.oxc_sourcemap_remap.proofs.SourceBlocks.{count-all-marked}
 use Rattle.oxc_sourcemap_simplify.specs.Simple.{is_after_repeat}
 use Rattle.oxc_sourcemap_simplify.specs.Simplified.{found_mappings, simple_mappings, listings}
 use Rattle.oxc_sourcemap_simplify.specs.Simplified.{needed_sources, simple_sources, pointed_to}
@@ -23,6 +24,7 @@ use Rattle.oxc_sourcemap_simplify.specs.Simplified.{token_at_next_column, simple
 use Rattle.oxc_sourcemap_simplify.specs.Simplified.{simple_names, simple_sources_of}
 use Rattle.oxc_sourcemap_simplify.specs.Simplified.{marked_source_of, token_among, renumbered}
 use Rattle.oxc_sourcemap_simplify.specs.Simplified.{simplified, fits}
+use Rattle.oxc_sourcemap_simplify.proofs.Fewer.{sources-most}
 use Rattle.oxc_sourcemap_simplify.proofs.Means.{decoded_map_simplified, kept-has, found-has}
 use Rattle.oxc_sourcemap_simplify.proofs.Order.{found-length, keep-length}
 use Rattle.oxc_sourcemap_simplify.proofs.Sound.{simplified-sound, source-below, name-below}
@@ -56,13 +58,16 @@ simplifying_stands r s h = record {
 }
 
 -- ---- counts
-pub simplifying_counts : (r : MapRecord) → (length (simplified r).tokens ≤ length r.tokens) × (length (simplified r).source_contents ≡ length (simplified r).sources)
+pub simplifying_counts : (r : MapRecord) → (length (simplified r).tokens ≤ length r.tokens) × (length (simplified r).sources ≤ length r.sources) × (length (simplified r).source_contents ≡ length (simplified r).sources)
 simplifying_counts r =
     let sources = simple_sources_of r in
     let a = length-map (simple_tokens r) (renumbered r sources (simple_names r)) in
     let b = keep-length token_line token_column (are_alike_in r) token_at_next_column (is_after_repeat token_line token_column (are_alike_in r)) [] (found_tokens r) in
     let c = found-length token_line token_column [] r.tokens in
-    (omega (arith, a, b, c), length-map sources (λ (m : DecodedSource × Bool). m.0.content) ∙ sym (length-map sources (λ (m : DecodedSource × Bool). m.0.path)))
+    let d = sources-most (marked_sources (decoded_map_of r)) (found_originals r) in
+    let e = count-all-marked r in
+    let f = length-map sources (λ (m : DecodedSource × Bool). m.0.path) in
+    (omega (arith, a, b, c), omega (arith, d, e, f), length-map sources (λ (m : DecodedSource × Bool). m.0.content) ∙ sym (length-map sources (λ (m : DecodedSource × Bool). m.0.path)))
 
 -- ---- names
 name-by : (names : List Text) (t : TokenRecord) (source : Option DecodedSource) (x : Text) → name_in (option_map (original_at names t) source) ≡ Some x → IsOf names x

@@ -16,10 +16,11 @@ SimplifyingEndsRepeats = (s t : DecodedMap) → EqualUpToRepeats s t → simplif
 abbrev pub SimplifyingStandsFor : Type 0
 SimplifyingStandsFor = (r : MapRecord) (s : DecodedMap) → StandsFor r s → StandsFor (simplified r) (simplified_decoded_map s)
 
--- A simplified map has no more tokens than the map, and as many contents as sources.
+-- A simplified map has no more tokens and no more sources than the map, and as many contents as sources.
 abbrev pub SimplifyingCounts : Type 0
 SimplifyingCounts = (r : MapRecord)
     → (length (simplified r).tokens ≤ length r.tokens)
+    × (length (simplified r).sources ≤ length r.sources)
     × (length (simplified r).source_contents ≡ length (simplified r).sources)
 
 -- A test that holds of all names of a map holds of those of the simplified map, which has no more.

@@ -310,8 +310,8 @@ pub fn steps_over_simplified()
 /// - Decoded maps that are equal up to repeats are equal once they are simplified (`ends_repeats`). If a map is sound and its
 ///   decoded map equal up to repeats to a given one, the simplified map is sound, and its decoded map equal up to repeats to the
 ///   given one, simplified (`stands_for`).
-/// - A simplified map has no more tokens than the map, and as many contents as sources (`counts`). Its names are names of the
-///   map, and no more (`names`).
+/// - A simplified map has no more tokens and no more sources than the map, and as many contents as sources (`counts`). Its names
+///   are names of the map, and no more (`names`).
 /// - Its tokens are in bounds if those of the map are, its names and sources number at most 4294967295 each, and no column is
 ///   above that (`in_bounds`).
 pub fn simplifying_stands()

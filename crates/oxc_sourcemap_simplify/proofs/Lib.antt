@@ -8,4 +8,5 @@ pub mod Needed
 pub mod Means
 pub mod Sound
 pub mod Twice
+pub mod Fewer
 mod Worked

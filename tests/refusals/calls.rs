@@ -311,6 +311,20 @@ fn evaluate_of_a_map_that_is_sorted(rt: HostRuntime) {
     refuse_each(&rt, |_| Ok(Plan::ReadSorted(BACK)), |alloc, plan| oxc_sourcemap::evaluate(alloc, &plan), |map| is_map(&rt, &map, sorted));
 }
 
+/// A map with tokens, names and sources that its traces do not need, and the same without them.
+const FULL: &str = r#"{"version":3,"file":"out.js","sourceRoot":"lib","names":["x","y","x"],"sources":["a.js","b.js","a.js"],"sourcesContent":["let a",null,"let a"],"ignoreList":[2],"mappings":"AACEA,IEAAE,G,E;AAEF"}"#;
+const SIMPLE: &str = r#"{"version":3,"file":"out.js","sourceRoot":"lib","names":["x"],"sources":["a.js","a.js"],"sourcesContent":["let a","let a"],"ignoreList":[1],"mappings":"AACEA,O;ACEF"}"#;
+
+/// A plan that simplifies a map.
+fn plan_to_simplify(alloc: Global) -> Result<Plan<'static>> {
+    Ok(Plan::Simplify(Box::new(alloc, Plan::Read(FULL))?))
+}
+
+#[test]
+fn evaluate_of_a_simplification(rt: HostRuntime) {
+    refuse_each(&rt, plan_to_simplify, |alloc, plan| oxc_sourcemap::evaluate(alloc, &plan), |map| is_map(&rt, &map, SIMPLE));
+}
+
 /// A plan that joins a map with itself, at columns.
 fn plan_at_columns(alloc: Global) -> Result<Plan<'static>> {
     let first = (Plan::Read(LENT_TEXT), 0, 2);

@@ -93,6 +93,7 @@ pub use Rattle.oxc_sourcemap_laws.specs.RootedDecodedMaps
 pub use Rattle.oxc_sourcemap_laws.specs.RootLaws
 pub use Rattle.oxc_sourcemap_laws.specs.TraceLaws
 pub use Rattle.oxc_sourcemap_laws.specs.SimplifyTraces
+pub use Rattle.oxc_sourcemap_laws.specs.SimplifiedMaps
 pub use Rattle.oxc_sourcemap_tokens.specs.PlanMessages
 pub use Rattle.oxc_sourcemap_plan.specs.Depth
 pub use Rattle.oxc_sourcemap_plan.specs.Meaning

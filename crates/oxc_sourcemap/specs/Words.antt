@@ -51,7 +51,7 @@ pub use Rattle.oxc_sourcemap_plan.specs.Depth.{depth}
 pub use Rattle.oxc_sourcemap_plan.specs.Evaluated.{IsEvaluated, HasOutcome, IsErrorOf}
 pub use Rattle.oxc_sourcemap_plan.specs.Meaning.{meaning, read_meaning, text_meaning, by_path}
 pub use Rattle.oxc_sourcemap_plan.specs.Meaning.{join_meaning, composition_meaning, remap_meaning}
-pub use Rattle.oxc_sourcemap_plan.specs.Meaning.{root_meaning}
+pub use Rattle.oxc_sourcemap_plan.specs.Meaning.{root_meaning, simplified_meaning}
 pub use Rattle.oxc_sourcemap_plan.specs.Outcome.{is_within_limits}
 pub use Rattle.oxc_sourcemap_plan.specs.Numbers.{number_of}
 pub use Rattle.oxc_sourcemap_plan.specs.Outcome.{outcome, read_outcome, composition_outcome}

@@ -4,4 +4,9 @@ pub mod Keeping
 pub mod Order
 pub mod Unique
 pub mod Traces
+pub mod Needed
+pub mod Means
+pub mod Sound
+pub mod Twice
+pub mod Fewer
 mod Worked

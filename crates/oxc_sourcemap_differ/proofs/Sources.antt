@@ -1,0 +1,24 @@
+-- The source at an index, by the lists of a map.
+use Rattle.std.proofs.Common.{◌≡◌, ℕ, zero, suc, List, [], ◌∷◌, Option, Some, None, slice_get, refl}
+use Rattle.oxc_sourcemap_parts.specs.Record.{Text}
+use Rattle.oxc_sourcemap_parts.specs.DecodedMap.{DecodedSource, sources_of}
+use Rattle.oxc_sourcemap_differ.specs.Originals.{content_at}
+
+-- a source of this path and content
+abbrev pub listed : Text → Option Text → Option DecodedSource
+listed path content = Some (record { path = path; content = content })
+
+pub source-none : (paths : List Text) (contents : List (Option Text)) (i : ℕ) → slice_get paths i ≡ None → slice_get (sources_of paths contents) i ≡ None
+source-none [] contents i e = refl
+source-none (path ∷ paths) [] zero e = cc (e)
+source-none (path ∷ paths) [] (suc i) e = source-none paths [] i e
+source-none (path ∷ paths) (content ∷ contents) zero e = cc (e)
+source-none (path ∷ paths) (content ∷ contents) (suc i) e = source-none paths contents i e
+
+pub source-some : (paths : List Text) (contents : List (Option Text)) (i : ℕ) (path : Text) → slice_get paths i ≡ Some path
+    → slice_get (sources_of paths contents) i ≡ listed path (content_at contents i)
+source-some [] contents i path e = cc (e)
+source-some (p ∷ paths) [] zero path e = (let same : p ≡ path = cc (e) in rw same refl)
+source-some (p ∷ paths) [] (suc i) path e = source-some paths [] i path e
+source-some (p ∷ paths) (content ∷ contents) zero path e = (let same : p ≡ path = cc (e) in rw same refl)
+source-some (p ∷ paths) (content ∷ contents) (suc i) path e = source-some paths contents i path e

@@ -140,6 +140,12 @@ fn decode_from_string(rt: HostRuntime) {
 }
 
 #[test]
+fn read_found_in_a_data_url(rt: HostRuntime) {
+    let text = "\u{feff})]}'\ndata:application/json;base64,eyJ2ZXJzaW9uIjozLCJzb3VyY2VzIjpbbnVsbF0sIm1hcHBpbmdzIjoiQUFBQSJ9";
+    refuse_each(&rt, nothing, |alloc, ()| oxc_sourcemap::read_found(alloc, text), |found| same(&rt, "mends", found.mends.len(), 4));
+}
+
+#[test]
 fn read_found(rt: HostRuntime) {
     refuse_each(&rt, nothing, |alloc, ()| oxc_sourcemap::read_found(alloc, MENDED_TEXT), |found| {
         same(&rt, "mends", found.mends.len(), 8);

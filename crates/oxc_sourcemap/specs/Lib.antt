@@ -104,6 +104,7 @@ pub use Rattle.oxc_sourcemap_found.specs.declared.mend.Mend
 pub use Rattle.oxc_sourcemap_found.specs.declared.mend.MendKind
 pub use Rattle.oxc_sourcemap_found.specs.declared.found.Found
 pub use Rattle.oxc_sourcemap_found.specs.MendText
+pub use Rattle.oxc_sourcemap_found.specs.Opening
 pub use Rattle.oxc_sourcemap_found.specs.Mended
 pub use Rattle.oxc_sourcemap_found.specs.InRange
 pub use Rattle.oxc_sourcemap_found.specs.FoundMaps

@@ -80,10 +80,10 @@ new-less x xs (m ∷ ms) e =
     let more = list_any-append (is_same_source m.0) xs (x ∷ []) in
     item-by (is_same_source x m.0) (list_any (is_same_source m.0) (xs ++ x ∷ [])) (list_any (is_same_source m.0) xs) _ _ _
     (λ a.
-        let same : x ≡ m.0 = (decides_source x m.0).0 a in
-        let old : list_any (is_same_source m.0) xs ≡ false = ap (λ y. list_any (is_same_source y) xs) (sym same) ∙ e in
-        let itself : is_same_source m.0 x ≡ true = (decides_source m.0 x).1 (sym same) in
-        (more ∙ rw (old, itself) refl, old))
+    let same : x ≡ m.0 = (decides_source x m.0).0 a in
+    let old : list_any (is_same_source m.0) xs ≡ false = ap (λ y. list_any (is_same_source y) xs) (sym same) ∙ e in
+    let itself : is_same_source m.0 x ≡ true = (decides_source m.0 x).1 (sym same) in
+    (more ∙ rw (old, itself) refl, old))
     (λ c. more ∙ or-left _ _ c)
     (new-less x xs ms e)
 

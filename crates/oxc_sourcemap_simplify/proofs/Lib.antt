@@ -4,7 +4,7 @@ pub mod Keeping
 pub mod Order
 pub mod Unique
 pub mod Traces
-pub mod Needed
+pub mod NeededPlaces
 pub mod Means
 pub mod Sound
 pub mod Twice

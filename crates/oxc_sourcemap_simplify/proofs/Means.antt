@@ -30,8 +30,8 @@ use Rattle.oxc_sourcemap_simplify.specs.Simplified.{token_at_next_column, simple
 use Rattle.oxc_sourcemap_simplify.specs.Simplified.{simple_names, simple_sources_of}
 use Rattle.oxc_sourcemap_simplify.specs.Simplified.{marked_source_of, token_among, renumbered}
 use Rattle.oxc_sourcemap_simplify.specs.Simplified.{simplified}
-use Rattle.oxc_sourcemap_simplify.proofs.Needed.{In, Listed, is-listed, at-in, all-needed}
-use Rattle.oxc_sourcemap_simplify.proofs.Needed.{all-named}
+use Rattle.oxc_sourcemap_simplify.proofs.NeededPlaces.{In, Listed, is-listed, at-in, all-needed}
+use Rattle.oxc_sourcemap_simplify.proofs.NeededPlaces.{all-named}
 
 -- ---- lists of what items stand for
 module _ {A B : Type 0} (f : A → B) (line column : B → ℕ) where

@@ -14,7 +14,7 @@ use Rattle.oxc_sourcemap_simplify.specs.Simplified.{at_next_column, found_mappin
 use Rattle.oxc_sourcemap_simplify.specs.Simplified.{with_source, with_sources, source_in}
 use Rattle.oxc_sourcemap_simplify.specs.Simplified.{needed_sources}
 use Rattle.oxc_sourcemap_simplify.proofs.Keeping.{Apart}
-use Rattle.oxc_sourcemap_simplify.proofs.Needed.{with-source-has}
+use Rattle.oxc_sourcemap_simplify.proofs.NeededPlaces.{with-source-has}
 use Rattle.oxc_sourcemap_simplify.proofs.Order.{found-is-apart}
 use Rattle.oxc_sourcemap_simplify.proofs.Same.{decides_originals}
 

@@ -9,4 +9,14 @@ pub mod Means
 pub mod Sound
 pub mod Twice
 pub mod Fewer
+pub mod Codes
+pub mod NextNumbers
+pub mod Found
+pub mod Listed
+pub mod Tables
+pub mod Assembled
+pub mod Moved
+pub mod FirstOnes
+pub mod Needed
+pub mod Kept
 mod Worked

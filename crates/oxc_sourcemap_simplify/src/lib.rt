@@ -1,11 +1,16 @@
-//! Maps with no more tokens, names and sources than their traces need, and where two maps differ. Part of `oxc_sourcemap`.
+//! Maps with no more tokens, names and sources than their traces need. Part of `oxc_sourcemap`.
 #![tactic(auto)]
 
 ghost use Rattle.oxc_sourcemap_simplify.specs.Words.{TracesStay, StaysSorted, IsLeast};
 ghost use Rattle.oxc_sourcemap_simplify.specs.Words.{MappingsStay, DecodedMapOfSimplified};
 ghost use Rattle.oxc_sourcemap_simplify.specs.Words.{SimplifiedIsSound};
 
+mod firsts;
+mod moves;
+mod numbering;
 mod simplify;
+mod sources;
+mod tokens;
 
 pub use simplify::simplify_parts;
 

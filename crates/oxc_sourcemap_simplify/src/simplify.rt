@@ -1,13 +1,120 @@
-//! The simplified map, put together.
-ghost use Rattle.std.specs.Prelude.{◌≡◌, ◌≢◌, false, OnOk, OnErr, IfErr, Ok, Err};
+//! The simplified map, put together: first all that takes memory, so that an error leaves the map as it was.
+ghost use Rattle.std.specs.Prelude.{◌≡◌, ◌≢◌, ◌<◌, ◌≤◌, [], true, false, map, length, get_or, OnOk, OnErr};
+ghost use Rattle.std.specs.Prelude.{IfOk, IfErr, Ok, Err};
 ghost use Rattle.std.specs.Box.{boxed_slice_items};
-ghost use Rattle.oxc_sourcemap_simplify.specs.Words.{OutOfMemory, Map, Unsorted};
-ghost use Rattle.oxc_sourcemap_simplify.specs.Words.{are_tokens_sorted, record_of_parts};
-ghost use Rattle.oxc_sourcemap_simplify.specs.Words.{simplification};
+ghost use Rattle.std.specs.List.{AllByRecursion};
+ghost use Rattle.oxc_sourcemap_simplify.specs.Words.{OutOfMemory, TooLarge, Map, Unsorted};
+ghost use Rattle.oxc_sourcemap_simplify.specs.Words.{are_tokens_sorted, record_of_parts, ids_of};
+ghost use Rattle.oxc_sourcemap_simplify.specs.Words.{simplified, fits, simplification};
+ghost use Rattle.oxc_sourcemap_simplify.specs.Words.{set_from, unless_empty, flags_of, AreTables};
+ghost use Rattle.oxc_sourcemap_simplify.specs.Words.{AreWithin, IsSimple};
 
+use crate::firsts::{first_sources, first_texts};
+use crate::moves::{move_contents, move_texts};
+use crate::sources::listed_sources;
+use crate::tokens::{Numbers, Tables, found_tokens, kept_tokens, needed_names, needed_sources};
 use oxc_sourcemap_parts::{SourceMapParts, are_sorted};
-use oxc_sourcemap_tokens::{Error, PlanError};
+use oxc_sourcemap_remap::ignored_flags;
+use oxc_sourcemap_tokens::{Memory, PlanError, Result, Token};
 use std::alloc::Global;
+use std::borrow::CowStr;
+
+/// What tokens of a map are compared by, if these flags say which of its sources are ignored.
+fn tables_of(alloc: Global, parts: &SourceMapParts<'_>, flags: &[bool]) -> Memory<Tables>
+    requires { flags.now ≡ flags_of (record_of_parts parts.now) }
+    ensures tables { IfOk result (λ tables. AreTables (record_of_parts parts.now) tables) }
+    ensures within { IfOk result AreWithin }
+{
+    let firsts = first_sources(alloc, parts)?;
+    Ok(Tables {
+        sources: listed_sources(alloc, firsts.as_slice(), flags)?,
+        names: first_texts(alloc, parts.names.as_slice())?,
+    })
+}
+
+/// The places in an order at which ignored sources stand; None if there are none.
+fn ignored_places(alloc: Global, order: &[usize], flags: &[bool]) -> Memory<Option<Vec<u32>>>
+    requires within { AllByRecursion (λ k. k < length flags.now) order.now }
+    requires few { length order.now ≤ 4294967295 }
+    ensures { IfOk result (λ list. ids_of list
+        ≡ unless_empty (set_from 0 (map (λ k. get_or flags.now k false) order.now))) }
+{
+    let mut places = Vec::new(alloc);
+    for (i, k) in order.iter().enumerate() {
+        if flags[*k] {
+            places.push(i as u32)?;
+        }
+    }
+    Ok(if places.is_empty() {
+        None
+    } else {
+        Some(places)
+    })
+}
+
+/// What a simplified map is made of: its tokens, the order of its names and sources by their old indices, and room for their
+/// strings.
+#[derive(Drop)]
+struct Simple<'a> {
+    tokens: Vec<Token>,
+    numbers: Numbers,
+    ignore_list: Option<Vec<u32>>,
+    names: Vec<CowStr<'a>>,
+    sources: Vec<CowStr<'a>>,
+    source_contents: Vec<Option<CowStr<'a>>>,
+}
+
+/// What the simplified map is made of, if the tokens are sorted.
+fn simple_of<'a>(alloc: Global, parts: &SourceMapParts<'_>) -> Result<Simple<'a>>
+    ensures simple { IfOk result (IsSimple (record_of_parts parts.now)) }
+    ensures fits { OnOk result (fits (simplified (record_of_parts parts.now)) ≡ true) }
+    ensures error { IfErr result (λ e. (e ≢ OutOfMemory)
+        → (e ≡ TooLarge) × (fits (simplified (record_of_parts parts.now)) ≡ false)) }
+{
+    let flags = ignored_flags(alloc, parts)?;
+    let tables = tables_of(alloc, parts, flags.as_slice())?;
+    let found = found_tokens(alloc, parts.tokens.as_slice())?;
+    let numbers = Numbers {
+        sources: needed_sources(alloc, &tables, found.as_slice())?,
+        names: needed_names(alloc, &tables, found.as_slice())?,
+    };
+    let tokens = kept_tokens(alloc, &tables, &numbers, found.as_slice())?;
+    let sources = numbers.sources.order.as_slice();
+    let ignore_list = ignored_places(alloc, sources, flags.as_slice())?;
+    Ok(Simple {
+        tokens,
+        ignore_list,
+        names: Vec::with_capacity(alloc, numbers.names.order.len())?,
+        sources: Vec::with_capacity(alloc, sources.len())?,
+        source_contents: Vec::with_capacity(alloc, sources.len())?,
+        numbers,
+    })
+}
+
+/// Makes a map the simplified one. It takes no memory.
+fn put_in<'a>(parts: &mut SourceMapParts<'a>, simple: Simple<'a>)
+    requires { IsSimple (record_of_parts parts.old) simple }
+    ensures { record_of_parts parts.new ≡ simplified (record_of_parts parts.old) }
+{
+    let Simple {
+        tokens,
+        numbers,
+        ignore_list,
+        mut names,
+        mut sources,
+        mut source_contents,
+    } = simple;
+    let order = numbers.sources.order.as_slice();
+    move_texts(&mut parts.names, numbers.names.order.as_slice(), &mut names);
+    move_texts(&mut parts.sources, order, &mut sources);
+    move_contents(&mut parts.source_contents, order, &mut source_contents);
+    parts.names = names;
+    parts.sources = sources;
+    parts.source_contents = source_contents;
+    parts.tokens = tokens.into_boxed_slice();
+    parts.token_chunks = None;
+    parts.ignore_list = ignore_list;
+}
 
 /// Simplifies a map: its traces stay as they are, and it has no more tokens, names and sources than they need.
 ///
@@ -36,5 +143,7 @@ pub fn simplify_parts(
     if !are_sorted(parts.tokens.as_slice()) {
         return Err(PlanError::Unsorted);
     }
-    Err(PlanError::Map(Error::OutOfMemory))
+    let simple = simple_of(alloc, parts)?;
+    put_in(parts, simple);
+    Ok(())
 }

@@ -230,7 +230,8 @@ impl OwnedSourceMap {
     /// Simplifies this map, as `SourceMap::simplify` does, with its errors: the map is then as it was.
     pub fn simplify(&mut self, alloc: Global) -> std::result::Result<(), PlanError>
         ensures simplified { OnOk result (simplification self.old ≡ Ok self.new) }
-        ensures error { IfErr result (λ e. (e ≢ Map OutOfMemory) → simplification self.old ≡ Err e) }
+        ensures error { IfErr result (λ e. (e ≢ Map OutOfMemory)
+            → simplification self.old ≡ Err e) }
         ensures unchanged { OnErr result (self.new ≡ self.old) }
         ensures unsorted { are_tokens_sorted self.old.tokens ≡ false → result ≡ Err Unsorted }
     {

@@ -1,12 +1,14 @@
 -- The first of equal texts and of equal sources.
 use Rattle.std.proofs.Common.{◌≡◌, refl, sym, ap, ◌∙◌, ℕ, zero, suc, ◌+◌, ◌<◌, List, [], ◌∷◌, ◌++◌}
-use Rattle.std.proofs.Common.{map, length, get_or, slice_get, take, Option, Some, None, Bool, true, cond}
+use Rattle.std.proofs.Common.{map, length, get_or, slice_get, take, Option, Some, None, Bool, true}
+use Rattle.std.proofs.Common.{cond}
 use Rattle.std.proofs.Common.{arith, drop, false, Bor, nat_eq, option_map, ◌&&◌}
 use Rattle.std.specs.List.{zip, position_from, AllByRecursion}
 use Rattle.std.specs.Cmp.Lexicographic.{pointwise}
 use Rattle.std.specs.Option.{option_and_then, option_or, option_eq, unwrap_or}
 use Rattle.std.specs.Str.{bytes_eq}
-use Rattle.std.proofs.lemmas.List.{length-map, length-take-le, map-append, take-append-drop, take-map}
+use Rattle.std.proofs.lemmas.List.{length-map, length-take-le, map-append, take-append-drop}
+use Rattle.std.proofs.lemmas.List.{take-map}
 use Rattle.std.proofs.lemmas.List.{take_more}
 use Rattle.oxc_sourcemap_parts.specs.DecodedMap.{DecodedSource, sources_of}
 use Rattle.oxc_sourcemap_parts.specs.Record.{Text}

@@ -6,7 +6,8 @@ use Rattle.std.proofs.lemmas.Bool.Decides.{nat_tests}
 use Rattle.std.specs.List.{list_all}
 use Rattle.oxc_sourcemap_tokens.specs.Token.{TokenRecord}
 use Rattle.oxc_sourcemap_simplify.specs.Simplified.{token_at_next_column}
-use Rattle.oxc_sourcemap_simplify.specs.Bodies.{target_by, is_behind, repeats_by, kept_from, token_to}
+use Rattle.oxc_sourcemap_simplify.specs.Bodies.{target_by, is_behind, repeats_by, kept_from}
+use Rattle.oxc_sourcemap_simplify.specs.Bodies.{token_to}
 use Rattle.oxc_sourcemap_simplify.specs.declared.tokens.Tables.{Tables}
 
 -- a token, where it stays or moves to

@@ -1,4 +1,5 @@
-use Rattle.std.proofs.Common.{◌≡◌, ◌∙◌, ◌+◌, ◌<◌, List, ◌∷◌, ℕ, [], sym, ap, subst, arith, length, get_or}
+use Rattle.std.proofs.Common.{◌≡◌, ◌∙◌, ◌+◌, ◌<◌, List, ◌∷◌, ℕ, [], sym, ap, subst, arith, length}
+use Rattle.std.proofs.Common.{get_or}
 use Rattle.std.proofs.Common.{drop}
 use Rattle.std.proofs.lemmas.List.{drop_more}
 use Rattle.std.specs.Cow.{cow_str_bytes}

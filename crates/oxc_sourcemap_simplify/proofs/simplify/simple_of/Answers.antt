@@ -1,4 +1,5 @@
-use Rattle.std.proofs.Common.{◌≡◌, ◌∙◌, ◌<◌, [], None, sym, ap, subst, arith, map, length, nat_le, true}
+use Rattle.std.proofs.Common.{◌≡◌, ◌∙◌, ◌<◌, [], None, sym, ap, subst, arith, map, length, nat_le}
+use Rattle.std.proofs.Common.{true}
 use Rattle.std.proofs.Common.{false, get_or, ◌≤◌}
 use Rattle.std.proofs.lemmas.Result.{err_from_is_err_and}
 use Rattle.std.specs.List.{list_all, AllByRecursion}

@@ -6,7 +6,8 @@ use Rattle.oxc_sourcemap_tokens.specs.Results.{lent_item}
 use Rattle.oxc_sourcemap_tokens.specs.Token.{TokenRecord}
 use Rattle.oxc_sourcemap_tokens.specs.declared.token.Token.{Token}
 use Rattle.oxc_sourcemap_simplify.specs.Bodies.{is_behind, target_by, token_to}
-use Rattle.oxc_sourcemap_simplify.proofs.Kept.{kept-then, kept-else, few-then, few-else, placed-token}
+use Rattle.oxc_sourcemap_simplify.proofs.Kept.{kept-then, kept-else, few-then, few-else}
+use Rattle.oxc_sourcemap_simplify.proofs.Kept.{placed-token}
 use Rattle.oxc_sourcemap_simplify.proofs.Kept.{placed}
 use Rattle.oxc_sourcemap_simplify.proofs.tokens.kept_tokens.Goals as goal
 use Rattle.oxc_sourcemap_simplify.proofs.tokens.kept_tokens.Goals.{then-is_behind, else-is_behind}

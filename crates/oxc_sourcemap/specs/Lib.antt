@@ -37,6 +37,7 @@ pub use Rattle.oxc_sourcemap_lookup.specs.Lookup
 pub use Rattle.oxc_sourcemap_lookup.specs.Trace
 pub use Rattle.oxc_sourcemap_pieces.specs.RangePieces
 pub use Rattle.oxc_sourcemap_pieces.specs.RangeLaws
+pub use Rattle.oxc_sourcemap_differ.specs.Differences
 pub use Rattle.oxc_sourcemap_sort.specs.Sorting
 pub use Rattle.oxc_sourcemap_sort.specs.SortLaws
 pub use Rattle.oxc_sourcemap_json.specs.Json

@@ -5,6 +5,8 @@ pub use Rattle.oxc_sourcemap_builders.specs.Built.{nothing_built}
 pub use Rattle.oxc_sourcemap_builders.specs.NameLaws.{EqualIdsForEqualNames}
 pub use Rattle.oxc_sourcemap_decode.specs.Decoded.{decoded, json_fault}
 pub use Rattle.oxc_sourcemap_decode.specs.ReadMap.{read_value, read_map, said_in, read_decoded_map}
+pub use Rattle.oxc_sourcemap_differ.specs.Differences.{HaveSameTraceEverywhere, IsFirstDifference}
+pub use Rattle.oxc_sourcemap_differ.specs.Differences.{IfBothSorted}
 pub use Rattle.oxc_sourcemap_encode.specs.Encoded.{encoded}
 pub use Rattle.oxc_sourcemap_encode.specs.JsonText.{map_text, map_url, appended}
 pub use Rattle.oxc_sourcemap_join.specs.Joined.{joined, lent_maps, IsWithinLimits, at_line}

@@ -1,5 +1,5 @@
 -- What lookups find from a place up to the next where another token may be found, and where the traces of two maps are the same.
-use Rattle.std.proofs.Common.{◌≡◌, ◌≢◌, refl, sym, ap, subst, ◌∙◌, ℕ, zero, suc, ◌+◌, ◌*◌, ◌<◌, ◌≤◌}
+use Rattle.std.proofs.Common.{◌≡◌, ◌≢◌, refl, sym, ap, subst, ◌∙◌, ℕ, zero, suc, ◌+◌, ◌<◌, ◌≤◌}
 use Rattle.std.proofs.Common.{◌==◌, nat_lt, min, Bool, true, false, List, [], ◌∷◌, length, get_or}
 use Rattle.std.proofs.Common.{slice_get, Option, Some, None, option_map, if◌then◌else◌, inl, inr}
 use Rattle.std.proofs.Common.{IfSome, arith}
@@ -15,14 +15,14 @@ use Rattle.oxc_sourcemap_lookup.proofs.Numbers.{token_of-index_for}
 use Rattle.oxc_sourcemap_lookup.proofs.Traced.{token_traced}
 use Rattle.oxc_sourcemap_pieces.specs.RangePieces.{place, line_of, column_of, index_at_place}
 use Rattle.oxc_sourcemap_pieces.specs.Cuts.{token_place, holder, holder_before, passed_count}
-use Rattle.oxc_sourcemap_pieces.specs.Cuts.{line_end, IsStart, no_token}
+use Rattle.oxc_sourcemap_pieces.specs.Cuts.{IsStart, no_token}
 use Rattle.oxc_sourcemap_pieces.proofs.Found.{found-is}
 use Rattle.oxc_sourcemap_pieces.proofs.Runs.{back}
 use Rattle.oxc_sourcemap_pieces.proofs.Cutting.{after-within, after-past, not_after, starts-at}
 use Rattle.oxc_sourcemap_pieces.proofs.Cutting.{found-here, found-before, no-hit, off-line}
 use Rattle.oxc_sourcemap_pieces.proofs.Cutting.{same-before}
 use Rattle.oxc_sourcemap_differ.specs.Differences.{HaveSameTraceAt, HaveSameTraceEverywhere}
-use Rattle.oxc_sourcemap_differ.specs.Differences.{IsBefore, IsFirstDifference}
+use Rattle.oxc_sourcemap_differ.specs.Differences.{IsFirstDifference}
 use Rattle.oxc_sourcemap_differ.specs.Walk.{place_after, change_after, step_at, earlier}
 use Rattle.oxc_sourcemap_differ.specs.declared.walk.Step.{Step}
 use Rattle.oxc_sourcemap_differ.specs.Originals.{found_with}

@@ -9,4 +9,5 @@ pub use Rattle.oxc_sourcemap_differ.specs.Differences.{HaveSameTraceEverywhere, 
 pub use Rattle.oxc_sourcemap_differ.specs.Differences.{IfBothSorted}
 pub use Rattle.oxc_sourcemap_differ.specs.Walk.{step_at, earlier}
 pub use Rattle.oxc_sourcemap_differ.specs.Originals.{content_at, source_of, source_at, source_with}
-pub use Rattle.oxc_sourcemap_differ.specs.Originals.{AreEqualSources, found_with}
+pub use Rattle.oxc_sourcemap_differ.specs.Originals.{AreEqualSources, AreShared, is_shared}
+pub use Rattle.oxc_sourcemap_differ.specs.Originals.{found_with}

@@ -4,7 +4,7 @@ ghost use Rattle.oxc_sourcemap_differ.specs.Words.{record_of_parts, line_of, col
 ghost use Rattle.oxc_sourcemap_differ.specs.Words.{IfBothSorted};
 ghost use Rattle.oxc_sourcemap_differ.specs.Words.{HaveSameTraceEverywhere, IsFirstDifference};
 
-use crate::originals::{EqualSources, is_found_alike};
+use crate::originals::{is_found_alike, shared_sources};
 use crate::walk::{earlier, step_at};
 use oxc_sourcemap_parts::SourceMapParts;
 use oxc_sourcemap_pieces::{column_of, holder, line_of, token_at};
@@ -29,8 +29,8 @@ fn position_of(place: u64) -> Position
 /// The tokens of both maps have to be sorted: else the result is some position, or None. Columns are at most 4294967295, so of
 /// several tokens at that column of a line only the first is found.
 ///
-/// It goes over the tokens of both maps once, and compares the texts of two sources only if they are not those compared before. It
-/// takes no memory.
+/// It goes once over the lists of sources, as far as they are equal, and over the tokens of both maps. The texts of other sources are
+/// compared where tokens lead to others than those before. It takes no memory.
 pub fn first_difference_of_parts(a: &SourceMapParts<'_>, b: &SourceMapParts<'_>) -> Option<Position>
     ensures same { IfBothSorted (record_of_parts a.now) (record_of_parts b.now) (IsNone result
         ↔ HaveSameTraceEverywhere (record_of_parts a.now) (record_of_parts b.now)) }
@@ -41,7 +41,7 @@ pub fn first_difference_of_parts(a: &SourceMapParts<'_>, b: &SourceMapParts<'_>)
     tokens_in_bounds(first);
     tokens_in_bounds(second);
     let (mut passed_first, mut passed_second) = (0, 0);
-    let mut equal = EqualSources::none();
+    let mut equal = shared_sources(a, b);
     let mut place = 0;
     loop {
         let found_first = token_at(first, holder(first, passed_first, place));

@@ -3,7 +3,8 @@ ghost use Rattle.std.specs.Prelude.{◌≡◌, ◌≢◌, ◌↔◌, IsTrue, opt
 ghost use Rattle.oxc_sourcemap_differ.specs.Words.{lent_item, name_of, record_of_parts};
 ghost use Rattle.oxc_sourcemap_differ.specs.Words.{original_in};
 ghost use Rattle.oxc_sourcemap_differ.specs.Words.{content_at, source_of, source_at, source_with};
-ghost use Rattle.oxc_sourcemap_differ.specs.Words.{AreEqualSources, found_with};
+ghost use Rattle.oxc_sourcemap_differ.specs.Words.{AreEqualSources, AreShared, is_shared};
+ghost use Rattle.oxc_sourcemap_differ.specs.Words.{found_with};
 
 use oxc_sourcemap_parts::SourceMapParts;
 use oxc_sourcemap_tokens::Token;
@@ -15,24 +16,15 @@ pub(crate) struct Source<'m> {
     content: Option<&'m str>,
 }
 
-/// The ids of two sources, each of its own map, that are equal by path and content; or none, and none. Texts of sources can be
-/// long, and most tokens lead to the sources of the token before.
+/// Which sources of two maps are known to be equal, by path and content. Texts of sources can be long, so they are not compared
+/// for each token again.
 #[derive(Clone, Copy)]
 pub(crate) struct EqualSources {
+    /// As many sources at the front of one list are equal to those of the other.
+    shared: u32,
+    /// The ids of two equal sources, one of each map, that tokens led to; or none, and none.
     first: Option<u32>,
     second: Option<u32>,
-}
-
-impl EqualSources {
-    /// No sources.
-    pub(crate) fn none() -> EqualSources
-        ensures { result ≡ record { first = None; second = None } }
-    {
-        EqualSources {
-            first: None,
-            second: None,
-        }
-    }
 }
 
 /// Whether two texts are equal, or both are missing.
@@ -96,6 +88,40 @@ fn name_of<'m>(parts: &'m SourceMapParts<'_>, token: &Token) -> Option<&'m str>
     Some(parts.names.get(token.get_name_id()? as usize)?.as_str())
 }
 
+/// How many sources at the front of the lists of two maps are equal.
+fn count_shared(a: &SourceMapParts<'_>, b: &SourceMapParts<'_>) -> u32
+    ensures { AreShared (record_of_parts a.now) (record_of_parts b.now) result }
+{
+    for id in 0..u32::MAX {
+        let source = source_at(a, id);
+        if source.is_none() || !are_sources_equal(source, source_at(b, id)) {
+            return id;
+        }
+    }
+    u32::MAX
+}
+
+/// The sources at the front of both lists that are equal.
+pub(crate) fn shared_sources(a: &SourceMapParts<'_>, b: &SourceMapParts<'_>) -> EqualSources
+    ensures { AreEqualSources (record_of_parts a.now) (record_of_parts b.now) result }
+{
+    EqualSources {
+        shared: count_shared(a, b),
+        first: None,
+        second: None,
+    }
+}
+
+/// Whether two ids are the same one, below a count.
+fn is_shared(first: Option<u32>, second: Option<u32>, shared: u32) -> bool
+    ensures { result ≡ is_shared first second shared }
+{
+    match (first, second) {
+        (Some(i), Some(j)) => i == j && i < shared,
+        _ => false,
+    }
+}
+
 /// Whether the sources of two tokens are equal, or both are missing. They are compared unless `equal` has their ids.
 fn lead_to_equal_sources(
     a: &SourceMapParts<'_>,
@@ -110,12 +136,16 @@ fn lead_to_equal_sources(
     ensures equal { AreEqualSources (record_of_parts a.now) (record_of_parts b.now) equal.new }
 {
     let (first, second) = (t.get_source_id(), u.get_source_id());
+    if is_shared(first, second, equal.shared) {
+        return true;
+    }
     if first == equal.first && second == equal.second {
         return true;
     }
     let are_equal = are_sources_equal(source_with(a, first), source_with(b, second));
     if are_equal {
-        *equal = EqualSources { first, second };
+        equal.first = first;
+        equal.second = second;
     }
     are_equal
 }

@@ -4,5 +4,6 @@ pub mod Kept
 pub mod Sound
 pub mod OpenedJson
 pub mod Prefixes
+pub mod NoneBad
 pub mod Twice
 pub mod Worked

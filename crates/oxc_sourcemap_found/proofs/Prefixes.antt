@@ -1,6 +1,5 @@
 -- What is behind a prefix.
-use Rattle.std.proofs.Common.{◌≡◌, ℕ, true, false, List, length, drop, nat_eq, ap, sym, subst, refl}
-use Rattle.std.proofs.Common.{◌∙◌}
+use Rattle.std.proofs.Common.{◌≡◌, ℕ, true, false, List, drop, nat_eq, ap, sym, subst, refl, ◌∙◌}
 use Rattle.std.proofs.Common.{Option, Some, None}
 use Rattle.std.specs.Borrow.{Bor}
 use Rattle.std.specs.List.{starts_with}

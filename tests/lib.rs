@@ -6,6 +6,7 @@ mod accessors;
 mod bench;
 mod builder;
 mod composition;
+mod differences;
 // The examples of docstrings: `./check tests` writes this module.
 mod examples;
 mod found;

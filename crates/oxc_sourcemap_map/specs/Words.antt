@@ -1,6 +1,8 @@
 -- The words of this crate's clauses, from one place.
 pub use Rattle.oxc_sourcemap_decode.specs.Decoded.{decoded, json_fault}
 pub use Rattle.oxc_sourcemap_decode.specs.ReadMap.{read_map, read_decoded_map}
+pub use Rattle.oxc_sourcemap_differ.specs.Differences.{HaveSameTraceEverywhere, IsFirstDifference}
+pub use Rattle.oxc_sourcemap_differ.specs.Differences.{IfBothSorted}
 pub use Rattle.oxc_sourcemap_encode.specs.Encoded.{encoded}
 pub use Rattle.oxc_sourcemap_encode.specs.JsonText.{map_text, map_url, appended}
 pub use Rattle.oxc_sourcemap_join.specs.Joined.{joined, nothing_joined, IsWithinLimits}

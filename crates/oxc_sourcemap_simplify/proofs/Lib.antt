@@ -4,6 +4,11 @@ pub mod Keeping
 pub mod Order
 pub mod Unique
 pub mod Traces
+pub mod NeededPlaces
+pub mod Means
+pub mod Sound
+pub mod Twice
+pub mod Fewer
 pub mod Codes
 pub mod NextNumbers
 pub mod Found

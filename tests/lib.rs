@@ -6,6 +6,7 @@ mod accessors;
 mod bench;
 mod builder;
 mod composition;
+mod differences;
 // The examples of docstrings: `./check tests` writes this module.
 mod examples;
 mod found;
@@ -27,6 +28,7 @@ mod reverse;
 mod roots;
 mod rows;
 mod shapes;
+mod simplify;
 mod sorting;
 mod text_positions;
 mod texts;

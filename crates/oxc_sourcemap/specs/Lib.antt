@@ -37,6 +37,7 @@ pub use Rattle.oxc_sourcemap_lookup.specs.Lookup
 pub use Rattle.oxc_sourcemap_lookup.specs.Trace
 pub use Rattle.oxc_sourcemap_pieces.specs.RangePieces
 pub use Rattle.oxc_sourcemap_pieces.specs.RangeLaws
+pub use Rattle.oxc_sourcemap_differ.specs.Differences
 pub use Rattle.oxc_sourcemap_sort.specs.Sorting
 pub use Rattle.oxc_sourcemap_sort.specs.SortLaws
 pub use Rattle.oxc_sourcemap_json.specs.Json
@@ -94,6 +95,7 @@ pub use Rattle.oxc_sourcemap_laws.specs.RootedDecodedMaps
 pub use Rattle.oxc_sourcemap_laws.specs.RootLaws
 pub use Rattle.oxc_sourcemap_laws.specs.TraceLaws
 pub use Rattle.oxc_sourcemap_laws.specs.SimplifyTraces
+pub use Rattle.oxc_sourcemap_laws.specs.SimplifiedMaps
 pub use Rattle.oxc_sourcemap_tokens.specs.PlanMessages
 pub use Rattle.oxc_sourcemap_plan.specs.Depth
 pub use Rattle.oxc_sourcemap_plan.specs.Meaning
@@ -104,6 +106,7 @@ pub use Rattle.oxc_sourcemap_found.specs.declared.mend.Mend
 pub use Rattle.oxc_sourcemap_found.specs.declared.mend.MendKind
 pub use Rattle.oxc_sourcemap_found.specs.declared.found.Found
 pub use Rattle.oxc_sourcemap_found.specs.MendText
+pub use Rattle.oxc_sourcemap_found.specs.Opening
 pub use Rattle.oxc_sourcemap_found.specs.Mended
 pub use Rattle.oxc_sourcemap_found.specs.InRange
 pub use Rattle.oxc_sourcemap_found.specs.FoundMaps

@@ -5,6 +5,8 @@ pub use Rattle.oxc_sourcemap_builders.specs.Built.{nothing_built}
 pub use Rattle.oxc_sourcemap_builders.specs.NameLaws.{EqualIdsForEqualNames}
 pub use Rattle.oxc_sourcemap_decode.specs.Decoded.{decoded, json_fault}
 pub use Rattle.oxc_sourcemap_decode.specs.ReadMap.{read_value, read_map, said_in, read_decoded_map}
+pub use Rattle.oxc_sourcemap_differ.specs.Differences.{HaveSameTraceEverywhere, IsFirstDifference}
+pub use Rattle.oxc_sourcemap_differ.specs.Differences.{IfBothSorted}
 pub use Rattle.oxc_sourcemap_encode.specs.Encoded.{encoded}
 pub use Rattle.oxc_sourcemap_encode.specs.JsonText.{map_text, map_url, appended}
 pub use Rattle.oxc_sourcemap_join.specs.Joined.{joined, lent_maps, IsWithinLimits, at_line}
@@ -52,7 +54,7 @@ pub use Rattle.oxc_sourcemap_plan.specs.Depth.{depth}
 pub use Rattle.oxc_sourcemap_plan.specs.Evaluated.{IsEvaluated, HasOutcome, IsErrorOf}
 pub use Rattle.oxc_sourcemap_plan.specs.Meaning.{meaning, read_meaning, text_meaning, by_path}
 pub use Rattle.oxc_sourcemap_plan.specs.Meaning.{join_meaning, composition_meaning, remap_meaning}
-pub use Rattle.oxc_sourcemap_plan.specs.Meaning.{root_meaning}
+pub use Rattle.oxc_sourcemap_plan.specs.Meaning.{root_meaning, simplified_meaning}
 pub use Rattle.oxc_sourcemap_plan.specs.Outcome.{is_within_limits}
 pub use Rattle.oxc_sourcemap_plan.specs.Numbers.{number_of}
 pub use Rattle.oxc_sourcemap_plan.specs.Outcome.{outcome, read_outcome, composition_outcome}

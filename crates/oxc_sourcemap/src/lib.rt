@@ -28,7 +28,7 @@ pub use oxc_sourcemap_plan_places::plan_fault_at;
 pub use oxc_sourcemap_reverse::{IndexTokens, SourceIndex};
 pub use oxc_sourcemap_text::{PositionError, TextPositions};
 pub use oxc_sourcemap_tokens::{
-    Error, Field, JsonFault, PlanError, Result, Token, TokenChunk, chunk_fault,
+    Error, Field, JsonFault, PlanError, Position, Result, Token, TokenChunk, chunk_fault,
 };
 pub use oxc_sourcemap_url::{DataUrlError, Language, decode_data_url, source_mapping_url};
 pub use oxc_sourcemap_visualizer::SourcemapVisualizer;

@@ -35,10 +35,13 @@ use Rattle.oxc_sourcemap_found.specs.declared.mend.MendKind.{MendKind}
 use Rattle.oxc_sourcemap_found.specs.declared.mend.MendKind.TheVariants.{Unsorted}
 use Rattle.oxc_sourcemap_found.specs.FoundMaps.{FoundRecord, decoded_with_any_ids, found_record}
 use Rattle.oxc_sourcemap_found.specs.FoundMaps.{mend_of, order_kinds}
-use Rattle.oxc_sourcemap_found.specs.FoundMaps.{found_members, found_indexed, found_value, found}
+use Rattle.oxc_sourcemap_found.specs.FoundMaps.{found_members, found_indexed, found_value}
+use Rattle.oxc_sourcemap_found.specs.FoundMaps.{found_opened, found}
+use Rattle.oxc_sourcemap_found.specs.Opening.{Opened, opened}
 use Rattle.oxc_sourcemap_found.specs.Mended.{MendedMembers, mended_members, as_found}
 use Rattle.oxc_sourcemap_found.proofs.AnyIds.{reading-any_ids, reading-empty}
 use Rattle.oxc_sourcemap_found.proofs.Kept.{Step, step, members-kept}
+use Rattle.oxc_sourcemap_found.proofs.OpenedJson.{opened-json}
 
 -- ---- tokens
 
@@ -135,7 +138,7 @@ any-ids j r e =
     rw (c.fault, any, same) refl
 
 plain-kept : (ms : Members) (r : MapRecord) → (shape (object ms) >>= decoded) ≡ Ok r → are_tokens_sorted r.tokens ≡ true
-    → found_members (mended_members ms) ≡ Ok (record { map = r; mends = [] })
+    → found_members [] (mended_members ms) ≡ Ok (record { map = r; mends = [] })
 plain-kept ms r e s =
     let j = step (shape (object ms)) decoded r e in
     let c = clear (json_fault j.value) _ r j.later in
@@ -146,15 +149,15 @@ plain-kept ms r e s =
     let fields = j.first in
     rw (kept, fields, any, done) refl
 
-indexed-kept : (d : Data) (r : MapRecord) → AreIdsInRange r → read_value d ≡ Ok r → are_tokens_sorted r.tokens ≡ true → found_indexed d ≡ Ok (record { map = r; mends = [] })
+indexed-kept : (d : Data) (r : MapRecord) → AreIdsInRange r → read_value d ≡ Ok r → are_tokens_sorted r.tokens ≡ true → found_indexed [] d ≡ Ok (record { map = r; mends = [] })
 indexed-kept d r h e s = let done = record-kept r h s in rw (e, done) refl
 
 indexed-value : (d : Data) (r : MapRecord) → is_indexed d ≡ true → AreIdsInRange r → read_value d ≡ Ok r → are_tokens_sorted r.tokens ≡ true
-    → found_value d ≡ Ok (record { map = r; mends = [] })
+    → found_value [] d ≡ Ok (record { map = r; mends = [] })
 indexed-value d r b h e s = let done = indexed-kept d r h e s in rw b done
 
 plain-value : (d : Data) (r : MapRecord) → is_indexed d ≡ false → read_value d ≡ Ok r → are_tokens_sorted r.tokens ≡ true
-    → found_value d ≡ Ok (record { map = r; mends = [] })
+    → found_value [] d ≡ Ok (record { map = r; mends = [] })
 unfolding read_value shape
 plain-value null r b e s = cc
 plain-value (boolean x) r b e s = cc
@@ -164,7 +167,7 @@ plain-value (array ds) r b e s = cc
 plain-value (object ms) r b e s = let plain = rw b at e in let done = plain-kept ms r plain s in rw b done
 
 value-kept : (b : Bool) (d : Data) (r : MapRecord) → is_indexed d ≡ b → AreIdsInRange r → read_value d ≡ Ok r → are_tokens_sorted r.tokens ≡ true
-    → found_value d ≡ Ok (record { map = r; mends = [] })
+    → found_value [] d ≡ Ok (record { map = r; mends = [] })
 value-kept true d r b h e s = indexed-value d r b h e s
 value-kept false d r b h e s = plain-value d r b e s
 
@@ -188,7 +191,8 @@ unfolding found
 exact-found text r e s =
     let v = valued text r e in
     let is = v.is in
-    rw is (value-kept (is_indexed v.value) v.value r refl (read_well text r e).in_range v.map s)
+    ap found_opened (opened-json text v.value is)
+    ∙ rw is (value-kept (is_indexed v.value) v.value r refl (read_well text r e).in_range v.map s)
 
 -- ---- sound maps
 
@@ -248,34 +252,34 @@ fine x = Ok x
 ok-same : {A : Type 0} (x y : A) → fine x ≡ fine y → x ≡ y
 ok-same x y e = cc
 
-members-sound : (m : MendedMembers) (f : FoundRecord) → found_members m ≡ Ok f → IsSound f.map
-members-sound m f e =
-    let fields = step (shape (object m.members)) (λ j. decoded_with_any_ids j >>= (λ r. Ok (found_record m.kinds r))) f e in
-    let map = step (decoded_with_any_ids fields.value) (λ r. Ok (found_record m.kinds r)) f fields.later in
-    let is : found_record m.kinds map.value ≡ f = ok-same _ _ map.later in
+members-sound : (kinds : List MendKind) (m : MendedMembers) (f : FoundRecord) → found_members kinds m ≡ Ok f → IsSound f.map
+members-sound kinds m f e =
+    let fields = step (shape (object m.members)) (λ j. decoded_with_any_ids j >>= (λ r. Ok (found_record (kinds ++ m.kinds) r))) f e in
+    let map = step (decoded_with_any_ids fields.value) (λ r. Ok (found_record (kinds ++ m.kinds) r)) f fields.later in
+    let is : found_record (kinds ++ m.kinds) map.value ≡ f = ok-same _ _ map.later in
     subst (λ (g : FoundRecord). IsSound g.map) is (sound-of map.value (ready-plain fields.value map.value map.first))
 
-indexed-sound : (text : Text) (d : Data) (f : FoundRecord) → read text ≡ Some d → found_indexed d ≡ Ok f → IsSound f.map
+indexed-sound : (kinds : List MendKind) (text : Text) (d : Data) (f : FoundRecord) → read text ≡ Some d → found_indexed kinds d ≡ Ok f → IsSound f.map
 unfolding read_map read_value
-indexed-sound text d f is e =
-    let map = step (read_value d) (λ r. Ok (found_record [] r)) f e in
+indexed-sound kinds text d f is e =
+    let map = step (read_value d) (λ r. Ok (found_record kinds r)) f e in
     let whole : read_map text ≡ Ok map.value = rw is map.first in
     let well = read_well text map.value whole in
-    let same : found_record [] map.value ≡ f = ok-same _ _ map.later in
+    let same : found_record kinds map.value ≡ f = ok-same _ _ map.later in
     subst (λ (g : FoundRecord). IsSound g.map) same (sound-of map.value (record { chunks = well.chunks; ignore_list = well.in_range.ignore_list }))
 
-value-sound : (text : Text) (b : Bool) (d : Data) (f : FoundRecord) → read text ≡ Some d → is_indexed d ≡ b → found_value d ≡ Ok f → IsSound f.map
-value-sound text true d f is b e = indexed-sound text d f is (rw b at e)
-value-sound text false d f is b e =
+value-sound : (kinds : List MendKind) (text : Text) (b : Bool) (d : Data) (f : FoundRecord) → read text ≡ Some d → is_indexed d ≡ b → found_value kinds d ≡ Ok f → IsSound f.map
+value-sound kinds text true d f is b e = indexed-sound kinds text d f is (rw b at e)
+value-sound kinds text false d f is b e =
     let plain = rw b at e in
-    let ms = step (or_misshapen Object (as_object d)) (λ ms. found_members (mended_members ms)) f plain in
-    members-sound (mended_members ms.value) f ms.later
+    let ms = step (or_misshapen Object (as_object d)) (λ ms. found_members kinds (mended_members ms)) f plain in
+    members-sound kinds (mended_members ms.value) f ms.later
 
-found-sound-at : (o : Option Data) (text : Text) (f : FoundRecord) → read text ≡ o → found text ≡ Ok f → IsSound f.map
-unfolding found
-found-sound-at None text f is e = let h = rw is at e in cc
-found-sound-at (Some d) text f is e = value-sound text (is_indexed d) d f is refl (rw is at e)
+opened-sound : (o : Option Data) (p : Opened) (f : FoundRecord) → read p.text ≡ o → found_opened p ≡ Ok f → IsSound f.map
+opened-sound None p f is e = let h = rw is at e in cc
+opened-sound (Some d) p f is e = value-sound p.kinds p.text (is_indexed d) d f is refl (rw is at e)
 
 -- a map that is found is sound
 pub found-sound : (text : Text) (f : FoundRecord) → found text ≡ Ok f → IsSound f.map
-found-sound text f e = found-sound-at (read text) text f refl e
+unfolding found
+found-sound text f e = opened-sound (read (opened text).text) (opened text) f refl e

@@ -1,5 +1,5 @@
 //! The lookups of `SourceMap` by generated position. (The Rust crate has these calls in the module `sourcemap`.)
-ghost use Rattle.std.specs.Prelude.{◌≡◌, ◌+◌, ◌<◌, ◌≤◌, true, length, map, option_map, IfSome};
+ghost use Rattle.std.specs.Prelude.{◌≡◌, ◌↔◌, ◌+◌, ◌<◌, ◌≤◌, true, length, map, option_map, IfSome};
 ghost use Rattle.std.specs.Prelude.{IsNone, Some, [], slice_get};
 ghost use Rattle.std.specs.Option.{option_and_then};
 ghost use Rattle.std.specs.List.{Contains};
@@ -10,16 +10,18 @@ ghost use Rattle.oxc_sourcemap_map.specs.Words.{line_table, slice_of, trace, cla
 ghost use Rattle.oxc_sourcemap_map.specs.Words.{view_of, seen_in, view_original, Answers, Reports};
 ghost use Rattle.oxc_sourcemap_map.specs.Words.{lent_items, at_or_after, token_after, index_for};
 ghost use Rattle.oxc_sourcemap_map.specs.Words.{clamped_index_for, index_after, place, pieces_of};
-ghost use Rattle.oxc_sourcemap_map.specs.Words.{DoCover, are_tokens_sorted};
+ghost use Rattle.oxc_sourcemap_map.specs.Words.{DoCover, are_tokens_sorted, IfBothSorted};
+ghost use Rattle.oxc_sourcemap_map.specs.Words.{HaveSameTraceEverywhere, IsFirstDifference};
 
 use crate::source_view_token::SourceViewToken;
 use crate::sourcemap::SourceMap;
+use oxc_sourcemap_differ::first_difference_of_parts;
 use oxc_sourcemap_lookup::{
     index_from_line, lookup_table, search, search_after, search_clamped, search_index,
     search_index_after, search_index_clamped, slice_of,
 };
 use oxc_sourcemap_pieces::{Pieces, pieces_in};
-use oxc_sourcemap_tokens::{Result, Token};
+use oxc_sourcemap_tokens::{Position, Result, Token};
 use std::alloc::Global;
 
 impl<'a> SourceMap<'a> {
@@ -256,5 +258,38 @@ impl<'a> SourceMap<'a> {
             → result ≡ pieces_of self.now.tokens line col end_line end_col }
     {
         pieces_in(self.parts.tokens.as_slice(), line, col, end_line, end_col)
+    }
+
+    /// The first position of generated code, by line and then by column, at which this map and another have different exact traces:
+    /// one finds a token and the other none, or they find tokens that do not point to the same. None if the traces are the same at
+    /// every position. Tokens point to the same if their sources have equal paths and contents, and their source lines, source
+    /// columns and names are equal, or if both are unmapped; an id out of range counts as none. So maps with other ids, or with
+    /// tokens that change no trace, do not differ, whatever else they hold. (Lines and columns count from 0, columns in UTF-16 code
+    /// units.)
+    ///
+    /// The tokens of both maps have to be sorted (`is_sorted`): else the result is some position, or None. Columns are at most
+    /// 4294967295: of several tokens at one column the last is found from the next column on, and so not at all at that one.
+    ///
+    /// ```rust
+    /// use oxc_sourcemap::SourceMap;
+    ///
+    /// let text = r#"{"version":3,"sources":["a.js"],"mappings":"EAAA,GAAG"}"#;
+    /// let map = SourceMap::from_json_string(alloc, text)?;
+    /// let text = r#"{"version":3,"sources":["b.js","a.js"],"mappings":"ECAA,GAAI"}"#;
+    /// let other = SourceMap::from_json_string(alloc, text)?;
+    /// let found = map.first_difference(&other).map(|at| (at.line, at.column));
+    /// assert_eq!(rt; found, Some((0, 5)));
+    /// assert!(rt; map.first_difference(&map).is_none());
+    /// ```
+    ///
+    /// It goes once over the lists of sources, as far as they are equal, and over the tokens of both maps. The texts of other sources
+    /// are compared where tokens lead to others than those before. It takes no memory.
+    pub fn first_difference(&self, other: &SourceMap<'_>) -> Option<Position>
+        ensures same { IfBothSorted self.now other.now
+            (IsNone result ↔ HaveSameTraceEverywhere self.now other.now) }
+        ensures first { IfBothSorted self.now other.now
+            (IfSome result (IsFirstDifference self.now other.now)) }
+    {
+        first_difference_of_parts(&self.parts, &other.parts)
     }
 }

@@ -38,7 +38,7 @@ module _ (ts : List TokenRecord) (next p : ℕ) (within : next ≤ length ts) wh
   pub after-within : after ≤ length ts
   after-within = omega (arith, within, prefix_len-le-length (λ t. nat_le (token_place t) p) (drop next ts), length-drop next ts)
 
-  after-past : after < length ts → p < token_place (get_or ts after d)
+  pub after-past : after < length ts → p < token_place (get_or ts after d)
   after-past h =
       let stops = prefix_len_stops (λ t. nat_le (token_place t) p) (drop next ts) d (omega (arith, h, length-drop next ts)) in
       let is : nat_le (token_place (get_or ts after d)) p ≡ false = ap (λ t. nat_le (token_place t) p) (sym (get_or-drop next ts count d)) ∙ stops in
@@ -142,7 +142,7 @@ hit-here ts n p lt e =
     let is : (token_place (get_or ts n d) == p) ≡ true = grind (arith, nat_tests, e) in
     ap (λ c. if c then Some n else holder_before ts n p) (there (λ t. token_place t == p) false ts n d lt ∙ is)
 
-no-hit : (ts : List TokenRecord) (n p : ℕ) → (n < length ts → token_place (get_or ts n d) ≢ p) → holder ts n p ≡ holder_before ts n p
+pub no-hit : (ts : List TokenRecord) (n p : ℕ) → (n < length ts → token_place (get_or ts n d) ≢ p) → holder ts n p ≡ holder_before ts n p
 no-hit ts n p other = ap (λ c. if c then Some n else holder_before ts n p) (elim (cases_lt n (length ts)) [
   | inl lt ↦ there (λ t. token_place t == p) false ts n d lt ∙ is_other_number _ p (other lt)
   | inr ge ↦ not_there (λ t. token_place t == p) false ts n ge
@@ -154,11 +154,11 @@ on-line ts i p lt e =
     let is : ((get_or ts i d).dst_line == line_of p) ≡ true = grind (arith, nat_tests, e) in
     ap (λ c. if c then Some i else None) (there (λ t. t.dst_line == line_of p) false ts i d lt ∙ is)
 
-off-line : (ts : List TokenRecord) (i p : ℕ) → i < length ts → (get_or ts i d).dst_line ≢ line_of p → holder_before ts (suc i) p ≡ None
+pub off-line : (ts : List TokenRecord) (i p : ℕ) → i < length ts → (get_or ts i d).dst_line ≢ line_of p → holder_before ts (suc i) p ≡ None
 off-line ts i p lt h = ap (λ c. if c then Some i else None) (there (λ t. t.dst_line == line_of p) false ts i d lt ∙ is_other_number _ _ h)
 
 -- the same is found before an index at a later place, up to the end of the line
-same-before : (ts : List TokenRecord) (n p q : ℕ) → n ≤ length ts → ((i : ℕ) → i < n → token_place (get_or ts i d) ≤ p) → p ≤ q → (is_some (holder_before ts n p) ≡ true → q < line_end p)
+pub same-before : (ts : List TokenRecord) (n p q : ℕ) → n ≤ length ts → ((i : ℕ) → i < n → token_place (get_or ts i d) ≤ p) → p ≤ q → (is_some (holder_before ts n p) ≡ true → q < line_end p)
     → holder_before ts n q ≡ holder_before ts n p
 same-before ts zero p q within low le line = refl
 same-before ts (suc i) p q within low le line =
@@ -191,14 +191,14 @@ module _ (ts : List TokenRecord) (sorted : are_tokens_sorted ts ≡ true) (bound
   rises : IsNonDecreasingBy token_place ts
   rises = places-rise ts sorted bounds
 
-  not_after : (i : ℕ) → i < past → token_place (get_or ts i d) ≤ p
+  pub not_after : (i : ℕ) → i < past → token_place (get_or ts i d) ≤ p
   not_after i h = elim (cases_lt i next) [
     | inl lt ↦ omega (arith, start.before i lt)
     | inr ge ↦ passes ts next p start.within i ge h
   ]
 
   -- places after this one, up to the next token
-  starts-at : (q : ℕ) → p < q → (past < length ts → q ≤ token_place (get_or ts past d)) → IsStart ts q past
+  pub starts-at : (q : ℕ) → p < q → (past < length ts → q ≤ token_place (get_or ts past d)) → IsStart ts q past
   starts-at q low high = record {
     within = after-within ts next p start.within;
     before = λ i h. omega (arith, low, not_after i h);
@@ -220,14 +220,14 @@ module _ (ts : List TokenRecord) (sorted : are_tokens_sorted ts ≡ true) (bound
   pub stop-start : IsStart ts stop past
   stop-start = starts-at stop forward.0 not_past
 
-  found-here : index_at_place ts p ≡ found
+  pub found-here : index_at_place ts p ≡ found
   found-here = found-is ts sorted bounds p next start
 
   found-after : (q : ℕ) → p < q → q ≤ stop → index_at_place ts q ≡ holder ts past q
   found-after q low high = found-is ts sorted bounds q past (starts-at q low (λ lt. omega (arith, high, not_past lt)))
 
   -- with one token at the place or none, what is found is found before the next token
-  found-before : (n : ℕ) → n ≡ total → n ≤ 1 → found ≡ holder_before ts past p
+  pub found-before : (n : ℕ) → n ≡ total → n ≤ 1 → found ≡ holder_before ts past p
   found-before zero e few =
       let same : past ≡ next = omega (arith, e) in
       no-hit ts next p (λ lt is. omega (arith, is, same, ap (λ i. token_place (get_or ts i d)) same, after-past ts next p start.within (omega (arith, lt, same))))

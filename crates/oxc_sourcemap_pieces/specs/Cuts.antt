@@ -1,4 +1,4 @@
--- How a range is cut from left to right. Contracts of private functions cite these.
+-- How a range is cut from left to right. Contracts of functions that only crates of this library call cite these.
 use Rattle.std.specs.Prelude.{ℕ, zero, suc, ◌+◌, ◌*◌, ◌<◌, ◌≤◌, ◌==◌, nat_lt, nat_le, false}
 use Rattle.std.specs.Prelude.{List, [], ◌∷◌, length, drop, get_or, slice_get, min, Option, Some}
 use Rattle.std.specs.Prelude.{None}

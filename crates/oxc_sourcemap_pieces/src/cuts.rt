@@ -39,21 +39,21 @@ pub(crate) fn place(line: u32, col: u32) -> u64
 }
 
 /// The place of a token.
-fn place_of(token: &Token) -> u64
+pub fn place_of(token: &Token) -> u64
     ensures { result ≡ token_place token.now }
 {
     place(token.get_dst_line(), token.get_dst_col())
 }
 
 /// The line of a place.
-fn line_of(place: u64) -> u32
+pub fn line_of(place: u64) -> u32
     ensures { result ≡ line_of place }
 {
     (place / 4294967296) as u32
 }
 
 /// The column of a place.
-fn column_of(place: u64) -> u32
+pub fn column_of(place: u64) -> u32
     ensures { result ≡ column_of place }
 {
     (place % 4294967296) as u32
@@ -80,7 +80,7 @@ fn is_on(tokens: &[Token], i: usize, line: u32) -> bool
 }
 
 /// The index of the token that the lookup of a place finds, if `next` is that of the first token that does not lie before it.
-fn holder(tokens: &[Token], next: usize, place: u64) -> Option<usize>
+pub fn holder(tokens: &[Token], next: usize, place: u64) -> Option<usize>
     ensures { result ≡ holder tokens.now next place }
 {
     if is_at(tokens, next, place) {
@@ -102,7 +102,7 @@ fn is_passed(token: &Token, place: u64) -> bool
 }
 
 /// How many tokens at the front do not lie after a place.
-fn count_passed(tokens: &[Token], place: u64) -> usize
+pub fn count_passed(tokens: &[Token], place: u64) -> usize
     ensures { result ≡ prefix_len (λ t. nat_le (token_place t) place) tokens.now }
 {
     tokens
@@ -157,7 +157,7 @@ pub(crate) fn cut_at(tokens: &[Token], next: usize, place: u64, end: u64) -> Cut
 }
 
 /// The token at an index.
-fn token_at(tokens: &[Token], i: Option<usize>) -> Option<Token>
+pub fn token_at(tokens: &[Token], i: Option<usize>) -> Option<Token>
     ensures { result ≡ option_and_then (slice_get tokens.now) i }
 {
     tokens.get(i?).copied()

@@ -38,7 +38,7 @@ use Rattle.oxc_sourcemap_plan.specs.Limits.{is_join_within_limits, is_part_withi
 use Rattle.oxc_sourcemap_plan.specs.Meaning.{Meaning, meaning, meaning_of, root_meaning}
 use Rattle.oxc_sourcemap_plan.specs.Meaning.{onto_decoded_maps, all_decoded_maps, join_meaning}
 use Rattle.oxc_sourcemap_plan.specs.Meaning.{composition_meaning, by_path, onto_inputs, all_inputs}
-use Rattle.oxc_sourcemap_plan.specs.Meaning.{remap_meaning}
+use Rattle.oxc_sourcemap_plan.specs.Meaning.{remap_meaning, simplified_meaning}
 use Rattle.oxc_sourcemap_plan.specs.Outcome.{Outcome, read_outcome, sorted_outcome, outcome_step}
 use Rattle.oxc_sourcemap_plan.specs.Outcome.{outcome_of, too_deep, is_within_limits, meanings}
 use Rattle.oxc_sourcemap_plan.specs.Outcome.{input_meanings, are_all_within_limits, names_of_all}
@@ -114,6 +114,10 @@ join-follows (Ok maps) texts f =
 root-follows : (m : Meaning) (texts : List Text) → Follows m texts → Follows (root_meaning m) texts
 root-follows (Err e) texts f = f
 root-follows (Ok s) texts f = f
+
+simplified-follows : (m : Meaning) (texts : List Text) → Follows m texts → Follows (simplified_meaning m) texts
+simplified-follows (Err e) texts f = f
+simplified-follows (Ok s) texts f = f
 
 composition-follows : (m n : Meaning) (xs ys : List Text) → Follows m xs → Follows n ys → Follows (composition_meaning m n) (xs ++ ys)
 composition-follows (Err e) n xs ys f g = in-front e xs ys f
@@ -234,6 +238,7 @@ module _ (laws : JoinLaws) where
   step-follows (Plan-F.ReadSorted text) w = sorted-follows text.now w
   step-follows (Plan-F.Rewrite part) w = part.value.1 w
   step-follows (Plan-F.ApplyRoot part) w = root-follows _ _ (part.value.1 w)
+  step-follows (Plan-F.Simplify part) w = simplified-follows _ _ (part.value.1 (and_parts _ _ w).0)
   step-follows (Plan-F.Join parts) w = join-follows _ _ (lines-follow parts.items (and_parts _ _ w).0)
   step-follows (Plan-F.JoinAt parts) w = join-follows _ _ (positions-follow parts.items (and_parts _ _ w).0)
   step-follows (Plan-F.Compose first second) w =

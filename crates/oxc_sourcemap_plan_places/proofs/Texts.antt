@@ -14,7 +14,8 @@ use Rattle.oxc_sourcemap_plan.specs.declared.plan.Plan.TheVariants.{rolls-ApplyR
 use Rattle.oxc_sourcemap_plan.specs.declared.plan.Plan.TheVariants.{rolls-Join, JoinAt}
 use Rattle.oxc_sourcemap_plan.specs.declared.plan.Plan.TheVariants.{rolls-JoinAt, Compose}
 use Rattle.oxc_sourcemap_plan.specs.declared.plan.Plan.TheVariants.{rolls-Compose, Remap}
-use Rattle.oxc_sourcemap_plan.specs.declared.plan.Plan.TheVariants.{rolls-Remap}
+use Rattle.oxc_sourcemap_plan.specs.declared.plan.Plan.TheVariants.{rolls-Remap, Simplify}
+use Rattle.oxc_sourcemap_plan.specs.declared.plan.Plan.TheVariants.{rolls-Simplify}
 use Rattle.oxc_sourcemap_plan.specs.declared.plan.Plan.TheOpen.{Plan-F}
 use Rattle.oxc_sourcemap_plan.specs.declared.plan.Plan.TheFolds.{fold-roll-Plan}
 use Rattle.oxc_sourcemap_plan_places.specs.PlanPlaces.{texts_of, texts_step}
@@ -42,6 +43,9 @@ texts_rewrite p = ap texts_of (sym (rolls-Rewrite p)) ∙ fold-roll-Plan (List T
 
 pub texts_root : (p : Box Plan Global) → texts_of (ApplyRoot p) ≡ texts_of p.value
 texts_root p = ap texts_of (sym (rolls-ApplyRoot p)) ∙ fold-roll-Plan (List Text) texts_step (Plan-F.ApplyRoot p)
+
+pub texts_simplify : (p : Box Plan Global) → texts_of (Simplify p) ≡ texts_of p.value
+texts_simplify p = ap texts_of (sym (rolls-Simplify p)) ∙ fold-roll-Plan (List Text) texts_step (Plan-F.Simplify p)
 
 pub texts_join : (parts : Vec (Plan × ℕ) Global) → texts_of (Join parts) ≡ flat_map (λ p. texts_of p.0) parts.items
 texts_join parts = ap texts_of (sym (rolls-Join parts)) ∙ fold-roll-Plan (List Text) texts_step (Plan-F.Join parts) ∙ firsts parts.items

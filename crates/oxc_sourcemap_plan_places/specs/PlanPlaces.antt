@@ -23,6 +23,7 @@ texts_step (Plan-F.Read text) = text.now ∷ []
 texts_step (Plan-F.ReadSorted text) = text.now ∷ []
 texts_step (Plan-F.Rewrite part) = part.value
 texts_step (Plan-F.ApplyRoot part) = part.value
+texts_step (Plan-F.Simplify part) = part.value
 texts_step (Plan-F.Join parts) = flat_map (λ p. p.0) parts.items
 texts_step (Plan-F.JoinAt parts) = flat_map (λ p. p.0) parts.items
 texts_step (Plan-F.Compose first second) = first.value ++ second.value

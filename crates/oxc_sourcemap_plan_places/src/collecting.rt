@@ -16,6 +16,7 @@ fn push_texts<'t>(plan: &Plan<'t>, texts: &mut Vec<&'t str>) -> Memory<()>
         Plan::ReadSorted(text) => Ok(texts.push(*text)?),
         Plan::Rewrite(part) => push_texts(part, texts),
         Plan::ApplyRoot(part) => push_texts(part, texts),
+        Plan::Simplify(part) => push_texts(part, texts),
         Plan::Join(parts) => {
             for (part, _) in parts {
                 push_texts(part, texts)?;

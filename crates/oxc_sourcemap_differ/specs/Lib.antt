@@ -1,0 +1,4 @@
+pub mod Differences
+pub mod Originals
+pub mod Walk
+pub mod Words

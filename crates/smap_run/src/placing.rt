@@ -1,6 +1,6 @@
 //! Where the input of a command has the fault that its error tells.
 ghost use Rattle.std.specs.Prelude.{◌≡◌, ◌≢◌, ◌++◌, ◌∷◌, [], ℕ, List, IfSome, IfOk, IfErr, OnOk};
-ghost use Rattle.std.specs.Prelude.{Some, None, slice_get, IsUtf8};
+ghost use Rattle.std.specs.Prelude.{Some, None, slice_get, IsUtf8, true, false};
 ghost use Rattle.std.specs.Io.KnownBytes.{Appends, Keeps};
 ghost use Rattle.smap_run.specs.Words.{lent_item, lent_items, inputs_of, request_of, out_of_memory};
 ghost use Rattle.smap_run.specs.Words.{IsPlaceOf, IsInputPlace, IsMappingsPlace, IsPlaceFor};
@@ -154,6 +154,8 @@ pub fn run_where<R: Read, W: Write>(
         × IfSome f.place (IsPlaceFor (request_of command.now) input f.error)) }
     ensures nothing_written { IfErr result (λ f. (f.error ≢ RunError.Write)
         → Keeps (W.contents writer.old.inner) (W.contents writer.new.inner)) }
+    ensures write { writer.old.failed ≡ false → IfErr result (λ f. f.error ≡ RunError.Write
+        → writer.new.failed ≡ true) }
 {
     let input = read_all(alloc, reader)?;
     let mut again = Port::new(input.as_slice());

@@ -1,9 +1,10 @@
 //! Where faults are. tests/reference/fault_places.py has the places of sections, and the numbers of the random texts.
 use crate::helpers::same;
 use oxc_sourcemap::{
-    FaultPlace, FaultSpot, Field, SegmentPlace, decode_from_string, decode_mappings, json_fault_at, mappings_fault_at,
+    FaultPlace, FaultSpot, Field, Plan, SegmentPlace, decode_from_string, decode_mappings, evaluate, json_fault_at, mappings_fault_at, plan_fault_at,
 };
 use std::alloc::{AllocError, Global};
+use std::process::Abort;
 use std::test::Fail;
 
 fn place(byte: usize, line: u32, segment: usize) -> Option<SegmentPlace> {
@@ -197,6 +198,42 @@ fn random_sections_have_faults(rt: HostRuntime) -> std::result::Result<(), Fail>
         }
     }
     same(&rt, "faults", (faults, sum), (2399, 3288360559));
+    Ok(())
+}
+
+const FINE: &str = r#"{"version":3,"sources":["a.js"],"mappings":"AAAA"}"#;
+const BAD: &str = r#"{"version":3,"sources":["a.js"],"mappings":"AAAA;A,AA"}"#;
+const TWO: &str = r#"{"version":3,"sources":["a.js","b.js"],"mappings":""}"#;
+
+/// Asserts the place of the error of a plan.
+fn plan_fails_at(rt: &impl Abort, alloc: Global, plan: &Plan<'_>, wanted: Option<&str>) -> std::result::Result<(), Fail> {
+    let Err(error) = evaluate(alloc, plan) else {
+        same(rt, "plan", None, Some(wanted));
+        return Ok(());
+    };
+    match plan_fault_at(alloc, plan, error)? {
+        Some(place) => same(rt, "place", Some(place.to_string(alloc)?.as_str()), wanted),
+        None => same(rt, "place", None, wanted),
+    }
+    Ok(())
+}
+
+#[test]
+fn plans_have_faults(rt: HostRuntime) -> std::result::Result<(), Fail> {
+    let alloc = rt.alloc();
+    let boxed = |text| Box::new(alloc, Plan::Read(text));
+    let joined = Plan::Join(vec![in alloc; (Plan::Read(FINE), 0), (Plan::ReadSorted(BAD), 1), (Plan::Read("{"), 2)]?);
+    plan_fails_at(&rt, alloc, &joined, Some("text 1, line 1, segment 1 (byte 7)"))?;
+    let composed = Plan::Compose(boxed(FINE)?, boxed("[]")?);
+    plan_fails_at(&rt, alloc, &composed, Some("text 1, the value"))?;
+    let inputs = vec![in alloc; ("a.js", Plan::Rewrite(boxed(FINE)?)), ("b.js", Plan::ApplyRoot(boxed(BAD)?))]?;
+    plan_fails_at(&rt, alloc, &Plan::Remap(boxed(TWO)?, inputs), Some("text 2, line 1, segment 1 (byte 7)"))?;
+    let at = Plan::JoinAt(vec![in alloc; (Plan::Read("{"), 0, 0), (Plan::Read(BAD), 1, 0)]?);
+    plan_fails_at(&rt, alloc, &at, Some("text 0, line 0, column 1 (byte 1)"))?;
+    // An error of a step: both texts are read, or the next is not.
+    plan_fails_at(&rt, alloc, &Plan::Compose(boxed(TWO)?, boxed(FINE)?), None)?;
+    let unsorted = Plan::Join(vec![in alloc; (Plan::Read(FINE), 1), (Plan::Read(FINE), 0)]?);
+    plan_fails_at(&rt, alloc, &Plan::Compose(Box::new(alloc, unsorted)?, boxed(BAD)?), None)?;
     Ok(())
 }
 

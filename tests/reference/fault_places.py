@@ -164,7 +164,7 @@ def plan_place(words, inputs):
 
     def part():
         word = next(words)
-        if word in ("rewrite", "root"):
+        if word in ("rewrite", "root", "simplify"):
             yield from part()
         elif word == "sort":
             yield int(next(words)[1:])

@@ -73,6 +73,7 @@ pub use Rattle.oxc_sourcemap_places.specs.declared.fault_place.FaultPlace
 pub use Rattle.oxc_sourcemap_places.specs.declared.fault_place.FaultSpot
 pub use Rattle.oxc_sourcemap_places.specs.PlaceMessages
 pub use Rattle.oxc_sourcemap_places.specs.ValueSpots
+pub use Rattle.oxc_sourcemap_plan_places.specs.PlanPlaces
 pub use Rattle.oxc_sourcemap_url.specs.declared.data_url_error.DataUrlError
 pub use Rattle.oxc_sourcemap_url.specs.declared.language.Language
 pub use Rattle.oxc_sourcemap_url.specs.DataUrls

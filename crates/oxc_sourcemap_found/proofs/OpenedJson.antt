@@ -1,7 +1,7 @@
 -- A JSON text is found as it is: nothing is passed over in front of it, and it is no data URL.
 use Rattle.std.proofs.Common.{◌≡◌, ℕ, ◌+◌, Bool, true, false, cond, ◌&&◌, nat_lt, ◌==◌, List}
 use Rattle.std.proofs.Common.{[], ◌∷◌, codes, arith, refl, ap, subst, ◌∙◌}
-use Rattle.std.proofs.Common.{Option, Some, None, Result, Ok, zero, suc}
+use Rattle.std.proofs.Common.{Some, None, Ok, suc}
 use Rattle.std.proofs.lemmas.Bool.Decides.{nat_tests}
 use Rattle.std.specs.List.{position_or_len, before_first}
 use Rattle.std.specs.Char.{to_ascii_lowercase}

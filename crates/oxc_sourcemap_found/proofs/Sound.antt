@@ -1,17 +1,16 @@
 -- Maps that are found: of an exact map nothing is mended, and each is sound.
-use Rattle.std.proofs.Common.{◌≡◌, ℕ, ◌+◌, ◌<◌, Bool, true, false, cond, not, ◌&&◌, nat_lt, ◌==◌}
-use Rattle.std.proofs.Common.{List, [], ◌∷◌, ◌++◌, map, length, refl, ap, sym, ◌∙◌, subst, inl, inr}
+use Rattle.std.proofs.Common.{◌≡◌, ℕ, ◌<◌, Bool, true, false, cond, not, nat_lt, ◌==◌}
+use Rattle.std.proofs.Common.{List, [], ◌∷◌, ◌++◌, map, length, refl, ap, ◌∙◌, subst}
 use Rattle.std.proofs.Common.{arith, Option, Some, None, option_map, Result, Ok, Err}
 use Rattle.std.proofs.lemmas.Bool.Decides.{nat_tests}
 use Rattle.std.specs.List.{AllByRecursion, count_by}
-use Rattle.std.specs.Option.{IfSome, option_map_or}
+use Rattle.std.specs.Option.{IfSome}
 use Rattle.serde_json.specs.Data.{Data, null, boolean, number, string, array, object, Members}
 use Rattle.serde_json.specs.Read.{read}
 use Rattle.oxc_sourcemap_tokens.specs.declared.error.Error.{Error}
 use Rattle.oxc_sourcemap_tokens.specs.declared.error.Error.TheVariants.{BadSourceReference}
 use Rattle.oxc_sourcemap_tokens.specs.Errors.{unless}
 use Rattle.oxc_sourcemap_tokens.specs.Token.{TokenRecord}
-use Rattle.oxc_sourcemap_mappings.specs.Reading.{reading}
 use Rattle.oxc_sourcemap_parts.specs.Record.{Text, MapRecord}
 use Rattle.oxc_sourcemap_parts.specs.Sorted.{may_precede, are_tokens_sorted, token_line}
 use Rattle.oxc_sourcemap_parts.specs.Sorted.{token_column}
@@ -20,14 +19,14 @@ use Rattle.oxc_sourcemap_json.specs.Json.{JsonRecord}
 use Rattle.oxc_sourcemap_tokens.specs.declared.error.Field.TheVariants.{Object}
 use Rattle.oxc_sourcemap_json.specs.Shape.{◌>>=◌, or_misshapen, shape}
 use Rattle.serde_json.specs.Find.{as_object}
-use Rattle.oxc_sourcemap_sort.specs.Sorting.{put_in, sorted_by, sorted_tokens, sorted_map}
+use Rattle.oxc_sourcemap_sort.specs.Sorting.{put_in, sorted_tokens, sorted_map}
 use Rattle.oxc_sourcemap_sort.proofs.Sorting.{sorted-once}
 use Rattle.oxc_sourcemap_decode.specs.Decoded.{decoded_record, with_tokens, json_fault, decoded}
 use Rattle.oxc_sourcemap_decode.specs.Decoded.{ignore_list_fault}
 use Rattle.oxc_sourcemap_decode.specs.Section.{is_indexed}
-use Rattle.oxc_sourcemap_decode.specs.ReadMap.{read_map, read_value, said_by, map_said}
+use Rattle.oxc_sourcemap_decode.specs.ReadMap.{read_map, read_value}
 use Rattle.oxc_sourcemap_decode.proofs.ReadSound.{decoded-well}
-use Rattle.oxc_sourcemap_decode.proofs.WellRead.{read_well, read_is_said, value_is_said}
+use Rattle.oxc_sourcemap_decode.proofs.WellRead.{read_well}
 use Rattle.oxc_sourcemap_found.specs.InRange.{is_past, has_bad_source, has_bad_name, token_in_range}
 use Rattle.oxc_sourcemap_found.specs.InRange.{map_in_range, source_kinds, name_kinds}
 use Rattle.oxc_sourcemap_found.specs.declared.mend.Mend.{Mend}
@@ -38,9 +37,9 @@ use Rattle.oxc_sourcemap_found.specs.FoundMaps.{mend_of, order_kinds}
 use Rattle.oxc_sourcemap_found.specs.FoundMaps.{found_members, found_indexed, found_value}
 use Rattle.oxc_sourcemap_found.specs.FoundMaps.{found_opened, found}
 use Rattle.oxc_sourcemap_found.specs.Opening.{Opened, opened}
-use Rattle.oxc_sourcemap_found.specs.Mended.{MendedMembers, mended_members, as_found}
+use Rattle.oxc_sourcemap_found.specs.Mended.{MendedMembers, mended_members}
 use Rattle.oxc_sourcemap_found.proofs.AnyIds.{reading-any_ids, reading-empty}
-use Rattle.oxc_sourcemap_found.proofs.Kept.{Step, step, members-kept}
+use Rattle.oxc_sourcemap_found.proofs.Kept.{step, members-kept}
 use Rattle.oxc_sourcemap_found.proofs.OpenedJson.{opened-json}
 
 -- ---- tokens

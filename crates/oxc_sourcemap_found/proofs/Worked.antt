@@ -1,5 +1,5 @@
 -- Worked examples, computed by the definitions themselves.
-use Rattle.std.specs.Prelude.{◌≡◌, refl, [], ◌∷◌, ◌++◌, codes, List}
+use Rattle.std.specs.Prelude.{◌≡◌, refl, [], ◌∷◌, codes, List}
 use Rattle.oxc_sourcemap_url.specs.DataUrls.{decoded_data_url}
 use Rattle.oxc_sourcemap_parts.specs.Record.{Text}
 use Rattle.oxc_sourcemap_found.specs.declared.mend.MendKind.{MendKind}

@@ -1,6 +1,6 @@
 -- What is passed over and opened before a JSON text is read: a byte order mark, a line that keeps the text from being run as a
 -- script, and a data URL.
-use Rattle.std.specs.Prelude.{ℕ, List, [], ◌∷◌, ◌++◌, length, drop, codes, Option, Some, None}
+use Rattle.std.specs.Prelude.{List, [], ◌∷◌, ◌++◌, length, drop, codes, Option, Some, None}
 use Rattle.std.specs.Prelude.{Result, Ok, Err, if◌then◌else◌, ◌==◌, nat_eq}
 use Rattle.std.specs.List.{starts_with, after_first}
 use Rattle.oxc_sourcemap_parts.specs.Record.{Text}

@@ -1,4 +1,4 @@
-use Rattle.std.proofs.Common.{◌≡◌, ◌++◌, [], length, arith, ap, sym, ◌∙◌}
+use Rattle.std.proofs.Common.{◌≡◌, ◌++◌, length, arith, ap, sym, ◌∙◌}
 use Rattle.std.specs.List.{count_by}
 use Rattle.std.proofs.lemmas.Bool.Decides.{nat_tests}
 use Rattle.std.proofs.lemmas.Grind.{common_steps}
@@ -6,7 +6,6 @@ use Rattle.std.proofs.lemmas.List.{append-nil}
 use Rattle.oxc_sourcemap_parts.specs.Views.{record_of_parts}
 use Rattle.oxc_sourcemap_found.specs.declared.mend.MendKind.TheVariants.{SourceIds, NameIds}
 use Rattle.oxc_sourcemap_found.specs.InRange.{has_bad_source, has_bad_name, counted, source_kinds}
-use Rattle.oxc_sourcemap_found.specs.InRange.{name_kinds}
 use Rattle.oxc_sourcemap_found.proofs.NoneBad.{none-bad}
 use Rattle.oxc_sourcemap_found.proofs.tokens.mend_ids.Goals as goal
 

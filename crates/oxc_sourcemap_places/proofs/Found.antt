@@ -1,5 +1,5 @@
 -- A place is found exactly if there is a fault.
-use Rattle.std.proofs.Common.{◌≡◌, ℕ, suc, ◌||◌, Bool, true, false, cond, nat_lt, nat_le, List, []}
+use Rattle.std.proofs.Common.{◌≡◌, ℕ, ◌||◌, Bool, true, false, cond, nat_lt, nat_le, List, []}
 use Rattle.std.proofs.Common.{◌∷◌, length, refl, ap, sym, ◌∙◌, arith, Option, Some, None}
 use Rattle.std.proofs.Common.{option_map}
 use Rattle.std.proofs.Common.{Result, Ok, Err, is_some, position, codes}

@@ -1,5 +1,5 @@
 -- Sections are read one by one: the place of the first fault, by what is known of those so far.
-use Rattle.std.proofs.Common.{◌≡◌, ℕ, suc, ◌+◌, true, false, cond, List, [], ◌∷◌, ◌++◌, length}
+use Rattle.std.proofs.Common.{◌≡◌, ℕ, ◌+◌, false, cond, List, [], ◌∷◌, ◌++◌, length}
 use Rattle.std.proofs.Common.{refl}
 use Rattle.std.proofs.Common.{sym, ap, ◌∙◌, subst, Option, Some, None, option_map, Result, Ok}
 use Rattle.std.proofs.Common.{Err}

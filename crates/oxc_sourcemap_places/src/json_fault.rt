@@ -1,5 +1,5 @@
 //! Where a JSON text has its first fault.
-ghost use Rattle.std.specs.Prelude.{◌≡◌, ◌+◌, ◌≤◌, length, IfOk, Some, None, IsSomeAnd, is_some};
+ghost use Rattle.std.specs.Prelude.{◌≡◌, ◌≤◌, length, IfOk, Some, None, IsSomeAnd, is_some};
 ghost use Rattle.std.specs.Result.{is_err};
 ghost use Rattle.serde_json.specs.Data.{Data};
 ghost use Rattle.oxc_sourcemap_places.specs.Words.{value_place, read, OnlyMemory, IsReading};

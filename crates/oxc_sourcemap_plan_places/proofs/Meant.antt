@@ -1,5 +1,5 @@
 -- An error of a text that a plan means is that of its first text that cannot be read.
-use Rattle.std.proofs.Common.{◌≡◌, ◌≢◌, ℕ, ◌+◌, ◌&&◌, Bool, true, false, cond, nat_lt, nat_le, List}
+use Rattle.std.proofs.Common.{◌≡◌, ◌≢◌, ℕ, ◌+◌, true, false, cond, nat_lt, nat_le, List}
 use Rattle.std.proofs.Common.{[]}
 use Rattle.std.proofs.Common.{◌∷◌, ◌++◌, map, length, refl, sym, ap, ◌∙◌, subst, append_assoc}
 use Rattle.std.proofs.Common.{Option, Some, None, Result, Ok, Err, IfSome, is_some}
@@ -34,16 +34,15 @@ use Rattle.oxc_sourcemap_plan.specs.declared.plan.Plan.TheOpen.{Plan-F}
 use Rattle.oxc_sourcemap_plan.specs.declared.plan.Plan.TheViews.{roll-Plan}
 use Rattle.oxc_sourcemap_plan.specs.declared.plan.Plan.TheFolds.{fold-roll-Plan, map-Plan, ind-Plan}
 use Rattle.oxc_sourcemap_plan.specs.Depth.{depth}
-use Rattle.oxc_sourcemap_plan.specs.Limits.{is_join_within_limits, is_part_within_limits}
+use Rattle.oxc_sourcemap_plan.specs.Limits.{is_join_within_limits}
 use Rattle.oxc_sourcemap_plan.specs.Meaning.{Meaning, meaning, meaning_of, root_meaning}
 use Rattle.oxc_sourcemap_plan.specs.Meaning.{onto_decoded_maps, all_decoded_maps, join_meaning}
 use Rattle.oxc_sourcemap_plan.specs.Meaning.{composition_meaning, by_path, onto_inputs, all_inputs}
 use Rattle.oxc_sourcemap_plan.specs.Meaning.{remap_meaning, simplified_meaning}
 use Rattle.oxc_sourcemap_plan.specs.Outcome.{Outcome, read_outcome, sorted_outcome, outcome_step}
 use Rattle.oxc_sourcemap_plan.specs.Outcome.{outcome_of, too_deep, is_within_limits, meanings}
-use Rattle.oxc_sourcemap_plan.specs.Outcome.{input_meanings, are_all_within_limits, names_of_all}
+use Rattle.oxc_sourcemap_plan.specs.Outcome.{input_meanings, are_all_within_limits}
 use Rattle.oxc_sourcemap_plan.specs.Outcome.{are_inputs_within_limits, names_of_sections}
-use Rattle.oxc_sourcemap_plan.specs.Outcome.{input_names}
 use Rattle.oxc_sourcemap_plan.proofs.Realizing.{JoinLaws}
 use Rattle.oxc_sourcemap_plan.proofs.Reading.{not-within}
 use Rattle.oxc_sourcemap_plan.proofs.Meanings.{agrees}

@@ -1,4 +1,4 @@
-use Rattle.std.proofs.Common.{◌≡◌, ◌||◌, ap, sym, ◌∙◌, is_some, length}
+use Rattle.std.proofs.Common.{◌||◌, ap, sym, ◌∙◌, is_some, length}
 use Rattle.std.specs.Result.{is_err}
 use Rattle.oxc_sourcemap_json.specs.Json.{json_record}
 use Rattle.oxc_sourcemap_mappings.specs.Reading.{reading}

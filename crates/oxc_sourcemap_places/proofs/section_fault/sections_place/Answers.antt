@@ -9,7 +9,7 @@ use Rattle.oxc_sourcemap_parts.specs.Views.{record_of_parts}
 use Rattle.oxc_sourcemap_decode.specs.Sections.{section_map}
 use Rattle.oxc_sourcemap_decode.proofs.Steps.{SoFar, SaysOfPlace, place-error, map-error}
 use Rattle.oxc_sourcemap_decode.proofs.Steps.{add-error, all-joined}
-use Rattle.oxc_sourcemap_places.proofs.Sections.{Passed, none-passed, at-offset, at-map, at-limit}
+use Rattle.oxc_sourcemap_places.proofs.Sections.{Passed, none-passed, at-map, at-limit}
 use Rattle.oxc_sourcemap_places.proofs.Sections.{more-passed}
 use Rattle.oxc_sourcemap_places.proofs.section_fault.sections_place.Goals as goal
 

@@ -1,5 +1,5 @@
-use Rattle.std.proofs.Common.{◌≡◌, ℕ, ◌++◌, arith, List, drop, ap, sym, ◌∙◌, append_assoc, Bor}
-use Rattle.std.proofs.lemmas.List.{append-nil, drop_all}
+use Rattle.std.proofs.Common.{◌≡◌, ℕ, ◌++◌, arith, List, ap, sym, ◌∙◌, append_assoc, Bor}
+use Rattle.std.proofs.lemmas.List.{drop_all}
 use Rattle.std.proofs.lemmas.Result.{IfOk-weaker}
 use Rattle.std.specs.List.{flat_map}
 use Rattle.oxc_sourcemap_tokens.specs.Results.{lent_items}

@@ -1,7 +1,6 @@
 use Rattle.std.proofs.Common.{◌≡◌, ap, sym, ◌∙◌, Err}
 use Rattle.std.proofs.lemmas.Result.{IfOk-weaker}
 use Rattle.oxc_sourcemap_tokens.specs.Results.{lent_items}
-use Rattle.oxc_sourcemap_tokens.specs.declared.plan_error.PlanError.TheVariants.{Map}
 use Rattle.oxc_sourcemap_plan.proofs.Realizing.{join_laws}
 use Rattle.oxc_sourcemap_plan_places.specs.PlanPlaces.{texts_of}
 use Rattle.oxc_sourcemap_plan_places.proofs.Meant.{place_of_meant}

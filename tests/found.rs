@@ -86,6 +86,63 @@ const OTHERS: &[Row] = &[
      "error: Reference to non-existing source at position 0"),
 ];
 
+/// What is passed over and opened in front of the JSON text.
+#[rattlefmt::skip]
+const OPENED: &[Row] = &[
+    // A byte order mark, the line that keeps a script from running a text, and both; the mark comes first.
+    ("\u{feff}{\"version\":3,\"sources\":[\"a.js\"],\"names\":[],\"mappings\":\"AAAA\"}",
+     "{\"version\":3,\"names\":[],\"sources\":[\"a.js\"],\"mappings\":\"AAAA\"}\nthe byte order mark in front is passed over"),
+    (")]}'\n{\"version\":3,\"sources\":[\"a.js\"],\"names\":[],\"mappings\":\"AAAA\"}",
+     "{\"version\":3,\"names\":[],\"sources\":[\"a.js\"],\"mappings\":\"AAAA\"}\nthe first line, which begins with )]}', is passed over"),
+    (")]}', while(1);\r\n{\"version\":3,\"sources\":[\"a.js\"],\"names\":[],\"mappings\":\"AAAA\"}",
+     "{\"version\":3,\"names\":[],\"sources\":[\"a.js\"],\"mappings\":\"AAAA\"}\nthe first line, which begins with )]}', is passed over"),
+    ("\u{feff})]}'\n{\"version\":3,\"sources\":[\"a.js\"],\"names\":null,\"mappings\":\"AAAA\"}",
+     "{\"version\":3,\"names\":[],\"sources\":[\"a.js\"],\"mappings\":\"AAAA\"}\nthe byte order mark in front is passed over\nthe first line, which begins with )]}', is passed over\nnames is null, and is read as missing"),
+    // Data URLs: percent-encoded, base64, with a charset, without padding, behind a line.
+    ("data:application/json,%7B%22version%22:3,%22sources%22:[%22a.js%22],%22mappings%22:%22AAAA%22%7D",
+     "{\"version\":3,\"names\":[],\"sources\":[\"a.js\"],\"mappings\":\"AAAA\"}\nthe text is a data URL, and the text in it is read"),
+    ("data:application/json;base64,eyJ2ZXJzaW9uIjozLCJzb3VyY2VzIjpbbnVsbF0sIm1hcHBpbmdzIjoiQUFBQSJ9",
+     "{\"version\":3,\"names\":[],\"sources\":[\"\"],\"mappings\":\"AAAA\"}\nthe text is a data URL, and the text in it is read\nsource 0 is null, and is read as an empty text"),
+    ("DATA:Application/JSON;charset=utf-8;BASE64,eyJ2ZXJzaW9uIjozLCJzb3VyY2VzIjpbXSwibWFwcGluZ3MiOiIifQ#x",
+     "{\"version\":3,\"names\":[],\"sources\":[],\"mappings\":\"\"}\nthe text is a data URL, and the text in it is read"),
+    (")]}'\ndata:text/json,{\"version\":3,\"sources\":[],\"mappings\":\"\"}",
+     "{\"version\":3,\"names\":[],\"sources\":[],\"mappings\":\"\"}\nthe first line, which begins with )]}', is passed over\nthe text is a data URL, and the text in it is read"),
+    // Nothing of this is passed over twice, nor in another order, nor inside of a URL.
+    ("\u{feff}\u{feff}{\"version\":3,\"sources\":[],\"mappings\":\"\"}",
+     "error: JSON parsing error: the text is not JSON"),
+    (")]}'\n\u{feff}{\"version\":3,\"sources\":[],\"mappings\":\"\"}",
+     "error: JSON parsing error: the text is not JSON"),
+    (")]}'\n)]}'\n{\"version\":3,\"sources\":[],\"mappings\":\"\"}",
+     "error: JSON parsing error: the text is not JSON"),
+    (")]}'\r{\"version\":3,\"sources\":[],\"mappings\":\"\"}",
+     "error: JSON parsing error: the text is not JSON"),
+    (")]}'{\"version\":3,\"sources\":[],\"mappings\":\"\"}",
+     "error: JSON parsing error: the text is not JSON"),
+    (" )]}'\n{\"version\":3,\"sources\":[],\"mappings\":\"\"}",
+     "error: JSON parsing error: the text is not JSON"),
+    (")]}\n{\"version\":3,\"sources\":[],\"mappings\":\"\"}",
+     "error: JSON parsing error: the text is not JSON"),
+    ("\u{feff}",
+     "error: JSON parsing error: the text is not JSON"),
+    ("data:application/json,data:application/json,{\"version\":3,\"sources\":[],\"mappings\":\"\"}",
+     "error: JSON parsing error: the text is not JSON"),
+    ("data:application/json,\u{feff}{\"version\":3,\"sources\":[],\"mappings\":\"\"}",
+     "error: JSON parsing error: the text is not JSON"),
+    // A data URL of another type, of no JSON, and whose data are no text.
+    ("data:text/plain,{\"version\":3,\"sources\":[],\"mappings\":\"\"}",
+     "error: JSON parsing error: the text is not JSON"),
+    ("data:application/json,a.js",
+     "error: JSON parsing error: the text is not JSON"),
+    ("data:application/json;base64,e3*0",
+     "error: JSON parsing error: the text is not JSON"),
+    ("data:application/json,%ff",
+     "error: JSON parsing error: the text is not JSON"),
+    ("data:application/json;base64,e30=\n",
+     "error: JSON parsing error: the text is not JSON"),
+    ("data:",
+     "error: JSON parsing error: the text is not JSON"),
+];
+
 /// What is found, as a row has it.
 fn answer(alloc: Global, text: &str) -> Result<String> {
     let found = match read_found(alloc, text) {
@@ -116,6 +173,11 @@ fn maps_of_tools_are_read(rt: HostRuntime) -> Result<()> {
 #[test]
 fn what_is_not_mended_is_refused(rt: HostRuntime) -> Result<()> {
     are_found(&rt, OTHERS)
+}
+
+#[test]
+fn what_is_in_front_is_passed_over(rt: HostRuntime) -> Result<()> {
+    are_found(&rt, OPENED)
 }
 
 /// A map that the exact reader reads, and that is sorted, is read as the same.

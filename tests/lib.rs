@@ -28,6 +28,7 @@ mod reverse;
 mod roots;
 mod rows;
 mod shapes;
+mod simplify;
 mod sorting;
 mod text_positions;
 mod texts;

@@ -1,9 +1,10 @@
-//! Where faults are. tests/reference/fault_places.py has the number of the random texts.
+//! Where faults are. tests/reference/fault_places.py has the places of sections, and the numbers of the random texts.
 use crate::helpers::same;
 use oxc_sourcemap::{
-    FaultPlace, FaultSpot, Field, SegmentPlace, decode_mappings, json_fault_at, mappings_fault_at,
+    FaultPlace, FaultSpot, Field, Plan, SegmentPlace, decode_from_string, decode_mappings, evaluate, json_fault_at, mappings_fault_at, plan_fault_at,
 };
-use std::alloc::Global;
+use std::alloc::{AllocError, Global};
+use std::process::Abort;
 use std::test::Fail;
 
 fn place(byte: usize, line: u32, segment: usize) -> Option<SegmentPlace> {
@@ -107,11 +108,26 @@ fn sections_have_faults(rt: HostRuntime) -> std::result::Result<(), Fail> {
     for (text, wanted) in [
         (r#"{"version":3,"sections":[]}"#, None),
         (r#"{"version":3,"sections":{}}"#, Some("sections")),
-        (r#"{"version":3,"sections":[{"offset":{"line":0,"column":0},"map":{"version":3,"sources":[],"mappings":""}},{"map":{"version":3,"sources":[],"mappings":";A,AA"}}]}"#, Some("section 1, line 1, segment 1 (byte 3)")),
-        (r#"{"version":3,"sections":[{}]}"#, Some("section 0, map")),
-        (r#"{"version":3,"sections":[{"map":{"sections":[]}}]}"#, Some("section 0, map")),
-        (r#"{"version":3,"sections":[{"map":{"version":3,"sources":[0],"mappings":""}}]}"#, Some("section 0, entry 0 of sources")),
+        (r#"{"sections":{}}"#, Some("version")),
+        (r#"{"version":2,"sections":{}}"#, Some("version")),
+        (r#"{"version":3,"file":3,"sections":[3]}"#, Some("file")),
+        (r#"{"version":3,"file":null,"sections":[3]}"#, Some("entry 0 of sections")),
+        (r#"{"version":3,"sections":[{"offset":{"line":0,"column":0},"map":{"version":3,"sources":["a"],"mappings":""}},3,{}]}"#, Some("entry 1 of sections")),
+        (r#"{"version":3,"sections":[{}]}"#, Some("section 0, offset")),
+        (r#"{"version":3,"sections":[{"map":{"version":3,"sources":["a"],"mappings":"A,AA"}}]}"#, Some("section 0, offset")),
+        (r#"{"version":3,"sections":[{"offset":{"line":0},"map":{"version":3,"sources":["a"],"mappings":"A,AA"}}]}"#, Some("section 0, offset")),
+        (r#"{"version":3,"sections":[{"offset":{"line":0,"column":-1},"map":{"version":3,"sources":["a"],"mappings":"A,AA"}}]}"#, Some("section 0, offset")),
+        (r#"{"version":3,"sections":[{"offset":{"line":0,"column":0},"map":{"version":3,"sources":["a"],"mappings":""}},{"offset":{"line":0,"column":0},"map":{"version":3,"sources":["a"],"mappings":";A,AA"}}]}"#, Some("section 1, line 1, segment 1 (byte 3)")),
+        (r#"{"version":3,"sections":[{"offset":{"line":0,"column":0},"map":{"sections":[]}}]}"#, Some("section 0, map")),
+        (r#"{"version":3,"sections":[{"offset":{"line":0,"column":0},"map":[]}]}"#, Some("section 0, map")),
+        (r#"{"version":3,"sections":[{"offset":{"line":0,"column":0},"map":{"version":3,"sources":[0],"mappings":""}}]}"#, Some("section 0, entry 0 of sources")),
+        (r#"{"version":3,"sections":[{"offset":{"line":1,"column":0},"map":{"version":3,"sources":["a"],"mappings":""}},{"offset":{"line":0,"column":5},"map":{"version":3,"sources":["a"],"mappings":""}}]}"#, Some("section 1, offset")),
+        (r#"{"version":3,"sections":[{"offset":{"line":0,"column":0},"map":{"version":3,"sources":["a"],"mappings":"AAAA,IAAI"}},{"offset":{"line":0,"column":4},"map":{"version":3,"sources":["a"],"mappings":""}}]}"#, None),
+        (r#"{"version":3,"sections":[{"offset":{"line":0,"column":0},"map":{"version":3,"sources":["a"],"mappings":"AAAA,IAAI"}},{"offset":{"line":0,"column":1},"map":{"version":3,"sources":["a"],"mappings":""}},7]}"#, Some("section 1, offset")),
+        (r#"{"version":3,"sections":[{"offset":{"line":0,"column":0},"map":{"version":3,"sources":["a"],"mappings":"A"}},{"offset":{"line":4294967295,"column":0},"map":{"version":3,"sources":["a"],"mappings":";A"}},{"offset":{"line":0,"column":0},"map":{"version":3,"sources":["a"],"mappings":""}}]}"#, Some("section 1, map")),
+        (r#"{"version":3,"sections":[{"offset":{"line":0,"column":4294967295},"map":{"version":3,"sources":["a"],"mappings":"C"}}]}"#, Some("section 0, map")),
         (r#"{"version":3,"sections":null,"sources":[0],"mappings":""}"#, Some("entry 0 of sources")),
+        (r#"{"version":3,"sections":[{"offset":{"line":0,"column":0},"map":{"version":3,"sources":["a"],"mappings":""}},{"offset":{"line":0,"column":0},"url":"b.map"}]}"#, Some("section 1, map")),
     ] {
         match json_fault_at(rt.alloc(), text)? {
             Some(place) => {
@@ -121,6 +137,103 @@ fn sections_have_faults(rt: HostRuntime) -> std::result::Result<(), Fail> {
             None => same(&rt, text, None, wanted),
         }
     }
+    Ok(())
+}
+
+/// Of tests/reference/fault_places.py.
+const MAPS: [&str; 9] = [
+    r#"{"version":3,"sources":["a"],"mappings":"AAAA,C"}"#,
+    r#"{"version":3,"sources":["a"],"mappings":";C"}"#,
+    r#"{"version":3,"sources":["a"],"mappings":""}"#,
+    r#"{"version":3,"sources":["a"],"mappings":"A,AA"}"#,
+    r#"{"version":3,"sources":["a",0],"mappings":"A"}"#,
+    r#"{"version":3,"sources":["a"],"mappings":"A","ignoreList":[0,1]}"#,
+    r#"{"version":2}"#,
+    r#"{"version":3,"sections":[]}"#,
+    "7",
+];
+
+const OFFSETS: [(u32, u32); 12] = [
+    (0, 0), (0, 1), (0, 2), (1, 0), (1, 1), (2, 0), (3, 4294967295), (4294967295, 0), (5, 0), (6, 0), (7, 0), (8, 0),
+];
+
+/// Section `k` of an indexed map, by a number.
+fn push_section(alloc: Global, k: u32, seed: u32, text: &mut String) -> std::result::Result<(), AllocError> {
+    let (pick, other) = ((seed >> 16) % 101, (seed >> 8) % 64);
+    if pick == 98 {
+        return Ok(text.push('7')?);
+    }
+    let (line, column) = OFFSETS[(if pick < 90 { (other % 3 + 2 * k) % 12 } else { other % 12 }) as usize];
+    let offset = if pick == 99 {
+        format!(in alloc; "{{\"line\":{line}}}")?
+    } else {
+        format!(in alloc; "{{\"line\":{line},\"column\":{column}}}")?
+    };
+    let map = MAPS[(if pick < 85 { pick % 3 } else { pick % 9 }) as usize];
+    let section = format!(in alloc; "{{\"offset\":{offset},\"map\":{map}}}")?;
+    text.push_str(section.as_str())?;
+    Ok(())
+}
+
+#[test]
+fn random_sections_have_faults(rt: HostRuntime) -> std::result::Result<(), Fail> {
+    let alloc = rt.alloc();
+    let (mut seed, mut faults, mut sum) = (1u32, 0u32, 0u32);
+    for _ in 0..3000 {
+        let mut text = String::from_str(alloc, r#"{"version":3,"sections":["#)?;
+        for k in 0..4 {
+            seed = seed.wrapping_mul(1103515245).wrapping_add(12345) % 2147483648;
+            push_section(alloc, k, seed, &mut text)?;
+            text.push_str(if k < 3 { "," } else { "]}" })?;
+        }
+        let place = json_fault_at(alloc, text.as_str())?;
+        same(&rt, text.as_str(), place.is_some(), decode_from_string(alloc, text.as_str()).is_err());
+        let told = match place {
+            Some(place) => place.to_string(alloc)?,
+            None => String::from_str(alloc, "none")?,
+        };
+        faults += u32::from(place.is_some());
+        for byte in told.as_bytes() {
+            sum = sum.wrapping_mul(31).wrapping_add(u32::from(*byte));
+        }
+    }
+    same(&rt, "faults", (faults, sum), (2399, 3288360559));
+    Ok(())
+}
+
+const FINE: &str = r#"{"version":3,"sources":["a.js"],"mappings":"AAAA"}"#;
+const BAD: &str = r#"{"version":3,"sources":["a.js"],"mappings":"AAAA;A,AA"}"#;
+const TWO: &str = r#"{"version":3,"sources":["a.js","b.js"],"mappings":""}"#;
+
+/// Asserts the place of the error of a plan.
+fn plan_fails_at(rt: &impl Abort, alloc: Global, plan: &Plan<'_>, wanted: Option<&str>) -> std::result::Result<(), Fail> {
+    let Err(error) = evaluate(alloc, plan) else {
+        same(rt, "plan", None, Some(wanted));
+        return Ok(());
+    };
+    match plan_fault_at(alloc, plan, error)? {
+        Some(place) => same(rt, "place", Some(place.to_string(alloc)?.as_str()), wanted),
+        None => same(rt, "place", None, wanted),
+    }
+    Ok(())
+}
+
+#[test]
+fn plans_have_faults(rt: HostRuntime) -> std::result::Result<(), Fail> {
+    let alloc = rt.alloc();
+    let boxed = |text| Box::new(alloc, Plan::Read(text));
+    let joined = Plan::Join(vec![in alloc; (Plan::Read(FINE), 0), (Plan::ReadSorted(BAD), 1), (Plan::Read("{"), 2)]?);
+    plan_fails_at(&rt, alloc, &joined, Some("text 1, line 1, segment 1 (byte 7)"))?;
+    let composed = Plan::Compose(boxed(FINE)?, boxed("[]")?);
+    plan_fails_at(&rt, alloc, &composed, Some("text 1, the value"))?;
+    let inputs = vec![in alloc; ("a.js", Plan::Rewrite(boxed(FINE)?)), ("b.js", Plan::ApplyRoot(boxed(BAD)?))]?;
+    plan_fails_at(&rt, alloc, &Plan::Remap(boxed(TWO)?, inputs), Some("text 2, line 1, segment 1 (byte 7)"))?;
+    let at = Plan::JoinAt(vec![in alloc; (Plan::Read("{"), 0, 0), (Plan::Read(BAD), 1, 0)]?);
+    plan_fails_at(&rt, alloc, &at, Some("text 0, line 0, column 1 (byte 1)"))?;
+    // An error of a step: both texts are read, or the next is not.
+    plan_fails_at(&rt, alloc, &Plan::Compose(boxed(TWO)?, boxed(FINE)?), None)?;
+    let unsorted = Plan::Join(vec![in alloc; (Plan::Read(FINE), 1), (Plan::Read(FINE), 0)]?);
+    plan_fails_at(&rt, alloc, &Plan::Compose(Box::new(alloc, unsorted)?, boxed(BAD)?), None)?;
     Ok(())
 }
 

@@ -130,6 +130,48 @@ const REMADE: &[PlanRow] = &[
      Ok(r#"{"version":3,"names":[],"sources":["a.js"],"mappings":"AAAA"}"#)),
 ];
 
+/// A map with tokens, names and sources that its traces do not need, and the same without them.
+const FULL: &str = r#"{"version":3,"file":"out.js","sourceRoot":"lib","names":["x","y","x"],"sources":["a.js","b.js","a.js"],"sourcesContent":["let a",null,"let a"],"ignoreList":[2],"mappings":"AACEA,IEAAE,G,E;AAEF"}"#;
+const SIMPLE: &str = r#"{"version":3,"file":"out.js","sourceRoot":"lib","names":["x"],"sources":["a.js","a.js"],"sourcesContent":["let a","let a"],"ignoreList":[1],"mappings":"AACEA,O;ACEF"}"#;
+
+/// Plans that simplify maps; what they answer is by `tests/reference/simplified.py`.
+#[rattlefmt::skip]
+const SIMPLIFIED: &[PlanRow] = &[
+    ("simplify @0", &[FULL], Ok(SIMPLE)),
+    ("simplify simplify @0", &[FULL], Ok(SIMPLE)),
+    ("simplify rewrite @0", &[FULL], Ok(SIMPLE)),
+    ("simplify @0", &[A], Ok(r#"{"version":3,"names":[],"sources":["a.js"],"mappings":"AAKG,I"}"#)),
+    // The first token at column 5 goes, and the second one moves.
+    ("simplify @0",
+     &[r#"{"version":3,"sources":["a.js"],"mappings":"AACA,KAAA,AACA"}"#],
+     Ok(r#"{"version":3,"names":[],"sources":["a.js"],"mappings":"AACA,MACA"}"#)),
+    // It would move past the last column.
+    ("simplify @0",
+     &[r#"{"version":3,"sources":["a.js"],"mappings":"AACA,+/////HAAA,AACA"}"#],
+     Err(RunError::Plan(PlanError::Map(Error::TooLarge)))),
+    // A join lists the sources of each part, and so does a join of simplified parts.
+    ("simplify join 2 @0 0 @0 2",
+     &[FULL],
+     Ok(r#"{"version":3,"names":["x"],"sources":["a.js","a.js"],"sourcesContent":["let a","let a"],"ignoreList":[1],"mappings":"AACEA,O;ACEF;ADFEA,O;ACEF"}"#)),
+    ("join 2 simplify @0 0 simplify @0 2",
+     &[FULL],
+     Ok(r#"{"version":3,"names":["x","x"],"sources":["a.js","a.js","a.js","a.js"],"sourcesContent":["let a","let a","let a","let a"],"ignoreList":[1,3],"mappings":"AACEA,O;ACEF;ACFEC,O;ACEF"}"#)),
+    ("simplify remap @0 2 a.js @1 b.js @2",
+     &[BUNDLE, OF_A, OF_B],
+     Ok(r#"{"version":3,"names":["add","y"],"sources":["a.ts","c.ts"],"sourcesContent":["let a",null],"ignoreList":[1],"mappings":"AACEA,IAAEC;ACEH,K"}"#)),
+    // A map that is not sorted has its error before it is simplified.
+    ("simplify sort @0", &[BACK], Ok(SORTED)),
+    ("simplify @0", &[BACK], Err(RunError::Plan(PlanError::Unsorted))),
+    ("simplify @0", &["{"], Err(RunError::Plan(PlanError::Map(Error::BadJson(JsonFault::Reading))))),
+    ("simplify compose @0 @1",
+     &[FULL, BACK],
+     Err(RunError::Plan(PlanError::Unsorted))),
+    ("simplify compose @0 @0", &[FULL], Err(RunError::Plan(PlanError::Map(Error::SeveralSources(3))))),
+    ("simplify", &["{}"], Err(RunError::Arguments)),
+    ("simplify @1", &["{}"], Err(RunError::NoText(1))),
+    ("simplify @0 @0", &["{}"], Err(RunError::Arguments)),
+];
+
 /// Plans whose maps have an error.
 #[rattlefmt::skip]
 const FAULTY: &[PlanRow] = &[
@@ -182,8 +224,8 @@ const MISREAD: &[PlanRow] = &[
     ("remap @0 1 a.js @0 b.js @0", &["{}"], Err(RunError::Arguments)),
 ];
 
-fn plans() -> [&'static [PlanRow]; 5] {
-    [MADE, SORTS, REMADE, FAULTY, MISREAD]
+fn plans() -> [&'static [PlanRow]; 6] {
+    [MADE, SORTS, REMADE, SIMPLIFIED, FAULTY, MISREAD]
 }
 
 /// The input of these texts.

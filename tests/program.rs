@@ -1,7 +1,7 @@
 //! The program's worked examples, and readers and writers that fail.
 use crate::helpers::same;
 use oxc_sourcemap::{Error, JsonFault, PlanError};
-use smap_run::{Command, Port, RunError, read_words, run};
+use smap_run::{Command, Failure, Port, RunError, read_words, run, run_where, take_where};
 use std::alloc::{AllocError, Global};
 use std::fmt::Debug;
 use std::io;
@@ -470,6 +470,77 @@ fn input_is_utf8(rt: HostRuntime) {
         b"A\xff",
         Err(RunError::Utf8),
     );
+}
+
+/// Runs the words, the first of which asks for the place of an error, and adds what they write.
+fn run_asked(
+    alloc: Global,
+    words: &[&str],
+    input: &[u8],
+    written: &mut Vec<u8>,
+) -> Result<(), Failure> {
+    let words = strings(alloc, words).map_err(RunError::from)?;
+    let (is_where, words) = take_where(words.as_slice());
+    let command = read_words(if is_where { words } else { &[] })?;
+    let mut reader = Port::new(input);
+    let mut writer = Port::new(Vec::new(alloc));
+    let result = run_where(alloc, &command, &mut reader, &mut writer);
+    written.append(&mut writer.into_inner()).map_err(RunError::from)?;
+    result
+}
+
+/// Words after `--where`, an input, and the place of the error; tests/reference/fault_places.py has these.
+const PLACES: &[(&[&str], &str, Option<&str>)] = &[
+    (&["mappings", "0", "1"], "AAAA;AACA,AA\n", Some("line 1, segment 1 (byte 10)")),
+    (&["mappings", "0", "1"], "AAAA;AACA,A\n", None),
+    (&["normalise"], r#"{"version":3,"sources":["a.js",7],"mappings":""}"#, Some("entry 1 of sources")),
+    (&["normalise"], "{", Some("line 0, column 1 (byte 1)")),
+    (&["url"], r#"{"version":3,"sections":[{"offset":{"line":0}}]}"#, Some("section 0, offset")),
+    (&["trace", "0", "0"], r#"{"version":3,"sources":[],"mappings":"G,D"}"#, None),
+    (
+        &["plan", "join", "2", "@1", "0", "@0", "1"],
+        "{\"version\":3,\"sources\":[\"a.js\"],\"mappings\":\"AAAA,AA\"}\n---\n{\"version\":3,\"sources\":[\"a.js\"],\"mappings\":\"AAAA\"}",
+        Some("text 0, line 0, segment 1 (byte 5)"),
+    ),
+    // Both texts are bad, and the second is read first.
+    (
+        &["plan", "compose", "@1", "@0"],
+        "{\"version\":3,\"sources\":[\"a.js\"],\"mappings\":\"A,AA\"}\n---\n{\"version\":3,\"sources\":[\"a.js\"],\"mappings\":\"A;A,AA\"}",
+        Some("text 1, line 1, segment 1 (byte 4)"),
+    ),
+    // A join that is not sorted comes before the bad text.
+    (
+        &["plan", "compose", "join", "2", "@0", "1", "@0", "0", "@1"],
+        "{\"version\":3,\"sources\":[\"a.js\"],\"mappings\":\"A\"}\n---\n{",
+        None,
+    ),
+    (&["plan", "@1"], "{}", None),
+];
+
+#[test]
+fn places_are_told_where_asked(rt: HostRuntime) -> Result<(), Fail> {
+    let alloc = rt.alloc();
+    for (words, input, wanted) in PLACES {
+        let mut asked = Vec::new(alloc);
+        asked.push("--where")?;
+        asked.extend_from_slice(words)?;
+        let (mut written, mut plain) = (Vec::new(alloc), Vec::new(alloc));
+        let result = run_asked(alloc, asked.as_slice(), input.as_bytes(), &mut written);
+        let alone = run_words(alloc, words, input.as_bytes(), &mut plain);
+        same(&rt, input, written.as_slice(), plain.as_slice());
+        match result {
+            Ok(()) => same(&rt, input, (Ok(()), None), (alone, *wanted)),
+            Err(Failure { error, place }) => {
+                same(&rt, input, Err(error), alone);
+                let told = match place {
+                    Some(place) => Some(place.to_string(alloc)?),
+                    None => None,
+                };
+                same(&rt, input, told.as_ref().map(|told| told.as_str()), *wanted);
+            }
+        }
+    }
+    Ok(())
 }
 
 #[test]

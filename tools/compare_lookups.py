@@ -9,18 +9,18 @@ random positions each way in sorted maps, beside the packages. `maps`: in each m
 each way, and the columns beside them. PROGRAM is tools/ask as it was built; without one, it is compiled over libraries that need
 not be proved. The status is 1 if there is a difference that is not explained.
 """
-import argparse, json, os, random, subprocess, sys, tempfile
+import argparse, json, os, random, subprocess, sys
 from bisect import bisect_left, bisect_right
 from collections import Counter
 
 HERE = os.path.dirname(os.path.abspath(__file__))
 sys.path[:0] = [os.path.dirname(HERE), HERE, f"{HERE}/../tests/reference"]
 import lookups as reference
+import asking
 import peer
-from unproved import command, copied
+from asking import Requests, check, header, row
 
 MAX = 2**32 - 1
-USED = ["oxc_sourcemap", "serde_json"]
 BACK = {"at": reference.generated_at, "for": reference.generated_for, "from": reference.generated_from,
         "all_for": reference.all_generated_for, "all_from": reference.all_generated_from}
 FORWARD = {"find": reference.found_at, "near": reference.clamped_at, "after": reference.found_after}
@@ -31,47 +31,6 @@ CALLS = {"generated GREATEST": "for", "generated LEAST": "from", "all GREATEST":
 LINE_ORDER = "Token {} lies on a line before the token in front of it"
 PEERS = ["trace-mapping", "node-source-map"]
 EXPLAINED = ["another line", "another source", "another of several", "order"]
-failures = []
-
-
-def check(holds, what):
-    if not holds:
-        failures.append(what)
-        print(f"DIFFERS: {what[:2000]}", file=sys.stderr)
-    return holds
-
-
-def row(*cells):
-    print("| " + " | ".join(map(str, cells)) + " |", flush=True)
-
-
-def header(line):
-    """The two first lines of a table; a name that ends in `#` has a column of numbers."""
-    names = [name.strip() for name in line.split("|")]
-    print()
-    row(*[name.rstrip("#") for name in names])
-    print("|" + "".join("---:|" if name.endswith("#") else "---|" for name in names))
-
-
-def compiled_and_run(requests):
-    with tempfile.TemporaryDirectory(prefix="ask-") as room:
-        copied(f"{HERE}/ask", f"{room}/src")
-        words = command("ask", USED, ["--seconds", "3600", "--steps", "1", "--stdin", requests], "src/main.rt")
-        return subprocess.run(words, cwd=room, capture_output=True, text=True, env={**os.environ, "TMPDIR": room})
-
-
-def answers_to(lines):
-    """What tools/ask answers to these lines."""
-    with tempfile.NamedTemporaryFile("w") as requests:
-        requests.write("\n".join(lines) + "\n")
-        requests.flush()
-        if options.program:
-            ran = subprocess.run([options.program], stdin=open(requests.name), capture_output=True, text=True)
-        else:
-            ran = compiled_and_run(requests.name)
-    if ran.returncode:
-        sys.exit(ran.stdout[-2000:] + ran.stderr[-4000:])
-    return ran.stdout.split("\n")
 
 
 def word(number):
@@ -95,33 +54,6 @@ def tokens_text(found):
 def found_text(found):
     """How it writes a token with its index."""
     return "" if found is None else f"{token_text(found[1])} {found[0]}"
-
-
-class Requests:
-    """Lines for tools/ask; what a request has to answer is a text, or a test of one."""
-
-    def __init__(self):
-        self.lines, self.wanted = [], []
-
-    def about(self, line):
-        self.lines.append(line)
-
-    def ask(self, request, wanted):
-        self.lines.append(request)
-        self.wanted.append((len(self.lines) - 1, wanted))
-
-    def compare(self):
-        """How many answers were the wanted ones, by the first word of the request."""
-        counts, subject, answers = Counter(), {}, answers_to(self.lines)
-        for line, text in enumerate(self.lines):
-            is_request = len(subject) > 0 and text.split(" ")[0] not in ("json", "tokens", "text")
-            subject[line] = subject[line - 1] if is_request else line
-        for (line, wanted), answer in zip(self.wanted, answers, strict=False):
-            holds = wanted(answer) if callable(wanted) else answer == wanted
-            what = lambda: f"{self.lines[subject[line]]}: {self.lines[line]}: {answer}, not {'' if callable(wanted) else wanted}"
-            counts[self.lines[line].split(" ")[0]] += holds if holds else check(False, what())
-        check(len(answers) == len(self.wanted) + 1, f"{len(answers) - 1} answers to {len(self.wanted)} requests")
-        return counts
 
 
 def decoded(mappings):
@@ -343,11 +275,11 @@ def main():
     parser.add_argument("--only", choices=["cases", "peers", "maps"])
     parser.add_argument("folder", nargs="?")
     options = parser.parse_args()
+    asking.program = options.program
     for table in [cases, peers, *[maps] * bool(options.folder)]:
         if options.only in (None, table.__name__):
             table()
-    print(f"\n{len(failures)} differences" if failures else "\nNo difference that is not explained.")
-    sys.exit(1 if failures else 0)
+    asking.end()
 
 
 if __name__ == "__main__":

@@ -1,7 +1,7 @@
 #!/usr/bin/env python3
 """Compares `smap` with peers on the maps that make_maps.py made, and prints the tables of docs/FIGURES.md.
 
-    tools/compare_maps.py [--smap PROGRAM] [--positions N] [--only maps|traces|compositions|joins] FOLDER
+    tools/compare_maps.py [--smap PROGRAM] [--positions N] [--only maps|traces|compositions|joins|simplified] FOLDER
 
 Peers are peer.py, and for traces the npm packages of Debian's node-source-map and node-ampproject-remapping and Node's own
 `SourceMap` (peers.js). Without --smap, the program of this repository is proved and built, and run. The status is 1 if there
@@ -215,6 +215,42 @@ def joined(lines):
         row(name, len(maps), len(text), len(peer.decode(json.loads(output)["mappings"])), f"{took:.2f}")
 
 
+def size(text):
+    value = json.loads(text)
+    return [len(text.encode()), len(peer.decode(value["mappings"])), len(value["sources"]), len(value["names"])]
+
+
+def said(text, positions):
+    """The traces at positions, exact and clamped, with the contents of sources."""
+    value = json.loads(text)
+    table, contents = peer.Table(peer.decode(value["mappings"])), dict(zip(value["sources"], peer.contents_in(value)))
+    for line, column in positions:
+        for token in table.find(line, column), table.find(line, column, clamped=True):
+            source = token and token[2]
+            yield peer.trace_text(value, token), None if source is None else contents[value["sources"][source]]
+
+
+def simplified(lines):
+    """Joins the maps of all modules, and simplifies the join: as the peer does, once and for all, with the same traces."""
+    texts = [open(f"modules/{name}.map", "rb").read().rstrip(b"\n") for name in lines]
+    offsets = [sum(list(lines.values())[:k]) for k in range(len(texts))]
+    words = ["join", len(texts), *[word for k, offset in enumerate(offsets) for word in (f"@{k}", offset)]]
+    text = smap(["plan", *words], b"\n---\n".join(texts))
+    value = json.loads(text)
+    tokens = peer.decode(value["mappings"])
+    output = smap(["plan", "simplify", *words], b"\n---\n".join(texts))
+    check(output == peer.to_text(*peer.simplify(value, tokens)), "the simplified join")
+    check(smap(["plan", "simplify", "@0"], output.encode()) == output, "the join, simplified twice")
+    chosen = random.Random(1)
+    positions = [(token[0], max(0, token[1] + chosen.randrange(-1, 3))) for token in chosen.choices(tokens, k=10_000)]
+    differ = sum(a != b for a, b in zip(said(text, positions), said(output, positions)))
+    check(differ == 0, f"the simplified join: {differ} traces")
+    header("map | bytes# | tokens# | sources# | names#")
+    row("join", *size(text))
+    row("simplified", *size(output))
+    print(f"\n{len(positions)} positions with the same traces, exact and clamped.")
+
+
 def main():
     global options
     parser = argparse.ArgumentParser(description=__doc__, formatter_class=argparse.RawDescriptionHelpFormatter)
@@ -230,7 +266,7 @@ def main():
     options.smap = os.path.abspath(options.smap)
     os.chdir(options.folder)
     tables = {"maps": (normalised, "maps"), "traces": (traced, "maps"), "compositions": (composed, "pipelines"),
-              "joins": (joined, "modules")}
+              "joins": (joined, "modules"), "simplified": (simplified, "modules")}
     for name, (table, of) in tables.items():
         if options.only in (None, name):
             table(json.load(open(f"{of}.json")))

@@ -4,8 +4,8 @@ docs/FIGURES.md, "Real maps".
 
     tools/compare_remaps.py [--smap PROGRAM] [--cases N] [--rounds N] [--only cases|bundles] FOLDER
 
-A random case is a plan over small maps, some of which are not sorted and read by `sort`, whose output has to be that of peer.py,
-byte for byte. Bundles are those that make_maps.py made: of several modules, each with its map. They are also compared with
+A random case is a plan over small maps, some of which are not sorted and read by `sort`, one in four simplified at last, whose
+output has to be that of peer.py, byte for byte. Bundles are those that make_maps.py made: of several modules, each with its map. They are also compared with
 Debian's npm package @ampproject/remapping (remap_peer.js), at the column of each token and at the one before it; --rounds times
 it, too. Without --smap, the program of this repository is proved and built, and run. The status is 1 if there is a difference
 that is not explained.
@@ -55,6 +55,8 @@ class Case:
         self.chosen, self.texts = random.Random(number), []
         top = self.rooted if number % 5 == 0 else self.remapped
         self.words, value, tokens = top(2)
+        if number % 4 == 1:
+            self.words, value, tokens = ["simplify", *self.words], *peer.simplify(value, tokens)
         self.expected = peer.to_text(value, tokens)
 
     def some(self, values, most):

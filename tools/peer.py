@@ -215,6 +215,44 @@ def rooted(value):
     return {**value, "sourceRoot": None, "sources": sources}
 
 
+def simplify(value, tokens):
+    """A sorted map with no more tokens, names and sources than its traces need. Of the tokens at one position the first answers at
+    its column, and the last on the columns after it, if the next position leaves it one."""
+    sources, positions = listed(value), {}
+    for token in tokens:
+        positions.setdefault(token[:2], []).append(token)
+
+    def original(token):
+        _, _, source, source_line, source_column, name = token
+        text = None if name is None else value["names"][name]
+        return None if source is None else (sources[source][:2], source_line, source_column, text)
+
+    kept, at_line, said = [], None, None
+    for (line, column), group in positions.items():
+        answers = [group[0]] if len(group) == 1 or (line, column + 1) in positions else [group[0], group[-1]]
+        stays = True
+        for at, token in enumerate(answers):
+            changes = line != at_line or original(token) != said
+            if changes:
+                kept.append((line, column if stays else column + 1, *token[2:]))
+            stays, at_line, said = changes, line, original(token)
+    names, needed = {}, {}
+    for token in kept:
+        if original(token) is not None:
+            needed.setdefault(original(token)[0])
+            if original(token)[3] is not None:
+                names.setdefault(original(token)[3], len(names))
+    new_sources = [(*source, mark) for source in needed for mark in (False, True) if (*source, mark) in set(sources)]
+    ids = {source: id for id, source in enumerate(new_sources)}
+    renumbered = [(*token[:2], None, 0, 0, None) if token[2] is None else
+                  (*token[:2], ids[sources[token[2]]], *token[3:5], None if token[5] is None else names[value["names"][token[5]]])
+                  for token in kept]
+    ignored = [id for id, (_, _, is_ignored) in enumerate(new_sources) if is_ignored]
+    return {**{key: value.get(key) for key in ("file", "sourceRoot", "debugId")}, "names": list(names),
+            "sources": [path for path, _, _ in new_sources], "sourcesContent": [content for _, content, _ in new_sources],
+            "ignoreList": ignored or None}, renumbered
+
+
 def sort(tokens):
     """Tokens by generated line and column; those at one position stay in their order."""
     return sorted(tokens, key=lambda token: token[:2])

@@ -8,7 +8,7 @@
 rounds counts. --only prints one of the tables (TABLES below). --into replaces the part of FILE between the lines
 `<!-- measured -->` and `<!-- end -->`. Needs Debian's packages `time` and, for instructions, `valgrind`.
 """
-import argparse, glob, json, os, platform, re, subprocess, sys, tempfile
+import argparse, functools, glob, json, os, platform, re, subprocess, sys, tempfile
 import peer
 from concurrent.futures import ThreadPoolExecutor
 from measuring import built, measure
@@ -25,6 +25,12 @@ WHOLE_GOAL, PEAK_GOAL = 0.85, 0.8
 GROWTH = [1, 5, 20, 50, 100, 200]
 NAMES = [10_000, 100_000, 1_000_000]
 written = []
+
+
+@functools.cache
+def smap():
+    """The program, built if no table before needed it."""
+    return options.smap or built(TOP)
 
 
 def write(line=""):
@@ -179,7 +185,7 @@ def processes(title, inputs, is_counted=True):
     write("| input | MB | ms | ms / MB | peak MB | peak / input | million instructions | output |\n|---|---:|---|---:|---|---:|---|---|")
     write(f"| *goal* | | {WHOLE_GOAL} | | {PEAK_GOAL} | | | |")
     for name, words, other, text in inputs:
-        sides = {"ours": [options.smap, *words], **{program: [program, *other] for program in options.whole}}
+        sides = {"ours": [smap(), *words], **{program: [program, *other] for program in options.whole}}
         best, size = in_turn(sides, text), len(text) / 1e6
         seconds, peaks, outputs = ([best[side][k] for side in sides] for k in range(3))
         counts = [""]
@@ -214,7 +220,7 @@ def grown_maps():
     for size in GROWTH:
         copies = max(round(size * 1e6 / len(text)), 1)
         plan = [word for k in range(copies) for word in ("@0", k * lines)]
-        grown = measure([options.smap, "plan", "join", copies, *plan], text).output
+        grown = measure([smap(), "plan", "join", copies, *plan], text).output
         yield f"{copies} times pdf.js", ["normalise"], ["normalise"], grown
 
 
@@ -259,7 +265,6 @@ def main():
     parser.add_argument("--only", action="append", choices=TABLES)
     parser.add_argument("folder")
     options = parser.parse_args()
-    options.smap = options.smap or built(TOP)
     write(f"{machine()}; best of {options.rounds} rounds.")
     for name in options.only or TABLES:
         TABLES[name]()

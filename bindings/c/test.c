@@ -375,6 +375,8 @@ static void evaluating(void) {
     evaluate("compose @0 @1", SMAP_OK, 0);
     evaluate("joinat 2 rewrite @0 0 0 join 1 @1 3 7 0", SMAP_OK, 0);
     evaluate("remap join 2 @0 0 @0 9 2 rewrite root @1 @0 @1", SMAP_OK, 0); /* the paths are `rewrite` and `@0` */
+    evaluate("simplify join 2 @0 0 @1 9", SMAP_OK, 0);
+    evaluate("simplify", SMAP_WORDS, 0);
     evaluate("remap @0 1 @1", SMAP_WORDS, 0);
     evaluate("join 2 @0 5 @1 0", SMAP_UNSORTED, 0);
     evaluate("join", SMAP_WORDS, 0);

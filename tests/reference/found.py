@@ -1,8 +1,9 @@
 #!/usr/bin/env python3
 """What a map means as it is found: the map, and what was mended. For each JSON string a line of standard input, a line of output: the
 canonical JSON text of the map and the lines of its mends, or the error as `error: ..`."""
-import json, sys
+import base64, json, sys
 from pathlib import Path
+from urllib.parse import unquote_to_bytes
 
 sys.path.insert(0, str(Path(__file__).resolve().parents[2] / "tools"))
 import peer
@@ -19,7 +20,48 @@ def shape(key):
     return Fault(f"JSON parsing error: field {key} is missing or has the wrong type")
 
 
-# ---- the text: `serde_json` reads no more than this
+# ---- the text, opened
+
+def base64_bytes(data):
+    """Padding may be missing, and bits behind the last byte are 0."""
+    whole = data.rstrip(b"=")
+    whole += b"=" * (-len(whole) % 4)
+    found = base64.b64decode(whole, validate=True)
+    if len(data) > len(whole) or base64.b64encode(found) != whole:
+        raise ValueError
+    return found
+
+
+def data_text(url):
+    """The text in a data URL of JSON; None for any other text, and for data that are no text."""
+    scheme, colon, rest = url.encode().partition(b":")
+    head, comma, data = rest.partition(b"#")[0].partition(b",")
+    if not (scheme.lower() == b"data" and comma and head.partition(b";")[0].lower() in (b"application/json", b"text/json")):
+        return None
+    try:
+        data = unquote_to_bytes(data)
+        return (base64_bytes(data) if head.lower().endswith(b";base64") else data).decode()
+    except ValueError:
+        return None
+
+
+def opened(text):
+    """The text that is read as JSON, and what was passed over and opened to find it."""
+    lines = []
+    if text.startswith("\ufeff"):
+        text = text[1:]
+        lines.append("the byte order mark in front is passed over")
+    if text.startswith(")]}'"):
+        text = text.partition("\n")[2]
+        lines.append("the first line, which begins with )]}', is passed over")
+    data = data_text(text)
+    if data is not None:
+        text = data
+        lines.append("the text is a data URL, and the text in it is read")
+    return text, lines
+
+
+# ---- the JSON text: `serde_json` reads no more than this
 
 def refused(_):
     raise ValueError
@@ -200,8 +242,9 @@ def found_map(value):
 
 
 def found(text):
+    text, mends = opened(text)
     value = json_value(text)
-    mends = mended(value) if isinstance(value, dict) else []
+    mends += mended(value) if isinstance(value, dict) else []
     given, lines = found_map(value)
     tokens = sorted(given["tokens"], key=lambda t: t[:2])
     lines += ["the tokens are not in order, and are sorted"] * (tokens != given["tokens"])

@@ -4,9 +4,9 @@
     simplified.py [--cases N] [--rows]
 
 Without --rows it checks what is claimed of them on random maps and, for the least number of tokens, on all small ones; with it, it
-prints random maps with their simplified ones, as the rows in tests/simplifying.rs. A token is (line, column, source, source line,
+prints the maps of ROWS with their simplified ones, as JSON texts: the rows of tests/simplify.rs. A token is (line, column, source, source line,
 source column, name), the last four None or ids."""
-import argparse, itertools, random
+import argparse, itertools, json, random
 from collections import namedtuple
 
 Map = namedtuple("Map", "names sources contents ignored tokens")
@@ -158,10 +158,68 @@ def check_least():
     return len(every)
 
 
+# What the rows show, and their maps.
+AT = lambda line, column, source=None, name=None, to=(0, 0): (line, column, source, *to, name)
+ROWS = [
+    ("Nothing to drop.", Map(["x"], ["a"], [], None, [AT(0, 0, 0, 0), AT(0, 4, 0), AT(1, 0)])),
+    ("Tokens that point where the one before points, on two lines.",
+     Map([], ["a"], [], None, [AT(0, 0, 0), AT(0, 2, 0), AT(0, 5, 0), AT(0, 6, 0, to=(1, 0)), AT(1, 0, 0, to=(1, 0)), AT(1, 3, 0, to=(1, 0))])),
+    ("Unmapped tokens repeat one another, but not the start of a line.", Map([], ["a"], [], None, [AT(0, 0), AT(0, 1), AT(0, 2, 0), AT(1, 3), AT(1, 4)])),
+    ("Of three at one position the middle one is never found.", Map([], ["a"], [], None, [AT(0, 3, 0), AT(0, 3, 0, to=(5, 0)), AT(0, 3, 0, to=(2, 0)), AT(0, 9, 0)])),
+    ("The last of two at one position is not found either if the next column has a token.",
+     Map([], ["a"], [], None, [AT(0, 3, 0), AT(0, 3, 0, to=(5, 0)), AT(0, 4, 0, to=(6, 0))])),
+    ("The first of two at one position repeats: the second one moves.", Map([], ["a"], [], None, [AT(0, 0, 0), AT(0, 3, 0), AT(0, 3, 0, to=(7, 0)), AT(0, 8, 0)])),
+    ("The second of two at one position points where the one before both points.", Map([], ["a"], [], None, [AT(0, 0, 0, to=(1, 1)), AT(0, 3, 0), AT(0, 3, 0, to=(1, 1))])),
+    ("Equal names become one, and others go.", Map(["u", "x", "y", "x"], ["a"], [], None, [AT(0, 0, 0, 2), AT(0, 2, 0, 3), AT(0, 4, 0, 1), AT(0, 6, 0, 9), AT(0, 8, 1, 0)])),
+    ("Equal sources become one if their contents are equal.",
+     Map([], ["b", "a", "a", "a", "c"], [None, "x", "y", "x", "z"], None, [AT(0, 0, 3), AT(0, 2, 1), AT(0, 4, 2), AT(0, 6, 0)])),
+    ("An ignored source and an equal one that is not stay two, this one first.", Map([], ["b", "a", "a"], ["z", "x", "x"], [1, 0, 9], [AT(0, 0, 1), AT(0, 2, 2, to=(3, 0)), AT(0, 4, 0)])),
+    ("Equal sources, one of them ignored, trace alike.", Map([], ["a", "a"], [], [0], [AT(0, 0, 0), AT(0, 2, 1)])),
+    ("No ignored source is left.", Map([], ["a", "b"], ["x"], [1], [AT(0, 0, 0)])),
+    ("Ids out of range.", Map(["x"], ["a"], [], None, [AT(0, 0, 5, 0, to=(4, 4)), AT(0, 1, 0, 3), AT(0, 2, 0)])),
+    ("A source of which only a dropped token knew.", Map(["q"], ["a", "b"], [], None, [AT(0, 3, 0), AT(0, 3, 1, 0), AT(0, 3, 0, to=(2, 0)), AT(1, 0, 0)])),
+    ("Names, sources and tokens at once.", Map(["u", "x", "x"], ["b", "a", "a"], ["z", "x", "x"], [1, 0], [AT(0, 0, 1, 2), AT(0, 2, 1, 1), AT(0, 2, 2, 1, to=(3, 0)), AT(0, 5)])),
+    ("Nothing at all.", Map(["x"], ["a"], ["y"], [0], [])),
+]
+
+
+def number(n):
+    """A number as base64 digits of five bits, the lowest first, its sign in the lowest bit."""
+    n, digits = (-n << 1 | 1 if n < 0 else n << 1), ""
+    while True:
+        digits += "ABCDEFGHIJKLMNOPQRSTUVWXYZabcdefghijklmnopqrstuvwxyz0123456789+/"[n & 31 | (32 if n > 31 else 0)]
+        n >>= 5
+        if not n:
+            return digits
+
+
+def mappings(tokens):
+    text, line, last = "", 0, [0] * 5
+    for i, t in enumerate(tokens):
+        text += ";" * (t[0] - line) if t[0] > line else "," if i else ""
+        last[0] = 0 if t[0] > line else last[0]
+        line = t[0]
+        fields = [t[1]] if t[2] is None else [t[1], t[2], t[3], t[4]] + ([] if t[5] is None else [t[5]])
+        text += "".join(number(field - last[k]) for k, field in enumerate(fields))
+        last[: len(fields)] = fields
+    return text
+
+
+def as_json(m):
+    contents = {"sourcesContent": [*m.contents, *[None] * (len(m.sources) - len(m.contents))]} if any(c is not None for c in m.contents) else {}
+    ignored = {} if m.ignored is None else {"ignoreList": m.ignored}
+    return json.dumps({"version": 3, "names": m.names, "sources": m.sources, **contents, **ignored, "mappings": mappings(m.tokens)}, separators=(",", ":"))
+
+
 if __name__ == "__main__":
     parser = argparse.ArgumentParser()
     parser.add_argument("--cases", type=int, default=20000)
+    parser.add_argument("--rows", action="store_true")
     options = parser.parse_args()
+    if options.rows:
+        for says, m in ROWS:
+            print(f'    // {says}\n    (r#"{as_json(m)}"#,\n     r#"{as_json(simplified(m))}"#),')
+        raise SystemExit
     for number in range(options.cases):
         check_one(number)
     print(f"{options.cases} random maps and all of {check_least()} small ones are as claimed")

@@ -140,6 +140,12 @@ fn decode_from_string(rt: HostRuntime) {
 }
 
 #[test]
+fn read_found_in_a_data_url(rt: HostRuntime) {
+    let text = "\u{feff})]}'\ndata:application/json;base64,eyJ2ZXJzaW9uIjozLCJzb3VyY2VzIjpbbnVsbF0sIm1hcHBpbmdzIjoiQUFBQSJ9";
+    refuse_each(&rt, nothing, |alloc, ()| oxc_sourcemap::read_found(alloc, text), |found| same(&rt, "mends", found.mends.len(), 4));
+}
+
+#[test]
 fn read_found(rt: HostRuntime) {
     refuse_each(&rt, nothing, |alloc, ()| oxc_sourcemap::read_found(alloc, MENDED_TEXT), |found| {
         same(&rt, "mends", found.mends.len(), 8);
@@ -309,6 +315,20 @@ const BACK: &str = r#"{"version":3,"sources":["a.js"],"names":[],"mappings":"IAA
 fn evaluate_of_a_map_that_is_sorted(rt: HostRuntime) {
     let sorted = r#"{"version":3,"names":[],"sources":["a.js"],"mappings":"CACA,CACA,CACA,CAHA,AAIA,CACA,CACA,CACA,CACA,CACA,CACA,CACA,CACA,CACA,CACA,CACA,CACA,CACA,CACA,CACA,CACA,CACA"}"#;
     refuse_each(&rt, |_| Ok(Plan::ReadSorted(BACK)), |alloc, plan| oxc_sourcemap::evaluate(alloc, &plan), |map| is_map(&rt, &map, sorted));
+}
+
+/// A map with tokens, names and sources that its traces do not need, and the same without them.
+const FULL: &str = r#"{"version":3,"file":"out.js","sourceRoot":"lib","names":["x","y","x"],"sources":["a.js","b.js","a.js"],"sourcesContent":["let a",null,"let a"],"ignoreList":[2],"mappings":"AACEA,IEAAE,G,E;AAEF"}"#;
+const SIMPLE: &str = r#"{"version":3,"file":"out.js","sourceRoot":"lib","names":["x"],"sources":["a.js","a.js"],"sourcesContent":["let a","let a"],"ignoreList":[1],"mappings":"AACEA,O;ACEF"}"#;
+
+/// A plan that simplifies a map.
+fn plan_to_simplify(alloc: Global) -> Result<Plan<'static>> {
+    Ok(Plan::Simplify(Box::new(alloc, Plan::Read(FULL))?))
+}
+
+#[test]
+fn evaluate_of_a_simplification(rt: HostRuntime) {
+    refuse_each(&rt, plan_to_simplify, |alloc, plan| oxc_sourcemap::evaluate(alloc, &plan), |map| is_map(&rt, &map, SIMPLE));
 }
 
 /// A plan that joins a map with itself, at columns.

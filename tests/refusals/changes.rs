@@ -1,7 +1,9 @@
 //! Calls that change what they are lent: a map, a builder, or a text. Where a request is refused, it is as if the call had not
 //! been made.
 use crate::helpers::same;
-use super::fixtures::{are_parts, chunked_parts, full_map, is_map, lent_map, shuffled_parts};
+use super::fixtures::{
+    REPEATED_TEXT, SIMPLE_TEXT, are_parts, chunked_parts, full_map, is_map, lent_map, shuffled_parts,
+};
 use super::memory::{refuse_each, refuse_each_change, takes_none};
 use oxc_sourcemap::{
     ConcatSourceMapBuilder, OwnedSourceMap, Result, SourceMap, SourceMapBuilder, SourceMapParts,
@@ -129,6 +131,29 @@ fn source_map_sort(rt: HostRuntime) {
 #[test]
 fn owned_source_map_sort(rt: HostRuntime) {
     refuse_each_change(&rt, a_shuffled_owned_map, |alloc, map, ()| map.sort(alloc), |map, has_sorted| is_sorted(&rt, map.into_parts(), has_sorted));
+}
+
+fn a_repeating_map(alloc: Global) -> Result<(SourceMap<'static>, ())> {
+    Ok((SourceMap::from_json_string(alloc, REPEATED_TEXT)?, ()))
+}
+
+fn a_repeating_owned_map(alloc: Global) -> Result<(OwnedSourceMap, ())> {
+    Ok((OwnedSourceMap::from_json_string(alloc, REPEATED_TEXT)?, ()))
+}
+
+/// The text of the map that repeats, or of that map, simplified.
+fn repeating_text(is_simple: bool) -> &'static str {
+    if is_simple { SIMPLE_TEXT } else { REPEATED_TEXT }
+}
+
+#[test]
+fn source_map_simplify(rt: HostRuntime) {
+    refuse_each_change(&rt, a_repeating_map, |alloc, map, ()| map.simplify(alloc), |map, is_simple| is_map(&rt, &map, repeating_text(is_simple)));
+}
+
+#[test]
+fn owned_source_map_simplify(rt: HostRuntime) {
+    refuse_each_change(&rt, a_repeating_owned_map, |alloc, map, ()| map.simplify(alloc), |map, is_simple| is_map(&rt, &map, repeating_text(is_simple)));
 }
 
 #[test]

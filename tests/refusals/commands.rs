@@ -22,7 +22,7 @@ const INPUTS: &str = r#"{"version":3,"names":["x"],"sources":["a.js"],"mappings"
 
 /// The words of a plan with each kind of part, and the text of its map.
 const PLAN: &[&str] = &[
-    "join", "3", "compose", "@0", "rewrite", "@0", "0", "joinat", "2", "@0", "0", "2", "@0", "0", "9", "1", "remap", "@0", "1", "a.js", "root", "@1", "2",
+    "join", "3", "compose", "@0", "rewrite", "simplify", "@0", "0", "joinat", "2", "@0", "0", "2", "@0", "0", "9", "1", "remap", "@0", "1", "a.js", "root", "@1", "2",
 ];
 const PLANNED: &str = r#"{"version":3,"names":["x","x","x","y"],"sources":["a.js","a.js","a.js","src/a.ts","src/b.ts"],"sourcesContent":[null,null,null,"let a",null],"ignoreList":[4],"mappings":"AAAA,GAAIA;ECAJ,GAAIC,ICAJ,GAAIC;ACAJ,GACIC"}"#;
 

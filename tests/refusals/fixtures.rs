@@ -40,6 +40,12 @@ pub const MENDED_TEXT: &str =
 pub const FOUND_TEXT: &str =
     r#"{"version":3,"sourceRoot":"root","names":[],"sources":["","b.js"],"sourcesContent":["A",null],"ignoreList":[1],"mappings":"ACAC,CDAD,AACC,C"}"#;
 
+/// A map with names, sources and tokens that repeat, and the same, simplified.
+pub const REPEATED_TEXT: &str =
+    r#"{"version":3,"names":["u","x","x"],"sources":["b","a","a"],"sourcesContent":["z","x","x"],"ignoreList":[1,0],"mappings":"ACAAE,EAAAD,ACGAA,G"}"#;
+pub const SIMPLE_TEXT: &str =
+    r#"{"version":3,"names":["x"],"sources":["a","a"],"sourcesContent":["x","x"],"ignoreList":[1],"mappings":"ACAAA,GDGAA,E"}"#;
+
 /// A map of one source, name and content, and of one token with them.
 pub const LENT_TEXT: &str =
     r#"{"version":3,"file":"f.js","names":["n"],"sources":["a.js"],"sourcesContent":["A"],"mappings":"AAAAA"}"#;

@@ -1,4 +1,4 @@
-//! Answers requests about maps and texts, each a line of standard input, by a line. tools/compare_lookups.py asks.
+//! Answers requests about maps and texts, each a line of standard input, by a line. tools/asking.py asks.
 //!
 //! A line that sets what the requests after it are about has no answer:
 //!
@@ -12,9 +12,11 @@
 //!     find|near|after L C                                    lookups: the token, and its index
 //!     sort                                                   the tokens of the map, sorted
 //!     position N  and  offset L C                            of the text
+//!     found ANSWER                                           whether this is the map that is found in the text, and what was mended
 #![tactic(auto)]
 
 mod fault;
+mod found;
 mod maps;
 mod texts;
 

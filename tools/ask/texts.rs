@@ -1,5 +1,7 @@
 //! Requests about a text.
+use crate::cut;
 use crate::fault::Fault;
+use crate::found::answer_found;
 use crate::maps::numbers_of;
 use oxc_sourcemap::TextPositions;
 use serde_json::Value;
@@ -28,7 +30,10 @@ pub(crate) fn answer_text(rt: &HostRuntime, string: &str, requests: &[&str]) -> 
     };
     let positions = TextPositions::new(rt.alloc(), text)?;
     for request in requests {
-        answer(rt, &positions, *request)?;
+        match cut(*request) {
+            ("found", wanted) => answer_found(rt, text, wanted)?,
+            _ => answer(rt, &positions, *request)?,
+        }
     }
     Ok(())
 }

@@ -1,5 +1,5 @@
 //! Why an input is not timed.
-use oxc_sourcemap::Error;
+use oxc_sourcemap::{Error, PlanError};
 use std::{fmt, io};
 
 /// Why an input is not timed.
@@ -9,6 +9,8 @@ pub(crate) enum Fault {
     Io(io::Error),
     /// A call of the library failed.
     Map(Error),
+    /// A map is not simplified.
+    Plan(PlanError),
 }
 
 impl From<io::Error> for Fault {
@@ -23,11 +25,18 @@ impl From<Error> for Fault {
     }
 }
 
+impl From<PlanError> for Fault {
+    fn from(error: PlanError) -> Fault {
+        Fault::Plan(error)
+    }
+}
+
 impl fmt::Display for Fault {
     fn fmt<W: fmt::Write>(&self, f: &mut fmt::Formatter<W>) -> fmt::Result {
         match self {
             Fault::Io(error) => write!(f, "{error}"),
             Fault::Map(error) => write!(f, "{error}"),
+            Fault::Plan(error) => write!(f, "{error}"),
         }
     }
 }

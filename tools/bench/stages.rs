@@ -54,6 +54,8 @@ pub(crate) enum Stage<'s, 'd> {
     ParseEach(&'s [&'s str]),
     /// Writes a map as JSON text.
     Serialize(&'s SourceMap<'d>),
+    /// Simplifies a map.
+    Simplify(&'s SourceMap<'d>),
     /// Makes the lookup table.
     Table(&'s SourceMap<'d>),
     /// Reads a `mappings` text, for so many names and sources.
@@ -81,6 +83,7 @@ impl Stage<'_, '_> {
             Stage::Parse(text) => parse(rt, text),
             Stage::ParseEach(texts) => parse_each(rt, texts),
             Stage::Serialize(map) => serialize(rt, map),
+            Stage::Simplify(map) => simplify(rt, map),
             Stage::Table(map) => table(rt, map),
             Stage::Decode(mappings, names, sources) => decode(rt, mappings, names, sources),
             Stage::Build(map) => build(rt, map),
@@ -130,6 +133,13 @@ fn serialize(rt: &HostRuntime, map: &SourceMap<'_>) -> Result<Run, Fault> {
     let start = Instant::now(rt)?;
     let text = map.to_json_string(rt.alloc())?;
     Run::ended(rt, start, text.len())
+}
+
+fn simplify(rt: &HostRuntime, map: &SourceMap<'_>) -> Result<Run, Fault> {
+    let mut simplified = map.clone(rt.alloc())?;
+    let start = Instant::now(rt)?;
+    simplified.simplify(rt.alloc())?;
+    Run::ended(rt, start, simplified.get_tokens().len())
 }
 
 fn table(rt: &HostRuntime, map: &SourceMap<'_>) -> Result<Run, Fault> {
@@ -452,6 +462,9 @@ fn time_stages(
     let tokens = map.get_tokens().len();
     time(rt, asked, "parse", Stage::Parse(text), tokens)?;
     time(rt, asked, "serialize", Stage::Serialize(map), tokens)?;
+    if map.is_sorted() {
+        time(rt, asked, "simplify", Stage::Simplify(map), tokens)?;
+    }
     time(rt, asked, "table", Stage::Table(map), tokens)?;
     time_decode(rt, asked, map)?;
     time_encode(rt, asked, map)?;

@@ -73,6 +73,7 @@ pub use Rattle.oxc_sourcemap_places.specs.declared.fault_place.FaultPlace
 pub use Rattle.oxc_sourcemap_places.specs.declared.fault_place.FaultSpot
 pub use Rattle.oxc_sourcemap_places.specs.PlaceMessages
 pub use Rattle.oxc_sourcemap_places.specs.ValueSpots
+pub use Rattle.oxc_sourcemap_plan_places.specs.PlanPlaces
 pub use Rattle.oxc_sourcemap_url.specs.declared.data_url_error.DataUrlError
 pub use Rattle.oxc_sourcemap_url.specs.declared.language.Language
 pub use Rattle.oxc_sourcemap_url.specs.DataUrls
@@ -94,6 +95,7 @@ pub use Rattle.oxc_sourcemap_laws.specs.RootedDecodedMaps
 pub use Rattle.oxc_sourcemap_laws.specs.RootLaws
 pub use Rattle.oxc_sourcemap_laws.specs.TraceLaws
 pub use Rattle.oxc_sourcemap_laws.specs.SimplifyTraces
+pub use Rattle.oxc_sourcemap_laws.specs.SimplifiedMaps
 pub use Rattle.oxc_sourcemap_tokens.specs.PlanMessages
 pub use Rattle.oxc_sourcemap_plan.specs.Depth
 pub use Rattle.oxc_sourcemap_plan.specs.Meaning
@@ -104,6 +106,7 @@ pub use Rattle.oxc_sourcemap_found.specs.declared.mend.Mend
 pub use Rattle.oxc_sourcemap_found.specs.declared.mend.MendKind
 pub use Rattle.oxc_sourcemap_found.specs.declared.found.Found
 pub use Rattle.oxc_sourcemap_found.specs.MendText
+pub use Rattle.oxc_sourcemap_found.specs.Opening
 pub use Rattle.oxc_sourcemap_found.specs.Mended
 pub use Rattle.oxc_sourcemap_found.specs.InRange
 pub use Rattle.oxc_sourcemap_found.specs.FoundMaps

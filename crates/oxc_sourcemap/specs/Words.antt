@@ -39,6 +39,7 @@ pub use Rattle.oxc_sourcemap_mappings.specs.SegmentPlaces.{fault_place}
 pub use Rattle.oxc_sourcemap_parts.specs.DecodedMap.{DecodedMap, decoded_map_of}
 pub use Rattle.oxc_sourcemap_parts.specs.Record.{MapRecord, Text}
 pub use Rattle.oxc_sourcemap_parts.specs.Roots.{rooted}
+pub use Rattle.oxc_sourcemap_simplify.specs.Simplified.{simplified, simplification}
 pub use Rattle.oxc_sourcemap_sort.specs.Sorting.{sorted_by, sorted_tokens, sorted_map}
 pub use Rattle.oxc_sourcemap_sort.specs.Sorting.{sorted_decoded_map}
 pub use Rattle.oxc_sourcemap_parts.specs.Sorted.{are_tokens_sorted, token_column}
@@ -49,11 +50,12 @@ pub use Rattle.oxc_sourcemap_parts.specs.Views.{contents_of, chunks_of}
 pub use Rattle.oxc_sourcemap_pieces.specs.RangePieces.{place, pieces_of, DoCover}
 pub use Rattle.oxc_sourcemap_places.specs.PlaceMessages.{place_text, spot_text}
 pub use Rattle.oxc_sourcemap_places.specs.ValueSpots.{value_spot, value_place, IsReading}
+pub use Rattle.oxc_sourcemap_plan_places.specs.PlanPlaces.{texts_of as plan_texts_of, IsPlanPlace}
 pub use Rattle.oxc_sourcemap_plan.specs.Depth.{depth}
 pub use Rattle.oxc_sourcemap_plan.specs.Evaluated.{IsEvaluated, HasOutcome, IsErrorOf}
 pub use Rattle.oxc_sourcemap_plan.specs.Meaning.{meaning, read_meaning, text_meaning, by_path}
 pub use Rattle.oxc_sourcemap_plan.specs.Meaning.{join_meaning, composition_meaning, remap_meaning}
-pub use Rattle.oxc_sourcemap_plan.specs.Meaning.{root_meaning}
+pub use Rattle.oxc_sourcemap_plan.specs.Meaning.{root_meaning, simplified_meaning}
 pub use Rattle.oxc_sourcemap_plan.specs.Outcome.{is_within_limits}
 pub use Rattle.oxc_sourcemap_plan.specs.Numbers.{number_of}
 pub use Rattle.oxc_sourcemap_plan.specs.Outcome.{outcome, read_outcome, composition_outcome}

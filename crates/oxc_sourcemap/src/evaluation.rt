@@ -8,8 +8,8 @@ use oxc_sourcemap_plan::{Plan, evaluate_to_parts};
 use oxc_sourcemap_tokens::PlanError;
 use std::alloc::Global;
 
-/// Evaluates a plan: reads, rewrites, joins, composes and remaps maps, and puts source roots before sources; parts from left to
-/// right, all parts of a join before they are joined, and all inputs of a remapping before it is made.
+/// Evaluates a plan: reads, rewrites, simplifies, joins, composes and remaps maps, and puts source roots before sources; parts
+/// from left to right, all parts of a join before they are joined, and all inputs of a remapping before it is made.
 ///
 /// ```rust
 /// use oxc_sourcemap::{Plan, evaluate};
@@ -32,8 +32,8 @@ use std::alloc::Global;
 ///   the first map of a composition has n sources and n is above 1.
 ///
 /// It may fail instead with `Map(TooLarge)` if some part has more than 4294967295 names (of all texts read for it), sources or
-/// mappings (repeated ones included), each counted by itself, or a joined line or column above that, where an indexed map
-/// counts as the join of its sections (`is_within_limits`), and with `Map(OutOfMemory)` for want of memory.
+/// mappings (repeated ones included), each counted by itself, or a line or column of a join or of a simplified map above that,
+/// where an indexed map counts as the join of its sections (`is_within_limits`), and with `Map(OutOfMemory)` for want of memory.
 pub fn evaluate(alloc: Global, plan: &Plan<'_>) -> Result<OwnedSourceMap, PlanError>
     ensures map { IfOk result (λ map. IsEvaluated map (meaning plan.now)) }
     ensures error { IfErr result (λ e. (e ≡ Map OutOfMemory)

@@ -5,8 +5,8 @@ pub use oxc_sourcemap_builders::name_ids_unique;
 pub use oxc_sourcemap_found::mending_harmless;
 pub use oxc_sourcemap_laws::{
     canonical_unique, composition_associative, dropping_harmless, joins_associative,
-    remapping_associative, rooting_idempotent, steps_over_simplified, tokens_in_bounds,
-    trace_of_composition, trace_of_join, trace_of_remap,
+    remapping_associative, rooting_idempotent, simplifying_stands, steps_over_simplified,
+    tokens_in_bounds, trace_of_composition, trace_of_join, trace_of_remap,
 };
 pub use oxc_sourcemap_pieces::range_pieces;
 pub use oxc_sourcemap_reverse::reverse_lookups;

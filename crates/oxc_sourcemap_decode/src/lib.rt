@@ -7,4 +7,5 @@ mod place;
 mod sections;
 
 pub use decode::decode_parts;
+pub use place::place_after;
 pub use sections::{decode_parts_from_string, decode_parts_from_value};

@@ -75,9 +75,9 @@ fn may_begin(so_far: &JoinedParts<'_>, before: Option<Position>, place: Position
     may_follow(before, place) && may_follow(last_position(so_far), place)
 }
 
-/// The offset of the section after the joined ones, the last of which begins at `before`. Fails if the section has none, or
-/// one that is before `before` or before the last joined token.
-pub(crate) fn place_after(
+/// The offset of the section after the joined ones, the last of which begins at `before`. Fails with `BadJson` if the section has
+/// none, and with `SectionOrder` if it is before `before` or before the last joined token.
+pub fn place_after(
     so_far: &JoinedParts<'_>,
     before: Option<Position>,
     section: &Value,

@@ -1,6 +1,6 @@
 -- What is read with some numbers of names and sources is read with greater ones, as the same tokens.
-use Rattle.std.proofs.Common.{◌≡◌, ℕ, ◌+◌, ◌<◌, ◌≤◌, Bool, true, false, cond, nat_lt, min, List, []}
-use Rattle.std.proofs.Common.{◌∷◌, ◌++◌, length, pos, negsuc, ℤ, arith, refl, ap, sym, ◌∙◌, inl}
+use Rattle.std.proofs.Common.{◌≡◌, ℕ, ◌+◌, ◌≤◌, Bool, true, false, cond, nat_lt, List, []}
+use Rattle.std.proofs.Common.{◌∷◌, ◌++◌, length, pos, negsuc, ℤ, arith, refl, ap, inl}
 use Rattle.std.proofs.Common.{inr}
 use Rattle.std.proofs.Common.{Option, Some, None, Result, Ok, Err}
 use Rattle.std.proofs.lemmas.Bool.{cases_lt}
@@ -18,7 +18,7 @@ use Rattle.oxc_sourcemap_mappings.specs.Places.{past_line}
 use Rattle.oxc_sourcemap_mappings.specs.Faults.{Counts, counts_of, ◌orelse◌, is_id_below}
 use Rattle.oxc_sourcemap_mappings.specs.Faults.{source_fault, name_fault, place_fault}
 use Rattle.oxc_sourcemap_mappings.specs.Faults.{segment_fault}
-use Rattle.oxc_sourcemap_mappings.specs.Faults.{digit_fault, range_fault, size_fault}
+use Rattle.oxc_sourcemap_mappings.specs.Faults.{digit_fault}
 use Rattle.oxc_sourcemap_mappings.specs.Reading.{token_at, segment_result, line_results}
 use Rattle.oxc_sourcemap_mappings.specs.Reading.{text_results}
 use Rattle.oxc_sourcemap_mappings.specs.Reading.{onto, gathered, reading}

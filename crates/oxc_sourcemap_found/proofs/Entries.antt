@@ -1,5 +1,5 @@
 -- Entries of lists, and members that are replaced.
-use Rattle.std.proofs.Common.{◌≡◌, ℕ, ◌+◌, List, [], ◌∷◌, ◌++◌, map, length, refl, ap, sym, ◌∙◌}
+use Rattle.std.proofs.Common.{◌≡◌, ℕ, List, [], ◌∷◌, ◌++◌, map, length, refl, ap, sym, ◌∙◌}
 use Rattle.std.proofs.Common.{Ordering, Less, Equal, Greater, nat_cmp, Option, Some, None, rules}
 use Rattle.std.proofs.Common.{cond, Result, Ok, Err}
 use Rattle.std.specs.Result.{OnOk, is_ok}
@@ -11,7 +11,7 @@ use Rattle.std.specs.List.{flat_map}
 use Rattle.std.specs.Option.{option_and_then}
 use Rattle.serde_json.specs.Data.{Data, null, boolean, number, string, array, object, Items}
 use Rattle.serde_json.specs.Data.{Members}
-use Rattle.serde_json.specs.Data.{no_members, member, put, item}
+use Rattle.serde_json.specs.Data.{no_members, member, put}
 use Rattle.serde_json.specs.Find.{get_member, as_array}
 use Rattle.serde_json.specs.View.{view, items_view, items_of}
 use Rattle.serde_json.specs.declared.value.Value.{Value, Null, the_lemmas}

@@ -1,16 +1,15 @@
 -- In the object of a map that the exact reader reads, nothing is mended.
-use Rattle.std.proofs.Common.{◌≡◌, ℕ, suc, ◌+◌, ◌<◌, Bool, true, false, cond, not, nat_lt, List, []}
-use Rattle.std.proofs.Common.{◌∷◌, length, codes, refl, ap, sym, subst, ◌∙◌, inl, inr, arith}
-use Rattle.std.proofs.Common.{Option, Some, None, option_map, Result, Ok, Err}
+use Rattle.std.proofs.Common.{◌≡◌, ℕ, suc, ◌+◌, true, false, cond, not, nat_lt, List, []}
+use Rattle.std.proofs.Common.{◌∷◌, length, codes, refl, ap, ◌∙◌, inl, inr, arith}
+use Rattle.std.proofs.Common.{Option, Some, None, Result, Ok, Err}
 use Rattle.std.proofs.lemmas.Bool.{cases_lt}
 use Rattle.std.proofs.lemmas.Bool.Decides.{nat_tests}
 use Rattle.std.specs.Option.{is_some, option_and_then, option_map_or}
-use Rattle.serde_json.specs.Data.{Num, unsigned, negative, float, Data, null, boolean, number}
+use Rattle.serde_json.specs.Data.{unsigned, negative, float, Data, null, boolean, number}
 use Rattle.serde_json.specs.Data.{string}
 use Rattle.serde_json.specs.Data.{array, object, Items, no_items, item, Members}
-use Rattle.serde_json.specs.Find.{get, get_member, as_str, as_array, as_object, as_number, as_u64}
+use Rattle.serde_json.specs.Find.{get_member, as_str, as_array}
 use Rattle.oxc_sourcemap_tokens.specs.declared.error.Error.{Error}
-use Rattle.oxc_sourcemap_tokens.specs.declared.error.Error.TheVariants.{BadSourceReference}
 use Rattle.oxc_sourcemap_tokens.specs.declared.error.Field.{Field}
 use Rattle.oxc_sourcemap_tokens.specs.declared.error.Field.TheVariants.{Version as VersionField}
 use Rattle.oxc_sourcemap_tokens.specs.declared.error.Field.TheVariants.{Sources as SourcesField}
@@ -21,8 +20,8 @@ use Rattle.oxc_sourcemap_tokens.specs.declared.error.Field.TheVariants.{File, Ma
 use Rattle.oxc_sourcemap_tokens.specs.declared.error.Field.TheVariants.{DebugId}
 use Rattle.oxc_sourcemap_json.specs.Json.{JsonRecord}
 use Rattle.oxc_sourcemap_json.specs.Shape.{◌>>=◌, or_misshapen, present, optional, onto_read}
-use Rattle.oxc_sourcemap_json.specs.Shape.{all_items, as_list, as_content, as_id, if_id, texts_in}
-use Rattle.oxc_sourcemap_json.specs.Shape.{contents_in, ids_in, required, version_in, version_of}
+use Rattle.oxc_sourcemap_json.specs.Shape.{all_items, as_list, as_content, as_id, texts_in}
+use Rattle.oxc_sourcemap_json.specs.Shape.{contents_in, ids_in, required, version_of}
 use Rattle.oxc_sourcemap_json.specs.Shape.{names_of, ignore_list_of, shape, text_in, version_three}
 use Rattle.oxc_sourcemap_found.specs.declared.members.Entries.{Entries}
 use Rattle.oxc_sourcemap_found.specs.declared.members.Entries.TheVariants.{Sources, Contents, Ids}
@@ -30,7 +29,7 @@ use Rattle.oxc_sourcemap_found.specs.declared.members.Entries.TheVariants.{Googl
 use Rattle.oxc_sourcemap_found.specs.Mended.{is_null, is_other_three, version_change, names_change}
 use Rattle.oxc_sourcemap_found.specs.Mended.{entries, is_id_of, may_stay, kinds_from, list_change}
 use Rattle.oxc_sourcemap_found.specs.Mended.{sources_change, list_or_null_change}
-use Rattle.oxc_sourcemap_found.specs.Mended.{optional_list_change, MendedMembers, changed, as_found}
+use Rattle.oxc_sourcemap_found.specs.Mended.{optional_list_change, changed, as_found}
 use Rattle.oxc_sourcemap_found.specs.Mended.{with_version, with_sources, with_contents, with_names}
 use Rattle.oxc_sourcemap_found.specs.Mended.{source_count, with_ignore_list}
 use Rattle.oxc_sourcemap_found.specs.Mended.{with_google_ignore_list}

@@ -2,4 +2,8 @@ pub mod Entries
 pub mod AnyIds
 pub mod Kept
 pub mod Sound
+pub mod OpenedJson
+pub mod Prefixes
+pub mod NoneBad
 pub mod Twice
+pub mod Worked

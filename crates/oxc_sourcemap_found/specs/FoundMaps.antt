@@ -1,5 +1,5 @@
 -- A map as it is found: the map that a text is read as, and what was mended.
-use Rattle.std.specs.Prelude.{ℕ, List, [], ◌∷◌, ◌++◌, map, Option, Some, None, Result, Ok, Err}
+use Rattle.std.specs.Prelude.{List, [], ◌∷◌, ◌++◌, map, Option, Some, None, Result, Ok, Err}
 use Rattle.std.specs.Prelude.{if◌then◌else◌}
 use Rattle.serde_json.specs.Data.{Data, object}
 use Rattle.serde_json.specs.Find.{as_object}
@@ -24,6 +24,7 @@ use Rattle.oxc_sourcemap_found.specs.declared.mend.MendKind.{MendKind}
 use Rattle.oxc_sourcemap_found.specs.declared.mend.MendKind.TheVariants.{Unsorted}
 use Rattle.oxc_sourcemap_found.specs.InRange.{map_in_range, source_kinds, name_kinds}
 use Rattle.oxc_sourcemap_found.specs.Mended.{MendedMembers, mended_members}
+use Rattle.oxc_sourcemap_found.specs.Opening.{Opened, opened}
 
 -- the value of a text, or that it is not JSON
 abbrev pub or_not_json : Option Data → Result Data Error
@@ -55,23 +56,27 @@ found_record kinds r = record {
   mends = map mend_of (kinds ++ source_kinds r ++ name_kinds r ++ order_kinds (map_in_range r).tokens);
 }
 
--- the map of an object whose members are mended, or its first fault
-abbrev pub found_members : MendedMembers → Result FoundRecord Error
-found_members m = do
+-- the map of an object whose members are mended, after what was mended before, or its first fault
+abbrev pub found_members : List MendKind → MendedMembers → Result FoundRecord Error
+found_members kinds m = do
   fields ← shape (object m.members)
   r ← decoded_with_any_ids fields
-  Ok (found_record m.kinds r)
+  Ok (found_record (kinds ++ m.kinds) r)
 
--- the map of an indexed map, or its first fault: nothing is mended before it is read
-abbrev pub found_indexed : Data → Result FoundRecord Error
-found_indexed d = read_value d >>= (λ r. Ok (found_record [] r))
+-- the map of an indexed map, or its first fault: nothing is mended in it before it is read
+abbrev pub found_indexed : List MendKind → Data → Result FoundRecord Error
+found_indexed kinds d = read_value d >>= (λ r. Ok (found_record kinds r))
 
--- the map of a JSON value, or its first fault
-abbrev pub found_value : Data → Result FoundRecord Error
-found_value d =
-    if is_indexed d then found_indexed d
-    else (or_misshapen Object (as_object d) >>= (λ ms. found_members (mended_members ms)))
+-- the map of a JSON value, after what was mended before, or its first fault
+abbrev pub found_value : List MendKind → Data → Result FoundRecord Error
+found_value kinds d =
+    if is_indexed d then found_indexed kinds d
+    else (or_misshapen Object (as_object d) >>= (λ ms. found_members kinds (mended_members ms)))
+
+-- the map of a text that was opened, or its first fault
+abbrev pub found_opened : Opened → Result FoundRecord Error
+found_opened o = or_not_json (read o.text) >>= found_value o.kinds
 
 -- the map of a text, or its first fault
 unfoldable pub found : Text → Result FoundRecord Error
-found text = or_not_json (read text) >>= found_value
+found text = found_opened (opened text)

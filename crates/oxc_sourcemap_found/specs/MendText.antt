@@ -3,6 +3,8 @@ use Rattle.std.specs.Prelude.{ℕ, List, ◌++◌, codes, Option, Some, None}
 use Rattle.std.specs.Fmt.{decimal}
 use Rattle.oxc_sourcemap_found.specs.declared.mend.Mend.{Mend}
 use Rattle.oxc_sourcemap_found.specs.declared.mend.MendKind.{MendKind}
+use Rattle.oxc_sourcemap_found.specs.declared.mend.MendKind.TheVariants.{ByteOrderMark, JsonPrefix}
+use Rattle.oxc_sourcemap_found.specs.declared.mend.MendKind.TheVariants.{DataUrl}
 use Rattle.oxc_sourcemap_found.specs.declared.mend.MendKind.TheVariants.{Version, NoSources}
 use Rattle.oxc_sourcemap_found.specs.declared.mend.MendKind.TheVariants.{NullSource, NoContents}
 use Rattle.oxc_sourcemap_found.specs.declared.mend.MendKind.TheVariants.{BadContent, NullNames}
@@ -14,6 +16,9 @@ use Rattle.oxc_sourcemap_found.specs.declared.mend.MendKind.TheVariants.{Unsorte
 
 -- what was mended
 abbrev pub kind_text : MendKind → List ℕ
+kind_text ByteOrderMark = codes "the byte order mark in front is passed over"
+kind_text JsonPrefix = codes "the first line, which begins with )]}', is passed over"
+kind_text DataUrl = codes "the text is a data URL, and the text in it is read"
 kind_text Version = codes "version is 3.0 or the text 3, and is read as 3"
 kind_text NoSources = codes "sources is missing, and is read as an empty list"
 kind_text (NullSource k) = codes "source " ++ decimal k ++ codes " is null, and is read as an empty text"

@@ -1,9 +1,14 @@
 -- What values of the code stand for.
+use Rattle.std.specs.Prelude.{Vec}
+use Rattle.std.specs.declared.alloc.Global.{Global}
 use Rattle.serde_json.specs.View.{members_view}
+use Rattle.oxc_sourcemap_parts.specs.Record.{Text}
 use Rattle.oxc_sourcemap_found.specs.declared.found.Found.{Found}
 use Rattle.oxc_sourcemap_found.specs.declared.members.Mending.{Mending}
+use Rattle.oxc_sourcemap_found.specs.declared.mend.MendKind.{MendKind}
 use Rattle.oxc_sourcemap_found.specs.FoundMaps.{FoundRecord}
 use Rattle.oxc_sourcemap_found.specs.Mended.{MendedMembers}
+use Rattle.oxc_sourcemap_found.specs.Opening.{Opened}
 
 -- the members of an object while they are mended
 abbrev pub state_of : Mending → MendedMembers
@@ -12,3 +17,7 @@ state_of m = record { members = members_view m.object.entries; kinds = m.kinds.i
 -- a map as it was found
 abbrev pub found_view : Found → FoundRecord
 found_view f = record { map = f.map; mends = f.mends.items }
+
+-- a text, and what was passed over and opened so far
+abbrev pub opened_view : Text → Vec MendKind Global → Opened
+opened_view text kinds = record { text = text; kinds = kinds.items }

@@ -10,7 +10,7 @@ pub use Rattle.oxc_sourcemap_json.specs.Members.{lent_member}
 pub use Rattle.oxc_sourcemap_json.specs.Shape.{present}
 pub use Rattle.oxc_sourcemap_parts.specs.Views.{record_of_parts}
 pub use Rattle.oxc_sourcemap_sort.specs.Sorting.{sorted_map}
-pub use Rattle.oxc_sourcemap_tokens.specs.Results.{Answers, OnlyMemory}
+pub use Rattle.oxc_sourcemap_tokens.specs.Results.{Answers, OnlyMemory, lent_item}
 pub use Rattle.oxc_sourcemap_found.specs.FoundMaps.{mend_of, decoded_with_any_ids, order_kinds}
 pub use Rattle.oxc_sourcemap_found.specs.FoundMaps.{found_record, found_members, found_indexed}
 pub use Rattle.oxc_sourcemap_found.specs.FoundMaps.{found_value, found}
@@ -25,5 +25,7 @@ pub use Rattle.oxc_sourcemap_found.specs.Mended.{replaced, with_version, with_so
 pub use Rattle.oxc_sourcemap_found.specs.Mended.{with_contents, with_names, with_ignore_list}
 pub use Rattle.oxc_sourcemap_found.specs.Mended.{with_google_ignore_list, source_count}
 pub use Rattle.oxc_sourcemap_found.specs.Mended.{mended_members}
-pub use Rattle.oxc_sourcemap_found.specs.States.{state_of, found_view}
+pub use Rattle.oxc_sourcemap_found.specs.Opening.{Opened, behind, without_mark, without_prefix}
+pub use Rattle.oxc_sourcemap_found.specs.Opening.{data_in, opened}
+pub use Rattle.oxc_sourcemap_found.specs.States.{state_of, found_view, opened_view}
 pub use Rattle.oxc_sourcemap_found.specs.FoundLaws.{ExactIsFound, MendedIsMended, FoundIsSound}

@@ -1,5 +1,5 @@
 //! Reading a map as it is found.
-ghost use Rattle.std.specs.Prelude.{◌≡◌, [], map, option_map, IfOk};
+ghost use Rattle.std.specs.Prelude.{◌≡◌, map, option_map, IfOk};
 ghost use Rattle.oxc_sourcemap_found.specs.Words.{view, Answers, json_record, record_of_parts};
 ghost use Rattle.oxc_sourcemap_found.specs.Words.{is_indexed, decoded_with_any_ids, found_view};
 ghost use Rattle.oxc_sourcemap_found.specs.Words.{found_record, found_value, found, mend_of};
@@ -8,6 +8,7 @@ ghost use Rattle.oxc_sourcemap_found.specs.Words.{members_view, OnlyMemory, read
 
 use crate::members::mend_object;
 use crate::mend::{Mend, MendKind};
+use crate::opening::open;
 use crate::tokens::{mend_ids, mend_order};
 use oxc_sourcemap_decode::{decode_parts, decode_parts_from_value};
 use oxc_sourcemap_json::{JSONSourceMap, json_of};
@@ -64,15 +65,15 @@ fn decode_with_any_ids(alloc: Global, mut json: JSONSourceMap) -> Result<SourceM
     Ok(parts)
 }
 
-/// The parts of the map of an object that is no indexed map, before their tokens are mended.
+/// The parts of the map of an object that is no indexed map, before their tokens are mended. What is mended is told of after what
+/// was mended before.
 fn parts_of_object(
     alloc: Global,
     object: Map<String, Value>,
     kinds: &mut Vec<MendKind>,
 ) -> Result<SourceMapParts<'static>>
-    requires { kinds.old.items ≡ [] }
     ensures { Answers (λ parts. found_record kinds.new.items (record_of_parts parts)) result
-        (found_members (mended_members (members_view object.entries))) }
+        (found_members kinds.old.items (mended_members (members_view object.entries))) }
 {
     let (object, mut mended) = mend_object(alloc, object)?;
     kinds.append(&mut mended)?;
@@ -98,15 +99,14 @@ fn parts_of_indexed(alloc: Global, value: Value) -> Result<SourceMapParts<'stati
     Ok(parts)
 }
 
-/// The parts of the map of a JSON value, before their tokens are mended.
+/// The parts of the map of a JSON value, before their tokens are mended. What is mended is told of after what was mended before.
 fn parts_of_value(
     alloc: Global,
     value: Value,
     kinds: &mut Vec<MendKind>,
 ) -> Result<SourceMapParts<'static>>
-    requires { kinds.old.items ≡ [] }
     ensures { Answers (λ parts. found_record kinds.new.items (record_of_parts parts)) result
-        (found_value (view value)) }
+        (found_value kinds.old.items (view value)) }
 {
     if is_indexed(&value) {
         return parts_of_indexed(alloc, value);
@@ -140,16 +140,16 @@ fn finish(
 /// ```rust
 /// use oxc_sourcemap::{MendKind, read_found};
 ///
-/// let text = r#"{"version":3,"sources":[null,"b.js"],"names":null,"mappings":"AAAA,CCAA"}"#;
+/// let text = ")]}'\n{\"version\":3,\"sources\":[null,\"b.js\"],\"names\":[],\"mappings\":\"AAAA,CCAA\"}";
 /// let found = read_found(alloc, text)?;
 /// assert_eq!(rt; found.map.get_source(1), Some("b.js"));
 /// let kinds = [found.mends[0].kind, found.mends[1].kind];
-/// assert_eq!(rt; kinds, [MendKind::NullSource(0), MendKind::NullNames]);
+/// assert_eq!(rt; kinds, [MendKind::JsonPrefix, MendKind::NullSource(0)]);
 /// ```
 ///
 /// A text that the exact reader reads as a sorted map is read as this map, and nothing is mended (`mending_harmless`). What is
 /// not in the list is refused, in this order:
-/// - `BadJson(Reading)` if `serde_json` reads no value;
+/// - `BadJson(Reading)` if `serde_json` reads no value in what is left of the text, as for any URL but a data URL of JSON;
 /// - for an indexed map the errors of `decode_value`: of its sections nothing is mended;
 /// - `BadJson(Shape(Object))` if the value is no object, and then the errors of `JSONSourceMap::from_value` for the mended object;
 /// - the errors of `decode_mappings`, for as many names and sources as there can be: a source or name id may be up to 4294967294.
@@ -159,8 +159,8 @@ fn finish(
 pub fn read_found(alloc: Global, text: &str) -> Result<Found>
     ensures { Answers found_view result (found text.now) }
 {
-    let mut kinds = Vec::new(alloc);
-    let value = Value::from_str(alloc, text)?;
+    let (json, mut kinds) = open(alloc, text)?;
+    let value = Value::from_str(alloc, json.as_str())?;
     let parts = parts_of_value(alloc, value, &mut kinds)?;
     finish(alloc, kinds, parts)
 }

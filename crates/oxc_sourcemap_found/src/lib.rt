@@ -5,6 +5,7 @@ mod found;
 mod laws;
 mod members;
 mod mend;
+mod opening;
 mod tokens;
 
 pub use found::{Found, read_found};

@@ -24,6 +24,12 @@ pub struct Mend {
 /// What was mended (docs/FORMAT.md, "Maps as they are found"). Entries of lists count from 0.
 #[derive(Clone, Copy, Debug, PartialEq, Eq)]
 pub enum MendKind {
+    /// The text begins with a byte order mark (U+FEFF), which is passed over.
+    ByteOrderMark,
+    /// The first line begins with `)]}'`, and is passed over.
+    JsonPrefix,
+    /// The text is a data URL of JSON, and the text in it is read.
+    DataUrl,
     /// `version` is the number 3.0 or the text `3`, and is read as 3.
     Version,
     /// `sources` is missing, and is read as an empty list.
@@ -57,6 +63,11 @@ impl fmt::Display for MendKind {
 
     fn fmt<W: fmt::Write>(&self, f: &mut fmt::Formatter<W>) -> fmt::Result {
         match self {
+            MendKind::ByteOrderMark => { write!(f, "the byte order mark in front is passed over") }
+            MendKind::JsonPrefix => {
+                write!(f, "the first line, which begins with )]}}', is passed over")
+            }
+            MendKind::DataUrl => { write!(f, "the text is a data URL, and the text in it is read") }
             MendKind::Version => write!(f, "version is 3.0 or the text 3, and is read as 3"),
             MendKind::NoSources => write!(f, "sources is missing, and is read as an empty list"),
             MendKind::NullSource(k) => {

@@ -122,6 +122,9 @@ pub(crate) fn mend_ids(
     };
     let sources = counts.bad_sources(parts.tokens.as_slice());
     let names = counts.bad_names(parts.tokens.as_slice());
+    if sources == 0 && names == 0 {
+        return Ok(());
+    }
     push_count(kinds, sources, MendKind::SourceIds(sources))?;
     push_count(kinds, names, MendKind::NameIds(names))?;
     let tokens = counts.tokens_in_range(alloc, parts.tokens.as_slice())?;

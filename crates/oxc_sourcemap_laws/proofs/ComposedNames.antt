@@ -29,7 +29,7 @@ found-at x (n ∷ ns) k (suc i) e =
     ]
 
 -- names that are taken are of the first map
-name-of_some : (names : List Text) (id : Option ℕ) (x : Text) → option_and_then (slice_get names) id ≡ Some x → IsOf names x
+pub name-of_some : (names : List Text) (id : Option ℕ) (x : Text) → option_and_then (slice_get names) id ≡ Some x → IsOf names x
 name-of_some names None x e = absurd (cc (e))
 name-of_some names (Some i) x e = found-at x names 0 i e
 

@@ -26,6 +26,7 @@ pub mod TracesMoved
 pub mod TracesRising
 pub mod TracesJoined
 pub mod TracesSimplified
+pub mod SimplifiedMaps
 mod TracesWorked
 mod WorkedRemaps
 mod Worked

@@ -11,4 +11,5 @@ pub mod RootedDecodedMaps
 pub mod RootLaws
 pub mod TraceLaws
 pub mod SimplifyTraces
+pub mod SimplifiedMaps
 pub mod Words

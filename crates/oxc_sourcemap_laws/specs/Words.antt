@@ -26,6 +26,9 @@ pub use Rattle.oxc_sourcemap_laws.specs.TraceLaws.{TracesOnOwnLineOfMaps}
 pub use Rattle.oxc_sourcemap_laws.specs.TraceLaws.{TracesOfRemapping, TracesOfRemappedMaps}
 pub use Rattle.oxc_sourcemap_laws.specs.SimplifyTraces.{SimplifiedComposed, SimplifiedRemapped}
 pub use Rattle.oxc_sourcemap_laws.specs.SimplifyTraces.{SimplifiedJoined}
+pub use Rattle.oxc_sourcemap_laws.specs.SimplifiedMaps.{SimplifyingEndsRepeats}
+pub use Rattle.oxc_sourcemap_laws.specs.SimplifiedMaps.{SimplifyingStandsFor, SimplifyingCounts}
+pub use Rattle.oxc_sourcemap_laws.specs.SimplifiedMaps.{SimplifyingNames, SimplifyingInBounds}
 pub use Rattle.oxc_sourcemap_laws.specs.RemapLaws.{DecodedMapOfRemapping, RemappingIgnores}
 pub use Rattle.oxc_sourcemap_laws.specs.RemapLaws.{NothingRemapped, RemappedDecodedMapsAssociative}
 pub use Rattle.oxc_sourcemap_laws.specs.RemapLaws.{RemappedMapsAssociative, JoinRemapped}

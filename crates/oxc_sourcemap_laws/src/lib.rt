@@ -28,7 +28,9 @@ ghost use Rattle.oxc_sourcemap_laws.specs.Words.{TracesWithinPart, TracesOfJoine
 ghost use Rattle.oxc_sourcemap_laws.specs.Words.{TracesOnOwnLineOfMaps};
 ghost use Rattle.oxc_sourcemap_laws.specs.Words.{TracesOfRemapping, TracesOfRemappedMaps};
 ghost use Rattle.oxc_sourcemap_laws.specs.Words.{SimplifiedComposed, SimplifiedRemapped};
-ghost use Rattle.oxc_sourcemap_laws.specs.Words.{SimplifiedJoined};
+ghost use Rattle.oxc_sourcemap_laws.specs.Words.{SimplifiedJoined, SimplifyingEndsRepeats};
+ghost use Rattle.oxc_sourcemap_laws.specs.Words.{SimplifyingStandsFor, SimplifyingCounts};
+ghost use Rattle.oxc_sourcemap_laws.specs.Words.{SimplifyingNames, SimplifyingInBounds};
 ghost use Rattle.oxc_sourcemap_laws.specs.Words.{DecodedMapOfRemapping, RemappingIgnores};
 ghost use Rattle.oxc_sourcemap_laws.specs.Words.{NothingRemapped, RemappedDecodedMapsAssociative};
 ghost use Rattle.oxc_sourcemap_laws.specs.Words.{RemappedMapsAssociative, JoinRemapped};
@@ -301,4 +303,21 @@ pub fn steps_over_simplified()
     ensures composed { SimplifiedComposed }
     ensures remapped { SimplifiedRemapped }
     ensures joined { SimplifiedJoined }
+{}
+
+/// Simplified maps, as steps over maps need them; that a simplified map means the simplified decoded map is the clause
+/// `decoded_map` of `simplifying_harmless`.
+/// - Decoded maps that are equal up to repeats are equal once they are simplified (`ends_repeats`). If a map is sound and its
+///   decoded map equal up to repeats to a given one, the simplified map is sound, and its decoded map equal up to repeats to the
+///   given one, simplified (`stands_for`).
+/// - A simplified map has no more tokens and no more sources than the map, and as many contents as sources (`counts`). Its names
+///   are names of the map, and no more (`names`).
+/// - Its tokens are in bounds if those of the map are, its names and sources number at most 4294967295 each, and no column is
+///   above that (`in_bounds`).
+pub fn simplifying_stands()
+    ensures ends_repeats { SimplifyingEndsRepeats }
+    ensures stands_for { SimplifyingStandsFor }
+    ensures counts { SimplifyingCounts }
+    ensures names { SimplifyingNames }
+    ensures in_bounds { SimplifyingInBounds }
 {}

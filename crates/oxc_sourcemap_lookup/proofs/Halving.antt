@@ -5,9 +5,9 @@ use Rattle.std.proofs.Common.{option_map, Bor, Option, Some, None, nat_cmp, nat_
 use Rattle.std.proofs.Common.{arith, if◌then◌else◌, bit_and, Bool}
 use Rattle.std.proofs.lemmas.Nat.{and-not, and_comm}
 use Rattle.std.specs.Int.Bits.{and_zero_l, and_zero_r}
-use Rattle.std.proofs.lemmas.List.Sums.{prefix_len-le-length}
+use Rattle.std.proofs.lemmas.List.Sums.{prefix_len-le-length, sum_by-cons}
 use Rattle.std.proofs.lemmas.Option.{slice_get_past}
-use Rattle.std.specs.List.{prefix_len, last_or}
+use Rattle.std.specs.List.{prefix_len, last_or, count_by}
 use Rattle.std.specs.Ordering.{match_ordering}
 use Rattle.std.specs.declared.cmp.Ordering.{Ordering}
 use Rattle.std.specs.declared.cmp.Ordering.TheVariants.{Less, Equal, Greater}
@@ -254,3 +254,23 @@ nearer-last col ts n t g within read here e =
 -- what `last` reads of the front of a line
 pub read-last : (o : Option (Bor TokenRecord)) (front ts : List TokenRecord) (n : ℕ) → option_map (λ x. x.now) o ≡ slice_get front (length front - 1) → front ≡ take n ts → last (take n ts) ≡ option_map (λ x. x.now) o
 read-last o front ts n e d = sym (e ∙ sym (last_at front) ∙ ap last d)
+
+-- On a line whose columns do not go back, the tokens before a column are those at the front.
+before-none : (col : ℕ) (t : TokenRecord) (ts : List TokenRecord) → col ≤ t.dst_col → no_column_goes_back token_column (t ∷ ts) ≡ true → count_by (λ u. nat_lt u.dst_col col) ts ≡ 0
+before-none col t [] h g = refl
+before-none col t (u ∷ ts) h g =
+    let past : col ≤ u.dst_col = grind (arith, h, g) in
+    let no : nat_lt u.dst_col col ≡ false = grind (arith, past) in
+    let more = before-none col u ts past (goes_on token_column t (u ∷ ts) g) in
+    sum_by-cons (λ u. if nat_lt u.dst_col col then 1 else 0) u ts ∙ rw (no, more) refl
+
+before-counted_by : (b : Bool) (col : ℕ) (t : TokenRecord) (ts : List TokenRecord) → nat_lt t.dst_col col ≡ b → no_column_goes_back token_column (t ∷ ts) ≡ true
+    → count_by (λ u. nat_lt u.dst_col col) ts ≡ before col ts → count_by (λ u. nat_lt u.dst_col col) (t ∷ ts) ≡ before col (t ∷ ts)
+before-counted_by true col t ts is g more = sum_by-cons (λ u. if nat_lt u.dst_col col then 1 else 0) t ts ∙ rw (is, more) refl
+before-counted_by false col t ts is g more =
+    let none = before-none col t ts (grind (arith, is)) g in
+    sum_by-cons (λ u. if nat_lt u.dst_col col then 1 else 0) t ts ∙ rw (is, none) refl
+
+pub before-counted : (col : ℕ) (ts : List TokenRecord) → no_column_goes_back token_column ts ≡ true → count_by (λ u. nat_lt u.dst_col col) ts ≡ before col ts
+before-counted col [] g = refl
+before-counted col (t ∷ ts) g = before-counted_by (nat_lt t.dst_col col) col t ts refl g (before-counted col ts (goes_on token_column t ts g))

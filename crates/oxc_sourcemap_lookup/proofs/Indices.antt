@@ -3,7 +3,7 @@ use Rattle.std.proofs.Common.{◌≡◌, refl, sym, ap, ◌∙◌, ℕ, zero, su
 use Rattle.std.proofs.Common.{true, false, List, [], ◌∷◌, length, slice_get}
 use Rattle.std.proofs.Common.{Option, Some, None, option_map, nat_lt, ◌==◌, ◌≢◌, arith}
 use Rattle.std.proofs.Common.{if◌then◌else◌, get_or}
-use Rattle.std.proofs.lemmas.Option.{slice_get_read}
+use Rattle.std.proofs.lemmas.Option.{slice_get_read, slice_get_past}
 use Rattle.std.specs.Option.{option_or}
 use Rattle.oxc_sourcemap_tokens.specs.Token.{TokenRecord}
 use Rattle.oxc_sourcemap_parts.specs.Sorted.{token_column}
@@ -169,3 +169,28 @@ pub column-from : (ts : List TokenRecord) (n col : ℕ) (t : TokenRecord) → 0 
 column-from ts n col t some within read count le =
     let most = at-most-by (nat_lt t.dst_col (col + 1)) ts n col t refl some within read count in
     column-of ts n col t some within read (omega (arith, le, most))
+
+-- what is found on a line that has tokens, by how many of them are before the column, and whether the one after these is at it
+few-at : (b : Bool) (col n : ℕ) (t : TokenRecord) (ts : List TokenRecord) → (t.dst_col == col) ≡ b → n < length ts
+    → option_or (index_here_or col n (Some t) (index_before n)) (index_within ts 0) ≡ Some (n + (if b then 1 else 0) - 1)
+few-at true col n t ts e h = let same : n ≡ n + 1 - 1 = omega arith in rw e (ap Some same)
+few-at false col zero t ts e h = let some : nat_lt 0 (length ts) ≡ true = grind (arith, h) in rw (e, some) refl
+few-at false col (suc n) t ts e h =
+    let same : suc n - 1 ≡ suc n + 0 - 1 = omega arith in
+    let back : nat_lt 0 (suc n) ≡ true = grind arith in
+    rw (e, back) (ap Some same)
+
+pub found-here : (col n : ℕ) (t : TokenRecord) (ts : List TokenRecord) → no_column_goes_back token_column ts ≡ true → n ≡ cut token_column col ts → n < length ts → t ≡ get_or ts n t
+    → clamped_index_at ts col ≡ Some (n + (if t.dst_col == col then 1 else 0) - 1)
+found-here col n t ts g count h is =
+    let there : slice_get ts n ≡ Some t = slice_get_read ts (length ts) n t refl h is in
+    index-clamped col ts ∙ ap (λ o. option_or o (index_within ts 0)) (index-at col n ts g count (omega (arith, h)) ∙ ap (λ o. index_here_or col n o (index_before n)) there)
+    ∙ few-at (t.dst_col == col) col n t ts refl h
+
+pub found-last : (col n : ℕ) (ts : List TokenRecord) → no_column_goes_back token_column ts ≡ true → n ≡ cut token_column col ts → n ≡ length ts → 0 < n
+    → clamped_index_at ts col ≡ Some (n - 1)
+found-last col n ts g count all h =
+    let past : slice_get ts n ≡ None = slice_get_past ts n (omega (arith, all)) in
+    let some : nat_lt 0 n ≡ true = grind (arith, h) in
+    index-clamped col ts ∙ ap (λ o. option_or o (index_within ts 0)) (index-at col n ts g count (omega (arith, all)) ∙ ap (λ o. index_here_or col n o (index_before n)) past)
+    ∙ rw some refl

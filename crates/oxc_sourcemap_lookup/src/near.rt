@@ -1,8 +1,8 @@
 //! Lookups that begin where the one before ended. Next to each other, most tokens of a map lead to tokens that are close
 //! to each other.
 ghost use Rattle.std.specs.Prelude.{◌≡◌, ◌+◌, ◌<◌, ◌≤◌, [], length, true, Some, IfSome};
-ghost use Rattle.std.specs.Prelude.{IsNone};
-ghost use Rattle.std.specs.List.{Contains};
+ghost use Rattle.std.specs.Prelude.{IsNone, nat_lt};
+ghost use Rattle.std.specs.List.{Contains, count_by};
 ghost use Rattle.oxc_sourcemap_lookup.specs.Words.{IsIndexOf, on_line, token_line, token_column};
 ghost use Rattle.oxc_sourcemap_lookup.specs.Words.{no_column_goes_back, clamped_at};
 ghost use Rattle.oxc_sourcemap_lookup.specs.Words.{clamped_index_at};
@@ -11,7 +11,7 @@ use crate::line_index::LineIndex;
 use crate::lookup::search_index_clamped;
 use oxc_sourcemap_tokens::Token;
 
-/// Up to this many tokens on a line, halving the line takes less time than a look at where the last lookup ended.
+/// Up to this many tokens on a line, to compare all takes less time than to look where the last lookup ended, or to halve.
 const FEW: usize = 8;
 
 /// Where the last lookup ended. It changes no answer, and saves time where lookups are close to each other.
@@ -70,6 +70,32 @@ fn index_near(line: &[Token], col: u32, near: usize) -> Option<usize>
     index_after(line, before, col)
 }
 
+/// How many tokens of a line lie before a column, if its columns do not go back. All are compared, with no branch on what is
+/// found, which would often be mispredicted.
+fn count_in_few(line: &[Token], col: u32) -> usize
+    ensures { result ≡ count_by (λ t. nat_lt t.dst_col col) line.now }
+{
+    let mut count = 0;
+    for token in line {
+        count += usize::from(token.get_dst_col() < col);
+    }
+    count
+}
+
+/// As `search_index_clamped`, for a line of few tokens.
+fn index_in_few(line: &[Token], col: u32) -> Option<usize>
+    ensures found { no_column_goes_back token_column line.now ≡ true
+        → result ≡ clamped_index_at line.now col }
+    ensures within { IfSome result (λ i. i < length line.now) }
+    ensures clamped { IsNone result → line.now ≡ [] }
+{
+    let last = line.len().checked_sub(1)?;
+    let before = count_in_few(line, col);
+    let is_there = line[before.min(last)].get_dst_col() == col;
+    let end = before + usize::from(is_there);
+    Some(end.saturating_sub(1).min(last))
+}
+
 /// As `search_index_clamped`. On a line of more than a few tokens it looks first at the index `near`, and at those after it.
 fn index_from(line: &[Token], col: u32, near: usize) -> Option<usize>
     ensures found { no_column_goes_back token_column line.now ≡ true
@@ -77,10 +103,11 @@ fn index_from(line: &[Token], col: u32, near: usize) -> Option<usize>
     ensures within { IfSome result (λ i. i < length line.now) }
     ensures clamped { IsNone result → line.now ≡ [] }
 {
-    if line.len() > FEW {
-        if let Some(found) = index_near(line, col, near) {
-            return Some(found);
-        }
+    if line.len() <= FEW {
+        return index_in_few(line, col);
+    }
+    if let Some(found) = index_near(line, col, near) {
+        return Some(found);
     }
     search_index_clamped(line, col)
 }

@@ -30,6 +30,8 @@ pub use Rattle.oxc_sourcemap_tokens.specs.LineOrder.{IsInLineOrder}
 pub use Rattle.oxc_sourcemap_tokens.specs.Results.{Reports, Answers, lent_items, OnlyMemory}
 pub use Rattle.oxc_sourcemap_tokens.specs.Results.{lent_item}
 pub use Rattle.oxc_sourcemap_tokens.specs.declared.error.Error.TheVariants.{OutOfMemory, TooLarge}
+pub use Rattle.oxc_sourcemap_tokens.specs.declared.plan_error.PlanError.TheVariants.{Map, Unsorted}
+pub use Rattle.oxc_sourcemap_simplify.specs.Simplified.{simplification}
 pub use mir.Syntax.{static}
 pub use Rattle.oxc_sourcemap_map.specs.View.{view_of, seen_in, view_original, content_at}
 pub use Rattle.oxc_sourcemap_map.specs.View.{source_and_content_at, view_name, view_source}

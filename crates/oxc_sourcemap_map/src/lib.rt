@@ -6,6 +6,7 @@ mod compose;
 mod lookup;
 mod owned_sourcemap;
 mod remap;
+mod simplify;
 mod source_view_token;
 mod sourcemap;
 mod view_tokens;

@@ -14,12 +14,13 @@ ghost use Rattle.oxc_sourcemap_map.specs.Words.{map_row, Answers, OnlyMemory, Re
 ghost use Rattle.oxc_sourcemap_map.specs.Words.{lent_item, appended, rooted, at_or_after};
 ghost use Rattle.oxc_sourcemap_map.specs.Words.{token_after, index_for, clamped_index_for};
 ghost use Rattle.oxc_sourcemap_map.specs.Words.{index_after, sorted_map, place, pieces_of, DoCover};
+ghost use Rattle.oxc_sourcemap_map.specs.Words.{Map, Unsorted, simplification};
 ghost use Rattle.oxc_sourcemap_map.specs.Words.{IfBothSorted, HaveSameTraceEverywhere};
 ghost use Rattle.oxc_sourcemap_map.specs.Words.{IsFirstDifference};
 ghost use Rattle.std.specs.Prelude.{IsOk};
 ghost use Rattle.std.specs.Prelude.{◌≡◌, ◌≢◌, List, [], map, option_map, slice_get, string_bytes};
 ghost use Rattle.std.specs.Prelude.{IfOk, IfErr, IfSome, IsNone, Ok, Err, Some, OnOk, OnErr, ◌↔◌};
-ghost use Rattle.std.specs.Prelude.{true, ◌<◌, length};
+ghost use Rattle.std.specs.Prelude.{true, false, ◌<◌, length};
 ghost use Rattle.std.specs.Borrow.{Lends, sem};
 ghost use Rattle.std.specs.Iterator.{IsFinite, Drains};
 ghost use Rattle.std.specs.List.{Contains};
@@ -31,7 +32,7 @@ use crate::view_tokens::ViewTokens;
 use oxc_sourcemap_json::JSONSourceMap;
 use oxc_sourcemap_parts::{Contents, Names, SourceMapParts, Sources, Tokens};
 use oxc_sourcemap_pieces::Pieces;
-use oxc_sourcemap_tokens::{Position, Result, Token};
+use oxc_sourcemap_tokens::{PlanError, Position, Result, Token};
 use std::alloc::Global;
 use std::convert::AsStr;
 use std::marker::Model;
@@ -226,6 +227,17 @@ impl OwnedSourceMap {
         ensures no_memory { are_tokens_sorted self.old.tokens ≡ true → IsOk result }
     {
         self.inner.sort(alloc)
+    }
+
+    /// Simplifies this map, as `SourceMap::simplify` does, with its errors: the map is then as it was.
+    pub fn simplify(&mut self, alloc: Global) -> std::result::Result<(), PlanError>
+        ensures simplified { OnOk result (simplification self.old ≡ Ok self.new) }
+        ensures error { IfErr result (λ e. (e ≢ Map OutOfMemory)
+            → simplification self.old ≡ Err e) }
+        ensures unchanged { OnErr result (self.new ≡ self.old) }
+        ensures unsorted { are_tokens_sorted self.old.tokens ≡ false → result ≡ Err Unsorted }
+    {
+        self.inner.simplify(alloc)
     }
 
     /// The indices of third-party sources, which debuggers may skip.

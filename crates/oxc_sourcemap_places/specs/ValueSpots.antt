@@ -1,9 +1,11 @@
--- Where a JSON value that is no map has its first fault, in the order of `shape` and then of the fields that it gives.
-use Rattle.std.specs.Prelude.{◌≡◌, ℕ, ◌+◌, Bool, true, length, codes, Option, Some}
-use Rattle.std.specs.Prelude.{None, Result, Ok, Err, if◌then◌else◌, is_some, nat_le, position, ⊤}
+-- Where a JSON value has its first fault: by itself in the order of `shape` and then of the fields that it gives, with sections in
+-- that of `section_after`.
+use Rattle.std.specs.Prelude.{◌≡◌, ℕ, ◌+◌, Bool, true, List, [], ◌∷◌, ◌++◌, length, codes}
+use Rattle.std.specs.Prelude.{Option, Some, None, Result, Ok, Err, if◌then◌else◌, is_some, nat_le}
+use Rattle.std.specs.Prelude.{position, ⊤}
 use Rattle.std.specs.Option.{option_map, option_and_then, option_or}
 use Rattle.serde_json.specs.Data.{Data, Items, no_items, item}
-use Rattle.serde_json.specs.Find.{get, as_str, as_array}
+use Rattle.serde_json.specs.Find.{get, as_str, as_array, as_object}
 use Rattle.oxc_sourcemap_tokens.specs.declared.error.Error.{Error}
 use Rattle.oxc_sourcemap_tokens.specs.declared.error.Error.TheVariants.{BadJson}
 use Rattle.oxc_sourcemap_tokens.specs.declared.error.JsonFault.{JsonFault}
@@ -14,10 +16,21 @@ use Rattle.oxc_sourcemap_tokens.specs.declared.error.Field.TheVariants.{Names, I
 use Rattle.oxc_sourcemap_tokens.specs.declared.error.Field.TheVariants.{GoogleIgnoreList}
 use Rattle.oxc_sourcemap_tokens.specs.declared.error.Field.TheVariants.{Version as VersionField}
 use Rattle.oxc_sourcemap_tokens.specs.declared.error.Field.TheVariants.{Map as MapField}
+use Rattle.oxc_sourcemap_tokens.specs.declared.error.Field.TheVariants.{Object}
+use Rattle.oxc_sourcemap_tokens.specs.declared.error.Field.TheVariants.{Offset as OffsetField}
 use Rattle.oxc_sourcemap_tokens.specs.declared.error.Field.TheVariants.{Sections as SectionsField}
 use Rattle.oxc_sourcemap_mappings.specs.SegmentPlaces.{fault_place}
 use Rattle.oxc_sourcemap_json.specs.Json.{JsonRecord}
-use Rattle.oxc_sourcemap_json.specs.Shape.{as_content, as_id, present, shape}
+use Rattle.oxc_sourcemap_json.specs.Shape.{◌>>=◌, as_content, as_id, shape}
+use Rattle.oxc_sourcemap_json.specs.Shape.{file_of}
+use Rattle.oxc_sourcemap_tokens.specs.declared.position.Position.{Position}
+use Rattle.oxc_sourcemap_parts.specs.Record.{MapRecord}
+use Rattle.oxc_sourcemap_join.specs.Joined.{joined}
+use Rattle.oxc_sourcemap_decode.specs.Decoded.{decoded}
+use Rattle.oxc_sourcemap_decode.specs.JoinLimits.{is_map_within_limits}
+use Rattle.oxc_sourcemap_decode.specs.ReadMap.{sections_in}
+use Rattle.oxc_sourcemap_decode.specs.Section.{is_indexed, as_plain}
+use Rattle.oxc_sourcemap_decode.specs.Sections.{place_after, section_map}
 use Rattle.oxc_sourcemap_places.specs.declared.fault_place.FaultPlace.{FaultPlace}
 use Rattle.oxc_sourcemap_places.specs.declared.fault_place.FaultSpot.{FaultSpot}
 use Rattle.oxc_sourcemap_places.specs.declared.fault_place.FaultSpot.TheVariants.{Segment, Member}
@@ -51,15 +64,15 @@ entry_or_member field (Some index) = Entry field index
 abbrev pub member_spot : Field → Data → FaultSpot
 member_spot field d = entry_or_member field (option_and_then (bad_entry field) (get (name_of field) d))
 
--- where a value has this fault
-abbrev pub json_spot : Data → JsonFault → Option FaultSpot
-json_spot d Reading = None
-json_spot d (Shape field) = Some (member_spot field d)
-json_spot d (Version n) = Some (Member VersionField)
+-- where a value has this fault of its shape; there are no others
+abbrev pub json_spot : Data → JsonFault → FaultSpot
+json_spot d Reading = Member Object
+json_spot d (Shape field) = member_spot field d
+json_spot d (Version n) = Member VersionField
 
-abbrev pub shape_spot : Data → Error → Option FaultSpot
+abbrev pub shape_spot : Data → Error → FaultSpot
 shape_spot d (BadJson fault) = json_spot d fault
-shape_spot d error = None
+shape_spot d error = Member Object
 
 -- the entry of the ignore list that is no source
 abbrev pub ignored_spot : JsonRecord → Option FaultSpot
@@ -75,47 +88,68 @@ fields_spot j = option_or (ignored_spot j) (mappings_spot j)
 
 abbrev pub spot_in : Data → Result JsonRecord Error → Option FaultSpot
 spot_in d (Ok fields) = fields_spot fields
-spot_in d (Err error) = shape_spot d error
+spot_in d (Err error) = Some (shape_spot d error)
 
 -- where a value, as a map by itself, has its first fault
 unfoldable pub value_spot : Data → Option FaultSpot
 value_spot d = spot_in d (shape d)
 
+-- such a map, or its first fault
+abbrev pub read_alone : Data → Result MapRecord Error
+read_alone d = shape d >>= decoded
+
 -- ---- with the sections of an indexed map
 
--- the sections of an indexed map: a member that is there and is not null
-abbrev pub sections_of : Data → Option Data
-sections_of d = present (get (codes "sections") d)
+-- the map of a section, if it is an object that is no indexed map
+abbrev pub plain_map : Data → Option Data
+plain_map d = option_and_then as_plain (get (codes "map") d)
 
--- where the map of a section has its first fault: it must be there, and be no indexed map itself
+-- where that has its first fault; if it is none, at the member
 abbrev pub map_spot : Option Data → Option FaultSpot
 map_spot None = Some (Member MapField)
-map_spot (Some d) = if is_some (sections_of d) then Some (Member MapField) else value_spot d
-
-abbrev pub section_spot : Data → Option FaultSpot
-section_spot d = map_spot (get (codes "map") d)
+map_spot (Some d) = value_spot d
 
 -- a place in this section, or in a text without sections
 abbrev pub place_in : Option ℕ → FaultSpot → FaultPlace
 place_in section spot = record { text = None; section = section; spot = spot }
 
--- the place of the first section whose map has a fault, of sections from this number on
-abbrev pub first_place : ℕ → Items → Option FaultPlace
-first_place k no_items = None
-first_place k (item d ds) = option_or (option_map (place_in (Some k)) (section_spot d)) (first_place (k + 1) ds)
+-- where the map of section `k` has its first fault
+abbrev pub map_place : ℕ → Data → Option FaultPlace
+map_place k d = option_map (place_in (Some k)) (map_spot (plain_map d))
 
--- the sections have to be a list
-abbrev pub list_place : Option Items → Option FaultPlace
-list_place None = Some (place_in None (Member SectionsField))
-list_place (Some ds) = first_place 0 ds
+-- where section `k` is at fault by its offset, which is missing, misshapen or out of order: at that, or at the section if it is no
+-- object
+abbrev pub offset_place : ℕ → Data → FaultPlace
+offset_place k d = if is_some (as_object d) then place_in (Some k) (Member OffsetField) else place_in None (Entry SectionsField k)
 
-abbrev pub place_of : Option Data → Data → Option FaultPlace
-place_of None d = option_map (place_in None) (value_spot d)
-place_of (Some sections) d = list_place (as_array sections)
+-- where the map of section `k` makes the join pass a limit
+abbrev pub limit_place : ℕ → FaultPlace
+limit_place k = place_in (Some k) (Member MapField)
 
--- Where a value has its first fault: as a map by itself, or in the map of the first section that has one by itself.
+-- what follows a step that gave a value, or the place of its fault
+abbrev pub or_place : {A : Type 0} → Result A Error → (Error → Option FaultPlace) → (A → Option FaultPlace) → Option FaultPlace
+or_place (Ok x) place next = next x
+or_place (Err fault) place next = place fault
+
+-- The place of the first fault of these sections, after those in front of them: of each section its offset, its map, and the limits
+-- of the join up to it.
+abbrev pub sections_place : List (MapRecord × Position) → Items → Option FaultPlace
+sections_place front no_items = None
+sections_place front (item d ds) =
+    or_place (place_after front d) (λ fault. Some (offset_place (length front) d)) (λ place.
+    or_place (section_map d) (λ fault. map_place (length front) d) (λ m.
+    if is_map_within_limits (joined (front ++ (m, place) ∷ [])) then sections_place (front ++ (m, place) ∷ []) ds
+    else Some (limit_place (length front))))
+
+-- the place of the first fault of an indexed map: of its version and its file, then of its list of sections, then of these
+abbrev pub indexed_place : Data → Option FaultPlace
+indexed_place d =
+    or_place (file_of d) (λ fault. Some (place_in None (shape_spot d fault))) (λ file.
+    or_place (sections_in d) (λ fault. Some (place_in None (Member SectionsField))) (sections_place []))
+
+-- where a value has its first fault, as an indexed map or as a map by itself
 unfoldable pub value_place : Data → Option FaultPlace
-value_place d = place_of (sections_of d) d
+value_place d = if is_indexed d then indexed_place d else option_map (place_in None) (value_spot d)
 
 -- a place at which a text is not JSON
 abbrev pub IsReadingSpot : FaultSpot → Type 0

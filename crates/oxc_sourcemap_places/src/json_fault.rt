@@ -1,7 +1,9 @@
 //! Where a JSON text has its first fault.
-ghost use Rattle.std.specs.Prelude.{◌≡◌, ◌+◌, ◌≤◌, length, IfOk, Some, None, IsSomeAnd};
+ghost use Rattle.std.specs.Prelude.{◌≡◌, ◌+◌, ◌≤◌, length, IfOk, Some, None, IsSomeAnd, is_some};
+ghost use Rattle.std.specs.Result.{is_err};
 ghost use Rattle.serde_json.specs.Data.{Data};
 ghost use Rattle.oxc_sourcemap_places.specs.Words.{value_place, read, OnlyMemory, IsReading};
+ghost use Rattle.oxc_sourcemap_places.specs.Words.{read_map};
 
 use crate::fault_place::{FaultPlace, FaultSpot};
 use crate::value_fault::value_fault_at;
@@ -41,8 +43,8 @@ fn reading_place(text: &str, error: &serde_json::Error) -> FaultPlace
 }
 
 /// Where a JSON text has its first fault. If it is not JSON, the place that the reader gives: that of the token that it cannot
-/// read, or of what follows one that may not stand there. Else the place that `value_fault_at` gives. None if there is no fault. Fails only with
-/// `OutOfMemory`.
+/// read, or of what follows one that may not stand there. Else the place that `value_fault_at` gives. None exactly if `decode_from_string` reads
+/// the text. Fails only with `OutOfMemory`.
 ///
 /// ```rust
 /// use oxc_sourcemap::{FaultSpot, json_fault_at};
@@ -54,6 +56,7 @@ pub fn json_fault_at(alloc: Global, text: &str) -> Result<Option<FaultPlace>>
     ensures json { (d : Data) → read text.now ≡ Some d
         → IfOk result (λ place. place ≡ value_place d) }
     ensures reading { read text.now ≡ None → IfOk result (λ place. IsSomeAnd place IsReading) }
+    ensures found { IfOk result (λ place. is_some place ≡ is_err (read_map text.now)) }
     ensures error { OnlyMemory result }
 {
     match Value::from_str(alloc, text) {

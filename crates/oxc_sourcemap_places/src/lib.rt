@@ -3,6 +3,8 @@
 
 mod fault_place;
 mod json_fault;
+mod map_fault;
+mod section_fault;
 mod value_fault;
 
 pub use fault_place::{FaultPlace, FaultSpot};

@@ -3,6 +3,7 @@ pub mod KnownNames
 pub mod Decoding
 pub mod Realizing
 pub mod Remapping
+pub mod Simplifying
 pub mod Meanings
 pub mod Reading
 pub mod Parts

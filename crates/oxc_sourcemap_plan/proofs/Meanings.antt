@@ -16,7 +16,7 @@ use Rattle.oxc_sourcemap_plan.specs.Meaning.{said_meaning, sorted_said_meaning}
 use Rattle.oxc_sourcemap_plan.specs.Outcome.{sorted_outcome}
 use Rattle.oxc_sourcemap_plan.specs.Meaning.{root_meaning, all_decoded_maps, join_meaning}
 use Rattle.oxc_sourcemap_plan.specs.Meaning.{composition_meaning, by_path, all_inputs}
-use Rattle.oxc_sourcemap_plan.specs.Meaning.{remap_meaning}
+use Rattle.oxc_sourcemap_plan.specs.Meaning.{remap_meaning, simplified_meaning}
 use Rattle.oxc_sourcemap_plan.specs.Outcome.{Outcome, outcome_step, outcome_of, outcome, too_deep}
 use Rattle.oxc_sourcemap_plan.specs.Outcome.{read_outcome, meanings, input_meanings}
 
@@ -60,6 +60,7 @@ same (Plan-F.Read text) = of-text (said_in text.now)
 same (Plan-F.ReadSorted text) = of-sorted_text (said_in text.now)
 same (Plan-F.Rewrite part) = part.value.1
 same (Plan-F.ApplyRoot part) = ap root_meaning part.value.1
+same (Plan-F.Simplify part) = ap simplified_meaning part.value.1
 same (Plan-F.Join parts) = ap (λ ms. join_meaning (all_decoded_maps ms)) (of-lines parts.items)
 same (Plan-F.JoinAt parts) = ap (λ ms. join_meaning (all_decoded_maps ms)) (of-positions parts.items)
 same (Plan-F.Compose first second) = ap (λ m. composition_meaning m (outcome_of second.value.0).meaning) first.value.1 ∙ ap (composition_meaning (meaning_of first.value.0)) second.value.1

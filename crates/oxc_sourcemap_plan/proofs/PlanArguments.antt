@@ -9,13 +9,13 @@ use Rattle.std.proofs.lemmas.Bool.{false_from_ne_true}
 use Rattle.std.proofs.lemmas.List.{append_assoc, append-nil}
 use Rattle.std.specs.List.{slice_get}
 use Rattle.std.proofs.lemmas.Bool.Decides.{nat_tests}
-use Rattle.oxc_sourcemap_decode.specs.ReadMap.{said_in}
 use Rattle.oxc_sourcemap_plan.specs.Numbers.{number_of}
 use Rattle.oxc_sourcemap_plan.specs.Depth.{deepest}
 use Rattle.oxc_sourcemap_tokens.specs.declared.position.Position.{Position}
 use Rattle.oxc_sourcemap_plan.specs.declared.run_error.RunError.{RunError}
 use Rattle.oxc_sourcemap_plan.specs.declared.run_error.RunError.TheVariants.{Arguments, NoText}
-use Rattle.oxc_sourcemap_plan.specs.Outcome.{Outcome, read_outcome, rewrite_outcome, root_outcome}
+use Rattle.oxc_sourcemap_plan.specs.Outcome.{Outcome, rewrite_outcome, root_outcome}
+use Rattle.oxc_sourcemap_plan.specs.Outcome.{simplified_outcome}
 use Rattle.oxc_sourcemap_plan.specs.Outcome.{join_outcome, composition_outcome, remap_outcome}
 use Rattle.oxc_sourcemap_plan.specs.PlanArguments.{Parsed, whole, then_parsed, parsed_number}
 use Rattle.oxc_sourcemap_plan.specs.PlanArguments.{parsed_line, parsed_position, text_or_fault}
@@ -70,15 +70,19 @@ module _ (inputs : List Text) (part : List Text → Parsed Outcome) (argument : 
   pub named-root : argument ≡ codes "root" → parsed_by inputs part argument arguments ≡ then_parsed (part arguments) (λ o left. Ok (root_outcome o, left))
   named-root e = ap (λ w. parsed_by inputs part w arguments) e
 
+  pub named-simplify : argument ≡ codes "simplify" → parsed_by inputs part argument arguments ≡ then_parsed (part arguments) (λ o left. Ok (simplified_outcome o, left))
+  named-simplify e = ap (λ w. parsed_by inputs part w arguments) e
+
   pub named-remap : argument ≡ codes "remap" → parsed_by inputs part argument arguments ≡ parsed_remapping part arguments
   named-remap e = ap (λ w. parsed_by inputs part w arguments) e
 
   pub named-sort : argument ≡ codes "sort" → parsed_by inputs part argument arguments ≡ parsed_sort inputs arguments
   named-sort e = ap (λ w. parsed_by inputs part w arguments) e
 
-  pub named-text : (argument ≡ codes "rewrite" → ⊥) → (argument ≡ codes "root" → ⊥) → (argument ≡ codes "join" → ⊥) → (argument ≡ codes "joinat" → ⊥) → (argument ≡ codes "compose" → ⊥) → (argument ≡ codes "remap" → ⊥) → (argument ≡ codes "sort" → ⊥)
+  pub named-text : (argument ≡ codes "rewrite" → ⊥) → (argument ≡ codes "root" → ⊥) → (argument ≡ codes "simplify" → ⊥) → (argument ≡ codes "join" → ⊥) → (argument ≡ codes "joinat" → ⊥) → (argument ≡ codes "compose" → ⊥) → (argument ≡ codes "remap" → ⊥) → (argument ≡ codes "sort" → ⊥)
       → parsed_by inputs part argument arguments ≡ with_rest (parsed_input inputs argument) arguments
-  named-text a b c d e f g = rw (differ argument (codes "rewrite") a, differ argument (codes "root") b, differ argument (codes "join") c, differ argument (codes "joinat") d, differ argument (codes "compose") e, differ argument (codes "remap") f, differ argument (codes "sort") g) refl
+  named-text a b s c d e f g =
+      rw (differ argument (codes "rewrite") a, differ argument (codes "root") b, differ argument (codes "simplify") s, differ argument (codes "join") c, differ argument (codes "joinat") d, differ argument (codes "compose") e, differ argument (codes "remap") f, differ argument (codes "sort") g) refl
 
 -- ---- items, as far as they have come
 module _ {A : Type 0} (item : List Text → Parsed A) where

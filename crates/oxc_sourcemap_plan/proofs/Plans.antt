@@ -19,8 +19,9 @@ use Rattle.oxc_sourcemap_plan.specs.Meaning.{by_path}
 use Rattle.oxc_sourcemap_plan.specs.Outcome.{Outcome, outcome_of, outcomes, outcome_step}
 use Rattle.oxc_sourcemap_plan.specs.Outcome.{read_outcome, rewrite_outcome, root_outcome}
 use Rattle.oxc_sourcemap_plan.specs.Outcome.{join_outcome, composition_outcome, remap_outcome}
-use Rattle.oxc_sourcemap_plan.specs.Outcome.{input_outcomes, sorted_outcome}
+use Rattle.oxc_sourcemap_plan.specs.Outcome.{input_outcomes, sorted_outcome, simplified_outcome}
 use Rattle.oxc_sourcemap_plan.specs.declared.plan.Plan.TheVariants.{ReadSorted, rolls-ReadSorted}
+use Rattle.oxc_sourcemap_plan.specs.declared.plan.Plan.TheVariants.{Simplify, rolls-Simplify}
 
 firsts : {A B C : Type 0} (f : A → C) (parts : List (A × B)) → map (λ (p : C × B). p.0) (map (λ (p : A × B). (f p.0, p.1)) parts) ≡ map (λ p. f p.0) parts
 firsts f [] = refl
@@ -79,6 +80,9 @@ outcome_rewrite p = ap outcome_of (sym (rolls-Rewrite p)) ∙ fold-roll-Plan Out
 
 pub outcome_root : (p : Box Plan Global) → outcome_of (ApplyRoot p) ≡ root_outcome (outcome_of p.value)
 outcome_root p = ap outcome_of (sym (rolls-ApplyRoot p)) ∙ fold-roll-Plan Outcome outcome_step (Plan-F.ApplyRoot p)
+
+pub outcome_simplified : (p : Box Plan Global) → outcome_of (Simplify p) ≡ simplified_outcome (outcome_of p.value)
+outcome_simplified p = ap outcome_of (sym (rolls-Simplify p)) ∙ fold-roll-Plan Outcome outcome_step (Plan-F.Simplify p)
 
 seconds : {A B C : Type 0} (f : A → C) (parts : List (B × A)) → map (λ (p : B × C). p.1) (map (λ (p : B × A). (p.0, f p.1)) parts) ≡ map (λ p. f p.1) parts
 seconds f [] = refl

@@ -19,7 +19,7 @@ use Rattle.oxc_sourcemap_plan.specs.PlanArguments.{parsed_join_part, parsed_path
 use Rattle.oxc_sourcemap_plan.specs.PlanArguments.{parsed_items, parsed_list, parsed_rewrite}
 use Rattle.oxc_sourcemap_plan.specs.PlanArguments.{parsed_root, parsed_join, parsed_composition}
 use Rattle.oxc_sourcemap_plan.specs.PlanArguments.{parsed_remapping, parsed_by, parsed_part, whole}
-use Rattle.oxc_sourcemap_plan.specs.PlanArguments.{parsed_plan}
+use Rattle.oxc_sourcemap_plan.specs.PlanArguments.{parsed_plan, parsed_simplification}
 
 -- a failed read or write
 abbrev pub is_of_port : RunError → Bool
@@ -119,6 +119,9 @@ module _ (part : List Text → Parsed Outcome) (h : (arguments : List Text) → 
   root : (arguments : List Text) → IsNotOfPort (parsed_root part arguments)
   root arguments = after (part arguments) _ (h arguments) (λ o left. tt)
 
+  simplification : (arguments : List Text) → IsNotOfPort (parsed_simplification part arguments)
+  simplification arguments = after (part arguments) _ (h arguments) (λ o left. tt)
+
   rewrite : (arguments : List Text) → IsNotOfPort (parsed_rewrite part arguments)
   rewrite arguments = after (part arguments) _ (h arguments) (λ o left. tt)
 
@@ -129,11 +132,12 @@ module _ (part : List Text → Parsed Outcome) (h : (arguments : List Text) → 
   by_argument inputs argument rest =
       either (bytes_eq argument (codes "rewrite")) _ _ (rewrite rest)
       (either (bytes_eq argument (codes "root")) _ _ (root rest)
+      (either (bytes_eq argument (codes "simplify")) _ _ (simplification rest)
       (either (bytes_eq argument (codes "join")) _ _ (join false rest)
       (either (bytes_eq argument (codes "joinat")) _ _ (join true rest)
       (either (bytes_eq argument (codes "compose")) _ _ (composition rest)
       (either (bytes_eq argument (codes "remap")) _ _ (remapping rest)
-      (either (bytes_eq argument (codes "sort")) _ _ (sort inputs rest) (left_over (parsed_input inputs argument) rest (input inputs argument))))))))
+      (either (bytes_eq argument (codes "sort")) _ _ (sort inputs rest) (left_over (parsed_input inputs argument) rest (input inputs argument)))))))))
 
 part : (inputs : List Text) (levels : ℕ) (arguments : List Text) → IsNotOfPort (parsed_part inputs levels arguments)
 part inputs zero [] = refl

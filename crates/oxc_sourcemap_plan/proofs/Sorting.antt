@@ -1,8 +1,8 @@
 -- What reading and sorting a text gives.
-use Rattle.std.proofs.Common.{◌≡◌, ℕ, suc, Bool, true, false, cond, ◌≤◌, List, [], ◌∷◌, ◌++◌}
+use Rattle.std.proofs.Common.{◌≡◌, ℕ, suc, Bool, true, false, cond, List, [], ◌∷◌, ◌++◌}
 use Rattle.std.proofs.Common.{length}
-use Rattle.std.proofs.Common.{map, refl, sym, ap, ◌∙◌, subst, arith, inl, inr, Option, Some, None}
-use Rattle.std.proofs.Common.{Result, Ok, Err, ◌≢◌}
+use Rattle.std.proofs.Common.{refl, sym, ap, ◌∙◌, subst, arith, inl, inr, Option, None}
+use Rattle.std.proofs.Common.{Ok, Err, ◌≢◌}
 use Rattle.std.specs.Bool.{Decides}
 use Rattle.std.specs.List.{AllByRecursion}
 use Rattle.std.specs.Option.{IfSome}
@@ -14,16 +14,16 @@ use Rattle.oxc_sourcemap_tokens.specs.declared.error.Error.{Error}
 use Rattle.oxc_sourcemap_tokens.specs.declared.error.Error.TheVariants.{OutOfMemory, TooLarge}
 use Rattle.oxc_sourcemap_tokens.specs.Errors.{unless}
 use Rattle.oxc_sourcemap_tokens.specs.Chunks.{ChunksFit}
-use Rattle.oxc_sourcemap_tokens.specs.Token.{TokenRecord, IsInBounds, AreInBounds}
+use Rattle.oxc_sourcemap_tokens.specs.Token.{IsInBounds, AreInBounds}
 use Rattle.oxc_sourcemap_parts.specs.Record.{Text, MapRecord}
 use Rattle.oxc_sourcemap_parts.specs.Sorted.{may_precede, are_tokens_sorted, token_line}
 use Rattle.oxc_sourcemap_parts.specs.Sorted.{token_column}
 use Rattle.oxc_sourcemap_parts.specs.Sound.{IsInRange, AreIdsInRange, IsSound}
-use Rattle.oxc_sourcemap_parts.specs.DecodedMap.{DecodedMapping, DecodedMap, decoded_map_of}
+use Rattle.oxc_sourcemap_parts.specs.DecodedMap.{DecodedMap, decoded_map_of}
 use Rattle.oxc_sourcemap_parts.specs.DecodedMap.{mapping_line, mapping_column, mapping_of}
 use Rattle.oxc_sourcemap_parts.specs.DecodedMap.{sources_of}
 use Rattle.oxc_sourcemap_tokens.specs.declared.position.Position.{Position}
-use Rattle.oxc_sourcemap_join.specs.Joined.{joined, IsWithinLimits}
+use Rattle.oxc_sourcemap_join.specs.Joined.{joined}
 use Rattle.oxc_sourcemap_decode.specs.Sections.{Sections, joined_sections}
 use Rattle.oxc_sourcemap_decode.specs.JoinLimits.{is_map_within_limits}
 use Rattle.oxc_sourcemap_decode.specs.ReadMap.{Said, plain, indexed, indexed_record, map_said}
@@ -36,17 +36,15 @@ use Rattle.oxc_sourcemap_laws.specs.JoinLaws.{decoded_maps_of}
 use Rattle.oxc_sourcemap_laws.proofs.DroppingRepeats.{IsBlind, up_to_repeats_by}
 use Rattle.oxc_sourcemap_laws.proofs.DroppingRepeats.{blind_without_repeats, blind_after_list}
 use Rattle.oxc_sourcemap_laws.proofs.Same.{decides_entry}
-use Rattle.oxc_sourcemap_laws.proofs.Sections.{all-in-range, from-sections, joined-of}
-use Rattle.oxc_sourcemap_laws.proofs.UpToRepeats.{Matches, matches, up_to_repeats}
+use Rattle.oxc_sourcemap_laws.proofs.Sections.{from-sections, joined-of}
+use Rattle.oxc_sourcemap_laws.proofs.UpToRepeats.{matches, up_to_repeats}
 use Rattle.oxc_sourcemap_sort.specs.Sorting.{put_in, sorted_by, sorted_tokens, sorted_map}
 use Rattle.oxc_sourcemap_sort.specs.Sorting.{sorted_decoded_map}
 use Rattle.oxc_sourcemap_sort.proofs.Sorting.{precedes, sorted-once}
 use Rattle.oxc_sourcemap_sort.proofs.Lookups.{decoded-sorted}
 use Rattle.oxc_sourcemap_tokens.specs.declared.plan_error.PlanError.TheVariants.{Map}
-use Rattle.oxc_sourcemap_plan.specs.Limits.{is_part_within_limits}
-use Rattle.oxc_sourcemap_plan.specs.Meaning.{sorted_read_meaning}
-use Rattle.oxc_sourcemap_plan.specs.Outcome.{read_outcome, sorted_outcome, sorted_plain_outcome}
-use Rattle.oxc_sourcemap_plan.specs.Outcome.{sections_outcome, sorted_sections_outcome}
+use Rattle.oxc_sourcemap_plan.specs.Outcome.{sorted_outcome, sorted_plain_outcome}
+use Rattle.oxc_sourcemap_plan.specs.Outcome.{sorted_sections_outcome}
 use Rattle.oxc_sourcemap_plan.specs.Outcome.{names_of_sections}
 use Rattle.oxc_sourcemap_plan.specs.Evaluated.{are_among}
 use Rattle.oxc_sourcemap_plan.specs.Realizes.{Realizes, FailsAs}

@@ -11,7 +11,7 @@ use Rattle.oxc_sourcemap_tokens.specs.declared.plan_error.PlanError.TheVariants.
 use Rattle.oxc_sourcemap_join.specs.Joined.{at_lines}
 use Rattle.oxc_sourcemap_plan.specs.Meaning.{Meaning}
 use Rattle.oxc_sourcemap_plan.specs.Outcome.{Outcome, plain_outcome, rewrite_outcome, join_outcome}
-use Rattle.oxc_sourcemap_plan.specs.Outcome.{sorted_plain_outcome}
+use Rattle.oxc_sourcemap_plan.specs.Outcome.{sorted_plain_outcome, simplified_outcome}
 use Rattle.oxc_sourcemap_plan.specs.Outcome.{root_outcome, composition_outcome, remap_outcome}
 
 -- a token: generated line and column, source line and column, source id, name id
@@ -144,3 +144,22 @@ with_src r = record r { source_root = Some (codes "src") }
 roots : entries_of (lines_outcome ((root_outcome (of_map (with_src second_map)), 0) ∷ (of_map (with_src second_map), 1) ∷ [])).meaning
     ≡ points 0 0 (codes "src/b.js") 7 1 None ∷ points 1 0 (codes "b.js") 7 1 None ∷ []
 roots = refl
+
+-- simplify @0, of a map in which a token points where the one before it points: it goes, and the source that none needs
+abbrev repeating : MapRecord
+repeating = plain [] (codes "a.js" ∷ codes "b.js" ∷ []) (token 0 0 5 3 (Some 0) None ∷ token 0 4 5 3 (Some 0) None ∷ token 0 6 5 4 (Some 0) None ∷ [])
+
+simplifies : entries_of (simplified_outcome (of_map repeating)).meaning ≡ points 0 0 (codes "a.js") 5 3 None ∷ points 0 6 (codes "a.js") 5 4 None ∷ []
+simplifies = refl
+
+counts-sources : (simplified_outcome (of_map repeating)).contents ≡ 1
+counts-sources = refl
+
+-- a token that moves past the last column
+no-room-to-move : (simplified_outcome (of_map (plain [] (codes "a.js" ∷ [])
+    (token 0 0 5 3 (Some 0) None ∷ token 0 4294967295 5 3 (Some 0) None ∷ token 0 4294967295 5 4 (Some 0) None ∷ [])))).is_within_limits ≡ false
+no-room-to-move = refl
+
+-- simplify @0, of a map whose columns go back
+simplifies-unsorted : (simplified_outcome (of_map going_back)).meaning ≡ Err Unsorted
+simplifies-unsorted = refl

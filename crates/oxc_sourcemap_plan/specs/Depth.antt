@@ -15,6 +15,7 @@ depth_step (Plan-F.Read text) = 1
 depth_step (Plan-F.ReadSorted text) = 1
 depth_step (Plan-F.Rewrite part) = part.value + 1
 depth_step (Plan-F.ApplyRoot part) = part.value + 1
+depth_step (Plan-F.Simplify part) = part.value + 1
 depth_step (Plan-F.Join parts) = deepest (map (λ p. p.0) parts.items) + 1
 depth_step (Plan-F.JoinAt parts) = deepest (map (λ p. p.0) parts.items) + 1
 depth_step (Plan-F.Compose first second) = max first.value second.value + 1

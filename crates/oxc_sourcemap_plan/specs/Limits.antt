@@ -25,6 +25,12 @@ abbrev pub is_part_within_limits : List Text → Meaning → Bool
 is_part_within_limits names (Err e) = true
 is_part_within_limits names (Ok s) = are_counts_within_limits names s
 
+-- A simplified map with these names and this meaning is within the limits: a token that moves to the next column may pass the last
+-- one. A part that means an error counts nothing.
+abbrev pub is_simplified_within_limits : List Text → Meaning → Bool
+is_simplified_within_limits names (Err e) = true
+is_simplified_within_limits names (Ok s) = are_counts_within_limits names s && are_positions_within_limits s.mappings
+
 -- a join of these decoded maps, with these names, is within the limits; it counts even if it is not sorted
 abbrev pub is_join_within_limits : List Text → Result (List (DecodedMap × Position)) PlanError → Bool
 is_join_within_limits names (Err e) = true

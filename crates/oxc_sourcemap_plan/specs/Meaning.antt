@@ -17,6 +17,7 @@ use Rattle.oxc_sourcemap_laws.specs.JoinLaws.{decoded_maps_of}
 use Rattle.oxc_sourcemap_laws.specs.ComposedDecodedMaps.{composed_decoded_maps}
 use Rattle.oxc_sourcemap_laws.specs.RemappedDecodedMaps.{remapped_decoded_map}
 use Rattle.oxc_sourcemap_laws.specs.RootedDecodedMaps.{rooted_decoded_map}
+use Rattle.oxc_sourcemap_simplify.specs.Simplified.{simplified_decoded_map}
 use Rattle.oxc_sourcemap_tokens.specs.declared.plan_error.PlanError.{PlanError}
 use Rattle.oxc_sourcemap_tokens.specs.declared.plan_error.PlanError.TheVariants.{Map, Unsorted}
 use Rattle.oxc_sourcemap_tokens.specs.declared.plan_error.PlanError.TheVariants.{TooDeep}
@@ -71,6 +72,11 @@ abbrev pub root_meaning : Meaning → Meaning
 root_meaning (Err e) = Err e
 root_meaning (Ok s) = Ok (rooted_decoded_map s)
 
+-- the meaning of a step that simplifies: the simplified decoded map of its part
+abbrev pub simplified_meaning : Meaning → Meaning
+simplified_meaning (Err e) = Err e
+simplified_meaning (Ok s) = Ok (simplified_decoded_map s)
+
 -- a decoded map at its offset, before others; or the first error
 abbrev pub onto_decoded_maps : Meaning → Position → Result (List (DecodedMap × Position)) PlanError
     → Result (List (DecodedMap × Position)) PlanError
@@ -123,6 +129,7 @@ meaning_step (Plan-F.Read text) = text_meaning text.now
 meaning_step (Plan-F.ReadSorted text) = sorted_text_meaning text.now
 meaning_step (Plan-F.Rewrite part) = part.value
 meaning_step (Plan-F.ApplyRoot part) = root_meaning part.value
+meaning_step (Plan-F.Simplify part) = simplified_meaning part.value
 meaning_step (Plan-F.Join parts) = join_meaning (all_decoded_maps (at_lines parts.items))
 meaning_step (Plan-F.JoinAt parts) = join_meaning (all_decoded_maps (at_positions parts.items))
 meaning_step (Plan-F.Compose first second) = composition_meaning first.value second.value

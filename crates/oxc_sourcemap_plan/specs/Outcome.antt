@@ -11,6 +11,7 @@ use Rattle.oxc_sourcemap_parts.specs.DecodedMap.{DecodedMap}
 use Rattle.oxc_sourcemap_laws.specs.MapLaws.{rewritten}
 use Rattle.oxc_sourcemap_lookup.specs.Composed.{composed}
 use Rattle.oxc_sourcemap_remap.specs.Remapped.{remapped}
+use Rattle.oxc_sourcemap_simplify.specs.Simplified.{simplified}
 use Rattle.oxc_sourcemap_sort.specs.Sorting.{sorted_map}
 use Rattle.oxc_sourcemap_tokens.specs.declared.position.Position.{Position}
 use Rattle.oxc_sourcemap_join.specs.Joined.{at_lines, at_positions, joined}
@@ -26,8 +27,10 @@ use Rattle.oxc_sourcemap_plan.specs.Depth.{depth}
 use Rattle.oxc_sourcemap_plan.specs.Meaning.{Meaning, read_meaning, indexed_meaning, root_meaning}
 use Rattle.oxc_sourcemap_plan.specs.Meaning.{all_decoded_maps, join_meaning, composition_meaning}
 use Rattle.oxc_sourcemap_plan.specs.Meaning.{by_path, all_inputs, remap_meaning}
+use Rattle.oxc_sourcemap_plan.specs.Meaning.{simplified_meaning}
 use Rattle.oxc_sourcemap_plan.specs.Meaning.{sorted_read_meaning, sorted_indexed_meaning}
 use Rattle.oxc_sourcemap_plan.specs.Limits.{is_part_within_limits, is_join_within_limits}
+use Rattle.oxc_sourcemap_plan.specs.Limits.{is_simplified_within_limits}
 
 pub record Outcome : Type 0 where
   -- a decoded map, or the first error
@@ -36,12 +39,13 @@ pub record Outcome : Type 0 where
   pub map_record : Option MapRecord
   -- the names of all texts that are read
   pub names : List Text
-  -- how many contents the map has at most: as many as the text that is read, as the join or the remapping has sources, or as the
-  -- second part of the composition
+  -- how many contents the map has at most: as many as the text that is read, as the join, the remapping or the simplified map has
+  -- sources, or as the second part of the composition
   pub contents : ℕ
-  -- No part has more than 4294967295 names, sources or mappings, and no join a line or column above that. A join counts what all
-  -- its parts have; a composition the names of both, the sources of the second and the mappings of the first; a remapping the
-  -- names of all its parts, the sources of the remapped map and the mappings of the first. A part that means an error counts
+  -- No part has more than 4294967295 names, sources or mappings, and no join and no simplified map a line or column above that. A
+  -- join counts what all its parts have; a composition the names of both, the sources of the second and the mappings of the
+  -- first; a remapping the names of all its parts, the sources of the remapped map and the mappings of the first; a simplified
+  -- map the names of its part, and its own sources and mappings. A part that means an error counts
   -- nothing; but a join whose parts mean none counts, sorted or not, and an indexed map counts as the join of its
   -- sections in front of the first fault, whatever it means.
   pub is_within_limits : Bool
@@ -129,6 +133,21 @@ abbrev pub root_outcome : Outcome → Outcome
 root_outcome part =
     record part { meaning = root_meaning part.meaning; map_record = option_map rooted part.map_record; is_rewritten = false }
 
+-- how many sources a decoded map has; none if an error is meant
+abbrev pub source_count : Meaning → ℕ
+source_count (Err e) = 0
+source_count (Ok s) = length s.sources
+
+-- the outcome of a step that simplifies
+abbrev pub simplified_outcome : Outcome → Outcome
+simplified_outcome part = record part {
+  meaning = simplified_meaning part.meaning;
+  map_record = option_map simplified part.map_record;
+  contents = source_count (simplified_meaning part.meaning);
+  is_within_limits = part.is_within_limits && is_simplified_within_limits part.names (simplified_meaning part.meaning);
+  is_rewritten = false;
+}
+
 -- what the parts of a join mean, each at its offset
 abbrev pub meanings : List (Outcome × Position) → List (Meaning × Position)
 meanings parts = map (λ p. (p.0.meaning, p.1)) parts
@@ -189,11 +208,6 @@ input_names inputs = flat_map (λ p. p.1.names) inputs
 abbrev pub are_inputs_within_limits : List (Text × Outcome) → Bool
 are_inputs_within_limits inputs = list_all (λ p. p.1.is_within_limits) inputs
 
--- how many sources a decoded map has; none if an error is meant
-abbrev pub source_count : Meaning → ℕ
-source_count (Err e) = 0
-source_count (Ok s) = length s.sources
-
 -- what a remapping of these means
 abbrev pub remapped_meaning : Outcome → List (Text × Outcome) → Meaning
 remapped_meaning first inputs = remap_meaning first.meaning (all_inputs (input_meanings inputs))
@@ -215,6 +229,7 @@ outcome_step (Plan-F.Read text) = read_outcome (said_in text.now)
 outcome_step (Plan-F.ReadSorted text) = sorted_outcome (said_in text.now)
 outcome_step (Plan-F.Rewrite part) = rewrite_outcome part.value
 outcome_step (Plan-F.ApplyRoot part) = root_outcome part.value
+outcome_step (Plan-F.Simplify part) = simplified_outcome part.value
 outcome_step (Plan-F.Join parts) = join_outcome (at_lines parts.items)
 outcome_step (Plan-F.JoinAt parts) = join_outcome (at_positions parts.items)
 outcome_step (Plan-F.Compose first second) = composition_outcome first.value second.value

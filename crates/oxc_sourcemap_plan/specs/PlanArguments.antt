@@ -12,7 +12,7 @@ use Rattle.oxc_sourcemap_plan.specs.declared.run_error.RunError.TheVariants.{Pla
 use Rattle.oxc_sourcemap_plan.specs.declared.run_error.RunError.TheVariants.{NoText}
 use Rattle.oxc_sourcemap_plan.specs.Numbers.{number_of}
 use Rattle.oxc_sourcemap_plan.specs.Outcome.{Outcome, read_outcome, rewrite_outcome, root_outcome}
-use Rattle.oxc_sourcemap_plan.specs.Outcome.{sorted_outcome}
+use Rattle.oxc_sourcemap_plan.specs.Outcome.{sorted_outcome, simplified_outcome}
 use Rattle.oxc_sourcemap_plan.specs.Outcome.{join_outcome, composition_outcome, remap_outcome}
 
 -- what was read of the first arguments, and the arguments that are left
@@ -119,6 +119,10 @@ parsed_rewrite part rest = then_parsed (part rest) (λ o left. Ok (rewrite_outco
 abbrev pub parsed_root : (List Text → Parsed Outcome) → List Text → Parsed Outcome
 parsed_root part rest = then_parsed (part rest) (λ o left. Ok (root_outcome o, left))
 
+-- `simplify P`
+abbrev pub parsed_simplification : (List Text → Parsed Outcome) → List Text → Parsed Outcome
+parsed_simplification part rest = then_parsed (part rest) (λ o left. Ok (simplified_outcome o, left))
+
 -- N, and N times a part with its offset: the rest of `join` and of `joinat`
 abbrev pub parsed_join : (List Text → Parsed Outcome) → (List Text → Parsed Position) → List Text → Parsed Outcome
 parsed_join part offset rest = then_parsed (parsed_list (parsed_join_part part offset) rest) (λ parts left. Ok (join_outcome parts, left))
@@ -139,6 +143,7 @@ abbrev pub parsed_by : List Text → (List Text → Parsed Outcome) → Text →
 parsed_by inputs part argument rest =
     if bytes_eq argument (codes "rewrite") then parsed_rewrite part rest
     else if bytes_eq argument (codes "root") then parsed_root part rest
+    else if bytes_eq argument (codes "simplify") then parsed_simplification part rest
     else if bytes_eq argument (codes "join") then parsed_join part (parsed_beginning false) rest
     else if bytes_eq argument (codes "joinat") then parsed_join part (parsed_beginning true) rest
     else if bytes_eq argument (codes "compose") then parsed_composition part rest

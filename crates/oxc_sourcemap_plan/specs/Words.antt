@@ -15,7 +15,7 @@ pub use Rattle.oxc_sourcemap_plan.specs.Meaning.{meaning, by_path}
 pub use Rattle.oxc_sourcemap_plan.specs.Numbers.{number_of}
 pub use Rattle.oxc_sourcemap_plan.specs.Outcome.{Outcome, read_outcome, rewrite_outcome}
 pub use Rattle.oxc_sourcemap_plan.specs.Outcome.{root_outcome, join_outcome, composition_outcome}
-pub use Rattle.oxc_sourcemap_plan.specs.Outcome.{sorted_outcome}
+pub use Rattle.oxc_sourcemap_plan.specs.Outcome.{sorted_outcome, simplified_outcome}
 pub use Rattle.oxc_sourcemap_plan.specs.Outcome.{remap_outcome, outcome_of, outcomes}
 pub use Rattle.oxc_sourcemap_plan.specs.Outcome.{input_outcomes, outcome, is_within_limits}
 pub use Rattle.oxc_sourcemap_plan.specs.PlanArguments.{parsed_number, parsed_beginning}

@@ -1,4 +1,4 @@
-//! Plans: pipelines of reading, rewriting, joining, composing and remapping maps and of applying source roots.
+//! Plans: pipelines of reading, rewriting, simplifying, joining, composing and remapping maps and of applying source roots.
 //! `evaluate_to_parts` makes the map that a plan means, and `read_plan` reads a plan from words. Part of `oxc_sourcemap`.
 #![tactic(auto)]
 

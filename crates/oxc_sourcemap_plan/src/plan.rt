@@ -1,8 +1,8 @@
-//! Plans: pipelines of reading, rewriting, joining, composing and remapping maps and of applying source roots, and their
-//! evaluation.
+//! Plans: pipelines of reading, rewriting, simplifying, joining, composing and remapping maps and of applying source roots, and
+//! their evaluation.
 ghost use Rattle.std.specs.Prelude.{◌≡◌, ◌≤◌, ◌↔◌, ◌⊎◌, List, true, false, IsTrue, IfOk, IfErr};
 ghost use Rattle.oxc_sourcemap_plan.specs.Words.{Text, Position, depth, Outcome, read_outcome};
-ghost use Rattle.oxc_sourcemap_plan.specs.Words.{sorted_outcome};
+ghost use Rattle.oxc_sourcemap_plan.specs.Words.{sorted_outcome, simplified_outcome};
 ghost use Rattle.oxc_sourcemap_plan.specs.Words.{rewrite_outcome, root_outcome, join_outcome};
 ghost use Rattle.oxc_sourcemap_plan.specs.Words.{composition_outcome, remap_outcome, by_path};
 ghost use Rattle.oxc_sourcemap_plan.specs.Words.{outcome_of, outcomes, input_outcomes, outcome};
@@ -18,11 +18,12 @@ use oxc_sourcemap_encode::encode_owned_parts;
 use oxc_sourcemap_join::join_owned_parts;
 use oxc_sourcemap_laws::{
     canonical_unique, composition_associative, dropping_harmless, remapping_associative,
-    rooting_idempotent,
+    rooting_idempotent, simplifying_stands,
 };
 use oxc_sourcemap_lookup::compose_parts;
 use oxc_sourcemap_parts::{SourceMapParts, apply_root, are_sorted};
 use oxc_sourcemap_remap::remap_owned_parts;
+use oxc_sourcemap_simplify::{simplify_parts, simplifying_harmless};
 use oxc_sourcemap_sort::sort_parts;
 use oxc_sourcemap_tokens::{PlanError, Position};
 use std::alloc::Global;
@@ -49,6 +50,8 @@ pub enum Plan<'t> {
     Rewrite(Box<Plan<'t>>),
     /// Put the source root of the map of a part before each of its sources; the map has none then.
     ApplyRoot(Box<Plan<'t>>),
+    /// Simplify the map of a part: its traces stay, and it has no more tokens, names and sources than they need.
+    Simplify(Box<Plan<'t>>),
     /// Join the maps of parts, each at the line of the joined code where its code begins, at column 0. Source roots are dropped.
     Join(Vec<(Plan<'t>, u32)>),
     /// Join the maps of parts, each at the line and the column of the joined code where its code begins. Source roots are
@@ -74,6 +77,7 @@ fn is_within_depth(plan: &Plan<'_>, room: u32) -> bool
         Plan::ReadSorted(_) => true,
         Plan::Rewrite(part) => is_within_depth(part, room - 1),
         Plan::ApplyRoot(part) => is_within_depth(part, room - 1),
+        Plan::Simplify(part) => is_within_depth(part, room - 1),
         Plan::Join(parts) => {
             for (part, _) in parts {
                 if !is_within_depth(part, room - 1) {
@@ -204,6 +208,24 @@ fn put_root(
     Ok(map)
 }
 
+/// A map, simplified.
+#[inline(never)]
+fn simplify(
+    alloc: Global,
+    map: SourceMapParts<'static>,
+) -> Result<SourceMapParts<'static>, PlanError>
+    ensures map { IfOk result (λ m. (o : Outcome) → PartsRealize map.entry o
+        → PartsRealize m (simplified_outcome o)) }
+    ensures error { IfErr result (λ e. (o : Outcome) → PartsRealize map.entry o
+        → FailsAs e (simplified_outcome o)) }
+{
+    simplifying_harmless();
+    simplifying_stands();
+    let mut map = map;
+    simplify_parts(alloc, &mut map)?;
+    Ok(map)
+}
+
 /// A map, led on through inputs.
 #[inline(never)]
 fn remap(
@@ -236,6 +258,7 @@ fn evaluate_part(alloc: Global, plan: &Plan<'_>) -> Result<SourceMapParts<'stati
         Plan::ReadSorted(text) => read_sorted(alloc, text),
         Plan::Rewrite(part) => evaluate_rewrite(alloc, part),
         Plan::ApplyRoot(part) => evaluate_root(alloc, part),
+        Plan::Simplify(part) => evaluate_simplification(alloc, part),
         Plan::Join(parts) => evaluate_join(alloc, parts.as_slice()),
         Plan::JoinAt(parts) => evaluate_join_at(alloc, parts.as_slice()),
         Plan::Compose(first, second) => evaluate_composition(alloc, first, second),
@@ -263,6 +286,21 @@ fn evaluate_root(alloc: Global, part: &Plan<'_>) -> Result<SourceMapParts<'stati
 {
     let map = evaluate_part(alloc, part)?;
     put_root(alloc, map)
+}
+
+/// The map of a part, simplified.
+#[cycle(evaluation)]
+#[inline(never)]
+fn evaluate_simplification(
+    alloc: Global,
+    part: &Plan<'_>,
+) -> Result<SourceMapParts<'static>, PlanError>
+    ensures map { IfOk result (λ map. PartsRealize map
+        (simplified_outcome (outcome_of part.now))) }
+    ensures error { IfErr result (λ e. FailsAs e (simplified_outcome (outcome_of part.now))) }
+{
+    let map = evaluate_part(alloc, part)?;
+    simplify(alloc, map)
 }
 
 /// The join of the maps of parts, each at its line.

@@ -177,6 +177,10 @@ fn read_part<'t>(
             let (part, rest) = read_part(alloc, inputs, others, room - 1)?;
             Ok((Plan::ApplyRoot(Box::new(alloc, part)?), rest))
         }
+        "simplify" => {
+            let (part, rest) = read_part(alloc, inputs, others, room - 1)?;
+            Ok((Plan::Simplify(Box::new(alloc, part)?), rest))
+        }
         "join" => read_join(alloc, inputs, others, room - 1, false),
         "joinat" => read_join(alloc, inputs, others, room - 1, true),
         "compose" => {
@@ -274,9 +278,9 @@ fn read_remapping<'t>(
     Ok((Plan::Remap(Box::new(alloc, first)?, parts), rest))
 }
 
-/// The plan of these arguments, over these inputs: `@K` for input K (from 0), `sort @K`, `rewrite P`, `root P`, `join N` followed
-/// by N times `P LINE`, `joinat N` followed by N times `P LINE COLUMN`, `compose P P`, or `remap P N` followed by N times `PATH P`,
-/// where PATH is any argument, taken as it is; each number as `read_number` reads it.
+/// The plan of these arguments, over these inputs: `@K` for input K (from 0), `sort @K`, `rewrite P`, `root P`, `simplify P`,
+/// `join N` followed by N times `P LINE`, `joinat N` followed by N times `P LINE COLUMN`, `compose P P`, or `remap P N` followed by
+/// N times `PATH P`, where PATH is any argument, taken as it is; each number as `read_number` reads it.
 ///
 /// Arguments are read from the left, and the first fault is the error:
 /// - `Plan(TooDeep)` for an argument where a part at depth 65 would begin;

@@ -17,13 +17,14 @@ use Rattle.oxc_sourcemap_parts.specs.DecodedMap.{decoded_map_of}
 use Rattle.oxc_sourcemap_parts.specs.Record.{Text, MapRecord}
 use Rattle.oxc_sourcemap_parts.specs.Views.{cow_texts, text_of, record_of_parts}
 use Rattle.oxc_sourcemap_lookup.specs.Composed.{Target}
-use Rattle.oxc_sourcemap_remap.specs.Blocks.{is_listed, sources_by, sources_for, remapped_sources}
+use Rattle.oxc_sourcemap_remap.specs.Blocks.{is_listed, listed_flags, flags_of, sources_by}
+use Rattle.oxc_sourcemap_remap.specs.Blocks.{sources_for, remapped_sources}
 use Rattle.oxc_sourcemap_remap.specs.Blocks.{marked_from, marked_sources, marked_by, marked_for}
 use Rattle.oxc_sourcemap_remap.specs.Blocks.{ignored_from, unless_empty, remapped_ignore_list}
 use Rattle.oxc_sourcemap_remap.specs.Inputs.{input_for, decoded_inputs}
 use Rattle.oxc_sourcemap_remap.specs.Remapped.{listed_sources, input_of, original_by, block_start}
 use Rattle.oxc_sourcemap_remap.specs.Remapped.{original_at, original}
-use Rattle.oxc_sourcemap_remap.specs.Bodies.{record_of_input, listed_flags, flags_of, IsFor}
+use Rattle.oxc_sourcemap_remap.specs.Bodies.{record_of_input, IsFor}
 use Rattle.oxc_sourcemap_remap.specs.Bodies.{block_sources, block_input, HasSources, IsBlock}
 use Rattle.oxc_sourcemap_remap.specs.Bodies.{AreBlocksFrom, AreBlocks, HasInput, IsUsable}
 use Rattle.oxc_sourcemap_remap.specs.Bodies.{AreUsable, block_of, block_original, set_from}

@@ -1,10 +1,10 @@
 -- The sources of a remapped map: for each source of the first map a block, the source itself or all sources of its input. Said of
 -- decoded maps, so that it is one definition for maps and for what they mean.
 use Rattle.std.specs.Prelude.{ℕ, ◌+◌, Bool, false, List, [], ◌∷◌, Option, Some, None, if◌then◌else◌}
-use Rattle.std.specs.Prelude.{◌==◌}
-use Rattle.std.specs.List.{flat_map, list_any}
+use Rattle.std.specs.Prelude.{◌==◌, map, length}
+use Rattle.std.specs.List.{flat_map, list_any, range_with_len}
 use Rattle.oxc_sourcemap_parts.specs.DecodedMap.{DecodedSource, DecodedMap}
-use Rattle.oxc_sourcemap_parts.specs.Record.{Text}
+use Rattle.oxc_sourcemap_parts.specs.Record.{Text, MapRecord}
 use Rattle.oxc_sourcemap_remap.specs.Inputs.{input_for}
 
 -- what stands for a source with this input, or with none
@@ -23,6 +23,14 @@ remapped_sources inputs sources = flat_map (sources_for inputs) sources
 abbrev pub is_listed : Option (List ℕ) → ℕ → Bool
 is_listed None i = false
 is_listed (Some ids) i = list_any (λ id. id == i) ids
+
+-- for each index below a number, whether an ignore list has it
+abbrev pub listed_flags : Option (List ℕ) → ℕ → List Bool
+listed_flags ignore_list n = map (is_listed ignore_list) (range_with_len 0 n)
+
+-- whether each source of a map is ignored
+abbrev pub flags_of : MapRecord → List Bool
+flags_of a = listed_flags a.ignore_list (length a.sources)
 
 -- Each source with whether it is ignored; the first one has this index.
 abbrev pub marked_from : ℕ → List DecodedSource → Option (List ℕ) → List (DecodedSource × Bool)

@@ -3,7 +3,7 @@ use Rattle.std.specs.Prelude.{◌≡◌, ℕ, ◌+◌, ◌≤◌, Bool, List, []
 use Rattle.std.specs.Prelude.{slice_get, Option, Some, None, option_map, if◌then◌else◌}
 use Rattle.std.specs.Borrow.{Bor}
 use Rattle.std.specs.Box.{boxed_slice_items}
-use Rattle.std.specs.List.{AllByRecursion, range_with_len, flat_map}
+use Rattle.std.specs.List.{AllByRecursion, flat_map}
 use Rattle.std.specs.Option.{option_and_then}
 use Rattle.oxc_sourcemap_tokens.specs.LineOrder.{first_out_of_order}
 use Rattle.oxc_sourcemap_tokens.specs.Token.{TokenRecord}
@@ -14,7 +14,7 @@ use Rattle.oxc_sourcemap_parts.specs.Views.{cow_texts, text_of, record_of_parts}
 use Rattle.oxc_sourcemap_lookup.specs.Composed.{Target}
 use Rattle.oxc_sourcemap_lookup.specs.Inherited.{HasPlaces}
 use Rattle.oxc_sourcemap_lookup.specs.LineSpans.{IsIndexOf}
-use Rattle.oxc_sourcemap_remap.specs.Blocks.{sources_for, is_listed, marked_sources, marked_for}
+use Rattle.oxc_sourcemap_remap.specs.Blocks.{flags_of, sources_for, marked_sources, marked_for}
 use Rattle.oxc_sourcemap_remap.specs.Blocks.{unless_empty}
 use Rattle.oxc_sourcemap_remap.specs.Inputs.{input_for, decoded_inputs}
 use Rattle.oxc_sourcemap_remap.specs.Remapped.{listed_sources, Original, original_by, IsTargetBy}
@@ -34,14 +34,6 @@ ready_records ready = map (λ input. (input.path.now, record_of_input input)) re
 -- the paths of inputs
 abbrev pub input_paths : List Input → List Text
 input_paths ready = map (λ input. input.path.now) ready
-
--- for each index below a number, whether an ignore list has it
-abbrev pub listed_flags : Option (List ℕ) → ℕ → List Bool
-listed_flags ignore_list n = map (is_listed ignore_list) (range_with_len 0 n)
-
--- whether each source of a map is ignored
-abbrev pub flags_of : MapRecord → List Bool
-flags_of a = listed_flags a.ignore_list (length a.sources)
 
 -- an input that is ready has the index of its lines, and whether each of its sources is ignored
 pub record IsReady (input : Input) : Type 0 where

@@ -10,8 +10,9 @@ pub use Rattle.oxc_sourcemap_parts.specs.Views.{record_of_parts}
 pub use Rattle.oxc_sourcemap_lookup.specs.Composed.{Target, target_of}
 pub use Rattle.oxc_sourcemap_lookup.specs.Inherited.{HasPlaces}
 pub use Rattle.oxc_sourcemap_lookup.specs.InheritedNames.{with_inherited}
-pub use Rattle.oxc_sourcemap_remap.specs.Blocks.{remapped_sources, unless_empty}
-pub use Rattle.oxc_sourcemap_remap.specs.Bodies.{ready_records, input_paths, listed_flags, flags_of}
+pub use Rattle.oxc_sourcemap_remap.specs.Blocks.{listed_flags, flags_of, remapped_sources}
+pub use Rattle.oxc_sourcemap_remap.specs.Blocks.{unless_empty}
+pub use Rattle.oxc_sourcemap_remap.specs.Bodies.{ready_records, input_paths}
 pub use Rattle.oxc_sourcemap_remap.specs.Bodies.{IsReady, AreReady, IsFor, block_sources}
 pub use Rattle.oxc_sourcemap_remap.specs.Bodies.{HasSources, AreBlocks, IsUsable, AreUsable}
 pub use Rattle.oxc_sourcemap_remap.specs.Bodies.{block_of, lent_block, block_original}

@@ -36,8 +36,8 @@ fn set_flags(flags: &mut Vec<bool>, ids: &[u32])
     }
 }
 
-/// Whether each source of a map is ignored.
-pub(crate) fn ignored_flags(alloc: Global, map: &SourceMapParts<'_>) -> Memory<Vec<bool>>
+/// Whether each source of a map is ignored. Fails only for want of memory.
+pub fn ignored_flags(alloc: Global, map: &SourceMapParts<'_>) -> Memory<Vec<bool>>
     ensures { IfOk result (λ flags. flags.items ≡ flags_of (record_of_parts map.now)) }
 {
     let mut flags = Vec::with_capacity(alloc, map.sources.len())?;

@@ -10,5 +10,6 @@ mod owned;
 mod remap;
 
 pub use as_parts::AsParts;
+pub use inputs::ignored_flags;
 pub use owned::remap_owned_parts;
 pub use remap::remap_parts;

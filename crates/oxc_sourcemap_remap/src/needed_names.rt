@@ -52,6 +52,8 @@ fn set_hint(hints: &mut Vec<u32>, own_id: u32, id: u32) {
 }
 
 /// The id of a name, by hashing: that of the equal one, else that of a new last one.
+// It is rare: inlined, it takes the registers of the loop over tokens.
+#[cold]
 fn place_name<'m>(needed: &mut NeededNames<'m>, name: &'m str) -> Result<u32>
     requires { ArePlaced needed.old }
     ensures names { OnOk result (names_in needed.new ≡ with_text (names_in needed.old) name.now) }

@@ -4,4 +4,19 @@ pub mod Keeping
 pub mod Order
 pub mod Unique
 pub mod Traces
+pub mod NeededPlaces
+pub mod Means
+pub mod Sound
+pub mod Twice
+pub mod Fewer
+pub mod Codes
+pub mod NextNumbers
+pub mod Found
+pub mod Listed
+pub mod Tables
+pub mod Assembled
+pub mod Moved
+pub mod FirstOnes
+pub mod Needed
+pub mod Kept
 mod Worked

@@ -6,10 +6,11 @@
 //!     smap trace LINE COL < bundle.js.map
 //!     smap url < bundle.js.map
 //!
-//! An error is printed on standard error after `smap: `, and the status is then 2 for bad arguments and 1 for all else.
+//! An error is printed on standard error after `smap: `, and the status is then 2 for bad arguments and 1 for all else. After
+//! `smap --where` a second line tells the place of the fault in the input, if the error has one.
 #![tactic(auto)]
 
-use smap_run::{Port, RunError, read_words, run};
+use smap_run::{Failure, Port, RunError, read_words, run, run_where, take_where};
 use std::alloc::AllocError;
 use std::env;
 use std::io::ErrorKind;
@@ -29,19 +30,27 @@ fn arguments_of(rt: &HostRuntime) -> Result<Vec<String>, RunError> {
     Ok(arguments)
 }
 
-fn smap(rt: &HostRuntime) -> Result<(), RunError> {
+fn smap(rt: &HostRuntime) -> Result<(), Failure> {
     let arguments = arguments_of(rt)?;
-    let command = read_words(arguments.as_slice())?;
+    let (is_where, words) = take_where(arguments.as_slice());
+    let command = read_words(words)?;
     let mut reader = Port::new(rt.stdin());
     let mut writer = Port::new(rt.stdout());
-    run(rt.alloc(), &command, &mut reader, &mut writer)
+    if is_where {
+        return run_where(rt.alloc(), &command, &mut reader, &mut writer);
+    }
+    run(rt.alloc(), &command, &mut reader, &mut writer)?;
+    Ok(())
 }
 
 fn main(rt: HostRuntime) -> ExitCode {
     match smap(&rt) {
         Ok(()) => ExitCode::SUCCESS,
-        Err(error) => {
+        Err(Failure { error, place }) => {
             let _ = eprintln!(rt; "smap: {error}");
+            if let Some(place) = place {
+                let _ = eprintln!(rt; "{place}");
+            }
             ExitCode::from(error.status())
         }
     }

@@ -1,3 +1,4 @@
+pub mod Located
 pub mod Texts
 pub mod Maps
 pub mod Pieces

@@ -1,5 +1,6 @@
 -- The arguments after the program's name, and their command.
-use Rattle.std.specs.Prelude.{ℕ, List, [], ◌∷◌, codes, Option, Some, None, if◌then◌else◌}
+use Rattle.std.specs.Prelude.{ℕ, Bool, true, false, List, [], ◌∷◌, codes, Option, Some, None}
+use Rattle.std.specs.Prelude.{if◌then◌else◌}
 use Rattle.std.specs.Option.{option_map, option_zip}
 use Rattle.std.specs.Str.{bytes_eq}
 use Rattle.oxc_sourcemap_plan.specs.Numbers.{number_of}
@@ -30,3 +31,8 @@ parsed_command name arguments =
 abbrev pub command_of : List (List ℕ) → Option Request
 command_of [] = None
 command_of (name ∷ arguments) = if bytes_eq name (codes "plan") then Some (Plan arguments) else parsed_command name arguments
+
+-- whether the first argument is `--where`, and the arguments after it
+abbrev pub taken_where : List (List ℕ) → Bool × List (List ℕ)
+taken_where [] = (false, [])
+taken_where (name ∷ arguments) = if bytes_eq name (codes "--where") then (true, arguments) else (false, name ∷ arguments)

@@ -13,6 +13,7 @@ pub use Rattle.oxc_sourcemap_plan.specs.PlanArguments.{parsed_plan}
 pub use Rattle.oxc_sourcemap_plan.specs.PlanInputs.{inputs_of}
 pub use Rattle.oxc_sourcemap_plan.specs.RunErrors.{out_of_memory}
 pub use Rattle.oxc_sourcemap_tokens.specs.Results.{Answers, OnlyMemory, Pushes, lent_item}
+pub use Rattle.oxc_sourcemap_tokens.specs.Results.{lent_items}
 pub use Rattle.smap_run.specs.Answer.{without_line_feed, mappings_answer, normalised}
 pub use Rattle.smap_run.specs.Answer.{normalised_url, IsPlanAnswer, IsPlanError, IsAnswer}
 pub use Rattle.smap_run.specs.Answer.{FailsWith, IsInput, AppendsBeginning}
@@ -21,3 +22,6 @@ pub use Rattle.smap_run.specs.Flags.{read_flag, write_flag}
 pub use Rattle.smap_run.specs.Request.{request_of}
 pub use Rattle.smap_run.specs.Traced.{number_part, name_part, original_text, trace_text, traced_of}
 pub use Rattle.smap_run.specs.Traced.{traced}
+pub use Rattle.smap_run.specs.Arguments.{taken_where}
+pub use Rattle.smap_run.specs.ErrorPlaces.{IsMappingsPlace, IsInputPlace, IsPlaceFor}
+pub use Rattle.oxc_sourcemap_plan_places.specs.PlanPlaces.{IsPlaceOf, IsTextPlace}

@@ -2,7 +2,7 @@
 ghost use Rattle.std.specs.Prelude.{◌≡◌, [], map, string_bytes, option_map, IfOk, IfErr, Option};
 ghost use Rattle.std.specs.Prelude.{Some, None};
 ghost use Rattle.smap_run.specs.Words.{request_of, two_numbers, without_arguments, parsed_command};
-ghost use Rattle.smap_run.specs.Words.{command_of};
+ghost use Rattle.smap_run.specs.Words.{command_of, taken_where};
 
 use oxc_sourcemap_plan::{RunError, read_number};
 
@@ -79,4 +79,15 @@ pub fn read_words<'w>(arguments: &'w [String]) -> Result<Command<'w>, RunError>
         return Ok(Command::Plan(arguments));
     }
     read_command(name.as_str(), arguments).ok_or(RunError::Arguments)
+}
+
+/// Whether the first of the program's arguments is `--where`, which asks for the place of an error, and the arguments after it.
+pub fn take_where<'w>(arguments: &'w [String]) -> (bool, &'w [String])
+    ensures { (result.0, map string_bytes result.1.now)
+        ≡ taken_where (map string_bytes arguments.now) }
+{
+    match arguments.split_first() {
+        Some((name, others)) if name.as_str() == "--where" => (true, others),
+        _ => (false, arguments),
+    }
 }

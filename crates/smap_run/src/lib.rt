@@ -2,12 +2,14 @@
 #![tactic(auto)]
 
 mod arguments;
+mod placing;
 mod port;
 mod running;
 mod tracing;
 
-pub use arguments::{Command, read_words};
+pub use arguments::{Command, read_words, take_where};
 pub use oxc_sourcemap_plan::{RunError, inputs_of, read_number, read_plan};
+pub use placing::{Failure, error_place, run_where};
 pub use port::Port;
 pub use running::run;
 pub use tracing::trace;

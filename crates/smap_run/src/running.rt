@@ -41,7 +41,7 @@ fn make_room(input: &mut Vec<u8>, used: usize) -> Result<(), AllocError>
 
 /// Reads up to the end, by a loop over `read`, into the vector that is returned, with no buffer between. Each byte of it is
 /// cleared once.
-fn read_all<R: Read>(alloc: Global, reader: &mut Port<R>) -> Result<Vec<u8>, RunError>
+pub(crate) fn read_all<R: Read>(alloc: Global, reader: &mut Port<R>) -> Result<Vec<u8>, RunError>
     ensures bytes { IfOk result (λ input. IfSome (R.remaining reader.old.inner)
         (λ all. input.items ≡ all)) }
     ensures flag { reader.old.failed ≡ false → IsErrOf result RunError.Read ↔
@@ -85,7 +85,7 @@ fn write_all<W: Write>(bytes: &[u8], writer: &mut Port<W>) -> Result<(), RunErro
 }
 
 /// A text without one line feed at its end.
-fn without_last_line_feed(text: &str) -> &str
+pub(crate) fn without_last_line_feed(text: &str) -> &str
     ensures { result.now ≡ without_line_feed text.now }
 {
     text.strip_suffix('\n').unwrap_or(text)

@@ -10,11 +10,13 @@ use Rattle.oxc_sourcemap_plan.specs.Depth.{depth}
 use Rattle.oxc_sourcemap_plan.specs.Meaning.{by_path}
 use Rattle.oxc_sourcemap_plan.specs.Outcome.{outcome_of, outcomes, join_outcome}
 use Rattle.oxc_sourcemap_plan.specs.Outcome.{composition_outcome, remap_outcome, input_outcomes}
+use Rattle.oxc_sourcemap_plan.specs.Outcome.{simplified_outcome}
 use Rattle.oxc_sourcemap_plan.specs.Realizes.{Realizes, FailsAs, AllRealize, InputsRealize}
 use Rattle.oxc_sourcemap_plan.proofs.Plans.{depth_join, depth_join_at, outcome_parts}
 use Rattle.oxc_sourcemap_plan.proofs.Plans.{outcome_parts_at, depth_remap, outcome_inputs}
 use Rattle.oxc_sourcemap_plan.proofs.Realizing.{second_fails}
 use Rattle.oxc_sourcemap_plan.proofs.Remapping.{remapped_fails}
+use Rattle.oxc_sourcemap_plan.proofs.Simplifying.{simplified_fails}
 use Rattle.oxc_sourcemap_plan.proofs.Parts.{from_err, more_owned, part_error, part_below_deepest}
 use Rattle.oxc_sourcemap_plan.proofs.Parts.{at_its_line, at_its_position, more_inputs, input_error}
 use Rattle.oxc_sourcemap_plan.proofs.plan.+evaluation.Goals as goal
@@ -91,6 +93,20 @@ evaluate_rewrite-returns-clause-map t c = IfOk-weaker c.rewrite.result _ _ (λ m
 
 pub evaluate_rewrite-returns-clause-error : goal.evaluate_rewrite-returns-clause-error
 evaluate_rewrite-returns-clause-error t c = IfErr-weaker c.rewrite.result _ _ (λ e fails. fails (outcome_of c.args.part.now) c.in_ok-map.ensures.map) c.rewrite.ensures.error
+
+pub evaluate_simplification-returns-in_err-map-clause-error : goal.evaluate_simplification-returns-in_err-map-clause-error
+evaluate_simplification-returns-in_err-map-clause-error t c =
+    let part = outcome_of c.args.part.now in
+    from_err c.from_residual.result _ _ c.from_residual.ensures.1
+    (λ e h. subst (λ e. FailsAs e (simplified_outcome part)) (sym h) (simplified_fails part c.in_err-map.field-0.0 c.in_err-map.ensures.error))
+
+pub evaluate_simplification-returns-clause-map : goal.evaluate_simplification-returns-clause-map
+evaluate_simplification-returns-clause-map t c =
+    IfOk-weaker c.simplify.result _ _ (λ m realizes. realizes (outcome_of c.args.part.now) c.in_ok-map.ensures.map) c.simplify.ensures.map
+
+pub evaluate_simplification-returns-clause-error : goal.evaluate_simplification-returns-clause-error
+evaluate_simplification-returns-clause-error t c =
+    IfErr-weaker c.simplify.result _ _ (λ e fails. fails (outcome_of c.args.part.now) c.in_ok-map.ensures.map) c.simplify.ensures.error
 
 pub evaluate_part-evaluate_remapping-requires : goal.evaluate_part-evaluate_remapping-requires
 evaluate_part-evaluate_remapping-requires t c = grind (arith, common_steps, depth_remap c.in-Remap.first c.in-Remap.inputs)

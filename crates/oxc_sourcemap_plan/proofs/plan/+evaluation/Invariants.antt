@@ -16,6 +16,9 @@ decreases-evaluate_rewrite l = depth l.part.now + depth l.part.now + 1
 abbrev pub decreases-evaluate_root : goal.decreases-evaluate_root
 decreases-evaluate_root l = depth l.part.now + depth l.part.now + 1
 
+abbrev pub decreases-evaluate_simplification : goal.decreases-evaluate_simplification
+decreases-evaluate_simplification l = depth l.part.now + depth l.part.now + 1
+
 abbrev pub decreases-evaluate_join : goal.decreases-evaluate_join
 decreases-evaluate_join l = deepest (map (λ p. depth p.0) l.parts.now) + deepest (map (λ p. depth p.0) l.parts.now) + 1
 

@@ -10,17 +10,18 @@ use Rattle.oxc_sourcemap_plan.specs.Depth.{depth, deepest}
 use Rattle.oxc_sourcemap_plan.specs.Meaning.{by_path}
 use Rattle.oxc_sourcemap_plan.specs.Outcome.{outcome_of, outcomes, rewrite_outcome, root_outcome}
 use Rattle.oxc_sourcemap_plan.specs.Outcome.{composition_outcome, remap_outcome, input_outcomes}
+use Rattle.oxc_sourcemap_plan.specs.Outcome.{simplified_outcome}
 use Rattle.oxc_sourcemap_plan.specs.PlanArguments.{then_parsed, parsed_beginning, parsed_part}
 use Rattle.oxc_sourcemap_plan.specs.PlanArguments.{with_rest, parsed_join_part, parsed_input_part}
 use Rattle.oxc_sourcemap_plan.proofs.Parts.{from_err}
 use Rattle.oxc_sourcemap_plan.proofs.Plans.{outcomes-positions-pushed, outcomes-inputs-pushed}
 use Rattle.oxc_sourcemap_plan.proofs.Plans.{depth_join_at, depth_remap, outcome_rewrite}
 use Rattle.oxc_sourcemap_plan.proofs.Plans.{outcome_root, outcome_join_at, outcome_compose}
-use Rattle.oxc_sourcemap_plan.proofs.Plans.{outcome_remap}
+use Rattle.oxc_sourcemap_plan.proofs.Plans.{outcome_remap, outcome_simplified}
 use Rattle.oxc_sourcemap_plan.proofs.PlanArguments.{named-start, named-rewrite, named-root}
 use Rattle.oxc_sourcemap_plan.proofs.PlanArguments.{named-join, named-join_at, named-compose}
 use Rattle.oxc_sourcemap_plan.proofs.PlanArguments.{named-sort, named-remap, named-text, left_after}
-use Rattle.oxc_sourcemap_plan.proofs.PlanArguments.{item-error}
+use Rattle.oxc_sourcemap_plan.proofs.PlanArguments.{item-error, named-simplify}
 use Rattle.oxc_sourcemap_plan.proofs.PlanArguments.{item-more, items-end, list-read, placed-error}
 use Rattle.oxc_sourcemap_plan.proofs.PlanArguments.{placed, join-read, path-error, with_path}
 use Rattle.oxc_sourcemap_plan.proofs.PlanArguments.{first-error, remapping-read, deepest-pushed}
@@ -71,7 +72,7 @@ read_part-returns-in_err-read_input-in_default-as_str-clause-error t c =
     let others = map string_bytes c.in-Some.others.now in
     let T = map (λ text. text.now) c.args.inputs.now in
     from_err c.from_residual-in_err-read_input-in_default-as_str.result _ _ c.from_residual-in_err-read_input-in_default-as_str.ensures.1 (λ e h n. start
-    ∙ named-text T part c.as_str.result.now others c.in_default-as_str.not-rewrite c.in_default-as_str.not-root c.in_default-as_str.not-join c.in_default-as_str.not-joinat c.in_default-as_str.not-compose c.in_default-as_str.not-remap c.in_default-as_str.not-sort
+    ∙ named-text T part c.as_str.result.now others c.in_default-as_str.not-rewrite c.in_default-as_str.not-root c.in_default-as_str.not-simplify c.in_default-as_str.not-join c.in_default-as_str.not-joinat c.in_default-as_str.not-compose c.in_default-as_str.not-remap c.in_default-as_str.not-sort
     ∙ ap (λ r. with_rest r others) c.in_err-read_input-in_default-as_str.ensures.error ∙ ap Err (sym h))
 
 pub read_part-returns-in_ok-new-in-compose-2-clause-part : goal.read_part-returns-in_ok-new-in-compose-2-clause-part
@@ -137,6 +138,25 @@ read_part-returns-in_ok-new-in-root-clause-part t c =
     start ∙ named-root T part c.as_str.result.now others c.in-root.is
     ∙ ap (λ r. then_parsed r (λ o left. Ok (root_outcome o, left))) c.in_ok-part-in-root.ensures.part
     ∙ ap (λ o. Ok (o, map string_bytes c.in_ok-part-in-root.rest.now)) (sym (outcome_root c.in_ok-new-in-root.field-0 ∙ ap (λ p. root_outcome (outcome_of p)) c.in_ok-new-in-root.ensures.ok))
+
+pub read_part-returns-in_err-part-in-simplify-clause-error : goal.read_part-returns-in_err-part-in-simplify-clause-error
+read_part-returns-in_err-part-in-simplify-clause-error t c =
+    let start = named-start (map (λ text. text.now) c.args.inputs.now) c.args.room c.args.arguments.now c.in-Some.argument.now c.in-Some.others.now c.as_str.result.now c.if-room-eq0.false c.in-Some.ensures.cases.0 c.as_str.ensures.value in
+    let part = parsed_part (map (λ text. text.now) c.args.inputs.now) (c.args.room - 1) in
+    let others = map string_bytes c.in-Some.others.now in
+    let T = map (λ text. text.now) c.args.inputs.now in
+    from_err c.from_residual-in_err-part-in-simplify.result _ _ c.from_residual-in_err-part-in-simplify.ensures.1 (λ e h n. start ∙ named-simplify T part c.as_str.result.now others c.in-simplify.is
+    ∙ ap (λ r. then_parsed r (λ o left. Ok (simplified_outcome o, left))) (c.in_err-part-in-simplify.ensures.error (λ q. n (h ∙ q))) ∙ ap Err (sym h))
+
+pub read_part-returns-in_ok-new-in-simplify-clause-part : goal.read_part-returns-in_ok-new-in-simplify-clause-part
+read_part-returns-in_ok-new-in-simplify-clause-part t c =
+    let start = named-start (map (λ text. text.now) c.args.inputs.now) c.args.room c.args.arguments.now c.in-Some.argument.now c.in-Some.others.now c.as_str.result.now c.if-room-eq0.false c.in-Some.ensures.cases.0 c.as_str.ensures.value in
+    let part = parsed_part (map (λ text. text.now) c.args.inputs.now) (c.args.room - 1) in
+    let others = map string_bytes c.in-Some.others.now in
+    let T = map (λ text. text.now) c.args.inputs.now in
+    start ∙ named-simplify T part c.as_str.result.now others c.in-simplify.is
+    ∙ ap (λ r. then_parsed r (λ o left. Ok (simplified_outcome o, left))) c.in_ok-part-in-simplify.ensures.part
+    ∙ ap (λ o. Ok (o, map string_bytes c.in_ok-part-in-simplify.rest.now)) (sym (outcome_simplified c.in_ok-new-in-simplify.field-0 ∙ ap (λ p. simplified_outcome (outcome_of p)) c.in_ok-new-in-simplify.ensures.ok))
 
 pub read_part-returns-in-remap-clause-part : goal.read_part-returns-in-remap-clause-part
 read_part-returns-in-remap-clause-part t c =

@@ -4,7 +4,7 @@ use Rattle.std.proofs.lemmas.List.{length-map}
 use Rattle.std.specs.Cow.{cow_str_bytes}
 use Rattle.oxc_sourcemap_parts.specs.Views.{ids_of}
 use Rattle.oxc_sourcemap_lookup.proofs.KeptNames.{resized, all_up_to_repeats}
-use Rattle.oxc_sourcemap_remap.specs.Bodies.{listed_flags}
+use Rattle.oxc_sourcemap_remap.specs.Blocks.{listed_flags}
 use Rattle.oxc_sourcemap_remap.proofs.Flags.{unset, unset-empty}
 use Rattle.oxc_sourcemap_remap.proofs.inputs.ignored_flags.Goals as goal
 use Rattle.oxc_sourcemap_remap.proofs.inputs.ignored_flags.Goals.{in-Some, in_default}

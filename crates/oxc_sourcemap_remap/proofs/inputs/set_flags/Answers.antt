@@ -1,7 +1,7 @@
 use Rattle.std.proofs.Common.{◌≡◌, ◌∙◌, ◌+◌, ◌++◌, ◌∷◌, ◌<◌, ◌≤◌, [], sym, ap, arith, take, length}
 use Rattle.std.proofs.Common.{set, get_or, Some, true, Vec, Bool, Global}
 use Rattle.std.proofs.lemmas.List.{take_more}
-use Rattle.oxc_sourcemap_remap.specs.Bodies.{listed_flags}
+use Rattle.oxc_sourcemap_remap.specs.Blocks.{listed_flags}
 use Rattle.oxc_sourcemap_remap.proofs.Flags.{flag-set, flag-past, count-listed}
 use Rattle.oxc_sourcemap_remap.proofs.inputs.set_flags.Goals as goal
 use Rattle.oxc_sourcemap_remap.proofs.inputs.set_flags.Goals.{then-i-len, else-i-len}

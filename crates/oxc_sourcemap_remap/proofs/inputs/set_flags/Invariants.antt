@@ -1,5 +1,5 @@
 use Rattle.std.proofs.Common.{◌≡◌, take, length, Some}
-use Rattle.oxc_sourcemap_remap.specs.Bodies.{listed_flags}
+use Rattle.oxc_sourcemap_remap.specs.Blocks.{listed_flags}
 use Rattle.oxc_sourcemap_remap.proofs.inputs.set_flags.Given as goal
 
 abbrev pub invariant-loop-id : goal.invariant-loop-id

@@ -1,7 +1,7 @@
 use Rattle.std.proofs.Common.{◌≡◌, ◌+◌, drop, option_map}
 use Rattle.serde_json.specs.View.{items_view}
 use Rattle.oxc_sourcemap_places.specs.ValueSpots.{is_entry, first_failing}
-use Rattle.oxc_sourcemap_places.proofs.value_fault.bad_entry.Given as goal
+use Rattle.oxc_sourcemap_places.proofs.map_fault.bad_entry.Given as goal
 
 -- the first entry of the wrong type is among those that are left
 abbrev pub invariant-loop-i : goal.invariant-loop-i

@@ -1,0 +1,4 @@
+pub mod Texts
+pub mod Unread
+pub mod Meant
+mod Worked

@@ -1,0 +1,42 @@
+-- The first text that cannot be read.
+use Rattle.std.proofs.Common.{◌≡◌, ℕ, suc, ◌+◌, List, [], ◌∷◌, refl, ap, ◌∙◌, subst, Option, Some}
+use Rattle.std.proofs.Common.{Ok, Err, slice_get, arith}
+use Rattle.oxc_sourcemap_tokens.specs.declared.error.Error.{Error}
+use Rattle.oxc_sourcemap_parts.specs.Record.{Text, MapRecord}
+use Rattle.oxc_sourcemap_decode.specs.ReadMap.{read_map}
+use Rattle.oxc_sourcemap_plan_places.specs.PlanPlaces.{Unread, unread_or, unread_from}
+use Rattle.oxc_sourcemap_plan_places.specs.PlanPlaces.{first_unread}
+
+abbrev some : Unread → Option Unread
+some x = Some x
+
+same-some : (x y : Unread) → some x ≡ some y → x ≡ y
+same-some x y e = cc
+
+-- past a text that can be read
+pub unread-more : (k : ℕ) (text : Text) (texts : List Text) (r : MapRecord) → read_map text ≡ Ok r → unread_from k (text ∷ texts) ≡ unread_from (k + 1) texts
+unread-more k text texts r e = ap (λ x. unread_or k text x (unread_from (k + 1) texts)) e
+
+-- at one that cannot
+pub unread-here : (k : ℕ) (text : Text) (texts : List Text) (e : Error) → read_map text ≡ Err e
+    → unread_from k (text ∷ texts) ≡ Some (record { number = k; text = text; error = e })
+unread-here k text texts e h = ap (λ x. unread_or k text x (unread_from (k + 1) texts)) h
+
+-- it is the text with its number, and has its error
+pub unread-is : (k : ℕ) (texts : List Text) (u : Unread) → unread_from k texts ≡ Some u
+    → (i : ℕ) × (u.number ≡ k + i) × (slice_get texts i ≡ Some u.text) × (read_map u.text ≡ Err u.error)
+unread-is k [] u e = cc
+unread-is k (text ∷ texts) u e =
+    elim (read_map text) as (λ r. read_map text ≡ r → unread_or k text r (unread_from (k + 1) texts) ≡ Some u
+    → (i : ℕ) × (u.number ≡ k + i) × (slice_get (text ∷ texts) i ≡ Some u.text) × (read_map u.text ≡ Err u.error)) [
+      | Ok m ↦ (λ h q. let more = unread-is (k + 1) texts u q in (suc more.0, omega (arith, more.1), more.2, more.3))
+      | Err f ↦ (λ h q. let is : record { number = k; text = text; error = f } ≡ u = same-some _ u q in
+          subst (λ (u : Unread). (i : ℕ) × (u.number ≡ k + i) × (slice_get (text ∷ texts) i ≡ Some u.text) × (read_map u.text ≡ Err u.error)) is
+          (0, omega arith, refl, h))
+    ] refl e
+
+pub first-is : (texts : List Text) (u : Unread) → first_unread texts ≡ Some u → (slice_get texts u.number ≡ Some u.text) × (read_map u.text ≡ Err u.error)
+first-is texts u e =
+    let found = unread-is 0 texts u e in
+    let same : u.number ≡ found.0 = omega (arith, found.1) in
+    (ap (slice_get texts) same ∙ found.2, found.3)

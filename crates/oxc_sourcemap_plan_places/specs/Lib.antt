@@ -1,0 +1,2 @@
+pub mod PlanPlaces
+pub mod Words

@@ -242,3 +242,19 @@ fn random_pairs_differ_as_tried(rt: HostRuntime) -> Result<()> {
     same(&rt, "checksum", checksum, CHECKSUM);
     Ok(())
 }
+
+#[test]
+fn simplified_maps_do_not_differ(rt: HostRuntime) -> Result<()> {
+    let (mut seed, mut count) = (1u64, 0u32);
+    for _ in 0..2000 {
+        let (a, mut b) = pair(rt.alloc(), &mut seed)?;
+        let wanted = difference(&a, &b);
+        // It fails only where a token would move past the last column.
+        if b.simplify(rt.alloc()).is_ok() {
+            same(&rt, "simplified", difference(&a, &b), wanted);
+            count += 1;
+        }
+    }
+    assert!(rt; count > 1900, "{count}");
+    Ok(())
+}

@@ -54,6 +54,96 @@ const ROWS: &[(&str, &str)] = &[
     // Nothing at all.
     (r#"{"version":3,"names":["x"],"sources":["a"],"sourcesContent":["y"],"ignoreList":[0],"mappings":""}"#,
      r#"{"version":3,"names":[],"sources":[],"mappings":""}"#),
+    // Random map 0.
+    (r#"{"version":3,"names":["q","q","q"],"sources":["b","a","b"],"sourcesContent":["y",null,null],"ignoreList":[1],"mappings":";A,IECCG;ECDAD,GFCD"}"#,
+     r#"{"version":3,"names":[],"sources":["b","a"],"ignoreList":[1],"mappings":";A,IACC;E,GCAD"}"#),
+    // Random map 1.
+    (r#"{"version":3,"names":["p","q"],"sources":["a"],"sourcesContent":["x","y","x"],"mappings":"GCACC,E;CDCA,G;AAAAD,C,CCDAC"}"#,
+     r#"{"version":3,"names":["p"],"sources":["a"],"sourcesContent":["x"],"mappings":"G;CACC,G;AAAAA,C"}"#),
+    // Random map 2.
+    (r#"{"version":3,"names":[],"sources":[],"ignoreList":[],"mappings":";;KACA,A"}"#,
+     r#"{"version":3,"names":[],"sources":[],"mappings":";;K"}"#),
+    // Random map 3.
+    (r#"{"version":3,"names":["q","p"],"sources":["a"],"sourcesContent":[null,"x","x","y"],"ignoreList":[0],"mappings":"E,ACCCE;;ADDAA,CCADF,CAAC,EACDA,CAACE"}"#,
+     r#"{"version":3,"names":[],"sources":["a"],"ignoreList":[0],"mappings":"E;;AAAC,C"}"#),
+    // Random map 4.
+    (r#"{"version":3,"names":[],"sources":["b"],"sourcesContent":["x",null,null],"ignoreList":[],"mappings":"CACC,CADAA;AACA,E,A;ECDD,AACA,GDDCA"}"#,
+     r#"{"version":3,"names":[],"sources":["b"],"sourcesContent":["x"],"mappings":"CACC,CADA;AACA,E;E,GADA"}"#),
+    // Random map 5.
+    (r#"{"version":3,"names":["p","p","p"],"sources":["b","a"],"ignoreList":[],"mappings":"CAAAC,C,EAAAC;CAAAF,ACAAA,C;AACAC,IDDA"}"#,
+     r#"{"version":3,"names":["p"],"sources":["b","a"],"mappings":"CAAAA,C,EAAAA;CAAAA,C;ACCAA,IDDA"}"#),
+    // Random map 6.
+    (r#"{"version":3,"names":["q","p","p"],"sources":[],"sourcesContent":["y"],"ignoreList":[],"mappings":"EACC,GADDG,AAAAA,AACAA;;EADCD,GAAAD,A"}"#,
+     r#"{"version":3,"names":[],"sources":[],"mappings":"E;;E"}"#),
+    // Random map 7.
+    (r#"{"version":3,"names":[],"sources":["a","b"],"ignoreList":[1],"mappings":""}"#,
+     r#"{"version":3,"names":[],"sources":[],"mappings":""}"#),
+    // Random map 8.
+    (r#"{"version":3,"names":["p","p","p"],"sources":["b"],"ignoreList":[0],"mappings":"AACCE;GAADA,E"}"#,
+     r#"{"version":3,"names":["p"],"sources":["b"],"ignoreList":[0],"mappings":"AACCA;GAADA,E"}"#),
+    // Random map 9.
+    (r#"{"version":3,"names":["p"],"sources":["b","b","a"],"sourcesContent":["y","x",null],"ignoreList":[1],"mappings":""}"#,
+     r#"{"version":3,"names":[],"sources":[],"mappings":""}"#),
+    // Random map 10.
+    (r#"{"version":3,"names":["q","p","p"],"sources":[],"sourcesContent":["x","x","y"],"mappings":""}"#,
+     r#"{"version":3,"names":[],"sources":[],"mappings":""}"#),
+    // Random map 11.
+    (r#"{"version":3,"names":["q"],"sources":["b","b","a"],"sourcesContent":[null,null,"x","x"],"ignoreList":[0],"mappings":""}"#,
+     r#"{"version":3,"names":[],"sources":[],"mappings":""}"#),
+    // Random map 12.
+    (r#"{"version":3,"names":["p","q","q"],"sources":["b","b","a"],"sourcesContent":["y","x",null],"ignoreList":[],"mappings":"A,ECCA,CADCA,CCAAE,CFAAD;AEAAE,KACDF;C,ECACE"}"#,
+     r#"{"version":3,"names":["p","q"],"sources":["b","a","b"],"sourcesContent":["x",null,"y"],"mappings":"A,EACA,CADCA,CCAAC,CCAAA;ADAA,KACDA;C"}"#),
+    // Random map 13.
+    (r#"{"version":3,"names":["p"],"sources":["b","a"],"sourcesContent":["y",null],"ignoreList":[1],"mappings":";KAACA;ACADA,E"}"#,
+     r#"{"version":3,"names":["p"],"sources":["b","a"],"sourcesContent":["y",null],"ignoreList":[1],"mappings":";KAACA;ACADA,E"}"#),
+    // Random map 14.
+    (r#"{"version":3,"names":["q"],"sources":[],"sourcesContent":["x","y"],"mappings":"EACCC,A,G,AADAD;GACDA,C;I"}"#,
+     r#"{"version":3,"names":[],"sources":[],"mappings":"E;G;I"}"#),
+    // Random map 15.
+    (r#"{"version":3,"names":[],"sources":["a"],"ignoreList":[0],"mappings":";;EAACA,AACAA"}"#,
+     r#"{"version":3,"names":[],"sources":["a"],"ignoreList":[0],"mappings":";;EAAC,AACA"}"#),
+    // Random map 16.
+    (r#"{"version":3,"names":["q","p"],"sources":["b","b"],"sourcesContent":[null,"x","y"],"mappings":""}"#,
+     r#"{"version":3,"names":[],"sources":[],"mappings":""}"#),
+    // Random map 17.
+    (r#"{"version":3,"names":["q"],"sources":["b","b","b"],"ignoreList":[],"mappings":"CECAC;KDAC;ADADA,EEDA"}"#,
+     r#"{"version":3,"names":[],"sources":["b"],"mappings":"CACA;KAAC;AAAD,EADA"}"#),
+    // Random map 18.
+    (r#"{"version":3,"names":["q","p","p"],"sources":["a"],"sourcesContent":["y","x",null],"ignoreList":[],"mappings":"CACAE,C,GAAAD;CCACA"}"#,
+     r#"{"version":3,"names":["p"],"sources":["a"],"sourcesContent":["y"],"mappings":"CACAA,C,GAAAA;C"}"#),
+    // Random map 19.
+    (r#"{"version":3,"names":[],"sources":[],"sourcesContent":[null,"x","x","y"],"ignoreList":[],"mappings":"AACCA,G,CADAA,AAAAA;E;AACAA,GADDA,C,A"}"#,
+     r#"{"version":3,"names":[],"sources":[],"mappings":"A;E;A"}"#),
+    // Random map 20.
+    (r#"{"version":3,"names":[],"sources":["b"],"sourcesContent":["y",null],"ignoreList":[],"mappings":"CACCA"}"#,
+     r#"{"version":3,"names":[],"sources":["b"],"sourcesContent":["y"],"mappings":"CACC"}"#),
+    // Random map 21.
+    (r#"{"version":3,"names":["q","q","p"],"sources":["b"],"sourcesContent":["y",null,"y"],"mappings":""}"#,
+     r#"{"version":3,"names":[],"sources":[],"mappings":""}"#),
+    // Random map 22.
+    (r#"{"version":3,"names":[],"sources":["a"],"sourcesContent":["x",null,"y",null],"ignoreList":[],"mappings":"E"}"#,
+     r#"{"version":3,"names":[],"sources":[],"mappings":"E"}"#),
+    // Random map 23.
+    (r#"{"version":3,"names":["q","q"],"sources":["a","a"],"sourcesContent":["x",null,"y",null],"ignoreList":[0,1],"mappings":"A,ACCAA;;ADDCE,ECCAD,EDDD,CECC,AFDDA"}"#,
+     r#"{"version":3,"names":["q"],"sources":["a","a"],"sourcesContent":[null,"x"],"ignoreList":[0,1],"mappings":"A,AACAA;;ACDC,EDCAA,ECDD,C,AAAAA"}"#),
+    // Random map 24.
+    (r#"{"version":3,"names":["p"],"sources":["a","a","a"],"ignoreList":[],"mappings":""}"#,
+     r#"{"version":3,"names":[],"sources":[],"mappings":""}"#),
+    // Random map 25.
+    (r#"{"version":3,"names":["p","q","p"],"sources":["a","a","b"],"sourcesContent":["y","x",null],"ignoreList":[0],"mappings":";CCCA,GDDCE;ICAAC"}"#,
+     r#"{"version":3,"names":["p"],"sources":["a","a"],"sourcesContent":["x","y"],"ignoreList":[1],"mappings":";CACA,GCDCA;IDAA"}"#),
+    // Random map 26.
+    (r#"{"version":3,"names":["p","p","q"],"sources":["a"],"ignoreList":[],"mappings":"AAAA,I,CCACA;GDAD,CACCE;AADDF,C,ECCAG"}"#,
+     r#"{"version":3,"names":["q","p"],"sources":["a"],"mappings":"AAAA,I;GAAA,CACCA;AADDC,C"}"#),
+    // Random map 27.
+    (r#"{"version":3,"names":[],"sources":["b","b","a"],"ignoreList":[],"mappings":"CGAAA;K"}"#,
+     r#"{"version":3,"names":[],"sources":[],"mappings":"C;K"}"#),
+    // Random map 28.
+    (r#"{"version":3,"names":["p"],"sources":[],"ignoreList":[],"mappings":"A,AACAC,CADC,G;A,C;E"}"#,
+     r#"{"version":3,"names":[],"sources":[],"mappings":"A;A;E"}"#),
+    // Random map 29.
+    (r#"{"version":3,"names":["q","p"],"sources":[],"sourcesContent":["x","x","x",null],"mappings":";K"}"#,
+     r#"{"version":3,"names":[],"sources":[],"mappings":";K"}"#),
 ];
 
 /// What a call that may fail as plans do gave, or that it lacked memory.

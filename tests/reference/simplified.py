@@ -4,8 +4,8 @@
     simplified.py [--cases N] [--rows]
 
 Without --rows it checks what is claimed of them on random maps and, for the least number of tokens, on all small ones; with it, it
-prints the maps of ROWS with their simplified ones, as JSON texts: the rows of tests/simplify.rs. A token is (line, column, source, source line,
-source column, name), the last four None or ids."""
+prints the maps of ROWS and some random ones with their simplified ones, as JSON texts: the rows of tests/simplify.rs. A token is
+(line, column, source, source line, source column, name), the last four None or ids."""
 import argparse, itertools, json, random
 from collections import namedtuple
 
@@ -217,7 +217,7 @@ if __name__ == "__main__":
     parser.add_argument("--rows", action="store_true")
     options = parser.parse_args()
     if options.rows:
-        for says, m in ROWS:
+        for says, m in [*ROWS, *((f"Random map {number}.", some_map(random.Random(number))) for number in range(30))]:
             print(f'    // {says}\n    (r#"{as_json(m)}"#,\n     r#"{as_json(simplified(m))}"#),')
         raise SystemExit
     for number in range(options.cases):

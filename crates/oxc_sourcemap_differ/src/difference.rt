@@ -1,8 +1,8 @@
 //! The first position at which the traces of two maps differ.
 ghost use Rattle.std.specs.Prelude.{◌≡◌, ◌↔◌, IsNone, IfSome, Some};
 ghost use Rattle.oxc_sourcemap_differ.specs.Words.{record_of_parts, line_of, column_of};
-ghost use Rattle.oxc_sourcemap_differ.specs.Words.{IfBothSorted};
 ghost use Rattle.oxc_sourcemap_differ.specs.Words.{HaveSameTraceEverywhere, IsFirstDifference};
+ghost use Rattle.oxc_sourcemap_differ.specs.Words.{IfBothSorted};
 
 use crate::originals::{is_found_alike, shared_sources};
 use crate::walk::{earlier, step_at};

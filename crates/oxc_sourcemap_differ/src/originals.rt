@@ -1,10 +1,9 @@
 //! What tokens of two maps point to, compared by texts.
 ghost use Rattle.std.specs.Prelude.{◌≡◌, ◌≢◌, ◌↔◌, IsTrue, option_map, slice_get, None};
 ghost use Rattle.oxc_sourcemap_differ.specs.Words.{lent_item, name_of, record_of_parts};
-ghost use Rattle.oxc_sourcemap_differ.specs.Words.{original_in};
 ghost use Rattle.oxc_sourcemap_differ.specs.Words.{content_at, source_of, source_at, source_with};
 ghost use Rattle.oxc_sourcemap_differ.specs.Words.{AreEqualSources, AreShared, is_shared};
-ghost use Rattle.oxc_sourcemap_differ.specs.Words.{found_with};
+ghost use Rattle.oxc_sourcemap_differ.specs.Words.{found_with, original_in};
 
 use oxc_sourcemap_parts::SourceMapParts;
 use oxc_sourcemap_tokens::Token;
@@ -20,7 +19,7 @@ pub(crate) struct Source<'m> {
 /// for each token again.
 #[derive(Clone, Copy)]
 pub(crate) struct EqualSources {
-    /// As many sources at the front of one list are equal to those of the other.
+    /// How many sources at the front of both lists are equal, each to the one at its index.
     shared: u32,
     /// The ids of two equal sources, one of each map, that tokens led to; or none, and none.
     first: Option<u32>,

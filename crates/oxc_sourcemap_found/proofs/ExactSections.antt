@@ -1,10 +1,9 @@
 -- Sections of an indexed map that the exact reader reads as a sorted map: nothing is mended in them, and none is cut.
-use Rattle.std.proofs.Common.{◌≡◌, ℕ, ◌+◌, Bool, true, false, cond, ◌&&◌, ◌==◌, not, List, [], ◌∷◌}
-use Rattle.std.proofs.Common.{◌++◌, map, length, arith, refl, ap, sym, ◌∙◌, subst, append_assoc}
+use Rattle.std.proofs.Common.{◌≡◌, ℕ, ◌+◌, Bool, true, false, cond, ◌==◌, not, List, [], ◌∷◌}
+use Rattle.std.proofs.Common.{◌++◌, map, length, refl, ap, sym, ◌∙◌, subst, append_assoc}
 use Rattle.std.proofs.Common.{Option, Some, None, option_map, Result, Ok, Err}
-use Rattle.std.specs.List.{AllByRecursion, filter, last_or, count_by, sum_by, flat_map}
+use Rattle.std.specs.List.{AllByRecursion, filter, last_or, count_by}
 use Rattle.std.proofs.lemmas.Bool.{and_parts}
-use Rattle.std.proofs.lemmas.Bool.Decides.{nat_tests}
 use Rattle.std.proofs.lemmas.List.{append-nil, length-append}
 use Rattle.serde_json.specs.Data.{Data, null, boolean, number, string, array, object, Items}
 use Rattle.serde_json.specs.Data.{no_items}
@@ -16,7 +15,7 @@ use Rattle.oxc_sourcemap_tokens.specs.declared.error.Field.TheVariants.{Object}
 use Rattle.oxc_sourcemap_tokens.specs.declared.position.Position.{Position}
 use Rattle.oxc_sourcemap_tokens.specs.Token.{TokenRecord, last}
 use Rattle.oxc_sourcemap_parts.specs.Record.{MapRecord}
-use Rattle.oxc_sourcemap_parts.specs.Sorted.{may_precede, are_tokens_sorted, token_line}
+use Rattle.oxc_sourcemap_parts.specs.Sorted.{are_tokens_sorted, token_line}
 use Rattle.oxc_sourcemap_parts.specs.Sorted.{token_column}
 use Rattle.oxc_sourcemap_json.specs.Shape.{◌>>=◌, or_misshapen, shape}
 use Rattle.oxc_sourcemap_decode.specs.Decoded.{decoded}
@@ -26,14 +25,13 @@ use Rattle.oxc_sourcemap_decode.specs.Sections.{token_positions, may_begin, in_o
 use Rattle.oxc_sourcemap_decode.specs.Sections.{section_map, section_after, onto_section}
 use Rattle.oxc_sourcemap_decode.specs.Sections.{sections_after}
 use Rattle.oxc_sourcemap_sort.proofs.Sorting.{precedes, trans-at, sorted-tail, sorted-first}
-use Rattle.oxc_sourcemap_found.specs.declared.mend.MendKind.{MendKind}
-use Rattle.oxc_sourcemap_found.specs.MendedMaps.{MendedMap, plain_map}
-use Rattle.oxc_sourcemap_found.specs.MendedSections.{MendedSection, in_order_after, place_from}
+use Rattle.oxc_sourcemap_found.specs.MendedMaps.{plain_map}
+use Rattle.oxc_sourcemap_found.specs.MendedSections.{MendedSection, place_from}
 use Rattle.oxc_sourcemap_found.specs.MendedSections.{map_from, section_from, sections_from}
 use Rattle.oxc_sourcemap_found.specs.MendedSections.{is_behind}
 use Rattle.oxc_sourcemap_found.specs.MendedSections.{next_place, cut_map, cut_kinds, cut_maps}
 use Rattle.oxc_sourcemap_found.specs.MendedSections.{section_mends}
-use Rattle.oxc_sourcemap_found.proofs.Kept.{Step, step}
+use Rattle.oxc_sourcemap_found.proofs.Kept.{step}
 use Rattle.oxc_sourcemap_found.proofs.PlainMaps.{mended_as, plain-kept}
 use Rattle.oxc_sourcemap_found.proofs.SortedJoins.{IsSortedMap, shift-on}
 

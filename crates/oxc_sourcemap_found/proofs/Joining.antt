@@ -1,5 +1,5 @@
 -- The join of sections, if it is within the limits.
-use Rattle.std.proofs.Common.{◌≡◌, Bool, true, false, List, refl, Option, Result, Ok, Err}
+use Rattle.std.proofs.Common.{◌≡◌, Bool, true, false, List, refl, Option, Ok, Err}
 use Rattle.oxc_sourcemap_tokens.specs.declared.error.Error.TheVariants.{TooLarge}
 use Rattle.oxc_sourcemap_tokens.specs.declared.position.Position.{Position}
 use Rattle.oxc_sourcemap_parts.specs.Record.{Text, MapRecord}

@@ -1,42 +1,35 @@
 -- Maps by themselves: of an exact map nothing is mended, and each is sound.
-use Rattle.std.proofs.Common.{◌≡◌, ℕ, ◌+◌, ◌<◌, Bool, true, false, cond, not, ◌&&◌, nat_lt, ◌==◌}
-use Rattle.std.proofs.Common.{List, [], ◌∷◌, ◌++◌, map, length, refl, ap, sym, ◌∙◌, subst, inl, inr}
+use Rattle.std.proofs.Common.{◌≡◌, ℕ, ◌<◌, Bool, true, false, cond, not, nat_lt, ◌==◌}
+use Rattle.std.proofs.Common.{List, [], ◌∷◌, ◌++◌, map, length, refl, ap, ◌∙◌, subst}
 use Rattle.std.proofs.Common.{arith, Option, Some, None, option_map, Result, Ok, Err}
 use Rattle.std.proofs.lemmas.Bool.Decides.{nat_tests}
 use Rattle.std.specs.List.{AllByRecursion, count_by}
 use Rattle.std.specs.Option.{IfSome}
-use Rattle.serde_json.specs.Data.{Data, null, boolean, number, string, array, object, Members}
-use Rattle.serde_json.specs.Read.{read}
+use Rattle.serde_json.specs.Data.{object, Members}
 use Rattle.oxc_sourcemap_tokens.specs.declared.error.Error.{Error}
 use Rattle.oxc_sourcemap_tokens.specs.declared.error.Error.TheVariants.{BadSourceReference}
 use Rattle.oxc_sourcemap_tokens.specs.Errors.{unless}
 use Rattle.oxc_sourcemap_tokens.specs.Token.{TokenRecord}
-use Rattle.oxc_sourcemap_parts.specs.Record.{Text, MapRecord}
+use Rattle.oxc_sourcemap_parts.specs.Record.{MapRecord}
 use Rattle.oxc_sourcemap_parts.specs.Sorted.{may_precede, are_tokens_sorted, token_line}
 use Rattle.oxc_sourcemap_parts.specs.Sorted.{token_column}
 use Rattle.oxc_sourcemap_parts.specs.Sound.{IsInRange, AreIdsInRange, IsSound}
 use Rattle.oxc_sourcemap_json.specs.Json.{JsonRecord}
-use Rattle.oxc_sourcemap_tokens.specs.declared.error.Field.TheVariants.{Object}
-use Rattle.oxc_sourcemap_json.specs.Shape.{◌>>=◌, or_misshapen, shape}
-use Rattle.serde_json.specs.Find.{as_object}
+use Rattle.oxc_sourcemap_json.specs.Shape.{◌>>=◌, shape}
 use Rattle.oxc_sourcemap_sort.specs.Sorting.{put_in, sorted_tokens, sorted_map}
 use Rattle.oxc_sourcemap_sort.proofs.Sorting.{sorted-once}
 use Rattle.oxc_sourcemap_decode.specs.Decoded.{decoded_record, with_tokens, json_fault, decoded}
 use Rattle.oxc_sourcemap_decode.specs.Decoded.{ignore_list_fault}
-use Rattle.oxc_sourcemap_decode.specs.Section.{is_indexed}
-use Rattle.oxc_sourcemap_decode.specs.ReadMap.{read_map, read_value}
 use Rattle.oxc_sourcemap_decode.proofs.ReadSound.{decoded-well}
-use Rattle.oxc_sourcemap_decode.proofs.WellRead.{read_well}
 use Rattle.oxc_sourcemap_found.specs.InRange.{is_past, has_bad_source, has_bad_name, token_in_range}
 use Rattle.oxc_sourcemap_found.specs.InRange.{map_in_range, source_kinds, name_kinds}
-use Rattle.oxc_sourcemap_found.specs.declared.mend.Mend.{Mend}
 use Rattle.oxc_sourcemap_found.specs.declared.mend.MendKind.{MendKind}
 use Rattle.oxc_sourcemap_found.specs.declared.mend.MendKind.TheVariants.{Unsorted}
-use Rattle.oxc_sourcemap_found.specs.Mended.{MendedMembers, mended_members, as_found}
+use Rattle.oxc_sourcemap_found.specs.Mended.{MendedMembers, mended_members}
 use Rattle.oxc_sourcemap_found.specs.MendedMaps.{MendedMap, decoded_with_any_ids, mended_map}
 use Rattle.oxc_sourcemap_found.specs.MendedMaps.{order_kinds, map_of_members, plain_map}
 use Rattle.oxc_sourcemap_found.proofs.AnyIds.{reading-any_ids, reading-empty}
-use Rattle.oxc_sourcemap_found.proofs.Kept.{Step, step, members-kept}
+use Rattle.oxc_sourcemap_found.proofs.Kept.{step, members-kept}
 
 -- ---- tokens
 

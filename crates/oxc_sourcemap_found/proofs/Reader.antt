@@ -1,23 +1,20 @@
 -- Maps that are found: of an exact map nothing is mended, and each is sound.
-use Rattle.std.proofs.Common.{◌≡◌, ℕ, Bool, true, false, cond, List, [], ◌∷◌, ◌++◌, map, refl, ap}
-use Rattle.std.proofs.Common.{sym, ◌∙◌}
+use Rattle.std.proofs.Common.{◌≡◌, Bool, true, false, cond, List, [], ◌++◌, map, refl, ap}
+use Rattle.std.proofs.Common.{◌∙◌}
 use Rattle.std.proofs.Common.{subst, codes, Option, Some, None, Result, Ok, Err}
-use Rattle.std.specs.List.{AllByRecursion}
 use Rattle.serde_json.specs.Data.{Data, null, boolean, number, string, array, object, Members}
 use Rattle.serde_json.specs.Data.{Items}
-use Rattle.serde_json.specs.Find.{as_object, get, get_member}
+use Rattle.serde_json.specs.Find.{as_object, get_member}
 use Rattle.serde_json.specs.Read.{read}
 use Rattle.oxc_sourcemap_tokens.specs.declared.error.Error.{Error}
 use Rattle.oxc_sourcemap_tokens.specs.declared.error.Error.TheVariants.{TooLarge}
 use Rattle.oxc_sourcemap_tokens.specs.declared.error.Field.TheVariants.{Object}
-use Rattle.oxc_sourcemap_tokens.specs.declared.position.Position.{Position}
 use Rattle.oxc_sourcemap_tokens.specs.Errors.{unless}
 use Rattle.oxc_sourcemap_parts.specs.Record.{Text, MapRecord}
 use Rattle.oxc_sourcemap_parts.specs.Sorted.{are_tokens_sorted}
 use Rattle.oxc_sourcemap_parts.specs.Sound.{IsSound}
 use Rattle.oxc_sourcemap_json.specs.Shape.{◌>>=◌, or_misshapen, shape, file_of, version_of}
 use Rattle.oxc_sourcemap_join.specs.Joined.{joined}
-use Rattle.oxc_sourcemap_decode.specs.Decoded.{decoded}
 use Rattle.oxc_sourcemap_decode.specs.JoinLimits.{is_map_within_limits}
 use Rattle.oxc_sourcemap_decode.specs.Section.{is_indexed}
 use Rattle.oxc_sourcemap_decode.specs.Sections.{Sections, all_sections, joined_sections}
@@ -25,17 +22,16 @@ use Rattle.oxc_sourcemap_decode.specs.ReadMap.{sections_in, indexed_said, indexe
 use Rattle.oxc_sourcemap_decode.specs.ReadMap.{read_value, read_map}
 use Rattle.oxc_sourcemap_found.specs.declared.mend.Mend.{Mend}
 use Rattle.oxc_sourcemap_found.specs.Mended.{MendedMembers, with_version, as_found, changed}
-use Rattle.oxc_sourcemap_found.specs.Mended.{version_change}
-use Rattle.oxc_sourcemap_found.specs.MendedMaps.{MendedMap, plain_map, mends_in}
+use Rattle.oxc_sourcemap_found.specs.MendedMaps.{plain_map, mends_in}
 use Rattle.oxc_sourcemap_found.specs.MendedSections.{MendedSection, sections_from, cut_maps}
 use Rattle.oxc_sourcemap_found.specs.MendedSections.{section_mends}
 use Rattle.oxc_sourcemap_found.specs.FoundMaps.{FoundRecord, found_record, found_plain, joined_map}
 use Rattle.oxc_sourcemap_found.specs.FoundMaps.{found_sections, found_object, found_value}
 use Rattle.oxc_sourcemap_found.specs.FoundMaps.{found_opened, found}
 use Rattle.oxc_sourcemap_found.specs.Opening.{Opened, opened}
-use Rattle.oxc_sourcemap_found.proofs.Kept.{Step, step, version-kept}
+use Rattle.oxc_sourcemap_found.proofs.Kept.{step, version-kept}
 use Rattle.oxc_sourcemap_found.proofs.OpenedJson.{opened-json}
-use Rattle.oxc_sourcemap_found.proofs.PlainMaps.{mended_as, plain-kept, plain-sound}
+use Rattle.oxc_sourcemap_found.proofs.PlainMaps.{plain-kept, plain-sound}
 use Rattle.oxc_sourcemap_found.proofs.SortedJoins.{joined-each}
 use Rattle.oxc_sourcemap_found.proofs.ExactSections.{sections-unmended, unmended}
 use Rattle.oxc_sourcemap_found.proofs.SoundSections.{sections-sound, joined-sound}
@@ -97,7 +93,7 @@ sections-by ms r i s =
     ∙ ap (λ ms. joined_map ms i.file >>= (λ r. Ok (found_record ([] ++ section_mends 0 (map unmended all.maps)) r))) u.maps
     ∙ ap (λ mends. joined_map all.maps i.file >>= (λ r. Ok (found_record ([] ++ mends) r))) u.mends
     ∙ ap (λ (q : Result MapRecord Error). (q >>= (λ r. Ok (indexed_record i.file r))) >>= (λ r. Ok (found_record [] r)))
-      (ap (λ t. cond t (Ok (joined all.maps)) (Err TooLarge)) k.within)
+    (ap (λ t. cond t (Ok (joined all.maps)) (Err TooLarge)) k.within)
     ∙ ap (λ q. Ok (found_record [] (indexed_record i.file q))) k.is ∙ ap (λ q. Ok (found_record [] q)) is
 
 sections-found : (ms : Members) (r : MapRecord) → map_said (indexed_said (file_of (object ms)) (sections_in (object ms))) ≡ Ok r → are_tokens_sorted r.tokens ≡ true

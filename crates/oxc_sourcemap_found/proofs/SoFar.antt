@@ -1,7 +1,7 @@
 -- Sections are read one by one, and cut one by one: what is known of those so far.
-use Rattle.std.proofs.Common.{◌≡◌, ℕ, ◌+◌, List, [], ◌∷◌, ◌++◌, map, drop, length, refl, ap, sym}
+use Rattle.std.proofs.Common.{◌≡◌, ◌+◌, List, [], ◌∷◌, ◌++◌, map, drop, length, refl, ap, sym}
 use Rattle.std.proofs.Common.{◌∙◌}
-use Rattle.std.proofs.Common.{append_assoc, arith, Option, Some, None, Result, Ok, Err}
+use Rattle.std.proofs.Common.{append_assoc, Option, Some, None, Result, Ok, Err}
 use Rattle.std.specs.List.{slice_get}
 use Rattle.std.proofs.lemmas.List.{append-nil, length-append}
 use Rattle.serde_json.specs.Data.{Data, Items, no_items, item}
@@ -64,7 +64,6 @@ pub record AreCut (all left : List MendedSection) (maps : List (MapRecord × Pos
 
 pub none-cut : (all : List MendedSection) (nexts : List Position) → nexts ≡ map (λ s. s.1) all → AreCut all all [] [] nexts
 none-cut all nexts e = record { maps_are = refl; mends_are = refl; nexts_are = e }
-
 
 pub one-cut : (all : List MendedSection) (s : MendedSection) (ss : List MendedSection) (maps : List (MapRecord × Position)) (mends told : List Mend) (nexts : List Position) (m : MapRecord)
     → AreCut all (s ∷ ss) maps mends nexts → m ≡ cut_map (next_place ss) s.1 s.0.map

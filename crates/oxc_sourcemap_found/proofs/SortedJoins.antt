@@ -1,9 +1,9 @@
 -- The tokens of a join are sorted if those of its maps are, and none is behind the place where the next map begins; and if they are,
 -- those of its maps are.
-use Rattle.std.proofs.Common.{◌≡◌, ℕ, ◌+◌, Bool, true, false, cond, ◌&&◌, ◌==◌, nat_lt, nat_le, not}
-use Rattle.std.proofs.Common.{List, [], ◌∷◌, ◌++◌, map, length, arith, refl, ap, sym, ◌∙◌, subst}
+use Rattle.std.proofs.Common.{◌≡◌, ℕ, ◌+◌, Bool, true, false, cond, ◌&&◌, ◌==◌}
+use Rattle.std.proofs.Common.{List, [], ◌∷◌, ◌++◌, map, length, arith, refl, subst}
 use Rattle.std.proofs.Common.{Option, Some, None}
-use Rattle.std.specs.List.{AllByRecursion, filter, last_or}
+use Rattle.std.specs.List.{AllByRecursion, last_or}
 use Rattle.std.proofs.lemmas.Bool.{and_parts}
 use Rattle.std.proofs.lemmas.Bool.Decides.{nat_tests}
 use Rattle.oxc_sourcemap_tokens.specs.declared.position.Position.{Position}
@@ -106,9 +106,10 @@ added-each : (r : MapRecord) (ms : List (MapRecord × Position)) → are_tokens_
 added-each r [] h = (h, tt)
 added-each r (m ∷ ms) h =
     let more = added-each (added r m.0 m.1) ms h in
-    let moved = map (shifted (length r.names) (length r.sources) m.1) m.0.tokens in
-    (front-sorted r.tokens (without_repeat is_same_token (last r.tokens) moved) more.0,
-    (unshifted (length r.names) (length r.sources) m.1 m.0.tokens (unseamed r.tokens moved more.0), more.1))
+    let moved = map (shifted (length r.names) (length r.sources) m.1) m.0.tokens in (
+      front-sorted r.tokens (without_repeat is_same_token (last r.tokens) moved) more.0,
+      (unshifted (length r.names) (length r.sources) m.1 m.0.tokens (unseamed r.tokens moved more.0), more.1),
+    )
 
 -- the maps of a sorted join are sorted
 pub joined-each : (ms : List (MapRecord × Position)) → are_tokens_sorted (joined ms).tokens ≡ true → AllByRecursion IsSortedMap ms

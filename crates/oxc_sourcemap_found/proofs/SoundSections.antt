@@ -1,5 +1,5 @@
 -- The join of mended sections, each cut where the next one begins, is sorted, with its ids in range.
-use Rattle.std.proofs.Common.{◌≡◌, ℕ, ◌+◌, ◌<◌, Bool, true, false, cond, not, List, [], ◌∷◌, ◌++◌}
+use Rattle.std.proofs.Common.{◌≡◌, ℕ, ◌+◌, Bool, true, false, cond, not, List, [], ◌∷◌, ◌++◌}
 use Rattle.std.proofs.Common.{map}
 use Rattle.std.proofs.Common.{length, refl, ap, sym, ◌∙◌, subst, Option, Some, None, Result, Ok}
 use Rattle.std.proofs.Common.{Err}
@@ -26,7 +26,7 @@ use Rattle.oxc_sourcemap_found.specs.MendedSections.{MendedSection, in_order_aft
 use Rattle.oxc_sourcemap_found.specs.MendedSections.{map_from, section_from, sections_from}
 use Rattle.oxc_sourcemap_found.specs.MendedSections.{is_behind}
 use Rattle.oxc_sourcemap_found.specs.MendedSections.{next_place, cut_map, cut_maps}
-use Rattle.oxc_sourcemap_found.proofs.Kept.{Step, step}
+use Rattle.oxc_sourcemap_found.proofs.Kept.{step}
 use Rattle.oxc_sourcemap_found.proofs.PlainMaps.{plain-sound}
 use Rattle.oxc_sourcemap_found.proofs.SortedJoins.{IsTo, all-without, added-sorted}
 

@@ -1,5 +1,5 @@
 -- A map by itself, mended: its members, its ids and its order.
-use Rattle.std.specs.Prelude.{List, [], ◌∷◌, ◌++◌, map, Option, ℕ, Result, Ok, Err, if◌then◌else◌}
+use Rattle.std.specs.Prelude.{List, [], ◌∷◌, ◌++◌, map, Option, ℕ, Result, Ok, if◌then◌else◌}
 use Rattle.serde_json.specs.Data.{Members, object}
 use Rattle.oxc_sourcemap_tokens.specs.declared.error.Error.{Error}
 use Rattle.oxc_sourcemap_tokens.specs.Errors.{unless}

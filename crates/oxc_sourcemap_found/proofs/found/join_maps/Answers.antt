@@ -1,6 +1,6 @@
 use Rattle.std.proofs.Common.{ap, sym, subst, ◌∙◌, inl, inr, Err, Ok, option_map}
 use Rattle.std.specs.String.{string_bytes}
-use Rattle.oxc_sourcemap_join.specs.Joined.{owned_records, joined, IsWithinLimits}
+use Rattle.oxc_sourcemap_join.specs.Joined.{owned_records, IsWithinLimits}
 use Rattle.oxc_sourcemap_decode.specs.ReadMap.{indexed_record}
 use Rattle.oxc_sourcemap_tokens.proofs.Carried.{failed-answer}
 use Rattle.oxc_sourcemap_found.proofs.Joining.{within_joined, past_joined}

@@ -1,5 +1,5 @@
-use Rattle.std.proofs.Common.{◌≡◌, ◌++◌, ◌∷◌, [], rules, map, length, arith, ap, sym, ◌∙◌, subst}
-use Rattle.std.proofs.Common.{Some, Err, Ok}
+use Rattle.std.proofs.Common.{◌≡◌, ◌∷◌, [], rules, map, length, arith, ap, sym, ◌∙◌, subst}
+use Rattle.std.proofs.Common.{Some}
 use Rattle.std.specs.Vec.Iter.{into_iter_items}
 use Rattle.std.proofs.lemmas.Grind.{common_steps}
 use Rattle.std.proofs.lemmas.List.{length-map, map-append}
@@ -8,7 +8,7 @@ use Rattle.oxc_sourcemap_tokens.proofs.Carried.{failed-answer}
 use Rattle.oxc_sourcemap_decode.proofs.Steps.{none-left}
 use Rattle.oxc_sourcemap_found.specs.States.{section_view}
 use Rattle.oxc_sourcemap_found.specs.MendedSections.{section_from}
-use Rattle.oxc_sourcemap_found.proofs.SoFar.{AreRead, none-read, one-read, bad-section, all-read}
+use Rattle.oxc_sourcemap_found.proofs.SoFar.{AreRead, one-read, bad-section, all-read}
 use Rattle.oxc_sourcemap_found.proofs.sections.read_sections.Goals as goal
 
 pub returns-in_err-section : goal.returns-in_err-section

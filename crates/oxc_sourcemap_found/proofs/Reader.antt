@@ -138,11 +138,12 @@ sections-are-sound mends m f e =
     let items = step (sections_in d) (λ items. sections_from None 0 items >>= (λ ss. joined_map (cut_maps ss) file.value >>= (λ r. Ok (found_record (mends ++ mends_in None m.kinds ++ section_mends 0 ss) r)))) f file.later in
     let ss = step (sections_from None 0 items.value) (λ ss. joined_map (cut_maps ss) file.value >>= (λ r. Ok (found_record (mends ++ mends_in None m.kinds ++ section_mends 0 ss) r))) f items.later in
     let r = step (joined_map (cut_maps ss.value) file.value) (λ r. Ok (found_record (mends ++ mends_in None m.kinds ++ section_mends 0 ss.value) r)) f ss.later in
-    let is : found_record (mends ++ mends_in None m.kinds ++ section_mends 0 ss.value) r.value ≡ f = same-ok _ f r.later in
+    let is : found_record (mends ++ mends_in None m.kinds ++ section_mends 0 ss.value) r.value ≡ f =
+    same-ok (found_record (mends ++ mends_in None m.kinds ++ section_mends 0 ss.value) r.value) f r.later in
     let cut : Sections = record { maps = cut_maps ss.value; fault = None } in
     let j = step (joined_sections cut) (λ r. Ok (indexed_record file.value r)) r.value r.first in
     let k = joined-by (is_map_within_limits (joined cut.maps)) cut None j.value refl refl j.first in
-    let same : indexed_record file.value j.value ≡ r.value = same-ok _ r.value j.later in
+    let same : indexed_record file.value j.value ≡ r.value = same-ok (indexed_record file.value j.value) r.value j.later in
     let good = joined-sound None ss.value (sections-sound None 0 items.value ss.value ss.first) in
     let whole : IsSound (indexed_record file.value (joined cut.maps)) =
     record { sorted = good.sorted; in_range = record { tokens = good.in_range.tokens; ignore_list = good.in_range.ignore_list }; chunks = tt } in

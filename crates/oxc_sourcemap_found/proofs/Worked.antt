@@ -1,5 +1,5 @@
 -- Worked examples, computed by the definitions themselves.
-use Rattle.std.specs.Prelude.{◌≡◌, refl, [], ◌∷◌, codes, List}
+use Rattle.std.specs.Prelude.{◌≡◌, refl, [], ◌∷◌, codes, List, ℕ, true, false, Some, None}
 use Rattle.oxc_sourcemap_url.specs.DataUrls.{decoded_data_url}
 use Rattle.oxc_sourcemap_tokens.specs.declared.position.Position.{Position}
 use Rattle.oxc_sourcemap_tokens.specs.Token.{TokenRecord}

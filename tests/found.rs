@@ -143,6 +143,52 @@ const OPENED: &[Row] = &[
      "error: JSON parsing error: the text is not JSON"),
 ];
 
+/// Sections of indexed maps.
+#[rattlefmt::skip]
+const SECTIONS: &[Row] = &[
+    // Each section is mended as a map by itself; ids are ids of its own lists.
+    (r#"{"version":3,"sections":[{"offset":{"line":0,"column":0},"map":{"version":3,"sources":[null],"mappings":"AAAAA,CCAA"}},{"offset":{"line":1,"column":0},"map":{"version":"3","names":null,"mappings":"AAAA"}}]}"#,
+     "{\"version\":3,\"names\":[],\"sources\":[\"\"],\"mappings\":\"AAAA,C;A\"}\nsection 0: source 0 is null, and is read as an empty text\nsection 0: tokens with a source id out of range, which are read as unmapped: 1\nsection 0: tokens with a name id out of range, which are read without a name: 1\nsection 1: version is 3.0 or the text 3, and is read as 3\nsection 1: sources is missing, and is read as an empty list\nsection 1: names is null, and is read as missing\nsection 1: tokens with a source id out of range, which are read as unmapped: 1"),
+    (r#"{"version":3,"sections":[{"offset":{"line":0,"column":0},"map":{"version":3,"sources":["a.js"],"mappings":"GAAA,HACA"}},{"offset":{"line":0,"column":9},"map":{"version":3,"sources":["b.js"],"sourcesContent":[1],"ignoreList":[0,1],"mappings":"AAAA"}}]}"#,
+     "{\"version\":3,\"names\":[],\"sources\":[\"a.js\",\"b.js\"],\"ignoreList\":[1],\"mappings\":\"AACA,GADA,MCAA\"}\nsection 0: the tokens are not in order, and are sorted\nsection 1: content 0 is neither a text nor null, and is read as null\nsection 1: entry 1 of ignoreList is no id of a source, and is left out"),
+    (r#"{"version":3.0,"file":"f","names":7,"sections":[{"offset":{"line":0,"column":0},"map":{"version":3,"sources":["a.js"],"mappings":"AAAA"}}]}"#,
+     "{\"version\":3,\"file\":\"f\",\"names\":[],\"sources\":[\"a.js\"],\"mappings\":\"AAAA\"}\nversion is 3.0 or the text 3, and is read as 3"),
+    // A section that reaches into the next is cut; a token where that begins stays.
+    (r#"{"version":3,"sections":[{"offset":{"line":0,"column":0},"map":{"version":3,"sources":["a.js"],"mappings":"AAAA,IAAI,CAAC"}},{"offset":{"line":0,"column":4},"map":{"version":3,"sources":["b.js"],"mappings":"AAAA"}}]}"#,
+     "{\"version\":3,\"names\":[],\"sources\":[\"a.js\",\"b.js\"],\"mappings\":\"AAAA,IAAI,ACAJ\"}\nsection 0: tokens behind the beginning of the next section, which are left out: 1"),
+    (r#"{"version":3,"sections":[{"offset":{"line":0,"column":0},"map":{"version":3,"sources":["a.js"],"mappings":"AAAA;EAAA;;EAAA"}},{"offset":{"line":1,"column":2},"map":{"version":3,"sources":[],"mappings":""}},{"offset":{"line":1,"column":3},"map":{"version":3,"sources":["b.js"],"mappings":"AAAA"}}]}"#,
+     "{\"version\":3,\"names\":[],\"sources\":[\"a.js\",\"b.js\"],\"mappings\":\"AAAA;EAAA,CCAA\"}\nsection 0: tokens behind the beginning of the next section, which are left out: 1"),
+    (r#"{"version":3,"sections":[{"offset":{"line":2,"column":5},"map":{"version":3,"sources":["a.js"],"mappings":"AAAA,EAAE;AAAA"}},{"offset":{"line":2,"column":6},"map":{"version":3,"sources":["b.js"],"mappings":"AAAA"}}]}"#,
+     "{\"version\":3,\"names\":[],\"sources\":[\"a.js\",\"b.js\"],\"mappings\":\";;KAAA,CCAA\"}\nsection 0: tokens behind the beginning of the next section, which are left out: 2"),
+    (r#"{"version":3,"sections":[{"offset":{"line":0,"column":0},"map":{"version":3,"sources":["a.js"],"mappings":"IAAA,JAAA"}},{"offset":{"line":0,"column":2},"map":{"version":3,"sources":["b.js"],"mappings":"AAAA"}},{"offset":{"line":0,"column":2},"map":{"version":3,"sources":["c.js"],"mappings":"CAAA"}}]}"#,
+     "{\"version\":3,\"names\":[],\"sources\":[\"a.js\",\"b.js\",\"c.js\"],\"mappings\":\"AAAA,ECAA,CCAA\"}\nsection 0: the tokens are not in order, and are sorted\nsection 0: tokens behind the beginning of the next section, which are left out: 1"),
+    (r#"{"version":3,"sections":[{"offset":{"line":0,"column":4294967295},"map":{"version":3,"sources":["a.js"],"mappings":"CAAA"}},{"offset":{"line":0,"column":4294967295},"map":{"version":3,"sources":[],"mappings":"A"}}]}"#,
+     "{\"version\":3,\"names\":[],\"sources\":[\"a.js\"],\"mappings\":\"+/////H\"}\nsection 0: tokens behind the beginning of the next section, which are left out: 1"),
+    // What is refused as by the exact reader: the order of offsets, offsets, no map, an inner indexed map, mappings; the limits come last.
+    (r#"{"version":3,"sections":[{"offset":{"line":0,"column":4},"map":{"version":3,"sources":["a.js"],"mappings":""}},{"offset":{"line":0,"column":3},"map":3}]}"#,
+     "error: Section 1 begins before the end of what is in front of it"),
+    (r#"{"version":3,"sections":[{"offset":{"line":0},"map":3}]}"#,
+     "error: JSON parsing error: field offset is missing or has the wrong type"),
+    (r#"{"version":3,"sections":[3]}"#,
+     "error: JSON parsing error: field sections is missing or has the wrong type"),
+    (r#"{"version":3,"sections":[{"offset":{"line":0,"column":0}}]}"#,
+     "error: JSON parsing error: field map is missing or has the wrong type"),
+    (r#"{"version":3,"sections":[{"offset":{"line":0,"column":0},"map":{"version":3,"sections":[],"mappings":""}}]}"#,
+     "error: JSON parsing error: field map is missing or has the wrong type"),
+    (r#"{"version":3,"sections":[{"offset":{"line":0,"column":0},"map":{"version":3,"sources":["a.js"],"mappings":"AA"}}]}"#,
+     "error: Mapping segment had an unsupported size of 2"),
+    (r#"{"version":3,"sections":[{"offset":{"line":0,"column":0},"map":{"version":3,"sources":[]}}]}"#,
+     "error: JSON parsing error: field mappings is missing or has the wrong type"),
+    (r#"{"version":4,"sections":[]}"#,
+     "error: JSON parsing error: unsupported source map version: 4"),
+    (r#"{"version":3,"sections":{}}"#,
+     "error: JSON parsing error: field sections is missing or has the wrong type"),
+    (r#"{"version":3,"sections":[{"offset":{"line":0,"column":4294967295},"map":{"version":3,"sources":["a.js"],"mappings":"CAAA"}}]}"#,
+     "error: A line, an id or a count is too large"),
+    (r#"{"version":3,"sections":[{"offset":{"line":0,"column":4294967295},"map":{"version":3,"sources":["a.js"],"mappings":"CAAA"}},{"offset":{"line":1,"column":0},"map":{"version":3,"sources":["a.js"],"mappings":"AA"}}]}"#,
+     "error: Mapping segment had an unsupported size of 2"),
+];
+
 /// What is found, as a row has it.
 fn answer(alloc: Global, text: &str) -> Result<String> {
     let found = match read_found(alloc, text) {
@@ -178,6 +224,11 @@ fn what_is_not_mended_is_refused(rt: HostRuntime) -> Result<()> {
 #[test]
 fn what_is_in_front_is_passed_over(rt: HostRuntime) -> Result<()> {
     are_found(&rt, OPENED)
+}
+
+#[test]
+fn sections_are_mended_and_cut(rt: HostRuntime) -> Result<()> {
+    are_found(&rt, SECTIONS)
 }
 
 /// A map that the exact reader reads, and that is sorted, is read as the same.

@@ -1,5 +1,5 @@
 #!/usr/bin/env python3
-"""Compares `read_found` with the plain reference (tests/reference/found.py) on random maps in which members are changed.
+"""Compares `read_found` with the plain reference (tests/reference/found.py) on random maps and indexed maps in which members are changed.
 
     tools/compare_found.py [--program PROGRAM] [--cases N]
 
@@ -58,6 +58,19 @@ def changed(chosen, value):
     return value
 
 
+def random_value(chosen):
+    """A map by itself, or an indexed map, whose sections may reach into the next ones."""
+    if chosen.random() < 0.6:
+        return changed(chosen, random_map(chosen))
+    places = [(chosen.randrange(3), chosen.randrange(9)) for _ in range(chosen.randrange(4))]
+    one = lambda: random_map(chosen) if chosen.random() < 0.7 else changed(chosen, random_map(chosen))
+    sections = [{"offset": {"line": line, "column": column}, "map": one()}
+                for line, column in (sorted(places) if chosen.random() < 0.95 else places)]
+    if sections and chosen.random() < 0.05:
+        chosen.choice(sections)[chosen.choice(["offset", "map"])] = copy.deepcopy(chosen.choice(ODD))
+    return {"version": chosen.choice([3, 3, 3, 3, 3, 3.0, "3", 2]), "file": chosen.choice([None, "out.js"]), "sections": sections}
+
+
 def wrapped(chosen, text):
     """A text with something in front, or in a data URL."""
     head = chosen.choice(["application/json", "text/json", "Application/JSON;charset=utf-8", "text/plain", "application/json;x"])
@@ -84,7 +97,7 @@ def main():
     asking.program = options.program
     chosen, requests, kinds = random.Random(4), Requests(), Counter()
     for _ in range(options.cases):
-        text = json.dumps(changed(chosen, random_map(chosen)))
+        text = json.dumps(random_value(chosen))
         text = wrapped(chosen, text) if chosen.random() < 0.3 else text
         wanted = reference.answer(text)
         kinds[kind_of(wanted)] += 1

@@ -117,13 +117,17 @@ def mended_list(value, key, may_stay, stand_in, no_list, line):
     return [line.format(k) for k in bad(given, may_stay)]
 
 
+def mended_version(value):
+    version = value.get("version")
+    if version != "3" and not (type(version) is float and version == 3):
+        return []
+    value["version"] = 3
+    return ["version is 3.0 or the text 3, and is read as 3"]
+
+
 def mended(value):
     """Mends an object in place, and lists what was mended."""
-    lines = []
-    version = value.get("version")
-    if version == "3" or type(version) is float and version == 3:
-        value["version"] = 3
-        lines.append("version is 3.0 or the text 3, and is read as 3")
+    lines = mended_version(value)
     if "sources" not in value:
         value["sources"] = []
         lines.append("sources is missing, and is read as an empty list")
@@ -161,17 +165,19 @@ def all_of(holds):
     return lambda value: isinstance(value, list) and all(map(holds, value))
 
 
-def fields(value):
-    if not isinstance(value, dict):
-        raise Fault("JSON parsing error: the value is not an object")
+def file_of(value):
     if not is_id(value.get("version")):
         raise shape("version")
     if value["version"] != 3:
         raise Fault(f"JSON parsing error: unsupported source map version: {value['version']}")
+    return checked(value, "file", is_text, "null")
+
+
+def fields(value):
     ids = "ignoreList" if value.get("ignoreList") is not None else "x_google_ignoreList"
-    found = {}
+    found = {"file": file_of(value)}
     for key, holds, missing in (
-            ("file", is_text, "null"), ("mappings", is_text, ""), ("sourceRoot", is_text, "null"), ("sources", all_of(is_text), ""),
+            ("mappings", is_text, ""), ("sourceRoot", is_text, "null"), ("sources", all_of(is_text), ""),
             ("sourcesContent", all_of(lambda it: it is None or is_text(it)), "null"), ("names", all_of(is_text), "missing"),
             ("debugId", is_text, "null")):
         found[key] = checked(value, key, holds, missing)
@@ -227,28 +233,99 @@ def tokens_of(mappings, names, sources):
     return tokens
 
 
-# ---- what is found
+# ---- a map by itself
 
-def found_map(value):
-    """A map by itself: its fields, with `tokens`, and what was mended in them."""
-    given = fields(value)
+def with_ids(given):
+    """Its tokens with their ids in range, and what was mended in them."""
     tokens, names, sources = tokens_of(given["mappings"], MAX, MAX), len(given["names"]), len(given["sources"])
     unmapped = [t for t in tokens if t[4] is not None and t[4] >= sources]
     nameless = [t for t in tokens if t not in unmapped and t[5] is not None and t[5] >= names]
-    given["tokens"] = [[*t[:2], 0, 0, None, None] if t in unmapped else [*t[:5], None] if t in nameless else t for t in tokens]
+    tokens = [[*t[:2], 0, 0, None, None] if t in unmapped else [*t[:5], None] if t in nameless else t for t in tokens]
     lines = [(unmapped, "tokens with a source id out of range, which are read as unmapped: {}"),
              (nameless, "tokens with a name id out of range, which are read without a name: {}")]
-    return given, [line.format(len(them)) for them, line in lines if them]
+    return tokens, [line.format(len(them)) for them, line in lines if them]
 
+
+def plain_map(value):
+    """The fields of a map by itself, with `tokens`, and what was mended in it."""
+    lines = mended(value)
+    given = fields(value)
+    tokens, more = with_ids(given)
+    given["tokens"] = sorted(tokens, key=lambda t: t[:2])
+    return given, lines + more + ["the tokens are not in order, and are sorted"] * (tokens != given["tokens"])
+
+
+# ---- an indexed map
+
+def place_of(section, before, k):
+    """Where a section begins: not before the one in front of it."""
+    if not isinstance(section, dict):
+        raise shape("sections")
+    offset = section.get("offset")
+    if not (isinstance(offset, dict) and is_id(offset.get("line")) and is_id(offset.get("column"))):
+        raise shape("offset")
+    place = [offset["line"], offset["column"]]
+    if before is not None and place < before:
+        raise Fault(f"Section {k} begins before the end of what is in front of it")
+    return place
+
+
+def moved(token, place, names, sources):
+    """A token of a section in the join, after so many names and sources."""
+    line, column, src_line, src_col, source, name = token
+    raised = lambda id, count: None if id is None else id + count
+    return [line + place[0], column + place[1] * (line == 0), src_line, src_col, raised(source, sources), raised(name, names)]
+
+
+def joined(sections):
+    """The join of maps, each at its place. A token that is equal to the one in front, of the map before, is left out."""
+    join = NONE | {"names": [], "sources": [], "sourcesContent": [], "tokens": []}
+    for given, place in sections:
+        names, sources = len(join["names"]), len(join["sources"])
+        tokens = [moved(t, place, names, sources) for t in given["tokens"]]
+        join["tokens"] += tokens[1:] if tokens and join["tokens"][-1:] == tokens[:1] else tokens
+        if given["ignoreList"] is not None:
+            join["ignoreList"] = (join["ignoreList"] or []) + [id + sources for id in given["ignoreList"]]
+        join["names"], join["sources"] = join["names"] + given["names"], join["sources"] + given["sources"]
+        count = len(given["sources"])
+        join["sourcesContent"] += ((given["sourcesContent"] or []) + [None] * count)[:count]
+    if any(max(t[:2]) > MAX for t in join["tokens"]):
+        raise Fault("A line, an id or a count is too large")
+    return join
+
+
+def indexed_map(value):
+    """The join of the sections, each cut where the next one begins, and what was mended in them."""
+    mends = mended_version(value)
+    file, sections, before = file_of(value), [], None
+    if not isinstance(value["sections"], list):
+        raise shape("sections")
+    for k, section in enumerate(value["sections"]):
+        before = place_of(section, before, k)
+        inner = section.get("map")
+        if not isinstance(inner, dict) or inner.get("sections") is not None:
+            raise shape("map")
+        sections.append((*plain_map(inner), before))
+    cut = []
+    for k, (given, lines, place) in enumerate(sections):
+        nexts = [it[2] for it in sections[k + 1:k + 2]]
+        kept = [t for t in given["tokens"] if all(moved(t, place, 0, 0)[:2] <= it for it in nexts)]
+        count = len(given["tokens"]) - len(kept)
+        lines += [f"tokens behind the beginning of the next section, which are left out: {count}"] * (count > 0)
+        mends += [f"section {k}: {line}" for line in lines]
+        cut.append((given | {"tokens": kept}, place))
+    return joined(cut) | {"file": file}, mends
+
+
+# ---- what is found
 
 def found(text):
     text, mends = opened(text)
     value = json_value(text)
-    mends += mended(value) if isinstance(value, dict) else []
-    given, lines = found_map(value)
-    tokens = sorted(given["tokens"], key=lambda t: t[:2])
-    lines += ["the tokens are not in order, and are sorted"] * (tokens != given["tokens"])
-    return given | {"tokens": tokens}, mends + lines
+    if not isinstance(value, dict):
+        raise Fault("JSON parsing error: the value is not an object")
+    given, lines = (plain_map if value.get("sections") is None else indexed_map)(value)
+    return given, mends + lines
 
 
 def answer(text):

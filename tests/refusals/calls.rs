@@ -146,6 +146,12 @@ fn read_found_in_a_data_url(rt: HostRuntime) {
 }
 
 #[test]
+fn read_found_of_sections(rt: HostRuntime) {
+    let text = r#"{"version":"3","file":"f","sections":[{"offset":{"line":0,"column":0},"map":{"version":3,"sources":[null],"names":["n"],"mappings":"AAAAA,IAAI,CAAA"}},{"offset":{"line":0,"column":4},"map":{"version":3,"sources":["b.js"],"sourcesContent":[1],"ignoreList":[0],"mappings":"AAAA"}}]}"#;
+    refuse_each(&rt, nothing, |alloc, ()| oxc_sourcemap::read_found(alloc, text), |found| same(&rt, "mends", found.mends.len(), 4));
+}
+
+#[test]
 fn read_found(rt: HostRuntime) {
     refuse_each(&rt, nothing, |alloc, ()| oxc_sourcemap::read_found(alloc, MENDED_TEXT), |found| {
         same(&rt, "mends", found.mends.len(), 8);

@@ -109,6 +109,8 @@ pub use Rattle.oxc_sourcemap_found.specs.MendText
 pub use Rattle.oxc_sourcemap_found.specs.Opening
 pub use Rattle.oxc_sourcemap_found.specs.Mended
 pub use Rattle.oxc_sourcemap_found.specs.InRange
+pub use Rattle.oxc_sourcemap_found.specs.MendedMaps
+pub use Rattle.oxc_sourcemap_found.specs.MendedSections
 pub use Rattle.oxc_sourcemap_found.specs.FoundMaps
 pub use Rattle.oxc_sourcemap_found.specs.FoundLaws
 pub mod Words

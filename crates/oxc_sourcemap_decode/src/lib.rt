@@ -7,5 +7,7 @@ mod place;
 mod sections;
 
 pub use decode::decode_parts;
-pub use place::place_after;
-pub use sections::{decode_parts_from_string, decode_parts_from_value};
+pub use place::{may_follow, place_after, place_in};
+pub use sections::{
+    decode_parts_from_string, decode_parts_from_value, into_member, is_indexed, is_plain,
+};

@@ -25,8 +25,9 @@ fn as_place(value: &Value) -> Option<Position>
     Some(Position { line, column })
 }
 
-/// The offset of a section.
-fn place_in(section: &Value) -> Result<Position>
+/// The offset of a section. Fails with `BadJson(Shape(Sections))` if the section is no object, then with
+/// `BadJson(Shape(Offset))` if its offset is no object with a line and a column.
+pub fn place_in(section: &Value) -> Result<Position>
     ensures { result ≡ place_in (view section.now) }
 {
     if !section.is_object() {
@@ -49,7 +50,7 @@ fn position_of(token: Token) -> Position
 }
 
 /// Whether a position is not before another one, if there is another one.
-fn may_follow(before: Option<Position>, place: Position) -> bool
+pub fn may_follow(before: Option<Position>, place: Position) -> bool
     ensures { result ≡ may_follow before place }
 {
     match before {

@@ -16,7 +16,7 @@ use serde_json::Value;
 use std::alloc::Global;
 
 /// A member of a value, moved out of it. The rest of the value is dropped.
-fn into_member(value: Value, key: &str) -> Option<Value>
+pub fn into_member(value: Value, key: &str) -> Option<Value>
     ensures { option_map view result ≡ get key.now (view value) }
 {
     match value {
@@ -26,7 +26,7 @@ fn into_member(value: Value, key: &str) -> Option<Value>
 }
 
 /// Whether a value is an indexed map.
-fn is_indexed(value: &Value) -> bool
+pub fn is_indexed(value: &Value) -> bool
     ensures { result ≡ is_indexed (view value.now) }
 {
     match value.get("sections") {
@@ -36,7 +36,7 @@ fn is_indexed(value: &Value) -> bool
 }
 
 /// Whether a value may be the map of a section: an object that is not an indexed map.
-fn is_plain(value: &Value) -> bool
+pub fn is_plain(value: &Value) -> bool
     ensures { result ≡ is_plain (view value.now) }
 {
     !is_indexed(value) && value.is_object()

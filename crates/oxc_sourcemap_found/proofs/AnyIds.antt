@@ -11,7 +11,7 @@ use Rattle.oxc_sourcemap_tokens.specs.Token.{TokenRecord}
 use Rattle.oxc_sourcemap_json.specs.Json.{JsonRecord}
 use Rattle.oxc_sourcemap_parts.specs.Record.{MapRecord}
 use Rattle.oxc_sourcemap_decode.specs.Decoded.{decoded_record, with_tokens, json_fault, decoded}
-use Rattle.oxc_sourcemap_found.specs.FoundMaps.{decoded_with_any_ids}
+use Rattle.oxc_sourcemap_found.specs.MendedMaps.{decoded_with_any_ids}
 use Rattle.oxc_sourcemap_mappings.specs.Parts.{Segment, has_source, has_name, lines}
 use Rattle.oxc_sourcemap_mappings.specs.Places.{Place, Before, nothing_before, place, past_segment}
 use Rattle.oxc_sourcemap_mappings.specs.Places.{past_line}

@@ -126,7 +126,7 @@ not-three (string s) n e = cc
 not-three (array ds) n e = refl
 not-three (object ms) n e = refl
 
-version-kept : (o : Option Data) (n : ℕ) → version_of o ≡ Ok n → version_change o ≡ None
+pub version-kept : (o : Option Data) (n : ℕ) → version_of o ≡ Ok n → version_change o ≡ None
 version-kept None n e = refl
 version-kept (Some d) n e =
     let s = step (or_misshapen VersionField (as_id d)) version_three n e in

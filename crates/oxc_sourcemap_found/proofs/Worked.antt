@@ -1,9 +1,15 @@
 -- Worked examples, computed by the definitions themselves.
-use Rattle.std.specs.Prelude.{◌≡◌, refl, [], ◌∷◌, codes, List}
+use Rattle.std.specs.Prelude.{◌≡◌, refl, [], ◌∷◌, codes, List, ℕ, true, false, Some, None}
 use Rattle.oxc_sourcemap_url.specs.DataUrls.{decoded_data_url}
+use Rattle.oxc_sourcemap_tokens.specs.declared.position.Position.{Position}
+use Rattle.oxc_sourcemap_tokens.specs.Token.{TokenRecord}
 use Rattle.oxc_sourcemap_parts.specs.Record.{Text}
+use Rattle.oxc_sourcemap_parts.specs.Views.{empty_record}
+use Rattle.oxc_sourcemap_join.specs.Joined.{position}
 use Rattle.oxc_sourcemap_found.specs.declared.mend.MendKind.{MendKind}
 use Rattle.oxc_sourcemap_found.specs.declared.mend.MendKind.TheVariants.{ByteOrderMark, JsonPrefix}
+use Rattle.oxc_sourcemap_found.specs.declared.mend.MendKind.TheVariants.{Unsorted, Cut}
+use Rattle.oxc_sourcemap_found.specs.MendedSections.{MendedSection, is_behind, section_mends}
 use Rattle.oxc_sourcemap_found.specs.Opening.{Opened, opened}
 
 abbrev opened_as : Text → List MendKind → Opened
@@ -24,3 +30,27 @@ opens-one_mark = refl
 opens-no_other_url : opened (codes "data:text/plain,{}") ≡ opened_as (codes "data:text/plain,{}") []
 unfolding opened decoded_data_url
 opens-no_other_url = refl
+
+-- ---- sections
+
+abbrev token : ℕ → ℕ → TokenRecord
+token line column = record { dst_line = line; dst_col = column; src_line = 0; src_col = 0; source_id = None; name_id = None }
+
+abbrev section : List TokenRecord → List MendKind → Position → MendedSection
+section tokens kinds place = (record { map = record empty_record { tokens = tokens }; kinds = kinds }, place)
+
+cuts-a_token_behind : is_behind (position 0 4) (position 0 0) (token 0 5) ≡ true
+cuts-a_token_behind = refl
+
+keeps-a_token_where_the_next_begins : is_behind (position 0 4) (position 0 0) (token 0 4) ≡ false
+keeps-a_token_where_the_next_begins = refl
+
+cuts-a_moved_token : is_behind (position 2 6) (position 2 5) (token 0 2) ≡ true
+cuts-a_moved_token = refl
+
+keeps-a_token_on_a_line_of_its_own : is_behind (position 3 0) (position 2 5) (token 1 0) ≡ false
+keeps-a_token_on_a_line_of_its_own = refl
+
+tells-by_section : section_mends 0 (section (token 0 0 ∷ token 0 5 ∷ []) [] (position 0 0) ∷ section (token 0 9 ∷ []) (Unsorted ∷ []) (position 0 4) ∷ [])
+    ≡ record { section = Some 0; kind = Cut 1 } ∷ record { section = Some 1; kind = Unsorted } ∷ []
+tells-by_section = refl

@@ -1,29 +1,24 @@
 -- A map as it is found: the map that a text is read as, and what was mended.
-use Rattle.std.specs.Prelude.{List, [], ◌∷◌, ◌++◌, map, Option, Some, None, Result, Ok, Err}
+use Rattle.std.specs.Prelude.{List, ◌++◌, Option, Some, None, Result, Ok, Err}
 use Rattle.std.specs.Prelude.{if◌then◌else◌}
-use Rattle.serde_json.specs.Data.{Data, object}
+use Rattle.serde_json.specs.Data.{Data, Members, object}
 use Rattle.serde_json.specs.Find.{as_object}
 use Rattle.serde_json.specs.Read.{read}
 use Rattle.oxc_sourcemap_tokens.specs.declared.error.Error.{Error}
 use Rattle.oxc_sourcemap_tokens.specs.declared.error.Error.TheVariants.{BadJson}
 use Rattle.oxc_sourcemap_tokens.specs.declared.error.JsonFault.TheVariants.{Reading}
 use Rattle.oxc_sourcemap_tokens.specs.declared.error.Field.TheVariants.{Object}
-use Rattle.oxc_sourcemap_tokens.specs.Errors.{unless}
-use Rattle.oxc_sourcemap_tokens.specs.Token.{TokenRecord}
-use Rattle.oxc_sourcemap_mappings.specs.Reading.{reading}
+use Rattle.oxc_sourcemap_tokens.specs.declared.position.Position.{Position}
 use Rattle.oxc_sourcemap_parts.specs.Record.{Text, MapRecord}
-use Rattle.oxc_sourcemap_parts.specs.Sorted.{are_tokens_sorted}
-use Rattle.oxc_sourcemap_json.specs.Json.{JsonRecord}
-use Rattle.oxc_sourcemap_json.specs.Shape.{◌>>=◌, or_misshapen, shape}
-use Rattle.oxc_sourcemap_sort.specs.Sorting.{sorted_map}
-use Rattle.oxc_sourcemap_decode.specs.Decoded.{with_tokens, json_fault}
+use Rattle.oxc_sourcemap_json.specs.Shape.{◌>>=◌, or_misshapen, file_of}
 use Rattle.oxc_sourcemap_decode.specs.Section.{is_indexed}
-use Rattle.oxc_sourcemap_decode.specs.ReadMap.{read_value}
+use Rattle.oxc_sourcemap_decode.specs.Sections.{joined_sections}
+use Rattle.oxc_sourcemap_decode.specs.ReadMap.{sections_in, indexed_record}
 use Rattle.oxc_sourcemap_found.specs.declared.mend.Mend.{Mend}
-use Rattle.oxc_sourcemap_found.specs.declared.mend.MendKind.{MendKind}
-use Rattle.oxc_sourcemap_found.specs.declared.mend.MendKind.TheVariants.{Unsorted}
-use Rattle.oxc_sourcemap_found.specs.InRange.{map_in_range, source_kinds, name_kinds}
-use Rattle.oxc_sourcemap_found.specs.Mended.{MendedMembers, mended_members}
+use Rattle.oxc_sourcemap_found.specs.Mended.{MendedMembers, with_version, as_found}
+use Rattle.oxc_sourcemap_found.specs.MendedMaps.{MendedMap, plain_map, mends_in}
+use Rattle.oxc_sourcemap_found.specs.MendedSections.{sections_from, cut_maps}
+use Rattle.oxc_sourcemap_found.specs.MendedSections.{section_mends}
 use Rattle.oxc_sourcemap_found.specs.Opening.{Opened, opened}
 
 -- the value of a text, or that it is not JSON
@@ -36,46 +31,43 @@ pub record FoundRecord : Type 0 where
   pub map : MapRecord
   pub mends : List Mend
 
--- a mend outside of sections
-abbrev pub mend_of : MendKind → Mend
-mend_of kind = record { section = None; kind = kind }
+abbrev pub found_record : List Mend → MapRecord → FoundRecord
+found_record mends r = record { map = r; mends = mends }
 
--- The map of a JSON source map, or its first fault, as the exact reader has it, but that ids in the mappings may be as large as
--- ids can be.
-abbrev pub decoded_with_any_ids : JsonRecord → Result MapRecord Error
-decoded_with_any_ids j = unless (json_fault j) (with_tokens j (reading j.mappings 4294967295 4294967295))
+-- a map by itself as it is found, after what was mended before
+abbrev pub found_plain : List Mend → MendedMap → FoundRecord
+found_plain mends m = found_record (mends ++ mends_in None m.kinds) m.map
 
--- what was mended in the order of tokens
-abbrev pub order_kinds : List TokenRecord → List MendKind
-order_kinds tokens = if are_tokens_sorted tokens then [] else Unsorted ∷ []
+-- the map of an object by itself, after what was mended before, or its first fault
+abbrev pub found_map : List Mend → Members → Result FoundRecord Error
+found_map mends ms = plain_map ms >>= (λ m. Ok (found_plain mends m))
 
--- a map with its ids in range and its tokens sorted, and what was mended: before, and in these
-abbrev pub found_record : List MendKind → MapRecord → FoundRecord
-found_record kinds r = record {
-  map = sorted_map (map_in_range r);
-  mends = map mend_of (kinds ++ source_kinds r ++ name_kinds r ++ order_kinds (map_in_range r).tokens);
-}
+-- the join of maps with this file, or that it is past the limits
+abbrev pub joined_map : List (MapRecord × Position) → Option Text → Result MapRecord Error
+joined_map maps file = joined_sections (record { maps = maps; fault = None }) >>= (λ r. Ok (indexed_record file r))
 
--- the map of an object whose members are mended, after what was mended before, or its first fault
-abbrev pub found_members : List MendKind → MendedMembers → Result FoundRecord Error
-found_members kinds m = do
-  fields ← shape (object m.members)
-  r ← decoded_with_any_ids fields
-  Ok (found_record (kinds ++ m.kinds) r)
+-- the map of an indexed map whose version is mended, after what was mended before, or its first fault
+abbrev pub found_sections : List Mend → MendedMembers → Result FoundRecord Error
+found_sections mends m = do
+  file ← file_of (object m.members)
+  items ← sections_in (object m.members)
+  ss ← sections_from None 0 items
+  r ← joined_map (cut_maps ss) file
+  Ok (found_record (mends ++ mends_in None m.kinds ++ section_mends 0 ss) r)
 
--- the map of an indexed map, or its first fault: nothing is mended in it before it is read
-abbrev pub found_indexed : List MendKind → Data → Result FoundRecord Error
-found_indexed kinds d = read_value d >>= (λ r. Ok (found_record kinds r))
+-- the map of an object, after what was mended before, or its first fault
+abbrev pub found_object : List Mend → Members → Result FoundRecord Error
+found_object mends ms =
+    if is_indexed (object ms) then found_sections mends (with_version (as_found ms))
+    else found_map mends ms
 
 -- the map of a JSON value, after what was mended before, or its first fault
-abbrev pub found_value : List MendKind → Data → Result FoundRecord Error
-found_value kinds d =
-    if is_indexed d then found_indexed kinds d
-    else (or_misshapen Object (as_object d) >>= (λ ms. found_members kinds (mended_members ms)))
+abbrev pub found_value : List Mend → Data → Result FoundRecord Error
+found_value mends d = or_misshapen Object (as_object d) >>= found_object mends
 
 -- the map of a text that was opened, or its first fault
 abbrev pub found_opened : Opened → Result FoundRecord Error
-found_opened o = or_not_json (read o.text) >>= found_value o.kinds
+found_opened o = or_not_json (read o.text) >>= found_value (mends_in None o.kinds)
 
 -- the map of a text, or its first fault
 unfoldable pub found : Text → Result FoundRecord Error

@@ -2,6 +2,8 @@ pub mod MendText
 pub mod Mended
 pub mod InRange
 pub mod Opening
+pub mod MendedMaps
+pub mod MendedSections
 pub mod FoundMaps
 pub mod FoundLaws
 pub mod States

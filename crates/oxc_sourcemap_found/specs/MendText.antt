@@ -12,7 +12,7 @@ use Rattle.oxc_sourcemap_found.specs.declared.mend.MendKind.TheVariants.{NoIgnor
 use Rattle.oxc_sourcemap_found.specs.declared.mend.MendKind.TheVariants.{NoGoogleIgnoreList}
 use Rattle.oxc_sourcemap_found.specs.declared.mend.MendKind.TheVariants.{BadGoogleIgnoredId}
 use Rattle.oxc_sourcemap_found.specs.declared.mend.MendKind.TheVariants.{SourceIds, NameIds}
-use Rattle.oxc_sourcemap_found.specs.declared.mend.MendKind.TheVariants.{Unsorted}
+use Rattle.oxc_sourcemap_found.specs.declared.mend.MendKind.TheVariants.{Unsorted, Cut}
 
 -- what was mended
 abbrev pub kind_text : MendKind → List ℕ
@@ -32,6 +32,7 @@ kind_text (BadGoogleIgnoredId k) = codes "entry " ++ decimal k ++ codes " of x_g
 kind_text (SourceIds count) = codes "tokens with a source id out of range, which are read as unmapped: " ++ decimal count
 kind_text (NameIds count) = codes "tokens with a name id out of range, which are read without a name: " ++ decimal count
 kind_text Unsorted = codes "the tokens are not in order, and are sorted"
+kind_text (Cut count) = codes "tokens behind the beginning of the next section, which are left out: " ++ decimal count
 
 -- the section in front of it, if there is one
 abbrev pub section_text : Option ℕ → List ℕ

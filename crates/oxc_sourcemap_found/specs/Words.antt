@@ -3,17 +3,16 @@ pub use Rattle.std.specs.List.{flat_map}
 pub use Rattle.serde_json.specs.Data.{Items, array, null, put}
 pub use Rattle.serde_json.specs.Find.{get_member, as_array, as_object}
 pub use Rattle.serde_json.specs.View.{view, items_view, members_view}
-pub use Rattle.oxc_sourcemap_decode.specs.ReadMap.{read_value}
-pub use Rattle.oxc_sourcemap_decode.specs.Section.{is_indexed}
+pub use Rattle.oxc_sourcemap_join.specs.Joined.{owned_records}
+pub use Rattle.oxc_sourcemap_decode.specs.ReadMap.{indexed_record}
 pub use Rattle.oxc_sourcemap_json.specs.Json.{json_record}
 pub use Rattle.oxc_sourcemap_json.specs.Members.{lent_member}
 pub use Rattle.oxc_sourcemap_json.specs.Shape.{present}
 pub use Rattle.oxc_sourcemap_parts.specs.Views.{record_of_parts}
 pub use Rattle.oxc_sourcemap_sort.specs.Sorting.{sorted_map}
 pub use Rattle.oxc_sourcemap_tokens.specs.Results.{Answers, OnlyMemory, lent_item}
-pub use Rattle.oxc_sourcemap_found.specs.FoundMaps.{mend_of, decoded_with_any_ids, order_kinds}
-pub use Rattle.oxc_sourcemap_found.specs.FoundMaps.{found_record, found_members, found_indexed}
-pub use Rattle.oxc_sourcemap_found.specs.FoundMaps.{found_value, found}
+pub use Rattle.oxc_sourcemap_found.specs.FoundMaps.{found_record, found_map, joined_map}
+pub use Rattle.oxc_sourcemap_found.specs.FoundMaps.{found_sections, found_value, found}
 pub use Rattle.oxc_sourcemap_found.specs.InRange.{is_past, has_bad_source, has_bad_name}
 pub use Rattle.oxc_sourcemap_found.specs.InRange.{token_in_range, map_in_range}
 pub use Rattle.oxc_sourcemap_found.specs.InRange.{source_kinds, name_kinds}
@@ -24,8 +23,14 @@ pub use Rattle.oxc_sourcemap_found.specs.Mended.{list_change, optional_list_chan
 pub use Rattle.oxc_sourcemap_found.specs.Mended.{replaced, with_version, with_sources}
 pub use Rattle.oxc_sourcemap_found.specs.Mended.{with_contents, with_names, with_ignore_list}
 pub use Rattle.oxc_sourcemap_found.specs.Mended.{with_google_ignore_list, source_count}
-pub use Rattle.oxc_sourcemap_found.specs.Mended.{mended_members}
+pub use Rattle.oxc_sourcemap_found.specs.Mended.{mended_members, as_found}
+pub use Rattle.oxc_sourcemap_found.specs.MendedMaps.{mends_in, decoded_with_any_ids, order_kinds}
+pub use Rattle.oxc_sourcemap_found.specs.MendedMaps.{mended_map, plain_map}
+pub use Rattle.oxc_sourcemap_found.specs.MendedSections.{place_from, map_from, section_from}
+pub use Rattle.oxc_sourcemap_found.specs.MendedSections.{sections_from, is_behind, cut_map}
+pub use Rattle.oxc_sourcemap_found.specs.MendedSections.{cut_kinds, cut_maps, section_mends}
 pub use Rattle.oxc_sourcemap_found.specs.Opening.{Opened, behind, without_mark, without_prefix}
 pub use Rattle.oxc_sourcemap_found.specs.Opening.{data_in, opened}
 pub use Rattle.oxc_sourcemap_found.specs.States.{state_of, found_view, opened_view}
+pub use Rattle.oxc_sourcemap_found.specs.States.{mended_view, section_view}
 pub use Rattle.oxc_sourcemap_found.specs.FoundLaws.{ExactIsFound, MendedIsMended, FoundIsSound}

@@ -1,24 +1,25 @@
 //! Reading a map as it is found.
-ghost use Rattle.std.specs.Prelude.{◌≡◌, map, option_map, IfOk};
-ghost use Rattle.oxc_sourcemap_found.specs.Words.{view, Answers, json_record, record_of_parts};
-ghost use Rattle.oxc_sourcemap_found.specs.Words.{is_indexed, decoded_with_any_ids, found_view};
-ghost use Rattle.oxc_sourcemap_found.specs.Words.{found_record, found_value, found, mend_of};
-ghost use Rattle.oxc_sourcemap_found.specs.Words.{found_members, mended_members};
-ghost use Rattle.oxc_sourcemap_found.specs.Words.{members_view, OnlyMemory, read_value, as_object};
+ghost use Rattle.std.specs.Prelude.{◌≡◌, option_map, string_bytes};
+ghost use Rattle.oxc_sourcemap_found.specs.Words.{view, Answers, record_of_parts, owned_records};
+ghost use Rattle.oxc_sourcemap_found.specs.Words.{joined_map, found_record, found_sections};
+ghost use Rattle.oxc_sourcemap_found.specs.Words.{indexed_record};
+ghost use Rattle.oxc_sourcemap_found.specs.Words.{found_value, found, found_view, found_map};
+ghost use Rattle.oxc_sourcemap_found.specs.Words.{with_version, as_found, members_view};
 
-use crate::members::mend_object;
-use crate::mend::{Mend, MendKind};
+use crate::cut::{cut_sections, mends_in};
+use crate::members::mend_version;
+use crate::mend::Mend;
 use crate::opening::open;
-use crate::tokens::{mend_ids, mend_order};
-use oxc_sourcemap_decode::{decode_parts, decode_parts_from_value};
-use oxc_sourcemap_json::{JSONSourceMap, json_of};
+use crate::plain::{into_object, mend_plain};
+use crate::sections::read_sections;
+use oxc_sourcemap_decode::{into_member, is_indexed};
+use oxc_sourcemap_join::join_owned_parts;
+use oxc_sourcemap_json::file_from_value;
 use oxc_sourcemap_map::SourceMap;
-use oxc_sourcemap_mappings::decode_mappings;
-use oxc_sourcemap_parts::SourceMapParts;
-use oxc_sourcemap_tokens::{Error, Field, JsonFault, Memory, Result};
+use oxc_sourcemap_parts::{SourceMapParts, from_string};
+use oxc_sourcemap_tokens::{Error, Field, JsonFault, Position, Result};
 use serde_json::{Map, Value};
 use std::alloc::Global;
-use std::mem;
 
 /// A map as it was found, and what was mended to read it.
 #[derive(Drop)]
@@ -29,109 +30,85 @@ pub struct Found {
     pub mends: Vec<Mend>,
 }
 
-/// Whether a value is an indexed map.
-fn is_indexed(value: &Value) -> bool
-    ensures { result ≡ is_indexed (view value.now) }
+/// The parts of a join as those of a map with this file, without chunks.
+fn with_file(mut parts: SourceMapParts<'static>, file: Option<String>) -> SourceMapParts<'static>
+    ensures { record_of_parts result
+        ≡ indexed_record (option_map string_bytes file) (record_of_parts parts.entry) }
 {
-    match value.get("sections") {
-        Some(sections) => !sections.is_null(),
-        None => false,
-    }
+    parts.file = from_string(file);
+    parts.token_chunks = None;
+    parts
 }
 
-/// Mends outside of sections.
-fn mends_of(alloc: Global, kinds: &[MendKind]) -> Memory<Vec<Mend>>
-    ensures { IfOk result (λ mends. mends.items ≡ map mend_of kinds.now) }
+/// The join of the maps of sections as a map with this file.
+fn join_maps(
+    alloc: Global,
+    maps: Vec<(SourceMapParts<'static>, Position)>,
+    file: Option<String>,
+) -> Result<SourceMapParts<'static>>
+    ensures { Answers record_of_parts result
+        (joined_map (owned_records maps.entry.items) (option_map string_bytes file)) }
 {
-    let mut mends = Vec::with_capacity(alloc, kinds.len())?;
-    for kind in kinds {
-        mends.push(Mend {
-            section: None,
-            kind: *kind,
-        })?;
-    }
-    Ok(mends)
+    let parts = join_owned_parts(alloc, maps)?;
+    Ok(with_file(parts, file))
 }
 
-/// The parts of the map of a JSON source map, whose mappings may have any ids.
-#[tactic(auto, using(crate::proofs::AnyIds::any_ok, crate::proofs::AnyIds::any_fault, crate::proofs::AnyIds::any_text_fault))]
-fn decode_with_any_ids(alloc: Global, mut json: JSONSourceMap) -> Result<SourceMapParts<'static>>
-    ensures { Answers record_of_parts result (decoded_with_any_ids (json_record json)) }
-{
-    let mappings = mem::replace(&mut json.mappings, String::new(alloc));
-    let mut parts = decode_parts(alloc, json)?;
-    let any = u32::MAX as usize;
-    parts.tokens = decode_mappings(alloc, mappings.as_str(), any, any)?;
-    Ok(parts)
-}
-
-/// The parts of the map of an object that is no indexed map, before their tokens are mended. What is mended is told of after what
-/// was mended before.
-fn parts_of_object(
+/// The parts of the map of an indexed map. What is mended is told of after what was mended before.
+fn parts_of_indexed(
     alloc: Global,
     object: Map<String, Value>,
-    kinds: &mut Vec<MendKind>,
+    mends: &mut Vec<Mend>,
 ) -> Result<SourceMapParts<'static>>
-    ensures { Answers (λ parts. found_record kinds.new.items (record_of_parts parts)) result
-        (found_members kinds.old.items (mended_members (members_view object.entries))) }
+    ensures { Answers (λ parts. found_record mends.new.items (record_of_parts parts)) result
+        (found_sections mends.old.items (with_version (as_found (members_view object.entries)))) }
 {
-    let (object, mut mended) = mend_object(alloc, object)?;
-    kinds.append(&mut mended)?;
-    let json = json_of(alloc, Value::Object(object))?;
-    decode_with_any_ids(alloc, json)
+    let (object, kinds) = mend_version(alloc, object)?;
+    let value = Value::Object(object);
+    let file = file_from_value(alloc, &value)?;
+    let Some(Value::Array(items)) = into_member(value, "sections") else {
+        return Err(Error::BadJson(JsonFault::Shape(Field::Sections)));
+    };
+    let sections = read_sections(alloc, items)?;
+    let mut cut = cut_sections(alloc, sections)?;
+    let mut told = mends_in(alloc, None, kinds.as_slice())?;
+    mends.append(&mut told)?;
+    mends.append(&mut cut.mends)?;
+    join_maps(alloc, cut.maps, file)
 }
 
-/// The object that a value is.
-fn into_object(value: Value) -> Option<Map<String, Value>>
-    ensures { option_map (λ object. members_view object.entries) result ≡ as_object (view value) }
+/// The parts of the map of a map by itself. What is mended is told of after what was mended before.
+fn parts_of_plain(
+    alloc: Global,
+    object: Map<String, Value>,
+    mends: &mut Vec<Mend>,
+) -> Result<SourceMapParts<'static>>
+    ensures { Answers (λ parts. found_record mends.new.items (record_of_parts parts)) result
+        (found_map mends.old.items (members_view object.entries)) }
 {
-    match value {
-        Value::Object(object) => Some(object),
-        _ => None,
-    }
+    let map = mend_plain(alloc, object)?;
+    let mut told = mends_in(alloc, None, map.kinds.as_slice())?;
+    mends.append(&mut told)?;
+    Ok(map.parts)
 }
 
-/// The parts of the map of an indexed map.
-fn parts_of_indexed(alloc: Global, value: Value) -> Result<SourceMapParts<'static>>
-    ensures { Answers record_of_parts result (read_value (view value)) }
-{
-    let parts = decode_parts_from_value(alloc, &value)?;
-    Ok(parts)
-}
-
-/// The parts of the map of a JSON value, before their tokens are mended. What is mended is told of after what was mended before.
+/// The parts of the map of a JSON value. What is mended is told of after what was mended before.
 fn parts_of_value(
     alloc: Global,
     value: Value,
-    kinds: &mut Vec<MendKind>,
+    mends: &mut Vec<Mend>,
 ) -> Result<SourceMapParts<'static>>
-    ensures { Answers (λ parts. found_record kinds.new.items (record_of_parts parts)) result
-        (found_value kinds.old.items (view value)) }
+    ensures { Answers (λ parts. found_record mends.new.items (record_of_parts parts)) result
+        (found_value mends.old.items (view value)) }
 {
-    if is_indexed(&value) {
-        return parts_of_indexed(alloc, value);
-    }
+    let has_sections = is_indexed(&value);
     let Some(object) = into_object(value) else {
         return Err(Error::BadJson(JsonFault::Shape(Field::Object)));
     };
-    parts_of_object(alloc, object, kinds)
-}
-
-/// The map of these parts, with its ids in range and its tokens sorted, and what was mended before and is mended now.
-fn finish(
-    alloc: Global,
-    mut kinds: Vec<MendKind>,
-    mut parts: SourceMapParts<'static>,
-) -> Result<Found>
-    ensures found { IfOk result (λ f. found_view f
-        ≡ found_record kinds.items (record_of_parts parts.entry)) }
-    ensures error { OnlyMemory result }
-{
-    mend_ids(alloc, &mut kinds, &mut parts)?;
-    mend_order(alloc, &mut kinds, &mut parts)?;
-    let mends = mends_of(alloc, kinds.as_slice())?;
-    let map = SourceMap::from_parts(parts);
-    Ok(Found { map, mends })
+    if has_sections {
+        parts_of_indexed(alloc, object, mends)
+    } else {
+        parts_of_plain(alloc, object, mends)
+    }
 }
 
 /// Reads the map of a JSON text as it is found: what the exact reader refuses and docs/FORMAT.md, "Maps as they are found",
@@ -150,17 +127,20 @@ fn finish(
 /// A text that the exact reader reads as a sorted map is read as this map, and nothing is mended (`mending_harmless`). What is
 /// not in the list is refused, in this order:
 /// - `BadJson(Reading)` if `serde_json` reads no value in what is left of the text, as for any URL but a data URL of JSON;
-/// - for an indexed map the errors of `decode_value`: of its sections nothing is mended;
 /// - `BadJson(Shape(Object))` if the value is no object, and then the errors of `JSONSourceMap::from_value` for the mended object;
-/// - the errors of `decode_mappings`, for as many names and sources as there can be: a source or name id may be up to 4294967294.
+/// - the errors of `decode_mappings`, for as many names and sources as there can be: a source or name id may be up to 4294967294;
+/// - for an indexed map the errors of `decode_value`, and of its sections the above, but `SectionOrder(k)` only if the offset of
+///   section k is before that of the section in front of it; last of all `TooLarge`.
 ///
 /// Also `OutOfMemory` for want of memory, which may be before another error is found.
 #[tactic(auto, unfolding(crate::specs::FoundMaps::found))]
 pub fn read_found(alloc: Global, text: &str) -> Result<Found>
     ensures { Answers found_view result (found text.now) }
 {
-    let (json, mut kinds) = open(alloc, text)?;
+    let (json, kinds) = open(alloc, text)?;
+    let mut mends = mends_in(alloc, None, kinds.as_slice())?;
     let value = Value::from_str(alloc, json.as_str())?;
-    let parts = parts_of_value(alloc, value, &mut kinds)?;
-    finish(alloc, kinds, parts)
+    let parts = parts_of_value(alloc, value, &mut mends)?;
+    let map = SourceMap::from_parts(parts);
+    Ok(Found { map, mends })
 }

@@ -1,11 +1,14 @@
 //! Maps as they are found: a reader that mends what the exact reader refuses. Part of `oxc_sourcemap`.
 #![tactic(auto)]
 
+mod cut;
 mod found;
 mod laws;
 mod members;
 mod mend;
 mod opening;
+mod plain;
+mod sections;
 mod tokens;
 
 pub use found::{Found, read_found};

@@ -9,7 +9,7 @@ ghost use Rattle.oxc_sourcemap_found.specs.Words.{list_change, optional_list_cha
 ghost use Rattle.oxc_sourcemap_found.specs.Words.{replaced, state_of, source_count, with_version};
 ghost use Rattle.oxc_sourcemap_found.specs.Words.{with_sources, with_contents, with_names};
 ghost use Rattle.oxc_sourcemap_found.specs.Words.{with_ignore_list, with_google_ignore_list};
-ghost use Rattle.oxc_sourcemap_found.specs.Words.{mended_members, Items, array, null};
+ghost use Rattle.oxc_sourcemap_found.specs.Words.{mended_members, Items, array, null, as_found};
 
 use crate::mend::MendKind;
 use oxc_sourcemap_json::read_id;
@@ -295,6 +295,32 @@ impl Mending {
     }
 }
 
+/// The members of an object while they are mended; nothing is mended so far.
+fn nothing_mended(alloc: Global, object: Map<String, Value>) -> Mending
+    ensures { state_of result ≡ as_found (members_view object.entries) }
+{
+    let kinds = Vec::new(alloc);
+    Mending {
+        alloc,
+        object,
+        kinds,
+    }
+}
+
+/// Mends the version alone of an object, and returns both the object and what was mended.
+pub(crate) fn mend_version(
+    alloc: Global,
+    object: Map<String, Value>,
+) -> Memory<(Map<String, Value>, Vec<MendKind>)>
+    ensures { IfOk result (λ m. with_version (as_found (members_view object.entries))
+        ≡ record { members = members_view m.0.entries; kinds = m.1.items }) }
+{
+    let mut mending = nothing_mended(alloc, object);
+    mending.mend_version()?;
+    let Mending { object, kinds, .. } = mending;
+    Ok((object, kinds))
+}
+
 /// Mends the members of a map by itself in their object, and returns both the object and what was mended.
 pub(crate) fn mend_object(
     alloc: Global,
@@ -303,12 +329,7 @@ pub(crate) fn mend_object(
     ensures { IfOk result (λ m. mended_members (members_view object.entries)
         ≡ record { members = members_view m.0.entries; kinds = m.1.items }) }
 {
-    let kinds = Vec::new(alloc);
-    let mut mending = Mending {
-        alloc,
-        object,
-        kinds,
-    };
+    let mut mending = nothing_mended(alloc, object);
     mending.mend_version()?;
     mending.mend_sources()?;
     mending.mend_contents()?;

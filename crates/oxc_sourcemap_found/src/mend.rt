@@ -56,6 +56,8 @@ pub enum MendKind {
     NameIds(usize),
     /// The tokens are not in order of generated line and column, and are sorted.
     Unsorted,
+    /// So many tokens of the section are behind the beginning of the next one, and are left out.
+    Cut(usize),
 }
 
 impl fmt::Display for MendKind {
@@ -112,6 +114,12 @@ impl fmt::Display for MendKind {
                 )
             }
             MendKind::Unsorted => write!(f, "the tokens are not in order, and are sorted"),
+            MendKind::Cut(count) => {
+                write!(
+                    f,
+                    "tokens behind the beginning of the next section, which are left out: {count}"
+                )
+            }
         }
     }
 }

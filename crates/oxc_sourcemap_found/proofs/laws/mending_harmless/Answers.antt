@@ -1,5 +1,5 @@
 use Rattle.std.proofs.Common.{ap}
-use Rattle.oxc_sourcemap_found.proofs.Sound.{exact-found, found-sound}
+use Rattle.oxc_sourcemap_found.proofs.Reader.{exact-found, found-sound}
 use Rattle.oxc_sourcemap_found.proofs.Twice.{mended-twice}
 use Rattle.oxc_sourcemap_found.proofs.laws.mending_harmless.Goals as goal
 

@@ -7,7 +7,7 @@ use Rattle.oxc_sourcemap_parts.specs.Views.{record_of_parts}
 use Rattle.oxc_sourcemap_tokens.proofs.Carried.{failed-answer}
 use Rattle.oxc_sourcemap_decode.specs.Decoded.{decoded}
 use Rattle.oxc_sourcemap_found.proofs.AnyIds.{any_ok, any_fault, any_text_fault}
-use Rattle.oxc_sourcemap_found.proofs.found.decode_with_any_ids.Goals as goal
+use Rattle.oxc_sourcemap_found.proofs.plain.decode_with_any_ids.Goals as goal
 
 pub returns-in_err-parts : goal.returns-in_err-parts
 returns-in_err-parts c =

@@ -1,46 +1,35 @@
--- Maps that are found: of an exact map nothing is mended, and each is sound.
+-- Maps by themselves: of an exact map nothing is mended, and each is sound.
 use Rattle.std.proofs.Common.{◌≡◌, ℕ, ◌<◌, Bool, true, false, cond, not, nat_lt, ◌==◌}
 use Rattle.std.proofs.Common.{List, [], ◌∷◌, ◌++◌, map, length, refl, ap, ◌∙◌, subst}
 use Rattle.std.proofs.Common.{arith, Option, Some, None, option_map, Result, Ok, Err}
 use Rattle.std.proofs.lemmas.Bool.Decides.{nat_tests}
 use Rattle.std.specs.List.{AllByRecursion, count_by}
 use Rattle.std.specs.Option.{IfSome}
-use Rattle.serde_json.specs.Data.{Data, null, boolean, number, string, array, object, Members}
-use Rattle.serde_json.specs.Read.{read}
+use Rattle.serde_json.specs.Data.{object, Members}
 use Rattle.oxc_sourcemap_tokens.specs.declared.error.Error.{Error}
 use Rattle.oxc_sourcemap_tokens.specs.declared.error.Error.TheVariants.{BadSourceReference}
 use Rattle.oxc_sourcemap_tokens.specs.Errors.{unless}
 use Rattle.oxc_sourcemap_tokens.specs.Token.{TokenRecord}
-use Rattle.oxc_sourcemap_parts.specs.Record.{Text, MapRecord}
+use Rattle.oxc_sourcemap_parts.specs.Record.{MapRecord}
 use Rattle.oxc_sourcemap_parts.specs.Sorted.{may_precede, are_tokens_sorted, token_line}
 use Rattle.oxc_sourcemap_parts.specs.Sorted.{token_column}
 use Rattle.oxc_sourcemap_parts.specs.Sound.{IsInRange, AreIdsInRange, IsSound}
 use Rattle.oxc_sourcemap_json.specs.Json.{JsonRecord}
-use Rattle.oxc_sourcemap_tokens.specs.declared.error.Field.TheVariants.{Object}
-use Rattle.oxc_sourcemap_json.specs.Shape.{◌>>=◌, or_misshapen, shape}
-use Rattle.serde_json.specs.Find.{as_object}
+use Rattle.oxc_sourcemap_json.specs.Shape.{◌>>=◌, shape}
 use Rattle.oxc_sourcemap_sort.specs.Sorting.{put_in, sorted_tokens, sorted_map}
 use Rattle.oxc_sourcemap_sort.proofs.Sorting.{sorted-once}
 use Rattle.oxc_sourcemap_decode.specs.Decoded.{decoded_record, with_tokens, json_fault, decoded}
 use Rattle.oxc_sourcemap_decode.specs.Decoded.{ignore_list_fault}
-use Rattle.oxc_sourcemap_decode.specs.Section.{is_indexed}
-use Rattle.oxc_sourcemap_decode.specs.ReadMap.{read_map, read_value}
 use Rattle.oxc_sourcemap_decode.proofs.ReadSound.{decoded-well}
-use Rattle.oxc_sourcemap_decode.proofs.WellRead.{read_well}
 use Rattle.oxc_sourcemap_found.specs.InRange.{is_past, has_bad_source, has_bad_name, token_in_range}
 use Rattle.oxc_sourcemap_found.specs.InRange.{map_in_range, source_kinds, name_kinds}
-use Rattle.oxc_sourcemap_found.specs.declared.mend.Mend.{Mend}
 use Rattle.oxc_sourcemap_found.specs.declared.mend.MendKind.{MendKind}
 use Rattle.oxc_sourcemap_found.specs.declared.mend.MendKind.TheVariants.{Unsorted}
-use Rattle.oxc_sourcemap_found.specs.FoundMaps.{FoundRecord, decoded_with_any_ids, found_record}
-use Rattle.oxc_sourcemap_found.specs.FoundMaps.{mend_of, order_kinds}
-use Rattle.oxc_sourcemap_found.specs.FoundMaps.{found_members, found_indexed, found_value}
-use Rattle.oxc_sourcemap_found.specs.FoundMaps.{found_opened, found}
-use Rattle.oxc_sourcemap_found.specs.Opening.{Opened, opened}
 use Rattle.oxc_sourcemap_found.specs.Mended.{MendedMembers, mended_members}
+use Rattle.oxc_sourcemap_found.specs.MendedMaps.{MendedMap, decoded_with_any_ids, mended_map}
+use Rattle.oxc_sourcemap_found.specs.MendedMaps.{order_kinds, map_of_members, plain_map}
 use Rattle.oxc_sourcemap_found.proofs.AnyIds.{reading-any_ids, reading-empty}
 use Rattle.oxc_sourcemap_found.proofs.Kept.{step, members-kept}
-use Rattle.oxc_sourcemap_found.proofs.OpenedJson.{opened-json}
 
 -- ---- tokens
 
@@ -89,16 +78,16 @@ sources-none r h = let a = no-bad-source (length r.names) (length r.sources) r.t
 names-none : (r : MapRecord) → AreIdsInRange r → name_kinds r ≡ []
 names-none r h = let b = no-bad-name (length r.names) (length r.sources) r.tokens h.tokens in rw b refl
 
-abbrev found_of : MapRecord → List Mend → FoundRecord
-found_of r mends = record { map = r; mends = mends }
+abbrev pub mended_as : MapRecord → List MendKind → MendedMap
+mended_as r kinds = record { map = r; kinds = kinds }
 
 -- of a map that is sorted and has its ids in range nothing is mended
-record-kept : (r : MapRecord) → AreIdsInRange r → are_tokens_sorted r.tokens ≡ true → found_record [] r ≡ record { map = r; mends = [] }
-record-kept r h s =
-    ap (λ (q : MapRecord). found_of (sorted_map q) (map mend_of ([] ++ source_kinds r ++ name_kinds r ++ order_kinds q.tokens))) (map-kept r h)
-    ∙ ap (λ (ks : List MendKind). found_of (sorted_map r) (map mend_of ([] ++ ks ++ name_kinds r ++ order_kinds r.tokens))) (sources-none r h)
-    ∙ ap (λ (ks : List MendKind). found_of (sorted_map r) (map mend_of ([] ++ [] ++ ks ++ order_kinds r.tokens))) (names-none r h)
-    ∙ ap (λ (t : Bool). found_of (cond t r (record r { tokens = sorted_tokens r.tokens; token_chunks = None })) (map mend_of ([] ++ [] ++ [] ++ cond t [] (Unsorted ∷ [])))) s
+map-stays : (r : MapRecord) → AreIdsInRange r → are_tokens_sorted r.tokens ≡ true → mended_map [] r ≡ mended_as r []
+map-stays r h s =
+    ap (λ (q : MapRecord). mended_as (sorted_map q) ([] ++ source_kinds r ++ name_kinds r ++ order_kinds q.tokens)) (map-kept r h)
+    ∙ ap (λ (ks : List MendKind). mended_as (sorted_map r) ([] ++ ks ++ name_kinds r ++ order_kinds r.tokens)) (sources-none r h)
+    ∙ ap (λ (ks : List MendKind). mended_as (sorted_map r) ([] ++ [] ++ ks ++ order_kinds r.tokens)) (names-none r h)
+    ∙ ap (λ (t : Bool). mended_as (cond t r (record r { tokens = sorted_tokens r.tokens; token_chunks = None })) ([] ++ [] ++ [] ++ cond t [] (Unsorted ∷ []))) s
 
 -- ---- exact maps
 
@@ -136,62 +125,17 @@ any-ids j r e =
     let same = t.is_map in
     rw (c.fault, any, same) refl
 
-plain-kept : (ms : Members) (r : MapRecord) → (shape (object ms) >>= decoded) ≡ Ok r → are_tokens_sorted r.tokens ≡ true
-    → found_members [] (mended_members ms) ≡ Ok (record { map = r; mends = [] })
+-- a map by itself that the exact reader reads
+pub plain-kept : (ms : Members) (r : MapRecord) → (shape (object ms) >>= decoded) ≡ Ok r → are_tokens_sorted r.tokens ≡ true → plain_map ms ≡ Ok (mended_as r [])
 plain-kept ms r e s =
     let j = step (shape (object ms)) decoded r e in
     let c = clear (json_fault j.value) _ r j.later in
     let list = list-clear (j.value.version == 3) _ (ignore_list_fault j.value) c.fault in
     let kept = members-kept ms j.value j.first list in
     let any = any-ids j.value r j.later in
-    let done = record-kept r (decoded-well j.value r j.later).in_range s in
+    let done = map-stays r (decoded-well j.value r j.later).in_range s in
     let fields = j.first in
     rw (kept, fields, any, done) refl
-
-indexed-kept : (d : Data) (r : MapRecord) → AreIdsInRange r → read_value d ≡ Ok r → are_tokens_sorted r.tokens ≡ true → found_indexed [] d ≡ Ok (record { map = r; mends = [] })
-indexed-kept d r h e s = let done = record-kept r h s in rw (e, done) refl
-
-indexed-value : (d : Data) (r : MapRecord) → is_indexed d ≡ true → AreIdsInRange r → read_value d ≡ Ok r → are_tokens_sorted r.tokens ≡ true
-    → found_value [] d ≡ Ok (record { map = r; mends = [] })
-indexed-value d r b h e s = let done = indexed-kept d r h e s in rw b done
-
-plain-value : (d : Data) (r : MapRecord) → is_indexed d ≡ false → read_value d ≡ Ok r → are_tokens_sorted r.tokens ≡ true
-    → found_value [] d ≡ Ok (record { map = r; mends = [] })
-unfolding read_value shape
-plain-value null r b e s = cc
-plain-value (boolean x) r b e s = cc
-plain-value (number n) r b e s = cc
-plain-value (string t) r b e s = cc
-plain-value (array ds) r b e s = cc
-plain-value (object ms) r b e s = let plain = rw b at e in let done = plain-kept ms r plain s in rw b done
-
-value-kept : (b : Bool) (d : Data) (r : MapRecord) → is_indexed d ≡ b → AreIdsInRange r → read_value d ≡ Ok r → are_tokens_sorted r.tokens ≡ true
-    → found_value [] d ≡ Ok (record { map = r; mends = [] })
-value-kept true d r b h e s = indexed-value d r b h e s
-value-kept false d r b h e s = plain-value d r b e s
-
--- the value of a text that is a map
-record Valued (text : Text) (r : MapRecord) : Type 0 where
-  value : Data
-  is : read text ≡ Some value
-  map : read_value value ≡ Ok r
-
-valued-at : (o : Option Data) (text : Text) (r : MapRecord) → read text ≡ o → read_map text ≡ Ok r → Valued text r
-unfolding read_map read_value
-valued-at None text r is e = let h = rw is at e in cc
-valued-at (Some d) text r is e = record { value = d; is = is; map = rw is at e }
-
-valued : (text : Text) (r : MapRecord) → read_map text ≡ Ok r → Valued text r
-valued text r e = valued-at (read text) text r refl e
-
--- What the exact reader reads with sorted tokens is read as the same map, and nothing is mended.
-pub exact-found : (text : Text) (r : MapRecord) → read_map text ≡ Ok r → are_tokens_sorted r.tokens ≡ true → found text ≡ Ok (record { map = r; mends = [] })
-unfolding found
-exact-found text r e s =
-    let v = valued text r e in
-    let is = v.is in
-    ap found_opened (opened-json text v.value is)
-    ∙ rw is (value-kept (is_indexed v.value) v.value r refl (read_well text r e).in_range v.map s)
 
 -- ---- sound maps
 
@@ -251,34 +195,13 @@ fine x = Ok x
 ok-same : {A : Type 0} (x y : A) → fine x ≡ fine y → x ≡ y
 ok-same x y e = cc
 
-members-sound : (kinds : List MendKind) (m : MendedMembers) (f : FoundRecord) → found_members kinds m ≡ Ok f → IsSound f.map
-members-sound kinds m f e =
-    let fields = step (shape (object m.members)) (λ j. decoded_with_any_ids j >>= (λ r. Ok (found_record (kinds ++ m.kinds) r))) f e in
-    let map = step (decoded_with_any_ids fields.value) (λ r. Ok (found_record (kinds ++ m.kinds) r)) f fields.later in
-    let is : found_record (kinds ++ m.kinds) map.value ≡ f = ok-same _ _ map.later in
-    subst (λ (g : FoundRecord). IsSound g.map) is (sound-of map.value (ready-plain fields.value map.value map.first))
+members-sound : (m : MendedMembers) (f : MendedMap) → map_of_members m ≡ Ok f → IsSound f.map
+members-sound m f e =
+    let fields = step (shape (object m.members)) (λ j. decoded_with_any_ids j >>= (λ r. Ok (mended_map m.kinds r))) f e in
+    let map = step (decoded_with_any_ids fields.value) (λ r. Ok (mended_map m.kinds r)) f fields.later in
+    let is : mended_map m.kinds map.value ≡ f = ok-same _ _ map.later in
+    subst (λ (g : MendedMap). IsSound g.map) is (sound-of map.value (ready-plain fields.value map.value map.first))
 
-indexed-sound : (kinds : List MendKind) (text : Text) (d : Data) (f : FoundRecord) → read text ≡ Some d → found_indexed kinds d ≡ Ok f → IsSound f.map
-unfolding read_map read_value
-indexed-sound kinds text d f is e =
-    let map = step (read_value d) (λ r. Ok (found_record kinds r)) f e in
-    let whole : read_map text ≡ Ok map.value = rw is map.first in
-    let well = read_well text map.value whole in
-    let same : found_record kinds map.value ≡ f = ok-same _ _ map.later in
-    subst (λ (g : FoundRecord). IsSound g.map) same (sound-of map.value (record { chunks = well.chunks; ignore_list = well.in_range.ignore_list }))
-
-value-sound : (kinds : List MendKind) (text : Text) (b : Bool) (d : Data) (f : FoundRecord) → read text ≡ Some d → is_indexed d ≡ b → found_value kinds d ≡ Ok f → IsSound f.map
-value-sound kinds text true d f is b e = indexed-sound kinds text d f is (rw b at e)
-value-sound kinds text false d f is b e =
-    let plain = rw b at e in
-    let ms = step (or_misshapen Object (as_object d)) (λ ms. found_members kinds (mended_members ms)) f plain in
-    members-sound kinds (mended_members ms.value) f ms.later
-
-opened-sound : (o : Option Data) (p : Opened) (f : FoundRecord) → read p.text ≡ o → found_opened p ≡ Ok f → IsSound f.map
-opened-sound None p f is e = let h = rw is at e in cc
-opened-sound (Some d) p f is e = value-sound p.kinds p.text (is_indexed d) d f is refl (rw is at e)
-
--- a map that is found is sound
-pub found-sound : (text : Text) (f : FoundRecord) → found text ≡ Ok f → IsSound f.map
-unfolding found
-found-sound text f e = opened-sound (read (opened text).text) (opened text) f refl e
+-- a map by itself that is mended
+pub plain-sound : (ms : Members) (f : MendedMap) → plain_map ms ≡ Ok f → IsSound f.map
+plain-sound ms f e = members-sound (mended_members ms) f e

@@ -1,0 +1,274 @@
+-- Sections of an indexed map that the exact reader reads as a sorted map: nothing is mended in them, and none is cut.
+use Rattle.std.proofs.Common.{◌≡◌, ℕ, ◌+◌, Bool, true, false, cond, ◌==◌, not, List, [], ◌∷◌}
+use Rattle.std.proofs.Common.{◌++◌, map, length, refl, ap, sym, ◌∙◌, subst, append_assoc}
+use Rattle.std.proofs.Common.{Option, Some, None, option_map, Result, Ok, Err}
+use Rattle.std.specs.List.{AllByRecursion, filter, last_or, count_by}
+use Rattle.std.proofs.lemmas.Bool.{and_parts}
+use Rattle.std.proofs.lemmas.List.{append-nil, length-append}
+use Rattle.serde_json.specs.Data.{Data, null, boolean, number, string, array, object, Items}
+use Rattle.serde_json.specs.Data.{no_items}
+use Rattle.serde_json.specs.Data.{item}
+use Rattle.serde_json.specs.Find.{as_object}
+use Rattle.oxc_sourcemap_tokens.specs.declared.error.Error.{Error}
+use Rattle.oxc_sourcemap_tokens.specs.declared.error.Error.TheVariants.{SectionOrder}
+use Rattle.oxc_sourcemap_tokens.specs.declared.error.Field.TheVariants.{Object}
+use Rattle.oxc_sourcemap_tokens.specs.declared.position.Position.{Position}
+use Rattle.oxc_sourcemap_tokens.specs.Token.{TokenRecord, last}
+use Rattle.oxc_sourcemap_parts.specs.Record.{MapRecord}
+use Rattle.oxc_sourcemap_parts.specs.Sorted.{are_tokens_sorted, token_line}
+use Rattle.oxc_sourcemap_parts.specs.Sorted.{token_column}
+use Rattle.oxc_sourcemap_json.specs.Shape.{◌>>=◌, or_misshapen, shape}
+use Rattle.oxc_sourcemap_decode.specs.Decoded.{decoded}
+use Rattle.oxc_sourcemap_decode.specs.Section.{place_in, map_in}
+use Rattle.oxc_sourcemap_decode.specs.Sections.{Sections, may_follow, moved_position}
+use Rattle.oxc_sourcemap_decode.specs.Sections.{token_positions, may_begin, in_order, place_after}
+use Rattle.oxc_sourcemap_decode.specs.Sections.{section_map, section_after, onto_section}
+use Rattle.oxc_sourcemap_decode.specs.Sections.{sections_after}
+use Rattle.oxc_sourcemap_sort.proofs.Sorting.{precedes, trans-at, sorted-tail, sorted-first}
+use Rattle.oxc_sourcemap_found.specs.MendedMaps.{plain_map}
+use Rattle.oxc_sourcemap_found.specs.MendedSections.{MendedSection, place_from}
+use Rattle.oxc_sourcemap_found.specs.MendedSections.{map_from, section_from, sections_from}
+use Rattle.oxc_sourcemap_found.specs.MendedSections.{is_behind}
+use Rattle.oxc_sourcemap_found.specs.MendedSections.{next_place, cut_map, cut_kinds, cut_maps}
+use Rattle.oxc_sourcemap_found.specs.MendedSections.{section_mends}
+use Rattle.oxc_sourcemap_found.proofs.Kept.{step}
+use Rattle.oxc_sourcemap_found.proofs.PlainMaps.{mended_as, plain-kept}
+use Rattle.oxc_sourcemap_found.proofs.SortedJoins.{IsSortedMap, shift-on}
+
+abbrev pub Placed : Type 0
+Placed = MapRecord × Position
+
+-- an exact section, of which nothing is mended
+abbrev pub unmended : Placed → MendedSection
+unmended s = (mended_as s.0 [], s.1)
+
+abbrev fine : {A : Type 0} → A → Result A Error
+fine x = Ok x
+
+same-ok : {A : Type 0} (x y : A) → fine x ≡ fine y → x ≡ y
+same-ok x y e = cc
+
+-- ---- one section
+
+value-kept : (d : Data) (m : MapRecord) → (shape d >>= decoded) ≡ Ok m → are_tokens_sorted m.tokens ≡ true → (or_misshapen Object (as_object d) >>= plain_map) ≡ Ok (mended_as m [])
+unfolding shape
+value-kept null m e s = cc
+value-kept (boolean x) m e s = cc
+value-kept (number n) m e s = cc
+value-kept (string t) m e s = cc
+value-kept (array ds) m e s = cc
+value-kept (object ms) m e s = plain-kept ms m e s
+
+map-kept : (d : Data) (m : MapRecord) → section_map d ≡ Ok m → are_tokens_sorted m.tokens ≡ true → map_from d ≡ Ok (mended_as m [])
+map-kept d m e s =
+    let v = step (map_in d) (λ v. shape v >>= decoded) m e in
+    let first = v.first in
+    rw first (value-kept v.value m v.later s)
+
+-- what is known of the place of a section that the exact reader reads
+record IsBegun (front : List Placed) (d : Data) (place : Position) : Type 0 where
+  follows : may_follow (option_map (λ s. s.1) (last front)) place ≡ true
+  behind_tokens : may_follow (last (token_positions front)) place ≡ true
+  is : place_from (option_map (λ s. s.1) (last front)) (length front) d ≡ Ok place
+
+begun-by : (b : Bool) (p place : Position) (e : Error) → cond b (Ok p) (Err e) ≡ fine place → (b ≡ true) × (p ≡ place)
+begun-by true p place e h = (refl, same-ok p place h)
+begun-by false p place e h = cc
+
+place-kept : (front : List Placed) (d : Data) (place : Position) → place_after front d ≡ Ok place → IsBegun front d place
+place-kept front d place e =
+    let before = option_map (λ s. s.1) (last front) in
+    let p = step (place_in d) (in_order front) place e in
+    let b = begun-by (may_begin front p.value) p.value place (SectionOrder (length front)) p.later in
+    let parts = and_parts (may_follow before p.value) (may_follow (last (token_positions front)) p.value) b.0 in
+    let first = p.first in
+    let follows = parts.0 in
+    record {
+      follows = subst (λ q. may_follow before q ≡ true) b.1 parts.0;
+      behind_tokens = subst (λ q. may_follow (last (token_positions front)) q ≡ true) b.1 parts.1;
+      is = rw (first, follows) (ap (λ q. Ok q) b.1);
+    }
+
+-- what is known of a section that the exact reader reads
+record IsTaken (front : List Placed) (d : Data) (s : Placed) : Type 0 where
+  begun : IsBegun front d s.1
+  map : section_map d ≡ Ok s.0
+
+taken : (front : List Placed) (d : Data) (s : Placed) → section_after front d ≡ Ok s → IsTaken front d s
+taken front d s e =
+    let p = step (place_after front d) (λ place. section_map d >>= (λ m. Ok (m, place))) s e in
+    let m = step (section_map d) (λ m. Ok (m, p.value)) s p.later in
+    let is : (m.value, p.value) ≡ s = same-ok (m.value, p.value) s m.later in
+    subst (λ (q : Placed). IsTaken front d q) is (record { begun = place-kept front d p.value p.first; map = m.first })
+
+section-kept : (front : List Placed) (d : Data) (s : Placed) → IsTaken front d s → IsSortedMap s → section_from (option_map (λ s. s.1) (last front)) (length front) d ≡ Ok (unmended s)
+section-kept front d s t h =
+    let place = t.begun.is in
+    let m = map-kept d s.0 t.map h in
+    rw (place, m) refl
+
+-- ---- tokens in front of the next section
+
+abbrev IsBefore : Position → Position → TokenRecord → Type 0
+IsBefore next offset t = may_follow (Some (moved_position offset t)) next ≡ true
+
+before-last : (next offset : Position) (o : Option Position) (ts : List TokenRecord) → are_tokens_sorted ts ≡ true → may_follow (last_or o (map (moved_position offset) ts)) next ≡ true
+    → AllByRecursion (IsBefore next offset) ts
+before-last next offset o [] s h = tt
+before-last next offset o (t ∷ []) s h = (h, tt)
+before-last next offset o (t ∷ u ∷ ts) s h =
+    let more = before-last next offset (Some (moved_position offset t)) (u ∷ ts) (sorted-tail token_line token_column t (u ∷ ts) s) h in
+    let a = moved_position offset t in
+    let b = moved_position offset u in
+    let first : precedes a.line a.column b.line b.column ≡ true =
+    shift-on (t.dst_line == 0) (u.dst_line == 0) t.dst_line t.dst_col u.dst_line u.dst_col offset.line offset.column refl refl (sorted-first token_line token_column t u ts s) in
+    (trans-at a.line a.column b.line b.column next.line next.column first more.0, more)
+
+last-after : {A : Type 0} (o : Option A) (xs ys : List A) → last_or o (xs ++ ys) ≡ last_or (last_or o xs) ys
+last-after o [] ys = refl
+last-after o (x ∷ xs) ys = last-after (Some x) xs ys
+
+-- the tokens of the last of some maps are the last of all
+record EndsWith (o : Option Position) (front : List Placed) (p : Placed) : Type 0 where
+  before : Option Position
+  is : last_or o (token_positions front) ≡ last_or before (map (moved_position p.1) p.0.tokens)
+
+ends-with : (o : Option Position) (s : Placed) (front : List Placed) (p : Placed) → last_or (Some s) front ≡ Some p → EndsWith o (s ∷ front) p
+ends-with o s [] p e =
+    let is : s ≡ p = cc in
+    record { before = o; is = ap (last_or o) (append-nil (map (moved_position s.1) s.0.tokens)) ∙ ap (λ (q : Placed). last_or o (map (moved_position q.1) q.0.tokens)) is }
+ends-with o s (t ∷ front) p e =
+    let more = ends-with (last_or o (map (moved_position s.1) s.0.tokens)) t front p e in
+    record { before = more.before; is = last-after o (map (moved_position s.1) s.0.tokens) (token_positions (t ∷ front)) ∙ more.is }
+
+-- a map is not cut by the section after it
+abbrev IsWhole : Position → Placed → Type 0
+IsWhole next s = AllByRecursion (IsBefore next s.1) s.0.tokens
+
+-- no map is, the first of which is after this one
+abbrev AreWhole : Option Placed → List Placed → Type 0
+AreWhole o [] = Unit {0}
+AreWhole None (s ∷ ss) = AreWhole (Some s) ss
+AreWhole (Some p) (s ∷ ss) = IsWhole s.1 p × AreWhole (Some s) ss
+
+all-at-end : (front : List Placed) (p : Placed) (more : List Placed) → last front ≡ Some p → AllByRecursion IsSortedMap (front ++ more) → IsSortedMap p
+all-at-end [] p more e h = cc
+all-at-end (s ∷ []) p more e h = let is : s ≡ p = cc in subst (λ (q : Placed). IsSortedMap q) is h.0
+all-at-end (s ∷ t ∷ front) p more e h = all-at-end (t ∷ front) p more e h.1
+
+whole-last : (front : List Placed) (p : Placed) (place : Position) → last front ≡ Some p → IsSortedMap p → may_follow (last (token_positions front)) place ≡ true → IsWhole place p
+whole-last [] p place e s h = cc
+whole-last (t ∷ front) p place e s h =
+    let end = ends-with None t front p e in
+    before-last place p.1 end.before p.0.tokens s (ap (λ o. may_follow o place) (sym end.is) ∙ h)
+
+whole-more : (o : Option Placed) (front : List Placed) (s : Placed) (ss : List Placed) → last front ≡ o → AllByRecursion IsSortedMap (front ++ s ∷ ss)
+    → may_follow (last (token_positions front)) s.1 ≡ true → AreWhole (Some s) ss → AreWhole o (s ∷ ss)
+whole-more None front s ss e all h more = more
+whole-more (Some p) front s ss e all h more = (whole-last front p s.1 e (all-at-end front p (s ∷ ss) e all) h, more)
+
+-- ---- all sections
+
+last-more : {A : Type 0} (xs : List A) (x : A) → last (xs ++ x ∷ []) ≡ Some x
+last-more [] x = refl
+last-more (y ∷ []) x = refl
+last-more (y ∷ z ∷ ys) x = last-more (z ∷ ys) x
+
+all-first : (front : List Placed) (s : Placed) (more : List Placed) → AllByRecursion IsSortedMap (front ++ s ∷ more) → IsSortedMap s
+all-first [] s more h = h.0
+all-first (t ∷ front) s more h = all-first front s more h.1
+
+-- the sections behind those in front
+record AreKept (front all : List Placed) (items : Items) : Type 0 where
+  rest : List Placed
+  are : front ++ rest ≡ all
+  found : sections_from (option_map (λ s. s.1) (last front)) (length front) items ≡ Ok (map unmended rest)
+  whole : AreWhole (last front) rest
+
+kept-more : (front all : List Placed) (d : Data) (ds : Items) (s : Placed) → AllByRecursion IsSortedMap all → IsTaken front d s → AreKept (front ++ s ∷ []) all ds → AreKept front all (item d ds)
+kept-more front all d ds s sorted t k =
+    let are : front ++ s ∷ k.rest ≡ all = sym (append_assoc front (s ∷ []) k.rest) ∙ k.are in
+    let each : AllByRecursion IsSortedMap (front ++ s ∷ k.rest) = subst (λ l. AllByRecursion IsSortedMap l) (sym are) sorted in
+    let one = section-kept front d s t (all-first front s k.rest each) in
+    let count : length (front ++ s ∷ []) ≡ length front + 1 = length-append front (s ∷ []) in
+    let more : sections_from (Some s.1) (length front + 1) ds ≡ Ok (map unmended k.rest) =
+    ap (λ n. sections_from (Some s.1) n ds) (sym count)
+    ∙ ap (λ o. sections_from (option_map (λ s. s.1) o) (length (front ++ s ∷ [])) ds) (sym (last-more front s)) ∙ k.found in
+    record {
+      rest = s ∷ k.rest;
+      are = are;
+      found = rw (one, more) refl;
+      whole = whole-more (last front) front s k.rest refl each t.begun.behind_tokens (subst (λ o. AreWhole o k.rest) (last-more front s) k.whole);
+    }
+
+abbrev read_as : List Placed → Option Error → Sections
+read_as maps fault = record { maps = maps; fault = fault }
+
+sections-kept : (front all : List Placed) (items : Items) → AllByRecursion IsSortedMap all → sections_after front items ≡ read_as all None → AreKept front all items
+sections-kept front all no_items sorted e =
+    let is : front ≡ all = ap (λ (q : Sections). q.maps) e in
+    record { rest = []; are = append-nil front ∙ is; found = refl; whole = tt }
+sections-kept front all (item d ds) sorted e =
+    elim (section_after front d) as (λ r. section_after front d ≡ r → onto_section front (λ s. sections_after (front ++ s ∷ []) ds) r ≡ read_as all None → AreKept front all (item d ds)) [
+      | Ok s ↦ (λ t f. kept-more front all d ds s sorted (taken front d s t) (sections-kept (front ++ s ∷ []) all ds sorted f))
+      | Err x ↦ (λ t f. let no : Some x ≡ None = ap (λ (q : Sections). q.fault) f in cc)
+    ] refl e
+
+-- ---- nothing is cut
+
+kept-tokens : (next offset : Position) (ts : List TokenRecord) → AllByRecursion (IsBefore next offset) ts → filter (λ t. not (is_behind next offset t)) ts ≡ ts
+kept-tokens next offset [] h = refl
+kept-tokens next offset (t ∷ ts) h =
+    let here = h.0 in
+    rw here (ap (λ us. t ∷ us) (kept-tokens next offset ts h.1))
+
+no-tokens : (next offset : Position) (ts : List TokenRecord) → AllByRecursion (IsBefore next offset) ts → count_by (is_behind next offset) ts ≡ 0
+no-tokens next offset [] h = refl
+no-tokens next offset (t ∷ ts) h =
+    let here = h.0 in
+    rw here (no-tokens next offset ts h.1)
+
+record IsUncut (next : Option Position) (s : Placed) : Type 0 where
+  map : cut_map next s.1 s.0 ≡ s.0
+  kinds : cut_kinds next s.1 s.0 ≡ []
+
+whole-uncut : (next : Position) (s : Placed) → IsWhole next s → IsUncut (Some next) s
+whole-uncut next s h =
+    let none = no-tokens next s.1 s.0.tokens h in
+    record { map = ap (λ ts. record s.0 { tokens = ts }) (kept-tokens next s.1 s.0.tokens h); kinds = rw none refl }
+
+uncut-last : (s : Placed) → IsUncut None s
+uncut-last s = record { map = refl; kinds = refl }
+
+uncut-next : (s : Placed) (ss : List Placed) → AreWhole (Some s) ss → IsUncut (next_place (map unmended ss)) s
+uncut-next s [] h = uncut-last s
+uncut-next s (t ∷ ss) h = whole-uncut t.1 s h.0
+
+whole-tail : (s : Placed) (ss : List Placed) → AreWhole (Some s) ss → AreWhole None ss
+whole-tail s [] h = tt
+whole-tail s (t ∷ ss) h = h.1
+
+pub maps-uncut : (ss : List Placed) → AreWhole None ss → cut_maps (map unmended ss) ≡ ss
+maps-uncut [] h = refl
+maps-uncut (s ∷ ss) h =
+    ap (λ r. (r, s.1) ∷ cut_maps (map unmended ss)) (uncut-next s ss h).map ∙ ap (λ l. s ∷ l) (maps-uncut ss (whole-tail s ss h))
+
+pub no-mends : (k : ℕ) (ss : List Placed) → AreWhole None ss → section_mends k (map unmended ss) ≡ []
+no-mends k [] h = refl
+no-mends k (s ∷ ss) h =
+    let none = (uncut-next s ss h).kinds in
+    rw none (no-mends (k + 1) ss (whole-tail s ss h))
+
+-- what is known of sections that the exact reader reads as a sorted map
+pub record AreUnmended (all : List Placed) (items : Items) : Type 0 where
+  pub found : sections_from None 0 items ≡ Ok (map unmended all)
+  pub maps : cut_maps (map unmended all) ≡ all
+  pub mends : section_mends 0 (map unmended all) ≡ []
+
+pub sections-unmended : (all : List Placed) (items : Items) → AllByRecursion IsSortedMap all → sections_after [] items ≡ read_as all None → AreUnmended all items
+sections-unmended all items sorted e =
+    let k = sections-kept [] all items sorted e in
+    let are = k.are in
+    let found = k.found in
+    let whole = k.whole in
+    subst (λ (l : List Placed). AreUnmended l items) are (record { found = found; maps = maps-uncut k.rest whole; mends = no-mends 0 k.rest whole })

@@ -1,7 +1,8 @@
 -- What a simplified map is made of, from the tables of the map.
 use Rattle.std.proofs.Common.{◌≡◌, refl, sym, ap, subst, ◌∙◌, ℕ, zero, suc, ◌+◌, ◌<◌, ◌≤◌, Bool}
 use Rattle.std.proofs.Common.{true, false, cond, ◌&&◌, ◌==◌, nat_le, List, [], ◌∷◌, map, length}
-use Rattle.std.proofs.Common.{slice_get, get_or, Option, Some, None, option_map, arith}
+use Rattle.std.proofs.Common.{slice_get, get_or, Option, Some, None, option_map, arith, is_some}
+use Rattle.std.proofs.Common.{◌⊎◌, inl, inr}
 use Rattle.std.proofs.lemmas.Bool.Decides.{nat_tests}
 use Rattle.std.proofs.lemmas.List.{length-map}
 use Rattle.std.specs.Bool.{beq}
@@ -23,13 +24,14 @@ use Rattle.oxc_sourcemap_simplify.specs.Simplified.{simplified, fits}
 use Rattle.oxc_sourcemap_simplify.specs.Bodies.{AreFirsts, listed_in, source_among, source_by}
 use Rattle.oxc_sourcemap_simplify.specs.Bodies.{first_marked, AreTables, target_by, kept_from}
 use Rattle.oxc_sourcemap_simplify.specs.Bodies.{with_name, with_source, with_all, token_to, IsBelow}
-use Rattle.oxc_sourcemap_simplify.specs.Bodies.{IsSourceBelow, AreWithin}
+use Rattle.oxc_sourcemap_simplify.specs.Bodies.{IsSourceBelow, AreWithin, own_place, AreTooMany}
 use Rattle.oxc_sourcemap_simplify.specs.declared.tokens.Tables.{Tables}
 use Rattle.oxc_sourcemap_simplify.proofs.Same.{decides_source}
 use Rattle.oxc_sourcemap_simplify.proofs.Codes.{AreCodes, eq-codes, items-back, count-codes}
 use Rattle.oxc_sourcemap_simplify.proofs.Listed.{decides_marked, AreMarkedCodes}
 use Rattle.oxc_sourcemap_simplify.proofs.NextNumbers.{position-below, get-of}
 use Rattle.oxc_sourcemap_simplify.proofs.Tables.{kept-is, names-are, sources-are, token-is, get-map}
+use Rattle.oxc_sourcemap_simplify.proofs.Tables.{code-of}
 
 -- ---- the table of sources
 -- items and their codes, with the marks of both
@@ -115,11 +117,22 @@ sources-below listed (m ∷ ms) n c = (
   sources-below listed ms n c,
 )
 
+own-some : (listed : List (DecodedSource × Bool)) (m : DecodedSource × Bool) (k : ℕ) → index_of_marked m listed ≡ Some k → is_some (own_place (source_among listed m)) ≡ true
+own-some listed (s, true) k e = ap is_some e
+own-some listed (s, false) k e = ap is_some e
+
+-- a source is listed with its own mark
+own-listed : (listed ms : List (DecodedSource × Bool)) → ((i : ℕ) (m : DecodedSource × Bool) → slice_get ms i ≡ Some m → is_some (own_place (source_among listed m)) ≡ true) → AllByRecursion (λ s. is_some (own_place s) ≡ true) (map (source_among listed) ms)
+own-listed listed [] h = tt
+own-listed listed (m ∷ ms) h = (h 0 m refl, own-listed listed ms (λ i n e. h (suc i) n e))
+
 pub tables-within : (r : MapRecord) (tables : Tables) → AreTables r tables → AreWithin tables
 tables-within r tables are =
     let listed = listed_in r in
     let count : length tables.sources.items ≡ length listed = ap length are.sources ∙ length-map listed (source_among listed) in record {
       sources = subst (λ ss. AllByRecursion (IsSourceBelow (length tables.sources.items)) ss) (sym are.sources) (sources-below listed listed (length tables.sources.items) count);
+      own = subst (λ ss. AllByRecursion (λ s. is_some (own_place s) ≡ true) ss) (sym are.sources)
+          (own-listed listed listed (λ i m e. let k = code-of is_same_marked decides_marked listed i m e in own-some listed m k.0 k.1));
       names = firsts-within bytes_eq r.names tables.names.items are.names;
     }
 
@@ -235,16 +248,21 @@ module _ (r : MapRecord) (tables : Tables) (are : AreTables r tables) where
   pub it-fits : length name-order ≤ 4294967295 → length source-order ≤ 4294967295 → list_all (λ t. nat_le t.dst_col 4294967295) kept ≡ true → fits (simplified r) ≡ true
   it-fits h g k = fits-by true true true (at-most _ (omega (arith, h, count-names))) (at-most _ (omega (arith, g, count-sources))) (columns-are ∙ k)
 
-  pub many-names : 4294967295 < length name-order → fits (simplified r) ≡ false
+  many-names : 4294967295 < length name-order → fits (simplified r) ≡ false
   many-names h = fits-by false _ _ (more-than _ (omega (arith, h, count-names))) refl refl
 
-  pub many-sources : 4294967295 < length source-order → fits (simplified r) ≡ false
+  many-sources : 4294967295 < length source-order → fits (simplified r) ≡ false
   many-sources h = fits-by _ false _ refl (more-than _ (omega (arith, h, count-sources))) refl ∙ and-false _
 
-  pub far-column : list_all (λ t. nat_le t.dst_col 4294967295) kept ≡ false → fits (simplified r) ≡ false
+  far-column : list_all (λ t. nat_le t.dst_col 4294967295) kept ≡ false → fits (simplified r) ≡ false
   far-column h =
       let b = nat_le (length (simplified r).sources) 4294967295 in
       fits-by _ b false refl refl (columns-are ∙ h) ∙ ap (λ z. nat_le (length (simplified r).names) 4294967295 && z) (and-false b) ∙ and-false _
+
+  pub too-much : AreTooMany source-order name-order ⊎ (list_all (λ t. nat_le t.dst_col 4294967295) kept ≡ false) → fits (simplified r) ≡ false
+  too-much (inl (inl h)) = many-sources h
+  too-much (inl (inr h)) = many-names h
+  too-much (inr h) = far-column h
 
 pub together : (r : MapRecord) (names sources : List Text) (contents : List (Option Text)) (tokens : List TokenRecord) (ignored : Option (List ℕ)) → names ≡ simple_names r → sources ≡ (simplified r).sources
     → contents ≡ (simplified r).source_contents → tokens ≡ (simplified r).tokens → ignored ≡ (simplified r).ignore_list

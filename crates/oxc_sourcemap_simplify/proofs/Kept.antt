@@ -1,18 +1,13 @@
 -- The tokens that are kept, one by one.
-use Rattle.std.proofs.Common.{◌≡◌, refl, sym, ap, ◌∙◌, ℕ, ◌<◌, ◌≤◌, Bool, true, false, cond}
+use Rattle.std.proofs.Common.{◌≡◌, refl, sym, ap, ◌∙◌, ◌<◌, ◌≤◌, Bool, true, false}
 use Rattle.std.proofs.Common.{◌&&◌, nat_le, List, [], ◌∷◌, ◌++◌, map, Option}
 use Rattle.std.proofs.Common.{Some, append_assoc, arith}
 use Rattle.std.proofs.lemmas.Bool.Decides.{nat_tests}
 use Rattle.std.specs.List.{list_all}
 use Rattle.oxc_sourcemap_tokens.specs.Token.{TokenRecord}
-use Rattle.oxc_sourcemap_simplify.specs.Simplified.{token_at_next_column}
-use Rattle.oxc_sourcemap_simplify.specs.Bodies.{target_by, is_behind, repeats_by, kept_from}
-use Rattle.oxc_sourcemap_simplify.specs.Bodies.{token_to}
+use Rattle.oxc_sourcemap_simplify.specs.Bodies.{is_behind, repeats_by, kept_from}
+use Rattle.oxc_sourcemap_simplify.specs.Bodies.{placed}
 use Rattle.oxc_sourcemap_simplify.specs.declared.tokens.Tables.{Tables}
-
--- a token, where it stays or moves to
-abbrev pub placed : Bool → TokenRecord → TokenRecord
-placed moves t = cond moves (token_at_next_column t) t
 
 abbrev pub is-in-range : TokenRecord → Bool
 is-in-range t = nat_le t.dst_col 4294967295
@@ -61,9 +56,3 @@ module _ (tables : Tables) where
       let rest = list_all is-in-range (kept_from tables (Some t) false ts) in
       let step : (is-in-range (placed m t) && rest) ≡ list_all is-in-range (kept_from tables p r (t ∷ ts)) = rw (no, ← moves) refl in
       sym inv ∙ ap (λ vs. list_all is-in-range (kept_from tables p r vs)) split ∙ sym step ∙ ap (λ c. c && rest) past
-
-  -- a token with its new column, and with its new ids
-  pub placed-token : (sources names : List ℕ) (m : Bool) (t : TokenRecord) (col : ℕ) → col ≡ (placed m t).dst_col
-      → token_to sources names (record t { dst_col = col }) (target_by tables t) ≡ token_to sources names (placed m t) (target_by tables (placed m t))
-  placed-token sources names true t col e = ap (λ n. token_to sources names (record t { dst_col = n }) (target_by tables t)) e
-  placed-token sources names false t col e = ap (λ n. token_to sources names (record t { dst_col = n }) (target_by tables t)) e

@@ -18,5 +18,9 @@ pub mod Assembled
 pub mod Moved
 pub mod FirstOnes
 pub mod Needed
+pub mod OwnFirsts
+pub mod Renumbered
+pub mod NewIds
 pub mod Kept
+pub mod Walk
 mod Worked

@@ -1,7 +1,7 @@
 -- How the private steps of simplifying are seen. No public contract cites this module.
 use Rattle.std.specs.Prelude.{◌≡◌, ℕ, ◌+◌, ◌<◌, ◌≤◌, Bool, false, true, ◌&&◌, List, [], ◌∷◌, ◌++◌}
 use Rattle.std.specs.Prelude.{map, length, slice_get, Option, Some, None, option_map, is_some}
-use Rattle.std.specs.Prelude.{if◌then◌else◌, ◌==◌, get_or, vec_len, nat_eq}
+use Rattle.std.specs.Prelude.{if◌then◌else◌, ◌==◌, get_or, vec_len, nat_eq, min, ◌⊎◌, ◌*◌}
 use Rattle.std.specs.Bool.{beq}
 use Rattle.std.specs.Borrow.{Bor}
 use Rattle.std.specs.Cmp.Lexicographic.{pointwise}
@@ -22,6 +22,7 @@ use Rattle.oxc_sourcemap_remap.specs.Blocks.{marked_sources}
 use Rattle.oxc_sourcemap_simplify.specs.Simple.{are_together, is_followed}
 use Rattle.oxc_sourcemap_simplify.specs.Simplified.{index_of_marked, token_at_next_column}
 use Rattle.oxc_sourcemap_simplify.specs.Simplified.{simple_names, simplified}
+use Rattle.oxc_sourcemap_simplify.specs.declared.ids.NewIds.{NewIds}
 use Rattle.oxc_sourcemap_simplify.specs.declared.numbering.Numbering.{Numbering}
 use Rattle.oxc_sourcemap_simplify.specs.declared.simplify.Simple.{Simple}
 use Rattle.oxc_sourcemap_simplify.specs.declared.sources.Source.{Source}
@@ -177,6 +178,19 @@ token_to sources names t (Some target) = record t {
   name_id = option_and_then (λ k. place_of k names) target.name;
 }
 
+-- more than there may be of sources or of names
+abbrev pub AreTooMany : List ℕ → List ℕ → Type 0
+AreTooMany sources names = (4294967295 < length sources) ⊎ (4294967295 < length names)
+
+-- where a token is kept: at the next column if it moves
+abbrev pub placed : Bool → TokenRecord → TokenRecord
+placed moves t = if moves then token_at_next_column t else t
+
+-- the generated position as one number, 0 where there is no token
+abbrev pub position_of : Option TokenRecord → ℕ
+position_of None = 0
+position_of (Some t) = t.dst_line * 4294967296 + t.dst_col
+
 -- what a table has is an index of it
 abbrev pub IsBelow : ℕ → Option ℕ → Type 0
 IsBelow n None = Unit {0}
@@ -186,33 +200,67 @@ pub record IsSourceBelow (n : ℕ) (s : Source) : Type 0 where
   pub plain : IsBelow n s.plain
   pub ignored : IsBelow n s.ignored
 
-abbrev pub IsTargetBelow : Tables → Target → Type 0
-IsTargetBelow tables target =
-    IsBelow (length tables.names.items) target.name × IsSourceBelow (length tables.sources.items) target.source
-
 pub record AreWithin (tables : Tables) : Type 0 where
   pub sources : AllByRecursion (IsSourceBelow (length tables.sources.items)) tables.sources.items
+  pub own : AllByRecursion (λ s. is_some (own_place s) ≡ true) tables.sources.items
   pub names : AllByRecursion (λ k. k < length tables.names.items) tables.names.items
 
--- the numbers of a map with these tables
+-- ---- new ids
+-- what is listed at one place, not ignored
+abbrev pub listed_once : ℕ → Source
+listed_once k = record { plain = Some k; ignored = None; is_ignored = false }
+
+-- the list with the places of this one
+abbrev pub with_places : List ℕ → Source → List ℕ
+with_places ks s = with_any (with_any ks s.plain) s.ignored
+
+-- the same, if there is one
+abbrev pub with_places_of : List ℕ → Option Source → List ℕ
+with_places_of ks None = ks
+with_places_of ks (Some s) = with_places ks s
+
+-- there is none, or it has a place
+abbrev pub IsPlaced : List ℕ → Option ℕ → Type 0
+IsPlaced ks None = Unit {0}
+IsPlaced ks (Some k) = is_some (place_of k ks) ≡ true
+
+-- its places are numbered, and this is the number of its own
+pub record IsKnown (ks : List ℕ) (s : Source) (id : ℕ) : Type 0 where
+  pub plain : IsPlaced ks s.plain
+  pub ignored : IsPlaced ks s.ignored
+  pub own : option_and_then (λ k. place_of k ks) (own_place s) ≡ Some id
+
+-- the new id of what an old id stands for, 4294967295 if for nothing
+abbrev pub IsNewId : List ℕ → Option Source → ℕ → Type 0
+IsNewId ks None id = id ≡ 4294967295
+IsNewId ks (Some s) id = IsKnown ks s id × (id < 4294967295)
+
+-- new ids by the old ones of what is listed here
+pub record AreIds (listed : List Source) (n : NewIds) : Type 0 where
+  pub numbering : IsNumbering n.numbering
+  pub count : length n.numbering.numbers.items ≡ length listed
+  pub len : length n.ids.items ≡ min (length listed) 4294967295 + 1
+  pub last : (k : ℕ) → k + 1 ≡ length n.ids.items → slice_get n.ids.items k ≡ Some (Some 4294967295)
+  pub known : (k id : ℕ) (s : Source) → k + 1 < length n.ids.items → slice_get n.ids.items k ≡ Some (Some id)
+      → slice_get listed k ≡ Some s → IsKnown n.numbering.order.items s id
+
+-- the new ids of a map with these tables
 pub record AreNumbers (tables : Tables) (numbers : Numbers) : Type 0 where
-  pub sources : IsNumbering numbers.sources
-  pub names : IsNumbering numbers.names
-  pub source_count : length numbers.sources.numbers.items ≡ length tables.sources.items
-  pub name_count : length numbers.names.numbers.items ≡ length tables.names.items
+  pub sources : AreIds tables.sources.items numbers.sources
+  pub names : AreIds (map listed_once tables.names.items) numbers.names
 
 -- what a simplified map is made of
 pub record IsSimple (r : MapRecord) (s : Simple) : Type 0 where
   pub tokens_are : s.tokens.items ≡ (simplified r).tokens
-  pub names_are : map (λ k. get_or r.names k []) s.numbers.names.order.items ≡ simple_names r
-  pub sources_are : map (λ k. get_or r.sources k []) s.numbers.sources.order.items ≡ (simplified r).sources
-  pub contents_are : map (λ k. get_or r.source_contents k None) s.numbers.sources.order.items ≡ (simplified r).source_contents
+  pub names_are : map (λ k. get_or r.names k []) s.numbers.names.numbering.order.items ≡ simple_names r
+  pub sources_are : map (λ k. get_or r.sources k []) s.numbers.sources.numbering.order.items ≡ (simplified r).sources
+  pub contents_are : map (λ k. get_or r.source_contents k None) s.numbers.sources.numbering.order.items ≡ (simplified r).source_contents
   pub ignored_are : ids_of s.ignore_list ≡ (simplified r).ignore_list
-  pub names_apart : AreApart s.numbers.names.order.items
-  pub sources_apart : AreApart s.numbers.sources.order.items
-  pub names_within : AllByRecursion (λ k. k < length r.names) s.numbers.names.order.items
-  pub sources_within : AllByRecursion (λ k. k < length r.sources) s.numbers.sources.order.items
-  pub names_room : (s.names.items ≡ []) × (vec_len s.names + length s.numbers.names.order.items ≤ vec_capacity s.names)
-  pub sources_room : (s.sources.items ≡ []) × (vec_len s.sources + length s.numbers.sources.order.items ≤ vec_capacity s.sources)
+  pub names_apart : AreApart s.numbers.names.numbering.order.items
+  pub sources_apart : AreApart s.numbers.sources.numbering.order.items
+  pub names_within : AllByRecursion (λ k. k < length r.names) s.numbers.names.numbering.order.items
+  pub sources_within : AllByRecursion (λ k. k < length r.sources) s.numbers.sources.numbering.order.items
+  pub names_room : (s.names.items ≡ []) × (vec_len s.names + length s.numbers.names.numbering.order.items ≤ vec_capacity s.names)
+  pub sources_room : (s.sources.items ≡ []) × (vec_len s.sources + length s.numbers.sources.numbering.order.items ≤ vec_capacity s.sources)
   pub contents_room : (s.source_contents.items ≡ [])
-      × (vec_len s.source_contents + length s.numbers.sources.order.items ≤ vec_capacity s.source_contents)
+      × (vec_len s.source_contents + length s.numbers.sources.numbering.order.items ≤ vec_capacity s.source_contents)

@@ -19,8 +19,10 @@ pub use Rattle.oxc_sourcemap_simplify.specs.Bodies.{place_of, with_number, with_
 pub use Rattle.oxc_sourcemap_simplify.specs.Bodies.{AreFirsts, own_place, ArePlacesOf, source_by}
 pub use Rattle.oxc_sourcemap_simplify.specs.Bodies.{sources_in, SourceKey, lent_source, found_for}
 pub use Rattle.oxc_sourcemap_simplify.specs.Bodies.{KeepsFirst, AreTables, target_by}
-pub use Rattle.oxc_sourcemap_simplify.specs.Bodies.{is_same_target, are_alike_by, is_behind}
+pub use Rattle.oxc_sourcemap_simplify.specs.Bodies.{is_same_target}
 pub use Rattle.oxc_sourcemap_simplify.specs.Bodies.{is_before, repeats_by, kept_from, with_name}
 pub use Rattle.oxc_sourcemap_simplify.specs.Bodies.{with_source, with_all, token_to, IsBelow}
-pub use Rattle.oxc_sourcemap_simplify.specs.Bodies.{AreApart, IsTargetBelow, AreWithin, AreNumbers}
-pub use Rattle.oxc_sourcemap_simplify.specs.Bodies.{IsSimple}
+pub use Rattle.oxc_sourcemap_simplify.specs.Bodies.{AreApart, IsSourceBelow, AreWithin, AreNumbers}
+pub use Rattle.oxc_sourcemap_simplify.specs.Bodies.{AreTooMany, placed, position_of, listed_once}
+pub use Rattle.oxc_sourcemap_simplify.specs.Bodies.{with_places, with_places_of, IsNewId}
+pub use Rattle.oxc_sourcemap_simplify.specs.Bodies.{AreIds, IsSimple}

@@ -1,5 +1,6 @@
 //! Equal texts and equal sources of a map: for each the index of the first one.
-ghost use Rattle.std.specs.Prelude.{◌≡◌, ◌<◌, length, slice_get, IfOk, OnOk, Some};
+ghost use Rattle.std.specs.Prelude.{◌≡◌, ◌<◌, ℕ, length, slice_get, get_or, IfOk, OnOk, Some};
+ghost use Rattle.std.specs.Prelude.{IsTrue};
 ghost use Rattle.std.specs.Option.{option_and_then, unwrap_or};
 ghost use Rattle.oxc_sourcemap_simplify.specs.Words.{found_for, KeepsFirst};
 ghost use Rattle.std.specs.Str.{bytes_eq};
@@ -72,8 +73,32 @@ fn place_source<'m>(
     }
 }
 
-/// For each source the index of the first one with an equal path and an equal content.
+/// Whether each index of a list is its own.
+fn are_own(firsts: &[usize]) -> bool
+    ensures { IsTrue result → (k : ℕ) → k < length firsts.now → get_or firsts.now k 0 ≡ k }
+{
+    for (i, first) in firsts.iter().enumerate() {
+        if *first != i {
+            return false;
+        }
+    }
+    true
+}
+
+/// For each source the index of the first one with an equal path and an equal content. Contents are looked at only where two paths
+/// are equal.
 pub(crate) fn first_sources<'m>(alloc: Global, parts: &'m SourceMapParts<'m>) -> Memory<Vec<usize>>
+    ensures { IfOk result (λ firsts. AreFirsts is_same_source (sources_in parts.now) firsts.items) }
+{
+    let firsts = first_texts(alloc, parts.sources.as_slice())?;
+    if are_own(firsts.as_slice()) {
+        return Ok(firsts);
+    }
+    first_hashed_sources(alloc, parts)
+}
+
+/// The same, by a table of paths and contents.
+fn first_hashed_sources<'m>(alloc: Global, parts: &'m SourceMapParts<'m>) -> Memory<Vec<usize>>
     ensures { IfOk result (λ firsts. AreFirsts is_same_source (sources_in parts.now) firsts.items) }
 {
     let mut places: HashMap<(&'m str, Option<&'m str>), usize> = HashMap::new(alloc);

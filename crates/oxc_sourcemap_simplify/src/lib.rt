@@ -6,6 +6,7 @@ ghost use Rattle.oxc_sourcemap_simplify.specs.Words.{MappingsStay, DecodedMapOfS
 ghost use Rattle.oxc_sourcemap_simplify.specs.Words.{SimplifiedIsSound};
 
 mod firsts;
+mod ids;
 mod moves;
 mod numbering;
 mod simplify;

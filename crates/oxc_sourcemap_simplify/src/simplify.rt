@@ -13,7 +13,7 @@ ghost use Rattle.oxc_sourcemap_simplify.specs.Words.{AreWithin, IsSimple};
 use crate::firsts::{first_sources, first_texts};
 use crate::moves::{move_contents, move_texts};
 use crate::sources::listed_sources;
-use crate::tokens::{Numbers, Tables, found_tokens, kept_tokens, needed_names, needed_sources};
+use crate::tokens::{Kept, Numbers, Tables, kept_tokens};
 use oxc_sourcemap_parts::{SourceMapParts, are_sorted};
 use oxc_sourcemap_remap::ignored_flags;
 use oxc_sourcemap_tokens::{Memory, PlanError, Result, Token};
@@ -65,27 +65,28 @@ struct Simple<'a> {
     source_contents: Vec<Option<CowStr<'a>>>,
 }
 
-/// What the simplified map is made of, if the tokens are sorted.
-fn simple_of<'a>(alloc: Global, parts: &SourceMapParts<'_>) -> Result<Simple<'a>>
+/// What the simplified map is made of. It need not find that tokens are not sorted before it fails otherwise.
+fn simple_of<'a>(
+    alloc: Global,
+    parts: &SourceMapParts<'_>,
+) -> std::result::Result<Simple<'a>, PlanError>
     ensures simple { IfOk result (IsSimple (record_of_parts parts.now)) }
+    ensures sorted { OnOk result (are_tokens_sorted (record_of_parts parts.now).tokens ≡ true) }
     ensures fits { OnOk result (fits (simplified (record_of_parts parts.now)) ≡ true) }
-    ensures error { IfErr result (λ e. (e ≢ OutOfMemory)
-        → (e ≡ TooLarge) × (fits (simplified (record_of_parts parts.now)) ≡ false)) }
+    ensures unsorted { IfErr result (λ e. e ≡ Unsorted
+        → are_tokens_sorted (record_of_parts parts.now).tokens ≡ false) }
+    ensures error { IfErr result (λ e. (e ≢ Map OutOfMemory) → (e ≢ Unsorted)
+        → (e ≡ Map TooLarge) × (fits (simplified (record_of_parts parts.now)) ≡ false)) }
 {
     let flags = ignored_flags(alloc, parts)?;
     let tables = tables_of(alloc, parts, flags.as_slice())?;
-    let found = found_tokens(alloc, parts.tokens.as_slice())?;
-    let numbers = Numbers {
-        sources: needed_sources(alloc, &tables, found.as_slice())?,
-        names: needed_names(alloc, &tables, found.as_slice())?,
-    };
-    let tokens = kept_tokens(alloc, &tables, &numbers, found.as_slice())?;
-    let sources = numbers.sources.order.as_slice();
+    let Kept { tokens, numbers } = kept_tokens(alloc, &tables, parts.tokens.as_slice())?;
+    let sources = numbers.sources.numbering.order.as_slice();
     let ignore_list = ignored_places(alloc, sources, flags.as_slice())?;
     Ok(Simple {
         tokens,
         ignore_list,
-        names: Vec::with_capacity(alloc, numbers.names.order.len())?,
+        names: Vec::with_capacity(alloc, numbers.names.numbering.order.len())?,
         sources: Vec::with_capacity(alloc, sources.len())?,
         source_contents: Vec::with_capacity(alloc, sources.len())?,
         numbers,
@@ -105,8 +106,12 @@ fn put_in<'a>(parts: &mut SourceMapParts<'a>, simple: Simple<'a>)
         mut sources,
         mut source_contents,
     } = simple;
-    let order = numbers.sources.order.as_slice();
-    move_texts(&mut parts.names, numbers.names.order.as_slice(), &mut names);
+    let order = numbers.sources.numbering.order.as_slice();
+    move_texts(
+        &mut parts.names,
+        numbers.names.numbering.order.as_slice(),
+        &mut names,
+    );
     move_texts(&mut parts.sources, order, &mut sources);
     move_contents(&mut parts.source_contents, order, &mut source_contents);
     parts.names = names;
@@ -141,10 +146,15 @@ pub fn simplify_parts(
     ensures unsorted { are_tokens_sorted (boxed_slice_items parts.old.tokens) ≡ false
         → result ≡ Err Unsorted }
 {
-    if !are_sorted(parts.tokens.as_slice()) {
-        return Err(PlanError::Unsorted);
+    match simple_of(alloc, parts) {
+        Ok(simple) => {
+            put_in(parts, simple);
+            Ok(())
+        }
+        Err(error) => Err(if are_sorted(parts.tokens.as_slice()) {
+            error
+        } else {
+            PlanError::Unsorted
+        }),
     }
-    let simple = simple_of(alloc, parts)?;
-    put_in(parts, simple);
-    Ok(())
 }

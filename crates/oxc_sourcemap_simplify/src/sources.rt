@@ -4,6 +4,7 @@ ghost use Rattle.std.specs.Prelude.{if◌then◌else◌};
 ghost use Rattle.std.specs.Bool.{beq};
 ghost use Rattle.std.specs.List.{AllByRecursion, zip};
 ghost use Rattle.oxc_sourcemap_simplify.specs.Words.{own_place, ArePlacesOf, source_by};
+ghost use Rattle.oxc_sourcemap_simplify.specs.Words.{listed_once};
 
 use oxc_sourcemap_tokens::Memory;
 use std::alloc::Global;
@@ -17,6 +18,17 @@ pub(crate) struct Source {
 }
 
 impl Source {
+    /// What is listed at one place, not ignored.
+    pub(crate) fn listed_once(k: usize) -> Source
+        ensures { result ≡ listed_once k }
+    {
+        Source {
+            plain: Some(k),
+            ignored: None,
+            is_ignored: false,
+        }
+    }
+
     /// Where it is listed first with its own mark.
     pub(crate) fn own_place(&self) -> Option<usize>
         ensures { result ≡ own_place self.now }

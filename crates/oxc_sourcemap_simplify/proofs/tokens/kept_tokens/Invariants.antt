@@ -1,12 +1,18 @@
-use Rattle.std.proofs.Common.{◌≡◌, ◌++◌, drop, map, None, false, nat_le}
-use Rattle.std.specs.List.{list_all}
-use Rattle.oxc_sourcemap_simplify.specs.Bodies.{kept_from, token_to, target_by}
+use Rattle.std.proofs.Common.{◌≡◌, ◌+◌, ◌≤◌, [], drop, length, vec_len}
+use Rattle.std.specs.Vec.{vec_capacity}
+use Rattle.oxc_sourcemap_parts.specs.Sorted.{token_line, token_column}
 use Rattle.oxc_sourcemap_tokens.specs.Results.{lent_item}
+use Rattle.oxc_sourcemap_simplify.specs.Simple.{found_items}
+use Rattle.oxc_sourcemap_simplify.specs.Bodies.{AreNumbers, with_all, with_source, with_name}
+use Rattle.oxc_sourcemap_simplify.specs.Bodies.{position_of}
+use Rattle.oxc_sourcemap_simplify.proofs.Walk.{Walk}
 use Rattle.oxc_sourcemap_simplify.proofs.tokens.kept_tokens.Given as goal
 
-abbrev pub invariant-loop-token : goal.invariant-loop-token
-invariant-loop-token l = record {
-  kept : l.kept.items ++ map (λ t. token_to l.numbers.sources.order.items l.numbers.names.order.items t (target_by l.tables t)) (kept_from l.tables (lent_item l.previous) l.repeats (drop l.token-index l.found))
-      ≡ map (λ t. token_to l.numbers.sources.order.items l.numbers.names.order.items t (target_by l.tables t)) (kept_from l.tables None false l.found);
-  few : list_all (λ t. nat_le t.dst_col 4294967295) (kept_from l.tables (lent_item l.previous) l.repeats (drop l.token-index l.found)) ≡ list_all (λ t. nat_le t.dst_col 4294967295) (kept_from l.tables None false l.found);
+abbrev pub invariant-loop-i : goal.invariant-loop-i
+invariant-loop-i l = record {
+  numbers : AreNumbers l.tables l.kept.numbers;
+  walk : Walk l.tables l.tokens (with_all (with_source l.tables) [] (found_items token_line token_column l.tokens)) (with_all (with_name l.tables) [] (found_items token_line token_column l.tokens))
+      (lent_item l.previous) l.repeats (drop l.i l.tokens) l.kept.numbers.sources.numbering.order.items l.kept.numbers.names.numbering.order.items l.kept.tokens.items;
+  last : l.last ≡ position_of (lent_item l.previous);
+  room : vec_len l.kept.tokens + length (drop l.i l.tokens) ≤ vec_capacity l.kept.tokens;
 }

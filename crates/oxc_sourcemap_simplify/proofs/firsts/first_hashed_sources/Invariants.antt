@@ -2,7 +2,7 @@ use Rattle.std.proofs.Common.{◌≡◌, map, take, Some}
 use Rattle.std.specs.List.{position_from}
 use Rattle.oxc_sourcemap_simplify.specs.Same.{is_same_source}
 use Rattle.oxc_sourcemap_simplify.specs.Bodies.{sources_in, lent_source, SourceKey, found_for}
-use Rattle.oxc_sourcemap_simplify.proofs.firsts.first_sources.Given as goal
+use Rattle.oxc_sourcemap_simplify.proofs.firsts.first_hashed_sources.Given as goal
 
 abbrev pub invariant-loop-i : goal.invariant-loop-i
 invariant-loop-i l = record {

@@ -225,6 +225,7 @@ fn contents_past_the_sources_are_found(rt: HostRuntime) -> Result<()> {
 /// Sets fields of a map, and writes it.
 fn text_with_fields(alloc: Global, map: &mut SourceMap<'_>) -> Result<String> {
     map.set_file(alloc, "index.js")?;
+    map.set_source_root(alloc, "src")?;
     map.set_debug_id(alloc, "id")?;
     map.set_sources(alloc, ["foo.js", "bar.js"].into_iter())?;
     map.set_source_contents(alloc, vec![in alloc; None, Some("foo")]?)?;
@@ -240,7 +241,7 @@ fn setters_set_their_field(rt: HostRuntime) -> Result<()> {
         "text",
         &text_with_fields(rt.alloc(), &mut map),
         Ok(
-            r#"{"version":3,"file":"index.js","names":[],"sources":["foo.js","bar.js"],"sourcesContent":[null,"foo"],"ignoreList":[7],"mappings":"","debugId":"id"}"#,
+            r#"{"version":3,"file":"index.js","sourceRoot":"src","names":[],"sources":["foo.js","bar.js"],"sourcesContent":[null,"foo"],"ignoreList":[7],"mappings":"","debugId":"id"}"#,
         ),
     );
     Ok(())

@@ -80,6 +80,34 @@ fn sources_are_added(rt: HostRuntime) {
     );
 }
 
+/// Adds sources without contents, of which one is added again with a content, and two tokens at once.
+fn add_bare_sources(builder: &mut SourceMapBuilder<'static>) -> Result<()> {
+    let first = builder.add_source("a.js")?;
+    let second = builder.add_source_copied("b.js")?;
+    let again = builder.add_source_and_content("a.js", "A")?;
+    let _third = builder.add_source_and_content("c.js", "C")?;
+    let _once_more = builder.add_source("c.js")?;
+    builder.add_tokens(&[
+        Token::new(0, 0, 0, 0, Some(second), None),
+        Token::new(0, 2, 0, 0, Some(again), None),
+        Token::new(0, 4, 0, 0, Some(first), None),
+    ])
+}
+
+#[test]
+fn sources_without_contents_and_lists_of_tokens_are_added(rt: HostRuntime) -> Result<()> {
+    let mut builder = SourceMapBuilder::empty(rt.alloc());
+    add_bare_sources(&mut builder)?;
+    same(&rt, "tokens", builder.get_tokens().len(), 3);
+    is_read_back(
+        &rt,
+        rt.alloc(),
+        &text_of(rt.alloc(), builder),
+        r#"{"version":3,"names":[],"sources":["a.js","b.js","c.js"],"sourcesContent":[null,null,"C"],"mappings":"ACAA,EDAA,EAAA"}"#,
+    );
+    Ok(())
+}
+
 /// Adds unmapped tokens at the columns 0 and 1, and one chunk that ends at this index.
 fn add_columns(alloc: Global, builder: &mut SourceMapBuilder<'_>, chunk_end: u32) -> Result<()> {
     builder.add_token(0, 0, 0, 0, None, None)?;

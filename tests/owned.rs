@@ -112,6 +112,7 @@ fn a_clone_of_what_is_read_back_is_equal(rt: HostRuntime) -> Result<()> {
 /// Sets fields of a map, and writes it.
 fn text_with_fields(alloc: Global, map: &mut OwnedSourceMap) -> Result<String> {
     map.set_file(alloc, "new.js")?;
+    map.set_source_root(alloc, "new root")?;
     map.set_sources(alloc, ["b.js"].into_iter())?;
     map.set_source_contents(alloc, vec![in alloc; Some("new content")]?)?;
     map.set_ignore_list(Vec::new(alloc));
@@ -127,7 +128,7 @@ fn setters_set_their_field(rt: HostRuntime) -> Result<()> {
         "text",
         &text_with_fields(rt.alloc(), &mut map),
         Ok(
-            r#"{"version":3,"file":"new.js","sourceRoot":"root","names":["n0"],"sources":["b.js"],"sourcesContent":["new content"],"ignoreList":[],"mappings":"AAAAA","debugId":"newdbg"}"#,
+            r#"{"version":3,"file":"new.js","sourceRoot":"new root","names":["n0"],"sources":["b.js"],"sourcesContent":["new content"],"ignoreList":[],"mappings":"AAAAA","debugId":"newdbg"}"#,
         ),
     );
     Ok(())

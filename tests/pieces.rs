@@ -70,7 +70,7 @@ fn are(rt: &impl Abort, map: &SourceMap<'_>, mut pieces: Pieces<'_>, case: &Case
     for (wanted, until) in found.iter().zip(ends) {
         same(rt, "left", (pieces.len(), pieces.size_hint()), (left, (left, Some(left))));
         let token = wanted.and_then(|i| map.get_token(i as u32));
-        let piece = Piece { line: from.0, col: from.1, end_line: until.0, end_col: until.1, token };
+        let piece = Piece { line: from.0, col: from.1, end_line: until.0, end_col: until.1, token, index: *wanted };
         same(rt, "piece", pieces.next(), Some(piece));
         left = left.saturating_sub(1);
         from = until;

@@ -1,5 +1,7 @@
-/* bench FILE.map: times reading, writing and 100,000 lookups through the interface, as the stages `parse`, `serialize` and
- * `lookup` of tools/bench/bench do: the best of 20 runs, in nanoseconds a token and, for lookups, each. */
+/* bench FILE.map [SMALL.map]: times the interface on a map: reading, writing, lookups one by one and in bulk,
+    tokens in bulk; and on
+ * a small one, if it is given, reading, and joining 2,000 of it. The best of 20 runs, in nanoseconds: reading and writing of FILE
+ * and the tokens in bulk for each token, lookups each, the small map for each map. */
 #define _POSIX_C_SOURCE 199309L
 #include "oxc_sourcemap.h"
 
@@ -8,6 +10,7 @@
 #include <time.h>
 
 #define LOOKUPS 100000
+#define SMALL 2000
 #define RUNS 20
 
 static double now(void) {
@@ -16,7 +19,7 @@ static double now(void) {
     return (double)t.tv_sec * 1e9 + (double)t.tv_nsec;
 }
 
-static uint64_t state = 0x9E3779B97F4A7C15;
+static uint64_t state = 0x9E3779B97F4A7C15, sum;
 
 static uint32_t below(uint64_t n) {
     state ^= state << 13;
@@ -25,59 +28,118 @@ static uint32_t below(uint64_t n) {
     return (uint32_t)((state >> 32) % n);
 }
 
-static uint8_t *read_file(const char *path, size_t *len) {
+static void must(int is_so) {
+    if (!is_so) exit(1);
+}
+
+static char *read_file(const char *path, size_t *len) {
     FILE *file = fopen(path, "rb");
-    uint8_t *bytes = NULL;
-    if (file && !fseek(file, 0, SEEK_END) && (bytes = malloc(*len = (size_t)ftell(file)))) {
-        rewind(file);
-        if (fread(bytes, 1, *len, file) != *len) exit(1);
-    }
-    if (!bytes) exit(1);
+    char *bytes = NULL;
+    must(file && !fseek(file, 0, SEEK_END) && (bytes = malloc((*len = (size_t)ftell(file)) + 1)));
+    rewind(file);
+    must(fread(bytes, 1, *len, file) == *len);
     fclose(file);
     return bytes;
 }
 
-int main(int argc, char **argv) {
-    static smap_position queries[LOOKUPS];
-    smap_map map = SMAP_EMPTY;
-    smap_string string = SMAP_EMPTY;
-    smap_fault fault;
+/* What each stage works on. */
+static struct {
+    char *json;
+    size_t json_len;
+    smap_map *map;
+    smap_position positions[LOOKUPS];
+    smap_original originals[LOOKUPS];
+    uint32_t found[LOOKUPS];
+    smap_token *tokens;
     smap_counts counts;
-    smap_token last;
-    smap_place place;
-    size_t len;
-    uint8_t *json = read_file(argv[argc - 1], &len);
-    double read = 1e18, wrote = 1e18, looked = 1e18;
-    uint64_t sum = 0;
-    for (int run = 0; run < RUNS; run++) {
-        smap_free_map(&map);
-        double start = now();
-        if (smap_from_json_string(json, len, &map, &fault)) return 1;
-        double took = now() - start;
-        if (took < read) read = took;
-        smap_free_string(&string);
-        start = now();
-        if (smap_to_json_string(&map, &string, &fault)) return 1;
-        took = now() - start;
-        if (took < wrote) wrote = took;
+    const smap_map *small[SMALL];
+    smap_position starts[SMALL];
+} it;
+
+static void parse(void) {
+    smap_free_map(it.map);
+    must(!smap_from_json_string(it.json, it.json_len, &it.map, NULL));
+}
+
+static void serialize(void) {
+    smap_string *string;
+    must(!smap_to_json_string(it.map, &string, NULL));
+    smap_free_string(string);
+}
+
+static void look_up(void) {
+    smap_original out;
+    for (int i = 0; i < LOOKUPS; i++)
+        if (!smap_trace(it.map, it.positions[i].line, it.positions[i].column, SMAP_BEFORE, &out,
+            NULL)) sum += out.kind + out.source.len;
+}
+
+static void look_all_up(void) {
+    must(!smap_trace_all(it.map, it.positions, LOOKUPS, SMAP_BEFORE, it.originals, LOOKUPS, NULL));
+}
+
+static void find_all(void) {
+    must(!smap_find_all(it.map, it.positions, LOOKUPS, SMAP_BEFORE, it.found, LOOKUPS, NULL));
+}
+
+static void tokens_out(void) {
+    size_t count;
+    must(!smap_get_tokens(it.map, it.tokens, it.counts.tokens, &count));
+}
+
+static void read_small(void) {
+    for (int i = 0; i < SMALL; i++) {
+        smap_map *map;
+        must(!smap_from_json_string(it.json, it.json_len, &map, NULL));
+        smap_free_map(map);
     }
-    if (smap_get_counts(&map, &counts) || smap_get_token(&map, (uint32_t)counts.tokens - 1, &last)) return 1;
+}
+
+static void join_small(void) {
+    smap_map *map;
+    must(!smap_join_all(it.small, SMALL, it.starts, SMALL, &map, NULL));
+    smap_free_map(map);
+}
+
+/* Prints the best time of a stage, for each of so many. */
+static void time_of(const char *name, void (*stage)(void), size_t each) {
+    double best = 1e18;
+    for (int run = 0; run < RUNS; run++) {
+        double start = now();
+        stage();
+        double took = now() - start;
+        if (took < best) best = took;
+    }
+    printf("%s %.2f\n", name, best / (double)each);
+}
+
+int main(int argc, char **argv) {
+    must(argc > 1);
+    it.json = read_file(argv[1], &it.json_len);
+    parse();
+    must(!smap_get_counts(it.map, &it.counts));
+    it.tokens = malloc(it.counts.tokens * sizeof *it.tokens + 1);
     for (int i = 0; i < LOOKUPS; i++) {
-        queries[i].line = below((uint64_t)last.dst_line + 1);
-        queries[i].column = below(200);
+        it.positions[i].line = below(it.counts.lines + 1);
+        it.positions[i].column = below(200);
     }
-    for (int run = 0; run < RUNS; run++) {
-        double start = now();
-        sum = 0;
-        for (int i = 0; i < LOOKUPS; i++)
-            if (!smap_trace(&map, queries[i].line, queries[i].column, &place, &fault)) sum += place.kind + place.line + place.source.len;
-        double took = now() - start;
-        if (took < looked) looked = took;
+    time_of("parse", parse, it.counts.tokens);
+    time_of("serialize", serialize, it.counts.tokens);
+    time_of("lookup", look_up, LOOKUPS);
+    time_of("trace_all", look_all_up, LOOKUPS);
+    time_of("find_all", find_all, LOOKUPS);
+    time_of("tokens", tokens_out, it.counts.tokens);
+    free(it.json);
+    if (argc > 2) {
+        it.json = read_file(argv[2], &it.json_len);
+        parse();
+        for (uint32_t i = 0; i < SMALL; i++) it.small[i] = it.map, it.starts[i].line = i;
+        time_of("parse-small", read_small, SMALL);
+        time_of("join-small", join_small, SMALL);
+        free(it.json);
     }
-    printf("%zu tokens: parse %.1f, serialize %.1f, lookup %.1f ns (sum %llu)\n", counts.tokens, read / (double)counts.tokens,
-           wrote / (double)counts.tokens, looked / LOOKUPS, (unsigned long long)sum);
-    smap_free_map(&map);
-    smap_free_string(&string);
-    free(json);
+    fprintf(stderr, "%llu\n", (unsigned long long)sum);
+    smap_free_map(it.map);
+    free(it.tokens);
     return 0;
 }

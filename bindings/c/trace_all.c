@@ -6,9 +6,9 @@
 #include <stdio.h>
 #include <stdlib.h>
 
-static uint8_t *read_file(const char *path, size_t *len) {
+static char *read_file(const char *path, size_t *len) {
     FILE *file = fopen(path, "rb");
-    uint8_t *bytes = NULL;
+    char *bytes = NULL;
     if (file && !fseek(file, 0, SEEK_END) && (bytes = malloc((*len = (size_t)ftell(file)) + 1))) {
         rewind(file);
         if (fread(bytes, 1, *len, file) != *len) exit(1);
@@ -18,45 +18,45 @@ static uint8_t *read_file(const char *path, size_t *len) {
     return bytes;
 }
 
-static void print(const smap_place *p) {
+static void print(const smap_original *p) {
     if (p->kind == SMAP_NOTHING) {
         puts("nothing");
     } else if (p->kind == SMAP_UNMAPPED) {
         puts("unmapped");
     } else {
-        printf("%.*s:%u:%u", (int)p->source.len, (const char *)p->source.at, p->line, p->column);
-        if (p->kind == SMAP_NAMED) printf(" %.*s", (int)p->name.len, (const char *)p->name.at);
+        printf("%.*s:%u:%u", (int)p->source.len, p->source.at, p->token.src_line, p->token.src_col);
+        if (p->kind == SMAP_NAMED) printf(" %.*s", (int)p->name.len, p->name.at);
         putchar('\n');
     }
 }
 
 static int refused(const smap_fault *fault) {
-    uint8_t text[256];
+    char text[256];
     size_t len = smap_message(fault, text, sizeof text);
-    fprintf(stderr, "%.*s\n", (int)(len < sizeof text ? len : sizeof text), (const char *)text);
+    fprintf(stderr, "%.*s\n", (int)(len < sizeof text ? len : sizeof text), text);
     return 1;
 }
 
 int main(int argc, char **argv) {
-    smap_map map = SMAP_EMPTY;
+    smap_map *map;
     smap_fault fault;
-    smap_place place;
+    smap_original place;
     size_t len;
     uint32_t is_sorted;
     unsigned line, column;
-    uint8_t *json = read_file(argv[argc - 1], &len);
+    char *json = read_file(argv[argc - 1], &len);
     if (smap_from_json_string(json, len, &map, &fault)) return refused(&fault);
     free(json);
-    if (smap_is_sorted(&map, &is_sorted) || !is_sorted) {
+    if (smap_is_sorted(map, &is_sorted) || !is_sorted) {
         fputs("Tokens are not in order of line and column\n", stderr);
         return 1;
     }
     while (scanf("%u %u", &line, &column) == 2) {
-        if (smap_trace(&map, line, column, &place, &fault)) return refused(&fault);
+        if (smap_trace(map, line, column, SMAP_BEFORE, &place, &fault)) return refused(&fault);
         print(&place);
-        if (smap_trace_clamped(&map, line, column, &place, &fault)) return refused(&fault);
+        if (smap_trace(map, line, column, SMAP_CLAMPED, &place, &fault)) return refused(&fault);
         print(&place);
     }
-    smap_free_map(&map);
+    smap_free_map(map);
     return 0;
 }

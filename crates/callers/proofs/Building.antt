@@ -20,7 +20,7 @@ first-source path content = record { map = with_source empty_record path content
 
 first-path : (path content : Text) → with_path nothing_built path content ≡ (first-source path content, 0)
 unfolding first-source
-first-path path content = ap (with_path_at nothing_built path content) (none-given path)
+first-path path content = ap (with_path_at nothing_built path (Some content)) (none-given path)
 
 -- a map with this token after its others
 abbrev with-token : ℕ → ℕ → MapRecord → ℕ → ℕ → MapRecord

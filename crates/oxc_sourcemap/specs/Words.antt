@@ -1,6 +1,6 @@
 -- The words of the clauses of this library's calls, from one place. Users import what they need from here.
 pub use Rattle.oxc_sourcemap_builders.specs.Building.{with_name, with_name_at, with_another_source}
-pub use Rattle.oxc_sourcemap_builders.specs.Building.{with_path, with_path_at}
+pub use Rattle.oxc_sourcemap_builders.specs.Building.{with_path, with_path_at, with_bare_path}
 pub use Rattle.oxc_sourcemap_builders.specs.Built.{nothing_built}
 pub use Rattle.oxc_sourcemap_builders.specs.NameLaws.{EqualIdsForEqualNames}
 pub use Rattle.oxc_sourcemap_decode.specs.Decoded.{decoded, json_fault}

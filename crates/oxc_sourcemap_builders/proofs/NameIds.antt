@@ -7,6 +7,7 @@ use Rattle.oxc_sourcemap_parts.proofs.Places.{index-last, index-front, same_plac
 use Rattle.oxc_sourcemap_builders.specs.Built.{Built}
 use Rattle.oxc_sourcemap_builders.specs.Building.{with_name, with_name_at, with_path_at}
 use Rattle.oxc_sourcemap_builders.specs.NameLaws.{Call, AddName, AddSource, SetSource, AddToken}
+use Rattle.oxc_sourcemap_builders.specs.NameLaws.{AddBareSource, AddTokens}
 use Rattle.oxc_sourcemap_builders.specs.NameLaws.{SetFile, SetChunks, after_call, after_calls}
 use Rattle.oxc_sourcemap_builders.specs.NameLaws.{EqualIdsForEqualNames}
 
@@ -23,15 +24,17 @@ stays-with_name : (o : Option ℕ) (b : Built) (other name : Text) (id : ℕ) �
 stays-with_name (Some i) b other name id e = e
 stays-with_name None b other name id e = index-front name id b.map.names (other ∷ []) e
 
-stays-with_path : (o : Option ℕ) (b : Built) (path content name : Text) (id : ℕ) → index_of name b.map.names ≡ Some id → index_of name (with_path_at b path content o).0.map.names ≡ Some id
+stays-with_path : (o : Option ℕ) (b : Built) (path : Text) (content : Option Text) (name : Text) (id : ℕ) → index_of name b.map.names ≡ Some id → index_of name (with_path_at b path content o).0.map.names ≡ Some id
 stays-with_path (Some i) b path content name id e = e
 stays-with_path None b path content name id e = e
 
 stays : (call : Call) (b : Built) (name : Text) (id : ℕ) → index_of name b.map.names ≡ Some id → index_of name (after_call b call).map.names ≡ Some id
 stays (AddName other) b name id e = stays-with_name (index_of other b.map.names) b other name id e
-stays (AddSource path content) b name id e = stays-with_path (fin.get b.given path) b path content name id e
+stays (AddSource path content) b name id e = stays-with_path (fin.get b.given path) b path (Some content) name id e
+stays (AddBareSource path) b name id e = stays-with_path (fin.get b.given path) b path None name id e
 stays (SetSource path content) b name id e = e
 stays (AddToken token) b name id e = e
+stays (AddTokens tokens) b name id e = e
 stays (SetFile file) b name id e = e
 stays (SetChunks chunks) b name id e = e
 

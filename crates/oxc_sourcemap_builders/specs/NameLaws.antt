@@ -5,13 +5,16 @@ use Rattle.oxc_sourcemap_tokens.specs.Token.{TokenRecord}
 use Rattle.oxc_sourcemap_parts.specs.Record.{Text}
 use Rattle.oxc_sourcemap_builders.specs.Built.{Built}
 use Rattle.oxc_sourcemap_builders.specs.Building.{with_name, with_another_source, with_path}
+use Rattle.oxc_sourcemap_builders.specs.Building.{with_bare_path}
 
 -- A call that may change a builder, and does not fail. (One that fails leaves the builder as it was.)
 pub data Call : Type 0 where
   AddName : (name : Text) → Call
   AddSource : (path content : Text) → Call
+  AddBareSource : (path : Text) → Call
   SetSource : (path content : Text) → Call
   AddToken : (token : TokenRecord) → Call
+  AddTokens : (tokens : List TokenRecord) → Call
   SetFile : (file : Text) → Call
   SetChunks : (chunks : List TokenChunk) → Call
 
@@ -19,8 +22,10 @@ pub data Call : Type 0 where
 abbrev pub after_call : Built → Call → Built
 after_call b (AddName name) = (with_name b name).0
 after_call b (AddSource path content) = (with_path b path content).0
+after_call b (AddBareSource path) = (with_bare_path b path).0
 after_call b (SetSource path content) = (with_another_source b path content).0
 after_call b (AddToken token) = record b { map = record b.map { tokens = b.map.tokens ++ token ∷ [] } }
+after_call b (AddTokens tokens) = record b { map = record b.map { tokens = b.map.tokens ++ tokens } }
 after_call b (SetFile file) = record b { map = record b.map { file = Some file } }
 after_call b (SetChunks chunks) = record b { map = record b.map { token_chunks = Some chunks } }
 

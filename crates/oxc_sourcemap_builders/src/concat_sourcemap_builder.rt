@@ -3,11 +3,12 @@ ghost use Rattle.std.specs.Prelude.{◌≡◌, ◌↔◌, ◌⊎◌, IfSome, IfO
 ghost use Rattle.oxc_sourcemap_builders.specs.Words.{OutOfMemory, TooLarge, ChunksFit, at_line};
 ghost use Rattle.oxc_sourcemap_builders.specs.Words.{at_lines, added, nothing_joined, joined};
 ghost use Rattle.oxc_sourcemap_builders.specs.Words.{lent_maps, IsWithinLimits, position};
-ghost use Rattle.oxc_sourcemap_builders.specs.Words.{OnlyMemory};
+ghost use Rattle.oxc_sourcemap_builders.specs.Words.{OnlyMemory, record_of_parts};
 
 use oxc_sourcemap_join::{JoinedParts, Lengths, with_lengths, with_room};
 use oxc_sourcemap_map::{OwnedSourceMap, SourceMap, parts_of};
-use oxc_sourcemap_tokens::{Position, Result};
+use oxc_sourcemap_parts::SourceMapParts;
+use oxc_sourcemap_tokens::{Position, Result, Token};
 use std::alloc::Global;
 use std::marker::Model;
 
@@ -209,6 +210,22 @@ impl<'a> ConcatSourceMapBuilder<'a> {
             builder.add_sourcemap_owned(sourcemap, line_offset)?;
         }
         Ok(builder)
+    }
+
+    /// The tokens of the maps that were added, in order, as they are in the joined map.
+    pub fn get_tokens(&self) -> &[Token]
+        ensures { result.now ≡ self.now.tokens }
+    {
+        self.parts.tokens()
+    }
+
+    /// The parts of the joined map, as `into_sourcemap` has them. Takes no memory, and cannot fail.
+    pub fn into_parts(self) -> SourceMapParts<'a>
+        ensures parts { record_of_parts result ≡ self.entry }
+        ensures fits { IfSome self.entry.token_chunks (ChunksFit self.entry.tokens) }
+        ensures limits { IsWithinLimits self.entry }
+    {
+        self.parts.into_parts()
     }
 
     /// The joined map: with chunks, which fit, with an ignore list if one of its maps has one, and without file, source root

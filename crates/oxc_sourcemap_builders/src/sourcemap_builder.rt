@@ -6,10 +6,11 @@ ghost use Rattle.std.specs.FinMap as fin;
 ghost use Rattle.oxc_sourcemap_builders.specs.Words.{OutOfMemory, TooLarge, kept_id, texts_of};
 ghost use Rattle.oxc_sourcemap_builders.specs.Words.{contents_of, index_of, nothing_built};
 ghost use Rattle.oxc_sourcemap_builders.specs.Words.{with_name, with_name_at, with_another_source};
-ghost use Rattle.oxc_sourcemap_builders.specs.Words.{with_path, with_path_at, OnlyMemory};
+ghost use Rattle.oxc_sourcemap_builders.specs.Words.{with_path, with_path_at, with_bare_path};
+ghost use Rattle.oxc_sourcemap_builders.specs.Words.{OnlyMemory, text_of, record_of_parts};
 
 use oxc_sourcemap_map::{OwnedSourceMap, SourceMap};
-use oxc_sourcemap_parts::owned_text;
+use oxc_sourcemap_parts::{SourceMapParts, owned_text};
 use oxc_sourcemap_tokens::{Error, Memory, Result, Token, TokenChunk};
 use std::alloc::Global;
 use std::borrow::CowStr;
@@ -91,17 +92,17 @@ fn next_id(count: usize) -> Result<u32>
     Ok(count as u32)
 }
 
-/// Adds a path and a content, or neither for want of memory.
+/// Adds a path and a content, None if it is not known, or neither for want of memory.
 fn push_source<'a>(
     sources: &mut Vec<CowStr<'a>>,
     contents: &mut Vec<Option<CowStr<'a>>>,
     path: CowStr<'a>,
-    content: CowStr<'a>,
+    content: Option<CowStr<'a>>,
 ) -> Memory<()>
     ensures sources { OnOk result (texts_of sources.new ≡ texts_of sources.old
         ++ cow_str_bytes path.entry ∷ []) }
     ensures contents { OnOk result (contents_of contents.new ≡ contents_of contents.old
-        ++ Some (cow_str_bytes content.entry) ∷ []) }
+        ++ text_of content.entry ∷ []) }
     ensures unchanged { OnErr result ((sources.new.items ≡ sources.old.items)
         × (contents.new.items ≡ contents.old.items)) }
 {
@@ -109,7 +110,7 @@ fn push_source<'a>(
     contents.reserve(1)?;
     let pushed: std::result::Result<_, _> = sources.push(path);
     pushed.unwrap();
-    let pushed: std::result::Result<_, _> = contents.push(Some(content));
+    let pushed: std::result::Result<_, _> = contents.push(content);
     pushed.unwrap();
     Ok(())
 }
@@ -210,7 +211,7 @@ impl<'a> SourceMapBuilder<'a> {
         self.push_given(
             CowStr::Borrowed(path),
             CowStr::Borrowed(path),
-            CowStr::Borrowed(content),
+            Some(CowStr::Borrowed(content)),
             id,
         )?;
         Ok(id)
@@ -233,23 +234,74 @@ impl<'a> SourceMapBuilder<'a> {
         let key = owned_text(self.alloc, path)?;
         let listed = owned_text(self.alloc, path)?;
         let text = owned_text(self.alloc, content)?;
-        self.push_given(key, listed, text, id)?;
+        self.push_given(key, listed, Some(text), id)?;
         Ok(id)
     }
 
-    /// Adds a source and its content, and gives the id to its path, or does nothing for want of memory.
+    /// Adds a source without a content and returns its id: `sourcesContent` has null for it. A path that was added before, here
+    /// or with a content, keeps its id and its first content.
+    ///
+    /// ```rust
+    /// use oxc_sourcemap::SourceMapBuilder;
+    ///
+    /// let mut builder = SourceMapBuilder::empty(alloc);
+    /// assert_eq!(rt; builder.add_source("a.js"), Ok(0));
+    /// assert_eq!(rt; builder.add_source_and_content("b.js", "B"), Ok(1));
+    /// let map = builder.into_sourcemap()?;
+    /// let text = r#"{"version":3,"names":[],"sources":["a.js","b.js"],"sourcesContent":[null,"B"],"mappings":""}"#;
+    /// assert_eq!(rt; map.to_json_string(alloc)?.as_str(), text);
+    /// ```
+    ///
+    /// Fails with `TooLarge` if the new id would be 4294967295, then with `OutOfMemory` for want of memory; the builder
+    /// is then as it was.
+    pub fn add_source(&mut self, path: &'a str) -> Result<u32>
+        ensures added { IfOk result (λ id. (self.new, id) ≡ with_bare_path self.old path.now) }
+        ensures too_large { IsErrOf result TooLarge
+            ↔ (IsNone (fin.get self.old.given path.now)
+            × (4294967295 ≤ length self.old.map.sources)) }
+        ensures error { IfErr result (λ e. (e ≡ OutOfMemory) ⊎ (e ≡ TooLarge)) }
+        ensures unchanged { OnErr result (self.new ≡ self.old) }
+    {
+        if let Some(found) = self.given.get(path) {
+            return Ok(*found);
+        }
+        let id = next_id(self.sources.len())?;
+        self.push_given(CowStr::Borrowed(path), CowStr::Borrowed(path), None, id)?;
+        Ok(id)
+    }
+
+    /// As `add_source`, but a new path is copied.
+    pub fn add_source_copied(&mut self, path: &str) -> Result<u32>
+        ensures added { IfOk result (λ id. (self.new, id) ≡ with_bare_path self.old path.now) }
+        ensures too_large { IsErrOf result TooLarge
+            ↔ (IsNone (fin.get self.old.given path.now)
+            × (4294967295 ≤ length self.old.map.sources)) }
+        ensures error { IfErr result (λ e. (e ≡ OutOfMemory) ⊎ (e ≡ TooLarge)) }
+        ensures unchanged { OnErr result (self.new ≡ self.old) }
+    {
+        if let Some(given) = self.given.get(path) {
+            return Ok(*given);
+        }
+        let id = next_id(self.sources.len())?;
+        let key = owned_text(self.alloc, path)?;
+        let kept = owned_text(self.alloc, path)?;
+        self.push_given(key, kept, None, id)?;
+        Ok(id)
+    }
+
+    /// Adds a source and its content, if it is known, and gives the id to its path, or does nothing for want of memory.
     fn push_given(
         &mut self,
         key: CowStr<'a>,
         path: CowStr<'a>,
-        content: CowStr<'a>,
+        content: Option<CowStr<'a>>,
         id: u32,
     ) -> Memory<()>
         requires same { cow_str_bytes key ≡ cow_str_bytes path }
         requires id { id ≡ length self.old.map.sources }
         ensures added { OnOk result (self.new ≡
             (with_path_at self.old (cow_str_bytes path.entry)
-            (cow_str_bytes content.entry) None).0) }
+            (text_of content.entry) None).0) }
         ensures unchanged { OnErr result (self.new ≡ self.old) }
     {
         self.given.reserve(1)?;
@@ -276,7 +328,7 @@ impl<'a> SourceMapBuilder<'a> {
             &mut self.sources,
             &mut self.source_contents,
             CowStr::Borrowed(path),
-            CowStr::Borrowed(content),
+            Some(CowStr::Borrowed(content)),
         )?;
         Ok(last)
     }
@@ -292,7 +344,12 @@ impl<'a> SourceMapBuilder<'a> {
         let new_id = next_id(self.sources.len())?;
         let path = owned_text(self.alloc, path)?;
         let content = owned_text(self.alloc, content)?;
-        push_source(&mut self.sources, &mut self.source_contents, path, content)?;
+        push_source(
+            &mut self.sources,
+            &mut self.source_contents,
+            path,
+            Some(content),
+        )?;
         Ok(new_id)
     }
 
@@ -329,6 +386,36 @@ impl<'a> SourceMapBuilder<'a> {
         Ok(())
     }
 
+    /// Appends tokens, all of them or none. As with `add_token`, nothing is checked.
+    ///
+    /// ```rust
+    /// use oxc_sourcemap::{SourceMapBuilder, Token};
+    ///
+    /// let mut builder = SourceMapBuilder::empty(alloc);
+    /// let source = builder.add_source("a.js")?;
+    /// builder.add_tokens(&[Token::new(0, 0, 0, 0, Some(source), None), Token::new(0, 4, 0, 0, None, None)])?;
+    /// assert_eq!(rt; builder.into_sourcemap()?.to_json(alloc)?.mappings.as_str(), "AAAA,I");
+    /// ```
+    ///
+    /// Fails only with `OutOfMemory`; the builder is then as it was.
+    pub fn add_tokens(&mut self, tokens: &[Token]) -> Result<()>
+        ensures added { OnOk result (self.new ≡ record self.old {
+          map = record self.old.map { tokens = self.old.map.tokens ++ tokens.now };
+        }) }
+        ensures error { OnlyMemory result }
+        ensures unchanged { OnErr result (self.new ≡ self.old) }
+    {
+        self.tokens.extend_from_slice(tokens)?;
+        Ok(())
+    }
+
+    /// The tokens that were added, in order.
+    pub fn get_tokens(&self) -> &[Token]
+        ensures { result.now ≡ self.now.map.tokens }
+    {
+        self.tokens.as_slice()
+    }
+
     /// Sets the name of the generated file. Cannot fail.
     pub fn set_file(&mut self, file: &'a str)
         ensures { self.new
@@ -358,6 +445,24 @@ impl<'a> SourceMapBuilder<'a> {
         self.token_chunks = Some(token_chunks);
     }
 
+    /// The parts of the map that was built, without source root, ignore list and debug id. Its strings are those of the builder,
+    /// borrowed or owned. Takes no memory, and cannot fail.
+    pub fn into_parts(self) -> SourceMapParts<'a>
+        ensures { record_of_parts result ≡ self.entry.map }
+    {
+        SourceMapParts {
+            file: self.file,
+            names: self.names,
+            source_root: None,
+            sources: self.sources,
+            source_contents: self.source_contents,
+            tokens: self.tokens.into_boxed_slice(),
+            token_chunks: self.token_chunks,
+            ignore_list: None,
+            debug_id: None,
+        }
+    }
+
     /// The map that was built, without source root, ignore list and debug id. Its strings are those of the builder, borrowed
     /// or owned. Takes no memory.
     pub fn into_sourcemap(self) -> Result<SourceMap<'a>>
@@ -366,15 +471,7 @@ impl<'a> SourceMapBuilder<'a> {
             × (map.ignore_list ≡ None) × (map.debug_id ≡ None)) }
         ensures error { OnlyMemory result }
     {
-        Ok(SourceMap::new(
-            self.file,
-            self.names,
-            None,
-            self.sources,
-            self.source_contents,
-            self.tokens.into_boxed_slice(),
-            self.token_chunks,
-        ))
+        Ok(SourceMap::from_parts(self.into_parts()))
     }
 
     /// The map that was built, as `into_sourcemap` gives it, with copies of its borrowed strings. Fails only with

@@ -1,3 +1,3 @@
 pub mod Exports
-pub mod Plans
+pub mod Reading
 pub mod Words

@@ -1,6 +1,15 @@
 pub mod ReadBack
 pub mod Values
-pub mod Traces
 pub mod Composing
-pub mod Joining
 pub mod Memory
+pub mod TextLists
+pub mod Lends
+pub mod Filling
+pub mod Traced
+pub mod Passing
+pub mod MapsOfMaps
+pub mod Failing
+pub mod Characters
+pub mod Located
+pub mod Planned
+pub mod Buffers

@@ -25,9 +25,13 @@ use Rattle.oxc_sourcemap_tokens.specs.declared.plan_error.PlanError.TheVariants.
 use Rattle.oxc_sourcemap_handles.specs.declared.call_error.CallError.{CallError}
 use Rattle.oxc_sourcemap_handles.specs.declared.call_error.CallError.TheVariants.{Plan, Words}
 use Rattle.oxc_sourcemap_handles.specs.declared.call_error.CallError.TheVariants.{NoText}
-use Rattle.oxc_sourcemap_handles.specs.declared.call_error.CallError.TheVariants.{EmptyHandle}
+use Rattle.oxc_sourcemap_handles.specs.declared.call_error.CallError.TheVariants.{NullHandle}
 use Rattle.oxc_sourcemap_handles.specs.declared.call_error.CallError.TheVariants.{NotUtf8}
 use Rattle.oxc_sourcemap_handles.specs.declared.call_error.CallError.TheVariants.{Lengths, NoEntry}
+use Rattle.oxc_sourcemap_handles.specs.declared.call_error.CallError.TheVariants.{NoIndex}
+use Rattle.oxc_sourcemap_handles.specs.declared.call_error.CallError.TheVariants.{BadOption}
+use Rattle.oxc_sourcemap_handles.specs.declared.call_error.CallError.TheVariants.{BadBase64}
+use Rattle.oxc_sourcemap_handles.specs.declared.call_error.CallError.TheVariants.{BadDataUtf8}
 use Rattle.oxc_sourcemap_handles.specs.Codes.{fault_of, call_error_of, IsSmall}
 
 shape_back : (f : Field) → call_error_of (fault_of (Plan (Map (BadJson (Shape f))))) ≡ Some (Plan (Map (BadJson (Shape f))))
@@ -67,7 +71,11 @@ read_back (Plan Unsorted) s = refl
 read_back (Plan TooDeep) s = refl
 read_back Words s = refl
 read_back (NoText k) s = ap (λ n. Some (NoText n)) (mod-eq_of_lt s)
-read_back EmptyHandle s = refl
+read_back NullHandle s = refl
 read_back (NotUtf8 n) s = refl
 read_back Lengths s = refl
 read_back NoEntry s = refl
+read_back NoIndex s = refl
+read_back BadOption s = refl
+read_back (BadBase64 at) s = refl
+read_back (BadDataUtf8 at) s = refl

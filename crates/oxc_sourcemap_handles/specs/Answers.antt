@@ -2,7 +2,6 @@
 use Rattle.std.specs.Prelude.{◌≡◌, ◌≢◌, ℕ, List, ◌⊎◌, Option, Some, None, Result, Ok, Err}
 use Rattle.std.specs.Prelude.{MatchOption, MatchResult, IsUtf8, slice_get, length, Bool, true}
 use Rattle.std.specs.Prelude.{false}
-use Rattle.std.specs.Option.{option_and_then}
 use Rattle.std.specs.Str.Lossy.{utf8_valid_len}
 use Rattle.oxc_sourcemap_tokens.specs.declared.error.Error.{Error}
 use Rattle.oxc_sourcemap_parts.specs.Record.{Text, MapRecord}
@@ -10,7 +9,7 @@ use Rattle.oxc_sourcemap_decode.specs.ReadMap.{read_map}
 use Rattle.oxc_sourcemap_lookup.specs.Composed.{SomeComposition}
 use Rattle.oxc_sourcemap_map.specs.View.{content_at}
 use Rattle.oxc_sourcemap_handles.specs.declared.call_error.CallError.{CallError}
-use Rattle.oxc_sourcemap_handles.specs.declared.call_error.CallError.TheVariants.{EmptyHandle}
+use Rattle.oxc_sourcemap_handles.specs.declared.call_error.CallError.TheVariants.{NullHandle}
 use Rattle.oxc_sourcemap_handles.specs.declared.call_error.CallError.TheVariants.{NotUtf8}
 use Rattle.oxc_sourcemap_handles.specs.declared.call_error.CallError.TheVariants.{NoEntry}
 use Rattle.oxc_sourcemap_handles.specs.declared.fault.Fault.{Fault}
@@ -28,16 +27,11 @@ use Rattle.oxc_sourcemap_handles.specs.Holding.{held_map}
 abbrev pub IsErrorAs : ℕ → Fault → (CallError → Type 0) → Type 0
 IsErrorAs code f These = (r : CallError) × (f ≡ fault_of r) × (code ≡ code_of r) × (r ≢ out_of_memory → These r)
 
--- an error of reading bytes: they are not UTF-8, or their text has an error
-abbrev pub IsReadError : List ℕ → CallError → Type 0
-IsReadError bytes r =
-    (¬ (IsUtf8 bytes) × (r ≡ NotUtf8 (utf8_valid_len bytes))) ⊎ (IsUtf8 bytes × (e : Error) × (read_map bytes ≡ Err e) × (r ≡ of_map e))
-
 -- an error of composing what two handles hold: one holds no map, or the maps have no composition
 abbrev pub IsCompositionError : Option MapRecord → Option MapRecord → CallError → Type 0
 IsCompositionError (Some a) (Some b) r = (e : Error) × SomeComposition a b (Err e) × (r ≡ of_map e)
-IsCompositionError (Some a) None r = r ≡ EmptyHandle
-IsCompositionError None b r = r ≡ EmptyHandle
+IsCompositionError (Some a) None r = r ≡ NullHandle
+IsCompositionError None b r = r ≡ NullHandle
 
 -- the text of a map that is asked for
 abbrev pub text_at : MapRecord → Asked → Option Text
@@ -48,28 +42,28 @@ text_at m File = m.file
 text_at m SourceRoot = m.source_root
 text_at m DebugId = m.debug_id
 
--- the result of a lookup in what a handle holds: `EmptyHandle`, `NoEntry`, or what is found
+-- the result of a lookup in what a handle holds: `NullHandle`, `NoEntry`, or what is found
 abbrev pub IsFound : {A B : Type 0} → Result A CallError → Option Held → (MapRecord → Option B) → (A → B → Type 0) → Type 0
 IsFound answer held ask Is =
-    MatchOption (held_map held) (answer ≡ Err EmptyHandle)
+    MatchOption (held_map held) (answer ≡ Err NullHandle)
     (λ m. MatchOption (ask m) (answer ≡ Err NoEntry) (λ found. MatchResult answer (λ x. Is x found) (λ _. ⊥)))
 
 -- a borrowed text has the length of this one
 abbrev pub HasLength : LentText → Text → Type 0
 HasLength lent text = lent.len ≡ length text
 
--- an entry of a map's ignore list
-abbrev pub ignored_at : MapRecord → ℕ → Option ℕ
-ignored_at m i = option_and_then (λ ids. slice_get ids i) m.ignore_list
-
--- the result of writing a handle's map by `write`: its text, `EmptyHandle` if it holds no map, an error of writing, or want of
+-- the result of writing a handle's map by `write`: its text, `NullHandle` if it holds no map, an error of writing, or want of
 -- memory
 abbrev pub IsWrittenAs : {S : Type 0} → (S → Text) → Result S CallError → Option Held → (MapRecord → Result Text Error) → Type 0
 IsWrittenAs bytes answer held write =
-    MatchOption (held_map held) (answer ≡ Err EmptyHandle) (λ m. MatchResult answer (λ text. write m ≡ Ok (bytes text))
+    MatchOption (held_map held) (answer ≡ Err NullHandle) (λ m. MatchResult answer (λ text. write m ≡ Ok (bytes text))
     (λ r. r ≢ out_of_memory → (e : Error) × (write m ≡ Err e) × (r ≡ of_map e)))
 
 -- 1 for true and 0 for false
 abbrev pub flag_of : Bool → ℕ
 flag_of true = 1
 flag_of false = 0
+
+-- a number is 1 if this is so, and else 0
+abbrev pub IsFlagOf : Type 0 → ℕ → Type 0
+IsFlagOf holds n = ((n ≡ 1) × holds) ⊎ ((n ≡ 0) × ¬ holds)

@@ -5,21 +5,32 @@ use Rattle.oxc_sourcemap_tokens.specs.declared.error.Error.{Error}
 use Rattle.oxc_sourcemap_tokens.specs.declared.error.Error.TheVariants.{OutOfMemory}
 use Rattle.oxc_sourcemap_tokens.specs.declared.plan_error.PlanError.TheVariants.{Map}
 use Rattle.oxc_sourcemap_tokens.specs.PlanMessages.{plan_error_text}
+use Rattle.oxc_sourcemap_url.specs.DataUrlMessages.{data_url_error_text}
+use Rattle.oxc_sourcemap_url.specs.declared.data_url_error.DataUrlError.TheVariants.{BadBase64 as DataBase64}
+use Rattle.oxc_sourcemap_url.specs.declared.data_url_error.DataUrlError.TheVariants.{BadUtf8 as DataUtf8}
 use Rattle.oxc_sourcemap_handles.specs.declared.call_error.CallError.{CallError}
 use Rattle.oxc_sourcemap_handles.specs.declared.call_error.CallError.TheVariants.{Plan, Words}
 use Rattle.oxc_sourcemap_handles.specs.declared.call_error.CallError.TheVariants.{NoText}
-use Rattle.oxc_sourcemap_handles.specs.declared.call_error.CallError.TheVariants.{EmptyHandle}
+use Rattle.oxc_sourcemap_handles.specs.declared.call_error.CallError.TheVariants.{NullHandle}
 use Rattle.oxc_sourcemap_handles.specs.declared.call_error.CallError.TheVariants.{NotUtf8}
 use Rattle.oxc_sourcemap_handles.specs.declared.call_error.CallError.TheVariants.{Lengths, NoEntry}
+use Rattle.oxc_sourcemap_handles.specs.declared.call_error.CallError.TheVariants.{NoIndex}
+use Rattle.oxc_sourcemap_handles.specs.declared.call_error.CallError.TheVariants.{BadOption}
+use Rattle.oxc_sourcemap_handles.specs.declared.call_error.CallError.TheVariants.{BadBase64}
+use Rattle.oxc_sourcemap_handles.specs.declared.call_error.CallError.TheVariants.{BadDataUtf8}
 
 abbrev pub call_error_text : CallError → List ℕ
 call_error_text (Plan error) = plan_error_text error
 call_error_text Words = codes "The words say no plan"
 call_error_text (NoText k) = codes "There is no text " ++ decimal k
-call_error_text EmptyHandle = codes "The handle is empty"
+call_error_text NullHandle = codes "The handle is null"
 call_error_text (NotUtf8 n) = codes "Byte " ++ decimal n ++ codes " is not UTF-8"
 call_error_text Lengths = codes "The lengths of two lists differ"
 call_error_text NoEntry = codes "There is no such entry"
+call_error_text NoIndex = codes "The map has no index of its sources"
+call_error_text BadOption = codes "There is no such option"
+call_error_text (BadBase64 at) = data_url_error_text (DataBase64 at)
+call_error_text (BadDataUtf8 at) = data_url_error_text (DataUtf8 at)
 
 -- an error of a call on a map
 abbrev pub of_map : Error → CallError

@@ -1,13 +1,5 @@
 -- The numbers of errors. `fault_of` is the definition of codes; `call_error_of` goes back.
 use Rattle.std.specs.Prelude.{ℕ, ◌%◌, ◌<◌, Option, Some, None, option_map, if◌then◌else◌, ◌==◌}
-use Rattle.oxc_sourcemap_tokens.specs.declared.error.Field.{Field}
-use Rattle.oxc_sourcemap_tokens.specs.declared.error.Field.TheVariants.{Object}
-use Rattle.oxc_sourcemap_tokens.specs.declared.error.Field.TheVariants.{Version as VersionField}
-use Rattle.oxc_sourcemap_tokens.specs.declared.error.Field.TheVariants.{File, Mappings, SourceRoot}
-use Rattle.oxc_sourcemap_tokens.specs.declared.error.Field.TheVariants.{Sources, SourcesContent}
-use Rattle.oxc_sourcemap_tokens.specs.declared.error.Field.TheVariants.{Names, DebugId, IgnoreList}
-use Rattle.oxc_sourcemap_tokens.specs.declared.error.Field.TheVariants.{GoogleIgnoreList, Sections}
-use Rattle.oxc_sourcemap_tokens.specs.declared.error.Field.TheVariants.{Offset, Map as MapField}
 use Rattle.oxc_sourcemap_tokens.specs.declared.error.JsonFault.{JsonFault}
 use Rattle.oxc_sourcemap_tokens.specs.declared.error.JsonFault.TheVariants.{Reading, Shape, Version}
 use Rattle.oxc_sourcemap_tokens.specs.declared.error.Error.{Error}
@@ -27,34 +19,25 @@ use Rattle.oxc_sourcemap_tokens.specs.declared.plan_error.PlanError.TheVariants.
 use Rattle.oxc_sourcemap_handles.specs.declared.call_error.CallError.{CallError}
 use Rattle.oxc_sourcemap_handles.specs.declared.call_error.CallError.TheVariants.{Plan, Words}
 use Rattle.oxc_sourcemap_handles.specs.declared.call_error.CallError.TheVariants.{NoText}
-use Rattle.oxc_sourcemap_handles.specs.declared.call_error.CallError.TheVariants.{EmptyHandle}
+use Rattle.oxc_sourcemap_handles.specs.declared.call_error.CallError.TheVariants.{NullHandle}
 use Rattle.oxc_sourcemap_handles.specs.declared.call_error.CallError.TheVariants.{NotUtf8}
 use Rattle.oxc_sourcemap_handles.specs.declared.call_error.CallError.TheVariants.{Lengths, NoEntry}
+use Rattle.oxc_sourcemap_handles.specs.declared.call_error.CallError.TheVariants.{NoIndex}
+use Rattle.oxc_sourcemap_handles.specs.declared.call_error.CallError.TheVariants.{BadOption}
+use Rattle.oxc_sourcemap_handles.specs.declared.call_error.CallError.TheVariants.{BadBase64}
+use Rattle.oxc_sourcemap_handles.specs.declared.call_error.CallError.TheVariants.{BadDataUtf8}
 use Rattle.oxc_sourcemap_handles.specs.declared.fault.Fault.{Fault}
+use Rattle.oxc_sourcemap_places.specs.declared.fault_place.FaultPlace.{FaultPlace}
+use Rattle.oxc_sourcemap_handles.specs.FieldNumbers.{number_of_field, field_of}
+use Rattle.oxc_sourcemap_handles.specs.PlaceNumbers.{no_place, numbers_of_place}
 
--- the numbers of an error that carries this number and is about no field
+-- the numbers of an error that carries this number and is about no field, without a place
 abbrev pub fault : ℕ → ℕ → Fault
-fault code detail = record { code = code; field = 0; detail = detail }
-
-abbrev pub number_of_field : Field → ℕ
-number_of_field Object = 0
-number_of_field VersionField = 1
-number_of_field File = 2
-number_of_field Mappings = 3
-number_of_field SourceRoot = 4
-number_of_field Sources = 5
-number_of_field SourcesContent = 6
-number_of_field Names = 7
-number_of_field DebugId = 8
-number_of_field IgnoreList = 9
-number_of_field GoogleIgnoreList = 10
-number_of_field Sections = 11
-number_of_field Offset = 12
-number_of_field MapField = 13
+fault code detail = record { code = code; field = 0; detail = detail; place = no_place }
 
 abbrev pub fault_of_json : JsonFault → Fault
 fault_of_json Reading = fault 4 0
-fault_of_json (Shape field) = record { code = 5; field = number_of_field field; detail = 0 }
+fault_of_json (Shape field) = record (fault 5 0) { field = number_of_field field }
 fault_of_json (Version n) = fault 6 n
 
 abbrev pub fault_of_error : Error → Fault
@@ -83,10 +66,18 @@ abbrev pub fault_of : CallError → Fault
 fault_of (Plan error) = fault_of_plan_error error
 fault_of Words = fault 17 0
 fault_of (NoText k) = fault 18 k
-fault_of EmptyHandle = fault 100 0
+fault_of NullHandle = fault 100 0
 fault_of (NotUtf8 n) = fault 101 n
 fault_of Lengths = fault 102 0
 fault_of NoEntry = fault 103 0
+fault_of NoIndex = fault 104 0
+fault_of BadOption = fault 105 0
+fault_of (BadBase64 at) = fault 21 at
+fault_of (BadDataUtf8 at) = fault 22 at
+
+-- the numbers of an error, and of the place of its fault
+abbrev pub fault_at : CallError → Option FaultPlace → Fault
+fault_at r place = record (fault_of r) { place = numbers_of_place place }
 
 -- the code of an error, which is not 0
 abbrev pub code_of : CallError → ℕ
@@ -95,25 +86,6 @@ code_of r = (fault_of r).code
 -- the numbers of a call without an error
 abbrev pub no_fault : Fault
 no_fault = fault 0 0
-
--- the field of a number
-abbrev pub field_of : ℕ → Option Field
-field_of n =
-    if n == 0 then Some Object
-    else if n == 1 then Some VersionField
-    else if n == 2 then Some File
-    else if n == 3 then Some Mappings
-    else if n == 4 then Some SourceRoot
-    else if n == 5 then Some Sources
-    else if n == 6 then Some SourcesContent
-    else if n == 7 then Some Names
-    else if n == 8 then Some DebugId
-    else if n == 9 then Some IgnoreList
-    else if n == 10 then Some GoogleIgnoreList
-    else if n == 11 then Some Sections
-    else if n == 12 then Some Offset
-    else if n == 13 then Some MapField
-    else None
 
 -- the error of the library with these numbers; of a detail that is a 32-bit number, the low 32 bits count
 abbrev pub error_of : Fault → Option Error
@@ -143,10 +115,14 @@ call_error_of f =
     else if f.code == 16 then Some (Plan TooDeep)
     else if f.code == 17 then Some Words
     else if f.code == 18 then Some (NoText (f.detail % 4294967296))
-    else if f.code == 100 then Some EmptyHandle
+    else if f.code == 100 then Some NullHandle
     else if f.code == 101 then Some (NotUtf8 f.detail)
     else if f.code == 102 then Some Lengths
     else if f.code == 103 then Some NoEntry
+    else if f.code == 104 then Some NoIndex
+    else if f.code == 105 then Some BadOption
+    else if f.code == 21 then Some (BadBase64 f.detail)
+    else if f.code == 22 then Some (BadDataUtf8 f.detail)
     else option_map (λ error. Plan (Map error)) (error_of f)
 
 -- the number that an error carries, if it is one of 32 bits
@@ -174,10 +150,14 @@ short_number_of (Plan Unsorted) = 0
 short_number_of (Plan TooDeep) = 0
 short_number_of Words = 0
 short_number_of (NoText k) = k
-short_number_of EmptyHandle = 0
+short_number_of NullHandle = 0
 short_number_of (NotUtf8 n) = 0
 short_number_of Lengths = 0
 short_number_of NoEntry = 0
+short_number_of NoIndex = 0
+short_number_of BadOption = 0
+short_number_of (BadBase64 at) = 0
+short_number_of (BadDataUtf8 at) = 0
 
 -- an error as the library makes it: a number of 32 bits is below 2^32
 abbrev pub IsSmall : CallError → Type 0

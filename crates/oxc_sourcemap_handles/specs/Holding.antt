@@ -1,17 +1,32 @@
--- A handle, as contracts see it: the map, the text or the builder that it holds. Rattle has one type of handle and C has three,
--- so a handle may also hold what a call does not take.
-use Rattle.std.specs.Prelude.{◌≡◌, Option, Some, None, string_bytes, MatchOption}
+-- A handle, as contracts see it: what it holds. Rattle has one type of handle and C has five, so a handle may also hold what a call
+-- does not take.
+use Rattle.std.specs.Prelude.{◌≡◌, true, List, Option, Some, None, string_bytes}
+use Rattle.std.specs.Prelude.{MatchOption}
 use Rattle.oxc_sourcemap_parts.specs.Record.{Text, MapRecord}
 use Rattle.oxc_sourcemap_builders.specs.Built.{Built}
+use Rattle.oxc_sourcemap_handles.specs.Indexed.{Loaded}
+use Rattle.oxc_sourcemap_found.specs.declared.mend.Mend.{Mend}
 use Rattle.oxc_sourcemap_handles.specs.declared.held.Held.{Held}
 use Rattle.oxc_sourcemap_handles.specs.declared.held.Held.TheVariants.{Map, Written, Building}
+use Rattle.oxc_sourcemap_handles.specs.declared.held.Held.TheVariants.{Joining, Mended}
+
+-- the map that a handle holds, if it holds one, with what is kept beside it
+abbrev pub held_loaded : Option Held → Option Loaded
+held_loaded None = None
+held_loaded (Some (Map l)) = Some l
+held_loaded (Some (Written text)) = None
+held_loaded (Some (Building b)) = None
+held_loaded (Some (Joining j)) = None
+held_loaded (Some (Mended mends)) = None
 
 -- the map that a handle holds, if it holds one
 abbrev pub held_map : Option Held → Option MapRecord
 held_map None = None
-held_map (Some (Map m)) = Some m
+held_map (Some (Map l)) = Some l.map
 held_map (Some (Written text)) = None
 held_map (Some (Building b)) = None
+held_map (Some (Joining j)) = None
+held_map (Some (Mended mends)) = None
 
 -- the text that a handle holds, if it holds one
 abbrev pub held_text : Option Held → Option Text
@@ -19,6 +34,8 @@ held_text None = None
 held_text (Some (Map m)) = None
 held_text (Some (Written text)) = Some (string_bytes text)
 held_text (Some (Building b)) = None
+held_text (Some (Joining j)) = None
+held_text (Some (Mended mends)) = None
 
 -- the builder that a handle holds, if it holds one
 abbrev pub held_builder : Option Held → Option Built
@@ -26,7 +43,31 @@ held_builder None = None
 held_builder (Some (Map m)) = None
 held_builder (Some (Written text)) = None
 held_builder (Some (Building b)) = Some b
+held_builder (Some (Joining j)) = None
+held_builder (Some (Mended mends)) = None
+
+-- the join so far that a handle holds, if it holds one
+abbrev pub held_join : Option Held → Option MapRecord
+held_join None = None
+held_join (Some (Map m)) = None
+held_join (Some (Written text)) = None
+held_join (Some (Building b)) = None
+held_join (Some (Joining j)) = Some j
+held_join (Some (Mended mends)) = None
+
+-- the mends that a handle holds, if it holds them
+abbrev pub held_mends : Option Held → Option (List Mend)
+held_mends None = None
+held_mends (Some (Map m)) = None
+held_mends (Some (Written text)) = None
+held_mends (Some (Building b)) = None
+held_mends (Some (Joining j)) = None
+held_mends (Some (Mended mends)) = Some mends.items
 
 -- a handle holds a map of which this holds
 abbrev pub HoldsMap : Option Held → (MapRecord → Type 0) → Type 0
 HoldsMap held P = MatchOption (held_map held) ⊥ P
+
+-- a handle holds a map with the index by original positions
+abbrev pub HoldsOrder : Option Held → Type 0
+HoldsOrder held = MatchOption (held_loaded held) ⊥ (λ l. l.has_order ≡ true)

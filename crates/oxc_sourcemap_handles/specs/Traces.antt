@@ -1,64 +1,86 @@
--- The traces of a handle's map at generated positions.
-use Rattle.std.specs.Prelude.{◌≡◌, ◌≢◌, ◌⊎◌, ℕ, Bool, true, false, List, length, Option, Some, None}
+-- What a handle's map says of generated positions.
+use Rattle.std.specs.Prelude.{◌≡◌, ◌≢◌, ◌⊎◌, ℕ, true, List, length, Option, Some, None, option_map}
 use Rattle.std.specs.Prelude.{Result, Err, MatchOption, MatchResult}
 use Rattle.std.specs.List.{AllZip}
 use Rattle.oxc_sourcemap_tokens.specs.declared.error.Error.{Error}
+use Rattle.oxc_sourcemap_tokens.specs.declared.position.Position.{Position}
 use Rattle.oxc_sourcemap_parts.specs.Record.{MapRecord}
 use Rattle.oxc_sourcemap_tokens.specs.Token.{TokenRecord}
 use Rattle.oxc_sourcemap_tokens.specs.LineOrder.{IsInLineOrder}
-use Rattle.oxc_sourcemap_parts.specs.Sorted.{are_tokens_sorted, token_line, token_column}
-use Rattle.oxc_sourcemap_lookup.specs.Lookup.{pick, clamped_pick}
+use Rattle.oxc_sourcemap_parts.specs.Sorted.{are_tokens_sorted}
 use Rattle.oxc_sourcemap_parts.specs.DecodedMap.{OriginalPosition, decoded_map_of}
-use Rattle.oxc_sourcemap_lookup.specs.Trace.{trace, clamped_trace}
+use Rattle.oxc_sourcemap_lookup.specs.Lookup.{index_for, clamped_index_for, index_after}
+use Rattle.oxc_sourcemap_lookup.specs.Lookup.{token_after}
+use Rattle.oxc_sourcemap_lookup.specs.Trace.{trace, clamped_trace, original_in}
 use Rattle.oxc_sourcemap_handles.specs.declared.call_error.CallError.{CallError}
-use Rattle.oxc_sourcemap_handles.specs.declared.call_error.CallError.TheVariants.{EmptyHandle}
+use Rattle.oxc_sourcemap_handles.specs.declared.call_error.CallError.TheVariants.{NullHandle}
 use Rattle.oxc_sourcemap_handles.specs.declared.call_error.CallError.TheVariants.{Lengths}
+use Rattle.oxc_sourcemap_handles.specs.declared.call_error.CallError.TheVariants.{BadOption}
 use Rattle.oxc_sourcemap_handles.specs.declared.held.Held.{Held}
-use Rattle.oxc_sourcemap_handles.specs.declared.text.Place.{Place}
-use Rattle.oxc_sourcemap_tokens.specs.declared.position.Position.{Position}
+use Rattle.oxc_sourcemap_handles.specs.declared.options.Bias.{Bias}
+use Rattle.oxc_sourcemap_handles.specs.declared.options.Bias.TheVariants.{Before, Clamped, After}
+use Rattle.oxc_sourcemap_handles.specs.declared.text.Original.{Original}
 use Rattle.oxc_sourcemap_handles.specs.CallErrors.{of_map}
 use Rattle.oxc_sourcemap_handles.specs.Holding.{held_map}
 use Rattle.oxc_sourcemap_handles.specs.Indexed.{IsOutOfOrder}
-use Rattle.oxc_sourcemap_handles.specs.Places.{IsPlace, HasIds}
+use Rattle.oxc_sourcemap_handles.specs.Options.{bias_of}
+use Rattle.oxc_sourcemap_handles.specs.Places.{IsSeen, HasOriginal, index_number}
 
--- If the tokens of the map are sorted, the `Place` has this trace and the ids of the token that was found.
-pub record IsTrace (m : MapRecord) (found : Option TokenRecord) (traced : Option (Option OriginalPosition)) (p : Place) : Type 0 where
-  pub place : are_tokens_sorted m.tokens ≡ true → IsPlace p traced
-  pub ids : are_tokens_sorted m.tokens ≡ true → HasIds p found
+-- the index of the token that answers for a position
+abbrev pub index_found : Bias → List TokenRecord → Position → Option ℕ
+index_found Before tokens at = index_for tokens at.line at.column
+index_found Clamped tokens at = clamped_index_for tokens at.line at.column
+index_found After tokens at = index_after tokens at.line at.column
 
--- the token that is found at a position: clamped, or else exact
-abbrev pub found_at : Bool → MapRecord → Position → Option TokenRecord
-found_at false m at = pick token_line token_column m.tokens at.line at.column
-found_at true m at = clamped_pick token_line token_column m.tokens at.line at.column
+-- the trace of a map at a position: what the token that answers points to
+abbrev pub traced_at : Bias → MapRecord → Position → Option (Option OriginalPosition)
+traced_at Before m at = trace (decoded_map_of m) at.line at.column
+traced_at Clamped m at = clamped_trace (decoded_map_of m) at.line at.column
+traced_at After m at = option_map (original_in m) (token_after m.tokens at.line at.column)
 
--- the trace of a map at a position: clamped, or else exact
-abbrev pub traced_at : Bool → MapRecord → Position → Option (Option OriginalPosition)
-traced_at false m at = trace (decoded_map_of m) at.line at.column
-traced_at true m at = clamped_trace (decoded_map_of m) at.line at.column
+-- An answer is that of some token of a map, or of none. If the tokens are sorted, it is the one that answers for a position, and
+-- the answer is the trace there.
+pub record IsTraceOf (bias : Bias) (m : MapRecord) (at : Position) (p : Original) : Type 0 where
+  pub found : Option ℕ
+  pub seen : IsSeen m found p
+  pub is : are_tokens_sorted m.tokens ≡ true → found ≡ index_found bias m.tokens at
+  pub traced : are_tokens_sorted m.tokens ≡ true → HasOriginal p (traced_at bias m at)
 
--- a `Place` is the trace of a map at a position
-abbrev pub IsTraceOf : Bool → MapRecord → Position → Place → Type 0
-IsTraceOf clamped m at p = IsTrace m (found_at clamped m at) (traced_at clamped m at) p
+-- the tokens are in line order, there are as many answers as positions, and each is the trace at the position of its index
+abbrev pub AreTracesOf : Bias → List Position → List Original → MapRecord → Type 0
+AreTracesOf bias positions out m = IsInLineOrder m.tokens × AllZip (IsTraceOf bias m) positions out
 
--- the tokens are in line order, there are as many traces as positions, and each is the trace at the position of its index
-abbrev pub AreTracesOf : Bool → List Position → List Place → MapRecord → Type 0
-AreTracesOf clamped positions places m = IsInLineOrder m.tokens × AllZip (IsTraceOf clamped m) positions places
+-- a number is the index of the token that answers for a position
+abbrev pub IsFoundAt : Bias → MapRecord → Position → ℕ → Type 0
+IsFoundAt bias m at n = are_tokens_sorted m.tokens ≡ true → n ≡ index_number (index_found bias m.tokens at)
+
+-- the same for many positions
+abbrev pub AreFoundIn : Bias → List Position → List ℕ → MapRecord → Type 0
+AreFoundIn bias positions out m = IsInLineOrder m.tokens × AllZip (IsFoundAt bias m) positions out
 
 -- an error of tracing a map: its tokens are not in line order
 abbrev pub IsUntraced : MapRecord → CallError → Type 0
 IsUntraced m r = (e : Error) × IsOutOfOrder m.tokens e × (r ≡ of_map e)
 
--- the result of tracing a handle's map at a position: the trace, `EmptyHandle`, or an error of line order
-abbrev pub IsTraced : Bool → Result Place CallError → Option Held → Position → Type 0
-IsTraced clamped answer held at =
-    MatchOption (held_map held) (answer ≡ Err EmptyHandle) (λ m. MatchResult answer (λ p. IsInLineOrder m.tokens × IsTraceOf clamped m at p) (IsUntraced m))
+-- there is a bias of this number, of which this holds
+abbrev pub HasBias : ℕ → (Bias → Type 0) → Type 0
+HasBias number P = MatchOption (bias_of number) ⊥ P
 
--- an error of tracing what a handle holds
-abbrev pub IsTraceError : Option MapRecord → CallError → Type 0
-IsTraceError None r = r ≡ EmptyHandle
-IsTraceError (Some m) r = IsUntraced m r
+-- the result of tracing a handle's map at a position by the bias of this number: the trace, `NullHandle`, `BadOption`, or an error
+-- of line order
+abbrev pub IsTraced : ℕ → Result Original CallError → Option Held → Position → Type 0
+IsTraced bias answer held at =
+    MatchOption (held_map held) (answer ≡ Err NullHandle)
+    (λ m. MatchOption (bias_of bias) (answer ≡ Err BadOption)
+    (λ b. MatchResult answer (λ p. IsInLineOrder m.tokens × IsTraceOf b m at p) (IsUntraced m)))
 
--- an error of tracing what a handle holds at many positions: there may also be another number of traces than of positions
-abbrev pub IsTraceAllError : List Position → List Place → Option MapRecord → CallError → Type 0
-IsTraceAllError positions places held r =
-    ((r ≡ Lengths) × (length positions ≢ length places)) ⊎ ((length positions ≡ length places) × IsTraceError held r)
+-- an error of tracing what a handle holds, by the bias of this number
+abbrev pub IsTraceError : Option MapRecord → ℕ → CallError → Type 0
+IsTraceError None bias r = r ≡ NullHandle
+IsTraceError (Some m) bias r = MatchOption (bias_of bias) (r ≡ BadOption) (λ _. IsUntraced m r)
+
+-- an error of tracing what a handle holds at many positions: there may also be another number of answers than of positions
+abbrev pub IsTraceAllError : {A : Type 0} → List Position → List A → Option MapRecord → ℕ → CallError → Type 0
+IsTraceAllError positions out None bias r = r ≡ NullHandle
+IsTraceAllError positions out (Some m) bias r =
+    ((r ≡ Lengths) × (length positions ≢ length out)) ⊎ ((length positions ≡ length out) × IsTraceError (Some m) bias r)

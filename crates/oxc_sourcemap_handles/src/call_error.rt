@@ -16,14 +16,22 @@ pub enum CallError {
     Words,
     /// The words name a text that is not there.
     NoText(u32),
-    /// A handle is empty, or holds what the call does not take.
-    EmptyHandle,
+    /// A handle is null, or holds what the call does not take.
+    NullHandle,
     /// The bytes are not UTF-8; so many at the beginning are.
     NotUtf8(usize),
     /// There are not as many offsets as maps, or not as many traces as positions.
     Lengths,
     /// There is no entry at this index, or it is not known.
     NoEntry,
+    /// The map has no index of its sources.
+    NoIndex,
+    /// A number stands for no choice that the call knows.
+    BadOption,
+    /// The data of a data URL are not base64: the index of the first byte at fault.
+    BadBase64(usize),
+    /// The text of a data URL is not UTF-8; so many bytes at the beginning are.
+    BadDataUtf8(usize),
 }
 
 impl CallError {
@@ -43,10 +51,18 @@ impl fmt::Display for CallError {
             CallError::Plan(error) => write!(f, "{error}"),
             CallError::Words => write!(f, "The words say no plan"),
             CallError::NoText(number) => write!(f, "There is no text {number}"),
-            CallError::EmptyHandle => write!(f, "The handle is empty"),
+            CallError::NullHandle => write!(f, "The handle is null"),
             CallError::NotUtf8(valid) => write!(f, "Byte {valid} is not UTF-8"),
             CallError::Lengths => write!(f, "The lengths of two lists differ"),
             CallError::NoEntry => write!(f, "There is no such entry"),
+            CallError::NoIndex => write!(f, "The map has no index of its sources"),
+            CallError::BadOption => write!(f, "There is no such option"),
+            CallError::BadBase64(at) => {
+                write!(f, "The data URL has bad base64 at byte {at} of its data")
+            }
+            CallError::BadDataUtf8(at) => {
+                write!(f, "The data URL has bad UTF-8 at byte {at} of its text")
+            }
         }
     }
 }

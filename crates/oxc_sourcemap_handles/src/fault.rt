@@ -1,65 +1,24 @@
 //! Errors as numbers.
 ghost use Rattle.std.specs.Prelude.{◌≡◌, ◌%◌};
 ghost use Rattle.oxc_sourcemap_handles.specs.Words.{fault_of, fault_of_error, fault_of_plan_error};
-ghost use Rattle.oxc_sourcemap_handles.specs.Words.{fault_of_json, number_of_field, no_fault};
-ghost use Rattle.oxc_sourcemap_handles.specs.Words.{call_error_of, error_of, field_of};
+ghost use Rattle.oxc_sourcemap_handles.specs.Words.{fault_of_json, no_fault, no_place, fault_at};
+ghost use Rattle.oxc_sourcemap_handles.specs.Words.{call_error_of, error_of};
 
 use crate::call_error::CallError;
-use oxc_sourcemap_tokens::{Error, Field, JsonFault, PlanError};
+use crate::field_numbers::{field_of, number_of};
+use crate::place_numbers::PlaceNumbers;
+use oxc_sourcemap_places::FaultPlace;
+use oxc_sourcemap_tokens::{Error, JsonFault, PlanError};
 
-/// The numbers of an error: its code, the number of the field of a JSON source map that it is about, and the number that it
-/// carries. The code 0 is for no error.
+/// The numbers of an error: its code, the number of the field of a JSON source map that it is about, the number that it carries,
+/// and the place of its fault in the input. The code 0 is for no error.
 #[repr(C)]
 #[derive(Clone, Copy)]
 pub struct Fault {
     pub code: u32,
     pub field: u32,
     pub detail: u64,
-}
-
-/// The number of a field of a JSON source map.
-fn number_of(field: Field) -> u32
-    ensures { result ≡ number_of_field field }
-{
-    match field {
-        Field::Object => 0,
-        Field::Version => 1,
-        Field::File => 2,
-        Field::Mappings => 3,
-        Field::SourceRoot => 4,
-        Field::Sources => 5,
-        Field::SourcesContent => 6,
-        Field::Names => 7,
-        Field::DebugId => 8,
-        Field::IgnoreList => 9,
-        Field::GoogleIgnoreList => 10,
-        Field::Sections => 11,
-        Field::Offset => 12,
-        Field::Map => 13,
-    }
-}
-
-/// The field of a JSON source map that has this number.
-fn field_of(number: u32) -> Option<Field>
-    ensures { result ≡ field_of number }
-{
-    match number {
-        0 => Some(Field::Object),
-        1 => Some(Field::Version),
-        2 => Some(Field::File),
-        3 => Some(Field::Mappings),
-        4 => Some(Field::SourceRoot),
-        5 => Some(Field::Sources),
-        6 => Some(Field::SourcesContent),
-        7 => Some(Field::Names),
-        8 => Some(Field::DebugId),
-        9 => Some(Field::IgnoreList),
-        10 => Some(Field::GoogleIgnoreList),
-        11 => Some(Field::Sections),
-        12 => Some(Field::Offset),
-        13 => Some(Field::Map),
-        _ => None,
-    }
+    pub place: PlaceNumbers,
 }
 
 impl Fault {
@@ -71,12 +30,13 @@ impl Fault {
     }
 
     fn with(code: u32, detail: u64) -> Fault
-        ensures { result ≡ record { code = code; field = 0; detail = detail } }
+        ensures { result ≡ record { code = code; field = 0; detail = detail; place = no_place } }
     {
         Fault {
             code,
             field: 0,
             detail,
+            place: PlaceNumbers::none(),
         }
     }
 
@@ -86,9 +46,8 @@ impl Fault {
         match fault {
             JsonFault::Reading => Fault::with(4, 0),
             JsonFault::Shape(field) => Fault {
-                code: 5,
                 field: number_of(field),
-                detail: 0,
+                ..Fault::with(5, 0)
             },
             JsonFault::Version(version) => Fault::with(6, u64::from(version)),
         }
@@ -133,10 +92,24 @@ impl Fault {
             CallError::Plan(error) => Fault::of_plan_error(error),
             CallError::Words => Fault::with(17, 0),
             CallError::NoText(number) => Fault::with(18, u64::from(number)),
-            CallError::EmptyHandle => Fault::with(100, 0),
+            CallError::NullHandle => Fault::with(100, 0),
             CallError::NotUtf8(valid) => Fault::with(101, valid as u64),
             CallError::Lengths => Fault::with(102, 0),
             CallError::NoEntry => Fault::with(103, 0),
+            CallError::NoIndex => Fault::with(104, 0),
+            CallError::BadOption => Fault::with(105, 0),
+            CallError::BadBase64(at) => Fault::with(21, at as u64),
+            CallError::BadDataUtf8(at) => Fault::with(22, at as u64),
+        }
+    }
+
+    /// The numbers of an error, and of the place of its fault.
+    pub fn at(error: CallError, place: Option<FaultPlace>) -> Fault
+        ensures { result ≡ fault_at error place }
+    {
+        Fault {
+            place: PlaceNumbers::of(place),
+            ..Fault::of(error)
         }
     }
 
@@ -178,10 +151,14 @@ impl Fault {
             16 => Some(CallError::Plan(PlanError::TooDeep)),
             17 => Some(CallError::Words),
             18 => Some(CallError::NoText(number)),
-            100 => Some(CallError::EmptyHandle),
+            100 => Some(CallError::NullHandle),
             101 => Some(CallError::NotUtf8(index)),
             102 => Some(CallError::Lengths),
             103 => Some(CallError::NoEntry),
+            104 => Some(CallError::NoIndex),
+            105 => Some(CallError::BadOption),
+            21 => Some(CallError::BadBase64(index)),
+            22 => Some(CallError::BadDataUtf8(index)),
             _ => Some(CallError::Plan(PlanError::Map(self.error(number, index)?))),
         }
     }

@@ -75,3 +75,5 @@ impl Handle {
         }
     }
 }
+
+unsafe impl Send for Handle {}

@@ -1,66 +1,133 @@
 //! What a handle holds.
-ghost use Rattle.std.specs.Prelude.{◌≡◌, true, length, IfOk, IfErr, OnOk, OnErr};
-ghost use Rattle.oxc_sourcemap_handles.specs.Words.{OutOfMemory, IsInLineOrder, are_tokens_sorted};
-ghost use Rattle.oxc_sourcemap_handles.specs.Words.{IsIndexOf, IsOutOfOrder, found_at, IsTraceOf};
-ghost use Rattle.oxc_sourcemap_handles.specs.Words.{AreTracesOf, OnlyMemory};
+ghost use Rattle.std.specs.Prelude.{◌≡◌, ◌<◌, true, false, length, Ok, IfOk, IfErr, OnOk, OnErr};
+ghost use Rattle.std.specs.Prelude.{IfSome};
+ghost use Rattle.oxc_sourcemap_handles.specs.Words.{IsInLineOrder, are_tokens_sorted, FailsBy};
+ghost use Rattle.oxc_sourcemap_handles.specs.Words.{IsIndexOf, IsOutOfOrder, index_found};
+ghost use Rattle.oxc_sourcemap_handles.specs.Words.{IsTraceOf, AreTracesOf, AreFoundIn, OnlyMemory};
+ghost use Rattle.oxc_sourcemap_handles.specs.Words.{IsSeen, IsSourceOrderOf, NoIndex, Reports};
+ghost use Rattle.oxc_sourcemap_handles.specs.Words.{index_fault, capped};
 
-use crate::text::Place;
-use oxc_sourcemap_builders::SourceMapBuilder;
+use crate::call_error::CallError;
+use crate::options::Bias;
+use crate::text::{Original, index_or_none};
+use oxc_sourcemap_builders::{ConcatSourceMapBuilder, SourceMapBuilder};
+use oxc_sourcemap_found::Mend;
 use oxc_sourcemap_lookup::LineIndex;
 use oxc_sourcemap_map::OwnedSourceMap;
+use oxc_sourcemap_reverse::SourceOrder;
 use oxc_sourcemap_tokens::{Error, Position, Result, Token};
 use std::alloc::Global;
 use std::marker::Model;
 
-/// A map, and the index of its lines, or the error of making that. It borrows nothing.
+/// A map, the index of its lines, or the error of making that, and the order of its tokens by original positions, if it was asked
+/// for. It borrows nothing.
 #[derive(Drop)]
 pub struct LoadedMap {
-    map: OwnedSourceMap,
-    index: Result<LineIndex>,
+    pub(crate) map: OwnedSourceMap,
+    pub(crate) index: Result<LineIndex>,
+    pub(crate) order: Option<SourceOrder>,
 }
 
 impl Model for LoadedMap {
-    ghost use Rattle.oxc_sourcemap_parts.specs.Record.{MapRecord};
-    ghost use Rattle.oxc_sourcemap_handles.specs.Indexed.{IsIndexed};
+    ghost use Rattle.oxc_sourcemap_handles.specs.Indexed.{Loaded, loaded_of, IsLoaded};
 
-    ghost Value = { MapRecord };
+    ghost Value = { Loaded };
 
-    ghost view = { λ l. l.map };
+    ghost view = { λ l. loaded_of l.map l.index l.order };
 
-    ghost invariant = { λ l. IsIndexed l.map.tokens l.index };
+    ghost invariant = { λ l. IsLoaded l.map.tokens l.index l.order };
 }
 
 impl LoadedMap {
     /// The map with the index of its lines. Fails only with `OutOfMemory`.
     pub fn new(alloc: Global, map: OwnedSourceMap) -> Result<LoadedMap>
-        ensures map { IfOk result (λ loaded. loaded ≡ map) }
+        ensures map { IfOk result (λ loaded. (loaded.map ≡ map) × (loaded.has_order ≡ false)) }
         ensures error { OnlyMemory result }
     {
         match LineIndex::new(alloc, map.get_tokens().as_slice()) {
             Err(Error::OutOfMemory) => Err(Error::OutOfMemory),
-            index => Ok(LoadedMap { map, index }),
+            index => Ok(LoadedMap {
+                map,
+                index,
+                order: None,
+            }),
         }
     }
 
-    /// The map, without the index.
+    /// The map, without its indices.
     pub fn into_map(self) -> OwnedSourceMap
-        ensures { result ≡ self }
+        ensures { result ≡ self.map }
     {
-        let LoadedMap { map, index: _ } = self;
+        let LoadedMap {
+            map,
+            index: _,
+            order: _,
+        } = self;
         map
     }
 
     /// The map, borrowed.
     pub fn map(&self) -> &OwnedSourceMap
-        ensures { result.now ≡ self.now }
+        ensures { result.now ≡ self.now.map }
     {
         &self.map
     }
 
+    /// The tokens of the map.
+    pub(crate) fn tokens(&self) -> &[Token]
+        ensures { result.now ≡ self.now.map.tokens }
+    {
+        self.map.get_tokens().as_slice()
+    }
+
+    /// The number of bytes of memory that the indices hold; 18446744073709551615 stands for more.
+    pub(crate) fn index_bytes(&self) -> usize
+        ensures { result ≡ capped self.now.index_bytes }
+    {
+        let lines = match &self.index {
+            Ok(index) => index.bytes(),
+            Err(_) => 0,
+        };
+        let sources = match &self.order {
+            Some(order) => order.bytes(),
+            None => 0,
+        };
+        lines.saturating_add(sources)
+    }
+
+    /// Makes the order of the tokens by original positions, if there is none. Fails with `TooLarge` if there are more than
+    /// 4294967295 tokens, and else only with `OutOfMemory`.
+    pub fn index_sources(&mut self, alloc: Global) -> Result<()>
+        ensures made { OnOk result ((self.new.map ≡ self.old.map) × (self.new.has_order ≡ true)) }
+        ensures kept { self.old.has_order ≡ true → (self.new ≡ self.old) × (result ≡ Ok tt) }
+        ensures error { FailsBy (index_fault self.old.map.tokens) result }
+        ensures fault { self.old.has_order ≡ false
+            → Reports (index_fault self.old.map.tokens) result }
+        ensures unchanged { OnErr result (self.new ≡ self.old) }
+    {
+        if self.order.is_none() {
+            let order = SourceOrder::new(alloc, self.map.get_tokens().as_slice())?;
+            self.order = Some(order);
+        }
+        Ok(())
+    }
+
+    /// The order of the tokens by original positions. Fails with `NoIndex` if it was not made.
+    pub fn order(&self) -> std::result::Result<&SourceOrder, CallError>
+        ensures order { IfOk result (λ order. (self.now.has_order ≡ true)
+            × IsSourceOrderOf self.now.map.tokens order.now) }
+        ensures error { IfErr result (λ r. (r ≡ NoIndex) × (self.now.has_order ≡ false)) }
+    {
+        match &self.order {
+            Some(order) => Ok(order),
+            None => Err(CallError::NoIndex),
+        }
+    }
+
     /// The index of the lines. Fails with `LineOrder` if the tokens are not in line order.
     fn index(&self) -> Result<&LineIndex>
-        ensures index { IfOk result (λ index. IsIndexOf self.now.tokens index.now) }
-        ensures error { IfErr result (IsOutOfOrder self.now.tokens) }
+        ensures index { IfOk result (λ index. IsIndexOf self.now.map.tokens index.now) }
+        ensures error { IfErr result (IsOutOfOrder self.now.map.tokens) }
     {
         match &self.index {
             Ok(index) => Ok(index),
@@ -68,63 +135,94 @@ impl LoadedMap {
         }
     }
 
-    /// The token at a generated position, found by this index. If `clamped`, a position before the first token of its line
-    /// finds that token.
-    fn find(&self, index: &LineIndex, at: Position, clamped: bool) -> Option<Token>
-        requires { IsIndexOf self.now.tokens index.now }
-        ensures { are_tokens_sorted self.now.tokens ≡ true → result ≡ found_at clamped self.now at }
+    /// The index of the token that answers for a generated position, found by this index of lines.
+    fn find(&self, index: &LineIndex, at: Position, bias: Bias) -> Option<usize>
+        requires { IsIndexOf self.now.map.tokens index.now }
+        ensures found { are_tokens_sorted self.now.map.tokens ≡ true
+            → result ≡ index_found bias self.now.map.tokens at }
+        ensures within { IfSome result (λ i. i < length self.now.map.tokens) }
     {
         let tokens = self.map.get_tokens().as_slice();
-        if clamped {
-            return index.lookup_clamped(tokens, at.line, at.column);
+        match bias {
+            Bias::Before => index.lookup_index(tokens, at.line, at.column),
+            Bias::Clamped => index.lookup_index_clamped(tokens, at.line, at.column),
+            Bias::After => index.lookup_index_after(tokens, at.line, at.column),
         }
-        index.lookup(tokens, at.line, at.column)
     }
 
-    /// The trace of the map at a generated position, found by this index.
-    fn place_of(&self, index: &LineIndex, at: Position, clamped: bool) -> Place
-        requires { IsIndexOf self.now.tokens index.now }
-        ensures { IsTraceOf clamped self.now at result }
+    /// What the token at this index says, or that there is none.
+    fn original_of(&self, found: Option<usize>) -> Original
+        requires { IfSome found (λ i. i < length self.now.map.tokens) }
+        ensures { IsSeen self.now.map found result }
     {
-        Place::of(self.find(index, at, clamped), self.map.as_source_map())
+        match found {
+            Some(i) => {
+                let token = self.map.get_tokens().as_slice()[i];
+                Original::of(i, token, self.map.as_source_map())
+            }
+            None => Original::nothing(),
+        }
     }
 
-    /// The trace of the map at a generated position, clamped as in `find`. Fails with `LineOrder` if the tokens are not in line
-    /// order.
-    pub fn trace(&self, at: Position, clamped: bool) -> Result<Place>
-        ensures place { IfOk result (λ place. IsInLineOrder self.now.tokens
-            × IsTraceOf clamped self.now at place) }
-        ensures error { IfErr result (IsOutOfOrder self.now.tokens) }
+    /// What the map says of a generated position, found by this index of lines.
+    fn trace_by(&self, index: &LineIndex, at: Position, bias: Bias) -> Original
+        requires { IsIndexOf self.now.map.tokens index.now }
+        ensures { IsTraceOf bias self.now.map at result }
+    {
+        let found = self.find(index, at, bias);
+        self.original_of(found)
+    }
+
+    /// What the map says of a generated position. Fails with `LineOrder` if the tokens are not in line order.
+    pub fn trace(&self, at: Position, bias: Bias) -> Result<Original>
+        ensures traced { IfOk result (λ original. IsInLineOrder self.now.map.tokens
+            × IsTraceOf bias self.now.map at original) }
+        ensures error { IfErr result (IsOutOfOrder self.now.map.tokens) }
     {
         let index = self.index()?;
-        Ok(self.place_of(index, at, clamped))
+        Ok(self.trace_by(index, at, bias))
     }
 
-    /// The traces of the map at many positions, each at the index of its position. Fails as `trace` does, and writes nothing
-    /// then.
-    pub fn trace_all(
-        &self,
-        positions: &[Position],
-        places: &mut [Place],
-        clamped: bool,
-    ) -> Result<()>
-        requires { length positions.now ≡ length places.old }
-        ensures places { OnOk result (AreTracesOf clamped positions.now places.new self.now) }
-        ensures error { IfErr result (IsOutOfOrder self.now.tokens) }
-        ensures unchanged { OnErr result (places.new ≡ places.old) }
+    /// What the map says of many positions, each at the index of its position. Fails as `trace` does, and writes nothing then.
+    pub fn trace_all(&self, positions: &[Position], bias: Bias, out: &mut [Original]) -> Result<()>
+        requires { length positions.now ≡ length out.old }
+        ensures traced { OnOk result (AreTracesOf bias positions.now out.new self.now.map) }
+        ensures error { IfErr result (IsOutOfOrder self.now.map.tokens) }
+        ensures unchanged { OnErr result (out.new ≡ out.old) }
     {
         let index = self.index()?;
         for i in 0..positions.len() {
-            places[i] = self.place_of(index, positions[i], clamped);
+            out[i] = self.trace_by(index, positions[i], bias);
+        }
+        Ok(())
+    }
+
+    /// The indices of the tokens that answer for many positions, each at the index of its position; 4294967295 for none. Fails as
+    /// `trace` does, and writes nothing then.
+    pub fn find_all(&self, positions: &[Position], bias: Bias, out: &mut [u32]) -> Result<()>
+        requires { length positions.now ≡ length out.old }
+        ensures found { OnOk result (AreFoundIn bias positions.now out.new self.now.map) }
+        ensures error { IfErr result (IsOutOfOrder self.now.map.tokens) }
+        ensures unchanged { OnErr result (out.new ≡ out.old) }
+    {
+        let index = self.index()?;
+        for i in 0..positions.len() {
+            out[i] = index_or_none(self.find(index, positions[i], bias));
         }
         Ok(())
     }
 }
 
-/// A map, a text that was written, or a builder, whose strings are its own.
+/// What a handle holds. All strings are its own.
 #[derive(Drop)]
 pub enum Held {
     Map(LoadedMap),
+    /// A text that the library made.
     Written(String),
+    /// A map that is being built.
     Building(SourceMapBuilder<'static>),
+    /// Maps that are being joined.
+    Joining(ConcatSourceMapBuilder<'static>),
+    /// What was mended in a map.
+    Mended(Vec<Mend>),
 }

@@ -1,10 +1,12 @@
-//! The messages of errors.
-ghost use Rattle.std.specs.Prelude.{◌≡◌, MatchOption};
+//! The messages of errors, of their places and of what was mended.
+ghost use Rattle.std.specs.Prelude.{◌≡◌, length, string_bytes, MatchOption, MatchResult};
 ghost use Rattle.oxc_sourcemap_handles.specs.Words.{call_error_text, call_error_of, overwritten};
-ghost use Rattle.oxc_sourcemap_handles.specs.Words.{IsMessage};
+ghost use Rattle.oxc_sourcemap_handles.specs.Words.{IsMessage, place_text, place_of_numbers};
+ghost use Rattle.oxc_sourcemap_handles.specs.Words.{mend_text, mend_of_numbers};
 
-use crate::call_error::CallError;
 use crate::fault::Fault;
+use crate::mends::MendNumbers;
+use crate::place_numbers::PlaceNumbers;
 use std::alloc::Global;
 
 /// Writes as much of a text as there is room for.
@@ -15,11 +17,13 @@ fn copy_to(text: &[u8], out: &mut [u8])
     out[..count].copy_from_slice(&text[..count]);
 }
 
-/// Writes as much of the message of an error as there is room for, and returns its whole length; 0 for want of memory.
-fn write_text(alloc: Global, error: CallError, out: &mut [u8]) -> usize
-    ensures { IsMessage (call_error_text error) out.old out.new result }
+/// Writes as much of a text as there is room for, and returns its whole length; 0 if there is none for want of memory.
+fn write_text<E: Drop>(text: Result<String, E>, out: &mut [u8]) -> usize
+    ensures { MatchResult text (λ text. (result ≡ length (string_bytes text))
+        × (out.new ≡ overwritten (string_bytes text) out.old))
+        (λ _. (result ≡ 0) × (out.new ≡ out.old)) }
 {
-    match error.to_string(alloc) {
+    match text {
         Ok(text) => {
             copy_to(text.as_bytes(), out);
             text.as_bytes().len()
@@ -35,7 +39,29 @@ pub fn write_message(alloc: Global, fault: &Fault, out: &mut [u8]) -> usize
         (λ r. IsMessage (call_error_text r) out.old out.new result) }
 {
     match fault.call_error() {
-        Some(error) => write_text(alloc, error, out),
+        Some(error) => write_text(error.to_string(alloc), out),
+        None => 0,
+    }
+}
+
+/// The same of a place.
+pub fn write_place_message(alloc: Global, place: &PlaceNumbers, out: &mut [u8]) -> usize
+    ensures { MatchOption (place_of_numbers place.now) ((result ≡ 0) × (out.new ≡ out.old))
+        (λ p. IsMessage (place_text p) out.old out.new result) }
+{
+    match place.place() {
+        Some(place) => write_text(place.to_string(alloc), out),
+        None => 0,
+    }
+}
+
+/// The same of a mend.
+pub fn write_mend_message(alloc: Global, mend: &MendNumbers, out: &mut [u8]) -> usize
+    ensures { MatchOption (mend_of_numbers mend.now) ((result ≡ 0) × (out.new ≡ out.old))
+        (λ m. IsMessage (mend_text m) out.old out.new result) }
+{
+    match mend.mend() {
+        Some(mend) => write_text(mend.to_string(alloc), out),
         None => 0,
     }
 }

@@ -1,66 +1,17 @@
-//! Reading, composing, and putting results into handles.
-ghost use Rattle.std.specs.Prelude.{◌≡◌, ◌≢◌, map, Some, None, Ok, Err, string_bytes, IfOk, IfErr};
-ghost use Rattle.std.specs.Prelude.{MatchOption, MatchResult};
-ghost use Rattle.oxc_sourcemap_handles.specs.Words.{read_map, composition, SomeComposition};
-ghost use Rattle.oxc_sourcemap_handles.specs.Words.{NoColumnGoesBack, EmptyHandle, out_of_memory};
-ghost use Rattle.oxc_sourcemap_handles.specs.Words.{fault_of, code_of, no_fault, held_map};
-ghost use Rattle.oxc_sourcemap_handles.specs.Words.{held_text, HoldsMap, IsReadError};
-ghost use Rattle.oxc_sourcemap_handles.specs.Words.{IsCompositionError, IsErrorAs, lent_item};
+//! Putting results into handles.
+ghost use Rattle.std.specs.Prelude.{◌≡◌, ◌≢◌, Some, Err, string_bytes, IfOk, IfErr, MatchResult};
+ghost use Rattle.oxc_sourcemap_handles.specs.Words.{out_of_memory, fault_of, code_of, no_fault};
+ghost use Rattle.oxc_sourcemap_handles.specs.Words.{held_map, held_text, IsErrorAs};
 
 use crate::call_error::CallError;
 use crate::fault::Fault;
 use crate::handle::Handle;
 use crate::held::{Held, LoadedMap};
-use crate::utf8::text_of;
 use oxc_sourcemap_map::OwnedSourceMap;
 use std::alloc::Global;
 
-/// The map of a JSON text.
-pub fn read(alloc: Global, json: &[u8]) -> Result<OwnedSourceMap, CallError>
-    ensures map { IfOk result (λ map. read_map json.now ≡ Ok map) }
-    ensures error { IfErr result (λ r. (r ≢ out_of_memory) → IsReadError json.now r) }
-{
-    let text = text_of(json)?;
-    Ok(OwnedSourceMap::from_json_string(alloc, text)?)
-}
-
-/// The map in a handle, taken out of it.
-pub fn take_map(alloc: Global, handle: &mut Handle) -> Result<OwnedSourceMap, CallError>
-    ensures map { MatchOption (held_map handle.old.held) (result ≡ Err EmptyHandle)
-        (λ map. result ≡ Ok map) }
-    ensures emptied { handle.new.held ≡ None }
-{
-    match handle.take(alloc) {
-        Some(held) => match Box::into_inner(held) {
-            Held::Map(loaded) => Ok(loaded.into_map()),
-            _ => Err(CallError::EmptyHandle),
-        },
-        None => Err(CallError::EmptyHandle),
-    }
-}
-
-/// The composition of the maps in two handles, which are then empty.
-pub fn compose(
-    alloc: Global,
-    first: &mut Handle,
-    input: &mut Handle,
-) -> Result<OwnedSourceMap, CallError>
-    ensures emptied { (first.new.held ≡ None) × (input.new.held ≡ None) }
-    ensures any_map { IfOk result (λ map. HoldsMap first.old.held
-        (λ a. HoldsMap input.old.held (λ b. SomeComposition a b (Ok map)))) }
-    ensures map { IfOk result (λ map. HoldsMap first.old.held
-        (λ a. HoldsMap input.old.held (λ b. NoColumnGoesBack b.tokens
-        → composition a b ≡ Ok map))) }
-    ensures error { IfErr result (λ r. (r ≢ out_of_memory)
-        → IsCompositionError (held_map first.old.held) (held_map input.old.held) r) }
-{
-    let first = take_map(alloc, first);
-    let input = take_map(alloc, input);
-    Ok(first?.compose(alloc, input?)?)
-}
-
 /// A map in a box for a handle, with its index.
-fn box_map(alloc: Global, map: OwnedSourceMap) -> Result<Box<Held>, CallError>
+pub(crate) fn box_map(alloc: Global, map: OwnedSourceMap) -> Result<Box<Held>, CallError>
     ensures map { IfOk result (λ held. held_map (Some held.value) ≡ Some map) }
     ensures error { IfErr result (λ r. r ≡ out_of_memory) }
 {
@@ -111,7 +62,7 @@ pub fn put_text(
 }
 
 /// Puts what was made into a handle, or on an error leaves the handle as it is, and returns the code.
-pub(crate) fn put(
+pub fn put(
     alloc: Global,
     made: Result<Box<Held>, CallError>,
     handle: &mut Handle,
@@ -133,25 +84,5 @@ pub(crate) fn put(
             *fault = Fault::of(error);
             fault.code
         }
-    }
-}
-
-/// The map that a box of a handle holds, if it holds one.
-pub fn map_in(held: &Held) -> Option<&LoadedMap>
-    ensures { lent_item result ≡ held_map (Some held.now) }
-{
-    match held {
-        Held::Map(loaded) => Some(loaded),
-        _ => None,
-    }
-}
-
-/// The text that a box of a handle holds, if it holds one.
-pub fn text_in(held: &Held) -> Option<&str>
-    ensures { lent_item result ≡ held_text (Some held.now) }
-{
-    match held {
-        Held::Written(text) => Some(text.as_str()),
-        _ => None,
     }
 }

@@ -1,13 +1,16 @@
 //! What C reads: borrowed bytes, and structs of numbers and borrowed bytes.
-ghost use Rattle.std.specs.Prelude.{◌≡◌, [], length, option_map, Option, Some};
+ghost use Rattle.std.specs.Prelude.{◌≡◌, [], length, Option, Some, None, slice_get};
 ghost use Rattle.std.specs.Option.{unwrap_or};
-ghost use Rattle.std.specs.Ptr.{as_ptr};
-ghost use Rattle.oxc_sourcemap_handles.specs.Words.{view_of, view_original, seen_in, IsPlace};
-ghost use Rattle.oxc_sourcemap_handles.specs.Words.{HasIds, number_or_none, numbers_of, counts_of};
-ghost use Rattle.oxc_sourcemap_handles.specs.Words.{lent_item};
+ghost use Rattle.std.specs.Ptr.{as_ptr, null_ptr};
+ghost use Rattle.oxc_sourcemap_handles.specs.Words.{view_of, view_original, seen_in, HasOriginal};
+ghost use Rattle.oxc_sourcemap_handles.specs.Words.{number_or_none, numbers_of, no_numbers};
+ghost use Rattle.oxc_sourcemap_handles.specs.Words.{lent_item, index_number, IsSeen, HasContent};
+ghost use Rattle.oxc_sourcemap_handles.specs.Words.{piece_numbers};
 
-use oxc_sourcemap_map::{OwnedSourceMap, SourceMap, SourceViewToken};
-use oxc_sourcemap_tokens::Token;
+use oxc_sourcemap_map::{SourceMap, SourceViewToken};
+use oxc_sourcemap_pieces::Piece;
+use oxc_sourcemap_tokens::{Position, Token};
+use std::ptr::null;
 
 /// Bytes borrowed from what a handle holds, for C alone: nothing here reads them.
 #[repr(C)]
@@ -25,6 +28,23 @@ impl Text {
         let at = bytes.as_ptr();
         let len = bytes.len();
         Text { at, len }
+    }
+
+    /// No text: no address, and the length 0.
+    fn none() -> Text
+        ensures { (result.at ≡ null_ptr) × (result.len ≡ 0) }
+    {
+        Text { at: null(), len: 0 }
+    }
+
+    /// A content, or no text if it is not known.
+    pub(crate) fn of_content(content: Option<&str>) -> Text
+        ensures { HasContent result (lent_item content.entry) }
+    {
+        match content {
+            Some(text) => Text::of(text.as_bytes()),
+            None => Text::none(),
+        }
     }
 
     /// A text, or an empty one if there is none.
@@ -48,6 +68,16 @@ fn number_or_none(id: Option<u32>) -> u32
     }
 }
 
+/// The index of a token as a number, 4294967295 for none, and for one that is not below it.
+pub(crate) fn index_or_none(index: Option<usize>) -> u32
+    ensures { result ≡ index_number index }
+{
+    match index {
+        Some(index) => index.min(4294967295) as u32,
+        None => 4294967295,
+    }
+}
+
 /// The six numbers of a token; 4294967295 stands for no id.
 #[repr(C)]
 #[derive(Clone, Copy)]
@@ -61,6 +91,20 @@ pub struct TokenNumbers {
 }
 
 impl TokenNumbers {
+    /// The numbers of no token.
+    fn none() -> TokenNumbers
+        ensures { result ≡ no_numbers }
+    {
+        TokenNumbers {
+            dst_line: 0,
+            dst_col: 0,
+            src_line: 0,
+            src_col: 0,
+            source_id: 4294967295,
+            name_id: 4294967295,
+        }
+    }
+
     /// The numbers of a token.
     pub(crate) fn of(token: &Token) -> TokenNumbers
         ensures { result ≡ numbers_of token.now }
@@ -76,7 +120,8 @@ impl TokenNumbers {
     }
 }
 
-/// How many entries the lists of a map have.
+/// How many entries the lists of a map have, how many lines up to that of the last token, and how many bytes of memory the map and
+/// its indices hold.
 #[repr(C)]
 #[derive(Clone, Copy)]
 pub struct Counts {
@@ -85,88 +130,96 @@ pub struct Counts {
     pub sources: usize,
     pub source_contents: usize,
     pub ignore_list: usize,
+    pub lines: usize,
+    pub bytes: usize,
 }
 
-impl Counts {
-    /// The counts of a map.
-    pub(crate) fn of(map: &OwnedSourceMap) -> Counts
-        ensures { result ≡ counts_of map.now }
-    {
-        Counts {
-            tokens: map.get_tokens().len(),
-            names: map.get_names().len(),
-            sources: map.get_sources().len(),
-            source_contents: map.get_source_contents().len(),
-            ignore_list: match map.get_ignore_list() {
-                Some(list) => list.len(),
-                None => 0,
-            },
-        }
-    }
-}
-
-/// The trace of a map at a generated position. The kind is 0 for no token, 1 for an unmapped one, 2 for an original position and
-/// 3 for one with a name. A missing text is empty, a missing id 4294967295.
+/// What a map says of a generated position. The kind is 0 for no token, 1 for an unmapped one, 2 for an original position and 3
+/// for one with a name. A missing text is empty, a missing id or index 4294967295.
 #[repr(C)]
 #[derive(Drop)]
-pub struct Place {
+pub struct Original {
     pub kind: u32,
-    pub line: u32,
-    pub column: u32,
-    pub source_id: u32,
-    pub name_id: u32,
+    pub index: u32,
+    pub token: TokenNumbers,
     pub source: Text,
     pub name: Text,
 }
 
-impl Place {
-    /// The trace if no token was found.
-    fn nowhere() -> Place
-        ensures { (result.kind ≡ 0) × (result.source_id ≡ 4294967295)
-            × (result.name_id ≡ 4294967295) }
+impl Original {
+    /// The answer if there is no token.
+    pub(crate) fn nothing() -> Original
+        ensures kind { HasOriginal result None }
+        ensures index { result.index ≡ 4294967295 }
+        ensures token { result.token ≡ no_numbers }
     {
-        Place {
+        Original {
             kind: 0,
-            line: 0,
-            column: 0,
-            source_id: 4294967295,
-            name_id: 4294967295,
+            index: 4294967295,
+            token: TokenNumbers::none(),
             source: Text::of_option(None),
             name: Text::of_option(None),
         }
     }
 
-    /// The trace of a token that was found, as a view of its map.
-    fn of_view(view: &SourceViewToken<'_, '_>) -> Place
-        ensures place { IsPlace result (Some (view_original (view_of view.now))) }
-        ensures ids { HasIds result (Some (view_of view.now).token) }
+    /// What a token says, as a view of its map.
+    fn of_view(index: u32, token: TokenNumbers, view: &SourceViewToken<'_, '_>) -> Original
+        ensures index { result.index ≡ index }
+        ensures token { result.token ≡ token }
+        ensures original { token.src_line ≡ (view_of view.now).token.src_line
+            → token.src_col ≡ (view_of view.now).token.src_col
+            → HasOriginal result (Some (view_original (view_of view.now))) }
     {
-        let (source, line, column, name) = view.to_tuple();
+        let (source, _, _, name) = view.to_tuple();
         let kind = match (source, name) {
             (None, _) => 1,
             (Some(_), None) => 2,
             (Some(_), Some(_)) => 3,
         };
-        Place {
+        Original {
             kind,
-            line,
-            column,
-            source_id: number_or_none(view.get_source_id()),
-            name_id: number_or_none(view.get_name_id()),
+            index,
+            token,
             source: Text::of_option(source),
             name: Text::of_option(name),
         }
     }
 
-    /// The trace by the token that was found at a position, if one was.
-    pub(crate) fn of(token: Option<Token>, map: &SourceMap<'static>) -> Place
-        ensures place { IsPlace result (option_map view_original
-            (option_map (seen_in map.now) token)) }
-        ensures ids { HasIds result token }
+    /// What the token at this index of a map says.
+    pub(crate) fn of(index: usize, token: Token, map: &SourceMap<'static>) -> Original
+        requires { slice_get map.now.tokens index ≡ Some token }
+        ensures { IsSeen map.now (Some index) result }
     {
-        match token {
-            Some(token) => Place::of_view(&SourceViewToken::new(token, map)),
-            None => Place::nowhere(),
+        let numbers = TokenNumbers::of(&token);
+        let view = SourceViewToken::new(token, map);
+        Original::of_view(index_or_none(Some(index)), numbers, &view)
+    }
+}
+
+/// A piece of a range of generated code, and the index of its token; 4294967295 stands for none.
+#[repr(C)]
+#[derive(Clone, Copy)]
+pub struct PieceNumbers {
+    pub begin: Position,
+    pub end: Position,
+    pub index: u32,
+}
+
+impl PieceNumbers {
+    /// The numbers of a piece.
+    pub(crate) fn of(piece: &Piece) -> PieceNumbers
+        ensures { result ≡ piece_numbers piece.now }
+    {
+        PieceNumbers {
+            begin: Position {
+                line: piece.line,
+                column: piece.col,
+            },
+            end: Position {
+                line: piece.end_line,
+                column: piece.end_col,
+            },
+            index: index_or_none(piece.index),
         }
     }
 }

@@ -579,6 +579,13 @@ impl<'a> JoinedParts<'a> {
         self.token_chunks.len()
     }
 
+    /// The tokens so far.
+    pub fn tokens(&self) -> &[Token]
+        ensures { result.now ≡ self.now.tokens }
+    {
+        self.tokens.as_slice()
+    }
+
     /// The last token so far.
     pub fn last_token(&self) -> Option<Token>
         ensures { result ≡ last self.now.tokens }

@@ -111,7 +111,7 @@ module _ (tokens : List TokenRecord) (starts : List ℕ) (are : AreStarts tokens
   how_many : length starts ≡ lines_through (last tokens) + 1
   how_many = ap length are.each ∙ length-map-range_with_len (λ n. count_before_line n tokens) 0 (lines_through (last tokens) + 1)
 
-  start_of : (n i d : ℕ) → n < length starts → i ≡ n → get_or starts i d ≡ count_before_line n tokens
+  pub start_of : (n i d : ℕ) → n < length starts → i ≡ n → get_or starts i d ≡ count_before_line n tokens
   start_of n i d h e = ap (λ xs. get_or xs i d) are.each ∙ get_or-map-range_with_len (λ n. count_before_line n tokens) 0 (lines_through (last tokens) + 1) i n d (omega (arith, h, e, how_many)) (omega (arith, e))
 
   pub starts_rise : (n i j d : ℕ) → n + 1 < length starts → i ≡ n → j ≡ n + 1 → get_or starts i d ≤ get_or starts j d
@@ -127,6 +127,9 @@ module _ (tokens : List TokenRecord) (starts : List ℕ) (are : AreStarts tokens
       let begin = start_of n i d (omega (arith, h)) e in
       let end = start_of (n + 1) j d h f in
       ap (λ k. take (get_or starts j d - k) (drop k tokens)) begin ∙ ap (λ k. take (k - count_before_line n tokens) (drop (count_before_line n tokens) tokens)) end ∙ on_line-between n tokens are.order
+
+  pub all_before_past : (n : ℕ) → length starts ≤ n → count_before_line n tokens ≡ length tokens
+  all_before_past n h = all-before n tokens are.order (omega (arith, h, how_many))
 
   pub none_past : (n : ℕ) → length starts ≤ n + 1 → on_line token_line n tokens ≡ []
   none_past n h = none-after n tokens are.order (omega (arith, h, how_many))

@@ -1,5 +1,6 @@
 -- The index of the lines of a list of tokens. Contracts cite `IsIndexOf`; the others are its parts.
-use Rattle.std.specs.Prelude.{◌≡◌, ◌≢◌, ℕ, ◌+◌, ◌-◌, ◌*◌, ◌<◌, ◌≤◌, nat_lt, List, [], length, take}
+use Rattle.std.specs.Prelude.{◌≡◌, ◌≢◌, ℕ, ◌+◌, ◌-◌, ◌*◌, ◌<◌, ◌≤◌, nat_lt, min, List, [], length}
+use Rattle.std.specs.Prelude.{take}
 use Rattle.std.specs.Prelude.{drop, get_or, map, count_by, max}
 use Rattle.std.specs.List.{All, range_with_len}
 use Rattle.oxc_sourcemap_tokens.specs.Token.{TokenRecord, last}
@@ -57,3 +58,11 @@ AreLines tokens (Spans spans) = AreSpans tokens spans.items
 -- the index of the lines of these tokens
 abbrev pub IsIndexOf : List TokenRecord → LineIndex → Type 0
 IsIndexOf tokens index = AreLines tokens index.lines
+
+-- the number of bytes of memory that an index holds: 4 for where a line begins, or 24 for a span; at most 2^64 - 1
+abbrev pub bytes_of_lines : Lines → ℕ
+bytes_of_lines (Starts starts) = min (length starts.items * 4) 18446744073709551615
+bytes_of_lines (Spans spans) = min (length spans.items * 24) 18446744073709551615
+
+abbrev pub index_bytes : LineIndex → ℕ
+index_bytes index = bytes_of_lines index.lines

@@ -18,9 +18,11 @@ pub use Rattle.oxc_sourcemap_lookup.specs.Inherited.{names_with, IsInheriting, H
 pub use Rattle.oxc_sourcemap_lookup.specs.InheritedNames.{with_inherited, inherited_index}
 pub use Rattle.oxc_sourcemap_lookup.specs.LineSpans.{IsIndexOf, AreStarts, AreSpans, DoLinesRise}
 pub use Rattle.oxc_sourcemap_lookup.specs.LineSpans.{AreLines, AreEnds, count_before_line}
+pub use Rattle.oxc_sourcemap_lookup.specs.LineSpans.{index_bytes}
 pub use Rattle.oxc_sourcemap_lookup.specs.Lookup.{on_line, lines_through, token_for}
 pub use Rattle.oxc_sourcemap_lookup.specs.Lookup.{clamped_token_for, at, clamped_at}
 pub use Rattle.oxc_sourcemap_lookup.specs.Lookup.{no_column_goes_back, tokens_by_line, table_fault}
 pub use Rattle.oxc_sourcemap_lookup.specs.Lookup.{line_table, slice_of}
 pub use Rattle.oxc_sourcemap_lookup.specs.Lookup.{at_or_after, index_at, clamped_index_at}
-pub use Rattle.oxc_sourcemap_lookup.specs.Lookup.{index_at_or_after}
+pub use Rattle.oxc_sourcemap_lookup.specs.Lookup.{index_at_or_after, index_for, clamped_index_for}
+pub use Rattle.oxc_sourcemap_lookup.specs.Lookup.{index_after}

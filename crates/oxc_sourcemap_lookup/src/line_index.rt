@@ -8,9 +8,14 @@ ghost use Rattle.oxc_sourcemap_lookup.specs.Words.{first_out_of_order, are_token
 ghost use Rattle.oxc_sourcemap_lookup.specs.Words.{token_line, on_line, lines_through, token_for};
 ghost use Rattle.oxc_sourcemap_lookup.specs.Words.{clamped_token_for, last, AreStarts, AreSpans};
 ghost use Rattle.oxc_sourcemap_lookup.specs.Words.{DoLinesRise, AreLines, IsIndexOf, FailsBy};
-ghost use Rattle.oxc_sourcemap_lookup.specs.Words.{AreEnds, Reports};
+ghost use Rattle.oxc_sourcemap_lookup.specs.Words.{AreEnds, Reports, count_before_line};
+ghost use Rattle.oxc_sourcemap_lookup.specs.Words.{index_bytes};
+ghost use Rattle.oxc_sourcemap_lookup.specs.Words.{index_for, clamped_index_for, index_after};
 
-use crate::lookup::{has_short_lines, line_count, line_length, search, search_clamped, store_ends};
+use crate::lookup::{
+    has_short_lines, line_count, line_length, line_start, search, search_clamped, search_index,
+    search_index_after, search_index_clamped, store_ends,
+};
 use oxc_sourcemap_tokens::{Error, Memory, Result, Token, line_order_fault};
 use std::alloc::Global;
 
@@ -204,6 +209,17 @@ fn tokens_by_span<'t>(
     &tokens[span.start..span.end]
 }
 
+/// How many tokens lie on the lines before a line, by where lines begin.
+fn count_by_start(starts: &[u32], tokens: &[Token], line: u32) -> usize
+    requires { AreStarts tokens.now starts.now }
+    ensures { result ≡ count_before_line line tokens.now }
+{
+    match starts.get(line as usize) {
+        Some(start) => *start as usize,
+        None => tokens.len(),
+    }
+}
+
 /// The tokens on a line, by where lines begin.
 fn tokens_by_start<'t>(starts: &[u32], tokens: &'t [Token], line: u32) -> &'t [Token]
     requires { AreStarts tokens.now starts.now }
@@ -258,6 +274,75 @@ impl LineIndex {
         ensures among { IfSome result (Contains (on_line token_line line tokens.now)) }
     {
         search(self.tokens_near(tokens, line, &mut 0), col, &mut 0)
+    }
+
+    /// The number of bytes of memory that the index holds; 18446744073709551615 stands for more.
+    pub fn bytes(&self) -> usize
+        ensures { result ≡ index_bytes self.now }
+    {
+        match &self.lines {
+            Lines::Starts(starts) => starts.len().saturating_mul(4),
+            Lines::Spans(spans) => spans.len().saturating_mul(24),
+        }
+    }
+
+    /// How many tokens lie on the lines before a line.
+    fn count_before(&self, tokens: &[Token], line: u32) -> usize
+        requires { IsIndexOf tokens.now self.now }
+        ensures { result ≡ count_before_line line tokens.now }
+    {
+        match &self.lines {
+            Lines::Starts(starts) => count_by_start(starts.as_slice(), tokens, line),
+            Lines::Spans(_) => line_start(tokens, line),
+        }
+    }
+
+    /// The index among all tokens of the token that has this index on its line. None for None.
+    fn index_on(&self, tokens: &[Token], line: u32, index: Option<usize>) -> Option<usize>
+        requires lines { IsIndexOf tokens.now self.now }
+        requires on { IfSome index (λ i. i < length (on_line token_line line tokens.now)) }
+        ensures found { result ≡ option_map (λ i. count_before_line line tokens.now + i) index }
+        ensures within { IfSome result (λ i. i < length tokens.now) }
+    {
+        let index = index?;
+        Some(self.count_before(tokens, line) + index)
+    }
+
+    /// The index of the token that `lookup` finds. Takes no memory.
+    pub fn lookup_index(&self, tokens: &[Token], line: u32, col: u32) -> Option<usize>
+        requires { IsIndexOf tokens.now self.now }
+        ensures found { are_tokens_sorted tokens.now ≡ true
+            → result ≡ index_for tokens.now line col }
+        ensures within { IfSome result (λ i. i < length tokens.now) }
+    {
+        let on_line = self.tokens_near(tokens, line, &mut 0);
+        let found = search_index(on_line, col);
+        self.index_on(tokens, line, found)
+    }
+
+    /// The index of the token that `lookup_clamped` finds. Takes no memory.
+    pub fn lookup_index_clamped(&self, tokens: &[Token], line: u32, col: u32) -> Option<usize>
+        requires { IsIndexOf tokens.now self.now }
+        ensures found { are_tokens_sorted tokens.now ≡ true
+            → result ≡ clamped_index_for tokens.now line col }
+        ensures within { IfSome result (λ i. i < length tokens.now) }
+    {
+        let on_line = self.tokens_near(tokens, line, &mut 0);
+        let found = search_index_clamped(on_line, col);
+        self.index_on(tokens, line, found)
+    }
+
+    /// The index of the token that the lookup from a position on finds, by the rule of `search_after`: of several tokens at the
+    /// very position the last. Takes no memory.
+    pub fn lookup_index_after(&self, tokens: &[Token], line: u32, col: u32) -> Option<usize>
+        requires { IsIndexOf tokens.now self.now }
+        ensures found { are_tokens_sorted tokens.now ≡ true
+            → result ≡ index_after tokens.now line col }
+        ensures within { IfSome result (λ i. i < length tokens.now) }
+    {
+        let on_line = self.tokens_near(tokens, line, &mut 0);
+        let found = search_index_after(on_line, col, &mut 0);
+        self.index_on(tokens, line, found)
     }
 
     /// As `lookup`, but a position before the first token of its line gives that token.

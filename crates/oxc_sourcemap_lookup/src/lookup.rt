@@ -352,7 +352,7 @@ pub fn search_after(line: &[Token], col: u32, steps: &mut u64) -> Option<Token>
 }
 
 /// How many tokens lie on the lines before a line, for tokens in line order; for others, some number up to that of the tokens.
-fn line_start(tokens: &[Token], line: u32) -> usize
+pub(crate) fn line_start(tokens: &[Token], line: u32) -> usize
     ensures start { IsInLineOrder tokens.now → result ≡ count_before_line line tokens.now }
     ensures within { result ≤ length tokens.now }
 {

@@ -203,6 +203,17 @@ impl OwnedSourceMap {
         self.inner.get_source_root()
     }
 
+    /// Sets the source root to a copy of this string. Sources stay as they are. Fails only with `OutOfMemory`; the map is then
+    /// as it was.
+    pub fn set_source_root(&mut self, alloc: Global, source_root: &str) -> Result<()>
+        ensures set { OnOk result (self.new
+            ≡ record self.old { source_root = Some source_root.now }) }
+        ensures error { OnlyMemory result }
+        ensures unchanged { OnErr result (self.new ≡ self.old) }
+    {
+        self.inner.set_source_root(alloc, source_root)
+    }
+
     /// Puts the source root before each source, and leaves the map without one. A `/` stands between the two, unless the root
     /// is empty or ends in one. A source that begins with `/`, or with a scheme and `:`, stays as it is. Without a source root
     /// nothing changes. Joins and remappings drop roots: call this before them.

@@ -236,6 +236,29 @@ impl<'a> SourceMap<'a> {
         self.parts.source_root.as_deref()
     }
 
+    /// Sets the source root to a copy of this string. Sources stay as they are.
+    ///
+    /// ```rust
+    /// use oxc_sourcemap::SourceMap;
+    ///
+    /// let text = r#"{"version":3,"sources":["a.js"],"mappings":"AAAA"}"#;
+    /// let mut map = SourceMap::from_json_string(alloc, text)?;
+    /// map.set_source_root(alloc, "src")?;
+    /// let text = r#"{"version":3,"sourceRoot":"src","names":[],"sources":["a.js"],"mappings":"AAAA"}"#;
+    /// assert_eq!(rt; map.to_json_string(alloc)?.as_str(), text);
+    /// ```
+    ///
+    /// Fails only with `OutOfMemory`; the map is then as it was.
+    pub fn set_source_root(&mut self, alloc: Global, source_root: &str) -> Result<()>
+        ensures set { OnOk result (self.new
+            ≡ record self.old { source_root = Some source_root.now }) }
+        ensures error { OnlyMemory result }
+        ensures unchanged { OnErr result (self.new ≡ self.old) }
+    {
+        self.parts.source_root = Some(CowStr::Owned(String::from_str(alloc, source_root)?));
+        Ok(())
+    }
+
     /// Puts the source root before each source, and leaves the map without one. A `/` stands between the two, unless the root
     /// is empty or ends in one. A source that begins with `/`, or with a scheme and `:`, stays as it is. Without a source root
     /// nothing changes. Joins and remappings drop roots: call this before them.

@@ -13,6 +13,7 @@ use Rattle.oxc_sourcemap_lookup.proofs.Traced.{token_traced}
 use Rattle.oxc_sourcemap_pieces.specs.RangePieces.{Run, place, line_of, column_of, index_at_place}
 use Rattle.oxc_sourcemap_pieces.specs.RangePieces.{piece_of, runs_from, pieces_of}
 use Rattle.oxc_sourcemap_pieces.specs.RangeLaws.{IsIn, PiecesCover, PiecesHold, PiecesTrace}
+use Rattle.oxc_sourcemap_pieces.specs.RangeLaws.{PiecesIndex}
 use Rattle.oxc_sourcemap_pieces.specs.declared.cuts.Piece.{Piece}
 use Rattle.oxc_sourcemap_pieces.proofs.Runs.{back, runs-hold, runs-cover, Holds}
 
@@ -28,15 +29,21 @@ all-so P Q h (x ∷ xs) all = (h x all.0, all-so P Q h xs all.1)
 abbrev HoldsIn : List TokenRecord → Piece → Type 0
 HoldsIn tokens piece = (l c : ℕ) → IsIn piece l c → token_for tokens l c ≡ piece.token
 
-run-holds : (tokens : List TokenRecord) (run : Run) → Holds (index_at_place tokens) run → HoldsIn tokens (piece_of tokens run)
-run-holds tokens run h = λ l c is.
+-- the index of a piece is that of the token that is found at each of its positions
+abbrev HasIndex : List TokenRecord → Piece → Type 0
+HasIndex tokens piece = (l c : ℕ) → IsIn piece l c → index_for tokens l c ≡ piece.index
+
+run-index : (tokens : List TokenRecord) (run : Run) → Holds (index_at_place tokens) run → HasIndex tokens (piece_of tokens run)
+run-index tokens run h = λ l c is.
     let q = place l c in
     let low : run.start ≤ q = omega (arith, is.from_start, back run.start) in
     let high : q < run.end = omega (arith, is.before_end, back run.end) in
     let line : line_of q ≡ l = omega (arith, is.column) in
     let col : column_of q ≡ c = omega (arith, is.column) in
-    let found = ap (λ n. index_for tokens n (column_of q)) (sym line) ∙ h q low high in
-    sym (token_of-index_for tokens l c) ∙ ap (λ n. option_and_then (slice_get tokens) (index_for tokens l n)) (sym col) ∙ ap (option_and_then (slice_get tokens)) found
+    ap (λ n. index_for tokens l n) (sym col) ∙ ap (λ n. index_for tokens n (column_of q)) (sym line) ∙ h q low high
+
+run-holds : (tokens : List TokenRecord) (run : Run) → Holds (index_at_place tokens) run → HoldsIn tokens (piece_of tokens run)
+run-holds tokens run h = λ l c is. sym (token_of-index_for tokens l c) ∙ ap (option_and_then (slice_get tokens)) (run-index tokens run h l c is)
 
 pub cover : PiecesCover
 cover tokens line col end_line end_col =
@@ -45,6 +52,11 @@ cover tokens line col end_line end_col =
 pub hold : PiecesHold
 hold tokens line col end_line end_col =
     all-mapped (Holds (index_at_place tokens)) (HoldsIn tokens) (piece_of tokens) (run-holds tokens)
+    (runs_from (index_at_place tokens) (place line col) (place end_line end_col - place line col)) (runs-hold (index_at_place tokens) (place line col) (place end_line end_col - place line col))
+
+pub index : PiecesIndex
+index tokens line col end_line end_col =
+    all-mapped (Holds (index_at_place tokens)) (HasIndex tokens) (piece_of tokens) (run-index tokens)
     (runs_from (index_at_place tokens) (place line col) (place end_line end_col - place line col)) (runs-hold (index_at_place tokens) (place line col) (place end_line end_col - place line col))
 
 pub traces : PiecesTrace

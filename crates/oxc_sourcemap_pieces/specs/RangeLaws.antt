@@ -4,7 +4,7 @@ use Rattle.std.specs.List.{AllByRecursion}
 use Rattle.oxc_sourcemap_tokens.specs.Token.{TokenRecord}
 use Rattle.oxc_sourcemap_parts.specs.Record.{MapRecord}
 use Rattle.oxc_sourcemap_parts.specs.DecodedMap.{decoded_map_of}
-use Rattle.oxc_sourcemap_lookup.specs.Lookup.{token_for}
+use Rattle.oxc_sourcemap_lookup.specs.Lookup.{token_for, index_for}
 use Rattle.oxc_sourcemap_lookup.specs.Trace.{trace, original_in}
 use Rattle.oxc_sourcemap_pieces.specs.declared.cuts.Piece.{Piece}
 use Rattle.oxc_sourcemap_pieces.specs.RangePieces.{place, start_of, end_of, pieces_of, DoCover}
@@ -24,6 +24,12 @@ PiecesCover = (tokens : List TokenRecord) (line col end_line end_col : ℕ)
 abbrev pub PiecesHold : Type 0
 PiecesHold = (tokens : List TokenRecord) (line col end_line end_col : ℕ)
     → AllByRecursion (λ piece. (l c : ℕ) → IsIn piece l c → token_for tokens l c ≡ piece.token)
+    (pieces_of tokens line col end_line end_col)
+
+-- At every position of a piece, the lookup finds the token of this index.
+abbrev pub PiecesIndex : Type 0
+PiecesIndex = (tokens : List TokenRecord) (line col end_line end_col : ℕ)
+    → AllByRecursion (λ piece. (l c : ℕ) → IsIn piece l c → index_for tokens l c ≡ piece.index)
     (pieces_of tokens line col end_line end_col)
 
 -- At every position of a piece, the trace of the map is what the token of the piece points to.

@@ -49,7 +49,7 @@ abbrev pub runs_from : (ℕ → Option ℕ) → ℕ → ℕ → List Run
 runs_from find p zero = []
 runs_from find p (suc n) = with_place p (find p) (runs_from find (p + 1) n)
 
--- a run as a piece: the positions of its two ends, and the token that is found in it
+-- a run as a piece: the positions of its two ends, and the token that is found in it, with its index
 abbrev pub piece_of : List TokenRecord → Run → Piece
 piece_of tokens run = record {
   line = line_of run.start;
@@ -57,6 +57,7 @@ piece_of tokens run = record {
   end_line = line_of run.end;
   end_col = column_of run.end;
   token = option_and_then (slice_get tokens) run.found;
+  index = run.found;
 }
 
 -- The pieces of a range: the longest runs of its places at which the lookup finds the same token, or none. (A range whose end

@@ -7,3 +7,4 @@ pub use Rattle.oxc_sourcemap_pieces.specs.RangePieces.{DoCover}
 pub use Rattle.oxc_sourcemap_pieces.specs.Cuts.{token_place, holder, line_end, end_before}
 pub use Rattle.oxc_sourcemap_pieces.specs.Cuts.{run_end, cut_at, pieces_left, AreLeft, IsStart}
 pub use Rattle.oxc_sourcemap_pieces.specs.RangeLaws.{PiecesCover, PiecesHold, PiecesTrace}
+pub use Rattle.oxc_sourcemap_pieces.specs.RangeLaws.{PiecesIndex}

@@ -11,7 +11,7 @@ ghost use Rattle.oxc_sourcemap_pieces.specs.Words.{AreInBounds};
 use oxc_sourcemap_tokens::Token;
 
 /// A piece of a range of generated code: from its line and column up to but not including its end, the exact lookup of every
-/// position finds this token, or none. Lines and columns count from 0, columns in UTF-16 code units. It ends at column 0 of the
+/// position finds this token, or none; `index` is that of the token. Lines and columns count from 0, columns in UTF-16 code units. It ends at column 0 of the
 /// next line if it goes to the end of its line, however long that is.
 #[derive(Clone, Copy, Debug, PartialEq, Eq)]
 pub struct Piece {
@@ -20,6 +20,7 @@ pub struct Piece {
     pub end_line: u32,
     pub end_col: u32,
     pub token: Option<Token>,
+    pub index: Option<usize>,
 }
 
 /// The first piece of what is left of a range: the index of its token, where it ends, and the index of the first token that does
@@ -174,6 +175,7 @@ pub(crate) fn piece_to(tokens: &[Token], start: u64, cut: Cut) -> Piece
         end_line: line_of(cut.end),
         end_col: column_of(cut.end),
         token: token_at(tokens, cut.found),
+        index: cut.found,
     }
 }
 

@@ -5,5 +5,6 @@ pub mod Parts
 pub mod Found
 pub mod Searched
 pub mod Lines
+pub mod Passing
 pub mod LeadBack
 mod Worked

@@ -12,10 +12,10 @@ use Rattle.oxc_sourcemap_reverse.specs.Places.{place_number, token_place, AreBet
 use Rattle.oxc_sourcemap_reverse.proofs.Numbers.{is_at_place, filter_same}
 
 -- what lies from one place up to another
-abbrev Lies : ℕ → ℕ → TokenRecord → Type 0
+abbrev pub Lies : ℕ → ℕ → TokenRecord → Type 0
 Lies from to t = (from ≤ token_place t) × (token_place t < to)
 
-all_pass : {A : Type 0} (P : A → Type 0) (p : A → Bool) → ((x : A) → P x → p x ≡ true) → (xs : List A) → AllByRecursion P xs → filter p xs ≡ xs
+pub all_pass : {A : Type 0} (P : A → Type 0) (p : A → Bool) → ((x : A) → P x → p x ≡ true) → (xs : List A) → AllByRecursion P xs → filter p xs ≡ xs
 all_pass P p h [] all = refl
 all_pass P p h (x ∷ xs) all = ap (λ b. cond b (x ∷ filter p xs) (filter p xs)) (h x all.0) ∙ ap (λ ys. x ∷ ys) (all_pass P p h xs all.1)
 

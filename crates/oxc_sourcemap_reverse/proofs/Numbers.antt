@@ -11,7 +11,7 @@ use Rattle.std.specs.List.{filter, All, AllByRecursion}
 use Rattle.std.specs.List.Sorted.{IsNonDecreasingBy, IsStableByKey, IsPermutation}
 use Rattle.std.specs.Ordering.{is_lt, nat_cmp}
 use Rattle.oxc_sourcemap_tokens.specs.Token.{TokenRecord, IsInBounds, is_mapped, AreInBounds}
-use Rattle.oxc_sourcemap_reverse.specs.Reverse.{is_at}
+use Rattle.oxc_sourcemap_reverse.specs.Reverse.{is_at, passing_from}
 use Rattle.oxc_sourcemap_reverse.specs.Places.{place_number, token_place, numbered_from, no_token}
 use Rattle.oxc_sourcemap_reverse.specs.Places.{listed, IsOrderOf}
 
@@ -93,6 +93,25 @@ kept_numbered place tokens (t ∷ ts) n h e =
     (ap (λ i. get_or tokens i no_token) (digits_of (token_place t) n lt) ∙ drop_here tokens n no_token t ts e)
     (kept_numbered place tokens ts (n + 1) h (drop_next tokens n t ts e))
 
+-- the index behind a number
+abbrev pub rest : ℕ → ℕ
+rest n = n % 4294967296
+
+index-by : (b c : Bool) (place n i : ℕ) (is ns : List ℕ) → is_front place n ≡ c → rest n ≡ i → map rest (filter (is_front place) ns) ≡ is
+    → map rest (filter (is_front place) (cond b (n ∷ ns) ns)) ≡ cond (b && c) (i ∷ is) is
+index-by true true place n i is ns f e more = ap (λ b. map rest (cond b (n ∷ filter (is_front place) ns) (filter (is_front place) ns))) f ∙ ap (λ x. x ∷ map rest (filter (is_front place) ns)) e ∙ ap (λ xs. i ∷ xs) more
+index-by true false place n i is ns f e more = ap (λ b. map rest (cond b (n ∷ filter (is_front place) ns) (filter (is_front place) ns))) f ∙ more
+index-by false c place n i is ns f e more = more
+
+-- the indices behind the numbers of a place are those of the tokens that point there
+pub index_numbered : (place : ℕ) (ts : List TokenRecord) (n : ℕ) → n + length ts ≤ 4294967296
+    → map rest (filter (is_front place) (numbered_from n ts)) ≡ passing_from n (λ t. is_mapped t && token_place t == place) ts
+index_numbered place [] n h = refl
+index_numbered place (t ∷ ts) n h =
+    let lt : n < 4294967296 = omega (arith, h) in
+    index-by (is_mapped t) (token_place t == place) place (token_place t * 4294967296 + n) n (passing_from (n + 1) (λ t. is_mapped t && token_place t == place) ts) (numbered_from (n + 1) ts)
+    (ap (λ p. p == place) (front_of (token_place t) n lt)) (digits_of (token_place t) n lt) (index_numbered place ts (n + 1) (omega (arith, h)))
+
 pub filter_same : {A : Type 0} (P : A → Type 0) (p q : A → Bool) → ((x : A) → P x → p x ≡ q x) → (xs : List A) → AllByRecursion P xs → filter p xs ≡ filter q xs
 filter_same P p q h [] a = refl
 filter_same P p q h (x ∷ xs) a = ap (λ b. cond b (x ∷ filter p xs) (filter p xs)) (h x a.0) ∙ ap (λ ys. cond (q x) (x ∷ ys) ys) (filter_same P p q h xs a.1)
@@ -172,6 +191,7 @@ order_from tokens sorted order bounds h perm len up stable e =
     omega (arith, up i j 0 le jn, (all i 0 in_).1, (all j 0 jn).1, ap token_place (get_or-map (behind tokens) sorted i 0 d in_), ap token_place (get_or-map (behind tokens) sorted j 0 d jn)) in
     record {
       in_bounds = bounds;
+      few = h;
       within = subst (λ xs. All (λ i. i < length tokens) xs) (sym e) (All-map (λ i. i < length tokens) (λ n. n % 4294967296) sorted (λ k d lt. (all k d lt).0));
       fewer = omega (arith, ap length e, length-map sorted (λ n. n % 4294967296), len, fewer_numbered tokens 0);
       rises = subst (λ xs. IsNonDecreasingBy token_place xs) (sym listing) rising;
@@ -179,4 +199,8 @@ order_from tokens sorted order bounds h perm len up stable e =
           ap (filter (λ t. token_place t == place)) listing ∙ filter_of_map (λ t. token_place t == place) (behind tokens) sorted
           ∙ ap (map (behind tokens)) (filter_same (IsNumbered tokens) (λ n. token_place (behind tokens n) == place) (is_front place) (λ n w. ap (λ p. p == place) w.1) sorted each ∙ stable_front ns sorted stable place)
           ∙ kept_numbered place tokens tokens 0 h refl;
+      each_index = λ place.
+          ap (filter (λ i. token_place (get_or tokens i no_token) == place)) e ∙ filter_of_map (λ i. token_place (get_or tokens i no_token) == place) rest sorted
+          ∙ ap (map rest) (filter_same (IsNumbered tokens) (λ n. token_place (behind tokens n) == place) (is_front place) (λ n w. ap (λ p. p == place) w.1) sorted each ∙ stable_front ns sorted stable place)
+          ∙ index_numbered place tokens 0 (omega (arith, h));
     }

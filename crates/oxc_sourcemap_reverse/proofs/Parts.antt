@@ -3,10 +3,10 @@ use Rattle.std.proofs.Common.{◌≡◌, refl, ap, ℕ, ◌+◌, ◌-◌, ◌<�
 use Rattle.std.proofs.Common.{length, get_or, take, drop, arith}
 use Rattle.std.proofs.lemmas.Bool.{cases_lt}
 use Rattle.std.proofs.lemmas.Bool.Decides.{nat_tests}
-use Rattle.std.proofs.lemmas.List.{length-take}
+use Rattle.std.proofs.lemmas.List.{length-take, get_or-map}
 use Rattle.std.specs.List.{filter}
 use Rattle.oxc_sourcemap_tokens.specs.Token.{TokenRecord}
-use Rattle.oxc_sourcemap_reverse.specs.Places.{token_place, no_token, AreBetween}
+use Rattle.oxc_sourcemap_reverse.specs.Places.{token_place, no_token, listed, AreBetween}
 use Rattle.oxc_sourcemap_reverse.proofs.Runs.{filter_part, part_read}
 
 pub in_order : (xs : List TokenRecord) (from to lo hi : ℕ) → from < to → lo ≤ length xs → ((i : ℕ) (d : TokenRecord) → i < lo → token_place (get_or xs i d) < from)
@@ -36,4 +36,17 @@ part_same xs from to place lo hi low high le h b f =
     filter_part (λ t. token_place t == place) (λ t. token_place t == place) xs lo (hi - lo) (omega (arith, e, h))
     (λ i d g. not_equal _ _ (λ s. let k = b i d g in omega (arith, s, k, low)))
     (λ i d g w. not_equal _ _ (λ s. let k = f i d (omega (arith, g, e)) w in omega (arith, s, k, high)))
+    (λ i d g w. refl)
+
+-- the same of the indices themselves
+pub part_same_index : (tokens : List TokenRecord) (order : List ℕ) (from to place lo hi : ℕ) → from ≤ place → place < to → lo ≤ hi → hi ≤ length order
+    → ((i : ℕ) (d : TokenRecord) → i < lo → token_place (get_or (listed tokens order) i d) < from)
+    → ((i : ℕ) (d : TokenRecord) → hi ≤ i → i < length order → to ≤ token_place (get_or (listed tokens order) i d))
+    → filter (λ i. token_place (get_or tokens i no_token) == place) (take (hi - lo) (drop lo order)) ≡ filter (λ i. token_place (get_or tokens i no_token) == place) order
+part_same_index tokens order from to place lo hi low high le h b f =
+    let e : lo + (hi - lo) ≡ hi = omega (arith, le) in
+    let same = λ (i d : ℕ) (w : i < length order). ap token_place (get_or-map (λ i. get_or tokens i no_token) order i d no_token w) in
+    filter_part (λ i. token_place (get_or tokens i no_token) == place) (λ i. token_place (get_or tokens i no_token) == place) order lo (hi - lo) (omega (arith, e, h))
+    (λ i d g. not_equal _ _ (λ s. let k = b i no_token g in omega (arith, s, k, low, same i d (omega (arith, g, le, h)))))
+    (λ i d g w. not_equal _ _ (λ s. let k = f i no_token (omega (arith, g, e)) w in omega (arith, s, k, high, same i d w)))
     (λ i d g w. refl)

@@ -1,4 +1,5 @@
 pub mod Reverse
 pub mod Places
+pub mod Orders
 pub mod ReverseLaws
 pub mod Words

@@ -5,6 +5,7 @@ use Rattle.std.specs.Option.{unwrap_or}
 use Rattle.std.specs.List.{All}
 use Rattle.std.specs.List.Sorted.{IsNonDecreasingBy}
 use Rattle.oxc_sourcemap_tokens.specs.Token.{TokenRecord, is_mapped, AreInBounds}
+use Rattle.oxc_sourcemap_reverse.specs.Reverse.{passing}
 
 -- a number that orders places: by source, then by line, then by column
 abbrev pub place_number : ℕ → ℕ → ℕ → ℕ
@@ -32,11 +33,14 @@ listed tokens order = map (λ i. get_or tokens i no_token) order
 -- These are the indices of the mapped tokens, by place, and for each place in the order of the map.
 pub record IsOrderOf (tokens : List TokenRecord) (order : List ℕ) : Type 0 where
   pub in_bounds : AreInBounds tokens
+  pub few : length tokens < 4294967296
   pub within : All (λ i. i < length tokens) order
   pub fewer : length order ≤ length tokens
   pub rises : IsNonDecreasingBy token_place (listed tokens order)
   pub each : (place : ℕ) → filter (λ t. token_place t == place) (listed tokens order)
       ≡ filter (λ t. is_mapped t && token_place t == place) tokens
+  pub each_index : (place : ℕ) → filter (λ i. token_place (get_or tokens i no_token) == place) order
+      ≡ passing (λ t. is_mapped t && token_place t == place) tokens
 
 -- all lie from one place up to but not including another
 abbrev pub AreBetween : ℕ → ℕ → List TokenRecord → Type 0

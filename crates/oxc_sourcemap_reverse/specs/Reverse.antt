@@ -1,5 +1,6 @@
 -- From original positions to generated ones: which tokens of a map point to a place of a source.
-use Rattle.std.specs.Prelude.{◌≡◌, ℕ, Bool, false, ◌&&◌, List, [], filter, length, Option, Some}
+use Rattle.std.specs.Prelude.{◌≡◌, ℕ, ◌+◌, Bool, false, ◌&&◌, List, [], ◌∷◌, filter, length, Option}
+use Rattle.std.specs.Prelude.{Some}
 use Rattle.std.specs.Prelude.{None}
 use Rattle.std.specs.Prelude.{Result, Ok, if◌then◌else◌, nat_le, ◌==◌}
 use Rattle.std.specs.List.Sorted.{IsNonDecreasingBy}
@@ -54,6 +55,35 @@ all_generated_for source line col tokens = all_beside source line (generated_for
 abbrev pub all_generated_from : ℕ → ℕ → ℕ → List TokenRecord → List TokenRecord
 all_generated_from source line col tokens =
     all_beside source line (generated_from source line col tokens) tokens
+
+-- the indices of the items that pass a test, where the first item has this index
+abbrev pub passing_from : {A : Type 0} → ℕ → (A → Bool) → List A → List ℕ
+passing_from i p [] = []
+passing_from i p (x ∷ xs) = if p x then i ∷ passing_from (i + 1) p xs else passing_from (i + 1) p xs
+
+-- the indices of the items that pass a test
+abbrev pub passing : {A : Type 0} → (A → Bool) → List A → List ℕ
+passing p xs = passing_from 0 p xs
+
+-- the indices of the tokens of `generated_at`
+abbrev pub indices_at : ℕ → ℕ → ℕ → List TokenRecord → List ℕ
+indices_at source line col tokens = passing (is_at source line col) tokens
+
+-- the indices of the tokens of `all_beside`
+abbrev pub indices_beside : ℕ → ℕ → Option TokenRecord → List TokenRecord → List ℕ
+indices_beside source line None tokens = []
+indices_beside source line (Some t) tokens = indices_at source line t.src_col tokens
+
+-- the indices of the tokens of `all_generated_for`, and of `all_generated_from`
+abbrev pub indices_for : ℕ → ℕ → ℕ → List TokenRecord → List ℕ
+indices_for source line col tokens = indices_beside source line (generated_for source line col tokens) tokens
+
+abbrev pub indices_from : ℕ → ℕ → ℕ → List TokenRecord → List ℕ
+indices_from source line col tokens = indices_beside source line (generated_from source line col tokens) tokens
+
+-- the indices of the tokens of `pointing_to`
+abbrev pub indices_on : ℕ → ℕ → List TokenRecord → List ℕ
+indices_on source line tokens = passing (is_into source line) tokens
 
 -- These are all tokens that point to a line of a source, by source column, and those of one column in the order of the map.
 pub record IsLineByColumn (source line : ℕ) (tokens : List TokenRecord) (found : List TokenRecord) : Type 0 where

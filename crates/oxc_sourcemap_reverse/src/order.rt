@@ -7,6 +7,7 @@ ghost use Rattle.std.specs.List.Sorted.{IsNonDecreasingBy};
 ghost use Rattle.oxc_sourcemap_reverse.specs.Words.{TokenRecord, place_number, token_place};
 ghost use Rattle.oxc_sourcemap_reverse.specs.Words.{numbered_from, listed, IsOrderOf};
 ghost use Rattle.oxc_sourcemap_reverse.specs.Words.{binary_digits, AreBetween, AreInBounds};
+ghost use Rattle.oxc_sourcemap_reverse.specs.Words.{no_token};
 
 use oxc_sourcemap_tokens::{Memory, Token, tokens_in_bounds};
 use std::alloc::Global;
@@ -132,6 +133,9 @@ pub(crate) fn between<'o>(
     ensures each { (place : ℕ) → from ≤ place → place < to
         → filter (λ t. token_place t == place) (listed tokens.now result.now)
         ≡ filter (λ t. token_place t == place) (listed tokens.now order.now) }
+    ensures each_index { (place : ℕ) → from ≤ place → place < to
+        → filter (λ i. token_place (get_or tokens.now i no_token) == place) result.now
+        ≡ filter (λ i. token_place (get_or tokens.now i no_token) == place) order.now }
     ensures counted { steps.new ≡ steps.old + 2 * binary_digits (length order.now) }
     ensures few { steps.new ≤ steps.old + 128 }
 {

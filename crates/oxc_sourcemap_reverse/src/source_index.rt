@@ -9,10 +9,11 @@ ghost use Rattle.oxc_sourcemap_reverse.specs.Words.{index_fault, indexed, token_
 ghost use Rattle.oxc_sourcemap_reverse.specs.Words.{AreBetween, AreInBounds, binary_digits};
 
 use crate::index_tokens::IndexTokens;
-use crate::order::{between, order_of, place_number};
+use crate::order::{between, place_number};
 use crate::search::{find_for, find_from};
+use crate::source_order::SourceOrder;
 use oxc_sourcemap_map::{SourceMap, parts_of};
-use oxc_sourcemap_tokens::{Error, Result, Token};
+use oxc_sourcemap_tokens::{Result, Token};
 use std::alloc::Global;
 use std::marker::Model;
 
@@ -40,20 +41,20 @@ use std::marker::Model;
 #[derive(Drop)]
 pub struct SourceIndex<'m> {
     tokens: &'m [Token],
-    order: Vec<u32>,
+    order: SourceOrder,
 }
 
 impl<'m> Model for SourceIndex<'m> {
     ghost use Rattle.std.specs.Prelude.{List};
     ghost use Rattle.oxc_sourcemap_tokens.specs.Token.{TokenRecord};
-    ghost use Rattle.oxc_sourcemap_reverse.specs.Places.{IsOrderOf};
+    ghost use Rattle.oxc_sourcemap_reverse.specs.Orders.{IsSourceOrderOf};
 
     // The tokens of the map, in order.
     ghost Value = { List TokenRecord };
 
     ghost view = { λ index. index.tokens.now };
 
-    ghost invariant = { λ index. IsOrderOf index.tokens.now index.order.items };
+    ghost invariant = { λ index. IsSourceOrderOf index.tokens.now index.order };
 }
 
 impl<'m> SourceIndex<'m> {
@@ -63,10 +64,7 @@ impl<'m> SourceIndex<'m> {
         ensures fault { Reports (index_fault map.now.tokens) result }
     {
         let tokens = parts_of(map).tokens.as_slice();
-        if tokens.len() as u64 > 4294967295 {
-            return Err(Error::TooLarge);
-        }
-        let order = order_of(alloc, tokens)?;
+        let order = SourceOrder::new(alloc, tokens)?;
         Ok(SourceIndex { tokens, order })
     }
 

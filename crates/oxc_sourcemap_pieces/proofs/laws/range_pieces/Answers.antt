@@ -1,4 +1,4 @@
-use Rattle.oxc_sourcemap_pieces.proofs.Held.{cover, hold, traces}
+use Rattle.oxc_sourcemap_pieces.proofs.Held.{cover, hold, index, traces}
 use Rattle.oxc_sourcemap_pieces.proofs.laws.range_pieces.Goals as goal
 
 pub returns-clause-cover : goal.returns-clause-cover
@@ -6,6 +6,9 @@ returns-clause-cover c = cover
 
 pub returns-clause-hold : goal.returns-clause-hold
 returns-clause-hold c = hold
+
+pub returns-clause-index : goal.returns-clause-index
+returns-clause-index c = index
 
 pub returns-clause-traces : goal.returns-clause-traces
 returns-clause-traces c = traces

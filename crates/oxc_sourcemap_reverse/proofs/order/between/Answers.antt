@@ -7,7 +7,7 @@ use Rattle.std.specs.List.Sorted.{IsNonDecreasingBy}
 use Rattle.oxc_sourcemap_tokens.specs.Token.{TokenRecord, IsInBounds}
 use Rattle.oxc_sourcemap_reverse.specs.Places.{token_place, no_token, listed, AreBetween}
 use Rattle.oxc_sourcemap_reverse.proofs.Runs.{map_part}
-use Rattle.oxc_sourcemap_reverse.proofs.Parts.{in_order, part_between, part_same}
+use Rattle.oxc_sourcemap_reverse.proofs.Parts.{in_order, part_between, part_same, part_same_index}
 use Rattle.oxc_sourcemap_reverse.proofs.order.between.Goals as goal
 
 pub part_of-requires-clause-forward : goal.part_of-requires-clause-forward
@@ -49,3 +49,12 @@ returns-clause-each c = λ place low high.
     ∙ part_same (listed c.args.tokens.now c.args.order.now) c.args.from c.args.to place _ _ low high
     (in_order (listed c.args.tokens.now c.args.order.now) c.args.from c.args.to _ _ c.requires.forward (omega (arith, c.count_before-start.ensures.bound, long)) c.count_before-start.ensures.before others)
     (omega (arith, c.count_before-end.ensures.bound, long)) c.count_before-start.ensures.before others
+
+pub returns-clause-each_index : goal.returns-clause-each_index
+returns-clause-each_index c = λ place low high.
+    let long = length-map c.args.order.now (λ i. get_or c.args.tokens.now i no_token) in
+    let others = λ (i : ℕ) (d : TokenRecord) (g : c.count_before-end.result ≤ i) (w : i < length (listed c.args.tokens.now c.args.order.now)). c.count_before-end.ensures.others i d g (omega (arith, w, long)) in
+    ap (filter (λ i. token_place (get_or c.args.tokens.now i no_token) == place)) c.part_of.ensures
+    ∙ part_same_index c.args.tokens.now c.args.order.now c.args.from c.args.to place _ _ low high
+    (in_order (listed c.args.tokens.now c.args.order.now) c.args.from c.args.to _ _ c.requires.forward (omega (arith, c.count_before-start.ensures.bound, long)) c.count_before-start.ensures.before others)
+    c.count_before-end.ensures.bound c.count_before-start.ensures.before c.count_before-end.ensures.others

@@ -1,0 +1,6 @@
+function greet(name) {
+    return "Hallo, " + name + "!";
+}
+var who = "Welt";
+console.log(greet(who));
+//# sourceMappingURL=bundle.js.map

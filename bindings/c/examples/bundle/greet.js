@@ -1,0 +1,4 @@
+function greet(name) {
+    return "Hallo, " + name + "!";
+}
+//# sourceMappingURL=greet.js.map

@@ -1,0 +1,127 @@
+/* Resolves a JavaScript stack trace.
+ *
+ *   resolve_stack DIRECTORY < stack.txt
+ *
+ * Every position FILE:LINE:COLUMN at the end of a line of the input, as V8, Firefox and Safari print it, is looked up in the
+ * map DIRECTORY/NAME.map, where NAME is the last part of FILE, and replaced by the original position. All else is copied.
+ */
+#include "oxc_sourcemap.h"
+
+#include <stdio.h>
+#include <stdlib.h>
+#include <string.h>
+
+/* The map of a generated file; null if there is none that can be read. */
+typedef struct entry {
+    char *name;
+    smap_map *map;
+    struct entry *next;
+} entry;
+
+static void complain(const char *path, const smap_fault *fault) {
+    char message[256], place[256];
+    size_t len = smap_message(fault, message, sizeof message), place_len = smap_place_message(fault, place, sizeof place);
+    if (len > sizeof message) len = sizeof message;
+    if (place_len > sizeof place) place_len = sizeof place;
+    fprintf(stderr, "%s: %.*s %.*s\n", path, (int)len, message, (int)place_len, place);
+}
+
+static char *read_file(const char *path, size_t *len) {
+    FILE *file = fopen(path, "rb");
+    if (!file) return NULL;
+    size_t room = 1 << 16;
+    char *bytes = malloc(room);
+    *len = 0;
+    while (bytes) {
+        size_t got = fread(bytes + *len, 1, room - *len, file);
+        if (got == 0) break;
+        *len += got;
+        if (*len == room) {
+            char *more = realloc(bytes, room *= 2);
+            if (!more) free(bytes);
+            bytes = more;
+        }
+    }
+    fclose(file);
+    return bytes;
+}
+
+static smap_map *read_map(const char *path) {
+    size_t len;
+    smap_fault fault;
+    smap_map *map = NULL;
+    char *bytes = read_file(path, &len);
+    if (bytes && smap_read_found(bytes, len, &map, NULL, &fault) != SMAP_OK) complain(path, &fault);
+    free(bytes);
+    return map;
+}
+
+/* The map of this file, which is read when it is first asked for. */
+static smap_map *map_of(entry **entries, const char *directory, const char *name, size_t len) {
+    for (entry *it = *entries; it; it = it->next)
+        if (strlen(it->name) == len && memcmp(it->name, name, len) == 0) return it->map;
+    entry *made = calloc(1, sizeof *made);
+    char *path = malloc(strlen(directory) + len + 6);
+    if (!made || !path || !(made->name = malloc(len + 1))) exit(1);
+    memcpy(made->name, name, len);
+    made->name[len] = 0;
+    sprintf(path, "%s/%s.map", directory, made->name);
+    made->map = read_map(path);
+    free(path);
+    made->next = *entries;
+    *entries = made;
+    return made->map;
+}
+
+/* The number that ends before *end, after a colon; *end is then where the colon is. 0 if there is none. */
+static uint32_t number_before(const char *line, const char **end) {
+    const char *at = *end;
+    uint64_t number = 0, place = 1;
+    while (at > line && at[-1] >= '0' && at[-1] <= '9' && place < 10000000000) {
+        number += place * (uint64_t)(*--at - '0');
+        place *= 10;
+    }
+    if (at == *end || at == line || at[-1] != ':' || number > UINT32_MAX) return 0;
+    *end = at - 1;
+    return (uint32_t)number;
+}
+
+/* Prints the line with its position resolved. */
+static void print_resolved(entry **entries, const char *directory, const char *line, size_t len) {
+    const char *tail = line + len;
+    if (tail > line && tail[-1] == ')') tail--;
+    const char *end = tail;
+    uint32_t column = number_before(line, &end), row = column ? number_before(line, &end) : 0;
+    const char *file = end, *name = end;
+    while (file > line && !strchr(" (@", file[-1])) file--;
+    while (name > file && name[-1] != '/') name--;
+    smap_original it;
+    const smap_map *map = row && name < end ? map_of(entries, directory, name, (size_t)(end - name)) : NULL;
+    if (map && smap_trace(map, row - 1, column - 1, SMAP_BEFORE, &it, NULL) == SMAP_OK && it.kind >= SMAP_MAPPED) {
+        printf("%.*s%.*s:%u:%u", (int)(file - line), line, (int)it.source.len, it.source.at, it.token.src_line + 1,
+               it.token.src_col + 1);
+        line = tail;
+    }
+    printf("%s\n", line);
+}
+
+int main(int argc, char **argv) {
+    if (argc != 2) {
+        fprintf(stderr, "usage: %s DIRECTORY < stack.txt\n", argv[0]);
+        return 2;
+    }
+    entry *entries = NULL;
+    char line[4096];
+    while (fgets(line, sizeof line, stdin)) {
+        line[strcspn(line, "\r\n")] = 0;
+        print_resolved(&entries, argv[1], line, strlen(line));
+    }
+    while (entries) {
+        entry *it = entries;
+        entries = it->next;
+        smap_free_map(it->map);
+        free(it->name);
+        free(it);
+    }
+    return 0;
+}

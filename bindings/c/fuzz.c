@@ -1,0 +1,457 @@
+/* Reads maps that are changed at random, and makes every call on what is read, with buffers that end where memory ends.
+ *
+ *   fuzz ROUNDS SEED FILE..
+ *
+ * Each round takes the text of a FILE, changes some of it, and reads it. A buffer is as large as the call is told,
+     and behind it is a
+ * page that cannot be touched, since the library is not built with a sanitizer; the layer and this program are (address,
+     undefined).
+ * It checks what holds of every map: what is written is read back as the same, lists agree with lookups,
+     each error has a message. It
+ * ends with status 1 at the first round that breaks one of these, and says which; `fuzz 1 SEED` with the seed that it names does
+ * that round again. */
+#define _DEFAULT_SOURCE
+#include "oxc_sourcemap.h"
+
+#include <stdio.h>
+#include <stdlib.h>
+#include <string.h>
+#include <sys/mman.h>
+
+static uint64_t state, seed;
+static unsigned long read_maps, refused_maps;
+
+#define MUST(condition) must(condition, __LINE__, #condition)
+static void must(int is_so, int line, const char *condition) {
+    if (is_so) return;
+    printf("fuzz.c:%d: %s; fuzz 1 %llu\n", line, condition, (unsigned long long)seed);
+    exit(1);
+}
+
+/* A number below n (splitmix64). */
+static size_t below(size_t n) {
+    uint64_t z = state += 0x9e3779b97f4a7c15;
+    z = (z ^ z >> 30) * 0xbf58476d1ce4e5b9;
+    z = (z ^ z >> 27) * 0x94d049bb133111eb;
+    return n ? (size_t)((z ^ z >> 31) % n) : 0;
+}
+
+/* ---- buffers ---- */
+
+#define ROOM (1u << 22)
+#define PAGE 4096u
+
+/* The buffers in use at once: texts, outputs, a second output, messages. */
+enum { INPUT, OUT, OUT_TOO, WORDS, BUFFERS };
+
+/* A buffer of this size in front of a page that cannot be touched. It begins with bytes that no call wrote. */
+static void *exact(int which, size_t size) {
+    static char *ends[BUFFERS];
+    if (!ends[which]) {
+        char *at = mmap(NULL, ROOM + PAGE, PROT_READ | PROT_WRITE, MAP_PRIVATE | MAP_ANONYMOUS, -1, 0);
+        MUST(at != MAP_FAILED && mprotect(at + ROOM, PAGE, PROT_NONE) == 0);
+        ends[which] = at + ROOM;
+    }
+    MUST(size <= ROOM);
+    return memset(ends[which] - size, 0xa5, size);
+}
+
+static char *copied(const char *at, size_t len) {
+    return memcpy(exact(INPUT, len), at, len);
+}
+
+/* ---- texts at random ---- */
+
+typedef struct buffer {
+    char *at;
+    size_t len;
+} buffer;
+
+static buffer *files;
+static size_t files_len;
+
+#define MOST 200000
+
+static void replace(buffer *it, size_t at, size_t len, const char *with, size_t with_len) {
+    if (at > it->len || len > it->len - at || it->len - len + with_len > MOST) return;
+    memmove(it->at + at + with_len, it->at + at + len, it->len - at - len);
+    memcpy(it->at + at, with, with_len);
+    it->len += with_len - len;
+}
+
+static const char *const PIECES[] = {
+    "0", "-1", "4294967295", "4294967296", "1e99", "3.0", "null", "true", "\"\"", "[]", "{}", ",", ";", ";;;;", "\"", "\\",
+        "\\ud800",
+    "\\u0000", "\xff", "\xc3\xa9", "\xf0\x9f\x98\x80", "\xef\xbb\xbf", ")]}'\n", "AAAA", "+/////H", "+/////HAAAA", "D", "gggggggg",
+        "AAAAA",
+    "\"version\":3,", "\"sources\":null,", "\"sections\":[", "\"ignoreList\":[0,7],", "\"x_google_ignoreList\":[1],",
+        "\"names\":[\"x\"],",
+    "\"sourcesContent\":[null,\"x\"],", "\"mappings\":\"", "{\"offset\":{\"line\":0,\"column\":0},\"map\":",
+        "data:application/json,",
+};
+
+static void mutate(buffer *it) {
+    const buffer *other = &files[below(files_len)];
+    size_t at = below(it->len + 1), len = below(below(4) ? 8 : 200), from = below(other->len);
+    const char *piece = PIECES[below(sizeof PIECES / sizeof *PIECES)];
+    char byte = (char)below(256);
+    switch (below(8)) {
+        case 0: replace(it, at, 1, &byte, 1); break;
+        case 1: replace(it, at, len, "", 0); break;
+        case 2: replace(it, at, below(2), piece, strlen(piece)); break;
+        case 3: replace(it, at, len, other->at + from, len < other->len - from ? len : other->len - from); break;
+        case 4: byte = "ABCDEFGHIJKLMNOPQRSTUVWXYZabcdefghijklmnopqrstuvwxyz0123456789+/,;"[below(66)]; replace(it, at, 1, &byte,
+            1); break;
+        case 5: byte = "{}[]\":, 0123456789"[below(18)]; replace(it, at, below(2), &byte, 1); break;
+        case 6: if (!below(8)) it->len = at; break;
+        default: byte = ",;"[below(2)]; replace(it, at, 0, &byte, 1); break;
+    }
+}
+
+/* ---- calls ---- */
+
+/* Checks a fault, and its messages. */
+static void told(uint32_t code, const smap_fault *fault) {
+    MUST(fault->code == code && strcmp(smap_code_name(code), "SMAP_UNKNOWN") != 0);
+    size_t len = smap_message(fault, NULL, 0), place = smap_place_message(fault, NULL, 0);
+    MUST((len == 0) == (code == SMAP_OK) && (place == 0) == (fault->place.kind == SMAP_PLACE_NONE));
+    MUST(smap_message(fault, exact(WORDS, len), len) == len);
+    MUST(smap_message(fault, exact(WORDS, len / 2), len / 2) == len);
+    MUST(smap_place_message(fault, exact(WORDS, place), place) == place);
+}
+
+static smap_position any_position(const smap_counts *counts) {
+    static const uint32_t FAR[4] = { 0, 1, UINT32_MAX - 1, UINT32_MAX };
+    smap_position it;
+    it.line = below(8) ? (uint32_t)below(counts->lines + 2) : FAR[below(4)];
+    it.column = below(8) ? (uint32_t)below(300) : FAR[below(4)];
+    return it;
+}
+
+/* The tokens of a map, in a buffer. */
+static smap_token *all_tokens(const smap_map *map, const smap_counts *counts) {
+    size_t count;
+    smap_token *tokens = exact(OUT_TOO, counts->tokens * sizeof *tokens);
+    MUST(smap_get_tokens(map, tokens, counts->tokens, &count) == SMAP_OK && count == counts->tokens);
+    return tokens;
+}
+
+static void read_lists(const smap_map *map, const smap_counts *counts) {
+    smap_text one;
+    smap_token token;
+    size_t count, few = below(3);
+    smap_text *texts = exact(OUT, counts->names * sizeof *texts);
+    MUST(smap_get_names(map, texts, counts->names, &count) == SMAP_OK && count == counts->names);
+    uint32_t id = (uint32_t)below(count + 1), code = smap_get_name(map, id, &one);
+    MUST(code == (id < count ? SMAP_OK : SMAP_NO_ENTRY) && (code || (one.at == texts[id].at && one.len == texts[id].len)));
+    texts = exact(OUT, counts->sources * sizeof *texts);
+    MUST(smap_get_sources(map, texts, counts->sources, &count) == SMAP_OK && count == counts->sources);
+    id = (uint32_t)below(count + 1), code = smap_get_source(map, id, &one);
+    MUST(code == (id < count ? SMAP_OK : SMAP_NO_ENTRY) && (code || (one.at == texts[id].at && one.len == texts[id].len)));
+    texts = exact(OUT, counts->source_contents * sizeof *texts);
+    MUST(smap_get_source_contents(map, texts, counts->source_contents, &count) == SMAP_OK && count == counts->source_contents);
+    id = (uint32_t)below(count + 1), code = smap_get_source_content(map, id, &one);
+    MUST((code == SMAP_OK) == (id < count && texts[id].at != NULL));
+    code = smap_get_ignore_list(map, exact(OUT, 4 * counts->ignore_list), counts->ignore_list, &count);
+    MUST(code == SMAP_OK ? count == counts->ignore_list : code == SMAP_NO_ENTRY && counts->ignore_list == 0);
+    smap_token *tokens = all_tokens(map, counts);
+    id = (uint32_t)below(counts->tokens + 1), code = smap_get_token(map, id, &token);
+    MUST(code == (id < counts->tokens ? SMAP_OK : SMAP_NO_ENTRY) && (code || memcmp(&token, &tokens[id], sizeof token) == 0));
+    MUST(smap_get_tokens(map, exact(OUT, few * sizeof token), few, &count) == SMAP_OK && count == counts->tokens);
+    smap_get_file(map, &one);
+    smap_get_source_root(map, &one);
+    smap_get_debug_id(map, &one);
+}
+
+static void look_up(const smap_map *map, const smap_counts *counts, uint32_t is_sorted) {
+    size_t len = below(20), count;
+    uint32_t bias = (uint32_t)below(3);
+    smap_fault fault;
+    smap_original one;
+    smap_position *positions = exact(INPUT, len * sizeof *positions);
+    for (size_t i = 0; i < len; i++) positions[i] = any_position(counts);
+    smap_original *all = exact(OUT, len * sizeof *all);
+    uint32_t code = smap_trace_all(map, positions, len, bias, all, len, &fault), *found = exact(OUT_TOO, len * sizeof *found);
+    told(code, &fault);
+    MUST(code == SMAP_OK || (code == SMAP_LINE_ORDER && !is_sorted));
+    MUST(smap_find_all(map, positions, len, bias, found, len, NULL) == code);
+    for (size_t i = 0; i < len && !code; i++) {
+        MUST(found[i] == all[i].index && (found[i] == SMAP_NO_ID) == (all[i].kind == SMAP_NOTHING));
+        MUST(smap_trace(map, positions[i].line, positions[i].column, bias, &one, NULL) == SMAP_OK && one.index == found[i]);
+    }
+    smap_position begin = any_position(counts), end = any_position(counts), first;
+    if (!is_sorted) return;
+    MUST(smap_pieces(map, begin, end, NULL, 0, &count) == SMAP_OK && count <= counts->tokens + counts->lines + 4);
+    smap_piece *pieces = exact(OUT, count * sizeof *pieces);
+    MUST(smap_pieces(map, begin, end, pieces, count, &count) == SMAP_OK && (count == 0 || pieces[count - 1].end.line == end.line));
+    MUST(smap_first_difference(map, map, &first) == SMAP_NO_ENTRY);
+}
+
+/* Original positions, of a map with an index. */
+static void look_back(const smap_map *map, const smap_counts *counts) {
+    size_t count;
+    uint32_t index, direction = (uint32_t)below(4), source = (uint32_t)below(counts->sources + 1), line = (uint32_t)below(30),
+        column = (uint32_t)below(90);
+    smap_token token;
+    smap_token *tokens = all_tokens(map, counts);
+    if (counts->tokens && below(2)) {
+        token = tokens[below(counts->tokens)];
+        source = token.source_id, line = token.src_line, column = token.src_col;
+    }
+    MUST(smap_all_generated(map, source, line, column, direction, NULL, 0, &count) == SMAP_OK && count <= counts->tokens);
+    uint32_t *out = exact(OUT, count * sizeof *out);
+    MUST(smap_all_generated(map, source, line, column, direction, out, count, &count) == SMAP_OK);
+    uint32_t code = smap_generated(map, source, line, column, direction, &index, &token);
+    MUST(code == (count ? SMAP_OK : SMAP_NO_ENTRY) && (code || (index == out[0] &&
+         memcmp(&token, &tokens[index], sizeof token) == 0)));
+    for (size_t i = 0; i < count; i++) MUST(tokens[out[i]].source_id == source && tokens[out[i]].src_line == line);
+}
+
+/* Whether two maps have the same JSON text, or neither has one. */
+static int is_same(const smap_map *map, const smap_map *other) {
+    smap_string *a = NULL, *b = NULL;
+    smap_text one = { NULL, 0 }, two = { NULL, 0 };
+    uint32_t code = smap_to_json_string(map, &a, NULL);
+    MUST(smap_to_json_string(other, &b, NULL) == code);
+    if (!code) MUST(smap_get_text(a, &one) == SMAP_OK && smap_get_text(b, &two) == SMAP_OK);
+    int is_so = one.len == two.len && (code || memcmp(one.at, two.at, one.len) == 0);
+    smap_free_string(a);
+    smap_free_string(b);
+    return is_so;
+}
+
+/* Writes a map, and reads what was written. */
+static void write_back(const smap_map *map, uint32_t is_sound) {
+    smap_string *string = NULL;
+    smap_text text;
+    smap_fault fault;
+    smap_map *read;
+    uint32_t code = smap_to_json_string(map, &string, &fault);
+    told(code, &fault);
+    MUST(!is_sound || code == SMAP_OK);
+    if (code || !is_sound) {
+        smap_free_string(string);
+        return;
+    }
+    MUST(smap_get_text(string, &text) == SMAP_OK);
+    MUST(smap_from_json_string(copied(text.at, text.len), text.len, &read, NULL) == SMAP_OK && is_same(map, read));
+    smap_free_map(read);
+    MUST(smap_read_found(copied(text.at, text.len), text.len, &read, NULL, NULL) == SMAP_OK && is_same(map, read));
+    smap_free_map(read);
+    smap_free_string(string);
+    MUST(smap_to_data_url(map, &string, NULL) == SMAP_OK && smap_get_text(string, &text) == SMAP_OK);
+    MUST(smap_read_found(copied(text.at, text.len), text.len, &read, NULL, NULL) == SMAP_OK && is_same(map, read));
+    smap_free_map(read);
+    smap_free_string(string);
+}
+
+/* Writes the mappings alone, and a map beside a code. */
+static void write_parts(const smap_map *map, const smap_counts *counts, const buffer *code) {
+    smap_string *string = NULL, *again = NULL;
+    smap_text text, other;
+    smap_fault fault;
+    smap_map *read;
+    smap_token *tokens = all_tokens(map, counts);
+    uint32_t answer = smap_get_mappings(map, &string, &fault);
+    told(answer, &fault);
+    MUST(smap_encode_mappings(tokens, counts->tokens, &again, NULL) == answer);
+    if (!answer) {
+        MUST(smap_get_text(string, &text) == SMAP_OK && smap_get_text(again, &other) == SMAP_OK && text.len == other.len);
+        MUST(memcmp(text.at, other.at, text.len) == 0);
+        answer = smap_decode_mappings(copied(text.at, text.len), text.len, counts->names, counts->sources, &read, &fault);
+        told(answer, &fault);
+        if (!answer) smap_free_map(read);
+    }
+    smap_free_string(string);
+    smap_free_string(again);
+    string = NULL;
+    size_t len = below(code->len + 1);
+    told(smap_visualize(map, copied(code->at, len), len, &string, &fault), &fault);
+    smap_free_string(string);
+    string = NULL;
+    told(smap_visualizer_url(map, copied(code->at, len), len, &string, &fault), &fault);
+    smap_free_string(string);
+    answer = smap_source_mapping_url(copied(code->at, len), len, (uint32_t)below(3), &text, &fault);
+    told(answer, &fault);
+    string = NULL;
+    told(smap_decode_data_url(copied(code->at, len), len, &string, &fault), &fault);
+    smap_free_string(string);
+}
+
+/* Changes a map, by every call that does. */
+static void change(smap_map *map, const smap_counts *counts, const buffer *text) {
+    smap_fault fault;
+    smap_text list[30];
+    size_t len = below(30), text_len = below(text->len < 50 ? text->len : 50), count;
+    uint32_t ids[4] = { (uint32_t)below(4), (uint32_t)below(4), UINT32_MAX, 0 }, is_so;
+    const char *at = copied(text->at, text_len);
+    for (size_t i = 0; i < len; i++) list[i].at = below(4) ? at : NULL, list[i].len = list[i].at ? below(text_len + 1) : 0;
+    told(smap_set_file(map, at, text_len, &fault), &fault);
+    told(smap_set_source_root(map, at, text_len, &fault), &fault);
+    told(smap_set_debug_id(map, at, text_len, &fault), &fault);
+    if (below(2)) told(smap_set_ignore_list(map, ids, below(5), &fault), &fault);
+    if (below(2)) told(smap_set_sources(map, list, len, &fault), &fault);
+    if (below(2)) told(smap_set_source_contents(map, list, len, &fault), &fault);
+    told(smap_apply_source_root(map, &fault), &fault);
+    MUST(smap_sort(map, NULL) == SMAP_OK && smap_is_sorted(map, &is_so) == SMAP_OK && is_so);
+    MUST(smap_get_tokens(map, NULL, 0, &count) == SMAP_OK && count == counts->tokens);
+    told(smap_simplify(map, &fault), &fault);
+    MUST(smap_index_sources(map, NULL) == SMAP_OK);
+}
+
+/* Makes maps of two. */
+static void combine(const smap_map *map, const smap_map *other, const smap_counts *counts) {
+    smap_fault fault;
+    smap_map *out = NULL;
+    const smap_map *maps[20];
+    smap_position positions[20];
+    smap_text paths[20];
+    size_t len = below(20);
+    for (size_t i = 0; i < len; i++) {
+        maps[i] = below(2) ? map : other;
+        positions[i] = any_position(counts);
+        if (!below(4) || smap_get_source(map, (uint32_t)below(3), &paths[i])) paths[i].at = NULL, paths[i].len = 0;
+    }
+#define MADE(call) out = NULL, told(call, &fault), smap_free_map(out)
+    MADE(smap_compose(map, other, &out, &fault));
+    MADE(smap_compose(other, map, &out, &fault));
+    MADE(smap_remap(map, paths, len, maps, len, &out, &fault));
+    MADE(smap_join_all(maps, len, positions, len, &out, &fault));
+    smap_join *join;
+    MUST(smap_join_new(&join, NULL) == SMAP_OK);
+    for (size_t i = 0; i < len; i++) told(smap_join_add(join, maps[i], positions[i].line, positions[i].column, &fault), &fault);
+    MADE(smap_join_finish(join, &out, &fault));
+    smap_free_join(join);
+    MUST(smap_clone(map, &out, NULL) == SMAP_OK && is_same(map, out));
+    smap_free_map(out);
+    smap_position first;
+    MUST(smap_first_difference(map, other, &first) != SMAP_NULL_HANDLE);
+}
+
+/* Builds a map of the tokens of another, some of them changed. */
+static void build(const smap_map *map, const smap_counts *counts, const buffer *text) {
+    smap_fault fault;
+    smap_map *out = NULL;
+    smap_builder *builder;
+    uint32_t id;
+    size_t len = below(text->len < 20 ? text->len : 20), count;
+    const char *at = copied(text->at, len);
+    smap_token *tokens = all_tokens(map, counts);
+    for (size_t i = below(4); i < counts->tokens &&
+        i < 4; i++) ((uint32_t *)&tokens[below(counts->tokens)])[below(6)] = (uint32_t)below(9) - 1;
+    smap_text *names = exact(OUT, counts->names * sizeof *names);
+    MUST(smap_get_names(map, names, counts->names, &count) == SMAP_OK);
+    MADE(smap_from_tokens(tokens, counts->tokens, names, count, names, count, names, count, NULL, 0, &out, &fault));
+    MUST(smap_builder_new(&builder, NULL) == SMAP_OK);
+    told(smap_builder_add_name(builder, at, len, &id, &fault), &fault);
+    told(smap_builder_add_source(builder, at, len, NULL, &fault), &fault);
+    told(smap_builder_add_source_and_content(builder, at, len / 2, at, len, &id, &fault), &fault);
+    told(smap_builder_set_file(builder, at, len, &fault), &fault);
+    MUST(smap_builder_add_tokens(builder, tokens, counts->tokens, NULL) == SMAP_OK);
+    MUST(smap_builder_finish(builder, &out, NULL) == SMAP_OK);
+    smap_free_builder(builder);
+    uint32_t is_sorted;
+    MUST(smap_is_sorted(out, &is_sorted) == SMAP_OK);
+    look_up(out, counts, is_sorted);
+    smap_free_map(out);
+}
+
+/* Evaluates words at random over a text. */
+static void evaluate(const buffer *text) {
+    static const char *const WORD[] = { "@0", "@1", "sort", "rewrite", "root", "simplify", "join", "joinat", "compose", "remap",
+        "1", "2", "0", "x" };
+    smap_text words[12], texts[2];
+    size_t len = below(12);
+    smap_fault fault;
+    smap_map *out = NULL;
+    for (size_t i = 0; i < len; i++) words[i].at = WORD[below(14)], words[i].len = strlen(words[i].at);
+    texts[0].at = copied(text->at, text->len), texts[0].len = text->len;
+    texts[1] = texts[0];
+    MADE(smap_evaluate(words, len, texts, 2, &out, &fault));
+}
+
+/* Every call on a map that was read. */
+static void use(smap_map *map, const smap_map *other, const buffer *text, const buffer *code) {
+    smap_counts counts;
+    uint32_t is_sorted = 0, is_sound = 0;
+    MUST(smap_get_counts(map, &counts) == SMAP_OK && smap_is_sorted(map, &is_sorted) == SMAP_OK &&
+         smap_is_sound(map, &is_sound) == SMAP_OK);
+    MUST(is_sorted || !is_sound);
+    read_lists(map, &counts);
+    look_up(map, &counts, is_sorted);
+    write_back(map, is_sound);
+    write_parts(map, &counts, code);
+    if (other) combine(map, other, &counts);
+    build(map, &counts, text);
+    MUST(smap_index_sources(map, NULL) == SMAP_OK);
+    look_back(map, &counts);
+}
+
+/* One round: a text, read in both ways. The map that is read is kept, in the place of the one before. */
+static void try_text(const buffer *text, smap_map **kept) {
+    const buffer *code = &files[below(files_len)];
+    smap_map *map = NULL, *found = NULL;
+    smap_mends *mends = NULL;
+    smap_fault fault, of_found;
+    uint32_t answer = smap_from_json_string(copied(text->at, text->len), text->len, &map, &fault), is_sorted = 0;
+    told(answer, &fault);
+    uint32_t answer_found = smap_read_found(copied(text->at, text->len), text->len, &found, &mends, &of_found);
+    told(answer_found, &of_found);
+    if (answer) refused_maps++;
+    else read_maps++;
+    if (!answer_found) {
+        size_t count;
+        MUST(smap_get_mends(mends, NULL, 0, &count) == SMAP_OK);
+        smap_mend *out = exact(OUT, count * sizeof *out);
+        MUST(smap_get_mends(mends, out, count, &count) == SMAP_OK);
+        for (size_t i = 0; i < count; i++) {
+            size_t len = smap_mend_message(&out[i], NULL, 0);
+            MUST(len && smap_mend_message(&out[i], exact(WORDS, len), len) == len);
+        }
+        if (!answer) MUST(smap_is_sorted(map, &is_sorted) == SMAP_OK && (!is_sorted || (count == 0 && is_same(map, found))));
+        use(found, *kept, text, code);
+    }
+    if (map) use(map, *kept, text, code);
+    smap_counts counts;
+    if (map && smap_get_counts(map, &counts) == SMAP_OK) change(map, &counts, text);
+    if (!below(4)) evaluate(text);
+    smap_free_mends(mends);
+    smap_free_map(map);
+    if (found) smap_free_map(*kept), *kept = found;
+}
+
+static buffer read_file(const char *path) {
+    buffer it = { NULL, 0 };
+    FILE *file = fopen(path, "rb");
+    MUST(file != NULL && fseek(file, 0, SEEK_END) == 0);
+    it.len = (size_t)ftell(file);
+    it.at = malloc(it.len + 1);
+    rewind(file);
+    MUST(it.at != NULL && fread(it.at, 1, it.len, file) == it.len);
+    fclose(file);
+    return it;
+}
+
+int main(int argc, char **argv) {
+    buffer text = { malloc(MOST + 256), 0 };
+    smap_map *kept = NULL;
+    if (argc < 4) return 2;
+    files_len = (size_t)argc - 3;
+    files = calloc(files_len, sizeof *files);
+    for (size_t i = 0; i < files_len; i++) files[i] = read_file(argv[i + 3]);
+    unsigned long rounds = strtoul(argv[1], NULL, 10);
+    uint64_t first = strtoull(argv[2], NULL, 10);
+    for (seed = first; seed < first + rounds; seed++) {
+        state = seed;
+        const buffer *from = &files[below(files_len)];
+        memcpy(text.at, from->at, text.len = from->len < MOST ? from->len : MOST);
+        for (size_t n = below(below(4) ? 3 : 40); n; n--) mutate(&text);
+        try_text(&text, &kept);
+    }
+    printf("%lu texts read, %lu refused\n", read_maps, refused_maps);
+    smap_free_map(kept);
+    for (size_t i = 0; i < files_len; i++) free(files[i].at);
+    free(files);
+    free(text.at);
+    return 0;
+}

@@ -3,15 +3,18 @@ and what it says clamped: `nothing`, `unmapped`, or `SOURCE:LINE:COLUMN`, then a
 status 1 and a message if a call is refused or the map is not sorted."""
 
 import sys
+from pathlib import Path
 
-from oxc_sourcemap import UNMAPPED, SourceMap, SourceMapError
+sys.path.append(str(Path(__file__).resolve().parent / "src"))
+
+from oxc_sourcemap import Bias, SourceMap, SourceMapError
 
 
-def text_of(traced):
-    if traced is None or traced is UNMAPPED:
-        return "unmapped" if traced is UNMAPPED else "nothing"
-    text = f"{traced.source}:{traced.line}:{traced.column}"
-    return text if traced.name is None else f"{text} {traced.name}"
+def text_of(found):
+    if found is None or found.source is None:
+        return "nothing" if found is None else "unmapped"
+    text = f"{found.source}:{found.line}:{found.column}"
+    return text if found.name is None else f"{text} {found.name}"
 
 
 sys.stdout.reconfigure(encoding="utf-8", newline="\n")
@@ -23,6 +26,6 @@ try:
             sys.exit("Tokens are not in order of line and column")
         for line, column in (it.split() for it in sys.stdin):
             print(text_of(map.trace(int(line), int(column))))
-            print(text_of(map.trace(int(line), int(column), clamped=True)))
+            print(text_of(map.trace(int(line), int(column), Bias.CLAMPED)))
 except SourceMapError as error:
     sys.exit(str(error))

@@ -1,0 +1,127 @@
+"""Builds the wheel of oxc_sourcemap, with Python alone: `pip wheel bindings/python`, or `python3 backend.py FOLDER`.
+
+The wheel carries the shared library that `./build-c` leaves in target/, or that OXC_SOURCEMAP_LIB names, and _fast.c compiled by one
+call of a C compiler, $CC or cc. Without a compiler, or with OXC_SOURCEMAP_CC set to nothing, it has no _fast and looks up by ctypes alone.
+"""
+
+from __future__ import annotations
+
+import base64
+import hashlib
+import io
+import os
+import re
+import shlex
+import shutil
+import subprocess
+import sys
+import sysconfig
+import tarfile
+import tempfile
+import zipfile
+from pathlib import Path
+
+HERE = Path(__file__).resolve().parent
+SOURCE = HERE / "src" / "oxc_sourcemap"
+LIBRARY = "liboxc_sourcemap.so"
+
+
+def version() -> str:
+    found = re.search(r'__version__ = "(.*)"', SOURCE.joinpath("__init__.py").read_text(encoding="utf-8"))
+    assert found
+    return found[1]
+
+
+def metadata() -> str:
+    project = HERE.joinpath("pyproject.toml").read_text(encoding="utf-8")
+    stated: dict[str, str] = dict(re.findall(r'^([a-z-]+) = "(.*)"$', project, flags=re.M))
+    return (
+        f"Metadata-Version: 2.1\nName: {stated['name']}\nVersion: {version()}\nSummary: {stated['description']}\n"
+        f"License: {stated['license']}\nRequires-Python: {stated['requires-python']}\n"
+    )
+
+
+def library() -> Path:
+    path = Path(os.environ.get("OXC_SOURCEMAP_LIB") or HERE.parents[1] / "target" / LIBRARY)
+    if not path.is_file():
+        raise FileNotFoundError(f"there is no {path}: run ./build-c, or let OXC_SOURCEMAP_LIB name the library")
+    return path
+
+
+def header() -> Path:
+    """The folder of oxc_sourcemap.h, in the repository or in a source distribution."""
+    return next(it for it in (HERE.parent / "c", HERE / "include") if it.joinpath("oxc_sourcemap.h").is_file())
+
+
+def license_text() -> bytes:
+    return next(it for it in (HERE / "LICENSE", HERE.parents[1] / "LICENSE") if it.is_file()).read_bytes()
+
+
+def compiled() -> bytes | None:
+    """_fast.c, compiled, or None without a compiler."""
+    compiler = shlex.split(os.environ.get("OXC_SOURCEMAP_CC", os.environ.get("CC", "cc")))
+    if not compiler or not shutil.which(compiler[0]):
+        print("there is no C compiler: lookups one by one will be slower", file=sys.stderr)
+        return None
+    with tempfile.TemporaryDirectory() as room:
+        out = Path(room, "_fast.so")
+        flags = ["-O2", "-fPIC", "-shared", f"-I{sysconfig.get_paths()['include']}", f"-I{header()}"]
+        if subprocess.run([*compiler, *flags, str(SOURCE / "_fast.c"), "-o", str(out)]).returncode:
+            print("_fast.c was not compiled: lookups one by one will be slower", file=sys.stderr)
+            return None
+        return out.read_bytes()
+
+
+def members() -> dict[str, bytes]:
+    """The files of the wheel, without its record."""
+    files = {it.name: it.read_bytes() for it in sorted(SOURCE.iterdir()) if it.suffix in (".py", ".pyi", ".typed")}
+    files |= {"py.typed": b"", LIBRARY: library().read_bytes()}
+    fast = compiled()
+    if fast is not None:
+        files["_fast.abi3.so"] = fast
+    platform = sysconfig.get_platform().replace("-", "_").replace(".", "_")
+    tag = f"py3-none-{platform}" if fast is None else f"cp310-abi3-{platform}"
+    about = f"Wheel-Version: 1.0\nGenerator: oxc_sourcemap\nRoot-Is-Purelib: false\nTag: {tag}\n"
+    info = f"oxc_sourcemap-{version()}.dist-info"
+    packed = {f"oxc_sourcemap/{name}": content for name, content in files.items()}
+    return packed | {f"{info}/METADATA": metadata().encode(), f"{info}/WHEEL": about.encode(), f"{info}/LICENSE": license_text()}
+
+
+def record(files: dict[str, bytes], name: str) -> bytes:
+    """The list of files with their sums, which is a file too."""
+
+    def line(path: str, content: bytes) -> str:
+        digest = base64.urlsafe_b64encode(hashlib.sha256(content).digest()).rstrip(b"=").decode()
+        return f"{path},sha256={digest},{len(content)}\n"
+
+    return ("".join(line(*it) for it in files.items()) + f"{name},,\n").encode()
+
+
+def build_wheel(wheel_directory: str, config_settings: object = None, metadata_directory: object = None) -> str:
+    files = members()
+    about = next(name for name in files if name.endswith("/WHEEL"))
+    files[about.replace("WHEEL", "RECORD")] = record(files, about.replace("WHEEL", "RECORD"))
+    tag = files[about].decode().rpartition("Tag: ")[2].strip()
+    name = f"oxc_sourcemap-{version()}-{tag}.whl"
+    with zipfile.ZipFile(Path(wheel_directory, name), "w", zipfile.ZIP_DEFLATED) as wheel:
+        for path, content in files.items():
+            wheel.writestr(zipfile.ZipInfo(path, (2020, 1, 1, 0, 0, 0)), content, zipfile.ZIP_DEFLATED)
+    return name
+
+
+def build_sdist(sdist_directory: str, config_settings: object = None) -> str:
+    """The source; a wheel is made from it with OXC_SOURCEMAP_LIB."""
+    top = f"oxc_sourcemap-{version()}"
+    files = {"PKG-INFO": metadata().encode(), "include/oxc_sourcemap.h": header().joinpath("oxc_sourcemap.h").read_bytes()}
+    files |= {name: HERE.joinpath(name).read_bytes() for name in ("pyproject.toml", "backend.py")} | {"LICENSE": license_text()}
+    files |= {f"src/oxc_sourcemap/{it.name}": it.read_bytes() for it in sorted(SOURCE.iterdir()) if it.is_file()}
+    with tarfile.open(Path(sdist_directory, f"{top}.tar.gz"), "w:gz") as sdist:
+        for path, content in files.items():
+            about = tarfile.TarInfo(f"{top}/{path}")
+            about.size = len(content)
+            sdist.addfile(about, io.BytesIO(content))
+    return f"{top}.tar.gz"
+
+
+if __name__ == "__main__":
+    print(build_wheel(sys.argv[1]))

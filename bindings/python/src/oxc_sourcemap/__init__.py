@@ -1,0 +1,63 @@
+"""Source maps of version 3 (ECMA-426), by the proved library oxc_sourcemap.
+
+>>> from oxc_sourcemap import SourceMap
+>>> with SourceMap.from_json('{"version":3,"sources":["a.ts"],"names":["f"],"mappings":"AAEA,IAAIA"}') as map:
+...     found = map.trace(0, 5)
+...     print(found.source, found.line, found.column, found.name)
+a.ts 2 4 f
+"""
+
+from ._errors import SourceMapError
+from ._library import NO_ID
+from ._making import SourceMapBuilder, SourceMapJoin
+from ._map import SourceMap
+from ._texts import decode_data_url, encode_mappings, source_mapping_url
+from ._values import (
+    Bias,
+    Code,
+    Counts,
+    Direction,
+    FaultPlace,
+    Field,
+    Found,
+    Generated,
+    Kind,
+    Language,
+    Mend,
+    MendKind,
+    Original,
+    Piece,
+    PlaceKind,
+    Position,
+    Token,
+)
+
+__all__ = [
+    "NO_ID",
+    "Bias",
+    "Code",
+    "Counts",
+    "Direction",
+    "FaultPlace",
+    "Field",
+    "Found",
+    "Generated",
+    "Kind",
+    "Language",
+    "Mend",
+    "MendKind",
+    "Original",
+    "Piece",
+    "PlaceKind",
+    "Position",
+    "SourceMap",
+    "SourceMapBuilder",
+    "SourceMapError",
+    "SourceMapJoin",
+    "Token",
+    "decode_data_url",
+    "encode_mappings",
+    "source_mapping_url",
+]
+
+__version__ = "1.0.0"

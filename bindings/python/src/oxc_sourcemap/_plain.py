@@ -1,0 +1,44 @@
+"""The answers of lookups by ctypes alone, for where _fast.c was not compiled. Both modules have the same calls."""
+
+from __future__ import annotations
+
+import ctypes
+from typing import Optional, Union
+
+from . import _library
+from ._library import lib
+from ._numbers import number, text_at
+from ._values import Kind, Original, Token, token_of
+
+
+def bind(call: int, original: type[Original], token: type[Token]) -> None:
+    """Takes the address of `smap_trace` and the types of answers, which this module knows."""
+
+
+def original_of(found: _library.Original) -> Optional[Original]:
+    """What a lookup found; the map that lends its texts is not changed meanwhile."""
+    kind, token = found.kind, found.token
+    if kind == Kind.NOTHING:
+        return None
+    if kind == Kind.UNMAPPED:
+        return Original(None, None, None, None, found.index, token_of(token))
+    name = text_at(found.name.at, found.name.len) if kind == Kind.NAMED else None
+    source = text_at(found.source.at, found.source.len)
+    return Original(source, token.src_line, token.src_col, name, found.index, token_of(token))
+
+
+def trace(lease: Optional[ctypes.c_void_p], line: int, column: int, bias: int) -> Union[Original, int, None]:
+    """What a lookup finds in the map of a lease, or the code of an error."""
+    try:
+        found = _library.Original()
+        numbers = number(line), number(column), number(bias)
+        code: int = lib.smap_trace(lease, *numbers, ctypes.byref(found), None)
+        return code or original_of(found)
+    finally:
+        # A traceback may outlive the call, and who changes the map waits for its leases.
+        del lease
+
+
+def originals(address: int, count: int) -> list[Optional[Original]]:
+    """What so many lookups found, by the address of the first answer."""
+    return [original_of(it) for it in (_library.Original * count).from_address(address)] if count else []

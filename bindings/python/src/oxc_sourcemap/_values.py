@@ -1,0 +1,305 @@
+"""What goes into calls and comes out of them: constants, and tuples with named fields."""
+
+from __future__ import annotations
+
+import ctypes
+from collections.abc import Callable
+from enum import IntEnum
+from typing import TYPE_CHECKING, NamedTuple, Optional, TypeVar, Union
+
+from . import _library
+from ._library import NO_ID, NOT_TOLD, lib
+
+if TYPE_CHECKING:
+    from typing_extensions import Buffer
+
+    from ._map import SourceMap
+
+Text = Union[str, "Buffer"]
+"""A text to read: a str, or bytes that are UTF-8."""
+
+
+class Code(IntEnum):
+    """What is wrong, as `SourceMapError.code`. The names are those of oxc_sourcemap.h, without `SMAP_`.
+
+    OUT_OF_MEMORY is raised as MemoryError, and NULL_HANDLE as ValueError; no call raises NO_ENTRY, which is None.
+
+    >>> Code.LINE_ORDER.value
+    12
+    """
+
+    OK = 0
+    VLQ_LEFTOVER = 1
+    VLQ_NO_VALUES = 2
+    VLQ_OVERFLOW = 3
+    JSON_READING = 4
+    JSON_SHAPE = 5
+    JSON_VERSION = 6
+    BAD_SEGMENT_SIZE = 7
+    BAD_SOURCE_REFERENCE = 8
+    BAD_NAME_REFERENCE = 9
+    OUT_OF_MEMORY = 10
+    TOO_LARGE = 11
+    LINE_ORDER = 12
+    BAD_CHUNKS = 13
+    SEVERAL_SOURCES = 14
+    UNSORTED = 15
+    TOO_DEEP = 16
+    WORDS = 17
+    NO_TEXT = 18
+    SECTION_ORDER = 19
+    INPUT_LINE_ORDER = 20
+    BAD_BASE64 = 21
+    BAD_DATA_UTF8 = 22
+    NULL_HANDLE = 100
+    NOT_UTF8 = 101
+    LENGTHS = 102
+    NO_ENTRY = 103
+    NO_INDEX = 104
+    BAD_OPTION = 105
+
+
+class Field(IntEnum):
+    """A member of the JSON value of a map, or the value itself (OBJECT)."""
+
+    OBJECT = 0
+    VERSION = 1
+    FILE = 2
+    MAPPINGS = 3
+    SOURCE_ROOT = 4
+    SOURCES = 5
+    SOURCES_CONTENT = 6
+    NAMES = 7
+    DEBUG_ID = 8
+    IGNORE_LIST = 9
+    GOOGLE_IGNORE_LIST = 10
+    SECTIONS = 11
+    OFFSET = 12
+    MAP = 13
+
+
+class PlaceKind(IntEnum):
+    """What a `FaultPlace` is: a segment of the mappings, where a text is not JSON, a member of a map, or an entry of one."""
+
+    NONE = 0
+    SEGMENT = 1
+    READING = 2
+    MEMBER = 3
+    ENTRY = 4
+
+
+class Bias(IntEnum):
+    """Which token answers for a generated position.
+
+    BEFORE: the last one on its line at or before its column; of several at the column itself the first.
+    CLAMPED: the same, or else the first one on its line.
+    AFTER: the first one on its line at or after its column; of several at the column itself the last.
+    """
+
+    BEFORE = 0
+    CLAMPED = 1
+    AFTER = 2
+
+
+class Direction(IntEnum):
+    """Which tokens answer for an original position.
+
+    AT: those at this line and column of the source.
+    FOR: those at the last column of the line, at or before this one, that has any.
+    FROM: those at the first column of the line, at or after this one, that has any.
+    ON_LINE: those on this line; the column is not read.
+    """
+
+    AT = 0
+    FOR = 1
+    FROM = 2
+    ON_LINE = 3
+
+
+class Language(IntEnum):
+    """The language of a code."""
+
+    JAVASCRIPT = 0
+    CSS = 1
+
+
+class Kind(IntEnum):
+    """What a lookup found: no token, a token without a source, an original position, or one with a name."""
+
+    NOTHING = 0
+    UNMAPPED = 1
+    MAPPED = 2
+    NAMED = 3
+
+
+class MendKind(IntEnum):
+    """What was mended in a map that was read by `SourceMap.read_found`."""
+
+    BYTE_ORDER_MARK = 1
+    JSON_PREFIX = 2
+    DATA_URL = 3
+    VERSION = 4
+    NO_SOURCES = 5
+    NULL_SOURCE = 6
+    NO_CONTENTS = 7
+    BAD_CONTENT = 8
+    NULL_NAMES = 9
+    NO_IGNORE_LIST = 10
+    BAD_IGNORED_ID = 11
+    NO_GOOGLE_IGNORE_LIST = 12
+    BAD_GOOGLE_IGNORED_ID = 13
+    SOURCE_IDS = 14
+    NAME_IDS = 15
+    UNSORTED = 16
+    CUT = 17
+
+
+class Token(NamedTuple):
+    """A generated position (`dst_line`, `dst_col`) and what it points to. Without a source it is unmapped."""
+
+    dst_line: int
+    dst_col: int
+    src_line: int
+    src_col: int
+    source_id: Optional[int]
+    name_id: Optional[int]
+
+
+class Position(NamedTuple):
+    """A position of a code."""
+
+    line: int
+    column: int
+
+
+class Original(NamedTuple):
+    """What a lookup found: an original position, and the token that points there with its index in the map.
+
+    `source`, `line`, `column` and `name` are None if the token has no source, and `name` is None if it has no name.
+    """
+
+    source: Optional[str]
+    line: Optional[int]
+    column: Optional[int]
+    name: Optional[str]
+    token_index: int
+    token: Token
+
+    @property
+    def kind(self) -> Kind:
+        """UNMAPPED, MAPPED or NAMED.
+
+        >>> Original("a.ts", 2, 0, None, 7, Token(0, 4, 2, 0, 0, None)).kind.name
+        'MAPPED'
+        """
+        if self.source is None:
+            return Kind.UNMAPPED
+        return Kind.MAPPED if self.name is None else Kind.NAMED
+
+
+class Generated(NamedTuple):
+    """A token that was generated from an original position, and its index in the map."""
+
+    token_index: int
+    token: Token
+
+
+class Piece(NamedTuple):
+    """A piece of generated code, from `begin` up to but not including `end`, and the index of the token that is found at each of
+    its positions; None if none is."""
+
+    begin: Position
+    end: Position
+    token_index: Optional[int]
+
+
+class Counts(NamedTuple):
+    """The number of entries of each list of a map, of its lines, and of the bytes of memory that it holds."""
+
+    tokens: int
+    names: int
+    sources: int
+    source_contents: int
+    ignore_list: int
+    lines: int
+    bytes: int
+
+
+class Mend(NamedTuple):
+    """What was mended: its kind, the number of the section in an indexed map, and the index of an entry or how many tokens.
+
+    >>> Mend(MendKind.NULL_SOURCE, None, 7).message
+    'source 7 is null, and is read as an empty text'
+    """
+
+    kind: Union[MendKind, int]
+    section: Optional[int]
+    number: int
+
+    @property
+    def message(self) -> str:
+        """The mend as words."""
+        section = NOT_TOLD if self.section is None else self.section
+        return message_of(lib.smap_mend_message, _library.Mend(self.kind, section, self.number))
+
+
+class Found(NamedTuple):
+    """A map as it was found, and what was mended in it."""
+
+    map: SourceMap
+    mends: list[Mend]
+
+
+class FaultPlace(NamedTuple):
+    """Where in what was read a fault is. What does not belong to its kind is None.
+
+    A segment of the mappings has its generated line, its number on the line (`column`), and the byte of the mappings where it
+    begins. A text that is not JSON has a line, the bytes of the line before (`column`), and the byte of the text. A member of a
+    map has its field, and an entry its field and its index. `text` is the number of the text, of several, and `section` that of
+    the section in an indexed map.
+    """
+
+    kind: Union[PlaceKind, int]
+    field: Union[Field, int, None]
+    text: Optional[int]
+    section: Optional[int]
+    line: Optional[int]
+    column: Optional[int]
+    byte: Optional[int]
+    entry: Optional[int]
+    message: str
+    """The place in one line."""
+
+
+Constants = TypeVar("Constants", bound=IntEnum)
+
+
+def named(constants: type[Constants], number: int) -> Union[Constants, int]:
+    """The constant of a number, or the number of a newer library."""
+    try:
+        return constants(number)
+    except ValueError:
+        return number
+
+
+def message_of(call: Callable[..., int], value: ctypes.Structure) -> str:
+    """What a call writes of a struct into a buffer that it is given."""
+    room = 256
+    while True:
+        buffer = ctypes.create_string_buffer(room)
+        length = call(value, buffer, room)
+        if length <= room:
+            return buffer.raw[:length].decode(errors="replace")
+        room = length
+
+
+def id_of(number: int) -> Optional[int]:
+    """An id or an index as the library has it, or None."""
+    return None if number == NO_ID else number
+
+
+def token_of(token: _library.Token) -> Token:
+    """A token as the library has it."""
+    return Token(
+        token.dst_line, token.dst_col, token.src_line, token.src_col, id_of(token.source_id), id_of(token.name_id)
+    )

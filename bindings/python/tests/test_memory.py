@@ -1,0 +1,139 @@
+"""Memory that the library holds: none stays of what is dropped, closed, refused, or caught in a cycle."""
+
+import ctypes
+import gc
+import sys
+import unittest
+import weakref
+
+from support import BACK, FLAT, TEXT, Case, read, simple
+
+from oxc_sourcemap import (
+    SourceMap,
+    SourceMapBuilder,
+    SourceMapError,
+    SourceMapJoin,
+    decode_data_url,
+    encode_mappings,
+    source_mapping_url,
+)
+
+LIBC = ctypes.CDLL(None)
+
+
+class Info(ctypes.Structure):
+    _fields_ = [(name, ctypes.c_size_t) for name in "arena ordblks smblks hblks hblkhd usmblks fsmblks uordblks fordblks keepcost".split()]
+
+
+def held() -> int:
+    """The bytes that the process has from malloc."""
+    gc.collect()
+    info = LIBC.mallinfo2()
+    return info.uordblks + info.hblkhd
+
+
+class Node:
+    """Something that refers to itself."""
+
+    def __init__(self, **values):
+        self.me = self
+        self.__dict__.update(values)
+
+
+@unittest.skipUnless(hasattr(LIBC, "mallinfo2"), "the C library counts no memory")
+class Memory(Case):
+    @classmethod
+    def setUpClass(cls):
+        LIBC.mallinfo2.restype, LIBC.mallinfo2.argtypes = Info, []
+
+    def keeps_nothing(self, call, times=1000):
+        """Asserts that a call, done many times, leaves nothing: 16 bytes of malloc, or an object of Python, that were left each time
+        would be more than is allowed."""
+        for _ in range(50):
+            call()
+        before, blocks = held(), sys.getallocatedblocks()
+        for _ in range(times):
+            call()
+        self.assertLess(held() - before, 16 * times // 2)
+        self.assertLess(sys.getallocatedblocks() - blocks, times // 2)
+
+    def test_maps_read_and_dropped(self):
+        self.keeps_nothing(lambda: read(), 10_000)
+
+    def test_maps_read_and_closed(self):
+        def call():
+            with read() as map:
+                map.close()
+
+        self.keeps_nothing(call, 10_000)
+
+    def test_maps_in_cycles(self):
+        node = Node(map=read())
+        dead = weakref.ref(node.map)
+        del node
+        gc.collect()
+        self.assertIsNone(dead())
+        self.keeps_nothing(lambda: Node(map=read(), builder=SourceMapBuilder(), join=SourceMapJoin()))
+
+    def test_refused_maps(self):
+        for text in ("{", simple("AAAA,AA"), b"\xff"):
+            for call in (SourceMap.from_json, SourceMap.read_found):
+                self.keeps_nothing(lambda: self.assertRaises(SourceMapError, call, text))
+        self.keeps_nothing(lambda: self.assertRaises(SourceMapError, SourceMap.from_tokens, FLAT))
+
+    def test_maps_made(self):
+        with read() as map, read(simple("AAAA")) as one, SourceMap.from_tokens(BACK) as back:
+            for call in (
+                map.clone, lambda: SourceMap.read_found(b"\xef\xbb\xbf" + TEXT.encode()), lambda: SourceMap.from_tokens([], names=["a"]),
+                lambda: SourceMap.decode_mappings("A", 0, 0), lambda: SourceMap.join([(map, 0, 0)]), lambda: SourceMap.evaluate("@0", [TEXT]),
+                lambda: one.compose(map), lambda: one.remap({"a.js": map}),
+                lambda: self.assertRaises(SourceMapError, map.compose, one), lambda: self.assertRaises(SourceMapError, one.compose, back),
+            ):  # fmt: skip
+                self.keeps_nothing(call)
+
+    def test_texts(self):
+        with read() as map, SourceMap.from_tokens(BACK) as back:
+            for call in (
+                map.to_json, map.to_data_url, map.get_mappings, lambda: map.visualize("a"), lambda: map.visualizer_url("a"),
+                lambda: encode_mappings(FLAT), lambda: decode_data_url("data:application/json,{}"),
+                lambda: source_mapping_url("//# sourceMappingURL=a"), lambda: self.assertRaises(SourceMapError, back.to_json),
+                lambda: map.sources, lambda: map.trace(0, 4), lambda: map.trace_all([(0, 4)]), lambda: map.token_array(),
+            ):  # fmt: skip
+                self.keeps_nothing(call)
+
+    def test_changes(self):
+        with read() as map:
+            for call in (
+                lambda: map.set_file("a" * 100), lambda: map.set_source_root("a" * 100), lambda: map.set_debug_id("a" * 100),
+                lambda: map.set_sources(["a" * 100]), lambda: map.set_source_contents(["a" * 100]), lambda: map.set_ignore_list([0] * 100),
+                map.sort, map.index_sources, map.apply_source_root,
+            ):  # fmt: skip
+                self.keeps_nothing(call)
+
+    def test_builders(self):
+        def built(closes):
+            builder = SourceMapBuilder()
+            builder.add_name("a")
+            builder.add_source_and_content("a", "b")
+            builder.add_tokens(FLAT)
+            builder.finish()
+            builder.add_name("c" * 100)
+            if closes:
+                builder.close()
+
+        def joined(closes):
+            join = SourceMapJoin()
+            join.add(map, 0)
+            join.finish()
+            join.add(map, 0)
+            if closes:
+                join.close()
+
+        with read() as map:
+            for call in (built, joined):
+                for closes in (False, True):
+                    self.keeps_nothing(lambda: call(closes))
+
+
+if __name__ == "__main__":
+    unittest.main()

@@ -9,10 +9,11 @@ ghost use Rattle.oxc_sourcemap_c.specs.Words.{IsSourceError, IsFinished, nothing
 ghost use Rattle.oxc_sourcemap_c.specs.Words.{IsAddError, IsOneNull, IsNullJoin, IsJoinFinished};
 ghost use Rattle.oxc_sourcemap_c.specs.Words.{position, IsBack};
 
-use oxc_sourcemap_handles::{
-    Fault, Handle, Lent, Step, TokenNumbers, add_to_join, build, finish, finish_join, put,
-    put_builder, put_join, write_fault, write_told,
+use oxc_sourcemap_handles::{Fault, Handle, Lent, TokenNumbers, put};
+use oxc_sourcemap_handles_making::{
+    Step, add_to_join, build, finish, finish_join, put_builder, put_join,
 };
+use oxc_sourcemap_handles_reading::{write_fault, write_told};
 use oxc_sourcemap_tokens::Position;
 use std::alloc::Global;
 

@@ -6,7 +6,9 @@ ghost use Rattle.oxc_sourcemap_c.specs.Words.{AreContents, known_texts, IsNotCon
 ghost use Rattle.oxc_sourcemap_c.specs.Words.{IsSimplifyError, IsUnsorted, sorted_map};
 ghost use Rattle.oxc_sourcemap_c.specs.Words.{simplification};
 
-use oxc_sourcemap_handles::{Change, Fault, Handle, change_map, write_fault};
+use oxc_sourcemap_handles::{Fault, Handle};
+use oxc_sourcemap_handles_making::{Change, change_map};
+use oxc_sourcemap_handles_reading::write_fault;
 use std::alloc::Global;
 
 /// Sets the name of the generated file.

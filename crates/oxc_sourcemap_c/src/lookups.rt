@@ -7,10 +7,10 @@ ghost use Rattle.oxc_sourcemap_c.specs.Words.{IsTraceAllError, IsErrorAs, ArePie
 ghost use Rattle.oxc_sourcemap_c.specs.Words.{DifferFrom, IsIndexError, HasFirst, HasAll};
 ghost use Rattle.oxc_sourcemap_c.specs.Words.{position_at, source_place, IsBack};
 
-use oxc_sourcemap_handles::{
-    Fault, Handle, Lent, Original, PieceNumbers, SourcePlace, TokenNumbers, all_generated,
-    find_all, first_difference, generated, index_sources, pieces, trace, trace_all, write_fault,
-    write_found, write_token, write_told,
+use oxc_sourcemap_handles::{Fault, Handle, Lent, Original, PieceNumbers, TokenNumbers};
+use oxc_sourcemap_handles_reading::{
+    SourcePlace, all_generated, find_all, first_difference, generated, index_sources, pieces,
+    trace, trace_all, write_fault, write_found, write_token, write_told,
 };
 use oxc_sourcemap_tokens::Position;
 use std::alloc::Global;

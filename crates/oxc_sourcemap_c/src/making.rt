@@ -8,13 +8,15 @@ ghost use Rattle.oxc_sourcemap_c.specs.Words.{IsListsError, IsMapMissing, IsComp
 ghost use Rattle.oxc_sourcemap_c.specs.Words.{IsCompositionError, HoldMaps, IsRemapped};
 ghost use Rattle.oxc_sourcemap_c.specs.Words.{IsRemapError, all_lent, IsJoinOfLent, IsJoinErrorOf};
 ghost use Rattle.oxc_sourcemap_c.specs.Words.{IsPlanMap, parsed_plan, IsPlanErrorAt, reading};
-ghost use Rattle.oxc_sourcemap_c.specs.Words.{map_of_tokens, IsMappingsErrorAt, overwritten};
+ghost use Rattle.oxc_sourcemap_c.specs.Words.{map_of_tokens, IsMappingsErrorAt, filled};
 ghost use Rattle.oxc_sourcemap_c.specs.Words.{numbers_of_mend, code_of, NullHandle, IsBack};
 
-use oxc_sourcemap_handles::{
-    Fault, Handle, Lent, MendNumbers, TokenNumbers, clone_map, compose, decode_mappings, evaluate,
-    from_tokens, join_all, list_mends, put_found, put_map, put_read, read, read_found, remap,
+use oxc_sourcemap_handles::{Fault, Handle, Lent, TokenNumbers, put_map};
+use oxc_sourcemap_handles_making::{
+    clone_map, compose, decode_mappings, evaluate, from_tokens, join_all, put_found, put_read,
+    read, read_found, remap,
 };
+use oxc_sourcemap_handles_reading::{MendNumbers, list_mends};
 use oxc_sourcemap_tokens::Position;
 use std::alloc::Global;
 
@@ -63,7 +65,7 @@ pub extern "C" fn proved_get_mends(
 ) -> u32
     ensures found { MatchOption (held_mends mends.old.held) (result ≡ code_of NullHandle)
         (λ ms. (result ≡ 0) × (count.new ≡ length ms)
-        × (out.new ≡ overwritten (map numbers_of_mend ms) out.old)) }
+        × (out.new ≡ filled (map numbers_of_mend ms) out.old)) }
     ensures unchanged { result ≢ 0 → (out.new ≡ out.old) × (count.new ≡ count.old) }
     ensures back { IsBack mends.old mends.new }
 {

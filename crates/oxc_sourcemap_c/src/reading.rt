@@ -7,9 +7,10 @@ ghost use Rattle.oxc_sourcemap_c.specs.Words.{HasContent, flag_of, IsFlagOf, Fou
 ghost use Rattle.oxc_sourcemap_c.specs.Words.{Lists, ListsBy, ListsOption, NullHandle, IsBack};
 ghost use Rattle.oxc_sourcemap_c.specs.Words.{token_numbers};
 
-use oxc_sourcemap_handles::{
-    Asked, Counts, Lent, Text, TokenNumbers, counts, ignore_list, is_sorted, is_sound, names,
-    source_contents, sources, text_of_map, token, tokens, write_found, written_text,
+use oxc_sourcemap_handles::{Counts, Lent, Text, TokenNumbers};
+use oxc_sourcemap_handles_reading::{
+    Asked, counts, ignore_list, is_sorted, is_sound, names, source_contents, sources, text_of_map,
+    token, tokens, write_found, written_text,
 };
 
 /// The numbers of tokens, names, sources, contents, ignored sources, lines and bytes of a map.

@@ -10,10 +10,11 @@ ghost use Rattle.oxc_sourcemap_c.specs.Words.{fault_of, call_error_of, call_erro
 ghost use Rattle.oxc_sourcemap_c.specs.Words.{place_of_numbers, place_text, mend_of_numbers};
 ghost use Rattle.oxc_sourcemap_c.specs.Words.{mend_text, HoldsString, IsBack};
 
-use oxc_sourcemap_handles::{
-    Fault, Handle, Lent, MendNumbers, Text, TokenNumbers, decode_data_url, encode_mappings,
-    get_mappings, put_text, source_mapping_url, to_data_url, to_json_string, visualize,
-    visualizer_url, write_mend_message, write_message, write_place_message, write_told,
+use oxc_sourcemap_handles::{Fault, Handle, Lent, Text, TokenNumbers, put_text};
+use oxc_sourcemap_handles_reading::{
+    MendNumbers, decode_data_url, encode_mappings, get_mappings, source_mapping_url, to_data_url,
+    to_json_string, visualize, visualizer_url, write_mend_message, write_message,
+    write_place_message, write_told,
 };
 use std::alloc::Global;
 

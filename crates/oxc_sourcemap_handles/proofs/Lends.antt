@@ -9,7 +9,7 @@ use seplogic.Ra.Ura.{Ura}
 use mir.Val.{Val, vptr}
 use base.Fraction.{full_share}
 use base.Logic.{ent, sep, id⊢, never_e, upd_i}
-use base.Fml.{Lft, Share, GName, Fml, ftrue, fsep, fseps, flft, fdead, fbor, fobor, fauth, fres}
+use base.Fml.{Lft, Share, GName, ftrue, fsep, fseps, flft, fdead, fbor, fobor, fauth, fres}
 use base.Fml.{fwand, fupd}
 use base.Before.{before}
 use types.Logic.{Logic, sem}

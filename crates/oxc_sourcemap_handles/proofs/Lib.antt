@@ -1,15 +1,7 @@
 pub mod ReadBack
 pub mod Values
-pub mod Composing
 pub mod Memory
 pub mod TextLists
 pub mod Lends
 pub mod Filling
 pub mod Traced
-pub mod Passing
-pub mod MapsOfMaps
-pub mod Failing
-pub mod Characters
-pub mod Located
-pub mod Planned
-pub mod Buffers

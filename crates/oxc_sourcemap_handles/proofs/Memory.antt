@@ -4,7 +4,7 @@ use Rattle.oxc_sourcemap_handles.specs.declared.call_error.CallError.{CallError}
 use Rattle.oxc_sourcemap_handles.specs.declared.fault.Fault.{Fault}
 use Rattle.oxc_sourcemap_handles.specs.CallErrors.{out_of_memory}
 use Rattle.oxc_sourcemap_handles.specs.Codes.{fault_of, code_of}
-use Rattle.oxc_sourcemap_handles.specs.Answers.{IsErrorAs}
+use Rattle.oxc_sourcemap_handles.specs.Codes.{IsErrorAs}
 
 pub memory_alone : {A : Type 0} (made : Result A CallError) (fault : Fault) (code : ℕ) → IfErr made (λ r. r ≡ out_of_memory)
     → MatchResult made (λ _. ⊥) (λ r. (fault ≡ fault_of r) × (code ≡ code_of r)) → IsErrorAs code fault (λ r. ⊥)

@@ -1,7 +1,7 @@
 -- Lists of texts, one step on.
 use Rattle.std.proofs.Common.{◌≡◌, ℕ, ◌+◌, ◌<◌, zero, suc, List, [], ◌∷◌, ◌++◌, length, drop}
 use Rattle.std.proofs.Common.{get_or, map}
-use Rattle.std.proofs.Common.{inr, Option, None, refl, sym, ap, subst, ◌∙◌, add-one, arith, Bor}
+use Rattle.std.proofs.Common.{inr, Option, None, refl, sym, ap, subst, ◌∙◌, add-one, Bor}
 use Rattle.std.specs.Prelude.{IsUtf8}
 use Rattle.std.proofs.lemmas.List.{append_assoc, drop_more, map-append}
 use Rattle.std.proofs.lemmas.List.Elements.{All-cons}
@@ -11,7 +11,7 @@ use Rattle.std.proofs.lemmas.Iterator.Consumers.{YieldsList-end}
 use Rattle.std.specs.Iterator.{Drains}
 use Rattle.std.specs.declared.vec.IntoIter.{IntoIter}
 use Rattle.std.specs.Vec.Iter.{into_iter_items, into_iter_len, into_iter_steps}
-use Rattle.oxc_sourcemap_tokens.specs.Results.{lent_items, lent_item}
+use Rattle.oxc_sourcemap_tokens.specs.Results.{lent_items}
 use Rattle.oxc_sourcemap_parts.specs.Record.{Text}
 use Rattle.oxc_sourcemap_handles.specs.declared.call_error.CallError.{CallError}
 use Rattle.oxc_sourcemap_handles.specs.Lists.{AreTexts, IsNotTexts, known_text, known_texts}

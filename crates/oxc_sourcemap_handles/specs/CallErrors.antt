@@ -1,4 +1,5 @@
 -- The messages of errors, as bytes, and the errors of calls on maps as errors of calls for C.
+use Rattle.std.specs.Prelude.{Err, false}
 use Rattle.std.specs.Prelude.{◌≡◌, ℕ, List, ◌++◌, codes, decimal, IsUtf8}
 use Rattle.std.specs.Str.Lossy.{utf8_valid_len}
 use Rattle.oxc_sourcemap_tokens.specs.declared.error.Error.{Error}
@@ -18,6 +19,12 @@ use Rattle.oxc_sourcemap_handles.specs.declared.call_error.CallError.TheVariants
 use Rattle.oxc_sourcemap_handles.specs.declared.call_error.CallError.TheVariants.{BadOption}
 use Rattle.oxc_sourcemap_handles.specs.declared.call_error.CallError.TheVariants.{BadBase64}
 use Rattle.oxc_sourcemap_handles.specs.declared.call_error.CallError.TheVariants.{BadDataUtf8}
+use Rattle.oxc_sourcemap_parts.specs.Record.{MapRecord}
+use Rattle.oxc_sourcemap_parts.specs.Sorted.{are_tokens_sorted}
+use Rattle.oxc_sourcemap_simplify.specs.Simplified.{simplification}
+use Rattle.oxc_sourcemap_tokens.specs.declared.plan_error.PlanError.{PlanError}
+use Rattle.oxc_sourcemap_tokens.specs.declared.plan_error.PlanError.TheVariants.{Unsorted}
+use Rattle.oxc_sourcemap_handles.specs.declared.call_error.CallError.TheVariants.{Plan}
 
 abbrev pub call_error_text : CallError → List ℕ
 call_error_text (Plan error) = plan_error_text error
@@ -43,3 +50,11 @@ out_of_memory = Plan (Map OutOfMemory)
 -- bytes are not UTF-8, and the error has the number of bytes before the first bad one
 abbrev pub IsNotText : List ℕ → CallError → Type 0
 IsNotText bytes r = ¬ (IsUtf8 bytes) × (r ≡ NotUtf8 (utf8_valid_len bytes))
+
+-- an error of simplifying a map
+abbrev pub IsSimplifyError : MapRecord → CallError → Type 0
+IsSimplifyError m r = (e : PlanError) × (simplification m ≡ Err e) × (r ≡ Plan e)
+
+-- the error of simplifying a map that is not sorted
+abbrev pub IsUnsorted : MapRecord → CallError → Type 0
+IsUnsorted m r = (are_tokens_sorted m.tokens ≡ false) × (r ≡ Plan Unsorted)

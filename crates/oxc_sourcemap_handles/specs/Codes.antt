@@ -1,4 +1,5 @@
 -- The numbers of errors. `fault_of` is the definition of codes; `call_error_of` goes back.
+use Rattle.std.specs.Prelude.{◌≡◌, ◌≢◌}
 use Rattle.std.specs.Prelude.{ℕ, ◌%◌, ◌<◌, Option, Some, None, option_map, if◌then◌else◌, ◌==◌}
 use Rattle.oxc_sourcemap_tokens.specs.declared.error.JsonFault.{JsonFault}
 use Rattle.oxc_sourcemap_tokens.specs.declared.error.JsonFault.TheVariants.{Reading, Shape, Version}
@@ -30,6 +31,7 @@ use Rattle.oxc_sourcemap_handles.specs.declared.fault.Fault.{Fault}
 use Rattle.oxc_sourcemap_places.specs.declared.fault_place.FaultPlace.{FaultPlace}
 use Rattle.oxc_sourcemap_handles.specs.FieldNumbers.{number_of_field, field_of}
 use Rattle.oxc_sourcemap_handles.specs.PlaceNumbers.{no_place, numbers_of_place}
+use Rattle.oxc_sourcemap_handles.specs.CallErrors.{out_of_memory}
 
 -- the numbers of an error that carries this number and is about no field, without a place
 abbrev pub fault : ℕ → ℕ → Fault
@@ -162,3 +164,7 @@ short_number_of (BadDataUtf8 at) = 0
 -- an error as the library makes it: a number of 32 bits is below 2^32
 abbrev pub IsSmall : CallError → Type 0
 IsSmall r = short_number_of r < 4294967296
+
+-- A call fails: its code and its fault are those of one error, which is want of memory or one of these.
+abbrev pub IsErrorAs : ℕ → Fault → (CallError → Type 0) → Type 0
+IsErrorAs code f These = (r : CallError) × (f ≡ fault_of r) × (code ≡ code_of r) × (r ≢ out_of_memory → These r)

@@ -2,7 +2,6 @@ pub mod CallErrors
 pub mod FieldNumbers
 pub mod PlaceNumbers
 pub mod Codes
-pub mod Messages
 pub mod Handles
 pub mod Back
 pub mod Lent
@@ -10,19 +9,7 @@ pub mod Holding
 pub mod Indexed
 pub mod Options
 pub mod Listed
-pub mod Reverse
-pub mod Ranges
 pub mod Places
 pub mod Traces
-pub mod Answers
-pub mod Joining
 pub mod Lists
-pub mod Changes
-pub mod Builders
 pub mod Words
-pub mod Failures
-pub mod Making
-pub mod MapsOfMaps
-pub mod Mends
-pub mod Plans
-pub mod Writing

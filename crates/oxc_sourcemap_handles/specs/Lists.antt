@@ -1,10 +1,12 @@
 -- Lists of bytes that are to be texts.
-use Rattle.std.specs.Prelude.{◌≡◌, ◌⊎◌, ℕ, List, [], ◌∷◌, Option, Some, None, if◌then◌else◌, ◌==◌}
+use Rattle.std.specs.Prelude.{◌⊎◌, ℕ, List, [], ◌∷◌, Option, Some, None, if◌then◌else◌, ◌==◌}
 use Rattle.std.specs.Prelude.{IsUtf8, IfSome}
 use Rattle.std.specs.List.{All}
 use Rattle.oxc_sourcemap_parts.specs.Record.{Text}
 use Rattle.oxc_sourcemap_handles.specs.declared.call_error.CallError.{CallError}
 use Rattle.oxc_sourcemap_handles.specs.CallErrors.{IsNotText}
+use Rattle.oxc_sourcemap_tokens.specs.Token.{TokenRecord, id_of}
+use Rattle.oxc_sourcemap_handles.specs.declared.text.TokenNumbers.{TokenNumbers}
 
 -- all of these are UTF-8
 abbrev pub AreTexts : List Text → Type 0
@@ -42,3 +44,14 @@ IsNotContent (Some text) r = IsNotText text r
 abbrev pub IsNotContents : List (Option Text) → CallError → Type 0
 IsNotContents [] r = ⊥
 IsNotContents (content ∷ contents) r = IsNotContent content r ⊎ (IsContent content × IsNotContents contents r)
+
+-- the token of these numbers; 4294967295 stands for no id
+abbrev pub token_of : TokenNumbers → TokenRecord
+token_of t = record {
+  dst_line = t.dst_line;
+  dst_col = t.dst_col;
+  src_line = t.src_line;
+  src_col = t.src_col;
+  source_id = id_of t.source_id;
+  name_id = id_of t.name_id;
+}

@@ -1,7 +1,6 @@
 -- Places of faults as numbers, and back.
 use Rattle.std.specs.Prelude.{ℕ, Option, Some, None, option_map, if◌then◌else◌, ◌==◌, ◌%◌}
-use Rattle.std.specs.Option.{unwrap_or, option_and_then}
-use Rattle.oxc_sourcemap_mappings.specs.declared.fault_at.SegmentPlace.{SegmentPlace}
+use Rattle.std.specs.Option.{unwrap_or}
 use Rattle.oxc_sourcemap_places.specs.declared.fault_place.FaultPlace.{FaultPlace}
 use Rattle.oxc_sourcemap_places.specs.declared.fault_place.FaultSpot.{FaultSpot}
 use Rattle.oxc_sourcemap_places.specs.declared.fault_place.FaultSpot.TheVariants.{Segment, Reading}

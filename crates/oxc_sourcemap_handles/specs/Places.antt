@@ -4,7 +4,6 @@ use Rattle.std.specs.Prelude.{Option, Some, None, option_map}
 use Rattle.std.specs.Option.{unwrap_or, option_and_then}
 use denote.RawPtr.{null_ptr}
 use Rattle.oxc_sourcemap_tokens.specs.Token.{TokenRecord, last}
-use Rattle.oxc_sourcemap_tokens.specs.declared.position.Position.{Position}
 use Rattle.oxc_sourcemap_parts.specs.Record.{Text, MapRecord}
 use Rattle.oxc_sourcemap_parts.specs.DecodedMap.{OriginalPosition}
 use Rattle.oxc_sourcemap_lookup.specs.Lookup.{lines_through}

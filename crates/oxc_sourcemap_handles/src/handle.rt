@@ -5,7 +5,7 @@ ghost use Rattle.oxc_sourcemap_handles.specs.Handles.{handle_owns, held_coded};
 
 use crate::held::Held;
 use crate::loose::Loose;
-use std::alloc::{AllocError, Global};
+use std::alloc::Global;
 use std::marker::Model;
 use std::mem;
 use std::ptr::null_mut;
@@ -58,7 +58,7 @@ impl Handle {
     }
 
     /// Puts a box into this handle. What the handle held before is not freed.
-    pub(crate) fn put(&mut self, held: Box<Held>)
+    pub fn put(&mut self, held: Box<Held>)
         ensures { self.new.held ≡ Some held.value }
     {
         *self = Handle::full(Loose::of(held));

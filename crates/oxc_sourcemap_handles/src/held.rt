@@ -1,4 +1,5 @@
 //! What a handle holds.
+ghost use Rattle.oxc_sourcemap_handles.specs.Words.{IsIndexed};
 ghost use Rattle.std.specs.Prelude.{◌≡◌, ◌<◌, true, false, length, Ok, IfOk, IfErr, OnOk, OnErr};
 ghost use Rattle.std.specs.Prelude.{IfSome};
 ghost use Rattle.oxc_sourcemap_handles.specs.Words.{IsInLineOrder, are_tokens_sorted, FailsBy};
@@ -54,6 +55,18 @@ impl LoadedMap {
         }
     }
 
+    /// The map with what was made as the index of its lines, and no index by original positions.
+    pub fn with_index(map: OwnedSourceMap, index: Result<LineIndex>) -> LoadedMap
+        requires { IsIndexed map.tokens index }
+        ensures { (result.map ≡ map) × (result.has_order ≡ false) }
+    {
+        LoadedMap {
+            map,
+            index,
+            order: None,
+        }
+    }
+
     /// The map, without its indices.
     pub fn into_map(self) -> OwnedSourceMap
         ensures { result ≡ self.map }
@@ -74,14 +87,14 @@ impl LoadedMap {
     }
 
     /// The tokens of the map.
-    pub(crate) fn tokens(&self) -> &[Token]
+    pub fn tokens(&self) -> &[Token]
         ensures { result.now ≡ self.now.map.tokens }
     {
         self.map.get_tokens().as_slice()
     }
 
     /// The number of bytes of memory that the indices hold; 18446744073709551615 stands for more.
-    pub(crate) fn index_bytes(&self) -> usize
+    pub fn index_bytes(&self) -> usize
         ensures { result ≡ capped self.now.index_bytes }
     {
         let lines = match &self.index {
@@ -210,6 +223,17 @@ impl LoadedMap {
             out[i] = index_or_none(self.find(index, positions[i], bias));
         }
         Ok(())
+    }
+}
+
+/// The index of the lines of tokens, or the error of making it. Fails only with `OutOfMemory`.
+pub fn index_of(alloc: Global, tokens: &[Token]) -> Result<Result<LineIndex>>
+    ensures index { IfOk result (IsIndexed tokens.now) }
+    ensures error { OnlyMemory result }
+{
+    match LineIndex::new(alloc, tokens) {
+        Err(Error::OutOfMemory) => Err(Error::OutOfMemory),
+        index => Ok(index),
     }
 }
 

@@ -1,4 +1,6 @@
 //! What C lends to a call for reading.
+ghost use Rattle.std.specs.Prelude.{MatchOption, MatchResult, Err};
+ghost use Rattle.oxc_sourcemap_handles.specs.Words.{held_map, lent_item, NullHandle};
 ghost use Rattle.std.specs.Prelude.{◌≡◌, Option, List, ℕ};
 ghost use Rattle.oxc_sourcemap_handles.specs.declared.held.Held.{Held};
 ghost use Rattle.oxc_sourcemap_handles.specs.Handles.{held_coded};
@@ -7,6 +9,7 @@ ghost use Rattle.oxc_sourcemap_handles.specs.Lent.{lent_owns};
 use crate::call_error::CallError;
 use crate::held::{Held, LoadedMap};
 use oxc_sourcemap_found::Mend;
+use oxc_sourcemap_map::OwnedSourceMap;
 use std::marker::Model;
 
 /// What C lends to a call: null, or a shared borrow of what a handle holds, for the lifetime `life`. The call gives it back.
@@ -84,6 +87,17 @@ impl Lent {
             Some(Held::Mended(mends)) => Ok(mends.as_slice()),
             _ => Err(CallError::NullHandle),
         }
+    }
+}
+
+/// The map in what is lent. Fails with `NullHandle` if there is none.
+pub fn map_of(held: Option<&Held>) -> Result<&OwnedSourceMap, CallError>
+    ensures { MatchOption (held_map (lent_item held.entry)) (result ≡ Err NullHandle)
+        (λ m. MatchResult result (λ map. map.now ≡ m) (λ _. ⊥)) }
+{
+    match held {
+        Some(Held::Map(loaded)) => Ok(loaded.map()),
+        _ => Err(CallError::NullHandle),
     }
 }
 

@@ -11,7 +11,7 @@ use oxc_sourcemap_map::OwnedSourceMap;
 use std::alloc::Global;
 
 /// A map in a box for a handle, with its index.
-pub(crate) fn box_map(alloc: Global, map: OwnedSourceMap) -> Result<Box<Held>, CallError>
+pub fn box_map(alloc: Global, map: OwnedSourceMap) -> Result<Box<Held>, CallError>
     ensures map { IfOk result (λ held. held_map (Some held.value) ≡ Some map) }
     ensures error { IfErr result (λ r. r ≡ out_of_memory) }
 {

@@ -1,8 +1,8 @@
 //! Places of faults as numbers.
 ghost use Rattle.std.specs.Prelude.{◌≡◌, ◌%◌};
 ghost use Rattle.oxc_sourcemap_handles.specs.Words.{no_place, number_told, numbers_of_spot};
-ghost use Rattle.oxc_sourcemap_handles.specs.Words.{numbers_of_place, told_number};
-ghost use Rattle.oxc_sourcemap_handles.specs.Words.{spot_of_numbers, place_of_numbers};
+ghost use Rattle.oxc_sourcemap_handles.specs.Words.{numbers_of_place, told_number, spot_of_numbers};
+ghost use Rattle.oxc_sourcemap_handles.specs.Words.{place_of_numbers};
 
 use crate::field_numbers::{field_of, number_of};
 use oxc_sourcemap_mappings::SegmentPlace;
@@ -24,7 +24,7 @@ pub struct PlaceNumbers {
 }
 
 /// The number of a text or a section, if it is told.
-pub(crate) fn number_told(number: Option<usize>) -> u64
+pub fn number_told(number: Option<usize>) -> u64
     ensures { result ≡ number_told number }
 {
     match number {
@@ -34,7 +34,7 @@ pub(crate) fn number_told(number: Option<usize>) -> u64
 }
 
 /// The number of a text or a section, back.
-pub(crate) fn told_number(number: u64) -> Option<usize>
+pub fn told_number(number: u64) -> Option<usize>
     ensures { result ≡ told_number number }
 {
     if number == 18446744073709551615 {

@@ -2,7 +2,7 @@
 ghost use Rattle.std.specs.Prelude.{◌≡◌, [], length, Option, Some, None, slice_get};
 ghost use Rattle.std.specs.Option.{unwrap_or};
 ghost use Rattle.std.specs.Ptr.{as_ptr, null_ptr};
-ghost use Rattle.oxc_sourcemap_handles.specs.Words.{view_of, view_original, seen_in, HasOriginal};
+ghost use Rattle.oxc_sourcemap_handles.specs.Words.{view_of, view_original, HasOriginal};
 ghost use Rattle.oxc_sourcemap_handles.specs.Words.{number_or_none, numbers_of, no_numbers};
 ghost use Rattle.oxc_sourcemap_handles.specs.Words.{lent_item, index_number, IsSeen, HasContent};
 ghost use Rattle.oxc_sourcemap_handles.specs.Words.{piece_numbers};
@@ -22,7 +22,7 @@ pub struct Text {
 
 impl Text {
     /// The address and the length of these bytes.
-    pub(crate) fn of(bytes: &[u8]) -> Text
+    pub fn of(bytes: &[u8]) -> Text
         ensures { (result.at ≡ as_ptr bytes.entry) × (result.len ≡ length bytes.now) }
     {
         let at = bytes.as_ptr();
@@ -38,7 +38,7 @@ impl Text {
     }
 
     /// A content, or no text if it is not known.
-    pub(crate) fn of_content(content: Option<&str>) -> Text
+    pub fn of_content(content: Option<&str>) -> Text
         ensures { HasContent result (lent_item content.entry) }
     {
         match content {
@@ -69,7 +69,7 @@ fn number_or_none(id: Option<u32>) -> u32
 }
 
 /// The index of a token as a number, 4294967295 for none, and for one that is not below it.
-pub(crate) fn index_or_none(index: Option<usize>) -> u32
+pub fn index_or_none(index: Option<usize>) -> u32
     ensures { result ≡ index_number index }
 {
     match index {
@@ -106,7 +106,7 @@ impl TokenNumbers {
     }
 
     /// The numbers of a token.
-    pub(crate) fn of(token: &Token) -> TokenNumbers
+    pub fn of(token: &Token) -> TokenNumbers
         ensures { result ≡ numbers_of token.now }
     {
         TokenNumbers {
@@ -148,7 +148,7 @@ pub struct Original {
 
 impl Original {
     /// The answer if there is no token.
-    pub(crate) fn nothing() -> Original
+    pub fn nothing() -> Original
         ensures kind { HasOriginal result None }
         ensures index { result.index ≡ 4294967295 }
         ensures token { result.token ≡ no_numbers }
@@ -186,7 +186,7 @@ impl Original {
     }
 
     /// What the token at this index of a map says.
-    pub(crate) fn of(index: usize, token: Token, map: &SourceMap<'static>) -> Original
+    pub fn of(index: usize, token: Token, map: &SourceMap<'static>) -> Original
         requires { slice_get map.now.tokens index ≡ Some token }
         ensures { IsSeen map.now (Some index) result }
     {
@@ -207,7 +207,7 @@ pub struct PieceNumbers {
 
 impl PieceNumbers {
     /// The numbers of a piece.
-    pub(crate) fn of(piece: &Piece) -> PieceNumbers
+    pub fn of(piece: &Piece) -> PieceNumbers
         ensures { result ≡ piece_numbers piece.now }
     {
         PieceNumbers {

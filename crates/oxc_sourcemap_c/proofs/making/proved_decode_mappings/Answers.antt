@@ -1,5 +1,5 @@
-use Rattle.oxc_sourcemap_handles.specs.Failures.{IsMappingsErrorAt}
-use Rattle.oxc_sourcemap_handles.proofs.Failing.{told_at}
+use Rattle.oxc_sourcemap_handles_making.specs.Failures.{IsMappingsErrorAt}
+use Rattle.oxc_sourcemap_handles_making.proofs.Failing.{told_at}
 use Rattle.oxc_sourcemap_c.proofs.making.proved_decode_mappings.Goals as goal
 
 pub returns-clause-error : goal.returns-clause-error

@@ -1,6 +1,6 @@
 use Rattle.oxc_sourcemap_tokens.specs.Results.{lent_items}
-use Rattle.oxc_sourcemap_handles.specs.Plans.{IsPlanErrorAt}
-use Rattle.oxc_sourcemap_handles.proofs.Failing.{told_at}
+use Rattle.oxc_sourcemap_handles_making.specs.Plans.{IsPlanErrorAt}
+use Rattle.oxc_sourcemap_handles_making.proofs.Failing.{told_at}
 use Rattle.oxc_sourcemap_c.proofs.making.proved_evaluate.Goals as goal
 
 pub returns-clause-error : goal.returns-clause-error

@@ -2,7 +2,7 @@ use Rattle.std.proofs.Common.{◌≡◌, ap, subst, ◌∙◌}
 use Rattle.std.specs.Prelude.{MatchOption}
 use Rattle.oxc_sourcemap_handles.specs.CallErrors.{call_error_text}
 use Rattle.oxc_sourcemap_handles.specs.Codes.{call_error_of}
-use Rattle.oxc_sourcemap_handles.specs.Messages.{IsMessage}
+use Rattle.oxc_sourcemap_handles_reading.specs.Messages.{IsMessage}
 use Rattle.oxc_sourcemap_handles.proofs.ReadBack.{read_back}
 use Rattle.oxc_sourcemap_c.proofs.texts.proved_message.Goals as goal
 

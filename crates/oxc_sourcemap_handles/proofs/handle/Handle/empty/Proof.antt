@@ -1,18 +1,17 @@
 -- `empty` puts a null pointer and the allocator together.
-use Rattle.std.proofs.Common.{◌≡◌, List, [], ◌∷◌, ◌++◌, refl, sym, subst, lit<}
+use Rattle.std.proofs.Common.{◌≡◌, List, [], ◌∷◌, ◌++◌, refl, sym, subst}
 use mir.Val.{Val}
 use base.Logic.{SProp, ent, emp, id⊢}
-use base.Fml.{ftrue}
 use prog.Wp.{WpFn}
-use types.Kit.{‵, raw, ◌⊛◌, ◌$◌, ◌∵◌, !, qed, by, move, keep, drop, split, fsplit, fjoin, suffices}
+use types.Kit.{‵, raw, ◌⊛◌, ◌$◌, ◌∵◌, !, qed, by, move, keep, split, fsplit, fjoin, suffices}
 use types.Kit.{rewrite, use0}
-use types.Run.{lit, of_opd, no_more, and_then, returns, enter}
+use types.Run.{lit, no_more, and_then, returns, enter}
 use types.ByLocal.{alloc_all, pass_all, free_all, look_at, get, sets}
 use types.Part.{agg}
 use contract.Monad.{fact, fact_i}
 use contract.Running.{tables}
 use denote.Exit.{yes}
-use denote.RattleType.{RattleType, owns}
+use denote.RattleType.{owns}
 use denote.Signature.{types_at, plain}
 use denote.RawPtr.{null_ptr, ptr_val}
 use denote.Steps.{nothing}
@@ -23,8 +22,7 @@ use Rattle.std.specs.Prelude.{None, Option}
 use Rattle.std.proofs.cell.Inside.{one}
 use Rattle.std.proofs.raw_atomic.Walks.{proved_at, leaves}
 use Rattle.std_heap.proofs.Global.TheLaws as heap_laws
-use Rattle.oxc_sourcemap_handles.specs.Handles.{handle_owns}
-use Rattle.oxc_sourcemap_handles.proofs.Values.{both, Z, H, HeldRow, ptr_good, handle_in}
+use Rattle.oxc_sourcemap_handles.proofs.Values.{both, Z, HeldRow, ptr_good, handle_in}
 use Rattle.oxc_sourcemap_handles.specs.contracts.handle.Handle.empty.{ended, clauses}
 use Rattle.oxc_sourcemap_handles.specs.contracts.handle.Handle.empty.Key.{name as #self}
 use Rattle.oxc_sourcemap_handles.proofs.handle.Handle.empty.Statement.{statement}

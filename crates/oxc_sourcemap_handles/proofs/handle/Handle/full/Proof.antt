@@ -2,9 +2,8 @@
 use Rattle.std.proofs.Common.{◌≡◌, List, [], ◌∷◌, ◌++◌, refl, sym, subst}
 use mir.Val.{Val}
 use base.Logic.{SProp, ent, emp, id⊢}
-use base.Fml.{ftrue}
 use prog.Wp.{WpFn}
-use types.Kit.{‵, raw, ◌⊛◌, ◌$◌, ◌∵◌, !, qed, by, move, keep, drop, split, fsplit, fjoin, suffices}
+use types.Kit.{‵, raw, ◌⊛◌, ◌$◌, ◌∵◌, !, qed, by, move, keep, split, fsplit, fjoin, suffices}
 use types.Kit.{use0}
 use types.Run.{stop, fld, of_opd, no_more, and_then, returns, enter}
 use types.ByLocal.{alloc_all, pass_all, free_all, look_at, get, get_in, sets}
@@ -12,17 +11,16 @@ use types.Part.{agg, sub, whole}
 use contract.Monad.{fact, fact_i}
 use contract.Running.{tables}
 use denote.Exit.{no}
-use denote.RattleType.{RattleType, owns}
+use denote.RattleType.{owns}
 use denote.Signature.{types_at, plain}
 use denote.RawPtr.{block_ptr, ptr_val}
 use denote.Steps.{nothing}
-use denote.Param.{layout}
 use denote.Triple.Entry.{alive}
 use denote.Triple.Walked.{Stays, stay_dropped, walk_of}
 use Rattle.std.proofs.alloc.Calls.{Goes-blank}
 use Rattle.std.specs.Prelude.{Some, Option}
 use Rattle.std.proofs.raw_atomic.Walks.{proved_at, leaves}
-use Rattle.oxc_sourcemap_handles.proofs.Values.{both, Z, H, HeldRow, LooseHeld, loose_held_out}
+use Rattle.oxc_sourcemap_handles.proofs.Values.{both, HeldRow, LooseHeld, loose_held_out}
 use Rattle.oxc_sourcemap_handles.proofs.Values.{ptr_good, handle_in}
 use Rattle.oxc_sourcemap_handles.specs.contracts.handle.Handle.full.{ended, clauses}
 use Rattle.oxc_sourcemap_handles.specs.contracts.handle.Handle.full.Key.{name as #self}

@@ -1,10 +1,9 @@
 -- `into_loose` tests the pointer; if it is not null, what it owns goes with it.
-use Rattle.std.proofs.Common.{◌≡◌, List, [], ◌∷◌, ◌++◌, refl, sym, ap, subst, lit<}
+use Rattle.std.proofs.Common.{◌≡◌, List, [], ◌∷◌, ◌++◌, refl, sym, subst, lit<}
 use mir.Val.{Val, vptr, vcons, vnil}
 use base.Logic.{SProp, ent, emp, id⊢}
-use base.Fml.{ftrue}
 use prog.Wp.{WpFn}
-use types.Kit.{‵, raw, ◌⊛◌, at_ret, ◌$◌, ◌∵◌, !, qed, by, move, keep, drop, split, fsplit, fjoin}
+use types.Kit.{‵, raw, ◌⊛◌, at_ret, ◌$◌, ◌∵◌, !, qed, by, move, keep, split, fsplit, fjoin}
 use types.Kit.{suffices, use0, use1}
 use types.Run.{stop, fld, lit, of_opd, bin, no_more, and_then, first, branches, exec, returns}
 use types.Run.{enter}
@@ -27,7 +26,7 @@ use Rattle.std.proofs.cell.Inside.{Good}
 use Rattle.std.proofs.option.Made.{Some-of, none_of}
 use Rattle.std_alloc.proofs.ResultValues.{and_tt}
 use Rattle.std.proofs.raw_atomic.Walks.{proved_at, leaves}
-use Rattle.oxc_sourcemap_handles.proofs.Values.{both, Z, H, HeldRow, LooseHeld, loose_held_in}
+use Rattle.oxc_sourcemap_handles.proofs.Values.{both, H, HeldRow, LooseHeld, loose_held_in}
 use Rattle.oxc_sourcemap_handles.proofs.Values.{ptr_good, handle_out, either_owned}
 use Rattle.oxc_sourcemap_handles.specs.contracts.handle.Handle.into_loose.{ended, clauses}
 use Rattle.oxc_sourcemap_handles.specs.contracts.handle.Handle.into_loose.Key.{name as #self}

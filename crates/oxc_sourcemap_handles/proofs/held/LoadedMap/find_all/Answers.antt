@@ -1,4 +1,4 @@
-use Rattle.std.proofs.Common.{ℕ, ◌<◌, arith}
+use Rattle.std.proofs.Common.{arith}
 use Rattle.oxc_sourcemap_handles.specs.Traces.{IsFoundAt}
 use Rattle.oxc_sourcemap_handles.proofs.Filling.{all_zip}
 use Rattle.oxc_sourcemap_handles.proofs.Traced.{index_order}

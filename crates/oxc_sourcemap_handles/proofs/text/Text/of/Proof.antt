@@ -3,8 +3,6 @@ use Rattle.std.proofs.Common.{◌≡◌, ℕ, ◌<◌, ◌^◌, List, [], ◌∷
 use mir.Syntax.{named}
 use mir.Val.{Val, vint, vptr}
 use base.Logic.{SProp, emp}
-use base.Fml.{ftrue}
-use prog.Wp.{WpFn}
 use types.Kit.{‵, raw, ◌⊛◌, ◌$◌, ◌∵◌, !, qed, by, move, keep, drop, split, fjoin, fjoin3, fpack}
 use types.Kit.{feq_i, flt_i, use0}
 use types.Run.{stop, fld, hop, from, addr, of_opd, no_more, and_then, returns, enter}
@@ -13,7 +11,7 @@ use types.Part.{agg, sub, whole}
 use contract.Monad.{fact, fact_i}
 use contract.Running.{tables}
 use denote.Exit.{yes}
-use denote.RattleType.{RattleType, Valss, owns}
+use denote.RattleType.{Valss, owns}
 use denote.Builtin.{u8, usize, SliceRefOf, RawPtr}
 use denote.Signature.{types_at, plain}
 use denote.RawPtr.{block_ptr}

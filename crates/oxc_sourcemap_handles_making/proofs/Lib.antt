@@ -1,0 +1,6 @@
+pub mod Composing
+pub mod MapsOfMaps
+pub mod Failing
+pub mod Located
+pub mod Placed
+pub mod Planned

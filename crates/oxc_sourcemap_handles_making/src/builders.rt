@@ -1,0 +1,230 @@
+//! Calls on the builders that handles hold.
+ghost use Rattle.std.specs.Prelude.{◌≡◌, ◌≢◌, Some, Err, IsUtf8, IfOk, IfErr, OnOk, OnErr};
+ghost use Rattle.std.specs.Prelude.{map, MatchOption, MatchResult};
+ghost use Rattle.oxc_sourcemap_handles_making.specs.Words.{out_of_memory, nothing_built, no_fault};
+ghost use Rattle.oxc_sourcemap_handles_making.specs.Words.{held_builder, held_map, IsErrorAs};
+ghost use Rattle.oxc_sourcemap_handles_making.specs.Words.{token_of, with_tokens, with_file};
+ghost use Rattle.oxc_sourcemap_handles_making.specs.Words.{Builds, with_name, with_path};
+ghost use Rattle.oxc_sourcemap_handles_making.specs.Words.{with_bare_path, IsStep, IsStepError};
+ghost use Rattle.oxc_sourcemap_handles_making.specs.Words.{IsNameError, IsSourceError, IsPathError};
+ghost use Rattle.oxc_sourcemap_handles_making.specs.Words.{IsNotText, IsBuilderError, IsFinished};
+ghost use Rattle.oxc_sourcemap_handles_making.specs.Words.{CallError};
+
+use oxc_sourcemap_builders::SourceMapBuilder;
+use oxc_sourcemap_handles::{
+    CallError, Fault, Handle, Held, LoadedMap, TokenNumbers, index_of, put, text_of, tokens_of,
+};
+use oxc_sourcemap_map::OwnedSourceMap;
+use std::alloc::Global;
+use std::mem;
+
+/// What a call adds to a builder, or sets in it. Texts are bytes, which have to be UTF-8.
+#[derive(Clone, Copy)]
+pub enum Step<'t> {
+    Name(&'t [u8]),
+    /// A source by its path, without a content.
+    Source(&'t [u8]),
+    /// A source by its path, with its content.
+    SourceAndContent(&'t [u8], &'t [u8]),
+    Tokens(&'t [TokenNumbers]),
+    File(&'t [u8]),
+}
+
+fn add_name(builder: &mut SourceMapBuilder<'static>, name: &[u8]) -> Result<u32, CallError>
+    ensures added { IfOk result (λ id. IsUtf8 name.now
+        × ((builder.new, id) ≡ with_name builder.old name.now)) }
+    ensures error { IfErr result (λ r. (r ≢ out_of_memory) → IsNameError name.now builder.old r) }
+    ensures sure { (r : CallError) → IsNameError name.now builder.old r → result ≡ Err r }
+    ensures unchanged { OnErr result (builder.new ≡ builder.old) }
+{
+    let name = text_of(name)?;
+    Ok(builder.add_name_copied(name)?)
+}
+
+fn add_source(builder: &mut SourceMapBuilder<'static>, path: &[u8]) -> Result<u32, CallError>
+    ensures added { IfOk result (λ id. IsUtf8 path.now
+        × ((builder.new, id) ≡ with_bare_path builder.old path.now)) }
+    ensures error { IfErr result (λ r. (r ≢ out_of_memory) → IsPathError path.now builder.old r) }
+    ensures sure { (r : CallError) → IsPathError path.now builder.old r → result ≡ Err r }
+    ensures unchanged { OnErr result (builder.new ≡ builder.old) }
+{
+    let path = text_of(path)?;
+    Ok(builder.add_source_copied(path)?)
+}
+
+fn add_source_and_content(
+    builder: &mut SourceMapBuilder<'static>,
+    path: &[u8],
+    content: &[u8],
+) -> Result<u32, CallError>
+    ensures added { IfOk result (λ id. IsUtf8 path.now × IsUtf8 content.now
+        × ((builder.new, id) ≡ with_path builder.old path.now content.now)) }
+    ensures error { IfErr result (λ r. (r ≢ out_of_memory)
+        → IsSourceError path.now content.now builder.old r) }
+    ensures sure { (r : CallError) → IsSourceError path.now content.now builder.old r
+        → result ≡ Err r }
+    ensures unchanged { OnErr result (builder.new ≡ builder.old) }
+{
+    let path = text_of(path)?;
+    let content = text_of(content)?;
+    Ok(builder.add_source_and_content_copied(path, content)?)
+}
+
+fn add_tokens(
+    builder: &mut SourceMapBuilder<'static>,
+    alloc: Global,
+    tokens: &[TokenNumbers],
+) -> Result<u32, CallError>
+    ensures added { OnOk result (builder.new
+        ≡ with_tokens builder.old (map token_of tokens.now)) }
+    ensures error { IfErr result (λ r. r ≡ out_of_memory) }
+    ensures unchanged { OnErr result (builder.new ≡ builder.old) }
+{
+    let tokens = tokens_of(alloc, tokens)?;
+    builder.add_tokens(tokens.as_slice())?;
+    Ok(0)
+}
+
+fn set_file(builder: &mut SourceMapBuilder<'static>, file: &[u8]) -> Result<u32, CallError>
+    ensures set { OnOk result (IsUtf8 file.now × (builder.new ≡ with_file builder.old file.now)) }
+    ensures error { IfErr result (λ r. (r ≢ out_of_memory) → IsNotText file.now r) }
+    ensures sure { (r : CallError) → IsNotText file.now r → result ≡ Err r }
+    ensures unchanged { OnErr result (builder.new ≡ builder.old) }
+{
+    let file = text_of(file)?;
+    builder.set_file_copied(file)?;
+    Ok(0)
+}
+
+/// Makes a step in a builder, and returns the id of what it adds, or 0.
+fn make(
+    builder: &mut SourceMapBuilder<'static>,
+    alloc: Global,
+    step: Step<'_>,
+) -> Result<u32, CallError>
+    ensures made { IfOk result (λ id. IsStep step.entry builder.old builder.new id) }
+    ensures error { IfErr result (λ r. (r ≢ out_of_memory)
+        → IsStepError step.entry builder.old r) }
+    ensures sure { (r : CallError) → IsStepError step.entry builder.old r → result ≡ Err r }
+    ensures unchanged { OnErr result (builder.new ≡ builder.old) }
+{
+    match step {
+        Step::Name(name) => add_name(builder, name),
+        Step::Source(path) => add_source(builder, path),
+        Step::SourceAndContent(path, content) => add_source_and_content(builder, path, content),
+        Step::Tokens(tokens) => add_tokens(builder, alloc, tokens),
+        Step::File(file) => set_file(builder, file),
+    }
+}
+
+fn make_held(held: &mut Held, alloc: Global, step: Step<'_>) -> Result<u32, CallError>
+    ensures made { IfOk result (λ id. Builds (Some held.old) (Some held.new)
+        (λ b c. IsStep step.entry b c id)) }
+    ensures error { IfErr result (λ r. (r ≢ out_of_memory)
+        → IsBuilderError (Some held.old) (IsStepError step.entry) r) }
+    ensures sure { (r : CallError) → IsBuilderError (Some held.old) (IsStepError step.entry) r
+        → result ≡ Err r }
+    ensures unchanged { OnErr result (held.new ≡ held.old) }
+{
+    match held {
+        Held::Building(builder) => make(builder, alloc, step),
+        _ => Err(CallError::NullHandle),
+    }
+}
+
+/// Makes a step in the builder of a handle, and returns the id of what it adds, or 0. Fails with `NullHandle` if there is none;
+/// on an error the builder is as it was.
+pub fn build(alloc: Global, handle: &mut Handle, step: Step<'_>) -> Result<u32, CallError>
+    ensures made { IfOk result (λ id. Builds handle.old.held handle.new.held
+        (λ b c. IsStep step.entry b c id)) }
+    ensures error { IfErr result (λ r. (r ≢ out_of_memory)
+        → IsBuilderError handle.old.held (IsStepError step.entry) r) }
+    ensures sure { (r : CallError) → IsBuilderError handle.old.held (IsStepError step.entry) r
+        → result ≡ Err r }
+    ensures unchanged { OnErr result (handle.new.held ≡ handle.old.held) }
+{
+    match handle.take(alloc) {
+        Some(held) => {
+            let mut held = held;
+            let made = make_held(held.as_mut(), alloc, step);
+            handle.put(held);
+            made
+        }
+        None => Err(CallError::NullHandle),
+    }
+}
+
+/// A box with a builder with nothing in it.
+pub(crate) fn new_builder(alloc: Global) -> Result<Box<Held>, CallError>
+    ensures built { IfOk result (λ held. held_builder (Some held.value) ≡ Some nothing_built) }
+    ensures error { IfErr result (λ r. r ≡ out_of_memory) }
+{
+    let builder = SourceMapBuilder::empty(alloc);
+    Ok(Box::new(alloc, Held::Building(builder))?)
+}
+
+/// Puts a builder with nothing in it into a handle, and returns the code.
+pub fn put_builder(alloc: Global, handle: &mut Handle, fault: &mut Fault) -> u32
+    ensures built { result ≡ 0 → (held_builder handle.new.held ≡ Some nothing_built)
+        × (fault.new ≡ no_fault) }
+    ensures error { result ≢ 0 → (handle.new.held ≡ handle.old.held)
+        × IsErrorAs result fault.new (λ r. ⊥) }
+{
+    let made = new_builder(alloc);
+    put(alloc, made, handle, fault)
+}
+
+/// The map that a builder has built, in a box. The builder is then as a new one. What takes memory is done before that.
+fn finish_builder(
+    builder: &mut SourceMapBuilder<'static>,
+    alloc: Global,
+) -> Result<Box<Held>, CallError>
+    ensures map { IfOk result (λ made. held_map (Some made.value) ≡ Some builder.old.map) }
+    ensures emptied { OnOk result (builder.new ≡ nothing_built) }
+    ensures error { IfErr result (λ r. r ≡ out_of_memory) }
+    ensures unchanged { OnErr result (builder.new ≡ builder.old) }
+{
+    let index = index_of(alloc, builder.get_tokens())?;
+    let mut made = new_builder(alloc)?;
+    let built = mem::replace(builder, SourceMapBuilder::empty(alloc));
+    let map = OwnedSourceMap::from_parts(built.into_parts());
+    *made.as_mut() = Held::Map(LoadedMap::with_index(map, index));
+    Ok(made)
+}
+
+fn finish_held(held: &mut Held, alloc: Global) -> Result<Box<Held>, CallError>
+    ensures map { IfOk result (λ made. IsFinished (Some held.old) (Some held.new)
+        (Some made.value)) }
+    ensures error { IfErr result (λ r. (r ≢ out_of_memory)
+        → IsBuilderError (Some held.old) (λ b r. ⊥) r) }
+    ensures sure { (r : CallError) → IsBuilderError (Some held.old) (λ b r. ⊥) r
+        → MatchResult result (λ _. ⊥) (λ e. e ≡ r) }
+    ensures unchanged { OnErr result (held.new ≡ held.old) }
+{
+    match held {
+        Held::Building(builder) => finish_builder(builder, alloc),
+        _ => Err(CallError::NullHandle),
+    }
+}
+
+/// The map that the builder in a handle has built, in a box. The builder is then as a new one. Fails with `NullHandle` if there
+/// is none; on an error the builder is as it was.
+pub fn finish(alloc: Global, handle: &mut Handle) -> Result<Box<Held>, CallError>
+    ensures map { IfOk result (λ made. IsFinished handle.old.held handle.new.held
+        (Some made.value)) }
+    ensures error { IfErr result (λ r. (r ≢ out_of_memory)
+        → IsBuilderError handle.old.held (λ b r. ⊥) r) }
+    ensures sure { (r : CallError) → IsBuilderError handle.old.held (λ b r. ⊥) r
+        → MatchResult result (λ _. ⊥) (λ e. e ≡ r) }
+    ensures unchanged { OnErr result (handle.new.held ≡ handle.old.held) }
+{
+    match handle.take(alloc) {
+        Some(held) => {
+            let mut held = held;
+            let made = finish_held(held.as_mut(), alloc);
+            handle.put(held);
+            made
+        }
+        None => Err(CallError::NullHandle),
+    }
+}

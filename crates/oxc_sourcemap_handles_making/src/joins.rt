@@ -1,0 +1,159 @@
+//! Calls on the joins that handles hold.
+ghost use Rattle.std.specs.Prelude.{◌≡◌, ◌≢◌, Some, Ok, Err, IfOk, IfErr, OnOk, OnErr};
+ghost use Rattle.std.specs.Prelude.{MatchResult, IfSome};
+ghost use Rattle.oxc_sourcemap_handles_making.specs.Words.{out_of_memory, TooLarge, no_fault};
+ghost use Rattle.oxc_sourcemap_handles_making.specs.Words.{held_join, held_map, IsErrorAs, added};
+ghost use Rattle.oxc_sourcemap_handles_making.specs.Words.{IsWithinLimits, nothing_joined};
+ghost use Rattle.oxc_sourcemap_handles_making.specs.Words.{IsJoined, IsAddError, IsOneNull};
+ghost use Rattle.oxc_sourcemap_handles_making.specs.Words.{IsPartsError, IsJoinFinished};
+ghost use Rattle.oxc_sourcemap_handles_making.specs.Words.{IsNullJoin, CallError, ChunksFit};
+ghost use Rattle.oxc_sourcemap_handles_making.specs.Words.{IsBack};
+
+use crate::builders::new_builder;
+use oxc_sourcemap_builders::ConcatSourceMapBuilder;
+use oxc_sourcemap_handles::{CallError, Fault, Handle, Held, Lent, LoadedMap, index_of, put};
+use oxc_sourcemap_map::OwnedSourceMap;
+use oxc_sourcemap_tokens::Position;
+use std::alloc::Global;
+use std::mem;
+
+fn add_clone(
+    join: &mut ConcatSourceMapBuilder<'static>,
+    alloc: Global,
+    map: &OwnedSourceMap,
+    position: Position,
+) -> Result<(), CallError>
+    ensures added { OnOk result ((join.new ≡ added join.old map.now position)
+        × IsWithinLimits join.new) }
+    ensures error { IfErr result (λ r. (r ≢ out_of_memory)
+        → IsPartsError join.old map.now position r) }
+    ensures unchanged { OnErr result (join.new ≡ join.old) }
+{
+    let clone = map.clone(alloc)?.into_inner();
+    join.add_sourcemap_owned_at(clone, position.line, position.column)?;
+    Ok(())
+}
+
+fn add_held(
+    held: &mut Held,
+    alloc: Global,
+    map: &mut Lent,
+    position: Position,
+) -> Result<(), CallError>
+    ensures added { OnOk result (IsJoined (Some held.old) (Some held.new)
+        map.old.held position) }
+    ensures error { IfErr result (λ r. (r ≢ out_of_memory)
+        → IsAddError (Some held.old) map.old.held position r) }
+    ensures sure { (r : CallError) → IsOneNull (Some held.old) map.old.held r
+        → result ≡ Err r }
+    ensures unchanged { OnErr result (held.new ≡ held.old) }
+    ensures back { IsBack map.old map.new }
+{
+    match held {
+        Held::Joining(join) => add_clone(join, alloc, map.map()?.map(), position),
+        _ => Err(CallError::NullHandle),
+    }
+}
+
+/// Adds a clone of a map to the join in a handle, at a position. Fails with `NullHandle` if there is no join or no map, with
+/// `TooLarge` if the join would pass a limit, or for want of memory; the join is then as it was.
+pub fn add_to_join(
+    alloc: Global,
+    handle: &mut Handle,
+    map: &mut Lent,
+    position: Position,
+) -> Result<(), CallError>
+    ensures added { OnOk result (IsJoined handle.old.held handle.new.held
+        map.old.held position) }
+    ensures error { IfErr result (λ r. (r ≢ out_of_memory)
+        → IsAddError handle.old.held map.old.held position r) }
+    ensures sure { (r : CallError) → IsOneNull handle.old.held map.old.held r
+        → result ≡ Err r }
+    ensures unchanged { OnErr result (handle.new.held ≡ handle.old.held) }
+    ensures back { IsBack map.old map.new }
+{
+    match handle.take(alloc) {
+        Some(held) => {
+            let mut held = held;
+            let joined = add_held(held.as_mut(), alloc, map, position);
+            handle.put(held);
+            joined
+        }
+        None => Err(CallError::NullHandle),
+    }
+}
+
+/// A box with the join of no maps.
+fn new_join(alloc: Global) -> Result<Box<Held>, CallError>
+    ensures joined { IfOk result (λ held. held_join (Some held.value) ≡ Some nothing_joined) }
+    ensures error { IfErr result (λ r. r ≡ out_of_memory) }
+{
+    let join = ConcatSourceMapBuilder::empty(alloc);
+    Ok(Box::new(alloc, Held::Joining(join))?)
+}
+
+/// Puts the join of no maps into a handle, and returns the code.
+pub fn put_join(alloc: Global, handle: &mut Handle, fault: &mut Fault) -> u32
+    ensures joined { result ≡ 0 → (held_join handle.new.held ≡ Some nothing_joined)
+        × (fault.new ≡ no_fault) }
+    ensures error { result ≢ 0 → (handle.new.held ≡ handle.old.held)
+        × IsErrorAs result fault.new (λ r. ⊥) }
+{
+    let made = new_join(alloc);
+    put(alloc, made, handle, fault)
+}
+
+/// The joined map, in a box. The join is then as a new one. What takes memory is done before that.
+fn finish_parts(
+    join: &mut ConcatSourceMapBuilder<'static>,
+    alloc: Global,
+) -> Result<Box<Held>, CallError>
+    ensures map { IfOk result (λ made. held_map (Some made.value) ≡ Some join.old) }
+    ensures limits { OnOk result (IsWithinLimits join.old) }
+    ensures fits { OnOk result (IfSome join.old.token_chunks (ChunksFit join.old.tokens)) }
+    ensures emptied { OnOk result (join.new ≡ nothing_joined) }
+    ensures error { IfErr result (λ r. r ≡ out_of_memory) }
+    ensures unchanged { OnErr result (join.new ≡ join.old) }
+{
+    let index = index_of(alloc, join.get_tokens())?;
+    let mut made = new_builder(alloc)?;
+    let joined = mem::replace(join, ConcatSourceMapBuilder::empty(alloc));
+    let map = OwnedSourceMap::from_parts(joined.into_parts());
+    *made.as_mut() = Held::Map(LoadedMap::with_index(map, index));
+    Ok(made)
+}
+
+fn finish_held(held: &mut Held, alloc: Global) -> Result<Box<Held>, CallError>
+    ensures map { IfOk result (λ made. IsJoinFinished (Some held.old) (Some held.new)
+        (Some made.value)) }
+    ensures error { IfErr result (λ r. (r ≢ out_of_memory) → IsNullJoin (Some held.old) r) }
+    ensures sure { (r : CallError) → IsNullJoin (Some held.old) r
+        → MatchResult result (λ _. ⊥) (λ e. e ≡ r) }
+    ensures unchanged { OnErr result (held.new ≡ held.old) }
+{
+    match held {
+        Held::Joining(join) => finish_parts(join, alloc),
+        _ => Err(CallError::NullHandle),
+    }
+}
+
+/// The joined map of the join in a handle, in a box. The join is then as a new one. Fails with `NullHandle` if there is none; on
+/// an error the join is as it was.
+pub fn finish_join(alloc: Global, handle: &mut Handle) -> Result<Box<Held>, CallError>
+    ensures map { IfOk result (λ made. IsJoinFinished handle.old.held handle.new.held
+        (Some made.value)) }
+    ensures error { IfErr result (λ r. (r ≢ out_of_memory) → IsNullJoin handle.old.held r) }
+    ensures sure { (r : CallError) → IsNullJoin handle.old.held r
+        → MatchResult result (λ _. ⊥) (λ e. e ≡ r) }
+    ensures unchanged { OnErr result (handle.new.held ≡ handle.old.held) }
+{
+    match handle.take(alloc) {
+        Some(held) => {
+            let mut held = held;
+            let made = finish_held(held.as_mut(), alloc);
+            handle.put(held);
+            made
+        }
+        None => Err(CallError::NullHandle),
+    }
+}

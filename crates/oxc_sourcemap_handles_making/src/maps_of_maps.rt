@@ -1,0 +1,192 @@
+//! Compositions, remappings and joins of maps that handles lend. Results own their texts.
+ghost use Rattle.std.specs.Prelude.{◌≡◌, ◌≢◌, Some, None, Ok, Err, length, IfOk, IfErr};
+ghost use Rattle.std.specs.Prelude.{MatchOption, MatchResult};
+ghost use Rattle.oxc_sourcemap_handles_making.specs.Words.{out_of_memory, held_map, HoldMaps};
+ghost use Rattle.oxc_sourcemap_handles_making.specs.Words.{IsBack, NullHandle, IsCompositionError};
+ghost use Rattle.oxc_sourcemap_handles_making.specs.Words.{IsComposition, all_lent, all_maps};
+ghost use Rattle.oxc_sourcemap_handles_making.specs.Words.{lent_item, lent_items, by_path};
+ghost use Rattle.oxc_sourcemap_handles_making.specs.Words.{IsRemapped, IsRemapError};
+ghost use Rattle.oxc_sourcemap_handles_making.specs.Words.{IsRemappingError, IsRemapping, AreTexts};
+ghost use Rattle.oxc_sourcemap_handles_making.specs.Words.{at_places, IsJoinOfLent, IsJoinErrorOf};
+ghost use Rattle.oxc_sourcemap_handles_making.specs.Words.{owned_records, owned_input_records};
+ghost use Rattle.oxc_sourcemap_handles_making.specs.Words.{IsMapMissing, IsJoinOfMaps};
+ghost use Rattle.oxc_sourcemap_handles_making.specs.Words.{IsJoinErrorOfMaps};
+
+use oxc_sourcemap_handles::{CallError, Held, Lent, map_of, texts_of};
+use oxc_sourcemap_join::join_owned_parts;
+use oxc_sourcemap_map::{OwnedSourceMap, parts_of};
+use oxc_sourcemap_parts::SourceMapParts;
+use oxc_sourcemap_remap::remap_owned_parts;
+use oxc_sourcemap_tokens::{Memory, Position};
+use std::alloc::Global;
+
+fn clone_of(alloc: Global, held: Option<&Held>) -> Result<OwnedSourceMap, CallError>
+    ensures map { IfOk result (λ made. held_map (lent_item held.entry) ≡ Some made) }
+    ensures error { IfErr result (λ r. (r ≢ out_of_memory)
+        → IsMapMissing (lent_item held.entry) r) }
+{
+    Ok(map_of(held)?.clone(alloc)?)
+}
+
+/// A map that is equal to the one that is lent.
+pub fn clone_map(alloc: Global, map: &mut Lent) -> Result<OwnedSourceMap, CallError>
+    ensures map { IfOk result (λ made. held_map map.old.held ≡ Some made) }
+    ensures error { IfErr result (λ r. (r ≢ out_of_memory) → IsMapMissing map.old.held r) }
+    ensures back { IsBack map.old map.new }
+{
+    clone_of(alloc, map.get())
+}
+
+/// The composition of two maps that are lent.
+pub fn compose(
+    alloc: Global,
+    first: &mut Lent,
+    input: &mut Lent,
+) -> Result<OwnedSourceMap, CallError>
+    ensures map { IfOk result (λ made. HoldMaps first.old.held input.old.held
+        (λ a b. IsComposition a b made)) }
+    ensures error { IfErr result (λ r. (r ≢ out_of_memory)
+        → IsCompositionError (held_map first.old.held) (held_map input.old.held) r) }
+    ensures back { IsBack first.old first.new }
+    ensures input_back { IsBack input.old input.new }
+{
+    let first = clone_map(alloc, first)?;
+    let input = clone_map(alloc, input)?;
+    Ok(first.compose(alloc, input)?)
+}
+
+/// Maps that are equal to those that are lent. Fails with `NullHandle` if one is missing.
+fn clone_all(alloc: Global, maps: &mut [Lent]) -> Result<Vec<OwnedSourceMap>, CallError>
+    ensures maps { IfOk result (λ clones. all_maps (all_lent maps.old) ≡ Some clones.items) }
+    ensures error { IfErr result (λ r. (r ≢ out_of_memory)
+        → (r ≡ NullHandle) × (all_maps (all_lent maps.old) ≡ None)) }
+    ensures back { maps.new ≡ maps.old }
+{
+    let mut clones = Vec::new(alloc);
+    for i in 0..maps.len() {
+        clones.push(clone_map(alloc, &mut maps[i])?)?;
+    }
+    Ok(clones)
+}
+
+/// The parts of maps, with their paths.
+fn with_paths<'t>(
+    alloc: Global,
+    paths: &[&'t str],
+    maps: Vec<OwnedSourceMap>,
+) -> Memory<Vec<(&'t str, SourceMapParts<'static>)>>
+    requires { length paths.now ≡ length maps.items }
+    ensures { IfOk result (λ inputs. owned_input_records inputs.items
+        ≡ by_path (lent_items paths.now) maps.items) }
+{
+    let mut inputs = Vec::with_capacity(alloc, paths.len())?;
+    for map in maps {
+        let path = paths[inputs.len()];
+        inputs.push((path, map.into_parts()))?;
+    }
+    Ok(inputs)
+}
+
+fn remap_map(
+    alloc: Global,
+    map: &OwnedSourceMap,
+    paths: &[&[u8]],
+    inputs: Vec<OwnedSourceMap>,
+) -> Result<OwnedSourceMap, CallError>
+    ensures map { IfOk result (λ made. (length paths.now ≡ length inputs.items)
+        × AreTexts (lent_items paths.now) × IsRemapping map.now
+        (by_path (lent_items paths.now) inputs.items) made) }
+    ensures error { IfErr result (λ r. (r ≢ out_of_memory)
+        → IsRemappingError map.now (lent_items paths.now) inputs.items r) }
+{
+    if paths.len() != inputs.len() {
+        return Err(CallError::Lengths);
+    }
+    let paths = texts_of(alloc, paths)?;
+    let inputs = with_paths(alloc, paths.as_slice(), inputs)?;
+    let parts = remap_owned_parts(alloc, parts_of(map), inputs.as_slice())?;
+    Ok(OwnedSourceMap::from_parts(parts))
+}
+
+fn remap_held(
+    alloc: Global,
+    held: Option<&Held>,
+    paths: &[&[u8]],
+    inputs: &mut [Lent],
+) -> Result<OwnedSourceMap, CallError>
+    ensures map { IfOk result (IsRemapped (lent_item held.entry) (lent_items paths.now)
+        (all_lent inputs.old)) }
+    ensures error { IfErr result (λ r. (r ≢ out_of_memory) → IsRemapError (lent_item held.entry)
+        (lent_items paths.now) (all_lent inputs.old) r) }
+    ensures back { inputs.new ≡ inputs.old }
+{
+    let map = map_of(held)?;
+    let inputs = clone_all(alloc, inputs)?;
+    remap_map(alloc, map, paths, inputs)
+}
+
+/// The map that is lent, led through the maps of the sources with these paths.
+pub fn remap(
+    alloc: Global,
+    map: &mut Lent,
+    paths: &[&[u8]],
+    inputs: &mut [Lent],
+) -> Result<OwnedSourceMap, CallError>
+    ensures map { IfOk result (IsRemapped map.old.held (lent_items paths.now)
+        (all_lent inputs.old)) }
+    ensures error { IfErr result (λ r. (r ≢ out_of_memory) → IsRemapError map.old.held
+        (lent_items paths.now) (all_lent inputs.old) r) }
+    ensures back { IsBack map.old map.new }
+    ensures inputs_back { inputs.new ≡ inputs.old }
+{
+    remap_held(alloc, map.get(), paths, inputs)
+}
+
+/// The parts of maps, with their positions.
+fn with_positions(
+    alloc: Global,
+    maps: Vec<OwnedSourceMap>,
+    positions: &[Position],
+) -> Memory<Vec<(SourceMapParts<'static>, Position)>>
+    requires { length maps.items ≡ length positions.now }
+    ensures { IfOk result (λ placed. owned_records placed.items
+        ≡ at_places maps.items positions.now) }
+{
+    let mut placed = Vec::with_capacity(alloc, positions.len())?;
+    for map in maps {
+        let position = positions[placed.len()];
+        placed.push((map.into_parts(), position))?;
+    }
+    Ok(placed)
+}
+
+fn join_maps(
+    alloc: Global,
+    maps: Vec<OwnedSourceMap>,
+    positions: &[Position],
+) -> Result<OwnedSourceMap, CallError>
+    ensures map { IfOk result (IsJoinOfMaps maps.items positions.now) }
+    ensures error { IfErr result (λ r. (r ≢ out_of_memory)
+        → IsJoinErrorOfMaps maps.items positions.now r) }
+{
+    if maps.len() != positions.len() {
+        return Err(CallError::Lengths);
+    }
+    let placed = with_positions(alloc, maps, positions)?;
+    Ok(OwnedSourceMap::from_parts(join_owned_parts(alloc, placed)?))
+}
+
+/// The join of the maps that are lent, each at its position.
+pub fn join_all(
+    alloc: Global,
+    maps: &mut [Lent],
+    positions: &[Position],
+) -> Result<OwnedSourceMap, CallError>
+    ensures map { IfOk result (IsJoinOfLent (all_lent maps.old) positions.now) }
+    ensures error { IfErr result (λ r. (r ≢ out_of_memory)
+        → IsJoinErrorOf (all_lent maps.old) positions.now r) }
+    ensures back { maps.new ≡ maps.old }
+{
+    let maps = clone_all(alloc, maps)?;
+    join_maps(alloc, maps, positions)
+}

@@ -1,0 +1,3 @@
+pub mod Passing
+pub mod Characters
+pub mod Buffers

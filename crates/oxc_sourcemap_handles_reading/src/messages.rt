@@ -1,0 +1,67 @@
+//! The messages of errors, of their places and of what was mended.
+ghost use Rattle.std.specs.Prelude.{◌≡◌, length, string_bytes, MatchOption, MatchResult};
+ghost use Rattle.oxc_sourcemap_handles_reading.specs.Words.{call_error_text, call_error_of};
+ghost use Rattle.oxc_sourcemap_handles_reading.specs.Words.{filled, IsMessage, place_text};
+ghost use Rattle.oxc_sourcemap_handles_reading.specs.Words.{place_of_numbers, mend_text};
+ghost use Rattle.oxc_sourcemap_handles_reading.specs.Words.{mend_of_numbers};
+
+use crate::mends::MendNumbers;
+use oxc_sourcemap_handles::{Fault, PlaceNumbers};
+use std::alloc::Global;
+
+/// Writes as much of a text as there is room for.
+fn copy_to(text: &[u8], out: &mut [u8])
+    ensures { out.new ≡ filled text.now out.old }
+{
+    let count = text.len().min(out.len());
+    out[..count].copy_from_slice(&text[..count]);
+}
+
+/// Writes as much of a text as there is room for, and returns its whole length; 0 if there is none for want of memory.
+fn write_text<E: Drop>(text: Result<String, E>, out: &mut [u8]) -> usize
+    ensures { MatchResult text (λ text. (result ≡ length (string_bytes text))
+        × (out.new ≡ filled (string_bytes text) out.old))
+        (λ _. (result ≡ 0) × (out.new ≡ out.old)) }
+{
+    match text {
+        Ok(text) => {
+            copy_to(text.as_bytes(), out);
+            text.as_bytes().len()
+        }
+        Err(_) => 0,
+    }
+}
+
+/// Writes as much of the message of the error with these numbers as there is room for, and returns its whole length; 0 for
+/// want of memory, and if there is no such error.
+pub fn write_message(alloc: Global, fault: &Fault, out: &mut [u8]) -> usize
+    ensures { MatchOption (call_error_of fault.now) ((result ≡ 0) × (out.new ≡ out.old))
+        (λ r. IsMessage (call_error_text r) out.old out.new result) }
+{
+    match fault.call_error() {
+        Some(error) => write_text(error.to_string(alloc), out),
+        None => 0,
+    }
+}
+
+/// The same of a place.
+pub fn write_place_message(alloc: Global, place: &PlaceNumbers, out: &mut [u8]) -> usize
+    ensures { MatchOption (place_of_numbers place.now) ((result ≡ 0) × (out.new ≡ out.old))
+        (λ p. IsMessage (place_text p) out.old out.new result) }
+{
+    match place.place() {
+        Some(place) => write_text(place.to_string(alloc), out),
+        None => 0,
+    }
+}
+
+/// The same of a mend.
+pub fn write_mend_message(alloc: Global, mend: &MendNumbers, out: &mut [u8]) -> usize
+    ensures { MatchOption (mend_of_numbers mend.now) ((result ≡ 0) × (out.new ≡ out.old))
+        (λ m. IsMessage (mend_text m) out.old out.new result) }
+{
+    match mend.mend() {
+        Some(mend) => write_text(mend.to_string(alloc), out),
+        None => 0,
+    }
+}

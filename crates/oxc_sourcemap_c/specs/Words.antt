@@ -14,7 +14,8 @@ pub use Rattle.oxc_sourcemap_handles.specs.CallErrors.{IsNotText, IsSimplifyErro
 pub use Rattle.oxc_sourcemap_handles.specs.CallErrors.{call_error_text, of_map, out_of_memory}
 pub use Rattle.oxc_sourcemap_handles.specs.Codes.{IsErrorAs, IsSmall, call_error_of, code_of}
 pub use Rattle.oxc_sourcemap_handles.specs.Codes.{fault_of, no_fault}
-pub use Rattle.oxc_sourcemap_handles_making.specs.Failures.{IsErrorAt, IsMappingsErrorAt, IsReadErrorAt}
+pub use Rattle.oxc_sourcemap_handles_making.specs.Failures.{IsErrorAt, IsMappingsErrorAt}
+pub use Rattle.oxc_sourcemap_handles_making.specs.Failures.{IsReadErrorAt}
 pub use Rattle.oxc_sourcemap_handles.specs.Holding.{HoldsMap, HoldsOrder, held_builder, held_join}
 pub use Rattle.oxc_sourcemap_handles.specs.Holding.{held_loaded, held_map, held_mends, held_text}
 pub use Rattle.oxc_sourcemap_handles.specs.Lists.{AreContents, AreTexts, IsNotContents, IsNotTexts}

@@ -10,8 +10,10 @@ use Rattle.oxc_sourcemap_builders.specs.Built.{Built, nothing_built}
 use Rattle.oxc_sourcemap_builders.specs.Building.{with_name, with_path, with_bare_path}
 use Rattle.oxc_sourcemap_handles.specs.declared.held.Held.{Held}
 use Rattle.oxc_sourcemap_handles_making.specs.declared.builders.Step.{Step}
-use Rattle.oxc_sourcemap_handles_making.specs.declared.builders.Step.TheVariants.{Name, Source, Tokens}
-use Rattle.oxc_sourcemap_handles_making.specs.declared.builders.Step.TheVariants.{SourceAndContent, File}
+use Rattle.oxc_sourcemap_handles_making.specs.declared.builders.Step.TheVariants.{Name, Source}
+use Rattle.oxc_sourcemap_handles_making.specs.declared.builders.Step.TheVariants.{Tokens}
+use Rattle.oxc_sourcemap_handles_making.specs.declared.builders.Step.TheVariants.{SourceAndContent}
+use Rattle.oxc_sourcemap_handles_making.specs.declared.builders.Step.TheVariants.{File}
 use Rattle.oxc_sourcemap_handles.specs.declared.call_error.CallError.{CallError}
 use Rattle.oxc_sourcemap_handles.specs.declared.call_error.CallError.TheVariants.{NullHandle}
 use Rattle.oxc_sourcemap_handles.specs.Holding.{held_builder, held_map}

@@ -9,8 +9,10 @@ use Rattle.oxc_sourcemap_simplify.specs.Simplified.{simplification}
 use Rattle.oxc_sourcemap_handles.specs.declared.call_error.CallError.{CallError}
 use Rattle.oxc_sourcemap_handles.specs.declared.call_error.CallError.TheVariants.{NullHandle}
 use Rattle.oxc_sourcemap_handles_making.specs.declared.changing.Change.{Change}
-use Rattle.oxc_sourcemap_handles_making.specs.declared.changing.Change.TheVariants.{File, SourceRoot}
-use Rattle.oxc_sourcemap_handles_making.specs.declared.changing.Change.TheVariants.{DebugId, IgnoreList}
+use Rattle.oxc_sourcemap_handles_making.specs.declared.changing.Change.TheVariants.{File}
+use Rattle.oxc_sourcemap_handles_making.specs.declared.changing.Change.TheVariants.{SourceRoot}
+use Rattle.oxc_sourcemap_handles_making.specs.declared.changing.Change.TheVariants.{DebugId}
+use Rattle.oxc_sourcemap_handles_making.specs.declared.changing.Change.TheVariants.{IgnoreList}
 use Rattle.oxc_sourcemap_handles_making.specs.declared.changing.Change.TheVariants.{Sources}
 use Rattle.oxc_sourcemap_handles_making.specs.declared.changing.Change.TheVariants.{SourceContents}
 use Rattle.oxc_sourcemap_handles_making.specs.declared.changing.Change.TheVariants.{ApplySourceRoot}

@@ -1,5 +1,6 @@
 -- Errors with the places of their faults.
-use Rattle.std.specs.Prelude.{◌≡◌, ◌≢◌, ◌⊎◌, ℕ, List, Option, None, Err, option_map, IsUtf8, IsSomeAnd}
+use Rattle.std.specs.Prelude.{◌≡◌, ◌≢◌, ◌⊎◌, ℕ, List, Option, None, Err, option_map, IsUtf8}
+use Rattle.std.specs.Prelude.{IsSomeAnd}
 use Rattle.oxc_sourcemap_tokens.specs.declared.error.Error.{Error}
 use Rattle.oxc_sourcemap_parts.specs.Record.{Text}
 use Rattle.oxc_sourcemap_mappings.specs.Reading.{reading}

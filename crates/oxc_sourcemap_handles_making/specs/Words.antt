@@ -7,7 +7,8 @@ pub use Rattle.oxc_sourcemap_found.specs.FoundMaps.{found, found_record}
 pub use Rattle.oxc_sourcemap_handles.specs.Back.{IsBack}
 pub use Rattle.oxc_sourcemap_handles.specs.CallErrors.{IsNotText, out_of_memory}
 pub use Rattle.oxc_sourcemap_handles.specs.Codes.{IsErrorAs, code_of, fault_at, fault_of, no_fault}
-pub use Rattle.oxc_sourcemap_handles_making.specs.Failures.{IsFailure, IsMappingsErrorAt, IsReadErrorAt}
+pub use Rattle.oxc_sourcemap_handles_making.specs.Failures.{IsFailure, IsMappingsErrorAt}
+pub use Rattle.oxc_sourcemap_handles_making.specs.Failures.{IsReadErrorAt}
 pub use Rattle.oxc_sourcemap_handles_making.specs.Failures.{IsSegmentErrorAt, IsTextErrorAt}
 pub use Rattle.oxc_sourcemap_handles_making.specs.Failures.{mappings_place}
 pub use Rattle.oxc_sourcemap_handles.specs.Holding.{held_builder, held_join, held_map, held_mends}

@@ -11,8 +11,10 @@ use Rattle.oxc_sourcemap_handles.specs.declared.held.Held.{Held}
 use Rattle.oxc_sourcemap_handles.specs.declared.text.Text.{Text as LentText}
 use Rattle.oxc_sourcemap_handles_reading.specs.declared.asked.Asked.{Asked}
 use Rattle.oxc_sourcemap_handles_reading.specs.declared.asked.Asked.TheVariants.{Name, Source}
-use Rattle.oxc_sourcemap_handles_reading.specs.declared.asked.Asked.TheVariants.{SourceContent, File}
-use Rattle.oxc_sourcemap_handles_reading.specs.declared.asked.Asked.TheVariants.{SourceRoot, DebugId}
+use Rattle.oxc_sourcemap_handles_reading.specs.declared.asked.Asked.TheVariants.{SourceContent}
+use Rattle.oxc_sourcemap_handles_reading.specs.declared.asked.Asked.TheVariants.{File}
+use Rattle.oxc_sourcemap_handles_reading.specs.declared.asked.Asked.TheVariants.{SourceRoot}
+use Rattle.oxc_sourcemap_handles_reading.specs.declared.asked.Asked.TheVariants.{DebugId}
 use Rattle.oxc_sourcemap_handles.specs.Holding.{held_map}
 
 -- the text of a map that is asked for

@@ -7,7 +7,8 @@ use Rattle.oxc_sourcemap_handles.specs.Listed.{filled}
 use Rattle.oxc_sourcemap_handles_reading.proofs.Passing.{passing_next, none_passing, front_passing}
 use Rattle.oxc_sourcemap_handles_reading.proofs.Passing.{outside_false, filled_none}
 use Rattle.oxc_sourcemap_handles_reading.proofs.reverse.write_line.Goals as goal
-use Rattle.oxc_sourcemap_handles_reading.proofs.reverse.write_line.Goals.{then-points_to, else-points_to}
+use Rattle.oxc_sourcemap_handles_reading.proofs.reverse.write_line.Goals.{then-points_to}
+use Rattle.oxc_sourcemap_handles_reading.proofs.reverse.write_line.Goals.{else-points_to}
 
 pub loop-i-init : goal.loop-i-init
 loop-i-init c =

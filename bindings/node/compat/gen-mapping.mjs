@@ -1,0 +1,15 @@
+import api from './gen-mapping.js';
+
+export const {
+  GenMapping,
+  addSegment,
+  addMapping,
+  maybeAddSegment,
+  maybeAddMapping,
+  setSourceContent,
+  setIgnore,
+  toDecodedMap,
+  toEncodedMap,
+  fromMap,
+  allMappings,
+} = api;

@@ -1,0 +1,3 @@
+import remapping from './remapping.js';
+
+export default remapping;

@@ -1,0 +1,4 @@
+import * as library from './source-map.js';
+
+export * from './source-map.js';
+export default library;

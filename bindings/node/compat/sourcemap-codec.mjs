@@ -1,0 +1,6 @@
+import api from './sourcemap-codec.js';
+
+export const {
+  decode,
+  encode,
+} = api;

@@ -1,0 +1,79 @@
+'use strict';
+// Errors, from the words of a fault.
+
+const native = require('./native.js');
+const { NO_ID, Code, FIELDS, PLACES } = require('./constants.js');
+
+class SourceMapError extends Error {
+  constructor(message, { code, detail, field, place, placeMessage }) {
+    super(message);
+    this.code = code;
+    this.detail = detail;
+    this.field = field;
+    this.place = place;
+    this.placeMessage = placeMessage;
+  }
+}
+Object.defineProperty(SourceMapError.prototype, 'name', { value: 'SourceMapError', configurable: true, writable: true });
+
+/** A number of 64 bits, low word first. */
+function long(words, at) {
+  return words[at] + words[at + 1] * 2 ** 32;
+}
+
+/** The same, or null where it is not told. */
+function longOrNull(words, at) {
+  return words[at] === NO_ID && words[at + 1] === NO_ID ? null : long(words, at);
+}
+
+function placeOf(words) {
+  const kind = PLACES[words[4]];
+  if (!kind) return null;
+  const isMember = kind === 'member' || kind === 'entry';
+  return {
+    kind,
+    field: isMember ? FIELDS[words[5]] : null,
+    text: longOrNull(words, 6),
+    section: longOrNull(words, 8),
+    line: isMember ? null : long(words, 10),
+    segment: kind === 'segment' ? long(words, 12) : null,
+    column: kind === 'reading' ? long(words, 12) : null,
+    byte: isMember ? null : long(words, 14),
+    entry: kind === 'entry' ? long(words, 16) : null,
+  };
+}
+
+/** The error of a fault. */
+function errorOf(words) {
+  const [number, field] = words;
+  if (number === Code.SHARED) {
+    const told = { code: 'SMAP_SHARED', detail: 0, field: null, place: null, placeMessage: '' };
+    return new SourceMapError('The map is shared with other threads, and takes no change', told);
+  }
+  const code = native.codeName(number);
+  return new SourceMapError(native.message(words) || code, {
+    code,
+    detail: long(words, 2),
+    field: number === Code.JSON_SHAPE ? FIELDS[field] : null,
+    place: placeOf(words),
+    placeMessage: native.placeMessage(words),
+  });
+}
+
+/** Throws what a call has refused that answers a code. */
+function check(code) {
+  if (code !== 0) throw errorOf(native.fault);
+}
+
+/** What a call answers that makes something, or else a code. */
+function made(answer) {
+  if (typeof answer === 'number') throw errorOf(native.fault);
+  return answer;
+}
+
+/** The same, or null where there is nothing. */
+function madeOrNull(answer) {
+  return answer === Code.NO_ENTRY ? null : made(answer);
+}
+
+module.exports = { SourceMapError, errorOf, check, made, madeOrNull, long, longOrNull };

@@ -1,0 +1,37 @@
+'use strict';
+// Calls over texts alone.
+
+const native = require('./native.js');
+const { Language } = require('./constants.js');
+const { made, madeOrNull } = require('./errors.js');
+const { text, word, tokens, texts } = require('./arguments.js');
+const { SourceMap, mapOf } = require('./map.js');
+
+function evaluate(words, given) {
+  const said = texts(typeof words === 'string' ? words.split(/\s+/).filter(Boolean) : words, 'words');
+  const { bytes, lengths } = texts(given, 'texts');
+  return mapOf(native.evaluate(said.bytes, said.lengths, bytes, lengths));
+}
+
+function encodeMappings(all) {
+  return made(native.encodeMappings(tokens(all)));
+}
+
+function decodeMappings(mappings, limits) {
+  const map = SourceMap.fromMappings(mappings, limits);
+  try {
+    return map.tokens();
+  } finally {
+    map.free();
+  }
+}
+
+function sourceMappingURL(code, language = Language.JAVASCRIPT) {
+  return madeOrNull(native.sourceMappingURL(text(code, 'The code'), word(language, 'The language')));
+}
+
+function decodeDataURL(url) {
+  return madeOrNull(native.decodeDataURL(text(url, 'The URL')));
+}
+
+module.exports = { evaluate, encodeMappings, decodeMappings, sourceMappingURL, decodeDataURL };

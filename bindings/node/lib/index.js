@@ -1,0 +1,23 @@
+'use strict';
+
+const { NO_ID, Bias, Direction, Language } = require('./constants.js');
+const { SourceMapError } = require('./errors.js');
+const { SourceMap } = require('./map.js');
+const { SourceMapBuilder, ConcatSourceMapBuilder } = require('./builders.js');
+const { evaluate, encodeMappings, decodeMappings, sourceMappingURL, decodeDataURL } = require('./functions.js');
+
+module.exports = {
+  NO_ID,
+  Bias,
+  Direction,
+  Language,
+  SourceMap,
+  SourceMapBuilder,
+  ConcatSourceMapBuilder,
+  SourceMapError,
+  evaluate,
+  encodeMappings,
+  decodeMappings,
+  sourceMappingURL,
+  decodeDataURL,
+};

@@ -1,0 +1,17 @@
+import library from './index.js';
+
+export const {
+  NO_ID,
+  Bias,
+  Direction,
+  Language,
+  SourceMap,
+  SourceMapBuilder,
+  ConcatSourceMapBuilder,
+  SourceMapError,
+  evaluate,
+  encodeMappings,
+  decodeMappings,
+  sourceMappingURL,
+  decodeDataURL,
+} = library;

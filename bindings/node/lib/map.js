@@ -1,0 +1,483 @@
+'use strict';
+// The class SourceMap.
+
+const native = require('./native.js');
+const { NO_ID, Bias, Direction, Kind, Code, Which, Form, MENDS } = require('./constants.js');
+const { errorOf, check, made, madeOrNull, long, longOrNull } = require('./errors.js');
+const { text, word, idOf, list, checkWords, words, tokens, texts, contents } = require('./arguments.js');
+
+const answers = native.words;
+const ask = native.trace; // a look for it in so many properties would cost a fifth of the call
+const NOTHING = new Uint32Array(0);
+
+// Where `select` and `trace` have their words.
+const [SELECTED, LINE, COLUMN, BIAS] = [12, 13, 14, 15];
+
+/** What the constructor takes in place of a text: the handle of a map that a call has made. */
+class Made {
+  constructor(handle) {
+    this.handle = handle;
+  }
+}
+
+/** The map of what a call answers. */
+function mapOf(answer) {
+  return new SourceMap(new Made(made(answer)));
+}
+
+/** The handle of a map. */
+let handleOf;
+
+// Maps that this thread shares, which are kept until they are freed.
+const shared = new Set();
+
+class SourceMap {
+  #handle;
+  #number = -1; // by which the addon tells that this is the map that it asks
+  #nameCache = null;
+  #sourceCache = null;
+  #names = null;
+  #sources = null;
+
+  static {
+    handleOf = (map) => {
+      if (map === null || typeof map !== 'object' || !(#handle in map)) throw new TypeError('It is not a SourceMap');
+      return map.#handle;
+    };
+  }
+
+  constructor(json) {
+    this.#handle = json instanceof Made ? json.handle : made(native.fromJson(text(json, 'The JSON text')));
+  }
+
+  // ---- making ----
+
+  static async read(json) {
+    const answer = await native.readAsync(text(json, 'The JSON text'));
+    if (answer instanceof Uint32Array) throw errorOf(answer);
+    return mapOf(answer);
+  }
+
+  static found(json) {
+    const map = mapOf(native.readFound(text(json, 'The text')));
+    return { map, mends: mendsOf(map.#handle) };
+  }
+
+  static fromTokens(all, lists = {}) {
+    const names = texts(lists.names ?? [], 'names');
+    const sources = texts(lists.sources ?? [], 'sources');
+    const known = contents(lists.sourcesContent ?? [], 'sourcesContent');
+    const ignored = words(lists.ignoreList ?? [], 'ignoreList');
+    const map = mapOf(
+      native.fromTokens(
+        tokens(all),
+        names.bytes,
+        names.lengths,
+        sources.bytes,
+        sources.lengths,
+        known.bytes,
+        known.lengths,
+        ignored,
+      ),
+    );
+    if (lists.file !== undefined) map.setFile(lists.file);
+    if (lists.sourceRoot !== undefined) map.setSourceRoot(lists.sourceRoot);
+    if (lists.debugId !== undefined) map.setDebugId(lists.debugId);
+    return map;
+  }
+
+  static fromMappings(mappings, { names = NO_ID, sources = NO_ID } = {}) {
+    return mapOf(native.decodeMappings(text(mappings, 'The mappings'), word(names, 'names'), word(sources, 'sources')));
+  }
+
+  static join(parts) {
+    const all = list(parts, 'parts');
+    const positions = Uint32Array.from(
+      all.flatMap(({ line, column = 0 }) => [word(line, 'The line'), word(column, 'The column')]),
+    );
+    return mapOf(
+      native.joinAll(
+        all.map((part) => handleOf(part.map)),
+        positions,
+      ),
+    );
+  }
+
+  static shared(number) {
+    return mapOf(native.takeShared(word(number, 'The number')));
+  }
+
+  share() {
+    check(native.share(this.#handle));
+    shared.add(this);
+    return answers[0];
+  }
+
+  free() {
+    shared.delete(this);
+    this.#forget();
+    native.free(this.#handle);
+  }
+
+  clone() {
+    return mapOf(native.clone(this.#handle));
+  }
+
+  /** Drops the texts that are kept, which may have changed. */
+  #forget() {
+    this.#nameCache = this.#sourceCache = this.#names = this.#sources = null;
+  }
+
+  // ---- what a map holds ----
+
+  get counts() {
+    check(native.getCounts(this.#handle));
+    const [tokens, names, sources, sourcesContent, ignoreList, lines] = answers;
+    return { tokens, names, sources, sourcesContent, ignoreList, lines, bytes: long(answers, 6) };
+  }
+
+  get isSorted() {
+    check(native.isSorted(this.#handle));
+    return answers[0] === 1;
+  }
+
+  get isSound() {
+    check(native.isSound(this.#handle));
+    return answers[0] === 1;
+  }
+
+  get names() {
+    this.#names ??= Object.freeze(made(native.texts(this.#handle, Which.NAME)));
+    return this.#names;
+  }
+
+  get sources() {
+    this.#sources ??= Object.freeze(made(native.texts(this.#handle, Which.SOURCE)));
+    return this.#sources;
+  }
+
+  get sourcesContent() {
+    return made(native.texts(this.#handle, Which.CONTENT));
+  }
+
+  getName(id) {
+    return madeOrNull(native.text(this.#handle, Which.NAME, word(id, 'The id')));
+  }
+
+  getSource(id) {
+    return madeOrNull(native.text(this.#handle, Which.SOURCE, word(id, 'The id')));
+  }
+
+  getSourceContent(id) {
+    return madeOrNull(native.text(this.#handle, Which.CONTENT, word(id, 'The id')));
+  }
+
+  get file() {
+    return madeOrNull(native.text(this.#handle, Which.FILE, 0));
+  }
+
+  get sourceRoot() {
+    return madeOrNull(native.text(this.#handle, Which.SOURCE_ROOT, 0));
+  }
+
+  get debugId() {
+    return madeOrNull(native.text(this.#handle, Which.DEBUG_ID, 0));
+  }
+
+  get ignoreList() {
+    const code = native.getIgnoreList(this.#handle, NOTHING);
+    if (code === Code.NO_ENTRY) return null;
+    check(code);
+    const out = new Uint32Array(answers[0]);
+    check(native.getIgnoreList(this.#handle, out));
+    return [...out];
+  }
+
+  token(index) {
+    const code = native.getToken(this.#handle, word(index, 'The index'));
+    if (code === Code.NO_ENTRY) return null;
+    check(code);
+    return tokenAt(0, index);
+  }
+
+  tokens(out) {
+    check(native.getCounts(this.#handle));
+    const length = 6 * answers[0];
+    const all = out === undefined ? new Uint32Array(length) : checkWords(out, 'out');
+    if (all.length !== length) throw lengthsDiffer();
+    check(native.getTokens(this.#handle, all));
+    return all;
+  }
+
+  // ---- lookups ----
+
+  /** Asks for a generated position, and says of what kind the answer is. */
+  #ask(line, column, bias) {
+    if (line >>> 0 !== line || column >>> 0 !== column || bias >>> 0 !== bias) {
+      word(line, 'The line');
+      word(column, 'The column');
+      word(bias, 'The bias');
+    }
+    if (answers[SELECTED] !== this.#number) {
+      native.select(this.#handle);
+      this.#number = answers[SELECTED] || -1;
+    }
+    answers[LINE] = line;
+    answers[COLUMN] = column;
+    answers[BIAS] = bias;
+    const code = ask();
+    if (code !== undefined) check(code);
+    return answers[0];
+  }
+
+  trace(line, column, bias = Bias.BEFORE) {
+    const kind = this.#ask(line, column, bias);
+    if (kind < Kind.MAPPED) return null;
+    const index = answers[1];
+    const originalLine = answers[4];
+    const originalColumn = answers[5];
+    const sourceId = answers[6];
+    const nameId = answers[7];
+    return {
+      source: this.#sourceCache?.[sourceId] ?? this.#keptSource(sourceId),
+      line: originalLine,
+      column: originalColumn,
+      name: kind === Kind.NAMED ? (this.#nameCache?.[nameId] ?? this.#keptName(nameId)) : null,
+      index,
+    };
+  }
+
+  traceToken(line, column, bias = Bias.BEFORE) {
+    return this.#ask(line, column, bias) === Kind.NOTHING ? null : tokenAt(2, answers[1]);
+  }
+
+  /** A text that a lookup found: read once, and kept. The lists have room for all entries from the start, so that they stay fast. */
+  #keptSource(id) {
+    const source = made(native.text(this.#handle, Which.SOURCE, id));
+    this.#sourceCache ??= new Array(this.counts.sources);
+    this.#sourceCache[id] = source;
+    return source;
+  }
+
+  #keptName(id) {
+    const name = made(native.text(this.#handle, Which.NAME, id));
+    this.#nameCache ??= new Array(this.counts.names);
+    this.#nameCache[id] = name;
+    return name;
+  }
+
+  traceAll(positions, bias = Bias.BEFORE, out = undefined) {
+    const all = out === undefined ? new Uint32Array(4 * checkWords(positions, 'positions').length) : out;
+    check(native.traceAll(this.#handle, checkWords(positions, 'positions'), word(bias, 'The bias'), checkWords(all, 'out')));
+    return all;
+  }
+
+  findAll(positions, bias = Bias.BEFORE, out = undefined) {
+    const all = out === undefined ? new Uint32Array(checkWords(positions, 'positions').length / 2) : out;
+    check(native.findAll(this.#handle, checkWords(positions, 'positions'), word(bias, 'The bias'), checkWords(all, 'out')));
+    return all;
+  }
+
+  pieces(begin, end) {
+    const range = [begin, end].flatMap(({ line, column }) => [word(line, 'The line'), word(column, 'The column')]);
+    check(native.pieces(this.#handle, ...range, NOTHING));
+    const out = new Uint32Array(5 * answers[0]);
+    check(native.pieces(this.#handle, ...range, out));
+    return Array.from({ length: out.length / 5 }, (_, i) => pieceAt(out, 5 * i));
+  }
+
+  firstDifference(other) {
+    const code = native.firstDifference(this.#handle, handleOf(other));
+    if (code === Code.NO_ENTRY) return null;
+    check(code);
+    return { line: answers[0], column: answers[1] };
+  }
+
+  indexSources() {
+    check(native.indexSources(this.#handle));
+  }
+
+  /** The code of a call that needs the index, which is made if it is not there. A shared map takes no change. */
+  #indexed(call) {
+    const code = call();
+    if (code !== Code.NO_INDEX) return code;
+    const refused = native.indexSources(this.#handle);
+    if (refused !== Code.SHARED) check(refused);
+    return call();
+  }
+
+  generated(sourceId, line, column, direction = Direction.AT) {
+    const asked = place(sourceId, line, column, direction);
+    const code = this.#indexed(() => native.generated(this.#handle, ...asked));
+    if (code === Code.NO_ENTRY) return null;
+    check(code);
+    return tokenAt(1, answers[0]);
+  }
+
+  allGenerated(sourceId, line, column, direction = Direction.AT) {
+    const asked = place(sourceId, line, column, direction);
+    check(this.#indexed(() => native.allGenerated(this.#handle, ...asked, NOTHING)));
+    const out = new Uint32Array(answers[0]);
+    check(native.allGenerated(this.#handle, ...asked, out));
+    return out;
+  }
+
+  // ---- changing ----
+
+  setFile(file) {
+    check(native.setText(this.#handle, Which.FILE, text(file, 'The file')));
+  }
+
+  setSourceRoot(root) {
+    check(native.setText(this.#handle, Which.SOURCE_ROOT, text(root, 'The source root')));
+  }
+
+  setDebugId(id) {
+    check(native.setText(this.#handle, Which.DEBUG_ID, text(id, 'The debug id')));
+  }
+
+  setSources(sources) {
+    const { bytes, lengths } = texts(sources, 'sources');
+    this.#forget();
+    check(native.setTexts(this.#handle, Which.SOURCE, bytes, lengths));
+  }
+
+  setSourcesContent(sourcesContent) {
+    const { bytes, lengths } = contents(sourcesContent, 'sourcesContent');
+    check(native.setTexts(this.#handle, Which.CONTENT, bytes, lengths));
+  }
+
+  setIgnoreList(ids) {
+    check(native.setIgnoreList(this.#handle, words(ids, 'ids')));
+  }
+
+  applySourceRoot() {
+    this.#forget();
+    check(native.applySourceRoot(this.#handle));
+  }
+
+  sort() {
+    check(native.sort(this.#handle));
+  }
+
+  simplify() {
+    this.#forget();
+    check(native.simplify(this.#handle));
+  }
+
+  // ---- maps of maps ----
+
+  compose(input) {
+    return mapOf(native.compose(this.#handle, handleOf(input)));
+  }
+
+  remap(inputs) {
+    if (inputs === null || typeof inputs !== 'object') throw new TypeError('inputs is not an object');
+    const pairs = typeof inputs[Symbol.iterator] === 'function' ? [...inputs] : Object.entries(inputs);
+    const { bytes, lengths } = texts(
+      pairs.map(([path]) => path),
+      'The path',
+    );
+    return mapOf(
+      native.remap(
+        this.#handle,
+        bytes,
+        lengths,
+        pairs.map(([, map]) => handleOf(map)),
+      ),
+    );
+  }
+
+  // ---- writing ----
+
+  toString() {
+    return made(native.write(this.#handle, Form.JSON, ''));
+  }
+
+  toBytes() {
+    return made(native.writeBytes(this.#handle, Form.JSON, ''));
+  }
+
+  toJSON() {
+    return JSON.parse(this.toString());
+  }
+
+  toDataURL() {
+    return made(native.write(this.#handle, Form.DATA_URL, ''));
+  }
+
+  get mappings() {
+    return made(native.write(this.#handle, Form.MAPPINGS, ''));
+  }
+
+  visualize(code) {
+    return made(native.write(this.#handle, Form.DRAWING, text(code, 'The code')));
+  }
+
+  visualizerURL(code) {
+    return made(native.write(this.#handle, Form.DRAWING_URL, text(code, 'The code')));
+  }
+}
+
+/** The token whose words are answered from `at` on. */
+function tokenAt(at, index) {
+  return {
+    generatedLine: answers[at],
+    generatedColumn: answers[at + 1],
+    originalLine: answers[at + 2],
+    originalColumn: answers[at + 3],
+    sourceId: idOf(answers[at + 4]),
+    nameId: idOf(answers[at + 5]),
+    index,
+  };
+}
+
+function pieceAt(out, at) {
+  return {
+    begin: { line: out[at], column: out[at + 1] },
+    end: { line: out[at + 2], column: out[at + 3] },
+    index: idOf(out[at + 4]),
+  };
+}
+
+/** The numbers that reverse lookups take. */
+function place(sourceId, line, column, direction) {
+  return [
+    word(sourceId, 'The id of the source'),
+    word(line, 'The line'),
+    word(column, 'The column'),
+    word(direction, 'The direction'),
+  ];
+}
+
+function mendAt(out, at) {
+  return {
+    kind: MENDS[out[at]] ?? 'UNKNOWN',
+    section: longOrNull(out, at + 2),
+    number: long(out, at + 4),
+    message: native.mendMessage(out.slice(at, at + 6)),
+  };
+}
+
+/** What was mended in a map that was read as it was found. */
+function mendsOf(handle) {
+  check(native.getMends(handle, NOTHING));
+  const out = new Uint32Array(6 * answers[0]);
+  check(native.getMends(handle, out));
+  return Array.from({ length: out.length / 6 }, (_, i) => mendAt(out, 6 * i));
+}
+
+/** SMAP_LENGTHS, of lists that do not belong together. */
+function lengthsDiffer() {
+  const words = new Uint32Array(native.fault.length);
+  words[0] = Code.LENGTHS;
+  return errorOf(words);
+}
+
+Object.defineProperty(SourceMap.prototype, Symbol.dispose ?? Symbol.for('nodejs.dispose'), {
+  value: SourceMap.prototype.free,
+  configurable: true,
+  writable: true,
+});
+
+module.exports = { SourceMap, mapOf, handleOf };

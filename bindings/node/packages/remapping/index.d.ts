@@ -1,0 +1,2 @@
+import remapping = require("junketscarp/remapping");
+export = remapping;

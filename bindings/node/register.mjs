@@ -1,0 +1,3 @@
+import hook from './register.js';
+
+export const { install, uninstall } = hook;

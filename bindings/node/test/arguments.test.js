@@ -1,0 +1,224 @@
+'use strict';
+// Arguments of the wrong type or out of range: each is refused before anything is done.
+
+const test = require('node:test');
+const assert = require('node:assert/strict');
+const vm = require('node:vm');
+
+const { Bias, SourceMap, SourceMapBuilder, ConcatSourceMapBuilder, evaluate, encodeMappings, decodeMappings, sourceMappingURL, decodeDataURL } = require('..');
+const native = require('../lib/native.js');
+const { TEXT, TOKENS, flat } = require('./support.js');
+
+const map = new SourceMap(TEXT);
+const builder = new SourceMapBuilder();
+const join = new ConcatSourceMapBuilder();
+
+/** Calls with one number each. */
+const NUMBERS = [
+  (it) => map.trace(it, 0),
+  (it) => map.trace(0, it),
+  (it) => map.trace(0, 0, it),
+  (it) => map.traceToken(it, 0),
+  (it) => map.traceToken(0, it),
+  (it) => map.findAll(new Uint32Array(2), it),
+  (it) => map.traceAll(new Uint32Array(2), it),
+  (it) => map.pieces({ line: it, column: 0 }, { line: 0, column: 0 }),
+  (it) => map.pieces({ line: 0, column: 0 }, { line: 0, column: it }),
+  (it) => map.generated(it, 0, 0),
+  (it) => map.generated(0, it, 0),
+  (it) => map.generated(0, 0, it),
+  (it) => map.allGenerated(0, 0, 0, it),
+  (it) => map.token(it),
+  (it) => map.getName(it),
+  (it) => map.getSource(it),
+  (it) => map.getSourceContent(it),
+  (it) => map.setIgnoreList([it]),
+  (it) => SourceMap.join([{ map, line: it }]),
+  (it) => SourceMap.join([{ map, line: 0, column: it ?? null }]),
+  (it) => SourceMap.shared(it),
+  (it) => SourceMap.fromMappings('', { names: it ?? null }),
+  (it) => decodeMappings('', { sources: it ?? null }),
+  (it) => sourceMappingURL('', it ?? null),
+  (it) => join.addSourceMap(map, it),
+  (it) => builder.addToken(it, 0, 0, 0),
+  (it) => builder.addToken(0, it, 0, 0),
+  (it) => builder.addToken(0, 0, it, 0),
+  (it) => builder.addToken(0, 0, 0, it),
+  (it) => builder.addTokens([{ generatedLine: 0, generatedColumn: it, originalLine: 0, originalColumn: 0 }]),
+];
+/** And with one text each. */
+const TEXTS = [
+  (it) => new SourceMap(it),
+  (it) => SourceMap.found(it),
+  (it) => SourceMap.fromMappings(it),
+  (it) => SourceMap.fromTokens([], { names: [it] }),
+  (it) => SourceMap.fromTokens([], { sources: [it] }),
+  (it) => SourceMap.fromTokens([], { sourcesContent: ['a', it ?? 0] }),
+  (it) => SourceMap.fromTokens([], { file: it ?? 0 }),
+  (it) => map.setFile(it),
+  (it) => map.setSourceRoot(it),
+  (it) => map.setDebugId(it),
+  (it) => map.setSources(['a', it]),
+  (it) => map.setSourcesContent([it ?? 0]),
+  (it) => map.visualize(it),
+  (it) => map.visualizerURL(it),
+  (it) => map.remap([[it, map]]),
+  (it) => evaluate(['@0', it], []),
+  (it) => evaluate('@0', [it]),
+  (it) => sourceMappingURL(it),
+  (it) => decodeDataURL(it),
+  (it) => builder.addName(it),
+  (it) => builder.addSource(it),
+  (it) => builder.addSource('a', it ?? 0),
+  (it) => builder.setFile(it),
+];
+const LISTS = [
+  (it) => SourceMap.fromTokens(it),
+  (it) => SourceMap.fromTokens([], { names: it ?? 0 }),
+  (it) => SourceMap.fromTokens([], { ignoreList: it ?? 0 }),
+  (it) => SourceMap.join(it),
+  (it) => map.setSources(it),
+  (it) => map.setSourcesContent(it),
+  (it) => map.setIgnoreList(it),
+  (it) => evaluate('@0', it),
+  (it) => encodeMappings(it),
+  (it) => builder.addTokens(it),
+];
+const WORDS = [
+  (it) => map.findAll(it),
+  (it) => map.traceAll(it),
+  (it) => map.findAll(new Uint32Array(2), Bias.BEFORE, it ?? null),
+  (it) => map.traceAll(new Uint32Array(2), Bias.BEFORE, it ?? null),
+  (it) => map.tokens(it ?? null),
+];
+const MAPS = [
+  (it) => map.compose(it),
+  (it) => map.firstDifference(it),
+  (it) => map.remap([['a', it]]),
+  (it) => SourceMap.join([{ map: it, line: 0 }]),
+  (it) => join.addSourceMap(it, 0),
+];
+
+test('numbers', () => {
+  for (const call of NUMBERS) {
+    for (const number of [-1, 1.5, NaN, Infinity, -Infinity, 2 ** 32, 1e300]) assert.throws(() => call(number), RangeError);
+    for (const other of ['1', null, 1n, {}, [], Symbol('a'), true]) {
+      if (other === null && (String(call).includes('?? null') || String(call).includes('addToken('))) continue;
+      assert.throws(() => call(other), TypeError, String(call));
+    }
+  }
+  assert.equal(map.trace(-0, -0).index, 0);
+  assert.equal(map.trace(4294967295, 4294967295), null);
+});
+
+test('texts', () => {
+  for (const call of TEXTS) {
+    for (const other of ['\ud800', 1, null, undefined, {}, [], new Uint16Array(2), new DataView(new ArrayBuffer(2)), new ArrayBuffer(2), new Proxy(new Uint8Array(2), {}), Object('{}')]) {
+      assert.throws(() => call(other), TypeError, String(call));
+    }
+  }
+});
+
+test('lists', () => {
+  for (const call of LISTS) {
+    for (const other of [1, null, 'ab', {}, true]) {
+      if (other === null && String(call).includes('ignoreList')) continue;
+      assert.throws(() => call(other), TypeError, String(call));
+    }
+  }
+});
+
+test('arrays of numbers', () => {
+  for (const call of WORDS) {
+    for (const other of [1, null, [0, 0], new Int32Array(2), new Uint8Array(8), new Float64Array(2), new Proxy(new Uint32Array(2), {})]) {
+      assert.throws(() => call(other), TypeError, String(call));
+    }
+  }
+});
+
+test('maps', () => {
+  for (const call of MAPS) {
+    for (const other of [1, null, undefined, {}, TEXT, builder, Object.create(SourceMap.prototype), new Proxy(map, {})]) {
+      assert.throws(() => call(other), { name: 'TypeError', message: 'It is not a SourceMap' }, String(call));
+    }
+  }
+  assert.throws(() => map.remap(null), TypeError);
+  assert.throws(() => SourceMap.prototype.trace.call({}, 0, 0), TypeError);
+  assert.throws(() => SourceMap(TEXT), TypeError);
+});
+
+test('nothing of what was refused is left', () => {
+  assert.equal(map.toString(), new SourceMap(TEXT).toString());
+  assert.equal(builder.finish().toString(), '{"version":3,"names":[],"sources":[],"mappings":""}');
+  assert.equal(join.finish().toString(), '{"version":3,"names":[],"sources":[],"mappings":""}');
+});
+
+test('arrays of another realm', () => {
+  const bytes = vm.runInNewContext('new Uint8Array(n)', { n: [...Buffer.from(TEXT)] });
+  assert.equal(bytes instanceof Uint8Array, false);
+  assert.equal(new SourceMap(bytes).toString(), map.toString());
+  const positions = vm.runInNewContext('Uint32Array.of(0, 3, 1, 1)');
+  assert.deepEqual([...map.findAll(positions)], [1, 3]);
+});
+
+test('arrays whose buffer was detached', () => {
+  const detached = (array) => {
+    structuredClone(array.buffer, { transfer: [array.buffer] });
+    return array;
+  };
+  assert.throws(() => new SourceMap(detached(new Uint8Array(99))), { code: 'SMAP_JSON_READING' });
+  assert.equal(map.findAll(detached(new Uint32Array(2))).length, 0);
+  assert.throws(() => map.findAll(Uint32Array.of(0, 0), Bias.BEFORE, detached(new Uint32Array(1))), { code: 'SMAP_LENGTHS' });
+  assert.throws(() => map.tokens(detached(new Uint32Array(24))), { code: 'SMAP_LENGTHS' });
+  assert.equal(SourceMap.fromTokens(detached(flat(TOKENS))).counts.tokens, 0);
+});
+
+test('what runs while arguments are read', () => {
+  const other = new SourceMap(TEXT);
+  const parts = [{ map: other, line: 0 }, { get map() { other.free(); return map; }, line: 1 }];
+  assert.throws(() => SourceMap.join(parts), { code: 'SMAP_NULL_HANDLE' });
+  const bytes = Buffer.from(TEXT);
+  const names = { *[Symbol.iterator]() { structuredClone(bytes.buffer, { transfer: bytes.buffer.byteLength === bytes.length ? [bytes.buffer] : [] }); yield 'a'; } };
+  assert.deepEqual(SourceMap.fromTokens([], { sources: [bytes], names }).names, ['a']);
+});
+
+test('the addon, called past the classes', () => {
+  const [handle, builderHandle, joinHandle] = [native.fromJson(TEXT), native.builderNew(), native.joinNew()];
+  const none = [new Uint8Array(0), new Uint32Array(0)];
+  const wrong = [
+    () => native.getCounts(builderHandle),
+    () => native.getCounts(joinHandle),
+    () => native.builderFinish(handle),
+    () => native.builderFinish(joinHandle),
+    () => native.joinFinish(handle),
+    () => native.joinFinish(builderHandle),
+    () => native.joinAdd(joinHandle, builderHandle, 0, 0),
+    () => native.compose(handle, joinHandle),
+    () => native.joinAll([handle, builderHandle], new Uint32Array(4)),
+    () => native.joinAll(new Proxy([handle], {}), new Uint32Array(2)),
+    () => native.remap(handle, ...none, {}),
+    () => native.select(builderHandle),
+    () => native.free({}),
+    () => native.free(),
+    () => native.getCounts(),
+    () => native.getTokens(handle, new Int32Array(24)),
+    () => native.getTokens(handle, new Float64Array(24)),
+    () => native.fromJson(new Uint32Array(4)),
+    () => native.message(new Uint32Array(6)),
+    () => native.mendMessage(new Uint32Array(18)),
+    // The lengths of texts are above their bytes.
+    () => native.fromTokens(none[1], Buffer.from('ab'), Uint32Array.of(3), ...none, ...none, none[1]),
+    () => native.setTexts(handle, 1, Buffer.from('ab'), Uint32Array.of(1, 1, 1)),
+    () => native.evaluate(Buffer.from('@0'), Uint32Array.of(2), Buffer.from('{}'), Uint32Array.of(1, 4294967294)),
+  ];
+  for (const call of wrong) assert.throws(call, TypeError, String(call));
+  assert.equal(native.text(handle, 6, 0), 105);
+  assert.equal(native.texts(handle, 3), 105);
+  assert.equal(native.setText(handle, 0, 'a'), 105);
+  assert.equal(native.setTexts(handle, 0, ...none), 105);
+  assert.equal(native.write(handle, 5, ''), 105);
+  assert.equal(native.fault[0], 105);
+  assert.equal(native.joinAll([handle], new Uint32Array(3)), 102);
+  assert.equal(native.joinAll([handle], new Uint32Array(4)), 102);
+  assert.equal(native.write(handle, 0), native.write(native.clone(handle), 0, ''));
+});

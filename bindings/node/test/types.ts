@@ -1,0 +1,84 @@
+// What `tsc --strict` has to accept, and to refuse.
+import {
+  Bias,
+  Code,
+  ConcatSourceMapBuilder,
+  Direction,
+  FaultPlace,
+  FoundToken,
+  Language,
+  Mend,
+  NO_ID,
+  Original,
+  Piece,
+  RawSourceMap,
+  SourceMap,
+  SourceMapBuilder,
+  SourceMapError,
+  decodeDataURL,
+  decodeMappings,
+  encodeMappings,
+  evaluate,
+  sourceMappingURL,
+} from "../lib/index";
+
+async function uses(bytes: Uint8Array): Promise<void> {
+  const map = new SourceMap(bytes);
+  const other: SourceMap = await SourceMap.read("{}");
+  const found: { map: SourceMap; mends: Mend[] } = SourceMap.found(bytes);
+  const original: Original | null = map.trace(0, 1, Bias.AFTER);
+  const name: string | null | undefined = original?.name;
+  const token: FoundToken | null = map.traceToken(0, 1);
+  const answers: Uint32Array = map.traceAll(Uint32Array.of(0, 1), Bias.BEFORE, new Uint32Array(8));
+  const indices: Uint32Array = map.findAll(Uint32Array.of(0, 1));
+  const pieces: Piece[] = map.pieces({ line: 0, column: 0 }, { line: 1, column: 0 });
+  const back: FoundToken | null = map.generated(0, 1, 2, Direction.FOR);
+  const all: Uint32Array = map.allGenerated(0, 1, 2);
+  const names: readonly string[] = map.names;
+  const raw: RawSourceMap = map.toJSON();
+  map.setSources(new Set(["a"]));
+  map.setSourcesContent(["a", null, bytes]);
+  const joined = SourceMap.join([{ map, line: 0 }, { map: other, line: 1, column: 2 }]);
+  const made = SourceMap.fromTokens(map.tokens(), { names, sources: map.sources, sourcesContent: map.sourcesContent, ignoreList: [0] });
+  const remapped = joined.remap({ "a.js": made }).remap([["a", map]]).remap(new Map([["a", map]]));
+  const shared: SourceMap = SourceMap.shared(remapped.share());
+  shared[Symbol.dispose]();
+  const builder = new SourceMapBuilder();
+  const id: number = builder.addSource("a", null);
+  builder.addToken(0, 0, 0, 0, id, null);
+  builder.addTokens([{ generatedLine: 0, generatedColumn: 0, originalLine: 0, originalColumn: 0, sourceId: null, nameId: null }]);
+  const concat = new ConcatSourceMapBuilder();
+  concat.addSourceMap(builder.finish(), 7);
+  const text: string = evaluate("@0", [map.toString()]).mappings + encodeMappings(decodeMappings("A", { names: 1 }));
+  const url: string | null = sourceMappingURL(text, Language.CSS) ?? decodeDataURL(text);
+  void [found, name, token, answers, indices, pieces, back, all, raw, concat, url, NO_ID];
+}
+
+function tells(error: unknown): string {
+  if (!(error instanceof SourceMapError)) return "";
+  const code: Code = error.code;
+  const place: FaultPlace | null = error.place;
+  return `${code} ${error.detail} ${error.field ?? ""} ${place?.kind ?? ""} ${error.placeMessage} ${error.message}`;
+}
+
+function refused(map: SourceMap): void {
+  // @ts-expect-error: a column is needed
+  map.trace(0);
+  // @ts-expect-error: no such bias
+  map.trace(0, 0, 3);
+  // @ts-expect-error: numbers are unsigned words
+  map.findAll([0, 1]);
+  // @ts-expect-error: names are only read
+  map.names = [];
+  // @ts-expect-error: as their entries are
+  map.names[0] = "a";
+  // @ts-expect-error: there may be no answer
+  map.trace(0, 0).line;
+  // @ts-expect-error: errors are not made
+  new SourceMapError("a");
+  // @ts-expect-error: no such code
+  const code: Code = "SMAP_NONE";
+  void code;
+}
+
+void [uses, tells, refused];

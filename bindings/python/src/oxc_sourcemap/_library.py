@@ -6,8 +6,9 @@ from __future__ import annotations
 import ctypes
 import os
 from ctypes import POINTER, Structure, c_char_p, c_size_t, c_uint32, c_uint64, c_void_p
+from collections.abc import Callable
 from pathlib import Path
-from typing import Any
+from typing import Any, Protocol, cast
 
 VERSION = 1
 """The version of the interface that this package is written for."""
@@ -138,6 +139,14 @@ PROTOTYPES: dict[str, tuple[Any, ...]] = {
 }
 
 
+class Calls(Protocol):
+    """The calls of the library. All but one return a number, or nothing."""
+
+    def smap_code_name(self, code: int, /) -> bytes: ...
+
+    def __getattr__(self, name: str, /) -> Callable[..., int]: ...
+
+
 def _found() -> Path:
     """Where the library is: what OXC_SOURCEMAP_LIB names, or beside this file, or in target/ of the repository."""
     if named := os.environ.get("OXC_SOURCEMAP_LIB"):
@@ -161,4 +170,4 @@ def _loaded() -> ctypes.CDLL:
     return library
 
 
-lib = _loaded()
+lib = cast(Calls, _loaded())

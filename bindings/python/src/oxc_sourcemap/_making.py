@@ -24,7 +24,7 @@ class _Maker:
 
     _new: ClassVar[Callable[..., int]]
     _finish: ClassVar[Callable[..., int]]
-    _free: ClassVar[Callable[..., None]]
+    _free: ClassVar[Callable[..., object]]
 
     def __init__(self) -> None:
         self._at, self._lock, fault = ctypes.c_void_p(), threading.Lock(), _library.Fault()
@@ -103,7 +103,7 @@ class SourceMapBuilder(_Maker):
 
     _new: ClassVar[Callable[..., int]] = lib.smap_builder_new
     _finish: ClassVar[Callable[..., int]] = lib.smap_builder_finish
-    _free: ClassVar[Callable[..., None]] = lib.smap_free_builder
+    _free: ClassVar[Callable[..., object]] = lib.smap_free_builder
 
     def _added(self, call: Callable[..., int], *texts: Text) -> int:
         id, data = ctypes.c_uint32(), [bytes_of(text) for text in texts]
@@ -183,7 +183,7 @@ class SourceMapJoin(_Maker):
 
     _new: ClassVar[Callable[..., int]] = lib.smap_join_new
     _finish: ClassVar[Callable[..., int]] = lib.smap_join_finish
-    _free: ClassVar[Callable[..., None]] = lib.smap_free_join
+    _free: ClassVar[Callable[..., object]] = lib.smap_free_join
 
     def add(self, map: SourceMap, line: int, column: int = 0) -> None:
         """Adds a map, whose code begins at this line and column of the joined code. The map may be changed or closed then. Source

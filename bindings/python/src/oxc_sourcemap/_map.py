@@ -59,9 +59,9 @@ except ImportError:
     from ._plain import bind, originals, trace
 
 if TYPE_CHECKING:
-    from typing_extensions import Buffer
+    from _typeshed import ReadableBuffer as Buffer
 
-bind(ctypes.cast(lib.smap_trace, ctypes.c_void_p).value or 0, Original, Token)
+bind(ctypes.cast(cast(Any, lib.smap_trace), ctypes.c_void_p).value or 0, Original, Token)
 
 T = TypeVar("T")
 
@@ -193,7 +193,7 @@ class SourceMap:
     def __exit__(self, *_: object) -> None:
         self.close()
 
-    def __del__(self, free: Callable[..., None] = lib.smap_free_map) -> None:
+    def __del__(self, free: Callable[..., object] = lib.smap_free_map) -> None:
         if self._lease is not None:
             free(self._lease)
 

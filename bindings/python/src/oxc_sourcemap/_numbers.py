@@ -14,7 +14,7 @@ from ._library import NO_ID
 from ._values import Code, Text, Token
 
 if TYPE_CHECKING:
-    from typing_extensions import Buffer
+    from _typeshed import ReadableBuffer as Buffer
 
 Positions = Union[Iterable[tuple[int, int]], "Buffer"]
 """Lines and columns: pairs, or a buffer of unsigned 32-bit numbers, two for each position."""

@@ -11,7 +11,7 @@ from . import _library
 from ._library import NO_ID, NOT_TOLD, lib
 
 if TYPE_CHECKING:
-    from typing_extensions import Buffer
+    from _typeshed import ReadableBuffer as Buffer
 
     from ._map import SourceMap
 

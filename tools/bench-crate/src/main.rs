@@ -152,6 +152,10 @@ fn time_modules(asked: &Asked, texts: &[&str]) -> Result<(), Error> {
     let modules: Vec<_> = maps.iter().zip(0..).map(|(map, i)| (map, i * LINES)).collect();
     let join = |()| ConcatSourceMapBuilder::from_sourcemaps(&modules).into_sourcemap();
     asked.time("join_each", tokens, || (), join);
+    let join_owned = |()| ConcatSourceMapBuilder::from_sourcemaps(&modules).into_sourcemap().into_owned();
+    asked.time("join_each_owned", tokens, || (), join_owned);
+    let read_owned = |()| texts.iter().map(|text| read(text)).collect::<Result<Vec<_>, _>>();
+    asked.time("parse_each_owned", tokens, || (), read_owned);
     Ok(())
 }
 

@@ -136,7 +136,8 @@ static const napi_type_tag TAG = {0x6a756e6b65747363, 0x6172702f68616e64};
 
 static const smap_map *map_in(const Handle *handle) { return handle->held != NULL ? handle->held->map : NULL; }
 
-/* Counts what a handle holds more, or less, and tells the collector once it is worth it for all handles together. */
+/* Counts what a handle holds more, or less, and tells the collector once it is worth it for all handles together. Who tells of more may
+ * start the collector, whose finalizers come here again: so nothing is left to tell by then, and they tell of less alone. */
 static void tell(napi_env env, Handle *handle, int64_t more)
 {
     Instance *instance = handle->instance;
@@ -144,7 +145,9 @@ static void tell(napi_env env, Handle *handle, int64_t more)
     handle->weight += more;
     instance->untold += more;
     if (instance->untold > -SMALL && instance->untold < SMALL) return;
-    if (napi_adjust_external_memory(env, instance->untold, &now) == napi_ok) instance->untold = 0;
+    int64_t untold = instance->untold;
+    instance->untold = 0;
+    if (napi_adjust_external_memory(env, untold, &now) != napi_ok) instance->untold += untold;
 }
 
 /* Frees what a handle holds. */

@@ -50,6 +50,17 @@ test('what is freed is freed at once', { skip: isSanitized }, () => {
   assert.ok(held < 200, `${held} MB`);
 });
 
+test('large maps, some of which are freed, do not disturb the collector that they start', () => {
+  const said = run(`
+    const text = Buffer.from(JSON.stringify({ version: 3, sources: ['a'], names: [], mappings: 'AAAA'.padEnd(2_000_000, ',CAAC') }));
+    for (let i = 0; i < 40; i++) {
+      const map = new SourceMap(text);
+      if (i % 2) map.free();
+    }
+    process.stdout.write('true');`);
+  assert.equal(said, true);
+});
+
 test('a map that was freed, or selected and collected, leaves nothing that is used', () => {
   const said = run(
     `

@@ -1,6 +1,7 @@
 #!/usr/bin/env python3
-"""tools/unproved_archive.py ARCHIVE [SANITIZER=ARCHIVE..]   compiles crates/oxc_sourcemap_c and the crates below it without a proof;
-and, with each SANITIZER (address, thread), into another archive, for programs that are linked with that sanitizer.
+"""tools/unproved_archive.py ARCHIVE [SANITIZER=ARCHIVE..] [module=FILE]   compiles crates/oxc_sourcemap_c and the crates below it without
+a proof; and, with each SANITIZER (address, thread), into another archive, for programs that are linked with that sanitizer. FILE gets
+the text of the module of LLVM that is compiled, for other processors.
 
 For people at work: half a minute in place of half an hour, and nothing is proved. `rattle build` makes a static library of proved
 crates alone. What `rt try` runs needs no proof, but is a program: so this makes one that calls each export behind a condition
@@ -85,7 +86,7 @@ def compile_module(room, archive, sanitizer=None):
     subprocess.run(["ar", "rcs", archive, "exports.o"], cwd=room, check=True)
 
 
-def make(room, archive, *sanitized):
+def make(room, archive, *others):
     """Makes the archives."""
     write_program(room)
     write_toolchain(room / "toolchain", room)
@@ -97,9 +98,12 @@ def make(room, archive, *sanitized):
     subprocess.run([*CLANG, "-S", "-emit-llvm", "module.bc", "-o", "module.ll"], cwd=room, check=True)
     (room / "module.ll").write_text(exported((room / "module.ll").read_text()))
     compile_module(room, os.path.abspath(archive))
-    for it in sanitized:
-        sanitizer, other = it.split("=", 1)
-        compile_module(room, os.path.abspath(other), sanitizer)
+    for it in others:
+        kind, other = it.split("=", 1)
+        if kind == "module":
+            shutil.copy(room / "module.ll", other)
+        else:
+            compile_module(room, os.path.abspath(other), kind)
 
 
 if __name__ == "__main__":

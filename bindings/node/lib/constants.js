@@ -11,7 +11,7 @@ const Language = Object.freeze({ JAVASCRIPT: 0, CSS: 1 });
 /** Of answers of lookups. */
 const Kind = Object.freeze({ NOTHING: 0, UNMAPPED: 1, MAPPED: 2, NAMED: 3 });
 
-const Code = Object.freeze({ LENGTHS: 102, NO_ENTRY: 103, NO_INDEX: 104, JSON_SHAPE: 5, SHARED: 200 });
+const Code = Object.freeze({ LENGTHS: 102, NO_ENTRY: 103, NO_INDEX: 104, JSON_SHAPE: 5, SHARED: 200, NO_THREADS: 201 });
 
 const Which = Object.freeze({ NAME: 0, SOURCE: 1, CONTENT: 2, FILE: 3, SOURCE_ROOT: 4, DEBUG_ID: 5 });
 const Form = Object.freeze({ JSON: 0, DATA_URL: 1, MAPPINGS: 2, DRAWING: 3, DRAWING_URL: 4 });

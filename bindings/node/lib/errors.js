@@ -43,13 +43,16 @@ function placeOf(words) {
   };
 }
 
+/** An error whose code is none of the library's. */
+function errorOfThreads(code, message) {
+  return new SourceMapError(message, { code, detail: 0, field: null, place: null, placeMessage: '' });
+}
+
 /** The error of a fault. */
 function errorOf(words) {
   const [number, field] = words;
-  if (number === Code.SHARED) {
-    const told = { code: 'SMAP_SHARED', detail: 0, field: null, place: null, placeMessage: '' };
-    return new SourceMapError('The map is shared with other threads, and takes no change', told);
-  }
+  if (number === Code.SHARED) return errorOfThreads('SMAP_SHARED', 'The map is shared with other threads, and takes no change');
+  if (number === Code.NO_THREADS) return errorOfThreads('SMAP_NO_THREADS', 'The WebAssembly module shares no map with other threads');
   const code = native.codeName(number);
   return new SourceMapError(native.message(words) || code, {
     code,

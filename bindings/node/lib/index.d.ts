@@ -236,7 +236,8 @@ export type Code =
   | "SMAP_BAD_OPTION"
   | "SMAP_UNKNOWN"
   /** The map is shared with other threads, and takes no change. */
-  | "SMAP_SHARED";
+  | "SMAP_SHARED"
+  | "SMAP_NO_THREADS";
 
 /**
  * A call that was refused.
@@ -343,6 +344,8 @@ export class SourceMap {
    * (so call `indexSources` before, if workers look up generated positions).
    *
    * The garbage collector does not free a map that was shared. It can be taken until `free`, or until its thread ends.
+   *
+   * Throws SourceMapError of SMAP_NO_THREADS where the package runs as a WebAssembly module, which shares no maps.
    *
    * @example
    * worker.postMessage(map.share());

@@ -50,6 +50,9 @@ export type Code = number;
 /** A code that is none of the library's: the map is shared with other threads, and takes no change. */
 export type SHARED = 200;
 
+/** The same, of a module that shares no maps with other threads: what `share` answers there. */
+export type NO_THREADS = 201;
+
 /** The length of a text that is not known, and the id of nothing. */
 export type NOT_TOLD = 0xffffffff;
 
@@ -107,7 +110,7 @@ export interface Native {
   // ---- threads ----
 
   /** The number by which `takeShared` of another thread finds the map, for as long as any handle of it is there. From now on the map
-   *  takes no change: calls that change it answer SHARED. `words[0]` is the number. */
+   *  takes no change: calls that change it answer SHARED. `words[0]` is the number. A WebAssembly module answers NO_THREADS. */
   share(map: MapHandle): Code;
   /** A handle of a map that was shared, or 103 if there is none of this number any more. */
   takeShared(number: number): MapHandle | Code;

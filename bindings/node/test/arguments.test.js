@@ -7,7 +7,7 @@ const vm = require('node:vm');
 
 const { Bias, SourceMap, SourceMapBuilder, ConcatSourceMapBuilder, evaluate, encodeMappings, decodeMappings, sourceMappingURL, decodeDataURL } = require('..');
 const native = require('../lib/native.js');
-const { TEXT, TOKENS, flat } = require('./support.js');
+const { TEXT, TOKENS, flat, isModule } = require('./support.js');
 
 const map = new SourceMap(TEXT);
 const builder = new SourceMapBuilder();
@@ -195,7 +195,8 @@ test('the addon, called past the classes', () => {
     () => native.joinAdd(joinHandle, builderHandle, 0, 0),
     () => native.compose(handle, joinHandle),
     () => native.joinAll([handle, builderHandle], new Uint32Array(4)),
-    () => native.joinAll(new Proxy([handle], {}), new Uint32Array(2)),
+    // (JavaScript itself cannot tell that this is no array)
+    ...(isModule ? [] : [() => native.joinAll(new Proxy([handle], {}), new Uint32Array(2))]),
     () => native.remap(handle, ...none, {}),
     () => native.select(builderHandle),
     () => native.free({}),

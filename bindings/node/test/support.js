@@ -7,6 +7,8 @@ const { join } = require('node:path');
 const assert = require('node:assert/strict');
 
 const { NO_ID, SourceMapError } = require('..');
+const { Code } = require('../lib/constants.js');
+const native = require('../lib/native.js');
 
 const MAP = {
   version: 3,
@@ -172,7 +174,13 @@ function realMaps() {
   return paths.map((path) => ({ path, bytes: readFileSync(join(REAL, path)), refused: refused[path] ?? null }));
 }
 
+/** Whether the tests run over a WebAssembly module, and not over an addon; and the options of a test over maps that threads share. */
+const isModule = native.share(native.fromJson(TEXT)) === Code.NO_THREADS;
+const sharing = { skip: isModule && 'a WebAssembly module shares no maps' };
+
 module.exports = {
+  isModule,
+  sharing,
   MAP,
   TEXT,
   TOKENS,

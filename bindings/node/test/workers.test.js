@@ -9,7 +9,7 @@ const { Worker } = require('node:worker_threads');
 
 const { SourceMap } = require('..');
 const { digest } = require('./worker.js');
-const { TEXT, fails, random, randomMap, positionsOf, flat } = require('./support.js');
+const { TEXT, sharing, fails, random, randomMap, positionsOf, flat } = require('./support.js');
 
 const FILE = join(__dirname, 'worker.js');
 const { tokens, json } = randomMap(7);
@@ -32,7 +32,7 @@ async function answered(worker) {
   return answers;
 }
 
-test('eight threads, over maps of their own and over one that is shared', async (t) => {
+test('eight threads, over maps of their own and over one that is shared', sharing, async (t) => {
   const map = new SourceMap(text);
   map.indexSources();
   const expected = digest(map, positions, rounds);
@@ -46,7 +46,7 @@ test('eight threads, over maps of their own and over one that is shared', async 
   map.free();
 });
 
-test('a shared map lives as long as anyone has it', async (t) => {
+test('a shared map lives as long as anyone has it', sharing, async (t) => {
   const map = new SourceMap(text);
   map.indexSources();
   const number = map.share();
@@ -64,7 +64,7 @@ test('a shared map lives as long as anyone has it', async (t) => {
   fails({ code: 'SMAP_NO_ENTRY' }, () => SourceMap.shared(0));
 });
 
-test('a shared map takes no change', () => {
+test('a shared map takes no change', sharing, () => {
   const map = new SourceMap(TEXT);
   const here = SourceMap.shared(map.share());
   const calls = [
@@ -92,7 +92,7 @@ test('a shared map takes no change', () => {
   assert.equal(here.toString(), new SourceMap(TEXT).toString());
 });
 
-test('a thread that ends lets go of its maps, and of what it is reading', async (t) => {
+test('a thread that ends lets go of its maps, and of what it is reading', sharing, async (t) => {
   const script = `
     const { SourceMap } = require(${JSON.stringify(require.resolve('..'))});
     const { parentPort } = require('node:worker_threads');
@@ -110,7 +110,7 @@ test('a thread that ends lets go of its maps, and of what it is reading', async 
   fails({ code: 'SMAP_NO_ENTRY' }, () => SourceMap.shared(number));
 });
 
-test('the collector keeps a map that is shared', async () => {
+test('the collector keeps a map that is shared', sharing, async () => {
   const numbers = Array.from({ length: 5 }, () => new SourceMap(text).share());
   for (let i = 0; i < 200; i++) new SourceMap(JSON.stringify({ ...json, sourcesContent: ['x'.repeat(1_000_000)] }));
   await new Promise(setImmediate);

@@ -1,0 +1,128 @@
+#!/usr/bin/env node
+// bundle.js MODULE.wasm FOLDER   makes the folder of the package that has the module: the module, what loads it in Node, and the package's
+// own JavaScript as modules of ECMAScript for browsers and other hosts, which know no `require`:
+//   node.js     what native.d.ts says, for lib/native.js
+//   load.mjs    load(response, bytes or module) and loadSync, which give what the package exports
+//   index.mjs   the package, which fetches the module beside it
+//   inline.mjs  the package in one file, with the module in it
+'use strict';
+
+const { copyFileSync, mkdirSync, readFileSync, rmSync, writeFileSync } = require('node:fs');
+const { join } = require('node:path');
+
+const BINDINGS = join(__dirname, '../..');
+const LIB = join(BINDINGS, 'node/lib');
+const LOADER = join(BINDINGS, 'wasm/loader.js');
+const MODULE = 'oxc_sourcemap.wasm';
+const MADE = '// Made of the files of the package.\n';
+
+/** The names of the files that a file requires. One that is no file of the package is refused. */
+function required(text) {
+  return [...text.matchAll(/\brequire\(([^)]*)\)/g)].map(([, word]) => {
+    const name = /^'(\.\/[\w-]+\.js)'$/.exec(word)?.[1];
+    if (name === undefined) throw new Error(`bundle: ${word} is no file of the package`);
+    return name;
+  });
+}
+
+/** The files below one, by their names; native.js is given in another way. */
+function filesBelow(name, found = new Map()) {
+  if (found.has(name) || name === './native.js') return found;
+  const text = readFileSync(join(LIB, name), 'utf8');
+  found.set(name, text);
+  for (const it of required(text)) filesBelow(it, found);
+  return found;
+}
+
+/** The files as functions, and what runs them. */
+function bundled() {
+  const files = filesBelow('./index.js').set('./loader.js', readFileSync(LOADER, 'utf8'));
+  const entries = [...files].map(([name, text]) => `  ${JSON.stringify(name)}(module, exports, require) {\n${text}  },\n`);
+  return `${MADE}
+const FILES = {
+${entries.join('')}};
+
+function run(name, modules) {
+  if (!modules.has(name)) {
+    const module = { exports: {} };
+    modules.set(name, module);
+    FILES[name](module, module.exports, (it) => run(it, modules));
+  }
+  return modules.get(name).exports;
+}
+
+/** What the package exports, over a module of its own. */
+function libraryOf(module) {
+  const modules = new Map();
+  modules.set('./native.js', { exports: run('./loader.js', modules).nativeOf(module) });
+  return run('./index.js', modules);
+}
+`;
+}
+
+const LOADS = `
+/** By streaming, if the server says that it is a module. */
+async function compiled(response) {
+  if (!response.ok) throw new Error(\`There is no WebAssembly module at \${response.url}: \${response.status}\`);
+  const type = response.headers.get('content-type') ?? '';
+  if (/^application\\/wasm\\b/i.test(type)) return WebAssembly.compileStreaming(response);
+  return WebAssembly.compile(await response.arrayBuffer());
+}
+
+/** What the package exports, over a module: compiled already, its bytes, or the response that brings it. */
+export async function load(given) {
+  const it = await given;
+  if (it instanceof WebAssembly.Module) return libraryOf(it);
+  if (typeof Response === 'function' && it instanceof Response) return libraryOf(await compiled(it));
+  return libraryOf(await WebAssembly.compile(it));
+}
+
+/** The same at once. Browsers allow it in workers alone. */
+export function loadSync(given) {
+  return libraryOf(given instanceof WebAssembly.Module ? given : new WebAssembly.Module(given));
+}
+`;
+
+/** The names that the package exports, as index.mjs lists them. */
+function exported() {
+  const found = /export const (\{[^}]*\}) = library;/.exec(readFileSync(join(LIB, 'index.mjs'), 'utf8'));
+  if (!found) throw new Error('bundle: index.mjs lists no exports');
+  return `export const ${found[1]} = library;\n`;
+}
+
+const NODE = `'use strict';
+// What native.d.ts says, of the WebAssembly module beside this file.
+
+const { readFileSync } = require('node:fs');
+const { join } = require('node:path');
+const { nativeOf } = require('./loader.js');
+
+module.exports = nativeOf(new WebAssembly.Module(readFileSync(join(__dirname, '${MODULE}'))));
+`;
+
+const INDEX = `${MADE}
+import { load } from './load.mjs';
+
+const library = await load(fetch(new URL('./${MODULE}', import.meta.url)));
+
+`;
+
+const inlined = (module) => `
+const MODULE = '${module.toString('base64')}';
+const bytes = Uint8Array.from(atob(MODULE), (it) => it.charCodeAt(0));
+const library = libraryOf(await WebAssembly.compile(bytes));
+
+`;
+
+function main([path, folder]) {
+  const module = readFileSync(path);
+  rmSync(folder, { recursive: true, force: true });
+  mkdirSync(folder, { recursive: true });
+  copyFileSync(path, join(folder, MODULE));
+  copyFileSync(LOADER, join(folder, 'loader.js'));
+  const code = bundled();
+  const files = { 'node.js': NODE, 'load.mjs': code + LOADS, 'index.mjs': INDEX + exported(), 'inline.mjs': code + inlined(module) + exported() };
+  for (const [name, text] of Object.entries(files)) writeFileSync(join(folder, name), text);
+}
+
+main(process.argv.slice(2));

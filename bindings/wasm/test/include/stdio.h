@@ -1,0 +1,7 @@
+/* As much of it as bindings/c/test.c needs. */
+#ifndef STDIO_H
+#define STDIO_H
+#include <stddef.h>
+int printf(const char *format, ...);
+int sprintf(char *to, const char *format, ...);
+#endif

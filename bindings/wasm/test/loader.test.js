@@ -1,0 +1,284 @@
+'use strict';
+// The loader over modules that were linked anew: a stack of 32 KiB, and a memory of 4 MiB. And memory, texts, threads and traps over the module
+// as it is. MODULES in the environment is the folder: oxc_sourcemap.wasm, small_stack.wasm, small_memory.wasm.
+
+const test = require('node:test');
+const assert = require('node:assert/strict');
+const { execFileSync } = require('node:child_process');
+const { readFileSync } = require('node:fs');
+const { join } = require('node:path');
+const { Worker } = require('node:worker_threads');
+
+const LOADER = require.resolve('../loader.js');
+const { nativeOf, TrapError, NO_THREADS } = require(LOADER);
+
+const folder = process.env.MODULES;
+const compiled = (name) => new WebAssembly.Module(readFileSync(join(folder, name)));
+const module_ = compiled('oxc_sourcemap.wasm');
+const native = nativeOf(module_);
+
+const NOTHING = new Uint32Array(0);
+const json = (more) => JSON.stringify({ version: 3, sources: ['a.ts'], names: [], mappings: 'AAAA', ...more });
+/** A map with a member whose lists are so deep. */
+const nested = (depth) => json().replace('{', `{"x":${'['.repeat(depth)}${']'.repeat(depth)},`);
+const NO_MEMORY = 10;
+const NOT_TOLD = 0xffffffff;
+
+/** A text of JSON that takes so many bytes. */
+const large = (bytes) => json({ sourcesContent: ['x'.repeat(bytes)] });
+
+test('a trap ends one map, and says what happened', () => {
+  const small = nativeOf(compiled('small_stack.wasm'));
+  const kept = small.fromJson(json());
+  assert.throws(() => small.fromJson(nested(120)), (error) => {
+    assert.ok(error instanceof TrapError && error.cause instanceof WebAssembly.RuntimeError);
+    assert.match(error.message, /^The WebAssembly module stopped in smap_from_json_string: memory access out of bounds\. The map of this call is lost, and no other$/);
+    return true;
+  });
+  assert.equal(small.write(kept, 0, ''), '{"version":3,"names":[],"sources":["a.ts"],"mappings":"AAAA"}');
+  assert.equal(typeof small.fromJson(json()), 'object');
+  assert.equal(typeof native.fromJson(nested(120)), 'object');
+});
+
+test('no call is made in an instance that has stopped', () => {
+  const small = nativeOf(compiled('small_stack.wasm'));
+  const map = small.fromJson(json());
+  assert.throws(() => map.instance.call('smap_get_counts', 0xfffffff0, 0), TrapError);
+  for (const call of [() => small.getCounts(map), () => small.write(map, 0, ''), () => small.clone(map), () => small.compose(map, map)]) {
+    assert.throws(call, TrapError);
+  }
+  small.select(map);
+  assert.throws(() => small.trace(), TrapError);
+  small.free(map);
+  assert.equal(small.trace(), 100);
+  assert.equal(small.getCounts(small.fromJson(json())), 0);
+});
+
+test('a memory that is full is an error, and the next map is read', () => {
+  const small = nativeOf(compiled('small_memory.wasm'));
+  for (let i = 0; i < 20; i++) {
+    assert.equal(small.fromJson(large(3_000_000)), NO_MEMORY);
+    assert.equal(small.fault[0], NO_MEMORY);
+    assert.equal(small.message(small.fault), 'Out of memory');
+    const map = small.fromJson(large(100_000));
+    assert.equal(small.text(map, 2, 0), 'x'.repeat(100_000));
+  }
+});
+
+test('a call that finds no memory leaves the map as it was', () => {
+  const small = nativeOf(compiled('small_memory.wasm'));
+  const map = small.fromJson(large(900_000));
+  const before = small.write(map, 0, '');
+  assert.equal(before, NO_MEMORY);
+  assert.equal(small.text(map, 2, 0).length, 900_000);
+  assert.equal(small.setTexts(map, 2, new Uint8Array(2_000_000), Uint32Array.of(2_000_000)), NO_MEMORY);
+  assert.equal(small.traceAll(map, new Uint32Array(2 * 1_000_000), 0, new Uint32Array(8 * 1_000_000)), 0);
+  assert.equal(small.compose(map, map), NO_MEMORY);
+  assert.equal(small.joinAll([map, small.fromJson(json())], new Uint32Array(4)), NO_MEMORY);
+  assert.equal(small.text(map, 2, 0).length, 900_000);
+  assert.equal(small.getCounts(map), 0);
+  const join = small.joinNew();
+  assert.equal(small.joinAdd(join, small.fromJson(json()), 0, 0), 0);
+  const codes = Array.from({ length: 5 }, (_, i) => small.joinAdd(join, map, i, 0));
+  assert.equal(codes.at(-1), NO_MEMORY);
+  assert.deepEqual([...new Set(codes)].filter((it) => it !== 0), [NO_MEMORY]);
+  const joined = small.joinFinish(join);
+  assert.equal(small.getCounts(joined), 0);
+  assert.equal(small.words[0], 1 + codes.filter((it) => it === 0).length);
+});
+
+test('memory that grew is not read by a view from before', () => {
+  const map = native.fromJson(json({ names: ['f'], mappings: 'AAAAA' }));
+  native.select(map);
+  const ask = () => {
+    [native.words[13], native.words[14], native.words[15]] = [0, 3, 0];
+    assert.equal(native.trace(), undefined);
+    assert.deepEqual([...native.words.subarray(0, 8)], [3, 0, 0, 0, 0, 0, 0, 0]);
+  };
+  ask();
+  const before = map.instance.memory.buffer;
+  assert.equal(native.setTexts(map, 2, Buffer.alloc(5_000_000, 'y'), Uint32Array.of(5_000_000)), 0);
+  assert.notEqual(map.instance.memory.buffer, before);
+  ask();
+  assert.equal(native.text(map, 2, 0).length, 5_000_000);
+});
+
+test('addresses of 2 GiB and more have no sign', () => {
+  const map = native.fromJson(json({ names: ['f'], mappings: 'AAAAA' }));
+  const below = map.instance.call('malloc', 2_200_000_000); // none of which is touched
+  assert.ok(below > 0 && map.instance.memory.buffer.byteLength > 2 ** 31);
+  while (map.instance.call('malloc', 16) < 2 ** 31); // so that nothing is free below
+  const texts = ['größe', 'x'.repeat(100)];
+  const bytes = texts.map((it) => Buffer.from(it));
+  assert.equal(native.setTexts(map, 1, Buffer.concat(bytes), Uint32Array.from(bytes, (it) => it.length)), 0);
+  assert.deepEqual(native.texts(map, 1), texts);
+  const out = new Uint32Array(16);
+  assert.equal(native.traceAll(map, Uint32Array.of(0, 0, 0, 9), 0, out), 0);
+  assert.deepEqual([...out.subarray(8)], [3, 0, 0, 0, 0, 0, 0, 0]);
+  const tokens = new Uint32Array(6);
+  assert.equal(native.getTokens(map, tokens), 0);
+  assert.deepEqual([...tokens], [0, 0, 0, 0, 0, 0]);
+  assert.equal(JSON.parse(native.write(map, 0, '')).sources[0], texts[0]);
+  assert.equal(native.text(native.clone(map), 1, 1), texts[1]);
+});
+
+test('answers may be written over the positions that are asked', () => {
+  const map = native.fromJson(json({ mappings: 'AAAA;AACA;AACA' }));
+  const count = 10_000;
+  const positions = Uint32Array.from({ length: 2 * count }, (_, i) => (i % 2 === 0 ? (i / 2) % 3 : i % 5));
+  const apart = new Uint32Array(8 * count);
+  assert.equal(native.traceAll(map, positions, 0, apart), 0);
+  const over = new Uint32Array(8 * count);
+  over.set(positions);
+  assert.equal(native.traceAll(map, over.subarray(0, 2 * count), 0, over), 0);
+  assert.deepEqual(over, apart);
+});
+
+test('a number above 32 bits is told as the greatest one', () => {
+  const join = native.joinNew();
+  assert.equal(native.joinAdd(join, native.fromJson(json()), 0xffffffff, 0), 0);
+  const map = native.joinFinish(join);
+  assert.equal(native.getCounts(map), 0);
+  assert.equal(native.words[5], NOT_TOLD);
+});
+
+test('what a call gives is not of the memory', () => {
+  const map = native.fromJson(json());
+  const bytes = native.writeBytes(map, 0, '');
+  assert.notEqual(bytes.buffer, map.instance.memory.buffer);
+  assert.ok(bytes.buffer.byteLength === bytes.length);
+});
+
+test('texts keep a leading U+FEFF, and all other letters', () => {
+  const texts = ['\ufeffa', '\ufeff', '\ufeff\ufeff'.padEnd(40, 'é'), '\u0000', 'x'.repeat(23), 'x'.repeat(24) + 'é', '😀'.repeat(30)];
+  const map = native.fromJson(json({ sources: texts, names: texts, sourcesContent: texts, file: texts[0] }));
+  for (const which of [0, 1, 2]) assert.deepEqual(native.texts(map, which), texts);
+  texts.forEach((text, i) => assert.equal(native.text(map, 1, i), text));
+  assert.equal(native.text(map, 3, 0), texts[0]);
+  assert.equal(JSON.parse(native.write(map, 0, '')).file, texts[0]);
+  assert.equal(native.setText(map, 3, texts[2]), 0);
+  assert.equal(native.text(map, 3, 0), texts[2]);
+});
+
+test('an instance that is freed is used again, a large one for a large map alone', () => {
+  const first = native.fromJson(json());
+  const { instance } = first;
+  native.free(first);
+  const again = native.fromJson(json());
+  assert.equal(again.instance, instance);
+  assert.equal(first.instance, null);
+  const big = native.fromJson(large(5_000_000));
+  const { instance: large_ } = big;
+  native.free(big);
+  for (let i = 0; i < 10; i++) assert.notEqual(native.fromJson(json()).instance, large_);
+  const other = native.fromJson(large(4_000_000));
+  assert.equal(other.instance, large_);
+  assert.notEqual(native.fromJson(large(4_000_000)).instance, large_);
+});
+
+test('a freed instance holds nothing of the maps before', () => {
+  const map = native.fromJson(json({ names: ['a', 'b'] }));
+  /** Where the first block of the instance of a handle lies, once that is freed. */
+  const left = (handle) => {
+    const { instance } = handle;
+    native.free(handle);
+    const at = instance.call('malloc', 1000);
+    instance.call('free', at);
+    return at;
+  };
+  const first = left(native.fromJson(json()));
+  const join = native.joinNew();
+  const builder = native.builderNew();
+  for (const it of [1, 2]) assert.equal(native.joinAdd(join, map, it, 0), 0);
+  assert.equal(native.builderAddSource(builder, 'a', 'x'), 0);
+  const changed = native.clone(map);
+  assert.equal(native.setTexts(changed, 2, Buffer.from('xyz'), Uint32Array.of(1, 0, 2)), 0);
+  const makers = [
+    () => native.readFound('\ufeff' + json()),
+    () => native.clone(map),
+    () => native.compose(map, map),
+    () => native.remap(map, Buffer.from('a.ts'), Uint32Array.of(4), [map]),
+    () => native.joinAll([map, map], new Uint32Array(4)),
+    () => native.joinFinish(join),
+    () => native.builderFinish(builder),
+    () => changed,
+    () => native.joinNew(),
+  ];
+  for (const make of makers) assert.equal(left(make()), first, String(make));
+  assert.equal(native.fromJson('{'), 4);
+  assert.equal(native.firstDifference(map, native.fromJson(json())), 103);
+  assert.equal(native.encodeMappings(new Uint32Array(6)), 'AAAAA');
+  assert.equal(native.sourceMappingURL('//# sourceMappingURL=a.map', 0), 'a.map');
+  for (let i = 0; i < 10; i++) assert.equal(left(native.fromJson(json())), first);
+});
+
+test('maps in the instance that they share are freed once each: by `free`, or by the collector', () => {
+  const script = `
+    const { Instance } = WebAssembly;
+    let given = 0;
+    WebAssembly.Instance = class extends Instance {
+      constructor(...words) {
+        if (++given > 1) throw new RangeError('Out of memory');
+        super(...words);
+      }
+    };
+    const { nativeOf } = require(${JSON.stringify(LOADER)});
+    const native = nativeOf(new WebAssembly.Module(require('node:fs').readFileSync(${JSON.stringify(join(folder, 'oxc_sourcemap.wasm'))})));
+    const text = ${JSON.stringify(json({ names: ['a', 'b', 'c'] }))};
+    const turn = () => new Promise((resolve) => setTimeout(resolve, 20));
+    const lowest = (instance) => {
+      const at = instance.call('malloc', 100);
+      instance.call('free', at);
+      return at;
+    };
+    (async () => {
+      const kept = native.fromJson(text);
+      const { instance } = kept;
+      const before = lowest(instance);
+      const used = new Set(Array.from({ length: 20 }, () => native.fromJson(text).instance));
+      for (let i = 0; i < 20; i++) native.free(native.readFound(text));
+      await turn();
+      const again = native.fromJson(text);
+      for (let i = 0; i < 3; i++) gc(), await turn();
+      const said = [kept, again, native.fromJson(text)].map((it) => native.write(it, 0, ''));
+      native.free(again);
+      for (let i = 0; i < 3; i++) gc(), await turn();
+      process.stdout.write(JSON.stringify([used.size, instance.isCommon, new Set(said).size, said[0].length > 50, lowest(instance) === before]));
+    })();`;
+  const said = execFileSync(process.execPath, ['--expose-gc', '-e', script], { encoding: 'utf8' });
+  assert.deepEqual(JSON.parse(said), [1, true, 1, true, true]);
+});
+
+test('a thread compiles the module that another one has, and no map is shared', async () => {
+  const map = native.fromJson(json());
+  assert.equal(native.share(map), NO_THREADS);
+  assert.equal(native.fault[0], NO_THREADS);
+  assert.equal(native.takeShared(1), 103);
+  const script = `const { parentPort, workerData } = require('node:worker_threads');
+    const native = require(${JSON.stringify(LOADER)}).nativeOf(workerData.module);
+    parentPort.postMessage(native.write(native.fromJson(workerData.text), 0, ''));`;
+  const worker = new Worker(script, { eval: true, workerData: { module: module_, text: json() } });
+  const [said] = await require('node:events').once(worker, 'message');
+  assert.equal(said, native.write(map, 0, ''));
+});
+
+test('a map that moved is the same: ids out of range, equal names, no order, lists of other lengths', () => {
+  const builder = native.builderNew();
+  native.builderAddName(builder, 'f');
+  native.builderAddSource(builder, 'a.ts', 'let');
+  native.builderAddTokens(builder, Uint32Array.of(3, 0, 0, 0, 7, 9, 1, 5, 2, 2, 0, 0, 1, 1, 0, 0, 0xffffffff, 4));
+  const odd = native.builderFinish(builder);
+  native.setTexts(odd, 2, Buffer.from('xy'), Uint32Array.of(1, 0xffffffff, 1));
+  native.setText(odd, 3, '');
+  native.setIgnoreList(odd, NOTHING);
+  const copy = native.clone(odd);
+  assert.equal(native.firstDifference(odd, copy), 103);
+  assert.deepEqual([native.getIgnoreList(copy, NOTHING), native.words[0], native.text(copy, 3, 0)], [0, 0, '']);
+  assert.deepEqual(native.texts(copy, 2), ['x', null, 'y']);
+  assert.deepEqual([native.getIgnoreList(native.clone(native.fromJson(json())), NOTHING), native.fault[0]], [103, 103]);
+  const joined = native.joinAll([odd, native.fromJson(json({ names: ['g', 'g'], mappings: 'AAAAC' }))], Uint32Array.of(0, 0, 9, 0));
+  const tokens = new Uint32Array(24);
+  assert.equal(native.getTokens(joined, tokens), 0);
+  assert.deepEqual([...tokens.subarray(0, 6)], [3, 0, 0, 0, 7, 9]);
+  assert.deepEqual(native.texts(joined, 0), ['f', 'g', 'g']);
+});

@@ -20,7 +20,7 @@ const { LEAST_UPPER_BOUND, ORIGINAL_ORDER } = SourceMapConsumer;
 const MAP = {
   version: 3,
   file: 'out.js',
-  sourceRoot: '/root/src',
+  sourceRoot: '/site/src',
   sources: ['a.ts', 'b.ts'],
   sourcesContent: ['let x;', null],
   names: ['x', 'y'],
@@ -83,9 +83,9 @@ describe('SourceMapConsumer by hand', () => {
   const consumer = new SourceMapConsumer(MAP);
 
   it('has the fields of the map, and its sources behind their root', () => {
-    assert.deepEqual(consumer.sources, ['/root/src/a.ts', '/root/src/b.ts']);
+    assert.deepEqual(consumer.sources, ['/site/src/a.ts', '/site/src/b.ts']);
     assert.equal(consumer.file, 'out.js');
-    assert.equal(consumer.sourceRoot, '/root/src');
+    assert.equal(consumer.sourceRoot, '/site/src');
     assert.deepEqual(consumer.sourcesContent, MAP.sourcesContent);
     const bare = new SourceMapConsumer({ version: 3, sources: [], mappings: '' });
     assert.deepEqual([bare.file, bare.sourceRoot, bare.sourcesContent], [null, null, null]);
@@ -116,13 +116,13 @@ describe('SourceMapConsumer by hand', () => {
 
   it('finds original positions', () => {
     const at = (line, column, bias) => consumer.originalPositionFor({ line, column, ...(bias && { bias }) });
-    assert.deepEqual(at(1, 0), { source: '/root/src/a.ts', line: 1, column: 0, name: 'x' });
-    assert.deepEqual(at(1, 8), { source: '/root/src/a.ts', line: 2, column: 4, name: null });
+    assert.deepEqual(at(1, 0), { source: '/site/src/a.ts', line: 1, column: 0, name: 'x' });
+    assert.deepEqual(at(1, 8), { source: '/site/src/a.ts', line: 2, column: 4, name: null });
     assert.deepEqual(at(1, 3.5), at(1, 3));
     assert.deepEqual(at(1, 3.5, LEAST_UPPER_BOUND), at(1, 4));
     assert.deepEqual(at(1, 9), NOTHING);
     assert.deepEqual(at(1, Infinity), NOTHING);
-    assert.deepEqual(at(3, Infinity), { source: '/root/src/b.ts', line: 1, column: 0, name: 'y' });
+    assert.deepEqual(at(3, Infinity), { source: '/site/src/b.ts', line: 1, column: 0, name: 'y' });
     assert.deepEqual(at(3, 1), NOTHING);
     assert.deepEqual(at(3, 1, LEAST_UPPER_BOUND), at(3, 2));
     assert.deepEqual(at(3, 3, LEAST_UPPER_BOUND), NOTHING);
@@ -142,7 +142,7 @@ describe('SourceMapConsumer by hand', () => {
 
   it('finds generated positions, from the lines around, too', () => {
     const at = (source, line, column, bias) => consumer.generatedPositionFor({ source, line, column, bias });
-    assert.deepEqual(at('/root/src/a.ts', 2, 4), { line: 1, column: 4, lastColumn: null });
+    assert.deepEqual(at('/site/src/a.ts', 2, 4), { line: 1, column: 4, lastColumn: null });
     assert.deepEqual(at('a.ts', 2, 9), { line: 1, column: 4, lastColumn: null });
     assert.deepEqual(at('a.ts', 2, 3), { line: 1, column: 0, lastColumn: null });
     assert.deepEqual(at('a.ts', 1, 1, LEAST_UPPER_BOUND), { line: 1, column: 4, lastColumn: null });
@@ -200,14 +200,14 @@ describe('SourceMapConsumer by hand', () => {
     });
     assert.deepEqual(
       allMappings(consumer, ORIGINAL_ORDER).map(({ source, originalLine }) => `${source}:${originalLine}`),
-      ['/root/src/a.ts:1', '/root/src/a.ts:2', '/root/src/b.ts:1'],
+      ['/site/src/a.ts:1', '/site/src/a.ts:2', '/site/src/b.ts:1'],
     );
     assert.throws(() => consumer.eachMapping(() => {}, null, 3), { message: 'Unknown order of iteration.' });
   });
 
   it('has contents by the names and by the URLs of sources', () => {
     assert.equal(consumer.sourceContentFor('a.ts'), 'let x;');
-    assert.equal(consumer.sourceContentFor('/root/src/a.ts'), 'let x;');
+    assert.equal(consumer.sourceContentFor('/site/src/a.ts'), 'let x;');
     assert.equal(consumer.sourceContentFor('b.ts'), null);
     assert.equal(consumer.sourceContentFor('c.ts', true), null);
     assert.throws(() => consumer.sourceContentFor('c.ts'), { message: '"c.ts" is not in the SourceMap.' });
@@ -372,9 +372,9 @@ describe('SourceMapGenerator by hand', () => {
     const consumer = SourceMapConsumer.fromSourceMap(generator);
     generator.addMapping({ generated: { line: 9, column: 0 } });
     assert.ok(consumer instanceof BasicSourceMapConsumer);
-    generator.applySourceMap(new SourceMapConsumer({ version: 3, sources: ['c'], names: [], mappings: 'AAgBA' }), '/root/src/a.ts');
+    generator.applySourceMap(new SourceMapConsumer({ version: 3, sources: ['c'], names: [], mappings: 'AAgBA' }), '/site/src/a.ts');
     assert.deepEqual(allMappings(consumer), allMappings(new SourceMapConsumer(MAP)));
-    assert.equal(consumer.sourceContentFor('/root/src/a.ts'), 'let x;');
+    assert.equal(consumer.sourceContentFor('/site/src/a.ts'), 'let x;');
   });
 });
 

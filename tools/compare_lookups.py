@@ -1,6 +1,6 @@
 #!/usr/bin/env python3
 """Compares lookups both ways, sorting and positions in a text with the plain reference (tests/reference/lookups.py), and lookups with
-npm packages (lookup_peers.js), and prints the tables of docs/FIGURES.md, "Real maps".
+npm packages (lookup_peers.js), and prints the tables behind docs/FIGURES.md, "Real maps".
 
     tools/compare_lookups.py [--program PROGRAM] [--cases N] [--only cases|peers|maps] [FOLDER]
 

@@ -5,17 +5,7 @@ const { readFileSync } = require('node:fs');
 const { basename } = require('node:path');
 
 const { SourceMap, NO_ID, encodeMappings } = require('..');
-
-/** Numbers from 0 up to a limit, by a seed. */
-function random(seed) {
-  let x = seed;
-  return (limit) => {
-    x ^= x << 13;
-    x ^= x >>> 17;
-    x ^= x << 5;
-    return (x >>> 0) % limit;
-  };
-}
+const { random } = require('../test/random.js');
 
 /** The text of a map as bundlers write them: so many tokens on so many lines, from sources with contents. */
 function made(count, lines, sourceCount) {

@@ -9,6 +9,7 @@ const assert = require('node:assert/strict');
 const { NO_ID, SourceMapError } = require('..');
 const { Code } = require('../lib/constants.js');
 const native = require('../lib/native.js');
+const { random } = require('./random.js');
 
 const MAP = {
   version: 3,
@@ -96,17 +97,6 @@ function found(tokens, line, column, bias) {
 }
 
 // ---- random maps ----
-
-/** Numbers from 0 up to a limit, by a seed. */
-function random(seed) {
-  let x = seed * 2654435761 + 1 >>> 0 || 1;
-  return (limit) => {
-    x ^= x << 13;
-    x ^= x >>> 17;
-    x ^= x << 5;
-    return (x >>> 0) % limit;
-  };
-}
 
 /** Tokens in order, some of them at one position, without a source or without a name. One without a source has the original position
  *  of the token before, as the library reads it. */

@@ -12,6 +12,7 @@
 
 const assert = require('node:assert/strict');
 const { readFileSync } = require('node:fs');
+const { random } = require('../../node/test/random.js');
 
 const [, , addonPath, modulePath, mode, ...rest] = process.argv;
 const addon = require(addonPath);
@@ -74,17 +75,7 @@ function filled(name, size, ...given) {
   return out.a;
 }
 
-// ---- random numbers ----
-
-function random(seed) {
-  let x = (seed * 2654435761 + 1) >>> 0 || 1;
-  return (limit) => {
-    x ^= x << 13;
-    x ^= x >>> 17;
-    x ^= x << 5;
-    return (x >>> 0) % limit;
-  };
-}
+// ---- random positions ----
 
 /** Positions in and around a code of so many lines. */
 function positionsIn(next, lines, count) {

@@ -6,6 +6,7 @@ use Rattle.std.proofs.Common.{arith, if◌then◌else◌, bit_and, Bool}
 use Rattle.std.proofs.lemmas.Nat.{and-not, and_comm}
 use Rattle.std.specs.Int.Bits.{and_zero_l, and_zero_r}
 use Rattle.std.proofs.lemmas.List.Sums.{prefix_len-le-length, sum_by-cons}
+use Rattle.std.proofs.lemmas.List.{take_all}
 use Rattle.std.proofs.lemmas.Option.{slice_get_past}
 use Rattle.std.specs.List.{prefix_len, last_or, count_by}
 use Rattle.std.specs.Ordering.{match_ordering}
@@ -91,6 +92,15 @@ front-goes_on (suc (suc m)) (t ∷ []) g = refl
 front-goes_on (suc (suc m)) (t ∷ u ∷ ts) g =
     let more = front-goes_on (suc m) (u ∷ ts) (goes_on token_column t (u ∷ ts) g) in
     grind (arith, g, more)
+
+-- nor behind its first token
+pub drop-goes_on : (ts : List TokenRecord) → no_column_goes_back token_column ts ≡ true → no_column_goes_back token_column (drop 1 ts) ≡ true
+drop-goes_on [] g = g
+drop-goes_on (t ∷ ts) g = goes_on token_column t ts g
+
+pub rest-all : (ts : List TokenRecord) → take (length ts - 1) (drop 1 ts) ≡ drop 1 ts
+rest-all [] = refl
+rest-all (t ∷ ts) = take_all (length (t ∷ ts) - 1) ts (omega arith)
 
 before-front-by : (b : Bool) (col m : ℕ) (t : TokenRecord) (ts : List TokenRecord) → nat_lt t.dst_col col ≡ b → before col (take m ts) ≡ (if nat_lt (before col ts) m then before col ts else m)
     → before col (take (suc m) (t ∷ ts)) ≡ (if nat_lt (before col (t ∷ ts)) (suc m) then before col (t ∷ ts) else suc m)

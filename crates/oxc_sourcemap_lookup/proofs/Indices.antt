@@ -2,7 +2,7 @@
 use Rattle.std.proofs.Common.{◌≡◌, refl, sym, ap, ◌∙◌, ℕ, zero, suc, ◌+◌, ◌-◌, ◌<◌, ◌≤◌, Bool}
 use Rattle.std.proofs.Common.{true, false, List, [], ◌∷◌, length, slice_get}
 use Rattle.std.proofs.Common.{Option, Some, None, option_map, nat_lt, ◌==◌, ◌≢◌, arith}
-use Rattle.std.proofs.Common.{if◌then◌else◌, get_or}
+use Rattle.std.proofs.Common.{if◌then◌else◌, get_or, take, drop}
 use Rattle.std.proofs.lemmas.Option.{slice_get_read, slice_get_past}
 use Rattle.std.specs.Option.{option_or}
 use Rattle.oxc_sourcemap_tokens.specs.Token.{TokenRecord}
@@ -10,7 +10,9 @@ use Rattle.oxc_sourcemap_parts.specs.Sorted.{token_column}
 use Rattle.oxc_sourcemap_lookup.specs.Lookup.{first, at, no_column_goes_back}
 use Rattle.oxc_sourcemap_lookup.specs.Lookup.{numbered_from, numbered, numbered_column}
 use Rattle.oxc_sourcemap_lookup.specs.Lookup.{index_at, index_at_or_after, clamped_index_at}
-use Rattle.oxc_sourcemap_lookup.proofs.Halving.{before-earlier}
+use Rattle.oxc_sourcemap_lookup.specs.Lookup.{index_before}
+use Rattle.oxc_sourcemap_lookup.proofs.Halving.{before, before-earlier, before-later, before-all}
+use Rattle.oxc_sourcemap_lookup.proofs.Halving.{before-front, not_before-get}
 use Rattle.oxc_sourcemap_lookup.proofs.Cuts.{cut, here_or, get_before, at-cut, after-cut}
 
 pub numbered-goes_on : (i : ℕ) (ts : List TokenRecord) → no_column_goes_back numbered_column (numbered_from i ts) ≡ no_column_goes_back token_column ts
@@ -40,10 +42,6 @@ numbered-get i (suc k) (t ∷ ts) =
 abbrev pub index_here_or : ℕ → ℕ → Option TokenRecord → Option ℕ → Option ℕ
 index_here_or col n None other = other
 index_here_or col n (Some t) other = if t.dst_col == col then Some n else other
-
--- the index before, if there is one
-abbrev pub index_before : ℕ → Option ℕ
-index_before n = if nat_lt 0 n then Some (n - 1) else None
 
 -- an index, if it is in range
 abbrev pub index_within : List TokenRecord → ℕ → Option ℕ
@@ -194,3 +192,108 @@ found-last col n ts g count all h =
     let some : nat_lt 0 n ≡ true = grind (arith, h) in
     index-clamped col ts ∙ ap (λ o. option_or o (index_within ts 0)) (index-at col n ts g count (omega (arith, all)) ∙ ap (λ o. index_here_or col n o (index_before n)) past)
     ∙ rw some refl
+
+-- the lookup of a column, by index, where a token is the first that is not before it
+index-nearer : (b : Bool) (col n : ℕ) (t : TokenRecord) (ts : List TokenRecord) → nat_lt t.dst_col (col + 1) ≡ b → no_column_goes_back token_column ts ≡ true
+    → n ≡ cut token_column col ts → n < length ts → slice_get ts n ≡ Some t → col ≤ t.dst_col → index_before (n + (if b then 1 else 0)) ≡ index_at ts col
+index-nearer true col n t ts lt g count h here le =
+    let same : t.dst_col ≡ col = grind (arith, lt, le) in
+    let there : option_map token_column (slice_get ts n) ≡ Some col = ap (option_map token_column) here ∙ ap Some same in
+    let some : index_before (n + 1) ≡ Some n = grind (arith) in
+    some ∙ sym (index-at col n ts g count (omega (arith, h)) ∙ index-here col n _ _ there)
+index-nearer false col n t ts lt g count h here le =
+    let other : t.dst_col ≢ col = grind (arith, lt) in
+    let same : n + 0 ≡ n = omega arith in
+    let elsewhere : option_map token_column (slice_get ts n) ≡ Some col → ⊥ = λ e. other (let is : Some t.dst_col ≡ Some col = sym (ap (option_map token_column) here) ∙ e in grind (arith, is)) in
+    ap index_before same ∙ sym (index-at col n ts g count (omega (arith, h)) ∙ index-elsewhere col n _ _ elsewhere)
+
+index-end : (col n : ℕ) (t : TokenRecord) (ts : List TokenRecord) → no_column_goes_back token_column ts ≡ true → n + 1 ≡ length ts → before col ts ≡ length ts → t.dst_col < col
+    → index_before (n + (if nat_lt t.dst_col (col + 1) then 1 else 0)) ≡ index_at ts col
+index-end col n t ts g end all lt =
+    let m = length ts in
+    let lies : nat_lt t.dst_col (col + 1) ≡ true = grind (arith, lt) in
+    let past : slice_get ts m ≡ None = slice_get_past ts m (omega arith) in
+    let is = index-at col m ts g (sym all) (omega arith) ∙ ap (λ o. index_here_or col m o (index_before m)) past in
+    rw lies (ap index_before end ∙ sym is)
+
+index-last-by : (a b : Bool) (col n : ℕ) (t : TokenRecord) (ts : List TokenRecord) → nat_lt (before col ts) (length ts - 1) ≡ a → nat_lt t.dst_col col ≡ b
+    → no_column_goes_back token_column ts ≡ true → n < length ts → get_or ts n t ≡ t → slice_get ts n ≡ Some t → n ≡ (if nat_lt (before col ts) (length ts - 1) then before col ts else length ts - 1)
+    → index_before (n + (if nat_lt t.dst_col (col + 1) then 1 else 0)) ≡ index_at ts col
+index-last-by true b col n t ts front lies g within read here e =
+    let count = e ∙ ap (λ x. if x then before col ts else length ts - 1) front in
+    index-nearer (nat_lt t.dst_col (col + 1)) col n t ts refl g count within here (not_before-get col ts n t count here)
+index-last-by false false col n t ts front lies g within read here e =
+    let last_one : n ≡ length ts - 1 = e ∙ ap (λ x. if x then before col ts else length ts - 1) front in
+    let all : length ts - 1 ≤ before col ts = grind (arith, front) in
+    let le : col ≤ t.dst_col = grind (arith, lies) in
+    let most = before-earlier col ts n t within (omega (arith, le, ap token_column read)) in
+    index-nearer (nat_lt t.dst_col (col + 1)) col n t ts refl g (omega (arith, last_one, all, most)) within here le
+index-last-by false true col n t ts front lies g within read here e =
+    let last_one : n ≡ length ts - 1 = e ∙ ap (λ x. if x then before col ts else length ts - 1) front in
+    let lt : t.dst_col < col = grind (arith, lies) in
+    let more = before-later col ts n t g within (omega (arith, lt, ap token_column read)) in
+    index-end col n t ts g (omega (arith, last_one, within)) (omega (arith, last_one, more, before-all col ts, within)) lt
+
+-- The index found is that before the tokens before the column, the line's last one not counted, or before one more if the
+-- next is not past the column.
+pub index-last : (col n : ℕ) (t : TokenRecord) (ts : List TokenRecord) → no_column_goes_back token_column ts ≡ true → n < length ts → get_or ts n t ≡ t → slice_get ts n ≡ Some t
+    → n ≡ before col (take (length ts - 1) ts) → index_before (n + (if nat_lt t.dst_col (col + 1) then 1 else 0)) ≡ index_at ts col
+index-last col n t ts g within read here e =
+    index-last-by (nat_lt (before col ts) (length ts - 1)) (nat_lt t.dst_col col) col n t ts refl refl g within read here (e ∙ before-front col (length ts - 1) ts)
+
+-- the clamped lookup, from how many tokens there are up to the one that is found
+pub clamped-through : (ts : List TokenRecord) (n : ℕ) → n ≤ length ts → index_within ts (n - 1) ≡ option_or (index_before n) (index_within ts 0)
+clamped-through ts zero h = refl
+clamped-through ts (suc n) h =
+    let same : suc n - 1 ≡ n = omega arith in
+    let some : index_before (suc n) ≡ Some n = grind (arith) in
+    let within : nat_lt n (length ts) ≡ true = grind (arith, h) in
+    ap (index_within ts) same ∙ rw within (sym (ap (λ o. option_or o (index_within ts 0)) some))
+
+-- the lookup from a column on, where this token is the last that is not past it
+after-last : (b : Bool) (col n : ℕ) (t : TokenRecord) (ts : List TokenRecord) → (t.dst_col == col) ≡ b → t.dst_col ≤ col → n < length ts
+    → index_within ts (n + (if nat_lt t.dst_col col then 1 else 0)) ≡ index_here_or col n (Some t) (index_within ts (suc n))
+after-last true col n t ts e le h =
+    let lt : nat_lt t.dst_col col ≡ false = grind (arith, e) in
+    let same : n + 0 ≡ n = omega arith in
+    let within : nat_lt n (length ts) ≡ true = grind (arith, h) in
+    rw (lt, e) (ap (index_within ts) same ∙ rw within refl)
+after-last false col n t ts e le h =
+    let lt : nat_lt t.dst_col col ≡ true = grind (arith, e, le) in
+    let same : n + 1 ≡ suc n = omega arith in
+    rw (lt, e) (ap (index_within ts) same)
+
+none-before-past : (col : ℕ) (x : TokenRecord) (xs : List TokenRecord) → nat_lt x.dst_col col ≡ false → no_column_goes_back token_column (x ∷ xs) ≡ true → before col xs ≡ 0
+none-before-past col x [] e g = refl
+none-before-past col x (u ∷ us) e g =
+    let past : nat_lt u.dst_col col ≡ false = grind (arith, e, g) in
+    rw past refl
+
+after-by : (b : Bool) (col n : ℕ) (t x : TokenRecord) (xs : List TokenRecord) → nat_lt x.dst_col (col + 1) ≡ b → no_column_goes_back token_column (x ∷ xs) ≡ true
+    → n < length (x ∷ xs) → t ≡ get_or (x ∷ xs) n t → n ≡ before (col + 1) xs
+    → index_within (x ∷ xs) (n + (if nat_lt t.dst_col col then 1 else 0)) ≡ index_at_or_after (x ∷ xs) col
+after-by true col n t x xs e g h is count =
+    let ts = x ∷ xs in
+    let one : cut token_column (col + 1) ts ≡ 1 + before (col + 1) xs = rw e refl in
+    let through : suc n ≡ cut token_column (col + 1) ts = omega (arith, one, count) in
+    let same : suc n - 1 ≡ n = omega arith in
+    let read : t ≡ get_or ts (suc n - 1) t = is ∙ ap (λ k. get_or ts k t) (sym same) in
+    let le = at-most-by (nat_lt t.dst_col (col + 1)) ts (suc n) col t refl (omega arith) (omega (arith, h)) read through in
+    let here : slice_get ts n ≡ Some t = slice_get_read ts (length ts) n t refl h is in
+    after-last (t.dst_col == col) col n t ts refl le h
+    ∙ sym (index-after col (suc n) ts g through ∙ ap (λ k. index_here_or col k (get_before token_column ts (suc n)) (index_within ts (suc n))) same
+    ∙ ap (λ o. index_here_or col n o (index_within ts (suc n))) (before-get (suc n) ts (omega arith) ∙ ap (slice_get ts) same ∙ here))
+after-by false col n t x xs e g h is count =
+    let ts = x ∷ xs in
+    let none : n ≡ 0 = count ∙ none-before-past (col + 1) x xs e g in
+    let first : t ≡ x = is ∙ ap (λ k. get_or ts k t) none in
+    let past : nat_lt t.dst_col col ≡ false = grind (arith, e, ap token_column first) in
+    let through : 0 ≡ cut token_column (col + 1) ts = rw e refl in
+    let same : n + 0 ≡ 0 = omega (arith, none) in
+    rw past (ap (index_within ts) same ∙ sym (index-after col 0 ts g through))
+
+-- The lookup from a column on, where the tokens that are not past it are counted without the first of the line.
+pub after-found : (col n : ℕ) (t : TokenRecord) (ts : List TokenRecord) → no_column_goes_back token_column ts ≡ true → n < length ts → t ≡ get_or ts n t
+    → n ≡ before (col + 1) (drop 1 ts) → index_within ts (n + (if nat_lt t.dst_col col then 1 else 0)) ≡ index_at_or_after ts col
+after-found col n t [] g h is count = absurd (omega (arith, h))
+after-found col n t (x ∷ xs) g h is count = after-by (nat_lt x.dst_col (col + 1)) col n t x xs refl g h is count

@@ -3,6 +3,9 @@ use Rattle.std.proofs.Common.{◌≡◌, refl, sym, ap, ◌∙◌, ℕ, zero, su
 use Rattle.std.proofs.Common.{false}
 use Rattle.std.proofs.Common.{List, [], ◌∷◌, map, length, get_or, Option, Some, None, option_map}
 use Rattle.std.proofs.Common.{nat_lt, ◌==◌, arith, subst, IfSome, Ok}
+use Rattle.std.proofs.Common.{take, drop, length-take, length-drop}
+use Rattle.std.proofs.lemmas.List.Elements.{filter_passes}
+use Rattle.std.specs.List.{All}
 use Rattle.std.specs.List.Sorted.{IsNonDecreasingBy}
 use Rattle.oxc_sourcemap_tokens.specs.Token.{TokenRecord}
 use Rattle.oxc_sourcemap_tokens.specs.LineOrder.{IsInLineOrder}
@@ -64,6 +67,81 @@ fits-by false false n t ts e f more =
 pub line-fits : (n : ℕ) (ts : List TokenRecord) → count_before_line n ts + length (on_line token_line n ts) ≤ length ts
 line-fits n [] = omega arith
 line-fits n (t ∷ ts) = fits-by (nat_lt t.dst_line n) (t.dst_line == n) n t ts refl refl (line-fits n ts)
+
+-- ---- where the tokens of a line lie
+on-more : (b : Bool) (n : ℕ) (t : TokenRecord) (ts : List TokenRecord) → (t.dst_line == n) ≡ b → length (on_line token_line n ts) ≤ length (on_line token_line n (t ∷ ts))
+on-more true n t ts e = let on : on_line token_line n (t ∷ ts) ≡ t ∷ on_line token_line n ts = rw e refl in omega (arith, ap length on)
+on-more false n t ts e = let off : on_line token_line n (t ∷ ts) ≡ on_line token_line n ts = rw e refl in omega (arith, ap length off)
+
+on-drop : (n s : ℕ) (ts : List TokenRecord) → length (on_line token_line n (drop s ts)) ≤ length (on_line token_line n ts)
+on-drop n zero ts = omega arith
+on-drop n (suc s) [] = omega arith
+on-drop n (suc s) (t ∷ ts) = omega (arith, on-drop n s ts, on-more (t.dst_line == n) n t ts refl)
+
+on-take-by : (b : Bool) (n k : ℕ) (t : TokenRecord) (ts : List TokenRecord) → (t.dst_line == n) ≡ b → length (on_line token_line n (take k ts)) ≤ length (on_line token_line n ts)
+    → length (on_line token_line n (t ∷ take k ts)) ≤ length (on_line token_line n (t ∷ ts))
+on-take-by true n k t ts e more =
+    let one : on_line token_line n (t ∷ take k ts) ≡ t ∷ on_line token_line n (take k ts) = rw e refl in
+    let all : on_line token_line n (t ∷ ts) ≡ t ∷ on_line token_line n ts = rw e refl in
+    omega (arith, ap length one, ap length all, more)
+on-take-by false n k t ts e more =
+    let one : on_line token_line n (t ∷ take k ts) ≡ on_line token_line n (take k ts) = rw e refl in
+    let all : on_line token_line n (t ∷ ts) ≡ on_line token_line n ts = rw e refl in
+    omega (arith, ap length one, ap length all, more)
+
+on-take : (n k : ℕ) (ts : List TokenRecord) → length (on_line token_line n (take k ts)) ≤ length (on_line token_line n ts)
+on-take n zero ts = omega arith
+on-take n (suc k) [] = omega arith
+on-take n (suc k) (t ∷ ts) = on-take-by (t.dst_line == n) n k t ts refl (on-take n k ts)
+
+all-on-by : (b : Bool) (n : ℕ) (t : TokenRecord) (ts : List TokenRecord) → (t.dst_line == n) ≡ b → length (on_line token_line n (on_line token_line n ts)) ≡ length (on_line token_line n ts)
+    → length (on_line token_line n (on_line token_line n (t ∷ ts))) ≡ length (on_line token_line n (t ∷ ts))
+all-on-by true n t ts e more =
+    let on : on_line token_line n (t ∷ ts) ≡ t ∷ on_line token_line n ts = rw e refl in
+    let again : on_line token_line n (t ∷ on_line token_line n ts) ≡ t ∷ on_line token_line n (on_line token_line n ts) = rw e refl in
+    ap (λ xs. length (on_line token_line n xs)) on ∙ ap length again ∙ ap suc more ∙ sym (ap length on)
+all-on-by false n t ts e more =
+    let off : on_line token_line n (t ∷ ts) ≡ on_line token_line n ts = rw e refl in
+    ap (λ xs. length (on_line token_line n xs)) off ∙ more ∙ sym (ap length off)
+
+all-on : (n : ℕ) (ts : List TokenRecord) → length (on_line token_line n (on_line token_line n ts)) ≡ length (on_line token_line n ts)
+all-on n [] = refl
+all-on n (t ∷ ts) = all-on-by (t.dst_line == n) n t ts refl (all-on n ts)
+
+-- no part of a list without its first token has all tokens of that token's line
+not-all-on : (n s k : ℕ) (t : TokenRecord) (ts : List TokenRecord) → t.dst_line ≡ n → take k (drop s ts) ≡ on_line token_line n (t ∷ ts) → ⊥
+not-all-on n s k t ts is part =
+    let e : (t.dst_line == n) ≡ true = grind (arith, is) in
+    let on : on_line token_line n (t ∷ ts) ≡ t ∷ on_line token_line n ts = rw e refl in
+    let some = ap length on in
+    let least = on-take n k (drop s ts) in
+    let less = on-drop n s ts in
+    let same = ap (λ xs. length (on_line token_line n xs)) part ∙ all-on n (t ∷ ts) in
+    omega (arith, some, least, less, same)
+
+starts-by : (b on : Bool) (n s k : ℕ) (t : TokenRecord) (ts : List TokenRecord) → nat_lt t.dst_line n ≡ b → (t.dst_line == n) ≡ on → IsFrom t.dst_line ts → 0 < k → s + k ≤ length ts
+    → take k (drop s ts) ≡ on_line token_line n (t ∷ ts) → (take k (drop s ts) ≡ on_line token_line n ts → s ≡ count_before_line n ts) → suc s ≡ count_before_line n (t ∷ ts)
+starts-by true on n s k t ts e f p some within part more =
+    let lt : t.dst_line < n = grind (arith, e) in
+    let other : on_line token_line n (t ∷ ts) ≡ on_line token_line n ts = grind (arith, lt) in
+    ap suc (more (part ∙ other)) ∙ sym (counts-one n t ts lt)
+starts-by false true n s k t ts e f p some within part more = absurd (not-all-on n s k t ts (grind (arith, f)) part)
+starts-by false false n s k t ts e f p some within part more =
+    let past : n < t.dst_line = grind (arith, e, f) in
+    let none = ap length (part ∙ on_line-before n t.dst_line (t ∷ ts) (omega arith, p) past) in
+    absurd (omega (arith, none, length-take k (drop s ts), length-drop s ts, some, within))
+
+-- the tokens of a line lie where it begins
+pub starts-at : (n from s k : ℕ) (ts : List TokenRecord) → IsFrom from ts → 0 < k → s + k ≤ length ts → take k (drop s ts) ≡ on_line token_line n ts → s ≡ count_before_line n ts
+starts-at n from s k [] p some within part = absurd (omega (arith, some, within))
+starts-at n from zero zero (t ∷ ts) p some within part = absurd (omega (arith, some))
+starts-at n from zero (suc k) (t ∷ ts) p some within part =
+    let passes = subst (All (λ x. (token_line x == n) ≡ true)) (sym part) (filter_passes (λ x. token_line x == n) (t ∷ ts)) in
+    let is : (t.dst_line == n) ≡ true = passes 0 t (omega arith) in
+    let same : n ≤ t.dst_line = grind (arith, is) in
+    sym (none-before n (t ∷ ts) (same, p.1))
+starts-at n from (suc s) k (t ∷ ts) p some within part =
+    starts-by (nat_lt t.dst_line n) (t.dst_line == n) n s k t ts refl refl p.1 some (omega (arith, within)) part (starts-at n t.dst_line s k ts p.1 some (omega (arith, within)))
 
 -- ---- numbers on a line
 on_line-numbered-by : (b s : Bool) (n i : ℕ) (t : TokenRecord) (ts : List TokenRecord) → nat_lt t.dst_line n ≡ b → (t.dst_line == n) ≡ s → IsFrom t.dst_line ts
@@ -152,3 +230,17 @@ own-index F answer result n tokens table found within counted sorted own =
     let row = own_row n tokens table own in
     let on = subst (λ ts. IfSome answer (λ i. i < length ts)) row within in
     counted (sorted_in_order tokens sorted) on ∙ ap (from_line n tokens) (own_table F answer n tokens table found sorted own)
+
+-- what an index on a line is among all tokens, by where the line begins
+module _ (n start : ℕ) (tokens line : List TokenRecord) (on : line ≡ on_line token_line n tokens) (begins : 0 < length line → start ≡ count_before_line n tokens) where
+  pub index-some : (i : ℕ) (o : Option ℕ) → o ≡ Some i → IfSome o (λ i. i < length line) → Some (start + i) ≡ from_line n tokens o
+  index-some i o is within =
+      let lies : i < length line = subst (λ o. IfSome o (λ i. i < length line)) is within in
+      let same : start ≡ count_before_line n tokens = begins (omega (arith, lies)) in
+      ap (λ k. Some (k + i)) same ∙ sym (ap (from_line n tokens) is)
+
+  pub index-lies : (i : ℕ) (o : Option ℕ) → o ≡ Some i → IfSome o (λ i. i < length line) → start + i < length tokens
+  index-lies i o is within =
+      let lies : i < length line = subst (λ o. IfSome o (λ i. i < length line)) is within in
+      let same : start ≡ count_before_line n tokens = begins (omega (arith, lies)) in
+      omega (arith, lies, same, ap length on, line-fits n tokens)

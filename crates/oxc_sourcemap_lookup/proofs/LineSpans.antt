@@ -2,7 +2,7 @@
 use Rattle.std.proofs.Common.{◌≡◌, ◌≢◌, ℕ, ◌+◌, ◌-◌, ◌<◌, ◌≤◌, ◌==◌, nat_lt, Bool, true, false}
 use Rattle.std.proofs.Common.{List, [], ◌∷◌, ◌++◌, length, take, drop, get_or, slice_get}
 use Rattle.std.proofs.Common.{option_map, Some, None, refl, sym, ap, subst, ◌∙◌, arith}
-use Rattle.std.proofs.Common.{length-append, length-drop, length-take}
+use Rattle.std.proofs.Common.{length-append, length-drop, length-take, zero, suc}
 use Rattle.std.proofs.Math.ListN.{get_or-append, drop_of_length-le}
 use Rattle.std.proofs.Math.Seq.{get_or-append_seam}
 use Rattle.std.proofs.lemmas.List.{drop-drop}
@@ -190,3 +190,8 @@ none-by false false spans line i k d e f rise below above other h = λ is.
 pub none-at : (spans : List LineSpan) (line i : ℕ) → DoLinesRise spans → ((k : ℕ) (d : LineSpan) → k < i → (get_or spans k d).line < line)
     → ((k : ℕ) (d : LineSpan) → i ≤ k → k < length spans → line ≤ (get_or spans k d).line) → (option_map (λ span. span.line) (slice_get spans i) ≡ Some line → ⊥) → All (λ span. span.line ≢ line) spans
 none-at spans line i rise below above other k d h = none-by (nat_lt k i) (nat_lt i k) spans line i k d refl refl rise below above other h
+
+pub found-at : (spans : List LineSpan) (i line : ℕ) (d : LineSpan) → option_map (λ span. span.line) (slice_get spans i) ≡ Some line → (i < length spans) × ((get_or spans i d).line ≡ line)
+found-at [] i line d e = absurd (cc (e))
+found-at (span ∷ spans) zero line d e = (omega arith, grind (arith, e))
+found-at (span ∷ spans) (suc i) line d e = let more = found-at spans i line d e in (omega (arith, more.0), more.1)

@@ -1,7 +1,7 @@
 -- Looking up by generated position, in any list of items that have a line and a column.
 use Rattle.std.specs.Prelude.{◌≡◌, ℕ, ◌+◌, Bool, true, ◌&&◌, List, [], ◌∷◌, map, filter, max, min}
 use Rattle.std.specs.Prelude.{slice_get, Option, Some, None, option_map, Result, Ok, if◌then◌else◌}
-use Rattle.std.specs.Prelude.{nat_le, ◌==◌}
+use Rattle.std.specs.Prelude.{nat_le, nat_lt, ◌==◌, ◌-◌}
 use Rattle.std.specs.List.{range_with_len}
 use Rattle.std.specs.Option.{unwrap_or, option_or}
 use Rattle.oxc_sourcemap_tokens.specs.declared.error.Error.{Error}
@@ -142,6 +142,10 @@ clamped_index_for tokens line col = option_map (λ p. p.0) (clamped_pick numbere
 -- the index of the token that the lookup from a position on finds
 abbrev pub index_after : List TokenRecord → ℕ → ℕ → Option ℕ
 index_after tokens line col = option_map (λ p. p.0) (pick_after numbered_line numbered_column (numbered tokens) line col)
+
+-- the index before this one, if there is one
+abbrev pub index_before : ℕ → Option ℕ
+index_before n = if nat_lt 0 n then Some (n - 1) else None
 
 -- the index of the item of `at` on one line
 abbrev pub index_at : List TokenRecord → ℕ → Option ℕ

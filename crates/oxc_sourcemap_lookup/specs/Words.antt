@@ -25,4 +25,4 @@ pub use Rattle.oxc_sourcemap_lookup.specs.Lookup.{no_column_goes_back, tokens_by
 pub use Rattle.oxc_sourcemap_lookup.specs.Lookup.{line_table, slice_of}
 pub use Rattle.oxc_sourcemap_lookup.specs.Lookup.{at_or_after, index_at, clamped_index_at}
 pub use Rattle.oxc_sourcemap_lookup.specs.Lookup.{index_at_or_after, index_for, clamped_index_for}
-pub use Rattle.oxc_sourcemap_lookup.specs.Lookup.{index_after}
+pub use Rattle.oxc_sourcemap_lookup.specs.Lookup.{index_after, index_before}

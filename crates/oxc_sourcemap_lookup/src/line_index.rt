@@ -13,7 +13,7 @@ ghost use Rattle.oxc_sourcemap_lookup.specs.Words.{index_bytes};
 ghost use Rattle.oxc_sourcemap_lookup.specs.Words.{index_for, clamped_index_for, index_after};
 
 use crate::lookup::{
-    has_short_lines, line_count, line_length, line_start, search, search_clamped, search_index,
+    has_short_lines, line_count, line_length, search, search_clamped, search_index,
     search_index_after, search_index_clamped, store_ends,
 };
 use oxc_sourcemap_tokens::{Error, Memory, Result, Token, line_order_fault};
@@ -190,46 +190,38 @@ fn find(spans: &[LineSpan], line: u32, near: usize) -> Option<usize>
     None
 }
 
-/// The tokens on a line, by the spans of lines. The line is looked for first at the index `near`, which becomes that of its
-/// span.
-fn tokens_by_span<'t>(
+/// Where a line begins, and the tokens on it, by the spans of lines. The line is looked for first at the index `near`, which
+/// becomes that of its span. Without tokens the line begins anywhere.
+fn line_by_span<'t>(
     spans: &[LineSpan],
     tokens: &'t [Token],
     line: u32,
     near: &mut usize,
-) -> &'t [Token]
+) -> (usize, &'t [Token])
     requires { AreSpans tokens.now spans.now }
-    ensures { result.now ≡ on_line token_line line tokens.now }
+    ensures tokens { result.1.now ≡ on_line token_line line tokens.now }
+    ensures start { 0 < length result.1.now → result.0 ≡ count_before_line line tokens.now }
 {
     let Some(i) = find(spans, line, *near) else {
-        return &[];
+        return (0, &[]);
     };
     *near = i;
     let span = spans[i];
-    &tokens[span.start..span.end]
+    (span.start, &tokens[span.start..span.end])
 }
 
-/// How many tokens lie on the lines before a line, by where lines begin.
-fn count_by_start(starts: &[u32], tokens: &[Token], line: u32) -> usize
+/// Where a line begins, and the tokens on it, by where lines begin. Without tokens the line begins anywhere.
+fn line_by_start<'t>(starts: &[u32], tokens: &'t [Token], line: u32) -> (usize, &'t [Token])
     requires { AreStarts tokens.now starts.now }
-    ensures { result ≡ count_before_line line tokens.now }
-{
-    match starts.get(line as usize) {
-        Some(start) => *start as usize,
-        None => tokens.len(),
-    }
-}
-
-/// The tokens on a line, by where lines begin.
-fn tokens_by_start<'t>(starts: &[u32], tokens: &'t [Token], line: u32) -> &'t [Token]
-    requires { AreStarts tokens.now starts.now }
-    ensures { result.now ≡ on_line token_line line tokens.now }
+    ensures tokens { result.1.now ≡ on_line token_line line tokens.now }
+    ensures start { 0 < length result.1.now → result.0 ≡ count_before_line line tokens.now }
 {
     let next = line as usize + 1;
     if next < starts.len() {
-        &tokens[starts[next - 1] as usize..starts[next] as usize]
+        let start = starts[next - 1] as usize;
+        (start, &tokens[start..starts[next] as usize])
     } else {
-        &[]
+        (0, &[])
     }
 }
 
@@ -258,9 +250,19 @@ impl LineIndex {
         requires { IsIndexOf tokens.now self.now }
         ensures { result.now ≡ on_line token_line line tokens.now }
     {
+        self.line_near(tokens, line, near).1
+    }
+
+    /// How many tokens lie on the lines before a line that has some, and the tokens on it, found as `tokens_near` finds them.
+    fn line_near<'t>(&self, tokens: &'t [Token], line: u32, near: &mut usize) -> (usize, &'t [Token])
+        requires { IsIndexOf tokens.now self.now }
+        ensures tokens { result.1.now ≡ on_line token_line line tokens.now }
+        ensures start { 0 < length result.1.now
+            → result.0 ≡ count_before_line line tokens.now }
+    {
         match &self.lines {
-            Lines::Starts(starts) => tokens_by_start(starts.as_slice(), tokens, line),
-            Lines::Spans(spans) => tokens_by_span(spans.as_slice(), tokens, line, near),
+            Lines::Starts(starts) => line_by_start(starts.as_slice(), tokens, line),
+            Lines::Spans(spans) => line_by_span(spans.as_slice(), tokens, line, near),
         }
     }
 
@@ -286,28 +288,6 @@ impl LineIndex {
         }
     }
 
-    /// How many tokens lie on the lines before a line.
-    fn count_before(&self, tokens: &[Token], line: u32) -> usize
-        requires { IsIndexOf tokens.now self.now }
-        ensures { result ≡ count_before_line line tokens.now }
-    {
-        match &self.lines {
-            Lines::Starts(starts) => count_by_start(starts.as_slice(), tokens, line),
-            Lines::Spans(_) => line_start(tokens, line),
-        }
-    }
-
-    /// The index among all tokens of the token that has this index on its line. None for None.
-    fn index_on(&self, tokens: &[Token], line: u32, index: Option<usize>) -> Option<usize>
-        requires lines { IsIndexOf tokens.now self.now }
-        requires on { IfSome index (λ i. i < length (on_line token_line line tokens.now)) }
-        ensures found { result ≡ option_map (λ i. count_before_line line tokens.now + i) index }
-        ensures within { IfSome result (λ i. i < length tokens.now) }
-    {
-        let index = index?;
-        Some(self.count_before(tokens, line) + index)
-    }
-
     /// The index of the token that `lookup` finds. Takes no memory.
     pub fn lookup_index(&self, tokens: &[Token], line: u32, col: u32) -> Option<usize>
         requires { IsIndexOf tokens.now self.now }
@@ -315,9 +295,8 @@ impl LineIndex {
             → result ≡ index_for tokens.now line col }
         ensures within { IfSome result (λ i. i < length tokens.now) }
     {
-        let on_line = self.tokens_near(tokens, line, &mut 0);
-        let found = search_index(on_line, col);
-        self.index_on(tokens, line, found)
+        let (start, on_line) = self.line_near(tokens, line, &mut 0);
+        Some(start + search_index(on_line, col)?)
     }
 
     /// The index of the token that `lookup_clamped` finds. Takes no memory.
@@ -327,9 +306,8 @@ impl LineIndex {
             → result ≡ clamped_index_for tokens.now line col }
         ensures within { IfSome result (λ i. i < length tokens.now) }
     {
-        let on_line = self.tokens_near(tokens, line, &mut 0);
-        let found = search_index_clamped(on_line, col);
-        self.index_on(tokens, line, found)
+        let (start, on_line) = self.line_near(tokens, line, &mut 0);
+        Some(start + search_index_clamped(on_line, col)?)
     }
 
     /// The index of the token that the lookup from a position on finds, by the rule of `search_after`: of several tokens at the
@@ -340,9 +318,8 @@ impl LineIndex {
             → result ≡ index_after tokens.now line col }
         ensures within { IfSome result (λ i. i < length tokens.now) }
     {
-        let on_line = self.tokens_near(tokens, line, &mut 0);
-        let found = search_index_after(on_line, col, &mut 0);
-        self.index_on(tokens, line, found)
+        let (start, on_line) = self.line_near(tokens, line, &mut 0);
+        Some(start + search_index_after(on_line, col, &mut 0)?)
     }
 
     /// As `lookup`, but a position before the first token of its line gives that token.

@@ -12,7 +12,7 @@ ghost use Rattle.oxc_sourcemap_lookup.specs.Words.{tokens_by_line, table_fault, 
 ghost use Rattle.oxc_sourcemap_lookup.specs.Words.{slice_of, last, Answers, Reports, lent_items};
 ghost use Rattle.oxc_sourcemap_lookup.specs.Words.{AreEnds, at_or_after, index_at};
 ghost use Rattle.oxc_sourcemap_lookup.specs.Words.{clamped_index_at, index_at_or_after, on_line};
-ghost use Rattle.oxc_sourcemap_lookup.specs.Words.{token_line, count_before_line};
+ghost use Rattle.oxc_sourcemap_lookup.specs.Words.{token_line, count_before_line, index_before};
 
 use oxc_sourcemap_tokens::{Error, Memory, Result, Token, line_order_fault};
 use std::alloc::Global;
@@ -237,6 +237,27 @@ pub(crate) fn count_before(line: &[Token], col: u32, steps: &mut u64) -> usize
     count_below(line, u64::from(col), steps)
 }
 
+/// How many tokens of a line there are up to the one that `search` finds, which is the last of these; 0 if it finds none. On a
+/// line whose columns go back, it is some number up to that of the tokens. No branch is taken on what is found. `steps` is set
+/// as `search` has it.
+fn count_through(line: &[Token], col: u32, steps: &mut u64) -> usize
+    ensures token { no_column_goes_back token_column line.now ≡ true
+        → last (take result line.now) ≡ at token_column line.now col }
+    ensures index { no_column_goes_back token_column line.now ≡ true
+        → index_before result ≡ index_at line.now col }
+    ensures within { result ≤ length line.now }
+    ensures counted { (steps.new ≤ binary_digits (length line.now) + 1)
+        × (line.now ≡ [] → steps.new ≡ 0) }
+    ensures started { 0 < length line.now → 0 < steps.new }
+{
+    *steps = 0;
+    let Some(last) = line.len().checked_sub(1) else {
+        return 0;
+    };
+    let before = count_before(&line[..last], col, steps);
+    before + compare_column(&line[before], u64::from(col) + 1, 1, steps)
+}
+
 /// Looks up a column on one line. The result is the first token at `col`; if none is there, the last token of the greatest
 /// column below `col`; if all are above, None. On a line whose columns go back, it is some token of the line, or None.
 ///
@@ -250,12 +271,7 @@ pub fn search(line: &[Token], col: u32, steps: &mut u64) -> Option<Token>
         × (line.now ≡ [] → steps.new ≡ 0) }
     ensures started { 0 < length line.now → 0 < steps.new }
 {
-    *steps = 0;
-    let Some(last) = line.len().checked_sub(1) else {
-        return None;
-    };
-    let before = count_before(&line[..last], col, steps);
-    let end = before + compare_column(&line[before], u64::from(col) + 1, 1, steps);
+    let end = count_through(line, col, steps);
     line[..end].last().copied()
 }
 
@@ -267,16 +283,6 @@ pub fn search_clamped(line: &[Token], col: u32) -> Option<Token>
     ensures clamped { IsNone result → line.now ≡ [] }
 {
     search(line, col, &mut 0).or(line.first().copied())
-}
-
-/// Whether there is a token at an index of a line, and it lies in a column.
-fn is_at(line: &[Token], i: usize, col: u32) -> bool
-    ensures { IsTrue result ↔ (option_map token_column (slice_get line.now i) ≡ Some col) }
-{
-    match line.get(i) {
-        Some(token) => token.get_dst_col() == col,
-        None => false,
-    }
 }
 
 /// An index, if there is a token at it.
@@ -293,11 +299,7 @@ pub fn search_index(line: &[Token], col: u32) -> Option<usize>
         → result ≡ index_at line.now col }
     ensures within { IfSome result (λ i. i < length line.now) }
 {
-    let before = count_before(line, col, &mut 0);
-    if is_at(line, before, col) {
-        return Some(before);
-    }
-    before.checked_sub(1)
+    count_through(line, col, &mut 0).checked_sub(1)
 }
 
 /// As `search_index`, but with the first index of the line in place of None.
@@ -307,7 +309,8 @@ pub fn search_index_clamped(line: &[Token], col: u32) -> Option<usize>
     ensures within { IfSome result (λ i. i < length line.now) }
     ensures clamped { IsNone result → line.now ≡ [] }
 {
-    search_index(line, col).or(index_within(line, 0))
+    let end = count_through(line, col, &mut 0);
+    index_within(line, end.saturating_sub(1))
 }
 
 /// The index on a line of the token that `search_after` finds there. On a line whose columns go back, it is some index of the
@@ -322,15 +325,13 @@ pub fn search_index_after(line: &[Token], col: u32, steps: &mut u64) -> Option<u
         × (line.now ≡ [] → steps.new ≡ 0) }
     ensures started { 0 < length line.now → 0 < steps.new }
 {
-    let mut compared = 0;
-    let through = count_below(line, u64::from(col) + 1, &mut compared);
-    let is_there = 0 < through
-        && compare_column(&line[through - 1], u64::from(col), 1, &mut compared) == 0;
-    *steps = compared;
-    if is_there {
-        return Some(through - 1);
+    *steps = 0;
+    if line.is_empty() {
+        return None;
     }
-    index_within(line, through)
+    let last = count_below(&line[1..], u64::from(col) + 1, steps);
+    let found = last + compare_column(&line[last], u64::from(col), 1, steps);
+    index_within(line, found)
 }
 
 /// Looks up a column on one line, and from it on. The result is the last token at `col`; if none is there, the first token of

@@ -1,29 +1,8 @@
-use Rattle.std.proofs.Common.{◌≡◌, if◌then◌else◌, nat_lt, ◌+◌, ◌-◌, ◌<◌, take, length, get_or, refl}
-use Rattle.std.proofs.Common.{◌∙◌, sym, ap, arith}
-use Rattle.std.proofs.lemmas.Grind.{common_steps}
-use Rattle.std.proofs.lemmas.Option.{slice_get_read}
-use Rattle.oxc_sourcemap_tokens.specs.Token.{last}
-use Rattle.oxc_sourcemap_lookup.proofs.Halving.{before, nearer-last, front-goes_on, fewer-digits}
+use Rattle.std.proofs.Common.{refl, ◌∙◌, sym}
 use Rattle.oxc_sourcemap_lookup.proofs.Halving.{read-last}
 use Rattle.oxc_sourcemap_lookup.proofs.lookup.search.Goals as goal
 
 pub returns-clause-found : goal.returns-clause-found
 returns-clause-found c = λ g.
-    let col = c.args.col in
-    let line = c.args.line.now in
-    let n = c.count_before-before.result in
-    let t = c.index-line-before.result in
-    let rest : c.in-Some.last ≡ length line - 1 = grind (arith, common_steps) in
-    let within : n < length line = grind (arith, common_steps) in
-    let read : t ≡ get_or line n t = grind (arith, common_steps) in
-    let here = slice_get_read line _ n t refl within read in
-    let count = c.count_before-before.ensures.count (front-goes_on c.in-Some.last line g) ∙ ap (λ m. before col (take m line)) rest in
-    let same : c.from.result ≡ col = c.from.ensures in
-    let end = ap (λ k. n + k) (c.compare_column.ensures.value ∙ ap (λ x. if nat_lt t.dst_col (x + 1) then 1 else 0) same) in
-    let answer = read-last c.last.result _ line (n + c.compare_column.result) c.last.ensures.value refl ∙ sym c.copied.ensures in
-    sym (nearer-last col line n t g within (sym read) here count ∙ sym (ap (λ k. last (take k line)) end) ∙ answer)
-
-pub returns-clause-counted : goal.returns-clause-counted
-returns-clause-counted c =
-    let fewer = fewer-digits (length (take c.in-Some.last c.args.line.now)) (length c.args.line.now) (grind (arith, common_steps)) in
-    (grind (arith, common_steps, fewer), λ e. absurd (grind (arith, common_steps, e)))
+    let answer = read-last c.last.result _ c.args.line.now c.count_through-end.result c.last.ensures.value refl ∙ sym c.copied.ensures in
+    sym answer ∙ c.count_through-end.ensures.token g

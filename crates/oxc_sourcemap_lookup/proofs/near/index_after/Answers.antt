@@ -6,9 +6,10 @@ use Rattle.std.specs.Option.{option_or}
 use Rattle.oxc_sourcemap_tokens.specs.Token.{TokenRecord}
 use Rattle.oxc_sourcemap_parts.specs.Sorted.{token_column}
 use Rattle.oxc_sourcemap_lookup.specs.Lookup.{no_column_goes_back, clamped_index_at, index_at}
+use Rattle.oxc_sourcemap_lookup.specs.Lookup.{index_before}
 use Rattle.oxc_sourcemap_lookup.proofs.Halving.{before, before-later, before-earlier}
 use Rattle.oxc_sourcemap_lookup.proofs.Indices.{index-at, index-clamped, index_here_or}
-use Rattle.oxc_sourcemap_lookup.proofs.Indices.{index_before, index_within}
+use Rattle.oxc_sourcemap_lookup.proofs.Indices.{index_within}
 use Rattle.oxc_sourcemap_lookup.proofs.near.index_after.Goals as goal
 
 module _ (col i : ℕ) (ts : List TokenRecord) (x y : TokenRecord) (g : no_column_goes_back token_column ts ≡ true) (within : i + 1 < length ts)

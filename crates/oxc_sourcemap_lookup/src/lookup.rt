@@ -4,7 +4,7 @@ ghost use Rattle.std.specs.Prelude.{length, take, slice_get, option_map, IsTrue,
 ghost use Rattle.std.specs.Prelude.{IsNone, Ok, Err};
 ghost use Rattle.std.specs.Prelude.{Some, None, [], if◌then◌else◌};
 ghost use Rattle.std.specs.Option.{option_map_or, option_and_then};
-ghost use Rattle.std.specs.List.{All, Contains, prefix_len};
+ghost use Rattle.std.specs.List.{All, Contains, prefix_len, count_by};
 ghost use Rattle.oxc_sourcemap_lookup.specs.Words.{Error, OutOfMemory, IsInLineOrder, token_column};
 ghost use Rattle.oxc_sourcemap_lookup.specs.Words.{binary_digits, at, clamped_at};
 ghost use Rattle.oxc_sourcemap_lookup.specs.Words.{no_column_goes_back, lines_through};
@@ -16,6 +16,9 @@ ghost use Rattle.oxc_sourcemap_lookup.specs.Words.{token_line, count_before_line
 
 use oxc_sourcemap_tokens::{Error, Memory, Result, Token, line_order_fault};
 use std::alloc::Global;
+
+/// Up to this many tokens on a line, to compare all takes less time than to halve.
+pub(crate) const FEW: usize = 8;
 
 /// How many lines there are up to that of the last token.
 pub(crate) fn line_count(tokens: &[Token]) -> u64
@@ -292,6 +295,34 @@ fn index_within(line: &[Token], i: usize) -> Option<usize>
     if i < line.len() { Some(i) } else { None }
 }
 
+/// How many tokens lie before a column, and how many not after it. All are compared, with no branch on what is found.
+fn count_each(line: &[Token], col: u32) -> (usize, usize)
+    ensures before { result.0 ≡ count_by (λ t. nat_lt t.dst_col col) line.now }
+    ensures through { result.1 ≡ count_by (λ t. nat_lt t.dst_col (col + 1)) line.now }
+{
+    let mut before = 0;
+    let mut through = 0;
+    for token in line {
+        before += usize::from(u64::from(token.get_dst_col()) < u64::from(col));
+        through += usize::from(u64::from(token.get_dst_col()) < u64::from(col) + 1);
+    }
+    (before, through)
+}
+
+/// As `count_through`, but the columns that are compared are not counted, and may be all of a short line: reads of memory
+/// that do not wait for each other take less time than halving.
+fn end_of_found(line: &[Token], col: u32) -> usize
+    ensures index { no_column_goes_back token_column line.now ≡ true
+        → index_before result ≡ index_at line.now col }
+    ensures within { result ≤ length line.now }
+{
+    if line.len() > FEW {
+        return count_through(line, col, &mut 0);
+    }
+    let (before, through) = count_each(line, col);
+    through.min(before + 1)
+}
+
 /// The index on a line of the token that `search` finds there. On a line whose columns go back, it is some index of the line,
 /// or None. Takes no memory.
 pub fn search_index(line: &[Token], col: u32) -> Option<usize>
@@ -299,7 +330,7 @@ pub fn search_index(line: &[Token], col: u32) -> Option<usize>
         → result ≡ index_at line.now col }
     ensures within { IfSome result (λ i. i < length line.now) }
 {
-    count_through(line, col, &mut 0).checked_sub(1)
+    end_of_found(line, col).checked_sub(1)
 }
 
 /// As `search_index`, but with the first index of the line in place of None.
@@ -309,7 +340,7 @@ pub fn search_index_clamped(line: &[Token], col: u32) -> Option<usize>
     ensures within { IfSome result (λ i. i < length line.now) }
     ensures clamped { IsNone result → line.now ≡ [] }
 {
-    let end = count_through(line, col, &mut 0);
+    let end = end_of_found(line, col);
     index_within(line, end.saturating_sub(1))
 }
 

@@ -149,6 +149,8 @@ impl LoadedMap {
     }
 
     /// The index of the token that answers for a generated position, found by this index of lines.
+    // A call and a match on the bias would take a fifth of the instructions of a lookup in bulk.
+    #[inline(always)]
     fn find(&self, index: &LineIndex, at: Position, bias: Bias) -> Option<usize>
         requires { IsIndexOf self.now.map.tokens index.now }
         ensures found { are_tokens_sorted self.now.map.tokens ≡ true

@@ -10,3 +10,7 @@ pub use Rattle.oxc_sourcemap_json.specs.Members.{lent_member, member_in}
 pub use Rattle.oxc_sourcemap_json.specs.Shape.{present, optional, required, text_in, texts_in}
 pub use Rattle.oxc_sourcemap_json.specs.Shape.{as_content, contents_in, names_of, shape, ids_in}
 pub use Rattle.oxc_sourcemap_json.specs.Shape.{version_of, ignore_list_of, as_id, file_of}
+pub use Rattle.serde_json.specs.Data.{Data, Members, number, unsigned, string, object, no_members}
+pub use Rattle.oxc_sourcemap_json.specs.Usual.{Begins, BeginsAny, BeginItems, BeginMembers, IsAll}
+pub use Rattle.oxc_sourcemap_json.specs.Usual.{text_data, texts_data, contents_data, content_data}
+pub use Rattle.oxc_sourcemap_json.specs.Usual.{members_held, with_held, AreHeld, IsJsonOf}

@@ -1,14 +1,18 @@
 -- What tokens begin with: values, items and members, one after the other.
-use Rattle.std.proofs.Common.{◌≡◌, ℕ, ◌-◌, ◌<◌, ◌≤◌, List, [], ◌∷◌, ◌++◌, length, Option, Some}
-use Rattle.std.proofs.Common.{Result, Ok, Err, IfOk, IfSome, None, codes, option_and_then, refl, ap, ◌∙◌, arith}
+use Rattle.std.specs.List.{All}
+use Rattle.std.proofs.Common.{zero, suc, ◌≡◌, ℕ, ◌-◌, ◌<◌, ◌≤◌, List, [], ◌∷◌, ◌++◌, length, Option}
+use Rattle.std.proofs.Common.{Some}
+use Rattle.std.proofs.Common.{Result, Ok, Err, IfOk, IfSome, None, codes, option_map}
+use Rattle.std.proofs.Common.{option_and_then, refl, ap, ◌∙◌, arith}
 use Rattle.json.specs.Token.{Token}
 use Rattle.json.specs.Json.{after_end_array, read_key, items, members, value, parse_map, if_last}
 use Rattle.json.specs.Lex.{tokens}
 use Rattle.json.proofs.Grammar.{value_is, value-begin_array, value-begin_object}
 use Rattle.json.proofs.Grammar.{read_key-shorter}
-use Rattle.serde_json.specs.Data.{Data, null, number, unsigned, string, array, object, Items}
+use Rattle.serde_json.specs.Data.{Data, Num, null, number, unsigned, string, array, object, Items}
 use Rattle.serde_json.specs.Data.{no_items, item, Members, no_members, put}
-use Rattle.serde_json.specs.Read.{of_json, of_items, of_members, converted, max_depth, read}
+use Rattle.serde_json.specs.Read.{of_json, of_items, of_members, converted, max_depth, number_of}
+use Rattle.serde_json.specs.Read.{read}
 use Rattle.serde_json.proofs.OnLiterals.{serde_json_on_literals}
 use Rattle.oxc_sourcemap_json.specs.Usual.{Begins, BeginsAny, BeginItems, BeginMembers, IsAll}
 use Rattle.oxc_sourcemap_json.specs.Usual.{items_of}
@@ -30,6 +34,10 @@ text_begins ts rest s is depth = ap (converted of_json) (ap (value depth) is ∙
 
 pub null_begins : (ts rest : List Token) → ts ≡ Token.null ∷ rest → BeginsAny ts null rest
 null_begins ts rest is depth = ap (converted of_json) (ap (value depth) is ∙ value_is depth _)
+
+pub number_begins : (ts rest : List Token) (s : List ℕ) (n : Num) → ts ≡ Token.number s ∷ rest → number_of s ≡ Some n → BeginsAny ts (number n) rest
+number_begins ts rest s n is reads depth =
+    ap (converted of_json) (ap (value depth) is ∙ value_is depth (Token.number s ∷ rest)) ∙ ap (λ o. option_map (λ d. (d, rest)) (option_map number o)) reads
 
 pub three_begins : (ts rest : List Token) → ts ≡ Token.number (codes "3") ∷ rest → Begins ts (number (unsigned 3)) rest
 unfolding serde_json_on_literals
@@ -119,3 +127,9 @@ pub text_is : (text : List ℕ) (d : Data) → IsAll (tokens text) d → read te
 text_is text d h =
     let j = before of_json (value max_depth (tokens text)) d [] h in
     ap (λ r. option_and_then of_json (option_and_then (λ p. if_last p.0 p.1) r)) j.1 ∙ j.2
+
+-- ---- a list of one number
+
+pub all_of_one : (n : ℕ) → n < 4294967296 → All (λ m. m < 4294967296) (n ∷ [])
+all_of_one n small zero d less = small
+all_of_one n small (suc k) d less = absurd (omega (arith, less))

@@ -1,6 +1,8 @@
 -- What is read of a JSON text token by token: values at the front of tokens, and members by their keys.
-use Rattle.std.specs.Prelude.{ℕ, ◌≡◌, List, [], ◌∷◌, codes, length, map, option_map, string_bytes}
+use Rattle.std.specs.Prelude.{ℕ, ◌≡◌, ◌<◌, IfSome, Vec, List, [], ◌∷◌, codes, length, map}
+use Rattle.std.specs.Prelude.{option_map, string_bytes}
 use Rattle.std.specs.Prelude.{Option, Some, None, Ok, if◌then◌else◌, String}
+use Rattle.std.specs.List.{All}
 use Rattle.std.specs.Str.{bytes_eq}
 use Rattle.std.specs.declared.alloc.Global.{Global}
 use Rattle.json.specs.Token.{Token}
@@ -54,6 +56,14 @@ texts_data texts = array (items_of (map string texts))
 abbrev pub contents_data : List (Option (List ℕ)) → Data
 contents_data contents = array (items_of (map content_data contents))
 
+-- the value of a list of ids
+abbrev pub ids_data : List ℕ → Data
+ids_data ids = array (items_of (map (λ id. number (unsigned id)) ids))
+
+-- Ids are at most 4294967295, if there is a list of them.
+abbrev pub AreIds : Option (Vec ℕ Global) → Type 0
+AreIds list = IfSome list (λ ids. All (λ id. id < 4294967296) ids.items)
+
 -- values by their keys
 abbrev pub Held : Type 0
 Held = List (List ℕ × Option Data)
@@ -78,7 +88,13 @@ members_held m =
     ∷ (codes "sources", option_map (λ texts. texts_data (json_texts texts)) m.sources)
     ∷ (codes "sourcesContent", option_map (λ contents. contents_data (json_content_list contents)) m.sources_content)
     ∷ (codes "names", option_map (λ texts. texts_data (json_texts texts)) m.names)
-    ∷ (codes "debugId", option_map text_data m.debug_id) ∷ []
+    ∷ (codes "debugId", option_map text_data m.debug_id)
+    ∷ (codes "ignoreList", option_map (λ ids. ids_data ids.items) m.ignore_list)
+    ∷ (codes "x_google_ignoreList", option_map (λ ids. ids_data ids.items) m.older_ignore_list) ∷ []
+
+-- The ignore lists that were read are lists of ids.
+abbrev pub HaveIds : UsualMembers → Type 0
+HaveIds m = AreIds m.ignore_list × AreIds m.older_ignore_list
 
 -- An object has exactly the members that were read.
 abbrev pub AreHeld : UsualMembers → Members → Type 0

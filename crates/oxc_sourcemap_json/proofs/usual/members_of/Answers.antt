@@ -12,4 +12,5 @@ returns c =
       found.0,
       object_is_all c.args.reader.now c.next.new.self found.0 is (subst (BeginMembers c.next.new.self found.0) end found.1),
       found.2,
+      found.3,
     )) c.in_ok-members.members c.in_ok-members.ensures

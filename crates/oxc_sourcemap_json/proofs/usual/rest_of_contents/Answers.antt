@@ -1,4 +1,5 @@
-use Rattle.std.proofs.Common.{◌≡◌, [], ◌∷◌, ◌++◌, None, IfSome, ◌<◌, length, map, option_map, string_bytes, sym, ap, ◌∙◌, subst, arith}
+use Rattle.std.proofs.Common.{◌≡◌, [], ◌∷◌, ◌++◌, None, IfSome, ◌<◌, length, map, option_map}
+use Rattle.std.proofs.Common.{string_bytes, sym, ap, ◌∙◌, subst, arith}
 use Rattle.std.proofs.lemmas.List.{map-append}
 use Rattle.json.specs.Json.{after_end_array}
 use Rattle.oxc_sourcemap_json.specs.Words.{json_content_list, content_data, BeginsAny}

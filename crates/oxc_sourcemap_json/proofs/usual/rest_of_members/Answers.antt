@@ -8,13 +8,13 @@ use Rattle.oxc_sourcemap_json.proofs.Tokens.{no_members_read, one_more_member, a
 use Rattle.oxc_sourcemap_json.proofs.usual.rest_of_members.Goals as goal
 
 pub members-init : goal.members-init
-members-init c = (no_members, no_members_read c.args.reader.now, c.none-members.ensures)
+members-init c = (no_members, no_members_read c.args.reader.now, c.none-members.ensures.held, c.none-members.ensures.ids)
 
 pub returns-in_default-next : goal.returns-in_default-next
 returns-in_default-next c =
     let l = c.members in
     let end : read_key l.reader ≡ Some (None, c.next_key.new.self) = grind arith in
-    (l.invariant.0, all_members c.args.reader.now l.reader c.next_key.new.self l.invariant.0 l.invariant.1 end, l.invariant.2)
+    (l.invariant.0, all_members c.args.reader.now l.reader c.next_key.new.self l.invariant.0 l.invariant.1 end, l.invariant.2, l.invariant.3)
 
 pub members-preserved : goal.members-preserved
 members-preserved c =
@@ -26,4 +26,5 @@ members-preserved c =
           (c.read.ensures.shorter (grind arith)),
       subst (λ es. (k : List ℕ) → get_member k (put c.in-Some.key.now done.0 l.invariant.0) ≡ held k es) (sym done.2)
           (still_held c.in-Some.key.now done.0 (members_held l.members) l.invariant.0 l.invariant.2),
+      c.read.ensures.ids (grind arith) l.invariant.3,
     )

@@ -1,4 +1,5 @@
-use Rattle.std.proofs.Common.{◌≡◌, [], ◌∷◌, ◌++◌, None, IfSome, ◌<◌, length, map, string_bytes, sym, ap, ◌∙◌, subst, arith}
+use Rattle.std.proofs.Common.{◌≡◌, [], ◌∷◌, ◌++◌, None, IfSome, ◌<◌, length, map, string_bytes, sym}
+use Rattle.std.proofs.Common.{ap, ◌∙◌, subst, arith}
 use Rattle.std.proofs.lemmas.List.{map-append}
 use Rattle.json.specs.Json.{after_end_array}
 use Rattle.oxc_sourcemap_json.specs.Words.{json_texts, string, text_data, BeginsAny}

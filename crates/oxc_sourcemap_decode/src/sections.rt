@@ -9,7 +9,7 @@ ghost use Rattle.oxc_sourcemap_decode.specs.Words.{Answers};
 use crate::decode::decode_parts;
 use crate::place::place_after;
 use oxc_sourcemap_join::JoinedParts;
-use oxc_sourcemap_json::{file_from_value, json_of};
+use oxc_sourcemap_json::{file_from_value, json_of, usual_json};
 use oxc_sourcemap_parts::{SourceMapParts, from_string};
 use oxc_sourcemap_tokens::{Error, Field, JsonFault, Result};
 use serde_json::Value;
@@ -121,6 +121,9 @@ fn decode_owned_value(alloc: Global, value: Value) -> Result<SourceMapParts<'sta
 pub fn decode_parts_from_string(alloc: Global, text: &str) -> Result<SourceMapParts<'static>>
     ensures { Answers record_of_parts result (read_map text.now) }
 {
+    if let Some(json) = usual_json(alloc, text)? {
+        return decode_parts(alloc, json);
+    }
     let value = Value::from_str(alloc, text)?;
     decode_owned_value(alloc, value)
 }

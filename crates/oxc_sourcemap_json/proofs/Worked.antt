@@ -6,6 +6,7 @@ use Rattle.oxc_sourcemap_tokens.specs.declared.error.Field.TheVariants.{Object}
 use Rattle.oxc_sourcemap_tokens.specs.declared.error.Field.TheVariants.{Version as VersionField}
 use Rattle.oxc_sourcemap_tokens.specs.declared.error.Field.TheVariants.{Names, IgnoreList}
 use Rattle.oxc_sourcemap_json.specs.Shape.{shape}
+use Rattle.oxc_sourcemap_json.specs.Usual.{held, with_held}
 use Rattle.serde_json.specs.Data.{Data, null, number, string, array, object, unsigned, no_items}
 use Rattle.serde_json.specs.Data.{item, no_members, member}
 
@@ -43,3 +44,9 @@ shape-unknown_content : shape (object_with (codes "sourcesContent") (array (item
     ≡ Ok (record { version = 3; file = None; mappings = []; source_root = None; sources = []; sources_content = Some (None ∷ Some (codes "A") ∷ []); names = []; debug_id = None; ignore_list = None })
 unfolding shape
 shape-unknown_content = refl
+
+with_held-a_key_that_comes_again : with_held (codes "a") null ((codes "b", None) ∷ (codes "a", Some (string [])) ∷ []) ≡ (codes "b", None) ∷ (codes "a", Some null) ∷ []
+with_held-a_key_that_comes_again = refl
+
+held-nothing_for_another_key : held (codes "sections") ((codes "file", Some null) ∷ (codes "names", None) ∷ []) ≡ None
+held-nothing_for_another_key = refl

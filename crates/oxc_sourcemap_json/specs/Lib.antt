@@ -1,4 +1,5 @@
 pub mod Json
 pub mod Members
 pub mod Shape
+pub mod Usual
 pub mod Words

@@ -3,6 +3,7 @@ pub use Rattle.oxc_sourcemap_tokens.specs.Results.{Gives, Answers}
 pub use Rattle.oxc_sourcemap_tokens.specs.declared.error.Field.TheVariants.{Mappings, Sources}
 pub use Rattle.oxc_sourcemap_tokens.specs.declared.error.Field.TheVariants.{SourcesContent}
 pub use Rattle.serde_json.specs.Find.{get}
+pub use Rattle.serde_json.specs.Read.{number_of}
 pub use Rattle.serde_json.specs.View.{view}
 pub use Rattle.oxc_sourcemap_json.specs.Json.{json_record, json_texts, json_content_list}
 pub use Rattle.oxc_sourcemap_json.specs.Json.{json_contents, json_ids}
@@ -10,3 +11,8 @@ pub use Rattle.oxc_sourcemap_json.specs.Members.{lent_member, member_in}
 pub use Rattle.oxc_sourcemap_json.specs.Shape.{present, optional, required, text_in, texts_in}
 pub use Rattle.oxc_sourcemap_json.specs.Shape.{as_content, contents_in, names_of, shape, ids_in}
 pub use Rattle.oxc_sourcemap_json.specs.Shape.{version_of, ignore_list_of, as_id, file_of}
+pub use Rattle.serde_json.specs.Data.{Data, Members, number, unsigned, string, object, no_members}
+pub use Rattle.oxc_sourcemap_json.specs.Usual.{Begins, BeginsAny, BeginItems, BeginMembers, IsAll}
+pub use Rattle.oxc_sourcemap_json.specs.Usual.{text_data, texts_data, contents_data, content_data}
+pub use Rattle.oxc_sourcemap_json.specs.Usual.{ids_data, HaveIds}
+pub use Rattle.oxc_sourcemap_json.specs.Usual.{members_held, with_held, AreHeld, IsJsonOf}

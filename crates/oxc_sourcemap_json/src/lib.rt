@@ -5,7 +5,9 @@
 mod json_source_map;
 mod members;
 mod shape;
+mod usual;
 
 pub use json_source_map::JSONSourceMap;
 pub use members::json_of;
 pub use shape::{file_from_value, read_id};
+pub use usual::usual_json;

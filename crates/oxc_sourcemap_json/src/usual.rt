@@ -1,0 +1,346 @@
+//! Reading the JSON text of a usual source map token by token, with no value in between, which takes half of the time. What is
+//! unusual is left to the value.
+ghost use Rattle.std.specs.Prelude.{◌≡◌, ◌<◌, ◌≤◌, length, map, true, IsTrue, IfOk, IfSome, Ok};
+ghost use Rattle.std.specs.Prelude.{option_map, string_bytes, Some};
+ghost use Rattle.std.specs.List.{All};
+ghost use Rattle.oxc_sourcemap_json.specs.Words.{json_texts, json_content_list, json_record, shape};
+ghost use Rattle.oxc_sourcemap_json.specs.Words.{Data, Members, number, unsigned, string, object};
+ghost use Rattle.oxc_sourcemap_json.specs.Words.{no_members, Begins, BeginsAny, BeginItems};
+ghost use Rattle.oxc_sourcemap_json.specs.Words.{BeginMembers, IsAll, IsJsonOf, AreHeld};
+ghost use Rattle.oxc_sourcemap_json.specs.Words.{text_data, texts_data, contents_data};
+ghost use Rattle.oxc_sourcemap_json.specs.Words.{content_data, members_held, with_held};
+ghost use Rattle.oxc_sourcemap_json.specs.Words.{ids_data, HaveIds, number_of};
+
+use crate::json_source_map::JSONSourceMap;
+use fast_float::Numeral;
+use json::{Reader, Scratch, Token};
+use oxc_sourcemap_tokens::Memory;
+use std::alloc::Global;
+
+/// The members of a source map that were read so far. One that comes again takes the place of the one before.
+#[derive(Drop)]
+struct UsualMembers {
+    /// Whether there is a version, which is 3.
+    has_version: bool,
+    file: Option<String>,
+    mappings: Option<String>,
+    source_root: Option<String>,
+    sources: Option<Vec<String>>,
+    sources_content: Option<Vec<Option<String>>>,
+    names: Option<Vec<String>>,
+    debug_id: Option<String>,
+    ignore_list: Option<Vec<u32>>,
+    older_ignore_list: Option<Vec<u32>>,
+}
+
+/// Whether the next value is the number 3.
+fn next_is_three(reader: &mut Reader<'_>) -> bool
+    ensures three { IsTrue result → Begins reader.old (number (unsigned 3)) reader.new }
+    ensures shorter { IsTrue result → length reader.new < length reader.old }
+{
+    match reader.next() {
+        Some(Token::Number(digits)) => digits == "3",
+        _ => false,
+    }
+}
+
+/// The next value, if it is a text.
+fn next_text(alloc: Global, reader: &mut Reader<'_>) -> Memory<Option<String>>
+    ensures text { IfOk result (λ found. IfSome found
+        (λ text. BeginsAny reader.old (text_data text) reader.new)) }
+    ensures member { IfOk result (λ found. IfSome found
+        (λ text. Begins reader.old (text_data text) reader.new)) }
+    ensures shorter { IfOk result (λ found. IfSome found
+        (λ _. length reader.new < length reader.old)) }
+{
+    match reader.next() {
+        Some(Token::String(text)) => Ok(Some(String::from_str(alloc, text)?)),
+        _ => Ok(None),
+    }
+}
+
+/// The texts up to the bracket that ends their list; None if something else is among them.
+fn rest_of_texts(alloc: Global, reader: &mut Reader<'_>) -> Memory<Option<Vec<String>>>
+    ensures texts { IfOk result (λ found. IfSome found
+        (λ texts. BeginItems reader.old (map string (json_texts texts)) reader.new)) }
+    ensures shorter { IfOk result (λ found. IfSome found
+        (λ _. length reader.new ≤ length reader.old)) }
+{
+    let mut texts = Vec::new(alloc);
+    'texts: while !reader.take_end_array() {
+        let Some(text) = next_text(alloc, reader)? else {
+            return Ok(None);
+        };
+        texts.push(text)?;
+    }
+    Ok(Some(texts))
+}
+
+/// The next value, if it is a list of texts.
+fn next_texts(alloc: Global, reader: &mut Reader<'_>) -> Memory<Option<Vec<String>>>
+    ensures texts { IfOk result (λ found. IfSome found
+        (λ texts. Begins reader.old (texts_data (json_texts texts)) reader.new)) }
+    ensures shorter { IfOk result (λ found. IfSome found
+        (λ _. length reader.new < length reader.old)) }
+{
+    match reader.next() {
+        Some(Token::BeginArray) => rest_of_texts(alloc, reader),
+        _ => Ok(None),
+    }
+}
+
+/// The next value, if it is a content: a text, or null for one that is not known.
+fn next_content(alloc: Global, reader: &mut Reader<'_>) -> Memory<Option<Option<String>>>
+    ensures content { IfOk result (λ found. IfSome found (λ content.
+        BeginsAny reader.old (content_data (option_map string_bytes content)) reader.new)) }
+    ensures shorter { IfOk result (λ found. IfSome found
+        (λ _. length reader.new < length reader.old)) }
+{
+    match reader.next() {
+        Some(Token::String(text)) => Ok(Some(Some(String::from_str(alloc, text)?))),
+        Some(Token::Null) => Ok(Some(None)),
+        _ => Ok(None),
+    }
+}
+
+/// The contents up to the bracket that ends their list; None if something else is among them.
+fn rest_of_contents(alloc: Global, reader: &mut Reader<'_>) -> Memory<Option<Vec<Option<String>>>>
+    ensures contents { IfOk result (λ found. IfSome found (λ contents. BeginItems reader.old
+        (map content_data (json_content_list contents)) reader.new)) }
+    ensures shorter { IfOk result (λ found. IfSome found
+        (λ _. length reader.new ≤ length reader.old)) }
+{
+    let mut contents = Vec::new(alloc);
+    'contents: while !reader.take_end_array() {
+        let Some(content) = next_content(alloc, reader)? else {
+            return Ok(None);
+        };
+        contents.push(content)?;
+    }
+    Ok(Some(contents))
+}
+
+/// The next value, if it is a list of contents.
+fn next_contents(alloc: Global, reader: &mut Reader<'_>) -> Memory<Option<Vec<Option<String>>>>
+    ensures contents { IfOk result (λ found. IfSome found
+        (λ contents. Begins reader.old (contents_data (json_content_list contents)) reader.new)) }
+    ensures shorter { IfOk result (λ found. IfSome found
+        (λ _. length reader.new < length reader.old)) }
+{
+    match reader.next() {
+        Some(Token::BeginArray) => rest_of_contents(alloc, reader),
+        _ => Ok(None),
+    }
+}
+
+/// The number of a token of JSON, if it is a whole one of 0 to 4294967295 without a sign.
+fn id_of(digits: &[u8]) -> Option<u32>
+    ensures { IfSome result (λ id. number_of digits.now ≡ Some (unsigned id)) }
+{
+    if digits.is_empty() || digits[0] == b'-' {
+        return None;
+    }
+    let number = Numeral::scan(digits).to_u64()?;
+    if number > 4294967295 {
+        return None;
+    }
+    Some(number as u32)
+}
+
+/// The next value, if it is a whole number of 0 to 4294967295.
+fn next_id(reader: &mut Reader<'_>) -> Option<u32>
+    ensures id { IfSome result (λ id. BeginsAny reader.old (number (unsigned id)) reader.new) }
+    ensures small { IfSome result (λ id. id < 4294967296) }
+    ensures shorter { IfSome result (λ _. length reader.new < length reader.old) }
+{
+    match reader.next() {
+        Some(Token::Number(digits)) => id_of(digits.as_bytes()),
+        _ => None,
+    }
+}
+
+/// The ids up to the bracket that ends their list; None if something else is among them.
+fn rest_of_ids(alloc: Global, reader: &mut Reader<'_>) -> Memory<Option<Vec<u32>>>
+    ensures ids { IfOk result (λ found. IfSome found (λ ids. BeginItems reader.old
+        (map (λ id. number (unsigned id)) ids.items) reader.new)) }
+    ensures small { IfOk result (λ found. IfSome found
+        (λ ids. All (λ id. id < 4294967296) ids.items)) }
+    ensures shorter { IfOk result (λ found. IfSome found
+        (λ _. length reader.new ≤ length reader.old)) }
+{
+    let mut ids = Vec::new(alloc);
+    'ids: while !reader.take_end_array() {
+        let Some(id) = next_id(reader) else {
+            return Ok(None);
+        };
+        ids.push(id)?;
+    }
+    Ok(Some(ids))
+}
+
+/// The next value, if it is a list of ids.
+fn next_ids(alloc: Global, reader: &mut Reader<'_>) -> Memory<Option<Vec<u32>>>
+    ensures ids { IfOk result (λ found. IfSome found
+        (λ ids. Begins reader.old (ids_data ids.items) reader.new)) }
+    ensures small { IfOk result (λ found. IfSome found
+        (λ ids. All (λ id. id < 4294967296) ids.items)) }
+    ensures shorter { IfOk result (λ found. IfSome found
+        (λ _. length reader.new < length reader.old)) }
+{
+    match reader.next() {
+        Some(Token::BeginArray) => rest_of_ids(alloc, reader),
+        _ => Ok(None),
+    }
+}
+
+impl UsualMembers {
+    /// No members.
+    fn none() -> UsualMembers
+        ensures held { AreHeld result no_members }
+        ensures ids { HaveIds result }
+    {
+        UsualMembers {
+            has_version: false,
+            file: None,
+            mappings: None,
+            source_root: None,
+            sources: None,
+            sources_content: None,
+            names: None,
+            debug_id: None,
+            ignore_list: None,
+            older_ignore_list: None,
+        }
+    }
+
+    /// Reads the value of a member. False if the member is unusual; what was read then counts for nothing.
+    fn read(&mut self, alloc: Global, key: &str, reader: &mut Reader<'_>) -> Memory<bool>
+        ensures read { result ≡ Ok true → (d : Data) × Begins reader.old d reader.new
+            × (members_held self.new ≡ with_held key.now d (members_held self.old)) }
+        ensures ids { result ≡ Ok true → HaveIds self.old → HaveIds self.new }
+        ensures shorter { result ≡ Ok true → length reader.new < length reader.old }
+    {
+        match key {
+            "version" => {
+                self.has_version = next_is_three(reader);
+                Ok(self.has_version)
+            }
+            "file" => {
+                self.file = next_text(alloc, reader)?;
+                Ok(self.file.is_some())
+            }
+            "mappings" => {
+                self.mappings = next_text(alloc, reader)?;
+                Ok(self.mappings.is_some())
+            }
+            "sourceRoot" => {
+                self.source_root = next_text(alloc, reader)?;
+                Ok(self.source_root.is_some())
+            }
+            "sources" => {
+                self.sources = next_texts(alloc, reader)?;
+                Ok(self.sources.is_some())
+            }
+            "sourcesContent" => {
+                self.sources_content = next_contents(alloc, reader)?;
+                Ok(self.sources_content.is_some())
+            }
+            "names" => {
+                self.names = next_texts(alloc, reader)?;
+                Ok(self.names.is_some())
+            }
+            "debugId" => {
+                self.debug_id = next_text(alloc, reader)?;
+                Ok(self.debug_id.is_some())
+            }
+            "ignoreList" => {
+                self.ignore_list = next_ids(alloc, reader)?;
+                Ok(self.ignore_list.is_some())
+            }
+            "x_google_ignoreList" => {
+                self.older_ignore_list = next_ids(alloc, reader)?;
+                Ok(self.older_ignore_list.is_some())
+            }
+            _ => Ok(false),
+        }
+    }
+
+    /// The fields that the members have; None if one that has to be there is not.
+    fn into_json(self, alloc: Global) -> Option<JSONSourceMap>
+        ensures { IfSome result (λ json. (ms : Members) → AreHeld self ms → HaveIds self
+            → shape (object ms) ≡ Ok (json_record json)) }
+    {
+        let UsualMembers {
+            has_version,
+            file,
+            mappings,
+            source_root,
+            sources,
+            sources_content,
+            names,
+            debug_id,
+            ignore_list,
+            older_ignore_list,
+        } = self;
+        if !has_version {
+            return None;
+        }
+        Some(JSONSourceMap {
+            version: 3,
+            file,
+            mappings: mappings?,
+            source_root,
+            sources: sources?,
+            sources_content,
+            names: names.unwrap_or(Vec::new(alloc)),
+            debug_id,
+            ignore_list: ignore_list.or(older_ignore_list),
+        })
+    }
+}
+
+/// The members up to the brace that ends their object; None if one of them is unusual.
+fn rest_of_members(alloc: Global, reader: &mut Reader<'_>) -> Memory<Option<UsualMembers>>
+    ensures { IfOk result (λ found. IfSome found (λ m. (ms : Members)
+        × BeginMembers reader.old ms reader.new × AreHeld m ms × HaveIds m)) }
+{
+    let mut members = UsualMembers::none();
+    'members: while let Ok(next) = reader.next_key() {
+        let Some(key) = next else {
+            return Ok(Some(members));
+        };
+        if !members.read(alloc, key, reader)? {
+            return Ok(None);
+        }
+    }
+    Ok(None)
+}
+
+/// The members of the object that is all of a text; None if it is something else, or one of them is unusual.
+fn members_of(alloc: Global, reader: &mut Reader<'_>) -> Memory<Option<UsualMembers>>
+    ensures { IfOk result (λ found. IfSome found (λ m. (ms : Members)
+        × IsAll reader.old (object ms) × AreHeld m ms × HaveIds m)) }
+{
+    let Some(Token::BeginObject) = reader.next() else {
+        return Ok(None);
+    };
+    let members = rest_of_members(alloc, reader)?;
+    if reader.next().is_some() {
+        return Ok(None);
+    }
+    Ok(members)
+}
+
+/// The fields of the JSON text of a map by itself, as `json_of` reads them from its value. None if the text is unusual: it is no
+/// such map, has a fault, or has a member that ECMA-426 has none of, or null as a member. Fails only for want of memory.
+pub fn usual_json(alloc: Global, text: &str) -> Memory<Option<JSONSourceMap>>
+    ensures { IfOk result (λ found. IfSome found
+        (λ json. IsJsonOf text.now (json_record json))) }
+{
+    let mut scratch = Scratch::new(alloc);
+    let mut reader = Reader::new(text, &mut scratch)?;
+    let Some(members) = members_of(alloc, &mut reader)? else {
+        return Ok(None);
+    };
+    Ok(members.into_json(alloc))
+}

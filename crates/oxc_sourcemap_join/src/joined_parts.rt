@@ -398,11 +398,7 @@ fn push_fitted<'a>(
 }
 
 /// Adds copies of texts. On an error some may be added.
-fn push_copies<'a>(
-    alloc: Global,
-    texts: &mut Vec<CowStr<'a>>,
-    added: &[CowStr<'_>],
-) -> Memory<()>
+fn push_copies<'a>(alloc: Global, texts: &mut Vec<CowStr<'a>>, added: &[CowStr<'_>]) -> Memory<()>
     requires { vec_len texts.old + length added.now ≤ vec_capacity texts.old }
     ensures copied { OnOk result (texts_of texts.new ≡ texts_of texts.old ++ cow_texts added.now) }
     ensures front { take (vec_len texts.old) texts.new.items ≡ texts.old.items }

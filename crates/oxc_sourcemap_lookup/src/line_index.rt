@@ -255,7 +255,12 @@ impl LineIndex {
 
     /// How many tokens lie on the lines before a line that has some, and the tokens on it, found as `tokens_near` finds them.
     #[inline(always)]
-    fn line_near<'t>(&self, tokens: &'t [Token], line: u32, near: &mut usize) -> (usize, &'t [Token])
+    fn line_near<'t>(
+        &self,
+        tokens: &'t [Token],
+        line: u32,
+        near: &mut usize,
+    ) -> (usize, &'t [Token])
         requires { IsIndexOf tokens.now self.now }
         ensures tokens { result.1.now ≡ on_line token_line line tokens.now }
         ensures start { 0 < length result.1.now

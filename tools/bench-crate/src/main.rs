@@ -124,6 +124,14 @@ fn time_map(asked: &Asked, text: &str) -> Result<(), Error> {
         found.fold(0, |sum: usize, token| sum.wrapping_add(token.get_src_line() as usize + 1))
     };
     asked.time("lookup", tokens, || (), sum);
+    let sum_of_texts = |()| {
+        let found = positions.iter().filter_map(|(line, column)| map.lookup_source_view_token(&table, *line, *column));
+        found.fold(0, |sum: usize, token| {
+            let texts = token.get_source().map_or(0, str::len).wrapping_add(token.get_name().map_or(0, str::len));
+            sum.wrapping_add(token.get_src_line() as usize).wrapping_add(texts)
+        })
+    };
+    asked.time("lookup_texts", tokens, || (), sum_of_texts);
     let copies: Vec<_> = (0..COPIES).map(|i| (&map, i * table.len() as u32)).collect();
     let join = |()| ConcatSourceMapBuilder::from_sourcemaps(&copies).into_sourcemap();
     asked.time("join", tokens, || (), join);

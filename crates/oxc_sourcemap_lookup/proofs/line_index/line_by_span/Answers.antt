@@ -1,6 +1,4 @@
 use Rattle.std.proofs.Common.{◌≡◌, ◌<◌, ◌-◌, ◌∙◌, ap, length, get_or, arith}
-use Rattle.oxc_sourcemap_parts.specs.Sorted.{token_line}
-use Rattle.oxc_sourcemap_lookup.specs.Lookup.{on_line}
 use Rattle.oxc_sourcemap_lookup.specs.LineSpans.{count_before_line}
 use Rattle.oxc_sourcemap_lookup.proofs.LineIndices.{starts-at}
 use Rattle.oxc_sourcemap_lookup.proofs.LineSpans.{found-at}

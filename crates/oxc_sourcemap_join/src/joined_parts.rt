@@ -15,9 +15,9 @@ ghost use Rattle.oxc_sourcemap_join.specs.Words.{without_repeat, raised_ignore_l
 ghost use Rattle.oxc_sourcemap_join.specs.Words.{appended_ignore_lists, added, nothing_joined};
 ghost use Rattle.oxc_sourcemap_join.specs.Words.{AreEntriesInBounds, IsWithinLimits, position};
 ghost use Rattle.oxc_sourcemap_join.specs.Words.{all_shifted, id_limit, IsInReach, IsAddition};
-ghost use Rattle.oxc_sourcemap_join.specs.Words.{OnlyMemory, lent_item, TokenRecord, cow_texts};
+ghost use Rattle.oxc_sourcemap_join.specs.Words.{OnlyMemory, lent_item, TokenRecord};
 
-use oxc_sourcemap_parts::{Contents, SourceMapParts, Texts, contents_in, owned_text, texts_in};
+use oxc_sourcemap_parts::{Contents, SourceMapParts, Texts, contents_in, texts_in};
 use oxc_sourcemap_tokens::{Error, Memory, Position, Result, Token, TokenChunk, next_chunk};
 use std::alloc::Global;
 use std::borrow::CowStr;
@@ -346,8 +346,7 @@ fn push_texts<'a>(texts: &mut Vec<CowStr<'a>>, lent: Texts<'a, '_>)
 /// Adds this many unknown contents.
 fn push_unknown<'a>(contents: &mut Vec<Option<CowStr<'a>>>, count: usize)
     requires { vec_len contents.old + count ≤ vec_capacity contents.old }
-    ensures added { contents_of contents.new ≡ contents_of contents.old ++ replicate count None }
-    ensures front { take (vec_len contents.old) contents.new.items ≡ contents.old.items }
+    ensures { contents_of contents.new ≡ contents_of contents.old ++ replicate count None }
 {
     for i in 0..count {
         contents.push_reserved(None);
@@ -395,100 +394,6 @@ fn push_fitted<'a>(
     let appended = contents.append(&mut added);
     appended.unwrap();
     push_unknown(contents, unknown);
-}
-
-/// Adds copies of texts. On an error some may be added.
-fn push_copies<'a>(alloc: Global, texts: &mut Vec<CowStr<'a>>, added: &[CowStr<'_>]) -> Memory<()>
-    requires { vec_len texts.old + length added.now ≤ vec_capacity texts.old }
-    ensures copied { OnOk result (texts_of texts.new ≡ texts_of texts.old ++ cow_texts added.now) }
-    ensures front { take (vec_len texts.old) texts.new.items ≡ texts.old.items }
-{
-    for text in added {
-        texts.push_reserved(owned_text(alloc, text.as_str())?);
-    }
-    Ok(())
-}
-
-/// A copy of a content, if it is known.
-fn copied_content<'a>(alloc: Global, content: &Option<CowStr<'_>>) -> Memory<Option<CowStr<'a>>>
-    ensures { IfOk result (λ copy. option_map cow_str_bytes copy
-        ≡ option_map cow_str_bytes content.now) }
-{
-    match content {
-        Some(text) => Ok(Some(owned_text(alloc, text.as_str())?)),
-        None => Ok(None),
-    }
-}
-
-/// Keeps copies of contents at the index of their source, as `push_lent_fitted` does with borrowed ones. On an error some may be
-/// added.
-fn push_copies_fitted<'a>(
-    alloc: Global,
-    contents: &mut Vec<Option<CowStr<'a>>>,
-    added: &[Option<CowStr<'_>>],
-    count: usize,
-) -> Memory<()>
-    requires { vec_len contents.old + count ≤ vec_capacity contents.old }
-    ensures copied { OnOk result (contents_of contents.new ≡ contents_of contents.old
-        ++ fitted count (map (option_map cow_str_bytes) added.now)) }
-    ensures front { take (vec_len contents.old) contents.new.items ≡ contents.old.items }
-{
-    let known = added.len().min(count);
-    for content in &added[..known] {
-        contents.push_reserved(copied_content(alloc, content)?);
-    }
-    push_unknown(contents, count - known);
-    Ok(())
-}
-
-/// Adds copies of the texts of a map. On an error some may be added.
-fn push_all_copies<'a>(
-    alloc: Global,
-    names: &mut Vec<CowStr<'a>>,
-    sources: &mut Vec<CowStr<'a>>,
-    contents: &mut Vec<Option<CowStr<'a>>>,
-    parts: &SourceMapParts<'_>,
-) -> Memory<()>
-    requires room_for_names { vec_len names.old + vec_len parts.now.names ≤ vec_capacity names.old }
-    requires room_for_sources { vec_len sources.old + vec_len parts.now.sources
-        ≤ vec_capacity sources.old }
-    requires room_for_contents { vec_len contents.old + vec_len parts.now.sources
-        ≤ vec_capacity contents.old }
-    ensures names { OnOk result (texts_of names.new
-        ≡ texts_of names.old ++ (record_of_parts parts.now).names) }
-    ensures sources { OnOk result (texts_of sources.new
-        ≡ texts_of sources.old ++ (record_of_parts parts.now).sources) }
-    ensures contents { OnOk result (contents_of contents.new ≡ contents_of contents.old
-        ++ fitted (vec_len parts.now.sources) (record_of_parts parts.now).source_contents) }
-    ensures names_front { take (vec_len names.old) names.new.items ≡ names.old.items }
-    ensures sources_front { take (vec_len sources.old) sources.new.items ≡ sources.old.items }
-    ensures contents_front { take (vec_len contents.old) contents.new.items ≡ contents.old.items }
-{
-    push_copies(alloc, names, parts.names.as_slice())?;
-    push_copies(alloc, sources, parts.sources.as_slice())?;
-    push_copies_fitted(
-        alloc,
-        contents,
-        parts.source_contents.as_slice(),
-        parts.sources.len(),
-    )
-}
-
-/// Drops the texts that were added to lists of these lengths.
-fn cut_texts<'a>(
-    names: &mut Vec<CowStr<'a>>,
-    sources: &mut Vec<CowStr<'a>>,
-    contents: &mut Vec<Option<CowStr<'a>>>,
-    names_len: usize,
-    sources_len: usize,
-)
-    ensures names { names.new.items ≡ take names_len names.old.items }
-    ensures sources { sources.new.items ≡ take sources_len sources.old.items }
-    ensures contents { contents.new.items ≡ take sources_len contents.old.items }
-{
-    names.truncate(names_len);
-    sources.truncate(sources_len);
-    contents.truncate(sources_len);
 }
 
 /// Adds moved tokens, or as many others where not all are in bounds then, and finds a reach of those that it was given.
@@ -590,7 +495,7 @@ fn push_raised(list: &mut Vec<u32>, added: &[u32], number: u32)
 }
 
 /// The parts of the join of some maps, each at a position of the joined code. `add_lent` borrows the strings of a map for
-/// `'a`, `add_moved` moves them, `add_copied` copies them.
+/// `'a`, `add_moved` moves them: neither copies a string.
 ///
 /// An add that fails leaves the join as it was. Whether the result is sorted is not checked.
 #[derive(Drop)]
@@ -834,75 +739,6 @@ impl<'a> JoinedParts<'a> {
         self.names.append(&mut names).unwrap();
         self.sources.append(&mut sources).unwrap();
         push_fitted(&mut self.source_contents, source_contents, count);
-        self.token_chunks.push_reserved(addition.chunk);
-        Ok(())
-    }
-
-    /// Appends a map as `add_lent` does, with the same result, but copies its strings. Fails as `add_lent` does; the join is then
-    /// as it was.
-    pub fn add_copied(&mut self, parts: &SourceMapParts<'_>, position: Position) -> Result<()>
-        ensures joined { OnOk result (self.new
-            ≡ added self.old (record_of_parts parts.now) position) }
-        ensures limits { OnOk result (IsWithinLimits
-            (added self.old (record_of_parts parts.now) position)) }
-        ensures too_large { IsErrOf result TooLarge ↔ ¬
-            (IsWithinLimits (added self.old (record_of_parts parts.now) position)) }
-        ensures error { IfErr result (λ e. (e ≡ OutOfMemory) ⊎ (e ≡ TooLarge)) }
-        ensures unchanged { OnErr result (self.new ≡ self.old) }
-    {
-        let Some(addition) = self.addition(parts, position) else {
-            return Err(Error::TooLarge);
-        };
-        let shift = addition.shift;
-        let kept = &parts.tokens.as_slice()[addition.passed..];
-        let (names_len, sources_len) = (self.names.len(), self.sources.len());
-        let Ok(()) = make_room(
-            &mut self.names,
-            &mut self.sources,
-            &mut self.source_contents,
-            &mut self.tokens,
-            &mut self.token_chunks,
-            Lengths {
-                names: parts.names.len(),
-                sources: parts.sources.len(),
-                tokens: kept.len(),
-            },
-        ) else {
-            return Err(shift.error_without_room(kept));
-        };
-        let Ok(()) = push_all_copies(
-            self.alloc,
-            &mut self.names,
-            &mut self.sources,
-            &mut self.source_contents,
-            parts,
-        ) else {
-            cut_texts(
-                &mut self.names,
-                &mut self.sources,
-                &mut self.source_contents,
-                names_len,
-                sources_len,
-            );
-            return Err(shift.error_without_room(kept));
-        };
-        if let Err(e) = push_tokens(
-            self.alloc,
-            &mut self.tokens,
-            &mut self.ignore_list,
-            shift,
-            kept,
-            parts.ignore_list.as_deref(),
-        ) {
-            cut_texts(
-                &mut self.names,
-                &mut self.sources,
-                &mut self.source_contents,
-                names_len,
-                sources_len,
-            );
-            return Err(e);
-        }
         self.token_chunks.push_reserved(addition.chunk);
         Ok(())
     }

@@ -6,6 +6,7 @@ import sys
 import tempfile
 from pathlib import Path
 
+from tools.packing import tree
 from tools.packing.products import PROCESSORS, TOP, VERSION, glibc, run
 
 MADE = shutil.ignore_patterns("target", "node_modules", "prebuilds", "__pycache__", "Cargo.lock", "*.whl", "*.tgz")
@@ -21,12 +22,17 @@ def copied(folder, room, version):
     return copy
 
 
+def write_licence(package):
+    """The licence, with those of the libraries that are compiled into what the package holds."""
+    (package / "LICENSE").write_text(f"{(TOP / 'LICENSE').read_text()}\n----\n\n{tree.third_party()}")
+
+
 def python(products, processors):
     """A wheel for each processor, tagged for the oldest glibc that its symbols need, and the source."""
     with tempfile.TemporaryDirectory() as room:
         package = copied("python", room, products.pep440)
         copied("c", room, VERSION)
-        shutil.copy(TOP / "LICENSE", package)
+        write_licence(package)
         # (what a folder has is read in the order of its names)
         made = [wheel(products, it, package) for it in processors]
         environment = {**os.environ, "SOURCE_DATE_EPOCH": str(products.epoch)}
@@ -59,6 +65,7 @@ def rust(products, processors):
             (folder / "liboxc_sourcemap.a").write_bytes(products.static(it))
         for it in ("oxc_sourcemap-sys", "oxc_sourcemap"):
             shutil.copy(TOP / "LICENSE", workspace / it)
+        write_licence(workspace / "oxc_sourcemap-sys")
         run("cargo", "package", "--workspace", "--no-verify", "--offline", "--allow-dirty", "--target-dir", f"{room}/target", cwd=workspace)
         return {it.name: it.read_bytes() for it in sorted(Path(room, "target/package").glob("*.crate"))}
 
@@ -72,7 +79,9 @@ def javascript(products):
         run(package / "build", products.folder, addon, env={**os.environ, "CFLAGS": flags})
         addon.write_bytes(products.stripped(addon, "x64"))
         shutil.copytree(products.folder / "wasm/package", package / "wasm")
+        write_licence(package)
         for it in (package, *sorted(package.glob("packages/*/"))):
-            shutil.copy(TOP / "LICENSE", it)
+            if it != package:
+                shutil.copy(TOP / "LICENSE", it)
             run("npm", "pack", "--ignore-scripts", "--cache", f"{room}/cache", "--pack-destination", room, cwd=it)
         return {it.name: it.read_bytes() for it in sorted(Path(room).glob("*.tgz"))}

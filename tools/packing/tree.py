@@ -39,10 +39,17 @@ endif()
 # (the program knows its commands, and no more; what a person asks first is answered here)
 SMAP = """\
 #!/bin/sh
-case "${{1:-}}" in
-    --help | -h | help)
-        cat << 'TEXT'
+usage() {{
+    cat << 'TEXT'
 {usage}TEXT
+}}
+if [ $# = 0 ]; then
+    usage >&2
+    exit 2
+fi
+case $1 in
+    --help | -h | help)
+        usage
         exit
         ;;
     --version)

@@ -35,7 +35,7 @@ def premises():
     return re.sub(r"\[([^\]]+)\]\([^)]*\)", r"\1", section).replace("**", "").replace("`", "")
 
 
-def proved(products, passed, has_arm):
+def proved(products, passed):
     """What is proved of what was packed, and how to see it again."""
     if passed == "unproved":
         return f"Junketscarp {products.semver}\n\ncommit: {products.commit}, or what was changed since\ntoolchain: {toolchain()}\n\n{UNPROVED}"
@@ -46,9 +46,9 @@ def proved(products, passed, has_arm):
         "What passed": head,
         "What is proved": "The library for x86-64 is compiled from exports each of which is proved to meet its contract, for every input, and so is\n"
         f"{programs}. docs/BINDINGS.md and docs/PROOFS.md of the repository say what the contracts promise.\n",
-        "What is tested": "The layer for C over the exports, the bindings for Rust, Python and JavaScript, and the module for WebAssembly"
-        + (",\nand the library for aarch64, which are" if has_arm else ", which is\n")
-        + " compiled from the module of LLVM of the proved library by steps that tests cover.\nThe archives are tried by ./check package.\n",
+        "What is tested": "The layer for C over the exports; the bindings for Rust, Python and JavaScript; the module for WebAssembly and the library for\n"
+        "aarch64, which are compiled from the module of LLVM of the proved library by steps that tests cover; and the archives, by\n"
+        "./check package.\n",
         "Premises": premises() + "\n",
         "To redo it": REDO.format(commit=products.commit),
     }

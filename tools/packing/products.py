@@ -1,5 +1,6 @@
 """What was built, where it lies, and of what: the input of all archives."""
 
+import hashlib
 import os
 import re
 import subprocess
@@ -28,18 +29,33 @@ def run(*words, **more):
     return ran.stdout
 
 
+def commit():
+    """The commit and its time; none, and 1980, outside of git. SOURCE_DATE_EPOCH is another time."""
+    told = subprocess.run(["git", "log", "-1", "--format=%H %ct"], cwd=TOP, capture_output=True, text=True).stdout.split()
+    name, epoch = told or ("0" * 40, "315532800")
+    return name, int(os.environ.get("SOURCE_DATE_EPOCH") or epoch)
+
+
 class Products:
     """What one state of target/ has."""
 
     def __init__(self, folder, mark=""):
         self.folder, self.mark = folder, mark
-        self.commit = os.environ.get("COMMIT") or run("git", "rev-parse", "HEAD", cwd=TOP).strip()
-        self.epoch = int(os.environ.get("SOURCE_DATE_EPOCH") or run("git", "log", "-1", "--format=%ct", cwd=TOP))
+        self.commit, self.epoch = commit()
         # each tool has its own form of a version that is marked
         self.semver = f"{VERSION}-{mark}" if mark else VERSION
         self.pep440 = f"{VERSION}+{mark}" if mark else VERSION
         self.debian = f"{VERSION}~{mark}-1" if mark else f"{VERSION}-1"
         self.name = f"junketscarp-{self.semver}"
+
+    def checksum(self):
+        """The checksum of what was built, of which all archives are made."""
+        built = ["liboxc_sourcemap.a", "liboxc_sourcemap.so.1", "wasm/module.ll.gz", "wasm/oxc_sourcemap.wasm", *PROGRAMS]
+        return hashlib.sha256(b"".join(hashlib.sha256((self.folder / it).read_bytes()).digest() for it in built if (self.folder / it).is_file())).hexdigest()
+
+    def has_module(self):
+        """Whether the module for WebAssembly is built."""
+        return (self.folder / "wasm/package").is_dir()
 
     def library(self, processor):
         """The folder of the library for a processor."""

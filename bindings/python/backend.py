@@ -24,6 +24,7 @@ import tarfile
 import tempfile
 import time
 import zipfile
+from collections.abc import Callable
 from pathlib import Path
 
 HERE = Path(__file__).resolve().parent
@@ -154,6 +155,6 @@ def leave_needs(folder: str) -> str:
 
 
 if __name__ == "__main__":
-    makes = {"wheel": build_wheel, "sdist": build_sdist, "needs": leave_needs}
+    makes: dict[str, Callable[[str], str]] = {"wheel": build_wheel, "sdist": build_sdist, "needs": leave_needs}
     what, to = sys.argv[1:] if len(sys.argv) > 2 else ("wheel", sys.argv[1])
     print(makes[what](to))

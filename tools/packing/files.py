@@ -4,8 +4,6 @@ import gzip
 import io
 import lzma
 import tarfile
-import zipfile
-from datetime import datetime, timezone
 from pathlib import PurePosixPath
 from typing import NamedTuple
 
@@ -63,18 +61,3 @@ def ar(members, epoch):
     for name, content in members.items():
         out += f"{name:<16}{epoch:<12}{0:<6}{0:<6}{'100644':<8}{len(content):<10}`\n".encode() + content + b"\n" * (len(content) % 2)
     return out
-
-
-def zip_time(epoch):
-    return datetime.fromtimestamp(epoch, timezone.utc).timetuple()[:6]
-
-
-def zipped(files, epoch):
-    """A zip of files, in their order."""
-    out = io.BytesIO()
-    with zipfile.ZipFile(out, "w", zipfile.ZIP_DEFLATED) as archive:
-        for path, content in files.items():
-            about = zipfile.ZipInfo(path, zip_time(epoch))
-            about.external_attr = 0o644 << 16
-            archive.writestr(about, content, zipfile.ZIP_DEFLATED)
-    return out.getvalue()

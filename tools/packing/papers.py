@@ -5,7 +5,7 @@ import json
 import re
 from datetime import datetime, timezone
 
-from tools.packing.products import PROGRAMS, TOP, VERSION, libraries_of, licences, run, toolchain
+from tools.packing.products import PROGRAMS, TOP, libraries_of, licences, run, toolchain
 
 REDO = """\
 git checkout {commit}

@@ -2,12 +2,11 @@
 
 import os
 import re
-import subprocess
 import tempfile
 from pathlib import Path
 
 from tools.packing.files import File
-from tools.packing.products import PROCESSORS, PROGRAMS, TOP, VERSION, kit, libraries_of, licences, run
+from tools.packing.products import PROGRAMS, TOP, VERSION, libraries_of, licences, run
 
 CMAKE_CONFIG = """\
 # oxc_sourcemap::oxc_sourcemap is the shared library, oxc_sourcemap::static the static one.

@@ -1,12 +1,16 @@
 """Builds the wheel of oxc_sourcemap, with Python alone: `pip wheel bindings/python`, or `python3 backend.py FOLDER`.
 
-The wheel carries the shared library that `./build-c` leaves in target/, or that OXC_SOURCEMAP_LIB names, and _fast.c compiled by one
-call of a C compiler, $CC or cc. Without a compiler, or with OXC_SOURCEMAP_CC set to nothing, it has no _fast and looks up by ctypes alone.
+The wheel carries the shared library that OXC_SOURCEMAP_LIB names, or `./build-c` leaves in target/, or pkg-config finds, and _fast.c
+compiled by one call of a C compiler, $CC or cc. Without a compiler, or with OXC_SOURCEMAP_CC set to nothing, it has no _fast and looks up
+by ctypes alone. OXC_SOURCEMAP_PLATFORM is the platform of its tag, if that is not this machine; SOURCE_DATE_EPOCH the time of all files.
+
+`backend.py needs FOLDER` leaves in the folder what the wheel loads, and prints its names; `backend.py sdist FOLDER` makes the source.
 """
 
 from __future__ import annotations
 
 import base64
+import gzip
 import hashlib
 import io
 import os
@@ -18,12 +22,15 @@ import sys
 import sysconfig
 import tarfile
 import tempfile
+import time
 import zipfile
+from collections.abc import Callable
 from pathlib import Path
 
 HERE = Path(__file__).resolve().parent
 SOURCE = HERE / "src" / "oxc_sourcemap"
 LIBRARY = "liboxc_sourcemap.so"
+EPOCH = int(os.environ.get("SOURCE_DATE_EPOCH", 1577836800))
 
 
 def version() -> str:
@@ -37,15 +44,27 @@ def metadata() -> str:
     stated: dict[str, str] = dict(re.findall(r'^([a-z-]+) = "(.*)"$', project, flags=re.M))
     return (
         f"Metadata-Version: 2.1\nName: {stated['name']}\nVersion: {version()}\nSummary: {stated['description']}\n"
-        f"License: {stated['license']}\nRequires-Python: {stated['requires-python']}\n"
+        f"License: {stated['license']}\nRequires-Python: {stated['requires-python']}\nDescription-Content-Type: text/markdown\n\n"
+        f"{HERE.joinpath('README.md').read_text(encoding='utf-8')}"
     )
 
 
+def found_by_pkg_config() -> Path | None:
+    """The library where it is installed."""
+    words = ["pkg-config", "--variable=libdir", "oxc_sourcemap"]
+    if not shutil.which(words[0]):
+        return None
+    folder = subprocess.run(words, capture_output=True, text=True).stdout.strip()
+    return Path(folder, LIBRARY) if folder else None
+
+
 def library() -> Path:
-    path = Path(os.environ.get("OXC_SOURCEMAP_LIB") or HERE.parents[1] / "target" / LIBRARY)
-    if not path.is_file():
-        raise FileNotFoundError(f"there is no {path}: run ./build-c, or let OXC_SOURCEMAP_LIB name the library")
-    return path
+    named = os.environ.get("OXC_SOURCEMAP_LIB")
+    paths = [Path(named)] if named else [HERE.parents[1] / "target" / LIBRARY, found_by_pkg_config()]
+    for path in paths:
+        if path and path.is_file():
+            return path
+    raise FileNotFoundError(f"there is no {paths[0]}: run ./build-c, or let OXC_SOURCEMAP_LIB name the library")
 
 
 def header() -> Path:
@@ -65,7 +84,7 @@ def compiled() -> bytes | None:
         return None
     with tempfile.TemporaryDirectory() as room:
         out = Path(room, "_fast.so")
-        flags = ["-O2", "-fPIC", "-shared", f"-I{sysconfig.get_paths()['include']}", f"-I{header()}"]
+        flags = ["-O2", "-fPIC", "-shared", "-s", f"-I{sysconfig.get_paths()['include']}", f"-I{header()}"]
         if subprocess.run([*compiler, *flags, str(SOURCE / "_fast.c"), "-o", str(out)]).returncode:
             print("_fast.c was not compiled: lookups one by one will be slower", file=sys.stderr)
             return None
@@ -79,7 +98,7 @@ def members() -> dict[str, bytes]:
     fast = compiled()
     if fast is not None:
         files["_fast.abi3.so"] = fast
-    platform = sysconfig.get_platform().replace("-", "_").replace(".", "_")
+    platform = os.environ.get("OXC_SOURCEMAP_PLATFORM") or sysconfig.get_platform().replace("-", "_").replace(".", "_")
     tag = f"py3-none-{platform}" if fast is None else f"cp310-abi3-{platform}"
     about = f"Wheel-Version: 1.0\nGenerator: oxc_sourcemap\nRoot-Is-Purelib: false\nTag: {tag}\n"
     info = f"oxc_sourcemap-{version()}.dist-info"
@@ -105,7 +124,9 @@ def build_wheel(wheel_directory: str, config_settings: object = None, metadata_d
     name = f"oxc_sourcemap-{version()}-{tag}.whl"
     with zipfile.ZipFile(Path(wheel_directory, name), "w", zipfile.ZIP_DEFLATED) as wheel:
         for path, content in files.items():
-            wheel.writestr(zipfile.ZipInfo(path, (2020, 1, 1, 0, 0, 0)), content, zipfile.ZIP_DEFLATED)
+            about = zipfile.ZipInfo(path, time.gmtime(EPOCH)[:6])
+            about.external_attr = 0o100644 << 16
+            wheel.writestr(about, content, zipfile.ZIP_DEFLATED)
     return name
 
 
@@ -113,15 +134,27 @@ def build_sdist(sdist_directory: str, config_settings: object = None) -> str:
     """The source; a wheel is made from it with OXC_SOURCEMAP_LIB."""
     top = f"oxc_sourcemap-{version()}"
     files = {"PKG-INFO": metadata().encode(), "include/oxc_sourcemap.h": header().joinpath("oxc_sourcemap.h").read_bytes()}
-    files |= {name: HERE.joinpath(name).read_bytes() for name in ("pyproject.toml", "backend.py")} | {"LICENSE": license_text()}
+    files |= {name: HERE.joinpath(name).read_bytes() for name in ("README.md", "pyproject.toml", "backend.py")} | {"LICENSE": license_text()}
     files |= {f"src/oxc_sourcemap/{it.name}": it.read_bytes() for it in sorted(SOURCE.iterdir()) if it.is_file()}
-    with tarfile.open(Path(sdist_directory, f"{top}.tar.gz"), "w:gz") as sdist:
-        for path, content in files.items():
+    packed = io.BytesIO()
+    with tarfile.open(fileobj=packed, mode="w", format=tarfile.PAX_FORMAT) as sdist:
+        for path, content in sorted(files.items()):
             about = tarfile.TarInfo(f"{top}/{path}")
-            about.size = len(content)
+            about.size, about.mtime = len(content), EPOCH
             sdist.addfile(about, io.BytesIO(content))
+    Path(sdist_directory, f"{top}.tar.gz").write_bytes(gzip.compress(packed.getvalue(), mtime=EPOCH))
     return f"{top}.tar.gz"
 
 
+def leave_needs(folder: str) -> str:
+    """Leaves what the wheel loads, for who tells its platform."""
+    loaded = {Path(name).name: content for name, content in members().items() if name.endswith(".so")}
+    for name, content in loaded.items():
+        Path(folder, name).write_bytes(content)
+    return "\n".join(loaded)
+
+
 if __name__ == "__main__":
-    print(build_wheel(sys.argv[1]))
+    makes: dict[str, Callable[[str], str]] = {"wheel": build_wheel, "sdist": build_sdist, "needs": leave_needs}
+    what, to = sys.argv[1:] if len(sys.argv) > 2 else ("wheel", sys.argv[1])
+    print(makes[what](to))

@@ -1,8 +1,9 @@
 //! Finds the library, in this order:
 //!
 //! 1. in the folder that `OXC_SOURCEMAP_LIB_DIR` names;
-//! 2. in `target/` of the repository in which this crate stands, if `./build-c` has made it there;
-//! 3. by `pkg-config oxc_sourcemap` (the program is that of `PKG_CONFIG`, if that is set).
+//! 2. in `lib/TARGET` of this crate, where a packed crate has it for x86-64 and aarch64 Linux;
+//! 3. in `target/` of the repository in which this crate stands, if `./build-c` has made it there;
+//! 4. by `pkg-config oxc_sourcemap` (the program is that of `PKG_CONFIG`, if that is set).
 //!
 //! `OXC_SOURCEMAP_LINK=static` links `liboxc_sourcemap.a` and `OXC_SOURCEMAP_LINK=dynamic` the shared library. Without it, a folder
 //! that has the archive links this, and all else the shared library. Crates that depend on this one see the folder, where it is
@@ -73,7 +74,12 @@ fn main() {
     if let Some(folder) = variable("OXC_SOURCEMAP_LIB_DIR") {
         return link_in(Path::new(&folder), wanted);
     }
-    let repository = Path::new(env!("CARGO_MANIFEST_DIR")).join("../../../target");
+    let here = Path::new(env!("CARGO_MANIFEST_DIR"));
+    let packed = here.join("lib").join(variable("TARGET").unwrap_or_default());
+    if is_library_in(&packed) {
+        return link_in(&packed, wanted);
+    }
+    let repository = here.join("../../../target");
     if is_library_in(&repository) {
         return link_in(&repository, wanted);
     }

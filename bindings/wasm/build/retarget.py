@@ -1,16 +1,20 @@
 #!/usr/bin/env python3
-"""retarget.py < X86.ll > WASM64.ll   makes the text of a module of LLVM that the toolchain wrote for x86-64 one for wasm64.
+"""retarget.py [aarch64] < X86.ll > OTHER.ll   makes the text of a module of LLVM that the toolchain wrote for x86-64 one for wasm64, or
+for aarch64.
 
-On both, pointers have 64 bits, bytes go low to high, and structs have the same layout. So what changes is the triple, the data layout,
-and the attributes that speak of a processor. A module that has anything not listed here is refused: the lists hold what the
-toolchain writes, and nothing of it means another thing on wasm64.
+On all three, pointers have 64 bits, bytes go low to high, and structs have the same layout. So what changes is the triple, the data
+layout, and the attributes that speak of a processor. A module that has anything not listed here is refused: the lists hold what the
+toolchain writes, and nothing of it means another thing on the others.
 """
 
 import re
 import sys
 
-LAYOUT = "e-m:e-p:64:64-p10:8:8-p20:8:8-i64:64-i128:128-n32:64-S128-ni:1:10:20"
-TRIPLE = "wasm64-unknown-unknown"
+# Of each processor its triple and its data layout.
+TARGETS = {
+    "wasm64": ("wasm64-unknown-unknown", "e-m:e-p:64:64-p10:8:8-p20:8:8-i64:64-i128:128-n32:64-S128-ni:1:10:20"),
+    "aarch64": ("aarch64-unknown-linux-gnu", "e-m:e-p270:32:32-p271:32:32-p272:64:64-i8:8:32-i16:16:32-i64:64-i128:128-n32:64-S128-Fn32"),
+}
 OLD_LAYOUT = "e-m:e-p270:32:32-p271:32:32-p272:64:64-i64:64-i128:128-f80:128-n8:16:32:64-S128"
 OLD_TRIPLE = "x86_64-unknown-linux-gnu"
 
@@ -97,10 +101,11 @@ def in_body(line):
     return line
 
 
-def outside(line):
+def outside(line, processor):
     """A line outside of functions."""
     if line.startswith("target "):
-        swapped = {f'target datalayout = "{OLD_LAYOUT}"': f'target datalayout = "{LAYOUT}"', f'target triple = "{OLD_TRIPLE}"': f'target triple = "{TRIPLE}"'}
+        triple, layout = TARGETS[processor]
+        swapped = {f'target datalayout = "{OLD_LAYOUT}"': f'target datalayout = "{layout}"', f'target triple = "{OLD_TRIPLE}"': f'target triple = "{triple}"'}
         return swapped.get(line) or refuse(line, "this target is not known")
     if line.startswith("attributes "):
         return attributes(line)
@@ -110,17 +115,17 @@ def outside(line):
     return refuse(line, "this is not known")
 
 
-def retargeted(lines):
-    """The lines of the module for wasm64."""
+def retargeted(lines, processor="wasm64"):
+    """The lines of the module for a processor."""
     is_inside = False
     for line in lines:
         line = line.rstrip("\n")
         if found := REFUSED.search(STRINGS.sub("", line).partition(";")[0]):
             refuse(line, f"there is no {found[0]} in what the toolchain writes")
-        yield in_body(line) if is_inside else outside(line)
+        yield in_body(line) if is_inside else outside(line, processor)
         is_inside = (is_inside or line.startswith("define ")) and line != "}"
 
 
 if __name__ == "__main__":
-    for line in retargeted(sys.stdin):
+    for line in retargeted(sys.stdin, *sys.argv[1:]):
         print(line)

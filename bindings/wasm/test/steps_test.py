@@ -43,6 +43,12 @@ class Retarget(unittest.TestCase):
         self.assertIn("attributes #0 = { nounwind memory(argmem: write) }", out)
         self.assertEqual(out[2:6], ["define i32 @f(ptr noundef %p) #0 {", "start:", "  ret i32 0", "}"])
 
+    def test_another_processor(self):
+        """For aarch64, too."""
+        out = list(retarget.retargeted(HEAD, "aarch64"))
+        self.assertIn('target triple = "aarch64-unknown-linux-gnu"', out)
+        self.assertNotIn("f80", out[0])
+
     def test_what_is_refused(self):
         """Code of one processor, threads, exceptions, pointers to functions, and what nobody has looked at."""
         rows = [

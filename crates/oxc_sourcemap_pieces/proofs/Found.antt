@@ -13,10 +13,11 @@ use Rattle.std.specs.Option.{option_map_or}
 use Rattle.oxc_sourcemap_tokens.specs.Token.{TokenRecord, AreInBounds}
 use Rattle.oxc_sourcemap_parts.specs.Sorted.{are_tokens_sorted, token_line, token_column}
 use Rattle.oxc_sourcemap_parts.proofs.Order.{sorted_in_order}
-use Rattle.oxc_sourcemap_lookup.specs.Lookup.{on_line, index_at, no_column_goes_back}
+use Rattle.oxc_sourcemap_lookup.specs.Lookup.{on_line, index_at, index_before}
+use Rattle.oxc_sourcemap_lookup.specs.Lookup.{no_column_goes_back}
 use Rattle.oxc_sourcemap_lookup.specs.LineSpans.{count_before_line}
 use Rattle.oxc_sourcemap_lookup.proofs.Cuts.{cut}
-use Rattle.oxc_sourcemap_lookup.proofs.Indices.{index-at, index_here_or, index_before}
+use Rattle.oxc_sourcemap_lookup.proofs.Indices.{index-at, index_here_or}
 use Rattle.oxc_sourcemap_lookup.proofs.LineIndices.{index_for-own, from_line}
 use Rattle.oxc_sourcemap_lookup.proofs.LineStarts.{on_line-between}
 use Rattle.oxc_sourcemap_lookup.proofs.OwnTables.{line_goes_on}

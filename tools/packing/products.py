@@ -12,6 +12,8 @@ sys.path.append(str(TOP))
 from tools.over_libraries import USES, below, kit
 
 VERSION = (TOP / "VERSION").read_text().strip()
+# What the toolchain writes into what it builds of a proved crate.
+LOGIC = b"rattle logic="
 PROGRAMS = [it for it in ("smap", "sourcemap") if (TOP / "crates" / it).is_dir()]
 # Of each processor: its name in names of archives, of Debian, of Rust and in tags of wheels, the folder of its library below target/, and
 # the prefix of its binutils.
@@ -67,6 +69,8 @@ class Products:
         run(f"{PROCESSORS[processor][4]}strip", "-D", *flags, "-o", room, path)
         content = room.read_bytes()
         room.unlink()
+        if not self.mark and LOGIC not in content:
+            sys.exit(f"package: {path} is not built of what is proved")
         return content
 
     def shared(self, processor):

@@ -37,6 +37,11 @@ KEPT = set(
 DROPPED = {"sanitize_address", "sanitize_thread", "uwtable"}
 DROPPED_STRINGS = {"frame-pointer", "probe-stack", "stack-probe-size", "target-cpu", "target-features", "tune-cpu"}
 NONE = '"none"'
+FOR_AARCH64 = {
+    "probe-stack": lambda it: ['"frame-pointer"="non-leaf"', it],
+    "stack-probe-size": lambda it: [it],
+    "target-cpu": lambda _: ['"target-cpu"="generic"'],
+}
 # Nothing in the toolchain's modules has these: code of one processor, several threads, exceptions, pointers to functions.
 REFUSED = re.compile(r"\b(?:asm|atomic|volatile|x86_fp80|fp128|ppc_fp128|x86_amx|byval|inalloca|preallocated|sret|swifterror)\b|addrspace\(|\btoken\b")
 
@@ -54,14 +59,16 @@ def refuse(line, why):
     sys.exit(f"retarget: {why}: {line.strip()[:200]}")
 
 
-def attributes(line):
-    """A line of attributes, without those of a processor."""
+def attributes(line, processor):
+    """A line of attributes, without those of a processor; for aarch64 with those that the toolchain writes for it, which has the stack probed."""
     found = ATTRIBUTES.match(line) or refuse(line, "these attributes are not known")
     kept, at = [], 0
     while at < len(found[2]):
         one = ATTRIBUTE.match(found[2], at) or refuse(line, "these attributes are not known")
         at = one.end()
         string, _, word = one.groups()
+        if processor == "aarch64" and string in FOR_AARCH64:
+            kept += FOR_AARCH64[string](one[0].strip())
         if word in DROPPED or string in DROPPED_STRINGS:
             continue
         if string or (word and word not in KEPT):
@@ -108,7 +115,7 @@ def outside(line, processor):
         swapped = {f'target datalayout = "{OLD_LAYOUT}"': f'target datalayout = "{layout}"', f'target triple = "{OLD_TRIPLE}"': f'target triple = "{triple}"'}
         return swapped.get(line) or refuse(line, "this target is not known")
     if line.startswith("attributes "):
-        return attributes(line)
+        return attributes(line, processor)
     check_intrinsics(line)
     if line == "" or line[0] in ";!" or line.startswith(("source_filename", "declare ")) or GLOBAL.match(line) or DEFINE.match(line):
         return line

@@ -45,7 +45,11 @@ class Retarget(unittest.TestCase):
 
     def test_another_processor(self):
         """For aarch64, too."""
-        out = list(retarget.retargeted(HEAD, "aarch64"))
+        group = 'attributes #0 = { nounwind "probe-stack"="inline-asm" "stack-probe-size"="3072" "target-cpu"="x86-64-v2" }'
+        out = list(retarget.retargeted([*HEAD, group], "aarch64"))
+        # (as the toolchain writes it for aarch64)
+        own = 'attributes #0 = { nounwind "frame-pointer"="non-leaf" "probe-stack"="inline-asm" "stack-probe-size"="3072" "target-cpu"="generic" }'
+        self.assertIn(own, out)
         self.assertIn('target triple = "aarch64-unknown-linux-gnu"', out)
         self.assertNotIn("f80", out[0])
 

@@ -165,4 +165,5 @@ def main(folder):
     print(f"{len(both)} lines in both, {len(plain) - len(both)} in the plain one alone, {len(small) - len(both)} in the minified one alone")
 
 
-main(sys.argv[1] if len(sys.argv) > 1 else os.path.join(os.path.dirname(os.path.abspath(__file__)), "..", "..", "crates", "coverage", "data"))
+if __name__ == "__main__":
+    main(sys.argv[1] if len(sys.argv) > 1 else os.path.join(os.path.dirname(os.path.abspath(__file__)), "..", "..", "crates", "coverage", "data"))

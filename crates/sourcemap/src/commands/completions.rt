@@ -1,0 +1,180 @@
+//! `completions`: what a shell completes, made from the command line itself.
+use crate::arguments::takes_value;
+use crate::commands::{Asked, Status};
+use crate::failure::Outcome;
+use crate::input::print;
+use clap::Command;
+use std::alloc::{AllocError, Global};
+
+/// The values of the argument of `completions`.
+const SHELLS: &str = "bash zsh fish";
+
+/// The options of a command, each with its dashes, and a space after each.
+fn options_of(alloc: Global, command: &Command<'_>) -> Result<String, AllocError> {
+    let mut words = String::new(alloc);
+    for arg in command.get_arguments() {
+        if let Some(long) = arg.get_long() {
+            words.push_str(format!(in alloc; "--{long} ")?.as_str())?;
+        }
+        if let Some(short) = arg.get_short() {
+            words.push_str(format!(in alloc; "-{short} ")?.as_str())?;
+        }
+    }
+    Ok(words)
+}
+
+/// The names of the commands, and a space after each.
+fn names_of(alloc: Global, program: &Command<'_>) -> Result<String, AllocError> {
+    let mut names = String::new(alloc);
+    for command in program.get_subcommands() {
+        names.push_str(command.get_name())?;
+        names.push(' ')?;
+    }
+    Ok(names)
+}
+
+fn bash(alloc: Global, program: &Command<'_>) -> Result<String, AllocError> {
+    let names = names_of(alloc, program)?;
+    let mut out = format!(in alloc;
+        "_sourcemap() {{
+    local word=${{COMP_WORDS[COMP_CWORD]}} words=
+    if [ \"$COMP_CWORD\" -eq 1 ]; then
+        COMPREPLY=($(compgen -W \"{names}--help --version\" -- \"$word\"))
+        return
+    fi
+    if [ \"${{COMP_WORDS[1]}}\" = completions ]; then
+        COMPREPLY=($(compgen -W '{SHELLS}' -- \"$word\"))
+        return
+    fi
+    case ${{COMP_WORDS[1]}} in\n"
+    )?;
+    for command in program.get_subcommands() {
+        let name = command.get_name();
+        let options = options_of(alloc, command)?;
+        out.push_str(format!(in alloc; "        {name}) words=\"{options}\" ;;\n")?.as_str())?;
+    }
+    out.push_str(
+        "    esac
+    case $word in
+        -*) COMPREPLY=($(compgen -W \"$words\" -- \"$word\")) ;;
+        *) COMPREPLY=($(compgen -f -- \"$word\")) ;;
+    esac
+}
+complete -o filenames -F _sourcemap sourcemap\n",
+    )?;
+    Ok(out)
+}
+
+/// A text between single quotes of a shell. It has none itself but those that are doubled here.
+fn quoted(alloc: Global, text: &str) -> Result<String, AllocError> {
+    let mut out = String::from_str(alloc, "'")?;
+    for ch in text.chars() {
+        match ch {
+            '\'' => out.push_str("'\\''")?,
+            '[' | ']' | ':' => out.push(' ')?,
+            ch => out.push(ch)?,
+        }
+    }
+    out.push('\'')?;
+    Ok(out)
+}
+
+fn push_zsh_command(
+    alloc: Global,
+    command: &Command<'_>,
+    out: &mut String,
+) -> Result<(), AllocError> {
+    let name = command.get_name();
+    out.push_str(format!(in alloc; "        {name}) _arguments")?.as_str())?;
+    for arg in command.get_arguments() {
+        let Some(long) = arg.get_long() else {
+            continue;
+        };
+        let help = quoted(alloc, arg.get_help().unwrap_or(""))?;
+        let value = if takes_value(arg) {
+            "':value:_files'"
+        } else {
+            ""
+        };
+        out.push_str(format!(in alloc; " --{long}\"[\"{help}\"]\"{value}")?.as_str())?;
+    }
+    let rest = if name == "completions" {
+        format!(in alloc; " ':shell:({SHELLS})' ;;\n")?
+    } else {
+        String::from_str(alloc, " '*:file:_files' ;;\n")?
+    };
+    out.push_str(rest.as_str())
+}
+
+fn zsh(alloc: Global, program: &Command<'_>) -> Result<String, AllocError> {
+    let mut out = String::from_str(
+        alloc,
+        "#compdef sourcemap\n_sourcemap() {\n    if (( CURRENT == 2 )); then\n        local -a commands=(",
+    )?;
+    for command in program.get_subcommands() {
+        let (name, about) = (
+            command.get_name(),
+            quoted(alloc, command.get_about().unwrap_or(""))?,
+        );
+        out.push_str(format!(in alloc; "\n            {name}:{about}")?.as_str())?;
+    }
+    out.push_str(
+        "\n        )\n        _describe command commands\n        return\n    fi\n    local command=$words[2]\n    shift words\n    (( CURRENT-- ))\n    case $command in\n",
+    )?;
+    for command in program.get_subcommands() {
+        push_zsh_command(alloc, command, &mut out)?;
+    }
+    out.push_str("    esac\n}\n_sourcemap \"$@\"\n")?;
+    Ok(out)
+}
+
+fn push_fish_options(
+    alloc: Global,
+    command: &Command<'_>,
+    out: &mut String,
+) -> Result<(), AllocError> {
+    let name = command.get_name();
+    for arg in command.get_arguments() {
+        let Some(long) = arg.get_long() else {
+            continue;
+        };
+        let help = quoted(alloc, arg.get_help().unwrap_or(""))?;
+        let value = if takes_value(arg) { " -r" } else { "" };
+        let line = format!(in alloc;
+            "complete -c sourcemap -n '__fish_seen_subcommand_from {name}' -l {long}{value} -d {help}\n"
+        )?;
+        out.push_str(line.as_str())?;
+    }
+    Ok(())
+}
+
+fn fish(alloc: Global, program: &Command<'_>) -> Result<String, AllocError> {
+    let mut out = String::new(alloc);
+    for command in program.get_subcommands() {
+        let (name, about) = (
+            command.get_name(),
+            quoted(alloc, command.get_about().unwrap_or(""))?,
+        );
+        let line = format!(in alloc;
+            "complete -c sourcemap -f -n __fish_use_subcommand -a {name} -d {about}\n"
+        )?;
+        out.push_str(line.as_str())?;
+        push_fish_options(alloc, command, &mut out)?;
+    }
+    let shells = format!(in alloc;
+        "complete -c sourcemap -f -n '__fish_seen_subcommand_from completions' -a '{SHELLS}'\n"
+    )?;
+    out.push_str(shells.as_str())?;
+    Ok(out)
+}
+
+pub fn run(asked: &Asked<'_, '_>, program: &Command<'_>) -> Outcome<Status> {
+    let alloc = asked.alloc();
+    let text = match asked.word("SHELL") {
+        "bash" => bash(alloc, program)?,
+        "zsh" => zsh(alloc, program)?,
+        _ => fish(alloc, program)?,
+    };
+    print(asked.rt, text.as_str())?;
+    Ok(Status::Found)
+}

@@ -1,0 +1,333 @@
+//! `coverage`: lines of originals that ran, by V8's block coverage.
+use crate::commands::{Asked, Status};
+use crate::failure::{Outcome, failure_of};
+use crate::finding::{Lookup, MapText, code_path, map_of_code, read_map};
+use crate::input::{is_file, print, read_text, shown_name};
+use crate::progress::Progress;
+use crate::rebasing::rebase;
+use crate::v8::{Report, Run, Script, runs_of};
+use oxc_sourcemap_map::SourceMap;
+use oxc_sourcemap_text::TextPositions;
+use oxc_sourcemap_tokens::Position;
+use sourcemap_run::{Block, Mark, push_marks, push_number_member, push_text_member};
+use std::alloc::{AllocError, Global};
+use std::collections::BTreeMap;
+
+/// How often the lines of a source with code ran, by their numbers from 0.
+type Lines = BTreeMap<u32, u64>;
+
+/// The lines of each source, by its path.
+type Sources = BTreeMap<String, Lines>;
+
+/// The code of a script, and its positions.
+#[derive(Clone, Copy)]
+struct Code<'c> {
+    units: &'c [u16],
+    positions: &'c TextPositions<'c>,
+}
+
+/// Whether a unit is code of some line. White space and punctuation that a generator puts in or leaves out is of no line, and blocks
+/// begin and end at it.
+fn is_code(unit: u16) -> bool {
+    let is_space = matches!(unit, 9..=13 | 32 | 0xa0 | 0x2028 | 0x2029 | 0xfeff);
+    let is_mark = b"()[]{},:;".iter().any(|mark| u16::from(*mark) == unit);
+    !is_space && !is_mark
+}
+
+/// Whether there is code in a piece. A piece that goes past the end of its line ends with it.
+fn has_code(code: &Code<'_>, mark: &Mark) -> bool {
+    let Ok(start) = code.positions.offset(mark.start.line, mark.start.column) else {
+        return false;
+    };
+    let end = match code.positions.offset(mark.end.line, mark.end.column) {
+        Ok(end) => end as usize,
+        Err(_) => code.units.len(),
+    };
+    let part = code.units.get(start as usize..end).unwrap_or(&[]);
+    part.iter().any(|unit| is_code(*unit))
+}
+
+fn units_of(alloc: Global, text: &str) -> Result<Vec<u16>, AllocError> {
+    let mut units = Vec::new(alloc);
+    for ch in text.chars() {
+        let mut pair = [0; 2];
+        units.extend_from_slice(ch.encode_utf16(&mut pair))?;
+    }
+    Ok(units)
+}
+
+/// The positions of a run; None if V8 tells of another code.
+fn block_of(positions: &TextPositions<'_>, run: &Run) -> Option<Block> {
+    let (line, column) = positions.position(run.start).ok()?;
+    let (end_line, end_column) = positions.position(run.end).ok()?;
+    Some(Block {
+        start: Position { line, column },
+        end: Position {
+            line: end_line,
+            column: end_column,
+        },
+        count: run.count,
+    })
+}
+
+/// What all pieces of a script say of lines.
+fn marks_of(
+    alloc: Global,
+    map: &SourceMap<'_>,
+    positions: &TextPositions<'_>,
+    runs: &[Run],
+) -> Result<Vec<Mark>, AllocError> {
+    let mut marks = Vec::new(alloc);
+    for run in runs {
+        if let Some(block) = block_of(positions, run) {
+            push_marks(map, block, &mut marks)?;
+        }
+    }
+    Ok(marks)
+}
+
+/// Raises a count to this one.
+fn raise(lines: &mut BTreeMap<(u32, u32), u64>, mark: &Mark) -> Result<(), AllocError> {
+    let count = lines.entry((mark.source_id, mark.line))?.or_insert(0);
+    *count = (*count).max(mark.count);
+    Ok(())
+}
+
+/// How often lines ran, by source id and number: as often as the code of theirs that ran most often.
+fn lines_of(
+    alloc: Global,
+    code: &str,
+    map: &SourceMap<'_>,
+    runs: &[Run],
+) -> Outcome<BTreeMap<(u32, u32), u64>> {
+    let positions = TextPositions::new(alloc, code)?;
+    let units = units_of(alloc, code)?;
+    let code = Code {
+        units: units.as_slice(),
+        positions: &positions,
+    };
+    let mut lines = BTreeMap::new(alloc);
+    for mark in &marks_of(alloc, map, &positions, runs)? {
+        if has_code(&code, mark) {
+            raise(&mut lines, mark)?;
+        }
+    }
+    Ok(lines)
+}
+
+/// Adds the lines of a script to those of its sources.
+fn add(
+    alloc: Global,
+    map: &SourceMap<'_>,
+    lines: &BTreeMap<(u32, u32), u64>,
+    sources: &mut Sources,
+) -> Outcome<()> {
+    for ((source, line), count) in lines {
+        let path = String::from_str(alloc, map.get_source(*source).unwrap_or(""))?;
+        let own = sources.entry(path)?.or_insert(Lines::new(alloc));
+        let total = own.entry(*line)?.or_insert(0);
+        *total = total.saturating_add(*count);
+    }
+    Ok(())
+}
+
+/// Adds what V8 tells of a script with this code and this map.
+fn add_mapped(
+    asked: &Asked<'_, '_>,
+    script: &Script,
+    code: &str,
+    text: &MapText,
+    sources: &mut Sources,
+) -> Outcome<()> {
+    let alloc = asked.alloc();
+    let mut map = read_map(asked.rt, text)?;
+    rebase(alloc, &mut map, text.folder.as_str(), "")?;
+    let runs = runs_of(alloc, script)?;
+    let lines = lines_of(alloc, code, &map, runs.as_slice())?;
+    add(alloc, &map, &lines, sources)
+}
+
+/// Adds what V8 tells of a script, if it has a map.
+fn add_script(asked: &Asked<'_, '_>, script: &Script, sources: &mut Sources) -> Outcome<()> {
+    let (rt, places) = (asked.rt, asked.places());
+    let url = script.url.as_str();
+    let Some(path) = code_path(rt, url, places)? else {
+        return Ok(());
+    };
+    if url.starts_with("node:") || !is_file(rt, path.as_str()) {
+        return Ok(());
+    }
+    let code = read_text(rt, path.as_str())?;
+    match map_of_code(rt, path.as_str(), code.as_str(), places)? {
+        Lookup::Map(text) => add_mapped(asked, script, code.as_str(), &text, sources),
+        Lookup::None(_) => Ok(()),
+    }
+}
+
+/// Adds what a file of V8 tells.
+fn add_file(asked: &Asked<'_, '_>, file: &str, sources: &mut Sources) -> Outcome<()> {
+    let alloc = asked.alloc();
+    let text = read_text(asked.rt, file)?;
+    let report: Report = match serde_json::from_str(alloc, text.as_str()) {
+        Ok(report) => report,
+        Err(error) => {
+            let text = format!(in alloc; "is no coverage of V8: {error}")?;
+            return Err(failure_of(alloc, shown_name(file), text.as_str()));
+        }
+    };
+    for script in &report.result {
+        add_script(asked, script, sources)?;
+    }
+    Ok(())
+}
+
+/// The missed lines, from 1, as `3, 7-9`.
+fn missed(alloc: Global, lines: &Lines) -> Result<String, AllocError> {
+    let mut text = String::new(alloc);
+    let mut open: Option<(u32, u32)> = None;
+    for (line, count) in lines {
+        if *count > 0 {
+            push_range(alloc, &mut text, open)?;
+            open = None;
+            continue;
+        }
+        open = Some((open.map_or(*line, |(first, _)| first), *line));
+    }
+    push_range(alloc, &mut text, open)?;
+    Ok(text)
+}
+
+fn push_range(
+    alloc: Global,
+    text: &mut String,
+    range: Option<(u32, u32)>,
+) -> Result<(), AllocError> {
+    let Some((first, last)) = range else {
+        return Ok(());
+    };
+    if !text.is_empty() {
+        text.push_str(", ")?;
+    }
+    let (first, last) = (u64::from(first) + 1, u64::from(last) + 1);
+    let part = if first == last {
+        format!(in alloc; "{first}")?
+    } else {
+        format!(in alloc; "{first}-{last}")?
+    };
+    text.push_str(part.as_str())
+}
+
+/// How many lines ran.
+fn ran(lines: &Lines) -> u64 {
+    lines.values().filter(|count| **count > 0).count() as u64
+}
+
+fn percent(ran: u64, all: u64) -> u64 {
+    if all == 0 {
+        100
+    } else {
+        ran.saturating_mul(100) / all
+    }
+}
+
+fn push_row(
+    alloc: Global,
+    source: &str,
+    ran: u64,
+    all: u64,
+    missed: &str,
+    out: &mut String,
+) -> Result<(), AllocError> {
+    let percent = percent(ran, all);
+    let tail = if missed.is_empty() { "" } else { "  missed: " };
+    let row = format!(in alloc;
+        "{percent:>3} %  {ran:>6} of {all:>6} lines  {source}{tail}{missed}\n"
+    )?;
+    out.push_str(row.as_str())
+}
+
+fn table(alloc: Global, sources: &Sources) -> Result<String, AllocError> {
+    let mut out = String::new(alloc);
+    let (mut total, mut all) = (0u64, 0u64);
+    for (source, lines) in sources {
+        let (own, count) = (ran(lines), lines.len() as u64);
+        total = total.saturating_add(own);
+        all = all.saturating_add(count);
+        push_row(
+            alloc,
+            source.as_str(),
+            own,
+            count,
+            missed(alloc, lines)?.as_str(),
+            &mut out,
+        )?;
+    }
+    push_row(alloc, "all", total, all, "", &mut out)?;
+    Ok(out)
+}
+
+fn lcov(alloc: Global, sources: &Sources) -> Result<String, AllocError> {
+    let mut out = String::new(alloc);
+    for (source, lines) in sources {
+        out.push_str(format!(in alloc; "TN:\nSF:{source}\n")?.as_str())?;
+        for (line, count) in lines {
+            let line = u64::from(*line) + 1;
+            out.push_str(format!(in alloc; "DA:{line},{count}\n")?.as_str())?;
+        }
+        let (all, ran) = (lines.len(), ran(lines));
+        out.push_str(format!(in alloc; "LF:{all}\nLH:{ran}\nend_of_record\n")?.as_str())?;
+    }
+    Ok(out)
+}
+
+fn push_missed_numbers(alloc: Global, lines: &Lines, out: &mut String) -> Result<(), AllocError> {
+    let mut is_first = true;
+    for (line, count) in lines {
+        if *count == 0 {
+            let line = u64::from(*line) + 1;
+            let comma = if is_first { "" } else { "," };
+            out.push_str(format!(in alloc; "{comma}{line}")?.as_str())?;
+            is_first = false;
+        }
+    }
+    Ok(())
+}
+
+fn objects(alloc: Global, sources: &Sources) -> Outcome<String> {
+    let mut out = String::new(alloc);
+    for (source, lines) in sources {
+        let mut members = String::new(alloc);
+        push_text_member("source", source.as_str(), &mut members)?;
+        push_number_member(alloc, "ran", ran(lines), &mut members)?;
+        let missed = (lines.len() as u64).saturating_sub(ran(lines));
+        push_number_member(alloc, "missed", missed, &mut members)?;
+        members.push_str(",\"lines\":[")?;
+        push_missed_numbers(alloc, lines, &mut members)?;
+        members.push(']')?;
+        out.push('{')?;
+        out.push_str(members.as_str().strip_prefix(',').unwrap_or(""))?;
+        out.push_str("}\n")?;
+    }
+    Ok(out)
+}
+
+pub fn run(asked: &Asked<'_, '_>) -> Outcome<Status> {
+    let alloc = asked.alloc();
+    let files = asked.words("V8.json")?;
+    let mut progress = Progress::new(asked.rt, files.len());
+    let mut sources = Sources::new(alloc);
+    for file in &files {
+        progress.begin(asked.rt, file);
+        add_file(asked, file, &mut sources)?;
+    }
+    progress.clear(asked.rt);
+    let text = if asked.has("json") {
+        objects(alloc, &sources)?
+    } else if asked.has("lcov") {
+        lcov(alloc, &sources)?
+    } else {
+        table(alloc, &sources)?
+    };
+    print(asked.rt, text.as_str())?;
+    Ok(Status::of(!sources.is_empty()))
+}

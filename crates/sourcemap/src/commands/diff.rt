@@ -1,0 +1,94 @@
+//! `diff`: where two maps say different things.
+use crate::commands::{Asked, Status};
+use crate::failure::Outcome;
+use crate::finding::rooted_map;
+use crate::input::print;
+use oxc_sourcemap_map::SourceMap;
+use oxc_sourcemap_tokens::Position;
+use sourcemap_run::{Answer, Bias, Tracer};
+use std::alloc::{AllocError, Global};
+
+/// The places at which an answer may begin to differ: each token's, and the column after it.
+fn push_places(map: &SourceMap<'_>, places: &mut Vec<(u32, u32)>) -> Result<(), AllocError> {
+    for token in map.get_tokens().as_slice() {
+        let (line, column) = (token.get_dst_line(), token.get_dst_col());
+        places.push((line, column))?;
+        places.push((line, column.saturating_add(1)))?;
+    }
+    Ok(())
+}
+
+/// Those of both maps, each once.
+fn places_of(alloc: Global, a: &Tracer, b: &Tracer) -> Result<Vec<(u32, u32)>, AllocError> {
+    let mut places = Vec::new(alloc);
+    push_places(a.map(), &mut places)?;
+    push_places(b.map(), &mut places)?;
+    places.sort()?;
+    places.dedup();
+    Ok(places)
+}
+
+/// Whether two maps say the same of a place.
+fn say_the_same(a: &Tracer, b: &Tracer, (line, column): (u32, u32)) -> bool {
+    let position = Position { line, column };
+    match (
+        a.answer(position, Bias::Lower),
+        b.answer(position, Bias::Lower),
+    ) {
+        (Answer::Nothing, Answer::Nothing) => true,
+        (Answer::Unmapped, Answer::Unmapped) => true,
+        (Answer::At(x), Answer::At(y)) => {
+            x.source == y.source
+                && x.line == y.line
+                && x.column == y.column
+                && x.name == y.name
+                && x.content == y.content
+        }
+        _ => false,
+    }
+}
+
+/// A map of an argument, with its source root applied.
+fn tracer_of(asked: &Asked<'_, '_>, name: &str) -> Outcome<Tracer> {
+    let map = rooted_map(asked.rt, asked.word(name), asked.places())?;
+    Ok(Tracer::new(asked.alloc(), map)?)
+}
+
+/// The line that is printed of a first difference.
+fn told(
+    alloc: Global,
+    first: Position,
+    count: usize,
+    of: usize,
+    json: bool,
+) -> Result<String, AllocError> {
+    let (line, column) = (first.line, first.column);
+    if json {
+        return format!(in alloc;
+            "{{\"different\":true,\"line\":{line},\"column\":{column},\"places\":{count},\"of\":{of}}}\n"
+        );
+    }
+    format!(in alloc; "{line}:{column}: the first difference; {count} of {of} places differ\n")
+}
+
+pub fn run(asked: &Asked<'_, '_>) -> Outcome<Status> {
+    let alloc = asked.alloc();
+    let a = tracer_of(asked, "A")?;
+    let b = tracer_of(asked, "B")?;
+    let Some(first) = a.map().first_difference(b.map()) else {
+        if asked.has("json") {
+            print(asked.rt, "{\"different\":false}\n")?;
+        }
+        return Ok(Status::Found);
+    };
+    let places = places_of(alloc, &a, &b)?;
+    let mut count = 0usize;
+    for place in &places {
+        if !say_the_same(&a, &b, *place) {
+            count = count.saturating_add(1);
+        }
+    }
+    let text = told(alloc, first, count, places.len(), asked.has("json"))?;
+    print(asked.rt, text.as_str())?;
+    Ok(Status::Nothing)
+}

@@ -1,0 +1,302 @@
+//! `remap`: a map led through the maps of its sources.
+use crate::commands::{Asked, Status};
+use crate::failure::{Outcome, failure_of};
+use crate::finding::{Lookup, MapText, map_of_code, map_of_file, read_map};
+use crate::input::{is_file, print, read_text, usage, warn, write_text};
+use crate::paths::{folder_of, has_scheme, is_inside, real_name};
+use crate::rebasing::{plain_path, rebase};
+use oxc_sourcemap_map::SourceMap;
+use sourcemap_run::{push_number_member, push_text_member};
+use std::alloc::Global;
+
+/// So many maps may lie one above the other.
+const DEEPEST: u32 = 256;
+
+/// The maps on the way from the one that is remapped, by their real paths: a map that is met again would be its own source.
+#[derive(Clone, Copy)]
+struct Way<'a> {
+    name: &'a str,
+    before: Option<&'a Way<'a>>,
+}
+
+fn has_been(way: &Way<'_>, name: &str) -> bool {
+    let mut at = Some(way);
+    for _ in 0..DEEPEST {
+        let Some(here) = at else {
+            return false;
+        };
+        if here.name == name {
+            return true;
+        }
+        at = here.before;
+    }
+    false
+}
+
+/// What is counted of a run.
+#[derive(Clone, Copy, Default)]
+struct Counts {
+    inputs: u64,
+}
+
+/// The map of a source, found beside it; None if the source is not there, or has no map.
+fn map_of_source(asked: &Asked<'_, '_>, folder: &str, source: &str) -> Outcome<Option<MapText>> {
+    if source.is_empty() || has_scheme(source) {
+        return Ok(None);
+    }
+    let (rt, places) = (asked.rt, asked.places());
+    let path = plain_path(asked.alloc(), folder, source)?;
+    let path = path.as_str();
+    if !is_file(rt, path) {
+        return Ok(None);
+    }
+    if !places.outside && !is_inside(rt, path, places.root) && !is_inside(rt, path, folder) {
+        warn(
+            rt,
+            path,
+            "is outside of the root, and is not followed: allow it by --outside",
+        );
+        return Ok(None);
+    }
+    let text = read_text(rt, path)?;
+    match map_of_code(rt, path, text.as_str(), places)? {
+        Lookup::Map(map) => Ok(Some(map)),
+        Lookup::None(_) => Ok(None),
+    }
+}
+
+/// The map of a source, led on to its own originals, its sources relative to the folder of the outer map.
+#[cycle(follow)]
+fn followed_source(
+    asked: &Asked<'_, '_>,
+    text: &MapText,
+    folder: &str,
+    way: &Way<'_>,
+    depth: u32,
+    counts: &mut Counts,
+) -> Outcome<SourceMap<'static>> {
+    let alloc = asked.alloc();
+    let name = real_name(asked.rt, text.name.as_str())?;
+    if has_been(way, name.as_str()) {
+        return Err(failure_of(
+            alloc,
+            text.name.as_str(),
+            "is the map of one of its own sources, a cycle: mend the map, or do without --follow",
+        ));
+    }
+    let Some(depth) = depth.checked_sub(1) else {
+        return Err(failure_of(
+            alloc,
+            text.name.as_str(),
+            "lies above too many maps: do without --follow",
+        ));
+    };
+    counts.inputs = counts.inputs.saturating_add(1);
+    let way = Way {
+        name: name.as_str(),
+        before: Some(way),
+    };
+    let mut map = followed(asked, text, &way, depth, counts)?;
+    rebase(alloc, &mut map, text.folder.as_str(), folder)?;
+    Ok(map)
+}
+
+/// The inputs for the sources of a map.
+#[cycle(follow)]
+fn inputs_of(
+    asked: &Asked<'_, '_>,
+    map: &SourceMap<'_>,
+    folder: &str,
+    way: &Way<'_>,
+    depth: u32,
+    counts: &mut Counts,
+) -> Outcome<Vec<(String, SourceMap<'static>)>> {
+    let alloc = asked.alloc();
+    let mut inputs = Vec::new(alloc);
+    for source in map.get_sources() {
+        if let Some(text) = map_of_source(asked, folder, source)? {
+            let input = followed_source(asked, &text, folder, way, depth, counts)?;
+            inputs.push((String::from_str(alloc, source)?, input))?;
+        }
+    }
+    Ok(inputs)
+}
+
+/// A map led through inputs; its strings are its own.
+fn remapped(
+    alloc: Global,
+    map: &SourceMap<'_>,
+    inputs: &[(String, SourceMap<'static>)],
+) -> Outcome<SourceMap<'static>> {
+    let mut lent = Vec::new(alloc);
+    for (path, input) in inputs {
+        lent.push((path.as_str(), input))?;
+    }
+    let led = map.remap(alloc, lent.as_slice())?;
+    Ok(led.into_owned(alloc)?)
+}
+
+/// A map that was read, led through the maps of its sources, at any depth.
+#[cycle(follow)]
+fn followed(
+    asked: &Asked<'_, '_>,
+    text: &MapText,
+    way: &Way<'_>,
+    depth: u32,
+    counts: &mut Counts,
+) -> Outcome<SourceMap<'static>> {
+    let alloc = asked.alloc();
+    let mut map = read_map(asked.rt, text)?;
+    map.apply_source_root(alloc)?;
+    let inputs = inputs_of(asked, &map, text.folder.as_str(), way, depth, counts)?;
+    if inputs.is_empty() {
+        return Ok(map);
+    }
+    remapped(alloc, &map, inputs.as_slice())
+}
+
+/// The maps of the arguments `PATH=MAP`, their sources relative to the folder of the outer map.
+fn given_inputs(asked: &Asked<'_, '_>, folder: &str) -> Outcome<Vec<(String, SourceMap<'static>)>> {
+    let alloc = asked.alloc();
+    let mut inputs = Vec::new(alloc);
+    let words = asked.words("PATH=MAP")?;
+    for word in &words {
+        let Some((path, file)) = word.rsplit_once('=') else {
+            return Err(failure_of(
+                alloc,
+                word,
+                "write PATH=MAP, the path of a source and its map",
+            ));
+        };
+        let text = map_of_file(asked.rt, file, asked.places())?;
+        let mut map = read_map(asked.rt, &text)?;
+        rebase(alloc, &mut map, text.folder.as_str(), folder)?;
+        inputs.push((String::from_str(alloc, path)?, map))?;
+    }
+    Ok(inputs)
+}
+
+/// Tells of inputs that are for no source.
+fn warn_unused(
+    asked: &Asked<'_, '_>,
+    map: &SourceMap<'_>,
+    inputs: &[(String, SourceMap<'static>)],
+) {
+    for (path, _) in inputs {
+        if !map.get_sources().any(|source| source == path.as_str()) {
+            warn(
+                asked.rt,
+                path.as_str(),
+                "is no source of the map, so its map is not used: see `sourcemap check`",
+            );
+        }
+    }
+}
+
+fn summary(
+    alloc: Global,
+    asked: &Asked<'_, '_>,
+    map: &SourceMap<'_>,
+    inputs: u64,
+) -> Outcome<String> {
+    let mut members = String::new(alloc);
+    push_text_member("output", asked.word("output"), &mut members)?;
+    push_number_member(
+        alloc,
+        "sources",
+        map.get_sources().count() as u64,
+        &mut members,
+    )?;
+    push_number_member(alloc, "names", map.get_names().count() as u64, &mut members)?;
+    push_number_member(
+        alloc,
+        "tokens",
+        map.get_tokens().as_slice().len() as u64,
+        &mut members,
+    )?;
+    push_number_member(alloc, "inputs", inputs, &mut members)?;
+    Ok(format!(in alloc;
+        "{{{}}}\n",
+        members.as_str().strip_prefix(',').unwrap_or("")
+    )?)
+}
+
+/// Writes the map to the file that is asked for, else to standard output.
+fn write(asked: &Asked<'_, '_>, map: &SourceMap<'_>, inputs: u64) -> Outcome<Status> {
+    let alloc = asked.alloc();
+    let mut text = map.to_json_string(alloc)?;
+    text.push('\n')?;
+    let output = asked.word("output");
+    let output = if output.is_empty() { "-" } else { output };
+    write_text(asked.rt, output, text.as_str())?;
+    if asked.has("json") {
+        print(asked.rt, summary(alloc, asked, map, inputs)?.as_str())?;
+    }
+    Ok(Status::Found)
+}
+
+/// A map that was read, led through the maps of the arguments.
+fn led_by_given(
+    asked: &Asked<'_, '_>,
+    text: &MapText,
+    counts: &mut Counts,
+) -> Outcome<SourceMap<'static>> {
+    let mut map = read_map(asked.rt, text)?;
+    map.apply_source_root(asked.alloc())?;
+    let given = given_inputs(asked, text.folder.as_str())?;
+    warn_unused(asked, &map, given.as_slice());
+    counts.inputs = given.len() as u64;
+    remapped(asked.alloc(), &map, given.as_slice())
+}
+
+/// A map, led on through the maps of its sources, at any depth.
+fn led_on(
+    asked: &Asked<'_, '_>,
+    text: &MapText,
+    map: &SourceMap<'_>,
+    counts: &mut Counts,
+) -> Outcome<SourceMap<'static>> {
+    let name = real_name(asked.rt, text.name.as_str())?;
+    let way = Way {
+        name: name.as_str(),
+        before: None,
+    };
+    let inputs = inputs_of(asked, map, text.folder.as_str(), &way, DEEPEST, counts)?;
+    remapped(asked.alloc(), map, inputs.as_slice())
+}
+
+fn led(asked: &Asked<'_, '_>, text: &MapText, counts: &mut Counts) -> Outcome<SourceMap<'static>> {
+    let map = led_by_given(asked, text, counts)?;
+    if asked.has("follow") {
+        led_on(asked, text, &map, counts)
+    } else {
+        Ok(map)
+    }
+}
+
+/// Makes the sources relative to the folder of the output, and leaves out what is asked to be.
+fn finish(asked: &Asked<'_, '_>, map: &mut SourceMap<'_>, folder: &str) -> Outcome<()> {
+    let alloc = asked.alloc();
+    let output = asked.word("output");
+    if !output.is_empty() {
+        rebase(alloc, map, folder, folder_of(output))?;
+    }
+    if asked.has("simplify") {
+        map.simplify(alloc)?;
+    }
+    Ok(())
+}
+
+pub fn run(asked: &Asked<'_, '_>) -> Outcome<Status> {
+    if asked.has("json") && asked.word("output").is_empty() {
+        return Err(usage(
+            asked.rt,
+            "--json needs -o, as the map is on standard output without it",
+        ));
+    }
+    let text = map_of_file(asked.rt, asked.word("MAP"), asked.places())?;
+    let mut counts = Counts { inputs: 0 };
+    let mut map = led(asked, &text, &mut counts)?;
+    finish(asked, &mut map, text.folder.as_str())?;
+    write(asked, &map, counts.inputs)
+}

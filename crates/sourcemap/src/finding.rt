@@ -1,0 +1,312 @@
+//! Finding the map of a code.
+use crate::failure::{Outcome, failure_of};
+use crate::input::{is_file, read_text, shown_name, warn};
+use crate::paths::{
+    file_name, folder_of, has_scheme, is_inside, joined, parts_of, path_of, path_of_url,
+};
+use oxc_sourcemap_found::{Found, read_found};
+use oxc_sourcemap_map::SourceMap;
+use oxc_sourcemap_places::json_fault_at;
+use oxc_sourcemap_tokens::Error;
+use oxc_sourcemap_url::{Language, decode_data_url, source_mapping_url};
+use std::alloc::{AllocError, Global};
+
+/// Where files are looked for that other files name.
+#[derive(Clone, Copy)]
+pub struct Places<'a> {
+    /// The folder that named files are in; empty or with a slash at its end.
+    pub root: &'a str,
+    /// The folder of maps that are found by the name of their code, in the same form.
+    pub maps: Option<&'a str>,
+    /// Whether files outside of the root and of the folder of the code may be read.
+    pub outside: bool,
+}
+
+/// The text of a map, and how it is named in messages.
+#[derive(Drop)]
+pub struct MapText {
+    pub name: String,
+    /// The folder that its sources are relative to, with a slash at its end.
+    pub folder: String,
+    pub text: String,
+}
+
+/// The map of a code, or why there is none.
+#[derive(Drop)]
+pub enum Lookup {
+    Map(MapText),
+    None(String),
+}
+
+/// The language of a code, by the end of its name.
+pub fn language_of(path: &str) -> Language {
+    if path.ends_with(".css") {
+        Language::Css
+    } else {
+        Language::JavaScript
+    }
+}
+
+/// Whether a file that another one names may be read.
+fn may_read(rt: &HostRuntime, path: &str, code: &str, places: Places<'_>) -> bool {
+    places.outside || is_inside(rt, path, places.root) || is_inside(rt, path, folder_of(code))
+}
+
+fn map_text(rt: &HostRuntime, path: &str) -> Outcome<Lookup> {
+    let alloc = rt.alloc();
+    Ok(Lookup::Map(MapText {
+        name: String::from_str(alloc, path)?,
+        folder: String::from_str(alloc, folder_of(path))?,
+        text: read_text(rt, path)?,
+    }))
+}
+
+/// The file in the root that a path from the root of a host names.
+fn path_in_root(
+    rt: &HostRuntime,
+    path: &str,
+    places: Places<'_>,
+) -> Result<Option<String>, AllocError> {
+    let alloc = rt.alloc();
+    let Some(parts) = parts_of(alloc, path)? else {
+        return Ok(None);
+    };
+    let path = path_of(alloc, places.root, parts.as_slice())?;
+    Ok(if is_file(rt, path.as_str()) {
+        Some(path)
+    } else {
+        None
+    })
+}
+
+/// Whether a URL is that of a host, and of no file.
+fn is_remote(url: &str) -> bool {
+    has_scheme(url) && !url.starts_with("file:")
+}
+
+/// The file that a URL of a code names: from the folder of the code, or from the root of a host; None if there is none.
+fn named_file(
+    rt: &HostRuntime,
+    code: &str,
+    url: &str,
+    path: &str,
+    places: Places<'_>,
+) -> Result<Option<String>, AllocError> {
+    if !is_remote(url) {
+        let own = joined(rt.alloc(), folder_of(code), path)?;
+        if is_file(rt, own.as_str()) {
+            return Ok(Some(own));
+        }
+    }
+    if is_remote(url) || path.starts_with('/') {
+        return path_in_root(rt, path, places);
+    }
+    Ok(None)
+}
+
+/// Why the file that a URL of a code names is not found.
+fn not_there(alloc: Global, code: &str, url: &str) -> Result<String, AllocError> {
+    if is_remote(url) {
+        return format!(in alloc;
+            "{code} names the map {url}, and no network is used: give its folder by --maps"
+        );
+    }
+    format!(in alloc; "{code} names the map {url}, which is not there")
+}
+
+/// The map that a URL of a code names, which is no data URL.
+fn map_at_url(rt: &HostRuntime, code: &str, url: &str, places: Places<'_>) -> Outcome<Lookup> {
+    let alloc = rt.alloc();
+    let Some(path) = path_of_url(alloc, url)? else {
+        return Ok(Lookup::None(format!(in alloc;
+            "{code} names the map {url}, which is no URL of a file"
+        )?));
+    };
+    let Some(path) = named_file(rt, code, url, path.as_str(), places)? else {
+        return Ok(Lookup::None(not_there(alloc, code, url)?));
+    };
+    if !may_read(rt, path.as_str(), code, places) {
+        return Ok(Lookup::None(format!(in alloc;
+            "{code} names the map {path}, outside of the root: allow it by --outside"
+        )?));
+    }
+    map_text(rt, path.as_str())
+}
+
+/// The map that a code names.
+fn map_named(rt: &HostRuntime, code: &str, url: &str, places: Places<'_>) -> Outcome<Lookup> {
+    let alloc = rt.alloc();
+    match decode_data_url(alloc, url) {
+        Ok(Some(text)) => Ok(Lookup::Map(MapText {
+            name: format!(in alloc; "{} (its data URL)", shown_name(code))?,
+            folder: String::from_str(alloc, folder_of(code))?,
+            text,
+        })),
+        Ok(None) => map_at_url(rt, code, url, places),
+        Err(error) => Err(failure_of(alloc, shown_name(code), error)),
+    }
+}
+
+/// The map beside a code, or in the folder of maps.
+fn map_beside(rt: &HostRuntime, code: &str, places: Places<'_>) -> Outcome<Option<Lookup>> {
+    let alloc = rt.alloc();
+    let beside = format!(in alloc; "{code}.map")?;
+    if code != "-" && is_file(rt, beside.as_str()) {
+        return Ok(Some(map_text(rt, beside.as_str())?));
+    }
+    let Some(maps) = places.maps else {
+        return Ok(None);
+    };
+    let path = format!(in alloc; "{maps}{}.map", file_name(code))?;
+    if is_file(rt, path.as_str()) && is_inside(rt, path.as_str(), maps) {
+        return Ok(Some(map_text(rt, path.as_str())?));
+    }
+    Ok(None)
+}
+
+/// The map of a code: the one that it names, else the one beside it, else the one in the folder of maps.
+pub fn map_of_code(
+    rt: &HostRuntime,
+    code: &str,
+    text: &str,
+    places: Places<'_>,
+) -> Outcome<Lookup> {
+    let alloc = rt.alloc();
+    let named = match source_mapping_url(text, language_of(code)) {
+        Some(url) => map_named(rt, code, url, places)?,
+        None => Lookup::None(format!(in alloc;
+            "{} names no map, and {code}.map is not there",
+            shown_name(code)
+        )?),
+    };
+    if let Lookup::None(_) = &named
+        && let Some(found) = map_beside(rt, code, places)?
+    {
+        return Ok(found);
+    }
+    Ok(named)
+}
+
+/// The map of a code that is not there.
+pub fn map_without_code(
+    rt: &HostRuntime,
+    code: &str,
+    places: Places<'_>,
+) -> Outcome<Option<Lookup>> {
+    map_beside(rt, code, places)
+}
+
+/// Whether a code is there, or its map beside it.
+fn has_code_or_map(rt: &HostRuntime, path: &str) -> Result<bool, AllocError> {
+    let map = format!(in rt.alloc(); "{path}.map")?;
+    Ok(is_file(rt, path) || is_file(rt, map.as_str()))
+}
+
+/// The path in the root that has the most of these parts at its end, and is there.
+fn longest_in_root(
+    rt: &HostRuntime,
+    root: &str,
+    parts: &[&str],
+    only_whole: bool,
+) -> Result<Option<String>, AllocError> {
+    for skipped in 0..parts.len() {
+        if skipped > 0 && only_whole {
+            break;
+        }
+        let path = path_of(rt.alloc(), root, parts.get(skipped..).unwrap_or(&[]))?;
+        if has_code_or_map(rt, path.as_str())? {
+            return Ok(Some(path));
+        }
+    }
+    Ok(None)
+}
+
+/// The code that a frame or V8 names: the file itself if it is in the root, else the one in the root with the most parts of its path at
+/// its end; of a URL, but one of a file, the whole path has to be there. None if there is none.
+pub fn code_path(
+    rt: &HostRuntime,
+    name: &str,
+    places: Places<'_>,
+) -> Result<Option<String>, AllocError> {
+    let alloc = rt.alloc();
+    let is_url = name.contains("://");
+    let path = if is_url {
+        path_of_url(alloc, name)?
+    } else {
+        Some(String::from_str(alloc, name)?)
+    };
+    let Some(path) = path else {
+        return Ok(None);
+    };
+    let is_local = !is_url || name.starts_with("file:");
+    let own = path.as_str();
+    if is_local
+        && has_code_or_map(rt, own)?
+        && (places.outside || is_inside(rt, own, places.root))
+    {
+        return Ok(Some(path));
+    }
+    match parts_of(alloc, own)? {
+        Some(parts) => longest_in_root(rt, places.root, parts.as_slice(), !is_local),
+        None => Ok(None),
+    }
+}
+
+/// Whether a text is that of a map, and not of a code.
+pub fn is_map(text: &str) -> bool {
+    let text = text.trim_start_matches('\u{feff}').trim_start();
+    text.starts_with('{') && text.contains("\"version\"")
+        || text.starts_with(")]}'")
+        || text.starts_with("data:")
+}
+
+/// The text of a map, given as a map, or as a code whose map is found.
+pub fn map_of_file(rt: &HostRuntime, path: &str, places: Places<'_>) -> Outcome<MapText> {
+    let alloc = rt.alloc();
+    let text = read_text(rt, path)?;
+    if is_map(text.as_str()) || path.ends_with(".map") || path.ends_with(".json") {
+        return Ok(MapText {
+            name: String::from_str(alloc, shown_name(path))?,
+            folder: String::from_str(alloc, folder_of(path))?,
+            text,
+        });
+    }
+    match map_of_code(rt, path, text.as_str(), places)? {
+        Lookup::Map(map) => Ok(map),
+        Lookup::None(why) => Err(failure_of(alloc, shown_name(path), why.as_str())),
+    }
+}
+
+/// The text of an error of reading a map, with its place if it has one: `line 0, segment 3 (byte 12): ..`.
+pub fn error_text(alloc: Global, text: &str, error: Error) -> Result<String, AllocError> {
+    match json_fault_at(alloc, text) {
+        Ok(Some(place)) => format!(in alloc; "{place}: {error}"),
+        _ => format!(in alloc; "{error}"),
+    }
+}
+
+/// Reads a map as it is found. What is mended is told as a warning.
+pub fn read_map(rt: &HostRuntime, map: &MapText) -> Outcome<SourceMap<'static>> {
+    let alloc = rt.alloc();
+    match read_found(alloc, map.text.as_str()) {
+        Ok(Found { map: found, mends }) => {
+            for mend in &mends {
+                let text = format!(in alloc; "mended: {mend}")?;
+                warn(rt, map.name.as_str(), text.as_str());
+            }
+            Ok(found)
+        }
+        Err(error) => {
+            let text = error_text(alloc, map.text.as_str(), error)?;
+            Err(failure_of(alloc, map.name.as_str(), text.as_str()))
+        }
+    }
+}
+
+/// The map of a file, given as a map or as a code, with its source root applied.
+pub fn rooted_map(rt: &HostRuntime, path: &str, places: Places<'_>) -> Outcome<SourceMap<'static>> {
+    let text = map_of_file(rt, path, places)?;
+    let mut map = read_map(rt, &text)?;
+    map.apply_source_root(rt.alloc())?;
+    Ok(map)
+}

@@ -1,0 +1,81 @@
+//! Files, standard input and standard output.
+use crate::failure::{Failure, Outcome, failure_of, file_failure};
+use std::fs;
+use std::io::{Read, Write};
+
+/// How a file is named in messages: `-` is standard input.
+pub fn shown_name(path: &str) -> &str {
+    if path == "-" { "standard input" } else { path }
+}
+
+fn read_input(rt: &HostRuntime) -> Outcome<Vec<u8>> {
+    let mut bytes = Vec::new(rt.alloc());
+    match rt.stdin().read_to_end(&mut bytes) {
+        Ok(_) => Ok(bytes),
+        Err(error) => Err(file_failure(rt.alloc(), "standard input", error)),
+    }
+}
+
+/// The bytes of a file, or of standard input for `-`.
+fn read_bytes(rt: &HostRuntime, path: &str) -> Outcome<Vec<u8>> {
+    if path == "-" {
+        return read_input(rt);
+    }
+    match fs::read(rt, path) {
+        Ok(bytes) => Ok(bytes),
+        Err(error) => Err(file_failure(rt.alloc(), path, error)),
+    }
+}
+
+/// The text of a file, or of standard input for `-`.
+pub fn read_text(rt: &HostRuntime, path: &str) -> Outcome<String> {
+    let alloc = rt.alloc();
+    match String::from_utf8(read_bytes(rt, path)?) {
+        Ok(text) => Ok(text),
+        Err(error) => {
+            let at = error.utf8_error().valid_up_to();
+            let text = format!(in alloc; "is not UTF-8 at byte {at}: convert it first")?;
+            Err(failure_of(alloc, shown_name(path), text.as_str()))
+        }
+    }
+}
+
+/// Writes a text to standard output.
+pub fn print(rt: &HostRuntime, text: &str) -> Outcome<()> {
+    match rt.stdout().write_all(text.as_bytes()) {
+        Ok(()) => Ok(()),
+        Err(error) => Err(file_failure(rt.alloc(), "standard output", error)),
+    }
+}
+
+/// Writes a text to a file, or to standard output for `-`.
+pub fn write_text(rt: &HostRuntime, path: &str, text: &str) -> Outcome<()> {
+    if path == "-" {
+        return print(rt, text);
+    }
+    match fs::write(rt, path, text) {
+        Ok(()) => Ok(()),
+        Err(error) => Err(file_failure(rt.alloc(), path, error)),
+    }
+}
+
+/// Prints a warning on standard error. That it cannot be printed is no failure.
+pub fn warn(rt: &HostRuntime, subject: &str, text: &str) {
+    let _ = eprintln!(rt; "sourcemap: {subject}: {text}");
+}
+
+/// Whether a file is there, and is no folder.
+pub fn is_file(rt: &HostRuntime, path: &str) -> bool {
+    match fs::metadata(rt, path) {
+        Ok(metadata) => !metadata.is_dir(),
+        Err(_) => false,
+    }
+}
+
+/// The failure of a command whose words are wrong together.
+pub fn usage(rt: &HostRuntime, text: &str) -> Failure {
+    match String::from_str(rt.alloc(), text) {
+        Ok(text) => Failure::Told(text),
+        Err(_) => Failure::Memory,
+    }
+}

@@ -1,0 +1,126 @@
+//! Paths, as texts with slashes.
+use percent_encoding::percent_decode_str;
+use std::alloc::{AllocError, Global};
+use std::fs;
+use url::Url;
+
+/// The folder of a path, with its slash; empty if there is none.
+pub fn folder_of(path: &str) -> &str {
+    match path.rsplit_once('/') {
+        Some((folder, name)) => path.strip_suffix(name).unwrap_or(folder),
+        None => "",
+    }
+}
+
+/// The last part of a path.
+pub fn file_name(path: &str) -> &str {
+    match path.rsplit_once('/') {
+        Some((_, name)) => name,
+        None => path,
+    }
+}
+
+/// Whether a text begins as a URL does: a scheme of two characters and more, and `:`. One letter is a drive of Windows.
+pub fn has_scheme(text: &str) -> bool {
+    match text.split_once(':') {
+        Some((scheme, _)) => {
+            scheme.len() > 1
+                && scheme.bytes().all(|b| b.is_ascii_alphanumeric()
+                    || b == b'+'
+                    || b == b'-'
+                    || b == b'.')
+        }
+        None => false,
+    }
+}
+
+/// Whether a path stands by itself: from the root, from a drive, or a URL.
+pub fn is_absolute(path: &str) -> bool {
+    path.starts_with('/') || path.starts_with('\\') || path.contains(':')
+}
+
+/// A path in a folder, where the folder is empty or ends in a slash. A path that stands by itself stays.
+pub fn joined(alloc: Global, folder: &str, path: &str) -> Result<String, AllocError> {
+    if is_absolute(path) {
+        return String::from_str(alloc, path);
+    }
+    format!(in alloc; "{folder}{path}")
+}
+
+/// The folder with a slash at its end.
+pub fn with_slash(alloc: Global, folder: &str) -> Result<String, AllocError> {
+    if folder.is_empty() || folder.ends_with('/') {
+        return String::from_str(alloc, folder);
+    }
+    format!(in alloc; "{folder}/")
+}
+
+/// The path of a URL or of a relative reference, without query and fragment, its escapes decoded; None if it is no text then.
+pub fn path_of_url(alloc: Global, url: &str) -> Result<Option<String>, AllocError> {
+    let path = if has_scheme(url) {
+        match Url::parse(alloc, url) {
+            Ok(url) => String::from_str(alloc, url.path())?,
+            Err(_) => return Ok(None),
+        }
+    } else {
+        let end = url.find(['?', '#'].as_slice()).unwrap_or(url.len());
+        String::from_str(alloc, url.get(..end).unwrap_or(url))?
+    };
+    match percent_decode_str(path.as_str()).decode_utf8(alloc) {
+        Ok(text) => Ok(Some(text.into_owned(alloc)?)),
+        Err(_) => Ok(None),
+    }
+}
+
+/// The path of a file without links and dots; None if the file is not there.
+fn real_path(rt: &HostRuntime, path: &str) -> Option<String> {
+    let path = if path.is_empty() { "." } else { path };
+    let real = fs::canonicalize(rt, path).ok()?;
+    String::from_str(rt.alloc(), real.as_path().as_str()).ok()
+}
+
+/// Whether a file is in a folder, links followed.
+pub fn is_inside(rt: &HostRuntime, path: &str, folder: &str) -> bool {
+    let (Some(path), Some(folder)) = (real_path(rt, path), real_path(rt, folder)) else {
+        return false;
+    };
+    match path.as_str().strip_prefix(folder.as_str()) {
+        Some(rest) => rest.starts_with('/') || folder.as_str() == "/",
+        None => false,
+    }
+}
+
+/// The parts of a path of any system: without a drive, and without empty parts and single dots. None if a part is `..`.
+pub fn parts_of(alloc: Global, path: &str) -> Result<Option<Vec<&str>>, AllocError> {
+    let mut parts = Vec::new(alloc);
+    for part in path.split(['/', '\\'].as_slice()) {
+        if part == ".." {
+            return Ok(None);
+        }
+        let is_drive = part.len() == 2 && part.ends_with(':');
+        if !part.is_empty() && part != "." && !is_drive {
+            parts.push(part)?;
+        }
+    }
+    Ok(Some(parts))
+}
+
+/// Parts with slashes between them.
+pub fn path_of(alloc: Global, folder: &str, parts: &[&str]) -> Result<String, AllocError> {
+    let mut path = String::from_str(alloc, folder)?;
+    for (i, part) in parts.iter().enumerate() {
+        if i > 0 {
+            path.push('/')?;
+        }
+        path.push_str(part)?;
+    }
+    Ok(path)
+}
+
+/// The path of a file without links and dots, by which two names of one file are the same; the name itself if it is not there.
+pub fn real_name(rt: &HostRuntime, path: &str) -> Result<String, AllocError> {
+    match real_path(rt, path) {
+        Some(real) => Ok(real),
+        None => String::from_str(rt.alloc(), path),
+    }
+}

@@ -1,0 +1,120 @@
+//! V8's block coverage, as blocks that do not overlap.
+use serde::Deserialize;
+use std::alloc::{AllocError, Global};
+
+/// What Node writes for NODE_V8_COVERAGE.
+#[derive(Drop, Deserialize)]
+pub struct Report {
+    pub result: Vec<Script>,
+}
+
+/// What V8 tells of one script.
+#[derive(Drop, Deserialize)]
+pub struct Script {
+    pub url: String,
+    functions: Vec<Function>,
+}
+
+#[derive(Drop, Deserialize)]
+struct Function {
+    ranges: Vec<Range>,
+}
+
+/// How often the code between two offsets ran, in UTF-16 units. Of two ranges one is in the other, or they do not overlap.
+#[derive(Clone, Copy, Deserialize)]
+#[serde(rename_all = "camelCase")]
+struct Range {
+    start_offset: u32,
+    end_offset: u32,
+    count: u64,
+}
+
+/// A part of the code in which no range begins or ends, and how often it ran.
+#[derive(Clone, Copy)]
+pub struct Run {
+    pub start: u32,
+    pub end: u32,
+    pub count: u64,
+}
+
+/// The order in which the ranges are met: by where they begin, the longest first, so that an outer one is before those in it.
+fn is_before(a: &Range, b: &Range) -> std::cmp::Ordering {
+    a.start_offset
+        .cmp(&b.start_offset)
+        .then(b.end_offset.cmp(&a.end_offset))
+}
+
+/// The ranges of a script, in the order in which they are met.
+fn ranges_of(alloc: Global, script: &Script) -> Result<Vec<Range>, AllocError> {
+    let mut ranges = Vec::new(alloc);
+    for function in &script.functions {
+        for range in &function.ranges {
+            if range.start_offset < range.end_offset {
+                ranges.push(*range)?;
+            }
+        }
+    }
+    ranges.sort_by(is_before)?;
+    Ok(ranges)
+}
+
+/// The ranges around the place that is reached, the innermost last.
+#[derive(Drop)]
+struct Around {
+    open: Vec<Range>,
+    at: u32,
+    runs: Vec<Run>,
+}
+
+impl Around {
+    /// Goes on to an offset: what lies before it has the count of the innermost range.
+    fn go_to(&mut self, offset: u32) -> Result<(), AllocError> {
+        if let Some(range) = self.open.as_slice().last()
+            && self.at < offset
+        {
+            self.runs.push(Run {
+                start: self.at,
+                end: offset,
+                count: range.count,
+            })?;
+        }
+        self.at = self.at.max(offset);
+        Ok(())
+    }
+
+    /// Leaves the ranges that end at or before an offset.
+    fn leave(&mut self, offset: u32) -> Result<(), AllocError> {
+        for _ in 0..self.open.len() {
+            match self.open.as_slice().last() {
+                Some(range) if range.end_offset <= offset => {
+                    let end = range.end_offset;
+                    self.go_to(end)?;
+                    let _ = self.open.pop();
+                }
+                _ => break,
+            }
+        }
+        Ok(())
+    }
+}
+
+/// The runs of a script, from left to right: each part has the count of the innermost range around it.
+pub fn runs_of(alloc: Global, script: &Script) -> Result<Vec<Run>, AllocError> {
+    let mut around = Around {
+        open: Vec::new(alloc),
+        at: 0,
+        runs: Vec::new(alloc),
+    };
+    for range in &ranges_of(alloc, script)? {
+        around.leave(range.start_offset)?;
+        around.go_to(range.start_offset)?;
+        around.open.push(*range)?;
+    }
+    around.leave(u32::MAX)?;
+    let Around {
+        open: _,
+        at: _,
+        runs,
+    } = around;
+    Ok(runs)
+}

@@ -1,0 +1,5 @@
+pub mod Places
+pub mod Pieces
+pub mod Appends
+pub mod LineEnds
+pub mod Marked

@@ -1,0 +1,9 @@
+pub mod Indexed
+pub mod Answers
+pub mod Texts
+pub mod Lines
+pub mod Frames
+pub mod Bundled
+pub mod Marks
+pub mod Words
+pub mod Page

@@ -1,0 +1,22 @@
+-- A page that holds data.
+use Rattle.std.specs.Prelude.{◌≡◌, List, ◌++◌, codes, Ok}
+use Rattle.base64.specs.Engines.{standard}
+use Rattle.base64.specs.GeneralPurpose.{decode_of}
+use Rattle.oxc_sourcemap_parts.specs.Record.{Text}
+
+-- where the data of a template comes
+abbrev pub mark : Text
+mark = codes "{{data}}"
+
+-- a mark stands somewhere in a text
+abbrev pub HasMark : Text → Type 0
+HasMark text = (front : Text) × (back : Text) × (text ≡ front ++ (mark ++ back))
+
+-- A page is its template, but for a mark: there it has a text that reads back, as base64, as the data.
+pub record IsFilled (template content page : Text) : Type 0 where
+  pub front : Text
+  pub back : Text
+  pub template_is : template ≡ front ++ (mark ++ back)
+  pub held : Text
+  pub reads_back : decode_of standard held ≡ Ok content
+  pub page_is : page ≡ front ++ (held ++ back)

@@ -1,0 +1,59 @@
+-- What is printed of an answer.
+use Rattle.std.specs.Prelude.{ℕ, ◌+◌, List, [], ◌++◌, ◌∷◌, codes, decimal, Bool, not, ◌&&◌, ◌==◌}
+use Rattle.std.specs.Prelude.{nat_le, if◌then◌else◌, Option, Some, None}
+use Rattle.std.specs.List.{list_all}
+use Rattle.oxc_sourcemap_parts.specs.Record.{Text}
+use Rattle.oxc_sourcemap_encode.specs.JsonString.{json_string}
+use Rattle.sourcemap_run.specs.Answers.{Place}
+
+-- Whether a byte may be printed as it is: no control character, and no quote.
+abbrev pub is_plain : ℕ → Bool
+is_plain b = nat_le 32 b && (not (b == 34) && not (b == 127))
+
+-- a path or a name: as it is, or as a JSON string if one of its bytes is not plain
+abbrev pub shown : Text → Text
+shown text = if list_all is_plain text then text else json_string text
+
+-- a colon and a number
+abbrev pub number_part : ℕ → Text
+number_part n = codes ":" ++ decimal n
+
+-- a place, lines and columns counted from `base`
+abbrev pub place_text : ℕ → Place → Text
+place_text base p = shown p.path ++ (number_part (p.line + base) ++ number_part (p.column + base))
+
+-- a space and a name, if there is one
+abbrev pub name_part : Option Text → Text
+name_part None = []
+name_part (Some name) = codes " " ++ shown name
+
+-- an answer: of no token, of an unmapped one, and of one that points to a source
+abbrev pub answer_text : ℕ → Option (Option Place) → Text
+answer_text base None = codes "nothing"
+answer_text base (Some None) = codes "unmapped"
+answer_text base (Some (Some p)) = place_text base p ++ name_part p.name
+
+-- a member of a JSON object, of a number, behind a comma
+unfoldable pub number_member : Text → ℕ → Text
+number_member key n = codes ",\"" ++ (key ++ (codes "\":" ++ decimal n))
+
+-- the same of a text
+unfoldable pub text_member : Text → Text → Text
+text_member key text = codes ",\"" ++ (key ++ (codes "\":" ++ json_string text))
+
+-- the member of a name, if there is one
+abbrev pub name_member : Option Text → Text
+name_member None = []
+name_member (Some name) = text_member (codes "name") name
+
+-- the members of a line, a column and a name
+unfoldable pub position_members : ℕ → Place → Text
+position_members base p =
+    number_member (codes "sourceLine") (p.line + base) ++ (number_member (codes "sourceColumn") (p.column + base) ++ name_member p.name)
+
+-- the members of an answer
+abbrev pub answer_members : ℕ → Option (Option Place) → Text
+answer_members base None = text_member (codes "found") (codes "nothing")
+answer_members base (Some None) = text_member (codes "found") (codes "unmapped")
+answer_members base (Some (Some p)) =
+    text_member (codes "found") (codes "original") ++ (text_member (codes "source") p.path ++ position_members base p)

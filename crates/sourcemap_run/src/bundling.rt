@@ -1,0 +1,136 @@
+//! Codes and their maps, joined.
+ghost use Rattle.std.specs.Prelude.{◌≡◌, ◌++◌, ◌∷◌, [], string_bytes, IfOk, OnOk};
+ghost use Rattle.sourcemap_run.specs.Words.{OnlyMemory, record_of_parts, joined, HasLineEnds};
+ghost use Rattle.sourcemap_run.specs.Words.{IsEnded, IsPushed, at_line};
+
+use oxc_sourcemap_join::join_owned_parts;
+use oxc_sourcemap_parts::SourceMapParts;
+use oxc_sourcemap_text::{TextPositions, utf16_units};
+use oxc_sourcemap_tokens::{Error, Position, Result};
+use std::alloc::Global;
+use std::marker::Model;
+
+/// Codes one after another, each from the beginning of a line on, and the line at which each of their maps begins.
+#[derive(Drop)]
+pub struct Bundle {
+    code: String,
+    line: u32,
+    maps: Vec<(SourceMapParts<'static>, Position)>,
+}
+
+impl Model for Bundle {
+    ghost use Rattle.std.specs.Prelude.{string_bytes, map};
+    ghost use Rattle.sourcemap_run.specs.Bundled.{Bundled, placed_record};
+
+    ghost Value = { Bundled };
+
+    ghost view = { λ b. record {
+      code = string_bytes b.code;
+      line = b.line;
+      maps = map placed_record b.maps.items;
+    } };
+}
+
+/// How many lines end in a text.
+fn line_ends(alloc: Global, text: &str) -> Result<u32>
+    ensures ends { IfOk result (HasLineEnds text.now) }
+{
+    let positions = TextPositions::new(alloc, text)?;
+    let units = utf16_units(alloc, text)?;
+    let len = units.as_slice().len();
+    if len > 4294967295 {
+        return Err(Error::TooLarge);
+    }
+    match positions.position(len as u32) {
+        Ok((line, _)) => Ok(line),
+        Err(_) => Err(Error::TooLarge),
+    }
+}
+
+/// A text and a line feed.
+fn with_line_feed(alloc: Global, text: &str) -> Result<String>
+    ensures text { IfOk result (λ whole. string_bytes whole ≡ text.now ++ 10 ∷ []) }
+    ensures error { OnlyMemory result }
+{
+    let mut whole = String::from_str(alloc, text)?;
+    whole.push('\n')?;
+    Ok(whole)
+}
+
+/// A text, with a line feed at its end.
+fn ended(alloc: Global, text: &str) -> Result<String>
+    ensures text { IfOk result (λ whole. IsEnded text.now (string_bytes whole)) }
+    ensures error { OnlyMemory result }
+{
+    match text.strip_suffix('\n') {
+        Some(front) => with_line_feed(alloc, front),
+        None => with_line_feed(alloc, text),
+    }
+}
+
+impl Bundle {
+    /// No code.
+    pub fn new(alloc: Global) -> Bundle
+        ensures { result ≡ record { code = []; line = 0; maps = [] } }
+    {
+        Bundle {
+            code: String::new(alloc),
+            line: 0,
+            maps: Vec::new(alloc),
+        }
+    }
+
+    /// The line at which the next code begins.
+    pub fn line(&self) -> u32
+        ensures { result ≡ self.now.line }
+    {
+        self.line
+    }
+
+    /// Appends a text, and a line feed if it does not end in one. Fails with `TooLarge` if a line would be above 4294967295, and with
+    /// `OutOfMemory`; the bundle is then unfinished.
+    pub fn push_text(&mut self, alloc: Global, text: &str) -> Result<()>
+        ensures pushed { OnOk result (IsPushed text.now [] self.old self.new) }
+    {
+        let whole = ended(alloc, text)?;
+        let Some(line) = self.line.checked_add(line_ends(alloc, whole.as_str())?) else {
+            return Err(Error::TooLarge);
+        };
+        self.code.push_str(whole.as_str())?;
+        self.line = line;
+        Ok(())
+    }
+
+    /// Appends a code as `push_text` does, and its map at the line where it begins.
+    pub fn push_code(
+        &mut self,
+        alloc: Global,
+        code: &str,
+        map: SourceMapParts<'static>,
+    ) -> Result<()>
+        ensures pushed { OnOk result (IsPushed code.now
+            ((record_of_parts map.entry, at_line self.old.line) ∷ []) self.old self.new) }
+    {
+        let position = Position {
+            line: self.line,
+            column: 0,
+        };
+        self.push_text(alloc, code)?;
+        self.maps.push((map, position))?;
+        Ok(())
+    }
+
+    /// The code, and the join of the maps. Fails with `TooLarge` past the limits of joins, and with `OutOfMemory`.
+    pub fn finish(self, alloc: Global) -> Result<(String, SourceMapParts<'static>)>
+        ensures code { IfOk result (λ bundle. string_bytes bundle.0 ≡ self.code) }
+        ensures map { IfOk result (λ bundle. record_of_parts bundle.1 ≡ joined self.maps) }
+    {
+        let Bundle {
+            code,
+            line: _,
+            maps,
+        } = self;
+        let map = join_owned_parts(alloc, maps)?;
+        Ok((code, map))
+    }
+}

@@ -1,0 +1,139 @@
+//! The lines of a stack trace, led back.
+ghost use Rattle.std.specs.Prelude.{◌≡◌, IfSome};
+ghost use Rattle.std.specs.List.{flat_map};
+ghost use Rattle.sourcemap_run.specs.Words.{OnlyMemory, Pushes, seen, answer_to, location_text};
+ghost use Rattle.sourcemap_run.specs.Words.{painted, led_back};
+
+use crate::texts::push_place;
+use crate::tracer::{Answer, Bias, Tracer};
+use oxc_sourcemap_tokens::{Position, Result};
+use std::alloc::Global;
+
+/// The map and the generated position of a frame.
+#[derive(Clone, Copy)]
+pub struct Target {
+    /// The number of the map, in a list of them.
+    pub map: usize,
+    pub position: Position,
+}
+
+/// What is printed around a position that was led back, as the codes of a colour; both may be empty.
+#[derive(Clone, Copy)]
+pub struct Paint<'p> {
+    pub before: &'p str,
+    pub after: &'p str,
+}
+
+/// A line of a stack trace, in three pieces: the middle one is the position that a frame names, as `bundle.js:1:20`.
+#[derive(Clone, Copy)]
+pub struct Frame<'t> {
+    pub front: &'t str,
+    pub location: &'t str,
+    pub back: &'t str,
+    /// Where to look, if there is a map for it.
+    pub target: Option<Target>,
+}
+
+impl<'t> Frame<'t> {
+    ghost use Rattle.sourcemap_run.specs.Frames.{frame_text};
+
+    /// A line that names no position.
+    pub fn plain(line: &'t str) -> Frame<'t>
+        ensures { frame_text result ≡ line.entry.now }
+    {
+        Frame {
+            front: line,
+            location: "",
+            back: "",
+            target: None,
+        }
+    }
+
+    /// A line whose bytes from `start` up to but not including `end` are a position; None if a character does not begin or end
+    /// there.
+    pub fn cut(line: &'t str, start: usize, end: usize) -> Option<Frame<'t>>
+        ensures { IfSome result (λ frame. frame_text frame ≡ line.entry.now) }
+    {
+        let (rest, back) = line.split_at_checked(end)?;
+        let (front, location) = rest.split_at_checked(start)?;
+        Some(Frame {
+            front,
+            location,
+            back,
+            target: None,
+        })
+    }
+}
+
+/// What the maps say of a target.
+pub fn answer_to<'m>(tracers: &'m [Tracer], target: Option<Target>) -> Answer<'m>
+    ensures { seen result ≡ answer_to tracers.now target }
+{
+    let Some(target) = target else {
+        return Answer::Nothing;
+    };
+    match tracers.get(target.map) {
+        Some(tracer) => tracer.answer(target.position, Bias::Lower),
+        None => Answer::Nothing,
+    }
+}
+
+/// Appends the position of a frame: led back, or as it is.
+fn push_location(
+    alloc: Global,
+    location: &str,
+    answer: Answer<'_>,
+    paint: Paint<'_>,
+    out: &mut String,
+) -> Result<()>
+    ensures text { Pushes result out.old out.new
+        (location_text (painted paint.entry) location.now (seen answer.entry)) }
+    ensures error { OnlyMemory result }
+{
+    let Answer::At(spot) = answer else {
+        out.push_str(location)?;
+        return Ok(());
+    };
+    out.push_str(paint.before)?;
+    push_place(alloc, &spot, 1, out)?;
+    out.push_str(paint.after)?;
+    Ok(())
+}
+
+/// Appends a line of a stack trace: its position led back, if its map says what it comes from, and all else as it is.
+pub fn push_frame(
+    alloc: Global,
+    tracers: &[Tracer],
+    frame: &Frame<'_>,
+    paint: Paint<'_>,
+    out: &mut String,
+) -> Result<()>
+    ensures text { Pushes result out.old out.new
+        (led_back (painted paint.entry) tracers.now frame.now) }
+    ensures error { OnlyMemory result }
+{
+    out.push_str(frame.front)?;
+    let answer = answer_to(tracers, frame.target);
+    push_location(alloc, frame.location, answer, paint, out)?;
+    out.push_str(frame.back)?;
+    out.push('\n')?;
+    Ok(())
+}
+
+/// Appends the lines of a stack trace, each led back.
+pub fn push_frames(
+    alloc: Global,
+    tracers: &[Tracer],
+    frames: &[Frame<'_>],
+    paint: Paint<'_>,
+    out: &mut String,
+) -> Result<()>
+    ensures text { Pushes result out.old out.new
+        (flat_map (led_back (painted paint.entry) tracers.now) frames.now) }
+    ensures error { OnlyMemory result }
+{
+    for frame in frames {
+        push_frame(alloc, tracers, frame, paint, out)?;
+    }
+    Ok(())
+}

@@ -1,0 +1,114 @@
+//! What is printed of a path, a name and a number.
+ghost use Rattle.std.specs.Prelude.{◌≡◌, ◌+◌, decimal};
+ghost use Rattle.std.specs.List.{list_all};
+ghost use Rattle.sourcemap_run.specs.Words.{OnlyMemory, Pushes, lent_item, is_plain, shown};
+ghost use Rattle.sourcemap_run.specs.Words.{number_part, place_text, name_part, place_seen};
+ghost use Rattle.sourcemap_run.specs.Words.{number_member, text_member, name_member};
+
+use crate::tracer::Spot;
+use oxc_sourcemap_encode::push_json_string;
+use oxc_sourcemap_tokens::Result;
+use std::alloc::Global;
+
+/// Whether a text may be printed as it is: it has no control character, and no quote.
+fn is_plain(text: &str) -> bool
+    ensures { result ≡ list_all is_plain text.now }
+{
+    text.as_bytes()
+        .iter()
+        .all(|byte| 32 <= *byte && *byte != b'"' && *byte != 127)
+}
+
+/// Appends a path or a name: as it is, or as a JSON string if it has a control character or a quote.
+pub fn push_shown(text: &str, out: &mut String) -> Result<()>
+    ensures text { Pushes result out.old out.new (shown text.now) }
+    ensures error { OnlyMemory result }
+{
+    if !is_plain(text) {
+        return push_json_string(text, out);
+    }
+    out.push_str(text)?;
+    Ok(())
+}
+
+/// A line or a column from 0, as it is counted from `base`.
+pub(crate) fn from_base(number: u32, base: u8) -> u64
+    ensures { result ≡ number + base }
+{
+    u64::from(number) + u64::from(base)
+}
+
+/// Appends a number.
+pub(crate) fn push_number(alloc: Global, number: u64, out: &mut String) -> Result<()>
+    ensures text { Pushes result out.old out.new (decimal number) }
+    ensures error { OnlyMemory result }
+{
+    out.push_str(number.to_string(alloc)?.as_str())?;
+    Ok(())
+}
+
+/// Appends a colon and a number, counted from `base`.
+fn push_number_part(alloc: Global, number: u32, base: u8, out: &mut String) -> Result<()>
+    ensures text { Pushes result out.old out.new (number_part (number + base)) }
+    ensures error { OnlyMemory result }
+{
+    out.push(':')?;
+    push_number(alloc, from_base(number, base), out)
+}
+
+/// Appends a space and a name, if there is one.
+pub(crate) fn push_name_part(name: Option<&str>, out: &mut String) -> Result<()>
+    ensures text { Pushes result out.old out.new (name_part (lent_item name.entry)) }
+    ensures error { OnlyMemory result }
+{
+    let Some(name) = name else {
+        return Ok(());
+    };
+    out.push(' ')?;
+    push_shown(name, out)
+}
+
+/// Appends a place as `SOURCE:LINE:COLUMN`, counted from `base`.
+pub fn push_place(alloc: Global, spot: &Spot<'_>, base: u8, out: &mut String) -> Result<()>
+    ensures text { Pushes result out.old out.new (place_text base (place_seen spot.now)) }
+    ensures error { OnlyMemory result }
+{
+    push_shown(spot.source, out)?;
+    push_number_part(alloc, spot.line, base, out)?;
+    push_number_part(alloc, spot.column, base, out)
+}
+
+/// Appends a comma and a member of a JSON object, of a number.
+#[tactic(auto, unfolding(crate::specs::Texts::number_member))]
+pub fn push_number_member(alloc: Global, key: &str, number: u64, out: &mut String) -> Result<()>
+    ensures text { Pushes result out.old out.new (number_member key.now number) }
+    ensures error { OnlyMemory result }
+{
+    out.push_str(",\"")?;
+    out.push_str(key)?;
+    out.push_str("\":")?;
+    push_number(alloc, number, out)
+}
+
+/// Appends a comma and a member of a JSON object, of a text. The key has no character that JSON escapes.
+#[tactic(auto, unfolding(crate::specs::Texts::text_member))]
+pub fn push_text_member(key: &str, text: &str, out: &mut String) -> Result<()>
+    ensures text { Pushes result out.old out.new (text_member key.now text.now) }
+    ensures error { OnlyMemory result }
+{
+    out.push_str(",\"")?;
+    out.push_str(key)?;
+    out.push_str("\":")?;
+    push_json_string(text, out)
+}
+
+/// Appends the member of a name, if there is one.
+pub(crate) fn push_name_member(name: Option<&str>, out: &mut String) -> Result<()>
+    ensures text { Pushes result out.old out.new (name_member (lent_item name.entry)) }
+    ensures error { OnlyMemory result }
+{
+    match name {
+        Some(name) => push_text_member("name", name, out),
+        None => Ok(()),
+    }
+}

@@ -20,9 +20,13 @@ placed_record m = (record_of_parts m.0, m.1)
 abbrev pub HasLineEnds : Text → ℕ → Type 0
 HasLineEnds text n = (col : ℕ) × (position_of text (length (units_of text)) ≡ Ok (n, col))
 
--- a text with a line feed at its end: its own, or one more
+-- A text ends in a line feed.
+abbrev pub EndsLine : Text → Type 0
+EndsLine text = (front : Text) × (text ≡ front ++ 10 ∷ [])
+
+-- a text with a line feed at its end: its own, or, if it has none there, one more
 abbrev pub IsEnded : Text → Text → Type 0
-IsEnded text whole = (front : Text) × (whole ≡ front ++ 10 ∷ []) × ((text ≡ front ++ 10 ∷ []) ⊎ (text ≡ front))
+IsEnded text whole = (EndsLine text × (whole ≡ text)) ⊎ (¬ (EndsLine text) × (whole ≡ text ++ 10 ∷ []))
 
 -- the beginning of a line
 abbrev pub at_line : ℕ → Position

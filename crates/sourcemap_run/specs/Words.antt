@@ -1,7 +1,7 @@
 -- The words of this crate's clauses, from one place.
 pub use Rattle.oxc_sourcemap_tokens.specs.Results.{Answers, OnlyMemory, Pushes, lent_item}
 pub use Rattle.oxc_sourcemap_tokens.specs.Results.{lent_items}
-pub use Rattle.oxc_sourcemap_tokens.specs.declared.error.Error.TheVariants.{OutOfMemory}
+pub use Rattle.oxc_sourcemap_tokens.specs.declared.error.Error.TheVariants.{OutOfMemory, TooLarge}
 pub use Rattle.oxc_sourcemap_tokens.specs.declared.plan_error.PlanError.TheVariants.{Map, Unsorted}
 pub use Rattle.oxc_sourcemap_parts.specs.DecodedMap.{name_of}
 pub use Rattle.oxc_sourcemap_parts.specs.Sorted.{are_tokens_sorted}
@@ -15,6 +15,7 @@ pub use Rattle.sourcemap_run.specs.Lines.{answer_object, answer_line}
 pub use Rattle.sourcemap_run.specs.Frames.{frame_text, answer_to, location_text, painted, led_back}
 pub use Rattle.oxc_sourcemap_parts.specs.Views.{record_of_parts}
 pub use Rattle.oxc_sourcemap_join.specs.Joined.{joined}
+pub use Rattle.oxc_sourcemap_join.specs.Joined.{IsWithinLimits}
 pub use Rattle.oxc_sourcemap_pieces.specs.RangePieces.{pieces_of}
 pub use Rattle.sourcemap_run.specs.Bundled.{HasLineEnds, IsEnded, IsPushed, at_line}
 pub use Rattle.sourcemap_run.specs.Marks.{mark_of}

@@ -1,7 +1,8 @@
 //! Codes and their maps, joined.
-ghost use Rattle.std.specs.Prelude.{◌≡◌, ◌++◌, ◌∷◌, [], string_bytes, IfOk, OnOk};
+ghost use Rattle.std.specs.Prelude.{◌≡◌, ◌≢◌, ◌++◌, ◌∷◌, ◌⊎◌, [], string_bytes, IfOk, IfErr, OnOk};
 ghost use Rattle.sourcemap_run.specs.Words.{OnlyMemory, record_of_parts, joined, HasLineEnds};
-ghost use Rattle.sourcemap_run.specs.Words.{IsEnded, IsPushed, at_line};
+ghost use Rattle.sourcemap_run.specs.Words.{IsEnded, IsPushed, at_line, IsWithinLimits};
+ghost use Rattle.sourcemap_run.specs.Words.{OutOfMemory, TooLarge};
 
 use oxc_sourcemap_join::join_owned_parts;
 use oxc_sourcemap_parts::SourceMapParts;
@@ -34,6 +35,7 @@ impl Model for Bundle {
 /// How many lines end in a text.
 fn line_ends(alloc: Global, text: &str) -> Result<u32>
     ensures ends { IfOk result (HasLineEnds text.now) }
+    ensures error { IfErr result (λ e. (e ≢ OutOfMemory) → e ≡ TooLarge) }
 {
     let positions = TextPositions::new(alloc, text)?;
     let units = utf16_units(alloc, text)?;
@@ -91,6 +93,7 @@ impl Bundle {
     /// `OutOfMemory`; the bundle is then unfinished.
     pub fn push_text(&mut self, alloc: Global, text: &str) -> Result<()>
         ensures pushed { OnOk result (IsPushed text.now [] self.old self.new) }
+        ensures error { IfErr result (λ e. (e ≢ OutOfMemory) → e ≡ TooLarge) }
     {
         let whole = ended(alloc, text)?;
         let Some(line) = self.line.checked_add(line_ends(alloc, whole.as_str())?) else {
@@ -110,6 +113,7 @@ impl Bundle {
     ) -> Result<()>
         ensures pushed { OnOk result (IsPushed code.now
             ((record_of_parts map.entry, at_line self.old.line) ∷ []) self.old self.new) }
+        ensures error { IfErr result (λ e. (e ≢ OutOfMemory) → e ≡ TooLarge) }
     {
         let position = Position {
             line: self.line,
@@ -124,6 +128,8 @@ impl Bundle {
     pub fn finish(self, alloc: Global) -> Result<(String, SourceMapParts<'static>)>
         ensures code { IfOk result (λ bundle. string_bytes bundle.0 ≡ self.code) }
         ensures map { IfOk result (λ bundle. record_of_parts bundle.1 ≡ joined self.maps) }
+        ensures error { IfErr result (λ e. (e ≡ OutOfMemory)
+            ⊎ ((e ≡ TooLarge) × ¬ (IsWithinLimits (joined self.maps)))) }
     {
         let Bundle {
             code,

@@ -46,7 +46,7 @@ fn mark_of(piece: &Piece, count: u64) -> Option<Mark>
     })
 }
 
-/// Appends what the pieces of a block say of lines.
+/// Appends what the pieces of a block say of lines, for a sorted map. For want of memory `marks` has a beginning of them.
 pub fn push_marks(map: &SourceMap<'_>, block: Block, marks: &mut Vec<Mark>) -> Memory<()>
     ensures { are_tokens_sorted map.now.tokens ≡ true → OnOk result (marks.new.items
         ≡ marks.old.items ++ filter_map (mark_of block.count) (pieces_of map.now.tokens

@@ -1,5 +1,5 @@
 //! The lines of a stack trace, led back.
-ghost use Rattle.std.specs.Prelude.{◌≡◌, IfSome};
+ghost use Rattle.std.specs.Prelude.{◌≡◌, [], IfSome, None, take, drop};
 ghost use Rattle.std.specs.List.{flat_map};
 ghost use Rattle.sourcemap_run.specs.Words.{OnlyMemory, Pushes, seen, answer_to, location_text};
 ghost use Rattle.sourcemap_run.specs.Words.{painted, led_back};
@@ -39,7 +39,9 @@ impl<'t> Frame<'t> {
 
     /// A line that names no position.
     pub fn plain(line: &'t str) -> Frame<'t>
-        ensures { frame_text result ≡ line.entry.now }
+        ensures text { (result.front.now ≡ line.entry.now) × (result.location.now ≡ [])
+            × (result.back.now ≡ []) }
+        ensures target { result.target ≡ None }
     {
         Frame {
             front: line,
@@ -52,7 +54,10 @@ impl<'t> Frame<'t> {
     /// A line whose bytes from `start` up to but not including `end` are a position; None if a character does not begin or end
     /// there.
     pub fn cut(line: &'t str, start: usize, end: usize) -> Option<Frame<'t>>
-        ensures { IfSome result (λ frame. frame_text frame ≡ line.entry.now) }
+        ensures text { IfSome result (λ frame. frame_text frame ≡ line.entry.now) }
+        ensures cuts { IfSome result (λ frame. (frame.front.now ≡ take start (take end line.entry.now))
+            × (frame.location.now ≡ drop start (take end line.entry.now))) }
+        ensures target { IfSome result (λ frame. frame.target ≡ None) }
     {
         let (rest, back) = line.split_at_checked(end)?;
         let (front, location) = rest.split_at_checked(start)?;

@@ -2,8 +2,8 @@ use Rattle.std.proofs.Common.{◌≡◌, ℕ, List, ◌++◌, take, drop, ap, �
 use Rattle.sourcemap_run.proofs.Pieces.{three_pieces}
 use Rattle.sourcemap_run.proofs.frames.Frame.cut.Goals as goal
 
-pub returns : goal.returns
-returns c =
+pub returns-clause-text : goal.returns-clause-text
+returns-clause-text c =
     let text = c.args.line.now in
     let rest : c.in_ok-rest.rest.now ≡ take c.args.end text = c.in_ok-rest.ensures.front in
     let front : c.in_ok-front.front.now ≡ take c.args.start c.in_ok-rest.rest.now = c.in_ok-front.ensures.front in

@@ -116,7 +116,8 @@ fn decode_owned_value(alloc: Global, value: Value) -> Result<SourceMapParts<'sta
 }
 
 /// The parts of the map of a JSON text. `decode_from_string` of `oxc_sourcemap` has the errors in their order. All strings
-/// are owned, and none is copied but the file of an indexed map.
+/// are owned: those of a usual text are copied out of it once; of another one, none but the file of an indexed map is copied
+/// from its value.
 #[tactic(auto, unfolding(crate::specs::ReadMap::read_map, crate::specs::ReadMap::read_value))]
 pub fn decode_parts_from_string(alloc: Global, text: &str) -> Result<SourceMapParts<'static>>
     ensures { Answers record_of_parts result (read_map text.now) }

@@ -19,7 +19,7 @@ use Rattle.oxc_sourcemap_json.specs.declared.usual.UsualMembers.{UsualMembers}
 abbrev pub Begins : List Token → Data → List Token → Type 0
 Begins ts d rest = converted of_json (value 126 ts) ≡ Some (d, rest)
 
--- These tokens begin with this value, in whatever it stands, and go on with those.
+-- The same at any depth.
 abbrev pub BeginsAny : List Token → Data → List Token → Type 0
 BeginsAny ts d rest = (depth : ℕ) → converted of_json (value depth ts) ≡ Some (d, rest)
 
@@ -78,7 +78,7 @@ abbrev pub with_held : List ℕ → Data → Held → Held
 with_held key d [] = (key, Some d) ∷ []
 with_held key d (e ∷ es) = if bytes_eq key e.0 then (key, Some d) ∷ es else e ∷ with_held key d es
 
--- what the members that were read hold for their keys
+-- for each key of a usual map its value, or none
 abbrev pub members_held : UsualMembers → Held
 members_held m =
     (codes "version", (if m.has_version then Some (number (unsigned 3)) else None))
@@ -100,6 +100,6 @@ HaveIds m = AreIds m.ignore_list × AreIds m.older_ignore_list
 abbrev pub AreHeld : UsualMembers → Members → Type 0
 AreHeld m ms = (key : List ℕ) → get_member key ms ≡ held key (members_held m)
 
--- A text is the JSON of a map by itself, which has no sections, with these fields.
+-- A text reads as a map by itself, without the member `sections`, and with these fields.
 abbrev pub IsJsonOf : List ℕ → JsonRecord → Type 0
 IsJsonOf text fields = (d : Data) × (read text ≡ Some d) × (get (codes "sections") d ≡ None) × (shape d ≡ Ok fields)

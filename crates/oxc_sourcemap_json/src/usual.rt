@@ -1,5 +1,5 @@
-//! Reading the JSON text of a usual source map token by token, with no value in between, which takes half of the time. What is
-//! unusual is left to the value.
+//! Reading the JSON text of a usual source map token by token, with no value in between. What is unusual goes by a value
+//! (`json_of`).
 ghost use Rattle.std.specs.Prelude.{◌≡◌, ◌<◌, ◌≤◌, length, map, true, IsTrue, IfOk, IfSome, Ok};
 ghost use Rattle.std.specs.Prelude.{option_map, string_bytes, Some};
 ghost use Rattle.std.specs.List.{All};
@@ -332,7 +332,7 @@ fn members_of(alloc: Global, reader: &mut Reader<'_>) -> Memory<Option<UsualMemb
 }
 
 /// The fields of the JSON text of a map by itself, as `json_of` reads them from its value. None if the text is unusual: it is no
-/// such map, has a fault, or has a member that ECMA-426 has none of, or null as a member. Fails only for want of memory.
+/// such map, has a fault, or has null as a member or a member that is not read here. Fails only for want of memory.
 pub fn usual_json(alloc: Global, text: &str) -> Memory<Option<JSONSourceMap>>
     ensures { IfOk result (λ found. IfSome found
         (λ json. IsJsonOf text.now (json_record json))) }

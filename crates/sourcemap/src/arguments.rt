@@ -183,7 +183,7 @@ fn resolve<'a>(alloc: Global) -> Built<'a> {
         alloc,
         "resolve",
         "Leads the frames of a stack trace back to the originals, as V8, Firefox and Safari print them",
-        "An object a line: text, resolved, found, and map, line, column, source, sourceLine, sourceColumn, name, or why; from 1",
+        "An object a line: text, resolved, and of a frame file, line, column; with a map map, found, source, sourceLine, sourceColumn, name; or why; from 1",
     )?
     .arg(
         Arg::new(alloc, "TRACE")

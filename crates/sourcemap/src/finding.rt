@@ -147,21 +147,38 @@ fn map_named(rt: &HostRuntime, code: &str, url: &str, places: Places<'_>) -> Out
     }
 }
 
-/// The map beside a code, or in the folder of maps.
-fn map_beside(rt: &HostRuntime, code: &str, places: Places<'_>) -> Outcome<Option<Lookup>> {
-    let alloc = rt.alloc();
-    let beside = format!(in alloc; "{code}.map")?;
-    if code != "-" && is_file(rt, beside.as_str()) {
-        return Ok(Some(map_text(rt, beside.as_str())?));
-    }
+/// The map of a code in the folder of maps.
+pub fn map_in_maps(rt: &HostRuntime, code: &str, places: Places<'_>) -> Outcome<Option<Lookup>> {
     let Some(maps) = places.maps else {
         return Ok(None);
     };
-    let path = format!(in alloc; "{maps}{}.map", file_name(code))?;
+    let path = format!(in rt.alloc(); "{maps}{}.map", file_name(code))?;
     if is_file(rt, path.as_str()) && is_inside(rt, path.as_str(), maps) {
         return Ok(Some(map_text(rt, path.as_str())?));
     }
     Ok(None)
+}
+
+/// The map beside a code, or in the folder of maps.
+fn map_beside(rt: &HostRuntime, code: &str, places: Places<'_>) -> Outcome<Option<Lookup>> {
+    let beside = format!(in rt.alloc(); "{code}.map")?;
+    let beside = beside.as_str();
+    if code != "-" && is_file(rt, beside) && may_read(rt, beside, code, places) {
+        return Ok(Some(map_text(rt, beside)?));
+    }
+    map_in_maps(rt, code, places)
+}
+
+/// Why a code that names no map has none.
+fn names_none(rt: &HostRuntime, code: &str) -> Result<String, AllocError> {
+    let alloc = rt.alloc();
+    let beside = format!(in alloc; "{code}.map")?;
+    let why = if is_file(rt, beside.as_str()) {
+        "is a link out of the root: allow it by --outside"
+    } else {
+        "is not there"
+    };
+    format!(in alloc; "{} names no map, and {beside} {why}", shown_name(code))
 }
 
 /// The map of a code: the one that it names, else the one beside it, else the one in the folder of maps.
@@ -171,13 +188,9 @@ pub fn map_of_code(
     text: &str,
     places: Places<'_>,
 ) -> Outcome<Lookup> {
-    let alloc = rt.alloc();
     let named = match source_mapping_url(text, language_of(code)) {
         Some(url) => map_named(rt, code, url, places)?,
-        None => Lookup::None(format!(in alloc;
-            "{} names no map, and {code}.map is not there",
-            shown_name(code)
-        )?),
+        None => Lookup::None(names_none(rt, code)?),
     };
     if let Lookup::None(_) = &named
         && let Some(found) = map_beside(rt, code, places)?
@@ -187,19 +200,37 @@ pub fn map_of_code(
     Ok(named)
 }
 
-/// The map of a code that is not there.
+/// Whether a file may be read that a frame or V8 names.
+pub fn is_in_root(rt: &HostRuntime, path: &str, places: Places<'_>) -> bool {
+    places.outside || is_inside(rt, path, places.root)
+}
+
+/// The map of a code that is not there: beside where it was, or in the folder of maps.
 pub fn map_without_code(
     rt: &HostRuntime,
     code: &str,
     places: Places<'_>,
 ) -> Outcome<Option<Lookup>> {
-    map_beside(rt, code, places)
+    let beside = format!(in rt.alloc(); "{code}.map")?;
+    let beside = beside.as_str();
+    if is_file(rt, beside) && is_in_root(rt, beside, places) {
+        return Ok(Some(map_text(rt, beside)?));
+    }
+    map_in_maps(rt, code, places)
 }
 
-/// Whether a code is there, or its map beside it.
-fn has_code_or_map(rt: &HostRuntime, path: &str) -> Result<bool, AllocError> {
-    let map = format!(in rt.alloc(); "{path}.map")?;
-    Ok(is_file(rt, path) || is_file(rt, map.as_str()))
+/// A code if it is there, else the map beside it if that is there.
+fn code_or_map(rt: &HostRuntime, path: &str) -> Result<Option<String>, AllocError> {
+    let alloc = rt.alloc();
+    if is_file(rt, path) {
+        return Ok(Some(String::from_str(alloc, path)?));
+    }
+    let map = format!(in alloc; "{path}.map")?;
+    Ok(if is_file(rt, map.as_str()) {
+        Some(map)
+    } else {
+        None
+    })
 }
 
 /// The path in the root that has the most of these parts at its end, and is there.
@@ -214,7 +245,7 @@ fn longest_in_root(
             break;
         }
         let path = path_of(rt.alloc(), root, parts.get(skipped..).unwrap_or(&[]))?;
-        if has_code_or_map(rt, path.as_str())? {
+        if code_or_map(rt, path.as_str())?.is_some() {
             return Ok(Some(path));
         }
     }
@@ -241,8 +272,8 @@ pub fn code_path(
     let is_local = !is_url || name.starts_with("file:");
     let own = path.as_str();
     if is_local
-        && has_code_or_map(rt, own)?
-        && (places.outside || is_inside(rt, own, places.root))
+        && let Some(there) = code_or_map(rt, own)?
+        && is_in_root(rt, there.as_str(), places)
     {
         return Ok(Some(path));
     }

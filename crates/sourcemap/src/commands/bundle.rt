@@ -22,10 +22,11 @@ fn escaped() -> AsciiSet {
 /// A code without the comment that names its map, which would be named in the middle of the bundle.
 fn without_comment(alloc: Global, code: &str, language: Language) -> Result<String, AllocError> {
     let whole = String::from_str(alloc, code);
-    if source_mapping_url(code, language).is_none() {
+    let Some(url) = source_mapping_url(code, language) else {
         return whole;
-    }
-    let Some((front, url)) = code.rsplit_once("sourceMappingURL=") else {
+    };
+    let named = format!(in alloc; "sourceMappingURL={url}")?;
+    let Some((front, after)) = code.rsplit_once(named.as_str()) else {
         return whole;
     };
     let begin = [front.rfind("//"), front.rfind("/*")]
@@ -40,12 +41,12 @@ fn without_comment(alloc: Global, code: &str, language: Language) -> Result<Stri
         .get(kept.len()..)
         .is_some_and(|comment| comment.starts_with("/*"));
     let rest = if is_block {
-        url.split_once("*/").map_or("", |(_, rest)| rest)
+        after.split_once("*/").map_or("", |(_, rest)| rest)
     } else {
-        let end = url
+        let end = after
             .find(['\n', '\r', '\u{2028}', '\u{2029}'].as_slice())
-            .unwrap_or(url.len());
-        url.get(end..).unwrap_or("")
+            .unwrap_or(after.len());
+        after.get(end..).unwrap_or("")
     };
     format!(in alloc; "{kept}{rest}")
 }

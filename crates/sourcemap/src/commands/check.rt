@@ -8,7 +8,7 @@ use oxc_sourcemap_found::{Found, read_found};
 use oxc_sourcemap_map::SourceMap;
 use oxc_sourcemap_text::TextPositions;
 use oxc_sourcemap_tokens::Token;
-use sourcemap_run::push_text_member;
+use sourcemap_run::{push_shown, push_text_member};
 use std::alloc::{AllocError, Global};
 
 /// What is told of a map.
@@ -183,7 +183,8 @@ fn tell_past_content(
             past.note(&positions, token.get_src_line(), token.get_src_col());
         }
     }
-    let what = format!(in report.alloc; "the content of {}", map.get_source(id).unwrap_or(""))?;
+    let mut what = String::from_str(report.alloc, "the content of ")?;
+    push_shown(map.get_source(id).unwrap_or(""), &mut what)?;
     past.tell(report, what.as_str())
 }
 
@@ -199,7 +200,7 @@ fn tell_contents(report: &mut Report, map: &SourceMap<'_>) -> Outcome<()> {
                 } else {
                     ", "
                 })?;
-                missing.push_str(source)?;
+                push_shown(source, &mut missing)?;
             }
         }
     }

@@ -1,15 +1,15 @@
 //! `coverage`: lines of originals that ran, by V8's block coverage.
 use crate::commands::{Asked, Status};
 use crate::failure::{Outcome, failure_of};
-use crate::finding::{Lookup, MapText, code_path, map_of_code, read_map};
-use crate::input::{is_file, print, read_text, shown_name};
+use crate::finding::{Lookup, MapText, code_path, is_in_root, map_of_code, read_map};
+use crate::input::{is_file, print, read_text, shown_name, warn};
 use crate::progress::Progress;
 use crate::rebasing::rebase;
 use crate::v8::{Report, Run, Script, runs_of};
 use oxc_sourcemap_map::SourceMap;
 use oxc_sourcemap_text::TextPositions;
 use oxc_sourcemap_tokens::Position;
-use sourcemap_run::{Block, Mark, push_marks, push_number_member, push_text_member};
+use sourcemap_run::{Block, Mark, push_marks, push_number_member, push_shown, push_text_member};
 use std::alloc::{AllocError, Global};
 use std::collections::BTreeMap;
 
@@ -157,6 +157,14 @@ fn add_script(asked: &Asked<'_, '_>, script: &Script, sources: &mut Sources) -> 
     if url.starts_with("node:") || !is_file(rt, path.as_str()) {
         return Ok(());
     }
+    if !is_in_root(rt, path.as_str(), places) {
+        warn(
+            rt,
+            path.as_str(),
+            "is a link out of the root, and is left out: allow it by --outside",
+        );
+        return Ok(());
+    }
     let code = read_text(rt, path.as_str())?;
     match map_of_code(rt, path.as_str(), code.as_str(), places)? {
         Lookup::Map(text) => add_mapped(asked, script, code.as_str(), &text, sources),
@@ -237,16 +245,17 @@ fn push_row(
     all: u64,
     missed: &str,
     out: &mut String,
-) -> Result<(), AllocError> {
+) -> Outcome<()> {
     let percent = percent(ran, all);
     let tail = if missed.is_empty() { "" } else { "  missed: " };
-    let row = format!(in alloc;
-        "{percent:>3} %  {ran:>6} of {all:>6} lines  {source}{tail}{missed}\n"
-    )?;
-    out.push_str(row.as_str())
+    let row = format!(in alloc; "{percent:>3} %  {ran:>6} of {all:>6} lines  ")?;
+    out.push_str(row.as_str())?;
+    push_shown(source, out)?;
+    out.push_str(format!(in alloc; "{tail}{missed}\n")?.as_str())?;
+    Ok(())
 }
 
-fn table(alloc: Global, sources: &Sources) -> Result<String, AllocError> {
+fn table(alloc: Global, sources: &Sources) -> Outcome<String> {
     let mut out = String::new(alloc);
     let (mut total, mut all) = (0u64, 0u64);
     for (source, lines) in sources {
@@ -266,9 +275,21 @@ fn table(alloc: Global, sources: &Sources) -> Result<String, AllocError> {
     Ok(out)
 }
 
-fn lcov(alloc: Global, sources: &Sources) -> Result<String, AllocError> {
+/// The lines as lcov reads them, to which a line feed in a path would be the end of it.
+fn lcov(rt: &HostRuntime, sources: &Sources) -> Outcome<String> {
+    let alloc = rt.alloc();
     let mut out = String::new(alloc);
     for (source, lines) in sources {
+        if source.as_str().chars().any(|ch| ch.is_control()) {
+            let mut shown = String::new(alloc);
+            push_shown(source.as_str(), &mut shown)?;
+            warn(
+                rt,
+                shown.as_str(),
+                "has a control character in its path, and is left out",
+            );
+            continue;
+        }
         out.push_str(format!(in alloc; "TN:\nSF:{source}\n")?.as_str())?;
         for (line, count) in lines {
             let line = u64::from(*line) + 1;
@@ -324,7 +345,7 @@ pub fn run(asked: &Asked<'_, '_>) -> Outcome<Status> {
     let text = if asked.has("json") {
         objects(alloc, &sources)?
     } else if asked.has("lcov") {
-        lcov(alloc, &sources)?
+        lcov(asked.rt, &sources)?
     } else {
         table(alloc, &sources)?
     };

@@ -1,10 +1,12 @@
 //! `resolve`: the frames of a stack trace, led back.
 use crate::commands::{Asked, Status};
 use crate::failure::{Failure, Outcome};
-use crate::finding::{Lookup, code_path, map_of_code, map_without_code, read_map};
+use crate::finding::{
+    Lookup, code_path, is_in_root, map_in_maps, map_of_code, map_without_code, read_map,
+};
 use crate::frames::{Finder, Line, Named, Patterns};
 use crate::input::{is_file, print, read_text};
-use crate::paths::{is_inside, path_of_url};
+use crate::paths::path_of_url;
 use oxc_sourcemap_tokens::Position;
 use sourcemap_run::{
     Answer, Frame, Paint, Target, Tracer, answer_to, push_frame, push_frames, push_members,
@@ -39,19 +41,24 @@ struct Read<'t> {
     elsewhere: Option<&'static str>,
 }
 
+fn link_out(alloc: Global, path: &str) -> Outcome<Lookup> {
+    Ok(Lookup::None(format!(in alloc; "{path} is a link out of the root: allow it by --outside")?))
+}
+
 /// The map of a code that was found.
 fn map_of_path(asked: &Asked<'_, '_>, path: &str) -> Outcome<Lookup> {
     let (rt, places) = (asked.rt, asked.places());
     if !is_file(rt, path) {
         return match map_without_code(rt, path, places)? {
             Some(found) => Ok(found),
-            None => Ok(Lookup::None(format!(in asked.alloc(); "there is no {path}")?)),
+            None => link_out(
+                asked.alloc(),
+                format!(in asked.alloc(); "{path}.map")?.as_str(),
+            ),
         };
     }
-    if !places.outside && !is_inside(rt, path, places.root) {
-        return Ok(Lookup::None(format!(in asked.alloc();
-            "{path} is a link out of the root: allow it by --outside"
-        )?));
+    if !is_in_root(rt, path, places) {
+        return link_out(asked.alloc(), path);
     }
     let text = read_text(rt, path)?;
     map_of_code(rt, path, text.as_str(), places)
@@ -64,7 +71,7 @@ fn map_of_file(asked: &Asked<'_, '_>, file: &str) -> Outcome<Lookup> {
         return map_of_path(asked, path.as_str());
     }
     if let Some(path) = path_of_url(alloc, file)?
-        && let Some(found) = map_without_code(asked.rt, path.as_str(), asked.places())?
+        && let Some(found) = map_in_maps(asked.rt, path.as_str(), asked.places())?
     {
         return Ok(found);
     }

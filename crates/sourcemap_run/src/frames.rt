@@ -55,7 +55,8 @@ impl<'t> Frame<'t> {
     /// there.
     pub fn cut(line: &'t str, start: usize, end: usize) -> Option<Frame<'t>>
         ensures text { IfSome result (λ frame. frame_text frame ≡ line.entry.now) }
-        ensures cuts { IfSome result (λ frame. (frame.front.now ≡ take start (take end line.entry.now))
+        ensures cuts { IfSome result (λ frame.
+            (frame.front.now ≡ take start (take end line.entry.now))
             × (frame.location.now ≡ drop start (take end line.entry.now))) }
         ensures target { IfSome result (λ frame. frame.target ≡ None) }
     {

@@ -22,11 +22,11 @@ This was packed by ./check itself, before it had ended, to try the archives. It 
 
 def tools():
     """The first line of what each tool of the build says of itself."""
-    for words in (("cc", "--version"), ("ld", "--version"), ("node", "--version"), ("npm", "--version"), ("cargo", "--version")):
+    for name in ("cc", "ld", "aarch64-linux-gnu-gcc", "wat2wasm", "wasm-opt", "node", "npm", "cargo", "python3"):
         try:
-            yield f"{words[0]}: {run(*words).splitlines()[0]}"
+            yield f"{name}: {run(name, '--version').splitlines()[0]}"
         except (OSError, SystemExit):
-            yield f"{words[0]}: not there"
+            yield f"{name}: not there"
 
 
 def premises():

@@ -135,7 +135,9 @@ def sourcemap_files(products):
     files = {"bin/sourcemap": File(products.program("sourcemap"), 0o755)}
     shells = {"bash": "bash-completion/completions/sourcemap", "zsh": "zsh/site-functions/_sourcemap", "fish": "fish/vendor_completions.d/sourcemap.fish"}
     files |= {f"share/{path}": text(run(program, "completions", shell)) for shell, path in shells.items()}
-    files["share/sourcemap/page.html"] = File((products.folder / "wasm/page.html").read_bytes())
+    page = products.folder / "wasm/page.html"
+    if page.is_file():
+        files["share/sourcemap/page.html"] = File(page.read_bytes())
     return files | {"share/man/man1/sourcemap.1": text(run(program, "man"))}
 
 

@@ -8,7 +8,7 @@ from array import array
 
 from support import TEXT, Case, read, simple
 
-from oxc_sourcemap import Code, Field, PlaceKind, SourceMap, SourceMapError, _errors, _library
+from oxc_sourcemap import Code, Field, PlaceKind, SourceMap, SourceMapError, _errors, _library, _values
 
 
 class Errors(Case):
@@ -32,6 +32,16 @@ class Errors(Case):
         self.assertIsInstance(error, ValueError)
         error = self.fails(Code.JSON_VERSION, read, '{"version":7}', detail=7, place="version")
         self.assertEqual(error.field, None)
+
+    def test_a_message_longer_than_the_first_buffer(self):
+        text = "é" * 200
+
+        def write(value, buffer, room):
+            written = text.encode()[:room]
+            buffer[: len(written)] = written
+            return len(text.encode())
+
+        self.assertEqual(_values.message_of(write, _library.Fault()), text)
 
     def test_all_codes_have_names(self):
         for code in Code:

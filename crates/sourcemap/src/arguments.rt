@@ -138,7 +138,7 @@ fn trace<'a>(alloc: Global) -> Built<'a> {
         alloc,
         "trace",
         "Tells what generated positions come from",
-        "An object a line: line, column, found (original, unmapped or nothing), and source, sourceLine, sourceColumn, name",
+        "An object a line: line, column, found (original, unmapped or nothing), and source, sourceLine, sourceColumn, name; of --reverse line, column, source, generated",
     )?
     .arg(file(alloc, "MAP", "A map, or a code whose map is found"))?
     .arg(

@@ -86,16 +86,21 @@ def compile_module(room, archive, sanitizer=None):
     subprocess.run(["ar", "rcs", archive, "exports.o"], cwd=room, check=True)
 
 
+def keep_module(room, crate):
+    """Compiles the program in room/CRATE without a proof, and keeps its module of LLVM as a text, module.ll."""
+    write_toolchain(room / "toolchain", room)
+    words = command(crate, USES[crate], [], "src/main.rt")
+    words[words.index("--toolchain") + 1] = str(room / "toolchain")
+    ran = subprocess.run(words, cwd=room / crate, stdin=subprocess.DEVNULL, capture_output=True, text=True)
+    if not (room / "module.bc").exists():
+        sys.exit(f"{ran.stdout}{ran.stderr}{crate} is not compiled")
+    subprocess.run([*CLANG, "-S", "-emit-llvm", "module.bc", "-o", "module.ll"], cwd=room, check=True)
+
+
 def make(room, archive, *others):
     """Makes the archives."""
     write_program(room)
-    write_toolchain(room / "toolchain", room)
-    words = command(CRATE, USES[CRATE], [], "src/main.rt")
-    words[words.index("--toolchain") + 1] = str(room / "toolchain")
-    ran = subprocess.run(words, cwd=room / CRATE, stdin=subprocess.DEVNULL, capture_output=True, text=True)
-    if not (room / "module.bc").exists():
-        sys.exit(f"{ran.stdout}{ran.stderr}{CRATE} is not compiled")
-    subprocess.run([*CLANG, "-S", "-emit-llvm", "module.bc", "-o", "module.ll"], cwd=room, check=True)
+    keep_module(room, CRATE)
     (room / "module.ll").write_text(exported((room / "module.ll").read_text()))
     compile_module(room, os.path.abspath(archive))
     for it in others:

@@ -15,21 +15,14 @@ from pathlib import Path
 
 TOP = Path(__file__).resolve().parents[1]
 sys.path.append(str(TOP))
-from tools.over_libraries import USES, kit
-from tools.unproved import command
-from tools.unproved_archive import CLANG, write_toolchain
+from tools.over_libraries import kit
+from tools.unproved_archive import CLANG, keep_module
 
 
 def make(room, crate, program):
     """Makes the program."""
-    write_toolchain(room / "toolchain", room)
     shutil.copytree(TOP / "crates" / crate / "src", room / crate / "src")
-    words = command(crate, USES[crate], [], "src/main.rt")
-    words[words.index("--toolchain") + 1] = str(room / "toolchain")
-    ran = subprocess.run(words, cwd=room / crate, stdin=subprocess.DEVNULL, capture_output=True, text=True)
-    if not (room / "module.bc").exists():
-        sys.exit(f"{ran.stdout}{ran.stderr}{crate} is not compiled")
-    subprocess.run([*CLANG, "-S", "-emit-llvm", "module.bc", "-o", "module.ll"], cwd=room, check=True)
+    keep_module(room, crate)
     text = (room / "module.ll").read_text().replace(" sanitize_address ", " ")
     (room / "module.ll").write_text(text)
     subprocess.run([*CLANG, os.environ.get("LEVEL", "-O2"), "-c", "module.ll", "-o", "program.o"], cwd=room, check=True)

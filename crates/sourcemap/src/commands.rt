@@ -1,19 +1,16 @@
 //! The commands of the program, each in a module of its own.
 mod bundle;
 mod check;
-mod completions;
 mod coverage;
 mod diff;
-mod manual;
 mod page;
 mod remap;
 mod resolve;
 mod trace;
 
-use crate::arguments::{VERSION, program};
-use crate::failure::Outcome;
-use crate::finding::Places;
 use clap::ArgMatches;
+use sourcemap_files::{Places, print};
+use sourcemap_words::{Outcome, VERSION, completions_of, manual_of, program};
 use std::alloc::{AllocError, Global};
 
 /// How a command ends that gave an answer.
@@ -90,6 +87,22 @@ impl<'a, 'm> Asked<'a, 'm> {
     }
 }
 
+/// Prints what the asked shell reads to complete the words of the program.
+fn print_completions(asked: &Asked<'_, '_>) -> Outcome<Status> {
+    let alloc = asked.alloc();
+    let program = program(alloc, VERSION)?;
+    let text = completions_of(alloc, &program, asked.word("SHELL"))?;
+    print(asked.rt, text.as_str())?;
+    Ok(Status::Found)
+}
+
+fn print_manual(asked: &Asked<'_, '_>) -> Outcome<Status> {
+    let alloc = asked.alloc();
+    let text = manual_of(alloc, &program(alloc, VERSION)?)?;
+    print(asked.rt, text.as_str())?;
+    Ok(Status::Found)
+}
+
 /// Runs the command of this name.
 pub fn run(name: &str, asked: &Asked<'_, '_>) -> Outcome<Status> {
     match name {
@@ -101,8 +114,8 @@ pub fn run(name: &str, asked: &Asked<'_, '_>) -> Outcome<Status> {
         "diff" => diff::run(asked),
         "coverage" => coverage::run(asked),
         "page" => page::run(asked),
-        "completions" => completions::run(asked, &program(asked.alloc(), VERSION)?),
-        "man" => manual::run(asked, &program(asked.alloc(), VERSION)?),
+        "completions" => print_completions(asked),
+        "man" => print_manual(asked),
         _ => Ok(Status::Nothing),
     }
 }

@@ -1,26 +1,16 @@
 //! `sourcemap`: looks positions up in source maps, leads stack traces back, and checks, joins and compares maps.
 //!
 //! The commands are in `commands`, one a module; what they print is made by the crate `sourcemap_run`, which is proved to print what
-//! the library answers. `arguments` has the words of the command line.
+//! the library answers. `sourcemap_words` has the words of the command line, `sourcemap_files` finds maps.
 #![tactic(auto)]
 
-mod arguments;
 mod commands;
 mod context;
-mod failure;
-mod finding;
-mod frames;
-mod input;
-mod paths;
-mod positions;
-mod progress;
-mod rebasing;
-mod v8;
 
 use crate::commands::{Asked, Status};
-use crate::failure::{Failure, Outcome};
-use crate::paths::with_slash;
 use clap::ArgMatches;
+use sourcemap_files::with_slash;
+use sourcemap_words::{Failure, Outcome, VERSION, program};
 use std::alloc::AllocError;
 use std::env;
 use std::process::ExitCode;
@@ -61,7 +51,7 @@ fn tell(rt: &HostRuntime, command: &str, failure: Failure) -> ExitCode {
 
 /// Parses the words of the command line, and runs the command.
 fn parse_and_run(rt: &HostRuntime, words: &[String]) -> Result<ExitCode, AllocError> {
-    let command = arguments::program(rt.alloc(), arguments::VERSION)?;
+    let command = program(rt.alloc(), VERSION)?;
     let matches = match command.try_get_matches_from(words) {
         Ok(matches) => matches,
         Err(error) => {

@@ -1,16 +1,15 @@
 //! `bundle`: codes and their maps, joined into one code and one map.
 use crate::commands::{Asked, Status};
-use crate::failure::{Outcome, failure_of};
-use crate::finding::{Lookup, language_of, map_of_code, read_map};
-use crate::input::{print, read_text, shown_name, usage, warn, write_text};
-use crate::paths::{file_name, folder_of, real_name};
-use crate::progress::Progress;
-use crate::rebasing::rebase;
 use oxc_sourcemap_map::SourceMap;
 use oxc_sourcemap_parts::SourceMapParts;
 use oxc_sourcemap_url::{Language, source_mapping_url};
 use percent_encoding::{AsciiSet, CONTROLS, utf8_percent_encode};
+use sourcemap_files::{
+    Lookup, Progress, file_name, folder_of, language_of, map_of_code, print, read_map, read_text,
+    real_name, rebase, shown_name, usage, warn, write_text,
+};
 use sourcemap_run::{Bundle, push_number_member, push_text_member};
+use sourcemap_words::{Outcome, failure_of};
 use std::alloc::{AllocError, Global};
 
 /// What a file name may not have in a comment that names a map.

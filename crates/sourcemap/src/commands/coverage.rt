@@ -1,15 +1,14 @@
 //! `coverage`: lines of originals that ran, by V8's block coverage.
 use crate::commands::{Asked, Status};
-use crate::failure::{Outcome, failure_of};
-use crate::finding::{Lookup, MapText, code_path, is_in_root, map_of_code, read_map};
-use crate::input::{is_file, print, read_text, shown_name, warn};
-use crate::progress::Progress;
-use crate::rebasing::rebase;
-use crate::v8::{Report, Run, Script, runs_of};
 use oxc_sourcemap_map::SourceMap;
 use oxc_sourcemap_text::TextPositions;
 use oxc_sourcemap_tokens::Position;
+use sourcemap_files::{
+    Lookup, MapText, Progress, code_path, is_file, is_in_root, map_of_code, print, read_map,
+    read_text, rebase, shown_name, warn,
+};
 use sourcemap_run::{Block, Mark, push_marks, push_number_member, push_shown, push_text_member};
+use sourcemap_words::{Outcome, Report, Run, Script, failure_of, runs_of};
 use std::alloc::{AllocError, Global};
 use std::collections::BTreeMap;
 

@@ -1,11 +1,10 @@
 //! `diff`: where two maps say different things.
 use crate::commands::{Asked, Status};
-use crate::failure::Outcome;
-use crate::finding::rooted_map;
-use crate::input::print;
 use oxc_sourcemap_map::SourceMap;
 use oxc_sourcemap_tokens::Position;
+use sourcemap_files::{print, rooted_map};
 use sourcemap_run::{Answer, Bias, Tracer};
+use sourcemap_words::Outcome;
 use std::alloc::{AllocError, Global};
 
 /// The places at which an answer may begin to differ: each token's, and the column after it.

@@ -1,11 +1,12 @@
 //! `page`: a code beside its originals, in one file for browsers.
 use crate::commands::check::objects_of;
 use crate::commands::{Asked, Status};
-use crate::failure::{Outcome, failure_of};
-use crate::finding::{Lookup, MapText, is_map, map_of_code, map_of_file, read_map};
-use crate::input::{is_file, print, read_text, shown_name, usage, write_text};
-use crate::paths::folder_of;
+use sourcemap_files::{
+    Lookup, MapText, folder_of, is_file, is_map, map_of_code, map_of_file, print, read_map,
+    read_text, shown_name, usage, write_text,
+};
 use sourcemap_run::{MARK, filled, push_number_member, push_text_member};
+use sourcemap_words::{Outcome, failure_of};
 use std::alloc::{AllocError, Global};
 use std::env;
 

@@ -1,12 +1,12 @@
 //! `remap`: a map led through the maps of its sources.
 use crate::commands::{Asked, Status};
-use crate::failure::{Outcome, failure_of};
-use crate::finding::{Lookup, MapText, map_of_code, map_of_file, read_map};
-use crate::input::{is_file, print, read_text, usage, warn, write_text};
-use crate::paths::{folder_of, has_scheme, is_inside, real_name};
-use crate::rebasing::{plain_path, rebase};
 use oxc_sourcemap_map::SourceMap;
+use sourcemap_files::{
+    Lookup, MapText, folder_of, has_scheme, is_file, is_inside, map_of_code, map_of_file,
+    plain_path, print, read_map, read_text, real_name, rebase, usage, warn, write_text,
+};
 use sourcemap_run::{push_number_member, push_text_member};
+use sourcemap_words::{Outcome, failure_of};
 use std::alloc::Global;
 
 /// So many maps may lie one above the other.

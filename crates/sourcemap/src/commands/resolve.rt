@@ -1,17 +1,15 @@
 //! `resolve`: the frames of a stack trace, led back.
 use crate::commands::{Asked, Status};
-use crate::failure::{Failure, Outcome};
-use crate::finding::{
-    Lookup, code_path, is_in_root, map_in_maps, map_of_code, map_without_code, read_map,
-};
-use crate::frames::{Finder, Line, Named, Patterns};
-use crate::input::{is_file, print, read_text};
-use crate::paths::path_of_url;
 use oxc_sourcemap_tokens::Position;
+use sourcemap_files::{
+    Lookup, code_path, is_file, is_in_root, map_in_maps, map_of_code, map_without_code,
+    path_of_url, print, read_map, read_text,
+};
 use sourcemap_run::{
     Answer, Frame, Paint, Target, Tracer, answer_to, push_frame, push_frames, push_members,
     push_number_member, push_text_member,
 };
+use sourcemap_words::{Failure, Finder, Line, Named, Outcome, Patterns};
 use std::alloc::Global;
 use std::collections::HashMap;
 use std::env;

@@ -1,16 +1,14 @@
 //! `trace`: what generated positions come from.
 use crate::commands::{Asked, Status};
 use crate::context::push_context;
-use crate::failure::{Outcome, failure_of};
-use crate::finding::rooted_map;
-use crate::input::{print, read_text, usage};
-use crate::positions::{positions_in, positions_of_lines, source_position_of};
 use oxc_sourcemap_map::SourceMap;
 use oxc_sourcemap_reverse::{IndexTokens, SourceIndex};
 use oxc_sourcemap_tokens::Position;
+use sourcemap_files::{print, read_text, rooted_map, usage};
 use sourcemap_run::{
     Answer, Bias, Style, Tracer, push_answer, push_answers, push_number_member, push_text_member,
 };
+use sourcemap_words::{Outcome, failure_of, positions_in, positions_of_lines, source_position_of};
 use std::alloc::Global;
 
 fn bias_of(asked: &Asked<'_, '_>) -> Outcome<Bias> {

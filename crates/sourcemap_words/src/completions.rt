@@ -1,8 +1,5 @@
 //! `completions`: what a shell completes, made from the command line itself.
 use crate::arguments::takes_value;
-use crate::commands::{Asked, Status};
-use crate::failure::Outcome;
-use crate::input::print;
 use clap::Command;
 use std::alloc::{AllocError, Global};
 
@@ -168,13 +165,15 @@ fn fish(alloc: Global, program: &Command<'_>) -> Result<String, AllocError> {
     Ok(out)
 }
 
-pub fn run(asked: &Asked<'_, '_>, program: &Command<'_>) -> Outcome<Status> {
-    let alloc = asked.alloc();
-    let text = match asked.word("SHELL") {
-        "bash" => bash(alloc, program)?,
-        "zsh" => zsh(alloc, program)?,
-        _ => fish(alloc, program)?,
-    };
-    print(asked.rt, text.as_str())?;
-    Ok(Status::Found)
+/// What a shell (`bash`, `zsh` or else `fish`) reads to complete the words of the program.
+pub fn completions_of(
+    alloc: Global,
+    program: &Command<'_>,
+    shell: &str,
+) -> Result<String, AllocError> {
+    match shell {
+        "bash" => bash(alloc, program),
+        "zsh" => zsh(alloc, program),
+        _ => fish(alloc, program),
+    }
 }

@@ -1,8 +1,5 @@
 //! `man`: the manual, made from the command line itself.
 use crate::arguments::{STATUS, examples_of, takes_value};
-use crate::commands::{Asked, Status};
-use crate::failure::Outcome;
-use crate::input::print;
 use clap::{Arg, Command};
 use std::alloc::{AllocError, Global};
 
@@ -61,8 +58,8 @@ fn push_command(
     out.push_str(".fi\n")
 }
 
-pub fn run(asked: &Asked<'_, '_>, program: &Command<'_>) -> Outcome<Status> {
-    let alloc = asked.alloc();
+/// The manual of the program, for `man`.
+pub fn manual_of(alloc: Global, program: &Command<'_>) -> Result<String, AllocError> {
     let version = program.get_version().unwrap_or("");
     let about = program.get_about().unwrap_or("");
     let mut out = format!(in alloc;
@@ -73,6 +70,5 @@ pub fn run(asked: &Asked<'_, '_>, program: &Command<'_>) -> Outcome<Status> {
     }
     out.push_str(".SH NOTES\n")?;
     push_text(STATUS, &mut out)?;
-    print(asked.rt, out.as_str())?;
-    Ok(Status::Found)
+    Ok(out)
 }

@@ -1,5 +1,5 @@
 //! Files, standard input and standard output.
-use crate::failure::{Failure, Outcome, failure_of, file_failure};
+use sourcemap_words::{Failure, Outcome, failure_of, file_failure};
 use std::fs;
 use std::io::{Read, Write};
 

@@ -52,20 +52,22 @@ fn command<'a>(alloc: Global, name: &'a str, about: &'a str, json: &'a str) -> B
     Command::new(alloc, name)
         .about(about)
         .after_help(examples_of(name))
-        .arg(flag(alloc, "json", json))?
-        .arg(option(
-            alloc,
-            "root",
-            "DIR",
-            "The folder of the files that codes and traces name [default: .]",
-        ))?
-        .arg(option(
-            alloc,
-            "maps",
-            "DIR",
-            "A folder of maps, each named as its code with .map at the end",
-        ))?
-        .arg(flag(alloc, "outside", "Read files outside of the root too"))
+        .args(vec![in alloc;
+            flag(alloc, "json", json),
+            option(
+                alloc,
+                "root",
+                "DIR",
+                "The folder of the files that codes and traces name [default: .]",
+            ),
+            option(
+                alloc,
+                "maps",
+                "DIR",
+                "A folder of maps, each named as its code with .map at the end",
+            ),
+            flag(alloc, "outside", "Read files outside of the root too"),
+        ]?)
 }
 
 /// What is shown below the help of a command.
@@ -140,42 +142,42 @@ fn trace<'a>(alloc: Global) -> Built<'a> {
         "Tells what generated positions come from",
         "An object a line: line, column, found (original, unmapped or nothing), and source, sourceLine, sourceColumn, name; of --reverse line, column, source, generated",
     )?
-    .arg(file(alloc, "MAP", "A map, or a code whose map is found"))?
-    .arg(
+    .args(vec![in alloc;
+        file(alloc, "MAP", "A map, or a code whose map is found"),
         Arg::new(alloc, "POSITION")
             .num_args(0..)
             .action(ArgAction::Append)
             .help("LINE:COLUMN; without one they are read from standard input, one a line"),
-    )?
-    .arg(flag(
-        alloc,
-        "clamped",
-        "Before the first token of a line, that token answers",
-    ))?
-    .arg(flag(
-        alloc,
-        "upper",
-        "The first token at or after a position answers",
-    ))?
-    .arg(option(
-        alloc,
-        "reverse",
-        "SOURCE:LINE:COLUMN",
-        "Tells what is generated from an original position",
-    )
-    .action(ArgAction::Append))?
-    .arg(flag(
-        alloc,
-        "one-based",
-        "Lines and columns count from 1, given and printed",
-    ))?
-    .arg(option(
-        alloc,
-        "context",
-        "N",
-        "Shows N lines of the original before and after, the column marked",
-    )
-    .value_parser(clap::value_parser!(u32)))
+        flag(
+            alloc,
+            "clamped",
+            "Before the first token of a line, that token answers",
+        ),
+        flag(
+            alloc,
+            "upper",
+            "The first token at or after a position answers",
+        ),
+        option(
+            alloc,
+            "reverse",
+            "SOURCE:LINE:COLUMN",
+            "Tells what is generated from an original position",
+        )
+        .action(ArgAction::Append),
+        flag(
+            alloc,
+            "one-based",
+            "Lines and columns count from 1, given and printed",
+        ),
+        option(
+            alloc,
+            "context",
+            "N",
+            "Shows N lines of the original before and after, the column marked",
+        )
+        .value_parser(clap::value_parser!(u32)),
+    ]?)
 }
 
 fn resolve<'a>(alloc: Global) -> Built<'a> {
@@ -185,12 +187,12 @@ fn resolve<'a>(alloc: Global) -> Built<'a> {
         "Leads the frames of a stack trace back to the originals, as V8, Firefox and Safari print them",
         "An object a line: text, resolved, and of a frame file, line, column; with a map map, found, source, sourceLine, sourceColumn, name; or why; from 1",
     )?
-    .arg(
+    .args(vec![in alloc;
         Arg::new(alloc, "TRACE")
             .default_value("-")
             .help("A stack trace"),
-    )?
-    .arg(flag(alloc, "explain", "Says below a frame why it stays as it is"))
+        flag(alloc, "explain", "Says below a frame why it stays as it is"),
+    ]?)
 }
 
 fn check<'a>(alloc: Global) -> Built<'a> {
@@ -210,20 +212,20 @@ fn remap<'a>(alloc: Global) -> Built<'a> {
         "Leads a map through the maps of its sources; source roots are applied",
         "An object: output, sources, names, tokens, inputs",
     )?
-    .arg(file(alloc, "MAP", "A map, or a code whose map is found"))?
-    .arg(
+    .args(vec![in alloc;
+        file(alloc, "MAP", "A map, or a code whose map is found"),
         Arg::new(alloc, "PATH=MAP")
             .num_args(0..)
             .action(ArgAction::Append)
             .help("The map of the source with this path"),
-    )?
-    .arg(flag(
-        alloc,
-        "follow",
-        "Finds the maps of sources beside them, at any depth",
-    ))?
-    .arg(flag(alloc, "simplify", "Leaves out what no position needs"))?
-    .arg(output(alloc, "The file to write [default: standard output]"))
+        flag(
+            alloc,
+            "follow",
+            "Finds the maps of sources beside them, at any depth",
+        ),
+        flag(alloc, "simplify", "Leaves out what no position needs"),
+        output(alloc, "The file to write [default: standard output]"),
+    ]?)
 }
 
 fn output<'a>(alloc: Global, help: &'a str) -> Arg<'a> {
@@ -237,16 +239,16 @@ fn bundle<'a>(alloc: Global) -> Built<'a> {
         "Joins codes and their maps into one code and one map",
         "An object a line, for each file: file, map, line (where its code begins)",
     )?
-    .arg(files(alloc, "FILE", "Codes, whose maps are found"))?
-    .arg(output(alloc, "The code to write").required(true))?
-    .arg(
+    .args(vec![in alloc;
+        files(alloc, "FILE", "Codes, whose maps are found"),
+        output(alloc, "The code to write").required(true),
         Arg::new(alloc, "wrap")
             .long("wrap")
             .num_args(2)
             .value_names(["BEFORE", "AFTER"].as_slice())
             .action(ArgAction::Set)
             .help("Lines before and after each code"),
-    )
+    ]?)
 }
 
 fn diff<'a>(alloc: Global) -> Built<'a> {
@@ -256,8 +258,10 @@ fn diff<'a>(alloc: Global) -> Built<'a> {
         "Tells where two maps say different things",
         "An object: different, and if it is true line and column of the first place, places (how many differ) and of (of how many)",
     )?
-    .arg(file(alloc, "A", "A map, or a code whose map is found"))?
-    .arg(file(alloc, "B", "Another one"))
+    .args(vec![in alloc;
+        file(alloc, "A", "A map, or a code whose map is found"),
+        file(alloc, "B", "Another one"),
+    ]?)
 }
 
 fn coverage<'a>(alloc: Global) -> Built<'a> {
@@ -267,8 +271,10 @@ fn coverage<'a>(alloc: Global) -> Built<'a> {
         "Turns V8's block coverage into lines of the originals",
         "An object a line, for each source: source, ran, missed, lines (the missed ones)",
     )?
-    .arg(files(alloc, "V8.json", "What V8 wrote"))?
-    .arg(flag(alloc, "lcov", "Prints it as lcov reads it"))
+    .args(vec![in alloc;
+        files(alloc, "V8.json", "What V8 wrote"),
+        flag(alloc, "lcov", "Prints it as lcov reads it"),
+    ]?)
 }
 
 fn page<'a>(alloc: Global) -> Built<'a> {
@@ -278,12 +284,14 @@ fn page<'a>(alloc: Global) -> Built<'a> {
         "Writes a page that shows a code and its originals side by side, for browsers",
         "An object: output, code, map, bytes",
     )?
-    .arg(file(alloc, "CODE", "A code"))?
-    .arg(Arg::new(alloc, "MAP").help(
-        "Its map, or a code whose map is found [default: the map of CODE]",
-    ))?
-    .arg(output(alloc, "The page to write").required(true))?
-    .arg(option(alloc, "template", "FILE", "The template of the page"))
+    .args(vec![in alloc;
+        file(alloc, "CODE", "A code"),
+        Arg::new(alloc, "MAP").help(
+            "Its map, or a code whose map is found [default: the map of CODE]",
+        ),
+        output(alloc, "The page to write").required(true),
+        option(alloc, "template", "FILE", "The template of the page"),
+    ]?)
 }
 
 fn completions<'a>(alloc: Global) -> Built<'a> {
@@ -306,22 +314,46 @@ fn man<'a>(alloc: Global) -> Built<'a> {
     )
 }
 
-/// The program's command line, without a new command's name of its own: `version` is the program's.
+/// The names of the commands, in the order in which help lists them.
+const COMMANDS: [&str; 10] = [
+    "trace",
+    "resolve",
+    "check",
+    "remap",
+    "bundle",
+    "diff",
+    "coverage",
+    "page",
+    "completions",
+    "man",
+];
+
+/// The command of a name of `COMMANDS`.
+fn command_of<'a>(alloc: Global, name: &str) -> Built<'a> {
+    match name {
+        "trace" => trace(alloc),
+        "resolve" => resolve(alloc),
+        "check" => check(alloc),
+        "remap" => remap(alloc),
+        "bundle" => bundle(alloc),
+        "diff" => diff(alloc),
+        "coverage" => coverage(alloc),
+        "page" => page(alloc),
+        "completions" => completions(alloc),
+        _ => man(alloc),
+    }
+}
+
+/// The program's command line; `version` is the program's.
 pub fn program<'a>(alloc: Global, version: &'a str) -> Built<'a> {
-    Command::new(alloc, "sourcemap")
+    let mut program = Command::new(alloc, "sourcemap")
         .version(version)
         .about(ABOUT)
         .after_help(STATUS)
         .subcommand_required(true)
-        .propagate_version(true)
-        .subcommand(trace(alloc)?)?
-        .subcommand(resolve(alloc)?)?
-        .subcommand(check(alloc)?)?
-        .subcommand(remap(alloc)?)?
-        .subcommand(bundle(alloc)?)?
-        .subcommand(diff(alloc)?)?
-        .subcommand(coverage(alloc)?)?
-        .subcommand(page(alloc)?)?
-        .subcommand(completions(alloc)?)?
-        .subcommand(man(alloc)?)
+        .propagate_version(true);
+    for name in COMMANDS {
+        program = program.subcommand(command_of(alloc, name)?)?;
+    }
+    Ok(program)
 }

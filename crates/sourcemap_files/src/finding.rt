@@ -1,5 +1,4 @@
 //! Finding the map of a code.
-use crate::failure::{Outcome, failure_of};
 use crate::input::{is_file, read_text, shown_name, warn};
 use crate::paths::{
     file_name, folder_of, has_scheme, is_inside, joined, parts_of, path_of, path_of_url,
@@ -9,6 +8,7 @@ use oxc_sourcemap_map::SourceMap;
 use oxc_sourcemap_places::json_fault_at;
 use oxc_sourcemap_tokens::Error;
 use oxc_sourcemap_url::{Language, decode_data_url, source_mapping_url};
+use sourcemap_words::{Outcome, failure_of};
 use std::alloc::{AllocError, Global};
 
 /// Where files are looked for that other files name.

@@ -1,0 +1,19 @@
+//! What the program `sourcemap` reads as words: its arguments, positions, frames of stack traces and V8's coverage; and why a command
+//! fails. Help, completions and the manual are made from the texts of `arguments`.
+#![tactic(auto)]
+
+mod arguments;
+mod completions;
+mod failure;
+mod frames;
+mod manual;
+mod positions;
+mod v8;
+
+pub use arguments::{VERSION, program};
+pub use completions::completions_of;
+pub use failure::{Failure, Outcome, failure_of, file_failure};
+pub use frames::{Finder, Line, Named, Patterns};
+pub use manual::manual_of;
+pub use positions::{positions_in, positions_of_lines, source_position_of};
+pub use v8::{Report, Run, Script, runs_of};

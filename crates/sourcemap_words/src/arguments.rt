@@ -14,20 +14,191 @@ Status: 0 if something was found and nothing is wrong, 1 if nothing was found or
 
 type Built<'a> = Result<Command<'a>, AllocError>;
 
-fn flag<'a>(alloc: Global, name: &'a str, help: &'a str) -> Arg<'a> {
-    Arg::new(alloc, name)
-        .long(name)
-        .action(ArgAction::SetTrue)
-        .help(help)
+/// How an argument of a command is written.
+#[derive(Clone, Copy)]
+enum Kind {
+    /// A flag, `--NAME`.
+    Flag,
+    /// An option, `--NAME VALUE`.
+    Option(&'static str),
+    /// An option that may come more than once.
+    Options(&'static str),
+    /// An option whose value is a number.
+    Number(&'static str),
+    /// An option with two values.
+    Two(&'static [&'static str]),
+    /// An option with a letter too, `-o OUT`.
+    Output,
+    /// The same, without which the command does not run.
+    NeededOutput,
+    /// A file, without which the command does not run.
+    File,
+    /// One file or more.
+    Files,
+    /// A file that may be left out.
+    Other,
+    /// A file in place of which standard input is read.
+    Input,
+    /// Any number of words.
+    Words,
+    /// One of some words.
+    OneOf(&'static [&'static str]),
 }
 
-fn option<'a>(alloc: Global, name: &'a str, value: &'a str, help: &'a str) -> Arg<'a> {
-    Arg::new(alloc, name)
-        .long(name)
-        .value_name(value)
-        .action(ArgAction::Set)
-        .help(help)
+/// An argument of a command: its name, how it is written, and its help.
+#[derive(Clone, Copy)]
+struct Word(&'static str, Kind, &'static str);
+
+/// A command: what it does, the help of its option `--json`, and its arguments.
+#[derive(Clone, Copy)]
+struct Words {
+    about: &'static str,
+    json: &'static str,
+    words: &'static [Word],
 }
+
+/// The options of all commands about files.
+const COMMON: [Word; 3] = [
+    Word(
+        "root",
+        Kind::Option("DIR"),
+        "The folder of the files that codes and traces name [default: .]",
+    ),
+    Word(
+        "maps",
+        Kind::Option("DIR"),
+        "A folder of maps, each named as its code with .map at the end",
+    ),
+    Word("outside", Kind::Flag, "Read files outside of the root too"),
+];
+
+const TRACE: Words = Words {
+    about: "Tells what generated positions come from",
+    json: "An object a line: line, column, found (original, unmapped or nothing), and source, sourceLine, sourceColumn, name; of --reverse line, column, source, generated",
+    words: &[
+        Word("MAP", Kind::File, "A map, or a code whose map is found"),
+        Word(
+            "POSITION",
+            Kind::Words,
+            "LINE:COLUMN; without one they are read from standard input, one a line",
+        ),
+        Word(
+            "clamped",
+            Kind::Flag,
+            "Before the first token of a line, that token answers",
+        ),
+        Word(
+            "upper",
+            Kind::Flag,
+            "The first token at or after a position answers",
+        ),
+        Word(
+            "reverse",
+            Kind::Options("SOURCE:LINE:COLUMN"),
+            "Tells what is generated from an original position",
+        ),
+        Word(
+            "one-based",
+            Kind::Flag,
+            "Lines and columns count from 1, given and printed",
+        ),
+        Word(
+            "context",
+            Kind::Number("N"),
+            "Shows N lines of the original before and after, the column marked",
+        ),
+    ],
+};
+
+const RESOLVE: Words = Words {
+    about: "Leads the frames of a stack trace back to the originals, as V8, Firefox and Safari print them",
+    json: "An object a line: text, resolved, and of a frame file, line, column; with a map map, found, source, sourceLine, sourceColumn, name; or why; from 1",
+    words: &[
+        Word("TRACE", Kind::Input, "A stack trace"),
+        Word(
+            "explain",
+            Kind::Flag,
+            "Says below a frame why it stays as it is",
+        ),
+    ],
+};
+
+const CHECK: Words = Words {
+    about: "Tells what is wrong in maps, and what they hold",
+    json: "An object a line: file, kind (wrong, note or summary), text",
+    words: &[Word("FILE", Kind::Files, "Maps, and codes whose maps are found")],
+};
+
+const REMAP: Words = Words {
+    about: "Leads a map through the maps of its sources; source roots are applied",
+    json: "An object: output, sources, names, tokens, inputs",
+    words: &[
+        Word("MAP", Kind::File, "A map, or a code whose map is found"),
+        Word(
+            "PATH=MAP",
+            Kind::Words,
+            "The map of the source with this path",
+        ),
+        Word(
+            "follow",
+            Kind::Flag,
+            "Finds the maps of sources beside them, at any depth",
+        ),
+        Word("simplify", Kind::Flag, "Leaves out what no position needs"),
+        Word(
+            "output",
+            Kind::Output,
+            "The file to write [default: standard output]",
+        ),
+    ],
+};
+
+const BUNDLE: Words = Words {
+    about: "Joins codes and their maps into one code and one map",
+    json: "An object a line, for each file: file, map, line (where its code begins)",
+    words: &[
+        Word("FILE", Kind::Files, "Codes, whose maps are found"),
+        Word("output", Kind::NeededOutput, "The code to write"),
+        Word(
+            "wrap",
+            Kind::Two(&["BEFORE", "AFTER"]),
+            "Lines before and after each code",
+        ),
+    ],
+};
+
+const DIFF: Words = Words {
+    about: "Tells where two maps say different things",
+    json: "An object: different, and if it is true line and column of the first place, places (how many differ) and of (of how many)",
+    words: &[
+        Word("A", Kind::File, "A map, or a code whose map is found"),
+        Word("B", Kind::File, "Another one"),
+    ],
+};
+
+const COVERAGE: Words = Words {
+    about: "Turns V8's block coverage into lines of the originals",
+    json: "An object a line, for each source: source, ran, missed, lines (the missed ones)",
+    words: &[
+        Word("V8.json", Kind::Files, "What V8 wrote"),
+        Word("lcov", Kind::Flag, "Prints it as lcov reads it"),
+    ],
+};
+
+const PAGE: Words = Words {
+    about: "Writes a page that shows a code and its originals side by side, for browsers",
+    json: "An object: output, code, map, bytes",
+    words: &[
+        Word("CODE", Kind::File, "A code"),
+        Word(
+            "MAP",
+            Kind::Other,
+            "Its map, or a code whose map is found [default: the map of CODE]",
+        ),
+        Word("output", Kind::NeededOutput, "The page to write"),
+        Word("template", Kind::Option("FILE"), "The template of the page"),
+    ],
+};
 
 /// Whether a value follows an option.
 pub fn takes_value(arg: &Arg<'_>) -> bool {
@@ -35,39 +206,6 @@ pub fn takes_value(arg: &Arg<'_>) -> bool {
         arg.get_action(),
         ArgAction::SetTrue | ArgAction::Help | ArgAction::Version
     )
-}
-
-fn file<'a>(alloc: Global, name: &'a str, help: &'a str) -> Arg<'a> {
-    Arg::new(alloc, name).required(true).help(help)
-}
-
-fn files<'a>(alloc: Global, name: &'a str, help: &'a str) -> Arg<'a> {
-    file(alloc, name, help)
-        .num_args(1..)
-        .action(ArgAction::Append)
-}
-
-/// A command with the options of where maps are found, and with `--json`.
-fn command<'a>(alloc: Global, name: &'a str, about: &'a str, json: &'a str) -> Built<'a> {
-    Command::new(alloc, name)
-        .about(about)
-        .after_help(examples_of(name))
-        .args(vec![in alloc;
-            flag(alloc, "json", json),
-            option(
-                alloc,
-                "root",
-                "DIR",
-                "The folder of the files that codes and traces name [default: .]",
-            ),
-            option(
-                alloc,
-                "maps",
-                "DIR",
-                "A folder of maps, each named as its code with .map at the end",
-            ),
-            flag(alloc, "outside", "Read files outside of the root too"),
-        ]?)
 }
 
 /// What is shown below the help of a command.
@@ -135,183 +273,76 @@ Examples:
     }
 }
 
-fn trace<'a>(alloc: Global) -> Built<'a> {
-    command(
-        alloc,
-        "trace",
-        "Tells what generated positions come from",
-        "An object a line: line, column, found (original, unmapped or nothing), and source, sourceLine, sourceColumn, name; of --reverse line, column, source, generated",
-    )?
-    .args(vec![in alloc;
-        file(alloc, "MAP", "A map, or a code whose map is found"),
-        Arg::new(alloc, "POSITION")
-            .num_args(0..)
-            .action(ArgAction::Append)
-            .help("LINE:COLUMN; without one they are read from standard input, one a line"),
-        flag(
-            alloc,
-            "clamped",
-            "Before the first token of a line, that token answers",
-        ),
-        flag(
-            alloc,
-            "upper",
-            "The first token at or after a position answers",
-        ),
-        option(
-            alloc,
-            "reverse",
-            "SOURCE:LINE:COLUMN",
-            "Tells what is generated from an original position",
-        )
-        .action(ArgAction::Append),
-        flag(
-            alloc,
-            "one-based",
-            "Lines and columns count from 1, given and printed",
-        ),
-        option(
-            alloc,
-            "context",
-            "N",
-            "Shows N lines of the original before and after, the column marked",
-        )
-        .value_parser(clap::value_parser!(u32)),
-    ]?)
+/// An option `--NAME`, with what its value is called.
+fn option<'a>(arg: Arg<'a>, name: &'a str, value: &'a str) -> Arg<'a> {
+    arg.long(name).value_name(value).action(ArgAction::Set)
 }
 
-fn resolve<'a>(alloc: Global) -> Built<'a> {
-    command(
-        alloc,
-        "resolve",
-        "Leads the frames of a stack trace back to the originals, as V8, Firefox and Safari print them",
-        "An object a line: text, resolved, and of a frame file, line, column; with a map map, found, source, sourceLine, sourceColumn, name; or why; from 1",
-    )?
-    .args(vec![in alloc;
-        Arg::new(alloc, "TRACE")
-            .default_value("-")
-            .help("A stack trace"),
-        flag(alloc, "explain", "Says below a frame why it stays as it is"),
-    ]?)
+fn output<'a>(arg: Arg<'a>) -> Arg<'a> {
+    option(arg, "output", "OUT").short('o')
 }
 
-fn check<'a>(alloc: Global) -> Built<'a> {
-    command(
-        alloc,
-        "check",
-        "Tells what is wrong in maps, and what they hold",
-        "An object a line: file, kind (wrong, note or summary), text",
-    )?
-    .arg(files(alloc, "FILE", "Maps, and codes whose maps are found"))
+fn any_number<'a>(arg: Arg<'a>) -> Arg<'a> {
+    arg.num_args(0..).action(ArgAction::Append)
 }
 
-fn remap<'a>(alloc: Global) -> Built<'a> {
-    command(
-        alloc,
-        "remap",
-        "Leads a map through the maps of its sources; source roots are applied",
-        "An object: output, sources, names, tokens, inputs",
-    )?
-    .args(vec![in alloc;
-        file(alloc, "MAP", "A map, or a code whose map is found"),
-        Arg::new(alloc, "PATH=MAP")
-            .num_args(0..)
-            .action(ArgAction::Append)
-            .help("The map of the source with this path"),
-        flag(
-            alloc,
-            "follow",
-            "Finds the maps of sources beside them, at any depth",
-        ),
-        flag(alloc, "simplify", "Leaves out what no position needs"),
-        output(alloc, "The file to write [default: standard output]"),
-    ]?)
+fn one_or_more<'a>(arg: Arg<'a>) -> Arg<'a> {
+    arg.num_args(1..).action(ArgAction::Append).required(true)
 }
 
-fn output<'a>(alloc: Global, help: &'a str) -> Arg<'a> {
-    option(alloc, "output", "OUT", help).short('o')
+fn two<'a>(arg: Arg<'a>, name: &'a str, values: &'a [&'a str]) -> Arg<'a> {
+    arg.long(name)
+        .num_args(2)
+        .value_names(values)
+        .action(ArgAction::Set)
 }
 
-fn bundle<'a>(alloc: Global) -> Built<'a> {
-    command(
-        alloc,
-        "bundle",
-        "Joins codes and their maps into one code and one map",
-        "An object a line, for each file: file, map, line (where its code begins)",
-    )?
-    .args(vec![in alloc;
-        files(alloc, "FILE", "Codes, whose maps are found"),
-        output(alloc, "The code to write").required(true),
-        Arg::new(alloc, "wrap")
-            .long("wrap")
-            .num_args(2)
-            .value_names(["BEFORE", "AFTER"].as_slice())
-            .action(ArgAction::Set)
-            .help("Lines before and after each code"),
-    ]?)
+/// The argument of a word.
+fn arg_of<'a>(alloc: Global, word: &Word) -> Arg<'a> {
+    let Word(name, kind, help) = *word;
+    let arg = Arg::new(alloc, name).help(help);
+    match kind {
+        Kind::Flag => arg.long(name).action(ArgAction::SetTrue),
+        Kind::Option(value) => option(arg, name, value),
+        Kind::Options(value) => option(arg, name, value).action(ArgAction::Append),
+        Kind::Number(value) => option(arg, name, value).value_parser(clap::value_parser!(u32)),
+        Kind::Two(values) => two(arg, name, values),
+        Kind::Output => output(arg),
+        Kind::NeededOutput => output(arg).required(true),
+        Kind::File => arg.required(true),
+        Kind::Files => one_or_more(arg),
+        Kind::Other => arg,
+        Kind::Input => arg.default_value("-"),
+        Kind::Words => any_number(arg),
+        Kind::OneOf(words) => arg.required(true).value_parser(words),
+    }
 }
 
-fn diff<'a>(alloc: Global) -> Built<'a> {
-    command(
-        alloc,
-        "diff",
-        "Tells where two maps say different things",
-        "An object: different, and if it is true line and column of the first place, places (how many differ) and of (of how many)",
-    )?
-    .args(vec![in alloc;
-        file(alloc, "A", "A map, or a code whose map is found"),
-        file(alloc, "B", "Another one"),
-    ]?)
+/// A command with these arguments.
+fn with_words<'a>(alloc: Global, command: Command<'a>, words: &[Word]) -> Built<'a> {
+    let mut command = command;
+    for word in words {
+        command = command.arg(arg_of(alloc, word))?;
+    }
+    Ok(command)
 }
 
-fn coverage<'a>(alloc: Global) -> Built<'a> {
-    command(
-        alloc,
-        "coverage",
-        "Turns V8's block coverage into lines of the originals",
-        "An object a line, for each source: source, ran, missed, lines (the missed ones)",
-    )?
-    .args(vec![in alloc;
-        files(alloc, "V8.json", "What V8 wrote"),
-        flag(alloc, "lcov", "Prints it as lcov reads it"),
-    ]?)
+/// A command about files, with `--json` and the options of where maps are found.
+fn command<'a>(alloc: Global, name: &'a str, words: &Words) -> Built<'a> {
+    let command = Command::new(alloc, name)
+        .about(words.about)
+        .after_help(examples_of(name));
+    let command = with_words(alloc, command, &[Word("json", Kind::Flag, words.json)])?;
+    let command = with_words(alloc, command, &COMMON)?;
+    with_words(alloc, command, words.words)
 }
 
-fn page<'a>(alloc: Global) -> Built<'a> {
-    command(
-        alloc,
-        "page",
-        "Writes a page that shows a code and its originals side by side, for browsers",
-        "An object: output, code, map, bytes",
-    )?
-    .args(vec![in alloc;
-        file(alloc, "CODE", "A code"),
-        Arg::new(alloc, "MAP").help(
-            "Its map, or a code whose map is found [default: the map of CODE]",
-        ),
-        output(alloc, "The page to write").required(true),
-        option(alloc, "template", "FILE", "The template of the page"),
-    ]?)
-}
-
-fn completions<'a>(alloc: Global) -> Built<'a> {
-    Command::new(alloc, "completions")
-        .about("Prints the completions of a shell")
-        .after_help(examples_of("completions"))
-        .arg(
-            Arg::new(alloc, "SHELL")
-                .required(true)
-                .value_parser(["bash", "zsh", "fish"].as_slice())
-                .help("The shell"),
-        )
-}
-
-fn man<'a>(alloc: Global) -> Built<'a> {
-    Ok(
-        Command::new(alloc, "man")
-            .about("Prints the manual")
-            .after_help(examples_of("man")),
-    )
+/// A command that prints a text made of these words.
+fn printer<'a>(alloc: Global, name: &'a str, about: &'a str, words: &[Word]) -> Built<'a> {
+    let command = Command::new(alloc, name)
+        .about(about)
+        .after_help(examples_of(name));
+    with_words(alloc, command, words)
 }
 
 /// The names of the commands, in the order in which help lists them.
@@ -328,19 +359,21 @@ const COMMANDS: [&str; 10] = [
     "man",
 ];
 
+const SHELL: [Word; 1] = [Word("SHELL", Kind::OneOf(&["bash", "zsh", "fish"]), "The shell")];
+
 /// The command of a name of `COMMANDS`.
-fn command_of<'a>(alloc: Global, name: &str) -> Built<'a> {
+fn command_of<'a>(alloc: Global, name: &'a str) -> Built<'a> {
     match name {
-        "trace" => trace(alloc),
-        "resolve" => resolve(alloc),
-        "check" => check(alloc),
-        "remap" => remap(alloc),
-        "bundle" => bundle(alloc),
-        "diff" => diff(alloc),
-        "coverage" => coverage(alloc),
-        "page" => page(alloc),
-        "completions" => completions(alloc),
-        _ => man(alloc),
+        "trace" => command(alloc, name, &TRACE),
+        "resolve" => command(alloc, name, &RESOLVE),
+        "check" => command(alloc, name, &CHECK),
+        "remap" => command(alloc, name, &REMAP),
+        "bundle" => command(alloc, name, &BUNDLE),
+        "diff" => command(alloc, name, &DIFF),
+        "coverage" => command(alloc, name, &COVERAGE),
+        "page" => command(alloc, name, &PAGE),
+        "completions" => printer(alloc, name, "Prints the completions of a shell", &SHELL),
+        _ => printer(alloc, name, "Prints the manual", &[]),
     }
 }
 

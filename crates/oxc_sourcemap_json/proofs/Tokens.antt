@@ -3,12 +3,13 @@ use Rattle.std.specs.List.{All}
 use Rattle.std.proofs.Common.{zero, suc, ◌≡◌, ℕ, ◌-◌, ◌<◌, ◌≤◌, List, [], ◌∷◌, ◌++◌, length, Option}
 use Rattle.std.proofs.Common.{Some}
 use Rattle.std.proofs.Common.{Result, Ok, Err, IfOk, IfSome, None, codes, option_map}
-use Rattle.std.proofs.Common.{option_and_then, refl, ap, ◌∙◌, arith}
+use Rattle.std.proofs.Common.{option_and_then, refl, sym, ap, ◌∙◌, arith}
 use Rattle.json.specs.Token.{Token}
 use Rattle.json.specs.Json.{after_end_array, read_key, items, members, value, parse_map, if_last}
 use Rattle.json.specs.Lex.{tokens}
 use Rattle.json.proofs.Grammar.{value_is, value-begin_array, value-begin_object}
 use Rattle.json.proofs.Grammar.{read_key-shorter}
+use Rattle.json.proofs.Found.{not_found}
 use Rattle.serde_json.specs.Data.{Data, Num, null, number, unsigned, string, array, object, Items}
 use Rattle.serde_json.specs.Data.{no_items, item, Members, no_members, put}
 use Rattle.serde_json.specs.Read.{of_json, of_items, of_members, converted, max_depth, number_of}
@@ -85,13 +86,27 @@ AreReadSoFar all ds left =
 pub none_read : (all : List Token) → AreReadSoFar all [] all
 none_read all = (length all, omega arith, omega arith, onto-none (converted of_items (items (value 125) (length all) all)))
 
-pub one_more_read : (all left rest : List Token) (ds : List Data) (d : Data) → AreReadSoFar all ds left → after_end_array left ≡ None → BeginsAny left d rest
-    → length rest < length left → AreReadSoFar all (ds ++ d ∷ []) rest
-one_more_read all left rest ds d h going is less = (
+-- no value begins with the bracket that closes a list
+no_end : (ts rest : List Token) (d : Data) → BeginsAny ts d rest → after_end_array ts ≡ None
+no_end [] rest d is = refl
+no_end (Token.begin_object ∷ ts) rest d is = refl
+no_end (Token.end_object ∷ ts) rest d is = refl
+no_end (Token.begin_array ∷ ts) rest d is = refl
+no_end (Token.end_array ∷ ts) rest d is = not_found (d, rest) (sym (ap (converted of_json) (value_is 125 (Token.end_array ∷ ts))) ∙ is 125)
+no_end (Token.key s ∷ ts) rest d is = refl
+no_end (Token.string s ∷ ts) rest d is = refl
+no_end (Token.number s ∷ ts) rest d is = refl
+no_end (Token.boolean b ∷ ts) rest d is = refl
+no_end (Token.null ∷ ts) rest d is = refl
+no_end (Token.bad ∷ ts) rest d is = refl
+
+pub one_more_read : (all left rest : List Token) (ds : List Data) (d : Data) → AreReadSoFar all ds left → BeginsAny left d rest → length rest < length left
+    → AreReadSoFar all (ds ++ d ∷ []) rest
+one_more_read all left rest ds d h is less = (
   h.0 - 1,
   omega (arith, h.1, less),
   omega (arith, h.2, less),
-  h.3 ∙ ap (parse_map (onto ds)) (next_item (value 125) h.0 left rest d (omega (arith, h.1, less)) going (is 125)) ∙ onto-more ds d _,
+  h.3 ∙ ap (parse_map (onto ds)) (next_item (value 125) h.0 left rest d (omega (arith, h.1, less)) (no_end left rest d is) (is 125)) ∙ onto-more ds d _,
 )
 
 pub all_read : (all left rest : List Token) (ds : List Data) → AreReadSoFar all ds left → after_end_array left ≡ Some rest → BeginItems all ds rest

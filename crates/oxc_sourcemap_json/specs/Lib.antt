@@ -1,5 +1,7 @@
 pub mod Json
 pub mod Members
+pub mod Plain
 pub mod Shape
+pub mod TokenReader
 pub mod Usual
 pub mod Words

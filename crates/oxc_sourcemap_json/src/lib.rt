@@ -4,7 +4,9 @@
 
 mod json_source_map;
 mod members;
+mod plain;
 mod shape;
+mod token_reader;
 mod usual;
 
 pub use json_source_map::JSONSourceMap;

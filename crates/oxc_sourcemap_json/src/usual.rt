@@ -1,7 +1,8 @@
 //! Reading the JSON text of a usual source map token by token, with no value in between. What is unusual goes by a value
 //! (`json_of`).
 ghost use Rattle.std.specs.Prelude.{◌≡◌, ◌<◌, ◌≤◌, length, map, true, IsTrue, IfOk, IfSome, Ok};
-ghost use Rattle.std.specs.Prelude.{option_map, string_bytes, Some};
+ghost use Rattle.std.specs.Prelude.{option_map, string_bytes, Some, List, ℕ};
+ghost use Rattle.json.specs.Lex.{tokens};
 ghost use Rattle.std.specs.List.{All};
 ghost use Rattle.oxc_sourcemap_json.specs.Words.{json_texts, json_content_list, json_record, shape};
 ghost use Rattle.oxc_sourcemap_json.specs.Words.{Data, Members, number, unsigned, string, object};
@@ -13,7 +14,8 @@ ghost use Rattle.oxc_sourcemap_json.specs.Words.{ids_data, HaveIds, number_of};
 
 use crate::json_source_map::JSONSourceMap;
 use fast_float::Numeral;
-use json::{Reader, Scratch, Token};
+use json::Scratch;
+use crate::token_reader::TokenReader;
 use oxc_sourcemap_tokens::Memory;
 use std::alloc::Global;
 
@@ -34,18 +36,18 @@ struct UsualMembers {
 }
 
 /// Whether the next value is the number 3.
-fn next_is_three(reader: &mut Reader<'_>) -> bool
+fn next_is_three(reader: &mut TokenReader<'_>) -> bool
     ensures three { IsTrue result → Begins reader.old (number (unsigned 3)) reader.new }
     ensures shorter { IsTrue result → length reader.new < length reader.old }
 {
-    match reader.next() {
-        Some(Token::Number(digits)) => digits == "3",
-        _ => false,
+    match reader.next_digits() {
+        Some(digits) => digits == "3",
+        None => false,
     }
 }
 
 /// The next value, if it is a text.
-fn next_text(alloc: Global, reader: &mut Reader<'_>) -> Memory<Option<String>>
+fn next_text(alloc: Global, reader: &mut TokenReader<'_>) -> Memory<Option<String>>
     ensures text { IfOk result (λ found. IfSome found
         (λ text. BeginsAny reader.old (text_data text) reader.new)) }
     ensures member { IfOk result (λ found. IfSome found
@@ -53,14 +55,14 @@ fn next_text(alloc: Global, reader: &mut Reader<'_>) -> Memory<Option<String>>
     ensures shorter { IfOk result (λ found. IfSome found
         (λ _. length reader.new < length reader.old)) }
 {
-    match reader.next() {
-        Some(Token::String(text)) => Ok(Some(String::from_str(alloc, text)?)),
-        _ => Ok(None),
+    match reader.next_text() {
+        Some(text) => Ok(Some(String::from_str(alloc, text)?)),
+        None => Ok(None),
     }
 }
 
 /// The texts up to the bracket that ends their list; None if something else is among them.
-fn rest_of_texts(alloc: Global, reader: &mut Reader<'_>) -> Memory<Option<Vec<String>>>
+fn rest_of_texts(alloc: Global, reader: &mut TokenReader<'_>) -> Memory<Option<Vec<String>>>
     ensures texts { IfOk result (λ found. IfSome found
         (λ texts. BeginItems reader.old (map string (json_texts texts)) reader.new)) }
     ensures shorter { IfOk result (λ found. IfSome found
@@ -77,34 +79,34 @@ fn rest_of_texts(alloc: Global, reader: &mut Reader<'_>) -> Memory<Option<Vec<St
 }
 
 /// The next value, if it is a list of texts.
-fn next_texts(alloc: Global, reader: &mut Reader<'_>) -> Memory<Option<Vec<String>>>
+fn next_texts(alloc: Global, reader: &mut TokenReader<'_>) -> Memory<Option<Vec<String>>>
     ensures texts { IfOk result (λ found. IfSome found
         (λ texts. Begins reader.old (texts_data (json_texts texts)) reader.new)) }
     ensures shorter { IfOk result (λ found. IfSome found
         (λ _. length reader.new < length reader.old)) }
 {
-    match reader.next() {
-        Some(Token::BeginArray) => rest_of_texts(alloc, reader),
-        _ => Ok(None),
+    if !reader.begin_array() {
+        return Ok(None);
     }
+    rest_of_texts(alloc, reader)
 }
 
 /// The next value, if it is a content: a text, or null for one that is not known.
-fn next_content(alloc: Global, reader: &mut Reader<'_>) -> Memory<Option<Option<String>>>
+fn next_content(alloc: Global, reader: &mut TokenReader<'_>) -> Memory<Option<Option<String>>>
     ensures content { IfOk result (λ found. IfSome found (λ content.
         BeginsAny reader.old (content_data (option_map string_bytes content)) reader.new)) }
     ensures shorter { IfOk result (λ found. IfSome found
         (λ _. length reader.new < length reader.old)) }
 {
-    match reader.next() {
-        Some(Token::String(text)) => Ok(Some(Some(String::from_str(alloc, text)?))),
-        Some(Token::Null) => Ok(Some(None)),
-        _ => Ok(None),
+    match reader.next_content() {
+        Some(Some(text)) => Ok(Some(Some(String::from_str(alloc, text)?))),
+        Some(None) => Ok(Some(None)),
+        None => Ok(None),
     }
 }
 
 /// The contents up to the bracket that ends their list; None if something else is among them.
-fn rest_of_contents(alloc: Global, reader: &mut Reader<'_>) -> Memory<Option<Vec<Option<String>>>>
+fn rest_of_contents(alloc: Global, reader: &mut TokenReader<'_>) -> Memory<Option<Vec<Option<String>>>>
     ensures contents { IfOk result (λ found. IfSome found (λ contents. BeginItems reader.old
         (map content_data (json_content_list contents)) reader.new)) }
     ensures shorter { IfOk result (λ found. IfSome found
@@ -121,16 +123,16 @@ fn rest_of_contents(alloc: Global, reader: &mut Reader<'_>) -> Memory<Option<Vec
 }
 
 /// The next value, if it is a list of contents.
-fn next_contents(alloc: Global, reader: &mut Reader<'_>) -> Memory<Option<Vec<Option<String>>>>
+fn next_contents(alloc: Global, reader: &mut TokenReader<'_>) -> Memory<Option<Vec<Option<String>>>>
     ensures contents { IfOk result (λ found. IfSome found
         (λ contents. Begins reader.old (contents_data (json_content_list contents)) reader.new)) }
     ensures shorter { IfOk result (λ found. IfSome found
         (λ _. length reader.new < length reader.old)) }
 {
-    match reader.next() {
-        Some(Token::BeginArray) => rest_of_contents(alloc, reader),
-        _ => Ok(None),
+    if !reader.begin_array() {
+        return Ok(None);
     }
+    rest_of_contents(alloc, reader)
 }
 
 /// The number of a token of JSON, if it is a whole one of 0 to 4294967295 without a sign.
@@ -148,19 +150,16 @@ fn id_of(digits: &[u8]) -> Option<u32>
 }
 
 /// The next value, if it is a whole number of 0 to 4294967295.
-fn next_id(reader: &mut Reader<'_>) -> Option<u32>
+fn next_id(reader: &mut TokenReader<'_>) -> Option<u32>
     ensures id { IfSome result (λ id. BeginsAny reader.old (number (unsigned id)) reader.new) }
     ensures small { IfSome result (λ id. id < 4294967296) }
     ensures shorter { IfSome result (λ _. length reader.new < length reader.old) }
 {
-    match reader.next() {
-        Some(Token::Number(digits)) => id_of(digits.as_bytes()),
-        _ => None,
-    }
+    id_of(reader.next_digits()?.as_bytes())
 }
 
 /// The ids up to the bracket that ends their list; None if something else is among them.
-fn rest_of_ids(alloc: Global, reader: &mut Reader<'_>) -> Memory<Option<Vec<u32>>>
+fn rest_of_ids(alloc: Global, reader: &mut TokenReader<'_>) -> Memory<Option<Vec<u32>>>
     ensures ids { IfOk result (λ found. IfSome found (λ ids. BeginItems reader.old
         (map (λ id. number (unsigned id)) ids.items) reader.new)) }
     ensures small { IfOk result (λ found. IfSome found
@@ -179,7 +178,7 @@ fn rest_of_ids(alloc: Global, reader: &mut Reader<'_>) -> Memory<Option<Vec<u32>
 }
 
 /// The next value, if it is a list of ids.
-fn next_ids(alloc: Global, reader: &mut Reader<'_>) -> Memory<Option<Vec<u32>>>
+fn next_ids(alloc: Global, reader: &mut TokenReader<'_>) -> Memory<Option<Vec<u32>>>
     ensures ids { IfOk result (λ found. IfSome found
         (λ ids. Begins reader.old (ids_data ids.items) reader.new)) }
     ensures small { IfOk result (λ found. IfSome found
@@ -187,10 +186,10 @@ fn next_ids(alloc: Global, reader: &mut Reader<'_>) -> Memory<Option<Vec<u32>>>
     ensures shorter { IfOk result (λ found. IfSome found
         (λ _. length reader.new < length reader.old)) }
 {
-    match reader.next() {
-        Some(Token::BeginArray) => rest_of_ids(alloc, reader),
-        _ => Ok(None),
+    if !reader.begin_array() {
+        return Ok(None);
     }
+    rest_of_ids(alloc, reader)
 }
 
 impl UsualMembers {
@@ -214,7 +213,7 @@ impl UsualMembers {
     }
 
     /// Reads the value of a member. False if the member is unusual; what was read then counts for nothing.
-    fn read(&mut self, alloc: Global, key: &str, reader: &mut Reader<'_>) -> Memory<bool>
+    fn read(&mut self, alloc: Global, key: &str, reader: &mut TokenReader<'_>) -> Memory<bool>
         ensures read { result ≡ Ok true → (d : Data) × Begins reader.old d reader.new
             × (members_held self.new ≡ with_held key.now d (members_held self.old)) }
         ensures ids { result ≡ Ok true → HaveIds self.old → HaveIds self.new }
@@ -300,12 +299,12 @@ impl UsualMembers {
 }
 
 /// The members up to the brace that ends their object; None if one of them is unusual.
-fn rest_of_members(alloc: Global, reader: &mut Reader<'_>) -> Memory<Option<UsualMembers>>
+fn rest_of_members(alloc: Global, reader: &mut TokenReader<'_>) -> Memory<Option<UsualMembers>>
     ensures { IfOk result (λ found. IfSome found (λ m. (ms : Members)
         × BeginMembers reader.old ms reader.new × AreHeld m ms × HaveIds m)) }
 {
     let mut members = UsualMembers::none();
-    'members: while let Ok(next) = reader.next_key() {
+    'members: while let Some(next) = reader.next_key() {
         let Some(key) = next else {
             return Ok(Some(members));
         };
@@ -317,18 +316,56 @@ fn rest_of_members(alloc: Global, reader: &mut Reader<'_>) -> Memory<Option<Usua
 }
 
 /// The members of the object that is all of a text; None if it is something else, or one of them is unusual.
-fn members_of(alloc: Global, reader: &mut Reader<'_>) -> Memory<Option<UsualMembers>>
+fn members_of(alloc: Global, reader: &mut TokenReader<'_>) -> Memory<Option<UsualMembers>>
     ensures { IfOk result (λ found. IfSome found (λ m. (ms : Members)
         × IsAll reader.old (object ms) × AreHeld m ms × HaveIds m)) }
 {
-    let Some(Token::BeginObject) = reader.next() else {
+    if !reader.begin_object() {
         return Ok(None);
-    };
+    }
     let members = rest_of_members(alloc, reader)?;
-    if reader.next().is_some() {
+    if !reader.is_at_end() {
         return Ok(None);
     }
     Ok(members)
+}
+
+/// The longest text that is read byte by byte, in bytes.
+const MOST_PLAIN: usize = 4096;
+
+/// The fields of the tokens that are left, which are those of the text.
+fn fields_of(alloc: Global, reader: &mut TokenReader<'_>) -> Memory<Option<JSONSourceMap>>
+    ensures { IfOk result (λ found. IfSome found (λ json. (text : List ℕ) → reader.old ≡ tokens text
+        → IsJsonOf text (json_record json))) }
+{
+    let Some(members) = members_of(alloc, reader)? else {
+        return Ok(None);
+    };
+    Ok(members.into_json(alloc))
+}
+
+/// The fields of a plain text, as `usual_json` gives them.
+fn plain_json(alloc: Global, text: &str) -> Memory<Option<JSONSourceMap>>
+    ensures { IfOk result (λ found. IfSome found
+        (λ json. IsJsonOf text.now (json_record json))) }
+{
+    let mut reader = TokenReader::plain(text);
+    fields_of(alloc, &mut reader)
+}
+
+/// The fields of any text, as `usual_json` gives them.
+fn any_json(alloc: Global, text: &str) -> Memory<Option<JSONSourceMap>>
+    ensures { IfOk result (λ found. IfSome found
+        (λ json. IsJsonOf text.now (json_record json))) }
+{
+    let mut scratch = Scratch::new(alloc);
+    let mut reader = TokenReader::any(text, &mut scratch)?;
+    fields_of(alloc, &mut reader)
+}
+
+/// Whether a text is short, and has no escapes.
+fn may_be_plain(text: &[u8]) -> bool {
+    text.len() <= MOST_PLAIN && !text.contains(&b'\\')
 }
 
 /// The fields of the JSON text of a map by itself, as `json_of` reads them from its value. None if the text is unusual: it is no
@@ -337,10 +374,10 @@ pub fn usual_json(alloc: Global, text: &str) -> Memory<Option<JSONSourceMap>>
     ensures { IfOk result (λ found. IfSome found
         (λ json. IsJsonOf text.now (json_record json))) }
 {
-    let mut scratch = Scratch::new(alloc);
-    let mut reader = Reader::new(text, &mut scratch)?;
-    let Some(members) = members_of(alloc, &mut reader)? else {
-        return Ok(None);
-    };
-    Ok(members.into_json(alloc))
+    if may_be_plain(text.as_bytes()) {
+        if let Some(json) = plain_json(alloc, text)? {
+            return Ok(Some(json));
+        }
+    }
+    any_json(alloc, text)
 }

@@ -1,7 +1,6 @@
-use Rattle.std.proofs.Common.{◌≡◌, [], ◌∷◌, ◌++◌, None, IfSome, ◌<◌, length, map, option_map}
+use Rattle.std.proofs.Common.{◌≡◌, [], ◌∷◌, ◌++◌, IfSome, ◌<◌, length, map, option_map}
 use Rattle.std.proofs.Common.{string_bytes, sym, ap, ◌∙◌, subst, arith}
 use Rattle.std.proofs.lemmas.List.{map-append}
-use Rattle.json.specs.Json.{after_end_array}
 use Rattle.oxc_sourcemap_json.specs.Words.{json_content_list, content_data, BeginsAny}
 use Rattle.oxc_sourcemap_json.proofs.Tokens.{AreReadSoFar, one_more_read, all_read}
 use Rattle.oxc_sourcemap_json.proofs.usual.rest_of_contents.Goals as goal
@@ -9,18 +8,18 @@ use Rattle.oxc_sourcemap_json.proofs.usual.rest_of_contents.Goals as goal
 pub contents-preserved : goal.contents-preserved
 contents-preserved c =
     let l = c.contents in
-    let going : (after_end_array l.reader ≡ None) × (c.take_end_array.new.self ≡ l.reader) = grind arith in
+    let same : c.take_end_array.new.self ≡ l.reader = grind arith in
     let rest = c.next_content.new.reader in
     let found = subst (λ found. IfSome found (λ content. BeginsAny c.take_end_array.new.self (content_data (option_map string_bytes content)) rest)) c.in-Some.is c.in_ok-content.ensures.content in
-    let begins = subst (λ ts. BeginsAny ts (content_data ((option_map string_bytes) c.in-Some.content)) rest) going.1 found in
+    let begins = subst (λ ts. BeginsAny ts (content_data ((option_map string_bytes) c.in-Some.content)) rest) same found in
     let less = subst (λ found. IfSome found (λ _. length rest < length c.take_end_array.new.self)) c.in-Some.is c.in_ok-content.ensures.shorter in
     let pushed : map content_data (json_content_list c.push.new.self) ≡ map content_data (json_content_list l.contents) ++ content_data ((option_map string_bytes) c.in-Some.content) ∷ [] =
     ap (λ items. map content_data (map (option_map string_bytes) items)) c.in_ok-push.ensures.items
     ∙ ap (map content_data) (map-append (option_map string_bytes) l.contents.items (c.in-Some.content ∷ []))
     ∙ map-append content_data (json_content_list l.contents) ((option_map string_bytes) c.in-Some.content ∷ []) in
     subst (λ ds. AreReadSoFar c.args.reader.now ds rest) (sym pushed)
-    (one_more_read c.args.reader.now l.reader rest (map content_data (json_content_list l.contents)) (content_data ((option_map string_bytes) c.in-Some.content)) l.invariant going.0 begins
-    (subst (λ ts. length rest < length ts) going.1 less))
+    (one_more_read c.args.reader.now l.reader rest (map content_data (json_content_list l.contents)) (content_data ((option_map string_bytes) c.in-Some.content)) l.invariant begins
+    (subst (λ ts. length rest < length ts) same less))
 
 pub returns-clause-contents : goal.returns-clause-contents
 returns-clause-contents c =

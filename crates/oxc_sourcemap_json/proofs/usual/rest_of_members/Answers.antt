@@ -19,12 +19,12 @@ returns-in_default-next c =
 pub members-preserved : goal.members-preserved
 members-preserved c =
     let l = c.members in
-    let named : read_key l.reader ≡ Some (Some c.in-Some.key.now, c.next_key.new.self) = grind arith in
+    let named : read_key l.reader ≡ Some (Some c.in-Some-next.key.now, c.next_key.new.self) = grind arith in
     let done = c.read.ensures.read (grind arith) in (
-      put c.in-Some.key.now done.0 l.invariant.0,
-      one_more_member c.args.reader.now l.reader c.next_key.new.self c.read.new.reader l.invariant.0 c.in-Some.key.now done.0 l.invariant.1 named done.1
+      put c.in-Some-next.key.now done.0 l.invariant.0,
+      one_more_member c.args.reader.now l.reader c.next_key.new.self c.read.new.reader l.invariant.0 c.in-Some-next.key.now done.0 l.invariant.1 named done.1
           (c.read.ensures.shorter (grind arith)),
-      subst (λ es. (k : List ℕ) → get_member k (put c.in-Some.key.now done.0 l.invariant.0) ≡ held k es) (sym done.2)
-          (still_held c.in-Some.key.now done.0 (members_held l.members) l.invariant.0 l.invariant.2),
+      subst (λ es. (k : List ℕ) → get_member k (put c.in-Some-next.key.now done.0 l.invariant.0) ≡ held k es) (sym done.2)
+          (still_held c.in-Some-next.key.now done.0 (members_held l.members) l.invariant.0 l.invariant.2),
       c.read.ensures.ids (grind arith) l.invariant.3,
     )

@@ -1,7 +1,6 @@
-use Rattle.std.proofs.Common.{◌≡◌, [], ◌∷◌, ◌++◌, None, IfSome, ◌<◌, length, map, string_bytes, sym}
+use Rattle.std.proofs.Common.{◌≡◌, [], ◌∷◌, ◌++◌, IfSome, ◌<◌, length, map, string_bytes, sym}
 use Rattle.std.proofs.Common.{ap, ◌∙◌, subst, arith}
 use Rattle.std.proofs.lemmas.List.{map-append}
-use Rattle.json.specs.Json.{after_end_array}
 use Rattle.oxc_sourcemap_json.specs.Words.{json_texts, string, text_data, BeginsAny}
 use Rattle.oxc_sourcemap_json.proofs.Tokens.{AreReadSoFar, one_more_read, all_read}
 use Rattle.oxc_sourcemap_json.proofs.usual.rest_of_texts.Goals as goal
@@ -9,18 +8,18 @@ use Rattle.oxc_sourcemap_json.proofs.usual.rest_of_texts.Goals as goal
 pub texts-preserved : goal.texts-preserved
 texts-preserved c =
     let l = c.texts in
-    let going : (after_end_array l.reader ≡ None) × (c.take_end_array.new.self ≡ l.reader) = grind arith in
+    let same : c.take_end_array.new.self ≡ l.reader = grind arith in
     let rest = c.next_text.new.reader in
     let found = subst (λ found. IfSome found (λ text. BeginsAny c.take_end_array.new.self (text_data text) rest)) c.in-Some.is c.in_ok-text.ensures.text in
-    let begins = subst (λ ts. BeginsAny ts (string (string_bytes c.in-Some.text)) rest) going.1 found in
+    let begins = subst (λ ts. BeginsAny ts (string (string_bytes c.in-Some.text)) rest) same found in
     let less = subst (λ found. IfSome found (λ _. length rest < length c.take_end_array.new.self)) c.in-Some.is c.in_ok-text.ensures.shorter in
     let pushed : map string (json_texts c.push.new.self) ≡ map string (json_texts l.texts) ++ string (string_bytes c.in-Some.text) ∷ [] =
     ap (λ items. map string (map string_bytes items)) c.in_ok-push.ensures.items
     ∙ ap (map string) (map-append string_bytes l.texts.items (c.in-Some.text ∷ []))
     ∙ map-append string (json_texts l.texts) (string_bytes c.in-Some.text ∷ []) in
     subst (λ ds. AreReadSoFar c.args.reader.now ds rest) (sym pushed)
-    (one_more_read c.args.reader.now l.reader rest (map string (json_texts l.texts)) (string (string_bytes c.in-Some.text)) l.invariant going.0 begins
-    (subst (λ ts. length rest < length ts) going.1 less))
+    (one_more_read c.args.reader.now l.reader rest (map string (json_texts l.texts)) (string (string_bytes c.in-Some.text)) l.invariant begins
+    (subst (λ ts. length rest < length ts) same less))
 
 pub returns-clause-texts : goal.returns-clause-texts
 returns-clause-texts c =

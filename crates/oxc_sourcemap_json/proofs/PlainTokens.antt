@@ -1,16 +1,17 @@
 -- What a plain text begins with, byte by byte.
-use Rattle.std.proofs.Common.{◌≡◌, ◌≢◌, ◌⊎◌, inl, inr, ℕ, suc, ◌+◌, ◌-◌, ◌<◌, ◌≤◌, Bool, true, false, cond, not, ◌||◌, ◌==◌, nat_lt, List, [], ◌∷◌, length, take, drop, get_or, Some, refl, sym, ap, ◌∙◌, subst, arith, lt_of_not-le}
+use Rattle.std.proofs.Common.{◌≡◌, ◌≢◌, ◌⊎◌, inl, inr, ℕ, suc, ◌+◌, ◌-◌, ◌<◌, ◌≤◌, Bool, true, false, cond, not, ◌||◌, ◌==◌, nat_lt, List, [], ◌∷◌, ◌++◌, length, take, drop, get_or, Option, Some, None, refl, sym, ap, ◌∙◌, subst, arith, lt_of_not-le}
 use Rattle.std.proofs.lemmas.Bool.{eqb-true, or_cases, false≢true}
-use Rattle.std.proofs.lemmas.List.{drop_more, drop_all, drop-drop, get_or_past, get_or-drop}
+use Rattle.std.proofs.lemmas.List.{drop_more, drop_all, drop-drop, get_or_past, get_or-drop, append_assoc, append-nil}
 use Rattle.std.specs.List.{prefix_len}
 use Rattle.json.specs.Token.{begin_object, end_object, begin_array, end_array, key, string, number, null}
-use Rattle.json.specs.Text.{content, plain, prepend}
+use Rattle.json.proofs.Found.{not_found}
+use Rattle.json.specs.Text.{content, plain, prepend, short_escape}
 use Rattle.json.specs.Word.{is_operator, is_space, word, after_number}
 use Rattle.json.specs.Lex.{Lexeme, token, comma, colon, operator, space, other, string_token, Mode, between, in_string, lex_byte, lex}
 use Rattle.json.specs.Lex.{fresh, after_value, after_comma, begins_colon, place_token, punctuate}
 use Rattle.oxc_sourcemap_json.specs.declared.plain.Place.{Place}
 use Rattle.oxc_sourcemap_json.specs.declared.plain.Place.TheVariants.{Fresh, AfterValue, AfterComma}
-use Rattle.oxc_sourcemap_json.specs.Plain.{place_of, tokens_at, opening, closing, is_stop, is_plain, MayBegin, MayClose, EndsValue}
+use Rattle.oxc_sourcemap_json.specs.Plain.{place_of, tokens_at, opening, closing, is_stop, is_plain, MayBegin, MayClose, EndsValue, IsRead}
 
 -- ---- the byte at an index
 
@@ -209,3 +210,90 @@ null_read d at place n u l m ends may =
 pub none_left : (d : List ℕ) (at end : ℕ) → lex between (drop end d) ≡ lex between (drop at d) → length d ≤ end → tokens_at d at AfterValue ≡ []
 unfolding lex punctuate
 none_left d at end blanks past = ap (punctuate after_value) (sym blanks ∙ ap (lex between) (drop_all end d past))
+
+-- ---- text with escapes
+
+prepend-prepend : (a b : List ℕ) (r : Option (List ℕ)) → prepend a (prepend b r) ≡ prepend (a ++ b) r
+prepend-prepend a b None = refl
+prepend-prepend a b (Some s) = ap Some (sym (append_assoc a b s))
+
+prepend-nil : (r : Option (List ℕ)) → r ≡ prepend [] r
+prepend-nil None = refl
+prepend-nil (Some s) = refl
+
+-- Of the string at `from`, this was read up to `at`.
+pub record ReadSoFar (d : List ℕ) (from : ℕ) (s : List ℕ) (at : ℕ) : Type 0 where
+  pub content : content plain (drop from d) ≡ prepend s (content plain (drop at d))
+  pub rest : lex in_string (drop from d) ≡ lex in_string (drop at d)
+
+pub nothing_read : (d : List ℕ) (from : ℕ) → ReadSoFar d from [] from
+nothing_read d from = record { content = prepend-nil _; rest = refl }
+
+abbrev Passed : ℕ → List ℕ → Type 0
+Passed n xs = (content plain xs ≡ prepend (take n xs) (content plain (drop n xs))) × (lex in_string xs ≡ lex in_string (drop n xs))
+
+pass_step : (b : Bool) (x n : ℕ) (xs : List ℕ) → is_plain x ≡ b → Passed n xs → Passed (cond b (1 + n) 0) (x ∷ xs)
+pass_step false x n xs is passed = (prepend-nil _, refl)
+pass_step true x n xs is passed =
+    let next : suc n ≡ 1 + n = omega arith in
+    subst (λ k. Passed k (x ∷ xs)) next (
+      plain_content x xs is ∙ ap (prepend (x ∷ [])) passed.0 ∙ prepend-prepend (x ∷ []) (take n xs) _,
+      plain_lex x xs is ∙ passed.1,
+    )
+
+run_passed : (xs : List ℕ) → Passed (prefix_len is_plain xs) xs
+run_passed [] = (prepend-nil _, refl)
+run_passed (x ∷ xs) = pass_step (is_plain x) x (prefix_len is_plain xs) xs refl (run_passed xs)
+
+pub run_read : (d s : List ℕ) (from at stop : ℕ) → ReadSoFar d from s at → stop ≡ at + prefix_len is_plain (drop at d) → ReadSoFar d from (s ++ take (stop - at) (drop at d)) stop
+run_read d s from at stop so_far is =
+    let n = prefix_len is_plain (drop at d) in
+    let passed = run_passed (drop at d) in
+    let count : n ≡ stop - at = omega (arith, is) in
+    let left : drop n (drop at d) ≡ drop stop d = drop-drop n at d ∙ ap (λ k. drop k d) (sym is) in
+    record {
+      content = so_far.content ∙ ap (prepend s) (passed.0 ∙ ap (λ t. prepend (take n (drop at d)) (content plain t)) left)
+          ∙ prepend-prepend s (take n (drop at d)) _ ∙ ap (λ k. prepend (s ++ take k (drop at d)) (content plain (drop stop d))) count;
+      rest = so_far.rest ∙ passed.1 ∙ ap (lex in_string) left;
+    }
+
+pub quote_read : (d s : List ℕ) (from stop : ℕ) → ReadSoFar d from s stop → get_or d stop 32 ≡ 34 → IsRead d from s (stop + 1)
+unfolding content lex
+quote_read d s from stop so_far quote =
+    let here = (at_byte d stop 34 quote (λ e. omega (arith, e))).left in (
+      so_far.content ∙ ap (λ t. prepend s (content plain t)) here ∙ ap Some (append-nil s),
+      so_far.rest ∙ ap (lex in_string) here,
+    )
+
+no_unicode : (b : Bool) (e c : ℕ) → (e == 117) ≡ b → short_escape e ≡ Some c → b ≡ false
+unfolding short_escape
+no_unicode false e c is short = refl
+no_unicode true e c is short = not_found c (sym (ap short_escape (eqb-true e 117 is)) ∙ short)
+
+escape_content : (e c : ℕ) (ys : List ℕ) → short_escape e ≡ Some c → content plain (92 ∷ e ∷ ys) ≡ prepend (c ∷ []) (content plain ys)
+unfolding content
+escape_content e c ys short = rw (no_unicode (e == 117) e c refl short, short)
+
+pub escape_read : (d s : List ℕ) (from stop c : ℕ) → ReadSoFar d from s stop → get_or d stop 32 ≡ 92 → short_escape (get_or d (stop + 1) 32) ≡ Some c → stop + 1 < length d
+    → ReadSoFar d from (s ++ c ∷ []) (stop + 2)
+unfolding lex
+escape_read d s from stop c so_far backslash short within =
+    let e = get_or d (stop + 1) 32 in
+    let next : stop + 1 + 1 ≡ stop + 2 = omega arith in
+    let here : drop stop d ≡ 92 ∷ e ∷ drop (stop + 2) d = (at_byte d stop 92 backslash (λ z. omega (arith, z))).left ∙ ap (λ t. 92 ∷ t) (drop_more d (stop + 1) 32 within ∙ ap (λ k. e ∷ drop k d) next) in
+    record {
+      content = so_far.content ∙ ap (λ t. prepend s (content plain t)) here ∙ ap (prepend s) (escape_content e c (drop (stop + 2) d) short) ∙ prepend-prepend s (c ∷ []) _;
+      rest = so_far.rest ∙ ap (lex in_string) here;
+    }
+
+-- an escape does not end the text
+pub escape_within : (d : List ℕ) (i c : ℕ) → short_escape (get_or d i 32) ≡ Some c → i < length d
+unfolding short_escape
+escape_within d i c short = lt_of_not-le (λ past. not_found c (sym (ap short_escape (get_or_past d i 32 past)) ∙ short))
+
+pub string_read : (d s : List ℕ) (at end : ℕ) → get_or d at 32 ≡ 34 → IsRead d (at + 1) s end → lex between (drop at d) ≡ token (string s) ∷ lex between (drop end d)
+unfolding lex
+string_read d s at end quote read =
+    ap (lex between) (at_byte d at 34 quote (λ e. omega (arith, e))).left
+    ∙ ap (λ o. token (string_token o) ∷ lex in_string (drop (at + 1) d)) read.0
+    ∙ ap (λ ls. token (string s) ∷ ls) read.1

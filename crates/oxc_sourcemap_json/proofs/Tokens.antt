@@ -1,7 +1,8 @@
 -- What tokens begin with: values, items and members, one after the other.
 use Rattle.std.specs.List.{All}
 use Rattle.std.proofs.Common.{zero, suc, ◌≡◌, ℕ, ◌-◌, ◌<◌, ◌≤◌, List, [], ◌∷◌, ◌++◌, length, Option}
-use Rattle.std.proofs.Common.{Some}
+use Rattle.std.proofs.Common.{Some, MatchOption, String, string_bytes}
+use Rattle.std.specs.declared.alloc.Global.{Global}
 use Rattle.std.proofs.Common.{Result, Ok, Err, IfOk, IfSome, None, codes, option_map}
 use Rattle.std.proofs.Common.{option_and_then, refl, sym, ap, ◌∙◌, arith}
 use Rattle.json.specs.Token.{Token}
@@ -16,7 +17,7 @@ use Rattle.serde_json.specs.Read.{of_json, of_items, of_members, converted, max_
 use Rattle.serde_json.specs.Read.{read}
 use Rattle.serde_json.proofs.OnLiterals.{serde_json_on_literals}
 use Rattle.oxc_sourcemap_json.specs.Usual.{Begins, BeginsAny, BeginItems, BeginMembers, IsAll}
-use Rattle.oxc_sourcemap_json.specs.Usual.{items_of}
+use Rattle.oxc_sourcemap_json.specs.Usual.{items_of, content_data}
 use Rattle.oxc_sourcemap_json.proofs.Converted.{as_array_of, as_object_of, next_item, no_more_items}
 use Rattle.oxc_sourcemap_json.proofs.Converted.{before, next_member, no_more_members}
 
@@ -35,6 +36,11 @@ text_begins ts rest s is depth = ap (converted of_json) (ap (value depth) is ∙
 
 pub null_begins : (ts rest : List Token) → ts ≡ Token.null ∷ rest → BeginsAny ts null rest
 null_begins ts rest is depth = ap (converted of_json) (ap (value depth) is ∙ value_is depth _)
+
+pub content_begins : (ts rest : List Token) (content : Option (String Global)) → MatchOption content (ts ≡ Token.null ∷ rest) (λ text. ts ≡ Token.string (string_bytes text) ∷ rest)
+    → BeginsAny ts (content_data (option_map string_bytes content)) rest
+content_begins ts rest None is = null_begins ts rest is
+content_begins ts rest (Some text) is = text_begins ts rest (string_bytes text) is
 
 pub number_begins : (ts rest : List Token) (s : List ℕ) (n : Num) → ts ≡ Token.number s ∷ rest → number_of s ≡ Some n → BeginsAny ts (number n) rest
 number_begins ts rest s n is reads depth =

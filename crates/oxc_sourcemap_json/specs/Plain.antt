@@ -1,8 +1,9 @@
 -- What is left of a plain JSON text, as tokens.
-use Rattle.std.specs.Prelude.{ℕ, ◌≡◌, ◌⊎◌, List, Bool, not, ◌||◌, ◌==◌, nat_lt, if◌then◌else◌, drop, ⊤}
+use Rattle.std.specs.Prelude.{ℕ, ◌≡◌, ◌⊎◌, List, Bool, not, ◌||◌, ◌==◌, nat_lt, if◌then◌else◌, drop, ⊤, Some}
 use Rattle.json.specs.Token.{Token}
 use Rattle.json.specs.Lex as spec
-use Rattle.json.specs.Lex.{between, lex, punctuate}
+use Rattle.json.specs.Text.{content, plain}
+use Rattle.json.specs.Lex.{between, in_string, lex, punctuate}
 use Rattle.oxc_sourcemap_json.specs.declared.plain.Place.{Place}
 use Rattle.oxc_sourcemap_json.specs.declared.plain.Place.TheVariants.{Fresh, AfterValue, AfterComma}
 use Rattle.oxc_sourcemap_json.specs.declared.plain.PlainReader.{PlainReader}
@@ -47,3 +48,7 @@ MayClose AfterComma = ⊥
 -- Behind a value this byte ends it.
 abbrev pub EndsValue : ℕ → Type 0
 EndsValue byte = (byte ≡ 44) ⊎ ((byte ≡ 93) ⊎ (byte ≡ 125))
+
+-- The content of a string that begins at `from`, and where the text goes on behind its quote.
+abbrev pub IsRead : List ℕ → ℕ → List ℕ → ℕ → Type 0
+IsRead d from s end = (content plain (drop from d) ≡ Some s) × (lex in_string (drop from d) ≡ lex between (drop end d))

@@ -1,15 +1,19 @@
-//! Reading the tokens of a plain JSON text byte by byte, as few as a usual map has: of other ones `json` has a reader, which first
-//! makes a table of where tokens begin. What is not plain is not read here.
-ghost use Rattle.std.specs.Prelude.{◌≡◌, ◌+◌, ◌≤◌, ◌⊎◌, ◌∷◌, [], get_or, length, drop, map};
-ghost use Rattle.std.specs.Prelude.{IsTrue, IfSome, MatchBool};
+//! Reading the tokens of a plain JSON text one after the other, with no table of where they begin, which is made for any text. A
+//! plain text has no number but 3, and no escape of more than two characters.
+ghost use Rattle.std.specs.Prelude.{◌≡◌, ◌+◌, ◌<◌, ◌≤◌, ◌⊎◌, ◌∷◌, [], get_or, length, drop, map};
+ghost use Rattle.std.specs.Prelude.{IsTrue, IfSome, IfOk, MatchBool, string_bytes};
+ghost use Rattle.std.specs.Str.{IsCharBoundary};
+ghost use Rattle.json.specs.Text.{short_escape};
 ghost use Rattle.std.specs.List.{prefix_len};
 ghost use Rattle.std.specs.Simd.Lanes.{mask_l};
 ghost use Rattle.json.specs.Lex.{between, lex, token};
 ghost use Rattle.json.specs.Token as spec;
 ghost use Rattle.json.specs.Word.{is_space};
 ghost use Rattle.oxc_sourcemap_json.specs.Plain.{tokens_left, opening, closing, is_stop, is_plain};
-ghost use Rattle.oxc_sourcemap_json.specs.Plain.{MayBegin, MayClose, EndsValue};
+ghost use Rattle.oxc_sourcemap_json.specs.Plain.{MayBegin, MayClose, EndsValue, IsRead};
 
+use oxc_sourcemap_tokens::Memory;
+use std::alloc::Global;
 use std::simd::prelude::*;
 
 /// What the rules for commas let come next.
@@ -143,6 +147,61 @@ fn quoted<'a>(text: &'a str, at: usize) -> Option<(&'a str, usize)>
     Some((&text[start..stop], blanks_end(bytes, stop + 1)))
 }
 
+/// The character that a backslash and this byte stand for, if they stand for one by themselves.
+fn short_escape(byte: u8) -> Option<char>
+    ensures value { result ≡ short_escape byte }
+    ensures ascii { IfSome result (λ found. (found < 128) × (byte < 128)) }
+{
+    match byte {
+        b'"' | b'\\' | b'/' => Some(byte as char),
+        b'b' => Some('\u{8}'),
+        b'f' => Some('\u{c}'),
+        b'n' => Some('\n'),
+        b'r' => Some('\r'),
+        b't' => Some('\t'),
+        _ => None,
+    }
+}
+
+/// The text that begins at an index, behind its quote, and where what follows it begins. None if an escape is none of two
+/// characters.
+fn escaped(alloc: Global, text: &str, from: usize) -> Memory<Option<(String, usize)>>
+    requires { IsCharBoundary text.now from }
+    ensures { IfOk result (λ found. IfSome found (λ read. IsRead text.now from (string_bytes read.0) read.1)) }
+{
+    let bytes = text.as_bytes();
+    let mut found = String::new(alloc);
+    let mut at = from;
+    'escapes: loop {
+        let stop = plain_end(bytes, at);
+        let byte = byte_at(bytes, stop);
+        if byte != b'"' && byte != b'\\' {
+            return Ok(None);
+        }
+        found.push_str(&text[at..stop])?;
+        if byte == b'"' {
+            return Ok(Some((found, blanks_end(bytes, stop + 1))));
+        }
+        let Some(escape) = short_escape(byte_at(bytes, stop + 1)) else {
+            return Ok(None);
+        };
+        found.push(escape)?;
+        at = stop + 2;
+    }
+}
+
+/// The text whose quote is at an index, and where what follows it begins. None if it has an escape of more than two characters.
+fn text_at(alloc: Global, text: &str, at: usize) -> Memory<Option<(String, usize)>>
+    requires { get_or text.now at 32 ≡ 34 }
+    ensures { IfOk result (λ found. IfSome found (λ read. lex between (drop at text.now)
+        ≡ token (spec.string (string_bytes read.0)) ∷ lex between (drop read.1 text.now))) }
+{
+    match quoted(text, at) {
+        Some((plain, end)) => Ok(Some((String::from_str(alloc, plain)?, end))),
+        None => escaped(alloc, text, at + 1),
+    }
+}
+
 impl<'a> PlainReader<'a> {
     /// Reads a text from its beginning.
     pub(crate) fn new(text: &'a str) -> PlainReader<'a>
@@ -214,20 +273,23 @@ impl<'a> PlainReader<'a> {
         Some(key)
     }
 
-    /// The text that is next, if it is plain.
-    pub(crate) fn next_text(&mut self) -> Option<&'a str>
-        ensures { IfSome result (λ text. tokens_left self.old ≡ spec.string text.now ∷ tokens_left self.new) }
+    /// The text that is next, if its escapes are of two characters.
+    pub(crate) fn next_text(&mut self, alloc: Global) -> Memory<Option<String>>
+        ensures { IfOk result (λ found. IfSome found (λ text. tokens_left self.old
+            ≡ spec.string (string_bytes text) ∷ tokens_left self.new)) }
     {
         if self.peek() != b'"' || !self.place.may_begin() {
-            return None;
+            return Ok(None);
         }
-        let (text, end) = quoted(self.text, self.at)?;
+        let Some((text, end)) = text_at(alloc, self.text, self.at)? else {
+            return Ok(None);
+        };
         if !ends_value(byte_at(self.text.as_bytes(), end)) {
-            return None;
+            return Ok(None);
         }
         self.at = end;
         self.place = Place::AfterValue;
-        Some(text)
+        Ok(Some(text))
     }
 
     /// Takes the number 3, if it is next and what ends a value is behind it.

@@ -1,6 +1,6 @@
 //! The tokens of a JSON text, which is read in one of two ways.
 ghost use Rattle.std.specs.Prelude.{◌≡◌, ◌∷◌, [], Some, IsTrue, IfSome, IfOk, MatchBool};
-ghost use Rattle.std.specs.Prelude.{option_map, MatchOption};
+ghost use Rattle.std.specs.Prelude.{option_map, MatchOption, string_bytes};
 ghost use Rattle.json.specs.Json.{after_end_array, read_key};
 ghost use Rattle.json.specs.Lex.{tokens};
 ghost use Rattle.json.specs.Token as spec;
@@ -8,6 +8,7 @@ ghost use Rattle.json.specs.Token as spec;
 use crate::plain::PlainReader;
 use json::{Reader, Scratch, Token};
 use oxc_sourcemap_tokens::Memory;
+use std::alloc::Global;
 use std::marker::Model;
 
 /// How a text is read.
@@ -105,36 +106,40 @@ impl<'a> TokenReader<'a> {
         }
     }
 
-    /// The next value, if it is a text.
-    pub(crate) fn next_text(&mut self) -> Option<&'a str>
-        ensures { IfSome result (λ text. self.old ≡ spec.string text.now ∷ self.new) }
+    /// The next value, if it is a text. Fails only for want of memory.
+    pub(crate) fn next_text(&mut self, alloc: Global) -> Memory<Option<String>>
+        ensures { IfOk result (λ found. IfSome found (λ text. self.old
+            ≡ spec.string (string_bytes text) ∷ self.new)) }
     {
         match &mut self.way {
-            Way::Plain(reader) => reader.next_text(),
+            Way::Plain(reader) => reader.next_text(alloc),
             Way::Any(reader) => match reader.next() {
-                Some(Token::String(text)) => Some(text),
-                _ => None,
+                Some(Token::String(text)) => Ok(Some(String::from_str(alloc, text)?)),
+                _ => Ok(None),
             },
         }
     }
 
-    /// The next value, if it is a text, or None for null.
-    pub(crate) fn next_content(&mut self) -> Option<Option<&'a str>>
-        ensures { IfSome result (λ content. MatchOption content (self.old ≡ spec.null ∷ self.new)
-            (λ text. self.old ≡ spec.string text.now ∷ self.new)) }
+    /// The next value, if it is a text, or None for null. Fails only for want of memory.
+    pub(crate) fn next_content(&mut self, alloc: Global) -> Memory<Option<Option<String>>>
+        ensures { IfOk result (λ found. IfSome found (λ content.
+            MatchOption content (self.old ≡ spec.null ∷ self.new)
+            (λ text. self.old ≡ spec.string (string_bytes text) ∷ self.new))) }
     {
         match &mut self.way {
             Way::Plain(reader) => {
                 if reader.take_null() {
-                    return Some(None);
+                    return Ok(Some(None));
                 }
-                let text = reader.next_text()?;
-                Some(Some(text))
+                match reader.next_text(alloc)? {
+                    Some(text) => Ok(Some(Some(text))),
+                    None => Ok(None),
+                }
             }
             Way::Any(reader) => match reader.next() {
-                Some(Token::String(text)) => Some(Some(text)),
-                Some(Token::Null) => Some(None),
-                _ => None,
+                Some(Token::String(text)) => Ok(Some(Some(String::from_str(alloc, text)?))),
+                Some(Token::Null) => Ok(Some(None)),
+                _ => Ok(None),
             },
         }
     }

@@ -55,10 +55,7 @@ fn next_text(alloc: Global, reader: &mut TokenReader<'_>) -> Memory<Option<Strin
     ensures shorter { IfOk result (λ found. IfSome found
         (λ _. length reader.new < length reader.old)) }
 {
-    match reader.next_text() {
-        Some(text) => Ok(Some(String::from_str(alloc, text)?)),
-        None => Ok(None),
-    }
+    reader.next_text(alloc)
 }
 
 /// The texts up to the bracket that ends their list; None if something else is among them.
@@ -98,11 +95,7 @@ fn next_content(alloc: Global, reader: &mut TokenReader<'_>) -> Memory<Option<Op
     ensures shorter { IfOk result (λ found. IfSome found
         (λ _. length reader.new < length reader.old)) }
 {
-    match reader.next_content() {
-        Some(Some(text)) => Ok(Some(Some(String::from_str(alloc, text)?))),
-        Some(None) => Ok(Some(None)),
-        None => Ok(None),
-    }
+    reader.next_content(alloc)
 }
 
 /// The contents up to the bracket that ends their list; None if something else is among them.
@@ -363,18 +356,13 @@ fn any_json(alloc: Global, text: &str) -> Memory<Option<JSONSourceMap>>
     fields_of(alloc, &mut reader)
 }
 
-/// Whether a text is short, and has no escapes.
-fn may_be_plain(text: &[u8]) -> bool {
-    text.len() <= MOST_PLAIN && !text.contains(&b'\\')
-}
-
 /// The fields of the JSON text of a map by itself, as `json_of` reads them from its value. None if the text is unusual: it is no
 /// such map, has a fault, or has null as a member or a member that is not read here. Fails only for want of memory.
 pub fn usual_json(alloc: Global, text: &str) -> Memory<Option<JSONSourceMap>>
     ensures { IfOk result (λ found. IfSome found
         (λ json. IsJsonOf text.now (json_record json))) }
 {
-    if may_be_plain(text.as_bytes()) {
+    if text.len() <= MOST_PLAIN {
         if let Some(json) = plain_json(alloc, text)? {
             return Ok(Some(json));
         }

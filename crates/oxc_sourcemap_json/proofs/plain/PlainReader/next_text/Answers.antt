@@ -1,4 +1,4 @@
-use Rattle.std.proofs.Common.{◌≡◌, ◌∙◌, ◌∷◌, drop, get_or, sym, subst, arith}
+use Rattle.std.proofs.Common.{◌≡◌, ◌∙◌, ◌∷◌, drop, get_or, string_bytes, IfSome, sym, subst, arith}
 use Rattle.json.specs.Token.{string}
 use Rattle.json.specs.Lex.{between, lex, token}
 use Rattle.oxc_sourcemap_json.specs.Plain.{MayBegin, EndsValue}
@@ -8,8 +8,9 @@ use Rattle.oxc_sourcemap_json.proofs.plain.PlainReader.next_text.Goals as goal
 pub returns : goal.returns
 returns c =
     let r = c.peek.new.self in
+    let d = r.text.now in
     let may : MayBegin r.place = grind arith in
-    let read : lex between (drop r.at r.text.now) ≡ token (string c.in_ok-text.text.now) ∷ lex between (drop c.in_ok-text.end r.text.now) = c.in_ok-text.ensures in
-    let byte : c.byte_at.result ≡ get_or r.text.now c.in_ok-text.end 32 = grind arith in
-    let ends : EndsValue (get_or r.text.now c.in_ok-text.end 32) = subst EndsValue byte (c.ends_value.ensures (grind arith)) in
-    sym c.peek.ensures.same ∙ value_read r.text.now c.in_ok-text.text.now r.at c.in_ok-text.end r.place read ends may
+    let read = subst (λ o. IfSome o (λ read. lex between (drop r.at d) ≡ token (string (string_bytes read.0)) ∷ lex between (drop read.1 d))) c.in-Some.is c.in_ok-text.ensures in
+    let byte : c.byte_at.result ≡ get_or d c.in-Some.end 32 = grind arith in
+    let ends : EndsValue (get_or d c.in-Some.end 32) = subst EndsValue byte (c.ends_value.ensures (grind arith)) in
+    sym c.peek.ensures.same ∙ value_read d (string_bytes c.in-Some.text) r.at c.in-Some.end r.place read ends may

@@ -3,7 +3,7 @@ use Rattle.std.proofs.Common.{◌≡◌, ◌≢◌, ◌⊎◌, inl, inr, ℕ, su
 use Rattle.std.proofs.lemmas.Bool.{eqb-true, or_cases, false≢true}
 use Rattle.std.proofs.lemmas.List.{drop_more, drop_all, drop-drop, get_or_past, get_or-drop, append_assoc, append-nil}
 use Rattle.std.specs.List.{prefix_len}
-use Rattle.json.specs.Token.{begin_object, end_object, begin_array, end_array, key, string, number, null}
+use Rattle.json.specs.Token.{Token, begin_object, end_object, begin_array, end_array, key, string, number, null}
 use Rattle.json.proofs.Found.{not_found}
 use Rattle.json.specs.Text.{content, plain, prepend, short_escape}
 use Rattle.json.specs.Word.{is_operator, is_space, word, after_number}
@@ -11,7 +11,7 @@ use Rattle.json.specs.Lex.{Lexeme, token, comma, colon, operator, space, other, 
 use Rattle.json.specs.Lex.{fresh, after_value, after_comma, begins_colon, place_token, punctuate}
 use Rattle.oxc_sourcemap_json.specs.declared.plain.Place.{Place}
 use Rattle.oxc_sourcemap_json.specs.declared.plain.Place.TheVariants.{Fresh, AfterValue, AfterComma}
-use Rattle.oxc_sourcemap_json.specs.Plain.{place_of, tokens_at, opening, closing, is_stop, is_plain, MayBegin, MayClose, EndsValue, IsRead}
+use Rattle.oxc_sourcemap_json.specs.Plain.{place_of, tokens_at, opening, is_stop, is_plain, MayBegin, MayClose, EndsValue, IsRead}
 
 -- ---- the byte at an index
 
@@ -110,14 +110,31 @@ opened d at bracket AfterComma (inl b) is may = rw b (ap (λ t. punctuate after_
 opened d at bracket AfterComma (inr b) is may = rw b (ap (λ t. punctuate after_comma (lex between t)) (at_byte d at 91 (is ∙ b) (λ e. omega (arith, e))).left)
 opened d at bracket AfterValue b is may = absurd may
 
-pub closed : (d : List ℕ) (at bracket : ℕ) (place : Place) → (bracket ≡ 125) ⊎ (bracket ≡ 93) → get_or d at 32 ≡ bracket → MayClose place
-    → tokens_at d at place ≡ closing bracket ∷ tokens_at d (at + 1) AfterValue
-unfolding lex punctuate
-closed d at bracket Fresh (inl b) is may = rw b (ap (λ t. punctuate fresh (lex between t)) (at_byte d at 125 (is ∙ b) (λ e. omega (arith, e))).left)
-closed d at bracket Fresh (inr b) is may = rw b (ap (λ t. punctuate fresh (lex between t)) (at_byte d at 93 (is ∙ b) (λ e. omega (arith, e))).left)
-closed d at bracket AfterValue (inl b) is may = rw b (ap (λ t. punctuate after_value (lex between t)) (at_byte d at 125 (is ∙ b) (λ e. omega (arith, e))).left)
-closed d at bracket AfterValue (inr b) is may = rw b (ap (λ t. punctuate after_value (lex between t)) (at_byte d at 93 (is ∙ b) (λ e. omega (arith, e))).left)
-closed d at bracket AfterComma b is may = absurd may
+-- a bracket that closes
+closed : (d : List ℕ) (at bracket : ℕ) (t : Token) (place : Place) → get_or d at 32 ≡ bracket → bracket ≢ 32 → ((xs : List ℕ) → lex between (bracket ∷ xs) ≡ token t ∷ lex between xs)
+    → ((ls : List Lexeme) → punctuate (place_of place) (token t ∷ ls) ≡ t ∷ punctuate after_value ls) → tokens_at d at place ≡ t ∷ tokens_at d (at + 1) AfterValue
+closed d at bracket t place is solid reads stands =
+    ap (λ t. punctuate (place_of place) (lex between t)) (at_byte d at bracket is solid).left ∙ ap (punctuate (place_of place)) (reads (drop (at + 1) d)) ∙ stands (lex between (drop (at + 1) d))
+
+object_stands : (place : Place) → MayClose place → (ls : List Lexeme) → punctuate (place_of place) (token end_object ∷ ls) ≡ end_object ∷ punctuate after_value ls
+unfolding punctuate
+object_stands Fresh may ls = refl
+object_stands AfterValue may ls = refl
+object_stands AfterComma may ls = absurd may
+
+list_stands : (place : Place) → MayClose place → (ls : List Lexeme) → punctuate (place_of place) (token end_array ∷ ls) ≡ end_array ∷ punctuate after_value ls
+unfolding punctuate
+list_stands Fresh may ls = refl
+list_stands AfterValue may ls = refl
+list_stands AfterComma may ls = absurd may
+
+pub object_closed : (d : List ℕ) (at : ℕ) (place : Place) → get_or d at 32 ≡ 125 → MayClose place → tokens_at d at place ≡ end_object ∷ tokens_at d (at + 1) AfterValue
+unfolding lex
+object_closed d at place is may = closed d at 125 end_object place is (λ e. omega (arith, e)) (λ xs. refl) (object_stands place may)
+
+pub list_closed : (d : List ℕ) (at : ℕ) (place : Place) → get_or d at 32 ≡ 93 → MayClose place → tokens_at d at place ≡ end_array ∷ tokens_at d (at + 1) AfterValue
+unfolding lex
+list_closed d at place is may = closed d at 93 end_array place is (λ e. omega (arith, e)) (λ xs. refl) (list_stands place may)
 
 key_at : (place : Place) (s : List ℕ) (ls : List Lexeme) → MayBegin place → punctuate (place_of place) (token (string s) ∷ (colon ∷ ls)) ≡ key s ∷ punctuate fresh ls
 unfolding punctuate

@@ -20,12 +20,9 @@ tokens_at text at place = punctuate (place_of place) (lex between (drop at text)
 abbrev pub tokens_left : PlainReader → List Token
 tokens_left r = tokens_at r.text.now r.at r.place
 
--- the token of a bracket that opens, and of one that closes
+-- the token of a bracket that opens
 abbrev pub opening : ℕ → Token
 opening bracket = if bracket == 123 then Token.begin_object else Token.begin_array
-
-abbrev pub closing : ℕ → Token
-closing bracket = if bracket == 125 then Token.end_object else Token.end_array
 
 -- a byte at which the plain text of a string stops: its quote, the backslash of an escape, or a control character
 abbrev pub is_stop : ℕ → Bool

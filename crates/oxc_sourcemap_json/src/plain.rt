@@ -1,7 +1,7 @@
 //! Reading the tokens of a plain JSON text one after the other, with no table of where they begin, which is made for any text. A
 //! plain text has no number but 3, and no escape of more than two characters.
 ghost use Rattle.std.specs.Prelude.{◌≡◌, ◌+◌, ◌<◌, ◌≤◌, ◌⊎◌, ◌∷◌, [], get_or, length, drop, map};
-ghost use Rattle.std.specs.Prelude.{IsTrue, IfSome, IfOk, MatchBool, string_bytes};
+ghost use Rattle.std.specs.Prelude.{IsTrue, IfSome, IfOk, MatchBool, MatchOption, string_bytes};
 ghost use Rattle.std.specs.Str.{IsCharBoundary};
 ghost use Rattle.json.specs.Text.{short_escape};
 ghost use Rattle.std.specs.List.{prefix_len};
@@ -9,7 +9,7 @@ ghost use Rattle.std.specs.Simd.Lanes.{mask_l};
 ghost use Rattle.json.specs.Lex.{between, lex, token};
 ghost use Rattle.json.specs.Token as spec;
 ghost use Rattle.json.specs.Word.{is_space};
-ghost use Rattle.oxc_sourcemap_json.specs.Plain.{tokens_left, opening, closing, is_stop, is_plain};
+ghost use Rattle.oxc_sourcemap_json.specs.Plain.{tokens_left, opening, is_stop, is_plain};
 ghost use Rattle.oxc_sourcemap_json.specs.Plain.{MayBegin, MayClose, EndsValue, IsRead};
 
 use oxc_sourcemap_tokens::Memory;
@@ -243,13 +243,12 @@ impl<'a> PlainReader<'a> {
         true
     }
 
-    /// Takes the bracket that closes a list or an object, if it is next.
-    pub(crate) fn close(&mut self, bracket: u8) -> bool
-        requires { (bracket ≡ 125) ⊎ (bracket ≡ 93) }
-        ensures { MatchBool result (tokens_left self.old ≡ closing bracket ∷ tokens_left self.new)
+    /// Takes the bracket that closes a list, if it is next.
+    pub(crate) fn take_end_array(&mut self) -> bool
+        ensures { MatchBool result (tokens_left self.old ≡ spec.end_array ∷ tokens_left self.new)
             (tokens_left self.new ≡ tokens_left self.old) }
     {
-        if self.peek() != bracket || !self.place.may_close() {
+        if self.peek() != b']' || !self.place.may_close() {
             return false;
         }
         self.at += 1;
@@ -257,11 +256,19 @@ impl<'a> PlainReader<'a> {
         true
     }
 
-    /// The key that is next, if it is plain.
-    pub(crate) fn next_key(&mut self) -> Option<&'a str>
-        ensures { IfSome result (λ key. tokens_left self.old ≡ spec.key key.now ∷ tokens_left self.new) }
+    /// The key that is next, if it has no escape, or None at the brace that closes an object.
+    pub(crate) fn next_key(&mut self) -> Option<Option<&'a str>>
+        ensures { IfSome result (λ found. MatchOption found
+            (tokens_left self.old ≡ spec.end_object ∷ tokens_left self.new)
+            (λ key. tokens_left self.old ≡ spec.key key.now ∷ tokens_left self.new)) }
     {
-        if self.peek() != b'"' || !self.place.may_begin() {
+        let byte = self.peek();
+        if byte == b'}' && self.place.may_close() {
+            self.at += 1;
+            self.place = Place::AfterValue;
+            return Some(None);
+        }
+        if byte != b'"' || !self.place.may_begin() {
             return None;
         }
         let (key, end) = quoted(self.text, self.at)?;
@@ -270,7 +277,7 @@ impl<'a> PlainReader<'a> {
         }
         self.at = end + 1;
         self.place = Place::Fresh;
-        Some(key)
+        Some(Some(key))
     }
 
     /// The text that is next, if its escapes are of two characters.

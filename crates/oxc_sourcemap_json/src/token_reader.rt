@@ -84,7 +84,7 @@ impl<'a> TokenReader<'a> {
         ensures { MatchBool result (after_end_array self.old ≡ Some self.new) (self.new ≡ self.old) }
     {
         match &mut self.way {
-            Way::Plain(reader) => reader.close(b']'),
+            Way::Plain(reader) => reader.take_end_array(),
             Way::Any(reader) => reader.take_end_array(),
         }
     }
@@ -95,13 +95,7 @@ impl<'a> TokenReader<'a> {
             ≡ Some (option_map (λ s. s.now) key, self.new)) }
     {
         match &mut self.way {
-            Way::Plain(reader) => {
-                if reader.close(b'}') {
-                    return Some(None);
-                }
-                let key = reader.next_key()?;
-                Some(Some(key))
-            }
+            Way::Plain(reader) => reader.next_key(),
             Way::Any(reader) => reader.next_key().ok(),
         }
     }

@@ -1,6 +1,7 @@
 //! Reading the JSON text of a usual source map token by token, with no value in between. What is unusual goes by a value
 //! (`json_of`).
 ghost use Rattle.std.specs.Prelude.{◌≡◌, ◌<◌, ◌≤◌, length, map, true, IsTrue, IfOk, IfSome, Ok};
+ghost use Rattle.std.specs.Prelude.{IsSomeAnd};
 ghost use Rattle.std.specs.Prelude.{option_map, string_bytes, Some, List, ℕ};
 ghost use Rattle.json.specs.Lex.{tokens};
 ghost use Rattle.std.specs.List.{All};
@@ -185,6 +186,46 @@ fn next_ids(alloc: Global, reader: &mut TokenReader<'_>) -> Memory<Option<Vec<u3
     rest_of_ids(alloc, reader)
 }
 
+/// Keeps the next value, a text. False if it is something else; what is kept then counts for nothing.
+fn keep_text(alloc: Global, reader: &mut TokenReader<'_>, kept: &mut Option<String>) -> Memory<bool>
+    ensures text { result ≡ Ok true → IsSomeAnd kept.new
+        (λ text. Begins reader.old (text_data text) reader.new) }
+    ensures shorter { result ≡ Ok true → length reader.new < length reader.old }
+{
+    *kept = next_text(alloc, reader)?;
+    Ok(kept.is_some())
+}
+
+/// Keeps the next value, a list of texts, likewise.
+fn keep_texts(
+    alloc: Global,
+    reader: &mut TokenReader<'_>,
+    kept: &mut Option<Vec<String>>,
+) -> Memory<bool>
+    ensures texts { result ≡ Ok true → IsSomeAnd kept.new
+        (λ texts. Begins reader.old (texts_data (json_texts texts)) reader.new) }
+    ensures shorter { result ≡ Ok true → length reader.new < length reader.old }
+{
+    *kept = next_texts(alloc, reader)?;
+    Ok(kept.is_some())
+}
+
+/// Keeps the next value, a list of ids, likewise.
+fn keep_ids(
+    alloc: Global,
+    reader: &mut TokenReader<'_>,
+    kept: &mut Option<Vec<u32>>,
+) -> Memory<bool>
+    ensures ids { result ≡ Ok true → IsSomeAnd kept.new
+        (λ ids. Begins reader.old (ids_data ids.items) reader.new) }
+    ensures small { result ≡ Ok true → IsSomeAnd kept.new
+        (λ ids. All (λ id. id < 4294967296) ids.items) }
+    ensures shorter { result ≡ Ok true → length reader.new < length reader.old }
+{
+    *kept = next_ids(alloc, reader)?;
+    Ok(kept.is_some())
+}
+
 impl UsualMembers {
     /// No members.
     fn none() -> UsualMembers
@@ -212,47 +253,23 @@ impl UsualMembers {
         ensures ids { result ≡ Ok true → HaveIds self.old → HaveIds self.new }
         ensures shorter { result ≡ Ok true → length reader.new < length reader.old }
     {
-        match key {
-            "version" => {
+        match (key.len(), key) {
+            (7, "version") => {
                 self.has_version = next_is_three(reader);
                 Ok(self.has_version)
             }
-            "file" => {
-                self.file = next_text(alloc, reader)?;
-                Ok(self.file.is_some())
-            }
-            "mappings" => {
-                self.mappings = next_text(alloc, reader)?;
-                Ok(self.mappings.is_some())
-            }
-            "sourceRoot" => {
-                self.source_root = next_text(alloc, reader)?;
-                Ok(self.source_root.is_some())
-            }
-            "sources" => {
-                self.sources = next_texts(alloc, reader)?;
-                Ok(self.sources.is_some())
-            }
-            "sourcesContent" => {
+            (4, "file") => keep_text(alloc, reader, &mut self.file),
+            (8, "mappings") => keep_text(alloc, reader, &mut self.mappings),
+            (10, "sourceRoot") => keep_text(alloc, reader, &mut self.source_root),
+            (7, "sources") => keep_texts(alloc, reader, &mut self.sources),
+            (14, "sourcesContent") => {
                 self.sources_content = next_contents(alloc, reader)?;
                 Ok(self.sources_content.is_some())
             }
-            "names" => {
-                self.names = next_texts(alloc, reader)?;
-                Ok(self.names.is_some())
-            }
-            "debugId" => {
-                self.debug_id = next_text(alloc, reader)?;
-                Ok(self.debug_id.is_some())
-            }
-            "ignoreList" => {
-                self.ignore_list = next_ids(alloc, reader)?;
-                Ok(self.ignore_list.is_some())
-            }
-            "x_google_ignoreList" => {
-                self.older_ignore_list = next_ids(alloc, reader)?;
-                Ok(self.older_ignore_list.is_some())
-            }
+            (5, "names") => keep_texts(alloc, reader, &mut self.names),
+            (7, "debugId") => keep_text(alloc, reader, &mut self.debug_id),
+            (10, "ignoreList") => keep_ids(alloc, reader, &mut self.ignore_list),
+            (19, "x_google_ignoreList") => keep_ids(alloc, reader, &mut self.older_ignore_list),
             _ => Ok(false),
         }
     }

@@ -3,15 +3,15 @@ use Rattle.std.proofs.Common.{◌≡◌, ◌≢◌, ◌⊎◌, inl, inr, ℕ, su
 use Rattle.std.proofs.lemmas.Bool.{eqb-true, or_cases, false≢true}
 use Rattle.std.proofs.lemmas.List.{drop_more, drop_all, drop-drop, get_or_past, get_or-drop, append_assoc, append-nil}
 use Rattle.std.specs.List.{prefix_len}
-use Rattle.json.specs.Token.{Token, begin_object, end_object, begin_array, end_array, key, string, number, null}
+use Rattle.json.specs.Token.{Token, end_object, end_array, key, string, number, null}
 use Rattle.json.proofs.Found.{not_found}
 use Rattle.json.specs.Text.{content, plain, prepend, short_escape}
 use Rattle.json.specs.Word.{is_operator, is_space, word, after_number}
-use Rattle.json.specs.Lex.{Lexeme, token, comma, colon, operator, space, other, string_token, Mode, between, in_string, lex_byte, lex}
+use Rattle.json.specs.Lex.{Lexeme, token, colon, operator, space, other, string_token, Mode, between, in_string, lex_byte, lex}
 use Rattle.json.specs.Lex.{fresh, after_value, after_comma, begins_colon, place_token, punctuate}
 use Rattle.oxc_sourcemap_json.specs.declared.plain.Place.{Place}
 use Rattle.oxc_sourcemap_json.specs.declared.plain.Place.TheVariants.{Fresh, AfterValue, AfterComma}
-use Rattle.oxc_sourcemap_json.specs.Plain.{place_of, tokens_at, opening, is_stop, is_plain, MayBegin, MayClose, EndsValue, IsRead}
+use Rattle.oxc_sourcemap_json.specs.Plain.{place_of, tokens_at, opening, is_plain, MayBegin, MayClose, EndsValue, IsRead}
 
 -- ---- the byte at an index
 

@@ -54,7 +54,11 @@ pub(crate) struct PlainReader<'a> {
 fn byte_at(text: &[u8], index: usize) -> u8
     ensures { result ≡ get_or text.now index 32 }
 {
-    if index < text.len() { text[index] } else { b' ' }
+    if index < text.len() {
+        text[index]
+    } else {
+        b' '
+    }
 }
 
 fn is_blank(byte: u8) -> bool

@@ -14,9 +14,9 @@ ghost use Rattle.oxc_sourcemap_json.specs.Words.{content_data, members_held, wit
 ghost use Rattle.oxc_sourcemap_json.specs.Words.{ids_data, HaveIds, number_of};
 
 use crate::json_source_map::JSONSourceMap;
+use crate::token_reader::TokenReader;
 use fast_float::Numeral;
 use json::Scratch;
-use crate::token_reader::TokenReader;
 use oxc_sourcemap_tokens::Memory;
 use std::alloc::Global;
 
@@ -100,7 +100,10 @@ fn next_content(alloc: Global, reader: &mut TokenReader<'_>) -> Memory<Option<Op
 }
 
 /// The contents up to the bracket that ends their list; None if something else is among them.
-fn rest_of_contents(alloc: Global, reader: &mut TokenReader<'_>) -> Memory<Option<Vec<Option<String>>>>
+fn rest_of_contents(
+    alloc: Global,
+    reader: &mut TokenReader<'_>,
+) -> Memory<Option<Vec<Option<String>>>>
     ensures contents { IfOk result (λ found. IfSome found (λ contents. BeginItems reader.old
         (map content_data (json_content_list contents)) reader.new)) }
     ensures shorter { IfOk result (λ found. IfSome found

@@ -1,4 +1,4 @@
-use Rattle.std.proofs.Common.{◌≡◌, ◌∙◌, true, get_or, drop, sym, ap, arith}
+use Rattle.std.proofs.Common.{◌≡◌, ◌∙◌, true, get_or, arith}
 use Rattle.json.specs.Word.{is_space}
 use Rattle.oxc_sourcemap_json.proofs.PlainTokens.{blank_passed}
 use Rattle.oxc_sourcemap_json.proofs.plain.blanks_end.Goals as goal

@@ -1,4 +1,4 @@
-use Rattle.std.proofs.Common.{◌≡◌, ◌-◌, ◌≤◌, length, string_bytes, IsCharBoundary}
+use Rattle.std.proofs.Common.{◌-◌, length, string_bytes, IsCharBoundary}
 use Rattle.oxc_sourcemap_json.proofs.PlainTokens.{ReadSoFar}
 use Rattle.oxc_sourcemap_json.proofs.plain.escaped.Given as goal
 

@@ -1,4 +1,4 @@
-use Rattle.std.proofs.Common.{◌≡◌, arith}
+use Rattle.std.proofs.Common.{arith}
 use Rattle.json.specs.Text.{short_escape}
 use Rattle.oxc_sourcemap_json.proofs.plain.short_escape.Goals as goal
 

@@ -1,4 +1,4 @@
-use Rattle.std.proofs.Common.{◌≡◌, ◌∙◌, ◌≤◌, length, drop, ap, sym, arith}
+use Rattle.std.proofs.Common.{◌≡◌, ◌∙◌, ◌≤◌, length, drop, ap, arith}
 use Rattle.json.specs.Lex.{between, lex}
 use Rattle.oxc_sourcemap_json.specs.declared.plain.Place.TheVariants.{AfterValue}
 use Rattle.oxc_sourcemap_json.specs.Plain.{tokens_at}

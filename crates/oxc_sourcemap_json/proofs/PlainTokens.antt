@@ -1,17 +1,23 @@
 -- What a plain text begins with, byte by byte.
-use Rattle.std.proofs.Common.{◌≡◌, ◌≢◌, ◌⊎◌, inl, inr, ℕ, suc, ◌+◌, ◌-◌, ◌<◌, ◌≤◌, Bool, true, false, cond, not, ◌||◌, ◌==◌, nat_lt, List, [], ◌∷◌, ◌++◌, length, take, drop, get_or, Option, Some, None, refl, sym, ap, ◌∙◌, subst, arith, lt_of_not-le}
+use Rattle.std.proofs.Common.{◌≡◌, ◌≢◌, ◌⊎◌, inl, inr, ℕ, suc, ◌+◌, ◌-◌, ◌<◌, ◌≤◌, Bool, true}
+use Rattle.std.proofs.Common.{false, cond, not, ◌||◌, ◌==◌, nat_lt, List, [], ◌∷◌, ◌++◌, length}
+use Rattle.std.proofs.Common.{take, drop, get_or, Option, Some, None, refl, sym, ap, ◌∙◌, subst}
+use Rattle.std.proofs.Common.{arith, lt_of_not-le}
 use Rattle.std.proofs.lemmas.Bool.{eqb-true, or_cases, false≢true}
-use Rattle.std.proofs.lemmas.List.{drop_more, drop_all, drop-drop, get_or_past, get_or-drop, append_assoc, append-nil}
+use Rattle.std.proofs.lemmas.List.{drop_more, drop_all, drop-drop, get_or_past, get_or-drop}
+use Rattle.std.proofs.lemmas.List.{append_assoc, append-nil}
 use Rattle.std.specs.List.{prefix_len}
 use Rattle.json.specs.Token.{Token, end_object, end_array, key, string, number, null}
 use Rattle.json.proofs.Found.{not_found}
 use Rattle.json.specs.Text.{content, plain, prepend, short_escape}
 use Rattle.json.specs.Word.{is_operator, is_space, word, after_number}
-use Rattle.json.specs.Lex.{Lexeme, token, colon, operator, space, other, string_token, Mode, between, in_string, lex_byte, lex}
+use Rattle.json.specs.Lex.{Lexeme, token, colon, operator, space, other, string_token, Mode}
+use Rattle.json.specs.Lex.{between, in_string, lex_byte, lex}
 use Rattle.json.specs.Lex.{fresh, after_value, after_comma, begins_colon, place_token, punctuate}
 use Rattle.oxc_sourcemap_json.specs.declared.plain.Place.{Place}
 use Rattle.oxc_sourcemap_json.specs.declared.plain.Place.TheVariants.{Fresh, AfterValue, AfterComma}
-use Rattle.oxc_sourcemap_json.specs.Plain.{place_of, tokens_at, opening, is_plain, MayBegin, MayClose, EndsValue, IsRead}
+use Rattle.oxc_sourcemap_json.specs.Plain.{place_of, tokens_at, opening, is_plain, MayBegin}
+use Rattle.oxc_sourcemap_json.specs.Plain.{MayClose, EndsValue, IsRead}
 
 -- ---- the byte at an index
 

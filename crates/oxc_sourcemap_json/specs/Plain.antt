@@ -1,5 +1,6 @@
 -- What is left of a plain JSON text, as tokens.
-use Rattle.std.specs.Prelude.{ℕ, ◌≡◌, ◌⊎◌, List, Bool, not, ◌||◌, ◌==◌, nat_lt, if◌then◌else◌, drop, ⊤, Some}
+use Rattle.std.specs.Prelude.{ℕ, ◌≡◌, ◌⊎◌, List, Bool, not, ◌||◌, ◌==◌, nat_lt, if◌then◌else◌, drop}
+use Rattle.std.specs.Prelude.{⊤, Some}
 use Rattle.json.specs.Token.{Token}
 use Rattle.json.specs.Lex as spec
 use Rattle.json.specs.Text.{content, plain}

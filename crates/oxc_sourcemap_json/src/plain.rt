@@ -171,7 +171,8 @@ fn short_escape(byte: u8) -> Option<char>
 /// characters.
 fn escaped(alloc: Global, text: &str, from: usize) -> Memory<Option<(String, usize)>>
     requires { IsCharBoundary text.now from }
-    ensures { IfOk result (λ found. IfSome found (λ read. IsRead text.now from (string_bytes read.0) read.1)) }
+    ensures { IfOk result (λ found. IfSome found
+        (λ read. IsRead text.now from (string_bytes read.0) read.1)) }
 {
     let bytes = text.as_bytes();
     let mut found = String::new(alloc);
@@ -305,7 +306,8 @@ impl<'a> PlainReader<'a> {
 
     /// Takes the number 3, if it is next and what ends a value is behind it.
     pub(crate) fn take_three(&mut self) -> bool
-        ensures { IsTrue result → tokens_left self.old ≡ spec.number (51 ∷ []) ∷ tokens_left self.new }
+        ensures { IsTrue result
+            → tokens_left self.old ≡ spec.number (51 ∷ []) ∷ tokens_left self.new }
     {
         if self.peek() != b'3' || !self.place.may_begin() {
             return false;

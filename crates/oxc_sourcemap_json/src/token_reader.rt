@@ -81,7 +81,8 @@ impl<'a> TokenReader<'a> {
 
     /// Takes the bracket that closes a list, if it is next.
     pub(crate) fn take_end_array(&mut self) -> bool
-        ensures { MatchBool result (after_end_array self.old ≡ Some self.new) (self.new ≡ self.old) }
+        ensures { MatchBool result (after_end_array self.old ≡ Some self.new)
+            (self.new ≡ self.old) }
     {
         match &mut self.way {
             Way::Plain(reader) => reader.take_end_array(),

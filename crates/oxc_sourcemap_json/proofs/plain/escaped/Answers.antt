@@ -1,11 +1,13 @@
-use Rattle.std.proofs.Common.{◌≡◌, ◌+◌, ◌-◌, ◌<◌, ◌++◌, ◌∷◌, [], ◌∙◌, Some, IsCharBoundary, drop, take, get_or, string_bytes, sym, ap, subst, arith}
+use Rattle.std.proofs.Common.{◌≡◌, ◌+◌, ◌-◌, ◌<◌, ◌++◌, ◌∷◌, [], ◌∙◌, Some, IsCharBoundary, drop}
+use Rattle.std.proofs.Common.{take, get_or, string_bytes, sym, ap, subst, arith}
 use Rattle.std.proofs.lemmas.List.{get_or_default}
 use Rattle.std.proofs.lemmas.Str.{IsCharBoundary-after_ascii}
 use Rattle.std.specs.List.{prefix_len}
 use Rattle.json.specs.Text.{short_escape}
 use Rattle.json.specs.Lex.{between, lex}
 use Rattle.oxc_sourcemap_json.specs.Plain.{is_plain}
-use Rattle.oxc_sourcemap_json.proofs.PlainTokens.{ReadSoFar, run_read, quote_read, escape_read, escape_within}
+use Rattle.oxc_sourcemap_json.proofs.PlainTokens.{ReadSoFar, run_read, quote_read, escape_read}
+use Rattle.oxc_sourcemap_json.proofs.PlainTokens.{escape_within}
 use Rattle.oxc_sourcemap_json.proofs.plain.escaped.Goals as goal
 
 pub returns-then-byte-eq34 : goal.returns-then-byte-eq34

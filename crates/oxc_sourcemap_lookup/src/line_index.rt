@@ -1,6 +1,7 @@
 //! The index of the lines of a list of tokens: where the tokens of each line lie.
 ghost use Rattle.std.specs.Prelude.{ℕ, ◌+◌, ◌*◌, ◌^◌, ◌≡◌, ◌≢◌, ◌↔◌, ◌<◌, ◌≤◌, true, IsTrue};
-ghost use Rattle.std.specs.Prelude.{length, get_or, option_map, slice_get, IfOk, IfSome, IsNone};
+ghost use Rattle.std.specs.Prelude.{length, take, drop, get_or, option_map, slice_get, IfOk};
+ghost use Rattle.std.specs.Prelude.{IfSome, IsNone};
 ghost use Rattle.std.specs.Prelude.{Ok, Err, Some, None};
 ghost use Rattle.std.specs.List.{All, Contains};
 ghost use Rattle.oxc_sourcemap_lookup.specs.Words.{Error, LineOrder, OutOfMemory, IsInLineOrder};
@@ -13,7 +14,7 @@ ghost use Rattle.oxc_sourcemap_lookup.specs.Words.{index_bytes};
 ghost use Rattle.oxc_sourcemap_lookup.specs.Words.{index_for, clamped_index_for, index_after};
 
 use crate::lookup::{
-    has_short_lines, line_count, line_length, search, search_clamped, search_index,
+    end_on_line, has_short_lines, line_count, line_length, search, search_clamped, search_index,
     search_index_after, search_index_clamped, store_ends,
 };
 use oxc_sourcemap_tokens::{Error, Memory, Result, Token, line_order_fault};
@@ -215,6 +216,8 @@ fn line_by_start<'t>(starts: &[u32], tokens: &'t [Token], line: u32) -> (usize, 
     requires { AreStarts tokens.now starts.now }
     ensures tokens { result.1.now ≡ on_line token_line line tokens.now }
     ensures start { 0 < length result.1.now → result.0 ≡ count_before_line line tokens.now }
+    ensures place { result.1.now ≡ take (length result.1.now) (drop result.0 tokens.now) }
+    ensures within { result.0 + length result.1.now ≤ length tokens.now }
 {
     let next = line as usize + 1;
     if next < starts.len() {
@@ -223,6 +226,33 @@ fn line_by_start<'t>(starts: &[u32], tokens: &'t [Token], line: u32) -> (usize, 
     } else {
         (0, &[])
     }
+}
+
+/// The index of the token that `LineIndex::lookup` finds, by the spans of lines.
+#[cold]
+#[inline(never)]
+fn index_by_span(spans: &[LineSpan], tokens: &[Token], line: u32, col: u32) -> Option<usize>
+    requires { AreSpans tokens.now spans.now }
+    ensures found { are_tokens_sorted tokens.now ≡ true → result ≡ index_for tokens.now line col }
+    ensures within { IfSome result (λ i. i < length tokens.now) }
+{
+    let (start, on_line) = line_by_span(spans, tokens, line, &mut 0);
+    Some(start + search_index(on_line, col)?)
+}
+
+/// The index of the token that `LineIndex::lookup` finds, by where lines begin.
+#[inline(always)]
+fn index_by_start(starts: &[u32], tokens: &[Token], line: u32, col: u32) -> Option<usize>
+    requires { AreStarts tokens.now starts.now }
+    ensures found { are_tokens_sorted tokens.now ≡ true → result ≡ index_for tokens.now line col }
+    ensures within { IfSome result (λ i. i < length tokens.now) }
+{
+    let (start, on_line) = line_by_start(starts, tokens, line);
+    if on_line.is_empty() {
+        return None;
+    }
+    let end = end_on_line(tokens, start, on_line.len(), col);
+    if end > 0 { Some(start + end - 1) } else { None }
 }
 
 impl LineIndex {
@@ -295,14 +325,17 @@ impl LineIndex {
     }
 
     /// The index of the token that `lookup` finds. Takes no memory.
+    #[inline(always)]
     pub fn lookup_index(&self, tokens: &[Token], line: u32, col: u32) -> Option<usize>
         requires { IsIndexOf tokens.now self.now }
         ensures found { are_tokens_sorted tokens.now ≡ true
             → result ≡ index_for tokens.now line col }
         ensures within { IfSome result (λ i. i < length tokens.now) }
     {
-        let (start, on_line) = self.line_near(tokens, line, &mut 0);
-        Some(start + search_index(on_line, col)?)
+        match &self.lines {
+            Lines::Starts(starts) => index_by_start(starts.as_slice(), tokens, line, col),
+            Lines::Spans(spans) => index_by_span(spans.as_slice(), tokens, line, col),
+        }
     }
 
     /// The index of the token that `lookup_clamped` finds. Takes no memory.

@@ -1,7 +1,7 @@
 //! Lookup tables over slices of tokens, and lookups on a line. (In the Rust crate they are in the module `sourcemap`.)
 ghost use Rattle.std.specs.Prelude.{◌≡◌, ◌↔◌, ◌==◌, ◌+◌, ◌*◌, ◌^◌, ◌<◌, ◌≤◌, nat_lt, true, false};
-ghost use Rattle.std.specs.Prelude.{length, take, slice_get, option_map, IsTrue, IfOk, IfSome};
-ghost use Rattle.std.specs.Prelude.{IsNone, Ok, Err};
+ghost use Rattle.std.specs.Prelude.{length, map, take, drop, slice_get, option_map, IsTrue, IfOk};
+ghost use Rattle.std.specs.Prelude.{IfSome, IsNone, Ok, Err};
 ghost use Rattle.std.specs.Prelude.{Some, None, [], if◌then◌else◌};
 ghost use Rattle.std.specs.Option.{option_map_or, option_and_then};
 ghost use Rattle.std.specs.List.{All, Contains, prefix_len, count_by};
@@ -16,6 +16,7 @@ ghost use Rattle.oxc_sourcemap_lookup.specs.Words.{token_line, count_before_line
 
 use oxc_sourcemap_tokens::{Error, Memory, Result, Token, line_order_fault};
 use std::alloc::Global;
+use std::simd::prelude::*;
 
 /// Up to this many tokens on a line, to compare all takes less time than to halve.
 pub(crate) const FEW: usize = 8;
@@ -209,6 +210,7 @@ fn compare_column(token: &Token, col: u64, count: usize, steps: &mut u64) -> usi
 
 /// How many tokens at the front of a line lie before `col`, found by halving: the index of the first token that does not.
 /// On a line whose columns go back, it is some index up to the end of the line.
+#[inline(always)]
 fn count_below(line: &[Token], col: u64, steps: &mut u64) -> usize
     requires { steps.old ≡ 0 }
     ensures count { no_column_goes_back token_column line.now ≡ true
@@ -229,6 +231,7 @@ fn count_below(line: &[Token], col: u64, steps: &mut u64) -> usize
 }
 
 /// As `count_below`, for a column of 32 bits.
+#[inline(always)]
 pub(crate) fn count_before(line: &[Token], col: u32, steps: &mut u64) -> usize
     requires { steps.old ≡ 0 }
     ensures count { no_column_goes_back token_column line.now ≡ true
@@ -243,6 +246,7 @@ pub(crate) fn count_before(line: &[Token], col: u32, steps: &mut u64) -> usize
 /// How many tokens of a line there are up to the one that `search` finds, which is the last of these; 0 if it finds none. On a
 /// line whose columns go back, it is some number up to that of the tokens. No branch is taken on what is found. `steps` is set
 /// as `search` has it.
+#[inline(always)]
 fn count_through(line: &[Token], col: u32, steps: &mut u64) -> usize
     ensures token { no_column_goes_back token_column line.now ≡ true
         → last (take result line.now) ≡ at token_column line.now col }
@@ -311,6 +315,7 @@ fn count_each(line: &[Token], col: u32) -> (usize, usize)
 
 /// As `count_through`, but the columns that are compared are not counted, and may be all of a short line: reads of memory
 /// that do not wait for each other take less time than halving.
+#[inline(always)]
 fn end_of_found(line: &[Token], col: u32) -> usize
     ensures index { no_column_goes_back token_column line.now ≡ true
         → index_before result ≡ index_at line.now col }
@@ -321,6 +326,55 @@ fn end_of_found(line: &[Token], col: u32) -> usize
     }
     let (before, through) = count_each(line, col);
     through.min(before + 1)
+}
+
+/// The columns of the first eight tokens.
+#[inline(always)]
+fn columns_of(tokens: &[Token]) -> u32x8
+    requires { 8 ≤ length tokens.now }
+    ensures { result ≡ map token_column (take 8 tokens.now) }
+{
+    u32x8::from_array([
+        tokens[0].get_dst_col(),
+        tokens[1].get_dst_col(),
+        tokens[2].get_dst_col(),
+        tokens[3].get_dst_col(),
+        tokens[4].get_dst_col(),
+        tokens[5].get_dst_col(),
+        tokens[6].get_dst_col(),
+        tokens[7].get_dst_col(),
+    ])
+}
+
+/// How many of eight columns at the front lie before a column.
+#[inline(always)]
+fn count_in_eight(columns: u32x8, col: u32) -> usize
+    ensures { result ≡ prefix_len (λ c. nat_lt c col) columns }
+{
+    let others = columns.simd_ge(u32x8::splat(col)).to_bitmask();
+    if others == 0 {
+        8
+    } else {
+        others.trailing_zeros() as usize
+    }
+}
+
+/// As `end_of_found`, for the line of so many tokens that begins at an index. Where lines are short, how long one is can hardly be
+/// predicted: so eight tokens are compared at once, on the line or not.
+#[inline(always)]
+pub(crate) fn end_on_line(tokens: &[Token], start: usize, count: usize, col: u32) -> usize
+    requires { start + count ≤ length tokens.now }
+    ensures index { no_column_goes_back token_column (take count (drop start tokens.now)) ≡ true
+        → index_before result ≡ index_at (take count (drop start tokens.now)) col }
+    ensures within { result ≤ count }
+{
+    let rest = &tokens[start..];
+    if count > FEW || rest.len() <= FEW {
+        return end_of_found(&rest[..count], col);
+    }
+    let before = count_in_eight(columns_of(rest), col).min(count);
+    let is_there = (before < count) & (rest[before].get_dst_col() == col);
+    before + usize::from(is_there)
 }
 
 /// The index on a line of the token that `search` finds there. On a line whose columns go back, it is some index of the line,

@@ -80,6 +80,7 @@ impl<'sm, 'data> SourceViewToken<'sm, 'data> {
     }
 
     /// The name. None if the token has no name id, or the map no such name.
+    #[inline(always)]
     pub fn get_name(&self) -> Option<&'sm str>
         ensures { lent_item result ≡ view_name (view_of self.now) }
     {
@@ -88,6 +89,7 @@ impl<'sm, 'data> SourceViewToken<'sm, 'data> {
     }
 
     /// The source. None if the token has no source id, or the map no such source.
+    #[inline(always)]
     pub fn get_source(&self) -> Option<&'sm str>
         ensures { lent_item result ≡ view_source (view_of self.now) }
     {
@@ -114,6 +116,7 @@ impl<'sm, 'data> SourceViewToken<'sm, 'data> {
     }
 
     /// The source, the source line, the source column and the name.
+    #[inline(always)]
     pub fn to_tuple(&self) -> (Option<&'sm str>, u32, u32, Option<&'sm str>)
         ensures source { lent_item result.0 ≡ view_source (view_of self.now) }
         ensures line { result.1 ≡ (view_of self.now).token.src_line }

@@ -427,6 +427,7 @@ impl<'a> SourceMap<'a> {
     }
 
     /// The name with this id. None if there is none.
+    #[inline(always)]
     pub fn get_name(&self, id: u32) -> Option<&str>
         ensures { lent_item result ≡ slice_get self.now.names id }
     {
@@ -434,6 +435,7 @@ impl<'a> SourceMap<'a> {
     }
 
     /// The source with this id. None if there is none.
+    #[inline(always)]
     pub fn get_source(&self, id: u32) -> Option<&str>
         ensures { lent_item result ≡ slice_get self.now.sources id }
     {

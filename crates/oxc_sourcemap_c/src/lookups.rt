@@ -10,7 +10,7 @@ ghost use Rattle.oxc_sourcemap_c.specs.Words.{position_at, source_place, IsBack}
 use oxc_sourcemap_handles::{Fault, Handle, Lent, Original, PieceNumbers, TokenNumbers};
 use oxc_sourcemap_handles_reading::{
     SourcePlace, all_generated, find_all, first_difference, generated, index_sources, pieces,
-    trace, trace_all, write_fault, write_found, write_token, write_told,
+    trace, trace_all, write_fault, write_found, write_token,
 };
 use oxc_sourcemap_tokens::Position;
 use std::alloc::Global;
@@ -33,7 +33,7 @@ pub extern "C" fn proved_trace(
         × IsError result fault.new (IsTraceError (held_map map.old.held) bias) }
     ensures back { IsBack map.old map.new }
 {
-    write_told(trace(map, Position { line, column }, bias), out, fault)
+    write_fault(trace(map, Position { line, column }, bias, out), fault)
 }
 
 /// What a map says of generated positions, each at the index of its position, by the bias of this number. On an error nothing is

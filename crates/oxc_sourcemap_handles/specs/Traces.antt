@@ -1,6 +1,6 @@
 -- What a handle's map says of generated positions.
 use Rattle.std.specs.Prelude.{◌≡◌, ◌≢◌, ◌⊎◌, ℕ, true, List, length, Option, Some, None, option_map}
-use Rattle.std.specs.Prelude.{Result, Err, MatchOption, MatchResult}
+use Rattle.std.specs.Prelude.{MatchOption}
 use Rattle.std.specs.List.{AllZip}
 use Rattle.oxc_sourcemap_tokens.specs.declared.error.Error.{Error}
 use Rattle.oxc_sourcemap_tokens.specs.declared.position.Position.{Position}
@@ -16,12 +16,10 @@ use Rattle.oxc_sourcemap_handles.specs.declared.call_error.CallError.{CallError}
 use Rattle.oxc_sourcemap_handles.specs.declared.call_error.CallError.TheVariants.{NullHandle}
 use Rattle.oxc_sourcemap_handles.specs.declared.call_error.CallError.TheVariants.{Lengths}
 use Rattle.oxc_sourcemap_handles.specs.declared.call_error.CallError.TheVariants.{BadOption}
-use Rattle.oxc_sourcemap_handles.specs.declared.held.Held.{Held}
 use Rattle.oxc_sourcemap_handles.specs.declared.options.Bias.{Bias}
 use Rattle.oxc_sourcemap_handles.specs.declared.options.Bias.TheVariants.{Before, Clamped, After}
 use Rattle.oxc_sourcemap_handles.specs.declared.text.Original.{Original}
 use Rattle.oxc_sourcemap_handles.specs.CallErrors.{of_map}
-use Rattle.oxc_sourcemap_handles.specs.Holding.{held_map}
 use Rattle.oxc_sourcemap_handles.specs.Indexed.{IsOutOfOrder}
 use Rattle.oxc_sourcemap_handles.specs.Options.{bias_of}
 use Rattle.oxc_sourcemap_handles.specs.Places.{IsSeen, HasOriginal, index_number}
@@ -65,14 +63,6 @@ IsUntraced m r = (e : Error) × IsOutOfOrder m.tokens e × (r ≡ of_map e)
 -- there is a bias of this number, of which this holds
 abbrev pub HasBias : ℕ → (Bias → Type 0) → Type 0
 HasBias number P = MatchOption (bias_of number) ⊥ P
-
--- the result of tracing a handle's map at a position by the bias of this number: the trace, `NullHandle`, `BadOption`, or an error
--- of line order
-abbrev pub IsTraced : ℕ → Result Original CallError → Option Held → Position → Type 0
-IsTraced bias answer held at =
-    MatchOption (held_map held) (answer ≡ Err NullHandle)
-    (λ m. MatchOption (bias_of bias) (answer ≡ Err BadOption)
-    (λ b. MatchResult answer (λ p. IsInLineOrder m.tokens × IsTraceOf b m at p) (IsUntraced m)))
 
 -- an error of tracing what a handle holds, by the bias of this number
 abbrev pub IsTraceError : Option MapRecord → ℕ → CallError → Type 0

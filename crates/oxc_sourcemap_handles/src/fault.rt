@@ -85,6 +85,8 @@ impl Fault {
     }
 
     /// The numbers of an error.
+    #[cold]
+    #[inline(never)]
     pub fn of(error: CallError) -> Fault
         ensures { result ≡ fault_of error }
     {

@@ -138,8 +138,10 @@ impl LoadedMap {
     }
 
     /// The index of the lines. Fails with `LineOrder` if the tokens are not in line order.
+    #[inline(always)]
     fn index(&self) -> Result<&LineIndex>
         ensures index { IfOk result (λ index. IsIndexOf self.now.map.tokens index.now) }
+        ensures order { OnOk result (IsInLineOrder self.now.map.tokens) }
         ensures error { IfErr result (IsOutOfOrder self.now.map.tokens) }
     {
         match &self.index {
@@ -165,40 +167,80 @@ impl LoadedMap {
         }
     }
 
-    /// What the token at this index says, or that there is none.
-    fn original_of(&self, found: Option<usize>) -> Original
+    /// Writes what the token at this index says, or that there is none.
+    #[inline(always)]
+    fn write_original(&self, found: Option<usize>, out: &mut Original)
         requires { IfSome found (λ i. i < length self.now.map.tokens) }
-        ensures { IsSeen self.now.map found result }
+        ensures { IsSeen self.now.map found out.new }
     {
-        match found {
+        *out = match found {
             Some(i) => {
                 let token = self.map.get_tokens().as_slice()[i];
                 Original::of(i, token, self.map.as_source_map())
             }
             None => Original::nothing(),
+        };
+    }
+
+    /// Writes what the map says of a generated position, found by this index of lines.
+    // An answer that calls return is copied by each, sixteen bytes at a time, and a processor waits for bytes that it has just
+    // stored in smaller parts.
+    #[inline(always)]
+    fn trace_by(&self, index: &LineIndex, at: Position, bias: Bias, out: &mut Original)
+        requires { IsIndexOf self.now.map.tokens index.now }
+        ensures { IsTraceOf bias self.now.map at out.new }
+    {
+        let found = self.find(index, at, bias);
+        self.write_original(found, out)
+    }
+
+    /// As `trace_by`, where the bias is a rare one: apart, so that the usual lookup is short.
+    #[cold]
+    #[inline(never)]
+    fn trace_by_rare(&self, index: &LineIndex, at: Position, bias: Bias, out: &mut Original)
+        requires { IsIndexOf self.now.map.tokens index.now }
+        ensures { IsTraceOf bias self.now.map at out.new }
+    {
+        self.trace_by(index, at, bias, out)
+    }
+
+    /// Writes what the map says of a generated position. Fails with `LineOrder` if the tokens are not in line order, and writes
+    /// nothing then.
+    #[inline(always)]
+    pub fn trace(&self, at: Position, bias: Bias, out: &mut Original) -> Result<()>
+        ensures traced { OnOk result (IsInLineOrder self.now.map.tokens
+            × IsTraceOf bias self.now.map at out.new) }
+        ensures error { IfErr result (IsOutOfOrder self.now.map.tokens) }
+        ensures unchanged { OnErr result (out.new ≡ out.old) }
+    {
+        let index = self.index()?;
+        match bias {
+            Bias::Before => self.trace_by(index, at, Bias::Before, out),
+            Bias::Clamped | Bias::After => self.trace_by_rare(index, at, bias, out),
+        }
+        Ok(())
+    }
+
+    /// Writes what the map says of many positions, found by this index of lines, each at the index of its position.
+    #[inline(always)]
+    fn write_traces(
+        &self,
+        index: &LineIndex,
+        positions: &[Position],
+        bias: Bias,
+        out: &mut [Original],
+    )
+        requires index { IsIndexOf self.now.map.tokens index.now }
+        requires lengths { length positions.now ≡ length out.old }
+        ensures { AreTracesOf bias positions.now out.new self.now.map }
+    {
+        for i in 0..positions.len() {
+            self.trace_by(index, positions[i], bias, &mut out[i]);
         }
     }
 
-    /// What the map says of a generated position, found by this index of lines.
-    fn trace_by(&self, index: &LineIndex, at: Position, bias: Bias) -> Original
-        requires { IsIndexOf self.now.map.tokens index.now }
-        ensures { IsTraceOf bias self.now.map at result }
-    {
-        let found = self.find(index, at, bias);
-        self.original_of(found)
-    }
-
-    /// What the map says of a generated position. Fails with `LineOrder` if the tokens are not in line order.
-    pub fn trace(&self, at: Position, bias: Bias) -> Result<Original>
-        ensures traced { IfOk result (λ original. IsInLineOrder self.now.map.tokens
-            × IsTraceOf bias self.now.map at original) }
-        ensures error { IfErr result (IsOutOfOrder self.now.map.tokens) }
-    {
-        let index = self.index()?;
-        Ok(self.trace_by(index, at, bias))
-    }
-
     /// What the map says of many positions, each at the index of its position. Fails as `trace` does, and writes nothing then.
+    // Each bias has its own loop, which does not ask for it.
     pub fn trace_all(&self, positions: &[Position], bias: Bias, out: &mut [Original]) -> Result<()>
         requires { length positions.now ≡ length out.old }
         ensures traced { OnOk result (AreTracesOf bias positions.now out.new self.now.map) }
@@ -206,10 +248,25 @@ impl LoadedMap {
         ensures unchanged { OnErr result (out.new ≡ out.old) }
     {
         let index = self.index()?;
-        for i in 0..positions.len() {
-            out[i] = self.trace_by(index, positions[i], bias);
+        match bias {
+            Bias::Before => self.write_traces(index, positions, Bias::Before, out),
+            Bias::Clamped => self.write_traces(index, positions, Bias::Clamped, out),
+            Bias::After => self.write_traces(index, positions, Bias::After, out),
         }
         Ok(())
+    }
+
+    /// Writes the indices of the tokens that answer for many positions, found by this index of lines, each at the index of its
+    /// position; 4294967295 for none.
+    #[inline(always)]
+    fn write_found(&self, index: &LineIndex, positions: &[Position], bias: Bias, out: &mut [u32])
+        requires index { IsIndexOf self.now.map.tokens index.now }
+        requires lengths { length positions.now ≡ length out.old }
+        ensures { AreFoundIn bias positions.now out.new self.now.map }
+    {
+        for i in 0..positions.len() {
+            out[i] = index_or_none(self.find(index, positions[i], bias));
+        }
     }
 
     /// The indices of the tokens that answer for many positions, each at the index of its position; 4294967295 for none. Fails as
@@ -221,8 +278,10 @@ impl LoadedMap {
         ensures unchanged { OnErr result (out.new ≡ out.old) }
     {
         let index = self.index()?;
-        for i in 0..positions.len() {
-            out[i] = index_or_none(self.find(index, positions[i], bias));
+        match bias {
+            Bias::Before => self.write_found(index, positions, Bias::Before, out),
+            Bias::Clamped => self.write_found(index, positions, Bias::Clamped, out),
+            Bias::After => self.write_found(index, positions, Bias::After, out),
         }
         Ok(())
     }

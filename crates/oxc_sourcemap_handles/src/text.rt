@@ -48,6 +48,7 @@ impl Text {
     }
 
     /// A text, or an empty one if there is none.
+    #[inline(always)]
     fn of_option(text: Option<&str>) -> Text
         ensures { result.len ≡ length (unwrap_or (lent_item text.entry) []) }
     {
@@ -148,6 +149,7 @@ pub struct Original {
 
 impl Original {
     /// The answer if there is no token.
+    #[inline(always)]
     pub fn nothing() -> Original
         ensures kind { HasOriginal result None }
         ensures index { result.index ≡ 4294967295 }
@@ -163,6 +165,7 @@ impl Original {
     }
 
     /// What a token says, as a view of its map.
+    #[inline(always)]
     fn of_view(index: u32, token: TokenNumbers, view: &SourceViewToken<'_, '_>) -> Original
         ensures index { result.index ≡ index }
         ensures token { result.token ≡ token }
@@ -186,6 +189,7 @@ impl Original {
     }
 
     /// What the token at this index of a map says.
+    #[inline(always)]
     pub fn of(index: usize, token: Token, map: &SourceMap<'static>) -> Original
         requires { slice_get map.now.tokens index ≡ Some token }
         ensures { IsSeen map.now (Some index) result }

@@ -14,7 +14,7 @@ pub use Rattle.oxc_sourcemap_handles.specs.Places.{HasContent, bytes_of_options,
 pub use Rattle.oxc_sourcemap_handles.specs.Places.{capped, counts_of, map_bytes, numbers_of}
 pub use Rattle.oxc_sourcemap_handles.specs.Places.{piece_numbers, token_numbers}
 pub use Rattle.oxc_sourcemap_handles.specs.Traces.{AreFoundIn, AreTracesOf, HasBias}
-pub use Rattle.oxc_sourcemap_handles.specs.Traces.{IsTraceAllError, IsTraced}
+pub use Rattle.oxc_sourcemap_handles.specs.Traces.{IsTraceAllError, IsTraceError, IsTraceOf}
 pub use Rattle.oxc_sourcemap_handles.specs.declared.call_error.CallError.TheVariants.{Lengths}
 pub use Rattle.oxc_sourcemap_handles.specs.declared.call_error.CallError.TheVariants.{NullHandle}
 pub use Rattle.oxc_sourcemap_handles.specs.declared.options.Direction.TheVariants.{OnLine}
@@ -44,6 +44,7 @@ pub use Rattle.oxc_sourcemap_reverse.specs.Orders.{IsSourceOrderOf}
 pub use Rattle.oxc_sourcemap_reverse.specs.Reverse.{indices_on, is_into}
 pub use Rattle.oxc_sourcemap_tokens.specs.Chunks.{lent_chunks}
 pub use Rattle.oxc_sourcemap_tokens.specs.Errors.{unless}
+pub use Rattle.oxc_sourcemap_tokens.specs.LineOrder.{IsInLineOrder}
 pub use Rattle.oxc_sourcemap_tokens.specs.Results.{Answers, lent_item}
 pub use Rattle.oxc_sourcemap_tokens.specs.Token.{TokenRecord, last}
 pub use Rattle.oxc_sourcemap_url.specs.DataUrls.{decoded_data_url}

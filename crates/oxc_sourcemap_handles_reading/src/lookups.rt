@@ -3,10 +3,10 @@ ghost use Rattle.std.specs.Prelude.{◌≡◌, ◌≢◌, Ok, Err, length, map, 
 ghost use Rattle.std.specs.Prelude.{MatchOption, MatchResult, Some, ◌<◌, drop, get_or};
 ghost use Rattle.oxc_sourcemap_handles_reading.specs.Words.{NullHandle, fault_of, code_of};
 ghost use Rattle.oxc_sourcemap_handles_reading.specs.Words.{no_fault, held_map, HoldsMap, HasBias};
-ghost use Rattle.oxc_sourcemap_handles_reading.specs.Words.{IsTraced, AreTracesOf, AreFoundIn};
-ghost use Rattle.oxc_sourcemap_handles_reading.specs.Words.{IsTraceAllError, Lengths, filled};
-ghost use Rattle.oxc_sourcemap_handles_reading.specs.Words.{piece_numbers, ArePieces, IsDifference};
-ghost use Rattle.oxc_sourcemap_handles_reading.specs.Words.{IsBack, Piece};
+ghost use Rattle.oxc_sourcemap_handles_reading.specs.Words.{IsTraceOf, AreTracesOf, AreFoundIn};
+ghost use Rattle.oxc_sourcemap_handles_reading.specs.Words.{IsTraceError, IsTraceAllError, Lengths};
+ghost use Rattle.oxc_sourcemap_handles_reading.specs.Words.{IsInLineOrder, piece_numbers, IsBack};
+ghost use Rattle.oxc_sourcemap_handles_reading.specs.Words.{ArePieces, IsDifference, Piece, filled};
 
 use oxc_sourcemap_handles::{Bias, CallError, Fault, Lent, Original, PieceNumbers};
 use oxc_sourcemap_pieces::Pieces;
@@ -46,6 +46,7 @@ pub fn write_told<T: Drop>(answer: Result<T, CallError>, out: &mut T, fault: &mu
 }
 
 /// The code of a result that is written already. Writes the numbers of the error.
+#[inline(always)]
 pub fn write_fault(answer: Result<(), CallError>, fault: &mut Fault) -> u32
     ensures { MatchResult answer (λ _. (result ≡ 0) × (fault.new ≡ no_fault))
         (λ r. (result ≡ code_of r) × (fault.new ≡ fault_of r)) }
@@ -62,14 +63,18 @@ pub fn write_fault(answer: Result<(), CallError>, fault: &mut Fault) -> u32
     }
 }
 
-/// What the map in a handle says of a generated position, by the bias of this number.
-pub fn trace(map: &mut Lent, at: Position, bias: u32) -> Result<Original, CallError>
-    ensures found { IsTraced bias result map.old.held at }
+/// Writes what the map in a handle says of a generated position, by the bias of this number, and nothing on an error.
+#[inline(always)]
+pub fn trace(map: &mut Lent, at: Position, bias: u32, out: &mut Original) -> Result<(), CallError>
+    ensures traced { OnOk result (HoldsMap map.old.held (λ m. IsInLineOrder m.tokens
+        × HasBias bias (λ b. IsTraceOf b m at out.new))) }
+    ensures error { IfErr result (IsTraceError (held_map map.old.held) bias) }
+    ensures unchanged { OnErr result (out.new ≡ out.old) }
     ensures back { IsBack map.old map.new }
 {
     let loaded = map.map()?;
     let bias = Bias::of(bias)?;
-    Ok(loaded.trace(at, bias)?)
+    Ok(loaded.trace(at, bias, out)?)
 }
 
 /// Whether there are as many answers as positions. Fails with `Lengths` if not.

@@ -2,10 +2,10 @@ use Rattle.std.proofs.Common.{arith}
 use Rattle.oxc_sourcemap_handles.specs.Traces.{IsTraceOf}
 use Rattle.oxc_sourcemap_handles.proofs.Filling.{all_zip}
 use Rattle.oxc_sourcemap_handles.proofs.Traced.{index_order}
-use Rattle.oxc_sourcemap_handles.proofs.held.LoadedMap.trace_all.Goals as goal
+use Rattle.oxc_sourcemap_handles.proofs.held.LoadedMap.write_traces.Goals as goal
 
-pub returns-clause-traced : goal.returns-clause-traced
-returns-clause-traced c = (
-  index_order c.args.self.now.map.tokens c.in_ok-index.index.now c.in_ok-index.ensures.index,
+pub returns : goal.returns
+returns c = (
+  index_order c.args.self.now.map.tokens c.args.index.now c.requires.index,
   all_zip (IsTraceOf c.args.bias c.args.self.now.map) c.args.positions.now c.loop-i.out (omega arith) (λ k at p below. c.loop-i.invariant k at p (omega arith)),
 )

@@ -173,7 +173,8 @@ impl Original {
             → token.src_col ≡ (view_of view.now).token.src_col
             → HasOriginal result (Some (view_original (view_of view.now))) }
     {
-        let (source, _, _, name) = view.to_tuple();
+        let source = view.get_source();
+        let name = view.get_name();
         let kind = match (source, name) {
             (None, _) => 1,
             (Some(_), None) => 2,

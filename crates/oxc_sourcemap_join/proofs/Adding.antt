@@ -1,14 +1,14 @@
 -- What is worked out for an add is right.
 use Rattle.std.proofs.Common.{◌≡◌, ℕ, ◌+◌, ◌-◌, ◌≤◌, List, [], ◌∷◌, ◌++◌, map, length, take, drop}
 use Rattle.std.proofs.Common.{refl, sym, ap, ◌∙◌, subst, arith, Option, Some, None, ◌⊎◌, inl, inr}
-use Rattle.std.proofs.Common.{slice_get, ◌↔◌, Result, Ok, Err}
+use Rattle.std.proofs.Common.{◌↔◌, Result, Ok, Err}
 use Rattle.std.specs.Result.{IsErrOf, IsErrAnd}
 use Rattle.oxc_sourcemap_tokens.specs.declared.error.Error.{Error}
 use Rattle.oxc_sourcemap_tokens.specs.declared.error.Error.TheVariants.{OutOfMemory, TooLarge}
 use Rattle.std.specs.List.{AllByRecursion, All}
-use Rattle.std.specs.Option.{IfSome, unwrap_or}
+use Rattle.std.specs.Option.{unwrap_or}
 use Rattle.std.proofs.lemmas.List.{length-append, length-drop, take_all, map-append}
-use Rattle.std.proofs.lemmas.List.Elements.{All-append, All-head, All-from_recursion}
+use Rattle.std.proofs.lemmas.List.Elements.{All-append, All-from_recursion}
 use Rattle.std.proofs.lemmas.List.Elements.{recursion_from_All}
 use Rattle.oxc_sourcemap_tokens.specs.declared.token.TokenChunk.{TokenChunk}
 use Rattle.oxc_sourcemap_tokens.specs.Token.{TokenRecord, IsInBounds, AreInBounds, last}
@@ -45,11 +45,6 @@ pub moved-in-bounds : (r m : MapRecord) (offset : Position) (s : Shift) → s.na
 moved-in-bounds r m offset s n o l h w =
     repeat-in-bounds r.tokens (all_shifted s m.tokens)
     (subst (λ us. AreInBounds (r.tokens ++ without_repeat is_same_token (last r.tokens) us)) (sym (shifted-by r offset s n o l m.tokens)) w.in_bounds) h
-
--- of moved tokens in bounds, the first is
-pub first-in-bounds : (s : Shift) (ts : List TokenRecord) → AreInBounds (all_shifted s ts) → IfSome (slice_get ts 0) (λ t. IsInBounds (shifted s.names s.sources s.position t))
-first-in-bounds s [] h = tt
-first-in-bounds s (t ∷ ts) h = All-head IsInBounds _ (all_shifted s ts) h
 
 after-each : {A : Type 0} (P : A → Type 0) (xs ys : List A) → AllByRecursion P (xs ++ ys) → AllByRecursion P ys
 after-each P [] ys h = h

@@ -2,6 +2,7 @@
 use Rattle.std.proofs.Common.{◌≡◌, ℕ, zero, suc, ◌+◌, ◌-◌, ◌<◌, List, [], ◌∷◌, ◌++◌, map, length}
 use Rattle.std.proofs.Common.{take, replicate, get_or, refl, sym, ap, ◌∙◌, subst, arith}
 use Rattle.std.proofs.Common.{Option, Some, None, slice_get, true, false, cond, append_assoc, ◌==◌}
+use Rattle.std.proofs.Common.{◌≤◌}
 use Rattle.std.specs.List.{All, AllByRecursion}
 use Rattle.std.specs.Option.{IfSome, option_map, unwrap_or}
 use Rattle.std.specs.Iterator.{YieldsFirstBy}
@@ -30,7 +31,7 @@ unmoved-id : (n : ℕ) (o : Option ℕ) → n ≡ 0 → raised_id n o ≡ o
 unmoved-id n None e = refl
 unmoved-id n (Some i) e = let same : i + n ≡ i = omega (arith, e) in ap (λ j. Some j) same
 
-unmoved-column : (offset : Position) (line column : ℕ) → offset.column ≡ 0 → shifted_column offset line column ≡ column
+pub unmoved-column : (offset : Position) (line column : ℕ) → offset.column ≡ 0 → shifted_column offset line column ≡ column
 unmoved-column offset line column e = elim (line == 0) as (λ q. cond q (column + offset.column) column ≡ column) [ true ↦ omega (arith, e) | false ↦ refl ]
 
 -- where nothing is added, tokens stay as they are
@@ -123,3 +124,9 @@ first-kept f x (u ∷ ts) t e h =
     let same : u ≡ t = cc in
     let other : is_same_token x (f u) ≡ false = ap (λ v. is_same_token x (f v)) same ∙ h in
     rw other
+
+pub take-take : {A : Type 0} (m n : ℕ) (xs : List A) → m ≤ n → take m (take n xs) ≡ take m xs
+take-take zero n xs h = refl
+take-take (suc m) zero xs h = absurd (omega (arith, h))
+take-take (suc m) (suc n) [] h = refl
+take-take (suc m) (suc n) (x ∷ xs) h = ap (λ ys. x ∷ ys) (take-take m n xs (omega (arith, h)))

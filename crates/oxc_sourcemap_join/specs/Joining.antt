@@ -42,7 +42,7 @@ pub record IsInReach (r : Reach) (t : TokenRecord) : Type 0 where
   pub name : id_limit t.name_id ≤ slice_index_or r.ids 1 0
 
 -- What is worked out for a map after a join: how its tokens are moved, how many at the front are left out, and the chunk of
--- the others. The limits of tokens are left aside, but for the first one.
+-- the others. The limits of tokens are left aside.
 pub record IsAddition (r m : MapRecord) (place : Position) (a : Addition) : Type 0 where
   pub names : a.shift.names ≡ length r.names
   pub sources : a.shift.sources ≡ length r.sources

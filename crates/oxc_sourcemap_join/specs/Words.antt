@@ -1,5 +1,6 @@
 -- The words of this crate's clauses, from one place.
 pub use Rattle.oxc_sourcemap_parts.specs.Views.{texts_of, contents_of, ids_of, record_of_parts}
+pub use Rattle.oxc_sourcemap_parts.specs.Views.{cow_texts}
 pub use Rattle.oxc_sourcemap_tokens.specs.Chunks.{ChunksFit}
 pub use Rattle.oxc_sourcemap_tokens.specs.Results.{OnlyMemory, lent_item}
 pub use Rattle.oxc_sourcemap_tokens.specs.Token.{TokenRecord, IsInBounds, AreInBounds, last}

@@ -15,9 +15,9 @@ ghost use Rattle.oxc_sourcemap_join.specs.Words.{without_repeat, raised_ignore_l
 ghost use Rattle.oxc_sourcemap_join.specs.Words.{appended_ignore_lists, added, nothing_joined};
 ghost use Rattle.oxc_sourcemap_join.specs.Words.{AreEntriesInBounds, IsWithinLimits, position};
 ghost use Rattle.oxc_sourcemap_join.specs.Words.{all_shifted, id_limit, IsInReach, IsAddition};
-ghost use Rattle.oxc_sourcemap_join.specs.Words.{OnlyMemory, lent_item, TokenRecord};
+ghost use Rattle.oxc_sourcemap_join.specs.Words.{OnlyMemory, lent_item, TokenRecord, cow_texts};
 
-use oxc_sourcemap_parts::{Contents, SourceMapParts, Texts, contents_in, texts_in};
+use oxc_sourcemap_parts::{Contents, SourceMapParts, Texts, contents_in, owned_text, texts_in};
 use oxc_sourcemap_tokens::{Error, Memory, Position, Result, Token, TokenChunk, next_chunk};
 use std::alloc::Global;
 use std::borrow::CowStr;
@@ -112,6 +112,14 @@ struct Reach {
 }
 
 impl Reach {
+    /// A reach of no tokens.
+    fn of_none() -> Reach {
+        Reach {
+            positions: u32x4::splat(0),
+            ids: u32x4::splat(0),
+        }
+    }
+
     /// The reach of one more token.
     fn with(self, token: &Token) -> Reach
         ensures token { IsInReach result token.now }
@@ -153,17 +161,6 @@ impl Shift {
             && is_in_reach(token.get_dst_col(), self.column_of(token))
             && is_id_raisable(token.get_source_id(), self.sources)
             && is_id_raisable(token.get_name_id(), self.names)
-    }
-
-    /// Whether the first of some tokens, if there is one, is in bounds once it is moved.
-    fn fits_first(self, tokens: &[Token]) -> bool
-        ensures { IsTrue result ↔ IfSome (slice_get tokens.now 0)
-            (λ t. IsInBounds (shifted self.names self.sources self.position t)) }
-    {
-        match tokens.first() {
-            Some(first) => self.fits(first),
-            None => true,
-        }
     }
 
     /// Whether tokens are in bounds once they are moved.
@@ -208,7 +205,17 @@ impl Shift {
         ensures { IsInBounds (shifted self.now.names self.now.sources self.now.position token.now)
             → result ≡ shifted self.now.names self.now.sources self.now.position token.now }
     {
-        let moves = u32x4::from_array([self.position.line, self.column_of(token), 0, 0]);
+        self.shift_by(token, self.column_of(token))
+    }
+
+    /// As `shift`, where it is known by how much the column is moved.
+    fn shift_by(&self, token: &Token, column: u32) -> Token
+        requires { token.now.dst_col + column
+            ≡ shifted_column self.now.position token.now.dst_line token.now.dst_col }
+        ensures { IsInBounds (shifted self.now.names self.now.sources self.now.position token.now)
+            → result ≡ shifted self.now.names self.now.sources self.now.position token.now }
+    {
+        let moves = u32x4::from_array([self.position.line, column, 0, 0]);
         let raises = u32x4::from_array([self.sources, self.names, 0, 0]);
         let [line, column, src_line, src_col] = (position_lanes(token) + moves).to_array();
         let [source, name, _, _] = id_lanes(token).saturating_add(raises).to_array();
@@ -224,6 +231,7 @@ impl Shift {
     }
 
     /// The error of an add that finds no room for these tokens: a limit that they pass comes first.
+    #[cold]
     fn error_without_room(self, tokens: &[Token]) -> Error
         ensures too_large { (result ≡ TooLarge) ↔ ¬ (AreInBounds (all_shifted self tokens.now)) }
         ensures error { (result ≡ OutOfMemory) ⊎ (result ≡ TooLarge) }
@@ -235,16 +243,25 @@ impl Shift {
         }
     }
 
+    /// Whether a token, once it is moved, equals one of the join. Most are not on its line.
+    fn repeats(&self, last_token: Token, token: &Token) -> bool
+        ensures { result ≡ is_same_token last_token
+            (shifted self.now.names self.now.sources self.now.position token.now) }
+    {
+        let line = u64::from(token.get_dst_line()) + u64::from(self.position.line);
+        line == u64::from(last_token.get_dst_line())
+            && self.fits(token)
+            && last_token == self.shift(token)
+    }
+
     /// How many tokens of a map are left out: one, the first, if that equals the last token so far once it is moved.
     fn skip_len(&self, last_token: Option<Token>, tokens: &[Token]) -> usize
-        requires { IfSome (slice_get tokens.now 0)
-            (λ t. IsInBounds (shifted self.now.names self.now.sources self.now.position t)) }
         ensures kept { all_shifted self.now (drop result tokens.now)
             ≡ without_repeat is_same_token last_token (all_shifted self.now tokens.now) }
         ensures within { result ≤ length tokens.now }
     {
         if let (Some(last_token), Some(first)) = (last_token, tokens.first()) {
-            if last_token == self.shift(first) {
+            if self.repeats(last_token, first) {
                 return 1;
             }
         }
@@ -346,7 +363,8 @@ fn push_texts<'a>(texts: &mut Vec<CowStr<'a>>, lent: Texts<'a, '_>)
 /// Adds this many unknown contents.
 fn push_unknown<'a>(contents: &mut Vec<Option<CowStr<'a>>>, count: usize)
     requires { vec_len contents.old + count ≤ vec_capacity contents.old }
-    ensures { contents_of contents.new ≡ contents_of contents.old ++ replicate count None }
+    ensures added { contents_of contents.new ≡ contents_of contents.old ++ replicate count None }
+    ensures front { take (vec_len contents.old) contents.new.items ≡ contents.old.items }
 {
     for i in 0..count {
         contents.push_reserved(None);
@@ -396,6 +414,118 @@ fn push_fitted<'a>(
     push_unknown(contents, unknown);
 }
 
+/// Adds copies of texts. On an error some may be added.
+fn push_copies<'a>(alloc: Global, texts: &mut Vec<CowStr<'a>>, added: &[CowStr<'_>]) -> Memory<()>
+    requires { vec_len texts.old + length added.now ≤ vec_capacity texts.old }
+    ensures copied { OnOk result (texts_of texts.new ≡ texts_of texts.old ++ cow_texts added.now) }
+    ensures front { take (vec_len texts.old) texts.new.items ≡ texts.old.items }
+{
+    for text in added {
+        texts.push_reserved(owned_text(alloc, text.as_str())?);
+    }
+    Ok(())
+}
+
+/// A copy of a content, if it is known.
+fn copied_content<'a>(alloc: Global, content: &Option<CowStr<'_>>) -> Memory<Option<CowStr<'a>>>
+    ensures { IfOk result (λ copy. option_map cow_str_bytes copy
+        ≡ option_map cow_str_bytes content.now) }
+{
+    match content {
+        Some(text) => Ok(Some(owned_text(alloc, text.as_str())?)),
+        None => Ok(None),
+    }
+}
+
+/// Keeps copies of contents at the index of their source, as `push_lent_fitted` does with borrowed ones. On an error some may be
+/// added.
+fn push_copies_fitted<'a>(
+    alloc: Global,
+    contents: &mut Vec<Option<CowStr<'a>>>,
+    added: &[Option<CowStr<'_>>],
+    count: usize,
+) -> Memory<()>
+    requires { vec_len contents.old + count ≤ vec_capacity contents.old }
+    ensures copied { OnOk result (contents_of contents.new ≡ contents_of contents.old
+        ++ fitted count (map (option_map cow_str_bytes) added.now)) }
+    ensures front { take (vec_len contents.old) contents.new.items ≡ contents.old.items }
+{
+    let known = added.len().min(count);
+    for content in &added[..known] {
+        contents.push_reserved(copied_content(alloc, content)?);
+    }
+    push_unknown(contents, count - known);
+    Ok(())
+}
+
+/// Adds copies of the texts of a map. On an error some may be added.
+fn push_all_copies<'a>(
+    alloc: Global,
+    names: &mut Vec<CowStr<'a>>,
+    sources: &mut Vec<CowStr<'a>>,
+    contents: &mut Vec<Option<CowStr<'a>>>,
+    parts: &SourceMapParts<'_>,
+) -> Memory<()>
+    requires room_for_names { vec_len names.old + vec_len parts.now.names ≤ vec_capacity names.old }
+    requires room_for_sources { vec_len sources.old + vec_len parts.now.sources
+        ≤ vec_capacity sources.old }
+    requires room_for_contents { vec_len contents.old + vec_len parts.now.sources
+        ≤ vec_capacity contents.old }
+    ensures names { OnOk result (texts_of names.new
+        ≡ texts_of names.old ++ (record_of_parts parts.now).names) }
+    ensures sources { OnOk result (texts_of sources.new
+        ≡ texts_of sources.old ++ (record_of_parts parts.now).sources) }
+    ensures contents { OnOk result (contents_of contents.new ≡ contents_of contents.old
+        ++ fitted (vec_len parts.now.sources) (record_of_parts parts.now).source_contents) }
+    ensures names_front { take (vec_len names.old) names.new.items ≡ names.old.items }
+    ensures sources_front { take (vec_len sources.old) sources.new.items ≡ sources.old.items }
+    ensures contents_front { take (vec_len contents.old) contents.new.items ≡ contents.old.items }
+{
+    push_copies(alloc, names, parts.names.as_slice())?;
+    push_copies(alloc, sources, parts.sources.as_slice())?;
+    push_copies_fitted(
+        alloc,
+        contents,
+        parts.source_contents.as_slice(),
+        parts.sources.len(),
+    )
+}
+
+/// Drops the texts that were added to lists of these lengths.
+#[cold]
+fn cut_texts<'a>(
+    names: &mut Vec<CowStr<'a>>,
+    sources: &mut Vec<CowStr<'a>>,
+    contents: &mut Vec<Option<CowStr<'a>>>,
+    names_len: usize,
+    sources_len: usize,
+)
+    ensures names { names.new.items ≡ take names_len names.old.items }
+    ensures sources { sources.new.items ≡ take sources_len sources.old.items }
+    ensures contents { contents.new.items ≡ take sources_len contents.old.items }
+{
+    names.truncate(names_len);
+    sources.truncate(sources_len);
+    contents.truncate(sources_len);
+}
+
+/// Adds moved tokens whose columns stay as they are, as `push_each` does.
+fn push_each_down(tokens: &mut Vec<Token>, shift: Shift, added: &[Token]) -> Reach
+    requires room { vec_len tokens.old + length added.now ≤ vec_capacity tokens.old }
+    requires column { shift.position.column ≡ 0 }
+    ensures front { take (vec_len tokens.old) tokens.new.items ≡ tokens.old.items }
+    ensures items { AreInBounds (all_shifted shift added.now)
+        → tokens.new.items ≡ tokens.old.items ++ all_shifted shift added.now }
+    ensures reach { All (IsInReach result) added.now }
+{
+    let mut reach = Reach::of_none();
+    for token in added {
+        reach = reach.with(token);
+        tokens.push_reserved(shift.shift_by(token, 0));
+    }
+    reach
+}
+
 /// Adds moved tokens, or as many others where not all are in bounds then, and finds a reach of those that it was given.
 fn push_each(tokens: &mut Vec<Token>, shift: Shift, added: &[Token]) -> Reach
     requires { vec_len tokens.old + length added.now ≤ vec_capacity tokens.old }
@@ -404,10 +534,10 @@ fn push_each(tokens: &mut Vec<Token>, shift: Shift, added: &[Token]) -> Reach
         → tokens.new.items ≡ tokens.old.items ++ all_shifted shift added.now }
     ensures reach { All (IsInReach result) added.now }
 {
-    let mut reach = Reach {
-        positions: u32x4::splat(0),
-        ids: u32x4::splat(0),
-    };
+    if shift.position.column == 0 {
+        return push_each_down(tokens, shift, added);
+    }
+    let mut reach = Reach::of_none();
     for token in added {
         reach = reach.with(token);
         tokens.push_reserved(shift.shift(token));
@@ -495,7 +625,7 @@ fn push_raised(list: &mut Vec<u32>, added: &[u32], number: u32)
 }
 
 /// The parts of the join of some maps, each at a position of the joined code. `add_lent` borrows the strings of a map for
-/// `'a`, `add_moved` moves them: neither copies a string.
+/// `'a`, `add_moved` moves them, `add_copied` copies them.
 ///
 /// An add that fails leaves the join as it was. Whether the result is sorted is not checked.
 #[derive(Drop)]
@@ -608,7 +738,6 @@ impl<'a> JoinedParts<'a> {
         let tokens = parts.tokens.as_slice();
         if parts.names.len() > MAX_COUNT - self.names.len()
             || parts.sources.len() > MAX_COUNT - self.sources.len()
-            || !shift.fits_first(tokens)
         {
             return None;
         }
@@ -739,6 +868,75 @@ impl<'a> JoinedParts<'a> {
         self.names.append(&mut names).unwrap();
         self.sources.append(&mut sources).unwrap();
         push_fitted(&mut self.source_contents, source_contents, count);
+        self.token_chunks.push_reserved(addition.chunk);
+        Ok(())
+    }
+
+    /// Appends a map as `add_lent` does, with the same result, but copies its strings. Fails as `add_lent` does; the join is then
+    /// as it was.
+    pub fn add_copied(&mut self, parts: &SourceMapParts<'_>, position: Position) -> Result<()>
+        ensures joined { OnOk result (self.new
+            ≡ added self.old (record_of_parts parts.now) position) }
+        ensures limits { OnOk result (IsWithinLimits
+            (added self.old (record_of_parts parts.now) position)) }
+        ensures too_large { IsErrOf result TooLarge ↔ ¬
+            (IsWithinLimits (added self.old (record_of_parts parts.now) position)) }
+        ensures error { IfErr result (λ e. (e ≡ OutOfMemory) ⊎ (e ≡ TooLarge)) }
+        ensures unchanged { OnErr result (self.new ≡ self.old) }
+    {
+        let Some(addition) = self.addition(parts, position) else {
+            return Err(Error::TooLarge);
+        };
+        let shift = addition.shift;
+        let kept = &parts.tokens.as_slice()[addition.passed..];
+        let (names_len, sources_len) = (self.names.len(), self.sources.len());
+        let Ok(()) = make_room(
+            &mut self.names,
+            &mut self.sources,
+            &mut self.source_contents,
+            &mut self.tokens,
+            &mut self.token_chunks,
+            Lengths {
+                names: parts.names.len(),
+                sources: parts.sources.len(),
+                tokens: kept.len(),
+            },
+        ) else {
+            return Err(shift.error_without_room(kept));
+        };
+        let Ok(()) = push_all_copies(
+            self.alloc,
+            &mut self.names,
+            &mut self.sources,
+            &mut self.source_contents,
+            parts,
+        ) else {
+            cut_texts(
+                &mut self.names,
+                &mut self.sources,
+                &mut self.source_contents,
+                names_len,
+                sources_len,
+            );
+            return Err(shift.error_without_room(kept));
+        };
+        if let Err(e) = push_tokens(
+            self.alloc,
+            &mut self.tokens,
+            &mut self.ignore_list,
+            shift,
+            kept,
+            parts.ignore_list.as_deref(),
+        ) {
+            cut_texts(
+                &mut self.names,
+                &mut self.sources,
+                &mut self.source_contents,
+                names_len,
+                sources_len,
+            );
+            return Err(e);
+        }
         self.token_chunks.push_reserved(addition.chunk);
         Ok(())
     }

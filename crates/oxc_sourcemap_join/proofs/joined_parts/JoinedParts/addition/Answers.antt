@@ -12,11 +12,10 @@ use Rattle.oxc_sourcemap_join.specs.Joining.{all_shifted}
 use Rattle.oxc_sourcemap_join.specs.declared.joined_parts.Shift.{Shift}
 use Rattle.oxc_sourcemap_join.proofs.Moving.{length-mapped}
 use Rattle.oxc_sourcemap_join.proofs.IgnoreLists.{raised-in-bounds}
-use Rattle.oxc_sourcemap_join.proofs.Adding.{moved-in-bounds, first-in-bounds, addition-is}
+use Rattle.oxc_sourcemap_join.proofs.Adding.{addition-is}
 use Rattle.oxc_sourcemap_join.proofs.joined_parts.JoinedParts.addition.Goals as goal
 use Rattle.oxc_sourcemap_join.proofs.joined_parts.JoinedParts.addition.Goals.{then-len-via-then-len}
 use Rattle.oxc_sourcemap_join.proofs.joined_parts.JoinedParts.addition.Goals.{then-len-via-else-len+then-len-2}
-use Rattle.oxc_sourcemap_join.proofs.joined_parts.JoinedParts.addition.Goals.{then-len-via-else-len+else-len-2+then-not-fits_first}
 
 pub returns-then-len-clause-too_large : goal.returns-then-len-clause-too_large
 returns-then-len-clause-too_large c = λ e w.
@@ -45,16 +44,6 @@ returns-then-len-clause-too_large c = λ e w.
         length-mapped cow_str_bytes c.self.inside.sources.items,
         length-mapped cow_str_bytes c.args.parts.now.sources.items,
       ))
-      | then-len-via-else-len+else-len-2+then-not-fits_first b ↦ (
-          let names : c.len.result ≡ length r.names = omega (arith, ap (λ x. length x.names) c.self.view_is, length-mapped cow_str_bytes c.self.inside.names.items, c.len.ensures) in
-          let sources : c.len-2.result ≡ length r.sources = omega (arith, ap (λ x. length x.sources) c.self.view_is, length-mapped cow_str_bytes c.self.inside.sources.items, c.len-2.ensures) in
-          let shift : Shift = record { names = c.len.result; sources = c.len-2.result; position = c.args.position } in
-          let tokens : c.as_slice-tokens.result.now ≡ m.tokens = c.as_slice-tokens.ensures.value in
-          let bounds = moved-in-bounds r m c.args.position shift names sources refl (subst AreInBounds (ap (λ x. x.tokens) c.self.view_is) c.self.invariant.in_bounds) w in
-          let first = first-in-bounds shift c.as_slice-tokens.result.now (subst AreInBounds (ap (all_shifted shift) (sym tokens)) bounds) in
-          let fits : b.fits_first.result ≡ true = b.fits_first.ensures.1 first in
-          let not : b.fits_first.result ≡ false = b.if-not-fits_first.true in
-          absurd cc)
     ]
 
 pub returns-then-not-fits_ignore_list-clause-too_large : goal.returns-then-not-fits_ignore_list-clause-too_large

@@ -207,6 +207,11 @@ fn are_joined_at(
     })?;
     same(rt, "lent to a column", error, wanted.error);
     is_joined(rt, alloc, "lent to a column", Ok(joined), wanted)?;
+    let (joined, error) = lent_each(alloc, maps.as_slice(), |builder, map, line, column| {
+        builder.add_sourcemap_copied_at(map, line, column)
+    })?;
+    same(rt, "copied to a column", error, wanted.error);
+    is_joined(rt, alloc, "copied to a column", Ok(joined), wanted)?;
     let (joined, error) = moved_each(alloc, maps, |builder, map, line, column| {
         builder.add_sourcemap_owned_at(map, line, column)
     })?;

@@ -339,6 +339,13 @@ fn concat_source_map_builder_add_sourcemap_owned_at(rt: HostRuntime) {
 }
 
 #[test]
+fn concat_source_map_builder_add_sourcemap_copied_at(rt: HostRuntime) -> Result<()> {
+    let map = full_map(rt.alloc())?;
+    refuse_each_change(&rt, a_join, |_, builder, ()| builder.add_sourcemap_copied_at(&map, 0, 1), |builder, is_added| joins(&rt, builder, is_added, TWO_AT));
+    Ok(())
+}
+
+#[test]
 fn concat_source_map_builder_into_owned_sourcemap(rt: HostRuntime) {
     refuse_each(&rt, a_join_of_one, |_, builder| builder.into_owned_sourcemap(), |map| is_map(&rt, &map, ONE));
 }

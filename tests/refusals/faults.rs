@@ -104,5 +104,6 @@ fn too_large_of_add_sourcemap(rt: HostRuntime) -> Result<()> {
     let map = map_at(rt.alloc(), &[(4294967295, 0)])?;
     reports(&rt, nothing, |alloc, ()| ConcatSourceMapBuilder::empty(alloc).add_sourcemap(&map, 1), Error::TooLarge);
     reports(&rt, |alloc| map_at(alloc, &[(0, 4294967295)]), |alloc, map| ConcatSourceMapBuilder::empty(alloc).add_sourcemap_owned_at(map, 0, 1), Error::TooLarge);
+    reports(&rt, nothing, |alloc, ()| ConcatSourceMapBuilder::empty(alloc).add_sourcemap_copied_at(&map, 1, 0), Error::TooLarge);
     Ok(())
 }

@@ -14,7 +14,7 @@ use std::marker::Model;
 
 /// Joins maps into one, each at a line and a column of the joined code. Source roots are dropped: `apply_source_root` of a map,
 /// called before it is added, keeps its root, in its sources. The strings of borrowed maps are borrowed for `'a`, those of owned
-/// maps are moved: adding a map copies no string.
+/// maps are moved: adding a map copies no string, unless that is asked for (`add_sourcemap_copied_at`).
 ///
 /// ```rust
 /// use oxc_sourcemap::{ConcatSourceMapBuilder, SourceMap};
@@ -163,6 +163,40 @@ impl<'a> ConcatSourceMapBuilder<'a> {
     {
         self.parts
             .add_moved(sourcemap.into_parts(), Position { line, column })
+    }
+
+    /// Adds a map after the others as `add_sourcemap_at` does, with the same result, but copies its strings: the map may be
+    /// dropped before the builder. Fails as that does; the builder is then as it was.
+    ///
+    /// ```rust
+    /// use oxc_sourcemap::{ConcatSourceMapBuilder, SourceMap};
+    ///
+    /// let mut builder = ConcatSourceMapBuilder::empty(alloc);
+    /// for line in 0..2 {
+    ///     let map = SourceMap::from_json_string(alloc, r#"{"version":3,"sources":["a.js"],"mappings":"AAAA"}"#)?;
+    ///     builder.add_sourcemap_copied_at(&map, line, 10)?;
+    /// }
+    /// let map = builder.into_sourcemap()?;
+    /// let text = r#"{"version":3,"names":[],"sources":["a.js","a.js"],"mappings":"UAAA;UCAA"}"#;
+    /// assert_eq!(rt; map.to_json_string(alloc)?.as_str(), text);
+    /// ```
+    pub fn add_sourcemap_copied_at(
+        &mut self,
+        sourcemap: &SourceMap<'_>,
+        line: u32,
+        column: u32,
+    ) -> Result<()>
+        ensures joined { OnOk result (self.new
+            ≡ added self.old sourcemap.now (position line column)) }
+        ensures limits { OnOk result (IsWithinLimits
+            (added self.old sourcemap.now (position line column))) }
+        ensures too_large { IsErrOf result TooLarge ↔ ¬
+            (IsWithinLimits (added self.old sourcemap.now (position line column))) }
+        ensures error { IfErr result (λ e. (e ≡ OutOfMemory) ⊎ (e ≡ TooLarge)) }
+        ensures unchanged { OnErr result (self.new ≡ self.old) }
+    {
+        self.parts
+            .add_copied(parts_of(sourcemap), Position { line, column })
     }
 
     /// A builder of the join of these maps, each with its line offset, added in order as `add_sourcemap` does. Their source

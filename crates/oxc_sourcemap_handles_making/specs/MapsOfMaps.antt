@@ -18,6 +18,7 @@ use Rattle.oxc_sourcemap_handles.specs.declared.lent.Lent.{Lent}
 use Rattle.oxc_sourcemap_handles.specs.CallErrors.{of_map}
 use Rattle.oxc_sourcemap_handles.specs.Holding.{held_map}
 use Rattle.oxc_sourcemap_handles.specs.Lists.{AreTexts, IsNotTexts}
+use Rattle.oxc_sourcemap_handles_making.specs.Joining.{IsPartsError}
 use Rattle.oxc_sourcemap_lookup.specs.Composed.{SomeComposition}
 
 -- what each of these handles holds
@@ -86,6 +87,10 @@ IsJoinOfMaps ms ps m = (length ms ≡ length ps) × (m ≡ joined (at_places ms 
 -- a map is the join of the maps that these handles hold
 abbrev pub IsJoinOfLent : List (Option Held) → List Position → MapRecord → Type 0
 IsJoinOfLent hs ps m = MatchOption (all_maps hs) ⊥ (λ ms. IsJoinOfMaps ms ps m)
+
+-- an error of adding what a handle holds to a join: it holds no map, or the join would pass a limit
+abbrev pub IsAddErrorOf : MapRecord → Option MapRecord → Position → CallError → Type 0
+IsAddErrorOf join held p r = MatchOption held (r ≡ NullHandle) (λ m. IsPartsError join m p r)
 
 -- an error of joining these maps: there are not as many positions as maps, or the join is past a limit
 abbrev pub IsJoinErrorOfMaps : List MapRecord → List Position → CallError → Type 0

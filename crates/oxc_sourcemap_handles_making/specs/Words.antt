@@ -31,17 +31,16 @@ pub use Rattle.oxc_sourcemap_handles_making.specs.Making.{lists_fault, map_of_li
 pub use Rattle.oxc_sourcemap_handles_making.specs.Making.{token_fault, tokens_fault}
 pub use Rattle.oxc_sourcemap_handles_making.specs.MapsOfMaps.{HoldMaps, IsComposition}
 pub use Rattle.oxc_sourcemap_handles_making.specs.MapsOfMaps.{IsCompositionError, IsJoinErrorOf}
-pub use Rattle.oxc_sourcemap_handles_making.specs.MapsOfMaps.{IsJoinErrorOfMaps, IsJoinOfLent}
-pub use Rattle.oxc_sourcemap_handles_making.specs.MapsOfMaps.{IsJoinOfMaps, IsRemapError}
+pub use Rattle.oxc_sourcemap_handles_making.specs.MapsOfMaps.{IsAddErrorOf, IsJoinOfLent}
+pub use Rattle.oxc_sourcemap_handles_making.specs.MapsOfMaps.{IsRemapError}
 pub use Rattle.oxc_sourcemap_handles_making.specs.MapsOfMaps.{IsRemapped, IsRemapping}
 pub use Rattle.oxc_sourcemap_handles_making.specs.MapsOfMaps.{IsRemappingError, all_lent, all_maps}
-pub use Rattle.oxc_sourcemap_handles_making.specs.MapsOfMaps.{at_places, by_path}
+pub use Rattle.oxc_sourcemap_handles_making.specs.MapsOfMaps.{by_path}
 pub use Rattle.oxc_sourcemap_handles_making.specs.Plans.{IsEvaluationErrorAt, IsInputPlace}
 pub use Rattle.oxc_sourcemap_handles_making.specs.Plans.{IsPlaceOfPlan, IsPlanErrorAt}
 pub use Rattle.oxc_sourcemap_handles_making.specs.Plans.{IsPlanErrorOf, IsPlanMap}
 pub use Rattle.oxc_sourcemap_handles_making.specs.Plans.{call_error_of_run, of_plan}
 pub use Rattle.oxc_sourcemap_join.specs.Joined.{IsWithinLimits, added, nothing_joined}
-pub use Rattle.oxc_sourcemap_join.specs.Joined.{owned_records}
 pub use Rattle.oxc_sourcemap_mappings.specs.Reading.{reading}
 pub use Rattle.oxc_sourcemap_parts.specs.Sound.{IsSound}
 pub use Rattle.oxc_sourcemap_parts.specs.Views.{cow_texts, ids_of, record_of_parts}

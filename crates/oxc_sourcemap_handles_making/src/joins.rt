@@ -17,9 +17,8 @@ use oxc_sourcemap_tokens::Position;
 use std::alloc::Global;
 use std::mem;
 
-fn add_clone(
+fn add_copy(
     join: &mut ConcatSourceMapBuilder<'static>,
-    alloc: Global,
     map: &OwnedSourceMap,
     position: Position,
 ) -> Result<(), CallError>
@@ -29,17 +28,11 @@ fn add_clone(
         → IsPartsError join.old map.now position r) }
     ensures unchanged { OnErr result (join.new ≡ join.old) }
 {
-    let clone = map.clone(alloc)?.into_inner();
-    join.add_sourcemap_owned_at(clone, position.line, position.column)?;
+    join.add_sourcemap_copied_at(map.as_source_map(), position.line, position.column)?;
     Ok(())
 }
 
-fn add_held(
-    held: &mut Held,
-    alloc: Global,
-    map: &mut Lent,
-    position: Position,
-) -> Result<(), CallError>
+fn add_held(held: &mut Held, map: &mut Lent, position: Position) -> Result<(), CallError>
     ensures added { OnOk result (IsJoined (Some held.old) (Some held.new)
         map.old.held position) }
     ensures error { IfErr result (λ r. (r ≢ out_of_memory)
@@ -50,13 +43,13 @@ fn add_held(
     ensures back { IsBack map.old map.new }
 {
     match held {
-        Held::Joining(join) => add_clone(join, alloc, map.map()?.map(), position),
+        Held::Joining(join) => add_copy(join, map.map()?.map(), position),
         _ => Err(CallError::NullHandle),
     }
 }
 
-/// Adds a clone of a map to the join in a handle, at a position. Fails with `NullHandle` if there is no join or no map, with
-/// `TooLarge` if the join would pass a limit, or for want of memory; the join is then as it was.
+/// Adds a map to the join in a handle, at a position. Its strings are copied. Fails with `NullHandle` if there is no join or no
+/// map, with `TooLarge` if the join would pass a limit, or for want of memory; the join is then as it was.
 pub fn add_to_join(
     alloc: Global,
     handle: &mut Handle,
@@ -75,7 +68,7 @@ pub fn add_to_join(
     match handle.take(alloc) {
         Some(held) => {
             let mut held = held;
-            let joined = add_held(held.as_mut(), alloc, map, position);
+            let joined = add_held(held.as_mut(), map, position);
             handle.put(held);
             joined
         }

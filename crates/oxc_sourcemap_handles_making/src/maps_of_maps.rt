@@ -1,19 +1,18 @@
 //! Compositions, remappings and joins of maps that handles lend. Results own their texts.
 ghost use Rattle.std.specs.Prelude.{◌≡◌, ◌≢◌, Some, None, Ok, Err, length, IfOk, IfErr};
-ghost use Rattle.std.specs.Prelude.{MatchOption, MatchResult};
+ghost use Rattle.std.specs.Prelude.{MatchOption, MatchResult, OnOk};
 ghost use Rattle.oxc_sourcemap_handles_making.specs.Words.{out_of_memory, held_map, HoldMaps};
 ghost use Rattle.oxc_sourcemap_handles_making.specs.Words.{IsBack, NullHandle, IsCompositionError};
 ghost use Rattle.oxc_sourcemap_handles_making.specs.Words.{IsComposition, all_lent, all_maps};
 ghost use Rattle.oxc_sourcemap_handles_making.specs.Words.{lent_item, lent_items, by_path};
 ghost use Rattle.oxc_sourcemap_handles_making.specs.Words.{IsRemapped, IsRemapError};
 ghost use Rattle.oxc_sourcemap_handles_making.specs.Words.{IsRemappingError, IsRemapping, AreTexts};
-ghost use Rattle.oxc_sourcemap_handles_making.specs.Words.{at_places, IsJoinOfLent, IsJoinErrorOf};
-ghost use Rattle.oxc_sourcemap_handles_making.specs.Words.{owned_records, owned_input_records};
-ghost use Rattle.oxc_sourcemap_handles_making.specs.Words.{IsMapMissing, IsJoinOfMaps};
-ghost use Rattle.oxc_sourcemap_handles_making.specs.Words.{IsJoinErrorOfMaps};
+ghost use Rattle.oxc_sourcemap_handles_making.specs.Words.{IsJoinOfLent, IsJoinErrorOf, added};
+ghost use Rattle.oxc_sourcemap_handles_making.specs.Words.{owned_input_records, nothing_joined};
+ghost use Rattle.oxc_sourcemap_handles_making.specs.Words.{IsMapMissing, IsAddErrorOf};
 
 use oxc_sourcemap_handles::{CallError, Held, Lent, map_of, texts_of};
-use oxc_sourcemap_join::join_owned_parts;
+use oxc_sourcemap_join::{JoinedParts, Lengths, with_lengths, with_room};
 use oxc_sourcemap_map::{OwnedSourceMap, parts_of};
 use oxc_sourcemap_parts::SourceMapParts;
 use oxc_sourcemap_remap::remap_owned_parts;
@@ -142,38 +141,64 @@ pub fn remap(
     remap_held(alloc, map.get(), paths, inputs)
 }
 
-/// The parts of maps, with their positions.
-fn with_positions(
-    alloc: Global,
-    maps: Vec<OwnedSourceMap>,
-    positions: &[Position],
-) -> Memory<Vec<(SourceMapParts<'static>, Position)>>
-    requires { length maps.items ≡ length positions.now }
-    ensures { IfOk result (λ placed. owned_records placed.items
-        ≡ at_places maps.items positions.now) }
+/// Lengths with those of a map that is lent more.
+fn with_lent(lengths: Lengths, map: &mut Lent) -> Result<Lengths, CallError>
+    ensures there { OnOk result (held_map map.old.held ≢ None) }
+    ensures error { IfErr result (IsMapMissing map.old.held) }
+    ensures back { IsBack map.old map.new }
 {
-    let mut placed = Vec::with_capacity(alloc, positions.len())?;
-    for map in maps {
-        let position = positions[placed.len()];
-        placed.push((map.into_parts(), position))?;
-    }
-    Ok(placed)
+    let map = map_of(map.get())?;
+    Ok(with_lengths(lengths, parts_of(map.as_source_map())))
 }
 
-fn join_maps(
-    alloc: Global,
-    maps: Vec<OwnedSourceMap>,
-    positions: &[Position],
-) -> Result<OwnedSourceMap, CallError>
-    ensures map { IfOk result (IsJoinOfMaps maps.items positions.now) }
-    ensures error { IfErr result (λ r. (r ≢ out_of_memory)
-        → IsJoinErrorOfMaps maps.items positions.now r) }
+/// The lengths of the maps that are lent, summed. Fails with `NullHandle` if one is missing.
+fn all_lengths(maps: &mut [Lent]) -> Result<Lengths, CallError>
+    ensures there { OnOk result (all_maps (all_lent maps.old) ≢ None) }
+    ensures error { IfErr result (λ r. (r ≡ NullHandle) × (all_maps (all_lent maps.old) ≡ None)) }
+    ensures back { maps.new ≡ maps.old }
 {
-    if maps.len() != positions.len() {
-        return Err(CallError::Lengths);
+    let mut lengths = Lengths::default();
+    for i in 0..maps.len() {
+        lengths = with_lent(lengths, &mut maps[i])?;
     }
-    let placed = with_positions(alloc, maps, positions)?;
-    Ok(OwnedSourceMap::from_parts(join_owned_parts(alloc, placed)?))
+    Ok(lengths)
+}
+
+/// Adds a map that is lent to a join.
+fn add_lent<'a>(
+    joined: &mut JoinedParts<'a>,
+    map: &mut Lent,
+    position: Position,
+) -> Result<(), CallError>
+    ensures added { OnOk result (MatchOption (held_map map.old.held) ⊥
+        (λ m. joined.new ≡ added joined.old m position)) }
+    ensures error { IfErr result (λ r. (r ≢ out_of_memory) → IsAddErrorOf joined.old
+        (held_map map.old.held) position r) }
+    ensures back { IsBack map.old map.new }
+{
+    let map = map_of(map.get())?;
+    joined.add_copied(parts_of(map.as_source_map()), position)?;
+    Ok(())
+}
+
+/// Adds the maps that are lent to a join, each at its position. None is missing.
+fn add_all<'a>(
+    joined: &mut JoinedParts<'a>,
+    maps: &mut [Lent],
+    positions: &[Position],
+) -> Result<(), CallError>
+    requires empty { joined.old ≡ nothing_joined }
+    requires there { all_maps (all_lent maps.old) ≢ None }
+    requires pairs { length maps.old ≡ length positions.now }
+    ensures joined { OnOk result (IsJoinOfLent (all_lent maps.old) positions.now joined.new) }
+    ensures error { IfErr result (λ r. (r ≢ out_of_memory)
+        → IsJoinErrorOf (all_lent maps.old) positions.now r) }
+    ensures back { maps.new ≡ maps.old }
+{
+    for i in 0..maps.len() {
+        add_lent(joined, &mut maps[i], positions[i])?;
+    }
+    Ok(())
 }
 
 /// The join of the maps that are lent, each at its position.
@@ -187,6 +212,11 @@ pub fn join_all(
         → IsJoinErrorOf (all_lent maps.old) positions.now r) }
     ensures back { maps.new ≡ maps.old }
 {
-    let maps = clone_all(alloc, maps)?;
-    join_maps(alloc, maps, positions)
+    let lengths = all_lengths(maps)?;
+    if maps.len() != positions.len() {
+        return Err(CallError::Lengths);
+    }
+    let mut joined = with_room(alloc, lengths, maps.len())?;
+    add_all(&mut joined, maps, positions)?;
+    Ok(OwnedSourceMap::from_parts(joined.into_parts()))
 }

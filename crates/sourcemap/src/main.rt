@@ -1,15 +1,14 @@
 //! `sourcemap`: looks positions up in source maps, leads stack traces back, and checks, joins and compares maps.
 //!
-//! The commands are in `commands`, one a module; what they print is made by the crate `sourcemap_run`, which is proved to print what
-//! the library answers. `sourcemap_words` has the words of the command line, `sourcemap_files` finds maps.
+//! The commands are modules of `sourcemap_tracing`, `sourcemap_reports` and `sourcemap_making`; what they print is made by the crate
+//! `sourcemap_run`, which is proved to print what the library answers. `sourcemap_words` has the words of the command line,
+//! `sourcemap_files` finds maps.
 #![tactic(auto)]
 
 mod commands;
-mod context;
 
-use crate::commands::{Asked, Status};
 use clap::ArgMatches;
-use sourcemap_files::with_slash;
+use sourcemap_files::{Asked, Status, with_slash};
 use sourcemap_words::{Failure, Outcome, VERSION, program};
 use std::alloc::AllocError;
 use std::env;

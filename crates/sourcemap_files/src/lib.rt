@@ -1,12 +1,15 @@
-//! The files of the program `sourcemap`: reading and writing them, their paths, and finding the maps of codes.
+//! What the commands of the program `sourcemap` share: what they are asked for, reading and writing files, paths, and finding the maps
+//! of codes.
 #![tactic(auto)]
 
+mod asked;
 mod finding;
 mod input;
 mod paths;
 mod progress;
 mod rebasing;
 
+pub use asked::{Asked, Status};
 pub use finding::{
     Lookup, MapText, Places, code_path, error_text, is_in_root, is_map, language_of, map_in_maps,
     map_of_code, map_of_file, map_without_code, read_map, rooted_map,

@@ -1,8 +1,7 @@
 //! `diff`: where two maps say different things.
-use crate::commands::{Asked, Status};
 use oxc_sourcemap_map::SourceMap;
 use oxc_sourcemap_tokens::Position;
-use sourcemap_files::{print, rooted_map};
+use sourcemap_files::{Asked, Status, print, rooted_map};
 use sourcemap_run::{Answer, Bias, Tracer};
 use sourcemap_words::Outcome;
 use std::alloc::{AllocError, Global};

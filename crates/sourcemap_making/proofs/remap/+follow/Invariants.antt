@@ -1,6 +1,6 @@
 -- Each map that is followed takes one off the depth; of one depth, a map is read before its inputs, and these before their sources.
 use Rattle.std.proofs.Common.{ℕ, ◌+◌, ◌*◌}
-use Rattle.sourcemap.proofs.commands.remap.+follow.Given as goal
+use Rattle.sourcemap_making.proofs.remap.+follow.Given as goal
 
 abbrev pub decreases-followed : goal.decreases-followed
 decreases-followed l = 3 * l.depth + 2

@@ -1,9 +1,9 @@
 //! `remap`: a map led through the maps of its sources.
-use crate::commands::{Asked, Status};
 use oxc_sourcemap_map::SourceMap;
 use sourcemap_files::{
-    Lookup, MapText, folder_of, has_scheme, is_file, is_inside, map_of_code, map_of_file,
-    plain_path, print, read_map, read_text, real_name, rebase, usage, warn, write_text,
+    Asked, Lookup, MapText, Status, folder_of, has_scheme, is_file, is_inside, map_of_code,
+    map_of_file, plain_path, print, read_map, read_text, real_name, rebase, usage, warn,
+    write_text,
 };
 use sourcemap_run::{push_number_member, push_text_member};
 use sourcemap_words::{Outcome, failure_of};

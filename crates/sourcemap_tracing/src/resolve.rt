@@ -1,9 +1,8 @@
 //! `resolve`: the frames of a stack trace, led back.
-use crate::commands::{Asked, Status};
 use oxc_sourcemap_tokens::Position;
 use sourcemap_files::{
-    Lookup, code_path, is_file, is_in_root, map_in_maps, map_of_code, map_without_code,
-    path_of_url, print, read_map, read_text,
+    Asked, Lookup, Status, code_path, is_file, is_in_root, map_in_maps, map_of_code,
+    map_without_code, path_of_url, print, read_map, read_text,
 };
 use sourcemap_run::{
     Answer, Frame, Paint, Target, Tracer, answer_to, push_frame, push_frames, push_members,

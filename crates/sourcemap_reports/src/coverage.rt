@@ -1,11 +1,10 @@
 //! `coverage`: lines of originals that ran, by V8's block coverage.
-use crate::commands::{Asked, Status};
 use oxc_sourcemap_map::SourceMap;
 use oxc_sourcemap_text::TextPositions;
 use oxc_sourcemap_tokens::Position;
 use sourcemap_files::{
-    Lookup, MapText, Progress, code_path, is_file, is_in_root, map_of_code, print, read_map,
-    read_text, rebase, shown_name, warn,
+    Asked, Lookup, MapText, Progress, Status, code_path, is_file, is_in_root, map_of_code, print,
+    read_map, read_text, rebase, shown_name, warn,
 };
 use sourcemap_run::{Block, Mark, push_marks, push_number_member, push_shown, push_text_member};
 use sourcemap_words::{Outcome, Report, Run, Script, failure_of, runs_of};

@@ -1,9 +1,8 @@
 //! `page`: a code beside its originals, in one file for browsers.
-use crate::commands::check::objects_of;
-use crate::commands::{Asked, Status};
+use crate::check::objects_of;
 use sourcemap_files::{
-    Lookup, MapText, folder_of, is_file, is_map, map_of_code, map_of_file, print, read_map,
-    read_text, shown_name, usage, write_text,
+    Asked, Lookup, MapText, Status, folder_of, is_file, is_map, map_of_code, map_of_file, print,
+    read_map, read_text, shown_name, usage, write_text,
 };
 use sourcemap_run::{MARK, filled, push_number_member, push_text_member};
 use sourcemap_words::{Outcome, failure_of};

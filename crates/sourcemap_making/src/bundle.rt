@@ -1,12 +1,11 @@
 //! `bundle`: codes and their maps, joined into one code and one map.
-use crate::commands::{Asked, Status};
 use oxc_sourcemap_map::SourceMap;
 use oxc_sourcemap_parts::SourceMapParts;
 use oxc_sourcemap_url::{Language, source_mapping_url};
 use percent_encoding::{AsciiSet, CONTROLS, utf8_percent_encode};
 use sourcemap_files::{
-    Lookup, Progress, file_name, folder_of, language_of, map_of_code, print, read_map, read_text,
-    real_name, rebase, shown_name, usage, warn, write_text,
+    Asked, Lookup, Progress, Status, file_name, folder_of, language_of, map_of_code, print,
+    read_map, read_text, real_name, rebase, shown_name, usage, warn, write_text,
 };
 use sourcemap_run::{Bundle, push_number_member, push_text_member};
 use sourcemap_words::{Outcome, failure_of};

@@ -1,10 +1,9 @@
 //! `trace`: what generated positions come from.
-use crate::commands::{Asked, Status};
 use crate::context::push_context;
 use oxc_sourcemap_map::SourceMap;
 use oxc_sourcemap_reverse::{IndexTokens, SourceIndex};
 use oxc_sourcemap_tokens::Position;
-use sourcemap_files::{print, read_text, rooted_map, usage};
+use sourcemap_files::{Asked, Status, print, read_text, rooted_map, usage};
 use sourcemap_run::{
     Answer, Bias, Style, Tracer, push_answer, push_answers, push_number_member, push_text_member,
 };

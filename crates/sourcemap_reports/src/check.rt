@@ -1,12 +1,11 @@
 //! `check`: what is wrong in maps, and what they hold.
-use crate::commands::{Asked, Status};
 use oxc_sourcemap_found::{Found, read_found};
 use oxc_sourcemap_map::SourceMap;
 use oxc_sourcemap_text::TextPositions;
 use oxc_sourcemap_tokens::Token;
 use sourcemap_files::{
-    Lookup, MapText, Progress, error_text, is_file, is_map, map_of_code, print, read_text,
-    shown_name,
+    Asked, Lookup, MapText, Progress, Status, error_text, is_file, is_map, map_of_code, print,
+    read_text, shown_name,
 };
 use sourcemap_run::{push_shown, push_text_member};
 use sourcemap_words::{Failure, Outcome, failure_of};

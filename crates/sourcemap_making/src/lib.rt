@@ -1,0 +1,5 @@
+//! Maps made of maps: the commands `bundle` and `remap` of the program `sourcemap`.
+#![tactic(auto)]
+
+pub mod bundle;
+pub mod remap;

@@ -1,0 +1,6 @@
+//! What positions and stack traces come from: the commands `trace` and `resolve` of the program `sourcemap`.
+#![tactic(auto)]
+
+mod context;
+pub mod resolve;
+pub mod trace;

@@ -35,7 +35,7 @@ class Inputs(Case):
                 self.assertEqual([found and found.token_index for found in map.trace_all(given)], [3, 1, None, 2])
             self.assertEqual((list(map.find_all(array("I"))), map.trace_all(array("I"))), ([], []))
             for call in (map.find_all, map.trace_all, lambda given: map.find_all_into(given, array("I", INDICES))):
-                for wrong in (bytes(8), bytearray(8), array("i", NUMBERS), array("Q", NUMBERS), array("f", NUMBERS), array("H", NUMBERS), (ctypes.c_int32 * 2)()):
+                for wrong in (bytes(8), bytearray(8), array("i", NUMBERS), array("L", NUMBERS), array("Q", NUMBERS), array("f", NUMBERS), array("H", NUMBERS), (ctypes.c_int32 * 2)()):
                     self.assertRaises(TypeError, call, wrong)
                 for wrong in (NUMBERS[:7], memoryview(NUMBERS).cast("B").cast("I", [2, 4]), memoryview(NUMBERS).cast("B").cast("I", [2, 2, 2])):
                     self.assertRaises(ValueError, call, wrong)

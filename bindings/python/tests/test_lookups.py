@@ -158,7 +158,7 @@ class Reverse(Case):
             self.fails(Code.NO_INDEX, map.all_generated, 0, 0, 0)
             map.index_sources()
             self.assertEqual((map.generated(0, 0, 9).token_index, map.all_generated(0, 0, 9)), (1, [1]))
-            self.assertIsNone(map.generated(0, 0, 8))
+            self.assertEqual((map.generated(0, 0, 8), map.all_generated(0, 0, 8)), (None, []))
             for call in (map.generated, map.all_generated):
                 self.fails(Code.BAD_OPTION, call, 0, 0, 0, 4)
                 for at in range(4):

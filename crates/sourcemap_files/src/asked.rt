@@ -1,4 +1,6 @@
 //! What a command was asked for, and how it ends.
+ghost use Rattle.std.specs.Prelude.{◌≡◌, MatchBool};
+
 use crate::finding::Places;
 use clap::ArgMatches;
 use std::alloc::{AllocError, Global};
@@ -13,7 +15,10 @@ pub enum Status {
 }
 
 impl Status {
-    pub fn of(found: bool) -> Status {
+    /// How a command ends that has found something and nothing wrong, or not.
+    pub fn of(found: bool) -> Status
+        ensures { MatchBool found (result ≡ Status.Found) (result ≡ Status.Nothing) }
+    {
         if found {
             Status::Found
         } else {

@@ -7,7 +7,7 @@ use sourcemap_files::{
     Asked, Lookup, Progress, Status, file_name, folder_of, language_of, map_of_code, print,
     read_map, read_text, real_name, rebase, shown_name, usage, warn, write_text,
 };
-use sourcemap_run::{Bundle, push_number_member, push_text_member};
+use sourcemap_run::{Bundle, push_number_member, push_object, push_text_member};
 use sourcemap_words::{Outcome, failure_of};
 use std::alloc::{AllocError, Global};
 
@@ -83,8 +83,8 @@ fn read_part(asked: &Asked<'_, '_>, file: &str, folder: &str) -> Outcome<Part> {
     }
 }
 
-/// The object of a file of the bundle.
-fn push_object(
+/// Appends the object of a file of the bundle.
+fn push_file_object(
     alloc: Global,
     file: &str,
     map: Option<&str>,
@@ -97,10 +97,8 @@ fn push_object(
         push_text_member("map", map, &mut members)?;
     }
     push_number_member(alloc, "line", u64::from(line), &mut members)?;
-    out.push('{')?;
-    out.push_str(members.as_str().strip_prefix(',').unwrap_or(""))?;
-    out.push_str("}\n")?;
-    Ok(())
+    push_object(members.as_str(), out)?;
+    Ok(out.push('\n')?)
 }
 
 /// Refuses to write over a file that is read.
@@ -140,7 +138,7 @@ fn push_file(
     if let Some(name) = name {
         refuse_overwriting(asked, name, output_map(asked)?.as_str())?;
     }
-    push_object(alloc, file, name, bundle.line(), out)?;
+    push_file_object(alloc, file, name, bundle.line(), out)?;
     bundle.push_code(alloc, code.as_str(), map)?;
     if let Some(after) = after {
         bundle.push_text(alloc, after)?;

@@ -5,7 +5,7 @@ use sourcemap_files::{
     map_of_file, plain_path, print, read_map, read_text, real_name, rebase, usage, warn,
     write_text,
 };
-use sourcemap_run::{push_number_member, push_text_member};
+use sourcemap_run::{push_number_member, push_object, push_text_member};
 use sourcemap_words::{Outcome, failure_of};
 use std::alloc::Global;
 
@@ -31,12 +31,6 @@ fn has_been(way: &Way<'_>, name: &str) -> bool {
         at = here.before;
     }
     false
-}
-
-/// What is counted of a run.
-#[derive(Clone, Copy, Default)]
-struct Counts {
-    inputs: u64,
 }
 
 /// The map of a source, found beside it; None if the source is not there, or has no map.
@@ -73,7 +67,7 @@ fn followed_source(
     folder: &str,
     way: &Way<'_>,
     depth: u32,
-    counts: &mut Counts,
+    count: &mut u64,
 ) -> Outcome<SourceMap<'static>> {
     let alloc = asked.alloc();
     let name = real_name(asked.rt, text.name.as_str())?;
@@ -91,12 +85,12 @@ fn followed_source(
             "lies above too many maps: do without --follow",
         ));
     };
-    counts.inputs = counts.inputs.saturating_add(1);
+    *count = count.saturating_add(1);
     let way = Way {
         name: name.as_str(),
         before: Some(way),
     };
-    let mut map = followed(asked, text, &way, depth, counts)?;
+    let mut map = followed(asked, text, &way, depth, count)?;
     rebase(alloc, &mut map, text.folder.as_str(), folder)?;
     Ok(map)
 }
@@ -109,13 +103,13 @@ fn inputs_of(
     folder: &str,
     way: &Way<'_>,
     depth: u32,
-    counts: &mut Counts,
+    count: &mut u64,
 ) -> Outcome<Vec<(String, SourceMap<'static>)>> {
     let alloc = asked.alloc();
     let mut inputs = Vec::new(alloc);
     for source in map.get_sources() {
         if let Some(text) = map_of_source(asked, folder, source)? {
-            let input = followed_source(asked, &text, folder, way, depth, counts)?;
+            let input = followed_source(asked, &text, folder, way, depth, count)?;
             inputs.push((String::from_str(alloc, source)?, input))?;
         }
     }
@@ -143,12 +137,12 @@ fn followed(
     text: &MapText,
     way: &Way<'_>,
     depth: u32,
-    counts: &mut Counts,
+    count: &mut u64,
 ) -> Outcome<SourceMap<'static>> {
     let alloc = asked.alloc();
     let mut map = read_map(asked.rt, text)?;
     map.apply_source_root(alloc)?;
-    let inputs = inputs_of(asked, &map, text.folder.as_str(), way, depth, counts)?;
+    let inputs = inputs_of(asked, &map, text.folder.as_str(), way, depth, count)?;
     if inputs.is_empty() {
         return Ok(map);
     }
@@ -215,10 +209,10 @@ fn summary(
         &mut members,
     )?;
     push_number_member(alloc, "inputs", inputs, &mut members)?;
-    Ok(format!(in alloc;
-        "{{{}}}\n",
-        members.as_str().strip_prefix(',').unwrap_or("")
-    )?)
+    let mut object = String::new(alloc);
+    push_object(members.as_str(), &mut object)?;
+    object.push('\n')?;
+    Ok(object)
 }
 
 /// Writes the map to the file that is asked for, else to standard output.
@@ -235,17 +229,17 @@ fn write(asked: &Asked<'_, '_>, map: &SourceMap<'_>, inputs: u64) -> Outcome<Sta
     Ok(Status::Found)
 }
 
-/// A map that was read, led through the maps of the arguments.
+/// A map that was read, led through the maps of the arguments. `count` counts the maps that lead, as in all functions here.
 fn led_by_given(
     asked: &Asked<'_, '_>,
     text: &MapText,
-    counts: &mut Counts,
+    count: &mut u64,
 ) -> Outcome<SourceMap<'static>> {
     let mut map = read_map(asked.rt, text)?;
     map.apply_source_root(asked.alloc())?;
     let given = given_inputs(asked, text.folder.as_str())?;
     warn_unused(asked, &map, given.as_slice());
-    counts.inputs = given.len() as u64;
+    *count = given.len() as u64;
     remapped(asked.alloc(), &map, given.as_slice())
 }
 
@@ -254,21 +248,21 @@ fn led_on(
     asked: &Asked<'_, '_>,
     text: &MapText,
     map: &SourceMap<'_>,
-    counts: &mut Counts,
+    count: &mut u64,
 ) -> Outcome<SourceMap<'static>> {
     let name = real_name(asked.rt, text.name.as_str())?;
     let way = Way {
         name: name.as_str(),
         before: None,
     };
-    let inputs = inputs_of(asked, map, text.folder.as_str(), &way, DEEPEST, counts)?;
+    let inputs = inputs_of(asked, map, text.folder.as_str(), &way, DEEPEST, count)?;
     remapped(asked.alloc(), map, inputs.as_slice())
 }
 
-fn led(asked: &Asked<'_, '_>, text: &MapText, counts: &mut Counts) -> Outcome<SourceMap<'static>> {
-    let map = led_by_given(asked, text, counts)?;
+fn led(asked: &Asked<'_, '_>, text: &MapText, count: &mut u64) -> Outcome<SourceMap<'static>> {
+    let map = led_by_given(asked, text, count)?;
     if asked.has("follow") {
-        led_on(asked, text, &map, counts)
+        led_on(asked, text, &map, count)
     } else {
         Ok(map)
     }
@@ -295,8 +289,8 @@ pub fn run(asked: &Asked<'_, '_>) -> Outcome<Status> {
         ));
     }
     let text = map_of_file(asked.rt, asked.word("MAP"), asked.places())?;
-    let mut counts = Counts { inputs: 0 };
-    let mut map = led(asked, &text, &mut counts)?;
+    let mut count = 0;
+    let mut map = led(asked, &text, &mut count)?;
     finish(asked, &mut map, text.folder.as_str())?;
-    write(asked, &map, counts.inputs)
+    write(asked, &map, count)
 }

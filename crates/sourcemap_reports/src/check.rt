@@ -7,7 +7,7 @@ use sourcemap_files::{
     Asked, Lookup, MapText, Progress, Status, error_text, is_file, is_map, map_of_code, print,
     read_text, shown_name,
 };
-use sourcemap_run::{push_shown, push_text_member};
+use sourcemap_run::{push_object, push_shown, push_text_member};
 use sourcemap_words::{Failure, Outcome, failure_of};
 use std::alloc::{AllocError, Global};
 
@@ -54,11 +54,8 @@ impl Report {
         push_text_member("file", self.file.as_str(), &mut members)?;
         push_text_member("kind", kind.name(), &mut members)?;
         push_text_member("text", text, &mut members)?;
-        self.out.push('{')?;
-        self.out
-            .push_str(members.as_str().strip_prefix(',').unwrap_or(""))?;
-        self.out.push_str("}\n")?;
-        Ok(())
+        push_object(members.as_str(), &mut self.out)?;
+        Ok(self.out.push('\n')?)
     }
 }
 

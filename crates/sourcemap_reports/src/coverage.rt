@@ -1,4 +1,6 @@
 //! `coverage`: lines of originals that ran, by V8's block coverage.
+ghost use Rattle.std.specs.Prelude.{◌≡◌, ◌≢◌, ◌<◌, ◌*◌, ◌^◌, ◌/◌};
+
 use oxc_sourcemap_map::SourceMap;
 use oxc_sourcemap_text::TextPositions;
 use oxc_sourcemap_tokens::Position;
@@ -6,7 +8,9 @@ use sourcemap_files::{
     Asked, Lookup, MapText, Progress, Status, code_path, is_file, is_in_root, map_of_code, print,
     read_map, read_text, rebase, shown_name, warn,
 };
-use sourcemap_run::{Block, Mark, push_marks, push_number_member, push_shown, push_text_member};
+use sourcemap_run::{
+    Block, Mark, push_marks, push_number_member, push_object, push_shown, push_text_member,
+};
 use sourcemap_words::{Outcome, Report, Run, Script, failure_of, runs_of};
 use std::alloc::{AllocError, Global};
 use std::collections::BTreeMap;
@@ -228,7 +232,11 @@ fn ran(lines: &Lines) -> u64 {
     lines.values().filter(|count| **count > 0).count() as u64
 }
 
-fn percent(ran: u64, all: u64) -> u64 {
+/// How many of a hundred lines ran, rounded down; all if there are none.
+fn percent(ran: u64, all: u64) -> u64
+    ensures none { all ≡ 0 → result ≡ 100 }
+    ensures part { all ≢ 0 → ran * 100 < 2 ^ 64 → result ≡ (ran * 100) / all }
+{
     if all == 0 {
         100
     } else {
@@ -323,9 +331,8 @@ fn objects(alloc: Global, sources: &Sources) -> Outcome<String> {
         members.push_str(",\"lines\":[")?;
         push_missed_numbers(alloc, lines, &mut members)?;
         members.push(']')?;
-        out.push('{')?;
-        out.push_str(members.as_str().strip_prefix(',').unwrap_or(""))?;
-        out.push_str("}\n")?;
+        push_object(members.as_str(), &mut out)?;
+        out.push('\n')?;
     }
     Ok(out)
 }

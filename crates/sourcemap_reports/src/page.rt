@@ -4,7 +4,7 @@ use sourcemap_files::{
     Asked, Lookup, MapText, Status, folder_of, is_file, is_map, map_of_code, map_of_file, print,
     read_map, read_text, shown_name, usage, write_text,
 };
-use sourcemap_run::{MARK, filled, push_number_member, push_text_member};
+use sourcemap_run::{MARK, filled, push_number_member, push_object, push_text_member};
 use sourcemap_words::{Outcome, failure_of};
 use std::alloc::{AllocError, Global};
 use std::env;
@@ -61,10 +61,7 @@ fn push_named(alloc: Global, name: &str, text: &str, out: &mut String) -> Outcom
     let mut members = String::new(alloc);
     push_text_member("name", name, &mut members)?;
     push_text_member("text", text, &mut members)?;
-    out.push('{')?;
-    out.push_str(members.as_str().strip_prefix(',').unwrap_or(""))?;
-    out.push('}')?;
-    Ok(())
+    Ok(push_object(members.as_str(), out)?)
 }
 
 /// The data of a page: the code, the map, and what `check` says of them.
@@ -108,10 +105,10 @@ fn object_of(asked: &Asked<'_, '_>, code: &str, map: &MapText, bytes: usize) -> 
     push_text_member("code", code, &mut members)?;
     push_text_member("map", map.name.as_str(), &mut members)?;
     push_number_member(alloc, "bytes", bytes as u64, &mut members)?;
-    Ok(format!(in alloc;
-        "{{{}}}\n",
-        members.as_str().strip_prefix(',').unwrap_or("")
-    )?)
+    let mut object = String::new(alloc);
+    push_object(members.as_str(), &mut object)?;
+    object.push('\n')?;
+    Ok(object)
 }
 
 /// Refuses words that are wrong together.

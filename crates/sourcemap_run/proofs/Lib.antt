@@ -3,3 +3,4 @@ pub mod Pieces
 pub mod Appends
 pub mod LineEnds
 pub mod Marked
+mod Objects

@@ -57,3 +57,12 @@ answer_members base None = text_member (codes "found") (codes "nothing")
 answer_members base (Some None) = text_member (codes "found") (codes "unmapped")
 answer_members base (Some (Some p)) =
     text_member (codes "found") (codes "original") ++ (text_member (codes "source") p.path ++ position_members base p)
+
+-- members without the comma before the first one
+abbrev pub without_comma : Text → Text
+without_comma [] = []
+without_comma (b ∷ bs) = if b == 44 then bs else b ∷ bs
+
+-- the JSON object of members, each of which is behind a comma
+unfoldable pub object_text : Text → Text
+object_text members = codes "{" ++ (without_comma members ++ codes "}")

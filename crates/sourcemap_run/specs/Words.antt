@@ -11,6 +11,7 @@ pub use Rattle.sourcemap_run.specs.Answers.{lent_place}
 pub use Rattle.sourcemap_run.specs.Texts.{is_plain, shown, number_part, place_text, name_part}
 pub use Rattle.sourcemap_run.specs.Texts.{number_member, text_member, name_member, answer_text}
 pub use Rattle.sourcemap_run.specs.Texts.{answer_members, position_members}
+pub use Rattle.sourcemap_run.specs.Texts.{without_comma, object_text}
 pub use Rattle.sourcemap_run.specs.Lines.{answer_object, answer_line}
 pub use Rattle.sourcemap_run.specs.Frames.{frame_text, answer_to, location_text, painted, led_back}
 pub use Rattle.oxc_sourcemap_parts.specs.Views.{record_of_parts}

@@ -4,6 +4,7 @@ ghost use Rattle.std.specs.List.{list_all};
 ghost use Rattle.sourcemap_run.specs.Words.{OnlyMemory, Pushes, lent_item, is_plain, shown};
 ghost use Rattle.sourcemap_run.specs.Words.{number_part, place_text, name_part, place_seen};
 ghost use Rattle.sourcemap_run.specs.Words.{number_member, text_member, name_member};
+ghost use Rattle.sourcemap_run.specs.Words.{without_comma, object_text};
 
 use crate::tracer::Spot;
 use oxc_sourcemap_encode::push_json_string;
@@ -111,4 +112,26 @@ pub(crate) fn push_name_member(name: Option<&str>, out: &mut String) -> Result<(
         Some(name) => push_text_member("name", name, out),
         None => Ok(()),
     }
+}
+
+/// Members without the comma before the first one.
+fn without_comma(members: &str) -> &str
+    ensures { result.now ≡ without_comma members.now }
+{
+    match members.strip_prefix(',') {
+        Some(rest) => rest,
+        None => members,
+    }
+}
+
+/// Appends the JSON object of members, each of which is behind a comma.
+#[tactic(auto, unfolding(crate::specs::Texts::object_text))]
+pub fn push_object(members: &str, out: &mut String) -> Result<()>
+    ensures text { Pushes result out.old out.new (object_text members.now) }
+    ensures error { OnlyMemory result }
+{
+    out.push('{')?;
+    out.push_str(without_comma(members))?;
+    out.push('}')?;
+    Ok(())
 }

@@ -6,13 +6,19 @@ use sourcemap_files::{
 };
 use sourcemap_run::{
     Answer, Frame, Paint, Target, Tracer, answer_to, push_frame, push_frames, push_members,
-    push_number_member, push_text_member,
+    push_number_member, push_object, push_text_member,
 };
 use sourcemap_words::{Failure, Finder, Line, Named, Outcome, Patterns};
 use std::alloc::Global;
 use std::collections::HashMap;
 use std::env;
 use std::io::IsTerminal;
+
+/// No colour.
+const PLAIN: Paint<'static> = Paint {
+    before: "",
+    after: "",
+};
 
 /// The map of a file that frames name, by its number, or why there is none.
 #[derive(Drop)]
@@ -241,18 +247,14 @@ fn push_place_members(
     Ok(())
 }
 
-/// A line as a JSON object.
-fn push_object(alloc: Global, maps: &Maps, read: &Read<'_>, out: &mut String) -> Outcome<()> {
-    let paint = Paint {
-        before: "",
-        after: "",
-    };
+/// Appends a line as a JSON object.
+fn push_line_object(alloc: Global, maps: &Maps, read: &Read<'_>, out: &mut String) -> Outcome<()> {
     let mut resolved = String::new(alloc);
     push_frame(
         alloc,
         maps.tracers.as_slice(),
         &read.frame,
-        paint,
+        PLAIN,
         &mut resolved,
     )?;
     let frame = &read.frame;
@@ -268,10 +270,8 @@ fn push_object(alloc: Global, maps: &Maps, read: &Read<'_>, out: &mut String) ->
     if let Some(why) = why_it_stays(maps, read) {
         push_text_member("why", why, &mut members)?;
     }
-    out.push('{')?;
-    out.push_str(members.as_str().strip_prefix(',').unwrap_or(""))?;
-    out.push_str("}\n")?;
-    Ok(())
+    push_object(members.as_str(), out)?;
+    Ok(out.push('\n')?)
 }
 
 /// The colour of what was led back: on a terminal, unless NO_COLOR is set.
@@ -281,10 +281,7 @@ fn paint_of(rt: &HostRuntime) -> Paint<'static> {
         Err(_) => false,
     };
     if is_plain || !rt.stdout().is_terminal() {
-        return Paint {
-            before: "",
-            after: "",
-        };
+        return PLAIN;
     }
     Paint {
         before: "\u{1b}[36m",
@@ -301,7 +298,7 @@ fn push_lines(
     let alloc = asked.alloc();
     if asked.has("json") {
         for read in lines {
-            push_object(alloc, maps, read, out)?;
+            push_line_object(alloc, maps, read, out)?;
         }
         return Ok(());
     }

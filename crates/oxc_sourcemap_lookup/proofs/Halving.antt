@@ -284,19 +284,3 @@ before-counted_by false col t ts is g more =
 pub before-counted : (col : ℕ) (ts : List TokenRecord) → no_column_goes_back token_column ts ≡ true → count_by (λ u. nat_lt u.dst_col col) ts ≡ before col ts
 before-counted col [] g = refl
 before-counted col (t ∷ ts) g = before-counted_by (nat_lt t.dst_col col) col t ts refl g (before-counted col ts (goes_on token_column t ts g))
-
-before-more_by : (b : Bool) (col : ℕ) (t : TokenRecord) (ts : List TokenRecord) → nat_lt t.dst_col col ≡ b → before col ts ≤ before (col + 1) ts → before col (t ∷ ts) ≤ before (col + 1) (t ∷ ts)
-before-more_by true col t ts is more =
-    let lt : t.dst_col < col = grind (arith, is) in
-    let next : nat_lt t.dst_col (col + 1) ≡ true = grind (arith, lt) in
-    let a : before col (t ∷ ts) ≡ 1 + before col ts = rw is refl in
-    let b : before (col + 1) (t ∷ ts) ≡ 1 + before (col + 1) ts = rw next refl in
-    omega (arith, a, b, more)
-before-more_by false col t ts is more =
-    let a : before col (t ∷ ts) ≡ 0 = rw is refl in
-    omega (arith, a)
-
--- the tokens before a column are before the next one
-pub before-more : (col : ℕ) (ts : List TokenRecord) → before col ts ≤ before (col + 1) ts
-before-more col [] = omega arith
-before-more col (t ∷ ts) = before-more_by (nat_lt t.dst_col col) col t ts refl (before-more col ts)

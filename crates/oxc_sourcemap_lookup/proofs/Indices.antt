@@ -2,7 +2,7 @@
 use Rattle.std.proofs.Common.{◌≡◌, refl, sym, ap, ◌∙◌, ℕ, zero, suc, ◌+◌, ◌-◌, ◌<◌, ◌≤◌, Bool}
 use Rattle.std.proofs.Common.{true, false, List, [], ◌∷◌, length, slice_get}
 use Rattle.std.proofs.Common.{Option, Some, None, option_map, nat_lt, ◌==◌, ◌≢◌, arith}
-use Rattle.std.proofs.Common.{if◌then◌else◌, get_or, take, drop, min}
+use Rattle.std.proofs.Common.{if◌then◌else◌, get_or, take, drop}
 use Rattle.std.proofs.lemmas.Option.{slice_get_read, slice_get_past}
 use Rattle.std.specs.Option.{option_or}
 use Rattle.oxc_sourcemap_tokens.specs.Token.{TokenRecord}
@@ -12,7 +12,7 @@ use Rattle.oxc_sourcemap_lookup.specs.Lookup.{numbered_from, numbered, numbered_
 use Rattle.oxc_sourcemap_lookup.specs.Lookup.{index_at, index_at_or_after, clamped_index_at}
 use Rattle.oxc_sourcemap_lookup.specs.Lookup.{index_before}
 use Rattle.oxc_sourcemap_lookup.proofs.Halving.{before, before-earlier, before-later, before-all}
-use Rattle.oxc_sourcemap_lookup.proofs.Halving.{before-front, before-more, not_before-get}
+use Rattle.oxc_sourcemap_lookup.proofs.Halving.{before-front, not_before-get}
 use Rattle.oxc_sourcemap_lookup.proofs.Cuts.{cut, here_or, get_before, at-cut, after-cut}
 
 pub numbered-goes_on : (i : ℕ) (ts : List TokenRecord) → no_column_goes_back numbered_column (numbered_from i ts) ≡ no_column_goes_back token_column ts
@@ -297,40 +297,3 @@ pub after-found : (col n : ℕ) (t : TokenRecord) (ts : List TokenRecord) → no
     → n ≡ before (col + 1) (drop 1 ts) → index_within ts (n + (if nat_lt t.dst_col col then 1 else 0)) ≡ index_at_or_after ts col
 after-found col n t [] g h is count = absurd (omega (arith, h))
 after-found col n t (x ∷ xs) g h is count = after-by (nat_lt x.dst_col (col + 1)) col n t x xs refl g h is count
-
-get_or-same : (ts : List TokenRecord) (n : ℕ) (d e : TokenRecord) → n < length ts → get_or ts n d ≡ get_or ts n e
-get_or-same [] n d e h = absurd (omega (arith, h))
-get_or-same (t ∷ ts) zero d e h = refl
-get_or-same (t ∷ ts) (suc n) d e h = get_or-same ts n d e (omega (arith, h))
-
-few-by : (b : Bool) (col n m : ℕ) (t : TokenRecord) (ts : List TokenRecord) → nat_lt t.dst_col (col + 1) ≡ b → no_column_goes_back token_column ts ≡ true
-    → n ≡ before col ts → m ≡ before (col + 1) ts → n < length ts → t ≡ get_or ts n t → min m (n + 1) ≡ n + (if b then 1 else 0)
-few-by true col n m t ts is g count counted h read =
-    let lt : t.dst_col < col + 1 = grind (arith, is) in
-    let more = before-later (col + 1) ts n t g h (omega (arith, lt, ap token_column read)) in
-    omega (arith, more, counted)
-few-by false col n m t ts is g count counted h read =
-    let le : col + 1 ≤ t.dst_col = grind (arith, is) in
-    let most = before-earlier (col + 1) ts n t h (omega (arith, le, ap token_column read)) in
-    omega (arith, most, counted, count, before-more col ts)
-
-few-within : (b : Bool) (col n m : ℕ) (ts : List TokenRecord) → nat_lt n (length ts) ≡ b → no_column_goes_back token_column ts ≡ true → n ≡ before col ts → m ≡ before (col + 1) ts
-    → index_before (min m (n + 1)) ≡ index_at ts col
-few-within true col n m [] e g count counted = absurd (omega (arith, (let h : n < 0 = grind (arith, e) in h)))
-few-within true col n m (x ∷ xs) e g count counted =
-    let ts = x ∷ xs in
-    let t = get_or ts n x in
-    let h : n < length ts = grind (arith, e) in
-    let read : t ≡ get_or ts n t = get_or-same ts n x t h in
-    let here : slice_get ts n ≡ Some t = slice_get_read ts (length ts) n t refl h read in
-    ap index_before (few-by (nat_lt t.dst_col (col + 1)) col n m t ts refl g count counted h read)
-    ∙ index-nearer (nat_lt t.dst_col (col + 1)) col n t ts refl g count h here (not_before-get col ts n t count here)
-few-within false col n m ts e g count counted =
-    let past : length ts ≤ n = grind (arith, e) in
-    let none : slice_get ts n ≡ None = slice_get_past ts n past in
-    let same : min m (n + 1) ≡ n = omega (arith, past, count, counted, before-all col ts, before-all (col + 1) ts, before-more col ts) in
-    ap index_before same ∙ sym (index-at col n ts g count (omega (arith, count, before-all col ts)) ∙ ap (λ o. index_here_or col n o (index_before n)) none)
-
--- The lookup of a column, by how many tokens are before it and how many not past it.
-pub few-found : (col n m : ℕ) (ts : List TokenRecord) → no_column_goes_back token_column ts ≡ true → n ≡ before col ts → m ≡ before (col + 1) ts → index_before (min m (n + 1)) ≡ index_at ts col
-few-found col n m ts g count counted = few-within (nat_lt n (length ts)) col n m ts refl g count counted

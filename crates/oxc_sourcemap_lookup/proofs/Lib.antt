@@ -14,7 +14,6 @@ pub mod LineSpans
 pub mod LineStarts
 pub mod LineEnds
 pub mod Halving
-pub mod Eights
 pub mod OwnTables
 pub mod Picks
 pub mod Traced

@@ -1,7 +1,6 @@
 //! The index of the lines of a list of tokens: where the tokens of each line lie.
 ghost use Rattle.std.specs.Prelude.{ℕ, ◌+◌, ◌*◌, ◌^◌, ◌≡◌, ◌≢◌, ◌↔◌, ◌<◌, ◌≤◌, true, IsTrue};
-ghost use Rattle.std.specs.Prelude.{length, take, drop, get_or, option_map, slice_get, IfOk};
-ghost use Rattle.std.specs.Prelude.{IfSome, IsNone};
+ghost use Rattle.std.specs.Prelude.{length, get_or, option_map, slice_get, IfOk, IfSome, IsNone};
 ghost use Rattle.std.specs.Prelude.{Ok, Err, Some, None};
 ghost use Rattle.std.specs.List.{All, Contains};
 ghost use Rattle.oxc_sourcemap_lookup.specs.Words.{Error, LineOrder, OutOfMemory, IsInLineOrder};
@@ -14,7 +13,7 @@ ghost use Rattle.oxc_sourcemap_lookup.specs.Words.{index_bytes};
 ghost use Rattle.oxc_sourcemap_lookup.specs.Words.{index_for, clamped_index_for, index_after};
 
 use crate::lookup::{
-    end_on_line, has_short_lines, line_count, line_length, search, search_clamped, search_index,
+    has_short_lines, line_count, line_length, search, search_clamped, search_index,
     search_index_after, search_index_clamped, store_ends,
 };
 use oxc_sourcemap_tokens::{Error, Memory, Result, Token, line_order_fault};
@@ -193,6 +192,8 @@ fn find(spans: &[LineSpan], line: u32, near: usize) -> Option<usize>
 
 /// Where a line begins, and the tokens on it, by the spans of lines. The line is looked for first at the index `near`, which
 /// becomes that of its span. Without tokens the line begins anywhere.
+// A call of its own, so that lookups in the maps that are usual are short.
+#[inline(never)]
 fn line_by_span<'t>(
     spans: &[LineSpan],
     tokens: &'t [Token],
@@ -216,8 +217,6 @@ fn line_by_start<'t>(starts: &[u32], tokens: &'t [Token], line: u32) -> (usize, 
     requires { AreStarts tokens.now starts.now }
     ensures tokens { result.1.now ≡ on_line token_line line tokens.now }
     ensures start { 0 < length result.1.now → result.0 ≡ count_before_line line tokens.now }
-    ensures place { result.1.now ≡ take (length result.1.now) (drop result.0 tokens.now) }
-    ensures within { result.0 + length result.1.now ≤ length tokens.now }
 {
     let next = line as usize + 1;
     if next < starts.len() {
@@ -226,33 +225,6 @@ fn line_by_start<'t>(starts: &[u32], tokens: &'t [Token], line: u32) -> (usize, 
     } else {
         (0, &[])
     }
-}
-
-/// The index of the token that `LineIndex::lookup` finds, by the spans of lines.
-#[cold]
-#[inline(never)]
-fn index_by_span(spans: &[LineSpan], tokens: &[Token], line: u32, col: u32) -> Option<usize>
-    requires { AreSpans tokens.now spans.now }
-    ensures found { are_tokens_sorted tokens.now ≡ true → result ≡ index_for tokens.now line col }
-    ensures within { IfSome result (λ i. i < length tokens.now) }
-{
-    let (start, on_line) = line_by_span(spans, tokens, line, &mut 0);
-    Some(start + search_index(on_line, col)?)
-}
-
-/// The index of the token that `LineIndex::lookup` finds, by where lines begin.
-#[inline(always)]
-fn index_by_start(starts: &[u32], tokens: &[Token], line: u32, col: u32) -> Option<usize>
-    requires { AreStarts tokens.now starts.now }
-    ensures found { are_tokens_sorted tokens.now ≡ true → result ≡ index_for tokens.now line col }
-    ensures within { IfSome result (λ i. i < length tokens.now) }
-{
-    let (start, on_line) = line_by_start(starts, tokens, line);
-    if on_line.is_empty() {
-        return None;
-    }
-    let end = end_on_line(tokens, start, on_line.len(), col);
-    if end > 0 { Some(start + end - 1) } else { None }
 }
 
 impl LineIndex {
@@ -332,10 +304,8 @@ impl LineIndex {
             → result ≡ index_for tokens.now line col }
         ensures within { IfSome result (λ i. i < length tokens.now) }
     {
-        match &self.lines {
-            Lines::Starts(starts) => index_by_start(starts.as_slice(), tokens, line, col),
-            Lines::Spans(spans) => index_by_span(spans.as_slice(), tokens, line, col),
-        }
+        let (start, on_line) = self.line_near(tokens, line, &mut 0);
+        Some(start + search_index(on_line, col)?)
     }
 
     /// The index of the token that `lookup_clamped` finds. Takes no memory.

@@ -1,10 +1,10 @@
 //! Lookup tables over slices of tokens, and lookups on a line. (In the Rust crate they are in the module `sourcemap`.)
 ghost use Rattle.std.specs.Prelude.{◌≡◌, ◌↔◌, ◌==◌, ◌+◌, ◌*◌, ◌^◌, ◌<◌, ◌≤◌, nat_lt, true, false};
-ghost use Rattle.std.specs.Prelude.{length, map, take, drop, slice_get, option_map, IsTrue, IfOk};
-ghost use Rattle.std.specs.Prelude.{IfSome, IsNone, Ok, Err};
+ghost use Rattle.std.specs.Prelude.{length, take, slice_get, option_map, IsTrue, IfOk, IfSome};
+ghost use Rattle.std.specs.Prelude.{IsNone, Ok, Err};
 ghost use Rattle.std.specs.Prelude.{Some, None, [], if◌then◌else◌};
 ghost use Rattle.std.specs.Option.{option_map_or, option_and_then};
-ghost use Rattle.std.specs.List.{All, Contains, prefix_len, count_by};
+ghost use Rattle.std.specs.List.{All, Contains, prefix_len};
 ghost use Rattle.oxc_sourcemap_lookup.specs.Words.{Error, OutOfMemory, IsInLineOrder, token_column};
 ghost use Rattle.oxc_sourcemap_lookup.specs.Words.{binary_digits, at, clamped_at};
 ghost use Rattle.oxc_sourcemap_lookup.specs.Words.{no_column_goes_back, lines_through};
@@ -16,10 +16,6 @@ ghost use Rattle.oxc_sourcemap_lookup.specs.Words.{token_line, count_before_line
 
 use oxc_sourcemap_tokens::{Error, Memory, Result, Token, line_order_fault};
 use std::alloc::Global;
-use std::simd::prelude::*;
-
-/// Up to this many tokens on a line, to compare all takes less time than to halve.
-pub(crate) const FEW: usize = 8;
 
 /// How many lines there are up to that of the last token.
 pub(crate) fn line_count(tokens: &[Token]) -> u64
@@ -198,7 +194,8 @@ fn mask_if_less(x: u32, y: u64) -> usize
     (u128::from(x).wrapping_sub(u128::from(y)) >> 64) as usize
 }
 
-/// `count` if a token lies before the column `col`, else 0. A lookup compares columns only here, and counts each comparison.
+/// `count` if a token lies before the column `col`, else 0. A lookup compares columns only here and in `compare_last`, and counts
+/// each comparison.
 fn compare_column(token: &Token, col: u64, count: usize, steps: &mut u64) -> usize
     requires { steps.old < 18446744073709551615 }
     ensures value { result ≡ (if nat_lt token.now.dst_col col then count else 0) }
@@ -206,6 +203,16 @@ fn compare_column(token: &Token, col: u64, count: usize, steps: &mut u64) -> usi
 {
     *steps += 1;
     count & mask_if_less(token.get_dst_col(), col)
+}
+
+/// 1 if a token lies at or before the column `col`, else 0. Counted as `compare_column` counts.
+fn compare_last(token: &Token, col: u32, steps: &mut u64) -> usize
+    requires { steps.old < 18446744073709551615 }
+    ensures value { result ≡ (if nat_lt token.now.dst_col (col + 1) then 1 else 0) }
+    ensures counted { steps.new ≡ steps.old + 1 }
+{
+    *steps += 1;
+    usize::from(token.get_dst_col() <= col)
 }
 
 /// How many tokens at the front of a line lie before `col`, found by halving: the index of the first token that does not.
@@ -262,7 +269,7 @@ fn count_through(line: &[Token], col: u32, steps: &mut u64) -> usize
         return 0;
     };
     let before = count_before(&line[..last], col, steps);
-    before + compare_column(&line[before], u64::from(col) + 1, 1, steps)
+    before + compare_last(&line[before], col, steps)
 }
 
 /// Looks up a column on one line. The result is the first token at `col`; if none is there, the last token of the greatest
@@ -299,84 +306,6 @@ fn index_within(line: &[Token], i: usize) -> Option<usize>
     if i < line.len() { Some(i) } else { None }
 }
 
-/// How many tokens lie before a column, and how many not after it. All are compared, with no branch on what is found.
-fn count_each(line: &[Token], col: u32) -> (usize, usize)
-    ensures before { result.0 ≡ count_by (λ t. nat_lt t.dst_col col) line.now }
-    ensures through { result.1 ≡ count_by (λ t. nat_lt t.dst_col (col + 1)) line.now }
-{
-    let mut before = 0;
-    let mut through = 0;
-    for token in line {
-        before += usize::from(u64::from(token.get_dst_col()) < u64::from(col));
-        through += usize::from(u64::from(token.get_dst_col()) < u64::from(col) + 1);
-    }
-    (before, through)
-}
-
-/// As `count_through`, but the columns that are compared are not counted, and may be all of a short line: reads of memory
-/// that do not wait for each other take less time than halving.
-#[inline(always)]
-fn end_of_found(line: &[Token], col: u32) -> usize
-    ensures index { no_column_goes_back token_column line.now ≡ true
-        → index_before result ≡ index_at line.now col }
-    ensures within { result ≤ length line.now }
-{
-    if line.len() > FEW {
-        return count_through(line, col, &mut 0);
-    }
-    let (before, through) = count_each(line, col);
-    through.min(before + 1)
-}
-
-/// The columns of the first eight tokens.
-#[inline(always)]
-fn columns_of(tokens: &[Token]) -> u32x8
-    requires { 8 ≤ length tokens.now }
-    ensures { result ≡ map token_column (take 8 tokens.now) }
-{
-    u32x8::from_array([
-        tokens[0].get_dst_col(),
-        tokens[1].get_dst_col(),
-        tokens[2].get_dst_col(),
-        tokens[3].get_dst_col(),
-        tokens[4].get_dst_col(),
-        tokens[5].get_dst_col(),
-        tokens[6].get_dst_col(),
-        tokens[7].get_dst_col(),
-    ])
-}
-
-/// How many of eight columns at the front lie before a column.
-#[inline(always)]
-fn count_in_eight(columns: u32x8, col: u32) -> usize
-    ensures { result ≡ prefix_len (λ c. nat_lt c col) columns }
-{
-    let others = columns.simd_ge(u32x8::splat(col)).to_bitmask();
-    if others == 0 {
-        8
-    } else {
-        others.trailing_zeros() as usize
-    }
-}
-
-/// As `end_of_found`, for the line of so many tokens that begins at an index. Where lines are short, how long one is can hardly be
-/// predicted: so eight tokens are compared at once, on the line or not.
-#[inline(always)]
-pub(crate) fn end_on_line(tokens: &[Token], start: usize, count: usize, col: u32) -> usize
-    requires { start + count ≤ length tokens.now }
-    ensures index { no_column_goes_back token_column (take count (drop start tokens.now)) ≡ true
-        → index_before result ≡ index_at (take count (drop start tokens.now)) col }
-    ensures within { result ≤ count }
-{
-    let rest = &tokens[start..];
-    if count > FEW || rest.len() <= FEW {
-        return end_of_found(&rest[..count], col);
-    }
-    let before = count_in_eight(columns_of(rest), col).min(count);
-    let is_there = (before < count) & (rest[before].get_dst_col() == col);
-    before + usize::from(is_there)
-}
-
 /// The index on a line of the token that `search` finds there. On a line whose columns go back, it is some index of the line,
 /// or None. Takes no memory.
 pub fn search_index(line: &[Token], col: u32) -> Option<usize>
@@ -384,7 +313,7 @@ pub fn search_index(line: &[Token], col: u32) -> Option<usize>
         → result ≡ index_at line.now col }
     ensures within { IfSome result (λ i. i < length line.now) }
 {
-    end_of_found(line, col).checked_sub(1)
+    count_through(line, col, &mut 0).checked_sub(1)
 }
 
 /// As `search_index`, but with the first index of the line in place of None.
@@ -394,7 +323,7 @@ pub fn search_index_clamped(line: &[Token], col: u32) -> Option<usize>
     ensures within { IfSome result (λ i. i < length line.now) }
     ensures clamped { IsNone result → line.now ≡ [] }
 {
-    let end = end_of_found(line, col);
+    let end = count_through(line, col, &mut 0);
     index_within(line, end.saturating_sub(1))
 }
 

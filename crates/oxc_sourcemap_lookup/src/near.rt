@@ -8,8 +8,11 @@ ghost use Rattle.oxc_sourcemap_lookup.specs.Words.{no_column_goes_back, clamped_
 ghost use Rattle.oxc_sourcemap_lookup.specs.Words.{clamped_index_at};
 
 use crate::line_index::LineIndex;
-use crate::lookup::{FEW, search_index_clamped};
+use crate::lookup::search_index_clamped;
 use oxc_sourcemap_tokens::Token;
+
+/// Up to this many tokens on a line, to compare all takes less time than to look near where the last lookup ended.
+const FEW: usize = 8;
 
 /// Where the last lookup ended. It changes no answer, and saves time where lookups are close to each other.
 #[derive(Clone, Copy)]

@@ -1,5 +1,4 @@
-use Rattle.std.proofs.Common.{◌+◌, ◌-◌, ◌≤◌, length, get_or, arith, sym}
-use Rattle.std.proofs.lemmas.Grind.{common_steps}
+use Rattle.std.proofs.Common.{◌+◌, arith, sym}
 use Rattle.oxc_sourcemap_lookup.proofs.LineStarts.{start_of, starts_rise, starts_within}
 use Rattle.oxc_sourcemap_lookup.proofs.LineStarts.{line_between, none_past}
 use Rattle.oxc_sourcemap_lookup.proofs.line_index.line_by_start.Goals as goal
@@ -21,11 +20,3 @@ returns-then-next-starts-clause-start c = λ some. start_of c.args.tokens.now c.
 
 pub returns-else-next-starts-clause-tokens : goal.returns-else-next-starts-clause-tokens
 returns-else-next-starts-clause-tokens c = sym (none_past c.args.tokens.now c.args.starts.now c.requires c.args.line (omega (arith, c.if-next-starts.false)))
-
-pub returns-then-next-starts-clause-within : goal.returns-then-next-starts-clause-within
-returns-then-next-starts-clause-within c =
-    let start = get_or c.args.starts.now (c.args.line + 1 - 1) 0 in
-    let end = get_or c.args.starts.now (c.args.line + 1) 0 in
-    let rise : start ≤ end = starts_rise c.args.tokens.now c.args.starts.now c.requires c.args.line _ _ 0 c.if-next-starts.true (omega arith) (omega arith) in
-    let within : end ≤ length c.args.tokens.now = starts_within c.args.tokens.now c.args.starts.now c.requires (c.args.line + 1) _ 0 c.if-next-starts.true (omega arith) in
-    grind (arith, common_steps, rise, within)

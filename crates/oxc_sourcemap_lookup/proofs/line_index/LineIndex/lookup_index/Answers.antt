@@ -6,13 +6,13 @@ use Rattle.oxc_sourcemap_lookup.specs.Lookup.{index_at, no_column_goes_back}
 use Rattle.oxc_sourcemap_lookup.proofs.LineIndices.{from_line, index-some, index-lies}
 use Rattle.oxc_sourcemap_lookup.proofs.LineIndices.{index_for-own}
 use Rattle.oxc_sourcemap_lookup.proofs.OwnTables.{line_goes_on}
-use Rattle.oxc_sourcemap_lookup.proofs.line_index.index_by_span.Goals as goal
+use Rattle.oxc_sourcemap_lookup.proofs.line_index.LineIndex.lookup_index.Goals as goal
 
 pub returns-in_err-search_index-clause-found : goal.returns-in_err-search_index-clause-found
 returns-in_err-search_index-clause-found c = λ sorted.
     let tokens = c.args.tokens.now in
     let line = c.args.line in
-    let on = c.line_by_span-start.ensures.tokens in
+    let on = c.line_near-start.ensures.tokens in
     let none : c.search_index.result ≡ None = grind (arith, common_steps) in
     let nothing : c.from_residual.result ≡ None = grind (arith, common_steps) in
     let found = c.search_index.ensures.found (ap (no_column_goes_back token_column) on ∙ line_goes_on line tokens sorted) ∙ ap (λ ts. index_at ts c.args.col) on in
@@ -22,7 +22,7 @@ pub returns-clause-found : goal.returns-clause-found
 returns-clause-found c = λ sorted.
     let tokens = c.args.tokens.now in
     let line = c.args.line in
-    let near = c.line_by_span-start in
+    let near = c.line_near-start in
     let is : c.search_index.result ≡ Some c.in_ok-search_index.field-0 = grind (arith, common_steps) in
     let found = c.search_index.ensures.found (ap (no_column_goes_back token_column) near.ensures.tokens ∙ line_goes_on line tokens sorted) ∙ ap (λ ts. index_at ts c.args.col) near.ensures.tokens in
     index-some line near.result.0 tokens _ near.ensures.tokens near.ensures.start _ _ is c.search_index.ensures.within
@@ -30,6 +30,6 @@ returns-clause-found c = λ sorted.
 
 pub returns-clause-within : goal.returns-clause-within
 returns-clause-within c =
-    let near = c.line_by_span-start in
+    let near = c.line_near-start in
     let is : c.search_index.result ≡ Some c.in_ok-search_index.field-0 = grind (arith, common_steps) in
     index-lies c.args.line near.result.0 c.args.tokens.now _ near.ensures.tokens near.ensures.start _ _ is c.search_index.ensures.within

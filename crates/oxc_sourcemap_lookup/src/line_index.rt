@@ -19,6 +19,9 @@ use crate::lookup::{
 use oxc_sourcemap_tokens::{Error, Memory, Result, Token, line_order_fault};
 use std::alloc::Global;
 
+/// From so many tokens on, branches that are mispredicted take more time than memory for where lines end.
+const MANY: usize = 64;
+
 /// Where the tokens of one line lie in the list: from index `start` up to but not including `end`.
 #[derive(Clone, Copy)]
 struct LineSpan {
@@ -138,7 +141,7 @@ fn lines_of(alloc: Global, tokens: &[Token]) -> Memory<Option<Lines>>
     ensures out_of_order { IfOk result (λ found. IsNone found → IsInLineOrder tokens.now → ⊥) }
 {
     if has_few_lines(tokens) {
-        let starts = if has_short_lines(tokens) {
+        let starts = if tokens.len() >= MANY && has_short_lines(tokens) {
             starts_of_short(alloc, tokens)?
         } else {
             starts_of(alloc, tokens)?

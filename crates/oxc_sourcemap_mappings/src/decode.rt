@@ -3,7 +3,7 @@ ghost use Rattle.std.specs.Box.{boxed_slice_items};
 ghost use Rattle.std.specs.Prelude.{ℕ, List, ◌≡◌, ◌⊎◌, ◌+◌, ◌*◌, ◌%◌, ◌^◌, ◌<◌, ◌≤◌, ◌-◌, ◌++◌};
 ghost use Rattle.std.specs.Prelude.{length, ◌∷◌, [], drop, not, ℤ, pos, nat_abs, ◌+ℤ◌, ◌<ℤ◌, ◌≤ℤ◌};
 ghost use Rattle.std.specs.Prelude.{set, true, false, min, is_some, IfSome, IfNone, OnOk, IfOk};
-ghost use Rattle.std.specs.Prelude.{IfErr, Option, Some, None, Result, Ok, Err};
+ghost use Rattle.std.specs.Prelude.{IfErr, Option, Some, None, Result, Ok, Err, replicate};
 ghost use Rattle.oxc_sourcemap_mappings.specs.Words.{TooLarge, digit, payload, signed};
 ghost use Rattle.oxc_sourcemap_mappings.specs.Words.{nothing_before, place, digit_fault};
 ghost use Rattle.oxc_sourcemap_mappings.specs.Words.{range_fault, is_id_below, low_bits};
@@ -253,6 +253,16 @@ fn low_bits_of(id: u32, by: i64) -> u32
     (i64::from(id) + by).rem_euclid(4294967296) as u32
 }
 
+/// Fewer than 16 bytes, with commas behind them.
+fn with_commas(text: &[u8]) -> [u8; 32]
+    requires { length text.now < 16 }
+    ensures { result ≡ text.now ++ replicate (32 - length text.now) 44 }
+{
+    let mut padded = [b','; 32];
+    padded[..text.len()].copy_from_slice(text);
+    padded
+}
+
 impl Sums {
     /// The sums before the first segment.
     pub(crate) fn new() -> Self
@@ -409,8 +419,24 @@ impl Sums {
         Some((self.token(line, Some(source_id), Some(name_id)), len + e))
     }
 
-    /// Reads the segment at the front of a text, digit by digit and field by field: moves the sums by it, and gives its
-    /// token and the number of its bytes. After an `Err` some of the sums are moved.
+    /// As `usual_token`, near the end of a text: a comma behind it ends a segment as the end does.
+    fn last_token(
+        &mut self,
+        line: u32,
+        text: &[u8],
+        names: usize,
+        sources: usize,
+    ) -> Option<(Token, usize)>
+        requires { length text.now < 16 }
+        ensures token { IfSome result (λ read. IsFrontOf (counts_of names sources) line
+            (place_of self.old) text.now (place_of self.new) read.0 read.1) }
+        ensures unchanged { IfNone result (self.new ≡ self.old) }
+    {
+        self.usual_token(line, &with_commas(text), names, sources)
+    }
+
+    /// Reads the segment at the front of a text, if it is no usual one digit by digit and field by field: moves the sums by it, and
+    /// gives its token and the number of its bytes. After an `Err` some of the sums are moved.
     #[cold]
     pub(crate) fn any_token(
         &mut self,
@@ -425,6 +451,11 @@ impl Sums {
             IfErr result (λ e. segment_result (counts_of names sources) line
             (place_of self.old) s (moved_by (place_of self.old) s) ≡ Err e) }
     {
+        if text.len() < 16 {
+            if let Some(read) = self.last_token(line, text, names, sources) {
+                return Ok(read);
+            }
+        }
         let fields = any_segment(text)?;
         let token = self.step(line, &fields, names, sources)?;
         Ok((token, fields.len))

@@ -132,10 +132,64 @@ fn time_map(asked: &Asked, text: &str) -> Result<(), Error> {
         })
     };
     asked.time("lookup_texts", tokens, || (), sum_of_texts);
+    let held = Held { map: &map, table: &table };
+    let answer_all = |()| {
+        let mut found = Found::default();
+        positions.iter().fold(0, |sum: usize, (line, column)| {
+            let kind = answer(&held, *line, *column, &mut found);
+            sum.wrapping_add(kind as usize).wrapping_add(found.source.1)
+        })
+    };
+    asked.time("lookup_by_c", tokens, || (), answer_all);
     let copies: Vec<_> = (0..COPIES).map(|i| (&map, i * table.len() as u32)).collect();
     let join = |()| ConcatSourceMapBuilder::from_sourcemaps(&copies).into_sourcemap();
     asked.time("join", tokens, || (), join);
     Ok(())
+}
+
+/// What a lookup gives to C: the fields of `smap_original` but for the index, which the crate does not tell.
+#[repr(C)]
+#[derive(Default)]
+struct Found {
+    kind: u32,
+    token: [u32; 6],
+    source: (usize, usize),
+    name: (usize, usize),
+}
+
+/// What a handle of such a library would hold.
+struct Held<'m, 't> {
+    map: &'m SourceMap<'t>,
+    table: &'m [&'m [Token]],
+}
+
+/// A text as C has it: where its bytes begin, and how many they are.
+fn bytes_of(text: Option<&str>) -> (usize, usize) {
+    text.map_or((0, 0), |text| (text.as_ptr() as usize, text.len()))
+}
+
+/// A lookup as a library for C would give it: by a call, into memory of the caller.
+#[inline(never)]
+extern "C" fn answer(held: &Held<'_, '_>, line: u32, column: u32, out: &mut Found) -> u32 {
+    let Some(token) = held.map.lookup_source_view_token(held.table, line, column) else {
+        *out = Found::default();
+        return 0;
+    };
+    let (source, name) = (token.get_source(), token.get_name());
+    *out = Found {
+        kind: 1 + u32::from(source.is_some()) + u32::from(name.is_some()),
+        token: [
+            token.get_dst_line(),
+            token.get_dst_col(),
+            token.get_src_line(),
+            token.get_src_col(),
+            token.get_source_id().unwrap_or(u32::MAX),
+            token.get_name_id().unwrap_or(u32::MAX),
+        ],
+        source: bytes_of(source),
+        name: bytes_of(name),
+    };
+    out.kind
 }
 
 /// The composition of maps, the first of which is nearest to the sources.

@@ -60,7 +60,7 @@ def found_by_pkg_config() -> Path | None:
 
 def library() -> Path:
     named = os.environ.get("OXC_SOURCEMAP_LIB")
-    paths = [Path(named)] if named else [HERE.parents[1] / "target" / LIBRARY, found_by_pkg_config()]
+    paths: list[Path | None] = [Path(named)] if named else [HERE.parents[1] / "target" / LIBRARY, found_by_pkg_config()]
     for path in paths:
         if path and path.is_file():
             return path
@@ -124,9 +124,9 @@ def build_wheel(wheel_directory: str, config_settings: object = None, metadata_d
     name = f"oxc_sourcemap-{version()}-{tag}.whl"
     with zipfile.ZipFile(Path(wheel_directory, name), "w", zipfile.ZIP_DEFLATED) as wheel:
         for path, content in files.items():
-            about = zipfile.ZipInfo(path, time.gmtime(EPOCH)[:6])
-            about.external_attr = 0o100644 << 16
-            wheel.writestr(about, content, zipfile.ZIP_DEFLATED)
+            member = zipfile.ZipInfo(path, time.gmtime(EPOCH)[:6])
+            member.external_attr = 0o100644 << 16
+            wheel.writestr(member, content, zipfile.ZIP_DEFLATED)
     return name
 
 

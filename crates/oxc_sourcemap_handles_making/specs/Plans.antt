@@ -1,6 +1,6 @@
 -- Plans of words over texts, and their errors with the places of their faults.
 use Rattle.std.specs.Prelude.{◌≡◌, ◌⊎◌, ℕ, List, Option, Some, None, Result, Ok, Err, slice_get}
-use Rattle.std.specs.Prelude.{IfSome}
+use Rattle.std.specs.Prelude.{IfSome, IsSome, ⊤, true}
 use Rattle.oxc_sourcemap_tokens.specs.declared.error.Error.{Error}
 use Rattle.oxc_sourcemap_tokens.specs.declared.plan_error.PlanError.{PlanError}
 use Rattle.oxc_sourcemap_parts.specs.Record.{Text, MapRecord}
@@ -14,7 +14,7 @@ use Rattle.oxc_sourcemap_plan.specs.declared.run_error.RunError.TheVariants.{Pla
 use Rattle.oxc_sourcemap_plan.specs.declared.run_error.RunError.TheVariants.{Read, Write, Utf8}
 use Rattle.oxc_sourcemap_plan.specs.declared.run_error.RunError.TheVariants.{Arguments}
 use Rattle.oxc_sourcemap_plan.specs.declared.run_error.RunError.TheVariants.{NoText as NoInput}
-use Rattle.oxc_sourcemap_plan_places.specs.PlanPlaces.{IsNumberPlace}
+use Rattle.oxc_sourcemap_plan_places.specs.PlanPlaces.{IsNumberPlace, IsOfReading}
 use Rattle.oxc_sourcemap_handles.specs.declared.call_error.CallError.{CallError}
 use Rattle.oxc_sourcemap_handles.specs.declared.call_error.CallError.TheVariants.{Plan, Words}
 use Rattle.oxc_sourcemap_handles.specs.declared.call_error.CallError.TheVariants.{NoText}
@@ -53,9 +53,22 @@ of_plan e = Plan e
 abbrev pub IsPlaceOfPlan : List Text → CallError → FaultPlace → Type 0
 IsPlaceOfPlan texts r place = (e : Error) × (r ≡ of_map e) × IsInputPlace texts e place
 
+-- an error that reading a text can have comes with a place
+abbrev pub HasPlaceOf : CallError → Option FaultPlace → Type 0
+HasPlaceOf r place = (e : Error) → r ≡ of_map e → IsOfReading e → IsSome place
+
+-- the same for an error of a plan, if no part passes a limit
+abbrev pub HasPlanPlace : Result Outcome RunError → CallError → Option FaultPlace → Type 0
+HasPlanPlace (Err e) r place = ⊤
+HasPlanPlace (Ok o) r place = o.is_within_limits ≡ true → HasPlaceOf r place
+
+-- an error of a plan over these texts, by its outcome, and its place
+abbrev pub IsOutcomeErrorAt : List Text → Result Outcome RunError → CallError → Option FaultPlace → Type 0
+IsOutcomeErrorAt texts plan r place = IsPlanErrorOf plan r × IfSome place (IsPlaceOfPlan texts r) × HasPlanPlace plan r place
+
 -- an error of the plan of these words over these texts, and its place
 abbrev pub IsEvaluationErrorAt : List Text → List Text → CallError → Option FaultPlace → Type 0
-IsEvaluationErrorAt words texts r place = IsPlanErrorOf (parsed_plan texts words) r × IfSome place (IsPlaceOfPlan texts r)
+IsEvaluationErrorAt words texts r place = IsOutcomeErrorAt texts (parsed_plan texts words) r place
 
 -- an error of words and texts in bytes, and its place: one is not UTF-8, or their plan fails
 abbrev pub IsPlanErrorAt : List Text → List Text → CallError → Option FaultPlace → Type 0

@@ -36,17 +36,19 @@ pub use Rattle.oxc_sourcemap_handles_making.specs.MapsOfMaps.{IsRemapError}
 pub use Rattle.oxc_sourcemap_handles_making.specs.MapsOfMaps.{IsRemapped, IsRemapping}
 pub use Rattle.oxc_sourcemap_handles_making.specs.MapsOfMaps.{IsRemappingError, all_lent, all_maps}
 pub use Rattle.oxc_sourcemap_handles_making.specs.MapsOfMaps.{by_path}
-pub use Rattle.oxc_sourcemap_handles_making.specs.Plans.{IsEvaluationErrorAt, IsInputPlace}
-pub use Rattle.oxc_sourcemap_handles_making.specs.Plans.{IsPlaceOfPlan, IsPlanErrorAt}
-pub use Rattle.oxc_sourcemap_handles_making.specs.Plans.{IsPlanErrorOf, IsPlanMap}
+pub use Rattle.oxc_sourcemap_handles_making.specs.Plans.{HasPlaceOf, IsEvaluationErrorAt}
+pub use Rattle.oxc_sourcemap_handles_making.specs.Plans.{IsOutcomeErrorAt, IsPlaceOfPlan}
+pub use Rattle.oxc_sourcemap_handles_making.specs.Plans.{IsPlanErrorAt, IsPlanErrorOf, IsPlanMap}
 pub use Rattle.oxc_sourcemap_handles_making.specs.Plans.{call_error_of_run, of_plan}
 pub use Rattle.oxc_sourcemap_join.specs.Joined.{IsWithinLimits, added, nothing_joined}
 pub use Rattle.oxc_sourcemap_mappings.specs.Reading.{reading}
 pub use Rattle.oxc_sourcemap_parts.specs.Sound.{IsSound}
 pub use Rattle.oxc_sourcemap_parts.specs.Views.{cow_texts, ids_of, record_of_parts}
-pub use Rattle.oxc_sourcemap_plan.specs.Outcome.{outcome}
+pub use Rattle.oxc_sourcemap_plan.specs.Meaning.{meaning}
+pub use Rattle.oxc_sourcemap_plan.specs.Outcome.{is_within_limits, outcome}
 pub use Rattle.oxc_sourcemap_plan.specs.PlanArguments.{parsed_plan}
-pub use Rattle.oxc_sourcemap_plan_places.specs.PlanPlaces.{IsPlaceOf, IsTextPlace}
+pub use Rattle.oxc_sourcemap_plan_places.specs.PlanPlaces.{IsPlanPlace, IsTextPlace}
+pub use Rattle.oxc_sourcemap_plan_places.specs.PlanPlaces.{texts_of as plan_texts_of}
 pub use Rattle.oxc_sourcemap_remap.specs.Inputs.{owned_input_records}
 pub use Rattle.oxc_sourcemap_tokens.specs.Chunks.{ChunksFit}
 pub use Rattle.oxc_sourcemap_tokens.specs.Results.{lent_item, lent_items}

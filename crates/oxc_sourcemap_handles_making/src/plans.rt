@@ -1,19 +1,20 @@
 //! Plans of words over texts.
 ghost use Rattle.std.specs.Prelude.{◌≡◌, ◌≢◌, map, string_bytes, Some, slice_get, IfOk, IfErr};
-ghost use Rattle.std.specs.Prelude.{IfSome, Ok};
+ghost use Rattle.std.specs.Prelude.{IfSome, Ok, Err, true};
 ghost use Rattle.oxc_sourcemap_handles_making.specs.Words.{call_error_of_run, parsed_plan};
 ghost use Rattle.oxc_sourcemap_handles_making.specs.Words.{IsPlanMap, IsEvaluationErrorAt};
-ghost use Rattle.oxc_sourcemap_handles_making.specs.Words.{IsPlanErrorAt, IsFailure, IsPlaceOf};
-ghost use Rattle.oxc_sourcemap_handles_making.specs.Words.{IsInputPlace, lent_item, lent_items};
-ghost use Rattle.oxc_sourcemap_handles_making.specs.Words.{IsPlaceOfPlan, IsPlanErrorOf, outcome};
-ghost use Rattle.oxc_sourcemap_handles_making.specs.Words.{of_plan};
+ghost use Rattle.oxc_sourcemap_handles_making.specs.Words.{IsPlanErrorAt, IsFailure, IsPlanPlace};
+ghost use Rattle.oxc_sourcemap_handles_making.specs.Words.{lent_item, lent_items, plan_texts_of};
+ghost use Rattle.oxc_sourcemap_handles_making.specs.Words.{IsPlaceOfPlan, IsOutcomeErrorAt};
+ghost use Rattle.oxc_sourcemap_handles_making.specs.Words.{HasPlaceOf, of_plan, out_of_memory};
+ghost use Rattle.oxc_sourcemap_handles_making.specs.Words.{outcome, meaning, is_within_limits};
 
 use crate::failure::Failure;
 use oxc_sourcemap_handles::{CallError, texts_of};
 use oxc_sourcemap_map::OwnedSourceMap;
 use oxc_sourcemap_places::FaultPlace;
 use oxc_sourcemap_plan::{Plan, RunError, evaluate_to_parts, read_plan};
-use oxc_sourcemap_plan_places::{plan_texts, texts_fault_at};
+use oxc_sourcemap_plan_places::{plan_fault_at, plan_texts};
 use oxc_sourcemap_tokens::{Error, Memory, PlanError};
 use std::alloc::Global;
 
@@ -60,57 +61,54 @@ fn number_of(texts: &[&str], text: &str) -> Option<usize>
     None
 }
 
-/// A place in a text of a plan, with the number that the text has among all texts.
+/// A place in a text of a plan, with the number of the first input that is that text. None if there is none, which is never so,
+/// or for want of memory.
 fn input_place(
-    inputs: &[&str],
-    texts: &[&str],
-    error: Error,
-    place: FaultPlace,
-) -> Option<FaultPlace>
-    requires found { IsPlaceOf (lent_items texts.now) error (Some place) }
-    ensures { IfSome result (IsInputPlace (lent_items inputs.now) error) }
-{
-    let text = text_at(texts, place.text?)?;
-    Some(place.in_text(number_of(inputs, text)?))
-}
-
-/// Where one of these texts has the fault for which a plan over them fails. None also where there is no memory to tell.
-fn text_place(alloc: Global, inputs: &[&str], plan: &Plan<'_>, error: Error) -> Option<FaultPlace>
-    ensures { IfSome result (IsInputPlace (lent_items inputs.now) error) }
-{
-    let texts = plan_texts(alloc, plan).ok()?;
-    let place = texts_fault_at(alloc, texts.as_slice(), error).ok()??;
-    input_place(inputs, texts.as_slice(), error, place)
-}
-
-/// Where one of these texts has the fault for which a plan over them fails, if the error may be one of reading.
-fn plan_place(
     alloc: Global,
     inputs: &[&str],
     plan: &Plan<'_>,
     error: PlanError,
+    place: FaultPlace,
 ) -> Option<FaultPlace>
+    requires { IsPlanPlace (plan_texts_of plan.now) error (Some place) }
     ensures { IfSome result (IsPlaceOfPlan (lent_items inputs.now) (of_plan error)) }
 {
-    match error {
-        PlanError::Map(error) => text_place(alloc, inputs, plan, error),
-        _ => None,
+    let texts = plan_texts(alloc, plan).ok()?;
+    let text = text_at(texts.as_slice(), place.text?)?;
+    Some(place.in_text(number_of(inputs, text)?))
+}
+
+/// Why a plan over these texts fails: the error, with the place of the fault if that is one of a text, or want of memory to tell it.
+fn plan_failure(alloc: Global, inputs: &[&str], plan: &Plan<'_>, error: PlanError) -> Failure
+    requires { of_plan error ≢ out_of_memory }
+    ensures { IsFailure (λ r place. (r ≡ of_plan error)
+        × IfSome place (IsPlaceOfPlan (lent_items inputs.now) r)
+        × (is_within_limits plan.now ≡ true → meaning plan.now ≡ Err error
+        → HasPlaceOf r place)) result }
+{
+    match plan_fault_at(alloc, plan, error) {
+        Ok(Some(place)) => match input_place(alloc, inputs, plan, error, place) {
+            Some(place) => Failure {
+                error: CallError::Plan(error),
+                place: Some(place),
+            },
+            None => Failure::memory(),
+        },
+        Ok(None) => Failure::of(CallError::Plan(error)),
+        Err(_) => Failure::memory(),
     }
 }
 
 /// The map of a plan over these texts.
 fn evaluate_plan(alloc: Global, inputs: &[&str], plan: &Plan<'_>) -> Result<OwnedSourceMap, Failure>
     ensures map { IfOk result (IsPlanMap (Ok (outcome plan.now))) }
-    ensures error { IfErr result (IsFailure (λ r place. IsPlanErrorOf (Ok (outcome plan.now)) r
-        × IfSome place (IsPlaceOfPlan (lent_items inputs.now) r))) }
+    ensures error { IfErr result (IsFailure (IsOutcomeErrorAt (lent_items inputs.now)
+        (Ok (outcome plan.now)))) }
 {
     match evaluate_to_parts(alloc, plan) {
         Ok(parts) => Ok(OwnedSourceMap::from_parts(parts)),
         Err(PlanError::Map(Error::OutOfMemory)) => Err(Failure::memory()),
-        Err(error) => Err(Failure {
-            error: CallError::Plan(error),
-            place: plan_place(alloc, inputs, plan, error),
-        }),
+        Err(error) => Err(plan_failure(alloc, inputs, plan, error)),
     }
 }
 

@@ -419,7 +419,7 @@ impl Sums {
         Some((self.token(line, Some(source_id), Some(name_id)), len + e))
     }
 
-    /// As `usual_token`, near the end of a text: a comma behind it ends a segment as the end does.
+    /// As `usual_token`, for a text of fewer than 16 bytes: a comma behind it ends a segment as the end does. None for a longer one.
     fn last_token(
         &mut self,
         line: u32,
@@ -427,11 +427,13 @@ impl Sums {
         names: usize,
         sources: usize,
     ) -> Option<(Token, usize)>
-        requires { length text.now < 16 }
         ensures token { IfSome result (λ read. IsFrontOf (counts_of names sources) line
             (place_of self.old) text.now (place_of self.new) read.0 read.1) }
         ensures unchanged { IfNone result (self.new ≡ self.old) }
     {
+        if text.len() >= 16 {
+            return None;
+        }
         self.usual_token(line, &with_commas(text), names, sources)
     }
 
@@ -451,10 +453,8 @@ impl Sums {
             IfErr result (λ e. segment_result (counts_of names sources) line
             (place_of self.old) s (moved_by (place_of self.old) s) ≡ Err e) }
     {
-        if text.len() < 16 {
-            if let Some(read) = self.last_token(line, text, names, sources) {
-                return Ok(read);
-            }
+        if let Some(read) = self.last_token(line, text, names, sources) {
+            return Ok(read);
         }
         let fields = any_segment(text)?;
         let token = self.step(line, &fields, names, sources)?;

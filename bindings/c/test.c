@@ -1011,6 +1011,11 @@ static void evaluating(void) {
           map == (smap_map *)&failed);
     CHECK(fault.place.kind == SMAP_PLACE_MEMBER && fault.place.field == SMAP_FIELD_MAPPINGS && fault.place.text == 1);
     CHECK(fault.place.section == SMAP_NOT_TOLD && smap_evaluate(words, 3, texts, 2, &map, NULL) == SMAP_JSON_SHAPE);
+    texts[0] = text_of("{\"version\":3 }"); /* both fail alike: the place is in the one that the plan reads first */
+    words[1] = text_of("@1");
+    words[2] = text_of("@0");
+    CHECK(smap_evaluate(words, 3, texts, 2, &map, &fault) == SMAP_JSON_SHAPE && fault.place.text == 1);
+    texts[0] = text_of(C);
     texts[1] = text_of("{\xff");
     CHECK(smap_evaluate(&words[1], 1, texts, 2, &map, &fault) == SMAP_NOT_UTF8 && fault.detail == 1);
     CHECK(smap_evaluate(NULL, 0, NULL, 0, &map, NULL) == SMAP_WORDS && map == (smap_map *)&failed);

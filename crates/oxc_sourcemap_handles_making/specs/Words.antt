@@ -38,7 +38,7 @@ pub use Rattle.oxc_sourcemap_handles_making.specs.MapsOfMaps.{IsRemappingError, 
 pub use Rattle.oxc_sourcemap_handles_making.specs.MapsOfMaps.{by_path}
 pub use Rattle.oxc_sourcemap_handles_making.specs.Plans.{HasPlaceOf, IsEvaluationErrorAt}
 pub use Rattle.oxc_sourcemap_handles_making.specs.Plans.{IsOutcomeErrorAt, IsPlaceOfPlan}
-pub use Rattle.oxc_sourcemap_handles_making.specs.Plans.{IsPlanErrorAt, IsPlanErrorOf, IsPlanMap}
+pub use Rattle.oxc_sourcemap_handles_making.specs.Plans.{IsPlanErrorAt, IsPlanMap}
 pub use Rattle.oxc_sourcemap_handles_making.specs.Plans.{call_error_of_run, of_plan}
 pub use Rattle.oxc_sourcemap_join.specs.Joined.{IsWithinLimits, added, nothing_joined}
 pub use Rattle.oxc_sourcemap_mappings.specs.Reading.{reading}

@@ -92,6 +92,7 @@ fn plan_failure(alloc: Global, inputs: &[&str], plan: &Plan<'_>, error: PlanErro
                 error: CallError::Plan(error),
                 place: Some(place),
             },
+            // (or the text is no input, which is never so, but not proved)
             None => Failure::memory(),
         },
         Ok(None) => Failure::of(CallError::Plan(error)),

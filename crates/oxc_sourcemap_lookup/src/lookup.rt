@@ -194,8 +194,8 @@ fn mask_if_less(x: u32, y: u64) -> usize
     (u128::from(x).wrapping_sub(u128::from(y)) >> 64) as usize
 }
 
-/// `count` if a token lies before the column `col`, else 0. A lookup compares columns only here and in `compare_last`, and counts
-/// each comparison.
+/// `count` if a token lies before the column `col`, else 0. `search` and `search_after` compare columns only here and in
+/// `compare_last`, and count each comparison.
 fn compare_column(token: &Token, col: u64, count: usize, steps: &mut u64) -> usize
     requires { steps.old < 18446744073709551615 }
     ensures value { result ≡ (if nat_lt token.now.dst_col col then count else 0) }

@@ -254,11 +254,11 @@ fn low_bits_of(id: u32, by: i64) -> u32
 }
 
 /// Fewer than 16 bytes, with commas behind them.
-fn with_commas(text: &[u8]) -> [u8; 32]
+fn with_commas(text: &[u8]) -> [u8; 16]
     requires { length text.now < 16 }
-    ensures { result ≡ text.now ++ replicate (32 - length text.now) 44 }
+    ensures { result ≡ text.now ++ replicate (16 - length text.now) 44 }
 {
-    let mut padded = [b','; 32];
+    let mut padded = [b','; 16];
     padded[..text.len()].copy_from_slice(text);
     padded
 }
@@ -437,8 +437,8 @@ impl Sums {
         self.usual_token(line, &with_commas(text), names, sources)
     }
 
-    /// Reads the segment at the front of a text, if it is no usual one digit by digit and field by field: moves the sums by it, and
-    /// gives its token and the number of its bytes. After an `Err` some of the sums are moved.
+    /// Reads the segment at the front of a text, as `last_token` does or else digit by digit and field by field: moves the sums by
+    /// it, and gives its token and the number of its bytes. After an `Err` some of the sums are moved.
     #[cold]
     pub(crate) fn any_token(
         &mut self,

@@ -15,7 +15,7 @@ pub enum Status {
 }
 
 impl Status {
-    /// How a command ends that has found something and nothing wrong, or not.
+    /// How a command ends: `found` is whether something was found and nothing is wrong.
     pub fn of(found: bool) -> Status
         ensures { MatchBool found (result ≡ Status.Found) (result ≡ Status.Nothing) }
     {

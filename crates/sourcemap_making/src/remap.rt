@@ -59,7 +59,8 @@ fn map_of_source(asked: &Asked<'_, '_>, folder: &str, source: &str) -> Outcome<O
     }
 }
 
-/// The map of a source, led on to its own originals, its sources relative to the folder of the outer map.
+/// The map of a source, led on to its own originals, its sources relative to the folder of the outer map. `count` counts the maps
+/// that lead on, as in all functions here.
 #[cycle(follow)]
 fn followed_source(
     asked: &Asked<'_, '_>,
@@ -229,7 +230,7 @@ fn write(asked: &Asked<'_, '_>, map: &SourceMap<'_>, inputs: u64) -> Outcome<Sta
     Ok(Status::Found)
 }
 
-/// A map that was read, led through the maps of the arguments. `count` counts the maps that lead, as in all functions here.
+/// A map that was read, led through the maps of the arguments.
 fn led_by_given(
     asked: &Asked<'_, '_>,
     text: &MapText,

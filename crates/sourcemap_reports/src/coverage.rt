@@ -232,7 +232,7 @@ fn ran(lines: &Lines) -> u64 {
     lines.values().filter(|count| **count > 0).count() as u64
 }
 
-/// How many of a hundred lines ran, rounded down; all if there are none.
+/// How many of a hundred lines ran, rounded down; 100 if there are none.
 fn percent(ran: u64, all: u64) -> u64
     ensures none { all ≡ 0 → result ≡ 100 }
     ensures part { all ≢ 0 → ran * 100 < 2 ^ 64 → result ≡ (ran * 100) / all }

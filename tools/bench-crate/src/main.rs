@@ -134,10 +134,11 @@ fn time_map(asked: &Asked, text: &str) -> Result<(), Error> {
     asked.time("lookup_texts", tokens, || (), sum_of_texts);
     let held = Held { map: &map, table: &table };
     let answer_all = |()| {
+        let answer: extern "C" fn(&Held<'_, '_>, u32, u32, &mut Found) -> u32 = black_box(answer);
         let mut found = Found::default();
         positions.iter().fold(0, |sum: usize, (line, column)| {
             let kind = answer(&held, *line, *column, &mut found);
-            sum.wrapping_add(kind as usize).wrapping_add(found.source.1)
+            sum.wrapping_add(kind as usize).wrapping_add(found.source[1])
         })
     };
     asked.time("lookup_by_c", tokens, || (), answer_all);
@@ -147,14 +148,15 @@ fn time_map(asked: &Asked, text: &str) -> Result<(), Error> {
     Ok(())
 }
 
-/// What a lookup gives to C: the fields of `smap_original` but for the index, which the crate does not tell.
+/// What a lookup gives to C: the fields of `smap_original` but for the index, which the crate does not tell. There is no bias, no fault
+/// and no test for null.
 #[repr(C)]
 #[derive(Default)]
 struct Found {
     kind: u32,
     token: [u32; 6],
-    source: (usize, usize),
-    name: (usize, usize),
+    source: [usize; 2],
+    name: [usize; 2],
 }
 
 /// What a handle of such a library would hold.
@@ -164,8 +166,8 @@ struct Held<'m, 't> {
 }
 
 /// A text as C has it: where its bytes begin, and how many they are.
-fn bytes_of(text: Option<&str>) -> (usize, usize) {
-    text.map_or((0, 0), |text| (text.as_ptr() as usize, text.len()))
+fn bytes_of(text: Option<&str>) -> [usize; 2] {
+    text.map_or([0, 0], |text| [text.as_ptr() as usize, text.len()])
 }
 
 /// A lookup as a library for C would give it: by a call, into memory of the caller.

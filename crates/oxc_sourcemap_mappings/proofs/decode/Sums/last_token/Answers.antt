@@ -12,5 +12,5 @@ returns-clause-token c =
     let before = place_of c.args.self.now in
     let after = place_of c.usual_token.new.self in
     IfSome_then c.usual_token.result c.usual_token.ensures.token
-    (λ read is. before-commas (32 - length text) text counts c.args.line before after _ _
+    (λ read is. before-commas (16 - length text) text counts c.args.line before after _ _
     (subst (λ padded. IsFrontOf counts c.args.line before padded after read.0 read.1) c.with_commas.ensures is))

@@ -69,24 +69,35 @@ fn told(
     format!(in alloc; "{line}:{column}: the first difference; {count} of {of} places differ\n")
 }
 
-pub fn run(asked: &Asked<'_, '_>) -> Outcome<Status> {
-    let alloc = asked.alloc();
-    let a = tracer_of(asked, "A")?;
-    let b = tracer_of(asked, "B")?;
+/// How many places two maps say different things of, and how many there are.
+fn count_of(alloc: Global, a: &Tracer, b: &Tracer) -> Result<(usize, usize), AllocError> {
+    let places = places_of(alloc, a, b)?;
+    let mut count = 0usize;
+    for place in &places {
+        if !say_the_same(a, b, *place) {
+            count = count.saturating_add(1);
+        }
+    }
+    Ok((count, places.len()))
+}
+
+/// Prints whether two maps say different things, and where first.
+fn tell(asked: &Asked<'_, '_>, a: &Tracer, b: &Tracer) -> Outcome<Status> {
     let Some(first) = a.map().first_difference(b.map()) else {
         if asked.has("json") {
             print(asked.rt, "{\"different\":false}\n")?;
         }
         return Ok(Status::Found);
     };
-    let places = places_of(alloc, &a, &b)?;
-    let mut count = 0usize;
-    for place in &places {
-        if !say_the_same(&a, &b, *place) {
-            count = count.saturating_add(1);
-        }
-    }
-    let text = told(alloc, first, count, places.len(), asked.has("json"))?;
+    let (count, of) = count_of(asked.alloc(), a, b)?;
+    let text = told(asked.alloc(), first, count, of, asked.has("json"))?;
     print(asked.rt, text.as_str())?;
     Ok(Status::Nothing)
+}
+
+// What is proved of a function grows with what it owns times the places where it may end, so the rest of this is `tell`.
+pub fn run(asked: &Asked<'_, '_>) -> Outcome<Status> {
+    let a = tracer_of(asked, "A")?;
+    let b = tracer_of(asked, "B")?;
+    tell(asked, &a, &b)
 }

@@ -1369,6 +1369,27 @@ static void without_memory(void) {
     printf("%ld requests for memory were refused in turn\n", n);
 }
 
+/* The fault of a text is told with its place, or the call fails for want of memory, whichever of its requests is refused. */
+static void places_without_memory(void) {
+    smap_text words[3] = { text_of("compose"), text_of("@0"), text_of("@1") }, texts[2] = { text_of(C),
+        text_of("{\"version\":3}") };
+    for (int of_a_plan = 0; of_a_plan < 2; of_a_plan++) {
+        smap_map *map = (smap_map *)&failed;
+        smap_fault fault = junk();
+        uint32_t code = SMAP_OUT_OF_MEMORY;
+        long n = 0;
+        for (; code == SMAP_OUT_OF_MEMORY && n < 1000; n++) {
+            left = n;
+            code = of_a_plan ? smap_evaluate(words, 3, texts, 2, &map, &fault)
+                             : smap_from_json_string(texts[1].at, texts[1].len, &map, &fault);
+            left = -1;
+            CHECK(code != SMAP_OUT_OF_MEMORY || is_fault(&fault, SMAP_OUT_OF_MEMORY, 0));
+        }
+        CHECK(code == SMAP_JSON_SHAPE && fault.place.kind == SMAP_PLACE_MEMBER && n > 2);
+        CHECK(map == (smap_map *)&failed && kept == 0);
+    }
+}
+
 /* Where memory alone can be wanted, *out stays too. */
 static void nothing_is_made(void) {
     smap_join *join = (smap_join *)&failed;
@@ -1442,6 +1463,7 @@ int main(void) {
     null_readers();
     null_handles();
     without_memory();
+    places_without_memory();
     nothing_is_made();
     no_memory_is_taken();
     CHECK(kept == 0);

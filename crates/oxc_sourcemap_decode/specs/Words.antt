@@ -1,12 +1,14 @@
 -- The words of this crate's clauses, from one place.
 pub use Rattle.oxc_sourcemap_join.specs.Joined.{joined}
-pub use Rattle.oxc_sourcemap_json.specs.Json.{json_record, json_contents}
+pub use Rattle.oxc_sourcemap_json.specs.Json.{json_record, json_contents, json_ids, usual_record}
 pub use Rattle.oxc_sourcemap_json.specs.Shape.{file_of}
 pub use Rattle.oxc_sourcemap_parts.specs.Record.{MapRecord}
 pub use Rattle.oxc_sourcemap_parts.specs.Views.{texts_of, contents_of, record_of_parts}
 pub use Rattle.oxc_sourcemap_tokens.specs.Results.{Answers, Reports}
 pub use Rattle.oxc_sourcemap_tokens.specs.Token.{last}
 pub use Rattle.oxc_sourcemap_tokens.specs.declared.error.Error.{Error}
+pub use Rattle.oxc_sourcemap_tokens.specs.declared.error.Error.TheVariants.{OutOfMemory}
+pub use Rattle.oxc_sourcemap_tokens.specs.declared.error.Error.TheVariants.{BadSourceReference}
 pub use Rattle.oxc_sourcemap_tokens.specs.declared.position.Position.{Position}
 pub use Rattle.serde_json.specs.Find.{get}
 pub use Rattle.serde_json.specs.View.{view, items_view}

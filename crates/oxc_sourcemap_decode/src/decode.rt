@@ -1,11 +1,13 @@
 //! Reading the parts of a map from a JSON source map.
-ghost use Rattle.std.specs.Prelude.{◌≡◌, map, string_bytes, IfOk, Ok, Err, Some, []};
-ghost use Rattle.std.specs.Option.{unwrap_or};
+ghost use Rattle.std.specs.Prelude.{◌≡◌, map, string_bytes, option_map, IfOk, Ok, Err, Some};
+ghost use Rattle.std.specs.Prelude.{None, []};
+ghost use Rattle.std.specs.Option.{unwrap_or, option_map_or};
 ghost use Rattle.oxc_sourcemap_decode.specs.Words.{Error, texts_of, contents_of, record_of_parts};
 ghost use Rattle.oxc_sourcemap_decode.specs.Words.{json_record, json_contents, decoded, json_fault};
 ghost use Rattle.oxc_sourcemap_decode.specs.Words.{first_not_below, Answers, Reports};
+ghost use Rattle.oxc_sourcemap_decode.specs.Words.{BadSourceReference, usual_record, json_ids};
 
-use oxc_sourcemap_json::JSONSourceMap;
+use oxc_sourcemap_json::{JSONSourceMap, UsualMap};
 use oxc_sourcemap_mappings::decode_mappings;
 use oxc_sourcemap_parts::{SourceMapParts, from_optional_strings, from_string, from_strings};
 use oxc_sourcemap_tokens::{Error, JsonFault, Memory, Result};
@@ -65,6 +67,16 @@ fn from_lists(
     })
 }
 
+/// The fault of an ignore list for so many sources: the first entry that is not below their number.
+fn list_fault(list: &Option<Vec<u32>>, sources: usize) -> Option<Error>
+    ensures { result ≡ option_map BadSourceReference
+        (option_map_or (first_not_below sources) (json_ids list.now) None) }
+{
+    let list = list.as_ref()?;
+    let id = first_id_not_below(sources, list.as_slice())?;
+    Some(Error::BadSourceReference(id))
+}
+
 /// The first fault of a JSON source map besides those of its mappings.
 fn json_fault(json: &JSONSourceMap) -> Option<Error>
     ensures { result ≡ json_fault (json_record json.now) }
@@ -72,9 +84,30 @@ fn json_fault(json: &JSONSourceMap) -> Option<Error>
     if json.version != 3 {
         return Some(Error::BadJson(JsonFault::Version(json.version)));
     }
-    let list = json.ignore_list.as_ref()?;
-    let id = first_id_not_below(json.sources.len(), list.as_slice())?;
-    Some(Error::BadSourceReference(id))
+    list_fault(&json.ignore_list, json.sources.len())
+}
+
+/// The parts of a usual map, as `decode_parts` gives them. Fails as that does, but for the version, which is 3.
+#[inline(always)]
+pub(crate) fn decode_usual(alloc: Global, map: UsualMap<'_>) -> Result<SourceMapParts<'static>>
+    ensures map { Answers record_of_parts result (decoded (usual_record map.entry)) }
+    ensures fault { Reports (json_fault (usual_record map.entry)) result }
+{
+    if let Some(fault) = list_fault(&map.ignore_list, map.sources.len()) {
+        return Err(fault);
+    }
+    let tokens = decode_mappings(alloc, map.mappings, map.names.len(), map.sources.len())?;
+    Ok(SourceMapParts {
+        file: from_string(map.file),
+        names: map.names,
+        source_root: from_string(map.source_root),
+        sources: map.sources,
+        source_contents: map.source_contents.unwrap_or(Vec::new(alloc)),
+        tokens,
+        token_chunks: None,
+        ignore_list: map.ignore_list,
+        debug_id: from_string(map.debug_id),
+    })
 }
 
 /// The parts of the map of a JSON source map. Its strings are moved, a missing list of contents is an empty one, and it has

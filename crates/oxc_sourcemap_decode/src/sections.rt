@@ -1,15 +1,17 @@
 //! The map of a JSON text or value; the sections of an indexed map are read one after the other into a join.
-ghost use Rattle.std.specs.Prelude.{◌≡◌, option_map, string_bytes, Ok, Err};
+ghost use Rattle.std.specs.Prelude.{◌≡◌, ◌≢◌, option_map, string_bytes, Ok, Err};
+ghost use Rattle.std.specs.Prelude.{IfOk, IfErr, IfSome};
 ghost use Rattle.oxc_sourcemap_decode.specs.Words.{view, items_view, get, record_of_parts, file_of};
 ghost use Rattle.oxc_sourcemap_decode.specs.Words.{is_indexed, is_plain, section_map, all_sections};
 ghost use Rattle.oxc_sourcemap_decode.specs.Words.{joined_sections, sections_in, indexed_said};
 ghost use Rattle.oxc_sourcemap_decode.specs.Words.{indexed_record, map_said, read_value, read_map};
-ghost use Rattle.oxc_sourcemap_decode.specs.Words.{Answers};
+ghost use Rattle.oxc_sourcemap_decode.specs.Words.{Answers, OutOfMemory};
 
-use crate::decode::decode_parts;
+use crate::decode::{decode_parts, decode_usual};
 use crate::place::place_after;
+use json::Scratch;
 use oxc_sourcemap_join::JoinedParts;
-use oxc_sourcemap_json::{file_from_value, json_of, usual_json};
+use oxc_sourcemap_json::{file_from_value, json_of, plain_map, usual_map};
 use oxc_sourcemap_parts::{SourceMapParts, from_string};
 use oxc_sourcemap_tokens::{Error, Field, JsonFault, Result};
 use serde_json::Value;
@@ -115,16 +117,53 @@ fn decode_owned_value(alloc: Global, value: Value) -> Result<SourceMapParts<'sta
     decode_parts(alloc, json)
 }
 
-/// The parts of the map of a JSON text. `decode_from_string` of `oxc_sourcemap` has the errors in their order. All strings
-/// are owned: those of a usual text are copied out of it once; of another one, none but the file of an indexed map is copied
-/// from its value.
+/// The parts of the map of a JSON text, if that is usual. They are read with memory that is given back then.
+// A call of its own: that memory takes 16 kB of the stack.
 #[tactic(auto, unfolding(crate::specs::ReadMap::read_map, crate::specs::ReadMap::read_value))]
-pub fn decode_parts_from_string(alloc: Global, text: &str) -> Result<SourceMapParts<'static>>
+#[inline(never)]
+fn decode_usual_text(alloc: Global, text: &str) -> Result<Option<SourceMapParts<'static>>>
+    ensures read { IfOk result (λ found. IfSome found
+        (λ parts. read_map text.now ≡ Ok (record_of_parts parts))) }
+    ensures error { IfErr result (λ e. (e ≢ OutOfMemory) → read_map text.now ≡ Err e) }
+{
+    let mut scratch = Scratch::new(alloc);
+    match usual_map(alloc, text, &mut scratch)? {
+        Some(map) => Ok(Some(decode_usual(alloc, map)?)),
+        None => Ok(None),
+    }
+}
+
+/// The parts of the map of a JSON text that is not short and plain: token by token if it is usual, else by its value.
+#[tactic(auto, unfolding(crate::specs::ReadMap::read_map, crate::specs::ReadMap::read_value))]
+#[inline(never)]
+fn decode_long(alloc: Global, text: &str) -> Result<SourceMapParts<'static>>
     ensures { Answers record_of_parts result (read_map text.now) }
 {
-    if let Some(json) = usual_json(alloc, text)? {
-        return decode_parts(alloc, json);
+    if let Some(parts) = decode_usual_text(alloc, text)? {
+        return Ok(parts);
     }
     let value = Value::from_str(alloc, text)?;
     decode_owned_value(alloc, value)
+}
+
+/// As `decode_parts_from_string`, but put into its caller, as `plain_map` is, so that what a small map goes through copies no parts.
+/// It is for the call of handles: each such call has some 15 kB of code.
+#[tactic(auto, unfolding(crate::specs::ReadMap::read_map, crate::specs::ReadMap::read_value))]
+#[inline(always)]
+pub fn decode_parts_inlined(alloc: Global, text: &str) -> Result<SourceMapParts<'static>>
+    ensures { Answers record_of_parts result (read_map text.now) }
+{
+    if let Some(map) = plain_map(alloc, text)? {
+        return decode_usual(alloc, map);
+    }
+    decode_long(alloc, text)
+}
+
+/// The parts of the map of a JSON text. `decode_from_string` of `oxc_sourcemap` has the errors in their order. All strings
+/// are owned: those of a usual text are copied out of it once; of another one, none but the file of an indexed map is copied
+/// from its value.
+pub fn decode_parts_from_string(alloc: Global, text: &str) -> Result<SourceMapParts<'static>>
+    ensures { Answers record_of_parts result (read_map text.now) }
+{
+    decode_parts_inlined(alloc, text)
 }

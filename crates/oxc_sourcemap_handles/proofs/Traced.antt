@@ -10,7 +10,7 @@ use Rattle.oxc_sourcemap_lookup.specs.LineSpans.{AreLines, IsIndexOf}
 use Rattle.oxc_sourcemap_lookup.specs.Trace.{original_in}
 use Rattle.oxc_sourcemap_lookup.specs.declared.line_index.LineIndex.{LineIndex}
 use Rattle.oxc_sourcemap_lookup.specs.declared.line_index.Lines.{Lines}
-use Rattle.oxc_sourcemap_lookup.specs.declared.line_index.Lines.TheVariants.{Starts, Spans}
+use Rattle.oxc_sourcemap_lookup.specs.declared.line_index.Lines.TheVariants.{Starts, Spans, Few}
 use Rattle.oxc_sourcemap_lookup.proofs.Numbers.{token_of-index_for, token_of-clamped_index_for}
 use Rattle.oxc_sourcemap_lookup.proofs.Numbers.{token_of-index_after}
 use Rattle.oxc_sourcemap_lookup.proofs.Traced.{token_traced, token_clamped_traced}
@@ -38,7 +38,8 @@ is_trace bias m at p found seen is = record {
 lines_order : (tokens : List TokenRecord) (lines : Lines) → AreLines tokens lines → IsInLineOrder tokens
 lines_order tokens (Starts starts) h = h.order
 lines_order tokens (Spans spans) h = h.order
+lines_order tokens Few h = h
 
 -- tokens that have an index are in line order
 pub index_order : (tokens : List TokenRecord) (index : LineIndex) → IsIndexOf tokens index → IsInLineOrder tokens
-index_order tokens index h = lines_order tokens index.lines h
+index_order tokens index h = lines_order tokens index.lines h.0

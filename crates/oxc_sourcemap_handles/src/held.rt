@@ -45,7 +45,7 @@ impl LoadedMap {
         ensures map { IfOk result (λ loaded. (loaded.map ≡ map) × (loaded.has_order ≡ false)) }
         ensures error { OnlyMemory result }
     {
-        match LineIndex::new(alloc, map.get_tokens().as_slice()) {
+        match LineIndex::for_lookups(alloc, map.get_tokens().as_slice()) {
             Err(Error::OutOfMemory) => Err(Error::OutOfMemory),
             index => Ok(LoadedMap {
                 map,
@@ -292,7 +292,7 @@ pub fn index_of(alloc: Global, tokens: &[Token]) -> Result<Result<LineIndex>>
     ensures index { IfOk result (IsIndexed tokens.now) }
     ensures error { OnlyMemory result }
 {
-    match LineIndex::new(alloc, tokens) {
+    match LineIndex::for_lookups(alloc, tokens) {
         Err(Error::OutOfMemory) => Err(Error::OutOfMemory),
         index => Ok(index),
     }

@@ -11,12 +11,14 @@ use oxc_sourcemap_map::OwnedSourceMap;
 use std::alloc::Global;
 
 /// A map in a box for a handle, with its index.
+// The box is made first, so that the map is copied into it at once.
 pub fn box_map(alloc: Global, map: OwnedSourceMap) -> Result<Box<Held>, CallError>
     ensures map { IfOk result (λ held. held_map (Some held.value) ≡ Some map) }
     ensures error { IfErr result (λ r. r ≡ out_of_memory) }
 {
-    let loaded = LoadedMap::new(alloc, map)?;
-    Ok(Box::new(alloc, Held::Map(loaded))?)
+    let mut held = Box::new(alloc, Held::Written(String::new(alloc)))?;
+    *held.as_mut() = Held::Map(LoadedMap::new(alloc, map)?);
+    Ok(held)
 }
 
 /// Puts a map that was made into a handle, whose old map is then dropped, and returns the code.

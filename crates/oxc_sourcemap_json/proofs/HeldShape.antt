@@ -4,6 +4,8 @@ use Rattle.std.proofs.Common.{option_map}
 use Rattle.std.proofs.Common.{codes, string_bytes, String, Vec, Global, refl, sym, ap, ◌∙◌, arith}
 use Rattle.std.specs.List.{All}
 use Rattle.std.specs.Option.{unwrap_or, option_or}
+use Rattle.std.specs.Cow.{cow_str_bytes}
+use Rattle.std.specs.declared.borrow.CowStr.{CowStr}
 use Rattle.serde_json.specs.Data.{string, number, unsigned, object, Members}
 use Rattle.serde_json.specs.Find.{as_str, get_member}
 use Rattle.oxc_sourcemap_tokens.specs.declared.error.Field.{Field}
@@ -11,7 +13,7 @@ use Rattle.oxc_sourcemap_tokens.specs.declared.error.Field.TheVariants.{File, Ma
 use Rattle.oxc_sourcemap_tokens.specs.declared.error.Field.TheVariants.{Sources, SourcesContent}
 use Rattle.oxc_sourcemap_tokens.specs.declared.error.Field.TheVariants.{Names, DebugId, IgnoreList}
 use Rattle.oxc_sourcemap_tokens.specs.declared.error.Field.TheVariants.{GoogleIgnoreList}
-use Rattle.oxc_sourcemap_json.specs.Json.{json_texts, json_contents, json_content_list}
+use Rattle.oxc_sourcemap_parts.specs.Views.{texts_of, contents_of}
 use Rattle.oxc_sourcemap_json.specs.Shape.{all_items, onto_read, as_content, as_id, text_in}
 use Rattle.oxc_sourcemap_json.specs.Shape.{texts_in}
 use Rattle.oxc_sourcemap_json.specs.Shape.{◌>>=◌}
@@ -39,10 +41,10 @@ pub text_read : (field : Field) (o : Option (String Global)) → optional (text_
 text_read field None = refl
 text_read field (Some s) = refl
 
-pub contents_read : (o : Option (Vec (Option (String Global)) Global))
-    → optional (contents_in SourcesContent) (present (option_map (λ contents. contents_data (json_content_list contents)) o)) ≡ Ok (json_contents o)
+pub contents_read : (o : Option (Vec (Option (CowStr Global)) Global))
+    → optional (contents_in SourcesContent) (present (option_map (λ contents. contents_data (contents_of contents)) o)) ≡ Ok (option_map contents_of o)
 contents_read None = refl
-contents_read (Some os) = ap (λ r. optional (λ d. or_misshapen SourcesContent r) (Some (contents_data (json_content_list os)))) (all_contents (json_content_list os))
+contents_read (Some os) = ap (λ r. optional (λ d. or_misshapen SourcesContent r) (Some (contents_data (contents_of os)))) (all_contents (contents_of os))
 
 small_id : (id : ℕ) → id < 4294967296 → as_id (number (unsigned id)) ≡ Some id
 small_id id small = grind (arith, small)
@@ -86,7 +88,7 @@ pub shape_of : (ms : Members) (version : ℕ) (file source_root debug_id : Optio
 unfolding shape
 shape_of ms version file source_root debug_id mappings sources names contents ignore_list a b c d e f g h i = rw (a, b, c, d, e, f, g, h, i)
 
-pub names_read : (o : Option (Vec (String Global) Global)) (none : Vec (String Global) Global) → none.items ≡ []
-    → names_of (option_map (λ texts. texts_data (json_texts texts)) o) ≡ Ok (json_texts (unwrap_or o none))
-names_read None none empty = sym (ap (λ ss. Ok (map string_bytes ss)) empty)
-names_read (Some texts) none empty = texts_read Names (json_texts texts)
+pub names_read : (o : Option (Vec (CowStr Global) Global)) (none : Vec (CowStr Global) Global) → none.items ≡ []
+    → names_of (option_map (λ texts. texts_data (texts_of texts)) o) ≡ Ok (texts_of (unwrap_or o none))
+names_read None none empty = sym (ap (λ ss. Ok (map cow_str_bytes ss)) empty)
+names_read (Some texts) none empty = texts_read Names (texts_of texts)

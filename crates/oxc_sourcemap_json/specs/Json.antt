@@ -1,7 +1,9 @@
 -- What contracts see of a JSON source map.
 use Rattle.std.specs.Prelude.{ℕ, List, Option, map, option_map, string_bytes, Vec, String}
 use Rattle.std.specs.declared.alloc.Global.{Global}
+use Rattle.oxc_sourcemap_parts.specs.Views.{texts_of, contents_of}
 use Rattle.oxc_sourcemap_json.specs.declared.json_source_map.JSONSourceMap.{JSONSourceMap}
+use Rattle.oxc_sourcemap_json.specs.declared.usual.UsualMap.{UsualMap}
 
 -- the fields of the JSON object, as numbers, texts and lists
 pub record JsonRecord : Type 0 where
@@ -43,4 +45,18 @@ json_record j = record {
   names = map string_bytes j.names.items;
   debug_id = option_map string_bytes j.debug_id;
   ignore_list = option_map (λ list. list.items) j.ignore_list;
+}
+
+-- the fields of a usual map
+abbrev pub usual_record : UsualMap → JsonRecord
+usual_record m = record {
+  version = 3;
+  file = option_map string_bytes m.file;
+  mappings = m.mappings.now;
+  source_root = option_map string_bytes m.source_root;
+  sources = texts_of m.sources;
+  sources_content = option_map contents_of m.source_contents;
+  names = texts_of m.names;
+  debug_id = option_map string_bytes m.debug_id;
+  ignore_list = option_map (λ list. list.items) m.ignore_list;
 }

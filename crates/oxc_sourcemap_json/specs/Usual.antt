@@ -11,7 +11,8 @@ use Rattle.serde_json.specs.Data.{Data, null, number, unsigned, string, array, I
 use Rattle.serde_json.specs.Data.{no_items, item, Members, no_members}
 use Rattle.serde_json.specs.Find.{get, get_member}
 use Rattle.serde_json.specs.Read.{of_json, of_items, of_members, converted, max_depth, read}
-use Rattle.oxc_sourcemap_json.specs.Json.{JsonRecord, json_texts, json_content_list}
+use Rattle.oxc_sourcemap_parts.specs.Views.{texts_of, contents_of}
+use Rattle.oxc_sourcemap_json.specs.Json.{JsonRecord}
 use Rattle.oxc_sourcemap_json.specs.Shape.{shape}
 use Rattle.oxc_sourcemap_json.specs.declared.usual.UsualMembers.{UsualMembers}
 
@@ -83,11 +84,11 @@ abbrev pub members_held : UsualMembers → Held
 members_held m =
     (codes "version", (if m.has_version then Some (number (unsigned 3)) else None))
     ∷ (codes "file", option_map text_data m.file)
-    ∷ (codes "mappings", option_map text_data m.mappings)
+    ∷ (codes "mappings", option_map (λ text. string text.now) m.mappings)
     ∷ (codes "sourceRoot", option_map text_data m.source_root)
-    ∷ (codes "sources", option_map (λ texts. texts_data (json_texts texts)) m.sources)
-    ∷ (codes "sourcesContent", option_map (λ contents. contents_data (json_content_list contents)) m.sources_content)
-    ∷ (codes "names", option_map (λ texts. texts_data (json_texts texts)) m.names)
+    ∷ (codes "sources", option_map (λ texts. texts_data (texts_of texts)) m.sources)
+    ∷ (codes "sourcesContent", option_map (λ contents. contents_data (contents_of contents)) m.source_contents)
+    ∷ (codes "names", option_map (λ texts. texts_data (texts_of texts)) m.names)
     ∷ (codes "debugId", option_map text_data m.debug_id)
     ∷ (codes "ignoreList", option_map (λ ids. ids_data ids.items) m.ignore_list)
     ∷ (codes "x_google_ignoreList", option_map (λ ids. ids_data ids.items) m.older_ignore_list) ∷ []

@@ -6,7 +6,8 @@ pub use Rattle.serde_json.specs.Find.{get}
 pub use Rattle.serde_json.specs.Read.{number_of}
 pub use Rattle.serde_json.specs.View.{view}
 pub use Rattle.oxc_sourcemap_json.specs.Json.{json_record, json_texts, json_content_list}
-pub use Rattle.oxc_sourcemap_json.specs.Json.{json_contents, json_ids}
+pub use Rattle.oxc_sourcemap_json.specs.Json.{json_contents, json_ids, usual_record}
+pub use Rattle.oxc_sourcemap_parts.specs.Views.{text_of, texts_of, contents_of}
 pub use Rattle.oxc_sourcemap_json.specs.Members.{lent_member, member_in}
 pub use Rattle.oxc_sourcemap_json.specs.Shape.{present, optional, required, text_in, texts_in}
 pub use Rattle.oxc_sourcemap_json.specs.Shape.{as_content, contents_in, names_of, shape, ids_in}

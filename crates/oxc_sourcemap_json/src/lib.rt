@@ -12,4 +12,4 @@ mod usual;
 pub use json_source_map::JSONSourceMap;
 pub use members::json_of;
 pub use shape::{file_from_value, read_id};
-pub use usual::usual_json;
+pub use usual::{UsualMap, plain_map, usual_map};

@@ -304,6 +304,23 @@ impl<'a> PlainReader<'a> {
         Ok(Some(text))
     }
 
+    /// The text that is next, if it has no escape.
+    pub(crate) fn next_str(&mut self) -> Option<&'a str>
+        ensures { IfSome result
+            (λ text. tokens_left self.old ≡ spec.string text.now ∷ tokens_left self.new) }
+    {
+        if self.peek() != b'"' || !self.place.may_begin() {
+            return None;
+        }
+        let (text, end) = quoted(self.text, self.at)?;
+        if !ends_value(byte_at(self.text.as_bytes(), end)) {
+            return None;
+        }
+        self.at = end;
+        self.place = Place::AfterValue;
+        Some(text)
+    }
+
     /// Takes the number 3, if it is next and what ends a value is behind it.
     pub(crate) fn take_three(&mut self) -> bool
         ensures { IsTrue result

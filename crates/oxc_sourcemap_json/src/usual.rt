@@ -1,11 +1,13 @@
 //! Reading the JSON text of a usual source map token by token, with no value in between. What is unusual goes by a value
 //! (`json_of`).
+//!
+//! A map has some 250 bytes, which each call that returns it copies. So what a small map goes through is put into its caller.
 ghost use Rattle.std.specs.Prelude.{◌≡◌, ◌<◌, ◌≤◌, length, map, true, IsTrue, IfOk, IfSome, Ok};
-ghost use Rattle.std.specs.Prelude.{IsSomeAnd};
+ghost use Rattle.std.specs.Prelude.{IsSomeAnd, OnOk, ◌++◌, ◌∷◌, []};
 ghost use Rattle.std.specs.Prelude.{option_map, string_bytes, Some, List, ℕ};
 ghost use Rattle.json.specs.Lex.{tokens};
 ghost use Rattle.std.specs.List.{All};
-ghost use Rattle.oxc_sourcemap_json.specs.Words.{json_texts, json_content_list, json_record, shape};
+ghost use Rattle.oxc_sourcemap_json.specs.Words.{texts_of, contents_of, usual_record, shape};
 ghost use Rattle.oxc_sourcemap_json.specs.Words.{Data, Members, number, unsigned, string, object};
 ghost use Rattle.oxc_sourcemap_json.specs.Words.{no_members, Begins, BeginsAny, BeginItems};
 ghost use Rattle.oxc_sourcemap_json.specs.Words.{BeginMembers, IsAll, IsJsonOf, AreHeld};
@@ -13,24 +15,40 @@ ghost use Rattle.oxc_sourcemap_json.specs.Words.{text_data, texts_data, contents
 ghost use Rattle.oxc_sourcemap_json.specs.Words.{content_data, members_held, with_held};
 ghost use Rattle.oxc_sourcemap_json.specs.Words.{ids_data, HaveIds, number_of};
 
-use crate::json_source_map::JSONSourceMap;
 use crate::token_reader::TokenReader;
 use fast_float::Numeral;
 use json::Scratch;
+use oxc_sourcemap_parts::from_string;
 use oxc_sourcemap_tokens::Memory;
 use std::alloc::Global;
+use std::borrow::CowStr;
+
+/// The fields of a usual map, whose version is 3, as those of `JSONSourceMap`. The mappings text is borrowed, and the lists of
+/// strings are those of a map: they need not be moved into others.
+#[derive(Drop)]
+pub struct UsualMap<'a> {
+    pub file: Option<String>,
+    pub mappings: &'a str,
+    pub source_root: Option<String>,
+    pub sources: Vec<CowStr<'static>>,
+    /// None where the text has no list.
+    pub source_contents: Option<Vec<Option<CowStr<'static>>>>,
+    pub names: Vec<CowStr<'static>>,
+    pub debug_id: Option<String>,
+    pub ignore_list: Option<Vec<u32>>,
+}
 
 /// The members of a source map that were read so far. One that comes again takes the place of the one before.
 #[derive(Drop)]
-struct UsualMembers {
+struct UsualMembers<'a> {
     /// Whether there is a version, which is 3.
     has_version: bool,
     file: Option<String>,
-    mappings: Option<String>,
+    mappings: Option<&'a str>,
     source_root: Option<String>,
-    sources: Option<Vec<String>>,
-    sources_content: Option<Vec<Option<String>>>,
-    names: Option<Vec<String>>,
+    sources: Option<Vec<CowStr<'static>>>,
+    source_contents: Option<Vec<Option<CowStr<'static>>>>,
+    names: Option<Vec<CowStr<'static>>>,
     debug_id: Option<String>,
     ignore_list: Option<Vec<u32>>,
     older_ignore_list: Option<Vec<u32>>,
@@ -48,6 +66,7 @@ fn next_is_three(reader: &mut TokenReader<'_>) -> bool
 }
 
 /// The next value, if it is a text.
+#[inline(always)]
 fn next_text(alloc: Global, reader: &mut TokenReader<'_>) -> Memory<Option<String>>
     ensures text { IfOk result (λ found. IfSome found
         (λ text. BeginsAny reader.old (text_data text) reader.new)) }
@@ -59,10 +78,38 @@ fn next_text(alloc: Global, reader: &mut TokenReader<'_>) -> Memory<Option<Strin
     reader.next_text(alloc)
 }
 
-/// The texts up to the bracket that ends their list; None if something else is among them.
-fn rest_of_texts(alloc: Global, reader: &mut TokenReader<'_>) -> Memory<Option<Vec<String>>>
+/// For so many sources, or contents, small maps need room.
+const FEW_SOURCES: usize = 1;
+
+/// For so many names small maps need room.
+const FEW_NAMES: usize = 4;
+
+/// Appends an item. For the first, memory is taken for `few` items.
+fn push_item<T: Drop>(list: &mut Vec<T>, item: T, few: usize) -> Memory<()>
+    ensures { OnOk result (list.new.items ≡ list.old.items ++ item ∷ []) }
+{
+    if list.is_empty() {
+        list.reserve_exact(few)?;
+    }
+    Ok(list.push(item)?)
+}
+
+/// The next value, if it is a text, which is borrowed and not copied.
+fn next_str<'a>(reader: &mut TokenReader<'a>) -> Option<&'a str>
+    ensures member { IfSome result (λ text. Begins reader.old (string text.now) reader.new) }
+    ensures shorter { IfSome result (λ _. length reader.new < length reader.old) }
+{
+    reader.next_str()
+}
+
+/// The texts up to the bracket that ends their list; None if something else is among them. At first there is room for `few`.
+fn rest_of_texts(
+    alloc: Global,
+    reader: &mut TokenReader<'_>,
+    few: usize,
+) -> Memory<Option<Vec<CowStr<'static>>>>
     ensures texts { IfOk result (λ found. IfSome found
-        (λ texts. BeginItems reader.old (map string (json_texts texts)) reader.new)) }
+        (λ texts. BeginItems reader.old (map string (texts_of texts)) reader.new)) }
     ensures shorter { IfOk result (λ found. IfSome found
         (λ _. length reader.new ≤ length reader.old)) }
 {
@@ -71,22 +118,26 @@ fn rest_of_texts(alloc: Global, reader: &mut TokenReader<'_>) -> Memory<Option<V
         let Some(text) = next_text(alloc, reader)? else {
             return Ok(None);
         };
-        texts.push(text)?;
+        push_item(&mut texts, CowStr::Owned(text), few)?;
     }
     Ok(Some(texts))
 }
 
-/// The next value, if it is a list of texts.
-fn next_texts(alloc: Global, reader: &mut TokenReader<'_>) -> Memory<Option<Vec<String>>>
+/// The next value, if it is a list of texts. At first there is room for `few`.
+fn next_texts(
+    alloc: Global,
+    reader: &mut TokenReader<'_>,
+    few: usize,
+) -> Memory<Option<Vec<CowStr<'static>>>>
     ensures texts { IfOk result (λ found. IfSome found
-        (λ texts. Begins reader.old (texts_data (json_texts texts)) reader.new)) }
+        (λ texts. Begins reader.old (texts_data (texts_of texts)) reader.new)) }
     ensures shorter { IfOk result (λ found. IfSome found
         (λ _. length reader.new < length reader.old)) }
 {
     if !reader.begin_array() {
         return Ok(None);
     }
-    rest_of_texts(alloc, reader)
+    rest_of_texts(alloc, reader, few)
 }
 
 /// The next value, if it is a content: a text, or null for one that is not known.
@@ -103,9 +154,9 @@ fn next_content(alloc: Global, reader: &mut TokenReader<'_>) -> Memory<Option<Op
 fn rest_of_contents(
     alloc: Global,
     reader: &mut TokenReader<'_>,
-) -> Memory<Option<Vec<Option<String>>>>
+) -> Memory<Option<Vec<Option<CowStr<'static>>>>>
     ensures contents { IfOk result (λ found. IfSome found (λ contents. BeginItems reader.old
-        (map content_data (json_content_list contents)) reader.new)) }
+        (map content_data (contents_of contents)) reader.new)) }
     ensures shorter { IfOk result (λ found. IfSome found
         (λ _. length reader.new ≤ length reader.old)) }
 {
@@ -114,15 +165,18 @@ fn rest_of_contents(
         let Some(content) = next_content(alloc, reader)? else {
             return Ok(None);
         };
-        contents.push(content)?;
+        push_item(&mut contents, from_string(content), FEW_SOURCES)?;
     }
     Ok(Some(contents))
 }
 
 /// The next value, if it is a list of contents.
-fn next_contents(alloc: Global, reader: &mut TokenReader<'_>) -> Memory<Option<Vec<Option<String>>>>
+fn next_contents(
+    alloc: Global,
+    reader: &mut TokenReader<'_>,
+) -> Memory<Option<Vec<Option<CowStr<'static>>>>>
     ensures contents { IfOk result (λ found. IfSome found
-        (λ contents. Begins reader.old (contents_data (json_content_list contents)) reader.new)) }
+        (λ contents. Begins reader.old (contents_data (contents_of contents)) reader.new)) }
     ensures shorter { IfOk result (λ found. IfSome found
         (λ _. length reader.new < length reader.old)) }
 {
@@ -190,6 +244,7 @@ fn next_ids(alloc: Global, reader: &mut TokenReader<'_>) -> Memory<Option<Vec<u3
 }
 
 /// Keeps the next value, a text. False if it is something else; what is kept then counts for nothing.
+#[inline(always)]
 fn keep_text(alloc: Global, reader: &mut TokenReader<'_>, kept: &mut Option<String>) -> Memory<bool>
     ensures text { result ≡ Ok true → IsSomeAnd kept.new
         (λ text. Begins reader.old (text_data text) reader.new) }
@@ -200,20 +255,23 @@ fn keep_text(alloc: Global, reader: &mut TokenReader<'_>, kept: &mut Option<Stri
 }
 
 /// Keeps the next value, a list of texts, likewise.
+#[inline(always)]
 fn keep_texts(
     alloc: Global,
     reader: &mut TokenReader<'_>,
-    kept: &mut Option<Vec<String>>,
+    few: usize,
+    kept: &mut Option<Vec<CowStr<'static>>>,
 ) -> Memory<bool>
     ensures texts { result ≡ Ok true → IsSomeAnd kept.new
-        (λ texts. Begins reader.old (texts_data (json_texts texts)) reader.new) }
+        (λ texts. Begins reader.old (texts_data (texts_of texts)) reader.new) }
     ensures shorter { result ≡ Ok true → length reader.new < length reader.old }
 {
-    *kept = next_texts(alloc, reader)?;
+    *kept = next_texts(alloc, reader, few)?;
     Ok(kept.is_some())
 }
 
 /// Keeps the next value, a list of ids, likewise.
+#[inline(always)]
 fn keep_ids(
     alloc: Global,
     reader: &mut TokenReader<'_>,
@@ -229,9 +287,10 @@ fn keep_ids(
     Ok(kept.is_some())
 }
 
-impl UsualMembers {
+impl<'a> UsualMembers<'a> {
     /// No members.
-    fn none() -> UsualMembers
+    #[inline(always)]
+    fn none() -> UsualMembers<'a>
         ensures held { AreHeld result no_members }
         ensures ids { HaveIds result }
     {
@@ -241,7 +300,7 @@ impl UsualMembers {
             mappings: None,
             source_root: None,
             sources: None,
-            sources_content: None,
+            source_contents: None,
             names: None,
             debug_id: None,
             ignore_list: None,
@@ -250,7 +309,8 @@ impl UsualMembers {
     }
 
     /// Reads the value of a member. False if the member is unusual; what was read then counts for nothing.
-    fn read(&mut self, alloc: Global, key: &str, reader: &mut TokenReader<'_>) -> Memory<bool>
+    #[inline(always)]
+    fn read(&mut self, alloc: Global, key: &str, reader: &mut TokenReader<'a>) -> Memory<bool>
         ensures read { result ≡ Ok true → (d : Data) × Begins reader.old d reader.new
             × (members_held self.new ≡ with_held key.now d (members_held self.old)) }
         ensures ids { result ≡ Ok true → HaveIds self.old → HaveIds self.new }
@@ -262,14 +322,17 @@ impl UsualMembers {
                 Ok(self.has_version)
             }
             (4, "file") => keep_text(alloc, reader, &mut self.file),
-            (8, "mappings") => keep_text(alloc, reader, &mut self.mappings),
-            (10, "sourceRoot") => keep_text(alloc, reader, &mut self.source_root),
-            (7, "sources") => keep_texts(alloc, reader, &mut self.sources),
-            (14, "sourcesContent") => {
-                self.sources_content = next_contents(alloc, reader)?;
-                Ok(self.sources_content.is_some())
+            (8, "mappings") => {
+                self.mappings = next_str(reader);
+                Ok(self.mappings.is_some())
             }
-            (5, "names") => keep_texts(alloc, reader, &mut self.names),
+            (10, "sourceRoot") => keep_text(alloc, reader, &mut self.source_root),
+            (7, "sources") => keep_texts(alloc, reader, FEW_SOURCES, &mut self.sources),
+            (14, "sourcesContent") => {
+                self.source_contents = next_contents(alloc, reader)?;
+                Ok(self.source_contents.is_some())
+            }
+            (5, "names") => keep_texts(alloc, reader, FEW_NAMES, &mut self.names),
             (7, "debugId") => keep_text(alloc, reader, &mut self.debug_id),
             (10, "ignoreList") => keep_ids(alloc, reader, &mut self.ignore_list),
             (19, "x_google_ignoreList") => keep_ids(alloc, reader, &mut self.older_ignore_list),
@@ -278,9 +341,10 @@ impl UsualMembers {
     }
 
     /// The fields that the members have; None if one that has to be there is not.
-    fn into_json(self, alloc: Global) -> Option<JSONSourceMap>
-        ensures { IfSome result (λ json. (ms : Members) → AreHeld self ms → HaveIds self
-            → shape (object ms) ≡ Ok (json_record json)) }
+    #[inline(always)]
+    fn into_map(self, alloc: Global) -> Option<UsualMap<'a>>
+        ensures { IfSome result (λ map. (ms : Members) → AreHeld self.entry ms → HaveIds self.entry
+            → shape (object ms) ≡ Ok (usual_record map)) }
     {
         let UsualMembers {
             has_version,
@@ -288,7 +352,7 @@ impl UsualMembers {
             mappings,
             source_root,
             sources,
-            sources_content,
+            source_contents,
             names,
             debug_id,
             ignore_list,
@@ -297,13 +361,12 @@ impl UsualMembers {
         if !has_version {
             return None;
         }
-        Some(JSONSourceMap {
-            version: 3,
+        Some(UsualMap {
             file,
             mappings: mappings?,
             source_root,
             sources: sources?,
-            sources_content,
+            source_contents,
             names: names.unwrap_or(Vec::new(alloc)),
             debug_id,
             ignore_list: ignore_list.or(older_ignore_list),
@@ -312,7 +375,11 @@ impl UsualMembers {
 }
 
 /// The members up to the brace that ends their object; None if one of them is unusual.
-fn rest_of_members(alloc: Global, reader: &mut TokenReader<'_>) -> Memory<Option<UsualMembers>>
+#[inline(always)]
+fn rest_of_members<'a>(
+    alloc: Global,
+    reader: &mut TokenReader<'a>,
+) -> Memory<Option<UsualMembers<'a>>>
     ensures { IfOk result (λ found. IfSome found (λ m. (ms : Members)
         × BeginMembers reader.old ms reader.new × AreHeld m ms × HaveIds m)) }
 {
@@ -329,7 +396,8 @@ fn rest_of_members(alloc: Global, reader: &mut TokenReader<'_>) -> Memory<Option
 }
 
 /// The members of the object that is all of a text; None if it is something else, or one of them is unusual.
-fn members_of(alloc: Global, reader: &mut TokenReader<'_>) -> Memory<Option<UsualMembers>>
+#[inline(always)]
+fn members_of<'a>(alloc: Global, reader: &mut TokenReader<'a>) -> Memory<Option<UsualMembers<'a>>>
     ensures { IfOk result (λ found. IfSome found (λ m. (ms : Members)
         × IsAll reader.old (object ms) × AreHeld m ms × HaveIds m)) }
 {
@@ -347,45 +415,41 @@ fn members_of(alloc: Global, reader: &mut TokenReader<'_>) -> Memory<Option<Usua
 const MOST_PLAIN: usize = 4096;
 
 /// The fields of the tokens that are left, which are those of the text.
-fn fields_of(alloc: Global, reader: &mut TokenReader<'_>) -> Memory<Option<JSONSourceMap>>
-    ensures { IfOk result (λ found. IfSome found (λ json. (text : List ℕ) → reader.old ≡ tokens text
-        → IsJsonOf text (json_record json))) }
+#[inline(always)]
+fn fields_of<'a>(alloc: Global, reader: &mut TokenReader<'a>) -> Memory<Option<UsualMap<'a>>>
+    ensures { IfOk result (λ found. IfSome found (λ map. (text : List ℕ) → reader.old ≡ tokens text
+        → IsJsonOf text (usual_record map))) }
 {
     let Some(members) = members_of(alloc, reader)? else {
         return Ok(None);
     };
-    Ok(members.into_json(alloc))
+    Ok(members.into_map(alloc))
 }
 
-/// The fields of a plain text, as `usual_json` gives them.
-fn plain_json(alloc: Global, text: &str) -> Memory<Option<JSONSourceMap>>
+/// The fields of the JSON text of a map by itself, if it is short and plain, as `usual_map` gives them.
+#[inline(always)]
+pub fn plain_map<'a>(alloc: Global, text: &'a str) -> Memory<Option<UsualMap<'a>>>
     ensures { IfOk result (λ found. IfSome found
-        (λ json. IsJsonOf text.now (json_record json))) }
+        (λ map. IsJsonOf text.now (usual_record map))) }
 {
+    if text.len() > MOST_PLAIN {
+        return Ok(None);
+    }
     let mut reader = TokenReader::plain(text);
     fields_of(alloc, &mut reader)
 }
 
-/// The fields of any text, as `usual_json` gives them.
-fn any_json(alloc: Global, text: &str) -> Memory<Option<JSONSourceMap>>
-    ensures { IfOk result (λ found. IfSome found
-        (λ json. IsJsonOf text.now (json_record json))) }
-{
-    let mut scratch = Scratch::new(alloc);
-    let mut reader = TokenReader::any(text, &mut scratch)?;
-    fields_of(alloc, &mut reader)
-}
-
 /// The fields of the JSON text of a map by itself, as `json_of` reads them from its value. None if the text is unusual: it is no
-/// such map, has a fault, or has null as a member or a member that is not read here. Fails only for want of memory.
-pub fn usual_json(alloc: Global, text: &str) -> Memory<Option<JSONSourceMap>>
+/// such map, has a fault, or has null as a member or a member that is not read here. `scratch` lends its memory; the mappings may
+/// lie in it. Fails only for want of memory.
+pub fn usual_map<'a>(
+    alloc: Global,
+    text: &'a str,
+    scratch: &'a mut Scratch,
+) -> Memory<Option<UsualMap<'a>>>
     ensures { IfOk result (λ found. IfSome found
-        (λ json. IsJsonOf text.now (json_record json))) }
+        (λ map. IsJsonOf text.now (usual_record map))) }
 {
-    if text.len() <= MOST_PLAIN {
-        if let Some(json) = plain_json(alloc, text)? {
-            return Ok(Some(json));
-        }
-    }
-    any_json(alloc, text)
+    let mut reader = TokenReader::any(text, scratch)?;
+    fields_of(alloc, &mut reader)
 }

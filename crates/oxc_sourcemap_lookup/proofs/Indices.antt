@@ -124,21 +124,6 @@ pub index-elsewhere : (col n : ℕ) (o : Option TokenRecord) (other : Option ℕ
 index-elsewhere col n None other h = refl
 index-elsewhere col n (Some t) other h = (let same : (t.dst_col == col) ≡ false = grind (arith, h) in rw same refl)
 
-pub column-of : (ts : List TokenRecord) (n col : ℕ) (t : TokenRecord) → 0 < n → n ≤ length ts → t ≡ get_or ts (n - 1) t → t.dst_col ≡ col
-    → option_map token_column (get_before token_column ts n) ≡ Some col
-column-of ts n col t some within read same =
-    ap (option_map token_column) (before-get n ts some ∙ slice_get_read ts (length ts) (n - 1) t refl (omega (arith, some, within)) read) ∙ ap Some same
-
-pub column-not : (ts : List TokenRecord) (n col : ℕ) (t : TokenRecord) → 0 < n → n ≤ length ts → t ≡ get_or ts (n - 1) t → t.dst_col ≢ col
-    → option_map token_column (get_before token_column ts n) ≡ Some col → ⊥
-column-not ts n col t some within read other h =
-    let is = ap (option_map token_column) (before-get n ts some ∙ slice_get_read ts (length ts) (n - 1) t refl (omega (arith, some, within)) read) in
-    let same : Some t.dst_col ≡ Some col = sym is ∙ h in
-    grind (arith, same, other)
-
-pub column-none : (ts : List TokenRecord) (n col : ℕ) → n ≡ 0 → option_map token_column (get_before token_column ts n) ≡ Some col → ⊥
-column-none ts n col e h = (let none : None ≡ Some col = sym (ap (λ k. option_map token_column (get_before token_column ts k)) e) ∙ h in cc (none))
-
 or-index : (o p : Option (ℕ × TokenRecord)) → option_map (λ p. p.0) (option_or o p) ≡ option_or (option_map (λ p. p.0) o) (option_map (λ p. p.0) p)
 or-index None p = refl
 or-index (Some x) p = refl
@@ -160,13 +145,6 @@ at-most-by false ts n col t e some within read count =
     let past : col + 1 ≤ t.dst_col = grind (arith, e) in
     let most = before-earlier (col + 1) ts (n - 1) t (omega (arith, some, within)) (omega (arith, past, ap token_column read)) in
     absurd (omega (arith, most, count, some))
-
--- the last of the tokens that are not past a column is in it, if it is not before it
-pub column-from : (ts : List TokenRecord) (n col : ℕ) (t : TokenRecord) → 0 < n → n ≤ length ts → t ≡ get_or ts (n - 1) t → n ≡ cut token_column (col + 1) ts → col ≤ t.dst_col
-    → option_map token_column (get_before token_column ts n) ≡ Some col
-column-from ts n col t some within read count le =
-    let most = at-most-by (nat_lt t.dst_col (col + 1)) ts n col t refl some within read count in
-    column-of ts n col t some within read (omega (arith, le, most))
 
 -- what is found on a line that has tokens, by how many of them are before the column, and whether the one after these is at it
 few-at : (b : Bool) (col n : ℕ) (t : TokenRecord) (ts : List TokenRecord) → (t.dst_col == col) ≡ b → n < length ts

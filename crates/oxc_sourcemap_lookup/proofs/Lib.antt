@@ -5,6 +5,7 @@ pub mod Replaced
 pub mod Compositions
 mod WorkedCompositions
 pub mod Lookups
+pub mod ColumnSearches
 pub mod Cuts
 pub mod Indices
 pub mod Numbers

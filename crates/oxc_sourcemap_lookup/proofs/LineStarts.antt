@@ -1,10 +1,11 @@
 -- Where the lines of a list in line order begin.
 use Rattle.std.proofs.Common.{◌≡◌, ℕ, suc, ◌+◌, ◌-◌, ◌<◌, ◌≤◌, ◌==◌, nat_lt, Bool, true, false}
 use Rattle.std.proofs.Common.{cond, List, [], ◌∷◌, length, take, drop, get_or, refl, sym, ap, subst}
-use Rattle.std.proofs.Common.{◌∙◌, arith, Some, None}
+use Rattle.std.proofs.Common.{◌∙◌, arith, Some, None, length-drop}
 use Rattle.std.proofs.lemmas.Bool.{lt-ltb}
 use Rattle.std.proofs.lemmas.List.FromFn.{length-map-range_with_len, get_or-map-range_with_len}
-use Rattle.std.proofs.lemmas.List.Sums.{count_by-le-length, sum_by-cons}
+use Rattle.std.proofs.lemmas.List.{take_all}
+use Rattle.std.proofs.lemmas.List.Sums.{count_by-le-length, sum_by-cons, prefix_len-le-length}
 use Rattle.std.specs.List.{prefix_len, last_or}
 use Rattle.oxc_sourcemap_tokens.specs.Token.{TokenRecord, last}
 use Rattle.oxc_sourcemap_tokens.specs.LineOrder.{first_out_of_order}
@@ -89,13 +90,36 @@ pub counts-next : (n from : ℕ) (ts : List TokenRecord) → IsFrom from ts → 
 counts-next n from [] p = refl
 counts-next n from (t ∷ ts) p = next-by (nat_lt t.dst_line n) (t.dst_line == n) n t ts refl refl p.1 (counts-next n t.dst_line ts p.1)
 
+-- the tokens on a line are those at the front of what is left from it on
+pub on_line-left : (n : ℕ) (ts : List TokenRecord) → first_out_of_order ts ≡ None
+    → take (prefix_len (λ t. t.dst_line == n) (drop (count_before_line n ts) ts)) (drop (count_before_line n ts) ts) ≡ on_line token_line n ts
+on_line-left n ts order =
+    let p = in_order-from_0 ts order in
+    front n (drop (count_before_line n ts) ts) (left_from n 0 ts p) ∙ left_on n 0 ts p
+
+-- where the tokens on a line lie, by how many there are at the front of what is left from it on
+pub line-left : (n line start count : ℕ) (ts : List TokenRecord) → first_out_of_order ts ≡ None → start ≡ count_before_line n ts → line ≡ n
+    → count ≡ prefix_len (λ t. t.dst_line == line) (take (length ts - start) (drop start ts))
+    → (start + count ≤ length ts) × (take (start + count - start) (drop start ts) ≡ on_line token_line n ts)
+line-left n line start count ts order is same size =
+    let some = count_by-le-length (λ t. nat_lt (token_line t) n) ts in
+    let within : start ≤ length ts = omega (arith, is, some) in
+    let rest : take (length ts - start) (drop start ts) ≡ drop start ts = take_all (length ts - start) (drop start ts) (omega (arith, length-drop start ts)) in
+    let all : count ≡ prefix_len (λ t. t.dst_line == n) (drop start ts) =
+    size ∙ ap (λ k. prefix_len (λ t. t.dst_line == k) (take (length ts - start) (drop start ts))) same ∙ ap (prefix_len (λ t. t.dst_line == n)) rest in
+    let most = prefix_len-le-length (λ t. t.dst_line == n) (drop start ts) in
+    let only : start + count - start ≡ prefix_len (λ t. t.dst_line == n) (drop start ts) = omega (arith, all) in
+    let begin : take (prefix_len (λ t. t.dst_line == n) (drop start ts)) (drop start ts) ≡ on_line token_line n ts =
+    ap (λ k. take (prefix_len (λ t. t.dst_line == n) (drop k ts)) (drop k ts)) is ∙ on_line-left n ts order in
+    (omega (arith, within, all, most, length-drop start ts), ap (λ k. take k (drop start ts)) only ∙ begin)
+
 -- the tokens on a line lie from where it begins to where the next line does
 pub on_line-between : (n : ℕ) (ts : List TokenRecord) → first_out_of_order ts ≡ None → take (count_before_line (n + 1) ts - count_before_line n ts) (drop (count_before_line n ts) ts) ≡ on_line token_line n ts
 on_line-between n ts order =
     let p = in_order-from_0 ts order in
     let rest = drop (count_before_line n ts) ts in
     let size : count_before_line (n + 1) ts - count_before_line n ts ≡ prefix_len (λ t. t.dst_line == n) rest = omega (arith, counts-next n 0 ts p) in
-    ap (λ k. take k rest) size ∙ front n rest (left_from n 0 ts p) ∙ left_on n 0 ts p
+    ap (λ k. take k rest) size ∙ on_line-left n ts order
 
 -- all tokens lie before the line after the last one
 all-before-of : (n : ℕ) (t : TokenRecord) (ts : List TokenRecord) → IsFrom t.dst_line ts → lines_through (last_or (Some t) ts) ≤ n → count_before_line n (t ∷ ts) ≡ length (t ∷ ts)
@@ -127,9 +151,6 @@ module _ (tokens : List TokenRecord) (starts : List ℕ) (are : AreStarts tokens
       let begin = start_of n i d (omega (arith, h)) e in
       let end = start_of (n + 1) j d h f in
       ap (λ k. take (get_or starts j d - k) (drop k tokens)) begin ∙ ap (λ k. take (k - count_before_line n tokens) (drop (count_before_line n tokens) tokens)) end ∙ on_line-between n tokens are.order
-
-  pub all_before_past : (n : ℕ) → length starts ≤ n → count_before_line n tokens ≡ length tokens
-  all_before_past n h = all-before n tokens are.order (omega (arith, h, how_many))
 
   pub none_past : (n : ℕ) → length starts ≤ n + 1 → on_line token_line n tokens ≡ []
   none_past n h = none-after n tokens are.order (omega (arith, h, how_many))

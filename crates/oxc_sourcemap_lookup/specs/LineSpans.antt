@@ -1,15 +1,16 @@
--- The index of the lines of a list of tokens. Contracts cite `IsIndexOf`; the others are its parts.
+-- The index of the lines of a list of tokens: `IsIndexOf`, its parts, and where the tokens of a line lie in the list.
 use Rattle.std.specs.Prelude.{◌≡◌, ◌≢◌, ℕ, ◌+◌, ◌-◌, ◌*◌, ◌<◌, ◌≤◌, nat_lt, min, List, [], length}
 use Rattle.std.specs.Prelude.{take}
-use Rattle.std.specs.Prelude.{drop, get_or, map, count_by, max}
+use Rattle.std.specs.Prelude.{drop, get_or, map, count_by, max, IfSome}
+use Rattle.std.specs.Option.{option_map_or}
 use Rattle.std.specs.List.{All, range_with_len}
 use Rattle.oxc_sourcemap_tokens.specs.Token.{TokenRecord, last}
 use Rattle.oxc_sourcemap_tokens.specs.LineOrder.{IsInLineOrder}
-use Rattle.oxc_sourcemap_parts.specs.Sorted.{token_line}
+use Rattle.oxc_sourcemap_parts.specs.Sorted.{token_line, token_column}
 use Rattle.oxc_sourcemap_lookup.specs.Lookup.{on_line, lines_through}
 use Rattle.oxc_sourcemap_lookup.specs.declared.line_index.LineSpan.{LineSpan}
 use Rattle.oxc_sourcemap_lookup.specs.declared.line_index.Lines.{Lines}
-use Rattle.oxc_sourcemap_lookup.specs.declared.line_index.Lines.TheVariants.{Starts, Spans}
+use Rattle.oxc_sourcemap_lookup.specs.declared.line_index.Lines.TheVariants.{Starts, Spans, Few}
 use Rattle.oxc_sourcemap_lookup.specs.declared.line_index.LineIndex.{LineIndex}
 
 -- how many tokens lie on lines before this one
@@ -50,19 +51,32 @@ pub record AreSpans (tokens : List TokenRecord) (spans : List LineSpan) : Type 0
   pub rise : DoLinesRise spans
   pub others : (n : ℕ) → All (λ span. span.line ≢ n) spans → on_line token_line n tokens ≡ []
 
--- where the tokens of each line lie, in either form
+-- where the tokens of each line lie, in any form
 abbrev pub AreLines : List TokenRecord → Lines → Type 0
 AreLines tokens (Starts starts) = AreStarts tokens starts.items
 AreLines tokens (Spans spans) = AreSpans tokens spans.items
+AreLines tokens Few = IsInLineOrder tokens
 
--- the index of the lines of these tokens
+-- the index of the lines of these tokens, which may have the column of each
 abbrev pub IsIndexOf : List TokenRecord → LineIndex → Type 0
-IsIndexOf tokens index = AreLines tokens index.lines
+IsIndexOf tokens index = AreLines tokens index.lines × IfSome index.columns (λ columns. columns.items ≡ map token_column tokens)
 
--- the number of bytes of memory that an index holds: 4 for where a line begins, or 24 for a span; at most 2^64 - 1
+-- some tokens lie side by side in a list, from this index on
+pub record IsPartAt (start : ℕ) (part tokens : List TokenRecord) : Type 0 where
+  pub within : start + length part ≤ length tokens
+  pub is : part ≡ take (length part) (drop start tokens)
+
+-- a list of columns has those of some tokens, from this index on
+pub record AreColumnsAt (start : ℕ) (part : List TokenRecord) (columns : List ℕ) : Type 0 where
+  pub within : start + length part ≤ length columns
+  pub are : take (length part) (drop start columns) ≡ map token_column part
+
+-- the number of bytes of memory that lines take: 4 for where a line begins, or 24 for a span
 abbrev pub bytes_of_lines : Lines → ℕ
-bytes_of_lines (Starts starts) = min (length starts.items * 4) 18446744073709551615
-bytes_of_lines (Spans spans) = min (length spans.items * 24) 18446744073709551615
+bytes_of_lines (Starts starts) = length starts.items * 4
+bytes_of_lines (Spans spans) = length spans.items * 24
+bytes_of_lines Few = 0
 
+-- the number of bytes of memory that an index holds, with 4 for each column; at most 2^64 - 1
 abbrev pub index_bytes : LineIndex → ℕ
-index_bytes index = bytes_of_lines index.lines
+index_bytes index = min (bytes_of_lines index.lines + option_map_or (λ columns. length columns.items * 4) index.columns 0) 18446744073709551615

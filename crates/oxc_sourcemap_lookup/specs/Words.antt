@@ -4,7 +4,7 @@ pub use Rattle.oxc_sourcemap_parts.specs.Texts.{index_of, with_text}
 pub use Rattle.oxc_sourcemap_parts.specs.Views.{texts_of, record_of_parts, cow_texts}
 pub use Rattle.oxc_sourcemap_tokens.specs.LineOrder.{IsInLineOrder, first_out_of_order}
 pub use Rattle.oxc_sourcemap_tokens.specs.Results.{FailsBy, Reports, lent_items, Answers}
-pub use Rattle.oxc_sourcemap_tokens.specs.Token.{last}
+pub use Rattle.oxc_sourcemap_tokens.specs.Token.{last, TokenRecord}
 pub use Rattle.oxc_sourcemap_tokens.specs.declared.error.Error.{Error}
 pub use Rattle.oxc_sourcemap_tokens.specs.declared.error.Error.TheVariants.{OutOfMemory, TooLarge}
 pub use Rattle.oxc_sourcemap_tokens.specs.declared.error.Error.TheVariants.{LineOrder}
@@ -18,7 +18,7 @@ pub use Rattle.oxc_sourcemap_lookup.specs.Inherited.{names_with, IsInheriting, H
 pub use Rattle.oxc_sourcemap_lookup.specs.InheritedNames.{with_inherited, inherited_index}
 pub use Rattle.oxc_sourcemap_lookup.specs.LineSpans.{IsIndexOf, AreStarts, AreSpans, DoLinesRise}
 pub use Rattle.oxc_sourcemap_lookup.specs.LineSpans.{AreLines, AreEnds, count_before_line}
-pub use Rattle.oxc_sourcemap_lookup.specs.LineSpans.{index_bytes}
+pub use Rattle.oxc_sourcemap_lookup.specs.LineSpans.{index_bytes, IsPartAt, AreColumnsAt}
 pub use Rattle.oxc_sourcemap_lookup.specs.Lookup.{on_line, lines_through, token_for}
 pub use Rattle.oxc_sourcemap_lookup.specs.Lookup.{clamped_token_for, at, clamped_at}
 pub use Rattle.oxc_sourcemap_lookup.specs.Lookup.{no_column_goes_back, tokens_by_line, table_fault}

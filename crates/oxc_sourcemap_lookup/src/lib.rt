@@ -2,6 +2,7 @@
 //! index of lines, and the composition of maps. Part of `oxc_sourcemap`.
 #![tactic(auto)]
 
+mod columns;
 mod compose;
 mod inherited_names;
 mod line_index;

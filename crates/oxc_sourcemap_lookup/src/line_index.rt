@@ -1,7 +1,7 @@
 //! The index of the lines of a list of tokens: where the tokens of each line lie.
 ghost use Rattle.std.specs.Prelude.{ℕ, ◌+◌, ◌*◌, ◌^◌, ◌≡◌, ◌≢◌, ◌↔◌, ◌<◌, ◌≤◌, true, IsTrue};
 ghost use Rattle.std.specs.Prelude.{length, get_or, option_map, slice_get, IfOk, IfSome, IsNone};
-ghost use Rattle.std.specs.Prelude.{Ok, Err, Some, None};
+ghost use Rattle.std.specs.Prelude.{Ok, Err, Some, None, map};
 ghost use Rattle.std.specs.List.{All, Contains};
 ghost use Rattle.oxc_sourcemap_lookup.specs.Words.{Error, LineOrder, OutOfMemory, IsInLineOrder};
 ghost use Rattle.oxc_sourcemap_lookup.specs.Words.{first_out_of_order, are_tokens_sorted};
@@ -9,17 +9,22 @@ ghost use Rattle.oxc_sourcemap_lookup.specs.Words.{token_line, on_line, lines_th
 ghost use Rattle.oxc_sourcemap_lookup.specs.Words.{clamped_token_for, last, AreStarts, AreSpans};
 ghost use Rattle.oxc_sourcemap_lookup.specs.Words.{DoLinesRise, AreLines, IsIndexOf, FailsBy};
 ghost use Rattle.oxc_sourcemap_lookup.specs.Words.{AreEnds, Reports, count_before_line};
-ghost use Rattle.oxc_sourcemap_lookup.specs.Words.{index_bytes};
+ghost use Rattle.oxc_sourcemap_lookup.specs.Words.{index_bytes, token_column, IsPartAt};
+ghost use Rattle.oxc_sourcemap_lookup.specs.Words.{AreColumnsAt};
 ghost use Rattle.oxc_sourcemap_lookup.specs.Words.{index_for, clamped_index_for, index_after};
+ghost use Rattle.oxc_sourcemap_lookup.specs.Words.{index_at, clamped_index_at, index_at_or_after};
+ghost use Rattle.oxc_sourcemap_lookup.specs.Words.{no_column_goes_back};
 
+use crate::columns;
 use crate::lookup::{
-    has_short_lines, line_count, line_length, search, search_clamped, search_index,
+    has_short_lines, line_count, line_length, line_start, search, search_clamped, search_index,
     search_index_after, search_index_clamped, store_ends,
 };
 use oxc_sourcemap_tokens::{Error, Memory, Result, Token, line_order_fault};
 use std::alloc::Global;
 
-/// From so many tokens on, branches that are mispredicted take more time than memory for where lines end.
+/// From so many tokens on, branches that are mispredicted take more time than memory for where lines end, and reads of tokens more
+/// than memory for their columns. For fewer, lookups need no memory.
 const MANY: usize = 64;
 
 /// Where the tokens of one line lie in the list: from index `start` up to but not including `end`.
@@ -37,14 +42,18 @@ enum Lines {
     Starts(Vec<u32>),
     /// The spans of the lines that have tokens: a line is found by halving.
     Spans(Vec<LineSpan>),
+    /// Nothing: a line is found by halving the tokens, which are few.
+    Few,
 }
 
 /// Where the tokens of each line lie in a list of tokens in line order. It takes memory for every line if there are few lines
 /// for so many tokens, else for those that have tokens: at most 24 bytes a token, and 68; while it is made, at most 32, and
-/// 132. It borrows nothing.
+/// 132. With the columns of tokens it holds 4 more a token; for lookups in few tokens it takes none. It borrows nothing.
 #[derive(Drop)]
 pub struct LineIndex {
     lines: Lines,
+    /// The column of each token, if lookups read these in place of the tokens.
+    columns: Option<Vec<u32>>,
 }
 
 /// Whether to keep where each line begins: whether the tokens can be counted in 32 bits, and there are at most four lines
@@ -193,6 +202,17 @@ fn find(spans: &[LineSpan], line: u32, near: usize) -> Option<usize>
     None
 }
 
+/// The generated column of each token.
+fn columns_of(alloc: Global, tokens: &[Token]) -> Memory<Vec<u32>>
+    ensures { IfOk result (λ columns. columns.items ≡ map token_column tokens.now) }
+{
+    let mut columns = Vec::with_capacity(alloc, tokens.len())?;
+    for token in tokens {
+        columns.push_reserved(token.get_dst_col());
+    }
+    Ok(columns)
+}
+
 /// Where a line begins, and the tokens on it, by the spans of lines. The line is looked for first at the index `near`, which
 /// becomes that of its span. Without tokens the line begins anywhere.
 // A call of its own, so that lookups in the maps that are usual are short.
@@ -206,6 +226,7 @@ fn line_by_span<'t>(
     requires { AreSpans tokens.now spans.now }
     ensures tokens { result.1.now ≡ on_line token_line line tokens.now }
     ensures start { 0 < length result.1.now → result.0 ≡ count_before_line line tokens.now }
+    ensures part { IsPartAt result.0 result.1.now tokens.now }
 {
     let Some(i) = find(spans, line, *near) else {
         return (0, &[]);
@@ -220,6 +241,7 @@ fn line_by_start<'t>(starts: &[u32], tokens: &'t [Token], line: u32) -> (usize, 
     requires { AreStarts tokens.now starts.now }
     ensures tokens { result.1.now ≡ on_line token_line line tokens.now }
     ensures start { 0 < length result.1.now → result.0 ≡ count_before_line line tokens.now }
+    ensures part { IsPartAt result.0 result.1.now tokens.now }
 {
     let next = line as usize + 1;
     if next < starts.len() {
@@ -228,6 +250,18 @@ fn line_by_start<'t>(starts: &[u32], tokens: &'t [Token], line: u32) -> (usize, 
     } else {
         (0, &[])
     }
+}
+
+/// Where a line begins, and the tokens on it, found among few tokens. Without tokens the line begins anywhere.
+fn line_among<'t>(tokens: &'t [Token], line: u32) -> (usize, &'t [Token])
+    requires { IsInLineOrder tokens.now }
+    ensures tokens { result.1.now ≡ on_line token_line line tokens.now }
+    ensures start { 0 < length result.1.now → result.0 ≡ count_before_line line tokens.now }
+    ensures part { IsPartAt result.0 result.1.now tokens.now }
+{
+    let start = line_start(tokens, line);
+    let count = line_length(&tokens[start..], u64::from(line));
+    (start, &tokens[start..start + count])
 }
 
 impl LineIndex {
@@ -241,12 +275,45 @@ impl LineIndex {
         ensures fault { Reports (option_map LineOrder (first_out_of_order tokens.now)) result }
     {
         if let Ok(Some(lines)) = lines_of(alloc, tokens) {
-            return Ok(LineIndex { lines });
+            return Ok(LineIndex {
+                lines,
+                columns: None,
+            });
         }
         match line_order_fault(tokens) {
             Some(i) => Err(Error::LineOrder(i)),
             None => Err(Error::OutOfMemory),
         }
+    }
+
+    /// The index of few tokens, which takes no memory. Fails as `new` does, but for memory.
+    fn of_few(tokens: &[Token]) -> Result<LineIndex>
+        ensures index { IfOk result (λ index. IsIndexOf tokens.now index) }
+        ensures error { FailsBy (option_map LineOrder (first_out_of_order tokens.now)) result }
+        ensures fault { Reports (option_map LineOrder (first_out_of_order tokens.now)) result }
+    {
+        if let Some(i) = line_order_fault(tokens) {
+            return Err(Error::LineOrder(i));
+        }
+        Ok(LineIndex {
+            lines: Lines::Few,
+            columns: None,
+        })
+    }
+
+    /// As `new`, for lookups of indices: with the columns of many tokens, which are then read in place of the tokens, and with
+    /// nothing for few. Fails as `new` does.
+    pub fn for_lookups(alloc: Global, tokens: &[Token]) -> Result<LineIndex>
+        ensures index { IfOk result (λ index. IsIndexOf tokens.now index) }
+        ensures error { FailsBy (option_map LineOrder (first_out_of_order tokens.now)) result }
+        ensures fault { Reports (option_map LineOrder (first_out_of_order tokens.now)) result }
+    {
+        if tokens.len() < MANY {
+            return LineIndex::of_few(tokens);
+        }
+        let mut index = LineIndex::new(alloc, tokens)?;
+        index.columns = Some(columns_of(alloc, tokens)?);
+        Ok(index)
     }
 
     /// The tokens on a line, in order. An index that finds lines by halving looks first at `near`, which may be any number and
@@ -270,10 +337,13 @@ impl LineIndex {
         ensures tokens { result.1.now ≡ on_line token_line line tokens.now }
         ensures start { 0 < length result.1.now
             → result.0 ≡ count_before_line line tokens.now }
+        ensures columns { IfSome self.now.columns
+            (λ kept. AreColumnsAt result.0 result.1.now kept.items) }
     {
         match &self.lines {
             Lines::Starts(starts) => line_by_start(starts.as_slice(), tokens, line),
             Lines::Spans(spans) => line_by_span(spans.as_slice(), tokens, line, near),
+            Lines::Few => line_among(tokens, line),
         }
     }
 
@@ -293,10 +363,83 @@ impl LineIndex {
     pub fn bytes(&self) -> usize
         ensures { result ≡ index_bytes self.now }
     {
-        match &self.lines {
+        let lines = match &self.lines {
             Lines::Starts(starts) => starts.len().saturating_mul(4),
             Lines::Spans(spans) => spans.len().saturating_mul(24),
+            Lines::Few => 0,
+        };
+        let columns = match &self.columns {
+            Some(columns) => columns.len().saturating_mul(4),
+            None => 0,
+        };
+        lines.saturating_add(columns)
+    }
+
+    /// The columns of the tokens of a line, if they are kept. The tokens lie from the index `start` on.
+    #[inline(always)]
+    fn columns_on(&self, start: usize, on_line: &[Token]) -> Option<&[u32]>
+        requires { IfSome self.now.columns (λ kept. AreColumnsAt start on_line.now kept.items) }
+        ensures { IfSome result (λ columns. columns.now ≡ map token_column on_line.now) }
+    {
+        match &self.columns {
+            Some(columns) => Some(&columns.as_slice()[start..start + on_line.len()]),
+            None => None,
         }
+    }
+
+    /// As `search_index` on a line whose tokens lie from the index `start` on.
+    #[inline(always)]
+    fn search_at(&self, start: usize, on_line: &[Token], col: u32) -> Option<usize>
+        requires { IfSome self.now.columns (λ kept. AreColumnsAt start on_line.now kept.items) }
+        ensures found { no_column_goes_back token_column on_line.now ≡ true
+            → result ≡ index_at on_line.now col }
+        ensures within { IfSome result (λ i. i < length on_line.now) }
+    {
+        match self.columns_on(start, on_line) {
+            Some(columns) => columns::search_index(columns, col),
+            None => search_index(on_line, col),
+        }
+    }
+
+    /// As `search_index_clamped` on a line whose tokens lie from the index `start` on.
+    #[inline(always)]
+    fn search_clamped_at(&self, start: usize, on_line: &[Token], col: u32) -> Option<usize>
+        requires { IfSome self.now.columns (λ kept. AreColumnsAt start on_line.now kept.items) }
+        ensures found { no_column_goes_back token_column on_line.now ≡ true
+            → result ≡ clamped_index_at on_line.now col }
+        ensures within { IfSome result (λ i. i < length on_line.now) }
+    {
+        match self.columns_on(start, on_line) {
+            Some(columns) => columns::search_index_clamped(columns, col),
+            None => search_index_clamped(on_line, col),
+        }
+    }
+
+    /// As `search_index_after` on a line whose tokens lie from the index `start` on.
+    #[inline(always)]
+    fn search_after_at(&self, start: usize, on_line: &[Token], col: u32) -> Option<usize>
+        requires { IfSome self.now.columns (λ kept. AreColumnsAt start on_line.now kept.items) }
+        ensures found { no_column_goes_back token_column on_line.now ≡ true
+            → result ≡ index_at_or_after on_line.now col }
+        ensures within { IfSome result (λ i. i < length on_line.now) }
+    {
+        match self.columns_on(start, on_line) {
+            Some(columns) => columns::search_index_after(columns, col),
+            None => search_index_after(on_line, col, &mut 0),
+        }
+    }
+
+    /// As `lookup_index`, however lines are found.
+    // A call of its own, so that lookups in the maps that are usual are short.
+    #[inline(never)]
+    fn lookup_index_anyhow(&self, tokens: &[Token], line: u32, col: u32) -> Option<usize>
+        requires { IsIndexOf tokens.now self.now }
+        ensures found { are_tokens_sorted tokens.now ≡ true
+            → result ≡ index_for tokens.now line col }
+        ensures within { IfSome result (λ i. i < length tokens.now) }
+    {
+        let (start, on_line) = self.line_near(tokens, line, &mut 0);
+        Some(start + self.search_at(start, on_line, col)?)
     }
 
     /// The index of the token that `lookup` finds. Takes no memory.
@@ -307,8 +450,13 @@ impl LineIndex {
             → result ≡ index_for tokens.now line col }
         ensures within { IfSome result (λ i. i < length tokens.now) }
     {
-        let (start, on_line) = self.line_near(tokens, line, &mut 0);
-        Some(start + search_index(on_line, col)?)
+        match &self.lines {
+            Lines::Starts(starts) => {
+                let (start, on_line) = line_by_start(starts.as_slice(), tokens, line);
+                Some(start + self.search_at(start, on_line, col)?)
+            }
+            Lines::Spans(_) | Lines::Few => self.lookup_index_anyhow(tokens, line, col),
+        }
     }
 
     /// The index of the token that `lookup_clamped` finds. Takes no memory.
@@ -319,7 +467,7 @@ impl LineIndex {
         ensures within { IfSome result (λ i. i < length tokens.now) }
     {
         let (start, on_line) = self.line_near(tokens, line, &mut 0);
-        Some(start + search_index_clamped(on_line, col)?)
+        Some(start + self.search_clamped_at(start, on_line, col)?)
     }
 
     /// The index of the token that the lookup from a position on finds, by the rule of `search_after`: of several tokens at the
@@ -331,7 +479,7 @@ impl LineIndex {
         ensures within { IfSome result (λ i. i < length tokens.now) }
     {
         let (start, on_line) = self.line_near(tokens, line, &mut 0);
-        Some(start + search_index_after(on_line, col, &mut 0)?)
+        Some(start + self.search_after_at(start, on_line, col)?)
     }
 
     /// As `lookup`, but a position before the first token of its line gives that token.

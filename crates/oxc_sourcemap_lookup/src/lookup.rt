@@ -188,7 +188,7 @@ pub fn slice_of<'t>(lookup_table: &[&'t [Token]], line: u32) -> &'t [Token]
 
 /// All binary digits set if x is less than y, else 0. Subtraction borrows from the upper half, so no branch is taken: LLVM
 /// would make one of a choice, and on most lines half of the branches would be mispredicted.
-fn mask_if_less(x: u32, y: u64) -> usize
+pub(crate) fn mask_if_less(x: u32, y: u64) -> usize
     ensures { result ≡ (if nat_lt x y then 18446744073709551615 else 0) }
 {
     (u128::from(x).wrapping_sub(u128::from(y)) >> 64) as usize

@@ -7,9 +7,9 @@ use Rattle.oxc_sourcemap_json.proofs.usual.fields_of.Goals as goal
 pub returns : goal.returns
 returns c =
     let found = subst (λ o. IfSome o (λ m. (ms : Members) × IsAll c.args.reader.now (object ms) × AreHeld m ms × HaveIds m)) c.in-Some.is c.in_ok-members.ensures in
-    of_some (λ json fields text is. (
+    of_some (λ map fields text is. (
       object found.0,
       text_is text (object found.0) (subst (λ ts. IsAll ts (object found.0)) is found.1),
       found.2 (codes "sections"),
       fields found.0 found.2 found.3,
-    )) c.into_json.result c.into_json.ensures
+    )) c.into_map.result c.into_map.ensures

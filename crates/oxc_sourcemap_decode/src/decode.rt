@@ -26,16 +26,16 @@ fn first_id_not_below(count: usize, ids: &[u32]) -> Option<u32>
     None
 }
 
-/// The contents of a JSON source map as those of a map; a missing list is an empty one.
+/// The contents of a JSON source map as those of a map.
 fn from_contents(
     alloc: Global,
     contents: Option<Vec<Option<String>>>,
-) -> Memory<Vec<Option<CowStr<'static>>>>
-    ensures { IfOk result (λ strings. contents_of strings ≡ unwrap_or (json_contents contents) []) }
+) -> Memory<Option<Vec<Option<CowStr<'static>>>>>
+    ensures { IfOk result (λ list. option_map contents_of list ≡ json_contents contents) }
 {
     match contents {
-        Some(contents) => from_optional_strings(alloc, contents),
-        None => Ok(Vec::new(alloc)),
+        Some(contents) => Ok(Some(from_optional_strings(alloc, contents)?)),
+        None => Ok(None),
     }
 }
 
@@ -44,7 +44,7 @@ fn from_contents(
 struct TextLists {
     names: Vec<CowStr<'static>>,
     sources: Vec<CowStr<'static>>,
-    contents: Vec<Option<CowStr<'static>>>,
+    contents: Option<Vec<Option<CowStr<'static>>>>,
 }
 
 /// The lists of strings of a JSON source map as those of a map.
@@ -58,7 +58,7 @@ fn from_lists(
     ensures sources { IfOk result (λ lists. texts_of lists.sources
         ≡ map string_bytes sources.items) }
     ensures contents { IfOk result (λ lists.
-        contents_of lists.contents ≡ unwrap_or (json_contents contents) []) }
+        option_map contents_of lists.contents ≡ json_contents contents) }
 {
     Ok(TextLists {
         names: from_strings(alloc, names)?,
@@ -88,7 +88,6 @@ fn json_fault(json: &JSONSourceMap) -> Option<Error>
 }
 
 /// The parts of a usual map, as `decode_parts` gives them. Fails as that does, but for the version, which is 3.
-#[inline(always)]
 pub(crate) fn decode_usual(alloc: Global, map: UsualMap<'_>) -> Result<SourceMapParts<'static>>
     ensures map { Answers record_of_parts result (decoded (usual_record map.entry)) }
     ensures fault { Reports (json_fault (usual_record map.entry)) result }
@@ -127,22 +126,27 @@ pub fn decode_parts(alloc: Global, json: JSONSourceMap) -> Result<SourceMapParts
     if let Some(fault) = json_fault(&json) {
         return Err(fault);
     }
-    let tokens = decode_mappings(
-        alloc,
-        json.mappings.as_str(),
-        json.names.len(),
-        json.sources.len(),
-    )?;
-    let lists = from_lists(alloc, json.names, json.sources, json.sources_content)?;
-    Ok(SourceMapParts {
-        file: from_string(json.file),
-        names: lists.names,
-        source_root: from_string(json.source_root),
+    let JSONSourceMap {
+        version: _,
+        file,
+        mappings,
+        source_root,
+        sources,
+        sources_content,
+        names,
+        debug_id,
+        ignore_list,
+    } = json;
+    let lists = from_lists(alloc, names, sources, sources_content)?;
+    let map = UsualMap {
+        file,
+        mappings: mappings.as_str(),
+        source_root,
         sources: lists.sources,
         source_contents: lists.contents,
-        tokens,
-        token_chunks: None,
-        ignore_list: json.ignore_list,
-        debug_id: from_string(json.debug_id),
-    })
+        names: lists.names,
+        debug_id,
+        ignore_list,
+    };
+    decode_usual(alloc, map)
 }

@@ -9,6 +9,5 @@ mod sections;
 pub use decode::decode_parts;
 pub use place::{may_follow, place_after, place_in};
 pub use sections::{
-    decode_parts_from_string, decode_parts_from_value, decode_parts_inlined, into_member,
-    is_indexed, is_plain,
+    decode_parts_from_string, decode_parts_from_value, into_member, is_indexed, is_plain,
 };

@@ -146,24 +146,15 @@ fn decode_long(alloc: Global, text: &str) -> Result<SourceMapParts<'static>>
     decode_owned_value(alloc, value)
 }
 
-/// As `decode_parts_from_string`, but put into its caller, as `plain_map` is, so that what a small map goes through copies no parts.
-/// It is for the call of handles: each such call has some 15 kB of code.
+/// The parts of the map of a JSON text. `decode_from_string` of `oxc_sourcemap` has the errors in their order. All strings
+/// are owned: those of a usual text are copied out of it once; of another one, none but the file of an indexed map is copied
+/// from its value.
 #[tactic(auto, unfolding(crate::specs::ReadMap::read_map, crate::specs::ReadMap::read_value))]
-#[inline(always)]
-pub fn decode_parts_inlined(alloc: Global, text: &str) -> Result<SourceMapParts<'static>>
+pub fn decode_parts_from_string(alloc: Global, text: &str) -> Result<SourceMapParts<'static>>
     ensures { Answers record_of_parts result (read_map text.now) }
 {
     if let Some(map) = plain_map(alloc, text)? {
         return decode_usual(alloc, map);
     }
     decode_long(alloc, text)
-}
-
-/// The parts of the map of a JSON text. `decode_from_string` of `oxc_sourcemap` has the errors in their order. All strings
-/// are owned: those of a usual text are copied out of it once; of another one, none but the file of an indexed map is copied
-/// from its value.
-pub fn decode_parts_from_string(alloc: Global, text: &str) -> Result<SourceMapParts<'static>>
-    ensures { Answers record_of_parts result (read_map text.now) }
-{
-    decode_parts_inlined(alloc, text)
 }

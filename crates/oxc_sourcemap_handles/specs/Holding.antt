@@ -42,7 +42,7 @@ abbrev pub held_builder : Option Held → Option Built
 held_builder None = None
 held_builder (Some (Map m)) = None
 held_builder (Some (Written text)) = None
-held_builder (Some (Building b)) = Some b
+held_builder (Some (Building b)) = Some b.value
 held_builder (Some (Joining j)) = None
 held_builder (Some (Mended mends)) = None
 

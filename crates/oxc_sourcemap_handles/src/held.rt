@@ -41,6 +41,7 @@ impl Model for LoadedMap {
 
 impl LoadedMap {
     /// The map with the index of its lines. Fails only with `OutOfMemory`.
+    #[inline(always)]
     pub fn new(alloc: Global, map: OwnedSourceMap) -> Result<LoadedMap>
         ensures map { IfOk result (λ loaded. (loaded.map ≡ map) × (loaded.has_order ≡ false)) }
         ensures error { OnlyMemory result }
@@ -305,7 +306,7 @@ pub enum Held {
     /// A text that the library made.
     Written(String),
     /// A map that is being built.
-    Building(SourceMapBuilder<'static>),
+    Building(Box<SourceMapBuilder<'static>>),
     /// Maps that are being joined.
     Joining(ConcatSourceMapBuilder<'static>),
     /// What was mended in a map.

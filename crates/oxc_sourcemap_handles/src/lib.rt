@@ -24,7 +24,7 @@ pub use handle::Handle;
 pub use held::{Held, LoadedMap, index_of};
 pub use lent::{Lent, map_of};
 pub use lists::{contents_of, texts_of, tokens_of};
-pub use operations::{box_map, put, put_map, put_text};
+pub use operations::{box_map, empty_box, put, put_map, put_text};
 pub use options::{Bias, Direction};
 pub use place_numbers::{PlaceNumbers, number_told, told_number};
 pub use text::{Counts, Original, PieceNumbers, Text, TokenNumbers};

@@ -10,13 +10,20 @@ use crate::held::{Held, LoadedMap};
 use oxc_sourcemap_map::OwnedSourceMap;
 use std::alloc::Global;
 
+/// A box for what is made later: until then it holds an empty text.
+pub fn empty_box(alloc: Global) -> Result<Box<Held>, CallError>
+    ensures { IfErr result (λ r. r ≡ out_of_memory) }
+{
+    Ok(Box::new(alloc, Held::Written(String::new(alloc)))?)
+}
+
 /// A map in a box for a handle, with its index.
 // The box is made first, so that the map is copied into it at once.
 pub fn box_map(alloc: Global, map: OwnedSourceMap) -> Result<Box<Held>, CallError>
     ensures map { IfOk result (λ held. held_map (Some held.value) ≡ Some map) }
     ensures error { IfErr result (λ r. r ≡ out_of_memory) }
 {
-    let mut held = Box::new(alloc, Held::Written(String::new(alloc)))?;
+    let mut held = empty_box(alloc)?;
     *held.as_mut() = Held::Map(LoadedMap::new(alloc, map)?);
     Ok(held)
 }

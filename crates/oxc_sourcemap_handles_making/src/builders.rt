@@ -12,7 +12,8 @@ ghost use Rattle.oxc_sourcemap_handles_making.specs.Words.{CallError};
 
 use oxc_sourcemap_builders::SourceMapBuilder;
 use oxc_sourcemap_handles::{
-    CallError, Fault, Handle, Held, LoadedMap, TokenNumbers, index_of, put, text_of, tokens_of,
+    CallError, Fault, Handle, Held, LoadedMap, TokenNumbers, empty_box, index_of, put, text_of,
+    tokens_of,
 };
 use oxc_sourcemap_map::OwnedSourceMap;
 use std::alloc::Global;
@@ -127,7 +128,7 @@ fn make_held(held: &mut Held, alloc: Global, step: Step<'_>) -> Result<u32, Call
     ensures unchanged { OnErr result (held.new ≡ held.old) }
 {
     match held {
-        Held::Building(builder) => make(builder, alloc, step),
+        Held::Building(builder) => make(builder.as_mut(), alloc, step),
         _ => Err(CallError::NullHandle),
     }
 }
@@ -159,7 +160,7 @@ pub(crate) fn new_builder(alloc: Global) -> Result<Box<Held>, CallError>
     ensures built { IfOk result (λ held. held_builder (Some held.value) ≡ Some nothing_built) }
     ensures error { IfErr result (λ r. r ≡ out_of_memory) }
 {
-    let builder = SourceMapBuilder::empty(alloc);
+    let builder = Box::new(alloc, SourceMapBuilder::empty(alloc))?;
     Ok(Box::new(alloc, Held::Building(builder))?)
 }
 
@@ -185,7 +186,7 @@ fn finish_builder(
     ensures unchanged { OnErr result (builder.new ≡ builder.old) }
 {
     let index = index_of(alloc, builder.get_tokens())?;
-    let mut made = new_builder(alloc)?;
+    let mut made = empty_box(alloc)?;
     let built = mem::replace(builder, SourceMapBuilder::empty(alloc));
     let map = OwnedSourceMap::from_parts(built.into_parts());
     *made.as_mut() = Held::Map(LoadedMap::with_index(map, index));
@@ -202,7 +203,7 @@ fn finish_held(held: &mut Held, alloc: Global) -> Result<Box<Held>, CallError>
     ensures unchanged { OnErr result (held.new ≡ held.old) }
 {
     match held {
-        Held::Building(builder) => finish_builder(builder, alloc),
+        Held::Building(builder) => finish_builder(builder.as_mut(), alloc),
         _ => Err(CallError::NullHandle),
     }
 }

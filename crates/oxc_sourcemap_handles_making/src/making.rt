@@ -45,8 +45,6 @@ fn text_failure(alloc: Global, text: &str, error: Error) -> Failure
     }
 }
 
-// Put into its caller, as `read` and `put_read` are, since each call that returns a map copies some 250 bytes.
-#[inline(always)]
 fn read_text(alloc: Global, text: &str) -> Result<OwnedSourceMap, Failure>
     ensures map { IfOk result (λ map. read_map text.now ≡ Ok map) }
     ensures error { IfErr result (IsFailure (IsTextErrorAt text.now)) }
@@ -59,7 +57,6 @@ fn read_text(alloc: Global, text: &str) -> Result<OwnedSourceMap, Failure>
 }
 
 /// The map of a JSON text.
-#[inline(always)]
 pub fn read(alloc: Global, json: &[u8]) -> Result<OwnedSourceMap, Failure>
     ensures map { IfOk result (λ map. read_map json.now ≡ Ok map) }
     ensures error { IfErr result (IsFailure (IsReadErrorAt json.now)) }
@@ -129,7 +126,6 @@ pub fn decode_mappings(
 }
 
 /// Puts a map that was read into a handle, whose old map is then dropped, and returns the code.
-#[inline(always)]
 pub fn put_read(
     alloc: Global,
     made: Result<OwnedSourceMap, Failure>,

@@ -167,6 +167,9 @@ fn short_escape(byte: u8) -> Option<char>
     }
 }
 
+/// For so many bytes a text with escapes first has room.
+const FEW_BYTES: usize = 32;
+
 /// The text that begins at an index, behind its quote, and where what follows it begins. None if an escape is none of two
 /// characters.
 fn escaped(alloc: Global, text: &str, from: usize) -> Memory<Option<(String, usize)>>
@@ -175,7 +178,7 @@ fn escaped(alloc: Global, text: &str, from: usize) -> Memory<Option<(String, usi
         (λ read. IsRead text.now from (string_bytes read.0) read.1)) }
 {
     let bytes = text.as_bytes();
-    let mut found = String::new(alloc);
+    let mut found = String::with_capacity(alloc, FEW_BYTES)?;
     let mut at = from;
     'escapes: loop {
         let stop = plain_end(bytes, at);

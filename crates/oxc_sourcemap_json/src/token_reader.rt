@@ -1,5 +1,4 @@
-//! The tokens of a JSON text, which is read in one of two ways. Calls for each member or text are put into their callers, which
-//! know the way of a plain text.
+//! The tokens of a JSON text, which is read in one of two ways.
 ghost use Rattle.std.specs.Prelude.{◌≡◌, ◌∷◌, [], Some, IsTrue, IfSome, IfOk, MatchBool};
 ghost use Rattle.std.specs.Prelude.{option_map, MatchOption, string_bytes};
 ghost use Rattle.json.specs.Json.{after_end_array, read_key};
@@ -71,7 +70,6 @@ impl<'a> TokenReader<'a> {
     }
 
     /// Takes the bracket that opens a list.
-    #[inline(always)]
     pub(crate) fn begin_array(&mut self) -> bool
         ensures { IsTrue result → self.old ≡ spec.begin_array ∷ self.new }
     {
@@ -82,7 +80,6 @@ impl<'a> TokenReader<'a> {
     }
 
     /// Takes the bracket that closes a list, if it is next.
-    #[inline(always)]
     pub(crate) fn take_end_array(&mut self) -> bool
         ensures { MatchBool result (after_end_array self.old ≡ Some self.new)
             (self.new ≡ self.old) }
@@ -94,7 +91,6 @@ impl<'a> TokenReader<'a> {
     }
 
     /// The next key, or None at the brace that closes an object.
-    #[inline(always)]
     pub(crate) fn next_key(&mut self) -> Option<Option<&'a str>>
         ensures { IfSome result (λ key. read_key self.old
             ≡ Some (option_map (λ s. s.now) key, self.new)) }
@@ -106,7 +102,6 @@ impl<'a> TokenReader<'a> {
     }
 
     /// The next value, if it is a text. Fails only for want of memory.
-    #[inline(always)]
     pub(crate) fn next_text(&mut self, alloc: Global) -> Memory<Option<String>>
         ensures { IfOk result (λ found. IfSome found (λ text. self.old
             ≡ spec.string (string_bytes text) ∷ self.new)) }
@@ -121,7 +116,6 @@ impl<'a> TokenReader<'a> {
     }
 
     /// The next value, if it is a text. Read byte by byte, it is none with an escape.
-    #[inline(always)]
     pub(crate) fn next_str(&mut self) -> Option<&'a str>
         ensures { IfSome result (λ text. self.old ≡ spec.string text.now ∷ self.new) }
     {

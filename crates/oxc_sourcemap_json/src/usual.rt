@@ -1,7 +1,5 @@
 //! Reading the JSON text of a usual source map token by token, with no value in between. What is unusual goes by a value
 //! (`json_of`).
-//!
-//! A map has some 250 bytes, which each call that returns it copies. So what a small map goes through is put into its caller.
 ghost use Rattle.std.specs.Prelude.{◌≡◌, ◌<◌, ◌≤◌, length, map, true, IsTrue, IfOk, IfSome, Ok};
 ghost use Rattle.std.specs.Prelude.{IsSomeAnd, OnOk, ◌++◌, ◌∷◌, []};
 ghost use Rattle.std.specs.Prelude.{option_map, string_bytes, Some, List, ℕ};
@@ -66,7 +64,6 @@ fn next_is_three(reader: &mut TokenReader<'_>) -> bool
 }
 
 /// The next value, if it is a text.
-#[inline(always)]
 fn next_text(alloc: Global, reader: &mut TokenReader<'_>) -> Memory<Option<String>>
     ensures text { IfOk result (λ found. IfSome found
         (λ text. BeginsAny reader.old (text_data text) reader.new)) }
@@ -244,7 +241,6 @@ fn next_ids(alloc: Global, reader: &mut TokenReader<'_>) -> Memory<Option<Vec<u3
 }
 
 /// Keeps the next value, a text. False if it is something else; what is kept then counts for nothing.
-#[inline(always)]
 fn keep_text(alloc: Global, reader: &mut TokenReader<'_>, kept: &mut Option<String>) -> Memory<bool>
     ensures text { result ≡ Ok true → IsSomeAnd kept.new
         (λ text. Begins reader.old (text_data text) reader.new) }
@@ -255,7 +251,6 @@ fn keep_text(alloc: Global, reader: &mut TokenReader<'_>, kept: &mut Option<Stri
 }
 
 /// Keeps the next value, a list of texts, likewise.
-#[inline(always)]
 fn keep_texts(
     alloc: Global,
     reader: &mut TokenReader<'_>,
@@ -271,7 +266,6 @@ fn keep_texts(
 }
 
 /// Keeps the next value, a list of ids, likewise.
-#[inline(always)]
 fn keep_ids(
     alloc: Global,
     reader: &mut TokenReader<'_>,
@@ -289,7 +283,6 @@ fn keep_ids(
 
 impl<'a> UsualMembers<'a> {
     /// No members.
-    #[inline(always)]
     fn none() -> UsualMembers<'a>
         ensures held { AreHeld result no_members }
         ensures ids { HaveIds result }
@@ -309,7 +302,6 @@ impl<'a> UsualMembers<'a> {
     }
 
     /// Reads the value of a member. False if the member is unusual; what was read then counts for nothing.
-    #[inline(always)]
     fn read(&mut self, alloc: Global, key: &str, reader: &mut TokenReader<'a>) -> Memory<bool>
         ensures read { result ≡ Ok true → (d : Data) × Begins reader.old d reader.new
             × (members_held self.new ≡ with_held key.now d (members_held self.old)) }
@@ -341,7 +333,6 @@ impl<'a> UsualMembers<'a> {
     }
 
     /// The fields that the members have; None if one that has to be there is not.
-    #[inline(always)]
     fn into_map(self, alloc: Global) -> Option<UsualMap<'a>>
         ensures { IfSome result (λ map. (ms : Members) → AreHeld self.entry ms → HaveIds self.entry
             → shape (object ms) ≡ Ok (usual_record map)) }
@@ -375,7 +366,6 @@ impl<'a> UsualMembers<'a> {
 }
 
 /// The members up to the brace that ends their object; None if one of them is unusual.
-#[inline(always)]
 fn rest_of_members<'a>(
     alloc: Global,
     reader: &mut TokenReader<'a>,
@@ -396,7 +386,6 @@ fn rest_of_members<'a>(
 }
 
 /// The members of the object that is all of a text; None if it is something else, or one of them is unusual.
-#[inline(always)]
 fn members_of<'a>(alloc: Global, reader: &mut TokenReader<'a>) -> Memory<Option<UsualMembers<'a>>>
     ensures { IfOk result (λ found. IfSome found (λ m. (ms : Members)
         × IsAll reader.old (object ms) × AreHeld m ms × HaveIds m)) }
@@ -415,7 +404,6 @@ fn members_of<'a>(alloc: Global, reader: &mut TokenReader<'a>) -> Memory<Option<
 const MOST_PLAIN: usize = 4096;
 
 /// The fields of the tokens that are left, which are those of the text.
-#[inline(always)]
 fn fields_of<'a>(alloc: Global, reader: &mut TokenReader<'a>) -> Memory<Option<UsualMap<'a>>>
     ensures { IfOk result (λ found. IfSome found (λ map. (text : List ℕ) → reader.old ≡ tokens text
         → IsJsonOf text (usual_record map))) }
@@ -427,7 +415,6 @@ fn fields_of<'a>(alloc: Global, reader: &mut TokenReader<'a>) -> Memory<Option<U
 }
 
 /// The fields of the JSON text of a map by itself, if it is short and plain, as `usual_map` gives them.
-#[inline(always)]
 pub fn plain_map<'a>(alloc: Global, text: &'a str) -> Memory<Option<UsualMap<'a>>>
     ensures { IfOk result (λ found. IfSome found
         (λ map. IsJsonOf text.now (usual_record map))) }

@@ -7,7 +7,7 @@ ghost use Rattle.oxc_sourcemap_lookup.specs.Words.{no_column_goes_back, index_at
 ghost use Rattle.oxc_sourcemap_lookup.specs.Words.{index_at_or_after};
 ghost use Rattle.std.specs.List.{prefix_len};
 
-use crate::lookup::mask_if_less;
+use crate::lookup::{index_within, mask_if_less};
 
 /// `count` if a column lies before `col`, else 0.
 fn count_if_before(column: u32, col: u64, count: usize) -> usize
@@ -50,13 +50,6 @@ fn count_through(columns: &[u32], col: u32) -> usize
     };
     let before = count_before(&columns[..last], u64::from(col));
     before + usize::from(columns[before] <= col)
-}
-
-/// An index, if there is a column at it.
-fn index_within(columns: &[u32], i: usize) -> Option<usize>
-    ensures { result ≡ (if nat_lt i (length columns.now) then Some i else None) }
-{
-    if i < columns.len() { Some(i) } else { None }
 }
 
 /// As `search_index` of `lookup`, on a line whose tokens have these columns.

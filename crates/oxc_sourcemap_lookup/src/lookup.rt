@@ -299,11 +299,11 @@ pub fn search_clamped(line: &[Token], col: u32) -> Option<Token>
     search(line, col, &mut 0).or(line.first().copied())
 }
 
-/// An index, if there is a token at it.
-fn index_within(line: &[Token], i: usize) -> Option<usize>
-    ensures { result ≡ (if nat_lt i (length line.now) then Some i else None) }
+/// An index, if there is an item at it.
+pub(crate) fn index_within<T>(items: &[T], i: usize) -> Option<usize>
+    ensures { result ≡ (if nat_lt i (length items.now) then Some i else None) }
 {
-    if i < line.len() { Some(i) } else { None }
+    if i < items.len() { Some(i) } else { None }
 }
 
 /// The index on a line of the token that `search` finds there. On a line whose columns go back, it is some index of the line,

@@ -29,7 +29,7 @@ ghost use Rattle.std.specs.Option.{option_and_then};
 use crate::source_view_token::SourceViewToken;
 use crate::sourcemap::SourceMap;
 use crate::view_tokens::ViewTokens;
-use oxc_sourcemap_decode::decode_parts_inlined;
+use oxc_sourcemap_decode::decode_parts_from_string;
 use oxc_sourcemap_json::JSONSourceMap;
 use oxc_sourcemap_parts::{Contents, Names, SourceMapParts, Sources, Tokens};
 use oxc_sourcemap_pieces::Pieces;
@@ -69,7 +69,6 @@ impl Model for OwnedSourceMap {
 
 impl OwnedSourceMap {
     /// Wraps a map. Takes no memory.
-    #[inline(always)]
     pub fn new(inner: SourceMap<'static>) -> OwnedSourceMap
         ensures { result ≡ inner.entry }
     {
@@ -124,9 +123,7 @@ impl OwnedSourceMap {
     }
 
     /// Reads a map from its JSON text, as `SourceMap::from_json_string` does, and fails as that does.
-    // Put into its caller, which is that of handles, since each call that returns a map copies some 250 bytes.
     #[tactic(auto, using(oxc_sourcemap_decode::proofs::WellRead::read_map_sound, oxc_sourcemap_decode::proofs::WellRead::read_in_order))]
-    #[inline(always)]
     pub fn from_json_string(alloc: Global, text: &str) -> Result<OwnedSourceMap>
         ensures map { Answers (λ map. map) result (read_map text.now) }
         ensures decoded_map { IfOk result (λ map. read_decoded_map text.now
@@ -134,7 +131,7 @@ impl OwnedSourceMap {
         ensures sound { IfOk result (λ map. IsSound map ↔ (are_tokens_sorted map.tokens ≡ true)) }
         ensures in_line_order { IfOk result (λ map. IsInLineOrder map.tokens) }
     {
-        let parts = decode_parts_inlined(alloc, text)?;
+        let parts = decode_parts_from_string(alloc, text)?;
         Ok(OwnedSourceMap::new(SourceMap::from_parts(parts)))
     }
 

@@ -204,7 +204,6 @@ impl<'a> SourceMap<'a> {
     }
 
     /// The map of these parts, unchanged. Nothing is checked, and it takes no memory.
-    #[inline(always)]
     pub fn from_parts(parts: SourceMapParts<'a>) -> SourceMap<'a>
         ensures { result ≡ record_of_parts parts.entry }
     {

@@ -13,7 +13,6 @@ pub mod Writing
 pub mod Length
 pub mod Pieces
 pub mod Ascii
-mod Commas
 pub mod Digits
 pub mod Texts
 pub mod Segments

@@ -168,6 +168,7 @@ fn number_at(text: &[u8], at: usize) -> Option<(i64, usize)>
 }
 
 /// The fields of the segment at the front of a text, digit by digit, or the fault of its digits.
+#[inline(never)]
 fn any_segment(text: &[u8]) -> Result<Fields>
     ensures fields { IfOk result (λ fields. AreFieldsOf (front_segment text.now) fields) }
     ensures len { IfOk result (λ fields. fields.len ≡ length (front_digits text.now)) }
@@ -251,16 +252,6 @@ fn low_bits_of(id: u32, by: i64) -> u32
     ensures { result ≡ low_bits (pos id +ℤ by) }
 {
     (i64::from(id) + by).rem_euclid(4294967296) as u32
-}
-
-/// Fewer than 16 bytes, with commas behind them.
-fn with_commas(text: &[u8]) -> [u8; 16]
-    requires { length text.now < 16 }
-    ensures { result ≡ text.now ++ replicate (16 - length text.now) 44 }
-{
-    let mut padded = [b','; 16];
-    padded[..text.len()].copy_from_slice(text);
-    padded
 }
 
 impl Sums {
@@ -419,27 +410,10 @@ impl Sums {
         Some((self.token(line, Some(source_id), Some(name_id)), len + e))
     }
 
-    /// As `usual_token`, for a text of fewer than 16 bytes: a comma behind it ends a segment as the end does. None for a longer one.
-    fn last_token(
-        &mut self,
-        line: u32,
-        text: &[u8],
-        names: usize,
-        sources: usize,
-    ) -> Option<(Token, usize)>
-        ensures token { IfSome result (λ read. IsFrontOf (counts_of names sources) line
-            (place_of self.old) text.now (place_of self.new) read.0 read.1) }
-        ensures unchanged { IfNone result (self.new ≡ self.old) }
-    {
-        if text.len() >= 16 {
-            return None;
-        }
-        self.usual_token(line, &with_commas(text), names, sources)
-    }
-
-    /// Reads the segment at the front of a text, as `last_token` does or else digit by digit and field by field: moves the sums by
-    /// it, and gives its token and the number of its bytes. After an `Err` some of the sums are moved.
-    #[cold]
+    /// Reads the segment at the front of a text digit by digit and field by field: moves the sums by it, and gives its token and
+    /// the number of its bytes. After an `Err` some of the sums are moved.
+    // In its caller, so that the sums stay in registers there.
+    #[inline(always)]
     pub(crate) fn any_token(
         &mut self,
         line: u32,
@@ -453,9 +427,6 @@ impl Sums {
             IfErr result (λ e. segment_result (counts_of names sources) line
             (place_of self.old) s (moved_by (place_of self.old) s) ≡ Err e) }
     {
-        if let Some(read) = self.last_token(line, text, names, sources) {
-            return Ok(read);
-        }
         let fields = any_segment(text)?;
         let token = self.step(line, &fields, names, sources)?;
         Ok((token, fields.len))

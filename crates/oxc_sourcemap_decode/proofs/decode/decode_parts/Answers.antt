@@ -1,0 +1,24 @@
+use Rattle.std.proofs.Common.{◌≡◌, ◌==◌, ◌∙◌, ℕ, Bool, true, false, Option, None, Some, cond, subst}
+use Rattle.std.proofs.Common.{sym, ap, refl, arith, option_map}
+use Rattle.oxc_sourcemap_json.specs.Json.{JsonRecord}
+use Rattle.oxc_sourcemap_decode.specs.Words.{Error, BadSourceReference, record_of_parts}
+use Rattle.oxc_sourcemap_decode.specs.Words.{json_record, decoded, json_fault, Answers}
+use Rattle.oxc_sourcemap_decode.specs.Decoded.{ignore_list_fault}
+use Rattle.oxc_sourcemap_decode.proofs.decode.decode_parts.Goals as goal
+
+three-by : (v : ℕ) (b : Bool) (o : Option Error) (fault : Error) → (v == 3) ≡ b → cond b o (Some fault) ≡ None → v ≡ 3
+three-by v true o fault is e = grind (arith)
+three-by v false o fault is e = cc
+
+-- a version that is no fault is 3
+three : (j : JsonRecord) → json_fault j ≡ None → j.version ≡ 3
+three j clean = three-by j.version (j.version == 3) (option_map BadSourceReference (ignore_list_fault j)) _ refl clean
+
+with-three : (j : JsonRecord) → j.version ≡ 3 → decoded (record j { version = 3 }) ≡ decoded j
+with-three j is = ap (λ v. decoded (record j { version = v })) (sym is)
+
+pub returns-clause-map : goal.returns-clause-map
+returns-clause-map c =
+    let j = json_record c.args.json in
+    subst (Answers record_of_parts c.decode_usual.result) (with-three j (three j (sym c.json_fault.ensures ∙ c.in_default.is)))
+    (rw (c.in_ok-lists.ensures.names, c.in_ok-lists.ensures.sources, c.in_ok-lists.ensures.contents, c.as_str.ensures.value) at c.decode_usual.ensures.map)

@@ -1,7 +1,6 @@
 //! Reading the parts of a map from a JSON source map.
-ghost use Rattle.std.specs.Prelude.{◌≡◌, map, string_bytes, option_map, IfOk, Ok, Err, Some};
-ghost use Rattle.std.specs.Prelude.{None, []};
-ghost use Rattle.std.specs.Option.{unwrap_or, option_map_or};
+ghost use Rattle.std.specs.Prelude.{◌≡◌, map, string_bytes, option_map, IfOk, None};
+ghost use Rattle.std.specs.Option.{option_map_or};
 ghost use Rattle.oxc_sourcemap_decode.specs.Words.{Error, texts_of, contents_of, record_of_parts};
 ghost use Rattle.oxc_sourcemap_decode.specs.Words.{json_record, json_contents, decoded, json_fault};
 ghost use Rattle.oxc_sourcemap_decode.specs.Words.{first_not_below, Answers, Reports};
@@ -87,7 +86,7 @@ fn json_fault(json: &JSONSourceMap) -> Option<Error>
     list_fault(&json.ignore_list, json.sources.len())
 }
 
-/// The parts of a usual map, as `decode_parts` gives them. Fails as that does, but for the version, which is 3.
+/// The parts of the map of these fields. Fails as `decode_parts` does, but for the version, which is 3.
 pub(crate) fn decode_usual(alloc: Global, map: UsualMap<'_>) -> Result<SourceMapParts<'static>>
     ensures map { Answers record_of_parts result (decoded (usual_record map.entry)) }
     ensures fault { Reports (json_fault (usual_record map.entry)) result }

@@ -41,19 +41,12 @@ impl Model for LoadedMap {
 
 impl LoadedMap {
     /// The map with the index of its lines. Fails only with `OutOfMemory`.
-    #[inline(always)]
     pub fn new(alloc: Global, map: OwnedSourceMap) -> Result<LoadedMap>
         ensures map { IfOk result (λ loaded. (loaded.map ≡ map) × (loaded.has_order ≡ false)) }
         ensures error { OnlyMemory result }
     {
-        match LineIndex::for_lookups(alloc, map.get_tokens().as_slice()) {
-            Err(Error::OutOfMemory) => Err(Error::OutOfMemory),
-            index => Ok(LoadedMap {
-                map,
-                index,
-                order: None,
-            }),
-        }
+        let index = index_of(alloc, map.get_tokens().as_slice())?;
+        Ok(LoadedMap::with_index(map, index))
     }
 
     /// The map with what was made as the index of its lines, and no index by original positions.
@@ -305,7 +298,7 @@ pub enum Held {
     Map(LoadedMap),
     /// A text that the library made.
     Written(String),
-    /// A map that is being built.
+    /// A map that is being built, in a box of its own, since all that handles hold takes as much memory as the largest.
     Building(Box<SourceMapBuilder<'static>>),
     /// Maps that are being joined.
     Joining(ConcatSourceMapBuilder<'static>),

@@ -6,7 +6,7 @@ ghost use Rattle.oxc_sourcemap_handles.specs.Words.{held_map, held_text, IsError
 use crate::call_error::CallError;
 use crate::fault::Fault;
 use crate::handle::Handle;
-use crate::held::{Held, LoadedMap};
+use crate::held::{Held, LoadedMap, index_of};
 use oxc_sourcemap_map::OwnedSourceMap;
 use std::alloc::Global;
 
@@ -18,13 +18,14 @@ pub fn empty_box(alloc: Global) -> Result<Box<Held>, CallError>
 }
 
 /// A map in a box for a handle, with its index.
-// The box is made first, so that the map is copied into it at once.
+// The box and the index are made first, so that the map is copied into the box at once.
 pub fn box_map(alloc: Global, map: OwnedSourceMap) -> Result<Box<Held>, CallError>
     ensures map { IfOk result (λ held. held_map (Some held.value) ≡ Some map) }
     ensures error { IfErr result (λ r. r ≡ out_of_memory) }
 {
     let mut held = empty_box(alloc)?;
-    *held.as_mut() = Held::Map(LoadedMap::new(alloc, map)?);
+    let index = index_of(alloc, map.get_tokens().as_slice())?;
+    *held.as_mut() = Held::Map(LoadedMap::with_index(map, index));
     Ok(held)
 }
 

@@ -156,7 +156,7 @@ pub fn build(alloc: Global, handle: &mut Handle, step: Step<'_>) -> Result<u32, 
 }
 
 /// A box with a builder with nothing in it.
-pub(crate) fn new_builder(alloc: Global) -> Result<Box<Held>, CallError>
+fn new_builder(alloc: Global) -> Result<Box<Held>, CallError>
     ensures built { IfOk result (λ held. held_builder (Some held.value) ≡ Some nothing_built) }
     ensures error { IfErr result (λ r. r ≡ out_of_memory) }
 {

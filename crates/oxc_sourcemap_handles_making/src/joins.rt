@@ -9,9 +9,10 @@ ghost use Rattle.oxc_sourcemap_handles_making.specs.Words.{IsPartsError, IsJoinF
 ghost use Rattle.oxc_sourcemap_handles_making.specs.Words.{IsNullJoin, CallError, ChunksFit};
 ghost use Rattle.oxc_sourcemap_handles_making.specs.Words.{IsBack};
 
-use crate::builders::new_builder;
 use oxc_sourcemap_builders::ConcatSourceMapBuilder;
-use oxc_sourcemap_handles::{CallError, Fault, Handle, Held, Lent, LoadedMap, index_of, put};
+use oxc_sourcemap_handles::{
+    CallError, Fault, Handle, Held, Lent, LoadedMap, empty_box, index_of, put,
+};
 use oxc_sourcemap_map::OwnedSourceMap;
 use oxc_sourcemap_tokens::Position;
 use std::alloc::Global;
@@ -109,7 +110,7 @@ fn finish_parts(
     ensures unchanged { OnErr result (join.new ≡ join.old) }
 {
     let index = index_of(alloc, join.get_tokens())?;
-    let mut made = new_builder(alloc)?;
+    let mut made = empty_box(alloc)?;
     let joined = mem::replace(join, ConcatSourceMapBuilder::empty(alloc));
     let map = OwnedSourceMap::from_parts(joined.into_parts());
     *made.as_mut() = Held::Map(LoadedMap::with_index(map, index));

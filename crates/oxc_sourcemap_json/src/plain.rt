@@ -167,7 +167,7 @@ fn short_escape(byte: u8) -> Option<char>
     }
 }
 
-/// For so many bytes a text with escapes first has room.
+/// A text with escapes has room for so many bytes at first.
 const FEW_BYTES: usize = 32;
 
 /// The text that begins at an index, behind its quote, and where what follows it begins. None if an escape is none of two

@@ -21,8 +21,8 @@ use oxc_sourcemap_tokens::Memory;
 use std::alloc::Global;
 use std::borrow::CowStr;
 
-/// The fields of a usual map, whose version is 3, as those of `JSONSourceMap`. The mappings text is borrowed, and the lists of
-/// strings are those of a map: they need not be moved into others.
+/// The fields of a map whose version is 3, as those of `JSONSourceMap`: what a usual text is read as. The mappings text is borrowed,
+/// and the lists of strings are those of a map: they need not be moved into others.
 #[derive(Drop)]
 pub struct UsualMap<'a> {
     pub file: Option<String>,
@@ -366,6 +366,8 @@ impl<'a> UsualMembers<'a> {
 }
 
 /// The members up to the brace that ends their object; None if one of them is unusual.
+// Put into its one caller, as that is into its own: each call that returns members copies some 300 bytes.
+#[inline(always)]
 fn rest_of_members<'a>(
     alloc: Global,
     reader: &mut TokenReader<'a>,
@@ -386,6 +388,7 @@ fn rest_of_members<'a>(
 }
 
 /// The members of the object that is all of a text; None if it is something else, or one of them is unusual.
+#[inline(always)]
 fn members_of<'a>(alloc: Global, reader: &mut TokenReader<'a>) -> Memory<Option<UsualMembers<'a>>>
     ensures { IfOk result (λ found. IfSome found (λ m. (ms : Members)
         × IsAll reader.old (object ms) × AreHeld m ms × HaveIds m)) }

@@ -1,9 +1,9 @@
 //! Reading the `mappings` text.
 ghost use Rattle.std.specs.Box.{boxed_slice_items};
-ghost use Rattle.std.specs.Prelude.{ℕ, List, ◌≡◌, ◌⊎◌, ◌+◌, ◌*◌, ◌%◌, ◌^◌, ◌<◌, ◌≤◌, ◌-◌, ◌++◌};
+ghost use Rattle.std.specs.Prelude.{ℕ, List, ◌≡◌, ◌⊎◌, ◌+◌, ◌*◌, ◌%◌, ◌^◌, ◌<◌, ◌≤◌, ◌++◌};
 ghost use Rattle.std.specs.Prelude.{length, ◌∷◌, [], drop, not, ℤ, pos, nat_abs, ◌+ℤ◌, ◌<ℤ◌, ◌≤ℤ◌};
 ghost use Rattle.std.specs.Prelude.{set, true, false, min, is_some, IfSome, IfNone, OnOk, IfOk};
-ghost use Rattle.std.specs.Prelude.{IfErr, Option, Some, None, Result, Ok, Err, replicate};
+ghost use Rattle.std.specs.Prelude.{IfErr, Option, Some, None, Result, Ok, Err};
 ghost use Rattle.oxc_sourcemap_mappings.specs.Words.{TooLarge, digit, payload, signed};
 ghost use Rattle.oxc_sourcemap_mappings.specs.Words.{nothing_before, place, digit_fault};
 ghost use Rattle.oxc_sourcemap_mappings.specs.Words.{range_fault, is_id_below, low_bits};
@@ -168,6 +168,7 @@ fn number_at(text: &[u8], at: usize) -> Option<(i64, usize)>
 }
 
 /// The fields of the segment at the front of a text, digit by digit, or the fault of its digits.
+// A call of its own, so that the loop of `decode_mappings` is short.
 #[inline(never)]
 fn any_segment(text: &[u8]) -> Result<Fields>
     ensures fields { IfOk result (λ fields. AreFieldsOf (front_segment text.now) fields) }
@@ -412,7 +413,7 @@ impl Sums {
 
     /// Reads the segment at the front of a text digit by digit and field by field: moves the sums by it, and gives its token and
     /// the number of its bytes. After an `Err` some of the sums are moved.
-    // In its caller, so that the sums stay in registers there.
+    // Put into its callers, so that the sums of `decode_mappings` stay in registers.
     #[inline(always)]
     pub(crate) fn any_token(
         &mut self,

@@ -1,6 +1,6 @@
-//! Maps as they are found. The answers are those of tests/reference/found.py.
+//! Maps as they are found. The answers are those of tests/reference/found.py, the places are worked by hand.
 use crate::helpers::{has_text, same};
-use oxc_sourcemap::{Found, Result, SourceMap, read_found};
+use oxc_sourcemap::{Found, Result, SourceMap, found_fault_at, read_found};
 use std::alloc::Global;
 use std::process::Abort;
 
@@ -207,6 +207,9 @@ fn are_found(rt: &(impl Abort + AllocGlobal), rows: &[Row]) -> Result<()> {
     for (text, wanted) in rows {
         let found = answer(rt.alloc(), text)?;
         same(rt, text, found.as_str(), *wanted);
+        // A place is told of each error, but not of a join that passes a limit.
+        let place = found_fault_at(rt.alloc(), text)?;
+        same(rt, text, place.is_some(), wanted.starts_with("error: ") && !wanted.ends_with("too large"));
     }
     Ok(())
 }
@@ -229,6 +232,41 @@ fn what_is_in_front_is_passed_over(rt: HostRuntime) -> Result<()> {
 #[test]
 fn sections_are_mended_and_cut(rt: HostRuntime) -> Result<()> {
     are_found(&rt, SECTIONS)
+}
+
+/// Texts that are refused, and where.
+#[rattlefmt::skip]
+const PLACES: &[Row] = &[
+    ("{\"version\": x}", "line 0, column 12 (byte 12)"),
+    ("\u{feff}{\"version\": x}", "line 0, column 15 (byte 15)"),
+    (")]}'\n{\n \"version\": x}", "line 2, column 12 (byte 19)"),
+    (")]}' no line feed", "line 0, column 17 (byte 17)"),
+    ("data:application/json,{x}", "line 0, column 1 (byte 1)"),
+    (")]}'\n[]", "the value"),
+    (r#"{"version":2,"sources":[],"mappings":""}"#, "version"),
+    (r#"{"version":3,"sources":[null,1],"mappings":""}"#, "entry 1 of sources"),
+    (r#"{"version":3,"sources":["a"],"mappings":"AEAA;A,AA"}"#, "line 1, segment 1 (byte 7)"),
+    (r#"{"version":"3","file":1,"sections":[]}"#, "file"),
+    (r#"{"version":"3","sections":{}}"#, "sections"),
+    (r#"{"version":3,"sections":[7]}"#, "entry 0 of sections"),
+    (r#"{"version":3,"sections":[{"offset":{"line":1,"column":0},"map":{"version":3,"mappings":""}},{"offset":{"line":0,"column":9},"map":{"version":3,"mappings":""}}]}"#,
+     "section 1, offset"),
+    (r#"{"version":3,"sections":[{"offset":{"line":0,"column":0},"map":{"version":3,"sections":[]}}]}"#, "section 0, map"),
+    (r#"{"version":3,"sections":[{"offset":{"line":0,"column":0},"map":{"version":3,"mappings":""}},{"offset":{"line":1,"column":0},"map":{"version":"3","sources":[null],"mappings":";AA"}}]}"#,
+     "section 1, line 1, segment 0 (byte 1)"),
+];
+
+#[test]
+fn what_is_refused_has_its_place(rt: HostRuntime) -> Result<()> {
+    for (text, wanted) in PLACES {
+        let place = found_fault_at(rt.alloc(), text)?;
+        let told = match place {
+            Some(place) => place.to_string(rt.alloc())?,
+            None => String::new(rt.alloc()),
+        };
+        same(&rt, text, told.as_str(), *wanted);
+    }
+    Ok(())
 }
 
 /// A map that the exact reader reads, and that is sorted, is read as the same.

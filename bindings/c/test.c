@@ -423,6 +423,44 @@ static void found_refusals(void) {
     CHECK(map == (smap_map *)&failed && mends == (smap_mends *)&passed);
 }
 
+/* Places of faults that are not mended, of which some stand behind what is. */
+static void found_places(void) {
+    static const struct {
+        const char *text;
+        uint32_t code;
+        const char *place;
+    } FAULTS[] = {
+        { "{\"version\": x}", SMAP_JSON_READING, "line 0, column 12 (byte 12)" },
+        { "\xef\xbb\xbf{\"version\": x}", SMAP_JSON_READING, "line 0, column 15 (byte 15)" },
+        { "\xef\xbb\xbf)]}'\n{\"version\": x}", SMAP_JSON_READING, "line 1, column 12 (byte 20)" },
+        { ")]}'\n{\n \"version\": x}", SMAP_JSON_READING, "line 2, column 12 (byte 19)" },
+        { ")]}' no line feed", SMAP_JSON_READING, "line 0, column 17 (byte 17)" },
+        { "data:application/json,{x}", SMAP_JSON_READING, "line 0, column 1 (byte 1)" },
+        { ")]}'\n[]", SMAP_JSON_SHAPE, "the value" },
+        { "{\"version\":3,\"sources\":[null,1],\"mappings\":\"\"}", SMAP_JSON_SHAPE, "entry 1 of sources" },
+        { "{\"version\":3,\"sources\":[],\"ignoreList\":[3]}", SMAP_JSON_SHAPE, "mappings" },
+        { "{\"version\":3,\"sources\":[\"a\"],\"mappings\":\"AEAA;A,AA\"}", SMAP_BAD_SEGMENT_SIZE, "line 1, segment 1 (byte 7)" },
+        { "{\"version\":\"3\",\"sections\":{}}", SMAP_JSON_SHAPE, "sections" },
+        { "{\"version\":\"3\",\"file\":1,\"sections\":[]}", SMAP_JSON_SHAPE, "file" },
+        { INDEXED("7"), SMAP_JSON_SHAPE, "entry 0 of sections" },
+        { INDEXED(SECTION("0", SMALL) ",{}"), SMAP_JSON_SHAPE, "section 1, offset" },
+        { INDEXED(SECTION("1", SMALL) "," SECTION("0", SMALL)), SMAP_SECTION_ORDER, "section 1, offset" },
+        { INDEXED(SECTION("0", SMALL) "," SECTION("1", "7")), SMAP_JSON_SHAPE, "section 1, map" },
+        { INDEXED(SECTION("0", SMALL) "," SECTION("1", "{\"version\":\"3\",\"sources\":[null],\"mappings\":\";AA\"}")), SMAP_BAD_SEGMENT_SIZE,
+          "section 1, line 1, segment 0 (byte 1)" },
+        { INDEXED("{\"offset\":{\"line\":0,\"column\":4294967295},\"map\":{\"version\":3,\"sources\":[\"a\"],\"mappings\":\"CAAA\"}}"),
+          SMAP_TOO_LARGE, "" },
+    };
+    for (size_t i = 0; i < LEN(FAULTS); i++) {
+        smap_map *map;
+        smap_fault fault = junk();
+        char out[100];
+        check(smap_read_found(TEXT(FAULTS[i].text), &map, NULL, &fault) == FAULTS[i].code, __LINE__, FAULTS[i].text);
+        size_t len = smap_place_message(&fault, out, sizeof out);
+        check(len == strlen(FAULTS[i].place) && memcmp(out, FAULTS[i].place, len) == 0, __LINE__, FAULTS[i].text);
+    }
+}
+
 /* ---- what a map holds ---- */
 
 static void holding(void) {
@@ -621,6 +659,45 @@ static void looking_up(void) {
         }
         smap_free_map(map);
     }
+}
+
+/* The token that answers for a position, found by a walk over all of a map whose columns rise. */
+static uint32_t walked(const smap_token *tokens, uint32_t len, uint32_t line, uint32_t column, uint32_t bias) {
+    uint32_t before = NO, after = NO, first = NO;
+    for (uint32_t i = 0; i < len; i++) {
+        if (tokens[i].dst_line != line) continue;
+        if (first == NO) first = i;
+        if (tokens[i].dst_col <= column) before = i;
+        if (tokens[i].dst_col >= column && after == NO) after = i;
+    }
+    return bias == SMAP_AFTER ? after : bias == SMAP_CLAMPED && before == NO ? first : before;
+}
+
+/* Lookups in a map of so many tokens that their columns are kept by themselves. */
+static void looking_up_among_many(void) {
+    smap_token tokens[100];
+    smap_text names[1] = { text_of("n") }, sources[1] = { text_of("a") };
+    smap_map *map;
+    for (uint32_t i = 0; i < 100; i++)
+        tokens[i] = token_of(i / 3 * 2, i % 3 * 4 + 1, i, 0, i % 4 ? 0 : NO, i % 8 && i % 3 ? NO : 0);
+    CHECK(smap_from_tokens(LIST(tokens), LIST(names), LIST(sources), NULL, 0, NULL, 0, &map, NULL) == SMAP_OK);
+    for (uint32_t at = 0; at < 70 * 12 * 3; at++) {
+        smap_position place = { at / 36, at / 3 % 12 };
+        uint32_t bias = at % 3, wanted = walked(tokens, 100, place.line, place.column, bias), index = 77;
+        const smap_token *token = wanted == NO ? NULL : &tokens[wanted];
+        int has_source = token && token->source_id != NO, has_name = token && token->name_id != NO;
+        uint32_t kind = (uint32_t)(!token ? SMAP_NOTHING : !has_source ? SMAP_UNMAPPED : !has_name ? SMAP_MAPPED : SMAP_NAMED);
+        smap_original p, q;
+        smap_fault fault = junk();
+        memset(&p, 7, sizeof p);
+        CHECK(smap_trace(map, place.line, place.column, bias, &p, &fault) == SMAP_OK && is_none(&fault));
+        check(p.index == wanted && p.kind == kind && (!token || memcmp(&p.token, token, sizeof p.token) == 0), (int)at, "a token");
+        check(is(&p.source, has_source ? "a" : "") && is(&p.name, has_name ? "n" : ""), (int)at, "the texts of a token");
+        CHECK(smap_find_all(map, &place, 1, bias, &index, 1, NULL) == SMAP_OK && index == wanted);
+        memset(&q, 7, sizeof q);
+        CHECK(smap_trace_all(map, &place, 1, bias, &q, 1, NULL) == SMAP_OK && is_same(&p, &q));
+    }
+    smap_free_map(map);
 }
 
 static void tracing(void) {
@@ -1435,12 +1512,14 @@ int main(void) {
     indexed_maps();
     found_maps();
     found_refusals();
+    found_places();
     holding();
     lists();
     from_lists();
     long_lists();
     cloning();
     looking_up();
+    looking_up_among_many();
     tracing();
     tracing_all();
     lines_back();

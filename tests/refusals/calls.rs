@@ -99,6 +99,22 @@ fn json_fault_at(rt: HostRuntime) {
     });
 }
 
+/// The place of the fault of a text as it is found.
+fn found_fault_is(rt: &HostRuntime, text: &str, wanted: FaultSpot) {
+    refuse_each(rt, nothing, |alloc, _| oxc_sourcemap::found_fault_at(alloc, text), |place| {
+        same(rt, "spot", place.map(|place| place.spot), Some(wanted))
+    });
+}
+
+#[test]
+fn found_fault_at(rt: HostRuntime) {
+    found_fault_is(&rt, r#"{"version":"3","sources":[null,1],"mappings":""}"#, FaultSpot::Entry(Field::Sources, 1));
+    // {"version":2}
+    found_fault_is(&rt, "\u{feff}data:application/json;base64,eyJ2ZXJzaW9uIjoyfQ==", FaultSpot::Member(Field::Version));
+    let text = r#"{"version":"3","file":"f","sections":[{"offset":{"line":0,"column":0},"map":{"version":3,"sources":[null],"mappings":"AAAA"}},{"offset":{"line":1,"column":0}}]}"#;
+    found_fault_is(&rt, text, FaultSpot::Member(Field::Map));
+}
+
 #[test]
 fn value_fault_at(rt: HostRuntime) {
     refuse_each(&rt, full_value, |alloc, value| oxc_sourcemap::value_fault_at(alloc, &value), |place| same(&rt, "place", place, None));

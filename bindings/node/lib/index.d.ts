@@ -295,7 +295,7 @@ export class SourceMap {
   /**
    * Reads a map as it is found, and tells what was mended in it, as a byte order mark, null sources, or ids out of range. The map is
    * sorted and sound. A text that the constructor reads as a sorted map is read as this map, with nothing to mend. Throws
-   * SourceMapError of the first fault that is not mended.
+   * SourceMapError of the first fault that is not mended, with its place if it has one (smap_read_found in oxc_sourcemap.h).
    *
    * @example
    * const { map, mends } = SourceMap.found('{"version":"3","sources":[null],"mappings":"AAAA"}');

@@ -160,7 +160,8 @@ test('a map as it is found', () => {
   assert.deepEqual(found.mends.map((it) => it.kind), ['DATA_URL', 'UNSORTED']);
   assert.deepEqual([...found.map.tokens()].filter((_, i) => i % 6 === 1), [0, 1]);
   assert.deepEqual(SourceMap.found(TEXT).mends, []);
-  fails({ code: 'SMAP_JSON_READING' }, () => SourceMap.found('{'));
+  fails({ code: 'SMAP_JSON_READING', placeMessage: 'line 2, column 12 (byte 19)' }, () => SourceMap.found(')]}\'\n{\n "version": x}'));
+  fails({ code: 'SMAP_JSON_SHAPE', placeMessage: 'entry 1 of sources' }, () => SourceMap.found('{"version":3,"sources":[null,1],"mappings":""}'));
   const sections = JSON.parse(INDEXED);
   sections.sections[1].map.sources = [null];
   assert.deepEqual(SourceMap.found(JSON.stringify(sections)).mends.map((it) => [it.kind, it.section]), [['NULL_SOURCE', 1]]);

@@ -33,6 +33,10 @@ class Errors(Case):
         error = self.fails(Code.JSON_VERSION, read, '{"version":7}', detail=7, place="version")
         self.assertEqual(error.field, None)
 
+    def test_places_behind_what_is_mended(self):
+        self.fails(Code.JSON_READING, SourceMap.read_found, ")]}'\n{\n \"version\": x}", place="line 2, column 12 (byte 19)")
+        self.fails(Code.JSON_SHAPE, SourceMap.read_found, '{"version":3,"sources":[null,1],"mappings":""}', place="entry 1 of sources")
+
     def test_a_message_longer_than_the_first_buffer(self):
         text = "é" * 200
 

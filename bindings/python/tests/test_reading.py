@@ -163,7 +163,7 @@ class Found(Case):
         self.assertEqual((map.to_json(), mends), (TEXT, []))
 
     def test_refusals(self):
-        self.fails(Code.JSON_VERSION, SourceMap.read_found, '{"version":2}', detail=2)
+        self.fails(Code.JSON_VERSION, SourceMap.read_found, '{"version":2}', detail=2, place="version")
         self.fails(Code.NOT_UTF8, SourceMap.read_found, b"\xff")
         self.assertEqual(Mend(99, None, 0).message, "")
 

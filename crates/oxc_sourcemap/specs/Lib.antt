@@ -112,5 +112,6 @@ pub use Rattle.oxc_sourcemap_found.specs.InRange
 pub use Rattle.oxc_sourcemap_found.specs.MendedMaps
 pub use Rattle.oxc_sourcemap_found.specs.MendedSections
 pub use Rattle.oxc_sourcemap_found.specs.FoundMaps
+pub use Rattle.oxc_sourcemap_found.specs.FoundPlaces
 pub use Rattle.oxc_sourcemap_found.specs.FoundLaws
 pub mod Words

@@ -15,7 +15,7 @@ pub use Rattle.oxc_sourcemap_handles.specs.CallErrors.{call_error_text, of_map, 
 pub use Rattle.oxc_sourcemap_handles.specs.Codes.{IsErrorAs, IsSmall, call_error_of, code_of}
 pub use Rattle.oxc_sourcemap_handles.specs.Codes.{fault_of, no_fault}
 pub use Rattle.oxc_sourcemap_handles_making.specs.Failures.{IsErrorAt, IsMappingsErrorAt}
-pub use Rattle.oxc_sourcemap_handles_making.specs.Failures.{IsReadErrorAt}
+pub use Rattle.oxc_sourcemap_handles_making.specs.Failures.{IsReadErrorAt, IsFoundErrorAt}
 pub use Rattle.oxc_sourcemap_handles.specs.Holding.{HoldsMap, HoldsOrder, held_builder, held_join}
 pub use Rattle.oxc_sourcemap_handles.specs.Holding.{held_loaded, held_map, held_mends, held_text}
 pub use Rattle.oxc_sourcemap_handles.specs.Lists.{AreContents, AreTexts, IsNotContents, IsNotTexts}
@@ -33,7 +33,7 @@ pub use Rattle.oxc_sourcemap_handles_making.specs.Builders.{with_tokens}
 pub use Rattle.oxc_sourcemap_handles_making.specs.Changes.{Changes, IsMapError}
 pub use Rattle.oxc_sourcemap_handles_making.specs.Joining.{IsAddError, IsJoinFinished, IsJoined}
 pub use Rattle.oxc_sourcemap_handles_making.specs.Joining.{IsNullJoin, IsOneNull}
-pub use Rattle.oxc_sourcemap_handles_making.specs.Making.{HasTexts, IsFoundError, IsListsError}
+pub use Rattle.oxc_sourcemap_handles_making.specs.Making.{HasTexts, IsListsError}
 pub use Rattle.oxc_sourcemap_handles_making.specs.Making.{IsMapMissing, lists_fault, map_of_lists}
 pub use Rattle.oxc_sourcemap_handles_making.specs.Making.{map_of_tokens}
 pub use Rattle.oxc_sourcemap_handles_making.specs.MapsOfMaps.{HoldMaps, IsComposition}

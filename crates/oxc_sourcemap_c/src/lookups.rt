@@ -10,10 +10,30 @@ ghost use Rattle.oxc_sourcemap_c.specs.Words.{position_at, source_place, IsBack}
 use oxc_sourcemap_handles::{Fault, Handle, Lent, Original, PieceNumbers, TokenNumbers};
 use oxc_sourcemap_handles_reading::{
     SourcePlace, all_generated, find_all, first_difference, generated, index_sources, pieces,
-    trace, trace_all, write_fault, write_found, write_token,
+    trace, trace_all, trace_usual, write_fault, write_found, write_token,
 };
 use oxc_sourcemap_tokens::Position;
 use std::alloc::Global;
+
+/// As `proved_trace`, for any map and bias.
+// A call of its own, so that the usual lookup saves few registers.
+#[inline(never)]
+fn trace_anyhow(
+    map: &mut Lent,
+    at: Position,
+    bias: u32,
+    out: &mut Original,
+    fault: &mut Fault,
+) -> u32
+    ensures traced { result ≡ 0 → HoldsMap map.old.held (λ m. IsInLineOrder m.tokens
+        × HasBias bias (λ b. IsTraceOf b m at out.new)) }
+    ensures no_error { result ≡ 0 → fault.new ≡ no_fault }
+    ensures error { result ≢ 0 → (out.new ≡ out.old)
+        × IsError result fault.new (IsTraceError (held_map map.old.held) bias) }
+    ensures back { IsBack map.old map.new }
+{
+    write_fault(trace(map, at, bias, out), fault)
+}
 
 /// What a map says of a generated position, by the bias of this number: 0, 1 or 2 for the last token before it, the same or else the
 /// first of the line, and the first token after it.
@@ -33,7 +53,12 @@ pub extern "C" fn proved_trace(
         × IsError result fault.new (IsTraceError (held_map map.old.held) bias) }
     ensures back { IsBack map.old map.new }
 {
-    write_fault(trace(map, Position { line, column }, bias, out), fault)
+    let at = Position { line, column };
+    if trace_usual(map, at, bias, out) {
+        *fault = Fault::none();
+        return 0;
+    }
+    trace_anyhow(map, at, bias, out, fault)
 }
 
 /// What a map says of generated positions, each at the index of its position, by the bias of this number. On an error nothing is

@@ -2,7 +2,7 @@
 ghost use Rattle.std.specs.Prelude.{◌≡◌, ◌≢◌, Some, None, Ok, map, length, MatchOption};
 ghost use Rattle.oxc_sourcemap_c.specs.Words.{read_map, no_fault, HoldsMap, held_mends, IsErrorAs};
 ghost use Rattle.oxc_sourcemap_c.specs.Words.{IsErrorAt, IsReadErrorAt, found, found_record};
-ghost use Rattle.oxc_sourcemap_c.specs.Words.{IsFoundError, IsSound, map_of_lists, token_of};
+ghost use Rattle.oxc_sourcemap_c.specs.Words.{IsFoundErrorAt, IsSound, map_of_lists, token_of};
 ghost use Rattle.oxc_sourcemap_c.specs.Words.{lent_items, known_texts, HasTexts, lists_fault};
 ghost use Rattle.oxc_sourcemap_c.specs.Words.{IsListsError, IsMapMissing, IsComposition, held_map};
 ghost use Rattle.oxc_sourcemap_c.specs.Words.{IsCompositionError, HoldMaps, IsRemapped};
@@ -51,7 +51,7 @@ pub extern "C" fn proved_read_found(
     ensures no_error { result ≡ 0 → fault.new ≡ no_fault }
     ensures error { result ≢ 0 → (out.new.held ≡ out.old.held)
         × (mends.new.held ≡ mends.old.held)
-        × IsErrorAs result fault.new (IsFoundError text.now) }
+        × IsErrorAt result fault.new (IsFoundErrorAt text.now) }
 {
     put_found(alloc, read_found(alloc, text), out, mends, fault)
 }

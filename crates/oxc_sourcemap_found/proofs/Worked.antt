@@ -1,5 +1,10 @@
 -- Worked examples, computed by the definitions themselves.
 use Rattle.std.specs.Prelude.{◌≡◌, refl, [], ◌∷◌, codes, List, ℕ, true, false, Some, None}
+use Rattle.serde_json.specs.Data.{Data, null, number, unsigned, array, object, member, no_members}
+use Rattle.serde_json.specs.Data.{item, no_items}
+use Rattle.oxc_sourcemap_tokens.specs.declared.error.Field.TheVariants.{Object, Version, Sections}
+use Rattle.oxc_sourcemap_tokens.specs.declared.error.Field.TheVariants.{Map, Offset}
+use Rattle.oxc_sourcemap_places.specs.declared.fault_place.FaultSpot.TheVariants.{Member, Entry}
 use Rattle.oxc_sourcemap_url.specs.DataUrls.{decoded_data_url}
 use Rattle.oxc_sourcemap_tokens.specs.declared.position.Position.{Position}
 use Rattle.oxc_sourcemap_tokens.specs.Token.{TokenRecord}
@@ -10,6 +15,7 @@ use Rattle.oxc_sourcemap_found.specs.declared.mend.MendKind.{MendKind}
 use Rattle.oxc_sourcemap_found.specs.declared.mend.MendKind.TheVariants.{ByteOrderMark, JsonPrefix}
 use Rattle.oxc_sourcemap_found.specs.declared.mend.MendKind.TheVariants.{Unsorted, Cut}
 use Rattle.oxc_sourcemap_found.specs.MendedSections.{MendedSection, is_behind, section_mends}
+use Rattle.oxc_sourcemap_found.specs.FoundPlaces.{found_value_place, found_sections_place}
 use Rattle.oxc_sourcemap_found.specs.Opening.{Opened, opened}
 
 abbrev opened_as : Text → List MendKind → Opened
@@ -54,3 +60,30 @@ keeps-a_token_on_a_line_of_its_own = refl
 tells-by_section : section_mends 0 (section (token 0 0 ∷ token 0 5 ∷ []) [] (position 0 0) ∷ section (token 0 9 ∷ []) (Unsorted ∷ []) (position 0 4) ∷ [])
     ≡ record { section = Some 0; kind = Cut 1 } ∷ record { section = Some 1; kind = Unsorted } ∷ []
 tells-by_section = refl
+
+-- ---- places of faults
+
+-- the number 0, and an object with only an offset, that of line 0 and column 0
+abbrev zero_number : Data
+zero_number = number (unsigned 0)
+
+abbrev offset_alone : Data
+offset_alone = object (member (codes "offset") (object (member (codes "column") zero_number (member (codes "line") zero_number no_members))) no_members)
+
+places-no_object : found_value_place null ≡ Some (record { text = None; section = None; spot = Member Object })
+places-no_object = refl
+
+places-version : found_value_place (object (member (codes "sections") (array no_items) no_members)) ≡ Some (record { text = None; section = None; spot = Member Version })
+places-version = refl
+
+places-no_section : found_sections_place None 0 (item null no_items) ≡ Some (record { text = None; section = None; spot = Entry Sections 0 })
+places-no_section = refl
+
+places-no_offset : found_sections_place None 0 (item (object no_members) no_items) ≡ Some (record { text = None; section = Some 0; spot = Member Offset })
+places-no_offset = refl
+
+places-no_map : found_sections_place None 0 (item offset_alone no_items) ≡ Some (record { text = None; section = Some 0; spot = Member Map })
+places-no_map = refl
+
+places-nothing : found_sections_place None 0 no_items ≡ None
+places-nothing = refl

@@ -5,6 +5,7 @@ pub mod Opening
 pub mod MendedMaps
 pub mod MendedSections
 pub mod FoundMaps
+pub mod FoundPlaces
 pub mod FoundLaws
 pub mod States
 pub mod Words

@@ -34,3 +34,9 @@ pub use Rattle.oxc_sourcemap_found.specs.Opening.{data_in, opened}
 pub use Rattle.oxc_sourcemap_found.specs.States.{state_of, found_view, opened_view}
 pub use Rattle.oxc_sourcemap_found.specs.States.{mended_view, section_view}
 pub use Rattle.oxc_sourcemap_found.specs.FoundLaws.{ExactIsFound, MendedIsMended, FoundIsSound}
+pub use Rattle.oxc_sourcemap_found.specs.FoundPlaces.{found_fields_spot, plain_spot, found_map_spot}
+pub use Rattle.oxc_sourcemap_found.specs.FoundPlaces.{section_place, found_sections_place}
+pub use Rattle.oxc_sourcemap_found.specs.FoundPlaces.{map_members}
+pub use Rattle.oxc_sourcemap_found.specs.FoundPlaces.{found_indexed_place, found_value_place}
+pub use Rattle.oxc_sourcemap_found.specs.FoundPlaces.{IsFoundPlace}
+pub use Rattle.oxc_sourcemap_places.specs.ValueSpots.{IsReading, place_in}

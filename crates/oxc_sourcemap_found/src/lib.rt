@@ -2,6 +2,7 @@
 #![tactic(auto)]
 
 mod cut;
+mod fault;
 mod found;
 mod laws;
 mod members;
@@ -11,6 +12,7 @@ mod plain;
 mod sections;
 mod tokens;
 
+pub use fault::found_fault_at;
 pub use found::{Found, read_found};
 pub use laws::mending_harmless;
 pub use mend::{Mend, MendKind};

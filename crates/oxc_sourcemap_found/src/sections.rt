@@ -18,7 +18,11 @@ pub(crate) struct Section {
 }
 
 /// The offset of the section of this number, behind one at `before`.
-fn place_after(before: Option<Position>, number: usize, section: &Value) -> Result<Position>
+pub(crate) fn place_after(
+    before: Option<Position>,
+    number: usize,
+    section: &Value,
+) -> Result<Position>
     ensures { result ≡ place_from before number (view section.now) }
 {
     let place = place_in(section)?;

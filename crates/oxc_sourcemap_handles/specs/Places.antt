@@ -5,7 +5,7 @@ use Rattle.std.specs.Option.{unwrap_or, option_and_then}
 use denote.RawPtr.{null_ptr}
 use Rattle.oxc_sourcemap_tokens.specs.Token.{TokenRecord, last}
 use Rattle.oxc_sourcemap_parts.specs.Record.{Text, MapRecord}
-use Rattle.oxc_sourcemap_parts.specs.DecodedMap.{OriginalPosition}
+use Rattle.oxc_sourcemap_parts.specs.DecodedMap.{OriginalPosition, name_of}
 use Rattle.oxc_sourcemap_lookup.specs.Lookup.{lines_through}
 use Rattle.oxc_sourcemap_lookup.specs.Trace.{original_in}
 use Rattle.oxc_sourcemap_pieces.specs.declared.cuts.Piece.{Piece}
@@ -77,6 +77,7 @@ HasOriginal p (Some (Some o)) = IsOriginal p o
 pub record IsSeen (m : MapRecord) (found : Option ℕ) (p : Original) : Type 0 where
   pub index : p.index ≡ index_number found
   pub token : p.token ≡ numbers_or_none (option_and_then (slice_get m.tokens) found)
+  pub name : p.name.len ≡ length (unwrap_or (option_and_then (name_of m.names) (option_and_then (slice_get m.tokens) found)) [])
   pub original : HasOriginal p (option_map (original_in m) (option_and_then (slice_get m.tokens) found))
 
 -- the numbers of a piece

@@ -21,8 +21,8 @@ pub use Rattle.oxc_sourcemap_handles.specs.Traces.{AreFoundIn, AreTracesOf, IsTr
 pub use Rattle.oxc_sourcemap_handles.specs.declared.call_error.CallError.{CallError}
 pub use Rattle.oxc_sourcemap_handles.specs.declared.call_error.CallError.TheVariants.{BadOption}
 pub use Rattle.oxc_sourcemap_handles.specs.declared.call_error.CallError.TheVariants.{NoIndex, Plan}
-pub use Rattle.oxc_sourcemap_lookup.specs.LineSpans.{IsIndexOf}
-pub use Rattle.oxc_sourcemap_map.specs.View.{view_of, view_original}
+pub use Rattle.oxc_sourcemap_lookup.specs.LineSpans.{IsIndexOf, IsUsualIndexOf}
+pub use Rattle.oxc_sourcemap_map.specs.View.{view_of, view_name, view_original}
 pub use Rattle.oxc_sourcemap_parts.specs.Roots.{rooted}
 pub use Rattle.oxc_sourcemap_parts.specs.Sorted.{are_tokens_sorted}
 pub use Rattle.oxc_sourcemap_reverse.specs.Orders.{IsSourceOrderOf}
@@ -38,3 +38,4 @@ pub use Rattle.oxc_sourcemap_tokens.specs.declared.plan_error.PlanError.TheVaria
 pub use Rattle.std_alloc.specs.Box.Ownership.{box_owns}
 pub use Rattle.oxc_sourcemap_handles.specs.Indexed.{IsIndexed}
 pub use Rattle.oxc_sourcemap_handles.specs.declared.call_error.CallError.TheVariants.{NullHandle}
+pub use Rattle.oxc_sourcemap_handles.specs.declared.options.Bias.TheVariants.{Before}

@@ -1,5 +1,5 @@
 //! What a handle holds.
-ghost use Rattle.oxc_sourcemap_handles.specs.Words.{IsIndexed};
+ghost use Rattle.oxc_sourcemap_handles.specs.Words.{IsIndexed, IsUsualIndexOf, Before};
 ghost use Rattle.std.specs.Prelude.{◌≡◌, ◌<◌, true, false, length, Ok, IfOk, IfErr, OnOk, OnErr};
 ghost use Rattle.std.specs.Prelude.{IfSome};
 ghost use Rattle.oxc_sourcemap_handles.specs.Words.{IsInLineOrder, are_tokens_sorted, FailsBy};
@@ -13,7 +13,7 @@ use crate::options::Bias;
 use crate::text::{Original, index_or_none};
 use oxc_sourcemap_builders::{ConcatSourceMapBuilder, SourceMapBuilder};
 use oxc_sourcemap_found::Mend;
-use oxc_sourcemap_lookup::LineIndex;
+use oxc_sourcemap_lookup::{LineIndex, UsualIndex};
 use oxc_sourcemap_map::OwnedSourceMap;
 use oxc_sourcemap_reverse::SourceOrder;
 use oxc_sourcemap_tokens::{Error, Position, Result, Token};
@@ -145,8 +145,6 @@ impl LoadedMap {
     }
 
     /// The index of the token that answers for a generated position, found by this index of lines.
-    // A call and a match on the bias would take a fifth of the instructions of a lookup in bulk.
-    #[inline(always)]
     fn find(&self, index: &LineIndex, at: Position, bias: Bias) -> Option<usize>
         requires { IsIndexOf self.now.map.tokens index.now }
         ensures found { are_tokens_sorted self.now.map.tokens ≡ true
@@ -161,46 +159,80 @@ impl LoadedMap {
         }
     }
 
+    /// As `find` by the last token before the position.
+    #[inline(always)]
+    fn find_usual(&self, index: UsualIndex<'_>, at: Position) -> Option<usize>
+        requires { IsUsualIndexOf self.now.map.tokens index }
+        ensures found { are_tokens_sorted self.now.map.tokens ≡ true
+            → result ≡ index_found Before self.now.map.tokens at }
+        ensures within { IfSome result (λ i. i < length self.now.map.tokens) }
+    {
+        index.lookup_index(self.map.get_tokens().as_slice(), at.line, at.column)
+    }
+
     /// Writes what the token at this index says, or that there is none.
     #[inline(always)]
     fn write_original(&self, found: Option<usize>, out: &mut Original)
         requires { IfSome found (λ i. i < length self.now.map.tokens) }
         ensures { IsSeen self.now.map found out.new }
     {
-        *out = match found {
+        match found {
             Some(i) => {
                 let token = self.map.get_tokens().as_slice()[i];
-                Original::of(i, token, self.map.as_source_map())
+                out.write(i, token, self.map.as_source_map());
             }
-            None => Original::nothing(),
-        };
+            None => *out = Original::nothing(),
+        }
     }
 
     /// Writes what the map says of a generated position, found by this index of lines.
-    // An answer that calls return is copied by each, sixteen bytes at a time, and a processor waits for bytes that it has just
-    // stored in smaller parts.
-    #[inline(always)]
     fn trace_by(&self, index: &LineIndex, at: Position, bias: Bias, out: &mut Original)
         requires { IsIndexOf self.now.map.tokens index.now }
         ensures { IsTraceOf bias self.now.map at out.new }
     {
-        let found = self.find(index, at, bias);
-        self.write_original(found, out)
+        self.write_original(self.find(index, at, bias), out)
     }
 
-    /// As `trace_by`, where the bias is a rare one: apart, so that the usual lookup is short.
-    #[cold]
-    #[inline(never)]
-    fn trace_by_rare(&self, index: &LineIndex, at: Position, bias: Bias, out: &mut Original)
-        requires { IsIndexOf self.now.map.tokens index.now }
-        ensures { IsTraceOf bias self.now.map at out.new }
+    /// As `trace_by` by the last token before the position.
+    #[inline(always)]
+    fn trace_by_usual(&self, index: UsualIndex<'_>, at: Position, out: &mut Original)
+        requires { IsUsualIndexOf self.now.map.tokens index }
+        ensures { IsTraceOf Before self.now.map at out.new }
     {
-        self.trace_by(index, at, bias, out)
+        self.write_original(self.find_usual(index, at), out)
+    }
+
+    /// The index of the lines, if it has the usual form.
+    #[inline(always)]
+    fn usual_index(&self) -> Option<UsualIndex<'_>>
+        ensures { IfSome result (IsUsualIndexOf self.now.map.tokens) }
+    {
+        match &self.index {
+            Ok(index) => index.usual(),
+            Err(_) => None,
+        }
+    }
+
+    /// As `trace` by the last token before the position, if the index of lines has the usual form. Else it writes nothing, and
+    /// returns false.
+    // Compiled it has no call, so the usual lookup saves few registers.
+    #[inline(always)]
+    pub fn trace_usual(&self, at: Position, out: &mut Original) -> bool
+        ensures traced { result ≡ true → IsInLineOrder self.now.map.tokens
+            × IsTraceOf Before self.now.map at out.new }
+        ensures unchanged { result ≡ false → out.new ≡ out.old }
+    {
+        match self.usual_index() {
+            Some(index) => {
+                self.trace_by_usual(index, at, out);
+                true
+            }
+            None => false,
+        }
     }
 
     /// Writes what the map says of a generated position. Fails with `LineOrder` if the tokens are not in line order, and writes
     /// nothing then.
-    #[inline(always)]
     pub fn trace(&self, at: Position, bias: Bias, out: &mut Original) -> Result<()>
         ensures traced { OnOk result (IsInLineOrder self.now.map.tokens
             × IsTraceOf bias self.now.map at out.new) }
@@ -208,15 +240,11 @@ impl LoadedMap {
         ensures unchanged { OnErr result (out.new ≡ out.old) }
     {
         let index = self.index()?;
-        match bias {
-            Bias::Before => self.trace_by(index, at, Bias::Before, out),
-            Bias::Clamped | Bias::After => self.trace_by_rare(index, at, bias, out),
-        }
+        self.trace_by(index, at, bias, out);
         Ok(())
     }
 
     /// Writes what the map says of many positions, found by this index of lines, each at the index of its position.
-    #[inline(always)]
     fn write_traces(
         &self,
         index: &LineIndex,
@@ -233,8 +261,23 @@ impl LoadedMap {
         }
     }
 
+    /// As `write_traces` by the last token before each position.
+    fn write_usual_traces(
+        &self,
+        index: UsualIndex<'_>,
+        positions: &[Position],
+        out: &mut [Original],
+    )
+        requires index { IsUsualIndexOf self.now.map.tokens index }
+        requires lengths { length positions.now ≡ length out.old }
+        ensures { AreTracesOf Before positions.now out.new self.now.map }
+    {
+        for i in 0..positions.len() {
+            self.trace_by_usual(index, positions[i], &mut out[i]);
+        }
+    }
+
     /// What the map says of many positions, each at the index of its position. Fails as `trace` does, and writes nothing then.
-    // Each bias has its own loop, which does not ask for it.
     pub fn trace_all(&self, positions: &[Position], bias: Bias, out: &mut [Original]) -> Result<()>
         requires { length positions.now ≡ length out.old }
         ensures traced { OnOk result (AreTracesOf bias positions.now out.new self.now.map) }
@@ -242,17 +285,15 @@ impl LoadedMap {
         ensures unchanged { OnErr result (out.new ≡ out.old) }
     {
         let index = self.index()?;
-        match bias {
-            Bias::Before => self.write_traces(index, positions, Bias::Before, out),
-            Bias::Clamped => self.write_traces(index, positions, Bias::Clamped, out),
-            Bias::After => self.write_traces(index, positions, Bias::After, out),
+        match (bias, index.usual()) {
+            (Bias::Before, Some(usual)) => self.write_usual_traces(usual, positions, out),
+            _ => self.write_traces(index, positions, bias, out),
         }
         Ok(())
     }
 
     /// Writes the indices of the tokens that answer for many positions, found by this index of lines, each at the index of its
     /// position; 4294967295 for none.
-    #[inline(always)]
     fn write_found(&self, index: &LineIndex, positions: &[Position], bias: Bias, out: &mut [u32])
         requires index { IsIndexOf self.now.map.tokens index.now }
         requires lengths { length positions.now ≡ length out.old }
@@ -260,6 +301,17 @@ impl LoadedMap {
     {
         for i in 0..positions.len() {
             out[i] = index_or_none(self.find(index, positions[i], bias));
+        }
+    }
+
+    /// As `write_found` by the last token before each position.
+    fn write_usual_found(&self, index: UsualIndex<'_>, positions: &[Position], out: &mut [u32])
+        requires index { IsUsualIndexOf self.now.map.tokens index }
+        requires lengths { length positions.now ≡ length out.old }
+        ensures { AreFoundIn Before positions.now out.new self.now.map }
+    {
+        for i in 0..positions.len() {
+            out[i] = index_or_none(self.find_usual(index, positions[i]));
         }
     }
 
@@ -272,10 +324,9 @@ impl LoadedMap {
         ensures unchanged { OnErr result (out.new ≡ out.old) }
     {
         let index = self.index()?;
-        match bias {
-            Bias::Before => self.write_found(index, positions, Bias::Before, out),
-            Bias::Clamped => self.write_found(index, positions, Bias::Clamped, out),
-            Bias::After => self.write_found(index, positions, Bias::After, out),
+        match (bias, index.usual()) {
+            (Bias::Before, Some(usual)) => self.write_usual_found(usual, positions, out),
+            _ => self.write_found(index, positions, bias, out),
         }
         Ok(())
     }

@@ -2,7 +2,8 @@
 ghost use Rattle.std.specs.Prelude.{◌≡◌, [], length, Option, Some, None, slice_get};
 ghost use Rattle.std.specs.Option.{unwrap_or};
 ghost use Rattle.std.specs.Ptr.{as_ptr, null_ptr};
-ghost use Rattle.oxc_sourcemap_handles.specs.Words.{view_of, view_original, HasOriginal};
+ghost use Rattle.oxc_sourcemap_handles.specs.Words.{view_of, view_name, view_original};
+ghost use Rattle.oxc_sourcemap_handles.specs.Words.{HasOriginal};
 ghost use Rattle.oxc_sourcemap_handles.specs.Words.{number_or_none, numbers_of, no_numbers};
 ghost use Rattle.oxc_sourcemap_handles.specs.Words.{lent_item, index_number, IsSeen, HasContent};
 ghost use Rattle.oxc_sourcemap_handles.specs.Words.{piece_numbers};
@@ -164,40 +165,47 @@ impl Original {
         }
     }
 
-    /// What a token says, as a view of its map.
+    /// Writes the source and the name of a token, as a view of its map has them, and the kind that follows from these.
+    // Each is written where it is found, and not gathered first: so the usual lookup saves few registers.
     #[inline(always)]
-    fn of_view(index: u32, token: TokenNumbers, view: &SourceViewToken<'_, '_>) -> Original
-        ensures index { result.index ≡ index }
-        ensures token { result.token ≡ token }
-        ensures original { token.src_line ≡ (view_of view.now).token.src_line
-            → token.src_col ≡ (view_of view.now).token.src_col
-            → HasOriginal result (Some (view_original (view_of view.now))) }
+    fn write_texts(&mut self, view: &SourceViewToken<'_, '_>)
+        ensures kept { (self.new.index ≡ self.old.index) × (self.new.token ≡ self.old.token) }
+        ensures name { self.new.name.len ≡ length (unwrap_or (view_name (view_of view.now)) []) }
+        ensures original { self.old.token.src_line ≡ (view_of view.now).token.src_line
+            → self.old.token.src_col ≡ (view_of view.now).token.src_col
+            → HasOriginal self.new (Some (view_original (view_of view.now))) }
     {
-        let source = view.get_source();
-        let name = view.get_name();
-        let kind = match (source, name) {
-            (None, _) => 1,
-            (Some(_), None) => 2,
-            (Some(_), Some(_)) => 3,
-        };
-        Original {
-            kind,
-            index,
-            token,
-            source: Text::of_option(source),
-            name: Text::of_option(name),
+        match view.get_source() {
+            Some(source) => {
+                self.source = Text::of(source.as_bytes());
+                match view.get_name() {
+                    Some(name) => {
+                        self.name = Text::of(name.as_bytes());
+                        self.kind = 3;
+                    }
+                    None => {
+                        self.name = Text::of(&[]);
+                        self.kind = 2;
+                    }
+                }
+            }
+            None => {
+                self.source = Text::of(&[]);
+                self.name = Text::of_option(view.get_name());
+                self.kind = 1;
+            }
         }
     }
 
-    /// What the token at this index of a map says.
+    /// Writes what the token at this index of a map says.
     #[inline(always)]
-    pub fn of(index: usize, token: Token, map: &SourceMap<'static>) -> Original
+    pub fn write(&mut self, index: usize, token: Token, map: &SourceMap<'static>)
         requires { slice_get map.now.tokens index ≡ Some token }
-        ensures { IsSeen map.now (Some index) result }
+        ensures { IsSeen map.now (Some index) self.new }
     {
-        let numbers = TokenNumbers::of(&token);
-        let view = SourceViewToken::new(token, map);
-        Original::of_view(index_or_none(Some(index)), numbers, &view)
+        self.index = index_or_none(Some(index));
+        self.token = TokenNumbers::of(&token);
+        self.write_texts(&SourceViewToken::new(token, map));
     }
 }
 

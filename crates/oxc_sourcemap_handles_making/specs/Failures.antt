@@ -9,6 +9,8 @@ use Rattle.oxc_sourcemap_decode.specs.ReadMap.{read_map}
 use Rattle.oxc_sourcemap_places.specs.declared.fault_place.FaultPlace.{FaultPlace}
 use Rattle.oxc_sourcemap_places.specs.declared.fault_place.FaultSpot.TheVariants.{Segment}
 use Rattle.oxc_sourcemap_places.specs.ValueSpots.{place_in}
+use Rattle.oxc_sourcemap_found.specs.FoundMaps.{found}
+use Rattle.oxc_sourcemap_found.specs.FoundPlaces.{IsFoundPlace}
 use Rattle.oxc_sourcemap_plan_places.specs.PlanPlaces.{IsTextPlace}
 use Rattle.oxc_sourcemap_handles.specs.declared.call_error.CallError.{CallError}
 use Rattle.oxc_sourcemap_handles_making.specs.declared.failure.Failure.{Failure}
@@ -31,6 +33,14 @@ IsTextErrorAt text r place = (e : Error) × (read_map text ≡ Err e) × (r ≡ 
 -- an error of reading bytes, and its place: they are not UTF-8, or their text has a fault
 abbrev pub IsReadErrorAt : List ℕ → CallError → Option FaultPlace → Type 0
 IsReadErrorAt bytes r place = (IsNotText bytes r × (place ≡ None)) ⊎ (IsUtf8 bytes × IsTextErrorAt bytes r place)
+
+-- an error of reading a text as it is found, and the place of the fault
+abbrev pub IsFoundTextErrorAt : Text → CallError → Option FaultPlace → Type 0
+IsFoundTextErrorAt text r place = (e : Error) × (found text ≡ Err e) × (r ≡ of_map e) × IsFoundPlace text place
+
+-- the same of bytes: they are not UTF-8, or their text has a fault that is not mended
+abbrev pub IsFoundErrorAt : List ℕ → CallError → Option FaultPlace → Type 0
+IsFoundErrorAt bytes r place = (IsNotText bytes r × (place ≡ None)) ⊎ (IsUtf8 bytes × IsFoundTextErrorAt bytes r place)
 
 -- the place of the first fault of a mappings text
 abbrev pub mappings_place : Text → ℕ → ℕ → Option FaultPlace

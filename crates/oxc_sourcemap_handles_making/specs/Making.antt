@@ -1,6 +1,6 @@
 -- Maps made of texts and of whole lists, and the errors of making them.
 use Rattle.std.specs.Prelude.{◌≡◌, ◌⊎◌, ℕ, List, [], ◌∷◌, length, Option, Some, None, option_map}
-use Rattle.std.specs.Prelude.{Err, IsUtf8, IsNone, Bool, ◌||◌, if◌then◌else◌, nat_lt}
+use Rattle.std.specs.Prelude.{IsNone, Bool, ◌||◌, if◌then◌else◌, nat_lt}
 use Rattle.std.specs.Option.{option_or, unwrap_or}
 use Rattle.oxc_sourcemap_tokens.specs.declared.error.Error.{Error}
 use Rattle.oxc_sourcemap_tokens.specs.declared.error.Error.TheVariants.{BadSourceReference}
@@ -9,21 +9,16 @@ use Rattle.oxc_sourcemap_tokens.specs.Token.{TokenRecord}
 use Rattle.oxc_sourcemap_parts.specs.Record.{Text, MapRecord}
 use Rattle.oxc_sourcemap_parts.specs.Views.{empty_record}
 use Rattle.oxc_sourcemap_decode.specs.Decoded.{first_not_below}
-use Rattle.oxc_sourcemap_found.specs.FoundMaps.{found}
 use Rattle.oxc_sourcemap_handles.specs.declared.call_error.CallError.{CallError}
 use Rattle.oxc_sourcemap_handles.specs.declared.call_error.CallError.TheVariants.{NullHandle}
 use Rattle.oxc_sourcemap_handles.specs.declared.held.Held.{Held}
-use Rattle.oxc_sourcemap_handles.specs.CallErrors.{of_map, IsNotText}
+use Rattle.oxc_sourcemap_handles.specs.CallErrors.{of_map}
 use Rattle.oxc_sourcemap_handles.specs.Holding.{held_map}
 use Rattle.oxc_sourcemap_handles.specs.Lists.{AreTexts, IsNotTexts, AreContents, IsNotContents}
 
 -- the map that has these tokens and nothing else
 abbrev pub map_of_tokens : List TokenRecord → MapRecord
 map_of_tokens tokens = record empty_record { tokens = tokens }
-
--- an error of reading bytes as a map that was found: they are not UTF-8, or their text has a fault that is not mended
-abbrev pub IsFoundError : List ℕ → CallError → Type 0
-IsFoundError bytes r = IsNotText bytes r ⊎ (IsUtf8 bytes × (e : Error) × (found bytes ≡ Err e) × (r ≡ of_map e))
 
 -- the error of a call whose handle holds no map
 abbrev pub IsMapMissing : Option Held → CallError → Type 0

@@ -5,10 +5,11 @@ pub use Rattle.oxc_sourcemap_decode.specs.Decoded.{first_not_below}
 pub use Rattle.oxc_sourcemap_decode.specs.ReadMap.{read_map}
 pub use Rattle.oxc_sourcemap_found.specs.FoundMaps.{found, found_record}
 pub use Rattle.oxc_sourcemap_handles.specs.Back.{IsBack}
-pub use Rattle.oxc_sourcemap_handles.specs.CallErrors.{IsNotText, out_of_memory}
+pub use Rattle.oxc_sourcemap_handles.specs.CallErrors.{IsNotText, of_map, out_of_memory}
 pub use Rattle.oxc_sourcemap_handles.specs.Codes.{IsErrorAs, code_of, fault_at, fault_of, no_fault}
 pub use Rattle.oxc_sourcemap_handles_making.specs.Failures.{IsFailure, IsMappingsErrorAt}
-pub use Rattle.oxc_sourcemap_handles_making.specs.Failures.{IsReadErrorAt}
+pub use Rattle.oxc_sourcemap_handles_making.specs.Failures.{IsReadErrorAt, IsFoundErrorAt}
+pub use Rattle.oxc_sourcemap_handles_making.specs.Failures.{IsFoundTextErrorAt}
 pub use Rattle.oxc_sourcemap_handles_making.specs.Failures.{IsSegmentErrorAt, IsTextErrorAt}
 pub use Rattle.oxc_sourcemap_handles_making.specs.Failures.{mappings_place}
 pub use Rattle.oxc_sourcemap_handles.specs.Holding.{held_builder, held_join, held_map, held_mends}
@@ -23,7 +24,7 @@ pub use Rattle.oxc_sourcemap_handles_making.specs.Changes.{Changes, IsChange, Is
 pub use Rattle.oxc_sourcemap_handles_making.specs.Changes.{IsMapError, IsSureError}
 pub use Rattle.oxc_sourcemap_handles_making.specs.Joining.{IsAddError, IsJoinFinished, IsJoined}
 pub use Rattle.oxc_sourcemap_handles_making.specs.Joining.{IsNullJoin, IsOneNull, IsPartsError}
-pub use Rattle.oxc_sourcemap_handles_making.specs.Making.{HasTexts, IsFoundError, IsListsError}
+pub use Rattle.oxc_sourcemap_handles_making.specs.Making.{HasTexts, IsListsError}
 pub use Rattle.oxc_sourcemap_handles_making.specs.Making.{IsMapMissing, IsNotTextOf}
 pub use Rattle.oxc_sourcemap_handles_making.specs.Making.{has_too_long_list, id_not_below}
 pub use Rattle.oxc_sourcemap_handles_making.specs.Making.{ids_fault, ids_if_any, is_too_long}

@@ -1,5 +1,5 @@
 //! Maps made of texts, and put into handles.
-ghost use Rattle.std.specs.Prelude.{◌≡◌, ◌≢◌, Some, Ok, Err, IfOk, IfErr, IfSome};
+ghost use Rattle.std.specs.Prelude.{◌≡◌, ◌≢◌, Some, None, Ok, Err, IfOk, IfErr};
 ghost use Rattle.std.specs.Prelude.{MatchResult, IsErr, IsSomeAnd};
 ghost use Rattle.oxc_sourcemap_handles_making.specs.Words.{read_map, out_of_memory, no_fault};
 ghost use Rattle.oxc_sourcemap_handles_making.specs.Words.{fault_at, fault_of, code_of, held_map};
@@ -9,10 +9,11 @@ ghost use Rattle.oxc_sourcemap_handles_making.specs.Words.{IsTextErrorAt, IsRead
 ghost use Rattle.oxc_sourcemap_handles_making.specs.Words.{IsSegmentErrorAt, found};
 ghost use Rattle.oxc_sourcemap_handles_making.specs.Words.{IsMappingsErrorAt, mappings_place};
 ghost use Rattle.oxc_sourcemap_handles_making.specs.Words.{reading, map_of_tokens, found_record};
-ghost use Rattle.oxc_sourcemap_handles_making.specs.Words.{IsFoundError, IsSound, IsErrorAs};
+ghost use Rattle.oxc_sourcemap_handles_making.specs.Words.{IsFoundErrorAt, IsFoundTextErrorAt};
+ghost use Rattle.oxc_sourcemap_handles_making.specs.Words.{IsSound, of_map};
 
 use crate::failure::Failure;
-use oxc_sourcemap_found::{Mend, mending_harmless};
+use oxc_sourcemap_found::{Mend, found_fault_at, mending_harmless};
 use oxc_sourcemap_handles::{CallError, Fault, Handle, Held, box_map, text_of};
 use oxc_sourcemap_map::OwnedSourceMap;
 use oxc_sourcemap_mappings::mappings_fault_at;
@@ -30,19 +31,28 @@ fn text_place(alloc: Global, text: &str) -> oxc_sourcemap_tokens::Result<Option<
     json_fault_at(alloc, text)
 }
 
-/// Why a JSON text is not read: the error, with the place of the fault, or want of memory to tell that.
-fn text_failure(alloc: Global, text: &str, error: Error) -> Failure
-    requires unread { read_map text.now ≡ Err error }
-    requires memory { error ≢ OutOfMemory }
-    ensures { IsFailure (IsTextErrorAt text.now) result }
+/// An error, with the place of its fault, or want of memory to tell that.
+fn placed(error: Error, place: oxc_sourcemap_tokens::Result<Option<FaultPlace>>) -> Failure
+    ensures { MatchResult place
+        (λ place. result ≡ record { error = of_map error; place = place })
+        (λ _. result ≡ record { error = out_of_memory; place = None }) }
 {
-    match text_place(alloc, text) {
+    match place {
         Ok(place) => Failure {
             error: CallError::from(error),
             place,
         },
         Err(_) => Failure::memory(),
     }
+}
+
+/// Why a JSON text is not read: the error, with the place of the fault, or want of memory to tell that.
+fn text_failure(alloc: Global, text: &str, error: Error) -> Failure
+    requires unread { read_map text.now ≡ Err error }
+    requires memory { error ≢ OutOfMemory }
+    ensures { IsFailure (IsTextErrorAt text.now) result }
+{
+    placed(error, text_place(alloc, text))
 }
 
 fn read_text(alloc: Global, text: &str) -> Result<OwnedSourceMap, Failure>
@@ -125,6 +135,15 @@ pub fn decode_mappings(
     }
 }
 
+/// Writes a failure, and returns its code.
+fn write_failure(failure: Failure, fault: &mut Fault) -> u32
+    ensures { (fault.new ≡ fault_at failure.error failure.place)
+        × (result ≡ code_of failure.error) }
+{
+    *fault = Fault::at(failure.error, failure.place);
+    fault.code
+}
+
 /// Puts a map that was read into a handle, whose old map is then dropped, and returns the code.
 pub fn put_read(
     alloc: Global,
@@ -141,35 +160,54 @@ pub fn put_read(
 {
     match made {
         Ok(map) => oxc_sourcemap_handles::put(alloc, box_map(alloc, map), handle, fault),
-        Err(failure) => {
-            *fault = Fault::at(failure.error, failure.place);
-            fault.code
-        }
+        Err(failure) => write_failure(failure, fault),
+    }
+}
+
+/// Why a text as it is found is not read: the error, with the place of the fault, or want of memory to tell that.
+fn found_failure(alloc: Global, text: &str, error: Error) -> Failure
+    requires unread { found text.now ≡ Err error }
+    requires memory { error ≢ OutOfMemory }
+    ensures { IsFailure (IsFoundTextErrorAt text.now) result }
+{
+    placed(error, found_fault_at(alloc, text))
+}
+
+fn read_found_text(alloc: Global, text: &str) -> Result<(OwnedSourceMap, Vec<Mend>), Failure>
+    ensures found { IfOk result (λ f. found text.now ≡ Ok (found_record f.1.items f.0)) }
+    ensures sound { IfOk result (λ f. IsSound f.0) }
+    ensures error { IfErr result (IsFailure (IsFoundTextErrorAt text.now)) }
+{
+    mending_harmless();
+    match oxc_sourcemap_found::read_found(alloc, text) {
+        Ok(found) => Ok((OwnedSourceMap::new(found.map), found.mends)),
+        Err(Error::OutOfMemory) => Err(Failure::memory()),
+        Err(error) => Err(found_failure(alloc, text, error)),
     }
 }
 
 /// The map of a text as it is found, with what was mended.
-pub fn read_found(alloc: Global, text: &[u8]) -> Result<(OwnedSourceMap, Vec<Mend>), CallError>
+pub fn read_found(alloc: Global, text: &[u8]) -> Result<(OwnedSourceMap, Vec<Mend>), Failure>
     ensures found { IfOk result (λ f. found text.now ≡ Ok (found_record f.1.items f.0)) }
     ensures sound { IfOk result (λ f. IsSound f.0) }
-    ensures error { IfErr result (λ r. (r ≢ out_of_memory) → IsFoundError text.now r) }
+    ensures error { IfErr result (IsFailure (IsFoundErrorAt text.now)) }
 {
-    mending_harmless();
-    let text = text_of(text)?;
-    let found = oxc_sourcemap_found::read_found(alloc, text)?;
-    Ok((OwnedSourceMap::new(found.map), found.mends))
+    match text_of(text) {
+        Ok(text) => read_found_text(alloc, text),
+        Err(error) => Err(Failure::of(error)),
+    }
 }
 
 /// A map that was found and its mends, in boxes for handles.
 fn box_found(
     alloc: Global,
-    made: Result<(OwnedSourceMap, Vec<Mend>), CallError>,
+    map: OwnedSourceMap,
+    mends: Vec<Mend>,
 ) -> Result<(Box<Held>, Box<Held>), CallError>
-    ensures boxes { IfOk result (λ b. MatchResult made (λ f. (held_map (Some b.0.value) ≡ Some f.0)
-        × (held_mends (Some b.1.value) ≡ Some f.1.items)) (λ _. ⊥)) }
-    ensures error { IfErr result (λ r. (r ≢ out_of_memory) → made ≡ Err r) }
+    ensures boxes { IfOk result (λ b. (held_map (Some b.0.value) ≡ Some map)
+        × (held_mends (Some b.1.value) ≡ Some mends.items)) }
+    ensures error { IfErr result (λ r. r ≡ out_of_memory) }
 {
-    let (map, mends) = made?;
     let map = box_map(alloc, map)?;
     Ok((map, Box::new(alloc, Held::Mended(mends))?))
 }
@@ -177,7 +215,7 @@ fn box_found(
 /// Puts a map that was found and its mends into handles, whose old contents are then dropped, and returns the code.
 pub fn put_found(
     alloc: Global,
-    made: Result<(OwnedSourceMap, Vec<Mend>), CallError>,
+    made: Result<(OwnedSourceMap, Vec<Mend>), Failure>,
     handle: &mut Handle,
     mends: &mut Handle,
     fault: &mut Fault,
@@ -185,9 +223,16 @@ pub fn put_found(
     ensures found { result ≡ 0 → MatchResult made (λ f. (held_map handle.new.held ≡ Some f.0)
         × (held_mends mends.new.held ≡ Some f.1.items) × (fault.new ≡ no_fault)) (λ _. ⊥) }
     ensures error { result ≢ 0 → (handle.new.held ≡ handle.old.held)
-        × (mends.new.held ≡ mends.old.held) × IsErrorAs result fault.new (λ r. made ≡ Err r) }
+        × (mends.new.held ≡ mends.old.held)
+        × MatchResult made (λ _. (fault.new ≡ fault_of out_of_memory)
+        × (result ≡ code_of out_of_memory)) (λ f. (fault.new ≡ fault_at f.error f.place)
+        × (result ≡ code_of f.error)) }
 {
-    match box_found(alloc, made) {
+    let (map, told) = match made {
+        Ok(found) => found,
+        Err(failure) => return write_failure(failure, fault),
+    };
+    match box_found(alloc, map, told) {
         Ok((map, told)) => {
             drop(handle.take(alloc));
             handle.put(map);

@@ -13,7 +13,8 @@ mod writing;
 
 pub use asked::Asked;
 pub use lookups::{
-    find_all, first_difference, pieces, trace, trace_all, write_fault, write_found, write_told,
+    find_all, first_difference, pieces, trace, trace_all, trace_usual, write_fault, write_found,
+    write_told,
 };
 pub use mends::{MendNumbers, list_mends};
 pub use messages::{write_mend_message, write_message, write_place_message};

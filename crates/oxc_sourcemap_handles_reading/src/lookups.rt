@@ -1,6 +1,6 @@
 //! What maps in handles say of generated positions.
 ghost use Rattle.std.specs.Prelude.{◌≡◌, ◌≢◌, Ok, Err, length, map, OnOk, OnErr, IfErr};
-ghost use Rattle.std.specs.Prelude.{MatchOption, MatchResult, Some, ◌<◌, drop, get_or};
+ghost use Rattle.std.specs.Prelude.{MatchOption, MatchResult, Some, ◌<◌, drop, get_or, true, false};
 ghost use Rattle.oxc_sourcemap_handles_reading.specs.Words.{NullHandle, fault_of, code_of};
 ghost use Rattle.oxc_sourcemap_handles_reading.specs.Words.{no_fault, held_map, HoldsMap, HasBias};
 ghost use Rattle.oxc_sourcemap_handles_reading.specs.Words.{IsTraceOf, AreTracesOf, AreFoundIn};
@@ -63,8 +63,22 @@ pub fn write_fault(answer: Result<(), CallError>, fault: &mut Fault) -> u32
     }
 }
 
-/// Writes what the map in a handle says of a generated position, by the bias of this number, and nothing on an error.
+/// Writes what the map in a handle says of a generated position, where this is quick: there is a map, its index of lines has the
+/// usual form, and the number is that of the bias `Before`. Else it writes nothing, and returns false.
 #[inline(always)]
+pub fn trace_usual(map: &mut Lent, at: Position, bias: u32, out: &mut Original) -> bool
+    ensures traced { result ≡ true → HoldsMap map.old.held (λ m. IsInLineOrder m.tokens
+        × HasBias bias (λ b. IsTraceOf b m at out.new)) }
+    ensures unchanged { result ≡ false → out.new ≡ out.old }
+    ensures back { IsBack map.old map.new }
+{
+    match map.map() {
+        Ok(loaded) if bias == 0 => loaded.trace_usual(at, out),
+        _ => false,
+    }
+}
+
+/// Writes what the map in a handle says of a generated position, by the bias of this number, and nothing on an error.
 pub fn trace(map: &mut Lent, at: Position, bias: u32, out: &mut Original) -> Result<(), CallError>
     ensures traced { OnOk result (HoldsMap map.old.held (λ m. IsInLineOrder m.tokens
         × HasBias bias (λ b. IsTraceOf b m at out.new))) }

@@ -12,6 +12,7 @@ use Rattle.oxc_sourcemap_lookup.specs.declared.line_index.LineSpan.{LineSpan}
 use Rattle.oxc_sourcemap_lookup.specs.declared.line_index.Lines.{Lines}
 use Rattle.oxc_sourcemap_lookup.specs.declared.line_index.Lines.TheVariants.{Starts, Spans, Few}
 use Rattle.oxc_sourcemap_lookup.specs.declared.line_index.LineIndex.{LineIndex}
+use Rattle.oxc_sourcemap_lookup.specs.declared.line_index.UsualIndex.{UsualIndex}
 
 -- how many tokens lie on lines before this one
 abbrev pub count_before_line : ℕ → List TokenRecord → ℕ
@@ -60,6 +61,10 @@ AreLines tokens Few = IsInLineOrder tokens
 -- the index of the lines of these tokens, which may have the column of each
 abbrev pub IsIndexOf : List TokenRecord → LineIndex → Type 0
 IsIndexOf tokens index = AreLines tokens index.lines × IfSome index.columns (λ columns. columns.items ≡ map token_column tokens)
+
+-- where each line of these tokens begins, and the column of each token
+abbrev pub IsUsualIndexOf : List TokenRecord → UsualIndex → Type 0
+IsUsualIndexOf tokens index = AreStarts tokens index.starts.now × (index.columns.now ≡ map token_column tokens)
 
 -- some tokens lie side by side in a list, from this index on
 pub record IsPartAt (start : ℕ) (part tokens : List TokenRecord) : Type 0 where

@@ -16,7 +16,8 @@ pub use Rattle.oxc_sourcemap_lookup.specs.Composed.{NoColumnGoesBack}
 pub use Rattle.oxc_sourcemap_lookup.specs.Digits.{binary_digits}
 pub use Rattle.oxc_sourcemap_lookup.specs.Inherited.{names_with, IsInheriting, HasPlaces, HasNames}
 pub use Rattle.oxc_sourcemap_lookup.specs.InheritedNames.{with_inherited, inherited_index}
-pub use Rattle.oxc_sourcemap_lookup.specs.LineSpans.{IsIndexOf, AreStarts, AreSpans, DoLinesRise}
+pub use Rattle.oxc_sourcemap_lookup.specs.LineSpans.{IsIndexOf, IsUsualIndexOf, AreStarts, AreSpans}
+pub use Rattle.oxc_sourcemap_lookup.specs.LineSpans.{DoLinesRise}
 pub use Rattle.oxc_sourcemap_lookup.specs.LineSpans.{AreLines, AreEnds, count_before_line}
 pub use Rattle.oxc_sourcemap_lookup.specs.LineSpans.{index_bytes, IsPartAt, AreColumnsAt}
 pub use Rattle.oxc_sourcemap_lookup.specs.Lookup.{on_line, lines_through, token_for}

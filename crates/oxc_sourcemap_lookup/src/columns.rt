@@ -1,7 +1,7 @@
 //! Lookups on one line by the columns of its tokens alone, which lie six times as close together as the tokens: a lookup waits
 //! for fewer reads of memory.
 ghost use Rattle.std.specs.Prelude.{◌≡◌, ◌<◌, ◌≤◌, List, length, map, nat_lt, if◌then◌else◌};
-ghost use Rattle.std.specs.Prelude.{Some, None, IfSome, true};
+ghost use Rattle.std.specs.Prelude.{IfSome, true};
 ghost use Rattle.oxc_sourcemap_lookup.specs.Words.{TokenRecord, token_column, index_before};
 ghost use Rattle.oxc_sourcemap_lookup.specs.Words.{no_column_goes_back, index_at, clamped_index_at};
 ghost use Rattle.oxc_sourcemap_lookup.specs.Words.{index_at_or_after};
@@ -45,10 +45,10 @@ fn count_through(columns: &[u32], col: u32) -> usize
         → index_before result ≡ index_at line col }
     ensures within { result ≤ length columns.now }
 {
-    let Some(last) = columns.len().checked_sub(1) else {
+    if columns.is_empty() {
         return 0;
-    };
-    let before = count_before(&columns[..last], u64::from(col));
+    }
+    let before = count_before(&columns[..columns.len() - 1], u64::from(col));
     before + usize::from(columns[before] <= col)
 }
 

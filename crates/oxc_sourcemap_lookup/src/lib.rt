@@ -10,7 +10,7 @@ mod lookup;
 mod near;
 
 pub use compose::{compose_parts, target};
-pub use line_index::LineIndex;
+pub use line_index::{LineIndex, UsualIndex};
 pub use lookup::{
     index_from_line, lookup_table, search, search_after, search_clamped, search_index,
     search_index_after, search_index_clamped, slice_of,

@@ -1,7 +1,7 @@
 //! The index of the lines of a list of tokens: where the tokens of each line lie.
 ghost use Rattle.std.specs.Prelude.{ℕ, ◌+◌, ◌*◌, ◌^◌, ◌≡◌, ◌≢◌, ◌↔◌, ◌<◌, ◌≤◌, true, IsTrue};
 ghost use Rattle.std.specs.Prelude.{length, get_or, option_map, slice_get, IfOk, IfSome, IsNone};
-ghost use Rattle.std.specs.Prelude.{Ok, Err, Some, None, map};
+ghost use Rattle.std.specs.Prelude.{Ok, Err, Some, None, List, map};
 ghost use Rattle.std.specs.List.{All, Contains};
 ghost use Rattle.oxc_sourcemap_lookup.specs.Words.{Error, LineOrder, OutOfMemory, IsInLineOrder};
 ghost use Rattle.oxc_sourcemap_lookup.specs.Words.{first_out_of_order, are_tokens_sorted};
@@ -10,7 +10,7 @@ ghost use Rattle.oxc_sourcemap_lookup.specs.Words.{clamped_token_for, last, AreS
 ghost use Rattle.oxc_sourcemap_lookup.specs.Words.{DoLinesRise, AreLines, IsIndexOf, FailsBy};
 ghost use Rattle.oxc_sourcemap_lookup.specs.Words.{AreEnds, Reports, count_before_line};
 ghost use Rattle.oxc_sourcemap_lookup.specs.Words.{index_bytes, token_column, IsPartAt};
-ghost use Rattle.oxc_sourcemap_lookup.specs.Words.{AreColumnsAt};
+ghost use Rattle.oxc_sourcemap_lookup.specs.Words.{AreColumnsAt, IsUsualIndexOf, TokenRecord};
 ghost use Rattle.oxc_sourcemap_lookup.specs.Words.{index_for, clamped_index_for, index_after};
 ghost use Rattle.oxc_sourcemap_lookup.specs.Words.{index_at, clamped_index_at, index_at_or_after};
 ghost use Rattle.oxc_sourcemap_lookup.specs.Words.{no_column_goes_back};
@@ -54,6 +54,14 @@ pub struct LineIndex {
     lines: Lines,
     /// The column of each token, if lookups read these in place of the tokens.
     columns: Option<Vec<u32>>,
+}
+
+/// An index of the form that most maps have: where each line begins, and the columns of the tokens. It is copied out of a
+/// `LineIndex`, so that many lookups do not ask each what its form is.
+#[derive(Clone, Copy)]
+pub struct UsualIndex<'i> {
+    starts: &'i [u32],
+    columns: &'i [u32],
 }
 
 /// Whether to keep where each line begins: whether the tokens can be counted in 32 bits, and there are at most four lines
@@ -264,6 +272,30 @@ fn line_among<'t>(tokens: &'t [Token], line: u32) -> (usize, &'t [Token])
     (start, &tokens[start..start + count])
 }
 
+/// Some columns of a list: those of the tokens of a line, which lie from the index `start` on.
+#[inline(always)]
+fn columns_at<'c>(columns: &'c [u32], start: usize, on_line: &[Token]) -> &'c [u32]
+    requires { AreColumnsAt start on_line.now columns.now }
+    ensures { result.now ≡ map token_column on_line.now }
+{
+    &columns[start..start + on_line.len()]
+}
+
+impl UsualIndex<'_> {
+    /// As `lookup_index` of the index, for the same tokens.
+    #[inline(always)]
+    pub fn lookup_index(self, tokens: &[Token], line: u32, col: u32) -> Option<usize>
+        requires { IsUsualIndexOf tokens.now self }
+        ensures found { are_tokens_sorted tokens.now ≡ true
+            → result ≡ index_for tokens.now line col }
+        ensures within { IfSome result (λ i. i < length tokens.now) }
+    {
+        let (start, on_line) = line_by_start(self.starts, tokens, line);
+        let columns = columns_at(self.columns, start, on_line);
+        Some(start + columns::search_index(columns, col)?)
+    }
+}
+
 impl LineIndex {
     /// The index of the lines of tokens, made in one walk over them.
     ///
@@ -382,7 +414,7 @@ impl LineIndex {
         ensures { IfSome result (λ columns. columns.now ≡ map token_column on_line.now) }
     {
         match &self.columns {
-            Some(columns) => Some(&columns.as_slice()[start..start + on_line.len()]),
+            Some(columns) => Some(columns_at(columns.as_slice(), start, on_line)),
             None => None,
         }
     }
@@ -429,10 +461,23 @@ impl LineIndex {
         }
     }
 
-    /// As `lookup_index`, however lines are found.
-    // A call of its own, so that lookups in the maps that are usual are short.
-    #[inline(never)]
-    fn lookup_index_anyhow(&self, tokens: &[Token], line: u32, col: u32) -> Option<usize>
+    /// What lookups read of an index of the usual form; None of another. It takes no memory.
+    #[inline(always)]
+    pub fn usual(&self) -> Option<UsualIndex<'_>>
+        ensures { (tokens : List TokenRecord) → IsIndexOf tokens self.now
+            → IfSome result (IsUsualIndexOf tokens) }
+    {
+        match (&self.lines, &self.columns) {
+            (Lines::Starts(starts), Some(columns)) => Some(UsualIndex {
+                starts: starts.as_slice(),
+                columns: columns.as_slice(),
+            }),
+            _ => None,
+        }
+    }
+
+    /// The index of the token that `lookup` finds. Takes no memory.
+    pub fn lookup_index(&self, tokens: &[Token], line: u32, col: u32) -> Option<usize>
         requires { IsIndexOf tokens.now self.now }
         ensures found { are_tokens_sorted tokens.now ≡ true
             → result ≡ index_for tokens.now line col }
@@ -440,23 +485,6 @@ impl LineIndex {
     {
         let (start, on_line) = self.line_near(tokens, line, &mut 0);
         Some(start + self.search_at(start, on_line, col)?)
-    }
-
-    /// The index of the token that `lookup` finds. Takes no memory.
-    #[inline(always)]
-    pub fn lookup_index(&self, tokens: &[Token], line: u32, col: u32) -> Option<usize>
-        requires { IsIndexOf tokens.now self.now }
-        ensures found { are_tokens_sorted tokens.now ≡ true
-            → result ≡ index_for tokens.now line col }
-        ensures within { IfSome result (λ i. i < length tokens.now) }
-    {
-        match &self.lines {
-            Lines::Starts(starts) => {
-                let (start, on_line) = line_by_start(starts.as_slice(), tokens, line);
-                Some(start + self.search_at(start, on_line, col)?)
-            }
-            Lines::Spans(_) | Lines::Few => self.lookup_index_anyhow(tokens, line, col),
-        }
     }
 
     /// The index of the token that `lookup_clamped` finds. Takes no memory.

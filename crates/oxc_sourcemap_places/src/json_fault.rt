@@ -27,8 +27,8 @@ fn line_start(text: &[u8], line: usize) -> usize
     text.len()
 }
 
-/// Where a text is not JSON.
-fn reading_place(text: &str, error: &serde_json::Error) -> FaultPlace
+/// Where a text is not JSON, which the reader refused with this error.
+pub fn reading_place(text: &str, error: &serde_json::Error) -> FaultPlace
     ensures { IsReading result }
 {
     let line = error.line().saturating_sub(1);

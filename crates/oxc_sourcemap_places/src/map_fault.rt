@@ -54,7 +54,7 @@ fn member_spot(value: &Value, field: Field) -> FaultSpot
 }
 
 /// Where a value has this fault of its shape.
-pub(crate) fn shape_spot(value: &Value, error: Error) -> FaultSpot
+pub fn shape_spot(value: &Value, error: Error) -> FaultSpot
     ensures { result ≡ shape_spot (view value.now) error }
 {
     match error {
@@ -72,7 +72,7 @@ fn first_past(ids: &[u32], count: usize) -> Option<usize>
 }
 
 /// The entry of the ignore list that is no source.
-fn ignored_spot(json: &JSONSourceMap) -> Option<FaultSpot>
+pub fn ignored_spot(json: &JSONSourceMap) -> Option<FaultSpot>
     ensures { result ≡ ignored_spot (json_record json.now) }
 {
     let Some(ids) = &json.ignore_list else {

@@ -65,7 +65,7 @@ fn map_place(alloc: Global, k: usize, section: &Value) -> Result<Option<FaultPla
 }
 
 /// Where a section is at fault by its offset.
-fn offset_place(k: usize, section: &Value) -> FaultPlace
+pub fn offset_place(k: usize, section: &Value) -> FaultPlace
     ensures { result ≡ offset_place k (view section.now) }
 {
     if section.is_object() {

@@ -3,7 +3,7 @@ use crate::input::{is_file, read_text, shown_name, warn};
 use crate::paths::{
     file_name, folder_of, has_scheme, is_inside, joined, parts_of, path_of, path_of_url,
 };
-use oxc_sourcemap_found::{Found, read_found};
+use oxc_sourcemap_found::{Found, found_fault_at, read_found};
 use oxc_sourcemap_map::SourceMap;
 use oxc_sourcemap_places::json_fault_at;
 use oxc_sourcemap_tokens::Error;
@@ -316,6 +316,14 @@ pub fn error_text(alloc: Global, text: &str, error: Error) -> Result<String, All
     }
 }
 
+/// As `error_text`, of an error of reading a map as it is found.
+pub fn found_error_text(alloc: Global, text: &str, error: Error) -> Result<String, AllocError> {
+    match found_fault_at(alloc, text) {
+        Ok(Some(place)) => format!(in alloc; "{place}: {error}"),
+        _ => format!(in alloc; "{error}"),
+    }
+}
+
 /// Reads a map as it is found. What is mended is told as a warning.
 pub fn read_map(rt: &HostRuntime, map: &MapText) -> Outcome<SourceMap<'static>> {
     let alloc = rt.alloc();
@@ -328,7 +336,7 @@ pub fn read_map(rt: &HostRuntime, map: &MapText) -> Outcome<SourceMap<'static>> 
             Ok(found)
         }
         Err(error) => {
-            let text = error_text(alloc, map.text.as_str(), error)?;
+            let text = found_error_text(alloc, map.text.as_str(), error)?;
             Err(failure_of(alloc, map.name.as_str(), text.as_str()))
         }
     }

@@ -4,8 +4,8 @@ use oxc_sourcemap_map::SourceMap;
 use oxc_sourcemap_text::TextPositions;
 use oxc_sourcemap_tokens::Token;
 use sourcemap_files::{
-    Asked, Lookup, MapText, Progress, Status, error_text, is_file, is_map, map_of_code, print,
-    read_text, shown_name,
+    Asked, Lookup, MapText, Progress, Status, error_text, found_error_text, is_file, is_map,
+    map_of_code, print, read_text, shown_name,
 };
 use sourcemap_run::{push_object, push_shown, push_text_member};
 use sourcemap_words::{Failure, Outcome, failure_of};
@@ -235,7 +235,7 @@ fn check_map(report: &mut Report, text: &str, code: Option<&str>) -> Outcome<()>
     let found = match read_found(alloc, text) {
         Ok(found) => found,
         Err(error) => {
-            let text = error_text(alloc, text, error)?;
+            let text = found_error_text(alloc, text, error)?;
             return report.tell(Kind::Wrong, text.as_str());
         }
     };

@@ -218,7 +218,7 @@ class SourceMap:
         """Reads a map as it is found, and tells what was mended in it, as a byte order mark, null sources, or ids out of range.
 
         The map is sorted and sound. A text that `from_json` reads as a sorted map is read as this map, with nothing to mend.
-        Raises SourceMapError of the first fault that is not mended.
+        Raises SourceMapError of the first fault that is not mended, with its place if it has one (smap_read_found in oxc_sourcemap.h).
 
         >>> map, mends = SourceMap.read_found('{"version":"3","sources":[null],"mappings":"AAAA"}')
         >>> [mend.message for mend in mends]

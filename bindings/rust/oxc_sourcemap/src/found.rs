@@ -107,7 +107,9 @@ impl SourceMap<'_> {
     /// Reads a map as it is found, and says what was mended, in the order in which it was looked at. The map is sorted and sound.
     ///
     /// What [`read`](Self::read) reads as a sorted map is read as this map, and nothing is mended. Fails with the first fault that
-    /// is not mended, whose place is not told.
+    /// is not mended, and its place in the text: of a text that is not JSON counted in the whole text, but of a data URL in the text that
+    /// it has. Fails also with [`Error::NotUtf8`](crate::Error::NotUtf8). That has no place, and neither has a join of the sections of an
+    /// indexed map that passes a limit.
     ///
     /// ```
     /// use oxc_sourcemap::{MendKind, SourceMap};

@@ -1,7 +1,7 @@
 //! Maps as they are found, and what is mended in them.
 
 use super::json;
-use oxc_sourcemap::{Error, Field, JsonFault, MendKind, SourceMap};
+use oxc_sourcemap::{Error, Field, JsonFault, MendKind, SourceMap, Spot};
 
 /// The mends of a text: their kinds and their sections.
 fn mends(text: &str) -> Vec<(MendKind, Option<usize>)> {
@@ -66,4 +66,11 @@ fn what_is_not_mended_is_refused() {
     assert_eq!(fault.error(), Error::BadJson(JsonFault::Shape(Field::Sources)));
     let fault = SourceMap::read_found(b"\xff").unwrap_err();
     assert_eq!((fault.error(), fault.place()), (Error::NotUtf8(0), None));
+}
+
+#[test]
+fn what_is_not_mended_has_its_place_behind_what_is() {
+    let spot = |text: &str| SourceMap::read_found(text.as_bytes()).unwrap_err().place().unwrap().spot;
+    assert_eq!(spot(")]}'\n{\n \"version\": x}"), Spot::Reading { line: 2, column: 12, byte: 19 });
+    assert_eq!(spot(r#"{"version":3,"sources":[null,1],"mappings":""}"#), Spot::Entry { field: Field::Sources, entry: 1 });
 }

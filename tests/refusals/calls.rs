@@ -100,7 +100,7 @@ fn json_fault_at(rt: HostRuntime) {
 }
 
 /// The place of the fault of a text as it is found.
-fn found_fault_is(rt: &HostRuntime, text: &str, wanted: FaultSpot) {
+fn found_fault_is(rt: &(impl Abort + AllocGlobal), text: &str, wanted: FaultSpot) {
     refuse_each(rt, nothing, |alloc, _| oxc_sourcemap::found_fault_at(alloc, text), |place| {
         same(rt, "spot", place.map(|place| place.spot), Some(wanted))
     });

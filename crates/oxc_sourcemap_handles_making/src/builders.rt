@@ -1,6 +1,6 @@
 //! Calls on the builders that handles hold.
 ghost use Rattle.std.specs.Prelude.{◌≡◌, ◌≢◌, Some, Err, IsUtf8, IfOk, IfErr, OnOk, OnErr};
-ghost use Rattle.std.specs.Prelude.{map, MatchOption, MatchResult};
+ghost use Rattle.std.specs.Prelude.{map, MatchResult};
 ghost use Rattle.oxc_sourcemap_handles_making.specs.Words.{out_of_memory, nothing_built, no_fault};
 ghost use Rattle.oxc_sourcemap_handles_making.specs.Words.{held_builder, held_map, IsErrorAs};
 ghost use Rattle.oxc_sourcemap_handles_making.specs.Words.{token_of, with_tokens, with_file};

@@ -1,7 +1,7 @@
 //! Calls on the joins that handles hold.
 ghost use Rattle.std.specs.Prelude.{◌≡◌, ◌≢◌, Some, Ok, Err, IfOk, IfErr, OnOk, OnErr};
 ghost use Rattle.std.specs.Prelude.{MatchResult, IfSome};
-ghost use Rattle.oxc_sourcemap_handles_making.specs.Words.{out_of_memory, TooLarge, no_fault};
+ghost use Rattle.oxc_sourcemap_handles_making.specs.Words.{out_of_memory, no_fault};
 ghost use Rattle.oxc_sourcemap_handles_making.specs.Words.{held_join, held_map, IsErrorAs, added};
 ghost use Rattle.oxc_sourcemap_handles_making.specs.Words.{IsWithinLimits, nothing_joined};
 ghost use Rattle.oxc_sourcemap_handles_making.specs.Words.{IsJoined, IsAddError, IsOneNull};

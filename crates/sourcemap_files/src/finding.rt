@@ -5,7 +5,7 @@ use crate::paths::{
 };
 use oxc_sourcemap_found::{Found, found_fault_at, read_found};
 use oxc_sourcemap_map::SourceMap;
-use oxc_sourcemap_places::json_fault_at;
+use oxc_sourcemap_places::{FaultPlace, json_fault_at};
 use oxc_sourcemap_tokens::Error;
 use oxc_sourcemap_url::{Language, decode_data_url, source_mapping_url};
 use sourcemap_words::{Outcome, failure_of};
@@ -308,20 +308,26 @@ pub fn map_of_file(rt: &HostRuntime, path: &str, places: Places<'_>) -> Outcome<
     }
 }
 
-/// The text of an error of reading a map, with its place if it has one: `line 0, segment 3 (byte 12): ..`.
-pub fn error_text(alloc: Global, text: &str, error: Error) -> Result<String, AllocError> {
-    match json_fault_at(alloc, text) {
+/// The text of an error, with this place if there is one: `line 0, segment 3 (byte 12): ..`.
+fn placed_text(
+    alloc: Global,
+    place: oxc_sourcemap_tokens::Result<Option<FaultPlace>>,
+    error: Error,
+) -> Result<String, AllocError> {
+    match place {
         Ok(Some(place)) => format!(in alloc; "{place}: {error}"),
         _ => format!(in alloc; "{error}"),
     }
 }
 
-/// As `error_text`, of an error of reading a map as it is found.
+/// The text of an error of reading a map, with its place if it has one.
+pub fn error_text(alloc: Global, text: &str, error: Error) -> Result<String, AllocError> {
+    placed_text(alloc, json_fault_at(alloc, text), error)
+}
+
+/// The same of reading a map as it is found.
 pub fn found_error_text(alloc: Global, text: &str, error: Error) -> Result<String, AllocError> {
-    match found_fault_at(alloc, text) {
-        Ok(Some(place)) => format!(in alloc; "{place}: {error}"),
-        _ => format!(in alloc; "{error}"),
-    }
+    placed_text(alloc, found_fault_at(alloc, text), error)
 }
 
 /// Reads a map as it is found. What is mended is told as a warning.

@@ -1,6 +1,7 @@
 pub mod Entries
 pub mod AnyIds
 pub mod Kept
+pub mod Placed
 pub mod PlainMaps
 pub mod SortedJoins
 pub mod ExactSections

@@ -1,11 +1,12 @@
 -- Where a text as it is found has the fault for which it is refused.
 use Rattle.std.specs.Prelude.{◌≡◌, ℕ, ◌+◌, codes, Option, Some, None, Result, Ok, Err}
-use Rattle.std.specs.Prelude.{MatchOption, IsSomeAnd, if◌then◌else◌}
+use Rattle.std.specs.Prelude.{MatchOption, IsSomeAnd, ⊤, if◌then◌else◌}
 use Rattle.std.specs.Option.{option_map, option_and_then, option_or}
 use Rattle.serde_json.specs.Data.{Data, Items, no_items, item, Members, object}
 use Rattle.serde_json.specs.Find.{get, as_object}
 use Rattle.serde_json.specs.Read.{read}
 use Rattle.oxc_sourcemap_tokens.specs.declared.error.Error.{Error}
+use Rattle.oxc_sourcemap_tokens.specs.declared.error.Error.TheVariants.{TooLarge}
 use Rattle.oxc_sourcemap_tokens.specs.declared.error.Field.TheVariants.{Object}
 use Rattle.oxc_sourcemap_tokens.specs.declared.error.Field.TheVariants.{Map as MapField}
 use Rattle.oxc_sourcemap_tokens.specs.declared.error.Field.TheVariants.{Sections as SectionsField}
@@ -21,13 +22,18 @@ use Rattle.oxc_sourcemap_places.specs.declared.fault_place.FaultSpot.{FaultSpot}
 use Rattle.oxc_sourcemap_places.specs.declared.fault_place.FaultSpot.TheVariants.{Segment, Member}
 use Rattle.oxc_sourcemap_places.specs.ValueSpots.{shape_spot, ignored_spot, place_in, offset_place}
 use Rattle.oxc_sourcemap_places.specs.ValueSpots.{or_place, IsReading}
+use Rattle.oxc_sourcemap_found.specs.FoundMaps.{FoundRecord}
 use Rattle.oxc_sourcemap_found.specs.Mended.{mended_members, with_version, as_found}
 use Rattle.oxc_sourcemap_found.specs.MendedSections.{place_from}
 use Rattle.oxc_sourcemap_found.specs.Opening.{opened}
 
--- where the fields of a map, whose mappings may have any ids, have a fault: in the ignore list, then in the mappings
+-- where the mappings of a map, which may have any ids, have a fault
+abbrev pub found_mappings_spot : JsonRecord → Option FaultSpot
+found_mappings_spot j = option_map Segment (fault_place j.mappings 4294967295 4294967295)
+
+-- where the fields of a map have a fault: in the ignore list, then in the mappings
 abbrev pub found_fields_spot : JsonRecord → Option FaultSpot
-found_fields_spot j = option_or (ignored_spot j) (option_map Segment (fault_place j.mappings 4294967295 4294967295))
+found_fields_spot j = option_or (ignored_spot j) (found_mappings_spot j)
 
 abbrev pub found_spot_in : Data → Result JsonRecord Error → Option FaultSpot
 found_spot_in d (Ok fields) = found_fields_spot fields
@@ -88,3 +94,9 @@ found_value_place d = found_members_place (as_object d)
 -- where a text has the fault for which it is refused: one at which what was opened is not JSON, or that of its value
 abbrev pub IsFoundPlace : Text → Option FaultPlace → Type 0
 IsFoundPlace text place = MatchOption (read (opened text).text) (IsSomeAnd place IsReading) (λ d. place ≡ found_value_place d)
+
+-- A text that is read has no place. One that is refused has one, unless its error is `TooLarge`, as where a join passes a limit.
+abbrev pub HasPlaceIfRefused : Result FoundRecord Error → Option FaultPlace → Type 0
+HasPlaceIfRefused (Ok r) place = place ≡ None
+HasPlaceIfRefused (Err fault) (Some place) = ⊤
+HasPlaceIfRefused (Err fault) None = fault ≡ TooLarge

@@ -8,6 +8,7 @@ pub use Rattle.oxc_sourcemap_decode.specs.ReadMap.{indexed_record}
 pub use Rattle.oxc_sourcemap_json.specs.Json.{json_record}
 pub use Rattle.oxc_sourcemap_json.specs.Members.{lent_member}
 pub use Rattle.oxc_sourcemap_json.specs.Shape.{present}
+pub use Rattle.oxc_sourcemap_mappings.specs.Reading.{reading}
 pub use Rattle.oxc_sourcemap_parts.specs.Views.{record_of_parts}
 pub use Rattle.oxc_sourcemap_sort.specs.Sorting.{sorted_map}
 pub use Rattle.oxc_sourcemap_tokens.specs.Results.{Answers, OnlyMemory, lent_item}
@@ -34,9 +35,10 @@ pub use Rattle.oxc_sourcemap_found.specs.Opening.{data_in, opened}
 pub use Rattle.oxc_sourcemap_found.specs.States.{state_of, found_view, opened_view}
 pub use Rattle.oxc_sourcemap_found.specs.States.{mended_view, section_view}
 pub use Rattle.oxc_sourcemap_found.specs.FoundLaws.{ExactIsFound, MendedIsMended, FoundIsSound}
-pub use Rattle.oxc_sourcemap_found.specs.FoundPlaces.{found_fields_spot, plain_spot, found_map_spot}
+pub use Rattle.oxc_sourcemap_found.specs.FoundPlaces.{found_mappings_spot, found_fields_spot}
+pub use Rattle.oxc_sourcemap_found.specs.FoundPlaces.{plain_spot, found_map_spot}
 pub use Rattle.oxc_sourcemap_found.specs.FoundPlaces.{section_place, found_sections_place}
 pub use Rattle.oxc_sourcemap_found.specs.FoundPlaces.{map_members}
 pub use Rattle.oxc_sourcemap_found.specs.FoundPlaces.{found_indexed_place, found_value_place}
-pub use Rattle.oxc_sourcemap_found.specs.FoundPlaces.{IsFoundPlace}
+pub use Rattle.oxc_sourcemap_found.specs.FoundPlaces.{IsFoundPlace, HasPlaceIfRefused}
 pub use Rattle.oxc_sourcemap_places.specs.ValueSpots.{IsReading, place_in}

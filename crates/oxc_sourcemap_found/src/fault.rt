@@ -1,11 +1,17 @@
 //! Where a text as it is found has the fault for which it is refused.
-ghost use Rattle.std.specs.Prelude.{◌≡◌, IfOk, None, option_map};
+ghost use Rattle.std.specs.Prelude.{◌≡◌, IfOk, List, None, option_map, is_some};
+ghost use Rattle.std.specs.Result.{is_err};
 ghost use Rattle.oxc_sourcemap_found.specs.Words.{view, items_view, members_view, json_record};
-ghost use Rattle.oxc_sourcemap_found.specs.Words.{found_fields_spot, plain_spot, found_map_spot};
+ghost use Rattle.oxc_sourcemap_found.specs.Words.{found_mappings_spot, found_fields_spot};
+ghost use Rattle.oxc_sourcemap_found.specs.Words.{plain_spot, found_map_spot};
 ghost use Rattle.oxc_sourcemap_found.specs.Words.{section_place, found_sections_place};
 ghost use Rattle.oxc_sourcemap_found.specs.Words.{found_indexed_place, map_members};
 ghost use Rattle.oxc_sourcemap_found.specs.Words.{found_value_place, IsFoundPlace, OnlyMemory};
 ghost use Rattle.oxc_sourcemap_found.specs.Words.{IsReading, place_in, with_version, as_found};
+ghost use Rattle.oxc_sourcemap_found.specs.Words.{reading, decoded_with_any_ids, plain_map};
+ghost use Rattle.oxc_sourcemap_found.specs.Words.{map_from, sections_from, found_sections};
+ghost use Rattle.oxc_sourcemap_found.specs.Words.{found_value, found, HasPlaceIfRefused};
+ghost use Rattle.oxc_sourcemap_found.specs.declared.mend.Mend.{Mend};
 
 use crate::members::{mend_object, mend_version};
 use crate::opening::open;
@@ -33,13 +39,12 @@ fn outside(spot: FaultSpot) -> FaultPlace
     }
 }
 
-/// Where the fields of a map, whose mappings may have any ids, have a fault.
-fn fields_spot(json: &JSONSourceMap) -> Option<FaultSpot>
-    ensures { result ≡ found_fields_spot (json_record json.now) }
+/// Where the mappings of a map, which may have any ids, have a fault.
+fn mappings_spot(json: &JSONSourceMap) -> Option<FaultSpot>
+    ensures spot { result ≡ found_mappings_spot (json_record json.now) }
+    ensures found { is_some result
+        ≡ is_err (reading (json_record json.now).mappings 4294967295 4294967295) }
 {
-    if let Some(spot) = ignored_spot(json) {
-        return Some(spot);
-    }
     let any = u32::MAX as usize;
     match mappings_fault_at(json.mappings.as_str(), any, any) {
         Some(place) => Some(FaultSpot::Segment(place)),
@@ -47,9 +52,23 @@ fn fields_spot(json: &JSONSourceMap) -> Option<FaultSpot>
     }
 }
 
+/// Where the fields of a map have a fault.
+fn fields_spot(json: &JSONSourceMap) -> Option<FaultSpot>
+    ensures spot { result ≡ found_fields_spot (json_record json.now) }
+    ensures found { (json_record json.now).version ≡ 3
+        → is_some result ≡ is_err (decoded_with_any_ids (json_record json.now)) }
+{
+    match ignored_spot(json) {
+        Some(spot) => Some(spot),
+        None => mappings_spot(json),
+    }
+}
+
 /// Where the map of an object has the first fault that is not mended.
 fn plain_spot(alloc: Global, object: Map<String, Value>) -> Result<Option<FaultSpot>>
     ensures spot { IfOk result (λ spot. spot ≡ plain_spot (members_view object.entries)) }
+    ensures found { IfOk result (λ spot. is_some spot
+        ≡ is_err (plain_map (members_view object.entries))) }
     ensures error { OnlyMemory result }
 {
     let (object, _) = mend_object(alloc, object)?;
@@ -77,6 +96,7 @@ fn map_object(section: Value) -> Option<Map<String, Value>>
 /// Where the map of a section has the first fault that is not mended.
 fn map_spot(alloc: Global, section: Value) -> Result<Option<FaultSpot>>
     ensures spot { IfOk result (λ spot. spot ≡ found_map_spot (view section)) }
+    ensures found { IfOk result (λ spot. is_some spot ≡ is_err (map_from (view section))) }
     ensures error { OnlyMemory result }
 {
     match map_object(section) {
@@ -88,6 +108,7 @@ fn map_spot(alloc: Global, section: Value) -> Result<Option<FaultSpot>>
 /// Where the section of this number, whose offset is fine, has the first fault that is not mended.
 fn section_place(alloc: Global, number: usize, section: Value) -> Result<Option<FaultPlace>>
     ensures place { IfOk result (λ place. place ≡ section_place number (view section)) }
+    ensures found { IfOk result (λ place. is_some place ≡ is_err (map_from (view section))) }
     ensures error { OnlyMemory result }
 {
     match map_spot(alloc, section)? {
@@ -104,6 +125,8 @@ fn section_place(alloc: Global, number: usize, section: Value) -> Result<Option<
 fn sections_place(alloc: Global, items: Vec<Value>) -> Result<Option<FaultPlace>>
     ensures place { IfOk result (λ place.
         place ≡ found_sections_place None 0 (items_view items.items)) }
+    ensures found { IfOk result (λ place. is_some place
+        ≡ is_err (sections_from None 0 (items_view items.items))) }
     ensures error { OnlyMemory result }
 {
     let mut before = None;
@@ -126,6 +149,8 @@ fn sections_place(alloc: Global, items: Vec<Value>) -> Result<Option<FaultPlace>
 fn indexed_place(alloc: Global, object: Map<String, Value>) -> Result<Option<FaultPlace>>
     ensures place { IfOk result (λ place. place
         ≡ found_indexed_place (with_version (as_found (members_view object.entries))).members) }
+    ensures found { IfOk result (λ place. (mends : List Mend) → HasPlaceIfRefused
+        (found_sections mends (with_version (as_found (members_view object.entries)))) place) }
     ensures error { OnlyMemory result }
 {
     let (object, _) = mend_version(alloc, object)?;
@@ -144,6 +169,8 @@ fn indexed_place(alloc: Global, object: Map<String, Value>) -> Result<Option<Fau
 /// Where a JSON value has the first fault that is not mended.
 fn value_place(alloc: Global, value: Value) -> Result<Option<FaultPlace>>
     ensures place { IfOk result (λ place. place ≡ found_value_place (view value)) }
+    ensures found { IfOk result (λ place. (mends : List Mend)
+        → HasPlaceIfRefused (found_value mends (view value)) place) }
     ensures error { OnlyMemory result }
 {
     let has_sections = is_indexed(&value);
@@ -230,6 +257,7 @@ fn text_place(text: &str, json: &CowStr<'_>, error: &serde_json::Error) -> Fault
 /// ```
 pub fn found_fault_at(alloc: Global, text: &str) -> Result<Option<FaultPlace>>
     ensures place { IfOk result (IsFoundPlace text.now) }
+    ensures found { IfOk result (HasPlaceIfRefused (found text.now)) }
     ensures error { OnlyMemory result }
 {
     let (json, _) = open(alloc, text)?;

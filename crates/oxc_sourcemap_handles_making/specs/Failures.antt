@@ -10,7 +10,7 @@ use Rattle.oxc_sourcemap_places.specs.declared.fault_place.FaultPlace.{FaultPlac
 use Rattle.oxc_sourcemap_places.specs.declared.fault_place.FaultSpot.TheVariants.{Segment}
 use Rattle.oxc_sourcemap_places.specs.ValueSpots.{place_in}
 use Rattle.oxc_sourcemap_found.specs.FoundMaps.{found}
-use Rattle.oxc_sourcemap_found.specs.FoundPlaces.{IsFoundPlace}
+use Rattle.oxc_sourcemap_found.specs.FoundPlaces.{IsFoundPlace, HasPlaceIfRefused}
 use Rattle.oxc_sourcemap_plan_places.specs.PlanPlaces.{IsTextPlace}
 use Rattle.oxc_sourcemap_handles.specs.declared.call_error.CallError.{CallError}
 use Rattle.oxc_sourcemap_handles_making.specs.declared.failure.Failure.{Failure}
@@ -34,9 +34,10 @@ IsTextErrorAt text r place = (e : Error) × (read_map text ≡ Err e) × (r ≡ 
 abbrev pub IsReadErrorAt : List ℕ → CallError → Option FaultPlace → Type 0
 IsReadErrorAt bytes r place = (IsNotText bytes r × (place ≡ None)) ⊎ (IsUtf8 bytes × IsTextErrorAt bytes r place)
 
--- an error of reading a text as it is found, and the place of the fault
+-- An error of reading a text as it is found, and the place of the fault. There is one, unless the error is `TooLarge`.
 abbrev pub IsFoundTextErrorAt : Text → CallError → Option FaultPlace → Type 0
-IsFoundTextErrorAt text r place = (e : Error) × (found text ≡ Err e) × (r ≡ of_map e) × IsFoundPlace text place
+IsFoundTextErrorAt text r place =
+    (e : Error) × (found text ≡ Err e) × (r ≡ of_map e) × IsFoundPlace text place × HasPlaceIfRefused (found text) place
 
 -- the same of bytes: they are not UTF-8, or their text has a fault that is not mended
 abbrev pub IsFoundErrorAt : List ℕ → CallError → Option FaultPlace → Type 0

@@ -63,7 +63,7 @@ ignored-by : (count : ℕ) (list : Option (List ℕ)) → is_some (option_and_th
 ignored-by count None = refl
 ignored-by count (Some ids) = some-if (nat_lt (position_or_len (λ id. nat_le count id) ids) (length ids)) _ ∙ found-below count ids
 
-ignored-found : (j : JsonRecord) → is_some (ignored_spot j) ≡ is_some (ignore_list_fault j)
+pub ignored-found : (j : JsonRecord) → is_some (ignored_spot j) ≡ is_some (ignore_list_fault j)
 ignored-found j = some-map _ (option_and_then (position (λ id. nat_le (length j.sources) id)) j.ignore_list) ∙ ignored-by (length j.sources) j.ignore_list
 
 -- ---- the fields of a map of version 3
@@ -71,7 +71,7 @@ err-tokens : (j : JsonRecord) (r : Result (List TokenRecord) Error) → is_err (
 err-tokens j (Ok ts) = refl
 err-tokens j (Err e) = refl
 
-by-ignored : (j : JsonRecord) (r : Result (List TokenRecord) Error) (o : Option ℕ)
+pub by-ignored : (j : JsonRecord) (r : Result (List TokenRecord) Error) (o : Option ℕ)
     → is_err (unless (option_map BadSourceReference o) (with_tokens j r)) ≡ (is_some o || is_err r)
 by-ignored j r None = err-tokens j r
 by-ignored j r (Some id) = refl

@@ -1,0 +1,97 @@
+-- A place is found exactly if a text is refused, but for a join past a limit.
+use Rattle.std.proofs.Common.{◌≡◌, ◌||◌, ℕ, ◌+◌, true, false, List, ◌∷◌, refl, sym, ap, ◌∙◌}
+use Rattle.std.proofs.Common.{subst, Option, Some, None, Result, Ok, Err, is_some}
+use Rattle.std.specs.Result.{is_err}
+use Rattle.serde_json.specs.Data.{Data, Items, Members, item, object}
+use Rattle.serde_json.specs.Read.{read}
+use Rattle.oxc_sourcemap_tokens.specs.declared.error.Error.{Error}
+use Rattle.oxc_sourcemap_tokens.specs.declared.position.Position.{Position}
+use Rattle.oxc_sourcemap_mappings.specs.Reading.{reading}
+use Rattle.oxc_sourcemap_parts.specs.Record.{Text}
+use Rattle.oxc_sourcemap_json.specs.Json.{JsonRecord}
+use Rattle.oxc_sourcemap_json.specs.Shape.{◌>>=◌, shape}
+use Rattle.oxc_sourcemap_decode.specs.Decoded.{ignore_list_fault}
+use Rattle.oxc_sourcemap_places.specs.declared.fault_place.FaultPlace.{FaultPlace}
+use Rattle.oxc_sourcemap_places.specs.ValueSpots.{ignored_spot}
+use Rattle.oxc_sourcemap_places.proofs.Found.{by-ignored, ignored-found}
+use Rattle.oxc_sourcemap_found.specs.declared.mend.Mend.{Mend}
+use Rattle.oxc_sourcemap_found.specs.FoundMaps.{or_not_json, found_value, found}
+use Rattle.oxc_sourcemap_found.specs.FoundPlaces.{HasPlaceIfRefused}
+use Rattle.oxc_sourcemap_found.specs.Mended.{MendedMembers, mended_members}
+use Rattle.oxc_sourcemap_found.specs.MendedMaps.{MendedMap, decoded_with_any_ids, mended_map}
+use Rattle.oxc_sourcemap_found.specs.MendedMaps.{plain_map, mends_in}
+use Rattle.oxc_sourcemap_found.specs.MendedSections.{MendedSection, place_from, map_from}
+use Rattle.oxc_sourcemap_found.specs.MendedSections.{sections_from}
+use Rattle.oxc_sourcemap_found.specs.Opening.{opened}
+
+-- ---- a map by itself
+
+-- a map whose ids may be any has a fault if an entry of its ignore list or its mappings have one
+pub fields-found : (j : JsonRecord) → j.version ≡ 3
+    → is_err (decoded_with_any_ids j) ≡ (is_some (ignored_spot j) || is_err (reading j.mappings 4294967295 4294967295))
+fields-found j three =
+    rw three (by-ignored j (reading j.mappings 4294967295 4294967295) (ignore_list_fault j))
+    ∙ ap (λ b. b || is_err (reading j.mappings 4294967295 4294967295)) (sym (ignored-found j))
+
+-- a step that cannot fail, behind one that can, is at no fault
+then-fine : {A B : Type 0} (f : A → B) (r : Result A Error) → is_err (r >>= (λ x. Ok (f x))) ≡ is_err r
+then-fine f (Ok x) = refl
+then-fine f (Err fault) = refl
+
+by-fields : (m : MendedMembers) (r : Result JsonRecord Error)
+    → is_err (r >>= (λ fields. decoded_with_any_ids fields >>= (λ q. Ok (mended_map m.kinds q)))) ≡ is_err (r >>= decoded_with_any_ids)
+by-fields m (Ok fields) = then-fine (mended_map m.kinds) (decoded_with_any_ids fields)
+by-fields m (Err fault) = refl
+
+-- a map is refused exactly if its shape or its fields are
+pub plain-found : (ms : Members) → is_err (plain_map ms) ≡ is_err (shape (object (mended_members ms).members) >>= decoded_with_any_ids)
+plain-found ms = by-fields (mended_members ms) (shape (object (mended_members ms).members))
+
+-- ---- sections
+
+-- a section by its offset and its map, and those after it
+abbrev onto_place : Result Position Error → Result MendedMap Error → (Position → Result (List MendedSection) Error) → Result (List MendedSection) Error
+onto_place place map rest =
+    (place >>= (λ p. map >>= (λ m. Ok (m, p)))) >>= (λ s. rest s.1 >>= (λ ss. Ok (s ∷ ss)))
+
+bad-map : (place : Position) (m : Result MendedMap Error) (rest : Position → Result (List MendedSection) Error) → is_err m ≡ true
+    → is_err (onto_place (Ok place) m rest) ≡ true
+bad-map place (Ok x) rest bad = cc
+bad-map place (Err fault) rest bad = refl
+
+fine-map : (place : Position) (m : Result MendedMap Error) (rest : Position → Result (List MendedSection) Error) → is_err m ≡ false
+    → is_err (onto_place (Ok place) m rest) ≡ is_err (rest place)
+fine-map place (Ok x) rest fine = then-fine (λ ss. (x, place) ∷ ss) (rest place)
+fine-map place (Err fault) rest fine = cc
+
+module _ (before : Option Position) (number : ℕ) (d : Data) (ds : Items) where
+  abbrev more : Position → Result (List MendedSection) Error
+  more place = sections_from (Some place) (number + 1) ds
+
+  -- an offset with a fault
+  pub offset-refused : (fault : Error) → place_from before number d ≡ Err fault → is_err (sections_from before number (item d ds)) ≡ true
+  offset-refused fault is = ap (λ p. is_err (onto_place p (map_from d) more)) is
+
+  -- a map with a fault
+  pub map-refused : (place : Position) → place_from before number d ≡ Ok place → is_err (map_from d) ≡ true
+      → is_err (sections_from before number (item d ds)) ≡ true
+  map-refused place is bad = ap (λ p. is_err (onto_place p (map_from d) more)) is ∙ bad-map place (map_from d) more bad
+
+  -- a section that is read
+  pub section-passed : (place : Position) → place_from before number d ≡ Ok place → is_err (map_from d) ≡ false
+      → is_err (sections_from before number (item d ds)) ≡ is_err (sections_from (Some place) (number + 1) ds)
+  section-passed place is fine = ap (λ p. is_err (onto_place p (map_from d) more)) is ∙ fine-map place (map_from d) more fine
+
+-- ---- a text
+
+pub value-placed : (text : Text) (d : Data) (place : Option FaultPlace) → read (opened text).text ≡ Some d
+    → ((mends : List Mend) → HasPlaceIfRefused (found_value mends d) place) → HasPlaceIfRefused (found text) place
+unfolding found
+value-placed text d place is of =
+    let kinds = (opened text).kinds in
+    subst (λ (o : Option Data). HasPlaceIfRefused (or_not_json o >>= found_value (mends_in None kinds)) place) (sym is) (of (mends_in None kinds))
+
+pub text-placed : (text : Text) (place : FaultPlace) → read (opened text).text ≡ None → HasPlaceIfRefused (found text) (Some place)
+unfolding found
+text-placed text place is =
+    subst (λ (o : Option Data). HasPlaceIfRefused (or_not_json o >>= found_value (mends_in None (opened text).kinds)) (Some place)) (sym is) tt

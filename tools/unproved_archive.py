@@ -33,19 +33,19 @@ exec "{clang}" "$@"
 
 
 def calls(folder):
-    """A call of each export in the files of a crate."""
+    """A call of each export in the files of a crate. (What it returns goes to `hold`, since not each result may be dropped.)"""
     for file in sorted(folder.rglob("*.rt")):
         path = [it for it in file.relative_to(folder).with_suffix("").parts if it not in ("lib", "mod")]
         for name, words in EXPORT.findall(file.read_text()):
             taken = len([it for it in words.split(",") if it.strip()])
-            yield f"    let _ = {'::'.join(['crate', *path, name])}({', '.join(['any()'] * taken)});"
+            yield f"    hold({'::'.join(['crate', *path, name])}({', '.join(['any()'] * taken)}));"
 
 
 def write_program(room):
     """Copies the crate as a program that reaches each export."""
     shutil.copytree(TOP / "crates" / CRATE, room / CRATE, ignore=shutil.ignore_patterns("out"))
     root = room / CRATE / "src/lib.rt"
-    reach = ["fn any<T>() -> T {", "    loop {}", "}", "fn reach() {", *calls(root.parent), "}"]
+    reach = ["fn any<T>() -> T {", "    loop {}", "}", "fn hold<T>(_value: T) {", "    loop {}", "}", "fn reach() {", *calls(root.parent), "}"]
     main = ["fn is_one(n: u32) -> bool {", "    n == 1", "}", "fn main() {", "    if is_one(0) {", "        reach()", "    }", "}"]
     root.with_name("main.rt").write_text(root.read_text() + "\n".join(["", *reach, *main, ""]))
     root.unlink()

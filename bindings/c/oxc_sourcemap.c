@@ -10,7 +10,8 @@
 
 /* A pointer, or what stands for null. */
 #define OR(at, own) ((at) ? (at) : (own))
-/* What a proved call changes or frees, and what it reads: the address of a copy of the pointer, which is that call's alone. */
+/* What a proved call changes or frees, and what it reads: the address of a copy of the pointer, which is that call's alone.
+ * (Single lookups take such a copy by value.) */
 #define HANDLE(at) (&(proved_handle){ at })
 #define LENT(at) (&(proved_lent){ at })
 
@@ -220,8 +221,8 @@ uint32_t smap_get_ignore_list(const smap_map *map, uint32_t *out, size_t out_len
 /* ---- lookups ---- */
 
 uint32_t smap_trace(const smap_map *map, uint32_t line, uint32_t column, uint32_t bias, smap_original *out, smap_fault *fault) {
-    smap_fault own;
-    return proved_trace(LENT(map), line, column, bias, out, OR(fault, &own));
+    if (!fault) return proved_trace_code((proved_lent){ map }, line, column, bias, out);
+    return proved_trace((proved_lent){ map }, line, column, bias, out, fault);
 }
 
 uint32_t smap_trace_all(const smap_map *map, const smap_position *positions, size_t positions_len, uint32_t bias,

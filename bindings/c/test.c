@@ -723,6 +723,8 @@ static void tracing(void) {
     CHECK(smap_trace(map, MAX, 0, SMAP_CLAMPED, &p, NULL) == SMAP_OK && p.kind == SMAP_NOTHING);
     CHECK(smap_trace(map, 0, 0, 3, &p, &fault) == SMAP_BAD_OPTION && is_fault(&fault, SMAP_BAD_OPTION, 0) &&
           p.kind == SMAP_NOTHING);
+    CHECK(smap_trace(map, 0, 0, 3, &p, NULL) == SMAP_BAD_OPTION && p.kind == SMAP_NOTHING);
+    CHECK(smap_trace(NULL, 0, 0, SMAP_BEFORE, &p, NULL) == SMAP_NULL_HANDLE && p.kind == SMAP_NOTHING);
     smap_free_map(map);
 }
 

@@ -19,6 +19,10 @@ use Rattle.oxc_sourcemap_handles_reading.specs.Writing.{IsUrlOf}
 abbrev pub IsError : ℕ → Fault → (CallError → Type 0) → Type 0
 IsError code f These = (r : CallError) × (f ≡ fault_of r) × (code ≡ code_of r) × These r
 
+-- the code of one of these errors
+abbrev pub IsCodeOf : ℕ → (CallError → Type 0) → Type 0
+IsCodeOf code These = (r : CallError) × (code ≡ code_of r) × These r
+
 -- an error of writing what a handle holds
 abbrev pub IsWritingError : (MapRecord → Result Text Error) → Option MapRecord → CallError → Type 0
 IsWritingError write None r = r ≡ NullHandle

@@ -1,7 +1,8 @@
 -- The words of this crate's clauses, from one place.
 pub use Rattle.oxc_sourcemap_builders.specs.Building.{with_bare_path, with_name, with_path}
 pub use Rattle.oxc_sourcemap_builders.specs.Built.{nothing_built}
-pub use Rattle.oxc_sourcemap_c.specs.Exports.{Found, HoldsString, HoldsText, HoldsWritten, IsError}
+pub use Rattle.oxc_sourcemap_c.specs.Exports.{Found, HoldsString, HoldsText, HoldsWritten}
+pub use Rattle.oxc_sourcemap_c.specs.Exports.{IsCodeOf, IsError}
 pub use Rattle.oxc_sourcemap_c.specs.Exports.{IsUrlAnswer, IsWritingError}
 pub use Rattle.oxc_sourcemap_c.specs.Reading.{DifferFrom, HasAll, HasFirst, Lists, ListsBy}
 pub use Rattle.oxc_sourcemap_c.specs.Reading.{ListsOption, position_at, source_place}
@@ -9,7 +10,7 @@ pub use Rattle.oxc_sourcemap_decode.specs.ReadMap.{read_map}
 pub use Rattle.oxc_sourcemap_encode.specs.JsonText.{map_text, map_url}
 pub use Rattle.oxc_sourcemap_found.specs.FoundMaps.{found, found_record}
 pub use Rattle.oxc_sourcemap_found.specs.MendText.{mend_text}
-pub use Rattle.oxc_sourcemap_handles.specs.Back.{IsBack}
+pub use Rattle.oxc_sourcemap_handles.specs.Back.{IsBack, IsGivenBack}
 pub use Rattle.oxc_sourcemap_handles.specs.CallErrors.{IsNotText, IsSimplifyError, IsUnsorted}
 pub use Rattle.oxc_sourcemap_handles.specs.CallErrors.{call_error_text, of_map, out_of_memory}
 pub use Rattle.oxc_sourcemap_handles.specs.Codes.{IsErrorAs, IsSmall, call_error_of, code_of}

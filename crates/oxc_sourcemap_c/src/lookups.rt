@@ -5,9 +5,10 @@ ghost use Rattle.oxc_sourcemap_c.specs.Words.{HoldsOrder, HasBias, IsInLineOrder
 ghost use Rattle.oxc_sourcemap_c.specs.Words.{IsTraceError, AreTracesOf, AreFoundIn, IsError};
 ghost use Rattle.oxc_sourcemap_c.specs.Words.{IsTraceAllError, IsErrorAs, ArePieces, NullHandle};
 ghost use Rattle.oxc_sourcemap_c.specs.Words.{DifferFrom, IsIndexError, HasFirst, HasAll};
-ghost use Rattle.oxc_sourcemap_c.specs.Words.{position_at, source_place, IsBack};
+ghost use Rattle.oxc_sourcemap_c.specs.Words.{position_at, source_place, IsBack, IsGivenBack};
+ghost use Rattle.oxc_sourcemap_c.specs.Words.{IsCodeOf};
 
-use oxc_sourcemap_handles::{Fault, Handle, Lent, Original, PieceNumbers, TokenNumbers};
+use oxc_sourcemap_handles::{Fault, GivenBack, Handle, Lent, Original, PieceNumbers, TokenNumbers};
 use oxc_sourcemap_handles_reading::{
     SourcePlace, all_generated, find_all, first_difference, generated, index_sources, pieces,
     trace, trace_all, trace_usual, write_fault, write_found, write_token,
@@ -19,46 +20,87 @@ use std::alloc::Global;
 // A call of its own, so that the usual lookup saves few registers.
 #[inline(never)]
 fn trace_anyhow(
-    map: &mut Lent,
+    map: Lent,
     at: Position,
     bias: u32,
     out: &mut Original,
     fault: &mut Fault,
-) -> u32
-    ensures traced { result ≡ 0 → HoldsMap map.old.held (λ m. IsInLineOrder m.tokens
+) -> GivenBack
+    ensures traced { result.code ≡ 0 → HoldsMap map.held (λ m. IsInLineOrder m.tokens
         × HasBias bias (λ b. IsTraceOf b m at out.new)) }
-    ensures no_error { result ≡ 0 → fault.new ≡ no_fault }
-    ensures error { result ≢ 0 → (out.new ≡ out.old)
-        × IsError result fault.new (IsTraceError (held_map map.old.held) bias) }
-    ensures back { IsBack map.old map.new }
+    ensures no_error { result.code ≡ 0 → fault.new ≡ no_fault }
+    ensures error { result.code ≢ 0 → (out.new ≡ out.old)
+        × IsError result.code fault.new (IsTraceError (held_map map.held) bias) }
+    ensures back { IsGivenBack map result }
 {
-    write_fault(trace(map, at, bias, out), fault)
+    let mut map = map;
+    let code = write_fault(trace(&mut map, at, bias, out), fault);
+    map.give_back(code)
 }
 
 /// What a map says of a generated position, by the bias of this number: 0, 1 or 2 for the last token before it, the same or else the
 /// first of the line, and the first token after it.
+// By value, so that what is lent stays in a register: many lookups are asked one by one.
 #[unsafe(no_mangle)]
 pub extern "C" fn proved_trace(
-    map: &mut Lent,
+    map: Lent,
     line: u32,
     column: u32,
     bias: u32,
     out: &mut Original,
     fault: &mut Fault,
-) -> u32
-    ensures traced { result ≡ 0 → HoldsMap map.old.held (λ m. IsInLineOrder m.tokens
+) -> GivenBack
+    ensures traced { result.code ≡ 0 → HoldsMap map.held (λ m. IsInLineOrder m.tokens
         × HasBias bias (λ b. IsTraceOf b m (position_at line column) out.new)) }
-    ensures no_error { result ≡ 0 → fault.new ≡ no_fault }
-    ensures error { result ≢ 0 → (out.new ≡ out.old)
-        × IsError result fault.new (IsTraceError (held_map map.old.held) bias) }
-    ensures back { IsBack map.old map.new }
+    ensures no_error { result.code ≡ 0 → fault.new ≡ no_fault }
+    ensures error { result.code ≢ 0 → (out.new ≡ out.old)
+        × IsError result.code fault.new (IsTraceError (held_map map.held) bias) }
+    ensures back { IsGivenBack map result }
 {
+    let mut map = map;
     let at = Position { line, column };
-    if trace_usual(map, at, bias, out) {
+    if trace_usual(&mut map, at, bias, out) {
         *fault = Fault::none();
-        return 0;
+        return map.give_back(0);
     }
     trace_anyhow(map, at, bias, out, fault)
+}
+
+/// As `proved_trace_code`, for any map and bias.
+#[inline(never)]
+fn trace_code_anyhow(map: Lent, at: Position, bias: u32, out: &mut Original) -> GivenBack
+    ensures traced { result.code ≡ 0 → HoldsMap map.held (λ m. IsInLineOrder m.tokens
+        × HasBias bias (λ b. IsTraceOf b m at out.new)) }
+    ensures error { result.code ≢ 0 → (out.new ≡ out.old)
+        × IsCodeOf result.code (IsTraceError (held_map map.held) bias) }
+    ensures back { IsGivenBack map result }
+{
+    let mut fault = Fault::none();
+    trace_anyhow(map, at, bias, out, &mut fault)
+}
+
+/// As `proved_trace`, for a caller that wants of an error the code alone.
+#[unsafe(no_mangle)]
+pub extern "C" fn proved_trace_code(
+    map: Lent,
+    line: u32,
+    column: u32,
+    bias: u32,
+    out: &mut Original,
+) -> GivenBack
+    ensures traced { result.code ≡ 0 → HoldsMap map.held (λ m. IsInLineOrder m.tokens
+        × HasBias bias (λ b. IsTraceOf b m (position_at line column) out.new)) }
+    ensures error { result.code ≢ 0 → (out.new ≡ out.old)
+        × IsCodeOf result.code (IsTraceError (held_map map.held) bias) }
+    ensures back { IsGivenBack map result }
+{
+    let mut map = map;
+    let asked = Position { line, column };
+    if trace_usual(&mut map, asked, bias, out) {
+        map.give_back(0)
+    } else {
+        trace_code_anyhow(map, asked, bias, out)
+    }
 }
 
 /// What a map says of generated positions, each at the index of its position, by the bias of this number. On an error nothing is

@@ -5,6 +5,7 @@ ghost use Rattle.std.specs.Prelude.{◌≡◌, Option, List, ℕ};
 ghost use Rattle.oxc_sourcemap_handles.specs.declared.held.Held.{Held};
 ghost use Rattle.oxc_sourcemap_handles.specs.Handles.{held_coded};
 ghost use Rattle.oxc_sourcemap_handles.specs.Lent.{lent_owns};
+ghost use denote.RawPtr.{Ptr, coded_ptr};
 
 use crate::call_error::CallError;
 use crate::held::{Held, LoadedMap};
@@ -24,12 +25,25 @@ impl Model for Lent {
     ghost also_owns = { λ l. lent_owns l.life l.at l.held };
 }
 
+/// What a call returns that took a `Lent` by value: its code, and what was lent, which is C's again.
+#[repr(C)]
+pub struct GivenBack {
+    pub code: u32,
+    pub ghost at: { Ptr } by { coded_ptr },
+    pub ghost life: { List ℕ },
+    pub ghost held: { Option Held } by { held_coded },
+}
+
+impl Model for GivenBack {
+    ghost also_owns = { λ b. lent_owns b.life b.at b.held };
+}
+
 impl Lent {
     ghost use Rattle.std.specs.Prelude.{◌≡◌, option_map, ⊤, Err, MatchOption, MatchResult};
     ghost use Rattle.std.specs.Borrow.{sem, follows_so};
     ghost use mathlib.Core.Option.{none};
     ghost use Rattle.oxc_sourcemap_handles.specs.contracts.lent.Lent.{the_row};
-    ghost use Rattle.oxc_sourcemap_handles.specs.Back.{IsBack};
+    ghost use Rattle.oxc_sourcemap_handles.specs.Back.{IsBack, IsGivenBack};
     ghost use Rattle.oxc_sourcemap_handles.specs.Holding.{held_map, held_loaded, held_text};
     ghost use Rattle.oxc_sourcemap_handles.specs.Holding.{held_mends};
     ghost use Rattle.oxc_sourcemap_handles.specs.declared.call_error.CallError.TheVariants.{NullHandle};
@@ -87,6 +101,16 @@ impl Lent {
             Some(Held::Mended(mends)) => Ok(mends.as_slice()),
             _ => Err(CallError::NullHandle),
         }
+    }
+
+    /// Gives back what was lent, with the code of the call.
+    pub fn give_back(self, code: u32) -> GivenBack
+        ensures code { result.code ≡ code }
+        ensures back { IsGivenBack self result }
+    {
+        // (what is not `Drop` has to be taken apart)
+        let Lent { at: _ } = self;
+        GivenBack { code }
     }
 }
 

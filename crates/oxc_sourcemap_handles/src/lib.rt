@@ -22,7 +22,7 @@ pub use call_error::CallError;
 pub use fault::Fault;
 pub use handle::Handle;
 pub use held::{Held, LoadedMap, index_of};
-pub use lent::{Lent, map_of};
+pub use lent::{GivenBack, Lent, map_of};
 pub use lists::{contents_of, texts_of, tokens_of};
 pub use operations::{box_map, empty_box, put, put_map, put_text};
 pub use options::{Bias, Direction};

@@ -102,9 +102,7 @@ static void free_small(void) {
 }
 
 static void join_small(void) {
-    const smap_map *maps[SMALL];
-    for (int i = 0; i < SMALL; i++) maps[i] = it.small[i];
-    must(!smap_join_all(maps, SMALL, it.starts, SMALL, &it.made, NULL));
+    must(!smap_join_all((const smap_map *const *)it.small, SMALL, it.starts, SMALL, &it.made, NULL));
 }
 
 static void nothing(void) {

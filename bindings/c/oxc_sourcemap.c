@@ -1,6 +1,7 @@
 /* The layer between oxc_sourcemap.h and the proved library. Each smap_X hands on to proved_X, whose prototype tools/prototypes
  * makes from its signature. What is done here is what a proved function cannot do with what C passes:
- *  - null gets something to point to: an empty text, an array of no entries, an output that the caller does not want;
+ *  - null gets something to point to: an empty text, an array of no entries, an output that the caller does not want (a single lookup
+ *    without a fault has an export of its own, which is quicker);
  *  - a handle goes in as a struct of one pointer, and one that is made goes to *out on success alone;
  *  - an array of texts with null entries, and one of maps, is copied. */
 #include "oxc_sourcemap.h"

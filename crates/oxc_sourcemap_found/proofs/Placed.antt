@@ -1,11 +1,10 @@
 -- A place is found exactly if a text is refused, but for a join past a limit.
-use Rattle.std.proofs.Common.{◌≡◌, ◌||◌, ℕ, ◌+◌, true, false, List, ◌∷◌, refl, sym, ap, ◌∙◌}
-use Rattle.std.proofs.Common.{subst, Option, Some, None, Result, Ok, Err, is_some}
+use Rattle.std.proofs.Common.{◌≡◌, ◌||◌, List, refl, sym, ap, ◌∙◌, subst}
+use Rattle.std.proofs.Common.{Option, Some, None, Result, Ok, Err, is_some}
 use Rattle.std.specs.Result.{is_err}
-use Rattle.serde_json.specs.Data.{Data, Items, Members, item, object}
+use Rattle.serde_json.specs.Data.{Data, Members, object}
 use Rattle.serde_json.specs.Read.{read}
 use Rattle.oxc_sourcemap_tokens.specs.declared.error.Error.{Error}
-use Rattle.oxc_sourcemap_tokens.specs.declared.position.Position.{Position}
 use Rattle.oxc_sourcemap_mappings.specs.Reading.{reading}
 use Rattle.oxc_sourcemap_parts.specs.Record.{Text}
 use Rattle.oxc_sourcemap_json.specs.Json.{JsonRecord}
@@ -18,10 +17,8 @@ use Rattle.oxc_sourcemap_found.specs.declared.mend.Mend.{Mend}
 use Rattle.oxc_sourcemap_found.specs.FoundMaps.{or_not_json, found_value, found}
 use Rattle.oxc_sourcemap_found.specs.FoundPlaces.{HasPlaceIfRefused}
 use Rattle.oxc_sourcemap_found.specs.Mended.{MendedMembers, mended_members}
-use Rattle.oxc_sourcemap_found.specs.MendedMaps.{MendedMap, decoded_with_any_ids, mended_map}
+use Rattle.oxc_sourcemap_found.specs.MendedMaps.{decoded_with_any_ids, mended_map}
 use Rattle.oxc_sourcemap_found.specs.MendedMaps.{plain_map, mends_in}
-use Rattle.oxc_sourcemap_found.specs.MendedSections.{MendedSection, place_from, map_from}
-use Rattle.oxc_sourcemap_found.specs.MendedSections.{sections_from}
 use Rattle.oxc_sourcemap_found.specs.Opening.{opened}
 
 -- ---- a map by itself
@@ -46,41 +43,6 @@ by-fields m (Err fault) = refl
 -- a map is refused exactly if its shape or its fields are
 pub plain-found : (ms : Members) → is_err (plain_map ms) ≡ is_err (shape (object (mended_members ms).members) >>= decoded_with_any_ids)
 plain-found ms = by-fields (mended_members ms) (shape (object (mended_members ms).members))
-
--- ---- sections
-
--- a section by its offset and its map, and those after it
-abbrev onto_place : Result Position Error → Result MendedMap Error → (Position → Result (List MendedSection) Error) → Result (List MendedSection) Error
-onto_place place map rest =
-    (place >>= (λ p. map >>= (λ m. Ok (m, p)))) >>= (λ s. rest s.1 >>= (λ ss. Ok (s ∷ ss)))
-
-bad-map : (place : Position) (m : Result MendedMap Error) (rest : Position → Result (List MendedSection) Error) → is_err m ≡ true
-    → is_err (onto_place (Ok place) m rest) ≡ true
-bad-map place (Ok x) rest bad = cc
-bad-map place (Err fault) rest bad = refl
-
-fine-map : (place : Position) (m : Result MendedMap Error) (rest : Position → Result (List MendedSection) Error) → is_err m ≡ false
-    → is_err (onto_place (Ok place) m rest) ≡ is_err (rest place)
-fine-map place (Ok x) rest fine = then-fine (λ ss. (x, place) ∷ ss) (rest place)
-fine-map place (Err fault) rest fine = cc
-
-module _ (before : Option Position) (number : ℕ) (d : Data) (ds : Items) where
-  abbrev more : Position → Result (List MendedSection) Error
-  more place = sections_from (Some place) (number + 1) ds
-
-  -- an offset with a fault
-  pub offset-refused : (fault : Error) → place_from before number d ≡ Err fault → is_err (sections_from before number (item d ds)) ≡ true
-  offset-refused fault is = ap (λ p. is_err (onto_place p (map_from d) more)) is
-
-  -- a map with a fault
-  pub map-refused : (place : Position) → place_from before number d ≡ Ok place → is_err (map_from d) ≡ true
-      → is_err (sections_from before number (item d ds)) ≡ true
-  map-refused place is bad = ap (λ p. is_err (onto_place p (map_from d) more)) is ∙ bad-map place (map_from d) more bad
-
-  -- a section that is read
-  pub section-passed : (place : Position) → place_from before number d ≡ Ok place → is_err (map_from d) ≡ false
-      → is_err (sections_from before number (item d ds)) ≡ is_err (sections_from (Some place) (number + 1) ds)
-  section-passed place is fine = ap (λ p. is_err (onto_place p (map_from d) more)) is ∙ fine-map place (map_from d) more fine
 
 -- ---- a text
 

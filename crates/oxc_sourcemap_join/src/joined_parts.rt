@@ -218,7 +218,7 @@ impl Shift {
         let moves = u32x4::from_array([self.position.line, column, 0, 0]);
         let raises = u32x4::from_array([self.sources, self.names, 0, 0]);
         let [line, column, src_line, src_col] = (position_lanes(token) + moves).to_array();
-        let [source, name, _, _] = id_lanes(token).saturating_add(raises).to_array();
+        let [source, name, _, _] = raises.saturating_add(id_lanes(token)).to_array();
         Token::new(line, column, src_line, src_col, Some(source), Some(name))
     }
 
@@ -317,6 +317,23 @@ pub struct Lengths {
     pub tokens: usize,
 }
 
+/// Whether there is room in a list for this many more.
+fn has_room<T>(list: &Vec<T>, additional: usize) -> bool
+    ensures { IsTrue result → vec_len list.now + additional ≤ vec_capacity list.now }
+{
+    additional <= list.capacity() - list.len()
+}
+
+/// Takes room in a list for this many more.
+#[cold]
+#[inline(never)]
+fn grow<T>(list: &mut Vec<T>, additional: usize) -> Memory<()>
+    ensures items { list.new.items ≡ list.old.items }
+    ensures room { OnOk result (vec_len list.new + additional ≤ vec_capacity list.new) }
+{
+    list.reserve(additional)
+}
+
 /// Takes room in the lists of a join for this many names, sources with their contents, and tokens, and for a chunk.
 // What adds a map is put into its caller: this, `push_moved`, `push_tokens`, `addition` and `add_copied`. A small map then takes a
 // tenth less time.
@@ -344,11 +361,20 @@ fn make_room<'a>(
         (vec_len tokens.new + lengths.tokens ≤ vec_capacity tokens.new) }
     ensures room_for_chunk { OnOk result (vec_len chunks.new + 1 ≤ vec_capacity chunks.new) }
 {
-    names.reserve(lengths.names)?;
-    sources.reserve(lengths.sources)?;
-    contents.reserve(lengths.sources)?;
-    tokens.reserve(lengths.tokens)?;
-    chunks.reserve(1)
+    // (most joins have taken room for all maps before)
+    if has_room(names, lengths.names)
+        && has_room(sources, lengths.sources)
+        && has_room(contents, lengths.sources)
+        && has_room(tokens, lengths.tokens)
+        && has_room(chunks, 1)
+    {
+        return Ok(());
+    }
+    grow(names, lengths.names)?;
+    grow(sources, lengths.sources)?;
+    grow(contents, lengths.sources)?;
+    grow(tokens, lengths.tokens)?;
+    grow(chunks, 1)
 }
 
 // Functions `push_` need room for what they add: they take no memory.
@@ -608,6 +634,9 @@ fn push_tokens(
     let len = tokens.len();
     if !push_moved(tokens, shift, added) {
         return Err(Error::TooLarge);
+    }
+    if ignored.is_none() {
+        return Ok(());
     }
     match shift.add_ignore_list(alloc, ignore_list, ignored) {
         Ok(()) => Ok(()),

@@ -153,13 +153,13 @@ fn cut_short_lines<'s>(alloc: Global, tokens: &'s [Token]) -> Memory<Option<Vec<
     }
 }
 
-/// Whether there are fewer than eight tokens for each line, and they can be counted in 32 bits.
+/// Whether there are fewer than seven tokens for each line, and they can be counted in 32 bits.
 pub(crate) fn has_short_lines(tokens: &[Token]) -> bool
     ensures { IsTrue result ↔ ((length tokens.now < 2 ^ 32)
-        × (length tokens.now < 8 * lines_through (last tokens.now))) }
+        × (length tokens.now < 7 * lines_through (last tokens.now))) }
 {
     let count = tokens.len() as u64;
-    count <= 4294967295 && count / 8 < line_count(tokens)
+    count <= 4294967295 && count / 7 < line_count(tokens)
 }
 
 /// The tokens of each line; None if the tokens are not in line order.

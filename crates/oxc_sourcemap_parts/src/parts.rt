@@ -24,22 +24,23 @@ use std::boxed::BoxedSlice;
 /// ```
 #[derive(Drop)]
 pub struct SourceMapParts<'a> {
-    /// The name of the generated file.
-    pub file: Option<CowStr<'a>>,
+    // (What joins read comes first, so that it lies in few lines of the cache.)
+    /// The tokens.
+    pub tokens: BoxedSlice<Token>,
     /// The names that tokens refer to by their index.
     pub names: Vec<CowStr<'a>>,
-    /// The prefix of every source, for whoever resolves them; sources are kept without it.
-    pub source_root: Option<CowStr<'a>>,
     /// The sources that tokens refer to by their index.
     pub sources: Vec<CowStr<'a>>,
     /// The content of each source, None where it is not known. There may be fewer or more than there are sources.
     pub source_contents: Vec<Option<CowStr<'a>>>,
-    /// The tokens.
-    pub tokens: BoxedSlice<Token>,
-    /// The chunks in which the tokens are written, if any.
-    pub token_chunks: Option<Vec<TokenChunk>>,
     /// The indices of sources that debuggers may ignore, as third-party code.
     pub ignore_list: Option<Vec<u32>>,
+    /// The name of the generated file.
+    pub file: Option<CowStr<'a>>,
+    /// The prefix of every source, for whoever resolves them; sources are kept without it.
+    pub source_root: Option<CowStr<'a>>,
+    /// The chunks in which the tokens are written, if any.
+    pub token_chunks: Option<Vec<TokenChunk>>,
     /// An id that ties this map to its generated code.
     pub debug_id: Option<CowStr<'a>>,
 }

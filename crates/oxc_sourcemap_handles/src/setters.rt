@@ -136,6 +136,13 @@ impl LoadedMap {
         Ok(())
     }
 
+    /// Puts a map in the place of this one, which is dropped.
+    fn replace(&mut self, made: LoadedMap)
+        ensures { self.new ≡ made }
+    {
+        *self = made;
+    }
+
     /// Simplifies a clone, which takes the place of the map when all is done. Fails with the errors of simplifying, or for want of memory.
     pub fn simplify(&mut self, alloc: Global) -> Result<(), CallError>
         ensures simplified { OnOk result ((simplification self.old.map ≡ Ok self.new.map)
@@ -149,7 +156,8 @@ impl LoadedMap {
         }
         let mut map = self.map.clone(alloc)?;
         map.simplify(alloc)?;
-        *self = LoadedMap::new(alloc, map)?;
+        let made = LoadedMap::new(alloc, map)?;
+        self.replace(made);
         Ok(())
     }
 }

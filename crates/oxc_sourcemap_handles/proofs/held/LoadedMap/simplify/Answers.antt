@@ -14,7 +14,7 @@ returns-in_err-simplify-clause-error c =
 pub returns-clause-simplified : goal.returns-clause-simplified
 returns-clause-simplified c =
     let same = c.in_ok-map.ensures.map ∙ ap (λ (l : Loaded). l.map) c.self.view_is in
-    let made = c.in_ok-self-inside.ensures.map in (
-      ap simplification (sym same) ∙ c.in_ok-simplify.ensures.simplified ∙ ap (λ x. Ok x) (sym (ap (λ (l : Loaded). l.map) c.branch.view_is ∙ made.0)),
-      ap (λ (l : Loaded). l.has_order) c.branch.view_is ∙ made.1,
+    let made = c.in_ok-made.ensures.map in (
+      ap simplification (sym same) ∙ c.in_ok-simplify.ensures.simplified ∙ ap (λ x. Ok x) (sym (ap (λ (l : Loaded). l.map) c.replace.ensures ∙ made.0)),
+      ap (λ (l : Loaded). l.has_order) c.replace.ensures ∙ made.1,
     )

@@ -5,6 +5,7 @@ use Rattle.std.specs.Result.{is_err}
 use Rattle.serde_json.specs.Data.{Data, Members, object}
 use Rattle.serde_json.specs.Read.{read}
 use Rattle.oxc_sourcemap_tokens.specs.declared.error.Error.{Error}
+use Rattle.oxc_sourcemap_tokens.specs.declared.error.Field.{Field}
 use Rattle.oxc_sourcemap_mappings.specs.Reading.{reading}
 use Rattle.oxc_sourcemap_parts.specs.Record.{Text}
 use Rattle.oxc_sourcemap_json.specs.Json.{JsonRecord}
@@ -24,11 +25,11 @@ use Rattle.oxc_sourcemap_found.specs.Opening.{opened}
 -- ---- a map by itself
 
 -- a map whose ids may be any has a fault if an entry of its ignore list or its mappings have one
-pub fields-found : (j : JsonRecord) → j.version ≡ 3
-    → is_err (decoded_with_any_ids j) ≡ (is_some (ignored_spot j) || is_err (reading j.mappings 4294967295 4294967295))
-fields-found j three =
+pub fields-found : (field : Field) (j : JsonRecord) → j.version ≡ 3
+    → is_err (decoded_with_any_ids j) ≡ (is_some (ignored_spot field j) || is_err (reading j.mappings 4294967295 4294967295))
+fields-found field j three =
     rw three (by-ignored j (reading j.mappings 4294967295 4294967295) (ignore_list_fault j))
-    ∙ ap (λ b. b || is_err (reading j.mappings 4294967295 4294967295)) (sym (ignored-found j))
+    ∙ ap (λ b. b || is_err (reading j.mappings 4294967295 4294967295)) (sym (ignored-found field j))
 
 -- a step that cannot fail, behind one that can, is at no fault
 then-fine : {A B : Type 0} (f : A → B) (r : Result A Error) → is_err (r >>= (λ x. Ok (f x))) ≡ is_err r

@@ -7,6 +7,7 @@ use Rattle.serde_json.specs.Find.{get, as_object}
 use Rattle.serde_json.specs.Read.{read}
 use Rattle.oxc_sourcemap_tokens.specs.declared.error.Error.{Error}
 use Rattle.oxc_sourcemap_tokens.specs.declared.error.Error.TheVariants.{TooLarge}
+use Rattle.oxc_sourcemap_tokens.specs.declared.error.Field.{Field}
 use Rattle.oxc_sourcemap_tokens.specs.declared.error.Field.TheVariants.{Object}
 use Rattle.oxc_sourcemap_tokens.specs.declared.error.Field.TheVariants.{Map as MapField}
 use Rattle.oxc_sourcemap_tokens.specs.declared.error.Field.TheVariants.{Sections as SectionsField}
@@ -21,7 +22,7 @@ use Rattle.oxc_sourcemap_places.specs.declared.fault_place.FaultPlace.{FaultPlac
 use Rattle.oxc_sourcemap_places.specs.declared.fault_place.FaultSpot.{FaultSpot}
 use Rattle.oxc_sourcemap_places.specs.declared.fault_place.FaultSpot.TheVariants.{Segment, Member}
 use Rattle.oxc_sourcemap_places.specs.ValueSpots.{shape_spot, ignored_spot, place_in, offset_place}
-use Rattle.oxc_sourcemap_places.specs.ValueSpots.{or_place, IsReading}
+use Rattle.oxc_sourcemap_places.specs.ValueSpots.{or_place, IsReading, ignored_field}
 use Rattle.oxc_sourcemap_found.specs.FoundMaps.{FoundRecord}
 use Rattle.oxc_sourcemap_found.specs.Mended.{mended_members, with_version, as_found}
 use Rattle.oxc_sourcemap_found.specs.MendedSections.{place_from}
@@ -32,11 +33,11 @@ abbrev pub found_mappings_spot : JsonRecord → Option FaultSpot
 found_mappings_spot j = option_map Segment (fault_place j.mappings 4294967295 4294967295)
 
 -- where the fields of a map have a fault: in the ignore list, then in the mappings
-abbrev pub found_fields_spot : JsonRecord → Option FaultSpot
-found_fields_spot j = option_or (ignored_spot j) (found_mappings_spot j)
+abbrev pub found_fields_spot : Field → JsonRecord → Option FaultSpot
+found_fields_spot field j = option_or (ignored_spot field j) (found_mappings_spot j)
 
 abbrev pub found_spot_in : Data → Result JsonRecord Error → Option FaultSpot
-found_spot_in d (Ok fields) = found_fields_spot fields
+found_spot_in d (Ok fields) = found_fields_spot (ignored_field d) fields
 found_spot_in d (Err error) = Some (shape_spot d error)
 
 -- where an object whose members are mended has its first fault

@@ -21,7 +21,7 @@ use oxc_sourcemap_decode::{into_member, is_indexed, is_plain};
 use oxc_sourcemap_json::{JSONSourceMap, file_from_value};
 use oxc_sourcemap_mappings::mappings_fault_at;
 use oxc_sourcemap_places::{
-    FaultPlace, FaultSpot, ignored_spot, offset_place, reading_place, shape_spot,
+    FaultPlace, FaultSpot, ignored_field, ignored_spot, offset_place, reading_place, shape_spot,
 };
 use oxc_sourcemap_tokens::{Error, Field, Result};
 use serde_json::{Map, Value};
@@ -52,13 +52,13 @@ fn mappings_spot(json: &JSONSourceMap) -> Option<FaultSpot>
     }
 }
 
-/// Where the fields of a map have a fault.
-fn fields_spot(json: &JSONSourceMap) -> Option<FaultSpot>
-    ensures spot { result ≡ found_fields_spot (json_record json.now) }
+/// Where the fields of a map, whose ignore list is this member, have a fault.
+fn fields_spot(field: Field, json: &JSONSourceMap) -> Option<FaultSpot>
+    ensures spot { result ≡ found_fields_spot field (json_record json.now) }
     ensures found { (json_record json.now).version ≡ 3
         → is_some result ≡ is_err (decoded_with_any_ids (json_record json.now)) }
 {
-    match ignored_spot(json) {
+    match ignored_spot(field, json) {
         Some(spot) => Some(spot),
         None => mappings_spot(json),
     }
@@ -74,7 +74,7 @@ fn plain_spot(alloc: Global, object: Map<String, Value>) -> Result<Option<FaultS
     let (object, _) = mend_object(alloc, object)?;
     let value = Value::Object(object);
     match JSONSourceMap::from_value(alloc, &value) {
-        Ok(json) => Ok(fields_spot(&json)),
+        Ok(json) => Ok(fields_spot(ignored_field(&value), &json)),
         Err(Error::OutOfMemory) => Err(Error::OutOfMemory),
         Err(error) => Ok(Some(shape_spot(&value, error))),
     }

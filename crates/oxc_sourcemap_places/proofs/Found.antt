@@ -14,6 +14,7 @@ use Rattle.oxc_sourcemap_tokens.specs.Token.{TokenRecord}
 use Rattle.serde_json.specs.Data.{Data}
 use Rattle.oxc_sourcemap_mappings.specs.Reading.{reading}
 use Rattle.oxc_sourcemap_json.specs.Json.{JsonRecord}
+use Rattle.oxc_sourcemap_tokens.specs.declared.error.Field.{Field}
 use Rattle.oxc_sourcemap_tokens.specs.declared.error.Field.TheVariants.{Version as VersionField}
 use Rattle.oxc_sourcemap_tokens.specs.declared.error.Field.TheVariants.{Object, File, Mappings}
 use Rattle.oxc_sourcemap_tokens.specs.declared.error.Field.TheVariants.{SourceRoot, Sources}
@@ -63,8 +64,8 @@ ignored-by : (count : ℕ) (list : Option (List ℕ)) → is_some (option_and_th
 ignored-by count None = refl
 ignored-by count (Some ids) = some-if (nat_lt (position_or_len (λ id. nat_le count id) ids) (length ids)) _ ∙ found-below count ids
 
-pub ignored-found : (j : JsonRecord) → is_some (ignored_spot j) ≡ is_some (ignore_list_fault j)
-ignored-found j = some-map _ (option_and_then (position (λ id. nat_le (length j.sources) id)) j.ignore_list) ∙ ignored-by (length j.sources) j.ignore_list
+pub ignored-found : (field : Field) (j : JsonRecord) → is_some (ignored_spot field j) ≡ is_some (ignore_list_fault j)
+ignored-found field j = some-map _ (option_and_then (position (λ id. nat_le (length j.sources) id)) j.ignore_list) ∙ ignored-by (length j.sources) j.ignore_list
 
 -- ---- the fields of a map of version 3
 err-tokens : (j : JsonRecord) (r : Result (List TokenRecord) Error) → is_err (with_tokens j r) ≡ is_err r
@@ -77,11 +78,11 @@ by-ignored j r None = err-tokens j r
 by-ignored j r (Some id) = refl
 
 -- a map has a fault if an entry of its ignore list or its mappings have one
-pub fields-found : (j : JsonRecord) → j.version ≡ 3
-    → is_err (decoded j) ≡ (is_some (ignored_spot j) || is_err (reading j.mappings (length j.names) (length j.sources)))
-fields-found j three =
+pub fields-found : (field : Field) (j : JsonRecord) → j.version ≡ 3
+    → is_err (decoded j) ≡ (is_some (ignored_spot field j) || is_err (reading j.mappings (length j.names) (length j.sources)))
+fields-found field j three =
     rw three (by-ignored j (reading j.mappings (length j.names) (length j.sources)) (ignore_list_fault j))
-    ∙ ap (λ b. b || is_err (reading j.mappings (length j.names) (length j.sources))) (sym (ignored-found j))
+    ∙ ap (λ b. b || is_err (reading j.mappings (length j.names) (length j.sources))) (sym (ignored-found field j))
 
 -- ---- the version of a map that has the shape of one
 abbrev fine : {A : Type 0} → A → Result A Error

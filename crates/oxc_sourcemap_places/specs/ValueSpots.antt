@@ -4,7 +4,7 @@ use Rattle.std.specs.Prelude.{◌≡◌, ℕ, ◌+◌, Bool, true, List, [], ◌
 use Rattle.std.specs.Prelude.{Option, Some, None, Result, Ok, Err, if◌then◌else◌, is_some, nat_le}
 use Rattle.std.specs.Prelude.{position, ⊤}
 use Rattle.std.specs.Option.{option_map, option_and_then, option_or}
-use Rattle.serde_json.specs.Data.{Data, Items, no_items, item}
+use Rattle.serde_json.specs.Data.{Data, Items, no_items, item, null}
 use Rattle.serde_json.specs.Find.{get, as_str, as_array, as_object}
 use Rattle.oxc_sourcemap_tokens.specs.declared.error.Error.{Error}
 use Rattle.oxc_sourcemap_tokens.specs.declared.error.Error.TheVariants.{BadJson}
@@ -74,20 +74,29 @@ abbrev pub shape_spot : Data → Error → FaultSpot
 shape_spot d (BadJson fault) = json_spot d fault
 shape_spot d error = Member Object
 
--- the entry of the ignore list that is no source
-abbrev pub ignored_spot : JsonRecord → Option FaultSpot
-ignored_spot j = option_map (Entry IgnoreList) (option_and_then (position (λ id. nat_le (length j.sources) id)) j.ignore_list)
+-- the member that is the ignore list of a map: the older one, if the other is null or missing
+abbrev pub ignored_by : Option Data → Field
+ignored_by None = GoogleIgnoreList
+ignored_by (Some null) = GoogleIgnoreList
+ignored_by (Some list) = IgnoreList
+
+abbrev pub ignored_field : Data → Field
+ignored_field d = ignored_by (get (codes "ignoreList") d)
+
+-- the entry of the ignore list, which is this member, that is no source
+abbrev pub ignored_spot : Field → JsonRecord → Option FaultSpot
+ignored_spot field j = option_map (Entry field) (option_and_then (position (λ id. nat_le (length j.sources) id)) j.ignore_list)
 
 -- the segment with a fault
 abbrev pub mappings_spot : JsonRecord → Option FaultSpot
 mappings_spot j = option_map Segment (fault_place j.mappings (length j.names) (length j.sources))
 
 -- where the fields of a map have a fault: in the ignore list, then in the mappings
-abbrev pub fields_spot : JsonRecord → Option FaultSpot
-fields_spot j = option_or (ignored_spot j) (mappings_spot j)
+abbrev pub fields_spot : Field → JsonRecord → Option FaultSpot
+fields_spot field j = option_or (ignored_spot field j) (mappings_spot j)
 
 abbrev pub spot_in : Data → Result JsonRecord Error → Option FaultSpot
-spot_in d (Ok fields) = fields_spot fields
+spot_in d (Ok fields) = fields_spot (ignored_field d) fields
 spot_in d (Err error) = Some (shape_spot d error)
 
 -- where a value, as a map by itself, has its first fault

@@ -13,7 +13,7 @@ pub use Rattle.oxc_sourcemap_tokens.specs.Results.{Answers, OnlyMemory}
 pub use Rattle.oxc_sourcemap_places.specs.PlaceMessages.{spot_text, place_text, name_of}
 pub use Rattle.oxc_sourcemap_places.specs.ValueSpots.{is_entry, bad_entry, member_spot, json_spot}
 pub use Rattle.oxc_sourcemap_places.specs.ValueSpots.{shape_spot, ignored_spot, mappings_spot}
-pub use Rattle.oxc_sourcemap_places.specs.ValueSpots.{fields_spot}
+pub use Rattle.oxc_sourcemap_places.specs.ValueSpots.{fields_spot, ignored_field}
 pub use Rattle.oxc_sourcemap_places.specs.ValueSpots.{value_spot, read_alone, IsReading}
 pub use Rattle.oxc_sourcemap_places.specs.ValueSpots.{IsReadingSpot}
 pub use Rattle.oxc_sourcemap_places.specs.ValueSpots.{plain_map, map_place, offset_place}

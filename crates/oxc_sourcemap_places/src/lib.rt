@@ -9,6 +9,6 @@ mod value_fault;
 
 pub use fault_place::{FaultPlace, FaultSpot};
 pub use json_fault::{json_fault_at, reading_place};
-pub use map_fault::{ignored_spot, shape_spot};
+pub use map_fault::{ignored_field, ignored_spot, shape_spot};
 pub use section_fault::offset_place;
 pub use value_fault::value_fault_at;

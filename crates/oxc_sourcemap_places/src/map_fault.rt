@@ -5,6 +5,7 @@ ghost use Rattle.oxc_sourcemap_places.specs.Words.{is_entry, bad_entry, member_s
 ghost use Rattle.oxc_sourcemap_places.specs.Words.{shape_spot, fields_spot, value_spot};
 ghost use Rattle.oxc_sourcemap_places.specs.Words.{mappings_spot, read_alone, decoded, reading};
 ghost use Rattle.oxc_sourcemap_places.specs.Words.{json_record, OnlyMemory, ignored_spot};
+ghost use Rattle.oxc_sourcemap_places.specs.Words.{ignored_field};
 
 use crate::fault_place::{FaultSpot, name_of};
 use oxc_sourcemap_json::{JSONSourceMap, read_id};
@@ -71,15 +72,26 @@ fn first_past(ids: &[u32], count: usize) -> Option<usize>
     ids.iter().position(|id| *id as usize >= count)
 }
 
-/// The entry of the ignore list that is no source.
-pub fn ignored_spot(json: &JSONSourceMap) -> Option<FaultSpot>
-    ensures { result ≡ ignored_spot (json_record json.now) }
+/// The member that is the ignore list of a map: `x_google_ignoreList` if `ignoreList` is null or missing.
+pub fn ignored_field(value: &Value) -> Field
+    ensures { result ≡ ignored_field (view value.now) }
+{
+    match value.get("ignoreList") {
+        None => Field::GoogleIgnoreList,
+        Some(Value::Null) => Field::GoogleIgnoreList,
+        Some(_) => Field::IgnoreList,
+    }
+}
+
+/// The entry of the ignore list, which is this member, that is no source.
+pub fn ignored_spot(field: Field, json: &JSONSourceMap) -> Option<FaultSpot>
+    ensures { result ≡ ignored_spot field (json_record json.now) }
 {
     let Some(ids) = &json.ignore_list else {
         return None;
     };
     match first_past(ids.as_slice(), json.sources.len()) {
-        Some(index) => Some(FaultSpot::Entry(Field::IgnoreList, index)),
+        Some(index) => Some(FaultSpot::Entry(field, index)),
         None => None,
     }
 }
@@ -96,13 +108,13 @@ fn mappings_spot(json: &JSONSourceMap) -> Option<FaultSpot>
     }
 }
 
-/// Where the fields of a map have a fault.
-fn fields_spot(json: &JSONSourceMap) -> Option<FaultSpot>
-    ensures spot { result ≡ fields_spot (json_record json.now) }
+/// Where the fields of a map, whose ignore list is this member, have a fault.
+fn fields_spot(field: Field, json: &JSONSourceMap) -> Option<FaultSpot>
+    ensures spot { result ≡ fields_spot field (json_record json.now) }
     ensures found { (json_record json.now).version ≡ 3
         → is_some result ≡ is_err (decoded (json_record json.now)) }
 {
-    match ignored_spot(json) {
+    match ignored_spot(field, json) {
         Some(spot) => Some(spot),
         None => mappings_spot(json),
     }
@@ -117,7 +129,7 @@ pub(crate) fn value_spot(alloc: Global, value: &Value) -> Result<Option<FaultSpo
     ensures error { OnlyMemory result }
 {
     match JSONSourceMap::from_value(alloc, value) {
-        Ok(json) => Ok(fields_spot(&json)),
+        Ok(json) => Ok(fields_spot(ignored_field(value), &json)),
         Err(Error::OutOfMemory) => Err(Error::OutOfMemory),
         Err(error) => Ok(Some(shape_spot(value, error))),
     }

@@ -9,11 +9,11 @@ pub returns-in-Some-clause-found : goal.returns-in-Some-clause-found
 returns-in-Some-clause-found c = λ three.
     let j = json_record c.args.json.now in
     ap (λ o. is_some o || is_err (reading j.mappings (length j.names) (length j.sources))) (sym c.in-Some.is ∙ c.ignored_spot.ensures)
-    ∙ sym (fields-found j three)
+    ∙ sym (fields-found c.args.field j three)
 
 pub returns-in-None-clause-found : goal.returns-in-None-clause-found
 returns-in-None-clause-found c = λ three.
     let j = json_record c.args.json.now in
     c.mappings_spot.ensures.found
     ∙ ap (λ o. is_some o || is_err (reading j.mappings (length j.names) (length j.sources))) (sym c.in-None.is ∙ c.ignored_spot.ensures)
-    ∙ sym (fields-found j three)
+    ∙ sym (fields-found c.args.field j three)

@@ -93,6 +93,8 @@ fn texts_have_faults(rt: HostRuntime) {
         (r#"{"version":3,"mappings":"","sources":["a"],"x_google_ignoreList":[-1]}"#, Some(FaultSpot::Entry(Field::GoogleIgnoreList, 0))),
         // The entries of the ignore list come before the mappings.
         (r#"{"version":3,"mappings":"A,A,AA","sources":["a"],"ignoreList":[0,1]}"#, Some(FaultSpot::Entry(Field::IgnoreList, 1))),
+        (r#"{"version":3,"mappings":"","sources":["a"],"ignoreList":null,"x_google_ignoreList":[0,9]}"#, Some(FaultSpot::Entry(Field::GoogleIgnoreList, 1))),
+        (r#"{"version":3,"mappings":"","sources":["a"],"ignoreList":[7],"x_google_ignoreList":[0]}"#, Some(FaultSpot::Entry(Field::IgnoreList, 0))),
         (r#"{"version":3,"mappings":"A,A;A,AA","sources":["a"],"ignoreList":[0]}"#, Some(FaultSpot::Segment(SegmentPlace { byte: 6, line: 1, segment: 1 }))),
         (r#"{"version":3,"mappings":"AAAAA","sources":["a"],"names":["n"]}"#, None),
         (r#"{"version":3,"mappings":"AAAAA","sources":["a"],"names":[]}"#, Some(FaultSpot::Segment(SegmentPlace { byte: 0, line: 0, segment: 0 }))),

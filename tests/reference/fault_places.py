@@ -100,7 +100,7 @@ def lists_fault(value):
     ignored = "ignoreList" if "ignoreList" in there else "x_google_ignoreList"
     yield member_fault(there, ignored, (is_number,))
     ids = there.get(ignored, [])
-    yield next((f"entry {k} of ignoreList" for k, entry in enumerate(ids) if entry >= len(there["sources"])), None)
+    yield next((f"entry {k} of {ignored}" for k, entry in enumerate(ids) if entry >= len(there["sources"])), None)
     place = fault_at(there["mappings"], len(there.get("names", [])), len(there["sources"]))
     yield place and f"line {place[1]}, segment {place[2]} (byte {place[0]})"
 

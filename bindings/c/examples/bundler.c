@@ -2,8 +2,8 @@
  *
  *   bundler OUT MODULE..
  *
- * Each MODULE names its map in a comment `sourceMappingURL`, as a file beside it or as a data URL. The maps are joined, each at the
- * line where its module begins. A source of theirs that has a map itself, SOURCE.map in the folder of the first module, is led back
+ * Each MODULE names its map in a comment `sourceMappingURL` at its end, as a file beside it or as a data URL. The maps are joined, each at
+ * the line where its module begins. A source of theirs that has a map itself, SOURCE.map in the folder of the first module, is led back
  * through that. The code is written to OUT, and the map to OUT.map.
  */
 #include "oxc_sourcemap.h"
@@ -70,9 +70,9 @@ static smap_map *map_of(const char *module, smap_text url) {
     uint32_t code = smap_decode_data_url(url.at, url.len, &string, &fault);
     if (code == SMAP_NO_ENTRY) {
         char *path = beside(module, url, "");
-        map = checked(read_map(path));
+        if (!(map = read_map(path))) fprintf(stderr, "%s: the map %s is not there\n", module, path);
         free(path);
-        return map;
+        return checked(map);
     }
     check(module, code, &fault);
     smap_get_text(string, &text);
@@ -81,7 +81,7 @@ static smap_map *map_of(const char *module, smap_text url) {
     return map;
 }
 
-/* Writes a module without the line that names its map, adds its map, and returns how many lines were written. */
+/* Writes a module without the comment that names its map, adds its map, and returns how many lines were written: whole ones. */
 static uint32_t add_module(FILE *out, smap_join *join, const char *module, uint32_t line) {
     size_t len;
     smap_text url;
@@ -90,10 +90,12 @@ static uint32_t add_module(FILE *out, smap_join *join, const char *module, uint3
     char *code = checked(read_file(module, &len));
     if (smap_source_mapping_url(code, len, SMAP_JAVASCRIPT, &url, &fault) == SMAP_OK) {
         smap_map *map = map_of(module, url);
+        check(module, smap_apply_source_root(map, &fault), &fault); /* joins drop it */
         check(module, smap_join_add(join, map, line, 0, &fault), &fault);
         smap_free_map(map);
-        for (len = (size_t)(url.at - code); len && code[len - 1] != '\n';) len--;
+        for (len = (size_t)(url.at - code) - 1; code[len] != '/' || !strchr("/*", code[len + 1]);) len--;
     }
+    if (len && code[len - 1] != '\n') code[len++] = '\n'; /* (there is room for one more) */
     fwrite(code, 1, len, out);
     for (size_t i = 0; i < len; i++) lines += code[i] == '\n';
     free(code);
@@ -103,9 +105,8 @@ static uint32_t add_module(FILE *out, smap_join *join, const char *module, uint3
 /* A map, led back through those of its sources that have one; the map is freed. */
 static smap_map *remapped(smap_map *map, const char *module) {
     static smap_text sources[MOST], paths[MOST];
-    static smap_map *inputs[MOST];
+    static smap_map *inputs[MOST], *out;
     size_t count, len = 0;
-    smap_map *out;
     smap_fault fault;
     if (smap_get_sources(map, sources, MOST, &count) || count > MOST) exit(1);
     for (size_t i = 0; i < count; i++) {

@@ -86,14 +86,28 @@ static uint32_t number_before(const char *line, const char **end) {
     return (uint32_t)number;
 }
 
+/* Where the file of a line begins, which ends at `end`: in the parentheses at the end of the line, behind `at`, behind a function and
+ * `@`, or at the last word. */
+static const char *file_in(const char *line, const char *end, int is_in_parentheses) {
+    const char *file = end, *first = line + strspn(line, " ");
+    if (is_in_parentheses) {
+        while (file > line && file[-1] != '(') file--;
+        return file;
+    }
+    if (strncmp(first, "at ", 3) == 0) return first + (strncmp(first + 3, "async ", 6) == 0 ? 9 : 3);
+    for (const char *at = line; at < end; at++)
+        if (*at == '@' && (at == line || at[-1] != '/')) return at + 1;
+    while (file > line && file[-1] != ' ') file--;
+    return file;
+}
+
 /* Prints the line with its position resolved. */
 static void print_resolved(entry **entries, const char *directory, const char *line, size_t len) {
     const char *tail = line + len;
     if (tail > line && tail[-1] == ')') tail--;
     const char *end = tail;
     uint32_t column = number_before(line, &end), row = column ? number_before(line, &end) : 0;
-    const char *file = end, *name = end;
-    while (file > line && !strchr(" (@", file[-1])) file--;
+    const char *file = file_in(line, end, *tail == ')'), *name = end;
     while (name > file && name[-1] != '/') name--;
     smap_original it;
     const smap_map *map = row && name < end ? map_of(entries, directory, name, (size_t)(end - name)) : NULL;

@@ -31,7 +31,6 @@ class TraceMap {
     this._lines = 0;
     this._starts = undefined;
     this._scans = 0;
-    this._reverse = undefined;
     const isAsGiven = isEncoded || this._decoded === value.mappings;
     this._mends = isAsGiven ? mappings.NOTHING_MENDED : [mappings.mend('UNSORTED')];
   }

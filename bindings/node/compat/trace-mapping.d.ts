@@ -100,13 +100,13 @@ export declare function decodedMap(map: TraceMap): Omit<DecodedSourceMap, "mappi
 /** A TraceMap of a map whose decoded lines are sorted already. Nothing checks that they are. */
 export declare function presortedDecodedMap(map: DecodedSourceMap, mapUrl?: string): TraceMap;
 
-/** The segment that answers for a generated line and column, both from 0; null if there is none. Throws a TypeError if the line is no
- *  integer from 0. */
+/** The segment that answers for a generated line and column, both from 0; null if there is none. A line that is no integer from 0 is a
+ *  TypeError, or has none. */
 export declare function traceSegment(map: TraceMap, line: number, column: number): Readonly<SourceMapSegment> | null;
 
 /**
- * The original position of a generated one. Throws an Error if the line is below 1 or the column below 0, and a TypeError if the line is
- * no integer.
+ * The original position of a generated one. Throws an Error if the line is below 1 or the column below 0. A line that is no integer is a
+ * TypeError, or has no answer.
  */
 export declare function originalPositionFor(map: TraceMap, needle: Needle): OriginalMapping | InvalidOriginalMapping;
 

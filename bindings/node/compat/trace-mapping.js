@@ -106,14 +106,17 @@ function reverseQuestion(map, { source, line, column }, bias) {
   return { id, line: line - 1, column, whole, isUpper };
 }
 
+/** The maps of the library, with an index, of TraceMaps. They stand beside these, which a message to a worker can then take. */
+const INDEXED = new WeakMap();
+
 /** The indices of all tokens that answer, by generated position: those at the column that is asked for, or else at the next one on
  *  that side which has any. The first lookups in a map go over its tokens; many are worth an index. */
 function findAll(map, question) {
   map._scans = (map._scans ?? 0) + 1;
   if (map._scans <= SCANS) return scan(tokensOf(map), question);
-  map._reverse ??= mappings.mapOf(tokensOf(map));
+  if (!INDEXED.has(map)) INDEXED.set(map, mappings.mapOf(tokensOf(map)));
   const { id, line, whole, isUpper } = question;
-  return map._reverse.allGenerated(id, line, whole, isUpper ? Direction.FROM : Direction.FOR);
+  return INDEXED.get(map).allGenerated(id, line, whole, isUpper ? Direction.FROM : Direction.FOR);
 }
 
 /** The same without an index. */

@@ -92,7 +92,7 @@ export interface Piece {
   index: number | null;
 }
 
-/** The number of entries of each list, of lines up to the last token, and of the bytes of memory that a map holds. */
+/** The number of entries of each list, of lines up to the last token, and of the bytes of a map's texts, tokens and indices. */
 export interface Counts {
   tokens: number;
   names: number;
@@ -343,7 +343,8 @@ export class SourceMap {
    * number of threads may then read it at once. From here on the map takes no change: calls that change it fail with SMAP_SHARED
    * (so call `indexSources` before, if workers look up generated positions).
    *
-   * The garbage collector does not free a map that was shared. It can be taken until `free`, or until its thread ends.
+   * The garbage collector does not free a map that was shared. It can be taken until `free`, or until its thread ends, and after that
+   * for as long as another thread has it.
    *
    * Throws SourceMapError of SMAP_NO_THREADS where the package runs as a WebAssembly module, which shares no maps.
    *

@@ -20,6 +20,12 @@ const original = (map, line, column, bias) => ours.originalPositionFor(map, { li
 const generated = (map, source, line, column, bias) => ours.generatedPositionFor(map, { source, line, column, bias });
 const allGenerated = (map, source, line, column, bias) => ours.allGeneratedPositionsFor(map, { source, line, column, bias });
 
+test('a map that was asked for many positions is copied as a message to a worker is', () => {
+  const map = new TraceMap({ version: 3, sources: ['a'], names: [], mappings: 'AAAA,CAAC;AACA' });
+  for (let i = 0; i < 40; i++) allGenerated(map, 'a', 1, 0);
+  assert.deepEqual(allGenerated(structuredClone(map), 'a', 1, 0), [{ line: 1, column: 0 }]);
+});
+
 test('a map has the members of its value, and resolved sources', () => {
   for (const input of [TEXT, MAP, { ...MAP, mappings: DECODED }]) {
     const map = new TraceMap(input, 'https://x.org/js/out.js.map');

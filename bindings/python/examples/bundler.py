@@ -2,8 +2,8 @@
 
     bundler.py OUT MODULE..
 
-Each MODULE names its map in a comment `sourceMappingURL`, as a file beside it or as a data URL. The maps are joined, each at the
-line where its module begins. A source of theirs that has a map itself, SOURCE.map in the folder of the first module, is led back
+Each MODULE names its map in a comment `sourceMappingURL` at its end, as a file beside it or as a data URL. The maps are joined, each at
+the line where its module begins. A source of theirs that has a map itself, SOURCE.map in the folder of the first module, is led back
 through that. The code is written to OUT, and the map to OUT.map.
 """
 
@@ -24,14 +24,17 @@ def map_of(module: Path, url: str) -> SourceMap:
 
 
 def add_module(join: SourceMapJoin, module: Path, line: int) -> str:
-    """Adds the map of a module whose code begins at this line, and returns the code without the line that names the map."""
+    """Adds the map of a module whose code begins at this line, and returns the code, as whole lines, without the comment that names
+    the map."""
     code = module.read_text(encoding="utf-8")
     url = source_mapping_url(code)
-    if url is None:
-        return code
-    with map_of(module, url) as map:
-        join.add(map, line)
-    return code[: code.rindex("\n", 0, code.rindex(url)) + 1]
+    if url is not None:
+        with map_of(module, url) as map:
+            map.apply_source_root()  # joins drop it
+            join.add(map, line)
+        front = code[: code.rindex(f"sourceMappingURL={url}")]
+        code = front[: max(front.rfind("//"), front.rfind("/*"))]
+    return code if code.endswith("\n") or not code else f"{code}\n"
 
 
 def remapped(map: SourceMap, folder: Path) -> SourceMap:
@@ -57,6 +60,8 @@ def main() -> None:
         bundle(Path(sys.argv[1]), [Path(it) for it in sys.argv[2:]])
     except SourceMapError as error:
         sys.exit(f"{error.name}: {error} {error.place.message if error.place else ''}")
+    except OSError as error:
+        sys.exit(str(error))
 
 
 if __name__ == "__main__":

@@ -18,7 +18,15 @@ sys.path.append(str(Path(__file__).resolve().parents[1] / "src"))
 
 from oxc_sourcemap import SourceMap, SourceMapError
 
-POSITION = re.compile(r"([^ (@]*?([^ (@/]+)):(\d+):(\d+)(\)?)$")
+POSITION = re.compile(r"(.*?([^/]+)):(\d+):(\d+)(\)?)")
+
+
+def start_of(line: str) -> int:
+    """Where the file of a line begins: in the parentheses at its end, behind `at`, behind a function and `@`, or at the last word."""
+    if line.endswith(")"):
+        return line.rfind("(") + 1
+    found = re.match(r" *at (async )?", line) or re.match(r".*?(?<!/)@", line)
+    return found.end() if found else line.rfind(" ") + 1
 
 
 class Resolver:
@@ -42,7 +50,7 @@ class Resolver:
 
     def resolved(self, line: str) -> str:
         """A line of the trace with its position resolved. Lines and columns of a trace count from 1."""
-        found = POSITION.search(line)
+        found = POSITION.fullmatch(line, start_of(line))
         if found is None:
             return line
         _, name, row, column, _ = found.groups()

@@ -36,7 +36,7 @@ class Examples(unittest.TestCase):
 
     def test_bundler(self):
         with tempfile.TemporaryDirectory() as room:
-            ran("bundler.py", f"{room}/bundle.js", DATA / "bundle/greet.js", DATA / "bundle/main.js")
+            ran("bundler.py", f"{room}/bundle.js", DATA / "bundle/greet.js", DATA / "bundle/main.js", DATA / "bundle/tail.js")
             for name in ("bundle.js", "bundle.js.map"):
                 said, wanted = (Path(it, name).read_text(encoding="utf-8") for it in (room, DATA / "bundle/expected"))
                 self.assertEqual(said, wanted)

@@ -136,7 +136,7 @@ class Threads(Case):
 
     def test_a_change_that_is_interrupted(self):
         class Interrupted:
-            def wait(self):
+            def wait(self, seconds):
                 raise KeyboardInterrupt
 
             def set(self):
@@ -158,6 +158,41 @@ class Threads(Case):
         reads_on.set()
         self.assertTrue(changed.wait(10))
         self.assertEqual(map.file, "c.js")
+
+    def test_calls_that_interrupt_others(self):
+        # What the handler of a signal, or a finalizer, does in the midst of a call: reading is fine, and what would wait raises.
+        map, builder = read(), SourceMapBuilder()
+
+        def all_calls():
+            self.assertEqual(map._read(lambda at: map.file), "out.js")
+            for change in map.close, lambda: map.set_file("b.js"):
+                self.assertRaises(RuntimeError, map._read, lambda at: change())
+                self.assertRaises(RuntimeError, SourceMap._read_all, [map, map], lambda at: change())
+                self.assertRaises(RuntimeError, map._exclusively, lambda at: change())
+            for reading in lambda: map.file, lambda: map.trace(0, 0), lambda: map.compose(map):
+                self.assertRaises(RuntimeError, map._exclusively, lambda at: reading())
+            for call in lambda: builder.add_name("a"), builder.close, builder.finish:
+                self.assertRaises(RuntimeError, builder._coded, lambda at: call())
+
+        self.together(all_calls, seconds=10)
+        self.assertEqual((map.file, map.closed, builder.closed), ("out.js", False, False))
+        self.together(lambda: (map.set_file("b.js"), map.close(), builder.close()), seconds=10)
+        self.assertTrue(map.closed and builder.closed)
+
+    def test_what_an_interrupted_change_left(self):
+        class Silent(threading.Event):
+            def set(self):
+                pass
+
+        map, reads, reads_on = read(), threading.Event(), threading.Event()
+        map._lease = None
+        self.assertEqual(map.file, "out.js")
+        threading.Thread(target=map._read, args=[lambda at: (reads.set(), reads_on.wait(60))], daemon=True).start()
+        reads.wait(60)
+        threading.Timer(0.1, reads_on.set).start()
+        with mock.patch.object(threading, "Event", Silent):
+            map.set_file("b.js")
+        self.assertEqual(map.file, "b.js")
 
     def test_changes_that_fail(self):
         with read() as map:

@@ -27,15 +27,22 @@ class _Maker:
     _free: ClassVar[Callable[..., object]]
 
     def __init__(self) -> None:
-        self._at, self._lock, fault = ctypes.c_void_p(), threading.Lock(), _library.Fault()
+        self._at, self._lock, self._owner, fault = ctypes.c_void_p(), threading.Lock(), 0, _library.Fault()
         check(type(self)._new(byref(self._at), byref(fault)), fault)
 
     def _coded(self, call: Callable[..., int], *arguments: Any) -> int:
         """The code of a call, which gets the handle and these."""
+        self._check_outside()
         with self._lock:
+            self._owner = threading.get_ident()
             if not self._at:
                 raise ValueError(f"The {type(self).__name__} is closed")
             return call(self._at, *arguments)
+
+    def _check_outside(self) -> None:
+        """What waits for a call that it interrupts, as a handler of a signal may, would wait for ever."""
+        if self._owner == threading.get_ident() and self._lock.locked():
+            raise RuntimeError(f"The {type(self).__name__} is used by a call that this one interrupts")
 
     def _call(self, call: Callable[..., int], *arguments: Any) -> None:
         """The same, but an error is raised."""
@@ -62,7 +69,9 @@ class _Maker:
         Traceback (most recent call last):
         ValueError: The SourceMapJoin is closed
         """
+        self._check_outside()
         with self._lock:
+            self._owner = threading.get_ident()
             at, self._at = self._at, ctypes.c_void_p()
             type(self)._free(at)
 

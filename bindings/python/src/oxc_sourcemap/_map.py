@@ -3,13 +3,15 @@
 from __future__ import annotations
 
 import ctypes
+import sys
 import threading
 import weakref
 from array import array
 from collections.abc import Callable, Iterable, Iterator, Mapping, Sequence
 from contextlib import suppress
 from ctypes import byref
-from typing import TYPE_CHECKING, Any, Optional, TypeVar, Union, cast, final
+from types import FrameType
+from typing import TYPE_CHECKING, Any, NoReturn, Optional, TypeVar, Union, cast, final
 
 from . import _library
 from ._errors import check, check_code
@@ -78,9 +80,10 @@ class SourceMap:
     Lines, columns, ids and indices count from 0; columns are in UTF-16 code units. Numbers are of 32 bits: others raise
     OverflowError. Texts are str, or bytes that are UTF-8: others raise SourceMapError of Code.NOT_UTF8.
 
-    Threads may share a map: those that read it run at once, and one that changes or closes it waits for these, and they for it.
-    A map that is closed raises ValueError. A call that fails leaves all that it was given as it was; want of memory is
-    MemoryError. Do not use maps in a child that a process with several threads has forked.
+    Threads may share a map: one that changes or closes it waits for those that read it, and they for it. A handler of a signal or
+    a finalizer that interrupts a call on a map may read that map; where it would wait for that call, it raises RuntimeError. A
+    map that is closed raises ValueError. A call that fails or is interrupted leaves all that it was given as it was; want of
+    memory is MemoryError. Do not use maps in a child that a process with several threads has forked.
 
     As a collection a map is that of its tokens, but it is true also without any.
 
@@ -89,8 +92,13 @@ class SourceMap:
     (2, ['a.ts'], ('a.ts', 2, 4, 'f'))
     """
 
+    # The address of the map, null once it is freed; its lease, None while the map is changed, and by `_last` the last one, if a
+    # call still has it; and the lock for changes, with the thread that took it last.
+    _at: ctypes.c_void_p
     _lease: Optional[Lease] = None
+    _last: Callable[[], Optional[Lease]]
     _lock: threading.Lock
+    _owner = 0
 
     def __init__(self) -> None:
         raise TypeError("a SourceMap is made by from_json, read_found, from_tokens, decode_mappings, join or evaluate")
@@ -100,9 +108,10 @@ class SourceMap:
     @staticmethod
     def _made(call: Callable[..., int]) -> SourceMap:
         """What a call makes, which gets where it puts the map and the fault."""
-        made, at, fault = object.__new__(SourceMap), Lease(), _library.Fault()
-        made._lock, made._lease = threading.Lock(), at
-        check(call(byref(at), byref(fault)), fault)
+        made, fault = object.__new__(SourceMap), _library.Fault()
+        made._at, made._last, made._lock = ctypes.c_void_p(), lambda: None, threading.Lock()
+        check(call(byref(made._at), byref(fault)), fault)
+        made._lend()
         return made
 
     def _read(self, call: Callable[[int], T]) -> T:
@@ -133,32 +142,60 @@ class SourceMap:
 
     def _wait(self) -> None:
         """Waits until the map is not being changed."""
+        self._check_outside()
         with self._lock:
-            self._check_open()
+            self._lend()
 
-    def _check_open(self) -> None:
-        if self._lease is None:
+    def _check_outside(self) -> None:
+        """What waits for a call that it interrupts would wait for ever."""
+        if self._owner == threading.get_ident() and self._lock.locked():
+            raise RuntimeError("The map is being changed by a call that this one interrupts")
+
+    def _check_not_read_here(self) -> None:
+        """The same of a call that reads the map. (It stands on this thread's stack; who reads takes no note of that.)"""
+        last, frame = id(self._last()), cast(Optional[FrameType], sys._getframe())
+        while frame is not None:
+            if frame.f_code in READERS:
+                names = frame.f_locals
+                leases = [id(it) for it in (names.get("lease"), *names.get("leases", ())) if it is not None]
+                # (before CPython 3.13 the frame keeps this copy of its names)
+                if isinstance(names, dict):
+                    names.clear()
+                if last in leases:
+                    raise RuntimeError("The map is being read by a call that this one interrupts")
+            frame = frame.f_back
+
+    def _lend(self) -> None:
+        """Lends the map, under the lock, if it is open: by the lease before, if a call still has that."""
+        if not self._at.value:
             raise ValueError("The map is closed")
+        if self._lease is None:
+            kept = self._last()
+            lease = Lease(self._at.value) if kept is None else kept
+            self._last = weakref.ref(lease)
+            self._lease = lease
 
     def _exclusively(self, call: Callable[[int], T], closes: bool = False) -> T:
         """What a call says that gets the address of the map while nobody else has it."""
+        self._check_outside()
         with self._lock:
-            self._check_open()
-            gone = threading.Event()
-            old = weakref.ref(cast(Lease, self._lease), lambda _: gone.set())
-            new = Lease(cast(Lease, self._lease).value)
-            is_closed = False
+            self._owner = threading.get_ident()
+            self._lend()
             try:
+                gone = threading.Event()
+                self._last = weakref.ref(cast(Lease, self._lease), lambda _: gone.set())
                 self._lease = None
-                gone.wait()
-                is_closed = closes
-                return call(new.value or 0)
+                # (what interrupts the callback may keep it from telling)
+                while self._last() is not None:
+                    self._check_not_read_here()
+                    gone.wait(0.02)
+                address = self._at.value or 0
+                if closes:
+                    self._at.value = None
+                return call(address)
             finally:
-                if not is_closed:
-                    kept = old()
-                    self._lease = new if kept is None else kept
-                    del kept
-                del new
+                if self._at.value:
+                    self._lend()
 
     def _change(self, call: Callable[..., int], *arguments: Any) -> None:
         """Changes the map by a call that gets its address, these and the fault."""
@@ -184,8 +221,7 @@ class SourceMap:
         >>> SourceMap.from_tokens([]).closed
         False
         """
-        with self._lock:
-            return self._lease is None
+        return not self._at.value
 
     def __enter__(self) -> SourceMap:
         return self
@@ -194,8 +230,8 @@ class SourceMap:
         self.close()
 
     def __del__(self, free: Callable[..., object] = lib.smap_free_map) -> None:
-        if self._lease is not None:
-            free(self._lease)
+        with suppress(AttributeError):
+            free(self._at)
 
     # ---- reading ----
 
@@ -313,6 +349,9 @@ class SourceMap:
         (None, 'b.js')
         """
         return SourceMap._made(lambda *out: self._read(lambda at: lib.smap_clone(at, *out)))
+
+    def __reduce__(self) -> NoReturn:
+        raise TypeError("a SourceMap cannot be pickled: its to_json() can")
 
     def __copy__(self) -> SourceMap:
         return self.clone()
@@ -782,7 +821,7 @@ class SourceMap:
 
     def remap(self, inputs: Union[Mapping[str, SourceMap], Iterable[tuple[Text, SourceMap]]]) -> SourceMap:
         """Leads this map through the maps of its sources: inputs has a path of a source and its map, of equal paths the first
-        counts. Raises SourceMapError of INPUT_LINE_ORDER or TOO_LARGE.
+        counts. Source roots are dropped: `apply_source_root`, called before, keeps them. Raises SourceMapError of INPUT_LINE_ORDER or TOO_LARGE.
 
         >>> bundle = SourceMap.from_tokens([Token(0, 4, 2, 0, 0, None)], sources=["a.js", "b.js"])
         >>> compiled = SourceMap.from_tokens([Token(2, 0, 7, 1, 0, None)], sources=["a.ts"])
@@ -864,3 +903,6 @@ def _mends_of(mends: ctypes.c_void_p) -> list[Mend]:
     out = (_library.Mend * count.value)()
     check_code(lib.smap_get_mends(mends, ctypes.addressof(out), count.value, byref(count)))
     return [Mend(named(MendKind, it.kind), None if it.section == NOT_TOLD else it.section, it.number) for it in out]
+
+
+READERS = {it.__code__ for it in (SourceMap._read, SourceMap._read_all, trace) if hasattr(it, "__code__")}

@@ -214,7 +214,8 @@ class Piece(NamedTuple):
 
 
 class Counts(NamedTuple):
-    """The number of entries of each list of a map, of its lines, and of the bytes of memory that it holds."""
+    """The number of entries of each list of a map, and of its lines; and the bytes of its texts, tokens and indices, to which
+    some 50 for each text come."""
 
     tokens: int
     names: int

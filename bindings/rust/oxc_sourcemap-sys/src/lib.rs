@@ -1,7 +1,7 @@
 //! The declarations of `oxc_sourcemap.h`, version 1, for Rust. The header describes each call and what its caller has to keep;
 //! the crate `oxc_sourcemap` beside this one is the safe way to use them.
 //!
-//! `build.rs` finds the library: in the folder `OXC_SOURCEMAP_LIB_DIR`, or in `target/` of the repository, or by pkg-config. It is
+//! `build.rs` finds the library, and its head says where: a packed crate has it in `lib/TARGET`. It is
 //! linked as `OXC_SOURCEMAP_LINK` says, `static` or `dynamic`; without it statically where the folder has an archive. A program that
 //! is linked dynamically has to find the library when it runs, as by `LD_LIBRARY_PATH`.
 //!

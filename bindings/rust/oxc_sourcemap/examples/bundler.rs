@@ -2,8 +2,8 @@
 //!
 //!     bundler OUT MODULE..
 //!
-//! Each MODULE names its map in a comment `sourceMappingURL`, as a file beside it or as a data URL. The maps are joined, each at the
-//! line where its module begins. A source of theirs that has a map itself, SOURCE.map in the folder of the first module, is led back
+//! Each MODULE names its map in a comment `sourceMappingURL` at its end, as a file beside it or as a data URL. The maps are joined, each
+//! at the line where its module begins. A source of theirs that has a map itself, SOURCE.map in the folder of the first module, is led back
 //! through that. The code is written to OUT, and the map to OUT.map.
 
 use oxc_sourcemap::{ConcatSourceMapBuilder, Language, Position, SourceMap, decode_data_url, source_mapping_url};
@@ -33,18 +33,22 @@ fn map_of(module: &Path, url: &str) -> Result<SourceMap<'static>> {
     }
 }
 
-/// Adds a module without the line that names its map, and its map.
+/// Adds a module, as whole lines, without the comment that names its map, and its map.
 fn add_module(code: &mut String, maps: &mut ConcatSourceMapBuilder<'_>, module: &Path) -> Result<()> {
     let text = fs::read_to_string(module).map_err(|error| format!("{}: {error}", module.display()))?;
-    let Some(url) = source_mapping_url(&text, Language::JavaScript) else {
-        code.push_str(&text);
-        return Ok(());
-    };
     let line = code.matches('\n').count() as u32;
-    maps.try_add_sourcemap(&map_of(module, url)?, Position::new(line, 0))?;
-    let before = url.as_ptr() as usize - text.as_ptr() as usize;
-    let end = text[..before].rfind('\n').map_or(0, |at| at + 1);
+    let mut end = text.len();
+    if let Some(url) = source_mapping_url(&text, Language::JavaScript) {
+        let mut map = map_of(module, url)?;
+        map.apply_source_root()?; // joins drop it
+        maps.try_add_sourcemap(&map, Position::new(line, 0))?;
+        let front = &text[..url.as_ptr() as usize - text.as_ptr() as usize];
+        end = front.rfind("//").max(front.rfind("/*")).unwrap_or(0);
+    }
     code.push_str(&text[..end]);
+    if !code.is_empty() && !code.ends_with('\n') {
+        code.push('\n');
+    }
     Ok(())
 }
 

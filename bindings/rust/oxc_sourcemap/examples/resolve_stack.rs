@@ -58,10 +58,23 @@ fn original(maps: &mut Maps, place: &str) -> Option<String> {
     Some(format!("{}:{}:{}", found.source, found.line() + 1, found.column() + 1))
 }
 
+/// Where the file of a line begins: in the parentheses at its end, behind `at`, behind a function and `@`, or at the last word.
+fn start_of(line: &str) -> usize {
+    let behind = |at: Option<usize>| at.map(|at| at + 1);
+    if line.ends_with(')') {
+        return behind(line.rfind('(')).unwrap_or(0);
+    }
+    if let Some(rest) = line.trim_start().strip_prefix("at ") {
+        return line.len() - rest.strip_prefix("async ").unwrap_or(rest).len();
+    }
+    let at = line.match_indices('@').map(|(at, _)| at).find(|at| !line[..*at].ends_with('/'));
+    behind(at.or(line.rfind(' '))).unwrap_or(0)
+}
+
 /// A line with its position resolved.
 pub fn resolved(maps: &mut Maps, line: &str) -> String {
     let inner = line.strip_suffix(')').unwrap_or(line);
-    let start = inner.rfind([' ', '(', '@']).map_or(0, |at| at + 1);
+    let start = start_of(line);
     match original(maps, &inner[start..]) {
         Some(place) => format!("{}{place}{}", &line[..start], &line[inner.len()..]),
         None => line.to_string(),

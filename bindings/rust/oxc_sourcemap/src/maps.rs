@@ -39,7 +39,8 @@ impl SourceMap<'_> {
     }
 
     /// Leads this map through the maps of its sources: each input is a path, byte for byte as this map has it, and the map of that
-    /// source. Sources without an input stay.
+    /// source; of equal paths the first counts. Sources without an input stay. Source roots, of inputs too, are dropped:
+    /// `apply_source_root`, called before, keeps them.
     ///
     /// Fails with `InputLineOrder`, `TooLarge` or `OutOfMemory`.
     ///

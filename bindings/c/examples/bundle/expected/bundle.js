@@ -3,4 +3,5 @@ function greet(name) {
 }
 var who = "Welt";
 console.log(greet(who));
+greet(who); 
 //# sourceMappingURL=bundle.js.map

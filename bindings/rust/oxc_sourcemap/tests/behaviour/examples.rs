@@ -21,7 +21,7 @@ fn text(path: &str) -> String {
 
 #[test]
 fn modules_are_bundled() {
-    let modules = ["greet.js", "main.js"].map(|name| at("bindings/c/examples/bundle").join(name));
+    let modules = ["greet.js", "main.js", "tail.js"].map(|name| at("bindings/c/examples/bundle").join(name));
     let (code, map) = bundler::bundle("bundle.js", &modules).unwrap();
     assert_eq!(code, text("bindings/c/examples/bundle/expected/bundle.js"));
     assert_eq!(map, text("bindings/c/examples/bundle/expected/bundle.js.map"));

@@ -72,5 +72,8 @@ fn what_is_not_mended_is_refused() {
 fn what_is_not_mended_has_its_place_behind_what_is() {
     let spot = |text: &str| SourceMap::read_found(text.as_bytes()).unwrap_err().place().unwrap().spot;
     assert_eq!(spot(")]}'\n{\n \"version\": x}"), Spot::Reading { line: 2, column: 12, byte: 19 });
-    assert_eq!(spot(r#"{"version":3,"sources":[null,1],"mappings":""}"#), Spot::Entry { field: Field::Sources, entry: 1 });
+    assert_eq!(
+        spot(r#"{"version":3,"sources":[null,1],"mappings":""}"#),
+        Spot::Entry { field: Field::Sources, entry: 1 }
+    );
 }

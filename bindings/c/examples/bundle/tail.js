@@ -1,0 +1,1 @@
+greet(who); //# sourceMappingURL=data:application/json,%7B%22version%22:3,%22sourceRoot%22:%22lib%22,%22sources%22:[%22tail.ts%22],%22names%22:[],%22mappings%22:%22AAEA%22%7D

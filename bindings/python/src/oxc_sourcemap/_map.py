@@ -82,8 +82,9 @@ class SourceMap:
 
     Threads may share a map: one that changes or closes it waits for those that read it, and they for it. A handler of a signal or
     a finalizer that interrupts a call on a map may read that map; where it would wait for that call, it raises RuntimeError. A
-    map that is closed raises ValueError. A call that fails or is interrupted leaves all that it was given as it was; want of
-    memory is MemoryError. Do not use maps in a child that a process with several threads has forked.
+    map that is closed raises ValueError. A call that fails leaves all that it was given as it was, and one that is interrupted
+    has done all of its work or none; want of memory is MemoryError. Do not use maps in a child that a process with several
+    threads has forked.
 
     As a collection a map is that of its tokens, but it is true also without any.
 

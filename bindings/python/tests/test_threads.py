@@ -1,6 +1,7 @@
 """Threads that share maps."""
 
 import threading
+import time
 import unittest
 from array import array
 from unittest import mock
@@ -177,6 +178,22 @@ class Threads(Case):
         self.together(all_calls, seconds=10)
         self.assertEqual((map.file, map.closed, builder.closed), ("out.js", False, False))
         self.together(lambda: (map.set_file("b.js"), map.close(), builder.close()), seconds=10)
+        self.assertTrue(map.closed and builder.closed)
+
+    def test_a_change_waits_for_another_thread(self):
+        # (also if this thread has made the change before: what the other has taken is the lock alone)
+        map, builder = read(), SourceMapBuilder()
+        map.set_file("b.js")
+        builder.add_name("a")
+        for lock, change in (
+            (map._lock, lambda: map.set_file("c.js")), (map._lock, map.close),
+            (builder._lock, lambda: builder.set_file("c.js")), (builder._lock, builder.close),
+        ):  # fmt: skip
+            taken, ends = threading.Event(), threading.Event()
+            threading.Thread(target=lambda: (lock.acquire(), taken.set(), time.sleep(0.1), ends.set(), lock.release())).start()
+            taken.wait(60)
+            change()
+            self.assertTrue(ends.is_set())
         self.assertTrue(map.closed and builder.closed)
 
     def test_what_an_interrupted_change_left(self):

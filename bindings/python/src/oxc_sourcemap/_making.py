@@ -35,9 +35,12 @@ class _Maker:
         self._check_outside()
         with self._lock:
             self._owner = threading.get_ident()
-            if not self._at:
-                raise ValueError(f"The {type(self).__name__} is closed")
-            return call(self._at, *arguments)
+            try:
+                if not self._at:
+                    raise ValueError(f"The {type(self).__name__} is closed")
+                return call(self._at, *arguments)
+            finally:
+                self._owner = 0
 
     def _check_outside(self) -> None:
         """What waits for a call that it interrupts, as a handler of a signal may, would wait for ever."""
@@ -71,7 +74,6 @@ class _Maker:
         """
         self._check_outside()
         with self._lock:
-            self._owner = threading.get_ident()
             at, self._at = self._at, ctypes.c_void_p()
             type(self)._free(at)
 

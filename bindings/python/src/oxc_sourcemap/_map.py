@@ -94,7 +94,7 @@ class SourceMap:
     """
 
     # The address of the map, null once it is freed; its lease, None while the map is changed, and by `_last` the last one, if a
-    # call still has it; and the lock for changes, with the thread that took it last.
+    # call still has it; and the lock for changes, with the thread that has it.
     _at: ctypes.c_void_p
     _lease: Optional[Lease] = None
     _last: Callable[[], Optional[Lease]]
@@ -181,8 +181,8 @@ class SourceMap:
         self._check_outside()
         with self._lock:
             self._owner = threading.get_ident()
-            self._lend()
             try:
+                self._lend()
                 gone = threading.Event()
                 self._last = weakref.ref(cast(Lease, self._lease), lambda _: gone.set())
                 self._lease = None
@@ -197,6 +197,7 @@ class SourceMap:
             finally:
                 if self._at.value:
                     self._lend()
+                self._owner = 0
 
     def _change(self, call: Callable[..., int], *arguments: Any) -> None:
         """Changes the map by a call that gets its address, these and the fault."""

@@ -428,7 +428,7 @@ export class SourceMap {
    *  changes the tokens, as `sort`, takes it away. Throws SourceMapError of SMAP_TOO_LARGE. */
   indexSources(): void;
   /**
-   * The first token, by generated position, that answers for an original position; null if there is none.
+   * Of the tokens that answer for an original position the first in the order of the map; null if there is none.
    *
    * Throws SourceMapError of SMAP_BAD_OPTION, or of SMAP_NO_INDEX if the map is shared without an index.
    *
@@ -436,7 +436,7 @@ export class SourceMap {
    * map.generated(map.sources.indexOf("a.ts"), 7, 0, Direction.FROM)?.generatedColumn;
    */
   generated(sourceId: number, line: number, column: number, direction?: Direction): FoundToken | null;
-  /** The indices of all tokens that do, by generated position. Fails as `generated` does. */
+  /** The indices of all tokens that do, in the order of the map. Fails as `generated` does. */
   allGenerated(sourceId: number, line: number, column: number, direction?: Direction): Uint32Array;
 
   // ---- changing ----

@@ -331,6 +331,7 @@ pub fn encode_chunk(tokens: &[Token], chunk: &TokenChunk, out: &mut String) -> R
     ensures clean { OnOk result (piece_fault tokens.now chunk.now ≡ None) }
     ensures fault { FailsBy (piece_fault tokens.now chunk.now) result }
     ensures reported { Reports (piece_fault tokens.now chunk.now) result }
+    ensures adds { OnlyAdds (string_bytes out.old) (string_bytes out.new) }
     ensures unchanged { OnErr result (string_bytes out.new ≡ string_bytes out.old) }
 {
     let kept = out.len();
@@ -343,19 +344,16 @@ pub fn encode_chunk(tokens: &[Token], chunk: &TokenChunk, out: &mut String) -> R
     }
 }
 
-/// Adds the texts of chunks one after the other and returns true, or returns false at a chunk that has a fault.
-fn push_chunks(out: &mut String, tokens: &[Token], chunks: &[TokenChunk]) -> Memory<bool>
-    ensures ok { IfWritten result (string_bytes out.new ≡ string_bytes out.old
-        ++ flat_map (piece tokens.now) chunks.now) }
-    ensures written { IfWritten result (AreWritten tokens.now chunks.now) }
+/// Adds the texts of chunks one after the other, up to the first that cannot be written.
+fn push_chunks(out: &mut String, tokens: &[Token], chunks: &[TokenChunk]) -> Result<()>
+    ensures text { Pushes result out.old out.new (flat_map (piece tokens.now) chunks.now) }
+    ensures written { OnOk result (AreWritten tokens.now chunks.now) }
     ensures adds { OnlyAdds (string_bytes out.old) (string_bytes out.new) }
 {
     for chunk in chunks {
-        if !push_chunk(out, tokens, chunk)? {
-            return Ok(false);
-        }
+        encode_chunk(tokens, chunk, out)?;
     }
-    Ok(true)
+    Ok(())
 }
 
 /// The error of tokens with these chunks that were not written: their fault, or else want of memory.
@@ -388,8 +386,8 @@ fn encode_chunks(tokens: &[Token], chunks: &[TokenChunk], out: &mut String) -> R
     }
     let start = out.len();
     match push_chunks(out, tokens, chunks) {
-        Ok(true) => Ok(()),
-        _ => {
+        Ok(()) => Ok(()),
+        Err(_) => {
             out.truncate(start);
             Err(error_of_chunks(tokens, chunks))
         }

@@ -683,7 +683,7 @@ class SourceMap:
         self._change(lib.smap_index_sources)
 
     def generated(self, source_id: int, line: int, column: int, direction: int = Direction.AT) -> Optional[Generated]:
-        """The first token, by generated position, that answers for an original position; None if there is none.
+        """Of the tokens that answer for an original position the first in the order of the map; None if there is none.
 
         Raises SourceMapError of BAD_OPTION, or of NO_INDEX without `index_sources`.
 
@@ -700,7 +700,7 @@ class SourceMap:
         return Generated(index.value, token_of(token))
 
     def all_generated(self, source_id: int, line: int, column: int, direction: int = Direction.AT) -> list[int]:
-        """The indices of all tokens that answer for an original position, by generated position. Fails as `generated` does.
+        """The indices of all tokens that answer for an original position, in the order of the map. Fails as `generated` does.
 
         >>> map = SourceMap.from_tokens([Token(0, 4, 2, 1, 0, None), Token(0, 8, 2, 1, 0, None)], sources=["a.ts"])
         >>> map.index_sources()

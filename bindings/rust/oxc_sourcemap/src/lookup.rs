@@ -355,7 +355,7 @@ impl<'a> SourceMap<'a> {
         Ok(done(|fault| unsafe { sys::smap_index_sources(self.map.get_mut(), fault) })?)
     }
 
-    /// The first token, by generated position, that answers for an original position. Fails with `NoIndex` if
+    /// Of the tokens that answer for an original position the first in the order of the map. Fails with `NoIndex` if
     /// [`index_sources`](Self::index_sources) was not called.
     ///
     /// ```
@@ -381,7 +381,7 @@ impl<'a> SourceMap<'a> {
         }
     }
 
-    /// The indices of all tokens that do, by generated position. Fails as [`generated`](Self::generated) does.
+    /// The indices of all tokens that do, in the order of the map. Fails as [`generated`](Self::generated) does.
     pub fn all_generated(&self, source_id: u32, line: u32, column: u32, direction: Direction) -> Result<Vec<u32>> {
         // SAFETY: the map is live, and there is room for as many entries as is said.
         Ok(listed(|at, len, count| unsafe {

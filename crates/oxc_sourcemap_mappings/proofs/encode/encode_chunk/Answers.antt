@@ -7,3 +7,6 @@ truncate-requires c = λ h. cut-place (string_bytes c.args.out.now) _ _ (c.push_
 
 pub returns-in_default-clause-unchanged : goal.returns-in_default-clause-unchanged
 returns-in_default-clause-unchanged c = c.truncate.ensures.bytes ∙ cut-back (string_bytes c.args.out.now) _ _ (c.push_chunk.ensures.adds (string_bytes c.args.out.now) (extends-none _)) (c.len-kept.ensures ∙ search rules)
+
+pub returns-in_default-clause-adds : goal.returns-in_default-clause-adds
+returns-in_default-clause-adds c = λ base extends. rw (returns-in_default-clause-unchanged c) extends

@@ -1,9 +1,9 @@
 //! Maps, written as JSON texts and read back.
-use crate::helpers::same;
+use crate::helpers::{is_text, same};
 use crate::rows::map_of;
 use oxc_sourcemap::{
-    Error, JSONSourceMap, JsonFault, OwnedSourceMap, Result, SourceMap, decode_from_string,
-    encode_to_string, push_json_string,
+    Error, JSONSourceMap, JsonFault, OwnedSourceMap, Result, SourceMap, Token, TokenChunk,
+    decode_from_string, encode_mappings_within, encode_to_string, push_json_string,
 };
 use serde_json::Value;
 use std::alloc::Global;
@@ -122,6 +122,61 @@ fn a_map_that_is_not_written_leaves_the_text(rt: HostRuntime) -> Result<()> {
     let mut out = String::from_str(rt.alloc(), "é\n")?;
     same(&rt, "written", map.write_json_string(&mut out), Err(Error::LineOrder(1)));
     same(&rt, "text", out.as_str(), "é\n");
+    Ok(())
+}
+
+/// A text of 61 bytes. Its data URL has 43 bytes, and 4 for each 3 of these.
+const SMALL: &str = r#"{"version":3,"names":[],"sources":["a.js"],"mappings":"AAAA"}"#;
+
+#[test]
+fn a_text_may_be_as_long_as_the_limit(rt: HostRuntime) -> Result<()> {
+    let alloc = rt.alloc();
+    let map = SourceMap::from_json_string(alloc, SMALL)?;
+    let url = map.to_data_url(alloc)?;
+    is_text(&rt, "text", &map.to_json_string_within(alloc, 61), Ok(SMALL));
+    is_text(&rt, "text", &map.to_json_string_within(alloc, 60), Err(Error::TooLarge));
+    is_text(&rt, "url", &map.to_data_url_within(alloc, 127), Ok(url.as_str()));
+    is_text(&rt, "url", &map.to_data_url_within(alloc, 126), Err(Error::TooLarge));
+    let map = OwnedSourceMap::from_json_string(alloc, SMALL)?;
+    is_text(&rt, "owned", &map.to_json_string_within(alloc, 61), Ok(SMALL));
+    is_text(&rt, "owned", &map.to_json_string_within(alloc, 0), Err(Error::TooLarge));
+    is_text(&rt, "owned", &map.to_data_url_within(alloc, 127), Ok(url.as_str()));
+    is_text(&rt, "owned", &map.to_data_url_within(alloc, 126), Err(Error::TooLarge));
+    Ok(())
+}
+
+#[test]
+fn mappings_may_be_as_long_as_the_limit(rt: HostRuntime) {
+    let tokens = [Token::new(2, 0, 5, 3, Some(0), None), Token::new(2, 1, 5, 3, Some(0), None)];
+    let chunks = [TokenChunk::new(0, 1, 0, 0, 0, 0, 0, 0), TokenChunk::new(1, 2, 2, 0, 5, 3, 0, 0)];
+    let written = |limit: usize| encode_mappings_within(rt.alloc(), &tokens, Some(&chunks), limit);
+    is_text(&rt, "mappings", &written(11), Ok(";;AAKG,CAAA"));
+    is_text(&rt, "mappings", &written(10), Err(Error::TooLarge));
+    is_text(&rt, "mappings", &written(1), Err(Error::TooLarge));
+    is_text(&rt, "mappings", &encode_mappings_within(rt.alloc(), &[], None, 0), Ok(""));
+    let fault = encode_mappings_within(rt.alloc(), &tokens, Some(&chunks[..1]), 0);
+    is_text(&rt, "chunks", &fault, Err(Error::BadChunks(1)));
+}
+
+/// A text of 122 bytes that is read as a map whose text has 4294967295 lines.
+const DEEP: &str = r#"{"version":3,"sections":[{"offset":{"line":4294967295,"column":0},"map":{"version":3,"sources":["a"],"mappings":"AAAA"}}]}"#;
+
+#[test]
+fn a_map_of_many_lines_is_not_written(rt: HostRuntime) -> Result<()> {
+    let map = SourceMap::from_json_string(rt.alloc(), DEEP)?;
+    let (text, url) = (map.to_json_string_within(rt.alloc(), 1000), map.to_data_url_within(rt.alloc(), 4294967294));
+    is_text(&rt, "text", &text, Err(Error::TooLarge));
+    is_text(&rt, "url", &url, Err(Error::TooLarge));
+    Ok(())
+}
+
+#[test]
+fn the_order_of_lines_comes_before_the_limit(rt: HostRuntime) -> Result<()> {
+    let rows = [(0, 0, 0, 0, None, None), (4294967295, 0, 0, 0, None, None), (5, 0, 0, 0, None, None)];
+    let map = map_of(rt.alloc(), &[], &[], &[], &rows)?;
+    is_text(&rt, "text", &map.to_json_string_within(rt.alloc(), 0), Err(Error::LineOrder(2)));
+    is_text(&rt, "text", &map.to_json_string_within(rt.alloc(), 1000), Err(Error::LineOrder(2)));
+    is_text(&rt, "url", &map.to_data_url_within(rt.alloc(), 1000), Err(Error::LineOrder(2)));
     Ok(())
 }
 

@@ -485,6 +485,38 @@ uint32_t smap_encode_mappings(const smap_token *tokens, size_t tokens_len, smap_
     return code;
 }
 
+uint32_t smap_to_json_string_within(const smap_map *map, size_t limit, smap_string **out, smap_fault *fault) {
+    smap_fault own;
+    proved_handle made = { NULL };
+    uint32_t code = proved_to_json_string_within(LENT(map), limit, &made, OR(fault, &own));
+    if (code == SMAP_OK) *out = made.at;
+    return code;
+}
+
+uint32_t smap_to_data_url_within(const smap_map *map, size_t limit, smap_string **out, smap_fault *fault) {
+    smap_fault own;
+    proved_handle made = { NULL };
+    uint32_t code = proved_to_data_url_within(LENT(map), limit, &made, OR(fault, &own));
+    if (code == SMAP_OK) *out = made.at;
+    return code;
+}
+
+uint32_t smap_get_mappings_within(const smap_map *map, size_t limit, smap_string **out, smap_fault *fault) {
+    smap_fault own;
+    proved_handle made = { NULL };
+    uint32_t code = proved_get_mappings_within(LENT(map), limit, &made, OR(fault, &own));
+    if (code == SMAP_OK) *out = made.at;
+    return code;
+}
+
+uint32_t smap_encode_mappings_within(const smap_token *tokens, size_t tokens_len, size_t limit, smap_string **out, smap_fault *fault) {
+    smap_fault own;
+    proved_handle made = { NULL };
+    uint32_t code = proved_encode_mappings_within(OR(tokens, &no_token), tokens_len, limit, &made, OR(fault, &own));
+    if (code == SMAP_OK) *out = made.at;
+    return code;
+}
+
 uint32_t smap_decode_mappings(const char *mappings, size_t mappings_len, size_t names, size_t sources, smap_map **out,
                               smap_fault *fault) {
     smap_fault own;

@@ -10,8 +10,10 @@
 #include <stdlib.h>
 #include <string.h>
 
-/* The request number `left` from now on is refused, and none if it is negative. `kept` counts blocks that are not freed. */
+/* The request number `left` from now on is refused, and none if it is negative; with `refuses_on` all after it are, too. `kept` counts
+ * blocks that are not freed. */
 static long left = -1, kept;
+static int refuses_on;
 
 #ifdef __cplusplus
 extern "C" {
@@ -28,11 +30,20 @@ static void *counted(void *at) {
     kept += at != NULL;
     return at;
 }
-void *__wrap_malloc(size_t size) { return left-- == 0 ? NULL : counted(__real_malloc(size)); }
-void *__wrap_calloc(size_t count, size_t size) { return left-- == 0 ? NULL : counted(__real_calloc(count, size)); }
+static int is_refused(void) {
+    if (left < 0) return 0;
+    if (left > 0) {
+        left--;
+        return 0;
+    }
+    if (!refuses_on) left = -1;
+    return 1;
+}
+void *__wrap_malloc(size_t size) { return is_refused() ? NULL : counted(__real_malloc(size)); }
+void *__wrap_calloc(size_t count, size_t size) { return is_refused() ? NULL : counted(__real_calloc(count, size)); }
 void *__wrap_realloc(void *at, size_t size) {
     if (!at) return __wrap_malloc(size);
-    return left-- == 0 ? NULL : __real_realloc(at, size);
+    return is_refused() ? NULL : __real_realloc(at, size);
 }
 void __wrap_free(void *at) {
     kept -= at != NULL;
@@ -581,10 +592,27 @@ static void from_lists(void) {
 }
 
 /* More lists than the layer copies without memory. */
+/* As many as the layer has room for without a request for memory, and some more; each is known. */
+static void long_lists_known(size_t len) {
+    smap_text texts[18], out[18];
+    smap_map *map;
+    size_t count;
+    for (size_t i = 0; i < len; i++) texts[i] = text_of("x");
+    CHECK(smap_from_tokens(NULL, 0, texts, len, texts, len, texts, len, NULL, 0, &map, NULL) == SMAP_OK);
+    for (int is_set = 0; is_set < 2; is_set++) {
+        size_t known = 0;
+        CHECK(smap_get_source_contents(map, LIST(out), &count) == SMAP_OK && count == len);
+        for (size_t i = 0; i < len; i++) known += out[i].at && is(&out[i], "x");
+        CHECK(known == len && smap_set_source_contents(map, texts, len, NULL) == SMAP_OK);
+    }
+    smap_free_map(map);
+}
+
 static void long_lists(void) {
     smap_text texts[40], out[40];
     smap_map *map;
     size_t count;
+    for (size_t len = 15; len <= 18; len++) long_lists_known(len);
     for (int i = 0; i < 40; i++) texts[i] = text_of(i % 3 ? "x" : NULL);
     CHECK(smap_from_tokens(NULL, 0, LIST(texts), LIST(texts), LIST(texts), NULL, 0, &map, NULL) == SMAP_OK);
     CHECK(smap_get_names(map, LIST(out), &count) == SMAP_OK && count == 40 && is(&out[39], "") && is(&out[38], "x"));
@@ -1197,6 +1225,65 @@ static void writing(void) {
     smap_free_map(map);
 }
 
+/* A map of 122 bytes whose text has 4294967295 lines; and tokens that go back from there, which is found before the lines are written. */
+#define DEEP "{\"version\":3,\"sections\":[{\"offset\":{\"line\":4294967295,\"column\":0},\"map\":" \
+    "{\"version\":3,\"sources\":[\"a\"],\"mappings\":\"AAAA\"}}]}"
+static const smap_token BACK[3] = { { 0, 0, 0, 0, 0, NO }, { MAX, 0, 0, 0, 0, NO }, { 5, 0, 0, 0, 0, NO } };
+
+/* A text is written if it has as many bytes as the limit, and not if it has one more. The lengths: 4 bytes of a URL for 3 of the text,
+ * after 43. */
+static void writing_within(void) {
+    smap_map *map = read_map(A);
+    smap_string *string = (smap_string *)&failed;
+    smap_fault fault = junk();
+    smap_text text;
+    size_t length = strlen(A), url = 43 + (strlen(A) + 2) / 3 * 4;
+    smap_token tokens[4];
+    size_t count;
+    CHECK(smap_get_tokens(map, LIST(tokens), &count) == SMAP_OK && count == 4);
+    CHECK(smap_to_json_string_within(map, length - 1, &string, &fault) == SMAP_TOO_LARGE && is_fault(&fault, SMAP_TOO_LARGE, 0));
+    fault = junk();
+    CHECK(smap_to_data_url_within(map, url - 1, &string, &fault) == SMAP_TOO_LARGE && is_fault(&fault, SMAP_TOO_LARGE, 0));
+    fault = junk();
+    CHECK(smap_get_mappings_within(map, 17, &string, &fault) == SMAP_TOO_LARGE && is_fault(&fault, SMAP_TOO_LARGE, 0));
+    fault = junk();
+    CHECK(smap_encode_mappings_within(LIST(tokens), 17, &string, &fault) == SMAP_TOO_LARGE && is_fault(&fault, SMAP_TOO_LARGE, 0));
+    CHECK(smap_to_json_string_within(map, 0, &string, NULL) == SMAP_TOO_LARGE && string == (smap_string *)&failed);
+    CHECK(smap_to_json_string_within(map, length, &string, &fault) == SMAP_OK && is_none(&fault) && is_string(string, A));
+    CHECK(smap_to_data_url_within(map, url, &string, &fault) == SMAP_OK && is_none(&fault) && smap_get_text(string, &text) == SMAP_OK);
+    CHECK(text.len == url && memcmp(text.at, "data:application/json;charset=utf-8;base64,", 43) == 0);
+    smap_free_string(string);
+    CHECK(smap_get_mappings_within(map, 18, &string, &fault) == SMAP_OK && is_none(&fault) && is_string(string, "AAAA,GAASA,K;CCCTC"));
+    CHECK(smap_encode_mappings_within(LIST(tokens), 18, &string, &fault) == SMAP_OK && is_none(&fault) &&
+          is_string(string, "AAAA,GAASA,K;CCCTC"));
+    CHECK(smap_encode_mappings_within(NULL, 0, 0, &string, NULL) == SMAP_OK && is_string(string, ""));
+    CHECK(smap_to_json_string_within(map, SIZE_MAX, &string, NULL) == SMAP_OK && is_string(string, A));
+    smap_free_map(map);
+}
+
+static void many_lines(void) {
+    smap_map *map = read_map(DEEP), *back;
+    smap_string *string = (smap_string *)&failed;
+    smap_fault fault = junk();
+    smap_text source = text_of("a");
+    CHECK(smap_from_tokens(LIST(BACK), NULL, 0, &source, 1, NULL, 0, NULL, 0, &back, NULL) == SMAP_OK);
+    left = 0;
+    CHECK(smap_to_json_string_within(map, 100000000, &string, &fault) == SMAP_TOO_LARGE && is_fault(&fault, SMAP_TOO_LARGE, 0));
+    CHECK(smap_to_json_string_within(map, MAX - 1, &string, NULL) == SMAP_TOO_LARGE);
+    CHECK(smap_to_data_url_within(map, MAX - 1, &string, NULL) == SMAP_TOO_LARGE);
+    CHECK(smap_get_mappings_within(map, MAX - 1, &string, NULL) == SMAP_TOO_LARGE);
+    CHECK(smap_to_json_string_within(back, 0, &string, &fault) == SMAP_LINE_ORDER && is_fault(&fault, SMAP_LINE_ORDER, 2));
+    CHECK(smap_get_mappings_within(back, 0, &string, &fault) == SMAP_LINE_ORDER && is_fault(&fault, SMAP_LINE_ORDER, 2));
+    CHECK(smap_to_data_url_within(back, 0, &string, &fault) == SMAP_LINE_ORDER && is_fault(&fault, SMAP_LINE_ORDER, 2));
+    CHECK(left == 0);
+    left = -1;
+    CHECK(smap_encode_mappings_within(BACK, 2, MAX - 1, &string, &fault) == SMAP_TOO_LARGE && is_fault(&fault, SMAP_TOO_LARGE, 0));
+    CHECK(smap_encode_mappings_within(LIST(BACK), 0, &string, &fault) == SMAP_LINE_ORDER && is_fault(&fault, SMAP_LINE_ORDER, 2));
+    CHECK(string == (smap_string *)&failed);
+    smap_free_map(back);
+    smap_free_map(map);
+}
+
 static void decoding(void) {
     smap_map *map = (smap_map *)&failed;
     smap_fault fault = junk();
@@ -1347,6 +1434,9 @@ static void null_handles(void) {
     NULL_FAULT(smap_to_json_string(NULL, &string, &fault));
     NULL_FAULT(smap_to_data_url(NULL, &string, &fault));
     NULL_FAULT(smap_get_mappings(NULL, &string, &fault));
+    NULL_FAULT(smap_to_json_string_within(NULL, 9, &string, &fault));
+    NULL_FAULT(smap_to_data_url_within(NULL, 9, &string, &fault));
+    NULL_FAULT(smap_get_mappings_within(NULL, 9, &string, &fault));
     NULL_FAULT(smap_visualize(NULL, TEXT("\xff"), &string, &fault));
     NULL_FAULT(smap_visualizer_url(NULL, TEXT("\xff"), &string, &fault));
     NULL_HANDLE(smap_to_json_string(NULL, &string, NULL));
@@ -1360,60 +1450,114 @@ static void null_handles(void) {
 /* What run_all makes. */
 typedef struct made_all {
     smap_map *maps[12];
-    smap_string *strings[7];
+    smap_string *strings[11];
     smap_builder *builder;
     smap_join *join;
     smap_mends *mends;
 } made_all;
 
+/* Leaves on the stack, for what the next call does not initialise, a value that no call can use. */
+static void soil(void) {
+    volatile unsigned char room[4096];
+    for (size_t i = 0; i < sizeof room; i++) room[i] = 0x77;
+}
+
+/* Makes a call, whose fault `f` nobody initialised, and returns its code unless that is SMAP_OK. */
+#define MAKES(call) do { \
+        *f = junk(); \
+        soil(); \
+        uint32_t code_ = (call); \
+        if (code_ != SMAP_OK) return code_; \
+        CHECK(is_none(f)); \
+    } while (0)
+
+/* More texts and maps than the layer has room for without a request for memory. */
+#define MANY 20
+
+/* One call of each kind that makes something of lists, in a row; the first code that is not SMAP_OK. */
+static uint32_t make_of_lists(made_all *m, smap_fault *f) {
+    static const char *const NUMBERS[MANY] = { "0", "1", "2", "3", "4", "5", "6", "7", "8", "9", "10", "11", "12", "13", "14", "15",
+                                               "16", "17", "18", "19" };
+    smap_text texts[MANY], paths[MANY], words[2 + 2 * MANY] = { text_of("join"), text_of("20") };
+    smap_position positions[MANY];
+    const smap_map *maps[MANY];
+    for (uint32_t i = 0; i < MANY; i++) {
+        texts[i] = text_of(A), paths[i] = text_of("a.ts"), positions[i] = at(2 * i, 0), maps[i] = m->maps[i % 2];
+        words[2 + 2 * i] = text_of(i % 2 ? "@1" : "@19"), words[3 + 2 * i] = text_of(NUMBERS[i]);
+    }
+    MAKES(smap_from_tokens(NULL, 0, LIST(texts), LIST(texts), LIST(texts), NULL, 0, &m->maps[6], f));
+    MAKES(smap_evaluate(LIST(words), LIST(texts), &m->maps[7], f));
+    MAKES(smap_join_all(LIST(maps), LIST(positions), &m->maps[9], f));
+    MAKES(smap_remap(m->maps[2], LIST(paths), LIST(maps), &m->maps[10], f));
+    return SMAP_OK;
+}
+
+/* One call of each kind that writes. */
+static uint32_t write_all(made_all *m, smap_fault *f) {
+    const smap_map *map = m->maps[2];
+    MAKES(smap_to_json_string(map, &m->strings[0], f));
+    MAKES(smap_to_data_url(map, &m->strings[1], f));
+    MAKES(smap_get_mappings(map, &m->strings[2], f));
+    MAKES(smap_encode_mappings(REVERSED, 6, &m->strings[3], f));
+    MAKES(smap_visualize(map, TEXT("let hi;"), &m->strings[4], f));
+    MAKES(smap_visualizer_url(map, TEXT("x"), &m->strings[5], f));
+    MAKES(smap_decode_data_url(TEXT("data:application/json,{}"), &m->strings[6], f));
+    MAKES(smap_to_json_string_within(map, 999, &m->strings[7], f));
+    MAKES(smap_to_data_url_within(map, 999, &m->strings[8], f));
+    MAKES(smap_get_mappings_within(map, 999, &m->strings[9], f));
+    MAKES(smap_encode_mappings_within(REVERSED, 6, 999, &m->strings[10], f));
+    return SMAP_OK;
+}
+
 /* One call of each kind that makes something, in a row; the first code that is not SMAP_OK. */
 static uint32_t make_all(made_all *m, smap_fault *f) {
-    smap_text texts[20], words[4] = { text_of("join"), text_of("1"), text_of("@0"), text_of("2") }, path = text_of("a.js");
-    smap_position positions[20];
-    const smap_map *maps[20];
-    uint32_t c;
-    for (uint32_t i = 0; i < 20; i++) texts[i] = text_of(A), positions[i] = at(i, 0);
-    if ((c = smap_from_json_string(TEXT(B), &m->maps[0], f)) || (c = smap_from_json_string(TEXT(C), &m->maps[1], f)) ||
-        (c = smap_from_json_string(TEXT(A), &m->maps[2], f)) || (c = smap_compose(m->maps[0], m->maps[1], &m->maps[3], f)) ||
-        (c = smap_read_found(TEXT(FOUND[0].text), &m->maps[4], &m->mends, f)) || (c = smap_clone(m->maps[2], &m->maps[5], f)) ||
-        (c = smap_from_tokens(NULL, 0, texts, 20, texts, 20, texts, 20, NULL, 0, &m->maps[6], f)) ||
-        (c = smap_evaluate(words, 4, texts, 20, &m->maps[7], f)) || (c = smap_decode_mappings(TEXT("AAAA"), 0, 1, &m->maps[8], f)))
-        return c;
-    for (int i = 0; i < 20; i++) maps[i] = m->maps[i % 2];
-    if ((c = smap_join_all(maps, 20, positions, 20, &m->maps[9], f)) ||
-        (c = smap_remap(m->maps[2], &path, 1, maps, 1, &m->maps[10], f)))
-        return c;
-    const smap_map *map = m->maps[2];
-    if ((c = smap_to_json_string(map, &m->strings[0], f)) || (c = smap_to_data_url(map, &m->strings[1], f)) ||
-        (c = smap_get_mappings(map, &m->strings[2], f)) || (c = smap_encode_mappings(REVERSED, 6, &m->strings[3], f)) ||
-        (c = smap_visualize(map, TEXT("let hi;"), &m->strings[4], f)) ||
-            (c = smap_visualizer_url(map, TEXT("x"), &m->strings[5], f)) ||
-        (c = smap_decode_data_url(TEXT("data:application/json,{}"), &m->strings[6], f)))
-        return c;
+    MAKES(smap_from_json_string(TEXT(B), &m->maps[0], f));
+    MAKES(smap_from_json_string(TEXT(C), &m->maps[1], f));
+    MAKES(smap_from_json_string(TEXT(A), &m->maps[2], f));
+    MAKES(smap_compose(m->maps[0], m->maps[1], &m->maps[3], f));
+    MAKES(smap_read_found(TEXT(FOUND[0].text), &m->maps[4], &m->mends, f));
+    MAKES(smap_clone(m->maps[2], &m->maps[5], f));
+    MAKES(smap_decode_mappings(TEXT("AAAA"), 0, 1, &m->maps[8], f));
+    uint32_t code = make_of_lists(m, f);
+    return code ? code : write_all(m, f);
+}
+
+/* One call of each kind that builds or joins. */
+static uint32_t build_all(made_all *m, smap_fault *f) {
+    uint32_t id;
+    MAKES(smap_join_new(&m->join, f));
+    MAKES(smap_join_add(m->join, m->maps[5], 0, 0, f));
+    MAKES(smap_join_add(m->join, m->maps[5], 9, 0, f));
+    MAKES(smap_builder_new(&m->builder, f));
+    MAKES(smap_builder_set_file(m->builder, TEXT("f"), f));
+    MAKES(smap_builder_add_name(m->builder, TEXT("n"), &id, f));
+    MAKES(smap_builder_add_source_and_content(m->builder, TEXT("a"), TEXT("A"), &id, f));
+    MAKES(smap_builder_add_source(m->builder, TEXT("b"), &id, f));
+    MAKES(smap_builder_add_tokens(m->builder, REVERSED, 6, f));
+    MAKES(smap_builder_finish(m->builder, &m->maps[11], f));
+    smap_free_map(m->maps[11]);
+    m->maps[11] = NULL;
+    MAKES(smap_join_finish(m->join, &m->maps[11], f));
     return SMAP_OK;
 }
 
 /* One call of each kind that changes something. */
 static uint32_t change_all(made_all *m, smap_fault *f) {
     smap_map *map = m->maps[5];
-    smap_text texts[20];
-    uint32_t c, id = 0;
-    for (int i = 0; i < 20; i++) texts[i] = text_of("x");
-    if ((c = smap_set_file(map, TEXT("f"), f)) || (c = smap_set_source_root(map, TEXT("r"), f)) ||
-        (c = smap_set_debug_id(map, TEXT("d"), f)) ||
-        (c = smap_set_ignore_list(map, &id, 1, f)) || (c = smap_set_sources(map, texts, 20, f)) ||
-        (c = smap_set_source_contents(map, texts, 20, f)) || (c = smap_apply_source_root(map, f)) || (c = smap_sort(map, f)) ||
-        (c = smap_index_sources(map, f)) || (c = smap_simplify(map, f)) || (c = smap_join_new(&m->join, f)) ||
-        (c = smap_join_add(m->join, map, 0, 0, f)) || (c = smap_join_add(m->join, map, 9, 0, f)) ||
-            (c = smap_builder_new(&m->builder, f)) ||
-        (c = smap_builder_set_file(m->builder, TEXT("f"), f)) || (c = smap_builder_add_name(m->builder, TEXT("n"), &id, f)) ||
-        (c = smap_builder_add_source_and_content(m->builder, TEXT("a"), TEXT("A"), &id, f)) ||
-        (c = smap_builder_add_source(m->builder, TEXT("b"), &id, f)) || (c = smap_builder_add_tokens(m->builder, REVERSED, 6, f)) ||
-        (c = smap_builder_finish(m->builder, &m->maps[11], f)))
-        return c;
-    smap_free_map(m->maps[11]);
-    m->maps[11] = NULL;
-    return smap_join_finish(m->join, &m->maps[11], f);
+    smap_text texts[MANY];
+    uint32_t id = 0;
+    for (int i = 0; i < MANY; i++) texts[i] = text_of("x");
+    MAKES(smap_set_file(map, TEXT("f"), f));
+    MAKES(smap_set_source_root(map, TEXT("r"), f));
+    MAKES(smap_set_debug_id(map, TEXT("d"), f));
+    MAKES(smap_set_ignore_list(map, &id, 1, f));
+    MAKES(smap_set_sources(map, LIST(texts), f));
+    MAKES(smap_set_source_contents(map, LIST(texts), f));
+    MAKES(smap_apply_source_root(map, f));
+    MAKES(smap_sort(map, f));
+    MAKES(smap_index_sources(map, f));
+    MAKES(smap_simplify(map, f));
+    return build_all(m, f);
 }
 
 /* All of these, and messages, with the request number `n` refused; the first code that is not SMAP_OK. A message that is not
@@ -1440,12 +1584,16 @@ static uint32_t run_all(long n) {
     return code;
 }
 
+/* Each request is refused alone, and then each with all that follow it. */
 static void without_memory(void) {
-    long n = 0;
-    uint32_t code;
-    while ((code = run_all(n)) == SMAP_OUT_OF_MEMORY && n < 10000) n++;
-    CHECK(code == SMAP_OK && n > 200);
-    printf("%ld requests for memory were refused in turn\n", n);
+    for (refuses_on = 0; refuses_on < 2; refuses_on++) {
+        long n = 0;
+        uint32_t code;
+        while ((code = run_all(n)) == SMAP_OUT_OF_MEMORY && n < 10000) n++;
+        CHECK(code == SMAP_OK && n > 200);
+        printf("%ld requests for memory were refused in turn%s\n", n, refuses_on ? ", with all after them" : "");
+    }
+    refuses_on = 0;
 }
 
 /* The fault of a text is told with its place, or the call fails for want of memory, whichever of its requests is refused. */
@@ -1538,6 +1686,8 @@ int main(void) {
     building();
     building_more();
     writing();
+    writing_within();
+    many_lines();
     decoding();
     showing();
     urls();

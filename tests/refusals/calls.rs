@@ -51,6 +51,25 @@ fn owned_source_map_to_data_url(rt: HostRuntime) {
 }
 
 #[test]
+fn texts_within_a_limit(rt: HostRuntime) {
+    refuse_each(&rt, full_map, |alloc, map| map.to_json_string_within(alloc, TEXT.len()), |text| is_text(&rt, text, TEXT));
+    refuse_each(&rt, full_owned_map, |alloc, map| map.to_json_string_within(alloc, 1000), |text| is_text(&rt, text, TEXT));
+    refuse_each(&rt, full_map, |alloc, map| map.to_data_url_within(alloc, URL.len()), |url| is_text(&rt, url, URL));
+    refuse_each(&rt, full_owned_map, |alloc, map| map.to_data_url_within(alloc, 1000), |url| is_text(&rt, url, URL));
+}
+
+#[test]
+fn mappings_within_a_limit(rt: HostRuntime) {
+    let tokens = [Token::new(2, 0, 5, 3, Some(0), None)];
+    refuse_each(
+        &rt,
+        nothing,
+        |alloc, ()| oxc_sourcemap::encode_mappings_within(alloc, &tokens, None, 6),
+        |text| is_text(&rt, text, ";;AAKG"),
+    );
+}
+
+#[test]
 fn text_positions_new(rt: HostRuntime) {
     refuse_each(&rt, nothing, |alloc, _| TextPositions::new(alloc, "a\n😀\r\n"), |positions| same(&rt, "offset", positions.offset(2, 0), Ok(6)));
 }

@@ -57,6 +57,18 @@ fn line_order_and_bad_chunks_of_writing(rt: HostRuntime) -> Result<()> {
     does_not_write(&rt, |tokens, out| oxc_sourcemap::encode_chunk(tokens, &long[0], out), Error::BadChunks(0))
 }
 
+/// A token on a line above the limit, which is found before any memory is taken.
+#[test]
+fn too_many_lines_of_writing_within(rt: HostRuntime) {
+    let deep = |alloc: Global| map_at(alloc, &[(9, 0)]);
+    reports(&rt, deep, |alloc, map| map.to_json_string_within(alloc, 8), Error::TooLarge);
+    reports(&rt, deep, |alloc, map| map.to_data_url_within(alloc, 8), Error::TooLarge);
+    let tokens = [Token::new(9, 0, 0, 0, None, None)];
+    reports(&rt, nothing, |alloc, ()| oxc_sourcemap::encode_mappings_within(alloc, &tokens, None, 8), Error::TooLarge);
+    reports(&rt, map_back, |alloc, map| map.to_json_string_within(alloc, 0), Error::LineOrder(1));
+    reports(&rt, map_back, |alloc, map| map.to_data_url_within(alloc, 1000), Error::LineOrder(1));
+}
+
 #[test]
 fn line_order_of_generate_lookup_table(rt: HostRuntime) {
     reports(&rt, map_back, |alloc, map| map.generate_lookup_table(alloc).map(|table| table.len()), Error::LineOrder(1));

@@ -3,7 +3,8 @@
  *   resolve_stack DIRECTORY < stack.txt
  *
  * Every position FILE:LINE:COLUMN at the end of a line of the input, as V8, Firefox and Safari print it, is looked up in the
- * map DIRECTORY/NAME.map, where NAME is the last part of FILE, and replaced by the original position. All else is copied.
+ * map DIRECTORY/NAME.map, where NAME is the last part of FILE, and replaced by the original position. All else is copied, byte by
+ * byte; a line may have any length.
  */
 #include "oxc_sourcemap.h"
 
@@ -56,6 +57,35 @@ static smap_map *read_map(const char *path) {
     return map;
 }
 
+/* A line of the input with its end, if it has one, and a zero byte. */
+typedef struct input_line {
+    char *at;
+    size_t len, room;
+} input_line;
+
+/* Reads the next line, and returns whether there is one. */
+static int read_line(input_line *line) {
+    line->len = 0;
+    for (int c = getchar(); c != EOF; c = c == '\n' ? EOF : getchar()) {
+        if (line->len + 2 > line->room) {
+            char *more = realloc(line->at, line->room = 2 * line->room + 256);
+            if (!more) exit(1);
+            line->at = more;
+        }
+        line->at[line->len++] = (char)c;
+        line->at[line->len] = 0;
+    }
+    return line->len > 0;
+}
+
+/* Its length without its end, a line feed or a carriage return and a line feed. */
+static size_t length_of(const input_line *line) {
+    size_t len = line->len;
+    if (len > 0 && line->at[len - 1] == '\n') len--;
+    if (len < line->len && len > 0 && line->at[len - 1] == '\r') len--;
+    return len;
+}
+
 /* The map of this file, which is read when it is first asked for. */
 static smap_map *map_of(entry **entries, const char *directory, const char *name, size_t len) {
     for (entry *it = *entries; it; it = it->next)
@@ -102,8 +132,8 @@ static const char *file_in(const char *line, const char *end, int is_in_parenthe
 }
 
 /* Prints the line with its position resolved. */
-static void print_resolved(entry **entries, const char *directory, const char *line, size_t len) {
-    const char *tail = line + len;
+static void print_resolved(entry **entries, const char *directory, const input_line *whole) {
+    const char *line = whole->at, *tail = line + length_of(whole), *behind = line + whole->len;
     if (tail > line && tail[-1] == ')') tail--;
     const char *end = tail;
     uint32_t column = number_before(line, &end), row = column ? number_before(line, &end) : 0;
@@ -112,11 +142,12 @@ static void print_resolved(entry **entries, const char *directory, const char *l
     smap_original it;
     const smap_map *map = row && name < end ? map_of(entries, directory, name, (size_t)(end - name)) : NULL;
     if (map && smap_trace(map, row - 1, column - 1, SMAP_BEFORE, &it, NULL) == SMAP_OK && it.kind >= SMAP_MAPPED) {
-        printf("%.*s%.*s:%u:%u", (int)(file - line), line, (int)it.source.len, it.source.at, it.token.src_line + 1,
-               it.token.src_col + 1);
+        fwrite(line, 1, (size_t)(file - line), stdout);
+        fwrite(it.source.at, 1, it.source.len, stdout);
+        printf(":%u:%u", it.token.src_line + 1, it.token.src_col + 1);
         line = tail;
     }
-    printf("%s\n", line);
+    fwrite(line, 1, (size_t)(behind - line), stdout);
 }
 
 int main(int argc, char **argv) {
@@ -125,11 +156,9 @@ int main(int argc, char **argv) {
         return 2;
     }
     entry *entries = NULL;
-    char line[4096];
-    while (fgets(line, sizeof line, stdin)) {
-        line[strcspn(line, "\r\n")] = 0;
-        print_resolved(&entries, argv[1], line, strlen(line));
-    }
+    input_line line = { NULL, 0, 0 };
+    while (read_line(&line)) print_resolved(&entries, argv[1], &line);
+    free(line.at);
     while (entries) {
         entry *it = entries;
         entries = it->next;

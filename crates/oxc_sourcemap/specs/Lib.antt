@@ -51,6 +51,7 @@ pub use Rattle.oxc_sourcemap_decode.specs.Sections
 pub use Rattle.oxc_sourcemap_decode.specs.ReadMap
 pub use Rattle.oxc_sourcemap_decode.specs.ReadLaws
 pub use Rattle.oxc_sourcemap_encode.specs.JsonText
+pub use Rattle.oxc_sourcemap_encode.specs.Within
 pub use Rattle.oxc_sourcemap_laws.specs.MapLaws
 pub use Rattle.oxc_sourcemap_lookup.specs.Composed
 pub use Rattle.oxc_sourcemap_remap.specs.Inputs

@@ -9,6 +9,7 @@ pub use Rattle.oxc_sourcemap_differ.specs.Differences.{HaveSameTraceEverywhere, 
 pub use Rattle.oxc_sourcemap_differ.specs.Differences.{IfBothSorted}
 pub use Rattle.oxc_sourcemap_encode.specs.Encoded.{encoded}
 pub use Rattle.oxc_sourcemap_encode.specs.JsonText.{map_text, map_url, appended}
+pub use Rattle.oxc_sourcemap_encode.specs.Within.{map_text_within, map_url_within, mappings_within}
 pub use Rattle.oxc_sourcemap_join.specs.Joined.{joined, lent_maps, IsWithinLimits, at_line}
 pub use Rattle.oxc_sourcemap_join.specs.Joined.{at_lines, added, nothing_joined, position}
 pub use Rattle.oxc_sourcemap_join.specs.Joined.{at_positions}

@@ -13,7 +13,7 @@ pub use decoding::{decode, decode_from_string, decode_value};
 pub use encoding::{encode, encode_to_string};
 pub use evaluation::evaluate;
 pub use oxc_sourcemap_builders::{ConcatSourceMapBuilder, SourceMapBuilder};
-pub use oxc_sourcemap_encode::push_json_string;
+pub use oxc_sourcemap_encode::{encode_mappings_within, push_json_string};
 pub use oxc_sourcemap_found::{Found, Mend, MendKind, found_fault_at, read_found};
 pub use oxc_sourcemap_json::{JSONSourceMap, file_from_value};
 pub use oxc_sourcemap_map::{OwnedSourceMap, SourceMap, SourceViewToken, ViewTokens};

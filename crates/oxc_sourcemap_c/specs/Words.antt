@@ -8,6 +8,7 @@ pub use Rattle.oxc_sourcemap_c.specs.Reading.{DifferFrom, HasAll, HasFirst, List
 pub use Rattle.oxc_sourcemap_c.specs.Reading.{ListsOption, position_at, source_place}
 pub use Rattle.oxc_sourcemap_decode.specs.ReadMap.{read_map}
 pub use Rattle.oxc_sourcemap_encode.specs.JsonText.{map_text, map_url}
+pub use Rattle.oxc_sourcemap_encode.specs.Within.{map_text_within, map_url_within, mappings_within}
 pub use Rattle.oxc_sourcemap_found.specs.FoundMaps.{found, found_record}
 pub use Rattle.oxc_sourcemap_found.specs.MendText.{mend_text}
 pub use Rattle.oxc_sourcemap_handles.specs.Back.{IsBack, IsGivenBack}
@@ -51,7 +52,8 @@ pub use Rattle.oxc_sourcemap_handles_reading.specs.Reverse.{IsIndexError}
 pub use Rattle.oxc_sourcemap_handles_reading.specs.Writing.{IsDataUrlError, IsLinkError}
 pub use Rattle.oxc_sourcemap_handles_reading.specs.Writing.{IsTokensError, IsVisualError}
 pub use Rattle.oxc_sourcemap_handles_reading.specs.Writing.{IsVisualText, mappings_text}
-pub use Rattle.oxc_sourcemap_handles_reading.specs.Writing.{tokens_text}
+pub use Rattle.oxc_sourcemap_handles_reading.specs.Writing.{tokens_text, mappings_text_within}
+pub use Rattle.oxc_sourcemap_handles_reading.specs.Writing.{IsTokensErrorWithin}
 pub use Rattle.oxc_sourcemap_join.specs.Joined.{nothing_joined, position}
 pub use Rattle.oxc_sourcemap_lookup.specs.Composed.{NoColumnGoesBack, SomeComposition, composition}
 pub use Rattle.oxc_sourcemap_map.specs.View.{content_at}

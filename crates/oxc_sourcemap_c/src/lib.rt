@@ -9,3 +9,4 @@ mod lookups;
 mod making;
 mod reading;
 mod texts;
+mod texts_within;

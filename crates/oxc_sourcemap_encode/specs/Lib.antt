@@ -5,4 +5,5 @@ pub mod Encoded
 pub mod JsonText
 pub mod Room
 pub mod JsonParts
+pub mod Within
 pub mod Words

@@ -7,7 +7,11 @@ mod escapes;
 mod json_string;
 mod json_text;
 mod room;
+mod within;
 
 pub use encode::{encode_owned_parts, encode_parts};
 pub use json_string::push_json_string;
 pub use json_text::{encode_parts_into, encode_parts_to_data_url, encode_parts_to_string};
+pub use within::{
+    encode_mappings_within, encode_parts_to_data_url_within, encode_parts_to_string_within,
+};

@@ -1,5 +1,6 @@
 -- The words of this crate's clauses, from one place.
 pub use Rattle.oxc_sourcemap_encode.specs.JsonText.{map_text, map_url}
+pub use Rattle.oxc_sourcemap_encode.specs.Within.{map_text_within, map_url_within, mappings_within}
 pub use Rattle.oxc_sourcemap_found.specs.MendText.{mend_text}
 pub use Rattle.oxc_sourcemap_handles.specs.Back.{IsBack}
 pub use Rattle.oxc_sourcemap_handles.specs.CallErrors.{call_error_text, out_of_memory}
@@ -32,6 +33,8 @@ pub use Rattle.oxc_sourcemap_handles_reading.specs.Writing.{IsTokensError, IsUrl
 pub use Rattle.oxc_sourcemap_handles_reading.specs.Writing.{IsVisualError, IsVisualText}
 pub use Rattle.oxc_sourcemap_handles_reading.specs.Writing.{IsWrittenAs, call_error_of_data}
 pub use Rattle.oxc_sourcemap_handles_reading.specs.Writing.{language_of, mappings_text, tokens_text}
+pub use Rattle.oxc_sourcemap_handles_reading.specs.Writing.{mappings_text_within}
+pub use Rattle.oxc_sourcemap_handles_reading.specs.Writing.{IsTokensErrorWithin}
 pub use Rattle.oxc_sourcemap_lookup.specs.Lookup.{lines_through}
 pub use Rattle.oxc_sourcemap_mappings.specs.Canonical.{canonical}
 pub use Rattle.oxc_sourcemap_mappings.specs.Pieces.{writing_fault}

@@ -16,6 +16,7 @@ use Rattle.oxc_sourcemap_url.specs.declared.data_url_error.DataUrlError.{DataUrl
 use Rattle.oxc_sourcemap_url.specs.declared.data_url_error.DataUrlError.TheVariants as given
 use Rattle.oxc_sourcemap_url.specs.declared.language.Language.{Language}
 use Rattle.oxc_sourcemap_url.specs.declared.language.Language.TheVariants.{JavaScript, Css}
+use Rattle.oxc_sourcemap_encode.specs.Within.{mappings_within}
 use Rattle.oxc_sourcemap_visualizer.specs.Link.{map_link}
 use Rattle.oxc_sourcemap_visualizer.specs.VisualText.{visual_text}
 use Rattle.oxc_sourcemap_handles.specs.declared.call_error.CallError.{CallError}
@@ -42,6 +43,14 @@ mappings_text m = unless (writing_fault m.tokens m.token_chunks) (Ok (canonical 
 -- an error of writing tokens
 abbrev pub IsTokensError : List TokenRecord → CallError → Type 0
 IsTokensError tokens r = (e : Error) × (tokens_text tokens ≡ Err e) × (r ≡ of_map e)
+
+-- the mappings text of a map, if it has at most this many bytes
+abbrev pub mappings_text_within : ℕ → MapRecord → Result Text Error
+mappings_text_within limit m = mappings_within limit m.tokens m.token_chunks
+
+-- an error of writing tokens in so many bytes
+abbrev pub IsTokensErrorWithin : ℕ → List TokenRecord → CallError → Type 0
+IsTokensErrorWithin limit tokens r = (e : Error) × (mappings_within limit tokens None ≡ Err e) × (r ≡ of_map e)
 
 -- ---- a code and its map
 

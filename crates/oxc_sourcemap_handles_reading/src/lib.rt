@@ -9,6 +9,7 @@ mod messages;
 mod reading;
 mod reverse;
 mod urls;
+mod within;
 mod writing;
 
 pub use asked::Asked;
@@ -24,6 +25,9 @@ pub use reading::{
 };
 pub use reverse::{FoundToken, SourcePlace, all_generated, generated, index_sources, write_token};
 pub use urls::{decode_data_url, source_mapping_url};
+pub use within::{
+    encode_mappings_within, get_mappings_within, to_data_url_within, to_json_string_within,
+};
 pub use writing::{
     encode_mappings, get_mappings, to_data_url, to_json_string, visualize, visualizer_url,
 };

@@ -5,6 +5,7 @@ pub use Rattle.oxc_sourcemap_differ.specs.Differences.{HaveSameTraceEverywhere, 
 pub use Rattle.oxc_sourcemap_differ.specs.Differences.{IfBothSorted}
 pub use Rattle.oxc_sourcemap_encode.specs.Encoded.{encoded}
 pub use Rattle.oxc_sourcemap_encode.specs.JsonText.{map_text, map_url, appended}
+pub use Rattle.oxc_sourcemap_encode.specs.Within.{map_text_within, map_url_within, early_fault}
 pub use Rattle.oxc_sourcemap_join.specs.Joined.{joined, nothing_joined, IsWithinLimits}
 pub use Rattle.oxc_sourcemap_json.specs.Json.{json_record}
 pub use Rattle.oxc_sourcemap_lookup.specs.Composed.{composition, composition_fault, SomeComposition}

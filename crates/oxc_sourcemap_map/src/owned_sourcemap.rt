@@ -16,7 +16,8 @@ ghost use Rattle.oxc_sourcemap_map.specs.Words.{token_after, index_for, clamped_
 ghost use Rattle.oxc_sourcemap_map.specs.Words.{index_after, sorted_map, place, pieces_of, DoCover};
 ghost use Rattle.oxc_sourcemap_map.specs.Words.{Map, Unsorted, simplification};
 ghost use Rattle.oxc_sourcemap_map.specs.Words.{IfBothSorted, HaveSameTraceEverywhere};
-ghost use Rattle.oxc_sourcemap_map.specs.Words.{IsFirstDifference};
+ghost use Rattle.oxc_sourcemap_map.specs.Words.{IsFirstDifference, early_fault};
+ghost use Rattle.oxc_sourcemap_map.specs.Words.{map_text_within, map_url_within};
 ghost use Rattle.std.specs.Prelude.{IsOk};
 ghost use Rattle.std.specs.Prelude.{◌≡◌, ◌≢◌, List, [], map, option_map, slice_get, string_bytes};
 ghost use Rattle.std.specs.Prelude.{IfOk, IfErr, IfSome, IsNone, Ok, Err, Some, OnOk, OnErr, ◌↔◌};
@@ -149,6 +150,15 @@ impl OwnedSourceMap {
         self.inner.to_json_string(alloc)
     }
 
+    /// Writes the JSON text of this map, if it has at most `limit` bytes, as `SourceMap::to_json_string_within` does, and fails
+    /// as that does.
+    pub fn to_json_string_within(&self, alloc: Global, limit: usize) -> Result<String>
+        ensures text { Answers string_bytes result (map_text_within limit self.now) }
+        ensures early { Reports (early_fault limit self.now.tokens self.now.token_chunks) result }
+    {
+        self.inner.to_json_string_within(alloc, limit)
+    }
+
     /// Appends the JSON text of this map to `out`, as `SourceMap::write_json_string` does, and fails as that does; `out` is
     /// then as it was.
     pub fn write_json_string(&self, out: &mut String) -> Result<()>
@@ -164,6 +174,15 @@ impl OwnedSourceMap {
         ensures { Answers string_bytes result (map_url self.now) }
     {
         self.inner.to_data_url(alloc)
+    }
+
+    /// Writes the data URL of the JSON text of this map, if it has at most `limit` bytes, as `SourceMap::to_data_url_within`
+    /// does, and fails as that does.
+    pub fn to_data_url_within(&self, alloc: Global, limit: usize) -> Result<String>
+        ensures text { Answers string_bytes result (map_url_within limit self.now) }
+        ensures early { Reports (early_fault limit self.now.tokens self.now.token_chunks) result }
+    {
+        self.inner.to_data_url_within(alloc, limit)
     }
 
     /// Composes this map, from generated to intermediate code, with `input`, from there to original code, as

@@ -12,13 +12,15 @@ ghost use Rattle.oxc_sourcemap_map.specs.Words.{encoded, decoded_map_of, read_ma
 ghost use Rattle.oxc_sourcemap_map.specs.Words.{read_decoded_map, map_text, map_url, view_of};
 ghost use Rattle.oxc_sourcemap_map.specs.Words.{seen_in, content_at, source_and_content_at};
 ghost use Rattle.oxc_sourcemap_map.specs.Words.{Answers, OnlyMemory, Reports, lent_item, appended};
-ghost use Rattle.oxc_sourcemap_map.specs.Words.{rooted, sorted_map};
+ghost use Rattle.oxc_sourcemap_map.specs.Words.{rooted, sorted_map, early_fault};
+ghost use Rattle.oxc_sourcemap_map.specs.Words.{map_text_within, map_url_within};
 
 use crate::source_view_token::SourceViewToken;
 use crate::view_tokens::ViewTokens;
 use oxc_sourcemap_decode::{decode_parts, decode_parts_from_string};
 use oxc_sourcemap_encode::{
-    encode_parts, encode_parts_into, encode_parts_to_data_url, encode_parts_to_string,
+    encode_parts, encode_parts_into, encode_parts_to_data_url, encode_parts_to_data_url_within,
+    encode_parts_to_string, encode_parts_to_string_within,
 };
 use oxc_sourcemap_json::JSONSourceMap;
 use oxc_sourcemap_parts::{
@@ -144,6 +146,28 @@ impl<'a> SourceMap<'a> {
         encode_parts_to_string(alloc, &self.parts)
     }
 
+    /// Writes the JSON text of this map, as `to_json_string` does, if it has at most `limit` bytes. A map of a few bytes may
+    /// have four gigabytes of `;` for its lines: who writes maps that others send gives a limit.
+    ///
+    /// ```rust
+    /// use oxc_sourcemap::{Error, SourceMap};
+    ///
+    /// let text = r#"{"version":3,"names":[],"sources":["a.js"],"mappings":"AAAA"}"#;
+    /// let map = SourceMap::from_json_string(alloc, text)?;
+    /// assert_eq!(rt; map.to_json_string_within(alloc, 61)?.as_str(), text);
+    /// assert!(rt; matches!(map.to_json_string_within(alloc, 60), Err(Error::TooLarge)));
+    /// ```
+    ///
+    /// Fails as `to_json_string` does, and then with `TooLarge` if the text is longer. If the generated line of the last token
+    /// is above `limit`, as many `;` are in the text, and this is found before anything is written: neither the time nor the
+    /// memory that it takes grows with the lines.
+    pub fn to_json_string_within(&self, alloc: Global, limit: usize) -> Result<String>
+        ensures text { Answers string_bytes result (map_text_within limit self.now) }
+        ensures early { Reports (early_fault limit self.now.tokens self.now.token_chunks) result }
+    {
+        encode_parts_to_string_within(alloc, &self.parts, limit)
+    }
+
     /// Appends the JSON text of this map to `out`: the text that `to_json_string` returns. So one buffer serves for many
     /// maps, or for the text that a map was read from and the one that is written.
     ///
@@ -172,6 +196,15 @@ impl<'a> SourceMap<'a> {
         ensures { Answers string_bytes result (map_url self.now) }
     {
         encode_parts_to_data_url(alloc, &self.parts)
+    }
+
+    /// Writes the data URL of the JSON text of this map, as `to_data_url` does, if the URL has at most `limit` bytes. Fails as
+    /// `to_json_string_within` does.
+    pub fn to_data_url_within(&self, alloc: Global, limit: usize) -> Result<String>
+        ensures text { Answers string_bytes result (map_url_within limit self.now) }
+        ensures early { Reports (early_fault limit self.now.tokens self.now.token_chunks) result }
+    {
+        encode_parts_to_data_url_within(alloc, &self.parts, limit)
     }
 
     /// A map equal to this one. A borrowed string stays borrowed. Fails only with `OutOfMemory`.

@@ -483,6 +483,31 @@ unsafe extern "C" {
         out: *mut *mut smap_string,
         fault: *mut smap_fault,
     ) -> u32;
+    pub fn smap_to_json_string_within(
+        map: *const smap_map,
+        limit: usize,
+        out: *mut *mut smap_string,
+        fault: *mut smap_fault,
+    ) -> u32;
+    pub fn smap_to_data_url_within(
+        map: *const smap_map,
+        limit: usize,
+        out: *mut *mut smap_string,
+        fault: *mut smap_fault,
+    ) -> u32;
+    pub fn smap_get_mappings_within(
+        map: *const smap_map,
+        limit: usize,
+        out: *mut *mut smap_string,
+        fault: *mut smap_fault,
+    ) -> u32;
+    pub fn smap_encode_mappings_within(
+        tokens: *const smap_token,
+        tokens_len: usize,
+        limit: usize,
+        out: *mut *mut smap_string,
+        fault: *mut smap_fault,
+    ) -> u32;
     pub fn smap_decode_mappings(
         mappings: *const c_char,
         mappings_len: usize,

@@ -16,6 +16,7 @@ pub use Rattle.oxc_sourcemap_mappings.specs.Faults
 pub use Rattle.oxc_sourcemap_mappings.specs.Reading
 pub use Rattle.oxc_sourcemap_mappings.specs.declared.fault_at.SegmentPlace
 pub use Rattle.oxc_sourcemap_mappings.specs.SegmentPlaces
+pub use Rattle.oxc_sourcemap_mappings.specs.declared.reason.SegmentReason
 pub use Rattle.oxc_sourcemap_tokens.specs.State
 pub use Rattle.oxc_sourcemap_tokens.specs.LineOrder
 pub use Rattle.oxc_sourcemap_mappings.specs.Canonical
@@ -72,6 +73,7 @@ pub use Rattle.oxc_sourcemap_text.specs.Positions
 pub use Rattle.oxc_sourcemap_text.specs.PositionLaws
 pub use Rattle.oxc_sourcemap_places.specs.declared.fault_place.FaultPlace
 pub use Rattle.oxc_sourcemap_places.specs.declared.fault_place.FaultSpot
+pub use Rattle.oxc_sourcemap_places.specs.declared.fault_reason.FaultReason
 pub use Rattle.oxc_sourcemap_places.specs.PlaceMessages
 pub use Rattle.oxc_sourcemap_places.specs.ValueSpots
 pub use Rattle.oxc_sourcemap_plan_places.specs.PlanPlaces

@@ -14,15 +14,18 @@ pub use encoding::{encode, encode_to_string};
 pub use evaluation::evaluate;
 pub use oxc_sourcemap_builders::{ConcatSourceMapBuilder, SourceMapBuilder};
 pub use oxc_sourcemap_encode::{encode_mappings_within, push_json_string};
-pub use oxc_sourcemap_found::{Found, Mend, MendKind, found_fault_at, read_found};
+pub use oxc_sourcemap_found::{Found, Mend, MendKind, fault_reason, found_fault_at, read_found};
 pub use oxc_sourcemap_json::{JSONSourceMap, file_from_value};
 pub use oxc_sourcemap_map::{OwnedSourceMap, SourceMap, SourceViewToken, ViewTokens};
 pub use oxc_sourcemap_mappings::{
-    SegmentPlace, decode_mappings, encode_chunk, encode_mappings, mappings_fault_at,
+    SegmentPlace, SegmentReason, decode_mappings, encode_chunk, encode_mappings, mappings_fault_at,
+    mappings_fault_reason,
 };
 pub use oxc_sourcemap_parts::{Contents, Names, SourceMapParts, Sources, Tokens};
 pub use oxc_sourcemap_pieces::{Piece, Pieces};
-pub use oxc_sourcemap_places::{FaultPlace, FaultSpot, json_fault_at, value_fault_at};
+pub use oxc_sourcemap_places::{
+    FaultPlace, FaultReason, FaultSpot, json_fault_at, json_fault_reason, value_fault_at,
+};
 pub use oxc_sourcemap_plan::Plan;
 pub use oxc_sourcemap_plan_places::plan_fault_at;
 pub use oxc_sourcemap_reverse::{IndexTokens, SourceIndex};

@@ -9,6 +9,7 @@ mod members;
 mod mend;
 mod opening;
 mod plain;
+mod reason;
 mod sections;
 mod tokens;
 
@@ -16,3 +17,4 @@ pub use fault::found_fault_at;
 pub use found::{Found, read_found};
 pub use laws::mending_harmless;
 pub use mend::{Mend, MendKind};
+pub use reason::fault_reason;

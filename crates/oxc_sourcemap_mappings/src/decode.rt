@@ -21,9 +21,9 @@ use std::boxed::BoxedSlice;
 
 /// The fields of one segment.
 #[derive(Drop)]
-struct Fields {
+pub(crate) struct Fields {
     /// The first five numbers, 0 where there are fewer.
-    values: [i64; 5],
+    pub(crate) values: [i64; 5],
     /// How many numbers the segment has.
     count: usize,
     /// How many bytes the segment takes.
@@ -33,11 +33,11 @@ struct Fields {
 /// The sums of the fields read so far.
 #[derive(Clone, Copy)]
 pub(crate) struct Sums {
-    dst_col: u32,
-    source_id: u32,
-    src_line: u32,
-    src_col: u32,
-    name_id: u32,
+    pub(crate) dst_col: u32,
+    pub(crate) source_id: u32,
+    pub(crate) src_line: u32,
+    pub(crate) src_col: u32,
+    pub(crate) name_id: u32,
 }
 
 /// The digit of each byte, and 128 for `,` and `;`.
@@ -170,7 +170,7 @@ fn number_at(text: &[u8], at: usize) -> Option<(i64, usize)>
 /// The fields of the segment at the front of a text, digit by digit, or the fault of its digits.
 // A call of its own, so that the loop of `decode_mappings` is short.
 #[inline(never)]
-fn any_segment(text: &[u8]) -> Result<Fields>
+pub(crate) fn any_segment(text: &[u8]) -> Result<Fields>
     ensures fields { IfOk result (λ fields. AreFieldsOf (front_segment text.now) fields) }
     ensures len { IfOk result (λ fields. fields.len ≡ length (front_digits text.now)) }
     ensures within { IfOk result (λ fields. fields.len ≤ length text.now) }
@@ -301,7 +301,13 @@ impl Sums {
     /// Moves the sums by the fields of a segment, and makes its token. After an `Err` some of them are moved.
     #[tactic(auto, unfolding(crate::specs::Faults::place_fault))]
     #[inline(always)]
-    fn step(&mut self, line: u32, fields: &Fields, names: usize, sources: usize) -> Result<Token>
+    pub(crate) fn step(
+        &mut self,
+        line: u32,
+        fields: &Fields,
+        names: usize,
+        sources: usize,
+    ) -> Result<Token>
         requires small { AreSmall fields.now }
         ensures place { let here = moved (place_of self.old) fields.now.count (value fields.now) in
             OnOk result (place_of self.new ≡ here) }

@@ -6,7 +6,9 @@ mod decode;
 mod encode;
 mod fault_at;
 mod near;
+mod reason;
 
 pub use decode::decode_mappings;
 pub use encode::{encode_chunk, encode_mappings};
 pub use fault_at::{SegmentPlace, mappings_fault_at};
+pub use reason::{SegmentReason, mappings_fault_reason};

@@ -7,7 +7,8 @@
 //!     smap url < bundle.js.map
 //!
 //! An error is printed on standard error after `smap: `, and the status is then 2 for bad arguments and 1 for all else. After
-//! `smap --where` a second line tells the place of the fault in the input, if the error has one.
+//! `smap --where` a second line tells the place of the fault in the input, if the error has one, and what is really wrong there, if the
+//! error does not tell.
 #![tactic(auto)]
 
 use smap_run::{Failure, Port, RunError, read_words, run, run_where, take_where};
@@ -46,11 +47,19 @@ fn smap(rt: &HostRuntime) -> Result<(), Failure> {
 fn main(rt: HostRuntime) -> ExitCode {
     match smap(&rt) {
         Ok(()) => ExitCode::SUCCESS,
-        Err(Failure { error, place }) => {
+        Err(
+            Failure {
+                error,
+                place,
+                reason,
+            },
+        ) => {
             let _ = eprintln!(rt; "smap: {error}");
-            if let Some(place) = place {
-                let _ = eprintln!(rt; "{place}");
-            }
+            let _ = match (place, reason) {
+                (Some(place), Some(reason)) => eprintln!(rt; "{place}: {reason}"),
+                (Some(place), None) => eprintln!(rt; "{place}"),
+                (None, _) => Ok(()),
+            };
             ExitCode::from(error.status())
         }
     }

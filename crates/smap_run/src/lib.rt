@@ -9,7 +9,7 @@ mod tracing;
 
 pub use arguments::{Command, read_words, take_where};
 pub use oxc_sourcemap_plan::{RunError, inputs_of, read_number, read_plan};
-pub use placing::{Failure, error_place, run_where};
+pub use placing::{Failure, error_place, place_reason, run_where};
 pub use port::Port;
 pub use running::run;
 pub use tracing::trace;

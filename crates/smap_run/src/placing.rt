@@ -10,7 +10,9 @@ use crate::arguments::Command;
 use crate::port::Port;
 use crate::running::{read_all, run, without_last_line_feed};
 use oxc_sourcemap_mappings::mappings_fault_at;
-use oxc_sourcemap_places::{FaultPlace, FaultSpot, json_fault_at};
+use oxc_sourcemap_places::{
+    FaultPlace, FaultReason, FaultSpot, json_fault_at, json_fault_reason, segment_reason,
+};
 use oxc_sourcemap_plan::{RunError, inputs_of, read_plan};
 use oxc_sourcemap_plan_places::{plan_texts, texts_fault_at};
 use oxc_sourcemap_tokens::{Error, PlanError};
@@ -118,6 +120,46 @@ pub fn error_place(
     }
 }
 
+/// What is really wrong with a mappings text at this place.
+fn mappings_reason(
+    text: &str,
+    names: u32,
+    sources: u32,
+    place: &FaultPlace,
+) -> Option<FaultReason> {
+    let FaultSpot::Segment(segment) = place.spot else {
+        return None;
+    };
+    segment_reason(text, names as usize, sources as usize, segment)
+}
+
+/// What is really wrong with the input of a plan at this place of it.
+fn plan_reason(alloc: Global, input: &str, place: &FaultPlace) -> Option<FaultReason> {
+    let inputs = inputs_of(alloc, input).ok()?;
+    let text = text_at(inputs.as_slice(), place.text?)?;
+    json_fault_reason(alloc, text, place).ok()?
+}
+
+/// What is really wrong with the input of a command at this place of it, which `error_place` tells. None if the text of the error tells
+/// already, and for want of memory.
+pub fn place_reason(
+    alloc: Global,
+    command: &Command<'_>,
+    input: &[u8],
+    place: &FaultPlace,
+) -> Option<FaultReason> {
+    let text = std::str::from_utf8(input).ok()?;
+    match command {
+        Command::Mappings(names, sources) => {
+            mappings_reason(without_last_line_feed(text), *names, *sources, place)
+        }
+        Command::Plan(_) => plan_reason(alloc, text, place),
+        Command::Normalise => json_fault_reason(alloc, text, place).ok()?,
+        Command::Trace(_, _) => json_fault_reason(alloc, text, place).ok()?,
+        Command::Url => json_fault_reason(alloc, text, place).ok()?,
+    }
+}
+
 /// Why a command fails, and where its input has the fault.
 #[derive(Clone, Copy, Debug, PartialEq, Eq)]
 pub struct Failure {
@@ -125,17 +167,24 @@ pub struct Failure {
     pub error: RunError,
     /// Where the input has the fault, if the error has a place in it.
     pub place: Option<FaultPlace>,
+    /// What is really wrong there, if the text of the error does not tell.
+    pub reason: Option<FaultReason>,
 }
 
 impl From<RunError> for Failure {
-    ghost from_gives = { λ error failure. failure ≡ record { error = error; place = None } };
+    ghost from_gives = { λ error failure. failure ≡ record { error = error; place = None; reason = None } };
 
     fn from(error: RunError) -> Failure {
-        Failure { error, place: None }
+        Failure {
+            error,
+            place: None,
+            reason: None,
+        }
     }
 }
 
-/// Runs a command as `run` does, and tells where the input has the fault if that fails (`error_place`). The input is kept to the
+/// Runs a command as `run` does, and tells where the input has the fault if that fails (`error_place`), and what is really wrong there
+/// (`place_reason`). The input is kept to the
 /// end, so that the memory for it is taken twice.
 pub fn run_where<R: Read, W: Write>(
     alloc: Global,
@@ -161,9 +210,17 @@ pub fn run_where<R: Read, W: Write>(
     let mut again = Port::new(input.as_slice());
     match run(alloc, command, &mut again, writer) {
         Ok(()) => Ok(()),
-        Err(error) => Err(Failure {
-            error,
-            place: error_place(alloc, command, input.as_slice(), error),
-        }),
+        Err(error) => {
+            let place = error_place(alloc, command, input.as_slice(), error);
+            let reason = match &place {
+                Some(place) => place_reason(alloc, command, input.as_slice(), place),
+                None => None,
+            };
+            Err(Failure {
+                error,
+                place,
+                reason,
+            })
+        }
     }
 }

@@ -3,7 +3,7 @@ use crate::input::{is_file, read_text, shown_name, warn};
 use crate::paths::{
     file_name, folder_of, has_scheme, is_inside, joined, parts_of, path_of, path_of_url,
 };
-use oxc_sourcemap_found::{Found, found_fault_at, read_found};
+use oxc_sourcemap_found::{Found, fault_reason, found_fault_at, read_found};
 use oxc_sourcemap_map::SourceMap;
 use oxc_sourcemap_places::{FaultPlace, json_fault_at};
 use oxc_sourcemap_tokens::Error;
@@ -308,26 +308,31 @@ pub fn map_of_file(rt: &HostRuntime, path: &str, places: Places<'_>) -> Outcome<
     }
 }
 
-/// The text of an error, with this place if there is one: `line 0, segment 3 (byte 12): ..`.
+/// The text of an error of reading this text, with its place if it has one, and with what is really wrong there if the error does not
+/// tell: `line 0, segment 3 (byte 12): a column below 0: ..`.
 fn placed_text(
     alloc: Global,
+    text: &str,
     place: oxc_sourcemap_tokens::Result<Option<FaultPlace>>,
     error: Error,
 ) -> Result<String, AllocError> {
-    match place {
-        Ok(Some(place)) => format!(in alloc; "{place}: {error}"),
-        _ => format!(in alloc; "{error}"),
+    let Ok(Some(place)) = place else {
+        return format!(in alloc; "{error}");
+    };
+    match fault_reason(alloc, text, &place) {
+        Ok(Some(reason)) => format!(in alloc; "{place}: {reason}: {error}"),
+        _ => format!(in alloc; "{place}: {error}"),
     }
 }
 
 /// The text of an error of reading a map, with its place if it has one.
 pub fn error_text(alloc: Global, text: &str, error: Error) -> Result<String, AllocError> {
-    placed_text(alloc, json_fault_at(alloc, text), error)
+    placed_text(alloc, text, json_fault_at(alloc, text), error)
 }
 
 /// The same of reading a map as it is found.
 pub fn found_error_text(alloc: Global, text: &str, error: Error) -> Result<String, AllocError> {
-    placed_text(alloc, found_fault_at(alloc, text), error)
+    placed_text(alloc, text, found_fault_at(alloc, text), error)
 }
 
 /// Reads a map as it is found. What is mended is told as a warning.

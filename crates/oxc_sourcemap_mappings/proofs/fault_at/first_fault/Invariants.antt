@@ -5,7 +5,7 @@ use Rattle.oxc_sourcemap_mappings.specs.Reading.{reading}
 use Rattle.oxc_sourcemap_mappings.specs.Decoding.{place_of}
 use Rattle.oxc_sourcemap_mappings.specs.SegmentPlaces.{fault_place}
 use Rattle.oxc_sourcemap_mappings.proofs.FaultPlaces.{rest_place, rest_fault}
-use Rattle.oxc_sourcemap_mappings.proofs.fault_at.mappings_fault_at.Given as goal
+use Rattle.oxc_sourcemap_mappings.proofs.fault_at.first_fault.Given as goal
 
 -- the first fault of the text is that of the text that is left
 abbrev pub invariant-loop-byte : goal.invariant-loop-byte

@@ -13,7 +13,7 @@ use Rattle.oxc_sourcemap_mappings.proofs.FaultPlaces.{place-semicolon, fault-sem
 use Rattle.oxc_sourcemap_mappings.proofs.FaultPlaces.{place-last_line, fault-last_line}
 use Rattle.oxc_sourcemap_mappings.proofs.FaultPlaces.{place-token, fault-token, place-fault}
 use Rattle.oxc_sourcemap_mappings.proofs.FaultPlaces.{front-some, err_from}
-use Rattle.oxc_sourcemap_mappings.proofs.fault_at.mappings_fault_at.Goals as goal
+use Rattle.oxc_sourcemap_mappings.proofs.fault_at.first_fault.Goals as goal
 
 pub loop-byte-init : goal.loop-byte-init
 loop-byte-init c = record {

@@ -1,0 +1,54 @@
+//! What is really wrong with a text as it is found, where its error does not tell.
+ghost use Rattle.oxc_sourcemap_found.specs.Words.{OnlyMemory};
+
+use crate::opening::open;
+use oxc_sourcemap_places::{
+    FaultPlace, FaultReason, FaultSpot, reading_reason, segment_reason, value_reason,
+};
+use oxc_sourcemap_tokens::{Error, Result};
+use serde_json::Value;
+use std::alloc::Global;
+use std::borrow::CowStr;
+
+/// The index in the opened text of a byte of the whole text; of a data URL the indices are those of its data already.
+fn opened_byte(text: &str, json: &CowStr<'_>, byte: usize) -> Option<usize> {
+    match json {
+        CowStr::Borrowed(end) => byte.checked_sub(text.len().saturating_sub(end.len())),
+        CowStr::Owned(_) => Some(byte),
+    }
+}
+
+/// What is wrong with a text that is no JSON object, which was opened as this one.
+fn text_reason(text: &str, json: &CowStr<'_>, spot: FaultSpot) -> Option<FaultReason> {
+    let any = u32::MAX as usize;
+    match spot {
+        FaultSpot::Reading { byte, .. } => {
+            reading_reason(json.as_str(), opened_byte(text, json, byte)?)
+        }
+        FaultSpot::Segment(place) => segment_reason(text, any, any, place),
+        _ => None,
+    }
+}
+
+/// What is really wrong with a text at the place of its fault, where the text of the error says something else: `None` where that tells
+/// already, and where the text has no such fault. The text is one that `decode_from_string`, `read_found` or `decode_mappings` refused, and the
+/// place is the one that `json_fault_at`, `found_fault_at` or `mappings_fault_at` tells of it; a number of a text in the place does not
+/// count. Fails only with `OutOfMemory`.
+///
+/// ```rust
+/// use oxc_sourcemap::{fault_reason, found_fault_at};
+///
+/// let text = r#"{"version":3,"sources":["a.js"],"names":[],"mappings":"AAAA,DAAA"}"#;
+/// let place = found_fault_at(alloc, text)?.unwrap();
+/// assert_eq!(rt; fault_reason(alloc, text, &place)?.unwrap().to_string(alloc)?, "a column below 0");
+/// ```
+pub fn fault_reason(alloc: Global, text: &str, place: &FaultPlace) -> Result<Option<FaultReason>>
+    ensures { OnlyMemory result }
+{
+    let (json, _) = open(alloc, text)?;
+    match Value::from_str(alloc, json.as_str()) {
+        Ok(value) if value.is_object() => Ok(value_reason(&value, place)),
+        Err(error) if error.is_memory() => Err(Error::OutOfMemory),
+        _ => Ok(text_reason(text, &json, place.spot)),
+    }
+}

@@ -1,7 +1,8 @@
 //! Where faults are. tests/reference/fault_places.py has the places of sections, and the numbers of the random texts.
 use crate::helpers::same;
 use oxc_sourcemap::{
-    FaultPlace, FaultSpot, Field, Plan, SegmentPlace, decode_from_string, decode_mappings, evaluate, json_fault_at, mappings_fault_at, plan_fault_at,
+    FaultPlace, FaultReason, FaultSpot, Field, Plan, SegmentPlace, SegmentReason, decode_from_string, decode_mappings, evaluate, fault_reason,
+    found_fault_at, json_fault_at, json_fault_reason, mappings_fault_at, mappings_fault_reason, plan_fault_at,
 };
 use std::alloc::{AllocError, Global};
 use std::process::Abort;
@@ -253,5 +254,148 @@ fn places_are_texts(rt: HostRuntime) -> std::result::Result<(), Fail> {
         let found = FaultPlace { text, section, spot }.to_string(rt.alloc())?;
         same(&rt, wanted, found.as_str(), wanted);
     }
+    Ok(())
+}
+
+#[test]
+fn segments_have_reasons(rt: HostRuntime) {
+    // A text, of 2 names and 2 sources, and what its error does not tell.
+    for (text, wanted) in [
+        ("AAAA,DAAA", Some(SegmentReason::ColumnBelowZero)),
+        ("G,F;D", Some(SegmentReason::ColumnBelowZero)),
+        ("ACEG,ADFHA", None),
+        ("ACEG,ADHA", Some(SegmentReason::SourceLineBelowZero)),
+        ("ACEG,ADFJ", Some(SegmentReason::SourceColumnBelowZero)),
+        // Of two that are below 0 the first that is read.
+        ("DADA", Some(SegmentReason::ColumnBelowZero)),
+        ("ADDD", Some(SegmentReason::SourceIdBelowZero)),
+        ("AADD", Some(SegmentReason::SourceLineBelowZero)),
+        ("DA", Some(SegmentReason::ColumnBelowZero)),
+        ("AAAA;ACAA,AFAA", Some(SegmentReason::SourceIdBelowZero)),
+        ("AAAAC,AAAAF", Some(SegmentReason::NameIdBelowZero)),
+        // The error has the id before, and of a name 32 bits.
+        ("ACAA,AEAA", Some(SegmentReason::SourceId(3))),
+        ("AEAA", Some(SegmentReason::SourceId(2))),
+        ("AAAAE", None),
+        ("AAAAggggggI", Some(SegmentReason::NameId(4294967296))),
+        // 4294967295 and 1 more: the error tells that a number is too large.
+        ("+/////H,C", None),
+        ("A+/////HA", None),
+        ("AA", None),
+        ("AAAg", None),
+        ("A,gggggggggggggg", None),
+        // Bytes that are no digits, of the segment at fault alone.
+        (" AAAA", Some(SegmentReason::NoDigit(32))),
+        ("AAAA\n", Some(SegmentReason::NoDigit(10))),
+        ("A,A-_=,é", Some(SegmentReason::NoDigit(45))),
+        ("A;é", Some(SegmentReason::NoDigit(195))),
+        ("AA, ", None),
+        (" A,DAAA", Some(SegmentReason::NoDigit(32))),
+        ("AAAA", None),
+    ] {
+        same(&rt, text, mappings_fault_reason(text, 2, 2), wanted);
+    }
+}
+
+/// What is really wrong with a text that is read as it is found, or else exactly.
+fn reason_of(alloc: Global, text: &str) -> std::result::Result<Option<FaultReason>, Fail> {
+    let exact = json_fault_at(alloc, text)?;
+    let Some(place) = found_fault_at(alloc, text)?.or(exact) else {
+        return Ok(None);
+    };
+    let reason = fault_reason(alloc, text, &place)?;
+    // The number of a text does not count.
+    if fault_reason(alloc, text, &place.in_text(3))? != reason {
+        return Ok(None);
+    }
+    if exact == Some(place) && json_fault_reason(alloc, text, &place)? != reason {
+        return Ok(None);
+    }
+    Ok(reason)
+}
+
+#[test]
+fn texts_have_reasons(rt: HostRuntime) -> std::result::Result<(), Fail> {
+    for (text, wanted) in [
+        (r#"{"version":3,"sources":["a"],"mappings":"AAAA,DAAA"}"#, Some("a column below 0")),
+        (r#"{"version":3,"sources":["a"],"mappings":"AAAA,AA"}"#, None),
+        (r#"{"version":3,"sources":["a"],"mappings":"ADAA"}"#, Some("a source id below 0")),
+        (r#"{"version":3,"sources":["a"],"mappings":"ACAA"}"#, Some("the source id is 1")),
+        (r#"{"version":3,"sources":["a"],"names":["n"],"mappings":"AAAAD"}"#, Some("a name id below 0")),
+        (r#"{"version":3,"sources":["a"],"mappings":"AADA"}"#, Some("a source line below 0")),
+        (r#"{"version":3,"sources":["a"],"mappings":"AAAD"}"#, Some("a source column below 0")),
+        (r#"{"version":3,"sources":["a"],"mappings":"AAAAggggggI","names":[]}"#, Some("the name id is 4294967296")),
+        (r#"{"version":3,"sources":["a"],"mappings":"AAAA\n"}"#, Some("a byte that is no digit: 0xa")),
+        (")]}'\n{\"version\":\"3\",\"sources\":[null],\"mappings\":\"A,D\"}", Some("a column below 0")),
+        // A section.
+        (r#"{"version":3,"sections":[{"offset":{"line":0,"column":0},"map":{"version":3,"sources":["a"],"mappings":"A"}},{"offset":{"line":1,"column":0},"map":{"version":3,"sources":["a"],"mappings":"D"}}]}"#, Some("a column below 0")),
+        (r#"{"version":3,"sections":[{"offset":{"line":-1,"column":0},"map":{"version":3,"sources":["a"],"mappings":""}}]}"#, Some("a number below 0")),
+        (r#"{"version":3,"sections":[{"offset":{"line":0,"column":0.0},"map":{"version":3,"sources":["a"],"mappings":""}}]}"#, Some("a whole number that is not written in digits alone")),
+        (r#"{"version":3,"sections":[{"offset":{"line":0,"column":1.5},"map":{"version":3,"sources":["a"],"mappings":""}}]}"#, Some("a number that is not whole")),
+        (r#"{"version":3,"sections":[{"offset":{"column":-1},"map":{"version":3,"sources":["a"],"mappings":""}}]}"#, None),
+        (r#"{"version":3,"sections":[{"offset":{"line":"0","column":0},"map":{"version":3,"sources":["a"],"mappings":""}}]}"#, None),
+        // Numbers.
+        (r#"{"version":3.0,"sources":[],"mappings":""}"#, Some("a whole number that is not written in digits alone")),
+        (r#"{"version":3e0,"sources":[],"mappings":""}"#, Some("a whole number that is not written in digits alone")),
+        (r#"{"version":-3,"sources":[],"mappings":""}"#, Some("a number below 0")),
+        (r#"{"version":3.5,"sources":[],"mappings":""}"#, Some("a number that is not whole")),
+        (r#"{"version":4294967296,"sources":[],"mappings":""}"#, Some("a number above 4294967295")),
+        (r#"{"version":2,"sources":[],"mappings":""}"#, None),
+        (r#"{"version":"3","sources":[],"mappings":""}"#, None),
+        (r#"{"version":3,"sources":["a"],"mappings":"","ignoreList":[0,-1]}"#, Some("a number below 0")),
+        (r#"{"version":3,"sources":["a"],"mappings":"","x_google_ignoreList":[0.0]}"#, Some("a whole number that is not written in digits alone")),
+        (r#"{"version":3,"sources":["a"],"mappings":"","ignoreList":[7]}"#, None),
+        (r#"{"version":3,"sources":["a",1.5],"mappings":""}"#, None),
+        (r#"{"version":3,"file":1.5,"sources":["a"],"mappings":""}"#, None),
+        // What is JSON and is not read.
+        (r#"{"version":3,"sources":["\ud800"],"mappings":""}"#, Some("a lone surrogate")),
+        (r#"{"version":3,"sources":["a\"\ud83d\ude00\\\udc00"],"mappings":""}"#, Some("a lone surrogate")),
+        (r#"{"version":3,"sources":["\ud800\u0041"],"mappings":""}"#, Some("a lone surrogate")),
+        (r#"{"version":3,"sources":["\u00e9\q"],"mappings":""}"#, None),
+        ("{\"version\":3,\"sources\":[\"a\tb\"],\"mappings\":\"\"}", None),
+        (r#"{"\udfff":3}"#, Some("a lone surrogate")),
+        (r#"{"version":1e999}"#, Some("a number too large for a float")),
+        (r#"{"x":[1,-2e400 , {"a":3}],"version":3}"#, Some("a number too large for a float")),
+        ("1e999", Some("a number too large for a float")),
+        (r#"{"x":1e308,}"#, None),
+        (r#"{"version":03}"#, None),
+        (r#"{"version":NaN}"#, None),
+        ("[[\"", None),
+        ("<html>", None),
+        ("", None),
+        ("data:application/json,%7B%22a%22:%22%5Cud800%22%7D", Some("a lone surrogate")),
+        (")]}'[[[\n{\"a\":1e999}", Some("a number too large for a float")),
+    ] {
+        match reason_of(rt.alloc(), text)? {
+            Some(reason) => same(&rt, text, Some(reason.to_string(rt.alloc())?.as_str()), wanted),
+            None => same(&rt, text, None, wanted),
+        }
+    }
+    Ok(())
+}
+
+/// An array in an array, and so on, as a member.
+fn nested(alloc: Global, depth: usize) -> std::result::Result<String, AllocError> {
+    let mut text = String::from_str(alloc, r#"{"version":3,"sources":["[[["],"mappings":"","x":"#)?;
+    for _ in 0..depth {
+        text.push('[')?;
+    }
+    for _ in 0..depth {
+        text.push(']')?;
+    }
+    text.push('}')?;
+    Ok(text)
+}
+
+#[test]
+fn depth_is_a_reason(rt: HostRuntime) -> std::result::Result<(), Fail> {
+    let alloc = rt.alloc();
+    let (fine, deep, deeper) = (nested(alloc, 126)?, nested(alloc, 127)?, nested(alloc, 5000)?);
+    same(&rt, "fine", decode_from_string(alloc, fine.as_str()).is_ok(), true);
+    same(&rt, "deep", reason_of(alloc, deep.as_str())?, Some(FaultReason::TooDeep));
+    same(&rt, "deeper", reason_of(alloc, deeper.as_str())?, Some(FaultReason::TooDeep));
+    // A place of another text.
+    let place = json_fault_at(alloc, deep.as_str())?;
+    same(&rt, "other", place.and_then(|place| fault_reason(alloc, fine.as_str(), &place).ok().flatten()), None);
     Ok(())
 }

@@ -489,7 +489,8 @@ fn run_asked(
     result
 }
 
-/// Words after `--where`, an input, and the place of the error; tests/reference/fault_places.py has these.
+/// Words after `--where`, an input, and the place of the error, with what is really wrong there; tests/reference/fault_places.py has
+/// the places.
 const PLACES: &[(&[&str], &str, Option<&str>)] = &[
     (&["mappings", "0", "1"], "AAAA;AACA,AA\n", Some("line 1, segment 1 (byte 10)")),
     (&["mappings", "0", "1"], "AAAA;AACA,A\n", None),
@@ -515,6 +516,16 @@ const PLACES: &[(&[&str], &str, Option<&str>)] = &[
         None,
     ),
     (&["plan", "@1"], "{}", None),
+    // What the error does not tell.
+    (&["mappings", "0", "1"], "AAAA,DAAA\n", Some("line 0, segment 1 (byte 5): a column below 0")),
+    (&["mappings", "0", "1"], "A;AEAA\n", Some("line 1, segment 0 (byte 2): the source id is 2")),
+    (&["trace", "0", "0"], r#"{"version":3.0,"sources":[],"mappings":""}"#, Some("version: a whole number that is not written in digits alone")),
+    (&["url"], r#"{"version":3,"sources":["\ud800"],"mappings":""}"#, Some("line 0, column 24 (byte 24): a lone surrogate")),
+    (
+        &["plan", "compose", "@0", "@1"],
+        "{\"version\":3,\"sources\":[\"a.js\"],\"mappings\":\"A\"}\n---\n{\"version\":3,\"sources\":[\"a.js\"],\"mappings\":\"A; A\"}",
+        Some("text 1, line 1, segment 0 (byte 2): a byte that is no digit: 0x20"),
+    ),
 ];
 
 #[test]
@@ -530,11 +541,12 @@ fn places_are_told_where_asked(rt: HostRuntime) -> Result<(), Fail> {
         same(&rt, input, written.as_slice(), plain.as_slice());
         match result {
             Ok(()) => same(&rt, input, (Ok(()), None), (alone, *wanted)),
-            Err(Failure { error, place }) => {
+            Err(Failure { error, place, reason }) => {
                 same(&rt, input, Err(error), alone);
-                let told = match place {
-                    Some(place) => Some(place.to_string(alloc)?),
-                    None => None,
+                let told = match (place, reason) {
+                    (Some(place), Some(reason)) => Some(format!(in alloc; "{place}: {reason}")?),
+                    (Some(place), None) => Some(place.to_string(alloc)?),
+                    (None, _) => None,
                 };
                 same(&rt, input, told.as_ref().map(|told| told.as_str()), *wanted);
             }

@@ -575,6 +575,11 @@ size_t smap_place_message(const smap_fault *fault, char *out, size_t out_len) {
     return proved_place_message(fault, OR(out, &none), out_len);
 }
 
+size_t smap_reason_message(const char *text, size_t text_len, const smap_fault *fault, char *out, size_t out_len) {
+    char none;
+    return proved_reason_message(OR(text, ""), text_len, fault, OR(out, &none), out_len);
+}
+
 #define NAMED(code) \
     case code: return #code
 const char *smap_code_name(uint32_t code) {

@@ -300,6 +300,42 @@ static void refused(const char *json, size_t len, uint32_t code, uint32_t field,
 #define INDEXED(sections) "{\"version\":3,\"sections\":[" sections "]}"
 #define SMALL "{\"version\":3,\"sources\":[\"a.ts\"],\"mappings\":\"AAAA\"}"
 
+/* Texts with what is really wrong with them, or "" where the message tells. */
+static const struct { const char *text, *reason; } REASONS[] = {
+    { OF_A("\"mappings\":\"AAAA,DAAA\""), "a column below 0" },
+    { OF_A("\"mappings\":\" AAAA\""), "a byte that is no digit: 0x20" },
+    { OF_A("\"mappings\":\"ADAA\""), "a source id below 0" },
+    { OF_A("\"mappings\":\"AAAA,AA\""), "" },
+    { ")]}'\n" OF_A("\"mappings\":\"AADA\""), "a source line below 0" },
+    { "{\"version\":3,\"file\":\"\\ud800\"}", "a lone surrogate" },
+    { "{\"version\":3,\"file\":}", "" },
+    { "{\"version\":3.5,\"sources\":[],\"mappings\":\"\"}", "a number that is not whole" },
+    { "{\"version\":3,\"sections\":[{\"offset\":{\"line\":-1,\"column\":0},\"map\":" SMALL "}]}", "a number below 0" },
+};
+
+static void reasons(void) {
+    for (size_t i = 0; i < LEN(REASONS); i++) {
+        smap_map *map = NULL;
+        smap_fault fault;
+        char out[100];
+        const char *text = REASONS[i].text, *reason = REASONS[i].reason;
+        check(smap_read_found(text, strlen(text), &map, NULL, &fault) != SMAP_OK && map == NULL, __LINE__, text);
+        check(smap_reason_message(text, strlen(text), &fault, NULL, 0) == strlen(reason), __LINE__, text);
+        size_t len = smap_reason_message(text, strlen(text), &fault, out, sizeof out);
+        check(len == strlen(reason) && memcmp(out, reason, len) == 0, __LINE__, text);
+    }
+    smap_map *map = NULL;
+    smap_fault fault;
+    char out[8] = "xxxxxxx";
+    CHECK(smap_decode_mappings(TEXT("A;D"), 0, 0, &map, &fault) == SMAP_BAD_SEGMENT_SIZE);
+    CHECK(smap_reason_message(TEXT("A;D"), &fault, out, 4) == strlen("a column below 0") && memcmp(out, "a coxxx", 8) == 0);
+    /* The place of another text, no text, no UTF-8, and no fault. */
+    CHECK(smap_reason_message(TEXT("A;A"), &fault, out, 8) == 0 && smap_reason_message(NULL, 0, &fault, NULL, 0) == 0);
+    CHECK(smap_reason_message(TEXT("\xff"), &fault, out, 8) == 0 && memcmp(out, "a coxxx", 8) == 0);
+    fault = fault_of(SMAP_OK, 0, 0);
+    CHECK(smap_reason_message(TEXT("A;D"), &fault, out, 8) == 0);
+}
+
 static void refusals(void) {
     refused(TEXT("ab\xff"), SMAP_NOT_UTF8, 0, 2, "");
     refused("\xff", 0, SMAP_JSON_READING, 0, 0, "line 0, column 0 (byte 0)");
@@ -1568,10 +1604,12 @@ static uint32_t run_all(long n) {
     smap_mend mend = { SMAP_MEND_CUT, 0, 2 };
     memset(&m, 0, sizeof m);
     smap_fault bad = placed(SMAP_PLACE_SEGMENT, 0, 1, 2, 0, 3, 12, 0);
+    smap_fault wrong = placed(SMAP_PLACE_SEGMENT, 0, SMAP_NOT_TOLD, SMAP_NOT_TOLD, 0, 0, 0, 0);
     left = n;
     uint32_t code = make_all(&m, &fault);
     if (!code) code = change_all(&m, &fault);
-    if (!code && !(smap_message(&bad, NULL, 0) && smap_place_message(&bad, NULL, 0) && smap_mend_message(&mend, NULL, 0)))
+    if (!code && !(smap_message(&bad, NULL, 0) && smap_place_message(&bad, NULL, 0) && smap_mend_message(&mend, NULL, 0) &&
+                    smap_reason_message(TEXT(OF_A("\"mappings\":\"D\"")), &wrong, NULL, 0)))
         code = SMAP_OUT_OF_MEMORY, fault = fault_of(code, 0, 0);
     left = -1;
     CHECK(code == SMAP_OK || is_fault(&fault, SMAP_OUT_OF_MEMORY, 0));
@@ -1658,6 +1696,7 @@ int main(void) {
     codes();
     fields();
     places();
+    reasons();
     refusals();
     indexed_maps();
     found_maps();

@@ -1014,6 +1014,21 @@ function nativeOf(module) {
     return typeof said === 'number' ? '' : said;
   };
 
+  /** What is really wrong with a text at the place of its fault: a short text, which may be empty. */
+  function reasonMessage(text, fault) {
+    const given = textOf(text);
+    const struct = wordsOf(fault).slice();
+    if (struct.length !== FAULT_WORDS) throw new TypeError('It is no fault');
+    const said = within((it) =>
+      lending(it, (lend) => {
+        const room = lend.room(256);
+        const length = it.call('smap_reason_message', ...lend.text(given), lend.words(struct), room, 256);
+        return it.text(room, Math.min(length, 256));
+      }),
+    );
+    return typeof said === 'number' ? '' : said;
+  }
+
   function codeName(code) {
     const which = word(code);
     return within((it) => {
@@ -1080,6 +1095,7 @@ function nativeOf(module) {
     message: says('smap_message', FAULT_WORDS),
     placeMessage: says('smap_place_message', FAULT_WORDS),
     mendMessage: says('smap_mend_message', 6),
+    reasonMessage,
     codeName,
   };
 }

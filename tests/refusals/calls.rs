@@ -6,8 +6,8 @@ use super::fixtures::{
 };
 use super::memory::{nothing, refuse_each};
 use oxc_sourcemap::{
-    ConcatSourceMapBuilder, DataUrlError, Error, FaultSpot, Field, JSONSourceMap, OwnedSourceMap, Plan, Result, SourceIndex, SourceMap,
-    SourcemapVisualizer, TextPositions, Token,
+    ConcatSourceMapBuilder, DataUrlError, Error, FaultPlace, FaultReason, FaultSpot, Field, JSONSourceMap, OwnedSourceMap, Plan, Result,
+    SegmentPlace, SegmentReason, SourceIndex, SourceMap, SourcemapVisualizer, TextPositions, Token,
 };
 use serde_json::Value;
 use std::alloc::Global;
@@ -116,6 +116,24 @@ fn json_fault_at(rt: HostRuntime) {
     refuse_each(&rt, nothing, |alloc, _| oxc_sourcemap::json_fault_at(alloc, text), |place| {
         same(&rt, "spot", place.map(|place| place.spot), Some(FaultSpot::Entry(Field::Names, 1)))
     });
+}
+
+#[test]
+fn json_fault_reason(rt: HostRuntime) {
+    let text = r#"{"version":3,"mappings":"A,D","sources":["a.js"],"names":["x"]}"#;
+    let spot = FaultSpot::Segment(SegmentPlace { byte: 2, line: 0, segment: 1 });
+    let place = FaultPlace { text: None, section: None, spot };
+    let wanted = Some(FaultReason::Segment(SegmentReason::ColumnBelowZero));
+    refuse_each(&rt, nothing, |alloc, _| oxc_sourcemap::json_fault_reason(alloc, text, &place), |reason| same(&rt, "reason", reason, wanted));
+}
+
+#[test]
+fn fault_reason(rt: HostRuntime) {
+    // {"version":3.5}
+    let text = "\u{feff}data:application/json;base64,eyJ2ZXJzaW9uIjozLjV9";
+    let place = FaultPlace { text: None, section: None, spot: FaultSpot::Member(Field::Version) };
+    let wanted = Some(FaultReason::NumberNotWhole);
+    refuse_each(&rt, nothing, |alloc, _| oxc_sourcemap::fault_reason(alloc, text, &place), |reason| same(&rt, "reason", reason, wanted));
 }
 
 /// The place of the fault of a text as it is found.

@@ -3,7 +3,7 @@ use crate::helpers::same;
 use super::fixtures::{are_parts, chunked_parts, full_map, full_owned_map};
 use super::memory::{nothing, takes_none};
 use oxc_sourcemap::{
-    ConcatSourceMapBuilder, Error, JsonFault, Language, OwnedSourceMap, PlanError, Result, SourceIndex, SourceMap,
+    ConcatSourceMapBuilder, Error, JsonFault, Language, OwnedSourceMap, PlanError, Result, SegmentReason, SourceIndex, SourceMap,
     SourceMapBuilder, SourceMapParts, SourceViewToken, SourcemapVisualizer, TextPositions, Token, TokenChunk,
 };
 use serde_json::Value;
@@ -319,6 +319,12 @@ fn source_mapping_url(rt: HostRuntime) {
 #[test]
 fn mappings_fault_at(rt: HostRuntime) {
     takes_none(&rt, nothing, |_, ()| oxc_sourcemap::mappings_fault_at("A,AA", 0, 0), |place| same(&rt, "byte", place.map(|place| place.byte), Some(2)));
+}
+
+#[test]
+fn mappings_fault_reason(rt: HostRuntime) {
+    let wanted = Some(SegmentReason::ColumnBelowZero);
+    takes_none(&rt, nothing, |_, ()| oxc_sourcemap::mappings_fault_reason("A,D", 0, 0), |reason| same(&rt, "reason", reason, wanted));
 }
 
 fn token_gives_its_numbers(rt: &impl Abort) {

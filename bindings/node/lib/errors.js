@@ -48,8 +48,15 @@ function errorOfThreads(code, message) {
   return new SourceMapError(message, { code, detail: 0, field: null, place: null, placeMessage: '' });
 }
 
-/** The error of a fault. */
-function errorOf(words) {
+/** The place of a fault in words, and behind it what is really wrong there with the text that was read, if the message does not tell. */
+function placeMessageOf(words, text) {
+  const place = native.placeMessage(words);
+  const reason = place && text !== undefined ? native.reasonMessage(text, words) : '';
+  return reason ? `${place}: ${reason}` : place;
+}
+
+/** The error of a fault, if need be of reading this text. */
+function errorOf(words, text) {
   const [number, field] = words;
   if (number === Code.SHARED) return errorOfThreads('SMAP_SHARED', 'The map is shared with other threads, and takes no change');
   if (number === Code.NO_THREADS) return errorOfThreads('SMAP_NO_THREADS', 'The WebAssembly module shares no map with other threads');
@@ -59,7 +66,7 @@ function errorOf(words) {
     detail: long(words, 2),
     field: number === Code.JSON_SHAPE ? FIELDS[field] : null,
     place: placeOf(words),
-    placeMessage: native.placeMessage(words),
+    placeMessage: placeMessageOf(words, text),
   });
 }
 
@@ -68,9 +75,9 @@ function check(code) {
   if (code !== 0) throw errorOf(native.fault);
 }
 
-/** What a call answers that makes something, or else a code. */
-function made(answer) {
-  if (typeof answer === 'number') throw errorOf(native.fault);
+/** What a call answers that makes something, if need be of this text, or else a code. */
+function made(answer, text) {
+  if (typeof answer === 'number') throw errorOf(native.fault, text);
   return answer;
 }
 

@@ -261,7 +261,10 @@ export class SourceMapError extends Error {
   readonly field: Field | null;
   /** Where in what was read the fault is, if that is known. */
   readonly place: FaultPlace | null;
-  /** The place in one line, or "". */
+  /**
+   * The place in one line, or "". Where a text was read and `message` says something else, what is really wrong stands behind it:
+   * "line 0, segment 1 (byte 5): a column below 0".
+   */
   readonly placeMessage: string;
 }
 

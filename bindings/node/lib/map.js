@@ -20,9 +20,9 @@ class Made {
   }
 }
 
-/** The map of what a call answers. */
-function mapOf(answer) {
-  return new SourceMap(new Made(made(answer)));
+/** The map of what a call answers, if need be of reading this text. */
+function mapOf(answer, text) {
+  return new SourceMap(new Made(made(answer, text)));
 }
 
 /** The handle of a map. */
@@ -47,19 +47,26 @@ class SourceMap {
   }
 
   constructor(json) {
-    this.#handle = json instanceof Made ? json.handle : made(native.fromJson(text(json, 'The JSON text')));
+    if (json instanceof Made) {
+      this.#handle = json.handle;
+      return;
+    }
+    const given = text(json, 'The JSON text');
+    this.#handle = made(native.fromJson(given), given);
   }
 
   // ---- making ----
 
   static async read(json) {
-    const answer = await native.readAsync(text(json, 'The JSON text'));
-    if (answer instanceof Uint32Array) throw errorOf(answer);
+    const given = text(json, 'The JSON text');
+    const answer = await native.readAsync(given);
+    if (answer instanceof Uint32Array) throw errorOf(answer, given);
     return mapOf(answer);
   }
 
   static found(json) {
-    const map = mapOf(native.readFound(text(json, 'The text')));
+    const given = text(json, 'The text');
+    const map = mapOf(native.readFound(given), given);
     return { map, mends: mendsOf(map.#handle) };
   }
 
@@ -87,7 +94,8 @@ class SourceMap {
   }
 
   static fromMappings(mappings, { names = NO_ID, sources = NO_ID } = {}) {
-    return mapOf(native.decodeMappings(text(mappings, 'The mappings'), word(names, 'names'), word(sources, 'sources')));
+    const given = text(mappings, 'The mappings');
+    return mapOf(native.decodeMappings(given, word(names, 'names'), word(sources, 'sources')), given);
   }
 
   static join(parts) {

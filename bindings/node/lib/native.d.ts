@@ -202,6 +202,8 @@ export interface Native {
   message(fault: Uint32Array): string;
   placeMessage(fault: Uint32Array): string;
   mendMessage(mend: Uint32Array): string;
+  /** What is really wrong with the text that a call refused with this fault, where the message says something else; else "". */
+  reasonMessage(text: Text, fault: Uint32Array): string;
   codeName(code: Code): string;
 }
 

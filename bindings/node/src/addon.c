@@ -1362,6 +1362,20 @@ static napi_value message(Call *call) { return says(call, says_fault, sizeof(sma
 static napi_value place_message(Call *call) { return says(call, says_place, sizeof(smap_fault)); }
 static napi_value mend_message(Call *call) { return says(call, says_mend, sizeof(smap_mend)); }
 
+/* What is really wrong with a text at the place of its fault: a short text, which may be empty. */
+static napi_value reason_message(Call *call)
+{
+    smap_fault fault;
+    char small[256];
+    Bytes it = text(call, 0);
+    Words given = words(call, 1);
+    if (!call->failed && 4 * given.len != sizeof fault) fail(call, "It is no fault");
+    if (call->failed) return NULL;
+    memcpy(&fault, given.at, sizeof fault);
+    size_t len = smap_reason_message(it.at, it.len, &fault, small, sizeof small);
+    return string(call, small, len < sizeof small ? len : sizeof small);
+}
+
 static napi_value code_name(Call *call)
 {
     uint32_t code = word(call, 0);
@@ -1478,6 +1492,7 @@ static const Entry ENTRIES[] = {
     {"message", message},
     {"placeMessage", place_message},
     {"mendMessage", mend_message},
+    {"reasonMessage", reason_message},
     {"codeName", code_name},
 };
 

@@ -129,7 +129,7 @@ const SHAPES = {
   compose: 'hh', remap: 'hbwa', joinAll: 'aw', evaluate: 'bwbw', joinNew: '', joinAdd: 'hhnn', joinFinish: 'h',
   builderNew: '', builderAddName: 'ht', builderAddSource: 'htt', builderAddTokens: 'hw', builderSetFile: 'ht', builderFinish: 'h',
   write: 'hnt', writeBytes: 'hnt', encodeMappings: 'w', sourceMappingURL: 'tn', decodeDataURL: 't',
-  message: 'w', placeMessage: 'w', mendMessage: 'w', codeName: 'n',
+  message: 'w', placeMessage: 'w', mendMessage: 'w', reasonMessage: 'tw', codeName: 'n',
 };
 
 function shaped(pool, letter) {

@@ -92,6 +92,27 @@ test('errors of texts', () => {
   for (const [text, properties] of rows) fails(properties, () => new SourceMap(text));
 });
 
+test('what is really wrong, where the message says something else', () => {
+  const rows = [
+    [simple('AAAA,DAAA'), 'line 0, segment 1 (byte 5): a column below 0'],
+    [simple(' AAAA'), 'line 0, segment 0 (byte 0): a byte that is no digit: 0x20'],
+    [simple('ADAA'), 'line 0, segment 0 (byte 0): a source id below 0'],
+    [simple('AAAAD', { names: ['n'] }), 'line 0, segment 0 (byte 0): a name id below 0'],
+    [simple('AA'), 'line 0, segment 0 (byte 0)'],
+    ['{"version":3.0,"sources":[],"mappings":""}', 'version: a whole number that is not written in digits alone'],
+    [simple('', { ignoreList: [0.5] }), 'entry 0 of ignoreList: a number that is not whole'],
+    ['{"version":3,"file":"\\ud800"}', 'line 0, column 20 (byte 20): a lone surrogate'],
+    ['{"version":1e999}', 'line 0, column 16 (byte 16): a number too large for a float'],
+    [`${'['.repeat(200)}${']'.repeat(200)}`, 'line 0, column 128 (byte 128): values nested deeper than 127'],
+  ];
+  for (const [text, placeMessage] of rows) {
+    fails({ placeMessage }, () => new SourceMap(text));
+    fails({ placeMessage }, () => new SourceMap(Buffer.from(text)));
+  }
+  fails({ placeMessage: 'line 1, segment 0 (byte 2): a column below 0' }, () => decodeMappings('A;D'));
+  fails({ placeMessage: 'line 0, segment 0 (byte 0): a column below 0' }, () => SourceMap.found(`)]}'\n${simple('D')}`));
+});
+
 test('places of errors', () => {
   const none = { field: null, text: null, section: null, line: null, segment: null, column: null, byte: null, entry: null };
   const place = (text) => {
@@ -174,6 +195,7 @@ test('on the thread pool', async () => {
   const maps = await Promise.all(reading);
   assert.deepEqual([maps[0].toJSON(), maps[1].toJSON()], [MAP, MAP]);
   for (let i = 0; i < 20; i++) assert.deepEqual([...maps[i + 2].tokens()], randomMap(i).tokens.flat());
+  await assert.rejects(SourceMap.read(simple('D')), { placeMessage: 'line 0, segment 0 (byte 0): a column below 0' });
   await assert.rejects(SourceMap.read(simple('AAAA;AA')), { code: 'SMAP_BAD_SEGMENT_SIZE', detail: 2, placeMessage: 'line 1, segment 0 (byte 5)' });
   await assert.rejects(SourceMap.read(7), TypeError);
   await assert.rejects(SourceMap.read('\ud800'), TypeError);

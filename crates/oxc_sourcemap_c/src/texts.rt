@@ -1,5 +1,5 @@
 //! The calls that write texts, tell errors and free handles.
-ghost use Rattle.std.specs.Prelude.{◌≡◌, ◌≢◌, None, Some, Ok, map, MatchOption};
+ghost use Rattle.std.specs.Prelude.{◌≡◌, ◌≢◌, ℕ, List, None, Some, Ok, map, MatchOption};
 ghost use Rattle.oxc_sourcemap_c.specs.Words.{no_fault, IsErrorAs, IsError, held_map, held_text};
 ghost use Rattle.oxc_sourcemap_c.specs.Words.{HoldsMap, HoldsText, HoldsWritten, IsWritingError};
 ghost use Rattle.oxc_sourcemap_c.specs.Words.{map_text, map_url, mappings_text, tokens_text};
@@ -14,7 +14,7 @@ use oxc_sourcemap_handles::{Fault, Handle, Lent, Text, TokenNumbers, put_text};
 use oxc_sourcemap_handles_reading::{
     MendNumbers, decode_data_url, encode_mappings, get_mappings, source_mapping_url, to_data_url,
     to_json_string, visualize, visualizer_url, write_mend_message, write_message,
-    write_place_message, write_told,
+    write_place_message, write_reason_message, write_told,
 };
 use std::alloc::Global;
 
@@ -175,6 +175,19 @@ pub extern "C" fn proved_place_message(alloc: Global, fault: &Fault, out: &mut [
         (λ p. IsMessage (place_text p) out.old out.new result) }
 {
     write_place_message(alloc, &fault.place, out)
+}
+
+/// The same of what is really wrong with a text at the place of its error.
+#[unsafe(no_mangle)]
+pub extern "C" fn proved_reason_message(
+    alloc: Global,
+    text: &[u8],
+    fault: &Fault,
+    out: &mut [u8],
+) -> usize
+    ensures { (said : List ℕ) × IsMessage said out.old out.new result }
+{
+    write_reason_message(alloc, text, &fault.place, out)
 }
 
 /// The same of a mend.

@@ -36,11 +36,14 @@ fn text_reason(text: &str, json: &CowStr<'_>, spot: FaultSpot) -> Option<FaultRe
 /// count. Fails only with `OutOfMemory`.
 ///
 /// ```rust
-/// use oxc_sourcemap::{fault_reason, found_fault_at};
+/// use oxc_sourcemap::{FaultReason, SegmentReason, fault_reason, found_fault_at};
 ///
+/// // The error is that a segment has 0 fields.
 /// let text = r#"{"version":3,"sources":["a.js"],"names":[],"mappings":"AAAA,DAAA"}"#;
-/// let place = found_fault_at(alloc, text)?.unwrap();
-/// assert_eq!(rt; fault_reason(alloc, text, &place)?.unwrap().to_string(alloc)?, "a column below 0");
+/// if let Some(place) = found_fault_at(alloc, text)? {
+///     let reason = fault_reason(alloc, text, &place)?;
+///     assert_eq!(rt; reason, Some(FaultReason::Segment(SegmentReason::ColumnBelowZero)));
+/// }
 /// ```
 pub fn fault_reason(alloc: Global, text: &str, place: &FaultPlace) -> Result<Option<FaultReason>>
     ensures { OnlyMemory result }

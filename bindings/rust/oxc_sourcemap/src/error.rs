@@ -352,6 +352,13 @@ impl Fault {
         // SAFETY: the fault and the buffer are live, and the buffer has this length.
         words(|at, len| unsafe { sys::smap_place_message(&self.0, at, len) })
     }
+
+    /// What is really wrong at the place, where the error says something else: `a column below 0` for a segment of size 0. The text is
+    /// the one that was refused with this fault.
+    pub fn reason_text(&self, text: &str) -> Option<String> {
+        // SAFETY: the text, the fault and the buffer are live, and have these lengths.
+        words(|at, len| unsafe { sys::smap_reason_message(text.as_ptr().cast(), text.len(), &self.0, at, len) })
+    }
 }
 
 impl fmt::Debug for Fault {

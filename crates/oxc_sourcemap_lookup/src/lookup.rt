@@ -194,8 +194,8 @@ pub(crate) fn mask_if_less(x: u32, y: u64) -> usize
     (u128::from(x).wrapping_sub(u128::from(y)) >> 64) as usize
 }
 
-/// `count` if a token lies before the column `col`, else 0. `search` and `search_after` compare columns only here and in
-/// `compare_last`, and count each comparison.
+/// `count` if a token lies before the column `col`, else 0. One call is one step of a search: all that count steps compare
+/// columns only here.
 fn compare_column(token: &Token, col: u64, count: usize, steps: &mut u64) -> usize
     requires { steps.old < 18446744073709551615 }
     ensures value { result ≡ (if nat_lt token.now.dst_col col then count else 0) }
@@ -203,16 +203,6 @@ fn compare_column(token: &Token, col: u64, count: usize, steps: &mut u64) -> usi
 {
     *steps += 1;
     count & mask_if_less(token.get_dst_col(), col)
-}
-
-/// 1 if a token lies at or before the column `col`, else 0. Counted as `compare_column` counts.
-fn compare_last(token: &Token, col: u32, steps: &mut u64) -> usize
-    requires { steps.old < 18446744073709551615 }
-    ensures value { result ≡ (if nat_lt token.now.dst_col (col + 1) then 1 else 0) }
-    ensures counted { steps.new ≡ steps.old + 1 }
-{
-    *steps += 1;
-    usize::from(token.get_dst_col() <= col)
 }
 
 /// How many tokens at the front of a line lie before `col`, found by halving: the index of the first token that does not.
@@ -269,7 +259,7 @@ fn count_through(line: &[Token], col: u32, steps: &mut u64) -> usize
         return 0;
     };
     let before = count_before(&line[..last], col, steps);
-    before + compare_last(&line[before], col, steps)
+    before + compare_column(&line[before], u64::from(col) + 1, 1, steps)
 }
 
 /// Looks up a column on one line. The result is the first token at `col`; if none is there, the last token of the greatest

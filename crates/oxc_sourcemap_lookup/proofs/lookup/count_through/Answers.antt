@@ -1,4 +1,4 @@
-use Rattle.std.proofs.Common.{◌≡◌, ◌+◌, ◌-◌, ◌<◌, take, length, get_or, refl}
+use Rattle.std.proofs.Common.{◌≡◌, ◌+◌, ◌-◌, ◌<◌, take, length, get_or, refl, nat_lt, if◌then◌else◌}
 use Rattle.std.proofs.Common.{◌∙◌, sym, ap, arith}
 use Rattle.std.proofs.lemmas.Grind.{common_steps}
 use Rattle.std.proofs.lemmas.Option.{slice_get_read}
@@ -19,7 +19,7 @@ returns-clause-token c = λ g.
     let read : t ≡ get_or line n t = grind (arith, common_steps) in
     let here = slice_get_read line _ n t refl within read in
     let count = c.count_before-before.ensures.count (front-goes_on c.in-Some.last line g) ∙ ap (λ m. before col (take m line)) rest in
-    let end = ap (λ k. n + k) c.compare_last.ensures.value in
+    let end = ap (λ k. n + k) (c.compare_column.ensures.value ∙ ap (λ k. if nat_lt t.dst_col (k + 1) then 1 else 0) c.from.ensures) in
     ap (λ k. last (take k line)) end ∙ sym (nearer-last col line n t g within (sym read) here count)
 
 pub returns-clause-index : goal.returns-clause-index
@@ -33,7 +33,7 @@ returns-clause-index c = λ g.
     let read : t ≡ get_or line n t = grind (arith, common_steps) in
     let here = slice_get_read line _ n t refl within read in
     let count = c.count_before-before.ensures.count (front-goes_on c.in-Some.last line g) ∙ ap (λ m. before col (take m line)) rest in
-    let end = ap (λ k. n + k) c.compare_last.ensures.value in
+    let end = ap (λ k. n + k) (c.compare_column.ensures.value ∙ ap (λ k. if nat_lt t.dst_col (k + 1) then 1 else 0) c.from.ensures) in
     ap index_before end ∙ index-last col n t line g within (sym read) here count
 
 pub returns-clause-counted : goal.returns-clause-counted

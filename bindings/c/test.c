@@ -1264,7 +1264,7 @@ static void writing(void) {
 /* A map of 122 bytes whose text has 4294967295 lines; and tokens that go back from there, which is found before the lines are written. */
 #define DEEP "{\"version\":3,\"sections\":[{\"offset\":{\"line\":4294967295,\"column\":0},\"map\":" \
     "{\"version\":3,\"sources\":[\"a\"],\"mappings\":\"AAAA\"}}]}"
-static const smap_token BACK[3] = { { 0, 0, 0, 0, 0, NO }, { MAX, 0, 0, 0, 0, NO }, { 5, 0, 0, 0, 0, NO } };
+static const smap_token BACK[3] = { { 0, 0, 0, 0, 0, NO }, { 50000000, 0, 0, 0, 0, NO }, { 5, 0, 0, 0, 0, NO } };
 
 /* A text is written if it has as many bytes as the limit, and not if it has one more. The lengths: 4 bytes of a URL for 3 of the text,
  * after 43. */
@@ -1313,7 +1313,7 @@ static void many_lines(void) {
     CHECK(smap_to_data_url_within(back, 0, &string, &fault) == SMAP_LINE_ORDER && is_fault(&fault, SMAP_LINE_ORDER, 2));
     CHECK(left == 0);
     left = -1;
-    CHECK(smap_encode_mappings_within(BACK, 2, MAX - 1, &string, &fault) == SMAP_TOO_LARGE && is_fault(&fault, SMAP_TOO_LARGE, 0));
+    CHECK(smap_encode_mappings_within(BACK, 2, 49999999, &string, &fault) == SMAP_TOO_LARGE && is_fault(&fault, SMAP_TOO_LARGE, 0));
     CHECK(smap_encode_mappings_within(LIST(BACK), 0, &string, &fault) == SMAP_LINE_ORDER && is_fault(&fault, SMAP_LINE_ORDER, 2));
     CHECK(string == (smap_string *)&failed);
     smap_free_map(back);
@@ -1512,14 +1512,14 @@ static void soil(void) {
 
 /* One call of each kind that makes something of lists, in a row; the first code that is not SMAP_OK. */
 static uint32_t make_of_lists(made_all *m, smap_fault *f) {
-    static const char *const NUMBERS[MANY] = { "0", "1", "2", "3", "4", "5", "6", "7", "8", "9", "10", "11", "12", "13", "14", "15",
-                                               "16", "17", "18", "19" };
+    static const char *const LINES_OF[MANY] = { "0",  "2",  "4",  "6",  "8",  "10", "12", "14", "16", "18",
+                                                "20", "22", "24", "26", "28", "30", "32", "34", "36", "38" };
     smap_text texts[MANY], paths[MANY], words[2 + 2 * MANY] = { text_of("join"), text_of("20") };
     smap_position positions[MANY];
     const smap_map *maps[MANY];
     for (uint32_t i = 0; i < MANY; i++) {
         texts[i] = text_of(A), paths[i] = text_of("a.ts"), positions[i] = at(2 * i, 0), maps[i] = m->maps[i % 2];
-        words[2 + 2 * i] = text_of(i % 2 ? "@1" : "@19"), words[3 + 2 * i] = text_of(NUMBERS[i]);
+        words[2 + 2 * i] = text_of(i % 2 ? "@1" : "@19"), words[3 + 2 * i] = text_of(LINES_OF[i]);
     }
     MAKES(smap_from_tokens(NULL, 0, LIST(texts), LIST(texts), LIST(texts), NULL, 0, &m->maps[6], f));
     MAKES(smap_evaluate(LIST(words), LIST(texts), &m->maps[7], f));

@@ -6,4 +6,5 @@ pub mod Separated
 pub mod Appends
 pub mod JsonTexts
 pub mod Items
+pub mod Within
 mod Worked

@@ -644,11 +644,24 @@ static void long_lists_known(size_t len) {
     smap_free_map(map);
 }
 
+/* The same of maps: each has one token. */
+static void long_lists_of_maps(size_t len) {
+    smap_map *one = read_map(B), *map;
+    const smap_map *maps[18];
+    smap_position positions[18];
+    smap_counts counts;
+    for (uint32_t i = 0; i < len; i++) maps[i] = one, positions[i] = at(i, 0);
+    CHECK(smap_join_all(maps, len, positions, len, &map, NULL) == SMAP_OK);
+    CHECK(smap_get_counts(map, &counts) == SMAP_OK && counts.tokens == len && counts.lines == len);
+    smap_free_map(map);
+    smap_free_map(one);
+}
+
 static void long_lists(void) {
     smap_text texts[40], out[40];
     smap_map *map;
     size_t count;
-    for (size_t len = 15; len <= 18; len++) long_lists_known(len);
+    for (size_t len = 15; len <= 18; len++) long_lists_known(len), long_lists_of_maps(len);
     for (int i = 0; i < 40; i++) texts[i] = text_of(i % 3 ? "x" : NULL);
     CHECK(smap_from_tokens(NULL, 0, LIST(texts), LIST(texts), LIST(texts), NULL, 0, &map, NULL) == SMAP_OK);
     CHECK(smap_get_names(map, LIST(out), &count) == SMAP_OK && count == 40 && is(&out[39], "") && is(&out[38], "x"));
@@ -1303,7 +1316,7 @@ static void many_lines(void) {
     smap_fault fault = junk();
     smap_text source = text_of("a");
     CHECK(smap_from_tokens(LIST(BACK), NULL, 0, &source, 1, NULL, 0, NULL, 0, &back, NULL) == SMAP_OK);
-    left = 0;
+    left = 0, refuses_on = 1;
     CHECK(smap_to_json_string_within(map, 100000000, &string, &fault) == SMAP_TOO_LARGE && is_fault(&fault, SMAP_TOO_LARGE, 0));
     CHECK(smap_to_json_string_within(map, MAX - 1, &string, NULL) == SMAP_TOO_LARGE);
     CHECK(smap_to_data_url_within(map, MAX - 1, &string, NULL) == SMAP_TOO_LARGE);
@@ -1311,8 +1324,7 @@ static void many_lines(void) {
     CHECK(smap_to_json_string_within(back, 0, &string, &fault) == SMAP_LINE_ORDER && is_fault(&fault, SMAP_LINE_ORDER, 2));
     CHECK(smap_get_mappings_within(back, 0, &string, &fault) == SMAP_LINE_ORDER && is_fault(&fault, SMAP_LINE_ORDER, 2));
     CHECK(smap_to_data_url_within(back, 0, &string, &fault) == SMAP_LINE_ORDER && is_fault(&fault, SMAP_LINE_ORDER, 2));
-    CHECK(left == 0);
-    left = -1;
+    left = -1, refuses_on = 0;
     CHECK(smap_encode_mappings_within(BACK, 2, 49999999, &string, &fault) == SMAP_TOO_LARGE && is_fault(&fault, SMAP_TOO_LARGE, 0));
     CHECK(smap_encode_mappings_within(LIST(BACK), 0, &string, &fault) == SMAP_LINE_ORDER && is_fault(&fault, SMAP_LINE_ORDER, 2));
     CHECK(string == (smap_string *)&failed);

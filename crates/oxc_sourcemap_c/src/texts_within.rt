@@ -58,7 +58,8 @@ pub extern "C" fn proved_get_mappings_within(
     out: &mut Handle,
     fault: &mut Fault,
 ) -> u32
-    ensures text { result ≡ 0 → HoldsWritten (mappings_text_within limit) map.old.held out.new.held }
+    ensures text { result ≡ 0
+        → HoldsWritten (mappings_text_within limit) map.old.held out.new.held }
     ensures no_error { result ≡ 0 → fault.new ≡ no_fault }
     ensures error { result ≢ 0 → (out.new.held ≡ out.old.held)
         × IsErrorAs result fault.new

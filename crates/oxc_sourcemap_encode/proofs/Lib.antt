@@ -6,5 +6,5 @@ pub mod Separated
 pub mod Appends
 pub mod JsonTexts
 pub mod Items
-pub mod Within
+pub mod ManyLines
 mod Worked

@@ -53,5 +53,8 @@ pub use owned_sourcemap::OwnedSourceMap;
 pub use sourcemap::{Counts, SourceMap, SourceMapParts};
 pub use sourcemap_builder::SourceMapBuilder;
 pub use sourcemap_visualizer::SourcemapVisualizer;
-pub use texts::{Language, decode_data_url, decode_mappings, encode_mappings, library_version, source_mapping_url};
+pub use texts::{
+    Language, decode_data_url, decode_mappings, encode_mappings, encode_mappings_within, library_version,
+    source_mapping_url,
+};
 pub use token::{Position, SourceViewToken, Token, TokenChunk};

@@ -295,6 +295,37 @@ impl<'a> SourceMap<'a> {
         Ok(made_text(|out, fault| unsafe { sys::smap_get_mappings(self.map.get(), out, fault) })?)
     }
 
+    /// Writes the JSON text, if it has at most `limit` bytes. A map that others send may have four gigabytes of lines, in a
+    /// text of some hundred bytes. Fails as [`try_to_json_string`](Self::try_to_json_string) does, and then with `TooLarge` for a
+    /// longer text; what has too many lines is not written before.
+    ///
+    /// ```
+    /// use oxc_sourcemap::{Error, SourceMap};
+    /// let text = r#"{"version":3,"names":[],"sources":["a.js"],"mappings":"AAAA"}"#;
+    /// let map = SourceMap::from_json_string(text)?;
+    /// assert_eq!(map.to_json_string_within(61)?, text);
+    /// assert_eq!(map.to_json_string_within(60), Err(Error::TooLarge));
+    /// # Ok::<(), oxc_sourcemap::Error>(())
+    /// ```
+    pub fn to_json_string_within(&self, limit: usize) -> Result<String> {
+        // SAFETY: the map is live, and the outputs are ours.
+        Ok(made_text(|out, fault| unsafe { sys::smap_to_json_string_within(self.map.get(), limit, out, fault) })?)
+    }
+
+    /// Writes the JSON text as a data URL, if that has at most `limit` bytes. Fails as
+    /// [`to_json_string_within`](Self::to_json_string_within) does.
+    pub fn to_data_url_within(&self, limit: usize) -> Result<String> {
+        // SAFETY: the map is live, and the outputs are ours.
+        Ok(made_text(|out, fault| unsafe { sys::smap_to_data_url_within(self.map.get(), limit, out, fault) })?)
+    }
+
+    /// Writes the mappings alone, if they have at most `limit` bytes. Fails as
+    /// [`to_json_string_within`](Self::to_json_string_within) does.
+    pub fn get_mappings_within(&self, limit: usize) -> Result<String> {
+        // SAFETY: the map is live, and the outputs are ours.
+        Ok(made_text(|out, fault| unsafe { sys::smap_get_mappings_within(self.map.get(), limit, out, fault) })?)
+    }
+
     // ---- what a map holds ----
 
     /// The lengths of the lists of this map, of its lines and of its memory.

@@ -28,6 +28,22 @@ pub fn encode_mappings(tokens: &[Token]) -> Result<String> {
     Ok(made_text(|out, fault| unsafe { sys::smap_encode_mappings(raw_tokens(tokens), tokens.len(), out, fault) })?)
 }
 
+/// The mappings of tokens, if they have at most `limit` bytes. Fails as [`encode_mappings`] does, and then with `TooLarge`.
+///
+/// ```
+/// use oxc_sourcemap::{encode_mappings_within, Error, Token};
+/// let tokens = [Token::new(2, 0, 5, 3, Some(0), None)];
+/// assert_eq!(encode_mappings_within(&tokens, 6)?, ";;AAKG");
+/// assert_eq!(encode_mappings_within(&tokens, 5), Err(Error::TooLarge));
+/// # Ok::<(), oxc_sourcemap::Error>(())
+/// ```
+pub fn encode_mappings_within(tokens: &[Token], limit: usize) -> Result<String> {
+    // SAFETY: pointer and length are those of a live list, tokens have the layout of the library's, and the outputs are ours.
+    Ok(made_text(|out, fault| unsafe {
+        sys::smap_encode_mappings_within(raw_tokens(tokens), tokens.len(), limit, out, fault)
+    })?)
+}
+
 /// The tokens of mappings, whose ids are to be below these numbers of names and sources. Fails with the first fault of the mappings.
 ///
 /// ```

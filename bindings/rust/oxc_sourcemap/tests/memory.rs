@@ -157,6 +157,10 @@ fn nothing_is_left_behind() {
         back().try_to_json_string();
         back().try_to_data_url();
         back().get_mappings();
+        map().to_json_string_within(9);
+        map().to_data_url_within(9);
+        map().get_mappings_within(9);
+        encode_mappings_within(&[Token::new(9, 0, 0, 0, None, None)], 9);
         format!("{:?}", map());
         map().generate_lookup_table().len();
         map().trace_all(&[Position::default(); 9], Bias::Before).map(|all| all.len());
@@ -245,6 +249,10 @@ fn want_of_memory_is_an_error() {
         one.try_to_json_string();
         one.try_to_data_url();
         one.get_mappings();
+        one.to_json_string_within(999);
+        one.to_data_url_within(999);
+        one.get_mappings_within(999);
+        encode_mappings_within(one.tokens(), 999);
         input.try_compose(&other);
         one.remap([("a.ts", &input)]);
         SourceMap::join([(&one, Position::default()), (&other, Position::new(4, 4))]);

@@ -3,7 +3,7 @@
 use super::{json, map_of, read, tokens};
 use oxc_sourcemap::{
     Error, Language, SourceMap, SourceMapParts, Token, decode_data_url, decode_mappings, encode_mappings,
-    library_version, source_mapping_url,
+    encode_mappings_within, library_version, source_mapping_url,
 };
 
 /// The map of these rows is read again with the same tokens, from its text and from its fields.
@@ -176,4 +176,34 @@ fn the_url_of_a_code_is_found() {
 #[test]
 fn the_library_has_the_version_of_the_declarations() {
     assert_eq!(library_version(), 1);
+}
+
+/// A text of 61 bytes; its URL has 43 bytes, and 4 for each 3 of these. And one that is read as a map of 4294967295 lines.
+#[test]
+fn texts_have_a_limit() {
+    const DEEP: &str = r#"{"version":3,"sections":[{"offset":{"line":4294967295,"column":0},"map":{"version":3,"sources":["a"],"mappings":"AAAA"}}]}"#;
+    let text = r#"{"version":3,"names":[],"sources":["a.js"],"mappings":"AAAA"}"#;
+    let (map, deep) = (read(text), read(DEEP));
+    assert_eq!(
+        (map.to_json_string_within(61), map.to_json_string_within(60)),
+        (Ok(text.to_string()), Err(Error::TooLarge))
+    );
+    assert_eq!(
+        (map.to_data_url_within(127), map.to_data_url_within(126)),
+        (Ok(map.to_data_url()), Err(Error::TooLarge))
+    );
+    assert_eq!(
+        (map.get_mappings_within(4), map.get_mappings_within(3)),
+        (Ok("AAAA".to_string()), Err(Error::TooLarge))
+    );
+    let tokens = [Token::new(2, 0, 5, 3, Some(0), None), Token::new(1, 0, 0, 0, None, None)];
+    assert_eq!(encode_mappings_within(&tokens[..1], 6).as_deref(), Ok(";;AAKG"));
+    assert_eq!(encode_mappings_within(&tokens[..1], 5), Err(Error::TooLarge));
+    assert_eq!(encode_mappings_within(&tokens, 0), Err(Error::LineOrder(1)));
+    let limit = u32::MAX as usize - 1;
+    assert_eq!(
+        [deep.to_json_string_within(limit), deep.to_data_url_within(limit)],
+        [const { Err(Error::TooLarge) }; 2]
+    );
+    assert_eq!((deep.get_mappings_within(limit), deep.tokens().len()), (Err(Error::TooLarge), 1));
 }

@@ -29,6 +29,22 @@ class Written(Case):
             self.assertEqual(encode_mappings(array("I", [number for row in rows for number in row])), wanted)
         self.assertEqual((encode_mappings([]), encode_mappings(FLAT)), ("", MAP["mappings"]))
 
+    def test_limit(self):
+        deep = '{"version":3,"sections":[{"offset":{"line":4294967295,"column":0},"map":{"version":3,"sources":["a"],"mappings":"AAAA"}}]}'
+        with read() as map:
+            size = len(TEXT.encode())
+            for call, most in ((map.to_json, size), (map.to_data_url, 43 + (size + 2) // 3 * 4), (map.get_mappings, 18)):
+                self.assertEqual([call(limit=most), call(limit=2**80)], [call(), call()])
+                self.fails(Code.TOO_LARGE, call, limit=most - 1)
+                self.assertRaises(OverflowError, call, limit=-1)
+                self.assertRaises(TypeError, call, limit=1.5)
+        with SourceMap.from_json(deep) as map:
+            for call in (map.to_json, map.to_data_url, map.get_mappings):
+                self.fails(Code.TOO_LARGE, call, limit=4294967294)
+        self.assertEqual(encode_mappings([Token(2, 0, 5, 3, 0, None)], limit=6), ";;AAKG")
+        self.fails(Code.TOO_LARGE, encode_mappings, [Token(2, 0, 5, 3, 0, None)], limit=5)
+        self.fails(Code.LINE_ORDER, encode_mappings, BACK, limit=0, detail=1)
+
     def test_line_order(self):
         self.fails(Code.LINE_ORDER, encode_mappings, BACK, detail=1)
         with SourceMap.from_tokens(BACK) as map:

@@ -25,6 +25,7 @@ from ._numbers import (
     bytes_of,
     contents_in,
     ids_of,
+    limit_of,
     listed,
     listed_or_none,
     listed_texts,
@@ -846,29 +847,33 @@ class SourceMap:
     def _written(self, call: Callable[..., int], *arguments: Any) -> str:
         return written(lambda *out: self._read(lambda at: call(at, *arguments, *out)))
 
-    def to_json(self) -> str:
-        """The JSON text. Raises SourceMapError of LINE_ORDER or TOO_LARGE.
+    def _written_within(self, call: Callable[..., int], within: Callable[..., int], limit: Optional[int]) -> str:
+        return self._written(call) if limit is None else self._written(within, limit_of(limit))
 
-        >>> SourceMap.from_tokens([], sources=["a.ts"]).to_json()
+    def to_json(self, *, limit: Optional[int] = None) -> str:
+        """The JSON text. Raises SourceMapError of LINE_ORDER or TOO_LARGE, the latter also if it has more than `limit` bytes: a
+        map of a hundred bytes that others send may have gigabytes of lines, which are not written before.
+
+        >>> SourceMap.from_tokens([], sources=["a.ts"]).to_json(limit=1_000_000)
         '{"version":3,"names":[],"sources":["a.ts"],"mappings":""}'
         """
-        return self._written(lib.smap_to_json_string)
+        return self._written_within(lib.smap_to_json_string, lib.smap_to_json_string_within, limit)
 
-    def to_data_url(self) -> str:
-        """The JSON text as a data URL. Raises SourceMapError of LINE_ORDER or TOO_LARGE.
+    def to_data_url(self, *, limit: Optional[int] = None) -> str:
+        """The JSON text as a data URL, of at most `limit` bytes. Raises SourceMapError of LINE_ORDER or TOO_LARGE.
 
         >>> SourceMap.from_tokens([]).to_data_url()[:50]
         'data:application/json;charset=utf-8;base64,eyJ2ZXJ'
         """
-        return self._written(lib.smap_to_data_url)
+        return self._written_within(lib.smap_to_data_url, lib.smap_to_data_url_within, limit)
 
-    def get_mappings(self) -> str:
-        """The mappings text alone. Raises SourceMapError of LINE_ORDER or TOO_LARGE.
+    def get_mappings(self, *, limit: Optional[int] = None) -> str:
+        """The mappings text alone, of at most `limit` bytes. Raises SourceMapError of LINE_ORDER or TOO_LARGE.
 
         >>> SourceMap.from_tokens([Token(0, 4, 2, 0, 0, None)], sources=["a.ts"]).get_mappings()
         'IAEA'
         """
-        return self._written(lib.smap_get_mappings)
+        return self._written_within(lib.smap_get_mappings, lib.smap_get_mappings_within, limit)
 
     def visualize(self, code: Text) -> str:
         """The text of a code beside its sources, token by token.

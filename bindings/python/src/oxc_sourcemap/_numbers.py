@@ -38,6 +38,14 @@ def number(value: int) -> int:
     return value
 
 
+def limit_of(limit: int) -> int:
+    """A limit of bytes, for the library."""
+    limit = index(limit)
+    if limit < 0:
+        raise OverflowError(f"{limit} is below 0")
+    return min(limit, sys.maxsize)
+
+
 def bytes_of(text: Text) -> bytes:
     """A text as UTF-8."""
     if isinstance(text, str):

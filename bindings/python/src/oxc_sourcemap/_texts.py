@@ -10,7 +10,7 @@ from typing import Optional
 from . import _library
 from ._errors import check, check_code
 from ._library import lib
-from ._numbers import Tokens, bytes_of, number, text_at, tokens_of
+from ._numbers import Tokens, bytes_of, limit_of, number, text_at, tokens_of
 from ._values import Code, Language, Text
 
 
@@ -33,17 +33,21 @@ def written(call: Callable[..., int]) -> str:
     return written_or_none(call) or ""
 
 
-def encode_mappings(tokens: Tokens) -> str:
+def encode_mappings(tokens: Tokens, *, limit: Optional[int] = None) -> str:
     """The mappings text of tokens: `Token`, or a buffer of unsigned 32-bit numbers, six for each, where NO_ID stands for no id.
 
-    Raises SourceMapError of LINE_ORDER if a token is on a line before that of the token in front of it, or of TOO_LARGE.
+    Raises SourceMapError of LINE_ORDER if a token is on a line before that of the token in front of it, or of TOO_LARGE, also if the
+    text has more than `limit` bytes.
 
     >>> from oxc_sourcemap import Token
     >>> encode_mappings([Token(0, 0, 0, 0, 0, None), Token(1, 4, 0, 7, 0, 0)])
     'AAAA;IAAOA'
     """
     rows, count = tokens_of(tokens)
-    return written(lambda *out: lib.smap_encode_mappings(rows, count, *out))
+    if limit is None:
+        return written(lambda *out: lib.smap_encode_mappings(rows, count, *out))
+    most = limit_of(limit)
+    return written(lambda *out: lib.smap_encode_mappings_within(rows, count, most, *out))
 
 
 def decode_data_url(url: Text) -> Optional[str]:

@@ -948,18 +948,20 @@ function nativeOf(module) {
     return it.u8().slice(at, at + it.answer(ANSWER.TEXT + 8));
   };
 
-  const writes = (take) => (handle, form, code) => {
+  const writes = (take) => (handle, form, code, limit) => {
     const map = handleOf(handle, MAP);
     const kind = word(form);
     const name = WRITES[kind];
     const given = kind >= DRAWING ? textOf(code) : null;
+    const within = given === null && limit !== undefined ? [word(limit)] : [];
     if (name === undefined) return told(BAD_OPTION);
     if (isNull(map)) return told(NULL_HANDLE);
     const { instance } = map;
     return orNoMemory(() =>
       lending(instance, (lend) => {
         const beside = given === null ? [] : lend.text(given);
-        return written(instance, instance.call(name, map.at, ...beside, made(instance), faultOf(instance)), take);
+        const called = within.length > 0 ? `${name}_within` : name;
+        return written(instance, instance.call(called, map.at, ...within, ...beside, made(instance), faultOf(instance)), take);
       }),
     );
   };

@@ -27,6 +27,12 @@ function word(it, what) {
   return it;
 }
 
+/** The limit of bytes that options have, if there is one. */
+function limitOf(options) {
+  const limit = options?.limit;
+  return limit === undefined ? undefined : word(limit, 'limit');
+}
+
 /** An id, or what stands for none. */
 function idWord(it, what) {
   return it === null || it === undefined ? NO_ID : word(it, what);
@@ -105,4 +111,4 @@ function contents(it, what) {
   return texts(it, what, (one) => (one === null ? null : text(one, what)));
 }
 
-module.exports = { text, word, idWord, idOf, list, checkWords, words, tokens, texts, contents };
+module.exports = { text, word, limitOf, idWord, idOf, list, checkWords, words, tokens, texts, contents };

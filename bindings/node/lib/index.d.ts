@@ -478,14 +478,17 @@ export class SourceMap {
 
   // ---- writing ----
 
-  /** The JSON text. Throws SourceMapError of SMAP_LINE_ORDER or SMAP_TOO_LARGE. */
-  toString(): string;
+  /**
+   * The JSON text. Throws SourceMapError of SMAP_LINE_ORDER or SMAP_TOO_LARGE, the latter also if it has more than `limit` bytes of
+   * UTF-8: a map of a hundred bytes that others send may have gigabytes of lines, which are not written before.
+   */
+  toString(options?: { readonly limit?: number | undefined }): string;
   /** The same as UTF-8; in Node a Buffer. */
-  toBytes(): Uint8Array;
+  toBytes(options?: { readonly limit?: number | undefined }): Uint8Array;
   /** The JSON value. */
   toJSON(): RawSourceMap;
-  /** The JSON text as a data URL. */
-  toDataURL(): string;
+  /** The JSON text as a data URL, of at most `limit` bytes. */
+  toDataURL(options?: { readonly limit?: number | undefined }): string;
   /** The mappings text alone. Throws as `toString` does. */
   readonly mappings: string;
   /** The text of a code beside its sources, token by token. */

@@ -4,7 +4,7 @@
 const native = require('./native.js');
 const { NO_ID, Bias, Direction, Kind, Code, Which, Form, MENDS } = require('./constants.js');
 const { errorOf, check, made, madeOrNull, long, longOrNull } = require('./errors.js');
-const { text, word, idOf, list, checkWords, words, tokens, texts, contents } = require('./arguments.js');
+const { text, word, limitOf, idOf, list, checkWords, words, tokens, texts, contents } = require('./arguments.js');
 
 const answers = native.words;
 const ask = native.trace; // a look for it in so many properties would cost a fifth of the call
@@ -398,20 +398,20 @@ class SourceMap {
 
   // ---- writing ----
 
-  toString() {
-    return made(native.write(this.#handle, Form.JSON, ''));
+  toString(options) {
+    return made(native.write(this.#handle, Form.JSON, '', limitOf(options)));
   }
 
-  toBytes() {
-    return made(native.writeBytes(this.#handle, Form.JSON, ''));
+  toBytes(options) {
+    return made(native.writeBytes(this.#handle, Form.JSON, '', limitOf(options)));
   }
 
   toJSON() {
     return JSON.parse(this.toString());
   }
 
-  toDataURL() {
-    return made(native.write(this.#handle, Form.DATA_URL, ''));
+  toDataURL(options) {
+    return made(native.write(this.#handle, Form.DATA_URL, '', limitOf(options)));
   }
 
   get mappings() {

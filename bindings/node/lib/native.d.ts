@@ -187,10 +187,10 @@ export interface Native {
 
   // ---- texts ----
 
-  /** The code is read of the last two forms alone. */
-  write(map: MapHandle, form: Form, code: Text): string | Code;
+  /** The code is read of the last two forms alone, and a limit of bytes of the others. */
+  write(map: MapHandle, form: Form, code: Text, limit?: number): string | Code;
   /** The same as bytes. */
-  writeBytes(map: MapHandle, form: Form, code: Text): Uint8Array | Code;
+  writeBytes(map: MapHandle, form: Form, code: Text, limit?: number): Uint8Array | Code;
   encodeMappings(tokens: Uint32Array): string | Code;
   /** 103 if the code names none. The language is 0 for JavaScript, 1 for CSS. */
   sourceMappingURL(code: Text, language: number): string | Code;

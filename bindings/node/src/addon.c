@@ -285,6 +285,14 @@ static uint32_t word(Call *call, size_t i)
     return out;
 }
 
+/* A limit of bytes; without one as many as there may be. */
+static size_t limit_in(Call *call, size_t i)
+{
+    napi_valuetype type = napi_undefined;
+    check(call, napi_typeof(call->env, call->in[i], &type));
+    return type == napi_undefined ? SIZE_MAX : word(call, i);
+}
+
 /* The entries of a typed array of this type, which other threads may write if its memory is shared. */
 typedef struct {
     void *at;
@@ -1271,13 +1279,23 @@ static napi_value builder_finish(Call *call)
 
 enum { JSON, DATA_URL, MAPPINGS, DRAWING, DRAWING_URL };
 
-/* Writes the map that the call names first in the form that it names next; the code is its third argument. */
+/* Writes a map in one of the first forms, in at most so many bytes. */
+static uint32_t written_within(const smap_map *from, uint32_t form, size_t limit, smap_string **out, smap_fault *fault)
+{
+    if (form == JSON) return smap_to_json_string_within(from, limit, out, fault);
+    if (form == DATA_URL) return smap_to_data_url_within(from, limit, out, fault);
+    return smap_get_mappings_within(from, limit, out, fault);
+}
+
+/* Writes the map that the call names first in the form that it names next; the code is its third argument, a limit its fourth. */
 static uint32_t written(Call *call, smap_string **out)
 {
     const smap_map *from = map(call, 0);
     uint32_t form = word(call, 1);
     Bytes code = form >= DRAWING ? text(call, 2) : (Bytes){NULL, 0};
+    size_t limit = form < DRAWING ? limit_in(call, 3) : SIZE_MAX;
     if (call->failed) return SMAP_BAD_OPTION;
+    if (limit != SIZE_MAX) return written_within(from, form, limit, out, call->fault);
     switch (form) {
     case JSON: return smap_to_json_string(from, out, call->fault);
     case DATA_URL: return smap_to_data_url(from, out, call->fault);

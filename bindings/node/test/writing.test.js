@@ -51,6 +51,22 @@ test('what is not written', () => {
   }
 });
 
+test('texts of at most so many bytes', () => {
+  const text = '{"version":3,"names":[],"sources":["ä.js"],"mappings":"AAAA"}';
+  const map = new SourceMap(text);
+  assert.deepEqual([map.toString({ limit: 62 }), map.toBytes({ limit: 62 }).length, map.toString({})], [text, 62, text]);
+  assert.equal(map.toDataURL({ limit: 127 }), map.toDataURL());
+  const offset = { line: 4294967295, column: 0 };
+  const deep = new SourceMap(JSON.stringify({ version: 3, sections: [{ offset, map: JSON.parse(text) }] }));
+  for (const [it, limit, url] of [[map, 61, 126], [deep, 1_000_000, 4294967294]]) {
+    for (const call of [() => it.toString({ limit }), () => it.toBytes({ limit }), () => it.toDataURL({ limit: url })]) {
+      fails({ code: 'SMAP_TOO_LARGE', detail: 0 }, call);
+    }
+  }
+  for (const limit of [-1, 1.5, 2 ** 32]) assert.throws(() => map.toString({ limit }), RangeError);
+  assert.throws(() => map.toBytes({ limit: '9' }), TypeError);
+});
+
 test('the URL that a code names', () => {
   assert.equal(sourceMappingURL('let a;\n//# sourceMappingURL=a.js.map\n'), 'a.js.map');
   assert.equal(sourceMappingURL(Buffer.from('let a;\n//# sourceMappingURL=größe.map')), 'größe.map');

@@ -19,7 +19,11 @@ fn it_is_written(rt: &impl Abort, alloc: Global, map: &SourceMap<'_>, hostile: &
         &encode_to_string(alloc, map),
         hostile.text,
     );
+    is_text(rt, "text within", &map.to_json_string_within(alloc, usize::MAX), hostile.text);
     let error = hostile.text.err();
+    let none = map.to_json_string_within(alloc, 0).err();
+    same(rt, "text within no bytes", none, Some(error.unwrap_or(Error::TooLarge)));
+    same(rt, "url within no bytes", map.to_data_url_within(alloc, 0).err(), none);
     same(rt, "json", map.to_json(alloc).err(), error);
     same(rt, "url", map.to_data_url(alloc).err(), error);
     let shown = SourcemapVisualizer::new("ab\n", map);

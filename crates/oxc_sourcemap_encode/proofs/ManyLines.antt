@@ -1,7 +1,7 @@
 -- A text has a byte for each line before that of its last token; so what has too many lines is too long.
 use Rattle.std.proofs.Common.{◌≡◌, ℕ, ◌+◌, ◌-◌, ◌≤◌, Bool, true, false, cond, ◌==◌, nat_lt, nat_le}
 use Rattle.std.proofs.Common.{List, [], ◌∷◌, ◌++◌, length, replicate, Option, Some, None, Result}
-use Rattle.std.proofs.Common.{Ok, Err, arith, refl, ap, ◌∙◌, if◌then◌else◌}
+use Rattle.std.proofs.Common.{Ok, Err, arith, refl, ap, ◌∙◌, if◌then◌else◌, slice_get}
 use Rattle.std.proofs.lemmas.Bool.Decides.{nat_tests}
 use Rattle.std.proofs.lemmas.List.{length-append, length-replicate}
 use Rattle.base64.proofs.RoundTrip.{length-encode_symbols}
@@ -94,3 +94,11 @@ early_url limit r e h =
     let text : ℕ = length (json_text (encoded_record r)) in
     let long : last_line 0 r.tokens ≤ length (data_url (json_text (encoded_record r))) = omega (arith, json_le r, url_le (json_text (encoded_record r))) in
     rw (url_is r) (early_is limit (last_line 0 r.tokens) (writing_fault r.tokens r.token_chunks) _ e long h)
+
+last_line-from : (line : ℕ) (x : TokenRecord) (ts : List TokenRecord) (t : TokenRecord) → slice_get (x ∷ ts) (length ts) ≡ Some t → last_line line (x ∷ ts) ≡ t.dst_line
+last_line-from line x [] t e = let q : x ≡ t = cc in ap (λ u. u.dst_line) q
+last_line-from line x (y ∷ ys) t e = last_line-from x.dst_line y ys t e
+
+pub last_line-at : (ts : List TokenRecord) (t : TokenRecord) → slice_get ts (length ts - 1) ≡ Some t → last_line 0 ts ≡ t.dst_line
+last_line-at [] t e = cc
+last_line-at (x ∷ ts) t e = last_line-from 0 x ts t (ap (slice_get (x ∷ ts)) (omega arith) ∙ e)

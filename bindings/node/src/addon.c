@@ -1387,7 +1387,7 @@ static napi_value reason_message(Call *call)
     char small[256];
     Bytes it = text(call, 0);
     Words given = words(call, 1);
-    if (!call->failed && 4 * given.len != sizeof fault) fail(call, "It is no fault");
+    if (!call->failed && given.len * 4 != sizeof fault) fail(call, "It is no fault");
     if (call->failed) return NULL;
     memcpy(&fault, given.at, sizeof fault);
     size_t len = smap_reason_message(it.at, it.len, &fault, small, sizeof small);

@@ -9,4 +9,5 @@ pub mod Pieces
 pub mod TextLaws
 pub mod Decoding
 pub mod Encoding
+pub mod Reasons
 pub mod Words

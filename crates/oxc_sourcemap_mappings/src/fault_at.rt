@@ -1,5 +1,6 @@
 //! Where a `mappings` text has its first fault.
-ghost use Rattle.std.specs.Prelude.{◌≡◌, ◌↔◌, IsSome, IsErr, option_map};
+ghost use Rattle.std.specs.Prelude.{◌≡◌, ◌≤◌, ◌↔◌, IsSome, IfSome, IsErr};
+ghost use Rattle.std.specs.Prelude.{length, option_map};
 ghost use Rattle.oxc_sourcemap_mappings.specs.Words.{reading, fault_place};
 
 use crate::decode::Sums;
@@ -18,6 +19,7 @@ pub struct SegmentPlace {
 /// Where the first segment with a fault begins, as `mappings_fault_at` tells it, and the sums of the fields before it.
 pub(crate) fn first_fault(text: &str, names: usize, sources: usize) -> Option<(SegmentPlace, Sums)>
     ensures place { option_map (λ found. found.0) result ≡ fault_place text.now names sources }
+    ensures within { IfSome result (λ found. found.0.byte ≤ length text.now) }
     ensures fault { IsSome result ↔ IsErr (reading text.now names sources) }
 {
     let mut rest = text.as_bytes();

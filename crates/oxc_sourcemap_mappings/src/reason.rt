@@ -1,6 +1,7 @@
 //! What is really wrong with a segment whose error does not tell.
-ghost use Rattle.std.specs.Prelude.{◌≡◌, IsSome, IsErr};
-ghost use Rattle.oxc_sourcemap_mappings.specs.Words.{reading};
+ghost use Rattle.std.specs.Prelude.{◌≡◌, IsSome, IfSome, IsErr};
+ghost use Rattle.oxc_sourcemap_mappings.specs.Words.{reading, Place, place_of, value, AreSmall};
+ghost use Rattle.oxc_sourcemap_mappings.specs.Words.{IsReasonOf, moved_by_all};
 
 use crate::decode::{Fields, Sums, any_segment};
 use crate::fault_at::first_fault;
@@ -56,13 +57,15 @@ fn no_digit(text: &[u8]) -> Option<u8> {
 }
 
 /// The column of a segment, its source line or its source column, whichever is below 0 first.
-fn below_zero(sums: Sums, fields: &Fields) -> Option<SegmentReason> {
-    let [dst_col, _, src_line, src_col, _] = fields.values;
-    if i64::from(sums.dst_col) + dst_col < 0 {
+fn below_zero(sums: Sums, fields: &Fields) -> Option<SegmentReason>
+    requires small { AreSmall fields.now }
+    ensures { IfSome result (IsReasonOf (moved_by_all (place_of sums) (value fields.now))) }
+{
+    if i64::from(sums.dst_col) + fields.values[0] < 0 {
         Some(SegmentReason::ColumnBelowZero)
-    } else if i64::from(sums.src_line) + src_line < 0 {
+    } else if i64::from(sums.src_line) + fields.values[2] < 0 {
         Some(SegmentReason::SourceLineBelowZero)
-    } else if i64::from(sums.src_col) + src_col < 0 {
+    } else if i64::from(sums.src_col) + fields.values[3] < 0 {
         Some(SegmentReason::SourceColumnBelowZero)
     } else {
         None
@@ -70,7 +73,9 @@ fn below_zero(sums: Sums, fields: &Fields) -> Option<SegmentReason> {
 }
 
 /// The reason for this source id, where the error tells that one.
-fn source_reason(id: i64, told: u32) -> Option<SegmentReason> {
+fn source_reason(id: i64, told: u32) -> Option<SegmentReason>
+    ensures { (here : Place) → here.source_id ≡ id → IfSome result (IsReasonOf here) }
+{
     match u64::try_from(id) {
         Err(_) => Some(SegmentReason::SourceIdBelowZero),
         Ok(id) if id == u64::from(told) => None,
@@ -79,7 +84,9 @@ fn source_reason(id: i64, told: u32) -> Option<SegmentReason> {
 }
 
 /// The same for a name id.
-fn name_reason(id: i64, told: u32) -> Option<SegmentReason> {
+fn name_reason(id: i64, told: u32) -> Option<SegmentReason>
+    ensures { (here : Place) → here.name_id ≡ id → IfSome result (IsReasonOf here) }
+{
     match u64::try_from(id) {
         Err(_) => Some(SegmentReason::NameIdBelowZero),
         Ok(id) if id == u64::from(told) => None,
@@ -88,7 +95,10 @@ fn name_reason(id: i64, told: u32) -> Option<SegmentReason> {
 }
 
 /// The reason of this error of a segment with these fields, behind these sums.
-fn reason_of(error: Error, sums: Sums, fields: &Fields) -> Option<SegmentReason> {
+fn reason_of(error: Error, sums: Sums, fields: &Fields) -> Option<SegmentReason>
+    requires small { AreSmall fields.now }
+    ensures { IfSome result (IsReasonOf (moved_by_all (place_of sums) (value fields.now))) }
+{
     match error {
         Error::BadSegmentSize(0) => below_zero(sums, fields),
         Error::BadSourceReference(told) => {

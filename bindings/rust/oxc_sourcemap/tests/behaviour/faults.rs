@@ -87,6 +87,14 @@ fn each_place_is_told() {
 }
 
 #[test]
+fn what_is_really_wrong_is_told() {
+    let below = json(r#""sources":["a"],"mappings":"AAAA,DAAA""#);
+    assert_eq!(fault(&below).reason_text(&below).unwrap(), "a column below 0");
+    let fine = json(r#""sources":["a"],"mappings":"AAAA,AA""#);
+    assert_eq!(fault(&fine).reason_text(&fine), None);
+}
+
+#[test]
 fn the_text_and_the_section_are_told() {
     let section = |line: u32, mappings: &str| {
         format!(

@@ -32,6 +32,12 @@ AT(count, 168);
 void *loader_answers(void);
 void *loader_answers(void) { return &answers; }
 
+/* How many bytes of the heap are in use (heap.c). */
+size_t heap_used(void);
+
+size_t loader_used(void);
+size_t loader_used(void) { return heap_used(); }
+
 /* ---- lookups ---- */
 
 /* Lookups at once: their answers take 8 KiB of stack. */

@@ -27,6 +27,7 @@ static uint64_t filled_levels;
 static uint8_t filled[LEVELS];
 static block *first, *last;
 static char *top; /* where the last block ends */
+static size_t free_bytes; /* of the blocks in the lists */
 
 /* ---- the memory ---- */
 
@@ -67,6 +68,7 @@ static void put_in_list(block *b) {
     int level, eighth;
     list_of(size_of(b), &level, &eighth);
     block **list = &lists[level][eighth];
+    free_bytes += size_of(b);
     b->tag |= IS_FREE;
     b->prev = NULL;
     b->next = *list;
@@ -79,6 +81,7 @@ static void put_in_list(block *b) {
 static void take_from_list(block *b) {
     int level, eighth;
     list_of(size_of(b), &level, &eighth);
+    free_bytes -= size_of(b);
     b->tag &= ~(size_t)IS_FREE;
     if (b->next) b->next->prev = b->prev;
     if (b->prev) {
@@ -170,6 +173,10 @@ static size_t with_header(size_t bytes) {
 }
 
 static block *block_of(void *at) { return (block *)((char *)at - HEADER); }
+
+/* How many bytes are in use, with the headers of their blocks. */
+size_t heap_used(void);
+size_t heap_used(void) { return first ? (size_t)(top - (char *)first) - free_bytes : 0; }
 
 /* ---- calls ---- */
 

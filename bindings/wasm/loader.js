@@ -1,10 +1,14 @@
 'use strict';
 // What bindings/node/lib/native.d.ts says, over the WebAssembly module, in Node, browsers and wherever there is WebAssembly.
 //
-// Each map, builder and join has an instance of the module of its own, so a memory of its own: the garbage collector frees it with the
-// handle, and a trap ends it alone. A call over several maps makes an instance and moves copies of them there. `free` keeps a few
-// small instances for the next maps. Where the host gives no more instances (a browser has room for a hundred or so), one instance that
-// was there from the start holds all further maps, and a trap ends those together.
+// Small maps share an instance of the module, so a memory: as many as go into 16 MiB; then another instance begins. One that is freed or
+// collected leaves its place to others, and an instance goes with its last map. The collector takes one whose maps are all dropped also
+// where no turn of the event loop comes, in which it could free them one by one. A trap ends the maps that share an instance together.
+//
+// Large maps, builders and joins have an instance of their own: the garbage collector frees its memory with the handle, and a trap ends it
+// alone. `free` keeps a few small instances for the next ones. A map that a change makes large moves to one, and a small map that a
+// builder has made moves from there. A call over several maps moves copies of them to one instance where they are not in one already.
+// Where the host gives no more instances (a browser has room for a hundred or so), the shared ones hold all further maps.
 //
 // No view of a memory is given out. Those that an instance keeps are detached when its memory grows, and are made anew then.
 
@@ -13,21 +17,31 @@ const BAD_OPTION = 105;
 const NULL_HANDLE = 100;
 const LENGTHS = 102;
 const NO_ENTRY = 103;
+const NO_INDEX = 104;
 /** None of the library's: maps are not shared with other threads here. */
 const NO_THREADS = 201;
 
 const NOT_TOLD = 0xffffffff;
 const WORDS = 16;
 const FAULT_WORDS = 18;
+/** Where the bytes are in the counts of a map, in bytes. */
+const BYTES = 48;
 /** Where `select` and `trace` have their words. */
 const [SELECTED, LINE, COLUMN, BIAS] = [12, 13, 14, 15];
 
 // The answers of a call in the memory, in bytes from where they begin (calls.c).
 const ANSWER = { FAULT: 0, WORDS: 72, MADE: 136, OTHER: 144, TEXT: 152, COUNT: 168 };
 const TOKEN = 6;
+const MEND = 6;
 const PLACE = 8;
 const BLOCK = 4096;
 
+/** Texts up to so many bytes are read into a shared instance. */
+const SMALL_TEXT = 64 * 1024;
+/** Of such a text comes a map that may take some times as much. */
+const SMALL_MAP = 4 * SMALL_TEXT;
+/** A shared instance takes no more maps once so much of its memory is in use, until less than half of it is. */
+const MOST_SHARED = 16 * 1024 * 1024;
 /** Freed instances up to this many bytes, and this many of them, are kept for the next maps. */
 const SMALL = 40 * 65536;
 const MOST_SPARE = 8;
@@ -48,8 +62,8 @@ const tagOf = Object.getOwnPropertyDescriptor(Object.getPrototypeOf(Uint8Array.p
 
 /** The module stopped in the middle of a call. What lies in the memory of its instance is lost. */
 class TrapError extends Error {
-  constructor(call, cause, isCommon) {
-    const lost = isCommon ? 'The maps that share its memory are lost' : 'The map of this call is lost, and no other';
+  constructor(call, cause, isShared) {
+    const lost = isShared ? 'The maps that share its memory are lost' : 'The map of this call is lost, and no other';
     super(`The WebAssembly module stopped in ${call}: ${cause.message}. ${lost}`, { cause });
   }
 }
@@ -69,7 +83,8 @@ class Instance {
     this.memory = this.exports.memory;
     this.numbers = numbers;
     this.trap = null;
-    this.isCommon = false;
+    this.collected = null; // of a shared one: where its handles are registered, with what they have in it
+    this.held = 0; // of a shared one: by so many handles
     this.words = new Uint32Array(this.memory.buffer);
     this.bytes = new Uint8Array(this.memory.buffer);
     this.answers = this.call('loader_answers');
@@ -81,9 +96,22 @@ class Instance {
     try {
       return this.exports.call(this.numbers[name], ...words) >>> 0;
     } catch (cause) {
-      this.trap = new TrapError(name, cause, this.isCommon);
+      this.trap = new TrapError(name, cause, this.isShared);
       throw this.trap;
     }
+  }
+
+  get isShared() {
+    return this.collected !== null;
+  }
+
+  get size() {
+    return this.memory.buffer.byteLength;
+  }
+
+  /** Whether no more than so many bytes of the memory are in use. */
+  hasUsed(bytes) {
+    return this.size <= bytes || this.call('loader_used') <= bytes;
   }
 
   u32() {
@@ -151,60 +179,106 @@ class Instance {
 /** There is no room in the memory of an instance, or for another instance: the code NO_MEMORY. */
 class NoMemory extends Error {}
 
-/** Makes instances, and keeps some that are free, and one for when there are no more. */
+/** Makes instances, and keeps some: that which small maps go to, others that have room for them, and free ones. */
 class Instances {
   #module;
   #numbers;
+  #whenCollected;
+  #current; // where small maps go to
+  #roomy = new Set(); // shared ones that were full, and have room again
+  #idle = null; // the current one, as long as it is empty and large: the collector may take it
   #spare = [];
   #large = null; // a freed one with a large memory, which the collector may take
-  #common;
   #waits = 0; // so many times no instance is asked for
 
-  constructor(module) {
+  /** Of a module. `whenCollected` is called with an instance and what a handle had in it that was collected. */
+  constructor(module, whenCollected) {
     this.#module = module;
     this.#numbers = numbersOf(module);
-    this.#common = this.#makeCommon();
+    this.#whenCollected = whenCollected;
+    this.#current = this.#makeShared();
+    if (this.#current === null) throw new RangeError('There is no memory for a WebAssembly module');
   }
 
-  /** An instance for one handle that begins with so many bytes, or the common one. */
-  take(bytes = 0) {
-    const spare = this.#takeLarge(bytes) ?? this.#spare.pop();
-    if (spare !== undefined) return spare;
-    if (this.#waits > 0) this.#waits--;
-    else {
-      try {
-        return new Instance(this.#module, this.#numbers);
-      } catch (error) {
-        if (!(error instanceof RangeError)) throw error;
-        this.#waits = PATIENCE;
-      }
+  /** The instance for something small, which others share. */
+  shared() {
+    this.#current ??= this.#idle?.deref() ?? null;
+    if (!this.takes(this.#current)) this.#current = this.#nextShared();
+    return this.#current;
+  }
+
+  /** Whether there is room for a small map in an instance. */
+  takes(instance) {
+    return instance !== null && instance.isShared && instance.trap === null && instance.hasUsed(MOST_SHARED);
+  }
+
+  /** One that has room again, or a new one; where there is none, one that is full, as long as it runs. */
+  #nextShared() {
+    for (const it of this.#roomy) {
+      this.#roomy.delete(it);
+      if (it.trap === null) return it;
     }
-    if (this.#common.trap !== null) this.#common = this.#makeCommon();
-    return this.#common;
+    const made = this.#makeShared();
+    if (made !== null) return made;
+    if (this.#current === null || this.#current.trap !== null) throw new NoMemory();
+    return this.#current;
+  }
+
+  /** The instance for one handle alone, which begins with so many bytes; where the host gives none, a shared one. */
+  own(bytes = 0) {
+    return this.#takeLarge(bytes) ?? this.#spare.pop() ?? this.#make() ?? this.shared();
   }
 
   #takeLarge(bytes) {
     const large = this.#large?.deref();
-    if (large === undefined || large.memory.buffer.byteLength > MOST_TIMES * bytes) return undefined;
+    if (large === undefined || large.size > MOST_TIMES * bytes) return undefined;
     this.#large = null;
     return large;
   }
 
-  #makeCommon() {
+  /** A new instance; null where the host gives none, and for a while then. */
+  #make() {
+    if (this.#waits > 0) {
+      this.#waits--;
+      return null;
+    }
     try {
-      return Object.assign(new Instance(this.#module, this.#numbers), { isCommon: true });
+      return new Instance(this.#module, this.#numbers);
     } catch (error) {
-      throw error instanceof RangeError ? new NoMemory() : error;
+      if (!(error instanceof RangeError)) throw error;
+      this.#waits = PATIENCE;
+      return null;
     }
   }
 
-  /** Takes back an instance that was taken for one handle, and in which nothing is left. */
+  /** The same, for many handles. What is registered for them goes with it. */
+  #makeShared() {
+    const made = this.#make();
+    if (made !== null) made.collected = new FinalizationRegistry((block) => this.#whenCollected(made, block));
+    return made;
+  }
+
+  /** Takes back an instance that was taken for one handle, and in which nothing is left; of a shared one, what one handle had. */
   give(instance) {
-    if (instance.isCommon || instance.trap !== null) return;
-    if (instance.memory.buffer.byteLength > SMALL) {
+    if (instance.trap !== null) this.#roomy.delete(instance);
+    else if (instance.isShared) this.#left(instance);
+    else if (instance.size > SMALL) {
       if (this.#large?.deref() === undefined) this.#large = new WeakRef(instance);
     } else if (this.#spare.length < MOST_SPARE) {
       this.#spare.push(instance);
+    }
+  }
+
+  /** A shared instance may be empty now, or have room again. */
+  #left(instance) {
+    const isCurrent = instance === this.#current;
+    if (instance.held === 0) {
+      this.#roomy.delete(instance);
+      if (!isCurrent || instance.size <= SMALL) return;
+      this.#idle = new WeakRef(instance);
+      this.#current = null;
+    } else if (!isCurrent && instance.hasUsed(MOST_SHARED / 2)) {
+      this.#roomy.add(instance);
     }
   }
 }
@@ -225,13 +299,18 @@ class Handle {
     this.#kind = kind;
     this.instance = null;
     this.at = 0;
-    this.mends = 0;
+    this.block = null; // what it has in a shared instance
+    this.mends = null; // words of all mends, of a map that was read as it was found
     this.number = 0; // by which it is known once it was selected
     this.isFreed = false;
   }
 
   static kindOf(it) {
-    return it !== null && typeof it === 'object' && #kind in it ? it.#kind : null;
+    try {
+      return it.#kind;
+    } catch {
+      return null;
+    }
   }
 }
 
@@ -300,13 +379,13 @@ const DRAWING = 3;
 
 /** The functions of native.d.ts over a compiled module. */
 function nativeOf(module) {
-  const instances = new Instances(module);
+  const instances = new Instances(module, freeCollected);
   const fault = new Uint32Array(FAULT_WORDS);
   const words = new Uint32Array(WORDS);
   // Where the map that is selected is. Its handle is not kept: once that is collected, no map is selected.
   let asked = null;
   let lastNumber = 0;
-  const collected = new FinalizationRegistry((number) => {
+  const unselects = new FinalizationRegistry((number) => {
     if (words[SELECTED] === number) deselect();
   });
 
@@ -342,21 +421,28 @@ function nativeOf(module) {
 
   // -- instances --
 
-  // What handles have in the common instance, which lives on without them.
-  const leftovers = new FinalizationRegistry(({ kind, instance, at, mends }) => freeIn(instance, kind, at, mends));
+  /** Frees what a handle had in an instance. */
+  function freeIn(instance, kind, at) {
+    if (instance.isShared) instance.held--;
+    if (instance.trap === null) instance.call(FREES[kind], at);
+    instances.give(instance);
+  }
 
-  function freeIn(instance, kind, at, mends) {
-    if (instance.trap !== null) return;
-    instance.call('smap_free_mends', mends);
-    instance.call(FREES[kind], at);
+  /** Frees what a handle that was collected has in a shared instance. One that let go of it left no address. */
+  function freeCollected(instance, { kind, at }) {
+    if (at === 0) return;
+    if (asked !== null && asked.instance === instance && asked.at === at) deselect();
+    freeIn(instance, kind, at);
   }
 
   /** Has a handle hold what is made at an address. */
-  function holds(handle, kind, instance, at, mends = 0) {
+  function holds(handle, kind, instance, at) {
     handle.instance = instance;
     handle.at = at;
-    handle.mends = mends;
-    if (instance.isCommon) leftovers.register(handle, { kind, instance, at, mends }, handle);
+    if (!instance.isShared) return handle;
+    instance.held++;
+    handle.block = { kind, at };
+    instance.collected.register(handle, handle.block);
     return handle;
   }
 
@@ -364,17 +450,59 @@ function nativeOf(module) {
   function letsGo(handle) {
     const { instance } = handle;
     if (asked !== null && asked.instance === instance && asked.at === handle.at) deselect();
-    if (instance !== null && instance.isCommon) leftovers.unregister(handle);
-    handle.instance = null;
-    handle.at = handle.mends = 0;
+    if (handle.block !== null) handle.block.at = 0;
+    handle.instance = handle.block = handle.mends = null;
+    handle.at = handle.number = 0;
   }
 
-  /** Runs a call in an instance that no handle has, and gives it back. */
-  function within(run) {
+  /** Frees what a handle holds. */
+  function empties(handle, kind) {
+    const { instance, at } = handle;
+    letsGo(handle);
+    if (instance !== null) freeIn(instance, kind, at);
+  }
+
+  /** The bytes of a map. */
+  function sizeOf({ instance, at }) {
+    instance.call('smap_get_counts', at, instance.answers);
+    return instance.answer(BYTES) + instance.answer(BYTES + 4) * 2 ** 32;
+  }
+
+  const shared = () => instances.shared();
+
+  /** The instance for a text of so many bytes. */
+  const forText = (bytes) => (bytes <= SMALL_TEXT ? instances.shared() : instances.own(bytes));
+
+  /** The instance for what is made of maps: of small ones a shared one, that of the first of them if it has room. */
+  function forMaps(maps) {
+    const bytes = maps.reduce((sum, map) => sum + sizeOf(map), 0);
+    if (bytes > SMALL_MAP) return instances.own(bytes);
+    const [first] = maps;
+    return first !== undefined && instances.takes(first.instance) ? first.instance : instances.shared();
+  }
+
+  /** Moves a map to another instance, with its index by original positions if it has one. */
+  function moves(map, to) {
+    const { instance, at, mends } = map;
+    const index = instance.answers + ANSWER.WORDS;
+    const isIndexed = instance.call('smap_generated', at, 0, 0, 0, 0, index, index + 4) !== NO_INDEX;
+    const copy = moved(map, to);
+    if (isIndexed && to.call('smap_index_sources', copy, faultOf(to)) !== 0) {
+      to.call('smap_free_map', copy);
+      throw new NoMemory();
+    }
+    letsGo(map);
+    holds(map, MAP, to, copy).mends = mends;
+    freeIn(instance, MAP, at);
+    return map;
+  }
+
+  /** What `run` answers in an instance, where it leaves nothing. */
+  function within(instanceFor, run) {
     return orNoMemory(() => {
-      const instance = instances.take();
+      const instance = instanceFor();
       const out = run(instance);
-      instances.give(instance);
+      if (!instance.isShared) instances.give(instance);
       return out;
     });
   }
@@ -407,14 +535,13 @@ function nativeOf(module) {
     }
   }
 
-  /** A map that a call makes in an instance of its own, or the code of the call, which may be given what it lends. It begins with so many
-   *  bytes. */
-  function makes(run, bytes = 0) {
+  /** A map that a call makes in an instance, or the code of the call, which may be given what it lends. */
+  function makes(instanceFor, run) {
     return orNoMemory(() => {
-      const instance = instances.take(bytes);
+      const instance = instanceFor();
       const code = lending(instance, (lend) => run(instance, lend));
       if (code === 0) return holds(new Handle(MAP), MAP, instance, instance.answer(ANSWER.MADE));
-      instances.give(instance);
+      if (!instance.isShared) instances.give(instance);
       return code;
     });
   }
@@ -423,7 +550,7 @@ function nativeOf(module) {
   const faultOf = (instance) => instance.answers + ANSWER.FAULT;
   const count = (instance) => instance.answers + ANSWER.COUNT;
 
-  /** A copy of a map in another instance, which the caller frees there. */
+  /** A copy of a map in another instance, which the caller frees there. An index by original positions does not come with it. */
   function moved(map, instance) {
     const packed = map.instance.call('loader_pack', map.at);
     if (packed === 0) throw new NoMemory();
@@ -458,7 +585,8 @@ function nativeOf(module) {
   // -- reading --
 
   function reads(text, run) {
-    return makes((instance, lend) => coded(instance, run(instance, ...lend.text(text))), text.length);
+    const instanceFor = () => forText(text.length);
+    return makes(instanceFor, (instance, lend) => coded(instance, run(instance, ...lend.text(text))));
   }
 
   function fromJson(json) {
@@ -468,11 +596,26 @@ function nativeOf(module) {
 
   function readFound(found) {
     const text = textOf(found);
-    const map = reads(text, (it, at, len) => it.call('smap_read_found', at, len, made(it), it.answers + ANSWER.OTHER, faultOf(it)));
-    if (typeof map === 'number') return map;
-    const { instance, at } = map;
-    letsGo(map);
-    return holds(map, MAP, instance, at, instance.answer(ANSWER.OTHER));
+    return orNoMemory(() => {
+      const map = reads(text, (it, at, len) => it.call('smap_read_found', at, len, made(it), it.answers + ANSWER.OTHER, faultOf(it)));
+      if (typeof map !== 'number') map.mends = mendsIn(map.instance, map.instance.answer(ANSWER.OTHER));
+      return map;
+    });
+  }
+
+  /** The words of mends, which are freed. */
+  function mendsIn(instance, mends) {
+    try {
+      return lending(instance, (lend) => {
+        instance.call('smap_get_mends', mends, 0, 0, count(instance));
+        const length = instance.answer(ANSWER.COUNT);
+        const at = lend.room(4 * MEND * length);
+        instance.call('smap_get_mends', mends, at, length, count(instance));
+        return instance.u32().slice(at >>> 2, (at >>> 2) + MEND * length);
+      });
+    } finally {
+      if (instance.trap === null) instance.call('smap_free_mends', mends);
+    }
   }
 
   /** There is no other thread. */
@@ -489,7 +632,9 @@ function nativeOf(module) {
     const texts = [textsOf(names, nameLengths), textsOf(sources, sourceLengths), textsOf(contents, contentLengths)];
     const ignored = wordsOf(ignoreList);
     if (all.length % TOKEN !== 0) return told(LENGTHS);
-    return makes((it, lend) => {
+    const bytes = all.byteLength + texts.reduce((sum, { bytes: { length }, lengths }) => sum + length + lengths.byteLength, 0);
+    const instanceFor = () => forText(bytes);
+    return makes(instanceFor, (it, lend) => {
       const lists = texts.flatMap((list) => lend.texts(list));
       const given = [lend.words(all), all.length / TOKEN, ...lists, lend.words(ignored), ignored.length];
       return coded(it, it.call('smap_from_tokens', ...given, made(it), faultOf(it)));
@@ -505,7 +650,8 @@ function nativeOf(module) {
   function clone(handle) {
     const map = handleOf(handle, MAP);
     if (isNull(map)) return told(NULL_HANDLE);
-    return makes((it) => {
+    const instanceFor = () => forMaps([map]);
+    return makes(instanceFor, (it) => {
       if (map.instance === it) return coded(it, it.call('smap_clone', map.at, made(it), faultOf(it)));
       moved(map, it);
       return 0;
@@ -515,19 +661,17 @@ function nativeOf(module) {
   function getMends(handle, out) {
     const map = handleOf(handle, MAP);
     const to = wordsOf(out);
-    if (map.mends === 0) return told(NULL_HANDLE);
-    return fills(map, to, 6, (it, at, len) => it.call('smap_get_mends', map.mends, at, len, count(it)));
+    if (map.mends === null) return told(NULL_HANDLE);
+    to.set(map.mends.subarray(0, MEND * Math.floor(to.length / MEND)));
+    words[0] = map.mends.length / MEND;
+    return 0;
   }
 
   function free(handle) {
     const kind = Handle.kindOf(handle);
     if (kind === null) throw new TypeError('It is no handle');
-    const { instance, at, mends } = handle;
-    letsGo(handle);
+    empties(handle, kind);
     handle.isFreed = true;
-    if (instance === null) return;
-    freeIn(instance, kind, at, mends);
-    instances.give(instance);
   }
 
   // -- threads --
@@ -651,7 +795,7 @@ function nativeOf(module) {
     const map = handleOf(handle, MAP);
     if (map.number === 0 && lastNumber < NOT_TOLD) {
       map.number = ++lastNumber;
-      collected.register(map, map.number);
+      if (map.block === null) unselects.register(map, map.number);
     }
     asked = isNull(map) ? null : { instance: map.instance, at: map.at };
     words[SELECTED] = map.number;
@@ -670,7 +814,7 @@ function nativeOf(module) {
     try {
       code = instance.exports.loader_trace(at, words[LINE], words[COLUMN], words[BIAS]);
     } catch (cause) {
-      throw (instance.trap = new TrapError('loader_trace', cause, instance.isCommon));
+      throw (instance.trap = new TrapError('loader_trace', cause, instance.isShared));
     }
     if (code !== 0) return coded(instance, code);
     const from = instance.u32();
@@ -737,7 +881,7 @@ function nativeOf(module) {
   function firstDifference(handle, otherHandle) {
     const maps = [handleOf(handle, MAP), handleOf(otherHandle, MAP)];
     if (maps.some(isNull)) return told(NULL_HANDLE);
-    return within((it) =>
+    return within(() => forMaps(maps), (it) =>
       gathering(it, maps, ([one, other]) => {
         const code = it.call('smap_first_difference', one, other, it.answers + ANSWER.WORDS);
         if (code === 0) copy(it, ANSWER.WORDS, words, 2);
@@ -763,12 +907,21 @@ function nativeOf(module) {
 
   // -- changing --
 
-  /** Changes a map by what `run` calls. */
-  function changes(handle, run) {
+  /** Changes a map by what `run` calls, with so many bytes. */
+  function changes(handle, run, bytes = 0) {
     const map = handleOf(handle, MAP);
     if (isNull(map)) return told(NULL_HANDLE);
-    const { instance, at } = map;
-    return orNoMemory(() => lending(instance, (lend) => coded(instance, run(instance, at, lend, faultOf(instance)))));
+    return orNoMemory(() => {
+      if (bytes > SMALL_MAP && map.instance.isShared) leaves(map, bytes);
+      const { instance, at } = map;
+      return lending(instance, (lend) => coded(instance, run(instance, at, lend, faultOf(instance))));
+    });
+  }
+
+  /** Moves a map that is to become large to an instance of its own, where the host gives one. */
+  function leaves(map, bytes) {
+    const to = instances.own(bytes);
+    if (!to.isShared) moves(map, to);
   }
 
   function setText(handle, which, given) {
@@ -776,7 +929,7 @@ function nativeOf(module) {
     const it = textOf(given);
     const map = handleOf(handle, MAP);
     if (name === undefined) return told(isNull(map) ? NULL_HANDLE : BAD_OPTION);
-    return changes(map, (instance, at, lend, to) => instance.call(name, at, ...lend.text(it), to));
+    return changes(map, (instance, at, lend, to) => instance.call(name, at, ...lend.text(it), to), it.length);
   }
 
   function setTexts(handle, which, bytes, lengths) {
@@ -784,12 +937,12 @@ function nativeOf(module) {
     const all = textsOf(bytes, lengths);
     const map = handleOf(handle, MAP);
     if (name === undefined) return told(isNull(map) ? NULL_HANDLE : BAD_OPTION);
-    return changes(map, (instance, at, lend, to) => instance.call(name, at, ...lend.texts(all), to));
+    return changes(map, (instance, at, lend, to) => instance.call(name, at, ...lend.texts(all), to), bytes.length);
   }
 
   function setIgnoreList(handle, ids) {
     const all = wordsOf(ids);
-    return changes(handle, (it, at, lend, to) => it.call('smap_set_ignore_list', at, lend.words(all), all.length, to));
+    return changes(handle, (it, at, lend, to) => it.call('smap_set_ignore_list', at, lend.words(all), all.length, to), all.byteLength);
   }
 
   const changesBy = (name) => (handle) => changes(handle, (it, at, _, to) => it.call(name, at, to));
@@ -799,7 +952,7 @@ function nativeOf(module) {
   function compose(handle, input) {
     const maps = [handleOf(handle, MAP), handleOf(input, MAP)];
     if (maps.some(isNull)) return told(NULL_HANDLE);
-    return makes((it) =>
+    return makes(() => forMaps(maps), (it) =>
       gathering(it, maps, ([outer, inner]) => coded(it, it.call('smap_compose', outer, inner, made(it), faultOf(it)))),
     );
   }
@@ -808,9 +961,10 @@ function nativeOf(module) {
     const maps = mapsOf(inputs);
     const map = handleOf(handle, MAP);
     const list = textsOf(paths, pathLengths);
-    if ([map, ...maps].some(isNull)) return told(NULL_HANDLE);
-    return makes((it, lend) =>
-      gathering(it, [map, ...maps], ([outer, ...inner]) => {
+    const all = [map, ...maps];
+    if (all.some(isNull)) return told(NULL_HANDLE);
+    return makes(() => forMaps(all), (it, lend) =>
+      gathering(it, all, ([outer, ...inner]) => {
         const given = [...lend.texts(list), lend.words(pointers(inner)), inner.length];
         return coded(it, it.call('smap_remap', outer, ...given, made(it), faultOf(it)));
       }),
@@ -822,7 +976,7 @@ function nativeOf(module) {
     const places = wordsOf(positions);
     if (places.length % 2 !== 0) return told(LENGTHS);
     if (maps.some(isNull)) return told(NULL_HANDLE);
-    return makes((it, lend) =>
+    return makes(() => forMaps(maps), (it, lend) =>
       gathering(it, maps, (parts) => {
         const given = [lend.words(pointers(parts)), parts.length, lend.words(places), places.length / 2];
         return coded(it, it.call('smap_join_all', ...given, made(it), faultOf(it)));
@@ -833,7 +987,7 @@ function nativeOf(module) {
   function evaluate(said, saidLengths, given, givenLengths) {
     const plan = textsOf(said, saidLengths);
     const all = textsOf(given, givenLengths);
-    return makes((it, lend) => {
+    return makes(() => forText(all.bytes.length), (it, lend) => {
       const given = [...lend.texts(plan), ...lend.texts(all)];
       return coded(it, it.call('smap_evaluate', ...given, made(it), faultOf(it)));
     });
@@ -852,7 +1006,7 @@ function nativeOf(module) {
 
   /** Gives a handle a builder or a join in an instance of its own. */
   function beginsAnew(handle, kind) {
-    const instance = instances.take();
+    const instance = instances.own();
     const code = instance.call(MAKES[kind], made(instance), faultOf(instance));
     if (code !== 0) return coded(instance, code);
     holds(handle, kind, instance, instance.answer(ANSWER.MADE));
@@ -870,15 +1024,27 @@ function nativeOf(module) {
     });
   }
 
-  /** The map that was made takes the instance over. */
+  /** The map that was made takes the instance over; one that is small goes to a shared one. */
   function finishes(handle, kind, name) {
     const code = adds(handle, kind, (it, at, _, to) => it.call(name, at, made(it), to));
     if (code !== 0) return code;
     const { instance, at } = handle;
     const map = holds(new Handle(MAP), MAP, instance, instance.answer(ANSWER.MADE));
     letsGo(handle);
+    if (instance.isShared) instance.held--;
     instance.call(FREES[kind], at);
-    return map;
+    return settled(map);
+  }
+
+  /** A map that is small, in a shared instance if there is room. */
+  function settled(map) {
+    if (map.instance.isShared || sizeOf(map) > SMALL_MAP) return map;
+    try {
+      return moves(map, instances.shared());
+    } catch (error) {
+      if (error instanceof NoMemory) return map;
+      throw error;
+    }
   }
 
   function joinAdd(join, handle, line, column) {
@@ -969,7 +1135,7 @@ function nativeOf(module) {
   function encodeMappings(tokens) {
     const all = wordsOf(tokens);
     if (all.length % TOKEN !== 0) return told(LENGTHS);
-    return within((it) =>
+    return within(() => forText(all.byteLength), (it) =>
       lending(it, (lend) => {
         const code = it.call('smap_encode_mappings', lend.words(all), all.length / TOKEN, made(it), faultOf(it));
         return written(it, code, asString);
@@ -980,7 +1146,7 @@ function nativeOf(module) {
   function sourceMappingURL(code, language) {
     const given = textOf(code);
     const which = word(language);
-    return within((it) =>
+    return within(() => forText(given.length), (it) =>
       lending(it, (lend) => {
         const answer = it.call('smap_source_mapping_url', ...lend.text(given), which, it.answers + ANSWER.TEXT, faultOf(it));
         if (answer === NO_ENTRY) return told(answer);
@@ -991,7 +1157,7 @@ function nativeOf(module) {
 
   function decodeDataURL(url) {
     const given = textOf(url);
-    return within((it) =>
+    return within(() => forText(given.length), (it) =>
       lending(it, (lend) => {
         const answer = it.call('smap_decode_data_url', ...lend.text(given), made(it), faultOf(it));
         return answer === NO_ENTRY ? told(answer) : written(it, answer, asString);
@@ -1005,7 +1171,7 @@ function nativeOf(module) {
   const says = (name, size) => (given) => {
     const struct = wordsOf(given).slice();
     if (struct.length !== size) throw new TypeError('It is no fault and no mend');
-    const said = within((it) =>
+    const said = within(shared, (it) =>
       lending(it, (lend) => {
         const at = lend.words(struct);
         const length = it.call(name, at, 0, 0);
@@ -1033,14 +1199,14 @@ function nativeOf(module) {
 
   function codeName(code) {
     const which = word(code);
-    return within((it) => {
+    return within(shared, (it) => {
       const at = it.call('smap_code_name', which);
       return it.text(at, it.u8().indexOf(0, at) - at);
     });
   }
 
   return {
-    version: within((it) => it.call('smap_version')),
+    version: within(shared, (it) => it.call('smap_version')),
     fault,
     words,
     fromJson,

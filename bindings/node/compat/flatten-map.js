@@ -1,6 +1,7 @@
 'use strict';
 // Maps with sections, read as one. A section ends where the next one begins; sources are resolved, so that each keeps its root.
 
+const { noWord } = require('../lib/arguments.js');
 const mappings = require('./mappings.js');
 const { TraceMap, tokensOf } = require('./trace-map.js');
 const { WORDS, NO_ID } = mappings;
@@ -33,9 +34,8 @@ function partsOf({ sections }, mapUrl, begin, end, section = null) {
 
 /** The place of an offset in the code of the whole map. */
 function placeOf(begin, { line, column }) {
-  if (line >>> 0 !== line || column >>> 0 !== column) {
-    throw new RangeError(`A section begins at line ${line} and column ${column}, which is no place`);
-  }
+  if (line >>> 0 !== line) throw new RangeError(noWord(line, 'The line of a section'));
+  if (column >>> 0 !== column) throw new RangeError(noWord(column, 'The column of a section'));
   return { line: begin.line + line, column: line === 0 ? begin.column + column : column };
 }
 

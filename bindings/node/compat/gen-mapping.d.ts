@@ -1,7 +1,8 @@
 /**
  * The API of @jridgewell/gen-mapping 0.3. Lines count from 1 in mappings, and from 0 in segments; columns count from 0.
  *
- * A line or a column that is no integer from 0 to 4294967295 is a RangeError, and the map stays as it was.
+ * A line or a column that is no integer from 0 (lines of mappings: 1) to 4294967295 is a RangeError, which tells what was given, and the
+ * map stays as it was.
  */
 
 import type { SourceMapInput } from "./trace-mapping.js";
@@ -73,6 +74,10 @@ export declare function setIgnore(map: GenMapping, source: string, ignore?: bool
 /** The value of the map, with decoded or encoded mappings. The lists are copies. */
 export declare function toDecodedMap(map: GenMapping): DecodedSourceMap;
 export declare function toEncodedMap(map: GenMapping): EncodedSourceMap;
+
+/** The same by their names in versions 0.1 and 0.2, which @ampproject/remapping 2.2.0 requires. */
+export declare const decodedMap: typeof toDecodedMap;
+export declare const encodedMap: typeof toEncodedMap;
 
 /** A map that goes on from another one, which stays as it is. Throws as TraceMap and its calls do. */
 export declare function fromMap(input: SourceMapInput): GenMapping;

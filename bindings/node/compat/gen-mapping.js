@@ -5,6 +5,7 @@
 // Mappings are kept as tokens of the library in one typed array, which grows. One that comes before the last waits to be sorted until
 // the map is asked for, or until one comes that is only added if it says something new.
 
+const { noWord } = require('../lib/arguments.js');
 const mappings = require('./mappings.js');
 const { Texts } = require('./texts.js');
 const { TraceMap, tokensOf } = require('./trace-map.js');
@@ -93,10 +94,17 @@ function isRepeatedEnd(tokens, at, line) {
 
 // ---- segments and mappings ----
 
-/** Throws where a number is none, before the map is changed. */
-function checkPlace(what, line, column) {
-  if (line >>> 0 === line && column >>> 0 === column) return;
-  throw new RangeError(`The ${what} place is at line ${line} (from 0) and column ${column}, which are not both integers from 0 to 4294967295`);
+/** A line as tokens have it, of one that counts from 0 or from 1. It throws where there is none, before the map is changed. */
+function lineOf(given, what, from) {
+  const line = from === 0 ? given : given - from;
+  if (line >>> 0 !== line) throw new RangeError(noWord(given, `The ${what} line`, from));
+  return line;
+}
+
+/** The same of a column. */
+function columnOf(given, what) {
+  if (given >>> 0 !== given) throw new RangeError(noWord(given, `The ${what} column`));
+  return given;
 }
 
 /** The id of a source; its content counts when it is new. */
@@ -106,36 +114,50 @@ function putSource(map, source, content) {
   return id;
 }
 
-function addSegment(map, line, column, source, originalLine, originalColumn, name, content) {
-  checkPlace('generated', line, column);
+/** Adds a token whose lines count from 0 or from 1. */
+function add(map, from, givenLine, givenColumn, source, givenOriginalLine, givenOriginalColumn, name, content) {
+  const line = lineOf(givenLine, 'generated', from);
+  const column = columnOf(givenColumn, 'generated');
   if (!source) return append(map, line, column, 0, 0, NO_ID, NO_ID);
-  checkPlace('original', originalLine, originalColumn);
+  const originalLine = lineOf(givenOriginalLine, 'original', from);
+  const originalColumn = columnOf(givenOriginalColumn, 'original');
   const id = putSource(map, source, content);
   return append(map, line, column, originalLine, originalColumn, id, name ? map._names.put(name) : NO_ID);
 }
 
-function maybeAddSegment(map, line, column, source, originalLine, originalColumn, name, content) {
-  checkPlace('generated', line, column);
+/** The same, if the token says something new. */
+function maybeAdd(map, from, givenLine, givenColumn, source, givenOriginalLine, givenOriginalColumn, name, content) {
+  const line = lineOf(givenLine, 'generated', from);
+  const column = columnOf(givenColumn, 'generated');
   const at = placeFor(map, line, column);
   if (!source) {
     if (!isRepeatedEnd(map._tokens, at, line)) write(map, at, line, column, 0, 0, NO_ID, NO_ID);
     return;
   }
-  checkPlace('original', originalLine, originalColumn);
+  const originalLine = lineOf(givenOriginalLine, 'original', from);
+  const originalColumn = columnOf(givenOriginalColumn, 'original');
   const id = putSource(map, source, content);
   const nameId = name ? map._names.put(name) : NO_ID;
   if (isRepeat(map._tokens, at, line, originalLine, originalColumn, id, nameId)) return;
   write(map, at, line, column, originalLine, originalColumn, id, nameId);
 }
 
+function addSegment(map, line, column, source, originalLine, originalColumn, name, content) {
+  return add(map, 0, line, column, source, originalLine, originalColumn, name, content);
+}
+
+function maybeAddSegment(map, line, column, source, originalLine, originalColumn, name, content) {
+  return maybeAdd(map, 0, line, column, source, originalLine, originalColumn, name, content);
+}
+
 function addMapping(map, { generated, source, original, name, content }) {
-  if (!source) return addSegment(map, generated.line - 1, generated.column);
-  return addSegment(map, generated.line - 1, generated.column, source, original.line - 1, original.column, name, content);
+  if (!source) return add(map, 1, generated.line, generated.column);
+  return add(map, 1, generated.line, generated.column, source, original.line, original.column, name, content);
 }
 
 function maybeAddMapping(map, { generated, source, original, name, content }) {
-  if (!source) return maybeAddSegment(map, generated.line - 1, generated.column);
-  return maybeAddSegment(map, generated.line - 1, generated.column, source, original.line - 1, original.column, name, content);
+  if (!source) return maybeAdd(map, 1, generated.line, generated.column);
+  return maybeAdd(map, 1, generated.line, generated.column, source, original.line, original.column, name, content);
 }
 
 // ---- sources ----
@@ -223,6 +245,9 @@ module.exports = {
   setIgnore,
   toDecodedMap,
   toEncodedMap,
+  // Their names in versions 0.1 and 0.2.
+  decodedMap: toDecodedMap,
+  encodedMap: toEncodedMap,
   fromMap,
   allMappings,
 };

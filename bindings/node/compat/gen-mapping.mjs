@@ -10,6 +10,8 @@ export const {
   setIgnore,
   toDecodedMap,
   toEncodedMap,
+  decodedMap,
+  encodedMap,
   fromMap,
   allMappings,
 } = api;

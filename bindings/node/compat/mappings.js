@@ -3,6 +3,7 @@
 // have them), and the tokens of the library, six numbers each.
 
 const { NO_ID, SourceMap, SourceMapBuilder, encodeMappings } = require('../lib/index.js');
+const { shown } = require('../lib/arguments.js');
 const { MENDS } = require('../lib/constants.js');
 const native = require('../lib/native.js');
 
@@ -128,7 +129,7 @@ function badSegment(segment, line, index) {
   if (size !== 1 && size !== 4 && size !== 5) return new RangeError(`${where} has ${size} numbers, and not 1, 4 or 5`);
   const bad = segment.find((it, field) => !(field === 1 || field === 4 ? isId(it) : it >>> 0 === it));
   const Kind = typeof bad === 'number' ? RangeError : TypeError;
-  return new Kind(`${where} has ${String(bad)}, which is no column, line or id`);
+  return new Kind(`${where} has ${shown(bad)}, which is no column, line or id`);
 }
 
 /** Whether all ids of tokens are below these numbers of sources and names. */

@@ -5,6 +5,7 @@
 // positions go over all tokens at first, and ask the library, by its index, once there are many.
 
 const { Direction } = require('../lib/index.js');
+const { noWord } = require('../lib/arguments.js');
 const { FlattenMap } = require('./flatten-map.js');
 const mappings = require('./mappings.js');
 const { WORDS, NO_ID } = mappings;
@@ -30,18 +31,19 @@ const SCANS = 32;
 
 // ---- from generated to original positions ----
 
-/** The index of the token that answers for a generated position, from 0; -1 if there is none. */
-function find(map, line, column, bias) {
+/** The index of the token that answers for a generated position, from 0; -1 if there is none. The line is `given` as its caller counts
+ *  lines, from 0 or from 1. */
+function find(map, line, column, bias, given, from) {
   const starts = map._starts ?? startsOf(map);
   const tokens = map._tokens;
   if (line >= starts.length - 1) return -1;
-  if (line >>> 0 !== line) throw new TypeError(`\`line\` is ${line}, which is no line`);
+  if (line >>> 0 !== line) throw new TypeError(noWord(given, '`line`', from));
   if (bias === LEAST_UPPER_BOUND) return mappings.findAfter(tokens, starts, line, column);
   return mappings.findBefore(tokens, starts, line, column);
 }
 
 function traceSegment(map, line, column) {
-  const index = find(map, line, column, GREATEST_LOWER_BOUND);
+  const index = find(map, line, column, GREATEST_LOWER_BOUND, line, 0);
   if (index < 0) return null;
   return map._decoded === undefined ? mappings.segmentAt(map._tokens, WORDS * index) : map._decoded[line][index - map._starts[line]];
 }
@@ -53,7 +55,7 @@ function checkPlace(line, column) {
 
 function originalPositionFor(map, { line, column, bias }) {
   checkPlace(line, column);
-  const index = find(map, line - 1, column, bias || GREATEST_LOWER_BOUND);
+  const index = find(map, line - 1, column, bias || GREATEST_LOWER_BOUND, line, 1);
   if (index < 0) return { source: null, line: null, column: null, name: null };
   const tokens = map._tokens;
   const at = WORDS * index;

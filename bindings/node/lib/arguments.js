@@ -20,10 +20,23 @@ function text(it, what) {
   return it;
 }
 
+/** A value as an error tells it. */
+function shown(it) {
+  if (typeof it === 'string') return JSON.stringify(it);
+  if (typeof it === 'bigint') return `${it}n`;
+  const hasText = it === null || (typeof it !== 'object' && typeof it !== 'function');
+  return hasText ? String(it) : `of the type ${typeof it}`;
+}
+
+/** Why a value is refused in place of an unsigned number of 32 bits, or of a line that is counted from 1: it is told as it was given. */
+function noWord(given, what, from = 0) {
+  return `${what} is ${shown(given)}, and not an integer from ${from} to ${NO_ID + from}`;
+}
+
 /** An unsigned number of 32 bits. */
 function word(it, what) {
-  if (typeof it !== 'number') throw new TypeError(`${what} is not a number`);
-  if (it >>> 0 !== it) throw new RangeError(`${what} is ${it}, and not an integer from 0 to 4294967295`);
+  if (typeof it !== 'number') throw new TypeError(noWord(it, what));
+  if (it >>> 0 !== it) throw new RangeError(noWord(it, what));
   return it;
 }
 
@@ -111,4 +124,4 @@ function contents(it, what) {
   return texts(it, what, (one) => (one === null ? null : text(one, what)));
 }
 
-module.exports = { text, word, limitOf, idWord, idOf, list, checkWords, words, tokens, texts, contents };
+module.exports = { text, shown, noWord, word, limitOf, idWord, idOf, list, checkWords, words, tokens, texts, contents };

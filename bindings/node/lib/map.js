@@ -40,9 +40,13 @@ class SourceMap {
   #sources = null;
 
   static {
+    // (a negated `#handle in map` loses its parentheses in terser 5.16)
     handleOf = (map) => {
-      if (map === null || typeof map !== 'object' || !(#handle in map)) throw new TypeError('It is not a SourceMap');
-      return map.#handle;
+      try {
+        return map.#handle;
+      } catch {
+        throw new TypeError('It is not a SourceMap');
+      }
     };
   }
 

@@ -109,6 +109,9 @@ test('numbers', () => {
   }
   assert.equal(map.trace(-0, -0).index, 0);
   assert.equal(map.trace(4294967295, 4294967295), null);
+  for (const [given, said] of [['1', '"1"'], [1.5, '1.5'], [undefined, 'undefined'], [null, 'null'], [[1], 'of the type object']]) {
+    assert.throws(() => map.trace(0, given), { message: `The column is ${said}, and not an integer from 0 to 4294967295` });
+  }
 });
 
 test('texts', () => {

@@ -119,18 +119,32 @@ test('contents and ignored sources', () => {
   });
 });
 
-test('a number that is none is refused, and the map stays', () => {
+test('a number that is none is refused as it was given, and the map stays', () => {
   const map = new GenMapping();
   addSegment(map, 0, 0, 'a', 0, 0, 'n');
   const before = toEncodedMap(map);
+  const says = (what, given, from = 0) => ({ name: 'RangeError', message: `The ${what} is ${given}, and not an integer from ${from} to ${4294967295 + from}` });
   for (const call of [addSegment, maybeAddSegment]) {
-    assert.throws(() => call(map, -1, 0), { name: 'RangeError', message: /generated place is at line -1/ });
-    assert.throws(() => call(map, 0, 1.5, 'b', 0, 0), RangeError);
-    assert.throws(() => call(map, 0, 0, 'b', -1, 0, 'm'), { name: 'RangeError', message: /original place is at line -1/ });
-    assert.throws(() => call(map, 0, 0, 'b', 0, undefined), RangeError);
+    assert.throws(() => call(map, -1, 0), says('generated line', '-1'));
+    assert.throws(() => call(map, '1', 0), says('generated line', '"1"'));
+    assert.throws(() => call(map, 0, '1'), says('generated column', '"1"'));
+    assert.throws(() => call(map, 0, 1.5, 'b', 0, 0), says('generated column', '1.5'));
+    assert.throws(() => call(map, 0, 0, 'b', -1, 0, 'm'), says('original line', '-1'));
+    assert.throws(() => call(map, 0, 0, 'b', 0, undefined), says('original column', 'undefined'));
   }
-  assert.throws(() => addMapping(map, { generated: { line: 0, column: 0 } }), RangeError);
+  const place = { line: 1, column: 0 };
+  for (const call of [addMapping, maybeAddMapping]) {
+    for (const line of [0, 1.5, undefined]) {
+      assert.throws(() => call(map, { generated: { line, column: 0 } }), says('generated line', line, 1));
+      assert.throws(() => call(map, { generated: place, source: 'b', original: { line, column: 0 } }), says('original line', line, 1));
+    }
+    assert.throws(() => call(map, { generated: place, source: 'b', original: { line: 1, column: null } }), says('original column', 'null'));
+  }
   assert.deepEqual(toEncodedMap(map), before);
+});
+
+test('the two names that versions 0.1 and 0.2 have for the values of a map', () => {
+  assert.deepEqual([ours.decodedMap, ours.encodedMap], [toDecodedMap, toEncodedMap]);
 });
 
 test('a map from another one', () => {

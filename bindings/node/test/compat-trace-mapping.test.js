@@ -148,9 +148,12 @@ test('what is no place', () => {
     assert.throws(() => call(map, -1, -1), line);
     assert.throws(() => call(map, 1, -1), column);
   }
-  assert.throws(() => original(map, 1.5, 0), { name: 'TypeError', message: /`line` is 0.5/ });
-  assert.throws(() => original(map, undefined, 0), TypeError);
-  assert.throws(() => ours.traceSegment(map, -1, 0), TypeError);
+  for (const given of [1.5, undefined]) {
+    assert.throws(() => original(map, given, 0), { name: 'TypeError', message: `\`line\` is ${given}, and not an integer from 1 to 4294967296` });
+  }
+  for (const [given, said] of [[-1, '-1'], ['1', '"1"']]) {
+    assert.throws(() => ours.traceSegment(map, given, 0), { name: 'TypeError', message: `\`line\` is ${said}, and not an integer from 0 to 4294967295` });
+  }
   assert.equal(ours.traceSegment(map, 0, -1), null);
 });
 
@@ -253,7 +256,7 @@ test('a fault is refused when the mappings are needed first', () => {
     [[0, 0, 0.5, 0], 'RangeError', /has 0.5/],
     [[0, NO_ID, 0, 0], 'RangeError', /has 4294967295/],
     [[0, 0], 'RangeError', /has 2 numbers, and not 1, 4 or 5/],
-    [[0, '0', 0, 0], 'TypeError', /has 0,/],
+    [[0, '0', 0, 0], 'TypeError', /has "0",/],
     [[0, 0, 0, undefined], 'TypeError', /has undefined/],
   ]) {
     const given = new TraceMap({ version: 3, sources: ['a'], names: [], mappings: [[], [segment]] });
@@ -304,8 +307,14 @@ test('sections in sections', () => {
 });
 
 test('a section that begins nowhere', () => {
-  for (const offset of [{ line: -1, column: 0 }, { line: 0, column: 0.5 }, {}]) {
-    assert.throws(() => FlattenMap({ version: 3, sections: [{ ...section(0, 0, ''), offset }] }), RangeError);
+  const wrong = [
+    [{ line: -1, column: 0 }, 'line of a section is -1'],
+    [{ line: 0, column: '1' }, 'column of a section is "1"'],
+    [{}, 'line of a section is undefined'],
+  ];
+  for (const [offset, said] of wrong) {
+    const error = { name: 'RangeError', message: `The ${said}, and not an integer from 0 to 4294967295` };
+    assert.throws(() => FlattenMap({ version: 3, sections: [{ ...section(0, 0, ''), offset }] }), error);
   }
   assert.throws(() => FlattenMap({ version: 3, sections: [section(0, NO_ID, 'C')] }), RangeError);
 });

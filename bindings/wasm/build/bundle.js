@@ -1,7 +1,7 @@
 #!/usr/bin/env node
 // bundle.js MODULE.wasm FOLDER   makes the folder of the package that has the module: the module, what loads it in Node, and the package's
 // own JavaScript as modules of ECMAScript for browsers and other hosts, which know no `require`:
-//   node.js     what native.d.ts says, for lib/native.js
+//   node.js     what native.d.ts says, for lib/native.js: with the module in it, so that bundlers, which follow no paths, can take it in
 //   load.mjs    load(response, bytes or module) and loadSync, which give what the package exports
 //   index.mjs   the package, which fetches the module beside it
 //   inline.mjs  the package in one file, with the module in it
@@ -90,14 +90,17 @@ function exported() {
   return `export const ${found[1]} = library;\n`;
 }
 
-const NODE = `'use strict';
-// What native.d.ts says, of the WebAssembly module beside this file.
+const BYTES = `const bytes = typeof Buffer === 'function' ? Buffer.from(MODULE, 'base64') : Uint8Array.from(atob(MODULE), (it) => it.charCodeAt(0));
+`;
 
-const { readFileSync } = require('node:fs');
-const { join } = require('node:path');
+const node = (module) => `'use strict';
+// What native.d.ts says, of the WebAssembly module in this file.
+
 const { nativeOf } = require('./loader.js');
 
-module.exports = nativeOf(new WebAssembly.Module(readFileSync(join(__dirname, '${MODULE}'))));
+const MODULE = '${module.toString('base64')}';
+${BYTES}
+module.exports = nativeOf(new WebAssembly.Module(bytes));
 `;
 
 const INDEX = `${MADE}
@@ -109,8 +112,7 @@ const library = await load(fetch(new URL('./${MODULE}', import.meta.url)));
 
 const inlined = (module) => `
 const MODULE = '${module.toString('base64')}';
-const bytes = Uint8Array.from(atob(MODULE), (it) => it.charCodeAt(0));
-const library = libraryOf(await WebAssembly.compile(bytes));
+${BYTES}const library = libraryOf(await WebAssembly.compile(bytes));
 
 `;
 
@@ -121,7 +123,7 @@ function main([path, folder]) {
   copyFileSync(path, join(folder, MODULE));
   copyFileSync(LOADER, join(folder, 'loader.js'));
   const code = bundled();
-  const files = { 'node.js': NODE, 'load.mjs': code + LOADS, 'index.mjs': INDEX + exported(), 'inline.mjs': code + inlined(module) + exported() };
+  const files = { 'node.js': node(module), 'load.mjs': code + LOADS, 'index.mjs': INDEX + exported(), 'inline.mjs': code + inlined(module) + exported() };
   for (const [name, text] of Object.entries(files)) writeFileSync(join(folder, name), text);
 }
 

@@ -4,8 +4,8 @@
  *   heap_test CALLS SEED
  *
  * Each block that is held has contents of its own, which are looked at before it is changed or freed. Every so often all blocks of the
- * heap are walked: sizes and tags agree, no two free neighbours, and each free block is in the list of its size. At the end all is freed,
- * and one free block is left. */
+ * heap are walked: sizes and tags agree, no two free neighbours, each free block is in the list of its size, and the others are the bytes
+ * in use. At the end all is freed, and one free block is left. */
 #include <stdio.h>
 #define malloc heap_malloc
 #define calloc heap_calloc
@@ -101,7 +101,7 @@ static size_t count_listed(void) {
 
 /* The number of blocks, and how many of them are free. */
 static size_t walk(size_t *free_blocks) {
-    size_t count = 0, had = 0;
+    size_t count = 0, had = 0, used = 0;
     int was_free = 0;
     *free_blocks = 0;
     for (const block *b = first; b; b = after(b)) {
@@ -110,10 +110,11 @@ static size_t walk(size_t *free_blocks) {
         MUST(!(was_free && is_free(b)) && (!is_free(b) || is_listed(b)));
         had = size_of(b);
         was_free = is_free(b);
+        used += was_free ? 0 : had;
         count++;
         *free_blocks += (size_t)was_free;
     }
-    MUST(count_listed() == *free_blocks);
+    MUST(count_listed() == *free_blocks && heap_used() == used);
     return count;
 }
 

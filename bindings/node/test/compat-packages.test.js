@@ -5,7 +5,7 @@ const test = require('node:test');
 const assert = require('node:assert/strict');
 const { mkdtempSync, cpSync, mkdirSync, rmSync, symlinkSync, readFileSync, writeFileSync, readdirSync } = require('node:fs');
 const { tmpdir } = require('node:os');
-const { join } = require('node:path');
+const { dirname, join } = require('node:path');
 const { execFileSync } = require('node:child_process');
 
 const { peer, needs } = require('./support.js');
@@ -47,30 +47,79 @@ test('no module requires what the package has not', () => {
   }
 });
 
-test('the packages for overrides hand on', () => {
+/** What a script says where these packages have ours in their places, and `others` have files of their own, by their names. */
+function saidWithOverrides(names, script, others = {}) {
   const room = mkdtempSync(join(tmpdir(), 'junketscarp-'));
   try {
     const modules = join(room, 'node_modules');
     mkdirSync(join(modules, 'junketscarp'), { recursive: true });
     for (const it of ['lib', 'compat', 'prebuilds']) symlinkSync(join(ROOT, it), join(modules, 'junketscarp', it));
     const manifest = JSON.parse(readFileSync(join(ROOT, 'package.json')));
-    for (const name of Object.keys(MODULES)) {
+    for (const name of names) {
       manifest.exports[`./${name}`] = { import: `./compat/${name}.mjs`, require: `./compat/${name}.js` };
       cpSync(join(ROOT, 'packages', name), join(modules, MODULES[name]), { recursive: true });
       assert.equal(JSON.parse(readFileSync(join(ROOT, 'packages', name, 'package.json'))).dependencies.junketscarp, manifest.version);
     }
     writeFileSync(join(modules, 'junketscarp/package.json'), JSON.stringify(manifest));
-    const script = `
-      const gen = require('@jridgewell/gen-mapping'), { TraceMap } = require('@jridgewell/trace-mapping');
-      const remapping = require('@ampproject/remapping'), { decode } = require('@jridgewell/sourcemap-codec');
-      const map = new gen.GenMapping();
-      gen.addSegment(map, 0, 4, 'a', 2, 0);
-      const text = remapping(new TraceMap(gen.toEncodedMap(map)), () => null).mappings;
-      import('@ampproject/remapping').then((it) => console.log(text, JSON.stringify(decode(text)), it.default === remapping));`;
+    for (const [name, from] of Object.entries(others)) from(join(modules, name));
     writeFileSync(join(room, 'script.js'), script);
-    const said = execFileSync(process.execPath, ['script.js'], { cwd: room, env: { ...process.env, NODE_PATH: '' }, encoding: 'utf8' });
-    assert.equal(said, 'IAEA [[[4,0,2,0]]] true\n');
+    return execFileSync(process.execPath, ['script.js'], { cwd: room, env: { ...process.env, NODE_PATH: '' }, encoding: 'utf8' });
   } finally {
     rmSync(room, { recursive: true });
   }
+}
+
+test('the packages for overrides hand on', () => {
+  const script = `
+    const gen = require('@jridgewell/gen-mapping'), { TraceMap } = require('@jridgewell/trace-mapping');
+    const remapping = require('@ampproject/remapping'), { decode } = require('@jridgewell/sourcemap-codec');
+    const map = new gen.GenMapping();
+    gen.addSegment(map, 0, 4, 'a', 2, 0);
+    const text = remapping(new TraceMap(gen.toEncodedMap(map)), () => null).mappings;
+    import('@ampproject/remapping').then((it) => console.log(text, JSON.stringify(decode(text)), it.default === remapping));`;
+  assert.equal(saidWithOverrides(Object.keys(MODULES), script), 'IAEA [[[4,0,2,0]]] true\n');
+});
+
+// A remapping of which the mappings of one map are led through that of its only source, as @ampproject/remapping 2.2.0 calls what it
+// requires: gen-mapping by its names of 0.1.
+const REMAPPING = `
+  const { TraceMap, decodedMappings, traceSegment } = require('@jridgewell/trace-mapping');
+  const gen = require('@jridgewell/gen-mapping');
+  module.exports = (outer, loader, { decodedMappings: isDecoded } = {}) => {
+    const map = new TraceMap(outer);
+    const inner = new TraceMap(loader(map.resolvedSources[0]));
+    const made = new gen.GenMapping({ file: map.file });
+    decodedMappings(map).forEach((segments, line) => {
+      for (const [column, , originalLine, originalColumn, name] of segments) {
+        const found = traceSegment(inner, originalLine, originalColumn);
+        gen.addSegment(made, line, column, inner.resolvedSources[found[1]], found[2], found[3], name === undefined ? '' : map.names[name]);
+      }
+    });
+    return isDecoded ? gen.decodedMap(made) : gen.encodedMap(made);
+  };`;
+const LED = `
+  const remapping = require('@ampproject/remapping');
+  const outer = { version: 3, file: 'out.js', sources: ['b.js'], names: ['x'], mappings: 'IAAAA' };
+  const inner = { version: 3, sources: ['a.ts'], names: [], mappings: 'AAEA' };
+  for (const decodedMappings of [false, true]) {
+    const { sources, names, mappings } = remapping(outer, (it) => (it === 'b.js' ? inner : null), { decodedMappings });
+    console.log(JSON.stringify([sources, names, mappings]));
+  }`;
+const LEADS = '[["a.ts"],["x"],"IAEAA"]\n[["a.ts"],["x"],[[[4,0,2,0,0]]]]\n';
+const PLACES = ['trace-mapping', 'gen-mapping', 'sourcemap-codec'];
+
+test('an override of gen-mapping serves a package that requires it by its names of 0.1', () => {
+  const written = (folder) => {
+    mkdirSync(folder, { recursive: true });
+    writeFileSync(join(folder, 'index.js'), REMAPPING);
+  };
+  assert.equal(saidWithOverrides(PLACES, LED, { '@ampproject/remapping': written }), LEADS);
+});
+
+const itsRemapping = peer('@ampproject/remapping');
+
+test('and the remapping that is installed', needs('@ampproject/remapping', itsRemapping), () => {
+  const installed = dirname(dirname(require.resolve('@ampproject/remapping')));
+  const copied = (folder) => cpSync(installed, folder, { recursive: true, dereference: true });
+  assert.equal(saidWithOverrides(PLACES, LED, { '@ampproject/remapping': copied }), LEADS);
 });

@@ -8,7 +8,7 @@ const { execFileSync } = require('node:child_process');
 const { join } = require('node:path');
 
 const PACKAGE = join(__dirname, '../../node');
-const PROCESSES = 5;
+const PROCESSES = 3;
 
 /** A map of 200 bytes of text. */
 function text() {
@@ -18,7 +18,16 @@ function text() {
   return JSON.stringify(value).padEnd(200);
 }
 
+const turn = () => new Promise((resolve) => setTimeout(resolve, 5));
+
+function askAndFree(SourceMap, given) {
+  const map = new SourceMap(given);
+  map.trace(0, 0);
+  map.free();
+}
+
 const held = () => {
+  gc();
   gc();
   const { rss, external } = process.memoryUsage();
   return rss + external;
@@ -36,23 +45,20 @@ async function measure(count) {
   const { SourceMapConsumer } = require(join(PACKAGE, 'compat/source-map.js'));
   const given = text();
   const ask = () => new SourceMap(given).trace(0, 0);
-  const kept = [new SourceMap(given)];
-  for (let i = 0; i < 200; i++) ask();
+  // (so that code which the engine compiles once is not counted)
+  for (let i = 0; i < 5000; i++) askAndFree(SourceMap, given);
+  await turn();
+  const kept = [];
   const before = held();
   const keeping = timed(count, () => kept.push(new SourceMap(given)));
   const bytes = (held() - before) / count;
   kept.length = 0;
-  const turn = () => new Promise((resolve) => setTimeout(resolve, 5));
   gc();
   await turn();
   const least = { 'read, asked and dropped': Infinity, 'read, asked and freed': Infinity, 'consumer, asked and dropped': Infinity };
   const ways = [
     ask,
-    () => {
-      const map = new SourceMap(given);
-      map.trace(0, 0);
-      map.free();
-    },
+    () => askAndFree(SourceMap, given),
     () => new SourceMapConsumer(given).originalPositionFor({ line: 1, column: 0 }),
   ];
   for (let round = 0; round < 20; round++) {

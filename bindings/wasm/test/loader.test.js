@@ -18,6 +18,7 @@ const module_ = compiled('oxc_sourcemap.wasm');
 const native = nativeOf(module_);
 
 const NOTHING = new Uint32Array(0);
+const NO_BYTES = new Uint8Array(0);
 const json = (more) => JSON.stringify({ version: 3, sources: ['a.ts'], names: [], mappings: 'AAAA', ...more });
 /** A map with a member whose lists are so deep. */
 const nested = (depth) => json().replace('{', `{"x":${'['.repeat(depth)}${']'.repeat(depth)},`);
@@ -27,17 +28,41 @@ const NOT_TOLD = 0xffffffff;
 /** A text of JSON that takes so many bytes. */
 const large = (bytes) => json({ sourcesContent: ['x'.repeat(bytes)] });
 
-test('a trap ends one map, and says what happened', () => {
-  const small = nativeOf(compiled('small_stack.wasm'));
-  const kept = small.fromJson(json());
-  assert.throws(() => small.fromJson(nested(120)), (error) => {
+const PLAIN = '{"version":3,"names":[],"sources":["a.ts"],"mappings":"AAAA"}';
+
+/** Asserts that a call ends in a trap which tells what is lost. */
+function traps(call, lost) {
+  assert.throws(call, (error) => {
     assert.ok(error instanceof TrapError && error.cause instanceof WebAssembly.RuntimeError);
-    assert.match(error.message, /^The WebAssembly module stopped in smap_from_json_string: memory access out of bounds\. The map of this call is lost, and no other$/);
+    assert.equal(error.message, `The WebAssembly module stopped in smap_from_json_string: memory access out of bounds. ${lost}`);
     return true;
   });
-  assert.equal(small.write(kept, 0, ''), '{"version":3,"names":[],"sources":["a.ts"],"mappings":"AAAA"}');
-  assert.equal(typeof small.fromJson(json()), 'object');
+}
+
+test('a trap in a large map ends it alone, and says what happened', () => {
+  const small = nativeOf(compiled('small_stack.wasm'));
+  const kept = [small.fromJson(json()), small.fromJson(large(100_000))];
+  traps(() => small.fromJson(nested(120).padEnd(100_000)), 'The map of this call is lost, and no other');
+  assert.equal(small.write(kept[0], 0, ''), PLAIN);
+  assert.equal(small.text(kept[1], 2, 0).length, 100_000);
+  assert.equal(typeof small.fromJson(large(100_000)), 'object');
   assert.equal(typeof native.fromJson(nested(120)), 'object');
+});
+
+test('a trap in a small map ends those that share its instance, and no other; the next ones have a new instance', () => {
+  const small = nativeOf(compiled('small_stack.wasm'));
+  const [lost, selected, kept] = [small.fromJson(json()), small.fromJson(json()), small.fromJson(large(100_000))];
+  small.select(selected);
+  assert.equal(small.trace(), undefined);
+  traps(() => small.fromJson(nested(120)), 'The maps that share its memory are lost');
+  for (const call of [() => small.write(lost, 0, ''), () => small.trace(), () => small.compose(kept, lost)]) assert.throws(call, TrapError);
+  assert.equal(small.text(kept, 2, 0).length, 100_000);
+  const next = small.fromJson(json());
+  assert.equal(small.write(next, 0, ''), PLAIN);
+  assert.notEqual(next.instance, lost.instance);
+  for (const it of [lost, selected, next]) small.free(it);
+  assert.equal(small.trace(), 100);
+  assert.equal(small.write(small.fromJson(json()), 0, ''), PLAIN);
 });
 
 test('no call is made in an instance that has stopped', () => {
@@ -88,7 +113,7 @@ test('a call that finds no memory leaves the map as it was', () => {
 });
 
 test('memory that grew is not read by a view from before', () => {
-  const map = native.fromJson(json({ names: ['f'], mappings: 'AAAAA' }));
+  const map = native.fromJson(json({ names: ['f'], mappings: 'AAAAA' }).padEnd(100_000));
   native.select(map);
   const ask = () => {
     [native.words[13], native.words[14], native.words[15]] = [0, 3, 0];
@@ -104,7 +129,7 @@ test('memory that grew is not read by a view from before', () => {
 });
 
 test('addresses of 2 GiB and more have no sign', () => {
-  const map = native.fromJson(json({ names: ['f'], mappings: 'AAAAA' }));
+  const map = native.fromJson(json({ names: ['f'], mappings: 'AAAAA' }).padEnd(100_000));
   const below = map.instance.call('malloc', 2_200_000_000); // none of which is touched
   assert.ok(below > 0 && map.instance.memory.buffer.byteLength > 2 ** 31);
   while (map.instance.call('malloc', 16) < 2 ** 31); // so that nothing is free below
@@ -161,92 +186,219 @@ test('texts keep a leading U+FEFF, and all other letters', () => {
 });
 
 test('an instance that is freed is used again, a large one for a large map alone', () => {
-  const first = native.fromJson(json());
+  const first = native.fromJson(large(100_000));
   const { instance } = first;
   native.free(first);
-  const again = native.fromJson(json());
+  const again = native.fromJson(large(100_000));
   assert.equal(again.instance, instance);
   assert.equal(first.instance, null);
   const big = native.fromJson(large(5_000_000));
   const { instance: large_ } = big;
   native.free(big);
-  for (let i = 0; i < 10; i++) assert.notEqual(native.fromJson(json()).instance, large_);
+  for (let i = 0; i < 10; i++) assert.notEqual(native.fromJson(large(100_000)).instance, large_);
   const other = native.fromJson(large(4_000_000));
   assert.equal(other.instance, large_);
   assert.notEqual(native.fromJson(large(4_000_000)).instance, large_);
 });
 
-test('a freed instance holds nothing of the maps before', () => {
+/** How many bytes of the memory of an instance are in use. */
+const used = (instance) => instance.call('loader_used');
+
+test('what is freed leaves nothing in its instance', () => {
   const map = native.fromJson(json({ names: ['a', 'b'] }));
-  /** Where the first block of the instance of a handle lies, once that is freed. */
-  const left = (handle) => {
-    const { instance } = handle;
-    native.free(handle);
-    const at = instance.call('malloc', 1000);
-    instance.call('free', at);
-    return at;
-  };
-  const first = left(native.fromJson(json()));
-  const join = native.joinNew();
-  const builder = native.builderNew();
+  const { instance } = map;
+  const [join, builder, large_] = [native.joinNew(), native.builderNew(), native.builderNew()];
   for (const it of [1, 2]) assert.equal(native.joinAdd(join, map, it, 0), 0);
-  assert.equal(native.builderAddSource(builder, 'a', 'x'), 0);
+  for (const it of [builder, large_]) assert.equal(native.builderAddSource(it, 'a', 'x'), 0);
+  assert.equal(native.builderAddTokens(large_, new Uint32Array(6 * 20_000)), 0);
   const changed = native.clone(map);
-  assert.equal(native.setTexts(changed, 2, Buffer.from('xyz'), Uint32Array.of(1, 0, 2)), 0);
+  const before = used(instance);
   const makers = [
+    () => native.fromJson(json()),
     () => native.readFound('\ufeff' + json()),
+    () => native.readFound(json()),
+    () => native.fromTokens(new Uint32Array(6), Buffer.from('f'), Uint32Array.of(1), Buffer.from('a'), Uint32Array.of(1), NO_BYTES, NOTHING, NOTHING),
+    () => native.decodeMappings('AAAA', 1, 1),
     () => native.clone(map),
     () => native.compose(map, map),
     () => native.remap(map, Buffer.from('a.ts'), Uint32Array.of(4), [map]),
     () => native.joinAll([map, map], new Uint32Array(4)),
+    () => native.joinAll([], NOTHING),
+    () => native.evaluate(Buffer.from('@0'), Uint32Array.of(2), Buffer.from(json()), Uint32Array.of(json().length)),
     () => native.joinFinish(join),
     () => native.builderFinish(builder),
-    () => changed,
-    () => native.joinNew(),
   ];
-  for (const make of makers) assert.equal(left(make()), first, String(make));
+  for (const make of makers) {
+    const made = make();
+    assert.equal(made.instance, instance, String(make));
+    native.free(made);
+    assert.equal(used(instance), before, String(make));
+  }
   assert.equal(native.fromJson('{'), 4);
-  assert.equal(native.firstDifference(map, native.fromJson(json())), 103);
+  assert.equal(native.readFound('{'), 4);
+  assert.equal(native.firstDifference(map, changed), 103);
   assert.equal(native.encodeMappings(new Uint32Array(6)), 'AAAAA');
   assert.equal(native.sourceMappingURL('//# sourceMappingURL=a.map', 0), 'a.map');
-  for (let i = 0; i < 10; i++) assert.equal(left(native.fromJson(json())), first);
+  assert.equal(native.message(native.fault).length > 0, true);
+  assert.equal(used(instance), before);
+  const finished = native.builderFinish(large_);
+  assert.notEqual(finished.instance, instance);
+  for (const it of [changed, map, join, builder, large_, finished]) native.free(it);
 });
 
-test('maps in the instance that they share are freed once each: by `free`, or by the collector', () => {
-  const script = `
+// ---- instances that small maps share ----
+
+/** What a script says, that has `native` over the module, and counts in `given` the instances which it makes; there are no more than so many. */
+function run(script, most = Infinity) {
+  const whole = `
     const { Instance } = WebAssembly;
     let given = 0;
     WebAssembly.Instance = class extends Instance {
       constructor(...words) {
-        if (++given > 1) throw new RangeError('Out of memory');
+        if (given >= ${most}) throw new RangeError('Out of memory');
         super(...words);
+        given++;
       }
     };
     const { nativeOf } = require(${JSON.stringify(LOADER)});
     const native = nativeOf(new WebAssembly.Module(require('node:fs').readFileSync(${JSON.stringify(join(folder, 'oxc_sourcemap.wasm'))})));
-    const text = ${JSON.stringify(json({ names: ['a', 'b', 'c'] }))};
+    const text = ${JSON.stringify(json({ names: ['a', 'b', 'c'] }).padEnd(200))};
+    const mappings = (length) => JSON.stringify({ version: 3, sources: ['a.ts'], names: [], mappings: 'AAAA'.padEnd(length, ',CAAC') });
+    const used = (instance) => instance.call('loader_used');
+    const size = (maps) => [...new Set(maps.map((it) => it.instance))].reduce((sum, it) => sum + it.memory.buffer.byteLength, 0);
     const turn = () => new Promise((resolve) => setTimeout(resolve, 20));
-    const lowest = (instance) => {
-      const at = instance.call('malloc', 100);
-      instance.call('free', at);
-      return at;
+    const collect = async () => {
+      for (let i = 0; i < 3; i++) gc(), await turn();
     };
-    (async () => {
-      const kept = native.fromJson(text);
-      const { instance } = kept;
-      const before = lowest(instance);
-      const used = new Set(Array.from({ length: 20 }, () => native.fromJson(text).instance));
-      for (let i = 0; i < 20; i++) native.free(native.readFound(text));
-      await turn();
-      const again = native.fromJson(text);
-      for (let i = 0; i < 3; i++) gc(), await turn();
-      const said = [kept, again, native.fromJson(text)].map((it) => native.write(it, 0, ''));
-      native.free(again);
-      for (let i = 0; i < 3; i++) gc(), await turn();
-      process.stdout.write(JSON.stringify([used.size, instance.isCommon, new Set(said).size, said[0].length > 50, lowest(instance) === before]));
-    })();`;
-  const said = execFileSync(process.execPath, ['--expose-gc', '-e', script], { encoding: 'utf8' });
-  assert.deepEqual(JSON.parse(said), [1, true, 1, true, true]);
+    const say = (it) => process.stdout.write(JSON.stringify(it));
+    (async () => {${script}})();`;
+  return JSON.parse(execFileSync(process.execPath, ['--expose-gc', '-e', whole], { encoding: 'utf8' }));
+}
+
+test('12,000 small maps that are kept have one instance, and a kilobyte and a half each', () => {
+  const [instances, bytes] = run(`
+    const maps = Array.from({ length: 12_000 }, () => native.fromJson(text));
+    say([given, size(maps)]);`);
+  assert.equal(instances, 1);
+  assert.ok(bytes < 12_000 * 1500, `${bytes}`);
+});
+
+test('a shared instance is full at 16 MiB, has room again when half is free, and goes with its last map', () => {
+  const said = run(`
+    let seen = 0;
+    const collected = new FinalizationRegistry(() => seen++);
+    const many = () => Array.from({ length: 100 }, () => native.fromJson(mappings(60_000)));
+    const work = () => {
+      const first = native.fromJson(text);
+      const { instance } = first;
+      const maps = many();
+      const instances = new Set(maps.map((it) => it.instance));
+      for (const it of instances) collected.register(it, 0);
+      const [here, others] = [maps.filter((it) => it.instance === instance), maps.filter((it) => it.instance !== instance)];
+      const out = [here.length > 10 && others.length > 10, Math.floor(used(instance) / 2 ** 20)];
+      for (const it of here.splice(0, 3)) native.free(it);
+      others.push(...many());
+      out.push(others.some((it) => it.instance === instance));
+      for (const it of here.splice(0, here.length - 2)) native.free(it);
+      others.push(...many());
+      out.push(others.some((it) => it.instance === instance));
+      for (const it of [first, ...here, ...others]) native.free(it);
+      return [...out, instances.size > 1, instances.size];
+    };
+    const out = work();
+    await collect();
+    say([...out, seen]);`);
+  assert.deepEqual(said.slice(0, 5), [true, 16, false, true, true]);
+  assert.equal(said[6], said[5]);
+});
+
+test('an instance whose maps are all dropped is collected, also where no turn comes to free them one by one', () => {
+  const [instances, live] = run(`
+    const seen = [];
+    const collected = new FinalizationRegistry(() => seen.push(1));
+    let last = null;
+    for (let i = 0; i < 2000; i++) {
+      const { instance } = native.fromJson(mappings(60_000));
+      if (instance !== last) collected.register(instance, 0);
+      last = instance;
+    }
+    last = null;
+    const rss = process.memoryUsage().rss / 2 ** 20;
+    await collect();
+    say([given, given - seen.length, rss]);`);
+  assert.ok(instances > 5, `${instances}`);
+  assert.ok(live <= 2, `${live} of ${instances}`);
+});
+
+test('maps that share an instance are freed once each: by `free`, or by the collector', () => {
+  const script = `
+    const kept = native.fromJson(text);
+    const { instance } = kept;
+    const before = used(instance);
+    const all = new Set(Array.from({ length: 20 }, () => native.fromJson(text).instance));
+    for (let i = 0; i < 20; i++) native.free(native.readFound(text));
+    for (let i = 0; i < 20; i++) native.builderFinish(native.builderNew());
+    await turn();
+    const again = native.fromJson(text);
+    native.select(native.fromJson(text));
+    await collect();
+    const isUnselected = native.words[12] === 0;
+    const said = [kept, again, native.fromJson(text)].map((it) => native.write(it, 0, ''));
+    native.free(again);
+    await collect();
+    say([all.size, instance.isShared, new Set(said).size, said[0].length > 50, used(instance) === before, isUnselected, instance.held]);`;
+  for (const most of [Infinity, 1]) assert.deepEqual(run(script, most), [1, true, 1, true, true, true, 1], String(most));
+});
+
+test('a builder and a join have an instance of their own, which the next one takes; a small map that they make goes to a shared one', () => {
+  const map = native.fromJson(json());
+  const [builder, join] = [native.builderNew(), native.joinNew()];
+  const { instance } = builder;
+  assert.notEqual(instance, map.instance);
+  assert.notEqual(join.instance, instance);
+  native.builderAddSource(builder, 'a.ts', 'x');
+  const made = native.builderFinish(builder);
+  assert.deepEqual([made.instance, builder.instance, native.text(made, 2, 0)], [map.instance, null, 'x']);
+  assert.equal(native.builderNew().instance, instance);
+  native.builderAddSource(builder, 'a.ts', 'x'.repeat(1_000_000));
+  const large_ = native.builderFinish(builder);
+  assert.notEqual(large_.instance, map.instance);
+  assert.equal(native.text(large_, 2, 0).length, 1_000_000);
+  native.joinAdd(join, map, 0, 0);
+  assert.equal(native.joinFinish(join).instance, map.instance);
+});
+
+test('a map that a change makes large moves to an instance of its own, with its index and its mends', () => {
+  const map = native.readFound('\ufeff' + json({ names: ['f'], mappings: 'AAAAA' }));
+  const other = native.fromJson(json());
+  assert.equal(map.instance, other.instance);
+  assert.equal(native.indexSources(map), 0);
+  native.select(map);
+  assert.equal(native.setText(map, 3, 'x'.repeat(1_000_000)), 0);
+  assert.notEqual(map.instance, other.instance);
+  assert.equal(native.trace(), 100);
+  assert.deepEqual([native.generated(map, 0, 0, 0, 0), native.words[0]], [0, 0]);
+  assert.deepEqual([native.getMends(map, new Uint32Array(6)), native.words[0]], [0, 1]);
+  assert.equal(native.text(map, 3, 0).length, 1_000_000);
+  const plain = native.fromJson(json());
+  assert.equal(native.setTexts(plain, 2, Buffer.alloc(1_000_000, 'y'), Uint32Array.of(1_000_000)), 0);
+  assert.equal(native.generated(plain, 0, 0, 0, 0), 104);
+  assert.notEqual(plain.instance, other.instance);
+  const before = used(other.instance);
+  for (const it of [map, plain]) native.free(it);
+  assert.equal(used(other.instance), before);
+});
+
+test('what is made of small maps is made where they are, of large ones elsewhere', () => {
+  const [one, other, big] = [native.fromJson(json()), native.fromJson(json()), native.fromJson(large(500_000))];
+  const made = (maps) => [native.compose(...maps), native.joinAll(maps, new Uint32Array(4)), native.remap(maps[0], Buffer.from('a.ts'), Uint32Array.of(4), [maps[1]])];
+  for (const it of made([one, other])) assert.equal(it.instance, one.instance);
+  for (const it of [...made([one, big]), native.clone(big)]) {
+    assert.ok(it.instance !== one.instance && it.instance !== big.instance);
+    assert.equal(typeof native.write(it, 0, ''), 'string');
+  }
+  assert.equal(native.firstDifference(big, native.clone(big)), 103);
+  assert.equal(native.firstDifference(one, big), 0);
 });
 
 test('a thread compiles the module that another one has, and no map is shared', async () => {

@@ -36,16 +36,18 @@ function readText(text, { sources = NO_ID, names = NO_ID } = {}) {
     return mended(text, sources, names, error);
   }
   const isSorted = map.isSorted;
-  if (!isSorted) map.sort();
-  const tokens = taken(map);
+  const tokens = taken(map, isSorted ? undefined : () => map.sort());
   return { tokens, lines: lineCount(text), mends: isSorted ? NOTHING_MENDED : [mend('UNSORTED')] };
 }
 
-/** The tokens of a map that nobody else has. */
-function taken(map) {
-  const tokens = map.tokens();
-  map.free();
-  return tokens;
+/** The tokens of a map that nobody else has, once it was changed. */
+function taken(map, change) {
+  try {
+    change?.();
+    return map.tokens();
+  } finally {
+    map.free();
+  }
 }
 
 /** What a text gives whose ids go past these numbers: the reader of maps as they are found takes it, or its error is thrown. */
@@ -180,17 +182,18 @@ function toText(tokens, lines) {
 /** A map of the library with these tokens, and without names and sources. */
 function mapOf(tokens) {
   const builder = new SourceMapBuilder();
-  builder.addTokens(tokens);
-  const map = builder.finish();
-  builder.free();
-  return map;
+  try {
+    builder.addTokens(tokens);
+    return builder.finish();
+  } finally {
+    builder.free();
+  }
 }
 
 /** The tokens sorted by generated position; those at one position keep their order. */
 function sorted(tokens) {
   const map = mapOf(tokens);
-  map.sort();
-  return taken(map);
+  return taken(map, () => map.sort());
 }
 
 // ---- lookups ----

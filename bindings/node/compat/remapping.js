@@ -45,17 +45,19 @@ function remapping(input, loader, options) {
 
 function exact(tree) {
   const map = exactMap(tree);
-  const { names, sources, sourcesContent, file, ignoreList } = map;
-  const tokens = map.tokens();
-  map.free();
-  return {
-    file,
-    tokens,
-    names: [...names],
-    sources: [...sources],
-    sourcesContent: sources.map((_, i) => sourcesContent[i] ?? null),
-    ignoreList: ignoreList ?? [],
-  };
+  try {
+    const { names, sources, sourcesContent, file, ignoreList } = map;
+    return {
+      file,
+      tokens: map.tokens(),
+      names: [...names],
+      sources: [...sources],
+      sourcesContent: sources.map((_, i) => sourcesContent[i] ?? null),
+      ignoreList: ignoreList ?? [],
+    };
+  } finally {
+    map.free();
+  }
 }
 
 /** The map of a tree. A source that is a map has a path that no leaf has, as long as it is needed. */
@@ -70,9 +72,11 @@ function exactMap({ map, children }) {
   });
   const inputs = children.flatMap((child, i) => (child.map === null ? [] : [[paths[i], exactMap(child)]]));
   if (inputs.length === 0) return whole;
-  const remapped = whole.remap(inputs);
-  for (const it of [whole, ...inputs.map(([, input]) => input)]) it.free();
-  return remapped;
+  try {
+    return whole.remap(inputs);
+  } finally {
+    for (const it of [whole, ...inputs.map(([, input]) => input)]) it.free();
+  }
 }
 
 module.exports = remapping;

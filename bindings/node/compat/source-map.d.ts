@@ -115,6 +115,9 @@ export class SourceMapConsumer {
   sourceContentFor(source: string, returnNullOnMissing?: boolean): string;
   /** Calls back with each mapping. Throws Error of an order that there is not. */
   eachMapping(callback: (mapping: MappingItem, index: number) => void, context?: any, order?: number): void;
+  /** Frees what the consumer holds of the library, as the one of version 0.7 does; else the garbage collector does. Lookups may throw from
+   *  then on. */
+  destroy(): void;
 }
 
 export interface Mapping {

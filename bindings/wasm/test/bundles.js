@@ -88,20 +88,17 @@ function minified(bundle) {
   return out;
 }
 
-function tried(bundle, program) {
-  runs(bundle, saysOf(program));
-  if (terser !== null) runs(minified(bundle), saysOf(program));
-}
-
 function byEsbuild(program, out, ...options) {
   const bundle = join(room, out);
   silently(['esbuild', program, '--bundle', '--log-level=warning', ...options, `--outfile=${bundle}`]);
-  tried(bundle, program);
+  runs(bundle, saysOf(program));
+  return bundle;
 }
 
 function esbuild() {
   if (found('esbuild') === null) return false;
-  byEsbuild('imports.mjs', 'imports.cjs', '--platform=node');
+  const bundle = byEsbuild('imports.mjs', 'imports.cjs', '--platform=node');
+  if (terser !== null) runs(minified(bundle), saysOf('imports.mjs'));
   byEsbuild('imports.mjs', 'imports.mjs', '--platform=node', '--format=esm');
   byEsbuild('requires.cjs', 'requires.min.cjs', '--platform=node', '--minify');
   byEsbuild('class.mjs', 'browser.mjs', '--format=esm', '--minify');
@@ -116,7 +113,8 @@ function rollup() {
   const bundle = join(room, 'rollup.mjs');
   writeFileSync(inFolder('rollup.mjs'), PROGRAMS['inline.mjs'].replace('junketscarp/inline', './node_modules/junketscarp/wasm/inline.mjs'));
   silently([process.execPath, program, 'rollup.mjs', '--format=es', '--silent', '--file', bundle]);
-  tried(bundle, 'inline.mjs');
+  runs(bundle, saysOf('inline.mjs'));
+  if (terser !== null) runs(minified(bundle), saysOf('inline.mjs'));
   return true;
 }
 
@@ -135,13 +133,18 @@ function byWebpack(webpack, program, options) {
   });
 }
 
-async function webpack() {
-  let it;
+/** That of Debian starts in Debian's Node alone. */
+function webpackModule() {
   try {
-    it = require('webpack');
+    return require('webpack');
   } catch {
-    return false;
+    return null;
   }
+}
+
+async function webpack() {
+  const it = webpackModule();
+  if (it === null) return false;
   for (const program of ['imports.mjs', 'requires.cjs']) {
     const { bundle } = await byWebpack(it, program, { target: 'node' });
     runs(bundle, saysOf(program));
@@ -155,7 +158,7 @@ async function main() {
   mkdirSync(room, { recursive: true });
   for (const [name, program] of Object.entries(PROGRAMS)) writeFileSync(inFolder(name), program);
   try {
-    for (const run of [esbuild, rollup, webpack]) console.log(`${run.name}: ${(await run()) ? 'passed' : 'is not installed'}`);
+    for (const run of [esbuild, rollup, webpack]) console.log(`${run.name}: ${(await run()) ? 'passed' : 'is not installed, or does not start'}`);
     console.log(`terser: ${terser === null ? 'is not installed' : 'passed'}`);
   } finally {
     rmSync(room, { recursive: true });

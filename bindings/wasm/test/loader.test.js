@@ -313,21 +313,12 @@ test('a shared instance is full at 16 MiB, has room again when half is free, and
 });
 
 test('an instance whose maps are all dropped is collected, also where no turn comes to free them one by one', () => {
-  const [instances, live] = run(`
-    const seen = [];
-    const collected = new FinalizationRegistry(() => seen.push(1));
-    let last = null;
-    for (let i = 0; i < 2000; i++) {
-      const { instance } = native.fromJson(mappings(60_000));
-      if (instance !== last) collected.register(instance, 0);
-      last = instance;
-    }
-    last = null;
-    const rss = process.memoryUsage().rss / 2 ** 20;
-    await collect();
-    say([given, given - seen.length, rss]);`);
-  assert.ok(instances > 5, `${instances}`);
-  assert.ok(live <= 2, `${live} of ${instances}`);
+  const [instances, megabytes] = run(`
+    const text = mappings(60_000);
+    for (let i = 0; i < 4000; i++) native.fromJson(text);
+    say([given, process.resourceUsage().maxRSS / 1024]);`);
+  assert.ok(instances > 20, `${instances}`);
+  assert.ok(megabytes < 300, `${megabytes} MB, of ${16 * instances}`);
 });
 
 test('maps that share an instance are freed once each: by `free`, or by the collector', () => {

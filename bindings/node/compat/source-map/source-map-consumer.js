@@ -134,6 +134,10 @@ shared.computeColumnSpans = function () {
   this._table.computeSpans();
 };
 
+shared.destroy = function () {
+  this._madeTable?.free();
+};
+
 /** A consumer of a map that is no indexed one. */
 function BasicSourceMapConsumer(sourceMap, sourceMapURL) {
   const map = valueOf(sourceMap);
@@ -322,6 +326,11 @@ function addSection({ line, column, consumer }, { tokens, sources, names }) {
     );
   }
 }
+
+indexed.destroy = function () {
+  shared.destroy.call(this);
+  for (const { consumer } of this._sections) consumer.destroy();
+};
 
 /** The id of a source in the whole, as the first section finds it that has it; else -1. */
 indexed._findSourceIndex = function (source) {

@@ -58,8 +58,12 @@ function firsts(words) {
 /** A map that answers with the first of the tokens at one generated position, from wherever it is asked. */
 function mapOfFirst(words) {
   const builder = new SourceMapBuilder();
-  builder.addTokens(areApart(words) ? words : firsts(words));
-  return builder.finish();
+  try {
+    builder.addTokens(areApart(words) ? words : firsts(words));
+    return builder.finish();
+  } finally {
+    builder.free();
+  }
 }
 
 function replaceSources(words, ids) {
@@ -97,6 +101,7 @@ class Table {
     const map = readMappings(mappings);
     const words = map.tokens();
     if (firstIds === null && areApart(words)) return new Table(null, map);
+    map.free();
     if (firstIds !== null) replaceSources(words, firstIds);
     return Table.ofTokens(words);
   }
@@ -104,6 +109,11 @@ class Table {
   /** Of tokens in any order. */
   static ofTokens(words) {
     return new Table(areApart(words) ? words : pick(words, sortByFields(words, GENERATED_FIELDS)));
+  }
+
+  /** Frees the map. Lookups of generated positions throw from then on. */
+  free() {
+    this.#map.free();
   }
 
   /** All tokens. They are read when they are asked for, which lookups of original positions do not. */

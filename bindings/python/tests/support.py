@@ -4,6 +4,7 @@ from __future__ import annotations
 
 import json
 import sys
+import threading
 import unittest
 from array import array
 from pathlib import Path
@@ -76,3 +77,22 @@ class Case(unittest.TestCase):
         """Asserts that a call says that what it is given is closed."""
         with self.assertRaisesRegex(ValueError, "is closed"):
             call(*arguments)
+
+    def together(self, *calls, seconds=60) -> None:
+        """Runs calls at once, each in a thread, and asserts that all end in this time, and without an error."""
+        errors, start = [], threading.Barrier(len(calls))
+
+        def run(call):
+            start.wait()
+            try:
+                call()
+            except BaseException as error:
+                errors.append(error)
+
+        threads = [threading.Thread(target=run, args=(call,), daemon=True) for call in calls]
+        for thread in threads:
+            thread.start()
+        for thread in threads:
+            thread.join(seconds)
+        self.assertEqual([thread.is_alive() for thread in threads], [False] * len(threads))
+        self.assertEqual(errors, [])

@@ -22,25 +22,6 @@ def large() -> SourceMap:
 
 
 class Threads(Case):
-    def together(self, *calls, seconds=60) -> None:
-        """Runs calls at once, each in a thread, and asserts that all end in this time, and without an error."""
-        errors, start = [], threading.Barrier(len(calls))
-
-        def run(call):
-            start.wait()
-            try:
-                call()
-            except BaseException as error:
-                errors.append(error)
-
-        threads = [threading.Thread(target=run, args=(call,), daemon=True) for call in calls]
-        for thread in threads:
-            thread.start()
-        for thread in threads:
-            thread.join(seconds)
-        self.assertEqual([thread.is_alive() for thread in threads], [False] * len(threads))
-        self.assertEqual(errors, [])
-
     def test_eight_readers(self):
         map = large()
         positions = array("I", [number for line in range(0, LINES, 3) for number in (line, 41)])
@@ -202,7 +183,7 @@ class Threads(Case):
                 pass
 
         map, reads, reads_on = read(), threading.Event(), threading.Event()
-        map._lease = None
+        map._leases.clear()
         self.assertEqual(map.file, "out.js")
         threading.Thread(target=map._read, args=[lambda at: (reads.set(), reads_on.wait(60))], daemon=True).start()
         reads.wait(60)

@@ -13,7 +13,6 @@ typedef struct {
     newfunc new_tuple;
     PyObject *original;
     PyObject *token;
-    PyObject *value; /* the name of the attribute of a lease that has its address */
 } state;
 
 static state *of(PyObject *module) { return (state *)PyModule_GetState(module); }
@@ -99,20 +98,36 @@ static PyObject *bind(PyObject *module, PyObject *const *arguments, Py_ssize_t c
     return none();
 }
 
-static PyObject *trace(PyObject *module, PyObject *const *arguments, Py_ssize_t count) {
-    const state *my = of(module);
+/* What this thread may read a map by, of what threads may: the address of the map and a lease. Null without an error where it has none. */
+static PyObject *held_in(PyObject *leases) {
+    PyObject *thread = PyLong_FromUnsignedLong(PyThread_get_thread_ident());
+    if (!thread) return NULL;
+    PyObject *held = PyDict_GetItemWithError(leases, thread);
+    Py_XINCREF(held);
+    Py_DECREF(thread);
+    return held;
+}
+
+/* A lookup, for whose time the caller holds the lease: what runs meanwhile, as __index__ or the collector may, finds that it is held. */
+static PyObject *traced(const state *my, PyObject *held, PyObject *const *numbers) {
     uint32_t line, column, bias;
-    if (count != 4 || !my->call) return PyErr_Format(PyExc_TypeError, "trace takes 4 arguments, after bind");
-    if (!read_number(arguments[1], &line) || !read_number(arguments[2], &column) || !read_number(arguments[3], &bias)) return NULL;
-    if (arguments[0] == Py_None) return number(SMAP_NULL_HANDLE);
-    PyObject *address = PyObject_GetAttr(arguments[0], my->value);
-    if (!address) return NULL;
-    const smap_map *map = address == Py_None ? NULL : PyLong_AsVoidPtr(address);
-    Py_DECREF(address);
+    if (!read_number(numbers[0], &line) || !read_number(numbers[1], &column) || !read_number(numbers[2], &bias)) return NULL;
+    PyObject *address = PyTuple_GetItem(held, 0);
+    const smap_map *map = address ? PyLong_AsVoidPtr(address) : NULL;
     if (!map && PyErr_Occurred()) return NULL;
     smap_original found;
     uint32_t code = my->call(map, line, column, bias, &found, NULL);
     return code ? number(code) : original_of(my, &found);
+}
+
+static PyObject *trace(PyObject *module, PyObject *const *arguments, Py_ssize_t count) {
+    const state *my = of(module);
+    if (count != 4 || !my->call) return PyErr_Format(PyExc_TypeError, "trace takes 4 arguments, after bind");
+    PyObject *held = held_in(arguments[0]);
+    if (!held) return PyErr_Occurred() ? NULL : number(SMAP_NULL_HANDLE);
+    PyObject *answer = traced(my, held, arguments + 1);
+    Py_DECREF(held);
+    return answer;
 }
 
 static PyObject *originals(PyObject *module, PyObject *const *arguments, Py_ssize_t count) {
@@ -142,7 +157,6 @@ static int clear(PyObject *module) {
     my->call = NULL;
     Py_CLEAR(my->original);
     Py_CLEAR(my->token);
-    Py_CLEAR(my->value);
     return 0;
 }
 
@@ -151,8 +165,7 @@ static void freed(void *module) { clear((PyObject *)module); }
 static int begin(PyObject *module) {
     state *my = of(module);
     my->new_tuple = (newfunc)PyType_GetSlot(&PyTuple_Type, Py_tp_new);
-    my->value = PyUnicode_InternFromString("value");
-    return my->new_tuple && my->value ? 0 : -1;
+    return my->new_tuple ? 0 : -1;
 }
 
 static PyMethodDef calls[] = {{"bind", (PyCFunction)(void (*)(void))bind, METH_FASTCALL, NULL},

@@ -12,7 +12,7 @@ from typing import Any, ClassVar, TypeVar, final
 from . import _library
 from ._errors import check
 from ._library import lib
-from ._map import SourceMap
+from ._map import SourceMap, map_in
 from ._numbers import Tokens, bytes_of, number, tokens_of
 from ._values import Text, Token
 
@@ -27,24 +27,24 @@ class _Maker:
     _free: ClassVar[Callable[..., object]]
 
     def __init__(self) -> None:
-        self._at, self._lock, self._owner, fault = ctypes.c_void_p(), threading.Lock(), 0, _library.Fault()
+        self._at, self._lock, self._is_used, fault = ctypes.c_void_p(), threading.RLock(), False, _library.Fault()
         check(type(self)._new(byref(self._at), byref(fault)), fault)
 
     def _coded(self, call: Callable[..., int], *arguments: Any) -> int:
         """The code of a call, which gets the handle and these."""
-        self._check_outside()
         with self._lock:
-            self._owner = threading.get_ident()
+            self._check_unused()
+            self._is_used = True
             try:
                 if not self._at:
                     raise ValueError(f"The {type(self).__name__} is closed")
                 return call(self._at, *arguments)
             finally:
-                self._owner = 0
+                self._is_used = False
 
-    def _check_outside(self) -> None:
-        """What waits for a call that it interrupts, as a handler of a signal may, would wait for ever."""
-        if self._owner == threading.get_ident() and self._lock.locked():
+    def _check_unused(self) -> None:
+        """What interrupts a call, as the handler of a signal may, has the lock of that call, too."""
+        if self._is_used:
             raise RuntimeError(f"The {type(self).__name__} is used by a call that this one interrupts")
 
     def _call(self, call: Callable[..., int], *arguments: Any) -> None:
@@ -72,10 +72,10 @@ class _Maker:
         Traceback (most recent call last):
         ValueError: The SourceMapJoin is closed
         """
-        self._check_outside()
         with self._lock:
-            at, self._at = self._at, ctypes.c_void_p()
-            type(self)._free(at)
+            self._check_unused()
+            address, self._at.value = self._at.value, None
+            type(self)._free(address)
 
     @property
     def closed(self) -> bool:
@@ -94,8 +94,10 @@ class _Maker:
         self.close()
 
     def __del__(self) -> None:
+        # (other finalizers of a cycle may use it after this: it is closed then)
         with suppress(AttributeError):
-            type(self)._free(self._at)
+            address, self._at.value = self._at.value, None
+            type(self)._free(address)
 
     def __repr__(self) -> str:
         return f"<{type(self).__name__}: {'closed' if self.closed else 'open'}>"
@@ -116,8 +118,8 @@ class SourceMapBuilder(_Maker):
     _finish: ClassVar[Callable[..., int]] = lib.smap_builder_finish
     _free: ClassVar[Callable[..., object]] = lib.smap_free_builder
 
-    def _added(self, call: Callable[..., int], *texts: Text) -> int:
-        id, data = ctypes.c_uint32(), [bytes_of(text) for text in texts]
+    def _added(self, call: Callable[..., int], **texts: Text) -> int:
+        id, data = ctypes.c_uint32(), [bytes_of(text, name) for name, text in texts.items()]
         self._call(call, *(it for text in data for it in (text, len(text))), byref(id))
         return id.value
 
@@ -129,7 +131,7 @@ class SourceMapBuilder(_Maker):
         >>> builder.add_name("f"), builder.add_name("g"), builder.add_name("f")
         (0, 1, 0)
         """
-        return self._added(lib.smap_builder_add_name, name)
+        return self._added(lib.smap_builder_add_name, name=name)
 
     def add_source(self, path: Text) -> int:
         """Adds a source without a content, or finds the one with this path, and returns its id. Fails as `add_name` does.
@@ -137,7 +139,7 @@ class SourceMapBuilder(_Maker):
         >>> SourceMapBuilder().add_source("a.ts")
         0
         """
-        return self._added(lib.smap_builder_add_source, path)
+        return self._added(lib.smap_builder_add_source, path=path)
 
     def add_source_and_content(self, path: Text, content: Text) -> int:
         """The same with a content. A path that was added before keeps its id and its first content.
@@ -145,7 +147,7 @@ class SourceMapBuilder(_Maker):
         >>> SourceMapBuilder().add_source_and_content("a.ts", "let a;")
         0
         """
-        return self._added(lib.smap_builder_add_source_and_content, path, content)
+        return self._added(lib.smap_builder_add_source_and_content, path=path, content=content)
 
     def add_token(self, token: Token) -> None:
         """Appends a token. Add tokens in the order of their generated positions: else the map is not sorted, and may not be
@@ -175,7 +177,7 @@ class SourceMapBuilder(_Maker):
         ...     builder.finish().file
         'a.js'
         """
-        data = bytes_of(file)
+        data = bytes_of(file, "file")
         self._call(lib.smap_builder_set_file, data, len(data))
 
 
@@ -203,4 +205,4 @@ class SourceMapJoin(_Maker):
         >>> SourceMapJoin().add(SourceMap.from_tokens([]), 7)
         """
         line, column = number(line), number(column)
-        map._read(lambda at: self._call(lib.smap_join_add, at, line, column))
+        map_in(map, "map")._read(lambda at: self._call(lib.smap_join_add, at, line, column))

@@ -3,14 +3,13 @@
 from __future__ import annotations
 
 import ctypes
-import sys
 import threading
 import weakref
 from array import array
 from collections.abc import Callable, Iterable, Iterator, Mapping, Sequence
 from contextlib import suppress
 from ctypes import byref
-from types import FrameType
+from threading import get_ident
 from typing import TYPE_CHECKING, Any, NoReturn, Optional, TypeVar, Union, cast, final
 
 from . import _library
@@ -20,10 +19,12 @@ from ._numbers import (
     Ids,
     Output,
     Positions,
+    Texts,
     Tokens,
     addresses_of,
     bytes_of,
     contents_in,
+    entries_of,
     ids_of,
     limit_of,
     listed,
@@ -68,10 +69,16 @@ bind(ctypes.cast(cast(Any, lib.smap_trace), ctypes.c_void_p).value or 0, Origina
 
 T = TypeVar("T")
 
+MANY = 256
+"""So many leases of a map may be those of threads that have ended."""
 
-class Lease(ctypes.c_void_p):
-    """The address of a map, for as long as it may be read. Who changes or frees the map takes it away and waits until no call
-    has it any more; so reading takes no lock."""
+
+class Lease:
+    """Held by a call of a thread that reads a map. Each thread has its own, beside the address of the map. Who changes or frees the
+    map takes the leases away and waits until no call has one any more; so reading takes no lock. What asks for a change in the
+    midst of a call that reads, as a finalizer may, finds that the lease of its own thread is held: that wait would not end."""
+
+    __slots__ = ("__weakref__",)
 
 
 @final
@@ -81,9 +88,9 @@ class SourceMap:
     Lines, columns, ids and indices count from 0; columns are in UTF-16 code units. Numbers are of 32 bits: others raise
     OverflowError. Texts are str, or bytes that are UTF-8: others raise SourceMapError of Code.NOT_UTF8.
 
-    Threads may share a map: one that changes or closes it waits for those that read it, and they for it. A handler of a signal or
-    a finalizer that interrupts a call on a map may read that map; where it would wait for that call, it raises RuntimeError. A
-    map that is closed raises ValueError. A call that fails leaves all that it was given as it was, and one that is interrupted
+    Threads may share a map: one that changes or closes it waits for those that read it, and they for it. What interrupts a call on
+    a map in its own thread (a handler of a signal, a finalizer, `__index__` of a number) may read that map if the call does; where it
+    would wait for that call, it raises RuntimeError. A map that is closed raises ValueError. A call that fails leaves all that it was given as it was, and one that is interrupted
     has done all of its work or none; want of memory is MemoryError. Do not use maps in a child that a process with several
     threads has forked.
 
@@ -94,13 +101,14 @@ class SourceMap:
     (2, ['a.ts'], ('a.ts', 2, 4, 'f'))
     """
 
-    # The address of the map, null once it is freed; its lease, None while the map is changed, and by `_last` the last one, if a
-    # call still has it; and the lock for changes, with the thread that has it.
+    # The address of the map, null once it is freed. For each thread the lease that it may take, with the address, and that which
+    # calls of it may have. The lock for lending and changes (what interrupts who has it has it too), and whether the map is
+    # being changed.
     _at: ctypes.c_void_p
-    _lease: Optional[Lease] = None
-    _last: Callable[[], Optional[Lease]]
-    _lock: threading.Lock
-    _owner = 0
+    _leases: dict[int, tuple[int, Lease]]
+    _held: dict[int, weakref.ref[Lease]]
+    _lock: threading.RLock
+    _is_changed = False
 
     def __init__(self) -> None:
         raise TypeError("a SourceMap is made by from_json, read_found, from_tokens, decode_mappings, join or evaluate")
@@ -111,94 +119,108 @@ class SourceMap:
     def _made(call: Callable[..., int]) -> SourceMap:
         """What a call makes, which gets where it puts the map and the fault."""
         made, fault = object.__new__(SourceMap), _library.Fault()
-        made._at, made._last, made._lock = ctypes.c_void_p(), lambda: None, threading.Lock()
+        made._at, made._leases, made._held, made._lock = ctypes.c_void_p(), {}, {}, threading.RLock()
         check(call(byref(made._at), byref(fault)), fault)
-        made._lend()
         return made
 
     def _read(self, call: Callable[[int], T]) -> T:
         """What a call says that gets the address of the map, which nobody changes meanwhile."""
-        while True:
-            lease = self._lease
-            try:
-                if lease is not None:
-                    return call(lease.value or 0)
-            finally:
-                # A traceback may outlive the call, and who changes the map waits for its leases.
-                del lease
-            self._wait()
+        held = None
+        try:
+            held = self._leases.get(get_ident()) or self._lent()
+            return call(held[0])
+        finally:
+            # A traceback may outlive the call, and who changes the map waits for its leases.
+            del held
 
     @staticmethod
     def _read_all(maps: Sequence[SourceMap], call: Callable[[list[int]], T]) -> T:
-        """The same of several maps."""
+        """The same of several maps. While one of them is waited for, no other is held."""
+        thread, held = get_ident(), list[Optional[tuple[int, Lease]]]()
         while True:
-            leases = [map._lease for map in maps]
             try:
-                addresses = [lease.value or 0 for lease in leases if lease is not None]
+                held.extend(map._mine(thread) for map in maps)
+                addresses = [it[0] for it in held if it]
                 if len(addresses) == len(maps):
                     return call(addresses)
             finally:
-                del leases
+                held.clear()
             for map in maps:
-                map._wait()
+                map._lent()
 
-    def _wait(self) -> None:
-        """Waits until the map is not being changed."""
-        self._check_outside()
+    def _mine(self, thread: int) -> Optional[tuple[int, Lease]]:
+        """What this thread may read by, if it need not wait: also the lease by which it reads already, that another one waits for."""
+        if lent := self._leases.get(thread):
+            return lent
+        held = self._held.get(thread)
+        lease = None if held is None else held()
+        try:
+            return None if lease is None else (self._address(), lease)
+        finally:
+            del lease
+
+    def _lent(self) -> tuple[int, Lease]:
+        """What this thread may read by, once nobody changes the map."""
+        thread = get_ident()
+        if mine := self._mine(thread):
+            return mine
         with self._lock:
-            self._lend()
+            if self._is_changed:
+                raise RuntimeError("The map is being changed by a call that this one interrupts")
+            return self._lend(thread)
 
-    def _check_outside(self) -> None:
-        """What waits for a call that it interrupts would wait for ever."""
-        if self._owner == threading.get_ident() and self._lock.locked():
-            raise RuntimeError("The map is being changed by a call that this one interrupts")
+    def _lend(self, thread: int) -> tuple[int, Lease]:
+        """The same by a new lease, under the lock. What interrupts this may change the map until the lease is noted, and not
+        after."""
+        if len(self._held) >= MANY:
+            self._leases.clear()
+            for other, held in list(self._held.items()):
+                if other != thread and held() is None:
+                    del self._held[other]
+        lease = Lease()
+        self._held[thread] = weakref.ref(lease)
+        try:
+            lent = self._leases[thread] = self._address(), lease
+            return lent
+        finally:
+            del lease
 
-    def _check_not_read_here(self) -> None:
-        """The same of a call that reads the map. (It stands on this thread's stack; who reads takes no note of that.)"""
-        last, frame = id(self._last()), cast(Optional[FrameType], sys._getframe())
-        while frame is not None:
-            if frame.f_code in READERS:
-                names = frame.f_locals
-                leases = [id(it) for it in (names.get("lease"), *names.get("leases", ())) if it is not None]
-                # (before CPython 3.13 the frame keeps this copy of its names)
-                if isinstance(names, dict):
-                    names.clear()
-                if last in leases:
-                    raise RuntimeError("The map is being read by a call that this one interrupts")
-            frame = frame.f_back
-
-    def _lend(self) -> None:
-        """Lends the map, under the lock, if it is open: by the lease before, if a call still has that."""
-        if not self._at.value:
-            raise ValueError("The map is closed")
-        if self._lease is None:
-            kept = self._last()
-            lease = Lease(self._at.value) if kept is None else kept
-            self._last = weakref.ref(lease)
-            self._lease = lease
+    def _address(self) -> int:
+        """The address of a map that is open."""
+        if address := self._at.value:
+            return address
+        raise ValueError("The map is closed")
 
     def _exclusively(self, call: Callable[[int], T], closes: bool = False) -> T:
         """What a call says that gets the address of the map while nobody else has it."""
-        self._check_outside()
+        # (before the lock is waited for, since who has it may wait for the lease of this thread)
+        thread = get_ident()
+        self._leases.pop(thread, None)
+        held = self._held.get(thread)
+        if held is not None and held() is not None:
+            raise RuntimeError("The map is being read by a call that this one interrupts")
         with self._lock:
-            self._owner = threading.get_ident()
+            if self._is_changed:
+                raise RuntimeError("The map is being changed by a call that this one interrupts")
+            self._is_changed = True
             try:
-                self._lend()
-                gone = threading.Event()
-                self._last = weakref.ref(cast(Lease, self._lease), lambda _: gone.set())
-                self._lease = None
-                # (what interrupts the callback may keep it from telling)
-                while self._last() is not None:
-                    self._check_not_read_here()
-                    gone.wait(0.02)
-                address = self._at.value or 0
+                self._wait_for_readers()
+                address = self._address()
                 if closes:
                     self._at.value = None
                 return call(address)
             finally:
-                if self._at.value:
-                    self._lend()
-                self._owner = 0
+                self._is_changed = False
+
+    def _wait_for_readers(self) -> None:
+        """Takes all leases away, and waits until no call has one."""
+        self._leases.clear()
+        gone = threading.Event()
+        while readers := [it for it in (_told(held, gone) for held in self._held.values()) if it is not None]:
+            # (what interrupts a callback may keep it from telling)
+            gone.wait(0.02)
+            gone.clear()
+        self._held.clear()
 
     def _change(self, call: Callable[..., int], *arguments: Any) -> None:
         """Changes the map by a call that gets its address, these and the fault."""
@@ -233,8 +255,11 @@ class SourceMap:
         self.close()
 
     def __del__(self, free: Callable[..., object] = lib.smap_free_map) -> None:
+        # (other finalizers of a cycle may use the map after this: it is closed then)
         with suppress(AttributeError):
-            free(self._at)
+            self._leases.clear()
+            address, self._at.value = self._at.value, None
+            free(address)
 
     # ---- reading ----
 
@@ -249,7 +274,7 @@ class SourceMap:
         >>> SourceMap.from_json('{"version":3,"sources":["a.ts"],"mappings":"AAAA"}').sources
         ['a.ts']
         """
-        data = bytes_of(text)
+        data = bytes_of(text, "json")
         return SourceMap._made(lambda *out: lib.smap_from_json_string(data, len(data), *out))
 
     @staticmethod
@@ -263,7 +288,7 @@ class SourceMap:
         >>> [mend.message for mend in mends]
         ['version is 3.0 or the text 3, and is read as 3', 'source 0 is null, and is read as an empty text']
         """
-        data, mends = bytes_of(text), ctypes.c_void_p()
+        data, mends = bytes_of(text, "text"), ctypes.c_void_p()
         try:
             map = SourceMap._made(lambda made, fault: lib.smap_read_found(data, len(data), made, byref(mends), fault))
             return Found(map, _mends_of(mends))
@@ -290,8 +315,8 @@ class SourceMap:
         >>> map.to_json()
         '{"version":3,"names":[],"sources":["a.ts"],"sourcesContent":["let a;"],"mappings":"IAEA"}'
         """
-        rows, ids = tokens_of(tokens), ids_of(ignore_list)
-        texts = texts_in(names), texts_in(sources), contents_in(source_contents)
+        rows, ids = tokens_of(tokens), ids_of(ignore_list, "ignore_list")
+        texts = texts_in(names, "names"), texts_in(sources, "sources"), contents_in(source_contents, "source_contents")
         lists = [it for text in texts for it in (text.words, text.count)]
         return SourceMap._made(lambda *out: lib.smap_from_tokens(*rows, *lists, *ids, *out))
 
@@ -303,7 +328,7 @@ class SourceMap:
         >>> SourceMap.decode_mappings("AAAA;C", names=0, sources=1).tokens()[1]
         Token(dst_line=1, dst_col=1, src_line=0, src_col=0, source_id=None, name_id=None)
         """
-        data, names, sources = bytes_of(mappings), number(names), number(sources)
+        data, names, sources = bytes_of(mappings, "mappings"), number(names), number(sources)
         return SourceMap._made(lambda *out: lib.smap_decode_mappings(data, len(data), names, sources, *out))
 
     @staticmethod
@@ -315,9 +340,9 @@ class SourceMap:
         >>> SourceMap.join([(map, 0, 0), (map, 7, 2)]).trace(7, 6).token.source_id
         1
         """
-        all_parts = list(parts)
-        positions, count = positions_of((line, column) for _, line, column in all_parts)
-        maps = [map for map, _, _ in all_parts]
+        all_parts = entries_of(parts, "parts", _placed)
+        positions, count = positions_of((position for _, position in all_parts), "parts")
+        maps = [map for map, _ in all_parts]
 
         def call(made: object, fault: object, at: list[int]) -> int:
             addresses = addresses_of(at)
@@ -338,8 +363,8 @@ class SourceMap:
         >>> SourceMap.evaluate("join 2 @0 0 @0 5", [text]).sources
         ['a.ts', 'a.ts']
         """
-        said = texts_in(words.split() if isinstance(words, str) else words)
-        given = texts_in(texts)
+        said = texts_in(words.split() if isinstance(words, str) else words, "words")
+        given = texts_in(texts, "texts")
         return SourceMap._made(lambda *out: lib.smap_evaluate(said.words, said.count, given.words, given.count, *out))
 
     def clone(self) -> SourceMap:
@@ -586,16 +611,16 @@ class SourceMap:
         >>> print(map.trace(0, 3), map.trace(0, 3, Bias.CLAMPED).token_index)
         None 0
         """
-        found = trace(self._lease, line, column, bias)
+        found = trace(self._leases, line, column, bias)
         return self._traced(line, column, bias) if isinstance(found, int) else found
 
     def _traced(self, line: int, column: int, bias: int) -> Optional[Original]:
         """The same where the map is being changed, or the call fails."""
-        line, column, bias = number(line), number(column), number(bias)
         found, fault = _library.Original(), _library.Fault()
 
         def read(at: int) -> Optional[Original]:
-            check(lib.smap_trace(at, line, column, bias, byref(found), byref(fault)), fault)
+            numbers = number(line), number(column), number(bias)
+            check(lib.smap_trace(at, *numbers, byref(found), byref(fault)), fault)
             return originals(ctypes.addressof(found), 1)[0]
 
         return self._read(read)
@@ -668,8 +693,8 @@ class SourceMap:
         >>> map.first_difference(SourceMap.from_tokens([]))
         Position(line=0, column=4)
         """
-        out = _library.Position()
-        code = SourceMap._read_all([self, other], lambda at: lib.smap_first_difference(*at, byref(out)))
+        out, maps = _library.Position(), [self, map_in(other, "other")]
+        code = SourceMap._read_all(maps, lambda at: lib.smap_first_difference(*at, byref(out)))
         if code == Code.NO_ENTRY:
             return None
         check_code(code)
@@ -721,7 +746,7 @@ class SourceMap:
         >>> map.file
         'a.js'
         """
-        data = bytes_of(file)
+        data = bytes_of(file, "file")
         self._change(lib.smap_set_file, data, len(data))
 
     def set_source_root(self, root: Text) -> None:
@@ -732,7 +757,7 @@ class SourceMap:
         >>> map.source_root
         'src'
         """
-        data = bytes_of(root)
+        data = bytes_of(root, "root")
         self._change(lib.smap_set_source_root, data, len(data))
 
     def set_debug_id(self, id: Text) -> None:
@@ -743,7 +768,7 @@ class SourceMap:
         >>> map.debug_id
         '7f'
         """
-        data = bytes_of(id)
+        data = bytes_of(id, "id")
         self._change(lib.smap_set_debug_id, data, len(data))
 
     def set_ignore_list(self, ids: Ids) -> None:
@@ -754,7 +779,7 @@ class SourceMap:
         >>> map.ignore_list
         [0]
         """
-        self._change(lib.smap_set_ignore_list, *ids_of(ids))
+        self._change(lib.smap_set_ignore_list, *ids_of(ids, "ids"))
 
     def set_sources(self, sources: Iterable[Text]) -> None:
         """Sets all sources. The ids of tokens are not compared with them.
@@ -764,7 +789,7 @@ class SourceMap:
         >>> map.sources
         ['a.ts']
         """
-        texts = texts_in(sources)
+        texts = texts_in(sources, "sources")
         self._change(lib.smap_set_sources, texts.words, texts.count)
 
     def set_source_contents(self, contents: Iterable[Optional[Text]]) -> None:
@@ -775,7 +800,7 @@ class SourceMap:
         >>> map.source_contents
         [None, 'let b;']
         """
-        texts = contents_in(contents)
+        texts = contents_in(contents, "contents")
         self._change(lib.smap_set_source_contents, texts.words, texts.count)
 
     def apply_source_root(self) -> None:
@@ -819,7 +844,7 @@ class SourceMap:
         >>> minified.compose(compiled).trace(0, 4)[:3]
         ('a.ts', 7, 1)
         """
-        maps = [self, input]
+        maps = [self, map_in(input, "input")]
         return SourceMap._made(lambda *out: SourceMap._read_all(maps, lambda at: lib.smap_compose(*at, *out)))
 
     def remap(self, inputs: Union[Mapping[str, SourceMap], Iterable[tuple[Text, SourceMap]]]) -> SourceMap:
@@ -831,9 +856,9 @@ class SourceMap:
         >>> bundle.remap({"a.js": compiled}).sources
         ['a.ts', 'b.js']
         """
-        pairs: list[tuple[Text, SourceMap]] = []
-        pairs.extend(cast("Mapping[str, SourceMap]", inputs).items() if isinstance(inputs, Mapping) else inputs)
-        paths, maps = texts_in(path for path, _ in pairs), [self, *(map for _, map in pairs)]
+        given = inputs.items() if isinstance(inputs, Mapping) else inputs
+        pairs = entries_of(given, "inputs", _input)
+        paths, maps = Texts(path for path, _ in pairs), [self, *(map for _, map in pairs)]
 
         def call(made: object, fault: object, at: list[int]) -> int:
             addresses = addresses_of(at[1:])
@@ -884,7 +909,7 @@ class SourceMap:
         (0:4) "a" --> (0:0) "a"
         <BLANKLINE>
         """
-        data = bytes_of(code)
+        data = bytes_of(code, "code")
         return self._written(lib.smap_visualize, data, len(data))
 
     def visualizer_url(self, code: Text) -> str:
@@ -893,8 +918,25 @@ class SourceMap:
         >>> SourceMap.from_tokens([]).visualizer_url("a").partition("#")[0]
         'https://evanw.github.io/source-map-visualization/'
         """
-        data = bytes_of(code)
+        data = bytes_of(code, "code")
         return self._written(lib.smap_visualizer_url, data, len(data))
+
+
+def map_in(map: SourceMap, name: str) -> SourceMap:
+    """A map that is one: the name is of the parameter."""
+    if not isinstance(map, SourceMap):
+        raise TypeError(f"{name}: a SourceMap is needed, not {type(map).__name__}")
+    return map
+
+
+def _placed(part: tuple[SourceMap, int, int]) -> tuple[SourceMap, tuple[int, int]]:
+    map, line, column = part
+    return map_in(map, "map"), (line, column)
+
+
+def _input(pair: tuple[Text, SourceMap]) -> tuple[bytes, SourceMap]:
+    path, map = pair
+    return bytes_of(path, "path"), map_in(map, "map")
 
 
 def tokens_in(numbers: array[int]) -> Iterator[Token]:
@@ -912,4 +954,7 @@ def _mends_of(mends: ctypes.c_void_p) -> list[Mend]:
     return [Mend(named(MendKind, it.kind), None if it.section == NOT_TOLD else it.section, it.number) for it in out]
 
 
-READERS = {it.__code__ for it in (SourceMap._read, SourceMap._read_all, trace) if hasattr(it, "__code__")}
+def _told(held: weakref.ref[Lease], gone: threading.Event) -> Optional[weakref.ref[Lease]]:
+    """Tells by an event when a lease is not held any more; None if it is not now."""
+    lease = held()
+    return None if lease is None else weakref.ref(lease, lambda _: gone.set())

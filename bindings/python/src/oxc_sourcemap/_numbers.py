@@ -5,9 +5,9 @@ from __future__ import annotations
 import ctypes
 import sys
 from array import array
-from collections.abc import Callable, Iterable
+from collections.abc import Callable, Iterable, Iterator
 from operator import index
-from typing import TYPE_CHECKING, Optional, Union, cast
+from typing import TYPE_CHECKING, Optional, TypeVar, Union, cast
 
 from ._errors import check_code
 from ._library import NO_ID
@@ -24,6 +24,9 @@ Tokens = Union[Iterable[Token], "Buffer"]
 
 Ids = Union[Iterable[int], "Buffer"]
 """Ids, or a buffer of unsigned 32-bit numbers."""
+
+E = TypeVar("E")
+T = TypeVar("T")
 
 # The type of numbers as large as an address.
 _WORD = "Q" if ctypes.sizeof(ctypes.c_size_t) == 8 else "I"
@@ -46,11 +49,43 @@ def limit_of(limit: int) -> int:
     return min(limit, sys.maxsize)
 
 
-def bytes_of(text: Text) -> bytes:
-    """A text as UTF-8."""
+def _bytes_of(text: Text) -> bytes:
     if isinstance(text, str):
-        return text.encode()
-    return text if isinstance(text, bytes) else memoryview(text).tobytes()
+        # (the library refuses a lone surrogate, as it does in bytes)
+        return text.encode(errors="surrogatepass")
+    if isinstance(text, bytes):
+        return text
+    try:
+        view = memoryview(text)
+    except TypeError:
+        raise TypeError(f"a str or bytes is needed, not {type(text).__name__}") from None
+    return view.tobytes()
+
+
+def bytes_of(text: Text, name: str) -> bytes:
+    """A text as UTF-8. The name, here and below, is that of the argument, for a TypeError."""
+    try:
+        return _bytes_of(text)
+    except TypeError as error:
+        raise TypeError(f"{name}: {error}") from None
+
+
+def _each_of(values: Iterable[E], name: str) -> Iterator[E]:
+    try:
+        return iter(values)
+    except TypeError as error:
+        raise TypeError(f"{name}: {error}") from error
+
+
+def entries_of(values: Iterable[E], name: str, made: Callable[[E], T]) -> list[T]:
+    """What is made of each entry of a list."""
+    out: list[T] = []
+    for entry in _each_of(values, name):
+        try:
+            out.append(made(entry))
+        except TypeError as error:
+            raise TypeError(f"{name}[{len(out)}]: {error}") from error
+    return out
 
 
 def numbers_of(buffer: Buffer) -> memoryview:
@@ -78,13 +113,17 @@ def _rows_of(view: memoryview, width: int) -> tuple[bytes, int]:
     return view.tobytes(), view.nbytes // (4 * width)
 
 
-def positions_of(positions: Positions) -> tuple[bytes, int]:
+def positions_of(positions: Positions, name: str = "positions") -> tuple[bytes, int]:
     """Positions for the library, and how many they are."""
     if (view := _view_of(positions)) is not None:
         return _rows_of(view, 2)
     numbers = array("I")
-    for line, column in cast("Iterable[tuple[int, int]]", positions):
-        numbers.extend((line, column))
+    each = _each_of(cast("Iterable[tuple[int, int]]", positions), name)
+    try:
+        for line, column in each:
+            numbers.extend((line, column))
+    except TypeError as error:
+        raise TypeError(f"{name}[{len(numbers) // 2}]: {error}") from error
     return numbers.tobytes(), len(numbers) // 2
 
 
@@ -93,17 +132,21 @@ def tokens_of(tokens: Tokens) -> tuple[bytes, int]:
     if (view := _view_of(tokens)) is not None:
         return _rows_of(view, 6)
     numbers = array("I")
-    for dst_line, dst_col, src_line, src_col, source_id, name_id in cast("Iterable[Token]", tokens):
-        source, name = (NO_ID if it is None else it for it in (source_id, name_id))
-        numbers.extend((dst_line, dst_col, src_line, src_col, source, name))
+    each = _each_of(cast("Iterable[Token]", tokens), "tokens")
+    try:
+        for dst_line, dst_col, src_line, src_col, source_id, name_id in each:
+            source, name = (NO_ID if it is None else it for it in (source_id, name_id))
+            numbers.extend((dst_line, dst_col, src_line, src_col, source, name))
+    except TypeError as error:
+        raise TypeError(f"tokens[{len(numbers) // 6}]: {error}") from error
     return numbers.tobytes(), len(numbers) // 6
 
 
-def ids_of(ids: Ids) -> tuple[bytes, int]:
+def ids_of(ids: Ids, name: str) -> tuple[bytes, int]:
     """Ids for the library, and how many they are."""
     if (view := _view_of(ids)) is not None:
         return _rows_of(view, 1)
-    numbers = array("I", cast("Iterable[int]", ids))
+    numbers = array("I", entries_of(cast("Iterable[int]", ids), name, number))
     return numbers.tobytes(), len(numbers)
 
 
@@ -121,14 +164,14 @@ class Texts:
         self.words, self.count = words.tobytes(), len(pieces)
 
 
-def texts_in(texts: Iterable[Text]) -> Texts:
+def texts_in(texts: Iterable[Text], name: str) -> Texts:
     """Texts that are all known."""
-    return Texts(bytes_of(text) for text in texts)
+    return Texts(entries_of(texts, name, _bytes_of))
 
 
-def contents_in(contents: Iterable[Optional[Text]]) -> Texts:
+def contents_in(contents: Iterable[Optional[Text]], name: str) -> Texts:
     """Texts of which some are not known."""
-    return Texts(None if content is None else bytes_of(content) for content in contents)
+    return Texts(entries_of(contents, name, lambda it: None if it is None else _bytes_of(it)))
 
 
 def addresses_of(addresses: Iterable[int]) -> array[int]:

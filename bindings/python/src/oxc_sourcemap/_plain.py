@@ -3,12 +3,14 @@
 from __future__ import annotations
 
 import ctypes
+from collections.abc import Mapping
+from threading import get_ident
 from typing import Optional, Union
 
 from . import _library
 from ._library import lib
 from ._numbers import number, text_at
-from ._values import Kind, Original, Token, token_of
+from ._values import Code, Kind, Original, Token, token_of
 
 
 def bind(call: int, original: type[Original], token: type[Token]) -> None:
@@ -27,16 +29,20 @@ def original_of(found: _library.Original) -> Optional[Original]:
     return Original(source, token.src_line, token.src_col, name, found.index, token_of(token))
 
 
-def trace(lease: Optional[ctypes.c_void_p], line: int, column: int, bias: int) -> Union[Original, int, None]:
-    """What a lookup finds in the map of a lease, or the code of an error."""
+def trace(leases: Mapping[int, tuple[int, object]], line: int, column: int, bias: int) -> Union[Original, int, None]:
+    """What a lookup finds in the map that this thread may read by one of these, or the code of an error; NULL_HANDLE without one."""
+    held = None
     try:
+        held = leases.get(get_ident())
+        if held is None:
+            return int(Code.NULL_HANDLE)
         found = _library.Original()
         numbers = number(line), number(column), number(bias)
-        code: int = lib.smap_trace(lease, *numbers, ctypes.byref(found), None)
+        code: int = lib.smap_trace(held[0], *numbers, ctypes.byref(found), None)
         return code or original_of(found)
     finally:
         # A traceback may outlive the call, and who changes the map waits for its leases.
-        del lease
+        del held
 
 
 def originals(address: int, count: int) -> list[Optional[Original]]:

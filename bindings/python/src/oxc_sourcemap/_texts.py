@@ -60,7 +60,7 @@ def decode_data_url(url: Text) -> Optional[str]:
     >>> print(decode_data_url("a.js.map"))
     None
     """
-    data = bytes_of(url)
+    data = bytes_of(url, "url")
     return written_or_none(lambda *out: lib.smap_decode_data_url(data, len(data), *out))
 
 
@@ -72,7 +72,7 @@ def source_mapping_url(code: Text, language: int = Language.JAVASCRIPT) -> Optio
     >>> source_mapping_url("let a;\\n//# sourceMappingURL=a.js.map\\n")
     'a.js.map'
     """
-    data, text, fault = bytes_of(code), _library.Text(), _library.Fault()
+    data, text, fault = bytes_of(code, "code"), _library.Text(), _library.Fault()
     answer = lib.smap_source_mapping_url(data, len(data), number(language), byref(text), byref(fault))
     if answer == Code.NO_ENTRY:
         return None

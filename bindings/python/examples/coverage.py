@@ -12,7 +12,9 @@ from __future__ import annotations
 import json
 import re
 import sys
+from bisect import bisect_right
 from collections.abc import Iterator
+from heapq import heappop, heappush
 from itertools import accumulate
 from pathlib import Path
 from typing import Any
@@ -35,7 +37,7 @@ class Units:
         self.starts = [0, *accumulate(len(line.encode("utf-16-le")) // 2 for line in lines)]
 
     def position(self, offset: int) -> Position:
-        line = max(at for at, start in enumerate(self.starts[:-1]) if start <= offset)
+        line = bisect_right(self.starts, offset, hi=len(self.starts) - 1) - 1
         return Position(line, offset - self.starts[line])
 
     def text(self, begin: Position, end: Position) -> str:
@@ -49,14 +51,19 @@ def pairwise(items: list[int]) -> Iterator[tuple[int, int]]:
 
 def blocks_of(coverage: dict[str, Any]) -> Iterator[tuple[int, int, bool]]:
     """The parts of the code in which no range begins or ends, and whether each ran: by the innermost range around it."""
-    ranges = [it for function in coverage["functions"] for it in function["ranges"]]
-    cuts = sorted({it[end] for it in ranges for end in ("startOffset", "endOffset")})
+    ranges = [(it["startOffset"], it["endOffset"], it["count"]) for function in coverage["functions"] for it in function["ranges"]]
+    begins = sorted((start, start - end, -at) for at, (start, end, _) in enumerate(ranges))[::-1]
+    cuts = sorted({offset for start, end, _ in ranges for offset in (start, end)})
+    # Those that have begun, by their lengths: of two ranges one is in the other, or they do not overlap; of equal ones the last counts.
+    around: list[tuple[int, int]] = []
     for start, end in pairwise(cuts):
-        around = [it for it in ranges if it["startOffset"] <= start < it["endOffset"]]
+        while begins and begins[-1][0] == start:
+            _, length, at = begins.pop()
+            heappush(around, (-length, at))
+        while around and ranges[-around[0][1]][1] <= start:
+            heappop(around)
         if around:
-            # Of two ranges one is in the other, or they do not overlap; of equal ones the last counts.
-            innermost = min(reversed(around), key=lambda it: int(it["endOffset"]) - int(it["startOffset"]))
-            yield start, end, innermost["count"] > 0
+            yield start, end, ranges[-around[0][1]][2] > 0
 
 
 def lines_of(code: str, map: SourceMap, coverage: dict[str, Any]) -> dict[tuple[int, int], bool]:
@@ -78,10 +85,11 @@ def main() -> None:
         with SourceMap.from_json(text) as map:
             lines = lines_of(code, map, json.loads(coverage))
             print(f"{Path(name).name}: {sum(lines.values())} lines ran, {len(lines) - sum(lines.values())} did not")
-            for id, source in enumerate(map.sources):
-                mine = {line + 1: ran for (of, line), ran in sorted(lines.items()) if of == id}
-                idle = [line for line, ran in mine.items() if not ran]
-                print(f"  {source}: {len(mine) - len(idle)} lines ran, {len(idle)} did not: {idle}")
+            of_source: list[tuple[list[int], list[int]]] = [([], []) for _ in map.sources]
+            for (id, line), ran in sorted(lines.items()):
+                of_source[id][ran].append(line + 1)
+            for source, (idle, busy) in zip(map.sources, of_source):
+                print(f"  {source}: {len(busy)} lines ran, {len(idle)} did not: {idle}")
 
 
 if __name__ == "__main__":

@@ -6,9 +6,22 @@ import resource
 import unittest
 from array import array
 
-from support import TEXT, Case, read, simple
+from support import TEXT, TOKENS, Case, read, simple
 
-from oxc_sourcemap import Code, Field, PlaceKind, SourceMap, SourceMapError, _errors, _library, _values
+from oxc_sourcemap import (
+    Code,
+    Field,
+    PlaceKind,
+    SourceMap,
+    SourceMapBuilder,
+    SourceMapError,
+    SourceMapJoin,
+    _errors,
+    _library,
+    _values,
+    decode_data_url,
+    source_mapping_url,
+)
 
 
 class Errors(Case):
@@ -80,6 +93,64 @@ class Errors(Case):
                 resource.setrlimit(resource.RLIMIT_AS, before)
             with SourceMap.join(parts[:3]) as joined:
                 self.assertEqual(len(joined.sources), 3)
+
+
+class Arguments(Case):
+    def test_lone_surrogates(self):
+        # "é" has two bytes, so the bad one is at byte 2: as bytes would be.
+        text, map, builder = "é\ud800x", read(), SourceMapBuilder()
+        self.fails(Code.NOT_UTF8, SourceMap.from_json, '{"file":"\udfff"}', detail=9)
+        self.fails(Code.NOT_UTF8, SourceMap.read_found, '\ufeff{"file":"\udfff"}', detail=12)
+        self.fails(Code.NOT_UTF8, decode_data_url, "data:application/json,\udfff", detail=22)
+        for call in (
+            lambda: SourceMap.from_tokens([], names=["a", text]), lambda: SourceMap.from_tokens([], sources=["a", text]),
+            lambda: SourceMap.from_tokens([], source_contents=[None, text]), lambda: SourceMap.decode_mappings(text, 0, 0),
+            lambda: SourceMap.evaluate("@0", ["{}", text]), lambda: SourceMap.evaluate([text], []), lambda: map.remap([(text, map)]),
+            lambda: map.set_file(text), lambda: map.set_source_root(text), lambda: map.set_debug_id(text), lambda: map.set_sources([text]),
+            lambda: map.set_source_contents([None, text]), lambda: map.visualize(text), lambda: map.visualizer_url(text),
+            lambda: builder.add_name(text), lambda: builder.add_source(text), lambda: builder.add_source_and_content(text, "a"),
+            lambda: builder.add_source_and_content("a", text), lambda: builder.set_file(text), lambda: source_mapping_url(text),
+        ):  # fmt: skip
+            self.fails(Code.NOT_UTF8, call, detail=2)
+        self.assertEqual((map.to_json(), len(builder.finish().sources)), (TEXT, 0))
+
+    def test_arguments_of_other_types(self):
+        map, builder, join = read(), SourceMapBuilder(), SourceMapJoin()
+        for said, call in (
+            ("json: a str or bytes is needed, not NoneType", lambda: SourceMap.from_json(None)),
+            ("text: a str or bytes is needed, not int", lambda: SourceMap.read_found(7)),
+            ("parts: 'NoneType' object is not iterable", lambda: SourceMap.join(None)),
+            ("parts[0]: cannot unpack non-iterable NoneType object", lambda: SourceMap.join([None])),
+            ("parts[1]: map: a SourceMap is needed, not NoneType", lambda: SourceMap.join([(map, 0, 0), (None, 0, 0)])),
+            ("parts[1]: 'NoneType' object cannot be interpreted as an integer", lambda: SourceMap.join([(map, 0, 0), (map, 0, None)])),
+            ("inputs: 'NoneType' object is not iterable", lambda: map.remap(None)),
+            ("inputs[0]: map: a SourceMap is needed, not NoneType", lambda: map.remap({"a": None})),
+            ("inputs[1]: path: a str or bytes is needed, not NoneType", lambda: map.remap([("a", map), (None, map)])),
+            ("input: a SourceMap is needed, not NoneType", lambda: map.compose(None)),
+            ("other: a SourceMap is needed, not str", lambda: map.first_difference("a")),
+            ("map: a SourceMap is needed, not SourceMapJoin", lambda: join.add(join, 0)),
+            ("tokens: 'NoneType' object is not iterable", lambda: SourceMap.from_tokens(None)),
+            ("tokens[1]: cannot unpack non-iterable NoneType object", lambda: builder.add_tokens([TOKENS[0], None])),
+            ("names: 'NoneType' object is not iterable", lambda: SourceMap.from_tokens([], names=None)),
+            ("names[1]: a str or bytes is needed, not NoneType", lambda: SourceMap.from_tokens([], names=["a", None])),
+            ("source_contents[1]: a str or bytes is needed, not int", lambda: SourceMap.from_tokens([], source_contents=[None, 7])),
+            ("ignore_list[1]: 'NoneType' object cannot be interpreted as an integer", lambda: SourceMap.from_tokens([], ignore_list=[0, None])),
+            ("positions: 'NoneType' object is not iterable", lambda: map.trace_all(None)),
+            ("positions[1]: cannot unpack non-iterable NoneType object", lambda: map.find_all([(0, 0), None])),
+            ("end: cannot unpack non-iterable NoneType object", lambda: map.pieces((0, 0), None)),
+            ("words: 'NoneType' object is not iterable", lambda: SourceMap.evaluate(None, [])),
+            ("texts[0]: a str or bytes is needed, not NoneType", lambda: SourceMap.evaluate("@0", [None])),
+            ("sources[0]: a str or bytes is needed, not NoneType", lambda: map.set_sources([None])),
+            ("contents: 'NoneType' object is not iterable", lambda: map.set_source_contents(None)),
+            ("ids: 'NoneType' object is not iterable", lambda: map.set_ignore_list(None)),
+            ("file: a str or bytes is needed, not NoneType", lambda: map.set_file(None)),
+            ("content: a str or bytes is needed, not NoneType", lambda: builder.add_source_and_content("a", None)),
+            ("code: a str or bytes is needed, not NoneType", lambda: source_mapping_url(None)),
+        ):  # fmt: skip
+            with self.assertRaises(TypeError) as caught:
+                call()
+            self.assertEqual(str(caught.exception), said)
+        self.assertEqual(map.to_json(), TEXT)
 
 
 class Closing(Case):

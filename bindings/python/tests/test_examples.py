@@ -1,5 +1,6 @@
 """The examples, with their output compared. The data is that of the examples in C, and of crates/coverage."""
 
+import json
 import os
 import subprocess
 import sys
@@ -15,12 +16,12 @@ EXAMPLES = TOP / "bindings/python/examples"
 DATA = TOP / "bindings/c/examples"
 
 
-def ran(name: str, *words: object, given: bytes = b"", folder: Path = TOP) -> bytes:
+def ran(name: str, *words: object, given: bytes = b"", folder: Path = TOP, seconds: float = 300) -> bytes:
     """What an example writes."""
     package = Path(oxc_sourcemap.__file__).parents[1]
     env = {**os.environ, "PYTHONPATH": str(package), "PYTHONIOENCODING": "utf-8"}
     command = [sys.executable, str(EXAMPLES / name), *map(str, words)]
-    return subprocess.run(command, input=given, stdout=subprocess.PIPE, check=True, env=env, cwd=folder).stdout
+    return subprocess.run(command, input=given, stdout=subprocess.PIPE, check=True, env=env, cwd=folder, timeout=seconds).stdout
 
 
 class Examples(unittest.TestCase):
@@ -33,6 +34,18 @@ class Examples(unittest.TestCase):
         words = (folder / "args").read_text(encoding="utf-8").split()
         said = ran("coverage.py", *words, folder=folder / "data")
         self.assertEqual(said.decode(), (folder / "stdout").read_text(encoding="utf-8"))
+
+    def test_coverage_of_many_functions(self):
+        # Each on a line of its own, and every other one does not run. (That takes a second, and minutes if time grows with the square.)
+        count = 8000
+        line, ranges = "function f(){}\n", [{"startOffset": 0, "endOffset": 15 * count, "count": 1}]
+        ranges += [{"startOffset": 15 * at, "endOffset": 15 * at + 14, "count": at % 2} for at in range(count)]
+        map = {"version": 3, "sources": ["a.ts"], "names": [], "mappings": "AAAA" + ";AACA" * (count - 1)}
+        with tempfile.TemporaryDirectory() as room:
+            for ending, text in (("", line * count), (".map", json.dumps(map)), (".coverage.json", json.dumps({"functions": [{"ranges": ranges}]}))):
+                Path(room, "a.js" + ending).write_text(text, encoding="utf-8")
+            said = ran("coverage.py", f"{room}/a.js", seconds=30).decode()
+        self.assertEqual(said, f"a.js: 4000 lines ran, 4000 did not\n  a.ts: 4000 lines ran, 4000 did not: {list(range(1, count, 2))}\n")
 
     def test_bundler(self):
         with tempfile.TemporaryDirectory() as room:

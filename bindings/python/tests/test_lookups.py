@@ -65,6 +65,17 @@ class Traces(Case):
                     self.assertEqual(map.trace_all(flat, bias), one_by_one)
                     self.assertEqual(map.trace_all(positions, bias), one_by_one)
 
+    def test_as_many_answers_as_positions(self):
+        positions = [(at % 3, at % 11) for at in range(4097)]
+        with read() as map:
+            wanted = [map.trace(*it) for it in positions[:33]] * 125
+            for count in (0, 1, 255, 256, 257, 999, 1000, 1001, 4095, 4096, 4097):
+                given, out = positions[:count], array("I", [7] * count)
+                self.assertEqual(map.trace_all(given), wanted[:count])
+                map.find_all_into(given, out)
+                self.assertEqual(out.tolist(), [NO_ID if it is None else it.token_index for it in wanted[:count]])
+                self.assertEqual(map.find_all(given), out)
+
     def test_bias_is_before_by_default(self):
         with SourceMap.from_tokens([Token(0, 4, 0, 0, None, None)]) as map:
             out = array("I", [7])

@@ -2,6 +2,7 @@
 
 import ctypes
 import gc
+import itertools
 import sys
 import unittest
 import weakref
@@ -100,6 +101,22 @@ class Memory(Case):
                 lambda: map.sources, lambda: map.trace(0, 4), lambda: map.trace_all([(0, 4)]), lambda: map.token_array(),
             ):  # fmt: skip
                 self.keeps_nothing(call)
+
+    def test_large_numbers(self):
+        # (those up to 256 are there once and for all)
+        numbers = itertools.count(1000)
+        with read() as map:
+            line, column, bias = 10**6, 10**7, int("257") - 256
+            before = [sys.getrefcount(it) for it in (line, column)]
+            for _ in range(1000):
+                map.trace(line, column, bias)
+                self.assertRaises(OverflowError, map.trace, line, -column)
+                self.assertRaises(SourceMapError, map.trace, line, column, line)
+            self.assertEqual([sys.getrefcount(it) for it in (line, column)], before)
+            self.keeps_nothing(lambda: map.trace(next(numbers), next(numbers)), 100_000)
+            self.keeps_nothing(lambda: map.trace(0, next(numbers)), 100_000)
+            for refused in ((next(numbers), 2**32 + next(numbers)), (next(numbers), "a"), (-next(numbers), 0)):
+                self.keeps_nothing(lambda: self.assertRaises((OverflowError, TypeError), map.trace, *refused))
 
     def test_changes(self):
         with read() as map:

@@ -89,10 +89,10 @@ class SourceMap:
     OverflowError. Texts are str, or bytes that are UTF-8: others raise SourceMapError of Code.NOT_UTF8.
 
     Threads may share a map: one that changes or closes it waits for those that read it, and they for it. What interrupts a call on
-    a map in its own thread (a handler of a signal, a finalizer, `__index__` of a number) may read that map if the call does; where it
-    would wait for that call, it raises RuntimeError. A map that is closed raises ValueError. A call that fails leaves all that it was given as it was, and one that is interrupted
-    has done all of its work or none; want of memory is MemoryError. Do not use maps in a child that a process with several
-    threads has forked.
+    a map in its own thread (a handler of a signal, a finalizer, `__index__` of a number) may read that map if the call does; where
+    it would wait for that call, it raises RuntimeError. A map that is closed raises ValueError. A call that fails leaves all that
+    it was given as it was, and one that is interrupted has done all of its work or none; want of memory is MemoryError. Do not use
+    maps in a child that a process with several threads has forked.
 
     As a collection a map is that of its tokens, but it is true also without any.
 
@@ -681,7 +681,7 @@ class SourceMap:
         >>> [(piece.end.column, piece.token_index) for piece in map.pieces((0, 0), (0, 9))]
         [(4, None), (9, 0)]
         """
-        ends = [_library.Position(number(line), number(column)) for line, column in (begin, end)]
+        ends = [_end(*it) for it in ((begin, "begin"), (end, "end"))]
         rows = self._read(lambda at: listed(lambda *out: lib.smap_pieces(at, *ends, *out), "I", 5))
         return [Piece(Position(a, b), Position(c, d), id_of(index)) for a, b, c, d, index in zip(*[iter(rows)] * 5)]
 
@@ -927,6 +927,14 @@ def map_in(map: SourceMap, name: str) -> SourceMap:
     if not isinstance(map, SourceMap):
         raise TypeError(f"{name}: a SourceMap is needed, not {type(map).__name__}")
     return map
+
+
+def _end(position: tuple[int, int], name: str) -> _library.Position:
+    try:
+        line, column = position
+        return _library.Position(number(line), number(column))
+    except TypeError as error:
+        raise TypeError(f"{name}: {error}") from error
 
 
 def _placed(part: tuple[SourceMap, int, int]) -> tuple[SourceMap, tuple[int, int]]:

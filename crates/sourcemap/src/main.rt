@@ -7,10 +7,11 @@
 
 mod commands;
 
-use clap::ArgMatches;
-use sourcemap_files::{Asked, Status, with_slash};
+use clap::{ArgMatches, Error};
+use sourcemap_files::{Asked, Status, print, tell, with_slash};
+use sourcemap_run::push_visible;
 use sourcemap_words::{Failure, Outcome, VERSION, program};
-use std::alloc::AllocError;
+use std::alloc::{AllocError, Global};
 use std::env;
 use std::process::ExitCode;
 
@@ -32,20 +33,39 @@ fn run<'a>(rt: &'a HostRuntime, name: &str, matches: &'a ArgMatches<'_>) -> Outc
 }
 
 /// Tells a failure, and gives its status.
-fn tell(rt: &HostRuntime, command: &str, failure: Failure) -> ExitCode {
+fn tell_failure(rt: &HostRuntime, command: &str, failure: Failure) -> ExitCode {
     match failure {
-        Failure::Told(message) => {
-            let _ = eprintln!(rt; "sourcemap: {message}");
-        }
+        Failure::Told(message) => tell(rt, message.as_str()),
         Failure::Library(error) => {
             let _ = eprintln!(rt; "sourcemap: {command}: {error}");
         }
-        Failure::Memory => {
-            let _ = eprintln!(rt; "sourcemap: Out of memory");
-        }
+        Failure::Memory => tell(rt, "Out of memory"),
         Failure::Closed => {}
     }
     ExitCode::from(2)
+}
+
+/// A text of several lines, its hidden characters escaped.
+fn visible_lines(alloc: Global, text: &str) -> Outcome<String> {
+    let mut visible = String::new(alloc);
+    for (i, line) in text.split('\n').enumerate() {
+        if i > 0 {
+            visible.push('\n')?;
+        }
+        push_visible(line, &mut visible)?;
+    }
+    Ok(visible)
+}
+
+/// Prints help or the version; or what is wrong with the words of the command line, which is a failure.
+fn show(rt: &HostRuntime, error: &Error) -> Outcome<ExitCode> {
+    let text = format!(in rt.alloc(); "{error}")?;
+    if !error.use_stderr() {
+        print(rt, text.as_str())?;
+        return Ok(ExitCode::SUCCESS);
+    }
+    let _ = eprint!(rt; "{}", visible_lines(rt.alloc(), text.as_str())?);
+    Ok(ExitCode::from(2))
 }
 
 /// Parses the words of the command line, and runs the command.
@@ -54,8 +74,10 @@ fn parse_and_run(rt: &HostRuntime, words: &[String]) -> Result<ExitCode, AllocEr
     let matches = match command.try_get_matches_from(words) {
         Ok(matches) => matches,
         Err(error) => {
-            let _ = error.print(rt);
-            return Ok(ExitCode::from(if error.exit_code() == 0 { 0 } else { 2 }));
+            return Ok(match show(rt, &error) {
+                Ok(code) => code,
+                Err(failure) => tell_failure(rt, "", failure),
+            });
         }
     };
     let Some((name, matches)) = matches.subcommand() else {
@@ -64,7 +86,7 @@ fn parse_and_run(rt: &HostRuntime, words: &[String]) -> Result<ExitCode, AllocEr
     Ok(match run(rt, name, matches) {
         Ok(Status::Found) => ExitCode::SUCCESS,
         Ok(Status::Nothing) => ExitCode::from(1),
-        Err(failure) => tell(rt, name, failure),
+        Err(failure) => tell_failure(rt, name, failure),
     })
 }
 
@@ -82,10 +104,10 @@ fn words_of(rt: &HostRuntime) -> Result<Vec<String>, AllocError> {
 fn main(rt: HostRuntime) -> ExitCode {
     let words = match words_of(&rt) {
         Ok(words) => words,
-        Err(_) => return tell(&rt, "", Failure::Memory),
+        Err(_) => return tell_failure(&rt, "", Failure::Memory),
     };
     match parse_and_run(&rt, words.as_slice()) {
         Ok(code) => code,
-        Err(_) => tell(&rt, "", Failure::Memory),
+        Err(_) => tell_failure(&rt, "", Failure::Memory),
     }
 }

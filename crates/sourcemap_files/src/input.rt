@@ -1,4 +1,5 @@
 //! Files, standard input and standard output.
+use sourcemap_run::push_visible;
 use sourcemap_words::{Failure, Outcome, failure_of, file_failure};
 use std::fs;
 use std::io::{Read, Write};
@@ -59,9 +60,23 @@ pub fn write_text(rt: &HostRuntime, path: &str, text: &str) -> Outcome<()> {
     }
 }
 
-/// Prints a warning on standard error. That it cannot be printed is no failure.
+/// Prints a message on standard error. That it cannot be printed is no failure. Files and arguments that it names may hold control
+/// characters: they are escaped.
+pub fn tell(rt: &HostRuntime, message: &str) {
+    let mut visible = String::new(rt.alloc());
+    if push_visible(message, &mut visible).is_err() {
+        let _ = eprintln!(rt; "sourcemap: Out of memory");
+        return;
+    }
+    let _ = eprintln!(rt; "sourcemap: {visible}");
+}
+
+/// Prints a warning on standard error, as `tell` does.
 pub fn warn(rt: &HostRuntime, subject: &str, text: &str) {
-    let _ = eprintln!(rt; "sourcemap: {subject}: {text}");
+    match format!(in rt.alloc(); "{subject}: {text}") {
+        Ok(message) => tell(rt, message.as_str()),
+        Err(_) => tell(rt, "Out of memory"),
+    }
 }
 
 /// Whether a file is there, and is no folder.

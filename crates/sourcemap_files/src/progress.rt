@@ -1,4 +1,5 @@
 //! How far a long run is, on a terminal's standard error.
+use sourcemap_run::push_visible;
 use std::io::IsTerminal;
 
 /// A run over so few files is not told of.
@@ -24,9 +25,10 @@ impl Progress {
     /// Tells that a file is begun.
     pub fn begin(&mut self, rt: &HostRuntime, file: &str) {
         self.begun = self.begun.saturating_add(1);
-        if self.is_shown {
+        let mut visible = String::new(rt.alloc());
+        if self.is_shown && push_visible(file, &mut visible).is_ok() {
             let (begun, total) = (self.begun, self.total);
-            let _ = eprint!(rt; "\r\u{1b}[K{begun} of {total}: {file}");
+            let _ = eprint!(rt; "\r\u{1b}[K{begun} of {total}: {visible}");
         }
     }
 

@@ -5,9 +5,9 @@ use oxc_sourcemap_text::TextPositions;
 use oxc_sourcemap_tokens::Token;
 use sourcemap_files::{
     Asked, Lookup, MapText, Progress, Status, error_text, found_error_text, is_file, is_map,
-    map_of_code, print, read_text, shown_name,
+    map_of_code, print, read_text, shown_name, tell,
 };
-use sourcemap_run::{push_object, push_shown, push_text_member};
+use sourcemap_run::{push_object, push_shown, push_text_member, push_visible};
 use sourcemap_words::{Failure, Outcome, failure_of};
 use std::alloc::{AllocError, Global};
 
@@ -45,10 +45,11 @@ impl Report {
         if !self.json {
             let (file, name) = (&self.file, kind.name());
             let line = match kind {
-                Kind::Summary => format!(in self.alloc; "{file}: {text}\n")?,
-                _ => format!(in self.alloc; "{file}: {name}: {text}\n")?,
+                Kind::Summary => format!(in self.alloc; "{file}: {text}")?,
+                _ => format!(in self.alloc; "{file}: {name}: {text}")?,
             };
-            return Ok(self.out.push_str(line.as_str())?);
+            push_visible(line.as_str(), &mut self.out)?;
+            return Ok(self.out.push('\n')?);
         }
         let mut members = String::new(self.alloc);
         push_text_member("file", self.file.as_str(), &mut members)?;
@@ -57,6 +58,12 @@ impl Report {
         push_object(members.as_str(), &mut self.out)?;
         Ok(self.out.push('\n')?)
     }
+}
+
+/// A number of things, as `1 line` and `2 lines`.
+fn counted(alloc: Global, count: u64, what: &str) -> Result<String, AllocError> {
+    let end = if count == 1 { "" } else { "s" };
+    format!(in alloc; "{count} {what}{end}")
 }
 
 /// How many bytes of contents a map has.
@@ -69,22 +76,25 @@ fn content_bytes(map: &SourceMap<'_>) -> usize {
 }
 
 fn tell_summary(report: &mut Report, text: &str, map: &SourceMap<'_>) -> Outcome<()> {
-    let sources = map.get_sources().count();
-    let names = map.get_names().count();
+    let alloc = report.alloc;
     let tokens = map.get_tokens().as_slice();
     let lines = tokens
         .last()
         .map_or(0, |token| u64::from(token.get_dst_line()) + 1);
-    let (count, bytes, contents) = (tokens.len(), text.len(), content_bytes(map));
-    let text = format!(in report.alloc;
-        "{sources} sources, {names} names, {count} tokens on {lines} lines; {bytes} bytes, of which {contents} are contents"
+    let sources = counted(alloc, map.get_sources().count() as u64, "source")?;
+    let names = counted(alloc, map.get_names().count() as u64, "name")?;
+    let count = counted(alloc, tokens.len() as u64, "token")?;
+    let lines = counted(alloc, lines, "line")?;
+    let (bytes, contents) = (text.len(), content_bytes(map));
+    let text = format!(in alloc;
+        "{sources}, {names}, {count} on {lines}; {bytes} bytes, of which {contents} are contents"
     )?;
     report.tell(Kind::Summary, text.as_str())
 }
 
 /// Lines on which a token is before the one ahead of it.
 fn tell_unsorted(report: &mut Report, tokens: &[Token]) -> Outcome<()> {
-    let mut lines = 0usize;
+    let mut lines = 0u64;
     let mut first = None;
     let mut last = None;
     for (ahead, token) in tokens.iter().zip(tokens.iter().skip(1)) {
@@ -101,8 +111,10 @@ fn tell_unsorted(report: &mut Report, tokens: &[Token]) -> Outcome<()> {
     let Some((line, column)) = first else {
         return Ok(());
     };
+    let have = if lines == 1 { "has" } else { "have" };
+    let lines = counted(report.alloc, lines, "line")?;
     let text = format!(in report.alloc;
-        "{lines} lines have tokens out of order, the first at line {line}, column {column}"
+        "{lines} {have} tokens out of order, the first at line {line}, column {column}"
     )?;
     report.tell(Kind::Wrong, text.as_str())
 }
@@ -127,7 +139,7 @@ fn tell_faults(report: &mut Report, text: &str, found: &Found) -> Outcome<()> {
 /// Positions that are not there in a text, as many as there are and the first of them.
 #[derive(Clone, Copy, Default)]
 struct Past {
-    count: usize,
+    count: u64,
     first: Option<(u32, u32)>,
 }
 
@@ -145,9 +157,10 @@ impl Past {
         let Some((line, column)) = self.first else {
             return Ok(());
         };
-        let count = self.count;
+        let are = if self.count == 1 { "is" } else { "are" };
+        let tokens = counted(report.alloc, self.count, "token")?;
         let text = format!(in report.alloc;
-            "{count} tokens are past the end of {what} or of one of its lines, the first at line {line}, column {column}"
+            "{tokens} {are} past the end of {what} or of one of its lines, the first at line {line}, column {column}"
         )?;
         report.tell(Kind::Wrong, text.as_str())
     }
@@ -223,8 +236,11 @@ fn tell_unneeded(report: &mut Report, map: SourceMap<'static>) -> Outcome<()> {
     if tokens == 0 && names == 0 && sources == 0 {
         return Ok(());
     }
+    let tokens = counted(alloc, tokens as u64, "token")?;
+    let names = counted(alloc, names as u64, "name")?;
+    let sources = counted(alloc, sources as u64, "source")?;
     let text = format!(in alloc;
-        "nothing needs {tokens} tokens, {names} names and {sources} sources: see `sourcemap remap --simplify`"
+        "nothing needs {tokens}, {names} and {sources}: see `sourcemap remap --simplify`"
     )?;
     report.tell(Kind::Note, text.as_str())
 }
@@ -332,7 +348,7 @@ pub fn run(asked: &Asked<'_, '_>) -> Outcome<Status> {
             }
             Err(Failure::Told(text)) => {
                 progress.clear(asked.rt);
-                let _ = eprintln!(asked.rt; "sourcemap: {text}");
+                tell(asked.rt, text.as_str());
                 trouble = Some(*file);
             }
             Err(failure) => return Err(failure),

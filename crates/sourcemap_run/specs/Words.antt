@@ -8,7 +8,9 @@ pub use Rattle.oxc_sourcemap_parts.specs.Sorted.{are_tokens_sorted}
 pub use Rattle.oxc_sourcemap_lookup.specs.Trace.{original_in}
 pub use Rattle.sourcemap_run.specs.Answers.{token_by, pointed, said, place_of, place_seen, seen}
 pub use Rattle.sourcemap_run.specs.Answers.{lent_place}
-pub use Rattle.sourcemap_run.specs.Texts.{is_plain, shown, number_part, place_text, name_part}
+pub use Rattle.sourcemap_run.specs.Texts.{is_hidden, unicode_escape, visible_char, visible}
+pub use Rattle.sourcemap_run.specs.Texts.{visible_string, is_plain, shown}
+pub use Rattle.sourcemap_run.specs.Texts.{number_part, place_text, name_part}
 pub use Rattle.sourcemap_run.specs.Texts.{number_member, text_member, name_member, answer_text}
 pub use Rattle.sourcemap_run.specs.Texts.{answer_members, position_members}
 pub use Rattle.sourcemap_run.specs.Texts.{without_comma, object_text}

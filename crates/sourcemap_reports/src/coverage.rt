@@ -1,25 +1,41 @@
 //! `coverage`: lines of originals that ran, by V8's block coverage.
-ghost use Rattle.std.specs.Prelude.{◌≡◌, ◌≢◌, ◌<◌, ◌*◌, ◌^◌, ◌/◌};
+ghost use Rattle.std.specs.Prelude.{◌≡◌, ◌≢◌, ◌<◌, ◌*◌, ◌^◌, ◌/◌, None, Some};
 
 use oxc_sourcemap_map::SourceMap;
 use oxc_sourcemap_text::TextPositions;
 use oxc_sourcemap_tokens::Position;
 use sourcemap_files::{
-    Asked, Lookup, MapText, Progress, Status, code_path, is_file, is_in_root, map_of_code, print,
-    read_map, read_text, rebase, shown_name, warn,
+    Asked, Lookup, MapText, Progress, Status, code_path, is_file, is_in_root, map_of_code,
+    path_of_url, plain_path, print, read_map, read_text, shown_name, tell, warn,
 };
 use sourcemap_run::{
-    Block, Mark, push_marks, push_number_member, push_object, push_shown, push_text_member,
+    Block, Mark, is_hidden, push_marks, push_number_member, push_object, push_shown,
+    push_text_member,
 };
 use sourcemap_words::{Outcome, Report, Run, Script, failure_of, runs_of};
 use std::alloc::{AllocError, Global};
 use std::collections::BTreeMap;
+use std::env;
 
 /// How often the lines of a source with code ran, by their numbers from 0.
 type Lines = BTreeMap<u32, u64>;
 
 /// The lines of each source, by its path.
 type Sources = BTreeMap<String, Lines>;
+
+/// So many codes that are left out are told one by one, and more by their number.
+const FEW: usize = 8;
+
+/// What V8 tells, by source.
+#[derive(Drop)]
+struct Coverage {
+    alloc: Global,
+    /// The current folder, with a slash at its end.
+    folder: String,
+    sources: Sources,
+    /// The codes that are left out, and why.
+    left_out: BTreeMap<String, String>,
+}
 
 /// The code of a script, and its positions.
 #[derive(Clone, Copy)]
@@ -117,65 +133,129 @@ fn lines_of(
     Ok(lines)
 }
 
-/// Adds the lines of a script to those of its sources.
-fn add(
+/// The path of a source of a map in a folder, `..` taken together with the parts before it: from the current folder if it is in that,
+/// else from the root. A URL, but one of a file, and a path from a drive stay.
+fn path_from_here(
     alloc: Global,
-    map: &SourceMap<'_>,
-    lines: &BTreeMap<(u32, u32), u64>,
-    sources: &mut Sources,
-) -> Outcome<()> {
-    for ((source, line), count) in lines {
-        let path = String::from_str(alloc, map.get_source(*source).unwrap_or(""))?;
-        let own = sources.entry(path)?.or_insert(Lines::new(alloc));
-        let total = own.entry(*line)?.or_insert(0);
-        *total = total.saturating_add(*count);
-    }
-    Ok(())
-}
-
-/// Adds what V8 tells of a script with this code and this map.
-fn add_mapped(
-    asked: &Asked<'_, '_>,
-    script: &Script,
-    code: &str,
-    text: &MapText,
-    sources: &mut Sources,
-) -> Outcome<()> {
-    let alloc = asked.alloc();
-    let mut map = read_map(asked.rt, text)?;
-    rebase(alloc, &mut map, text.folder.as_str(), "")?;
-    let runs = runs_of(alloc, script)?;
-    let lines = lines_of(alloc, code, &map, runs.as_slice())?;
-    add(alloc, &map, &lines, sources)
-}
-
-/// Adds what V8 tells of a script, if it has a map.
-fn add_script(asked: &Asked<'_, '_>, script: &Script, sources: &mut Sources) -> Outcome<()> {
-    let (rt, places) = (asked.rt, asked.places());
-    let url = script.url.as_str();
-    let Some(path) = code_path(rt, url, places)? else {
-        return Ok(());
+    current: &str,
+    folder: &str,
+    source: &str,
+) -> Result<String, AllocError> {
+    let named = if source.starts_with("file:") {
+        path_of_url(alloc, source)?
+    } else {
+        None
     };
-    if url.starts_with("node:") || !is_file(rt, path.as_str()) {
-        return Ok(());
+    let source = named.as_ref().map_or(source, |path| path.as_str());
+    let (folder, path) = match source.strip_prefix('/') {
+        Some(path) => (String::from_str(alloc, "/")?, path),
+        None if folder.starts_with('/') => (String::from_str(alloc, folder)?, source),
+        None => (format!(in alloc; "{current}{folder}")?, source),
+    };
+    let whole = plain_path(alloc, folder.as_str(), path)?;
+    String::from_str(alloc, whole.as_str().strip_prefix(current).unwrap_or(whole.as_str()))
+}
+
+impl Coverage {
+    fn new(rt: &HostRuntime) -> Outcome<Coverage> {
+        let alloc = rt.alloc();
+        let folder = match env::current_dir(rt) {
+            Ok(folder) => format!(in alloc; "{}/", folder.as_path().as_str())?,
+            Err(error) => return Err(failure_of(alloc, "the current folder", error)),
+        };
+        Ok(Coverage {
+            alloc,
+            folder,
+            sources: Sources::new(alloc),
+            left_out: BTreeMap::new(alloc),
+        })
     }
-    if !is_in_root(rt, path.as_str(), places) {
-        warn(
-            rt,
-            path.as_str(),
-            "is a link out of the root, and is left out: allow it by --outside",
-        );
-        return Ok(());
+
+    /// Adds the lines of a script to those of its sources.
+    fn add(
+        &mut self,
+        map: &SourceMap<'_>,
+        folder: &str,
+        lines: &BTreeMap<(u32, u32), u64>,
+    ) -> Outcome<()> {
+        for ((id, line), count) in lines {
+            let source = map.get_source(*id).unwrap_or("");
+            let path = path_from_here(self.alloc, self.folder.as_str(), folder, source)?;
+            let own = self.sources.entry(path)?.or_insert(Lines::new(self.alloc));
+            let total = own.entry(*line)?.or_insert(0);
+            *total = total.saturating_add(*count);
+        }
+        Ok(())
     }
-    let code = read_text(rt, path.as_str())?;
-    match map_of_code(rt, path.as_str(), code.as_str(), places)? {
-        Lookup::Map(text) => add_mapped(asked, script, code.as_str(), &text, sources),
-        Lookup::None(_) => Ok(()),
+
+    fn leave_out(&mut self, name: &str, why: &str) -> Outcome<()> {
+        let name = String::from_str(self.alloc, name)?;
+        let _ = self.left_out.insert(name, String::from_str(self.alloc, why)?)?;
+        Ok(())
     }
+
+    /// Adds what V8 tells of a script with this code and this map.
+    fn add_mapped(
+        &mut self,
+        asked: &Asked<'_, '_>,
+        script: &Script,
+        code: &str,
+        text: &MapText,
+    ) -> Outcome<()> {
+        let mut map = read_map(asked.rt, text)?;
+        map.apply_source_root(self.alloc)?;
+        let runs = runs_of(self.alloc, script)?;
+        let lines = lines_of(self.alloc, code, &map, runs.as_slice())?;
+        self.add(&map, text.folder.as_str(), &lines)
+    }
+
+    /// Adds what V8 tells of a script, if its code is found and has a map.
+    fn add_script(&mut self, asked: &Asked<'_, '_>, script: &Script) -> Outcome<()> {
+        let (rt, places) = (asked.rt, asked.places());
+        let url = script.url.as_str();
+        if is_of_engine(url) {
+            return Ok(());
+        }
+        let path = match code_path(rt, url, places)? {
+            Some(path) if is_file(rt, path.as_str()) => path,
+            _ => return self.leave_out(url, "is not in the root: name its folder by --root"),
+        };
+        let path = path.as_str();
+        if !is_in_root(rt, path, places) {
+            return self.leave_out(path, "is a link out of the root: allow it by --outside");
+        }
+        let code = read_text(rt, path)?;
+        match map_of_code(rt, path, code.as_str(), places)? {
+            Lookup::Map(text) => self.add_mapped(asked, script, code.as_str(), &text),
+            Lookup::None(why) => self.leave_out(path, why.as_str()),
+        }
+    }
+
+    /// Tells which codes are left out, or how many if they are not few, and that nothing is found.
+    fn tell_left_out(&self, rt: &HostRuntime) -> Outcome<()> {
+        let count = self.left_out.len();
+        for (name, why) in self.left_out.iter().take(FEW) {
+            let text = format!(in self.alloc; "is left out: {why}")?;
+            warn(rt, name.as_str(), text.as_str());
+        }
+        if count > FEW {
+            let more = count.saturating_sub(FEW);
+            tell(rt, format!(in self.alloc; "{more} more codes are left out")?.as_str());
+        }
+        if self.sources.is_empty() {
+            tell(rt, "no line of an original is found in what V8 tells");
+        }
+        Ok(())
+    }
+}
+
+/// Whether V8 names a script that is no file: of Node, or of a text that was evaluated.
+fn is_of_engine(url: &str) -> bool {
+    url.is_empty() || url.starts_with("node:") || url.starts_with("evalmachine.")
 }
 
 /// Adds what a file of V8 tells.
-fn add_file(asked: &Asked<'_, '_>, file: &str, sources: &mut Sources) -> Outcome<()> {
+fn add_file(asked: &Asked<'_, '_>, file: &str, coverage: &mut Coverage) -> Outcome<()> {
     let alloc = asked.alloc();
     let text = read_text(asked.rt, file)?;
     let report: Report = match serde_json::from_str(alloc, text.as_str()) {
@@ -186,7 +266,7 @@ fn add_file(asked: &Asked<'_, '_>, file: &str, sources: &mut Sources) -> Outcome
         }
     };
     for script in &report.result {
-        add_script(asked, script, sources)?;
+        coverage.add_script(asked, script)?;
     }
     Ok(())
 }
@@ -232,16 +312,12 @@ fn ran(lines: &Lines) -> u64 {
     lines.values().filter(|count| **count > 0).count() as u64
 }
 
-/// How many of a hundred lines ran, rounded down; 100 if there are none.
-fn percent(ran: u64, all: u64) -> u64
-    ensures none { all ≡ 0 → result ≡ 100 }
-    ensures part { all ≢ 0 → ran * 100 < 2 ^ 64 → result ≡ (ran * 100) / all }
+/// How many of a hundred lines ran, rounded down; None if there are no lines.
+fn percent(ran: u64, all: u64) -> Option<u64>
+    ensures none { all ≡ 0 → result ≡ None }
+    ensures part { all ≢ 0 → ran * 100 < 2 ^ 64 → result ≡ Some ((ran * 100) / all) }
 {
-    if all == 0 {
-        100
-    } else {
-        ran.saturating_mul(100) / all
-    }
+    ran.saturating_mul(100).checked_div(all)
 }
 
 fn push_row(
@@ -252,7 +328,9 @@ fn push_row(
     missed: &str,
     out: &mut String,
 ) -> Outcome<()> {
-    let percent = percent(ran, all);
+    let Some(percent) = percent(ran, all) else {
+        return Ok(out.push_str("no lines\n")?);
+    };
     let tail = if missed.is_empty() { "" } else { "  missed: " };
     let row = format!(in alloc; "{percent:>3} %  {ran:>6} of {all:>6} lines  ")?;
     out.push_str(row.as_str())?;
@@ -286,13 +364,13 @@ fn lcov(rt: &HostRuntime, sources: &Sources) -> Outcome<String> {
     let alloc = rt.alloc();
     let mut out = String::new(alloc);
     for (source, lines) in sources {
-        if source.as_str().chars().any(|ch| ch.is_control()) {
+        if source.as_str().chars().any(is_hidden) {
             let mut shown = String::new(alloc);
             push_shown(source.as_str(), &mut shown)?;
             warn(
                 rt,
                 shown.as_str(),
-                "has a control character in its path, and is left out",
+                "has a hidden character in its path, and is left out",
             );
             continue;
         }
@@ -341,18 +419,20 @@ pub fn run(asked: &Asked<'_, '_>) -> Outcome<Status> {
     let alloc = asked.alloc();
     let files = asked.words("V8.json")?;
     let mut progress = Progress::new(asked.rt, files.len());
-    let mut sources = Sources::new(alloc);
+    let mut coverage = Coverage::new(asked.rt)?;
     for file in &files {
         progress.begin(asked.rt, file);
-        add_file(asked, file, &mut sources)?;
+        add_file(asked, file, &mut coverage)?;
     }
     progress.clear(asked.rt);
+    coverage.tell_left_out(asked.rt)?;
+    let sources = &coverage.sources;
     let text = if asked.has("json") {
-        objects(alloc, &sources)?
+        objects(alloc, sources)?
     } else if asked.has("lcov") {
-        lcov(asked.rt, &sources)?
+        lcov(asked.rt, sources)?
     } else {
-        table(alloc, &sources)?
+        table(alloc, sources)?
     };
     print(asked.rt, text.as_str())?;
     Ok(Status::of(!sources.is_empty()))

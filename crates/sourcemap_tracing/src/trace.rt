@@ -1,14 +1,17 @@
 //! `trace`: what generated positions come from.
-use crate::context::push_context;
+use crate::context::Contents;
 use oxc_sourcemap_map::SourceMap;
 use oxc_sourcemap_reverse::{IndexTokens, SourceIndex};
 use oxc_sourcemap_tokens::Position;
-use sourcemap_files::{Asked, Status, print, read_text, rooted_map, usage};
+use sourcemap_files::{Asked, Status, print, rooted_map, usage};
 use sourcemap_run::{
     Answer, Bias, Style, Tracer, push_answer, push_answers, push_number_member, push_text_member,
 };
-use sourcemap_words::{Outcome, failure_of, positions_in, positions_of_lines, source_position_of};
+use sourcemap_words::{
+    Outcome, failure_of, file_failure, position_of_line, positions_in, source_position_of,
+};
 use std::alloc::Global;
+use std::io::{BufRead, BufReader};
 
 fn bias_of(asked: &Asked<'_, '_>) -> Outcome<Bias> {
     match (asked.has("clamped"), asked.has("upper")) {
@@ -19,20 +22,10 @@ fn bias_of(asked: &Asked<'_, '_>) -> Outcome<Bias> {
     }
 }
 
-/// The positions that are asked for: the arguments, else the lines of standard input.
-fn asked_positions(asked: &Asked<'_, '_>, base: u32) -> Outcome<Vec<Position>> {
+/// Whether the positions are the lines of standard input.
+fn reads_lines(asked: &Asked<'_, '_>) -> Outcome<bool> {
     let words = asked.words("POSITION")?;
-    if !words.is_empty() {
-        return positions_in(asked.alloc(), words.as_slice(), base);
-    }
-    if asked.word("MAP") == "-" {
-        return Err(usage(
-            asked.rt,
-            "standard input has the map: give the positions as arguments",
-        ));
-    }
-    let text = read_text(asked.rt, "-")?;
-    positions_of_lines(asked.alloc(), text.as_str(), base)
+    Ok(matches!(words.as_slice(), [] | ["-"]))
 }
 
 /// Whether the map says of some position what it comes from.
@@ -40,22 +33,82 @@ fn finds_any(tracer: &Tracer, positions: &[Position], bias: Bias) -> bool {
     positions.iter().any(|position| matches!(tracer.answer(*position, bias), Answer::At(_)))
 }
 
-/// The answers with the lines around them.
-fn push_with_context(
-    alloc: Global,
-    tracer: &Tracer,
-    positions: &[Position],
+/// What answers positions.
+#[derive(Drop)]
+struct Answers<'m> {
+    tracer: &'m Tracer,
     style: Style,
-    around: u32,
-    out: &mut String,
-) -> Outcome<()> {
-    for position in positions {
-        push_answer(alloc, tracer, *position, style, out)?;
-        if let Answer::At(spot) = tracer.answer(*position, style.bias) {
-            push_context(alloc, &spot, around, out)?;
+    /// The lines around positions, if they are asked for.
+    contents: Option<Contents<'m>>,
+    /// Whether the map said of some position what it comes from.
+    is_found: bool,
+}
+
+impl<'m> Answers<'m> {
+    fn new(asked: &Asked<'_, '_>, tracer: &'m Tracer, style: Style) -> Answers<'m> {
+        let contents = match asked.number("context") {
+            Some(around) if !style.json => Some(Contents::new(asked.alloc(), around, style.base)),
+            _ => None,
+        };
+        Answers {
+            tracer,
+            style,
+            contents,
+            is_found: false,
         }
     }
-    Ok(())
+
+    /// Appends the lines around what a position comes from.
+    fn push_context(&mut self, position: Position, out: &mut String) -> Outcome<()> {
+        let (tracer, bias) = (self.tracer, self.style.bias);
+        let Answer::At(spot) = tracer.answer(position, bias) else {
+            return Ok(());
+        };
+        let id = tracer.token(position, bias).and_then(|token| token.get_source_id());
+        if let Some(contents) = &mut self.contents
+            && let Some(id) = id
+        {
+            contents.push(id, spot.content, (spot.line, spot.column), out)?;
+        }
+        Ok(())
+    }
+
+    /// Prints the answers for positions.
+    fn print(&mut self, rt: &HostRuntime, positions: &[Position]) -> Outcome<()> {
+        let (alloc, tracer, style) = (rt.alloc(), self.tracer, self.style);
+        let mut out = String::new(alloc);
+        if self.contents.is_none() {
+            push_answers(alloc, tracer, positions, style, &mut out)?;
+        } else {
+            for position in positions {
+                push_answer(alloc, tracer, *position, style, &mut out)?;
+                self.push_context(*position, &mut out)?;
+            }
+        }
+        self.is_found |= finds_any(tracer, positions, style.bias);
+        print(rt, out.as_str())
+    }
+
+    /// Prints the answers for the lines of standard input, each as it comes. Empty lines are passed over.
+    fn print_lines(&mut self, rt: &HostRuntime) -> Outcome<()> {
+        let alloc = rt.alloc();
+        let base = u32::from(self.style.base);
+        let reader = match BufReader::new(alloc, rt.reader()) {
+            Ok(reader) => reader,
+            Err(error) => return Err(file_failure(alloc, "standard input", error)),
+        };
+        for (i, line) in reader.split(alloc, b'\n').enumerate() {
+            let line = match line {
+                Ok(line) => line,
+                Err(error) => return Err(file_failure(alloc, "standard input", error)),
+            };
+            let number = i.saturating_add(1);
+            if let Some(position) = position_of_line(alloc, line.as_slice(), number, base)? {
+                self.print(rt, &[position])?;
+            }
+        }
+        Ok(())
+    }
 }
 
 /// The id of a source: the one with this path, else the only one whose path ends so.
@@ -164,37 +217,31 @@ fn style_of(asked: &Asked<'_, '_>) -> Outcome<Style> {
     })
 }
 
-/// The lines of the answers, with those of the originals around them if they are asked for.
-fn lines_of(
-    asked: &Asked<'_, '_>,
-    tracer: &Tracer,
-    positions: &[Position],
-    style: Style,
-) -> Outcome<String> {
-    let alloc = asked.alloc();
-    let mut out = String::new(alloc);
-    match asked.number("context") {
-        Some(around) if !style.json => {
-            push_with_context(alloc, tracer, positions, style, around, &mut out)?
-        }
-        _ => push_answers(alloc, tracer, positions, style, &mut out)?,
-    }
-    Ok(out)
-}
-
 /// `trace` without `--reverse`.
 fn forward(asked: &Asked<'_, '_>, map: SourceMap<'static>, style: Style) -> Outcome<Status> {
-    let positions = asked_positions(asked, u32::from(style.base))?;
     let tracer = Tracer::new(asked.alloc(), map)?;
-    let out = lines_of(asked, &tracer, positions.as_slice(), style)?;
-    print(asked.rt, out.as_str())?;
-    Ok(Status::of(finds_any(&tracer, positions.as_slice(), style.bias)))
+    let mut answers = Answers::new(asked, &tracer, style);
+    if reads_lines(asked)? {
+        answers.print_lines(asked.rt)?;
+    } else {
+        let words = asked.words("POSITION")?;
+        let positions = positions_in(asked.alloc(), words.as_slice(), u32::from(style.base))?;
+        answers.print(asked.rt, positions.as_slice())?;
+    }
+    Ok(Status::of(answers.is_found))
 }
 
 pub fn run(asked: &Asked<'_, '_>) -> Outcome<Status> {
     let style = style_of(asked)?;
+    let is_forward = asked.words("reverse")?.is_empty();
+    if is_forward && asked.word("MAP") == "-" && reads_lines(asked)? {
+        return Err(usage(
+            asked.rt,
+            "standard input is the map: give positions as arguments, or name the map, and standard input has them",
+        ));
+    }
     let map = rooted_map(asked.rt, asked.word("MAP"), asked.places())?;
-    if asked.words("reverse")?.is_empty() {
+    if is_forward {
         forward(asked, map, style)
     } else {
         reverse(asked, &map, style)

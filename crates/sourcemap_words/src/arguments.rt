@@ -80,7 +80,7 @@ const TRACE: Words = Words {
         Word(
             "POSITION",
             Kind::Words,
-            "LINE:COLUMN; without one they are read from standard input, one a line",
+            "LINE:COLUMN; without one, or for -, the lines of standard input, each answered as it comes",
         ),
         Word(
             "clamped",

@@ -15,5 +15,5 @@ pub use completions::completions_of;
 pub use failure::{Failure, Outcome, failure_of, file_failure};
 pub use frames::{Finder, Line, Named, Patterns};
 pub use manual::manual_of;
-pub use positions::{positions_in, positions_of_lines, source_position_of};
+pub use positions::{position_of_line, positions_in, source_position_of};
 pub use v8::{Report, Run, Script, runs_of};

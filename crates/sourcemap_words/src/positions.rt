@@ -50,24 +50,28 @@ pub fn positions_in(alloc: Global, words: &[&str], base: u32) -> Outcome<Vec<Pos
     Ok(positions)
 }
 
-/// The positions of the lines of a text. Empty lines are passed over.
-pub fn positions_of_lines(alloc: Global, text: &str, base: u32) -> Outcome<Vec<Position>> {
-    let mut positions = Vec::new(alloc);
-    for (number, line) in text.lines().enumerate() {
-        let word = line.trim();
-        if word.is_empty() {
-            continue;
+/// The position in a line of standard input; None if the line is empty. `number` is the line's, from 1, for what is told.
+pub fn position_of_line(
+    alloc: Global,
+    line: &[u8],
+    number: usize,
+    base: u32,
+) -> Outcome<Option<Position>> {
+    let subject = format!(in alloc; "standard input, line {number}")?;
+    let text = match std::str::from_utf8(line) {
+        Ok(text) => text,
+        Err(error) => {
+            let at = error.valid_up_to();
+            let text = format!(in alloc; "is not UTF-8 at byte {at} of the line: convert it first")?;
+            return Err(failure_of(alloc, subject.as_str(), text.as_str()));
         }
-        match position_of(word, base) {
-            Some(position) => positions.push(position)?,
-            None => {
-                let subject = format!(in alloc;
-                    "standard input, line {}",
-                    number.saturating_add(1)
-                )?;
-                return Err(bad_position(alloc, subject.as_str(), word, base));
-            }
-        }
+    };
+    let word = text.trim();
+    if word.is_empty() {
+        return Ok(None);
     }
-    Ok(positions)
+    match position_of(word, base) {
+        Some(position) => Ok(Some(position)),
+        None => Err(bad_position(alloc, subject.as_str(), word, base)),
+    }
 }

@@ -456,7 +456,10 @@ export class SourceMap {
   applySourceRoot(): void;
   /** Sorts the tokens by generated position; those at one position keep their order. */
   sort(): void;
-  /** Drops the tokens, names and sources that no lookup needs. Throws SourceMapError of SMAP_UNSORTED or SMAP_TOO_LARGE. */
+  /**
+   * Drops tokens, names and sources that no lookup needs (smap_simplify in oxc_sourcemap.h). Throws SourceMapError of SMAP_UNSORTED or
+   * SMAP_TOO_LARGE.
+   */
   simplify(): void;
 
   // ---- maps of maps ----

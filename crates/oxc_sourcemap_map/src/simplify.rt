@@ -9,7 +9,7 @@ use oxc_sourcemap_tokens::PlanError;
 use std::alloc::Global;
 
 impl<'a> SourceMap<'a> {
-    /// Simplifies this map: all its traces stay, exact and clamped, and it has no more tokens, names and sources than they need
+    /// Simplifies this map: all its traces stay, exact and clamped, and tokens, names and sources go that they do not need
     /// (docs/FORMAT.md, "Simplifying"). Its tokens have to be sorted (`sort`).
     ///
     /// ```rust
@@ -25,8 +25,9 @@ impl<'a> SourceMap<'a> {
     ///
     /// - On each line a token goes that points where the one before it points, and one that no lookup finds. Where the first of
     ///   two tokens at one position goes for that, the second one moves to the next column.
-    /// - Equal sources with equal contents become one if both are ignored, or both not, and so do equal names. Those go that no
-    ///   token needs. Both are in the order in which tokens need them first.
+    /// - Equal names become one, and those go that no token needs. They are in the order in which tokens need them first.
+    /// - So are sources: equal are those with equal paths and contents. But such a source stands twice, first as not ignored, if
+    ///   it is listed both ignored and not, also where tokens need only one of these.
     /// - A token whose source id is out of range becomes unmapped, at source position 0:0; a name id out of range goes.
     /// - File, source root and debug id stay. There are no chunks, and an ignore list only if it has entries.
     ///

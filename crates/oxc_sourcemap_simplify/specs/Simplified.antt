@@ -1,4 +1,5 @@
--- What simplifying makes of a map: no more mappings than its traces need, and the names and sources that these need, each once.
+-- What simplifying makes of a map: no more mappings than its traces need, and the names and sources that these need, each once,
+-- but for sources that are listed both ignored and not.
 use Rattle.std.specs.Prelude.{ℕ, ◌+◌, Bool, true, false, ◌&&◌, List, [], ◌∷◌, ◌++◌, map, filter}
 use Rattle.std.specs.Prelude.{length}
 use Rattle.std.specs.Prelude.{slice_get, Option, Some, None, option_map, Result, Ok, Err}
@@ -45,7 +46,8 @@ is_same_marked a b = is_same_source a.0 b.0 && beq a.1 b.1
 abbrev pub index_of_marked : DecodedSource × Bool → List (DecodedSource × Bool) → Option ℕ
 index_of_marked source sources = position_from (is_same_marked source) 0 sources
 
--- a source once for each mark that it is listed with, first the one that is not ignored
+-- A source once for each mark that it is listed with, first the one that is not ignored. Which of them mappings need is not known
+-- here: what a mapping points to has no mark.
 abbrev pub listings : List (DecodedSource × Bool) → DecodedSource → List (DecodedSource × Bool)
 listings marked source = filter (λ m. list_any (is_same_marked m) marked) ((source, false) ∷ (source, true) ∷ [])
 

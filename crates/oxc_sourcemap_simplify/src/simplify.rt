@@ -122,7 +122,7 @@ fn put_in<'a>(parts: &mut SourceMapParts<'a>, simple: Simple<'a>)
     parts.ignore_list = ignore_list;
 }
 
-/// Simplifies a map: its traces stay as they are, and it has no more tokens, names and sources than they need.
+/// Simplifies a map: its traces stay as they are, and tokens, names and sources go that they do not need.
 ///
 /// - On each line a token that points where the one before it points is dropped, and so is one that no lookup may find. Where the
 ///   first of two tokens at one position is dropped for that, the second one moves to the next column.

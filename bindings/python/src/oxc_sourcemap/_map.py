@@ -824,7 +824,9 @@ class SourceMap:
         self._change(lib.smap_sort)
 
     def simplify(self) -> None:
-        """Drops the tokens, names and sources that no lookup needs. Raises SourceMapError of UNSORTED or TOO_LARGE.
+        """Drops tokens, names and sources that no lookup needs (smap_simplify in oxc_sourcemap.h).
+
+        Raises SourceMapError of UNSORTED or TOO_LARGE.
 
         >>> map = SourceMap.from_tokens([Token(0, 0, 2, 0, 0, None), Token(0, 4, 2, 0, 0, None)], sources=["a.ts", "b.ts"])
         >>> map.simplify()

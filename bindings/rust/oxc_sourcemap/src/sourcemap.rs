@@ -607,8 +607,8 @@ impl<'a> SourceMap<'a> {
         Ok(())
     }
 
-    /// Drops the tokens, names and sources that no lookup needs. Fails with `Unsorted`, `TooLarge` or `OutOfMemory`; the map is
-    /// then as it was.
+    /// Drops tokens, names and sources that no lookup needs (`smap_simplify` in oxc_sourcemap.h). Fails with `Unsorted`, `TooLarge` or
+    /// `OutOfMemory`; the map is then as it was.
     ///
     /// ```
     /// use oxc_sourcemap::SourceMap;

@@ -416,9 +416,9 @@ static const struct {
       "\"GAAA,HACA\"}},{\"offset\":{\"line\":0,\"column\":9},\"map\":{\"version\":3,\"sources\":[\"b.js\"],\"sourcesContent\":[1],"
       "\"ignoreList\":[0,1],\"mappings\":\"AAAA\"}}]}",
       "{\"version\":3,\"names\":[],\"sources\":[\"a.js\",\"b.js\"],\"ignoreList\":[1],\"mappings\":\"AACA,GADA,MCAA\"}",
-      { { SMAP_MEND_UNSORTED, 0, 0, "section 0: the tokens are not in order, and are sorted" },
-        { SMAP_MEND_BAD_CONTENT, 1, 0, "section 1: content 0 is neither a text nor null, and is read as null" },
-        { SMAP_MEND_BAD_IGNORED_ID, 1, 1, "section 1: entry 1 of ignoreList is no id of a source, and is left out" } } },
+      { { SMAP_MEND_BAD_CONTENT, 1, 0, "section 1: content 0 is neither a text nor null, and is read as null" },
+        { SMAP_MEND_BAD_IGNORED_ID, 1, 1, "section 1: entry 1 of ignoreList is no id of a source, and is left out" },
+        { SMAP_MEND_UNSORTED, NONE, 0, "the tokens are not in order, and are sorted" } } },
     { "{\"version\":3,\"sections\":[{\"offset\":{\"line\":2,\"column\":5},\"map\":{\"version\":3,\"sources\":[\"a.js\"],\"mappings\":"
       "\"AAAA,EAAE;AAAA\"}},{\"offset\":{\"line\":2,\"column\":6},\"map\":{\"version\":3,\"sources\":[\"b.js\"],\"mappings\":\"AAAA\"}}]}",
       "{\"version\":3,\"names\":[],\"sources\":[\"a.js\",\"b.js\"],\"mappings\":\";;KAAA,CCAA\"}",

@@ -247,12 +247,11 @@ def with_ids(given):
 
 
 def plain_map(value):
-    """The fields of a map by itself, with `tokens`, and what was mended in it."""
+    """The fields of a map by itself, with `tokens` as they are listed, and what was mended in it."""
     lines = mended(value)
     given = fields(value)
-    tokens, more = with_ids(given)
-    given["tokens"] = sorted(tokens, key=lambda t: t[:2])
-    return given, lines + more + ["the tokens are not in order, and are sorted"] * (tokens != given["tokens"])
+    given["tokens"], more = with_ids(given)
+    return given, lines + more
 
 
 # ---- an indexed map
@@ -294,8 +293,14 @@ def joined(sections):
     return join
 
 
+def reach(tokens, place, nexts):
+    """The tokens of a section behind the beginning of the next one, if the last one listed is: only then the exact reader refuses it."""
+    behind = [t for t in tokens if any(moved(t, place, 0, 0)[:2] > it for it in nexts)]
+    return behind if tokens and tokens[-1] in behind else []
+
+
 def indexed_map(value):
-    """The join of the sections, each cut where the next one begins, and what was mended in them."""
+    """The join of the sections, each cut where it reaches into the next one, and what was mended in them."""
     mends = mended_version(value)
     file, sections, before = file_of(value), [], None
     if not isinstance(value["sections"], list):
@@ -308,12 +313,10 @@ def indexed_map(value):
         sections.append((*plain_map(inner), before))
     cut = []
     for k, (given, lines, place) in enumerate(sections):
-        nexts = [it[2] for it in sections[k + 1:k + 2]]
-        kept = [t for t in given["tokens"] if all(moved(t, place, 0, 0)[:2] <= it for it in nexts)]
-        count = len(given["tokens"]) - len(kept)
-        lines += [f"tokens behind the beginning of the next section, which are left out: {count}"] * (count > 0)
+        left_out = reach(given["tokens"], place, [it[2] for it in sections[k + 1:k + 2]])
+        lines += [f"tokens behind the beginning of the next section, which are left out: {len(left_out)}"] * bool(left_out)
         mends += [f"section {k}: {line}" for line in lines]
-        cut.append((given | {"tokens": kept}, place))
+        cut.append((given | {"tokens": [t for t in given["tokens"] if t not in left_out]}, place))
     return joined(cut) | {"file": file}, mends
 
 
@@ -325,7 +328,9 @@ def found(text):
     if not isinstance(value, dict):
         raise Fault("JSON parsing error: the value is not an object")
     given, lines = (plain_map if value.get("sections") is None else indexed_map)(value)
-    return given, mends + lines
+    tokens = sorted(given["tokens"], key=lambda t: t[:2])
+    lines += ["the tokens are not in order, and are sorted"] * (tokens != given["tokens"])
+    return given | {"tokens": tokens}, mends + lines
 
 
 def answer(text):

@@ -1,8 +1,9 @@
--- Sections of an indexed map that the exact reader reads as a sorted map: nothing is mended in them, and none is cut.
+-- Sections of an indexed map that the exact reader reads: nothing is mended in them, and none is cut.
 use Rattle.std.proofs.Common.{◌≡◌, ℕ, ◌+◌, Bool, true, false, cond, ◌==◌, not, List, [], ◌∷◌}
 use Rattle.std.proofs.Common.{◌++◌, map, length, refl, ap, sym, ◌∙◌, subst, append_assoc}
 use Rattle.std.proofs.Common.{Option, Some, None, option_map, Result, Ok, Err}
-use Rattle.std.specs.List.{AllByRecursion, filter, last_or, count_by}
+use Rattle.std.specs.List.{last_or}
+use Rattle.std.specs.Option.{option_map_or}
 use Rattle.std.proofs.lemmas.Bool.{and_parts}
 use Rattle.std.proofs.lemmas.List.{append-nil, length-append}
 use Rattle.serde_json.specs.Data.{Data, null, boolean, number, string, array, object, Items}
@@ -15,8 +16,6 @@ use Rattle.oxc_sourcemap_tokens.specs.declared.error.Field.TheVariants.{Object}
 use Rattle.oxc_sourcemap_tokens.specs.declared.position.Position.{Position}
 use Rattle.oxc_sourcemap_tokens.specs.Token.{TokenRecord, last}
 use Rattle.oxc_sourcemap_parts.specs.Record.{MapRecord}
-use Rattle.oxc_sourcemap_parts.specs.Sorted.{are_tokens_sorted, token_line}
-use Rattle.oxc_sourcemap_parts.specs.Sorted.{token_column}
 use Rattle.oxc_sourcemap_json.specs.Shape.{◌>>=◌, or_misshapen, shape}
 use Rattle.oxc_sourcemap_decode.specs.Decoded.{decoded}
 use Rattle.oxc_sourcemap_decode.specs.Section.{place_in, map_in}
@@ -24,16 +23,14 @@ use Rattle.oxc_sourcemap_decode.specs.Sections.{Sections, may_follow, moved_posi
 use Rattle.oxc_sourcemap_decode.specs.Sections.{token_positions, may_begin, in_order, place_after}
 use Rattle.oxc_sourcemap_decode.specs.Sections.{section_map, section_after, onto_section}
 use Rattle.oxc_sourcemap_decode.specs.Sections.{sections_after}
-use Rattle.oxc_sourcemap_sort.proofs.Sorting.{precedes, trans-at, sorted-tail, sorted-first}
 use Rattle.oxc_sourcemap_found.specs.MendedMaps.{plain_map}
 use Rattle.oxc_sourcemap_found.specs.MendedSections.{MendedSection, place_from}
 use Rattle.oxc_sourcemap_found.specs.MendedSections.{map_from, section_from, sections_from}
-use Rattle.oxc_sourcemap_found.specs.MendedSections.{is_behind}
+use Rattle.oxc_sourcemap_found.specs.MendedSections.{is_behind, reaches_into}
 use Rattle.oxc_sourcemap_found.specs.MendedSections.{next_place, cut_map, cut_kinds, cut_maps}
 use Rattle.oxc_sourcemap_found.specs.MendedSections.{section_mends}
 use Rattle.oxc_sourcemap_found.proofs.Kept.{step}
 use Rattle.oxc_sourcemap_found.proofs.PlainMaps.{mended_as, plain-kept}
-use Rattle.oxc_sourcemap_found.proofs.SortedJoins.{IsSortedMap, shift-on}
 
 abbrev pub Placed : Type 0
 Placed = MapRecord × Position
@@ -50,20 +47,20 @@ same-ok x y e = cc
 
 -- ---- one section
 
-value-kept : (d : Data) (m : MapRecord) → (shape d >>= decoded) ≡ Ok m → are_tokens_sorted m.tokens ≡ true → (or_misshapen Object (as_object d) >>= plain_map) ≡ Ok (mended_as m [])
+value-kept : (d : Data) (m : MapRecord) → (shape d >>= decoded) ≡ Ok m → (or_misshapen Object (as_object d) >>= plain_map) ≡ Ok (mended_as m [])
 unfolding shape
-value-kept null m e s = cc
-value-kept (boolean x) m e s = cc
-value-kept (number n) m e s = cc
-value-kept (string t) m e s = cc
-value-kept (array ds) m e s = cc
-value-kept (object ms) m e s = plain-kept ms m e s
+value-kept null m e = cc
+value-kept (boolean x) m e = cc
+value-kept (number n) m e = cc
+value-kept (string t) m e = cc
+value-kept (array ds) m e = cc
+value-kept (object ms) m e = plain-kept ms m e
 
-map-kept : (d : Data) (m : MapRecord) → section_map d ≡ Ok m → are_tokens_sorted m.tokens ≡ true → map_from d ≡ Ok (mended_as m [])
-map-kept d m e s =
+map-kept : (d : Data) (m : MapRecord) → section_map d ≡ Ok m → map_from d ≡ Ok (mended_as m [])
+map-kept d m e =
     let v = step (map_in d) (λ v. shape v >>= decoded) m e in
     let first = v.first in
-    rw first (value-kept v.value m v.later s)
+    rw first (value-kept v.value m v.later)
 
 -- what is known of the place of a section that the exact reader reads
 record IsBegun (front : List Placed) (d : Data) (place : Position) : Type 0 where
@@ -101,28 +98,23 @@ taken front d s e =
     let is : (m.value, p.value) ≡ s = same-ok (m.value, p.value) s m.later in
     subst (λ (q : Placed). IsTaken front d q) is (record { begun = place-kept front d p.value p.first; map = m.first })
 
-section-kept : (front : List Placed) (d : Data) (s : Placed) → IsTaken front d s → IsSortedMap s → section_from (option_map (λ s. s.1) (last front)) (length front) d ≡ Ok (unmended s)
-section-kept front d s t h =
+section-kept : (front : List Placed) (d : Data) (s : Placed) → IsTaken front d s → section_from (option_map (λ s. s.1) (last front)) (length front) d ≡ Ok (unmended s)
+section-kept front d s t =
     let place = t.begun.is in
-    let m = map-kept d s.0 t.map h in
+    let m = map-kept d s.0 t.map in
     rw (place, m) refl
 
--- ---- tokens in front of the next section
+-- ---- the last token is in front of the next section
 
-abbrev IsBefore : Position → Position → TokenRecord → Type 0
-IsBefore next offset t = may_follow (Some (moved_position offset t)) next ≡ true
+behind-last : (next offset : Position) (t : TokenRecord) (ts : List TokenRecord) → may_follow (last_or (Some (moved_position offset t)) (map (moved_position offset) ts)) next ≡ true
+    → option_map_or (is_behind next offset) (last_or (Some t) ts) false ≡ false
+behind-last next offset t [] h = ap not h
+behind-last next offset t (u ∷ ts) h = behind-last next offset u ts h
 
-before-last : (next offset : Position) (o : Option Position) (ts : List TokenRecord) → are_tokens_sorted ts ≡ true → may_follow (last_or o (map (moved_position offset) ts)) next ≡ true
-    → AllByRecursion (IsBefore next offset) ts
-before-last next offset o [] s h = tt
-before-last next offset o (t ∷ []) s h = (h, tt)
-before-last next offset o (t ∷ u ∷ ts) s h =
-    let more = before-last next offset (Some (moved_position offset t)) (u ∷ ts) (sorted-tail token_line token_column t (u ∷ ts) s) h in
-    let a = moved_position offset t in
-    let b = moved_position offset u in
-    let first : precedes a.line a.column b.line b.column ≡ true =
-    shift-on (t.dst_line == 0) (u.dst_line == 0) t.dst_line t.dst_col u.dst_line u.dst_col offset.line offset.column refl refl (sorted-first token_line token_column t u ts s) in
-    (trans-at a.line a.column b.line b.column next.line next.column first more.0, more)
+before-last : (next offset : Position) (o : Option Position) (ts : List TokenRecord) → may_follow (last_or o (map (moved_position offset) ts)) next ≡ true
+    → reaches_into next offset ts ≡ false
+before-last next offset o [] h = refl
+before-last next offset o (t ∷ ts) h = behind-last next offset t ts h
 
 last-after : {A : Type 0} (o : Option A) (xs ys : List A) → last_or o (xs ++ ys) ≡ last_or (last_or o xs) ys
 last-after o [] ys = refl
@@ -141,31 +133,26 @@ ends-with o s (t ∷ front) p e =
     let more = ends-with (last_or o (map (moved_position s.1) s.0.tokens)) t front p e in
     record { before = more.before; is = last-after o (map (moved_position s.1) s.0.tokens) (token_positions (t ∷ front)) ∙ more.is }
 
--- a map is not cut by the section after it
+-- a map does not reach into the section after it
 abbrev IsWhole : Position → Placed → Type 0
-IsWhole next s = AllByRecursion (IsBefore next s.1) s.0.tokens
+IsWhole next s = reaches_into next s.1 s.0.tokens ≡ false
 
--- no map is, the first of which is after this one
+-- no map does, the first of which is after this one
 abbrev AreWhole : Option Placed → List Placed → Type 0
 AreWhole o [] = Unit {0}
 AreWhole None (s ∷ ss) = AreWhole (Some s) ss
 AreWhole (Some p) (s ∷ ss) = IsWhole s.1 p × AreWhole (Some s) ss
 
-all-at-end : (front : List Placed) (p : Placed) (more : List Placed) → last front ≡ Some p → AllByRecursion IsSortedMap (front ++ more) → IsSortedMap p
-all-at-end [] p more e h = cc
-all-at-end (s ∷ []) p more e h = let is : s ≡ p = cc in subst (λ (q : Placed). IsSortedMap q) is h.0
-all-at-end (s ∷ t ∷ front) p more e h = all-at-end (t ∷ front) p more e h.1
-
-whole-last : (front : List Placed) (p : Placed) (place : Position) → last front ≡ Some p → IsSortedMap p → may_follow (last (token_positions front)) place ≡ true → IsWhole place p
-whole-last [] p place e s h = cc
-whole-last (t ∷ front) p place e s h =
+whole-last : (front : List Placed) (p : Placed) (place : Position) → last front ≡ Some p → may_follow (last (token_positions front)) place ≡ true → IsWhole place p
+whole-last [] p place e h = cc
+whole-last (t ∷ front) p place e h =
     let end = ends-with None t front p e in
-    before-last place p.1 end.before p.0.tokens s (ap (λ o. may_follow o place) (sym end.is) ∙ h)
+    before-last place p.1 end.before p.0.tokens (ap (λ o. may_follow o place) (sym end.is) ∙ h)
 
-whole-more : (o : Option Placed) (front : List Placed) (s : Placed) (ss : List Placed) → last front ≡ o → AllByRecursion IsSortedMap (front ++ s ∷ ss)
+whole-more : (o : Option Placed) (front : List Placed) (s : Placed) (ss : List Placed) → last front ≡ o
     → may_follow (last (token_positions front)) s.1 ≡ true → AreWhole (Some s) ss → AreWhole o (s ∷ ss)
-whole-more None front s ss e all h more = more
-whole-more (Some p) front s ss e all h more = (whole-last front p s.1 e (all-at-end front p (s ∷ ss) e all) h, more)
+whole-more None front s ss e h more = more
+whole-more (Some p) front s ss e h more = (whole-last front p s.1 e h, more)
 
 -- ---- all sections
 
@@ -174,10 +161,6 @@ last-more [] x = refl
 last-more (y ∷ []) x = refl
 last-more (y ∷ z ∷ ys) x = last-more (z ∷ ys) x
 
-all-first : (front : List Placed) (s : Placed) (more : List Placed) → AllByRecursion IsSortedMap (front ++ s ∷ more) → IsSortedMap s
-all-first [] s more h = h.0
-all-first (t ∷ front) s more h = all-first front s more h.1
-
 -- the sections behind those in front
 record AreKept (front all : List Placed) (items : Items) : Type 0 where
   rest : List Placed
@@ -185,11 +168,10 @@ record AreKept (front all : List Placed) (items : Items) : Type 0 where
   found : sections_from (option_map (λ s. s.1) (last front)) (length front) items ≡ Ok (map unmended rest)
   whole : AreWhole (last front) rest
 
-kept-more : (front all : List Placed) (d : Data) (ds : Items) (s : Placed) → AllByRecursion IsSortedMap all → IsTaken front d s → AreKept (front ++ s ∷ []) all ds → AreKept front all (item d ds)
-kept-more front all d ds s sorted t k =
+kept-more : (front all : List Placed) (d : Data) (ds : Items) (s : Placed) → IsTaken front d s → AreKept (front ++ s ∷ []) all ds → AreKept front all (item d ds)
+kept-more front all d ds s t k =
     let are : front ++ s ∷ k.rest ≡ all = sym (append_assoc front (s ∷ []) k.rest) ∙ k.are in
-    let each : AllByRecursion IsSortedMap (front ++ s ∷ k.rest) = subst (λ l. AllByRecursion IsSortedMap l) (sym are) sorted in
-    let one = section-kept front d s t (all-first front s k.rest each) in
+    let one = section-kept front d s t in
     let count : length (front ++ s ∷ []) ≡ length front + 1 = length-append front (s ∷ []) in
     let more : sections_from (Some s.1) (length front + 1) ds ≡ Ok (map unmended k.rest) =
     ap (λ n. sections_from (Some s.1) n ds) (sym count)
@@ -198,44 +180,30 @@ kept-more front all d ds s sorted t k =
       rest = s ∷ k.rest;
       are = are;
       found = rw (one, more) refl;
-      whole = whole-more (last front) front s k.rest refl each t.begun.behind_tokens (subst (λ o. AreWhole o k.rest) (last-more front s) k.whole);
+      whole = whole-more (last front) front s k.rest refl t.begun.behind_tokens (subst (λ o. AreWhole o k.rest) (last-more front s) k.whole);
     }
 
 abbrev read_as : List Placed → Option Error → Sections
 read_as maps fault = record { maps = maps; fault = fault }
 
-sections-kept : (front all : List Placed) (items : Items) → AllByRecursion IsSortedMap all → sections_after front items ≡ read_as all None → AreKept front all items
-sections-kept front all no_items sorted e =
+sections-kept : (front all : List Placed) (items : Items) → sections_after front items ≡ read_as all None → AreKept front all items
+sections-kept front all no_items e =
     let is : front ≡ all = ap (λ (q : Sections). q.maps) e in
     record { rest = []; are = append-nil front ∙ is; found = refl; whole = tt }
-sections-kept front all (item d ds) sorted e =
+sections-kept front all (item d ds) e =
     elim (section_after front d) as (λ r. section_after front d ≡ r → onto_section front (λ s. sections_after (front ++ s ∷ []) ds) r ≡ read_as all None → AreKept front all (item d ds)) [
-      | Ok s ↦ (λ t f. kept-more front all d ds s sorted (taken front d s t) (sections-kept (front ++ s ∷ []) all ds sorted f))
+      | Ok s ↦ (λ t f. kept-more front all d ds s (taken front d s t) (sections-kept (front ++ s ∷ []) all ds f))
       | Err x ↦ (λ t f. let no : Some x ≡ None = ap (λ (q : Sections). q.fault) f in cc)
     ] refl e
 
 -- ---- nothing is cut
-
-kept-tokens : (next offset : Position) (ts : List TokenRecord) → AllByRecursion (IsBefore next offset) ts → filter (λ t. not (is_behind next offset t)) ts ≡ ts
-kept-tokens next offset [] h = refl
-kept-tokens next offset (t ∷ ts) h =
-    let here = h.0 in
-    rw here (ap (λ us. t ∷ us) (kept-tokens next offset ts h.1))
-
-no-tokens : (next offset : Position) (ts : List TokenRecord) → AllByRecursion (IsBefore next offset) ts → count_by (is_behind next offset) ts ≡ 0
-no-tokens next offset [] h = refl
-no-tokens next offset (t ∷ ts) h =
-    let here = h.0 in
-    rw here (no-tokens next offset ts h.1)
 
 record IsUncut (next : Option Position) (s : Placed) : Type 0 where
   map : cut_map next s.1 s.0 ≡ s.0
   kinds : cut_kinds next s.1 s.0 ≡ []
 
 whole-uncut : (next : Position) (s : Placed) → IsWhole next s → IsUncut (Some next) s
-whole-uncut next s h =
-    let none = no-tokens next s.1 s.0.tokens h in
-    record { map = ap (λ ts. record s.0 { tokens = ts }) (kept-tokens next s.1 s.0.tokens h); kinds = rw none refl }
+whole-uncut next s h = record { map = rw h refl; kinds = rw h refl }
 
 uncut-last : (s : Placed) → IsUncut None s
 uncut-last s = record { map = refl; kinds = refl }
@@ -259,15 +227,15 @@ no-mends k (s ∷ ss) h =
     let none = (uncut-next s ss h).kinds in
     rw none (no-mends (k + 1) ss (whole-tail s ss h))
 
--- what is known of sections that the exact reader reads as a sorted map
+-- what is known of sections that the exact reader reads
 pub record AreUnmended (all : List Placed) (items : Items) : Type 0 where
   pub found : sections_from None 0 items ≡ Ok (map unmended all)
   pub maps : cut_maps (map unmended all) ≡ all
   pub mends : section_mends 0 (map unmended all) ≡ []
 
-pub sections-unmended : (all : List Placed) (items : Items) → AllByRecursion IsSortedMap all → sections_after [] items ≡ read_as all None → AreUnmended all items
-sections-unmended all items sorted e =
-    let k = sections-kept [] all items sorted e in
+pub sections-unmended : (all : List Placed) (items : Items) → sections_after [] items ≡ read_as all None → AreUnmended all items
+sections-unmended all items e =
+    let k = sections-kept [] all items e in
     let are = k.are in
     let found = k.found in
     let whole = k.whole in

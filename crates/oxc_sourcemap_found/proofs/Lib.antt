@@ -3,7 +3,6 @@ pub mod AnyIds
 pub mod Kept
 pub mod Placed
 pub mod PlainMaps
-pub mod SortedJoins
 pub mod ExactSections
 pub mod SoundSections
 pub mod Reader
@@ -11,8 +10,7 @@ pub mod OpenedJson
 pub mod Prefixes
 pub mod SoFar
 pub mod Joining
-pub mod NoneBehind
-pub mod FoundErrors
+pub mod FoundSteps
 pub mod NoneBad
 pub mod Twice
 pub mod Worked

@@ -15,7 +15,8 @@ use Rattle.oxc_sourcemap_places.specs.declared.fault_place.FaultPlace.{FaultPlac
 use Rattle.oxc_sourcemap_places.specs.ValueSpots.{ignored_spot}
 use Rattle.oxc_sourcemap_places.proofs.Found.{by-ignored, ignored-found}
 use Rattle.oxc_sourcemap_found.specs.declared.mend.Mend.{Mend}
-use Rattle.oxc_sourcemap_found.specs.FoundMaps.{or_not_json, found_value, found}
+use Rattle.oxc_sourcemap_found.specs.FoundMaps.{FoundRecord, or_not_json, found_value}
+use Rattle.oxc_sourcemap_found.specs.FoundMaps.{in_order, found}
 use Rattle.oxc_sourcemap_found.specs.FoundPlaces.{HasPlaceIfRefused}
 use Rattle.oxc_sourcemap_found.specs.Mended.{MendedMembers, mended_members}
 use Rattle.oxc_sourcemap_found.specs.MendedMaps.{decoded_with_any_ids, mended_map}
@@ -47,14 +48,22 @@ plain-found ms = by-fields (mended_members ms) (shape (object (mended_members ms
 
 -- ---- a text
 
+-- a step that cannot fail has no place
+in-order-placed : (r : Result FoundRecord Error) (place : Option FaultPlace) → HasPlaceIfRefused r place → HasPlaceIfRefused (r >>= (λ f. Ok (in_order f))) place
+in-order-placed (Ok f) place h = h
+in-order-placed (Err fault) None h = h
+in-order-placed (Err fault) (Some place) h = h
+
 pub value-placed : (text : Text) (d : Data) (place : Option FaultPlace) → read (opened text).text ≡ Some d
     → ((mends : List Mend) → HasPlaceIfRefused (found_value mends d) place) → HasPlaceIfRefused (found text) place
 unfolding found
 value-placed text d place is of =
     let kinds = (opened text).kinds in
-    subst (λ (o : Option Data). HasPlaceIfRefused (or_not_json o >>= found_value (mends_in None kinds)) place) (sym is) (of (mends_in None kinds))
+    in-order-placed (or_not_json (read (opened text).text) >>= found_value (mends_in None kinds)) place
+    (subst (λ (o : Option Data). HasPlaceIfRefused (or_not_json o >>= found_value (mends_in None kinds)) place) (sym is) (of (mends_in None kinds)))
 
 pub text-placed : (text : Text) (place : FaultPlace) → read (opened text).text ≡ None → HasPlaceIfRefused (found text) (Some place)
 unfolding found
 text-placed text place is =
-    subst (λ (o : Option Data). HasPlaceIfRefused (or_not_json o >>= found_value (mends_in None (opened text).kinds)) (Some place)) (sym is) tt
+    in-order-placed (or_not_json (read (opened text).text) >>= found_value (mends_in None (opened text).kinds)) (Some place)
+    (subst (λ (o : Option Data). HasPlaceIfRefused (or_not_json o >>= found_value (mends_in None (opened text).kinds)) (Some place)) (sym is) tt)

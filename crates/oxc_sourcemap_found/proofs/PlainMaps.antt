@@ -1,4 +1,4 @@
--- Maps by themselves: of an exact map nothing is mended, and each is sound.
+-- Maps by themselves: of an exact map nothing is mended, and each is sound but for the order of its tokens.
 use Rattle.std.proofs.Common.{◌≡◌, ℕ, ◌<◌, Bool, true, false, cond, not, nat_lt, ◌==◌}
 use Rattle.std.proofs.Common.{List, [], ◌∷◌, ◌++◌, map, length, refl, ap, ◌∙◌, subst}
 use Rattle.std.proofs.Common.{arith, Option, Some, None, option_map, Result, Ok, Err}
@@ -24,10 +24,9 @@ use Rattle.oxc_sourcemap_decode.proofs.ReadSound.{decoded-well}
 use Rattle.oxc_sourcemap_found.specs.InRange.{is_past, has_bad_source, has_bad_name, token_in_range}
 use Rattle.oxc_sourcemap_found.specs.InRange.{map_in_range, source_kinds, name_kinds}
 use Rattle.oxc_sourcemap_found.specs.declared.mend.MendKind.{MendKind}
-use Rattle.oxc_sourcemap_found.specs.declared.mend.MendKind.TheVariants.{Unsorted}
 use Rattle.oxc_sourcemap_found.specs.Mended.{MendedMembers, mended_members}
 use Rattle.oxc_sourcemap_found.specs.MendedMaps.{MendedMap, decoded_with_any_ids, mended_map}
-use Rattle.oxc_sourcemap_found.specs.MendedMaps.{order_kinds, map_of_members, plain_map}
+use Rattle.oxc_sourcemap_found.specs.MendedMaps.{map_of_members, plain_map}
 use Rattle.oxc_sourcemap_found.proofs.AnyIds.{reading-any_ids, reading-empty}
 use Rattle.oxc_sourcemap_found.proofs.Kept.{step, members-kept}
 
@@ -81,13 +80,12 @@ names-none r h = let b = no-bad-name (length r.names) (length r.sources) r.token
 abbrev pub mended_as : MapRecord → List MendKind → MendedMap
 mended_as r kinds = record { map = r; kinds = kinds }
 
--- of a map that is sorted and has its ids in range nothing is mended
-map-stays : (r : MapRecord) → AreIdsInRange r → are_tokens_sorted r.tokens ≡ true → mended_map [] r ≡ mended_as r []
-map-stays r h s =
-    ap (λ (q : MapRecord). mended_as (sorted_map q) ([] ++ source_kinds r ++ name_kinds r ++ order_kinds q.tokens)) (map-kept r h)
-    ∙ ap (λ (ks : List MendKind). mended_as (sorted_map r) ([] ++ ks ++ name_kinds r ++ order_kinds r.tokens)) (sources-none r h)
-    ∙ ap (λ (ks : List MendKind). mended_as (sorted_map r) ([] ++ [] ++ ks ++ order_kinds r.tokens)) (names-none r h)
-    ∙ ap (λ (t : Bool). mended_as (cond t r (record r { tokens = sorted_tokens r.tokens; token_chunks = None })) ([] ++ [] ++ [] ++ cond t [] (Unsorted ∷ []))) s
+-- of a map that has its ids in range nothing is mended
+map-stays : (r : MapRecord) → AreIdsInRange r → mended_map [] r ≡ mended_as r []
+map-stays r h =
+    ap (λ (q : MapRecord). mended_as q ([] ++ source_kinds r ++ name_kinds r)) (map-kept r h)
+    ∙ ap (λ (ks : List MendKind). mended_as r ([] ++ ks ++ name_kinds r)) (sources-none r h)
+    ∙ ap (λ (ks : List MendKind). mended_as r ([] ++ [] ++ ks)) (names-none r h)
 
 -- ---- exact maps
 
@@ -126,14 +124,14 @@ any-ids j r e =
     rw (c.fault, any, same) refl
 
 -- a map by itself that the exact reader reads
-pub plain-kept : (ms : Members) (r : MapRecord) → (shape (object ms) >>= decoded) ≡ Ok r → are_tokens_sorted r.tokens ≡ true → plain_map ms ≡ Ok (mended_as r [])
-plain-kept ms r e s =
+pub plain-kept : (ms : Members) (r : MapRecord) → (shape (object ms) >>= decoded) ≡ Ok r → plain_map ms ≡ Ok (mended_as r [])
+plain-kept ms r e =
     let j = step (shape (object ms)) decoded r e in
     let c = clear (json_fault j.value) _ r j.later in
     let list = list-clear (j.value.version == 3) _ (ignore_list_fault j.value) c.fault in
     let kept = members-kept ms j.value j.first list in
     let any = any-ids j.value r j.later in
-    let done = map-stays r (decoded-well j.value r j.later).in_range s in
+    let done = map-stays r (decoded-well j.value r j.later).in_range in
     let fields = j.first in
     rw (kept, fields, any, done) refl
 
@@ -162,23 +160,31 @@ all-sorted : (P : TokenRecord → Type 0) (ts : List TokenRecord) → AllByRecur
 all-sorted P [] h = tt
 all-sorted P (t ∷ ts) h = all-put P t (sorted_tokens ts) h.0 (all-sorted P ts h.1)
 
-sound-sorted : (b : Bool) (m : MapRecord) → are_tokens_sorted m.tokens ≡ b → m.token_chunks ≡ None → AreIdsInRange m
+-- a map that is sound but for the order of its tokens
+pub record IsInRangeMap (m : MapRecord) : Type 0 where
+  pub chunks : m.token_chunks ≡ None
+  pub in_range : AreIdsInRange m
+
+sorted-by : (b : Bool) (m : MapRecord) → are_tokens_sorted m.tokens ≡ b → m.token_chunks ≡ None → AreIdsInRange m
     → IsSound (cond b m (record m { tokens = sorted_tokens m.tokens; token_chunks = None }))
-sound-sorted true m s n h = record { sorted = s; in_range = h; chunks = rw n tt }
-sound-sorted false m s n h = record {
+sorted-by true m s n h = record { sorted = s; in_range = h; chunks = rw n tt }
+sorted-by false m s n h = record {
   sorted = sorted-once token_line token_column m.tokens;
   in_range = record { tokens = all-sorted (IsInRange (length m.names) (length m.sources)) m.tokens h.tokens; ignore_list = h.ignore_list };
   chunks = tt;
 }
+
+-- it is sound once its tokens are sorted
+pub sound-sorted : (m : MapRecord) → IsInRangeMap m → IsSound (sorted_map m)
+sound-sorted m h = sorted-by (are_tokens_sorted m.tokens) m refl h.chunks h.in_range
 
 -- what is known of a map before its ids are put in range
 record IsReady (r : MapRecord) : Type 0 where
   chunks : r.token_chunks ≡ None
   ignore_list : IfSome r.ignore_list (AllByRecursion (λ id. id < length r.sources))
 
-sound-of : (r : MapRecord) → IsReady r → IsSound (sorted_map (map_in_range r))
-sound-of r h = sound-sorted (are_tokens_sorted (map_in_range r).tokens) (map_in_range r) refl h.chunks
-    (record { tokens = all-in (length r.names) (length r.sources) r.tokens; ignore_list = h.ignore_list })
+ranged-of : (r : MapRecord) → IsReady r → IsInRangeMap (map_in_range r)
+ranged-of r h = record { chunks = h.chunks; in_range = record { tokens = all-in (length r.names) (length r.sources) r.tokens; ignore_list = h.ignore_list } }
 
 ready-plain : (j : JsonRecord) (r : MapRecord) → decoded_with_any_ids j ≡ Ok r → IsReady r
 ready-plain j r e =
@@ -195,13 +201,13 @@ fine x = Ok x
 ok-same : {A : Type 0} (x y : A) → fine x ≡ fine y → x ≡ y
 ok-same x y e = cc
 
-members-sound : (m : MendedMembers) (f : MendedMap) → map_of_members m ≡ Ok f → IsSound f.map
-members-sound m f e =
+members-ranged : (m : MendedMembers) (f : MendedMap) → map_of_members m ≡ Ok f → IsInRangeMap f.map
+members-ranged m f e =
     let fields = step (shape (object m.members)) (λ j. decoded_with_any_ids j >>= (λ r. Ok (mended_map m.kinds r))) f e in
     let map = step (decoded_with_any_ids fields.value) (λ r. Ok (mended_map m.kinds r)) f fields.later in
     let is : mended_map m.kinds map.value ≡ f = ok-same _ _ map.later in
-    subst (λ (g : MendedMap). IsSound g.map) is (sound-of map.value (ready-plain fields.value map.value map.first))
+    subst (λ (g : MendedMap). IsInRangeMap g.map) is (ranged-of map.value (ready-plain fields.value map.value map.first))
 
 -- a map by itself that is mended
-pub plain-sound : (ms : Members) (f : MendedMap) → plain_map ms ≡ Ok f → IsSound f.map
-plain-sound ms f e = members-sound (mended_members ms) f e
+pub plain-ranged : (ms : Members) (f : MendedMap) → plain_map ms ≡ Ok f → IsInRangeMap f.map
+plain-ranged ms f e = members-ranged (mended_members ms) f e

@@ -1,5 +1,5 @@
--- Maps that are found: of an exact map nothing is mended, and each is sound.
-use Rattle.std.proofs.Common.{◌≡◌, Bool, true, false, cond, List, [], ◌++◌, map, refl, ap}
+-- Maps that are found: of an exact map nothing is mended but the order of its tokens, and each is sound.
+use Rattle.std.proofs.Common.{◌≡◌, Bool, true, false, cond, List, [], ◌∷◌, ◌++◌, map, refl, ap}
 use Rattle.std.proofs.Common.{◌∙◌}
 use Rattle.std.proofs.Common.{subst, codes, Option, Some, None, Result, Ok, Err}
 use Rattle.serde_json.specs.Data.{Data, null, boolean, number, string, array, object, Members}
@@ -20,21 +20,23 @@ use Rattle.oxc_sourcemap_decode.specs.Section.{is_indexed}
 use Rattle.oxc_sourcemap_decode.specs.Sections.{Sections, all_sections, joined_sections}
 use Rattle.oxc_sourcemap_decode.specs.ReadMap.{sections_in, indexed_said, indexed_record, map_said}
 use Rattle.oxc_sourcemap_decode.specs.ReadMap.{read_value, read_map}
+use Rattle.oxc_sourcemap_sort.specs.Sorting.{sorted_tokens, sorted_map}
 use Rattle.oxc_sourcemap_found.specs.declared.mend.Mend.{Mend}
+use Rattle.oxc_sourcemap_found.specs.declared.mend.MendKind.TheVariants.{Unsorted}
 use Rattle.oxc_sourcemap_found.specs.Mended.{MendedMembers, with_version, as_found, changed}
 use Rattle.oxc_sourcemap_found.specs.MendedMaps.{plain_map, mends_in}
 use Rattle.oxc_sourcemap_found.specs.MendedSections.{MendedSection, sections_from, cut_maps}
 use Rattle.oxc_sourcemap_found.specs.MendedSections.{section_mends}
 use Rattle.oxc_sourcemap_found.specs.FoundMaps.{FoundRecord, found_record, found_plain, joined_map}
 use Rattle.oxc_sourcemap_found.specs.FoundMaps.{found_sections, found_object, found_value}
-use Rattle.oxc_sourcemap_found.specs.FoundMaps.{found_opened, found}
+use Rattle.oxc_sourcemap_found.specs.FoundMaps.{found_opened, order_mends, in_order, found}
 use Rattle.oxc_sourcemap_found.specs.Opening.{Opened, opened}
 use Rattle.oxc_sourcemap_found.proofs.Kept.{step, version-kept}
 use Rattle.oxc_sourcemap_found.proofs.OpenedJson.{opened-json}
-use Rattle.oxc_sourcemap_found.proofs.PlainMaps.{plain-kept, plain-sound}
-use Rattle.oxc_sourcemap_found.proofs.SortedJoins.{joined-each}
+use Rattle.oxc_sourcemap_found.proofs.PlainMaps.{plain-kept, IsInRangeMap, plain-ranged}
+use Rattle.oxc_sourcemap_found.proofs.PlainMaps.{sound-sorted}
 use Rattle.oxc_sourcemap_found.proofs.ExactSections.{sections-unmended, unmended}
-use Rattle.oxc_sourcemap_found.proofs.SoundSections.{sections-sound, joined-sound}
+use Rattle.oxc_sourcemap_found.proofs.SoundSections.{sections-ranged, joined-ranged}
 
 abbrev fine : {A : Type 0} → A → Result A Error
 fine x = Ok x
@@ -77,15 +79,13 @@ version-stays ms file e =
 abbrev rest : Option Text → List MendedSection → Result FoundRecord Error
 rest file ss = joined_map (cut_maps ss) file >>= (λ r. Ok (found_record ([] ++ section_mends 0 ss) r))
 
-sections-by : (ms : Members) (r : MapRecord) → IsRead (object ms) r → are_tokens_sorted r.tokens ≡ true → found_sections [] (with_version (as_found ms)) ≡ Ok (found_record [] r)
-sections-by ms r i s =
+sections-by : (ms : Members) (r : MapRecord) → IsRead (object ms) r → found_sections [] (with_version (as_found ms)) ≡ Ok (found_record [] r)
+sections-by ms r i =
     let all = all_sections i.items in
     let j = step (joined_sections all) (λ r. Ok (indexed_record i.file r)) r i.is in
     let k = joined-by (is_map_within_limits (joined all.maps)) all all.fault j.value refl refl j.first in
     let is : indexed_record i.file j.value ≡ r = same-ok (indexed_record i.file j.value) r j.later in
-    let sorted : are_tokens_sorted (joined all.maps).tokens ≡ true =
-    ap (λ (q : MapRecord). are_tokens_sorted q.tokens) k.is ∙ ap (λ (q : MapRecord). are_tokens_sorted q.tokens) is ∙ s in
-    let u = sections-unmended all.maps i.items (joined-each all.maps sorted) (ap (λ f. record { maps = all.maps; fault = f }) k.whole) in
+    let u = sections-unmended all.maps i.items (ap (λ f. record { maps = all.maps; fault = f }) k.whole) in
     ap (found_sections []) (version-stays ms i.file i.file_is)
     ∙ ap (λ (file : Result (Option Text) Error). file >>= (λ file. sections_in (object ms) >>= (λ items. sections_from None 0 items >>= (rest file)))) i.file_is
     ∙ ap (λ (items : Result Items Error). items >>= (λ items. sections_from None 0 items >>= (rest i.file))) i.items_are
@@ -96,19 +96,19 @@ sections-by ms r i s =
     (ap (λ t. cond t (Ok (joined all.maps)) (Err TooLarge)) k.within)
     ∙ ap (λ q. Ok (found_record [] (indexed_record i.file q))) k.is ∙ ap (λ q. Ok (found_record [] q)) is
 
-sections-found : (ms : Members) (r : MapRecord) → map_said (indexed_said (file_of (object ms)) (sections_in (object ms))) ≡ Ok r → are_tokens_sorted r.tokens ≡ true
+sections-found : (ms : Members) (r : MapRecord) → map_said (indexed_said (file_of (object ms)) (sections_in (object ms))) ≡ Ok r
     → found_sections [] (with_version (as_found ms)) ≡ Ok (found_record [] r)
-sections-found ms r e s = sections-by ms r (read-as (object ms) (file_of (object ms)) (sections_in (object ms)) r refl refl e) s
+sections-found ms r e = sections-by ms r (read-as (object ms) (file_of (object ms)) (sections_in (object ms)) r refl refl e)
 
-value-found : (b : Bool) (d : Data) (r : MapRecord) → is_indexed d ≡ b → read_value d ≡ Ok r → are_tokens_sorted r.tokens ≡ true → found_value [] d ≡ Ok (found_record [] r)
+value-found : (b : Bool) (d : Data) (r : MapRecord) → is_indexed d ≡ b → read_value d ≡ Ok r → found_value [] d ≡ Ok (found_record [] r)
 unfolding read_value shape
-value-found b null r p e s = cc
-value-found b (boolean x) r p e s = cc
-value-found b (number n) r p e s = cc
-value-found b (string t) r p e s = cc
-value-found b (array ds) r p e s = cc
-value-found true (object ms) r p e s = let plain = rw p at e in let done = sections-found ms r plain s in rw p done
-value-found false (object ms) r p e s = let plain = rw p at e in let done = plain-kept ms r plain s in rw (p, done) refl
+value-found b null r p e = cc
+value-found b (boolean x) r p e = cc
+value-found b (number n) r p e = cc
+value-found b (string t) r p e = cc
+value-found b (array ds) r p e = cc
+value-found true (object ms) r p e = let plain = rw p at e in let done = sections-found ms r plain in rw p done
+value-found false (object ms) r p e = let plain = rw p at e in let done = plain-kept ms r plain in rw (p, done) refl
 
 -- the value of a text that is a map
 record Valued (text : Text) (r : MapRecord) : Type 0 where
@@ -121,18 +121,25 @@ unfolding read_map read_value
 valued-at None text r is e = let h = rw is at e in cc
 valued-at (Some d) text r is e = record { value = d; is = is; map = rw is at e }
 
--- What the exact reader reads with sorted tokens is read as the same map, and nothing is mended.
-pub exact-found : (text : Text) (r : MapRecord) → read_map text ≡ Ok r → are_tokens_sorted r.tokens ≡ true → found text ≡ Ok (record { map = r; mends = [] })
-unfolding found
-exact-found text r e s =
+opened-found : (text : Text) (r : MapRecord) → read_map text ≡ Ok r → found_opened (opened text) ≡ Ok (found_record [] r)
+opened-found text r e =
     let v = valued-at (read text) text r refl e in
     let is = v.is in
-    ap found_opened (opened-json text v.value is) ∙ rw is (value-found (is_indexed v.value) v.value r refl v.map s)
+    ap found_opened (opened-json text v.value is) ∙ rw is (value-found (is_indexed v.value) v.value r refl v.map)
+
+-- What the exact reader reads is read as the same map, sorted.
+pub exact-sorted : (text : Text) (r : MapRecord) → read_map text ≡ Ok r → found text ≡ Ok (record { map = sorted_map r; mends = order_mends r.tokens })
+unfolding found
+exact-sorted text r e = ap (λ (q : Result FoundRecord Error). q >>= (λ f. Ok (in_order f))) (opened-found text r e)
+
+-- If it is sorted, nothing is mended.
+pub exact-found : (text : Text) (r : MapRecord) → read_map text ≡ Ok r → are_tokens_sorted r.tokens ≡ true → found text ≡ Ok (record { map = r; mends = [] })
+exact-found text r e s = exact-sorted text r e ∙ ap (λ b. Ok (found_record (cond b [] (mends_in None (Unsorted ∷ []))) (cond b r (record r { tokens = sorted_tokens r.tokens; token_chunks = None })))) s
 
 -- ---- sound maps
 
-sections-are-sound : (mends : List Mend) (m : MendedMembers) (f : FoundRecord) → found_sections mends m ≡ Ok f → IsSound f.map
-sections-are-sound mends m f e =
+sections-are-ranged : (mends : List Mend) (m : MendedMembers) (f : FoundRecord) → found_sections mends m ≡ Ok f → IsInRangeMap f.map
+sections-are-ranged mends m f e =
     let d = object m.members in
     let file = step (file_of d) (λ file. sections_in d >>= (λ items. sections_from None 0 items >>= (λ ss. joined_map (cut_maps ss) file >>= (λ r. Ok (found_record (mends ++ mends_in None m.kinds ++ section_mends 0 ss) r))))) f e in
     let items = step (sections_in d) (λ items. sections_from None 0 items >>= (λ ss. joined_map (cut_maps ss) file.value >>= (λ r. Ok (found_record (mends ++ mends_in None m.kinds ++ section_mends 0 ss) r)))) f file.later in
@@ -144,29 +151,32 @@ sections-are-sound mends m f e =
     let j = step (joined_sections cut) (λ r. Ok (indexed_record file.value r)) r.value r.first in
     let k = joined-by (is_map_within_limits (joined cut.maps)) cut None j.value refl refl j.first in
     let same : indexed_record file.value j.value ≡ r.value = same-ok (indexed_record file.value j.value) r.value j.later in
-    let good = joined-sound None ss.value (sections-sound None 0 items.value ss.value ss.first) in
-    let whole : IsSound (indexed_record file.value (joined cut.maps)) =
-    record { sorted = good.sorted; in_range = record { tokens = good.in_range.tokens; ignore_list = good.in_range.ignore_list }; chunks = tt } in
-    subst (λ (g : FoundRecord). IsSound g.map) is (subst IsSound same (subst (λ q. IsSound (indexed_record file.value q)) k.is whole))
+    let good = joined-ranged ss.value (sections-ranged None 0 items.value ss.value ss.first) in
+    let whole : IsInRangeMap (indexed_record file.value (joined cut.maps)) =
+    record { chunks = refl; in_range = record { tokens = good.tokens; ignore_list = good.ignore_list } } in
+    subst (λ (g : FoundRecord). IsInRangeMap g.map) is (subst IsInRangeMap same (subst (λ q. IsInRangeMap (indexed_record file.value q)) k.is whole))
 
-object-sound : (b : Bool) (mends : List Mend) (ms : Members) (f : FoundRecord) → is_indexed (object ms) ≡ b → found_object mends ms ≡ Ok f → IsSound f.map
-object-sound true mends ms f p e = sections-are-sound mends (with_version (as_found ms)) f (rw p at e)
-object-sound false mends ms f p e =
+object-ranged : (b : Bool) (mends : List Mend) (ms : Members) (f : FoundRecord) → is_indexed (object ms) ≡ b → found_object mends ms ≡ Ok f → IsInRangeMap f.map
+object-ranged true mends ms f p e = sections-are-ranged mends (with_version (as_found ms)) f (rw p at e)
+object-ranged false mends ms f p e =
     let plain : (plain_map ms >>= (λ m. Ok (found_plain mends m))) ≡ Ok f = rw p at e in
     let m = step (plain_map ms) (λ m. Ok (found_plain mends m)) f plain in
     let is : found_plain mends m.value ≡ f = same-ok (found_plain mends m.value) f m.later in
-    subst (λ (g : FoundRecord). IsSound g.map) is (plain-sound ms m.value m.first)
+    subst (λ (g : FoundRecord). IsInRangeMap g.map) is (plain-ranged ms m.value m.first)
 
-value-sound : (mends : List Mend) (d : Data) (f : FoundRecord) → found_value mends d ≡ Ok f → IsSound f.map
-value-sound mends d f e =
+value-ranged : (mends : List Mend) (d : Data) (f : FoundRecord) → found_value mends d ≡ Ok f → IsInRangeMap f.map
+value-ranged mends d f e =
     let ms = step (or_misshapen Object (as_object d)) (found_object mends) f e in
-    object-sound (is_indexed (object ms.value)) mends ms.value f refl ms.later
+    object-ranged (is_indexed (object ms.value)) mends ms.value f refl ms.later
 
-opened-sound : (o : Option Data) (p : Opened) (f : FoundRecord) → read p.text ≡ o → found_opened p ≡ Ok f → IsSound f.map
-opened-sound None p f is e = let h = rw is at e in cc
-opened-sound (Some d) p f is e = value-sound (mends_in None p.kinds) d f (rw is at e)
+opened-ranged : (o : Option Data) (p : Opened) (f : FoundRecord) → read p.text ≡ o → found_opened p ≡ Ok f → IsInRangeMap f.map
+opened-ranged None p f is e = let h = rw is at e in cc
+opened-ranged (Some d) p f is e = value-ranged (mends_in None p.kinds) d f (rw is at e)
 
 -- a map that is found is sound
 pub found-sound : (text : Text) (f : FoundRecord) → found text ≡ Ok f → IsSound f.map
 unfolding found
-found-sound text f e = opened-sound (read (opened text).text) (opened text) f refl e
+found-sound text f e =
+    let g = step (found_opened (opened text)) (λ f. Ok (in_order f)) f e in
+    let is : in_order g.value ≡ f = same-ok (in_order g.value) f g.later in
+    subst (λ (q : FoundRecord). IsSound q.map) is (sound-sorted g.value.map (opened-ranged (read (opened text).text) (opened text) g.value refl g.first))

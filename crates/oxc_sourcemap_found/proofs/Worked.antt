@@ -8,13 +8,15 @@ use Rattle.oxc_sourcemap_places.specs.declared.fault_place.FaultSpot.TheVariants
 use Rattle.oxc_sourcemap_url.specs.DataUrls.{decoded_data_url}
 use Rattle.oxc_sourcemap_tokens.specs.declared.position.Position.{Position}
 use Rattle.oxc_sourcemap_tokens.specs.Token.{TokenRecord}
-use Rattle.oxc_sourcemap_parts.specs.Record.{Text}
+use Rattle.oxc_sourcemap_parts.specs.Record.{Text, MapRecord}
 use Rattle.oxc_sourcemap_parts.specs.Views.{empty_record}
 use Rattle.oxc_sourcemap_join.specs.Joined.{position}
 use Rattle.oxc_sourcemap_found.specs.declared.mend.MendKind.{MendKind}
 use Rattle.oxc_sourcemap_found.specs.declared.mend.MendKind.TheVariants.{ByteOrderMark, JsonPrefix}
-use Rattle.oxc_sourcemap_found.specs.declared.mend.MendKind.TheVariants.{Unsorted, Cut}
-use Rattle.oxc_sourcemap_found.specs.MendedSections.{MendedSection, is_behind, section_mends}
+use Rattle.oxc_sourcemap_found.specs.declared.mend.MendKind.TheVariants.{NullNames, Unsorted, Cut}
+use Rattle.oxc_sourcemap_found.specs.MendedSections.{MendedSection, is_behind, cut_map}
+use Rattle.oxc_sourcemap_found.specs.MendedSections.{section_mends}
+use Rattle.oxc_sourcemap_found.specs.FoundMaps.{found_record, in_order}
 use Rattle.oxc_sourcemap_found.specs.FoundPlaces.{found_value_place, found_sections_place}
 use Rattle.oxc_sourcemap_found.specs.Opening.{Opened, opened}
 
@@ -57,9 +59,23 @@ cuts-a_moved_token = refl
 keeps-a_token_on_a_line_of_its_own : is_behind (position 3 0) (position 2 5) (token 1 0) ≡ false
 keeps-a_token_on_a_line_of_its_own = refl
 
-tells-by_section : section_mends 0 (section (token 0 0 ∷ token 0 5 ∷ []) [] (position 0 0) ∷ section (token 0 9 ∷ []) (Unsorted ∷ []) (position 0 4) ∷ [])
-    ≡ record { section = Some 0; kind = Cut 1 } ∷ record { section = Some 1; kind = Unsorted } ∷ []
+abbrev with_tokens : List TokenRecord → MapRecord
+with_tokens tokens = record empty_record { tokens = tokens }
+
+cuts-what_reaches_in : cut_map (Some (position 0 2)) (position 0 0) (with_tokens (token 0 4 ∷ token 0 1 ∷ token 0 0 ∷ token 0 3 ∷ [])) ≡ with_tokens (token 0 1 ∷ token 0 0 ∷ [])
+cuts-what_reaches_in = refl
+
+-- the exact reader looks at the last token alone, as this one
+keeps-what_does_not_reach_in : cut_map (Some (position 0 5)) (position 0 0) (with_tokens (token 0 10 ∷ token 0 2 ∷ [])) ≡ with_tokens (token 0 10 ∷ token 0 2 ∷ [])
+keeps-what_does_not_reach_in = refl
+
+tells-by_section : section_mends 0 (section (token 0 0 ∷ token 0 5 ∷ []) [] (position 0 0) ∷ section (token 0 9 ∷ []) (NullNames ∷ []) (position 0 4) ∷ [])
+    ≡ record { section = Some 0; kind = Cut 1 } ∷ record { section = Some 1; kind = NullNames } ∷ []
 tells-by_section = refl
+
+sorts-the_whole_map : in_order (found_record (record { section = Some 0; kind = NullNames } ∷ []) (with_tokens (token 0 10 ∷ token 0 2 ∷ token 0 5 ∷ [])))
+    ≡ found_record (record { section = Some 0; kind = NullNames } ∷ record { section = None; kind = Unsorted } ∷ []) (with_tokens (token 0 2 ∷ token 0 5 ∷ token 0 10 ∷ []))
+sorts-the_whole_map = refl
 
 -- ---- places of faults
 

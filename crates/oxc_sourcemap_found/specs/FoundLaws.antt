@@ -4,14 +4,20 @@ use Rattle.serde_json.specs.Data.{Members}
 use Rattle.oxc_sourcemap_parts.specs.Record.{Text, MapRecord}
 use Rattle.oxc_sourcemap_parts.specs.Sorted.{are_tokens_sorted}
 use Rattle.oxc_sourcemap_parts.specs.Sound.{IsSound}
+use Rattle.oxc_sourcemap_sort.specs.Sorting.{sorted_map}
 use Rattle.oxc_sourcemap_decode.specs.ReadMap.{read_map}
 use Rattle.oxc_sourcemap_found.specs.Mended.{mended_members}
-use Rattle.oxc_sourcemap_found.specs.FoundMaps.{FoundRecord, found}
+use Rattle.oxc_sourcemap_found.specs.FoundMaps.{FoundRecord, found, order_mends}
 
 -- A text that the exact reader reads as a sorted map is read as this map, and nothing is mended.
 abbrev pub ExactIsFound : Type 0
 ExactIsFound = (text : Text) (r : MapRecord) → read_map text ≡ Ok r → are_tokens_sorted r.tokens ≡ true
     → found text ≡ Ok (record { map = r; mends = [] })
+
+-- A text that the exact reader reads is read as this map with its tokens sorted, and only that they were not is mended.
+abbrev pub ExactIsSorted : Type 0
+ExactIsSorted = (text : Text) (r : MapRecord) → read_map text ≡ Ok r
+    → found text ≡ Ok (record { map = sorted_map r; mends = order_mends r.tokens })
 
 -- The members of a mended object have nothing to mend.
 abbrev pub MendedIsMended : Type 0

@@ -1,5 +1,5 @@
 -- A map as it is found: the map that a text is read as, and what was mended.
-use Rattle.std.specs.Prelude.{List, ◌++◌, Option, Some, None, Result, Ok, Err}
+use Rattle.std.specs.Prelude.{List, [], ◌∷◌, ◌++◌, Option, Some, None, Result, Ok, Err}
 use Rattle.std.specs.Prelude.{if◌then◌else◌}
 use Rattle.serde_json.specs.Data.{Data, Members, object}
 use Rattle.serde_json.specs.Find.{as_object}
@@ -9,12 +9,16 @@ use Rattle.oxc_sourcemap_tokens.specs.declared.error.Error.TheVariants.{BadJson}
 use Rattle.oxc_sourcemap_tokens.specs.declared.error.JsonFault.TheVariants.{Reading}
 use Rattle.oxc_sourcemap_tokens.specs.declared.error.Field.TheVariants.{Object}
 use Rattle.oxc_sourcemap_tokens.specs.declared.position.Position.{Position}
+use Rattle.oxc_sourcemap_tokens.specs.Token.{TokenRecord}
 use Rattle.oxc_sourcemap_parts.specs.Record.{Text, MapRecord}
+use Rattle.oxc_sourcemap_parts.specs.Sorted.{are_tokens_sorted}
 use Rattle.oxc_sourcemap_json.specs.Shape.{◌>>=◌, or_misshapen, file_of}
+use Rattle.oxc_sourcemap_sort.specs.Sorting.{sorted_map}
 use Rattle.oxc_sourcemap_decode.specs.Section.{is_indexed}
 use Rattle.oxc_sourcemap_decode.specs.Sections.{joined_sections}
 use Rattle.oxc_sourcemap_decode.specs.ReadMap.{sections_in, indexed_record}
 use Rattle.oxc_sourcemap_found.specs.declared.mend.Mend.{Mend}
+use Rattle.oxc_sourcemap_found.specs.declared.mend.MendKind.TheVariants.{Unsorted}
 use Rattle.oxc_sourcemap_found.specs.Mended.{MendedMembers, with_version, as_found}
 use Rattle.oxc_sourcemap_found.specs.MendedMaps.{MendedMap, plain_map, mends_in}
 use Rattle.oxc_sourcemap_found.specs.MendedSections.{sections_from, cut_maps}
@@ -69,6 +73,14 @@ found_value mends d = or_misshapen Object (as_object d) >>= found_object mends
 abbrev pub found_opened : Opened → Result FoundRecord Error
 found_opened o = or_not_json (read o.text) >>= found_value (mends_in None o.kinds)
 
+-- what is mended in the order of tokens
+abbrev pub order_mends : List TokenRecord → List Mend
+order_mends tokens = if are_tokens_sorted tokens then [] else mends_in None (Unsorted ∷ [])
+
+-- a map with its tokens sorted; that they were not is told last
+abbrev pub in_order : FoundRecord → FoundRecord
+in_order f = found_record (f.mends ++ order_mends f.map.tokens) (sorted_map f.map)
+
 -- the map of a text, or its first fault
 unfoldable pub found : Text → Result FoundRecord Error
-found text = found_opened (opened text)
+found text = found_opened (opened text) >>= (λ f. Ok (in_order f))

@@ -1,19 +1,15 @@
--- A map by itself, mended: its members, its ids and its order.
-use Rattle.std.specs.Prelude.{List, [], ◌∷◌, ◌++◌, map, Option, ℕ, Result, Ok, if◌then◌else◌}
+-- A map by itself, mended: its members and its ids. Its tokens stay as they are listed.
+use Rattle.std.specs.Prelude.{List, ◌++◌, map, Option, ℕ, Result, Ok}
 use Rattle.serde_json.specs.Data.{Members, object}
 use Rattle.oxc_sourcemap_tokens.specs.declared.error.Error.{Error}
 use Rattle.oxc_sourcemap_tokens.specs.Errors.{unless}
-use Rattle.oxc_sourcemap_tokens.specs.Token.{TokenRecord}
 use Rattle.oxc_sourcemap_mappings.specs.Reading.{reading}
 use Rattle.oxc_sourcemap_parts.specs.Record.{MapRecord}
-use Rattle.oxc_sourcemap_parts.specs.Sorted.{are_tokens_sorted}
 use Rattle.oxc_sourcemap_json.specs.Json.{JsonRecord}
 use Rattle.oxc_sourcemap_json.specs.Shape.{◌>>=◌, shape}
-use Rattle.oxc_sourcemap_sort.specs.Sorting.{sorted_map}
 use Rattle.oxc_sourcemap_decode.specs.Decoded.{with_tokens, json_fault}
 use Rattle.oxc_sourcemap_found.specs.declared.mend.Mend.{Mend}
 use Rattle.oxc_sourcemap_found.specs.declared.mend.MendKind.{MendKind}
-use Rattle.oxc_sourcemap_found.specs.declared.mend.MendKind.TheVariants.{Unsorted}
 use Rattle.oxc_sourcemap_found.specs.InRange.{map_in_range, source_kinds, name_kinds}
 use Rattle.oxc_sourcemap_found.specs.Mended.{MendedMembers, mended_members}
 
@@ -31,16 +27,9 @@ mends_in section kinds = map (λ kind. record { section = section; kind = kind }
 abbrev pub decoded_with_any_ids : JsonRecord → Result MapRecord Error
 decoded_with_any_ids j = unless (json_fault j) (with_tokens j (reading j.mappings 4294967295 4294967295))
 
--- what was mended in the order of tokens
-abbrev pub order_kinds : List TokenRecord → List MendKind
-order_kinds tokens = if are_tokens_sorted tokens then [] else Unsorted ∷ []
-
--- a map with its ids in range and its tokens sorted, and what was mended: before, and in these
+-- a map with its ids in range, and what was mended: before, and in these
 abbrev pub mended_map : List MendKind → MapRecord → MendedMap
-mended_map kinds r = record {
-  map = sorted_map (map_in_range r);
-  kinds = kinds ++ source_kinds r ++ name_kinds r ++ order_kinds (map_in_range r).tokens;
-}
+mended_map kinds r = record { map = map_in_range r; kinds = kinds ++ source_kinds r ++ name_kinds r }
 
 -- the map of an object whose members are mended, or its first fault
 abbrev pub map_of_members : MendedMembers → Result MendedMap Error

@@ -1,14 +1,14 @@
--- The sections of an indexed map, each mended as a map by itself, and cut where the next one begins.
-use Rattle.std.specs.Prelude.{ℕ, ◌+◌, Bool, not, List, [], ◌∷◌, ◌++◌, filter, count_by, Option}
-use Rattle.std.specs.Prelude.{Some}
-use Rattle.std.specs.Prelude.{None, Result, Ok, Err, if◌then◌else◌}
+-- The sections of an indexed map, each mended as a map by itself, and cut if it reaches into the next one.
+use Rattle.std.specs.Prelude.{ℕ, ◌+◌, Bool, false, not, List, [], ◌∷◌, ◌++◌, filter, count_by}
+use Rattle.std.specs.Prelude.{Option, Some, None, Result, Ok, Err, if◌then◌else◌}
+use Rattle.std.specs.Option.{option_map_or}
 use Rattle.serde_json.specs.Data.{Data, Items, no_items, item}
 use Rattle.serde_json.specs.Find.{as_object}
 use Rattle.oxc_sourcemap_tokens.specs.declared.error.Error.{Error}
 use Rattle.oxc_sourcemap_tokens.specs.declared.error.Error.TheVariants.{SectionOrder}
 use Rattle.oxc_sourcemap_tokens.specs.declared.error.Field.TheVariants.{Object}
 use Rattle.oxc_sourcemap_tokens.specs.declared.position.Position.{Position}
-use Rattle.oxc_sourcemap_tokens.specs.Token.{TokenRecord}
+use Rattle.oxc_sourcemap_tokens.specs.Token.{TokenRecord, last}
 use Rattle.oxc_sourcemap_parts.specs.Record.{MapRecord}
 use Rattle.oxc_sourcemap_json.specs.Shape.{◌>>=◌, or_misshapen}
 use Rattle.oxc_sourcemap_decode.specs.Section.{place_in, map_in}
@@ -16,7 +16,6 @@ use Rattle.oxc_sourcemap_decode.specs.Sections.{may_follow, moved_position}
 use Rattle.oxc_sourcemap_found.specs.declared.mend.Mend.{Mend}
 use Rattle.oxc_sourcemap_found.specs.declared.mend.MendKind.{MendKind}
 use Rattle.oxc_sourcemap_found.specs.declared.mend.MendKind.TheVariants.{Cut}
-use Rattle.oxc_sourcemap_found.specs.InRange.{counted}
 use Rattle.oxc_sourcemap_found.specs.MendedMaps.{MendedMap, plain_map, mends_in}
 
 -- ---- sections, as they are read
@@ -61,22 +60,29 @@ sections_from before number (item d ds) = do
 abbrev pub is_behind : Position → Position → TokenRecord → Bool
 is_behind next offset t = not (may_follow (Some (moved_position offset t)) next)
 
+-- Whether a section reaches into the next one: its last token, as listed, is behind the place where that begins. The exact reader
+-- refuses this, and no other token there.
+abbrev pub reaches_into : Position → Position → List TokenRecord → Bool
+reaches_into next offset tokens = option_map_or (is_behind next offset) (last tokens) false
+
 -- where the first of these sections begins
 abbrev pub next_place : List MendedSection → Option Position
 next_place [] = None
 next_place (s ∷ ss) = Some s.1
 
--- the map of a section without the tokens behind the place where the next one begins
+-- the map of a section; if it reaches into the next one, without the tokens behind the place where that begins
 abbrev pub cut_map : Option Position → Position → MapRecord → MapRecord
 cut_map None offset r = r
-cut_map (Some next) offset r = record r { tokens = filter (λ t. not (is_behind next offset t)) r.tokens }
+cut_map (Some next) offset r =
+    if reaches_into next offset r.tokens then record r { tokens = filter (λ t. not (is_behind next offset t)) r.tokens } else r
 
 -- how many tokens are left out so
 abbrev pub cut_kinds : Option Position → Position → MapRecord → List MendKind
 cut_kinds None offset r = []
-cut_kinds (Some next) offset r = counted Cut (count_by (is_behind next offset) r.tokens)
+cut_kinds (Some next) offset r =
+    if reaches_into next offset r.tokens then Cut (count_by (is_behind next offset) r.tokens) ∷ [] else []
 
--- the maps of sections, each cut where the next one begins, at their offsets
+-- the maps of sections, each cut if it reaches into the next one, at their offsets
 abbrev pub cut_maps : List MendedSection → List (MapRecord × Position)
 cut_maps [] = []
 cut_maps (s ∷ ss) = (cut_map (next_place ss) s.1 s.0.map, s.1) ∷ cut_maps ss

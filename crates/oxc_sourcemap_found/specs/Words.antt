@@ -14,6 +14,7 @@ pub use Rattle.oxc_sourcemap_sort.specs.Sorting.{sorted_map}
 pub use Rattle.oxc_sourcemap_tokens.specs.Results.{Answers, OnlyMemory, lent_item}
 pub use Rattle.oxc_sourcemap_found.specs.FoundMaps.{found_record, found_map, joined_map}
 pub use Rattle.oxc_sourcemap_found.specs.FoundMaps.{found_sections, found_value, found}
+pub use Rattle.oxc_sourcemap_found.specs.FoundMaps.{order_mends}
 pub use Rattle.oxc_sourcemap_found.specs.InRange.{is_past, has_bad_source, has_bad_name}
 pub use Rattle.oxc_sourcemap_found.specs.InRange.{token_in_range, map_in_range}
 pub use Rattle.oxc_sourcemap_found.specs.InRange.{source_kinds, name_kinds}
@@ -25,16 +26,18 @@ pub use Rattle.oxc_sourcemap_found.specs.Mended.{replaced, with_version, with_so
 pub use Rattle.oxc_sourcemap_found.specs.Mended.{with_contents, with_names, with_ignore_list}
 pub use Rattle.oxc_sourcemap_found.specs.Mended.{with_google_ignore_list, source_count}
 pub use Rattle.oxc_sourcemap_found.specs.Mended.{mended_members, as_found}
-pub use Rattle.oxc_sourcemap_found.specs.MendedMaps.{mends_in, decoded_with_any_ids, order_kinds}
+pub use Rattle.oxc_sourcemap_found.specs.MendedMaps.{mends_in, decoded_with_any_ids}
 pub use Rattle.oxc_sourcemap_found.specs.MendedMaps.{mended_map, plain_map}
 pub use Rattle.oxc_sourcemap_found.specs.MendedSections.{place_from, map_from, section_from}
 pub use Rattle.oxc_sourcemap_found.specs.MendedSections.{sections_from, is_behind, cut_map}
+pub use Rattle.oxc_sourcemap_found.specs.MendedSections.{reaches_into}
 pub use Rattle.oxc_sourcemap_found.specs.MendedSections.{cut_kinds, cut_maps, section_mends}
 pub use Rattle.oxc_sourcemap_found.specs.Opening.{Opened, behind, without_mark, without_prefix}
 pub use Rattle.oxc_sourcemap_found.specs.Opening.{data_in, opened}
 pub use Rattle.oxc_sourcemap_found.specs.States.{state_of, found_view, opened_view}
 pub use Rattle.oxc_sourcemap_found.specs.States.{mended_view, section_view}
-pub use Rattle.oxc_sourcemap_found.specs.FoundLaws.{ExactIsFound, MendedIsMended, FoundIsSound}
+pub use Rattle.oxc_sourcemap_found.specs.FoundLaws.{ExactIsFound, ExactIsSorted}
+pub use Rattle.oxc_sourcemap_found.specs.FoundLaws.{MendedIsMended, FoundIsSound}
 pub use Rattle.oxc_sourcemap_found.specs.FoundPlaces.{found_mappings_spot, found_fields_spot}
 pub use Rattle.oxc_sourcemap_found.specs.FoundPlaces.{plain_spot, found_map_spot}
 pub use Rattle.oxc_sourcemap_found.specs.FoundPlaces.{section_place, found_sections_place}

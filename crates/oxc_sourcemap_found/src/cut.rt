@@ -1,6 +1,7 @@
-//! Sections are cut where the next one begins.
+//! Sections that reach into the next one are cut where that begins.
 ghost use Rattle.std.specs.Prelude.{◌≡◌, ◌++◌, not, map, drop, filter, count_by, option_map, IfOk};
 ghost use Rattle.oxc_sourcemap_found.specs.Words.{record_of_parts, owned_records, is_behind};
+ghost use Rattle.oxc_sourcemap_found.specs.Words.{reaches_into};
 ghost use Rattle.oxc_sourcemap_found.specs.Words.{cut_map, cut_kinds, cut_maps, section_mends};
 ghost use Rattle.oxc_sourcemap_found.specs.Words.{mends_in, mended_view, section_view};
 
@@ -24,6 +25,16 @@ fn is_behind(next: Position, offset: Position, token: Token) -> bool
     let column = u64::from(token.get_dst_col()) + u64::from(moved);
     let (next_line, next_column) = (u64::from(next.line), u64::from(next.column));
     !(line < next_line || (line == next_line && column <= next_column))
+}
+
+/// Whether the last of these tokens, as listed, is behind that place. The exact reader refuses this, and no other token there.
+fn reaches_into(next: Position, offset: Position, tokens: &[Token]) -> bool
+    ensures { result ≡ reaches_into next offset tokens.now }
+{
+    match tokens.last() {
+        Some(token) => is_behind(next, offset, *token),
+        None => false,
+    }
 }
 
 /// How many of these tokens are behind that place.
@@ -55,7 +66,7 @@ fn tokens_before(
     Ok(kept)
 }
 
-/// The map of a section, cut where the next one begins, if there is one.
+/// The map of a section, cut where the next one begins if it reaches into that.
 fn cut(alloc: Global, next: Option<Position>, section: Section) -> Memory<MendedParts>
     ensures map { IfOk result (λ m. record_of_parts m.parts
         ≡ cut_map next section.place (record_of_parts section.map.parts)) }
@@ -66,14 +77,14 @@ fn cut(alloc: Global, next: Option<Position>, section: Section) -> Memory<Mended
     let Some(next) = next else {
         return Ok(map);
     };
-    let count = count_behind(next, place, map.parts.tokens.as_slice());
-    if count == 0 {
+    if !reaches_into(next, place, map.parts.tokens.as_slice()) {
         return Ok(map);
     }
     let MendedParts {
         mut parts,
         mut kinds,
     } = map;
+    let count = count_behind(next, place, parts.tokens.as_slice());
     kinds.push(MendKind::Cut(count))?;
     let kept = tokens_before(alloc, next, place, parts.tokens.as_slice())?;
     parts.tokens = kept.into_boxed_slice();
@@ -119,14 +130,14 @@ fn behind_first(places: &[Position]) -> &[Position]
     }
 }
 
-/// The maps of sections, each cut where the next one begins, and what was mended in them.
+/// The maps of sections, each cut if it reaches into the next one, and what was mended in them.
 #[derive(Drop)]
 pub(crate) struct CutSections {
     pub(crate) maps: Vec<(SourceMapParts<'static>, Position)>,
     pub(crate) mends: Vec<Mend>,
 }
 
-/// Cuts sections, each where the next one begins.
+/// Cuts the sections that reach into the next one.
 pub(crate) fn cut_sections(alloc: Global, sections: Vec<Section>) -> Memory<CutSections>
     ensures maps { IfOk result (λ cut. owned_records cut.maps.items
         ≡ cut_maps (map section_view sections.items)) }

@@ -12,6 +12,7 @@ use crate::mend::Mend;
 use crate::opening::open;
 use crate::plain::{into_object, mend_plain};
 use crate::sections::read_sections;
+use crate::tokens::mend_order;
 use oxc_sourcemap_decode::{into_member, is_indexed};
 use oxc_sourcemap_join::join_owned_parts;
 use oxc_sourcemap_json::file_from_value;
@@ -111,8 +112,9 @@ fn parts_of_value(
     }
 }
 
-/// Reads the map of a JSON text as it is found: what the exact reader refuses and docs/FORMAT.md, "Maps as they are found",
-/// lists is mended, and told of. The map is sound: its tokens are sorted, and its ids in range. All its strings are owned.
+/// Reads the map of a JSON text as it is found: what docs/FORMAT.md, "Maps as they are found", lists is mended, and told of.
+/// This is what the exact reader refuses, and the order of tokens, which it leaves as it is. The map is sound: its tokens are
+/// sorted, and its ids in range. All its strings are owned.
 ///
 /// ```rust
 /// use oxc_sourcemap::{MendKind, read_found};
@@ -124,8 +126,8 @@ fn parts_of_value(
 /// assert_eq!(rt; kinds, [MendKind::JsonPrefix, MendKind::NullSource(0)]);
 /// ```
 ///
-/// A text that the exact reader reads as a sorted map is read as this map, and nothing is mended (`mending_harmless`). What is
-/// not in the list is refused, in this order:
+/// A text that the exact reader reads is read as the same map with its tokens sorted, and only `Unsorted` is told, if they were
+/// not (`mending_harmless`). What is not in the list is refused, in this order:
 /// - `BadJson(Reading)` if `serde_json` reads no value in what is left of the text, as for any URL but a data URL of JSON;
 /// - `BadJson(Shape(Object))` if the value is no object, and then the errors of `JSONSourceMap::from_value` for the mended object;
 /// - the errors of `decode_mappings`, for as many names and sources as there can be: a source or name id may be up to 4294967294;
@@ -140,7 +142,8 @@ pub fn read_found(alloc: Global, text: &str) -> Result<Found>
     let (json, kinds) = open(alloc, text)?;
     let mut mends = mends_in(alloc, None, kinds.as_slice())?;
     let value = Value::from_str(alloc, json.as_str())?;
-    let parts = parts_of_value(alloc, value, &mut mends)?;
+    let mut parts = parts_of_value(alloc, value, &mut mends)?;
+    mend_order(alloc, &mut mends, &mut parts)?;
     let map = SourceMap::from_parts(parts);
     Ok(Found { map, mends })
 }

@@ -54,9 +54,9 @@ pub enum MendKind {
     SourceIds(usize),
     /// So many tokens have a name id that is not below the number of names, and are read without a name.
     NameIds(usize),
-    /// The tokens are not in order of generated line and column, and are sorted.
+    /// The tokens of the map, sections joined, are not in order of generated line and column, and are sorted. Told last.
     Unsorted,
-    /// So many tokens of the section are behind the beginning of the next one, and are left out.
+    /// So many tokens of the section, the last one listed among them, are behind the beginning of the next one, and are left out.
     Cut(usize),
 }
 

@@ -6,7 +6,7 @@ ghost use Rattle.oxc_sourcemap_found.specs.Words.{mended_view, members_view, as_
 
 use crate::members::mend_object;
 use crate::mend::MendKind;
-use crate::tokens::{mend_ids, mend_order};
+use crate::tokens::mend_ids;
 use oxc_sourcemap_decode::decode_parts;
 use oxc_sourcemap_json::{JSONSourceMap, json_of};
 use oxc_sourcemap_mappings::decode_mappings;
@@ -45,7 +45,7 @@ pub(crate) fn into_object(value: Value) -> Option<Map<String, Value>>
     }
 }
 
-/// These parts with their ids in range and their tokens sorted, and what was mended before and is mended now.
+/// These parts with their ids in range, and what was mended before and is mended now.
 fn mend_tokens(
     alloc: Global,
     mut kinds: Vec<MendKind>,
@@ -55,7 +55,6 @@ fn mend_tokens(
         ≡ mended_map kinds.items (record_of_parts parts.entry)) }
 {
     mend_ids(alloc, &mut kinds, &mut parts)?;
-    mend_order(alloc, &mut kinds, &mut parts)?;
     Ok(MendedParts { parts, kinds })
 }
 

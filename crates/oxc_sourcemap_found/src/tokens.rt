@@ -4,10 +4,10 @@ ghost use Rattle.std.specs.Prelude.{if◌then◌else◌};
 ghost use Rattle.std.specs.Box.{boxed_slice_items};
 ghost use Rattle.oxc_sourcemap_found.specs.Words.{record_of_parts, is_past, has_bad_source};
 ghost use Rattle.oxc_sourcemap_found.specs.Words.{has_bad_name, token_in_range, map_in_range};
-ghost use Rattle.oxc_sourcemap_found.specs.Words.{source_kinds, name_kinds, order_kinds};
+ghost use Rattle.oxc_sourcemap_found.specs.Words.{source_kinds, name_kinds, order_mends};
 ghost use Rattle.oxc_sourcemap_found.specs.Words.{sorted_map};
 
-use crate::mend::MendKind;
+use crate::mend::{Mend, MendKind};
 use oxc_sourcemap_parts::{SourceMapParts, are_sorted};
 use oxc_sourcemap_sort::sort_parts;
 use oxc_sourcemap_tokens::{Memory, Token};
@@ -135,17 +135,20 @@ pub(crate) fn mend_ids(
 /// Sorts tokens that are not sorted, and tells of it.
 pub(crate) fn mend_order(
     alloc: Global,
-    kinds: &mut Vec<MendKind>,
+    mends: &mut Vec<Mend>,
     parts: &mut SourceMapParts<'_>,
 ) -> Memory<()>
     ensures parts { OnOk result (record_of_parts parts.new
         ≡ sorted_map (record_of_parts parts.old)) }
-    ensures kinds { OnOk result (kinds.new.items
-        ≡ kinds.old.items ++ order_kinds (boxed_slice_items parts.old.tokens)) }
+    ensures mends { OnOk result (mends.new.items
+        ≡ mends.old.items ++ order_mends (boxed_slice_items parts.old.tokens)) }
 {
     if are_sorted(parts.tokens.as_slice()) {
         return Ok(());
     }
-    kinds.push(MendKind::Unsorted)?;
+    mends.push(Mend {
+        section: None,
+        kind: MendKind::Unsorted,
+    })?;
     sort_parts(alloc, parts)
 }

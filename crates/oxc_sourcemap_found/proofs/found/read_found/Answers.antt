@@ -1,16 +1,18 @@
-use Rattle.std.proofs.Common.{sym, ap, ◌∙◌, None}
+use Rattle.std.proofs.Common.{sym, ap, ◌∙◌, None, Ok, Err}
 use Rattle.std.specs.Cow.{cow_str_bytes}
 use Rattle.serde_json.specs.Read.{read}
 use Rattle.serde_json.specs.View.{view}
 use Rattle.oxc_sourcemap_tokens.proofs.Carried.{failed-answer}
+use Rattle.oxc_sourcemap_parts.specs.Views.{record_of_parts}
+use Rattle.oxc_sourcemap_found.specs.FoundMaps.{found_record}
 use Rattle.oxc_sourcemap_found.specs.MendedMaps.{mends_in}
 use Rattle.oxc_sourcemap_found.specs.States.{opened_view}
-use Rattle.oxc_sourcemap_found.proofs.FoundErrors.{found-error}
+use Rattle.oxc_sourcemap_found.proofs.FoundSteps.{found-by}
 use Rattle.oxc_sourcemap_found.proofs.found.read_found.Goals as goal
 
 pub returns-in_err-parts : goal.returns-in_err-parts
 returns-in_err-parts c =
     failed-answer c.from_residual-in_err-parts.result c.in_err-parts.field-0.0 _ _ c.from_residual-in_err-parts.ensures.1
-    (λ n. found-error c.args.text.now (opened_view (cow_str_bytes c.in_ok-json.json) c.in_ok-json.kinds) (view c.in_ok-value.value) c.in_ok-mends.mends.items c.in_err-parts.field-0.0
+    (λ n. found-by c.args.text.now (opened_view (cow_str_bytes c.in_ok-json.json) c.in_ok-json.kinds) (view c.in_ok-value.value) c.in_ok-mends.mends.items (Err c.in_err-parts.field-0.0)
     c.in_ok-json.ensures (ap read (sym c.as_str.ensures.value) ∙ c.in_ok-value.ensures.ok) (c.in_ok-mends.ensures ∙ ap (mends_in None) c.as_slice.ensures.value)
     (c.in_err-parts.ensures.1 n))

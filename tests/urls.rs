@@ -1,6 +1,8 @@
 //! Data URLs, and the URL that a code names for its map. tests/reference/mapping_urls.py has the numbers of the random codes.
 use crate::helpers::same;
-use oxc_sourcemap::{DataUrlError, Language, SourceMap, decode_data_url, source_mapping_url};
+use oxc_sourcemap::{
+    DataUrlError, Language, SourceMap, SourceMappingComment, decode_data_url, source_mapping_comment, source_mapping_url,
+};
 use std::alloc::Global;
 use std::process::Abort;
 use std::test::Fail;
@@ -71,6 +73,35 @@ const PIECES: [&str; 25] = [
     "//# sourceMappingURL=a.map", "//@ sourceMappingURL=b.map", "/*# sourceMappingURL=c.map */", "/* d */", "// e", "x", "/", "*",
     "'", "\n", "\r", "\r\n", "\u{2028}", " ", "\u{a0}", "\u{feff}", "/*", "*/", "//", "#", " sourceMappingURL=", "f g", "😀", "`", "\"",
 ];
+
+/// What stands before the comment that names a URL, the comment, its URL, and what stands behind it.
+type Cut = (&'static str, &'static str, &'static str, &'static str);
+
+/// JavaScript, cut where its comment stands.
+const CUTS: &[Cut] = &[
+    ("x\n", "//# sourceMappingURL=a.map", "a.map", ""),
+    ("x\n", "//# sourceMappingURL=a.map", "a.map", " \t\u{2003}\r\n\n"),
+    ("x ", "/*@\tsourceMappingURL=a.map */", "a.map", " // end\n"),
+    ("x", "//#sourceMappingURL=", "", "\u{2028}\u{a0}"),
+    // The same words in a later comment, and in an earlier one that named the map before.
+    ("x\n", "//# sourceMappingURL=a.map", "a.map", "\n// see sourceMappingURL=a.map\n"),
+    ("//# sourceMappingURL=a.map\n", "//# sourceMappingURL=a.map", "a.map", "\n"),
+    ("/*# sourceMappingURL=a.map */ ", "/*# sourceMappingURL=a.map */", "a.map", "/* a.map */"),
+    ("`é` // a\r", "/*# sourceMappingURL=//#sourceMappingURL=é😀*/", "//#sourceMappingURL=é😀", "\n"),
+];
+
+#[test]
+fn codes_are_cut_at_the_comment(rt: HostRuntime) -> std::result::Result<(), Fail> {
+    for (front, comment, url, back) in CUTS {
+        let (front, comment, url, back) = (*front, *comment, *url, *back);
+        let code = format!(in rt.alloc(); "{front}{comment}{back}")?;
+        let wanted = SourceMappingComment { front, comment, url, back };
+        same(&rt, code.as_str(), source_mapping_comment(code.as_str(), Language::JavaScript), Some(wanted));
+    }
+    same(&rt, "none", source_mapping_comment("x", Language::JavaScript).is_none(), true);
+    same(&rt, "CSS", source_mapping_comment("//# sourceMappingURL=a.map", Language::Css).is_none(), true);
+    Ok(())
+}
 
 /// The sum of the bytes of a URL, and 7 if there is none.
 fn number_of(url: Option<&str>) -> u32 {

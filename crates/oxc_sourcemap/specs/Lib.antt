@@ -79,6 +79,7 @@ pub use Rattle.oxc_sourcemap_places.specs.ValueSpots
 pub use Rattle.oxc_sourcemap_plan_places.specs.PlanPlaces
 pub use Rattle.oxc_sourcemap_url.specs.declared.data_url_error.DataUrlError
 pub use Rattle.oxc_sourcemap_url.specs.declared.language.Language
+pub use Rattle.oxc_sourcemap_url.specs.declared.mapping_url.SourceMappingComment
 pub use Rattle.oxc_sourcemap_url.specs.DataUrls
 pub use Rattle.oxc_sourcemap_url.specs.DataUrlMessages
 pub use Rattle.oxc_sourcemap_url.specs.DataUrlLaws

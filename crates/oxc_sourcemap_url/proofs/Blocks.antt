@@ -94,7 +94,7 @@ chars-end b utf8 =
     let ascii : (i : ℕ) → get_or marks i 0 < 128 = λ i. grind (arith, nat_tests) in
     chars-append marks b (IsUtf8-from_ascii marks ascii) ∙ ap (λ l. l ++ chars b) (chars-IsAscii marks ascii)
 
-front-utf8 : (s : List ℕ) (i j : ℕ) → IsUtf8 s → HasTextAt (codes "*/") s i j → IsUtf8 (take i s)
+pub front-utf8 : (s : List ℕ) (i j : ℕ) → IsUtf8 s → HasTextAt (codes "*/") s i j → IsUtf8 (take i s)
 front-utf8 s i j utf8 has =
     let first : get_or s i 0 ≡ 42 = rw add-zero at (sym (get_or-drop i s 0 0) ∙ ap (λ l. get_or l 0 0) has.split) in
     let within : i < length s = omega (arith, ap length has.split, length-drop i s) in
@@ -102,6 +102,9 @@ front-utf8 s i j utf8 has =
 
 pub back-utf8 : (s : List ℕ) (i j : ℕ) → IsUtf8 s → HasTextAt (codes "*/") s i j → IsUtf8 (drop j s)
 back-utf8 s i j utf8 has = IsUtf8-drop s j utf8 (rw has.ends has.after)
+
+pub block-whole : (s : List ℕ) (i j : ℕ) → HasTextAt (codes "*/") s i j → s ≡ take i s ++ 42 ∷ 47 ∷ drop j s
+block-whole s i j has = sym (take-append-drop i s) ∙ ap (λ l. take i s ++ l) has.split
 
 pub block-found : (s : List ℕ) (i j : ℕ) → IsUtf8 s → i ≤ length s
     → ((k : ℕ) → k < i → LacksTextAt (codes "*/") s k) → HasTextAt (codes "*/") s i j

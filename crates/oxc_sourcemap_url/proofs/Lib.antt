@@ -4,4 +4,6 @@ mod Chars
 mod Pieces
 mod Blocks
 mod LineCuts
+mod Spaces
+mod Placed
 mod Worked

@@ -10,7 +10,7 @@ use Rattle.oxc_sourcemap_url.specs.declared.data_url_error.DataUrlError.TheVaria
 use Rattle.oxc_sourcemap_url.specs.declared.data_url_error.DataUrlError.TheVariants.{BadUtf8}
 use Rattle.oxc_sourcemap_url.specs.declared.language.Language.TheVariants.{JavaScript, Css}
 use Rattle.oxc_sourcemap_url.specs.DataUrls.{decoded_data_url, data_text}
-use Rattle.oxc_sourcemap_url.specs.MappingUrls.{mapping_url, pieces}
+use Rattle.oxc_sourcemap_url.specs.MappingUrls.{mapping_url, url_known, pieces}
 
 opens-percent_encoded : decoded_data_url (codes "data:application/json;charset=utf-8,%7b%7D#x") ≡ Ok (Some (codes "{}"))
 unfolding decoded_data_url data_text percent_decode is_utf8 chars encode
@@ -45,42 +45,42 @@ unfolding decoded_data_url data_text percent_decode is_utf8 chars encode utf8_va
 reports-utf8 = refl
 
 finds-last_line : mapping_url JavaScript (codes "x\n//# sourceMappingURL=a.map") ≡ Some (codes "a.map")
-unfolding mapping_url pieces lines_of
+unfolding url_known pieces lines_of
 finds-last_line = refl
 
 finds-in_block : mapping_url Css (codes "a{} /*@\tsourceMappingURL=a.map */\r\n /* b */") ≡ Some (codes "a.map")
-unfolding mapping_url pieces lines_of
+unfolding url_known pieces lines_of
 finds-in_block = refl
 
 finds-last : mapping_url JavaScript (codes "//# sourceMappingURL=a.map\n//# sourceMappingURL=b.map\n// c") ≡ Some (codes "b.map")
-unfolding mapping_url pieces lines_of
+unfolding url_known pieces lines_of
 finds-last = refl
 
 finds-nothing_before_code : mapping_url JavaScript (codes "//# sourceMappingURL=a.map\n;") ≡ None
-unfolding mapping_url pieces lines_of
+unfolding url_known pieces lines_of
 finds-nothing_before_code = refl
 
 finds-nothing_before_an_open_comment : mapping_url JavaScript (codes "//# sourceMappingURL=a.map\n/* b") ≡ None
-unfolding mapping_url pieces lines_of
+unfolding url_known pieces lines_of
 finds-nothing_before_an_open_comment = refl
 
 finds-nothing_in_a_template : mapping_url JavaScript (codes "`\n//# sourceMappingURL=a.map\n//`") ≡ None
-unfolding mapping_url pieces lines_of
+unfolding url_known pieces lines_of
 finds-nothing_in_a_template = refl
 
 finds-nothing_in_a_long_comment : mapping_url JavaScript (codes "/*\n//# sourceMappingURL=a.map\n// */") ≡ None
-unfolding mapping_url pieces lines_of
+unfolding url_known pieces lines_of
 finds-nothing_in_a_long_comment = refl
 
 finds-no_broken_url : mapping_url JavaScript (codes "//# sourceMappingURL=a b") ≡ None
-unfolding mapping_url pieces lines_of
+unfolding url_known pieces lines_of
 finds-no_broken_url = refl
 
 finds-no_line_comment_in_css : mapping_url Css (codes "//# sourceMappingURL=a.map") ≡ None
-unfolding mapping_url pieces lines_of
+unfolding url_known pieces lines_of
 finds-no_line_comment_in_css = refl
 
 -- U+2028 ends the line of the comment
 finds-nothing_before_code_behind_a_separator : mapping_url JavaScript (codes "//# sourceMappingURL=a.map" ++ 0x2028 ∷ codes "x") ≡ None
-unfolding mapping_url pieces lines_of
+unfolding url_known pieces lines_of
 finds-nothing_before_code_behind_a_separator = refl

@@ -1,6 +1,6 @@
 -- The URL that a code names for its map, found without parsing (ECMA-426, extraction methods without parsing; docs/FORMAT.md, "The
 -- map of a code"). Texts are lists of characters here.
-use Rattle.std.specs.Prelude.{ℕ, Bool, true, false, ◌&&◌, ◌||◌, List, [], ◌∷◌, ◌++◌, codes}
+use Rattle.std.specs.Prelude.{◌≡◌, ◌⊎◌, ℕ, Bool, true, false, ◌&&◌, ◌||◌, List, [], ◌∷◌, ◌++◌, codes}
 use Rattle.std.specs.Prelude.{drop, flat_map, fold, Option, Some, None, if◌then◌else◌, ◌==◌}
 use Rattle.std.specs.Prelude.{nat_eq, is_some}
 use Rattle.std.specs.Option.{option_map, option_or}
@@ -93,10 +93,28 @@ known_after known None = None
 known_after known (Some text) =
     if may_end_another text then None else option_or (named_url text) known
 
--- The URL that a code names: what is known after all pieces of its lines.
-unfoldable pub mapping_url : Language → List ℕ → Option (List ℕ)
-mapping_url language code =
-    fold known_after None (flat_map (pieces (has_line_comments language) None) (lines_of code))
+-- What is known of the URL after all pieces of the lines of a code.
+unfoldable pub url_known : Bool → List ℕ → Option (List ℕ)
+url_known slashes code = fold known_after None (flat_map (pieces slashes None) (lines_of code))
+
+-- The URL that a code names.
+abbrev pub mapping_url : Language → List ℕ → Option (List ℕ)
+mapping_url language code = url_known (has_line_comments language) code
+
+-- ---- the comment
+
+-- The text of a comment names this URL.
+abbrev pub IsNamingText : List ℕ → List ℕ → Type 0
+IsNamingText text url = (may_end_another text ≡ false) × (named_url text ≡ Some url)
+
+-- A comment that names this URL: `//`, where that begins one, and a text without the white space at its end; or `/*`, a text, and `*/`.
+abbrev pub IsComment : Bool → List ℕ → List ℕ → Type 0
+IsComment slashes comment url =
+    ((slashes ≡ true) × (text : List ℕ) × (comment ≡ 47 ∷ 47 ∷ drop_trailing_whitespace text) × IsNamingText text url)
+    ⊎ ((text : List ℕ) × (comment ≡ 47 ∷ 42 ∷ text ++ 42 ∷ 47 ∷ []) × IsNamingText text url)
+
+abbrev pub IsMappingComment : Language → List ℕ → List ℕ → Type 0
+IsMappingComment language comment url = IsComment (has_line_comments language) comment url
 
 -- the characters of a text behind a borrow
 abbrev pub lent_chars : Option (Bor (List ℕ)) → Option (List ℕ)

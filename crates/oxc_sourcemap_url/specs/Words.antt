@@ -13,5 +13,7 @@ pub use Rattle.oxc_sourcemap_url.specs.MappingUrls.{is_mark, is_quote, begins_wi
 pub use Rattle.oxc_sourcemap_url.specs.MappingUrls.{around_block_end}
 pub use Rattle.oxc_sourcemap_url.specs.MappingUrls.{may_end_another}
 pub use Rattle.oxc_sourcemap_url.specs.MappingUrls.{has_line_comments, pieces, known_after}
-pub use Rattle.oxc_sourcemap_url.specs.MappingUrls.{mapping_url, lent_chars}
-pub use Rattle.oxc_sourcemap_url.specs.Comments.{IsCommentAt}
+pub use Rattle.oxc_sourcemap_url.specs.MappingUrls.{mapping_url, url_known, lent_chars}
+pub use Rattle.oxc_sourcemap_url.specs.MappingUrls.{IsMappingComment}
+pub use Rattle.oxc_sourcemap_url.specs.Comments.{IsCommentAt, IsKnownAfter, IsPlaced, url_of}
+pub use Rattle.oxc_sourcemap_url.specs.Comments.{second_of}

@@ -1,5 +1,5 @@
 //! What a comment says of the map.
-ghost use Rattle.std.specs.Prelude.{◌≡◌, ◌++◌, false, codes, nat_eq, IfSome, IsNone, Some};
+ghost use Rattle.std.specs.Prelude.{◌≡◌, ◌++◌, ◌∷◌, ℕ, List, false, codes, nat_eq, IfSome, IsNone, Some};
 ghost use Rattle.std.specs.Option.{option_map};
 ghost use Rattle.std.specs.Char.{is_whitespace};
 ghost use Rattle.std.specs.List.{starts_with, list_any};
@@ -7,6 +7,7 @@ ghost use Rattle.std.specs.Str.{chars, IsUtf8, skip_leading_whitespace, drop_tra
 ghost use Rattle.oxc_sourcemap_url.specs.Words.{lent_chars, behind_mark, behind_key, unbroken};
 ghost use Rattle.oxc_sourcemap_url.specs.Words.{named_url, around_block_end, may_end_another};
 ghost use Rattle.oxc_sourcemap_url.specs.Words.{known_after, is_mark, is_quote};
+ghost use Rattle.oxc_sourcemap_url.specs.Words.{url_of, IsKnownAfter};
 
 use crate::line::strip_char;
 
@@ -14,6 +15,8 @@ use crate::line::strip_char;
 pub(crate) fn around_block_end(text: &str) -> Option<(&str, &str)>
     ensures parts { option_map (λ parts. (chars parts.0.now, chars parts.1.now)) result
         ≡ around_block_end (chars text.now) }
+    ensures whole { IfSome result (λ parts. text.now ≡ parts.0.now ++ 42 ∷ 47 ∷ parts.1.now) }
+    ensures front { IfSome result (λ parts. IsUtf8 parts.0.now) }
     ensures utf8 { IfSome result (λ parts. IsUtf8 parts.1.now) }
 {
     match text.split_once("*/") {
@@ -140,16 +143,47 @@ fn named_url(comment: &str) -> Option<&str>
     }
 }
 
-/// What is known of the URL after a comment.
-pub(crate) fn known_after<'c>(known: Option<&'c str>, comment: &'c str) -> Option<&'c str>
-    ensures { lent_chars result
-        ≡ known_after (lent_chars known.entry) (Some (chars comment.now)) }
+/// Where a comment of a code stands: what is behind its first two characters on its line, what of that is behind the comment, and
+/// what is behind the line.
+#[derive(Clone, Copy)]
+pub(crate) struct Place<'c> {
+    pub text: &'c str,
+    pub rest: &'c str,
+    pub after: &'c str,
+}
+
+/// A comment that names a URL.
+#[derive(Clone, Copy)]
+pub(crate) struct Naming<'c> {
+    pub place: Place<'c>,
+    pub url: &'c str,
+}
+
+/// What is known of the URL after a comment at this place.
+pub(crate) fn known_after<'c>(
+    known: Option<Naming<'c>>,
+    comment: &'c str,
+    place: Place<'c>,
+) -> Option<Naming<'c>>
+    ensures url { url_of result
+        ≡ known_after (url_of known.entry) (Some (chars comment.now)) }
+    ensures place { IfSome result (IsKnownAfter known.entry (chars comment.now) place.entry) }
 {
     if may_end_another(comment) {
         return None;
     }
     match named_url(comment) {
-        Some(url) => Some(url),
+        Some(url) => Some(Naming { place, url }),
         None => known,
     }
+}
+
+/// The white space at the end of a comment that ends with its line.
+pub(crate) fn space_at_end(text: &str) -> &str
+    ensures cut { (inner : List ℕ) × (text.now ≡ inner ++ result.now)
+        × (chars inner ≡ drop_trailing_whitespace (chars text.now)) }
+    ensures utf8 { IsUtf8 result.now }
+{
+    let front = trim_end(text);
+    text.split_at(front.len()).1
 }

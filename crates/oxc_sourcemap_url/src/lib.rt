@@ -13,4 +13,4 @@ pub use data_url::decode_data_url;
 pub use data_url_error::DataUrlError;
 pub use language::Language;
 pub use laws::data_urls_read_back;
-pub use mapping_url::source_mapping_url;
+pub use mapping_url::{SourceMappingComment, source_mapping_comment, source_mapping_url};

@@ -49,17 +49,6 @@ pub fn print(rt: &HostRuntime, text: &str) -> Outcome<()> {
     }
 }
 
-/// Writes a text to a file, or to standard output for `-`.
-pub fn write_text(rt: &HostRuntime, path: &str, text: &str) -> Outcome<()> {
-    if path == "-" {
-        return print(rt, text);
-    }
-    match fs::write(rt, path, text) {
-        Ok(()) => Ok(()),
-        Err(error) => Err(file_failure(rt.alloc(), path, error)),
-    }
-}
-
 /// Prints a message on standard error. That it cannot be printed is no failure. Files and arguments that it names may hold control
 /// characters: they are escaped.
 pub fn tell(rt: &HostRuntime, message: &str) {

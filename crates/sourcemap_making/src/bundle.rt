@@ -1,11 +1,14 @@
 //! `bundle`: codes and their maps, joined into one code and one map.
+use crate::codes::{hashbang_of, run_together, untied};
+use crate::own::{mapped_to_itself, stop, stopped};
 use oxc_sourcemap_map::SourceMap;
 use oxc_sourcemap_parts::SourceMapParts;
-use oxc_sourcemap_url::{Language, source_mapping_url};
+use oxc_sourcemap_url::Language;
 use percent_encoding::{AsciiSet, CONTROLS, utf8_percent_encode};
 use sourcemap_files::{
-    Asked, Lookup, Progress, Status, file_name, folder_of, language_of, map_of_code, print,
-    read_map, read_text, real_name, rebase, shown_name, usage, warn, write_text,
+    Asked, Lookup, Progress, Status, file_name, folder_of, language_of, limit_of, limited_json,
+    map_of_code, print, read_map, read_text, real_name, rebase, relative_to, shown_name, usage,
+    warn, write_texts,
 };
 use sourcemap_run::{Bundle, push_number_member, push_object, push_text_member};
 use sourcemap_words::{Outcome, failure_of};
@@ -17,38 +20,6 @@ fn escaped() -> AsciiSet {
     spaces.add(b'"').add(b'\'').add(b'`')
 }
 
-/// A code without the comment that names its map, which would be named in the middle of the bundle.
-fn without_comment(alloc: Global, code: &str, language: Language) -> Result<String, AllocError> {
-    let whole = String::from_str(alloc, code);
-    let Some(url) = source_mapping_url(code, language) else {
-        return whole;
-    };
-    let named = format!(in alloc; "sourceMappingURL={url}")?;
-    let Some((front, after)) = code.rsplit_once(named.as_str()) else {
-        return whole;
-    };
-    let begin = [front.rfind("//"), front.rfind("/*")]
-        .iter()
-        .flatten()
-        .copied()
-        .max();
-    let Some(kept) = begin.and_then(|begin| front.get(..begin)) else {
-        return whole;
-    };
-    let is_block = front
-        .get(kept.len()..)
-        .is_some_and(|comment| comment.starts_with("/*"));
-    let rest = if is_block {
-        after.split_once("*/").map_or("", |(_, rest)| rest)
-    } else {
-        let end = after
-            .find(['\n', '\r', '\u{2028}', '\u{2029}'].as_slice())
-            .unwrap_or(after.len());
-        after.get(end..).unwrap_or("")
-    };
-    format!(in alloc; "{kept}{rest}")
-}
-
 /// A code of the bundle, and the name of its map if it has one.
 #[derive(Drop)]
 struct Part {
@@ -57,15 +28,33 @@ struct Part {
     map_name: Option<String>,
 }
 
+/// A code that has no map, mapped to itself, so that no place of it counts as one of the file before it. Its path is relative to the
+/// folder of the bundle.
+fn unmapped_part(
+    asked: &Asked<'_, '_>,
+    file: &str,
+    text: &str,
+    code: String,
+    folder: &str,
+) -> Outcome<Part> {
+    let source = relative_to(asked.rt, folder_of(file), folder, file_name(file))?;
+    let map = mapped_to_itself(asked.alloc(), source.as_str(), text, code.as_str())?;
+    Ok(Part {
+        code,
+        map,
+        map_name: None,
+    })
+}
+
 /// Reads a code and its map, whose sources are then relative to the folder of the bundle.
 fn read_part(asked: &Asked<'_, '_>, file: &str, folder: &str) -> Outcome<Part> {
     let alloc = asked.alloc();
     let text = read_text(asked.rt, file)?;
-    let code = without_comment(alloc, text.as_str(), language_of(file))?;
+    let code = untied(alloc, text.as_str(), language_of(file))?;
     match map_of_code(asked.rt, file, text.as_str(), asked.places())? {
         Lookup::Map(found) => {
             let mut map = read_map(asked.rt, &found)?;
-            rebase(alloc, &mut map, found.folder.as_str(), folder)?;
+            rebase(asked.rt, &mut map, found.folder.as_str(), folder)?;
             Ok(Part {
                 code,
                 map: map.into_parts(),
@@ -74,11 +63,7 @@ fn read_part(asked: &Asked<'_, '_>, file: &str, folder: &str) -> Outcome<Part> {
         }
         Lookup::None(why) => {
             warn(asked.rt, shown_name(file), why.as_str());
-            Ok(Part {
-                code,
-                map: SourceMapParts::empty(alloc)?,
-                map_name: None,
-            })
+            unmapped_part(asked, file, text.as_str(), code, folder)
         }
     }
 }
@@ -113,6 +98,43 @@ fn refuse_overwriting(asked: &Asked<'_, '_>, read: &str, written: &str) -> Outco
     ))
 }
 
+/// The texts of `--wrap`.
+fn wrap_of<'m>(asked: &Asked<'_, 'm>) -> Result<Option<(&'m str, &'m str)>, AllocError> {
+    match asked.words("wrap")?.as_slice() {
+        [before, after] => Ok(Some((*before, *after))),
+        _ => Ok(None),
+    }
+}
+
+/// Appends what stands before a code: a semicolon, where it would else run together with the code before it, and the first text of
+/// `--wrap`. Says how much of the code's own front is then left out: its hashbang, which may stand at the beginning of the bundle alone.
+fn push_front(
+    alloc: Global,
+    code: &str,
+    language: Language,
+    before: Option<&str>,
+    bundle: &mut Bundle,
+) -> Outcome<usize> {
+    let is_first = bundle.line() == 0;
+    let hashbang = match language {
+        Language::JavaScript => hashbang_of(code),
+        Language::Css => "",
+    };
+    let own = code.get(hashbang.len()..).unwrap_or(code);
+    let begins = before.unwrap_or(own);
+    if language == Language::JavaScript && !is_first && run_together(bundle.code(), begins) {
+        bundle.push_text(alloc, ";")?;
+    }
+    let Some(before) = before else {
+        return Ok(if is_first { 0 } else { hashbang.len() });
+    };
+    if is_first && !hashbang.is_empty() {
+        bundle.push_text(alloc, hashbang)?;
+    }
+    bundle.push_text(alloc, before)?;
+    Ok(hashbang.len())
+}
+
 /// Appends a file to the bundle, between the texts of `--wrap`.
 fn push_file(
     asked: &Asked<'_, '_>,
@@ -121,27 +143,21 @@ fn push_file(
     out: &mut String,
 ) -> Outcome<()> {
     let alloc = asked.alloc();
-    let Part {
-        code,
-        map,
-        map_name,
-    } = read_part(asked, file, folder_of(asked.word("output")))?;
-    let wrap = asked.words("wrap")?;
-    let (before, after) = match wrap.as_slice() {
-        [before, after] => (Some(*before), Some(*after)),
-        _ => (None, None),
-    };
-    if let Some(before) = before {
-        bundle.push_text(alloc, before)?;
-    }
+    let part = read_part(asked, file, folder_of(asked.word("output")))?;
+    let Part { code, map, map_name } = part;
+    let wrap = wrap_of(asked)?;
+    let is_first = bundle.line() == 0;
+    let before = wrap.map(|wrap| wrap.0);
+    let left_out = push_front(alloc, code.as_str(), language_of(file), before, bundle)?;
     let name = map_name.as_ref().map(|name| name.as_str());
     if let Some(name) = name {
         refuse_overwriting(asked, name, output_map(asked)?.as_str())?;
     }
     push_file_object(alloc, file, name, bundle.line(), out)?;
-    bundle.push_code(alloc, code.as_str(), map)?;
-    if let Some(after) = after {
-        bundle.push_text(alloc, after)?;
+    let map = if is_first { map } else { stopped(alloc, map)? };
+    bundle.push_code(alloc, code.as_str().get(left_out..).unwrap_or(""), map)?;
+    if let Some((_, after)) = wrap {
+        bundle.push_code(alloc, after, stop(alloc)?)?;
     }
     Ok(())
 }
@@ -160,28 +176,18 @@ fn comment_of(alloc: Global, output: &str) -> Result<String, AllocError> {
     }
 }
 
-/// The text of the bundle's map.
-fn map_json(
-    alloc: Global,
-    output: &str,
-    parts: SourceMapParts<'static>,
-) -> oxc_sourcemap_tokens::Result<String> {
-    let mut map = SourceMap::from_parts(parts);
-    map.set_file(alloc, file_name(output))?;
-    let mut text = map.to_json_string(alloc)?;
-    text.push('\n')?;
-    Ok(text)
-}
-
 /// Writes the code, with a comment that names the map, and the map.
-fn write(asked: &Asked<'_, '_>, bundle: Bundle) -> Outcome<()> {
+fn write(asked: &Asked<'_, '_>, bundle: Bundle, limit: u64) -> Outcome<()> {
     let alloc = asked.alloc();
     let output = asked.word("output");
     let (mut code, parts) = bundle.finish(alloc)?;
-    let text = map_json(alloc, output, parts)?;
     code.push_str(comment_of(alloc, output)?.as_str())?;
-    write_text(asked.rt, output_map(asked)?.as_str(), text.as_str())?;
-    write_text(asked.rt, output, code.as_str())
+    let mut map = SourceMap::from_parts(parts);
+    map.set_file(alloc, file_name(output))?;
+    let path = output_map(asked)?;
+    let path = path.as_str();
+    let text = limited_json(alloc, path, &map, limit)?;
+    write_texts(asked.rt, &[(path, text.as_str()), (output, code.as_str())])
 }
 
 pub fn run(asked: &Asked<'_, '_>) -> Outcome<Status> {
@@ -189,6 +195,7 @@ pub fn run(asked: &Asked<'_, '_>) -> Outcome<Status> {
     if asked.word("output") == "-" {
         return Err(usage(asked.rt, "-o names a file: the map is written beside it"));
     }
+    let limit = limit_of(asked)?;
     let files = asked.words("FILE")?;
     let mut progress = Progress::new(asked.rt, files.len());
     let mut bundle = Bundle::new(alloc);
@@ -199,7 +206,7 @@ pub fn run(asked: &Asked<'_, '_>) -> Outcome<Status> {
         push_file(asked, file, &mut bundle, &mut out)?;
     }
     progress.clear(asked.rt);
-    write(asked, bundle)?;
+    write(asked, bundle, limit)?;
     if asked.has("json") {
         print(asked.rt, out.as_str())?;
     }

@@ -2,4 +2,6 @@
 #![tactic(auto)]
 
 pub mod bundle;
+mod codes;
+mod own;
 pub mod remap;

@@ -1,9 +1,9 @@
 //! `remap`: a map led through the maps of its sources.
 use oxc_sourcemap_map::SourceMap;
 use sourcemap_files::{
-    Asked, Lookup, MapText, Status, folder_of, has_scheme, is_file, is_inside, map_of_code,
-    map_of_file, plain_path, print, read_map, read_text, real_name, rebase, usage, warn,
-    write_text,
+    Asked, Lookup, MapText, Status, folder_of, has_scheme, is_file, is_inside, limit_of,
+    limited_json, map_of_code, map_of_file, plain_path, print, read_map, read_text, real_name,
+    rebase, usage, warn, write_text,
 };
 use sourcemap_run::{push_number_member, push_object, push_text_member};
 use sourcemap_words::{Outcome, failure_of};
@@ -92,7 +92,7 @@ fn followed_source(
         before: Some(way),
     };
     let mut map = followed(asked, text, &way, depth, count)?;
-    rebase(alloc, &mut map, text.folder.as_str(), folder)?;
+    rebase(asked.rt, &mut map, text.folder.as_str(), folder)?;
     Ok(map)
 }
 
@@ -165,7 +165,7 @@ fn given_inputs(asked: &Asked<'_, '_>, folder: &str) -> Outcome<Vec<(String, Sou
         };
         let text = map_of_file(asked.rt, file, asked.places())?;
         let mut map = read_map(asked.rt, &text)?;
-        rebase(alloc, &mut map, text.folder.as_str(), folder)?;
+        rebase(asked.rt, &mut map, text.folder.as_str(), folder)?;
         inputs.push((String::from_str(alloc, path)?, map))?;
     }
     Ok(inputs)
@@ -217,12 +217,16 @@ fn summary(
 }
 
 /// Writes the map to the file that is asked for, else to standard output.
-fn write(asked: &Asked<'_, '_>, map: &SourceMap<'_>, inputs: u64) -> Outcome<Status> {
+fn write(
+    asked: &Asked<'_, '_>,
+    map: &SourceMap<'_>,
+    inputs: u64,
+    limit: u64,
+) -> Outcome<Status> {
     let alloc = asked.alloc();
-    let mut text = map.to_json_string(alloc)?;
-    text.push('\n')?;
     let output = asked.word("output");
     let output = if output.is_empty() { "-" } else { output };
+    let text = limited_json(alloc, output, map, limit)?;
     write_text(asked.rt, output, text.as_str())?;
     if asked.has("json") {
         print(asked.rt, summary(alloc, asked, map, inputs)?.as_str())?;
@@ -274,7 +278,7 @@ fn finish(asked: &Asked<'_, '_>, map: &mut SourceMap<'_>, folder: &str) -> Outco
     let alloc = asked.alloc();
     let output = asked.word("output");
     if !output.is_empty() {
-        rebase(alloc, map, folder, folder_of(output))?;
+        rebase(asked.rt, map, folder, folder_of(output))?;
     }
     if asked.has("simplify") {
         map.simplify(alloc)?;
@@ -289,9 +293,10 @@ pub fn run(asked: &Asked<'_, '_>) -> Outcome<Status> {
             "--json needs -o, as the map is on standard output without it",
         ));
     }
+    let limit = limit_of(asked)?;
     let text = map_of_file(asked.rt, asked.word("MAP"), asked.places())?;
     let mut count = 0;
     let mut map = led(asked, &text, &mut count)?;
     finish(asked, &mut map, text.folder.as_str())?;
-    write(asked, &map, count)
+    write(asked, &map, count, limit)
 }

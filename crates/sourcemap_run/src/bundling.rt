@@ -32,8 +32,8 @@ impl Model for Bundle {
     } };
 }
 
-/// How many lines end in a text.
-fn line_ends(alloc: Global, text: &str) -> Result<u32>
+/// How many lines end in a text. Fails with `TooLarge` if they are more than 4294967295, and with `OutOfMemory`.
+pub fn line_ends(alloc: Global, text: &str) -> Result<u32>
     ensures ends { IfOk result (HasLineEnds text.now) }
     ensures error { IfErr result (λ e. (e ≢ OutOfMemory) → e ≡ TooLarge) }
 {
@@ -59,8 +59,8 @@ fn with_line_feed(alloc: Global, text: &str) -> Result<String>
     Ok(whole)
 }
 
-/// A text, with a line feed at its end.
-fn ended(alloc: Global, text: &str) -> Result<String>
+/// A text, with a line feed at its end: its own, or, if it has none there, one more. Fails only with `OutOfMemory`.
+pub fn ended(alloc: Global, text: &str) -> Result<String>
     ensures text { IfOk result (λ whole. IsEnded text.now (string_bytes whole)) }
     ensures error { OnlyMemory result }
 {
@@ -87,6 +87,13 @@ impl Bundle {
         ensures { result ≡ self.now.line }
     {
         self.line
+    }
+
+    /// The code so far.
+    pub fn code(&self) -> &str
+        ensures { result.now ≡ self.now.code }
+    {
+        self.code.as_str()
     }
 
     /// Appends a text, and a line feed if it does not end in one. Fails with `TooLarge` if a line would be above 4294967295, and with

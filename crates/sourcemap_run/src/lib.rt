@@ -10,7 +10,7 @@ mod texts;
 mod tracer;
 
 pub use answers::{Style, push_answer, push_answers, push_members};
-pub use bundling::Bundle;
+pub use bundling::{Bundle, ended, line_ends};
 pub use counting::{Block, Mark, push_marks};
 pub use frames::{Frame, Paint, Target, answer_to, push_frame, push_frames};
 pub use page::{MARK, filled};

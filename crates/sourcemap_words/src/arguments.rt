@@ -25,6 +25,8 @@ enum Kind {
     Options(&'static str),
     /// An option whose value is a number.
     Number(&'static str),
+    /// A number of bytes, which is 256 MB if it is not there.
+    Limit,
     /// An option with two values.
     Two(&'static [&'static str]),
     /// An option with a letter too, `-o OUT`.
@@ -150,8 +152,16 @@ const REMAP: Words = Words {
             Kind::Output,
             "The file to write [default: standard output]",
         ),
+        LIMIT,
     ],
 };
+
+/// How long a map may be that is written.
+const LIMIT: Word = Word(
+    "limit",
+    Kind::Limit,
+    "The most bytes that the map may have, as 1000, 64K or 2G; past it nothing is written [default: 256M]",
+);
 
 const BUNDLE: Words = Words {
     about: "Joins codes and their maps into one code and one map",
@@ -164,6 +174,7 @@ const BUNDLE: Words = Words {
             Kind::Two(&["BEFORE", "AFTER"]),
             "Lines before and after each code",
         ),
+        LIMIT,
     ],
 };
 
@@ -306,6 +317,7 @@ fn arg_of<'a>(alloc: Global, word: &Word) -> Arg<'a> {
         Kind::Option(value) => option(arg, name, value),
         Kind::Options(value) => option(arg, name, value).action(ArgAction::Append),
         Kind::Number(value) => option(arg, name, value).value_parser(clap::value_parser!(u32)),
+        Kind::Limit => option(arg, name, "BYTES").default_value("256M").hide_default_value(true),
         Kind::Two(values) => two(arg, name, values),
         Kind::Output => output(arg),
         Kind::NeededOutput => output(arg).required(true),

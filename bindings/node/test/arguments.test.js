@@ -210,6 +210,8 @@ test('the addon, called past the classes', () => {
     () => native.fromJson(new Uint32Array(4)),
     () => native.message(new Uint32Array(6)),
     () => native.mendMessage(new Uint32Array(18)),
+    () => native.reasonMessage('{', new Uint32Array(17)),
+    () => native.reasonMessage('{', new Uint32Array(19)),
     // The lengths of texts are above their bytes.
     () => native.fromTokens(none[1], Buffer.from('ab'), Uint32Array.of(3), ...none, ...none, none[1]),
     () => native.setTexts(handle, 1, Buffer.from('ab'), Uint32Array.of(1, 1, 1)),

@@ -20,7 +20,7 @@ pub use Rattle.oxc_sourcemap_mappings.specs.Faults.{digit_fault, range_fault, is
 pub use Rattle.oxc_sourcemap_mappings.specs.Faults.{source_fault, place_fault, counts_of}
 pub use Rattle.oxc_sourcemap_mappings.specs.Number.{digit, payload, signed}
 pub use Rattle.oxc_sourcemap_mappings.specs.Pieces.{piece, piece_fault, writing_fault}
-pub use Rattle.oxc_sourcemap_mappings.specs.Places.{Place, nothing_before, place}
+pub use Rattle.oxc_sourcemap_mappings.specs.Places.{nothing_before, place}
 pub use Rattle.oxc_sourcemap_mappings.specs.Reading.{token_at, segment_result, reading}
 pub use Rattle.oxc_sourcemap_mappings.specs.Reasons.{IsReasonOf, moved_by_all}
 pub use Rattle.oxc_sourcemap_mappings.specs.SegmentPlaces.{fault_place}

@@ -1,6 +1,6 @@
 //! What is really wrong with a segment whose error does not tell.
 ghost use Rattle.std.specs.Prelude.{◌≡◌, IsSome, IfSome, IsErr};
-ghost use Rattle.oxc_sourcemap_mappings.specs.Words.{reading, Place, place_of, value, AreSmall};
+ghost use Rattle.oxc_sourcemap_mappings.specs.Words.{reading, place_of, value, AreSmall};
 ghost use Rattle.oxc_sourcemap_mappings.specs.Words.{IsReasonOf, moved_by_all};
 
 use crate::decode::{Fields, Sums, any_segment};
@@ -72,22 +72,24 @@ fn below_zero(sums: Sums, fields: &Fields) -> Option<SegmentReason>
     }
 }
 
-/// The reason for this source id, where the error tells that one.
-fn source_reason(id: i64, told: u32) -> Option<SegmentReason>
-    ensures { (here : Place) → here.source_id ≡ id → IfSome result (IsReasonOf here) }
+/// The source id of a segment, if it is below 0, or is not the one that the error tells.
+fn source_reason(sums: Sums, fields: &Fields, told: u32) -> Option<SegmentReason>
+    requires small { AreSmall fields.now }
+    ensures { IfSome result (IsReasonOf (moved_by_all (place_of sums) (value fields.now))) }
 {
-    match u64::try_from(id) {
+    match u64::try_from(i64::from(sums.source_id) + fields.values[1]) {
         Err(_) => Some(SegmentReason::SourceIdBelowZero),
         Ok(id) if id == u64::from(told) => None,
         Ok(id) => Some(SegmentReason::SourceId(id)),
     }
 }
 
-/// The same for a name id.
-fn name_reason(id: i64, told: u32) -> Option<SegmentReason>
-    ensures { (here : Place) → here.name_id ≡ id → IfSome result (IsReasonOf here) }
+/// The same of the name id.
+fn name_reason(sums: Sums, fields: &Fields, told: u32) -> Option<SegmentReason>
+    requires small { AreSmall fields.now }
+    ensures { IfSome result (IsReasonOf (moved_by_all (place_of sums) (value fields.now))) }
 {
-    match u64::try_from(id) {
+    match u64::try_from(i64::from(sums.name_id) + fields.values[4]) {
         Err(_) => Some(SegmentReason::NameIdBelowZero),
         Ok(id) if id == u64::from(told) => None,
         Ok(id) => Some(SegmentReason::NameId(id)),
@@ -101,12 +103,8 @@ fn reason_of(error: Error, sums: Sums, fields: &Fields) -> Option<SegmentReason>
 {
     match error {
         Error::BadSegmentSize(0) => below_zero(sums, fields),
-        Error::BadSourceReference(told) => {
-            source_reason(i64::from(sums.source_id) + fields.values[1], told)
-        }
-        Error::BadNameReference(told) => {
-            name_reason(i64::from(sums.name_id) + fields.values[4], told)
-        }
+        Error::BadSourceReference(told) => source_reason(sums, fields, told),
+        Error::BadNameReference(told) => name_reason(sums, fields, told),
         _ => None,
     }
 }

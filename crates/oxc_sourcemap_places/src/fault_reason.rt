@@ -100,17 +100,20 @@ fn has_lone_surrogate(text: &[u8]) -> bool {
     if text.first() != Some(&b'"') {
         return false;
     }
-    let mut rest = &text[1..];
-    while let Some(byte) = rest.first() {
-        let len = match *byte {
+    let mut passed: usize = 0;
+    for at in 1..text.len() {
+        if passed > 0 {
+            passed -= 1;
+            continue;
+        }
+        match text[at] {
             b'"' => return false,
-            b'\\' => match escape_len(rest) {
-                Some(len) => len,
+            b'\\' => match escape_len(&text[at..]) {
+                Some(len) => passed = len.saturating_sub(1),
                 None => return true,
             },
-            _ => 1,
-        };
-        rest = &rest[len.min(rest.len())..];
+            _ => {}
+        }
     }
     false
 }
@@ -125,23 +128,25 @@ fn is_behind_number(byte: u8) -> bool {
     byte.is_ascii_whitespace() || matches!(byte, b',' | b']' | b'}')
 }
 
-/// Whether the last number in this front of a JSON text, with nothing but marks behind it, is too large for a float.
-fn ends_too_large(front: &[u8]) -> bool {
-    let end = front
-        .iter()
-        .rposition(|byte| !is_behind_number(*byte))
-        .map_or(0, |last| last + 1);
-    let front = &front[..end];
-    let start = front
-        .iter()
-        .rposition(|byte| !is_of_number(*byte))
-        .map_or(0, |last| last + 1);
-    let Ok(number) = std::str::from_utf8(&front[start..]) else {
-        return false;
+/// The last number in this front of a JSON text, if only marks are behind it.
+fn last_number(front: &[u8]) -> Option<&str> {
+    let last = front.iter().rposition(|byte| !is_behind_number(*byte))?;
+    let front = front.get(..last.saturating_add(1))?;
+    let number = match front.iter().rposition(|byte| !is_of_number(*byte)) {
+        Some(before) => front.get(before.saturating_add(1)..)?,
+        None => front,
     };
-    number
-        .parse::<f64>()
-        .is_ok_and(|number| number.is_infinite())
+    std::str::from_utf8(number).ok()
+}
+
+/// Whether that number is too large for a float.
+fn ends_too_large(front: &[u8]) -> bool {
+    match last_number(front) {
+        Some(number) => number
+            .parse::<f64>()
+            .is_ok_and(|number| number.is_infinite()),
+        None => false,
+    }
 }
 
 /// What is wrong with a text that the reader refuses at this byte. It refuses a number behind it, and behind the mark that follows.

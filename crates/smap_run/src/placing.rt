@@ -140,23 +140,24 @@ fn plan_reason(alloc: Global, input: &str, place: &FaultPlace) -> Option<FaultRe
     json_fault_reason(alloc, text, place).ok()?
 }
 
-/// What is really wrong with the input of a command at this place of it, which `error_place` tells. None if the text of the error tells
-/// already, and for want of memory.
+/// What is really wrong with the input of a command at this place of it, which `error_place` tells. None if there is no place, if the
+/// text of the error tells already, and for want of memory.
 pub fn place_reason(
     alloc: Global,
     command: &Command<'_>,
     input: &[u8],
-    place: &FaultPlace,
+    place: Option<FaultPlace>,
 ) -> Option<FaultReason> {
+    let place = place?;
     let text = std::str::from_utf8(input).ok()?;
     match command {
         Command::Mappings(names, sources) => {
-            mappings_reason(without_last_line_feed(text), *names, *sources, place)
+            mappings_reason(without_last_line_feed(text), *names, *sources, &place)
         }
-        Command::Plan(_) => plan_reason(alloc, text, place),
-        Command::Normalise => json_fault_reason(alloc, text, place).ok()?,
-        Command::Trace(_, _) => json_fault_reason(alloc, text, place).ok()?,
-        Command::Url => json_fault_reason(alloc, text, place).ok()?,
+        Command::Plan(_) => plan_reason(alloc, text, &place),
+        Command::Normalise => json_fault_reason(alloc, text, &place).ok()?,
+        Command::Trace(_, _) => json_fault_reason(alloc, text, &place).ok()?,
+        Command::Url => json_fault_reason(alloc, text, &place).ok()?,
     }
 }
 
@@ -212,10 +213,7 @@ pub fn run_where<R: Read, W: Write>(
         Ok(()) => Ok(()),
         Err(error) => {
             let place = error_place(alloc, command, input.as_slice(), error);
-            let reason = match &place {
-                Some(place) => place_reason(alloc, command, input.as_slice(), place),
-                None => None,
-            };
+            let reason = place_reason(alloc, command, input.as_slice(), place);
             Err(Failure {
                 error,
                 place,

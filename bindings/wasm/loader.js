@@ -218,10 +218,11 @@ class Instances {
       this.#roomy.delete(it);
       if (it.trap === null) return it;
     }
-    const made = this.#makeShared();
-    if (made !== null) return made;
-    if (this.#current === null || this.#current.trap !== null) throw new NoMemory();
-    return this.#current;
+    const runs = this.#current !== null && this.#current.trap === null;
+    if (!runs) this.#waits = 0;
+    const made = this.#makeShared() ?? (runs ? this.#current : null);
+    if (made === null) throw new NoMemory();
+    return made;
   }
 
   /** The instance for one handle alone, which begins with so many bytes; where the host gives none, a shared one. */
@@ -428,11 +429,16 @@ function nativeOf(module) {
     instances.give(instance);
   }
 
-  /** Frees what a handle that was collected has in a shared instance. One that let go of it left no address. */
+  /** Frees what a handle that was collected has in a shared instance. One that let go of it left no address. Nobody waits for a trap
+   *  here: calls of the maps that are left throw it. */
   function freeCollected(instance, { kind, at }) {
     if (at === 0) return;
     if (asked !== null && asked.instance === instance && asked.at === at) deselect();
-    freeIn(instance, kind, at);
+    try {
+      freeIn(instance, kind, at);
+    } catch (error) {
+      if (error !== instance.trap) throw error;
+    }
   }
 
   /** Has a handle hold what is made at an address. */

@@ -341,6 +341,28 @@ test('maps that share an instance are freed once each: by `free`, or by the coll
   for (const most of [Infinity, 1]) assert.deepEqual(run(script, most), [1, true, 1, true, true, true, 1], String(most));
 });
 
+test('a trap as a collected map is freed is told by the maps that are left, and nowhere else', () => {
+  const said = run(`
+    const kept = native.fromJson(text);
+    native.fromJson(text).block.at = 0xfffffff0;
+    await collect();
+    const out = [kept.instance.trap !== null];
+    try { native.getCounts(kept); } catch (error) { out.push(error === kept.instance.trap); }
+    say([...out, native.getCounts(native.fromJson(text))]);`);
+  assert.deepEqual(said, [true, true, 0]);
+});
+
+test('where the host gives no other instance after a trap, there is no memory', () => {
+  const said = run(
+    `
+    const map = native.fromJson(text);
+    try { map.instance.call('smap_get_counts', 0xfffffff0, 0); } catch {}
+    say([native.fromJson(text), native.fault[0], native.builderNew(), native.decodeMappings('AAAA', 1, 1)]);`,
+    1,
+  );
+  assert.deepEqual(said, [NO_MEMORY, NO_MEMORY, NO_MEMORY, NO_MEMORY]);
+});
+
 test('a builder and a join have an instance of their own, which the next one takes; a small map that they make goes to a shared one', () => {
   const map = native.fromJson(json());
   const [builder, join] = [native.builderNew(), native.joinNew()];

@@ -29,6 +29,12 @@ class Examples(unittest.TestCase):
         said = ran("resolve_stack.py", DATA / "stack/maps", given=(DATA / "stack/stack.txt").read_bytes())
         self.assertEqual(said.decode(), (DATA / "stack/resolved.txt").read_text(encoding="utf-8"))
 
+    def test_stack_by_maps_as_they_are_found(self):
+        with tempfile.TemporaryDirectory() as room:
+            Path(room, "a.js.map").write_text('\ufeff{"version":"3","sources":["a.ts",null],"mappings":"AAEA"}', encoding="utf-8")
+            said = ran("resolve_stack.py", room, given=b"    at f (/x/a.js:1:5)\n")
+        self.assertEqual(said, b"    at f (a.ts:3:1)\n")
+
     def test_coverage(self):
         folder = TOP / "crates/coverage"
         words = (folder / "args").read_text(encoding="utf-8").split()

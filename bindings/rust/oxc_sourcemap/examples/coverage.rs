@@ -7,7 +7,8 @@
 //! counted from 1. A line ran if a UTF-16 unit of it ran; white space and `( ) [ ] { } , : ;` count for no line.
 
 use oxc_sourcemap::{Piece, Position, SourceMap};
-use std::collections::BTreeMap;
+use std::cmp::Reverse;
+use std::collections::{BTreeMap, BinaryHeap};
 use std::error::Error;
 use std::fmt::Write;
 use std::fs;
@@ -36,18 +37,24 @@ fn ranges_of(json: &str) -> Result<Vec<Range>> {
     Ok(ranges)
 }
 
-/// The innermost range at an offset: the shortest, and of equal ones the last.
-fn innermost(ranges: &[Range], offset: usize) -> Option<&Range> {
-    let around = ranges.iter().rev().filter(|range| (range.start..range.end).contains(&offset));
-    around.min_by_key(|range| range.end - range.start)
-}
-
-/// The parts of a code in which no range begins or ends, and whether they ran.
+/// The parts of a code in which no range begins or ends, and whether they ran: by the innermost range around each, the shortest, and
+/// of equal ones the last.
 fn blocks_of(ranges: &[Range]) -> Vec<(usize, usize, bool)> {
     let mut cuts: Vec<usize> = ranges.iter().flat_map(|range| [range.start, range.end]).collect();
-    cuts.sort();
+    cuts.sort_unstable();
     cuts.dedup();
-    let block = |cut: &[usize]| Some((cut[0], cut[1], innermost(ranges, cut[0])?.count > 0));
+    let mut begins: Vec<usize> = (0..ranges.len()).collect();
+    begins.sort_by_key(|at| ranges[*at].start);
+    let (mut begins, mut around) = (begins.into_iter().peekable(), BinaryHeap::new());
+    let block = |cut: &[usize]| {
+        while let Some(at) = begins.next_if(|at| ranges[*at].start == cut[0]) {
+            around.push((Reverse(ranges[at].end.saturating_sub(cut[0])), at));
+        }
+        while around.peek().is_some_and(|(_, at)| ranges[*at].end <= cut[0]) {
+            around.pop();
+        }
+        around.peek().map(|(_, at)| (cut[0], cut[1], ranges[*at].count > 0))
+    };
     cuts.windows(2).filter_map(block).collect()
 }
 
@@ -110,8 +117,8 @@ pub fn covered(folder: &Path, name: &str) -> Result<String> {
     let ran = lines.values().filter(|ran| **ran).count();
     let mut out = String::new();
     writeln!(out, "{name}: {ran} lines ran, {} did not", lines.len() - ran)?;
-    for (id, source) in map.get_sources().enumerate() {
-        let of = |wanted: bool| lines.iter().filter(move |(key, ran)| key.0 as usize == id && **ran == wanted);
+    for (id, source) in (0..).zip(map.get_sources()) {
+        let of = |wanted: bool| lines.range((id, 0)..=(id, u32::MAX)).filter(move |(_, ran)| **ran == wanted);
         let idle: Vec<u64> = of(false).map(|(key, _)| u64::from(key.1) + 1).collect();
         writeln!(out, "  {source}: {} lines ran, {} did not: {idle:?}", of(true).count(), idle.len())?;
     }

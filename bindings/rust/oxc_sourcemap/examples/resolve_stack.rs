@@ -33,8 +33,8 @@ impl Maps {
 
 fn read_map(path: &Path) -> Option<OwnedSourceMap> {
     let text = fs::read(path).ok()?;
-    match SourceMap::read(&text) {
-        Ok(map) => Some(map.into()),
+    match SourceMap::read_found(&text) {
+        Ok((map, _)) => Some(map.into()),
         Err(fault) => {
             eprintln!("{}: {fault}", path.display());
             None

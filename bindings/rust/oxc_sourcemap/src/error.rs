@@ -422,6 +422,21 @@ mod tests {
     }
 
     #[test]
+    fn words_of_any_length_are_whole() {
+        for len in [1, 199, 200, 201, 202, 1000] {
+            let said = "abcdefg".repeat(143)[..len].to_string();
+            let written = words(|at, room| {
+                let fits = said.len().min(room);
+                // SAFETY: there is room for so many bytes.
+                unsafe { std::ptr::copy_nonoverlapping(said.as_ptr().cast(), at, fits) };
+                said.len()
+            });
+            assert_eq!(written.as_deref(), Some(&*said));
+        }
+        assert_eq!(words(|_, _| 0), None);
+    }
+
+    #[test]
     fn codes_have_names() {
         assert_eq!((code_name(12), code_name(999)), ("SMAP_LINE_ORDER", "SMAP_UNKNOWN"));
     }

@@ -34,6 +34,8 @@ mod concat_sourcemap_builder;
 mod error;
 mod found;
 mod json;
+#[cfg(doctest)]
+mod lifetimes;
 mod lookup;
 mod maps;
 mod owned_sourcemap;

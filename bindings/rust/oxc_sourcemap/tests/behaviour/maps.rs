@@ -1,6 +1,6 @@
 //! What maps hold, are made of and are taken apart into, and how they are changed.
 
-use super::{json, map_of, read, token, tokens};
+use super::{Row, json, map_of, read, token, tokens};
 use oxc_sourcemap::{JSONSourceMap, OwnedSourceMap, SourceMap, SourceMapParts, SourceViewToken, Token, TokenChunk};
 
 /// A map with a value for each member.
@@ -244,6 +244,48 @@ fn an_owned_map_has_the_calls_of_a_map() {
     map.set_ignore_list(vec![]);
     assert_eq!((map.get_file(), map.get_debug_id(), map.get_source(0)), (Some("new.js"), Some("new"), Some("x.ts")));
     assert_eq!((map.get_source_content(0), map.get_ignore_list()), (Some("X"), Some(&[][..])));
+}
+
+#[test]
+fn an_owned_map_is_looked_up_as_a_map_is() {
+    let rows = [(0, 3, 0, 1, Some(0), Some(0)), (0, 3, 0, 2, Some(0), None), (0, 7, 0, 3, Some(0), None)];
+    let map = map_of(&["f"], &["a.ts"], &[rows[0], rows[1], rows[2], (2, 1, 5, 0, None, None)]);
+    let (owned, table) = (OwnedSourceMap::new(map.clone()), map.generate_lookup_table());
+    let of =
+        |view: Option<SourceViewToken<'_, '_>>| view.map(|it| (it.get_dst_line(), it.get_dst_col(), it.get_src_col()));
+    for (line, col) in (0..4).flat_map(|line| (0..9).map(move |col| (line, col))) {
+        let place = format!("{line}:{col}");
+        // By the rows: the exact lookups find nothing before the first token of a line, and the others find that one.
+        let exact = match (line, col) {
+            (0, 3) => Some(rows[0]),
+            (0, 4..7) => Some(rows[1]),
+            (0, 7..) => Some(rows[2]),
+            (2, 1..) => Some((2, 1, 5, 0, None, None)),
+            _ => None,
+        };
+        let first = [Some(rows[0]), None, Some((2, 1, 5, 0, None, None)), None][line as usize];
+        let clamped = exact.or(first);
+        assert_eq!(owned.lookup_token(&table, line, col), exact.map(token), "{place}");
+        assert_eq!(owned.lookup_token_approx(&table, line, col), clamped.map(token), "{place}");
+        let placed = |row: Row| (row.0, row.1, row.3);
+        assert_eq!(of(owned.lookup_source_view_token(&table, line, col)), exact.map(placed), "{place}");
+        assert_eq!(of(owned.lookup_source_view_token_approx(&table, line, col)), clamped.map(placed), "{place}");
+        assert_eq!(owned.lookup_token_approx(&table, line, col), map.lookup_token_approx(&table, line, col), "{place}");
+    }
+}
+
+#[test]
+fn a_map_without_its_lifetime_has_all_that_it_had() {
+    let shown = format!("{:?}", SourceMap::from_parts(full_parts()));
+    let parts = |map: SourceMap<'static>| (format!("{map:?}"), map.into_parts().token_chunks);
+    let wanted = (shown, full_parts().token_chunks);
+    let (map, lent) = (SourceMap::from_parts(full_parts()), SourceMap::from_parts(full_parts()));
+    // (also what was lent before is what is lent then)
+    assert_eq!((lent.tokens().len(), lent.get_ignore_list().map(<[u32]>::len)), (3, Some(5)));
+    assert_eq!(parts(map.into_owned()), wanted);
+    assert_eq!(parts(lent.into_owned()), wanted);
+    assert_eq!(parts(SourceMap::from_parts(full_parts()).into_owned_sourcemap().into_inner()), wanted);
+    assert_eq!(OwnedSourceMap::from_parts(full_parts()).into_parts().token_chunks, wanted.1);
 }
 
 #[test]

@@ -153,7 +153,13 @@ fn path_from_here(
         None => (format!(in alloc; "{current}{folder}")?, source),
     };
     let whole = plain_path(alloc, folder.as_str(), path)?;
-    String::from_str(alloc, whole.as_str().strip_prefix(current).unwrap_or(whole.as_str()))
+    String::from_str(
+        alloc,
+        whole
+            .as_str()
+            .strip_prefix(current)
+            .unwrap_or(whole.as_str()),
+    )
 }
 
 impl Coverage {
@@ -190,7 +196,9 @@ impl Coverage {
 
     fn leave_out(&mut self, name: &str, why: &str) -> Outcome<()> {
         let name = String::from_str(self.alloc, name)?;
-        let _ = self.left_out.insert(name, String::from_str(self.alloc, why)?)?;
+        let _ = self
+            .left_out
+            .insert(name, String::from_str(self.alloc, why)?)?;
         Ok(())
     }
 
@@ -240,7 +248,10 @@ impl Coverage {
         }
         if count > FEW {
             let more = count.saturating_sub(FEW);
-            tell(rt, format!(in self.alloc; "{more} more codes are left out")?.as_str());
+            tell(
+                rt,
+                format!(in self.alloc; "{more} more codes are left out")?.as_str(),
+            );
         }
         if self.sources.is_empty() {
             tell(rt, "no line of an original is found in what V8 tells");

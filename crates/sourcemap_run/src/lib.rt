@@ -15,6 +15,7 @@ pub use counting::{Block, Mark, push_marks};
 pub use frames::{Frame, Paint, Target, answer_to, push_frame, push_frames};
 pub use page::{MARK, filled};
 pub use texts::{
-    is_hidden, push_number_member, push_object, push_place, push_shown, push_text_member, push_visible,
+    is_hidden, push_number_member, push_object, push_place, push_shown, push_text_member,
+    push_visible,
 };
 pub use tracer::{Answer, Bias, Spot, Tracer};

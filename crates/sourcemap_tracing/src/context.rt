@@ -75,7 +75,10 @@ impl<'m> Contents<'m> {
         out: &mut String,
     ) -> Result<()> {
         let first = wanted.saturating_sub(self.around);
-        let end = wanted.saturating_add(self.around).saturating_add(1).min(lines.len());
+        let end = wanted
+            .saturating_add(self.around)
+            .saturating_add(1)
+            .min(lines.len());
         for (i, line) in lines.get(first..end).unwrap_or(&[]).iter().enumerate() {
             let number = first.saturating_add(i);
             let line = line.trim_end_matches('\r');

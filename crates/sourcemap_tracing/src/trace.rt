@@ -64,7 +64,9 @@ impl<'m> Answers<'m> {
         let Answer::At(spot) = tracer.answer(position, bias) else {
             return Ok(());
         };
-        let id = tracer.token(position, bias).and_then(|token| token.get_source_id());
+        let id = tracer
+            .token(position, bias)
+            .and_then(|token| token.get_source_id());
         if let Some(contents) = &mut self.contents
             && let Some(id) = id
         {

@@ -62,7 +62,9 @@ pub fn position_of_line(
         Ok(text) => text,
         Err(error) => {
             let at = error.valid_up_to();
-            let text = format!(in alloc; "is not UTF-8 at byte {at} of the line: convert it first")?;
+            let text = format!(in alloc;
+                "is not UTF-8 at byte {at} of the line: convert it first"
+            )?;
             return Err(failure_of(alloc, subject.as_str(), text.as_str()));
         }
     };

@@ -34,6 +34,7 @@ pub use oxc_sourcemap_tokens::{
     Error, Field, JsonFault, PlanError, Position, Result, Token, TokenChunk, chunk_fault,
 };
 pub use oxc_sourcemap_url::{
-    DataUrlError, Language, SourceMappingComment, decode_data_url, source_mapping_comment, source_mapping_url,
+    DataUrlError, Language, SourceMappingComment, decode_data_url, source_mapping_comment,
+    source_mapping_url,
 };
 pub use oxc_sourcemap_visualizer::SourcemapVisualizer;

@@ -84,5 +84,10 @@ pub extern "C" fn proved_encode_mappings_within(
     ensures error { result ≢ 0 → (out.new.held ≡ out.old.held)
         × IsErrorAs result fault.new (IsTokensErrorWithin limit (map token_of tokens.now)) }
 {
-    put_text(alloc, encode_mappings_within(alloc, tokens, limit), out, fault)
+    put_text(
+        alloc,
+        encode_mappings_within(alloc, tokens, limit),
+        out,
+        fault,
+    )
 }

@@ -58,8 +58,11 @@ json_le r =
 
 encoded_le : (e : GeneralPurpose) (m : List ℕ) → length m ≤ length (encode_of e m)
 encoded_le e m =
-    omega (arith, length-encode_symbols e.encode_table m,
-    length-append (encode_symbols e.encode_table m) (if e.config.encode_padding then replicate (padding_len (length m)) e.padding.value else []))
+    omega (
+      arith,
+      length-encode_symbols e.encode_table m,
+      length-append (encode_symbols e.encode_table m) (if e.config.encode_padding then replicate (padding_len (length m)) e.padding.value else []),
+    )
 
 url_le : (text : List ℕ) → length text ≤ length (data_url text)
 url_le text = let a = encoded_le standard text in simp length-append (omega arith)

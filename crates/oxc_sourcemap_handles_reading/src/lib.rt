@@ -18,9 +18,7 @@ pub use lookups::{
     write_told,
 };
 pub use mends::{MendNumbers, list_mends};
-pub use messages::{
-    write_mend_message, write_message, write_place_message, write_reason_message,
-};
+pub use messages::{write_mend_message, write_message, write_place_message, write_reason_message};
 pub use reading::{
     counts, ignore_list, is_sorted, is_sound, names, source_contents, sources, text_of_map, token,
     tokens, written_text,

@@ -58,7 +58,12 @@ fn mappings_of(
     let parts = parts_of(map.as_source_map());
     match &parts.token_chunks {
         Some(chunks) => {
-            encode_within(alloc, parts.tokens.as_slice(), Some(chunks.as_slice()), limit)
+            encode_within(
+                alloc,
+                parts.tokens.as_slice(),
+                Some(chunks.as_slice()),
+                limit,
+            )
         }
         None => encode_within(alloc, parts.tokens.as_slice(), None, limit),
     }

@@ -47,12 +47,7 @@ fn too_long(alloc: Global, path: &str, limit: u64) -> Failure {
 
 /// The text of a map that is written to a file, with a line feed. Fails if it would be above the limit, which is seen before it is made
 /// where the lines alone are too many: each has a byte, and a few bytes of an indexed map can name four thousand million.
-pub fn limited_json(
-    alloc: Global,
-    path: &str,
-    map: &SourceMap<'_>,
-    limit: u64,
-) -> Outcome<String> {
+pub fn limited_json(alloc: Global, path: &str, map: &SourceMap<'_>, limit: u64) -> Outcome<String> {
     let last = map.get_tokens().as_slice().last();
     if last.is_some_and(|token| u64::from(token.get_dst_line()) > limit) {
         return Err(too_long(alloc, path, limit));

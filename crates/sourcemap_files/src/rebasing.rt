@@ -35,7 +35,11 @@ pub fn plain_path(alloc: Global, folder: &str, path: &str) -> Result<String, All
         return String::from_str(alloc, path);
     }
     let root = if folder.starts_with('/') { "/" } else { "" };
-    path_of(alloc, root, plain_parts(alloc, "", folder, path)?.as_slice())
+    path_of(
+        alloc,
+        root,
+        plain_parts(alloc, "", folder, path)?.as_slice(),
+    )
 }
 
 /// How many parts two paths have in common at their front.

@@ -2,10 +2,9 @@
 use crate::input::print;
 use crate::paths::{folder_of, real_name};
 use sourcemap_words::{Failure, Outcome, failure_of, file_failure};
-use std::fs;
 use std::fs::{File, OpenOptions};
-use std::io;
 use std::io::{ErrorKind, Write};
+use std::{fs, io};
 
 /// So many names are tried for a file beside another one.
 const NAMES: u32 = 1000;

@@ -144,7 +144,11 @@ fn push_file(
 ) -> Outcome<()> {
     let alloc = asked.alloc();
     let part = read_part(asked, file, folder_of(asked.word("output")))?;
-    let Part { code, map, map_name } = part;
+    let Part {
+        code,
+        map,
+        map_name,
+    } = part;
     let wrap = wrap_of(asked)?;
     let is_first = bundle.line() == 0;
     let before = wrap.map(|wrap| wrap.0);

@@ -49,7 +49,9 @@ fn is_debug_id(line: &str) -> bool {
 
 /// A code without the comments at its end that give it the id of its map, since the map of the bundle has none of these. Their lines stay.
 fn without_debug_ids(alloc: Global, code: &str) -> Result<String, AllocError> {
-    let (front, tail) = code.split_at_checked(tail_start(code)).unwrap_or((code, ""));
+    let (front, tail) = code
+        .split_at_checked(tail_start(code))
+        .unwrap_or((code, ""));
     let mut kept = String::from_str(alloc, front)?;
     for line in tail.split_inclusive(LINE_ENDS.as_slice()) {
         let from = if is_debug_id(line) {

@@ -16,10 +16,7 @@ pub fn stop(alloc: Global) -> Result<SourceMapParts<'static>> {
 
 /// A map that says something from the beginning of its code on: where it does not, that it is mapped to nothing. Else those who look for a
 /// token on lines before that of a position would find one of the code before.
-pub fn stopped(
-    alloc: Global,
-    parts: SourceMapParts<'static>,
-) -> Result<SourceMapParts<'static>> {
+pub fn stopped(alloc: Global, parts: SourceMapParts<'static>) -> Result<SourceMapParts<'static>> {
     let mut parts = parts;
     let first = parts.tokens.as_slice().first();
     if first.is_some_and(|token| token.get_dst_line() == 0 && token.get_dst_col() == 0) {

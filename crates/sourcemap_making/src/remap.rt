@@ -217,12 +217,7 @@ fn summary(
 }
 
 /// Writes the map to the file that is asked for, else to standard output.
-fn write(
-    asked: &Asked<'_, '_>,
-    map: &SourceMap<'_>,
-    inputs: u64,
-    limit: u64,
-) -> Outcome<Status> {
+fn write(asked: &Asked<'_, '_>, map: &SourceMap<'_>, inputs: u64, limit: u64) -> Outcome<Status> {
     let alloc = asked.alloc();
     let output = asked.word("output");
     let output = if output.is_empty() { "-" } else { output };

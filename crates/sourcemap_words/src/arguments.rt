@@ -317,7 +317,9 @@ fn arg_of<'a>(alloc: Global, word: &Word) -> Arg<'a> {
         Kind::Option(value) => option(arg, name, value),
         Kind::Options(value) => option(arg, name, value).action(ArgAction::Append),
         Kind::Number(value) => option(arg, name, value).value_parser(clap::value_parser!(u32)),
-        Kind::Limit => option(arg, name, "BYTES").default_value("256M").hide_default_value(true),
+        Kind::Limit => option(arg, name, "BYTES")
+            .default_value("256M")
+            .hide_default_value(true),
         Kind::Two(values) => two(arg, name, values),
         Kind::Output => output(arg),
         Kind::NeededOutput => output(arg).required(true),

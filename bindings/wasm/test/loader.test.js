@@ -312,10 +312,30 @@ test('a shared instance is full at 16 MiB, has room again when half is free, and
   assert.equal(said[6], said[5]);
 });
 
+test('an instance that is empty again is kept if its memory is small, and else left to the collector', () => {
+  const said = run(`
+    let seen = 0;
+    const collected = new FinalizationRegistry(() => seen++);
+    const work = (count) => {
+      const maps = Array.from({ length: count }, () => native.fromJson(mappings(60_000)));
+      for (const it of new Set(maps.map((it) => it.instance))) collected.register(it, 0);
+      for (const it of maps) native.free(it);
+    };
+    const out = [];
+    for (const count of [1, 20]) {
+      work(count);
+      await collect();
+      out.push(seen);
+    }
+    say([...out, given, native.getCounts(native.fromJson(text))]);`);
+  // (the one that is kept after the first map is that of the twenty)
+  assert.deepEqual(said, [0, 2, 1, 0]);
+});
+
 test('an instance whose maps are all dropped is collected, also where no turn comes to free them one by one', () => {
   const [instances, megabytes] = run(`
     const text = mappings(60_000);
-    for (let i = 0; i < 4000; i++) native.fromJson(text);
+    for (let i = 0; i < 1500; i++) native.fromJson(text);
     say([given, process.resourceUsage().maxRSS / 1024]);`);
   assert.ok(instances > 20, `${instances}`);
   assert.ok(megabytes < 300, `${megabytes} MB, of ${16 * instances}`);
@@ -367,12 +387,14 @@ test('a builder and a join have an instance of their own, which the next one tak
   const map = native.fromJson(json());
   const [builder, join] = [native.builderNew(), native.joinNew()];
   const { instance } = builder;
+  const fresh = used(instance);
   assert.notEqual(instance, map.instance);
   assert.notEqual(join.instance, instance);
   native.builderAddSource(builder, 'a.ts', 'x');
   const made = native.builderFinish(builder);
   assert.deepEqual([made.instance, builder.instance, native.text(made, 2, 0)], [map.instance, null, 'x']);
   assert.equal(native.builderNew().instance, instance);
+  assert.equal(used(instance), fresh);
   native.builderAddSource(builder, 'a.ts', 'x'.repeat(1_000_000));
   const large_ = native.builderFinish(builder);
   assert.notEqual(large_.instance, map.instance);
@@ -382,8 +404,9 @@ test('a builder and a join have an instance of their own, which the next one tak
 });
 
 test('a map that a change makes large moves to an instance of its own, with its index and its mends', () => {
-  const map = native.readFound('\ufeff' + json({ names: ['f'], mappings: 'AAAAA' }));
   const other = native.fromJson(json());
+  const before = used(other.instance);
+  const map = native.readFound('\ufeff' + json({ names: ['f'], mappings: 'AAAAA' }));
   assert.equal(map.instance, other.instance);
   assert.equal(native.indexSources(map), 0);
   native.select(map);
@@ -397,8 +420,6 @@ test('a map that a change makes large moves to an instance of its own, with its 
   assert.equal(native.setTexts(plain, 2, Buffer.alloc(1_000_000, 'y'), Uint32Array.of(1_000_000)), 0);
   assert.equal(native.generated(plain, 0, 0, 0, 0), 104);
   assert.notEqual(plain.instance, other.instance);
-  const before = used(other.instance);
-  for (const it of [map, plain]) native.free(it);
   assert.equal(used(other.instance), before);
 });
 

@@ -2,6 +2,7 @@
 
 import json
 import os
+import resource
 import subprocess
 import sys
 import tempfile
@@ -16,12 +17,12 @@ EXAMPLES = TOP / "bindings/python/examples"
 DATA = TOP / "bindings/c/examples"
 
 
-def ran(name: str, *words: object, given: bytes = b"", folder: Path = TOP, seconds: float = 300) -> bytes:
+def ran(name: str, *words: object, given: bytes = b"", folder: Path = TOP) -> bytes:
     """What an example writes."""
     package = Path(oxc_sourcemap.__file__).parents[1]
     env = {**os.environ, "PYTHONPATH": str(package), "PYTHONIOENCODING": "utf-8"}
     command = [sys.executable, str(EXAMPLES / name), *map(str, words)]
-    return subprocess.run(command, input=given, stdout=subprocess.PIPE, check=True, env=env, cwd=folder, timeout=seconds).stdout
+    return subprocess.run(command, input=given, stdout=subprocess.PIPE, check=True, env=env, cwd=folder).stdout
 
 
 class Examples(unittest.TestCase):
@@ -42,7 +43,8 @@ class Examples(unittest.TestCase):
         self.assertEqual(said.decode(), (folder / "stdout").read_text(encoding="utf-8"))
 
     def test_coverage_of_many_functions(self):
-        # Each on a line of its own, and every other one does not run. (That takes a second, and minutes if time grows with the square.)
+        # Each on a line of its own, and every other one does not run. (That takes half a second, and a minute if time grows with the
+        # square.)
         count = 8000
         line, ranges = "function f(){}\n", [{"startOffset": 0, "endOffset": 15 * count, "count": 1}]
         ranges += [{"startOffset": 15 * at, "endOffset": 15 * at + 14, "count": at % 2} for at in range(count)]
@@ -50,7 +52,9 @@ class Examples(unittest.TestCase):
         with tempfile.TemporaryDirectory() as room:
             for ending, text in (("", line * count), (".map", json.dumps(map)), (".coverage.json", json.dumps({"functions": [{"ranges": ranges}]}))):
                 Path(room, "a.js" + ending).write_text(text, encoding="utf-8")
-            said = ran("coverage.py", f"{room}/a.js", seconds=30).decode()
+            before = resource.getrusage(resource.RUSAGE_CHILDREN).ru_utime
+            said = ran("coverage.py", f"{room}/a.js").decode()
+            self.assertLess(resource.getrusage(resource.RUSAGE_CHILDREN).ru_utime - before, 15)
         self.assertEqual(said, f"a.js: 4000 lines ran, 4000 did not\n  a.ts: 4000 lines ran, 4000 did not: {list(range(1, count, 2))}\n")
 
     def test_bundler(self):

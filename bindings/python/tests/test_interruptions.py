@@ -95,6 +95,30 @@ class Interruptions(Case):
             self.assertEqual((ended, changing.is_alive(), map.file), ([True], False, "c.js"))
             map.set_file("out.js")
 
+    def test_a_join_holds_no_map_while_it_waits(self):
+        map, join, adding = read(), SourceMapJoin(), threading.Event()
+
+        def finishes(at):
+            # What interrupts this, as a finalizer may, changes the map that the other thread is about to add.
+            adding.set()
+            time.sleep(0.2)
+            map.set_file("b.js")
+            return 0
+
+        def adds():
+            adding.wait(60)
+            join.add(map, 7)
+
+        self.together(lambda: join._coded(finishes), adds, seconds=20)
+        self.assertEqual((map.file, len(join.finish())), ("b.js", 4))
+        # And a map that is being changed is waited for.
+        thread = threading.Thread(target=lambda: map._exclusively(lambda at: time.sleep(0.2)))
+        thread.start()
+        while not map._is_changed:
+            time.sleep(0.001)
+        join.add(map, 0)
+        self.assertEqual((thread.is_alive() and map._is_changed, len(join.finish())), (False, 4))
+
     def test_a_finalizer_in_a_lookup(self):
         # From CPython 3.12 on the collector does not run in the midst of a call in C.
         said = ran(

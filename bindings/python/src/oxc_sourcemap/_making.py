@@ -7,7 +7,7 @@ import threading
 from collections.abc import Callable
 from contextlib import suppress
 from ctypes import byref
-from typing import Any, ClassVar, TypeVar, final
+from typing import Any, ClassVar, Optional, TypeVar, final
 
 from . import _library
 from ._errors import check
@@ -17,6 +17,7 @@ from ._numbers import Tokens, bytes_of, number, tokens_of
 from ._values import Text, Token
 
 Self = TypeVar("Self", bound="_Maker")
+T = TypeVar("T")
 
 
 class _Maker:
@@ -30,8 +31,8 @@ class _Maker:
         self._at, self._lock, self._is_used, fault = ctypes.c_void_p(), threading.RLock(), False, _library.Fault()
         check(type(self)._new(byref(self._at), byref(fault)), fault)
 
-    def _coded(self, call: Callable[..., int], *arguments: Any) -> int:
-        """The code of a call, which gets the handle and these."""
+    def _coded(self, call: Callable[..., T], *arguments: Any) -> T:
+        """What a call says, which gets the handle and these."""
         with self._lock:
             self._check_unused()
             self._is_used = True
@@ -204,5 +205,12 @@ class SourceMapJoin(_Maker):
 
         >>> SourceMapJoin().add(SourceMap.from_tokens([]), 7)
         """
-        line, column = number(line), number(column)
-        map_in(map, "map")._read(lambda at: self._call(lib.smap_join_add, at, line, column))
+        map, line, column, fault = map_in(map, "map"), number(line), number(column), _library.Fault()
+
+        def added(at: ctypes.c_void_p) -> Optional[int]:
+            return map._read_now(lambda map_at: lib.smap_join_add(at, map_at, line, column, byref(fault)))
+
+        # While one of the two is waited for, the other is not held.
+        while (code := self._coded(added)) is None:
+            map._lent()
+        check(code, fault)

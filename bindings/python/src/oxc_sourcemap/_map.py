@@ -133,9 +133,18 @@ class SourceMap:
             # A traceback may outlive the call, and who changes the map waits for its leases.
             del held
 
+    def _read_now(self, call: Callable[[int], T]) -> Optional[T]:
+        """The same, or None where this thread would have to wait."""
+        held = None
+        try:
+            held = self._mine(get_ident())
+            return None if held is None else call(held[0])
+        finally:
+            del held
+
     @staticmethod
     def _read_all(maps: Sequence[SourceMap], call: Callable[[list[int]], T]) -> T:
-        """The same of several maps. While one of them is waited for, no other is held."""
+        """What a call says that gets the addresses of several maps. While one of them is waited for, no other is held."""
         thread, held = get_ident(), list[Optional[tuple[int, Lease]]]()
         while True:
             try:

@@ -111,13 +111,19 @@ class Interruptions(Case):
 
         self.together(lambda: join._coded(finishes), adds, seconds=20)
         self.assertEqual((map.file, len(join.finish())), ("b.js", 4))
-        # And a map that is being changed is waited for.
-        thread = threading.Thread(target=lambda: map._exclusively(lambda at: time.sleep(0.2)))
-        thread.start()
-        while not map._is_changed:
-            time.sleep(0.001)
-        join.add(map, 0)
-        self.assertEqual((thread.is_alive() and map._is_changed, len(join.finish())), (False, 4))
+
+    def test_a_join_is_not_held_while_it_waits_for_a_map(self):
+        map, join, changed, added = read(), SourceMapJoin(), threading.Event(), []
+        changing = threading.Thread(target=lambda: map._exclusively(lambda at: changed.wait(60)), daemon=True)
+        adding = threading.Thread(target=lambda: (join.add(map, 0), added.append(map._is_changed)), daemon=True)
+        for thread in changing, adding:
+            thread.start()
+            time.sleep(0.1)
+        self.together(lambda: self.assertEqual(len(join.finish()), 0), seconds=20)
+        changed.set()
+        for thread in changing, adding:
+            thread.join(20)
+        self.assertEqual((added, len(join.finish())), ([False], 4))
 
     def test_a_finalizer_in_a_lookup(self):
         # From CPython 3.12 on the collector does not run in the midst of a call in C.

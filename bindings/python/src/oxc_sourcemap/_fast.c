@@ -98,7 +98,7 @@ static PyObject *bind(PyObject *module, PyObject *const *arguments, Py_ssize_t c
     return none();
 }
 
-/* What this thread may read a map by, of what threads may: the address of the map and a lease. Null without an error where it has none. */
+/* What this thread may read a map by, of what threads may: its address and a lease. Null without an error where there is none. */
 static PyObject *held_in(PyObject *leases) {
     PyObject *thread = PyLong_FromUnsignedLong(PyThread_get_thread_ident());
     if (!thread) return NULL;
@@ -108,7 +108,7 @@ static PyObject *held_in(PyObject *leases) {
     return held;
 }
 
-/* A lookup, for whose time the caller holds the lease: what runs meanwhile, as __index__ or the collector may, finds that it is held. */
+/* A lookup. The caller holds the lease: what runs meanwhile, as __index__ or the collector may, finds that it is held. */
 static PyObject *traced(const state *my, PyObject *held, PyObject *const *numbers) {
     uint32_t line, column, bias;
     if (!read_number(numbers[0], &line) || !read_number(numbers[1], &column) || !read_number(numbers[2], &bias)) return NULL;

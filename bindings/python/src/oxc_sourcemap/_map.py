@@ -158,7 +158,7 @@ class SourceMap:
                 map._lent()
 
     def _mine(self, thread: int) -> Optional[tuple[int, Lease]]:
-        """What this thread may read by, if it need not wait: also the lease by which it reads already, that another one waits for."""
+        """What this thread may read by without waiting: also the lease by which it reads already, for which another one waits."""
         if lent := self._leases.get(thread):
             return lent
         held = self._held.get(thread)
@@ -867,7 +867,7 @@ class SourceMap:
         >>> bundle.remap({"a.js": compiled}).sources
         ['a.ts', 'b.js']
         """
-        given = inputs.items() if isinstance(inputs, Mapping) else inputs
+        given = cast("Iterable[tuple[Text, SourceMap]]", inputs.items() if isinstance(inputs, Mapping) else inputs)
         pairs = entries_of(given, "inputs", _input)
         paths, maps = Texts(path for path, _ in pairs), [self, *(map for _, map in pairs)]
 

@@ -30,7 +30,7 @@ def original_of(found: _library.Original) -> Optional[Original]:
 
 
 def trace(leases: Mapping[int, tuple[int, object]], line: int, column: int, bias: int) -> Union[Original, int, None]:
-    """What a lookup finds in the map that this thread may read by one of these, or the code of an error; NULL_HANDLE without one."""
+    """What a lookup finds in the map that this thread reads by one of these, or the code of an error; NULL_HANDLE without one."""
     held = None
     try:
         held = leases.get(get_ident())

@@ -33,7 +33,7 @@ struct Coverage {
     /// The current folder, with a slash at its end.
     folder: String,
     sources: Sources,
-    /// The codes that are left out, and why.
+    /// The codes that are left out, and what is told of them.
     left_out: BTreeMap<String, String>,
 }
 
@@ -134,13 +134,16 @@ fn lines_of(
 }
 
 /// The path of a source of a map in a folder, `..` taken together with the parts before it: from the current folder if it is in that,
-/// else from the root. A URL, but one of a file, and a path from a drive stay.
+/// else from the root. An empty path, a URL but one of a file, and a path from a drive stay.
 fn path_from_here(
     alloc: Global,
     current: &str,
     folder: &str,
     source: &str,
 ) -> Result<String, AllocError> {
+    if source.is_empty() {
+        return Ok(String::new(alloc));
+    }
     let named = if source.starts_with("file:") {
         path_of_url(alloc, source)?
     } else {
@@ -194,11 +197,10 @@ impl Coverage {
         Ok(())
     }
 
-    fn leave_out(&mut self, name: &str, why: &str) -> Outcome<()> {
-        let name = String::from_str(self.alloc, name)?;
+    fn leave_out(&mut self, code: &str, why: String) -> Outcome<()> {
         let _ = self
             .left_out
-            .insert(name, String::from_str(self.alloc, why)?)?;
+            .insert(String::from_str(self.alloc, code)?, why)?;
         Ok(())
     }
 
@@ -226,32 +228,38 @@ impl Coverage {
         }
         let path = match code_path(rt, url, places)? {
             Some(path) if is_file(rt, path.as_str()) => path,
-            _ => return self.leave_out(url, "is not in the root: name its folder by --root"),
+            _ => {
+                let why = format!(in self.alloc;
+                    "{url} is not in the root: name its folder by --root"
+                )?;
+                return self.leave_out(url, why);
+            }
         };
         let path = path.as_str();
         if !is_in_root(rt, path, places) {
-            return self.leave_out(path, "is a link out of the root: allow it by --outside");
+            let why = format!(in self.alloc;
+                "{path} is a link out of the root: allow it by --outside"
+            )?;
+            return self.leave_out(path, why);
         }
         let code = read_text(rt, path)?;
         match map_of_code(rt, path, code.as_str(), places)? {
             Lookup::Map(text) => self.add_mapped(asked, script, code.as_str(), &text),
-            Lookup::None(why) => self.leave_out(path, why.as_str()),
+            Lookup::None(why) => self.leave_out(path, why),
         }
     }
 
     /// Tells which codes are left out, or how many if they are not few, and that nothing is found.
     fn tell_left_out(&self, rt: &HostRuntime) -> Outcome<()> {
         let count = self.left_out.len();
-        for (name, why) in self.left_out.iter().take(FEW) {
-            let text = format!(in self.alloc; "is left out: {why}")?;
-            warn(rt, name.as_str(), text.as_str());
+        for why in self.left_out.values().take(FEW) {
+            warn(rt, "left out", why.as_str());
         }
         if count > FEW {
             let more = count.saturating_sub(FEW);
-            tell(
-                rt,
-                format!(in self.alloc; "{more} more codes are left out")?.as_str(),
-            );
+            let codes = if more == 1 { "code is" } else { "codes are" };
+            let text = format!(in self.alloc; "{more} more {codes} left out")?;
+            tell(rt, text.as_str());
         }
         if self.sources.is_empty() {
             tell(rt, "no line of an original is found in what V8 tells");

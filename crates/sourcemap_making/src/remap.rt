@@ -216,12 +216,21 @@ fn summary(
     Ok(object)
 }
 
+/// How the output is named in messages.
+fn shown_output(output: &str) -> &str {
+    if output == "-" {
+        "standard output"
+    } else {
+        output
+    }
+}
+
 /// Writes the map to the file that is asked for, else to standard output.
 fn write(asked: &Asked<'_, '_>, map: &SourceMap<'_>, inputs: u64, limit: u64) -> Outcome<Status> {
     let alloc = asked.alloc();
     let output = asked.word("output");
     let output = if output.is_empty() { "-" } else { output };
-    let text = limited_json(alloc, output, map, limit)?;
+    let text = limited_json(alloc, shown_output(output), map, limit)?;
     write_text(asked.rt, output, text.as_str())?;
     if asked.has("json") {
         print(asked.rt, summary(alloc, asked, map, inputs)?.as_str())?;

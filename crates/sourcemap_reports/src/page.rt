@@ -2,7 +2,7 @@
 use crate::check::objects_of;
 use sourcemap_files::{
     Asked, Lookup, MapText, Status, folder_of, is_file, is_map, map_of_code, map_of_file, print,
-    read_map, read_text, shown_name, usage, write_text,
+    read_map, read_text, real_name, shown_name, usage, write_text,
 };
 use sourcemap_run::{MARK, filled, push_number_member, push_object, push_text_member};
 use sourcemap_words::{Outcome, failure_of};
@@ -130,8 +130,10 @@ fn check_words(asked: &Asked<'_, '_>) -> Outcome<()> {
 
 /// Refuses to write the page over a file that it is made of.
 fn check_output(asked: &Asked<'_, '_>, map: &MapText) -> Outcome<()> {
-    let output = asked.word("output");
-    if output != "-" && (output == asked.word("CODE") || output == map.name.as_str()) {
+    let (rt, output) = (asked.rt, asked.word("output"));
+    let real = real_name(rt, output)?;
+    let is_code = real == real_name(rt, asked.word("CODE"))?;
+    if output != "-" && (is_code || real == real_name(rt, map.name.as_str())?) {
         return Err(failure_of(
             asked.alloc(),
             output,

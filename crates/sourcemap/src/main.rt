@@ -8,7 +8,7 @@
 mod commands;
 
 use clap::{ArgMatches, Error};
-use sourcemap_files::{Asked, Status, print, tell, with_slash};
+use sourcemap_files::{Asked, Status, print, tell};
 use sourcemap_run::push_visible;
 use sourcemap_words::{Failure, Outcome, VERSION, program};
 use std::alloc::{AllocError, Global};
@@ -17,18 +17,7 @@ use std::process::ExitCode;
 
 /// Runs the command that was parsed.
 fn run<'a>(rt: &'a HostRuntime, name: &str, matches: &'a ArgMatches<'_>) -> Outcome<Status> {
-    let alloc = rt.alloc();
-    let root = with_slash(alloc, matches.get_str("root").unwrap_or(""))?;
-    let maps = match matches.get_str("maps") {
-        Some(maps) => Some(with_slash(alloc, maps)?),
-        None => None,
-    };
-    let asked = Asked {
-        rt,
-        matches,
-        root,
-        maps,
-    };
+    let asked = Asked::new(rt, matches)?;
     commands::run(name, &asked)
 }
 

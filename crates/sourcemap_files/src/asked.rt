@@ -2,7 +2,10 @@
 ghost use Rattle.std.specs.Prelude.{◌≡◌, MatchBool};
 
 use crate::finding::Places;
+use crate::matching::{InputPrefix, Prefix};
+use crate::paths::{folder_name, is_folder, with_slash};
 use clap::ArgMatches;
+use sourcemap_words::{Outcome, failure_of};
 use std::alloc::{AllocError, Global};
 
 /// How a command ends that gave an answer.
@@ -35,9 +38,69 @@ pub struct Asked<'a, 'm> {
     /// The folders of `--root` and `--maps`, with a slash at their ends.
     pub root: String,
     pub maps: Option<String>,
+    /// Those of `--prefix`.
+    pub prefixes: Vec<Prefix>,
+}
+
+/// A folder that an option names, with a slash at its end.
+fn named_folder(rt: &HostRuntime, option: &str, folder: &str) -> Outcome<String> {
+    let alloc = rt.alloc();
+    let is_current = matches!(folder, "." | "./");
+    let found = with_slash(alloc, if is_current { "" } else { folder })?;
+    if !is_folder(rt, found.as_str()) {
+        let text = format!(in alloc; "{folder:?} is no folder")?;
+        return Err(failure_of(alloc, option, text.as_str()));
+    }
+    Ok(found)
+}
+
+/// A prefix with its folder, in the words `PREFIX=DIR`.
+fn prefix_of(rt: &HostRuntime, word: &str) -> Outcome<Prefix> {
+    let alloc = rt.alloc();
+    if let Some((left, folder)) = word.rsplit_once('=')
+        && !left.is_empty()
+        && let Some(prefix) = Prefix::new(alloc, left, named_folder(rt, "--prefix", folder)?)?
+    {
+        return Ok(prefix);
+    }
+    let text = format!(in alloc;
+        "{word:?} is no prefix of a path or URL with its folder: write PREFIX=DIR"
+    )?;
+    Err(failure_of(alloc, "--prefix", text.as_str()))
+}
+
+/// The prefixes of `--prefix`, of commands that have it.
+fn prefixes_of(rt: &HostRuntime, matches: &ArgMatches<'_>) -> Outcome<Vec<Prefix>> {
+    let mut prefixes = Vec::new(rt.alloc());
+    if let Some(words) = matches.get_strs("prefix") {
+        for word in words {
+            prefixes.push(prefix_of(rt, word)?)?;
+        }
+    }
+    Ok(prefixes)
 }
 
 impl<'a, 'm> Asked<'a, 'm> {
+    /// What the options ask for that all commands about files have. Fails for a folder that is not there.
+    pub fn new(rt: &'a HostRuntime, matches: &'a ArgMatches<'m>) -> Outcome<Asked<'a, 'm>> {
+        let root = match matches.get_str("root") {
+            Some(root) => named_folder(rt, "--root", root)?,
+            None => String::new(rt.alloc()),
+        };
+        let maps = match matches.get_str("maps") {
+            Some(maps) => Some(named_folder(rt, "--maps", maps)?),
+            None => None,
+        };
+        let prefixes = prefixes_of(rt, matches)?;
+        Ok(Asked {
+            rt,
+            matches,
+            root,
+            maps,
+            prefixes,
+        })
+    }
+
     pub fn alloc(&self) -> Global {
         self.rt.alloc()
     }
@@ -78,6 +141,13 @@ impl<'a, 'm> Asked<'a, 'm> {
             root: self.root.as_str(),
             maps: self.maps.as_deref(),
             outside: self.has("outside"),
+            prefixes: self.prefixes.as_slice(),
         }
+    }
+
+    /// The prefix of an input whose codes lie in the root; it is not known yet.
+    pub fn input_prefix(&self) -> Result<InputPrefix, AllocError> {
+        let name = folder_name(self.rt, self.root.as_str())?;
+        Ok(InputPrefix::new(self.alloc(), name))
     }
 }

@@ -1,7 +1,8 @@
 //! Finding the map of a code.
 use crate::input::{is_file, read_text, shown_name, warn};
+use crate::matching::{Below, CodePath, Files, Found as Match, InputPrefix, Prefix, named_prefix};
 use crate::paths::{
-    file_name, folder_of, has_scheme, is_inside, joined, parts_of, path_of, path_of_url,
+    file_name, folder_of, has_scheme, is_folder, is_inside, joined, parts_of, path_of, path_of_url,
 };
 use oxc_sourcemap_found::{Found, fault_reason, found_fault_at, read_found};
 use oxc_sourcemap_map::SourceMap;
@@ -20,7 +21,12 @@ pub struct Places<'a> {
     pub maps: Option<&'a str>,
     /// Whether files outside of the root and of the folder of the code may be read.
     pub outside: bool,
+    /// Where codes lie that engines name by paths with these prefixes.
+    pub prefixes: &'a [Prefix],
 }
+
+/// More bytes than a path may have.
+const TOO_LONG: usize = 4096;
 
 /// The text of a map, and how it is named in messages.
 #[derive(Drop)]
@@ -233,53 +239,163 @@ fn code_or_map(rt: &HostRuntime, path: &str) -> Result<Option<String>, AllocErro
     })
 }
 
-/// The path in the root that has the most of these parts at its end, and is there.
-fn longest_in_root(
-    rt: &HostRuntime,
-    root: &str,
-    parts: &[&str],
-    only_whole: bool,
-) -> Result<Option<String>, AllocError> {
-    for skipped in 0..parts.len() {
-        if skipped > 0 && only_whole {
-            break;
+/// The files of a folder of this machine.
+#[derive(Clone, Copy)]
+struct Folder<'a> {
+    rt: &'a HostRuntime,
+    /// Empty or with a slash at its end.
+    path: &'a str,
+}
+
+impl<'a> Files for Folder<'a> {
+    fn has(&self, path: &str) -> Result<bool, AllocError> {
+        let alloc = self.rt.alloc();
+        // Of a long path most often the first folder is not there.
+        if let Some((first, _)) = path.split_once('/')
+            && !is_folder(self.rt, format!(in alloc; "{}{first}", self.path)?.as_str())
+        {
+            return Ok(false);
         }
-        let path = path_of(rt.alloc(), root, parts.get(skipped..).unwrap_or(&[]))?;
-        if code_or_map(rt, path.as_str())?.is_some() {
-            return Ok(Some(path));
+        let path = format!(in alloc; "{}{path}", self.path)?;
+        Ok(code_or_map(self.rt, path.as_str())?.is_some())
+    }
+}
+
+/// The code that a frame or V8 names; it may be its map alone that is there.
+#[derive(Drop)]
+pub struct CodeFile {
+    pub path: String,
+    /// The folder that it has to be in, links followed, to be read.
+    pub folder: String,
+    /// The prefix of the input that it was found below; None if it was found by its whole path.
+    pub prefix: Option<String>,
+}
+
+/// What a frame or V8 names.
+#[derive(Drop)]
+pub enum Sought {
+    Code(CodeFile),
+    /// Nothing that is known. It may be the file `path`, below this prefix of its name.
+    Maybe { prefix: String, path: String },
+    /// Nothing in this folder, where a prefix which the user named says that it is.
+    NotIn(String),
+    Nothing,
+}
+
+fn code_in(
+    alloc: Global,
+    folder: &str,
+    rest: &str,
+    prefix: Option<String>,
+) -> Result<Sought, AllocError> {
+    Ok(Sought::Code(CodeFile {
+        path: format!(in alloc; "{folder}{rest}")?,
+        folder: String::from_str(alloc, folder)?,
+        prefix,
+    }))
+}
+
+/// The file itself, if it is in the root: by its name, or by that without dots.
+fn itself(
+    rt: &HostRuntime,
+    name: &str,
+    path: &CodePath,
+    places: Places<'_>,
+) -> Result<Option<Sought>, AllocError> {
+    if path.is_remote {
+        return Ok(None);
+    }
+    for own in [name, path.text.as_str()] {
+        if let Some(there) = code_or_map(rt, own)?
+            && is_in_root(rt, there.as_str(), places)
+        {
+            let folder = String::from_str(rt.alloc(), places.root)?;
+            return Ok(Some(Sought::Code(CodeFile {
+                path: String::from_str(rt.alloc(), own)?,
+                folder,
+                prefix: None,
+            })));
         }
     }
     Ok(None)
 }
 
-/// The code that a frame or V8 names: the file itself if it is in the root, else the one in the root with the most parts of its path at
-/// its end; of a URL, but one of a file, the whole path has to be there. None if there is none.
-pub fn code_path(
+/// The code that lies below a prefix which the user named.
+fn below_named(
+    rt: &HostRuntime,
+    path: &CodePath,
+    places: Places<'_>,
+) -> Result<Option<Sought>, AllocError> {
+    let Some((prefix, rest)) = named_prefix(places.prefixes, path) else {
+        return Ok(None);
+    };
+    let folder = prefix.folder.as_str();
+    if !(Folder { rt, path: folder }).has(rest)? {
+        return Ok(Some(Sought::NotIn(String::from_str(rt.alloc(), folder)?)));
+    }
+    Ok(Some(code_in(rt.alloc(), folder, rest, None)?))
+}
+
+/// The code that lies below a prefix of the input.
+fn below_input(
+    rt: &HostRuntime,
+    path: &CodePath,
+    places: Places<'_>,
+    input: &mut InputPrefix,
+) -> Result<Sought, AllocError> {
+    let alloc = rt.alloc();
+    let root = places.root;
+    match input.find(alloc, path, &Folder { rt, path: root })? {
+        Match::Below(Below { prefix, rest }) => code_in(alloc, root, rest.as_str(), Some(prefix)),
+        Match::Maybe(Below { prefix, rest }) => Ok(Sought::Maybe {
+            prefix,
+            path: format!(in alloc; "{root}{rest}")?,
+        }),
+        Match::Nothing => Ok(Sought::Nothing),
+    }
+}
+
+/// The code that a frame or V8 names: below a prefix that the user named; the file itself, if it is in the root; its whole path in the
+/// root; or what the prefix of the input leaves of it.
+pub fn find_code(
     rt: &HostRuntime,
     name: &str,
     places: Places<'_>,
-) -> Result<Option<String>, AllocError> {
+    input: &mut InputPrefix,
+) -> Result<Sought, AllocError> {
     let alloc = rt.alloc();
-    let is_url = name.contains("://");
-    let path = if is_url {
-        path_of_url(alloc, name)?
-    } else {
-        Some(String::from_str(alloc, name)?)
-    };
-    let Some(path) = path else {
-        return Ok(None);
-    };
-    let is_local = !is_url || name.starts_with("file:");
-    let own = path.as_str();
-    if is_local
-        && let Some(there) = code_or_map(rt, own)?
-        && is_in_root(rt, there.as_str(), places)
-    {
-        return Ok(Some(path));
+    if name.len() >= TOO_LONG {
+        return Ok(Sought::Nothing);
     }
-    match parts_of(alloc, own)? {
-        Some(parts) => longest_in_root(rt, places.root, parts.as_slice(), !is_local),
-        None => Ok(None),
+    let Some(path) = CodePath::of_name(alloc, name)? else {
+        return Ok(Sought::Nothing);
+    };
+    if let Some(sought) = below_named(rt, &path, places)? {
+        return Ok(sought);
+    }
+    if let Some(sought) = itself(rt, name, &path, places)? {
+        return Ok(sought);
+    }
+    let root = Folder {
+        rt,
+        path: places.root,
+    };
+    if let Some(whole) = path.whole()
+        && root.has(whole)?
+    {
+        return code_in(alloc, places.root, whole, None);
+    }
+    below_input(rt, &path, places, input)
+}
+
+/// The map in the folder of maps that is named as a code which was not found; None for codes of installed packages.
+pub fn map_by_name(rt: &HostRuntime, name: &str, places: Places<'_>) -> Outcome<Option<Lookup>> {
+    if name.len() >= TOO_LONG {
+        return Ok(None);
+    }
+    match CodePath::of_name(rt.alloc(), name)? {
+        Some(path) if !path.is_in_package() => map_in_maps(rt, path.text.as_str(), places),
+        _ => Ok(None),
     }
 }
 

@@ -41,12 +41,17 @@ pub fn read_text(rt: &HostRuntime, path: &str) -> Outcome<String> {
     }
 }
 
-/// Writes a text to standard output.
-pub fn print(rt: &HostRuntime, text: &str) -> Outcome<()> {
-    match rt.stdout().write_all(text.as_bytes()) {
+/// Writes bytes to standard output.
+pub fn print_bytes(rt: &HostRuntime, bytes: &[u8]) -> Outcome<()> {
+    match rt.stdout().write_all(bytes) {
         Ok(()) => Ok(()),
         Err(error) => Err(file_failure(rt.alloc(), "standard output", error)),
     }
+}
+
+/// Writes a text to standard output.
+pub fn print(rt: &HostRuntime, text: &str) -> Outcome<()> {
+    print_bytes(rt, text.as_bytes())
 }
 
 /// Prints a message on standard error. That it cannot be printed is no failure. Files and arguments that it names may hold control

@@ -79,6 +79,27 @@ fn real_path(rt: &HostRuntime, path: &str) -> Option<String> {
     String::from_str(rt.alloc(), real.as_path().as_str()).ok()
 }
 
+/// Whether a folder is there; an empty path is the current one.
+pub fn is_folder(rt: &HostRuntime, path: &str) -> bool {
+    match fs::metadata(rt, if path.is_empty() { "." } else { path }) {
+        Ok(metadata) => metadata.is_dir(),
+        Err(_) => false,
+    }
+}
+
+/// The own name of a folder: the last part of its path, or, where that has dots alone, of its path from the root; empty if it has none.
+pub fn folder_name(rt: &HostRuntime, folder: &str) -> Result<String, AllocError> {
+    let alloc = rt.alloc();
+    let given = file_name(folder.trim_end_matches('/'));
+    if !matches!(given, "" | "." | "..") {
+        return String::from_str(alloc, given);
+    }
+    match real_path(rt, folder) {
+        Some(real) => String::from_str(alloc, file_name(real.as_str())),
+        None => Ok(String::new(alloc)),
+    }
+}
+
 /// Whether a file is in a folder, links followed.
 pub fn is_inside(rt: &HostRuntime, path: &str, folder: &str) -> bool {
     let (Some(path), Some(folder)) = (real_path(rt, path), real_path(rt, folder)) else {

@@ -5,8 +5,9 @@ use oxc_sourcemap_map::SourceMap;
 use oxc_sourcemap_text::TextPositions;
 use oxc_sourcemap_tokens::Position;
 use sourcemap_files::{
-    Asked, Lookup, MapText, Progress, Status, code_path, is_file, is_in_root, map_of_code,
-    path_of_url, plain_path, print, read_map, read_text, shown_name, tell, warn,
+    Asked, CodeFile, InputPrefix, Lookup, MapText, Places, Progress, Sought, Status, find_code,
+    is_file, is_in_root, map_of_code, path_of_url, plain_path, print, read_map, read_text,
+    shown_name, tell, warn,
 };
 use sourcemap_run::{
     Block, Mark, is_hidden, push_marks, push_number_member, push_object, push_shown,
@@ -32,6 +33,8 @@ struct Coverage {
     alloc: Global,
     /// The current folder, with a slash at its end.
     folder: String,
+    /// What is before the paths of codes in the root.
+    input: InputPrefix,
     sources: Sources,
     /// The codes that are left out, and what is told of them.
     left_out: BTreeMap<String, String>,
@@ -166,15 +169,16 @@ fn path_from_here(
 }
 
 impl Coverage {
-    fn new(rt: &HostRuntime) -> Outcome<Coverage> {
-        let alloc = rt.alloc();
-        let folder = match env::current_dir(rt) {
+    fn new(asked: &Asked<'_, '_>) -> Outcome<Coverage> {
+        let alloc = asked.alloc();
+        let folder = match env::current_dir(asked.rt) {
             Ok(folder) => format!(in alloc; "{}/", folder.as_path().as_str())?,
             Err(error) => return Err(failure_of(alloc, "the current folder", error)),
         };
         Ok(Coverage {
             alloc,
             folder,
+            input: asked.input_prefix()?,
             sources: Sources::new(alloc),
             left_out: BTreeMap::new(alloc),
         })
@@ -226,8 +230,10 @@ impl Coverage {
         if is_of_engine(url) {
             return Ok(());
         }
-        let path = match code_path(rt, url, places)? {
-            Some(path) if is_file(rt, path.as_str()) => path,
+        let (path, folder) = match find_code(rt, url, places, &mut self.input)? {
+            Sought::Code(CodeFile { path, folder, .. }) if is_file(rt, path.as_str()) => {
+                (path, folder)
+            }
             _ => {
                 let why = format!(in self.alloc;
                     "{url} is not in the root: name its folder by --root"
@@ -236,6 +242,10 @@ impl Coverage {
             }
         };
         let path = path.as_str();
+        let places = Places {
+            root: folder.as_str(),
+            ..places
+        };
         if !is_in_root(rt, path, places) {
             let why = format!(in self.alloc;
                 "{path} is a link out of the root: allow it by --outside"
@@ -438,7 +448,7 @@ pub fn run(asked: &Asked<'_, '_>) -> Outcome<Status> {
     let alloc = asked.alloc();
     let files = asked.words("V8.json")?;
     let mut progress = Progress::new(asked.rt, files.len());
-    let mut coverage = Coverage::new(asked.rt)?;
+    let mut coverage = Coverage::new(asked)?;
     for file in &files {
         progress.begin(asked.rt, file);
         add_file(asked, file, &mut coverage)?;

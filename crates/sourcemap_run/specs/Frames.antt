@@ -1,5 +1,5 @@
 -- Lines of a stack trace, and what they are led back to.
-use Rattle.std.specs.Prelude.{ℕ, List, [], ◌∷◌, ◌++◌, Option, Some, None, slice_get}
+use Rattle.std.specs.Prelude.{ℕ, List, ◌++◌, Option, Some, None, slice_get}
 use Rattle.std.specs.Option.{option_and_then}
 use Rattle.oxc_sourcemap_parts.specs.Record.{Text, MapRecord}
 use Rattle.sourcemap_run.specs.declared.tracer.Bias.TheVariants.{Lower}
@@ -28,7 +28,7 @@ location_text print own None = own
 location_text print own (Some None) = own
 location_text print own (Some (Some p)) = print p
 
--- a line whose position is led back, and its line feed
+-- a line, or a part of it, whose position is led back
 abbrev pub led_back : (Place → Text) → List MapRecord → Frame → Text
 led_back print maps f =
-    f.front.now ++ (location_text print f.location.now (answer_to maps f.target) ++ (f.back.now ++ 10 ∷ []))
+    f.front.now ++ (location_text print f.location.now (answer_to maps f.target) ++ f.back.now)

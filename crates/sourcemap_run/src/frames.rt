@@ -24,7 +24,7 @@ pub struct Paint<'p> {
     pub after: &'p str,
 }
 
-/// A line of a stack trace, in three pieces: the middle one is the position that a frame names, as `bundle.js:1:20`.
+/// A line of a stack trace, or a part of it, in three pieces: the middle one is the position that a frame names, as `bundle.js:1:20`.
 #[derive(Clone, Copy)]
 pub struct Frame<'t> {
     pub front: &'t str,
@@ -106,7 +106,7 @@ fn push_location(
     Ok(())
 }
 
-/// Appends a line of a stack trace: its position led back, if its map says what it comes from, and all else as it is.
+/// Appends a part of a line of a stack trace: its position led back, if its map says what it comes from, and all else as it is.
 pub fn push_frame(
     alloc: Global,
     tracers: &[Tracer],
@@ -122,11 +122,10 @@ pub fn push_frame(
     let answer = answer_to(tracers, frame.target);
     push_location(alloc, frame.location, answer, paint, out)?;
     out.push_str(frame.back)?;
-    out.push('\n')?;
     Ok(())
 }
 
-/// Appends the lines of a stack trace, each led back.
+/// Appends the parts of a line of a stack trace, each led back. No line feed is put behind them.
 pub fn push_frames(
     alloc: Global,
     tracers: &[Tracer],

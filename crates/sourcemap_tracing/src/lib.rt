@@ -2,5 +2,6 @@
 #![tactic(auto)]
 
 mod context;
+mod maps;
 pub mod resolve;
 pub mod trace;

@@ -74,6 +74,13 @@ const COMMON: [Word; 3] = [
     Word("outside", Kind::Flag, "Read files outside of the root too"),
 ];
 
+/// Where codes lie that engines name by other paths.
+const PREFIX: Word = Word(
+    "prefix",
+    Kind::Options("PREFIX=DIR"),
+    "Looks for what is below PREFIX, a URL or a path, in DIR",
+);
+
 const TRACE: Words = Words {
     about: "Tells what generated positions come from",
     json: "An object a line: line, column, found (original, unmapped or nothing), and source, sourceLine, sourceColumn, name; of --reverse line, column, source, generated",
@@ -113,10 +120,15 @@ const TRACE: Words = Words {
 };
 
 const RESOLVE: Words = Words {
-    about: "Leads the frames of a stack trace back to the originals, as V8, Firefox and Safari print them",
-    json: "An object a line: text, resolved, and of a frame file, line, column; with a map map, found, source, sourceLine, sourceColumn, name; or why; from 1",
+    about: "Leads the frames of stack traces back to the originals, as V8, Firefox, Safari and Hermes print them, in traces and in logs",
+    json: "An object a line: text, resolved, and of a frame file, line, column; with a map map, found, source, sourceLine, sourceColumn, name; or why; from 1; matched (prefix or maps) and prefix where the whole path was not there; of several frames the list frames",
     words: &[
-        Word("TRACE", Kind::Input, "A stack trace"),
+        Word(
+            "TRACE",
+            Kind::Input,
+            "A stack trace, or a log that has some",
+        ),
+        PREFIX,
         Word(
             "explain",
             Kind::Flag,
@@ -192,6 +204,7 @@ const COVERAGE: Words = Words {
     json: "An object a line, for each source: source, ran, missed, lines (the missed ones)",
     words: &[
         Word("V8.json", Kind::Files, "What V8 wrote"),
+        PREFIX,
         Word("lcov", Kind::Flag, "Prints it as lcov reads it"),
     ],
 };
@@ -230,11 +243,14 @@ pub fn examples_of(command: &str) -> &'static str {
   sourcemap trace --reverse src/a.ts:11:4 app.js.map"
         }
         "resolve" => {
-            "A frame without a map stays as it is. Lines and columns count from 1, as in stack traces.
+            "A frame without a map stays as it is, and so does all other text. Lines and columns count from 1, as in stack traces. Each line
+is answered as it comes. A frame names the file itself, or by its whole path one in the root; the path of a URL is what is behind its host.
+Of frames of another machine the folder is found if its path ends in the name of the root, or if two files below it are in the root.
 
 Examples:
   sourcemap resolve --root dist trace.txt
-  node app.js 2>&1 | sourcemap resolve --root dist --explain"
+  node app.js 2>&1 | sourcemap resolve --root dist --explain
+  tail -f log | sourcemap resolve --prefix /usr/src/app=dist --prefix https://cdn.example/v2=public"
         }
         "check" => {
             "Examples:

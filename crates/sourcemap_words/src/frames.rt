@@ -1,18 +1,27 @@
-//! The positions that the frames of stack traces name, as V8, Firefox and Safari print them.
+//! The positions that the frames of stack traces name, as V8, Firefox and Safari print them, and what logs make of these.
 use crate::failure::{Outcome, failure_of};
+use crate::views::{View, json_strings, may_be_json};
+use oxc_sourcemap_tokens::Position;
 use regex::{Captures, Matcher, Regex};
 use std::alloc::{AllocError, Global};
 
 /// V8, in the code of an `eval`: the innermost place outside of it, `at f (eval at g (bundle.js:1:2), <anonymous>:3:4)`.
-const V8_EVAL: &str = r"^\s*at .*\(eval at .*?\((.+?):([0-9]+):([0-9]+)\)";
-/// V8, in a function: `at f (bundle.js:1:2)`.
+const V8_EVAL: &str = r"(?:^|\s)at .*\(eval at .*?\((.+?):([0-9]+):([0-9]+)\)";
+/// V8, outside of functions, or in one without a name: `at bundle.js:1:2`. Or in a function: `at f (bundle.js:1:2)`; in Hermes
+/// `at f (address at bundle:1:2)`. Or a component of React: `in App (at bundle.js:1:2)`. Anything may stand before and behind.
+const V8: &str =
+    r"(?:^|\s)at (?:async )?((?:\S|\s[^(\s])+?):([0-9]+):([0-9]+)(?:[\s,;]|$)|(?:^|\s)(?:at (?:.*?\s)?\((?:address at )?|in (?:.*?\s)?\(at )((?:[^()]|\([^()]*\))+?):([0-9]+):([0-9]+)\)";
+/// V8, where one frame is all of a line: the file of a call may have any brackets, and that of a bare place too.
 const V8_CALL: &str = r"^\s*at .*?\((.+):([0-9]+):([0-9]+)\)$";
-/// V8, outside of functions, or in one without a name: `at bundle.js:1:2`.
+
 const V8_BARE: &str = r"^\s*at (?:async )?(.+):([0-9]+):([0-9]+)$";
+/// Vitest: `❯ f bundle.js:1:2`.
+const VITEST: &str = r"❯ (?:.*\s)?(\S+):([0-9]+):([0-9]+)$";
 /// Firefox and Safari: `f@bundle.js:1:2`. A name has no `@` and no `:/`.
 const AT_SIGN: &str = r"^\s*(?:[^@:]|:[^/@])*@(.+):([0-9]+):([0-9]+)$";
 /// Safari, outside of functions: the place alone, as a URL or a path from the root.
-const PLACE: &str = r"^\s*((?:[a-zA-Z][a-zA-Z0-9+.-]+://|/|[a-zA-Z]:[\\/])\S*):([0-9]+):([0-9]+)$";
+const PLACE: &str =
+    r"(?:^|\s)((?:[a-zA-Z][a-zA-Z0-9+.-]+://|/|[a-zA-Z]:[\\/])\S*):([0-9]+):([0-9]+)$";
 
 /// Frames of these forms name no position that has a map; the reasons are in the same order.
 const ELSEWHERE: [(&str, &str); 5] = [
@@ -35,31 +44,54 @@ const ELSEWHERE: [(&str, &str); 5] = [
     ),
 ];
 
+/// In place of a byte that is no UTF-8.
+pub const NO_TEXT: char = '\0';
+
 /// The place that a frame names: bytes `start` to `end` of its line, which are the name of a file, a line and a column.
-#[derive(Clone, Copy)]
-pub struct Named<'t> {
+#[derive(Drop)]
+pub struct Named {
     pub start: usize,
     pub end: usize,
-    pub file: &'t str,
-    /// From 1, as they are printed.
+    pub file: String,
+    /// As they are printed: the line from 1, the column from 1 too, but in bytecode from 0.
     pub line: u32,
     pub column: u32,
+    /// Whether it is a place of bytecode.
+    pub is_bytecode: bool,
+    /// Whether it stands in a JSON string.
+    pub is_in_json: bool,
 }
 
-/// What a line of a stack trace names.
-#[derive(Clone, Copy)]
-pub enum Line<'t> {
-    Frame(Named<'t>),
-    /// A frame whose place cannot be led back, and why.
-    Elsewhere(&'static str),
-    /// No frame.
-    Text,
+impl Named {
+    /// The position, from 0; None if it is before the first one.
+    pub fn position(&self) -> Option<Position> {
+        let column = if self.is_bytecode {
+            self.column
+        } else {
+            self.column.checked_sub(1)?
+        };
+        Some(Position {
+            line: self.line.checked_sub(1)?,
+            column,
+        })
+    }
+}
+
+/// What a line of a stack trace or of a log names.
+#[derive(Drop)]
+pub struct Line {
+    /// From left to right.
+    pub frames: Vec<Named>,
+    /// Why the frame of the line has no place that could be led back.
+    pub elsewhere: Option<&'static str>,
 }
 
 /// The patterns of frames, compiled.
 #[derive(Drop)]
 pub struct Patterns {
+    eval: Vec<Regex>,
     v8: Vec<Regex>,
+    whole: Vec<Regex>,
     others: Vec<Regex>,
     elsewhere: Vec<Regex>,
 }
@@ -79,8 +111,10 @@ impl Patterns {
     pub fn new(alloc: Global) -> Outcome<Patterns> {
         let [node, eval, engine, wasm, column] = ELSEWHERE;
         Ok(Patterns {
-            v8: compiled(alloc, &[V8_EVAL, V8_CALL, V8_BARE])?,
-            others: compiled(alloc, &[AT_SIGN, PLACE])?,
+            eval: compiled(alloc, &[V8_EVAL])?,
+            v8: compiled(alloc, &[V8])?,
+            whole: compiled(alloc, &[V8_CALL, V8_BARE])?,
+            others: compiled(alloc, &[VITEST, AT_SIGN, PLACE])?,
             elsewhere: compiled(alloc, &[node.0, eval.0, engine.0, wasm.0, column.0])?,
         })
     }
@@ -88,7 +122,9 @@ impl Patterns {
     /// What searches for the patterns.
     pub fn finder(&self, alloc: Global) -> Result<Finder<'_>, AllocError> {
         Ok(Finder {
+            eval: matchers(alloc, self.eval.as_slice())?,
             v8: matchers(alloc, self.v8.as_slice())?,
+            whole: matchers(alloc, self.whole.as_slice())?,
             others: matchers(alloc, self.others.as_slice())?,
             elsewhere: matchers(alloc, self.elsewhere.as_slice())?,
         })
@@ -106,39 +142,99 @@ fn matchers<'r>(alloc: Global, regexes: &'r [Regex]) -> Result<Vec<Matcher<'r>>,
 /// What finds the places that lines name.
 #[derive(Drop)]
 pub struct Finder<'r> {
+    eval: Vec<Matcher<'r>>,
     v8: Vec<Matcher<'r>>,
+    whole: Vec<Matcher<'r>>,
     others: Vec<Matcher<'r>>,
     elsewhere: Vec<Matcher<'r>>,
 }
 
-/// The place of a frame that a pattern matches.
-fn place_of<'t>(found: &Captures<'_, 't>) -> Option<Named<'t>> {
-    let (file, line, column) = (found.get(1)?, found.get(2)?, found.get(3)?);
-    Some(Named {
+/// A place in a text: where it begins and ends, and what it names.
+#[derive(Clone, Copy)]
+struct Spot<'t> {
+    start: usize,
+    end: usize,
+    file: &'t str,
+    /// None if they are too large.
+    numbers: Option<(u32, u32)>,
+}
+
+/// The place of a frame that a pattern matches, whose file is this group of it.
+fn spot_of<'t>(found: &Captures<'_, 't>, group: usize) -> Option<Spot<'t>> {
+    let file = found.get(group)?;
+    let line = found.get(group.checked_add(1)?)?;
+    let column = found.get(group.checked_add(2)?)?;
+    let numbers = match (line.as_str().parse(), column.as_str().parse()) {
+        (Ok(line), Ok(column)) => Some((line, column)),
+        _ => None,
+    };
+    Some(Spot {
         start: file.start(),
         end: column.end(),
         file: file.as_str(),
-        line: line.as_str().parse().ok()?,
-        column: column.as_str().parse().ok()?,
+        numbers,
     })
 }
 
-fn find<'t>(matchers: &mut Vec<Matcher<'_>>, line: &'t str) -> Option<Named<'t>> {
+fn find<'t>(matchers: &mut Vec<Matcher<'_>>, text: &'t str) -> Option<Spot<'t>> {
     for matcher in matchers.iter_mut() {
-        if let Some(found) = matcher.captures(line)
-            && let Some(named) = place_of(&found)
-        {
-            return Some(named);
+        let Some(found) = matcher.captures(text) else {
+            continue;
+        };
+        let spot = match spot_of(&found, 1) {
+            Some(spot) => Some(spot),
+            None => spot_of(&found, 4),
+        };
+        if spot.is_some() {
+            return spot;
         }
     }
     None
 }
 
-/// Whether a name in a frame is that of a file: engines put others in angle or square brackets.
+/// Whether a name in a frame is that of a file: engines put others in angle or square brackets, and a number is that of a clock.
 fn is_file_name(name: &str) -> bool {
     let is_engine = name.starts_with('<') || name.starts_with('[');
     let is_node = name.starts_with("node:") || name.starts_with("internal/");
-    !is_engine && !is_node && !name.contains(" > ")
+    let is_place = name.starts_with("eval at ") || name.contains(" > ");
+    let is_text = name.chars().any(|ch| ch.is_alphabetic()) && !name.contains(NO_TEXT);
+    !is_engine && !is_node && !is_place && is_text
+}
+
+/// Whether a name behind other words is that of a file: it is a path, and no clock time. One with spaces begins as paths do.
+fn is_path(name: &str) -> bool {
+    let is_root = name.starts_with('/') || name.get(1..2) == Some(":") || name.contains("://");
+    let has_part = name.contains(['.', '/', '\\'].as_slice());
+    is_root || has_part && !name.contains(' ')
+}
+
+/// A line without what may stand behind a frame: white space, and the bracket of the properties of an error.
+fn body_of(text: &str) -> &str {
+    let body = text.trim_end();
+    match body.strip_suffix('{') {
+        Some(rest) => rest.trim_end(),
+        None => body,
+    }
+}
+
+/// The places of a text, from left to right.
+#[derive(Drop)]
+struct Spots<'t> {
+    all: Vec<Spot<'t>>,
+}
+
+impl<'t> Spots<'t> {
+    /// Adds a place of the part of the text that begins at `from`.
+    fn add(&mut self, spot: Spot<'t>, from: usize) -> Result<(), AllocError> {
+        if spot.numbers.is_some() {
+            self.all.push(Spot {
+                start: spot.start.saturating_add(from),
+                end: spot.end.saturating_add(from),
+                ..spot
+            })?;
+        }
+        Ok(())
+    }
 }
 
 impl<'r> Finder<'r> {
@@ -151,22 +247,137 @@ impl<'r> Finder<'r> {
         None
     }
 
-    /// What a line of a stack trace names.
-    pub fn read<'t>(&mut self, line: &'t str) -> Line<'t> {
-        let is_v8 = line.trim_start().starts_with("at ");
-        let found = if is_v8 {
-            find(&mut self.v8, line)
-        } else {
-            find(&mut self.others, line)
-        };
-        if let Some(found) = found
-            && is_file_name(found.file)
+    /// Adds the places of V8's frames in a text, from left to right.
+    fn add_v8<'t>(&mut self, text: &'t str, spots: &mut Spots<'t>) -> Result<(), AllocError> {
+        let mut from = 0usize;
+        for _ in 0..text.len() {
+            let rest = text.get(from..).unwrap_or("");
+            let Some(spot) = find(&mut self.v8, rest) else {
+                break;
+            };
+            let front = rest.get(..spot.start).unwrap_or("");
+            let is_first = matches!(front.trim(), "at" | "at async");
+            if is_file_name(spot.file) && (is_first || front.ends_with('(') || is_path(spot.file)) {
+                spots.add(spot, from)?;
+            }
+            from = from.saturating_add(spot.end);
+        }
+        Ok(())
+    }
+
+    /// Adds the place that is found by patterns of a whole text.
+    fn add_one<'t>(
+        matchers: &mut Vec<Matcher<'r>>,
+        text: &'t str,
+        spots: &mut Spots<'t>,
+    ) -> Result<(), AllocError> {
+        if let Some(spot) = find(matchers, text)
+            && is_file_name(spot.file)
         {
-            return Line::Frame(found);
+            spots.add(spot, 0)?;
         }
-        match self.elsewhere(line) {
-            Some(why) => Line::Elsewhere(why),
-            None => Line::Text,
+        Ok(())
+    }
+
+    /// The places that a text names which is one line.
+    fn spots<'t>(&mut self, alloc: Global, text: &'t str) -> Result<Vec<Spot<'t>>, AllocError> {
+        let mut spots = Spots {
+            all: Vec::new(alloc),
+        };
+        let body = body_of(text);
+        if body.contains("(eval at ") {
+            Finder::add_one(&mut self.eval, text, &mut spots)?;
+        } else {
+            self.add_v8(text, &mut spots)?;
         }
+        if !spots.all.is_empty() {
+            return Ok(spots.all);
+        }
+        if body.trim_start().starts_with("at ") {
+            Finder::add_one(&mut self.whole, body, &mut spots)?;
+        } else {
+            Finder::add_one(&mut self.others, body, &mut spots)?;
+        }
+        Ok(spots.all)
+    }
+
+    /// Adds the frames of a part of a view, which begins at `from`.
+    fn add_frames(
+        &mut self,
+        alloc: Global,
+        view: &View,
+        (from, part): (usize, &str),
+        is_in_json: bool,
+        frames: &mut Vec<Named>,
+    ) -> Result<(), AllocError> {
+        for spot in &self.spots(alloc, part)? {
+            let Some((line, column)) = spot.numbers else {
+                continue;
+            };
+            let begin = from.saturating_add(spot.start);
+            let (start, end) = view.place(begin, from.saturating_add(spot.end));
+            let front = part.get(..spot.start).unwrap_or("");
+            frames.push(Named {
+                start,
+                end,
+                file: String::from_str(alloc, spot.file)?,
+                line,
+                column,
+                is_bytecode: front.ends_with("(address at "),
+                is_in_json,
+            })?;
+        }
+        Ok(())
+    }
+
+    /// Adds the frames in a JSON string of a line.
+    fn add_string(
+        &mut self,
+        alloc: Global,
+        line: &str,
+        (start, end): (usize, usize),
+        frames: &mut Vec<Named>,
+    ) -> Result<(), AllocError> {
+        if !line.get(start..end).unwrap_or("").contains(':') {
+            return Ok(());
+        }
+        let view = View::of_json_string(alloc, line, start, end)?.without_codes(alloc)?;
+        let mut from = 0usize;
+        for part in view.text.as_str().split('\n') {
+            self.add_frames(alloc, &view, (from, part), true, frames)?;
+            from = from.saturating_add(part.len()).saturating_add(1);
+        }
+        Ok(())
+    }
+
+    /// The frames in the JSON strings of a line.
+    fn frames_in_json(&mut self, alloc: Global, line: &str) -> Result<Vec<Named>, AllocError> {
+        let mut frames = Vec::new(alloc);
+        if may_be_json(line) {
+            for string in &json_strings(alloc, line)? {
+                self.add_string(alloc, line, *string, &mut frames)?;
+            }
+        }
+        Ok(frames)
+    }
+
+    /// What a line names. A byte that is no text stands in it as `NO_TEXT`.
+    pub fn read(&mut self, alloc: Global, line: &str) -> Result<Line, AllocError> {
+        let mut frames = self.frames_in_json(alloc, line)?;
+        if !frames.is_empty() {
+            return Ok(Line {
+                frames,
+                elsewhere: None,
+            });
+        }
+        let view = View::of_line(alloc, line)?.without_codes(alloc)?;
+        let text = view.text.as_str();
+        self.add_frames(alloc, &view, (0, text), false, &mut frames)?;
+        let elsewhere = if frames.is_empty() {
+            self.elsewhere(body_of(text))
+        } else {
+            None
+        };
+        Ok(Line { frames, elsewhere })
     }
 }

@@ -9,11 +9,12 @@ mod frames;
 mod manual;
 mod positions;
 mod v8;
+mod views;
 
 pub use arguments::{VERSION, program};
 pub use completions::completions_of;
 pub use failure::{Failure, Outcome, failure_of, file_failure};
-pub use frames::{Finder, Line, Named, Patterns};
+pub use frames::{Finder, Line, NO_TEXT, Named, Patterns};
 pub use manual::manual_of;
 pub use positions::{position_of_line, positions_in, source_position_of};
 pub use v8::{Report, Run, Script, runs_of};

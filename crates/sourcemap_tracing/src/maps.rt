@@ -1,0 +1,367 @@
+//! The maps of the files that frames name, and what they say of the places of frames.
+use oxc_sourcemap_tokens::Position;
+use sourcemap_files::{
+    Asked, CodeFile, InputPrefix, Lookup, Places, Sought, find_code, is_file, is_in_root,
+    map_by_name, map_of_code, map_without_code, read_map, read_text,
+};
+use sourcemap_run::{Answer, Target, Tracer, answer_to};
+use sourcemap_words::{Failure, Named, Outcome};
+use std::alloc::{AllocError, Global};
+use std::collections::HashMap;
+
+/// Why a frame stays as it is, in short.
+#[derive(Clone, Copy, PartialEq, Eq)]
+pub enum Reason {
+    NotThere,
+    NoMap,
+    PastEnd,
+    NotMapped,
+    Elsewhere,
+}
+
+/// How many reasons there are.
+pub const REASONS: [Reason; 5] = [
+    Reason::NotThere,
+    Reason::NoMap,
+    Reason::PastEnd,
+    Reason::NotMapped,
+    Reason::Elsewhere,
+];
+
+/// Why a frame stays as it is.
+#[derive(Drop)]
+pub struct Stay {
+    pub reason: Reason,
+    pub why: String,
+}
+
+/// By what less than its whole path a code was found.
+#[derive(Drop)]
+pub enum Matched {
+    /// All of its path was there.
+    Whole,
+    /// What is behind a prefix of it.
+    Prefix { prefix: String, path: String },
+    /// The name of its map alone.
+    Name { map: String },
+}
+
+/// What a frame comes to: where to look, or why it stays.
+#[derive(Drop)]
+pub struct Led {
+    pub target: Option<Target>,
+    pub stay: Option<Stay>,
+    pub matched: Matched,
+}
+
+/// The map of a file, and what is known of its code.
+#[derive(Drop)]
+struct KnownMap {
+    number: usize,
+    matched: Matched,
+    /// The path of the code, and the lengths of its lines, if it is there.
+    code: Option<(String, Vec<u32>)>,
+}
+
+#[derive(Drop)]
+enum Known {
+    Map(KnownMap),
+    None(Stay),
+}
+
+/// The maps of the files that frames name, each read once.
+#[derive(Drop)]
+pub struct Maps {
+    files: HashMap<String, Known>,
+    pub tracers: Vec<Tracer>,
+    pub names: Vec<String>,
+    input: InputPrefix,
+}
+
+/// What was found for a file that frames name.
+#[derive(Drop)]
+struct Search {
+    lookup: Lookup,
+    reason: Reason,
+    matched: Matched,
+    code: Option<(String, Vec<u32>)>,
+}
+
+/// The lengths of the lines of a code, in UTF-16 units, without their ends.
+fn line_lengths(alloc: Global, code: &str) -> Result<Vec<u32>, AllocError> {
+    let mut lengths = Vec::new(alloc);
+    let mut len = 0u32;
+    let mut is_after_return = false;
+    for ch in code.chars() {
+        let is_second = ch == '\n' && is_after_return;
+        is_after_return = ch == '\r';
+        if is_second {
+            continue;
+        }
+        if matches!(ch, '\n' | '\r' | '\u{2028}' | '\u{2029}') {
+            lengths.push(len)?;
+            len = 0;
+        } else {
+            len = len.saturating_add(if ch.len_utf8() == 4 { 2 } else { 1 });
+        }
+    }
+    lengths.push(len)?;
+    Ok(lengths)
+}
+
+impl KnownMap {
+    /// The path of the code, if it is there and has no such position.
+    fn past_end(&self, position: Position) -> Option<&str> {
+        let (path, lengths) = self.code.as_ref()?;
+        match lengths.get(usize::try_from(position.line).ok()?) {
+            Some(len) if position.column <= *len => None,
+            _ => Some(path.as_str()),
+        }
+    }
+}
+
+impl Matched {
+    fn copy(&self, alloc: Global) -> Result<Matched, AllocError> {
+        Ok(match self {
+            Matched::Whole => Matched::Whole,
+            Matched::Prefix { prefix, path } => Matched::Prefix {
+                prefix: String::from_str(alloc, prefix.as_str())?,
+                path: String::from_str(alloc, path.as_str())?,
+            },
+            Matched::Name { map } => Matched::Name {
+                map: String::from_str(alloc, map.as_str())?,
+            },
+        })
+    }
+}
+
+impl Led {
+    fn stays(reason: Reason, why: String, matched: Matched) -> Led {
+        Led {
+            target: None,
+            stay: Some(Stay { reason, why }),
+            matched,
+        }
+    }
+}
+
+fn link_out(alloc: Global, path: &str) -> Result<Lookup, AllocError> {
+    Ok(Lookup::None(format!(in alloc; "{path} is a link out of the root: allow it by --outside")?))
+}
+
+/// The map of a code that is there, and its lines. Of a code that is no text, as bytecode, the map beside it.
+fn map_of_text(
+    asked: &Asked<'_, '_>,
+    path: &str,
+    places: Places<'_>,
+) -> Outcome<(Lookup, Option<(String, Vec<u32>)>)> {
+    let (rt, alloc) = (asked.rt, asked.alloc());
+    match read_text(rt, path) {
+        Ok(text) => {
+            let lookup = map_of_code(rt, path, text.as_str(), places)?;
+            let lengths = line_lengths(alloc, text.as_str())?;
+            Ok((lookup, Some((String::from_str(alloc, path)?, lengths))))
+        }
+        Err(Failure::Told(why)) => match map_without_code(rt, path, places)? {
+            Some(found) => Ok((found, None)),
+            None => Ok((Lookup::None(why), None)),
+        },
+        Err(failure) => Err(failure),
+    }
+}
+
+/// The map of a code that was found.
+fn search_code(asked: &Asked<'_, '_>, file: &str, found: CodeFile) -> Outcome<Search> {
+    let (rt, alloc) = (asked.rt, asked.alloc());
+    let CodeFile {
+        path,
+        folder,
+        prefix,
+    } = found;
+    let is_package = file
+        .split(['/', '\\'].as_slice())
+        .any(|part| part == "node_modules");
+    let places = asked.places();
+    let places = Places {
+        root: folder.as_str(),
+        maps: if is_package { None } else { places.maps },
+        ..places
+    };
+    let (lookup, code) = if !is_file(rt, path.as_str()) {
+        match map_without_code(rt, path.as_str(), places)? {
+            Some(found) => (found, None),
+            None => (
+                link_out(alloc, format!(in alloc; "{path}.map")?.as_str())?,
+                None,
+            ),
+        }
+    } else if !is_in_root(rt, path.as_str(), places) {
+        (link_out(alloc, path.as_str())?, None)
+    } else {
+        map_of_text(asked, path.as_str(), places)?
+    };
+    let matched = match prefix {
+        Some(prefix) => Matched::Prefix { prefix, path },
+        None => Matched::Whole,
+    };
+    Ok(Search {
+        lookup,
+        reason: Reason::NoMap,
+        matched,
+        code,
+    })
+}
+
+/// How a root is named in messages.
+fn shown_root(root: &str) -> &str {
+    if root.is_empty() {
+        "the current folder"
+    } else {
+        root
+    }
+}
+
+/// Why no code is known for a file that frames name.
+fn not_there(asked: &Asked<'_, '_>, file: &str, sought: &Sought) -> Result<String, AllocError> {
+    let alloc = asked.alloc();
+    let root = asked.root.as_str();
+    let shown = shown_root(root);
+    match sought {
+        Sought::Maybe { prefix, path } => {
+            let folder = if root.is_empty() { "." } else { root };
+            format!(in alloc;
+                "{file} is not in {shown}: if it is {path}, say so by --prefix {prefix}={folder}"
+            )
+        }
+        Sought::NotIn(folder) => {
+            format!(in alloc; "{file} is not in {folder}, where --prefix says that it is")
+        }
+        _ => format!(in alloc; "{file} is not in {shown}: name its folder by --root"),
+    }
+}
+
+/// The map of a file that frames name, or why there is none.
+fn search(asked: &Asked<'_, '_>, input: &mut InputPrefix, file: &str) -> Outcome<Search> {
+    let (rt, places) = (asked.rt, asked.places());
+    let sought = match find_code(rt, file, places, input)? {
+        Sought::Code(found) => return search_code(asked, file, found),
+        sought => sought,
+    };
+    if let Some(Lookup::Map(map)) = map_by_name(rt, file, places)? {
+        let name = String::from_str(asked.alloc(), map.name.as_str())?;
+        return Ok(Search {
+            lookup: Lookup::Map(map),
+            reason: Reason::NoMap,
+            matched: Matched::Name { map: name },
+            code: None,
+        });
+    }
+    Ok(Search {
+        lookup: Lookup::None(not_there(asked, file, &sought)?),
+        reason: Reason::NotThere,
+        matched: Matched::Whole,
+        code: None,
+    })
+}
+
+impl Maps {
+    pub fn new(alloc: Global, input: InputPrefix) -> Maps {
+        Maps {
+            files: HashMap::new(alloc),
+            tracers: Vec::new(alloc),
+            names: Vec::new(alloc),
+            input,
+        }
+    }
+
+    /// Reads the map of a file. A map that cannot be read is told as the reason why frames stay.
+    fn load(&mut self, asked: &Asked<'_, '_>, file: &str) -> Outcome<Known> {
+        let Search {
+            lookup,
+            reason,
+            matched,
+            code,
+        } = search(asked, &mut self.input, file)?;
+        let text = match lookup {
+            Lookup::Map(text) => text,
+            Lookup::None(why) => return Ok(Known::None(Stay { reason, why })),
+        };
+        let mut map = match read_map(asked.rt, &text) {
+            Ok(map) => map,
+            Err(Failure::Told(why)) => return Ok(Known::None(Stay { reason, why })),
+            Err(failure) => return Err(failure),
+        };
+        map.apply_source_root(asked.alloc())?;
+        self.tracers.push(Tracer::new(asked.alloc(), map)?)?;
+        self.names.push(text.name)?;
+        Ok(Known::Map(KnownMap {
+            number: self.tracers.len().saturating_sub(1),
+            matched,
+            code,
+        }))
+    }
+
+    /// Reads the map of a file, if it was not read. Once the prefix of the input is known, files that were not found are sought again.
+    fn prepare(&mut self, asked: &Asked<'_, '_>, file: &str) -> Outcome<()> {
+        if self.files.contains_key(file) {
+            return Ok(());
+        }
+        let was_known = self.input.is_known();
+        let known = self.load(asked, file)?;
+        if self.input.is_known() && !was_known {
+            self.files = HashMap::new(asked.alloc());
+        }
+        self.files
+            .insert(String::from_str(asked.alloc(), file)?, known)?;
+        Ok(())
+    }
+
+    /// What the map of a file says of a place in it.
+    fn led(&self, alloc: Global, map: &KnownMap, named: &Named) -> Outcome<Led> {
+        let matched = map.matched.copy(alloc)?;
+        let position = named.position();
+        if let Some(position) = position
+            && !named.is_bytecode
+            && let Some(path) = map.past_end(position)
+        {
+            let why = format!(in alloc; "it is past the end of {path}, which is of another build")?;
+            return Ok(Led::stays(Reason::PastEnd, why, matched));
+        }
+        let target = position.map(|position| Target {
+            map: map.number,
+            position,
+        });
+        let why = match answer_to(self.tracers.as_slice(), target) {
+            Answer::At(_) => None,
+            Answer::Unmapped => Some("its map says that it comes from no source"),
+            Answer::Nothing => Some("its map says nothing of this position"),
+        };
+        let stay = match why {
+            Some(why) => Some(Stay {
+                reason: Reason::NotMapped,
+                why: String::from_str(alloc, why)?,
+            }),
+            None => None,
+        };
+        Ok(Led {
+            target,
+            stay,
+            matched,
+        })
+    }
+
+    /// What a frame comes to.
+    pub fn lead(&mut self, asked: &Asked<'_, '_>, named: &Named) -> Outcome<Led> {
+        let alloc = asked.alloc();
+        let file = named.file.as_str();
+        self.prepare(asked, file)?;
+        match self.files.get(file) {
+            Some(Known::Map(map)) => self.led(alloc, map, named),
+            Some(Known::None(Stay { reason, why })) => {
+                let why = String::from_str(alloc, why.as_str())?;
+                Ok(Led::stays(*reason, why, Matched::Whole))
+            }
+            None => Ok(Led::stays(Reason::NotThere, String::new(alloc), Matched::Whole)),
+        }
+    }
+}

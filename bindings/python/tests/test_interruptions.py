@@ -193,8 +193,7 @@ class Interruptions(Case):
                     self.all, self.me = all, self
                 def __del__(self):
                     for it in self.all:
-                        it.close()
-                        for call in "to_json", "finish":
+                        for call in "to_json", "finish", "close", "to_json", "finish":
                             try:
                                 getattr(it, call, lambda: None)()
                             except ValueError as error:
@@ -208,7 +207,7 @@ class Interruptions(Case):
             print(len(said), *sorted(set(said)), sep=", ")
             """
         )
-        self.assertEqual(said, "300, The SourceMapBuilder is closed, The SourceMapJoin is closed, The map is closed")
+        self.assertEqual(said, "600, The SourceMapBuilder is closed, The SourceMapJoin is closed, The map is closed")
 
     def test_handlers_of_signals(self):
         # After a storm of them, of which some raise, no lock and no lease is left. (An error of a handler that comes while another one

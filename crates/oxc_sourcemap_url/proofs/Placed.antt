@@ -1,11 +1,14 @@
 -- The place of a comment that names a URL.
-use Rattle.std.proofs.Common.{◌≡◌, ℕ, Bool, true, List, [], ◌∷◌, ◌++◌, refl, sym, ap, ◌∙◌, subst, arith}
-use Rattle.std.proofs.Common.{Option, Some, None, IfSome, inl, inr, get_or, ◌<◌, ◌⊎◌, ◌+◌, ◌-◌, length, drop}
+use Rattle.std.proofs.Common.{◌≡◌, ℕ, Bool, true, List, [], ◌∷◌, ◌++◌, refl, sym, ap, ◌∙◌}
+use Rattle.std.proofs.Common.{subst, arith}
+use Rattle.std.proofs.Common.{Option, Some, None, IfSome, inl, inr, get_or, ◌<◌, ◌⊎◌, ◌+◌}
+use Rattle.std.proofs.Common.{◌-◌, length, drop}
 use lib.Utf8.{encode}
 use Rattle.std.specs.Str.{chars, IsUtf8, drop_trailing_whitespace}
 use Rattle.std.proofs.lemmas.List.{append_assoc, drop_at, length-append}
 use Rattle.std.proofs.lemmas.Bool.Decides.{nat_tests}
-use Rattle.std.proofs.lemmas.Str.{chars-append, chars-IsAscii, encode_ascii, IsUtf8-append, IsUtf8-from_ascii}
+use Rattle.std.proofs.lemmas.Str.{chars-append, chars-IsAscii, encode_ascii}
+use Rattle.std.proofs.lemmas.Str.{IsUtf8-append, IsUtf8-from_ascii}
 use Rattle.oxc_sourcemap_url.specs.declared.comment.Place.{Place}
 use Rattle.oxc_sourcemap_url.specs.declared.comment.Naming.{Naming}
 use Rattle.oxc_sourcemap_url.specs.MappingUrls.{IsNamingText}

@@ -1,7 +1,9 @@
 -- The URL that a code names for its map, found without parsing (ECMA-426, extraction methods without parsing; docs/FORMAT.md, "The
 -- map of a code"). Texts are lists of characters here.
-use Rattle.std.specs.Prelude.{◌≡◌, ◌⊎◌, ℕ, Bool, true, false, ◌&&◌, ◌||◌, List, [], ◌∷◌, ◌++◌, codes}
-use Rattle.std.specs.Prelude.{drop, flat_map, fold, Option, Some, None, if◌then◌else◌, ◌==◌}
+use Rattle.std.specs.Prelude.{◌≡◌, ◌⊎◌, ℕ, Bool, true, false, ◌&&◌, ◌||◌, List, [], ◌∷◌}
+use Rattle.std.specs.Prelude.{◌++◌, codes}
+use Rattle.std.specs.Prelude.{drop, flat_map, fold, Option, Some, None, if◌then◌else◌}
+use Rattle.std.specs.Prelude.{◌==◌}
 use Rattle.std.specs.Prelude.{nat_eq, is_some}
 use Rattle.std.specs.Option.{option_map, option_or}
 use Rattle.std.specs.List.{list_any, starts_with}
@@ -10,7 +12,8 @@ use Rattle.std.specs.Borrow.{Bor}
 use Rattle.std.specs.Str.{chars, skip_leading_whitespace, drop_trailing_whitespace}
 use Rattle.oxc_sourcemap_text.specs.TextLines.{lines_of}
 use Rattle.oxc_sourcemap_url.specs.declared.language.Language.{Language}
-use Rattle.oxc_sourcemap_url.specs.declared.language.Language.TheVariants.{JavaScript, Css}
+use Rattle.oxc_sourcemap_url.specs.declared.language.Language.TheVariants.{JavaScript}
+use Rattle.oxc_sourcemap_url.specs.declared.language.Language.TheVariants.{Css}
 
 -- ---- one comment
 

@@ -1,11 +1,15 @@
 //! What a comment says of the map.
-ghost use Rattle.std.specs.Prelude.{◌≡◌, ◌++◌, ◌∷◌, ℕ, List, false, codes, nat_eq, IfSome, IsNone, Some};
+ghost use Rattle.std.specs.Prelude.{◌≡◌, ◌++◌, ◌∷◌, ℕ, List, false, codes, nat_eq};
+ghost use Rattle.std.specs.Prelude.{IfSome, IsNone, Some};
 ghost use Rattle.std.specs.Option.{option_map};
 ghost use Rattle.std.specs.Char.{is_whitespace};
 ghost use Rattle.std.specs.List.{starts_with, list_any};
-ghost use Rattle.std.specs.Str.{chars, IsUtf8, skip_leading_whitespace, drop_trailing_whitespace};
-ghost use Rattle.oxc_sourcemap_url.specs.Words.{lent_chars, behind_mark, behind_key, unbroken};
-ghost use Rattle.oxc_sourcemap_url.specs.Words.{named_url, around_block_end, may_end_another};
+ghost use Rattle.std.specs.Str.{chars, IsUtf8, skip_leading_whitespace};
+ghost use Rattle.std.specs.Str.{drop_trailing_whitespace};
+ghost use Rattle.oxc_sourcemap_url.specs.Words.{lent_chars, behind_mark, behind_key};
+ghost use Rattle.oxc_sourcemap_url.specs.Words.{unbroken};
+ghost use Rattle.oxc_sourcemap_url.specs.Words.{named_url, around_block_end};
+ghost use Rattle.oxc_sourcemap_url.specs.Words.{may_end_another};
 ghost use Rattle.oxc_sourcemap_url.specs.Words.{known_after, is_mark, is_quote};
 ghost use Rattle.oxc_sourcemap_url.specs.Words.{url_of, IsKnownAfter};
 

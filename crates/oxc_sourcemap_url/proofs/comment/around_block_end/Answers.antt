@@ -1,5 +1,6 @@
 use Rattle.std.proofs.Common.{sym, arith}
-use Rattle.oxc_sourcemap_url.proofs.Blocks.{block-missing, block-found, back-utf8, front-utf8, block-whole}
+use Rattle.oxc_sourcemap_url.proofs.Blocks.{block-missing, block-found, back-utf8}
+use Rattle.oxc_sourcemap_url.proofs.Blocks.{front-utf8, block-whole}
 use Rattle.oxc_sourcemap_url.proofs.comment.around_block_end.Goals as goal
 
 pub returns-in-Some-clause-parts : goal.returns-in-Some-clause-parts

@@ -6,9 +6,11 @@ use Rattle.std.proofs.lemmas.List.{nil_from_length}
 use Rattle.std.proofs.lemmas.Str.{chars_past_char, chars-nil, IsUtf8-past_char}
 use Rattle.oxc_sourcemap_url.specs.Comments.{second_of, url_of}
 use lib.Utf8.{encode}
-use Rattle.oxc_sourcemap_url.proofs.Placed.{placed-after, passed-next, past-comment, around, line-placed, block-placed}
+use Rattle.oxc_sourcemap_url.proofs.Placed.{placed-after, passed-next, past-comment}
+use Rattle.oxc_sourcemap_url.proofs.Placed.{around, line-placed, block-placed}
 use Rattle.oxc_sourcemap_url.specs.MappingUrls.{known_after, pieces}
-use Rattle.oxc_sourcemap_url.proofs.Pieces.{past-space, past-code, past-line, past-block, past-open}
+use Rattle.oxc_sourcemap_url.proofs.Pieces.{past-space, past-code, past-line, past-block}
+use Rattle.oxc_sourcemap_url.proofs.Pieces.{past-open}
 use Rattle.oxc_sourcemap_url.proofs.Pieces.{pieces-nil}
 use Rattle.oxc_sourcemap_url.proofs.Blocks.{around-shorter}
 use Rattle.oxc_sourcemap_url.proofs.mapping_url.read_line.Goals as goal

@@ -1,16 +1,14 @@
 -- A text has a byte for each line before that of its last token; so what has too many lines is too long.
 use Rattle.std.proofs.Common.{◌≡◌, ℕ, ◌+◌, ◌-◌, ◌≤◌, Bool, true, false, cond, ◌==◌, nat_lt, nat_le}
 use Rattle.std.proofs.Common.{List, [], ◌∷◌, ◌++◌, length, replicate, Option, Some, None, Result}
-use Rattle.std.proofs.Common.{Ok, Err, arith, refl, ap, ◌∙◌, if◌then◌else◌, slice_get}
+use Rattle.std.proofs.Common.{Ok, Err, arith, refl, ap, subst, ◌∙◌, if◌then◌else◌, slice_get}
 use Rattle.std.proofs.lemmas.Bool.Decides.{nat_tests}
 use Rattle.std.proofs.lemmas.List.{length-append, length-replicate}
 use Rattle.base64.proofs.RoundTrip.{length-encode_symbols}
 use Rattle.base64.specs.Engines.{standard}
-use Rattle.base64.specs.GeneralPurpose.{encode_of}
-use Rattle.base64.specs.Rfc4648.{encode_symbols, padding_len}
-use Rattle.base64.specs.declared.engine.general_purpose.GeneralPurpose.{GeneralPurpose}
 use Rattle.oxc_sourcemap_tokens.specs.declared.error.Error.{Error}
 use Rattle.oxc_sourcemap_tokens.specs.declared.error.Error.TheVariants.{TooLarge}
+use Rattle.oxc_sourcemap_tokens.specs.declared.token.TokenChunk.{TokenChunk}
 use Rattle.oxc_sourcemap_tokens.specs.Errors.{unless}
 use Rattle.oxc_sourcemap_tokens.specs.State.{State, initial}
 use Rattle.oxc_sourcemap_tokens.specs.Steps.{advanced}
@@ -56,16 +54,8 @@ json_le r =
     let lines = canonical_le r.tokens in
     simp length-append (omega arith)
 
-encoded_le : (e : GeneralPurpose) (m : List ℕ) → length m ≤ length (encode_of e m)
-encoded_le e m =
-    omega (
-      arith,
-      length-encode_symbols e.encode_table m,
-      length-append (encode_symbols e.encode_table m) (if e.config.encode_padding then replicate (padding_len (length m)) e.padding.value else []),
-    )
-
 url_le : (text : List ℕ) → length text ≤ length (data_url text)
-url_le text = let a = encoded_le standard text in simp length-append (omega arith)
+url_le text = let symbols = length-encode_symbols standard.encode_table text in simp length-append (omega arith)
 
 -- what is found early is what is found of the text
 early_is : (limit n : ℕ) (fault : Option Error) (text : Text) (e : Error) → n ≤ length text
@@ -89,14 +79,36 @@ url_is : (r : MapRecord) → map_url r ≡ unless (writing_fault r.tokens r.toke
 unfolding map_url
 url_is r = ap (λ t. t >>= (λ text. Ok (data_url text))) (text_is r) ∙ bind_unless (writing_fault r.tokens r.token_chunks) (json_text (encoded_record r)) data_url
 
-pub early_text : (limit : ℕ) (r : MapRecord) (e : Error) → early_fault limit r.tokens r.token_chunks ≡ Some e → map_text_within limit r ≡ Err e
+early_text : (limit : ℕ) (r : MapRecord) (e : Error) → early_fault limit r.tokens r.token_chunks ≡ Some e → map_text_within limit r ≡ Err e
 early_text limit r e h = rw (text_is r) (early_is limit (last_line 0 r.tokens) (writing_fault r.tokens r.token_chunks) (json_text (encoded_record r)) e (json_le r) h)
 
-pub early_url : (limit : ℕ) (r : MapRecord) (e : Error) → early_fault limit r.tokens r.token_chunks ≡ Some e → map_url_within limit r ≡ Err e
+early_url : (limit : ℕ) (r : MapRecord) (e : Error) → early_fault limit r.tokens r.token_chunks ≡ Some e → map_url_within limit r ≡ Err e
 early_url limit r e h =
     let text : ℕ = length (json_text (encoded_record r)) in
     let long : last_line 0 r.tokens ≤ length (data_url (json_text (encoded_record r))) = omega (arith, json_le r, url_le (json_text (encoded_record r))) in
     rw (url_is r) (early_is limit (last_line 0 r.tokens) (writing_fault r.tokens r.token_chunks) _ e long h)
+
+fault_of : (fault : Option Error) (e : Error) → Err e ≡ unless fault (Ok tt) → fault ≡ Some e
+fault_of None e h = cc
+fault_of (Some f) e h = let q : f ≡ e = cc in ap Some q
+
+found_of : (limit : ℕ) (r : MapRecord) (tokens : List TokenRecord) (chunks : Option (List TokenChunk)) (e : Error) → tokens ≡ r.tokens → chunks ≡ r.token_chunks
+    → Err e ≡ unless (early_fault limit tokens chunks) (Ok tt) → early_fault limit r.tokens r.token_chunks ≡ Some e
+found_of limit r tokens chunks e p q h =
+    subst (λ ts. early_fault limit ts r.token_chunks ≡ Some e) p (subst (λ cs. early_fault limit tokens cs ≡ Some e) q (fault_of (early_fault limit tokens chunks) e h))
+
+pub told_text : (limit : ℕ) (r : MapRecord) (tokens : List TokenRecord) (chunks : Option (List TokenChunk)) (e : Error) → tokens ≡ r.tokens → chunks ≡ r.token_chunks
+    → Err e ≡ unless (early_fault limit tokens chunks) (Ok tt) → map_text_within limit r ≡ Err e
+told_text limit r tokens chunks e p q h = early_text limit r e (found_of limit r tokens chunks e p q h)
+
+pub told_url : (limit : ℕ) (r : MapRecord) (tokens : List TokenRecord) (chunks : Option (List TokenChunk)) (e : Error) → tokens ≡ r.tokens → chunks ≡ r.token_chunks
+    → Err e ≡ unless (early_fault limit tokens chunks) (Ok tt) → map_url_within limit r ≡ Err e
+told_url limit r tokens chunks e p q h = early_url limit r e (found_of limit r tokens chunks e p q h)
+
+pub told_mappings : (limit : ℕ) (tokens : List TokenRecord) (chunks : Option (List TokenChunk)) (e : Error)
+    → Err e ≡ unless (early_fault limit tokens chunks) (Ok tt) → mappings_within limit tokens chunks ≡ Err e
+told_mappings limit tokens chunks e h =
+    early_is limit (last_line 0 tokens) (writing_fault tokens chunks) (canonical tokens) e (canonical_le tokens) (fault_of (early_fault limit tokens chunks) e h)
 
 last_line-from : (line : ℕ) (x : TokenRecord) (ts : List TokenRecord) (t : TokenRecord) → slice_get (x ∷ ts) (length ts) ≡ Some t → last_line line (x ∷ ts) ≡ t.dst_line
 last_line-from line x [] t e = let q : x ≡ t = cc in ap (λ u. u.dst_line) q

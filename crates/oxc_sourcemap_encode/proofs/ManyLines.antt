@@ -88,27 +88,27 @@ early_url limit r e h =
     let long : last_line 0 r.tokens ≤ length (data_url (json_text (encoded_record r))) = omega (arith, json_le r, url_le (json_text (encoded_record r))) in
     rw (url_is r) (early_is limit (last_line 0 r.tokens) (writing_fault r.tokens r.token_chunks) _ e long h)
 
-fault_of : (fault : Option Error) (e : Error) → Err e ≡ unless fault (Ok tt) → fault ≡ Some e
-fault_of None e h = cc
-fault_of (Some f) e h = let q : f ≡ e = cc in ap Some q
+fault_of : {A : Type 0} (x : A) (fault : Option Error) (e : Error) → Err e ≡ unless fault (Ok x) → fault ≡ Some e
+fault_of x None e h = cc
+fault_of x (Some f) e h = let q : f ≡ e = cc in ap Some q
 
-found_of : (limit : ℕ) (r : MapRecord) (tokens : List TokenRecord) (chunks : Option (List TokenChunk)) (e : Error) → tokens ≡ r.tokens → chunks ≡ r.token_chunks
-    → Err e ≡ unless (early_fault limit tokens chunks) (Ok tt) → early_fault limit r.tokens r.token_chunks ≡ Some e
-found_of limit r tokens chunks e p q h =
-    subst (λ ts. early_fault limit ts r.token_chunks ≡ Some e) p (subst (λ cs. early_fault limit tokens cs ≡ Some e) q (fault_of (early_fault limit tokens chunks) e h))
+found_of : {A : Type 0} (x : A) (limit : ℕ) (r : MapRecord) (tokens : List TokenRecord) (chunks : Option (List TokenChunk)) (e : Error) → tokens ≡ r.tokens → chunks ≡ r.token_chunks
+    → Err e ≡ unless (early_fault limit tokens chunks) (Ok x) → early_fault limit r.tokens r.token_chunks ≡ Some e
+found_of x limit r tokens chunks e p q h =
+    subst (λ ts. early_fault limit ts r.token_chunks ≡ Some e) p (subst (λ cs. early_fault limit tokens cs ≡ Some e) q (fault_of x (early_fault limit tokens chunks) e h))
 
-pub told_text : (limit : ℕ) (r : MapRecord) (tokens : List TokenRecord) (chunks : Option (List TokenChunk)) (e : Error) → tokens ≡ r.tokens → chunks ≡ r.token_chunks
-    → Err e ≡ unless (early_fault limit tokens chunks) (Ok tt) → map_text_within limit r ≡ Err e
-told_text limit r tokens chunks e p q h = early_text limit r e (found_of limit r tokens chunks e p q h)
+pub told_text : {A : Type 0} (x : A) (limit : ℕ) (r : MapRecord) (tokens : List TokenRecord) (chunks : Option (List TokenChunk)) (e : Error) → tokens ≡ r.tokens → chunks ≡ r.token_chunks
+    → Err e ≡ unless (early_fault limit tokens chunks) (Ok x) → map_text_within limit r ≡ Err e
+told_text x limit r tokens chunks e p q h = early_text limit r e (found_of x limit r tokens chunks e p q h)
 
-pub told_url : (limit : ℕ) (r : MapRecord) (tokens : List TokenRecord) (chunks : Option (List TokenChunk)) (e : Error) → tokens ≡ r.tokens → chunks ≡ r.token_chunks
-    → Err e ≡ unless (early_fault limit tokens chunks) (Ok tt) → map_url_within limit r ≡ Err e
-told_url limit r tokens chunks e p q h = early_url limit r e (found_of limit r tokens chunks e p q h)
+pub told_url : {A : Type 0} (x : A) (limit : ℕ) (r : MapRecord) (tokens : List TokenRecord) (chunks : Option (List TokenChunk)) (e : Error) → tokens ≡ r.tokens → chunks ≡ r.token_chunks
+    → Err e ≡ unless (early_fault limit tokens chunks) (Ok x) → map_url_within limit r ≡ Err e
+told_url x limit r tokens chunks e p q h = early_url limit r e (found_of x limit r tokens chunks e p q h)
 
-pub told_mappings : (limit : ℕ) (tokens : List TokenRecord) (chunks : Option (List TokenChunk)) (e : Error)
-    → Err e ≡ unless (early_fault limit tokens chunks) (Ok tt) → mappings_within limit tokens chunks ≡ Err e
-told_mappings limit tokens chunks e h =
-    early_is limit (last_line 0 tokens) (writing_fault tokens chunks) (canonical tokens) e (canonical_le tokens) (fault_of (early_fault limit tokens chunks) e h)
+pub told_mappings : {A : Type 0} (x : A) (limit : ℕ) (tokens : List TokenRecord) (chunks : Option (List TokenChunk)) (e : Error)
+    → Err e ≡ unless (early_fault limit tokens chunks) (Ok x) → mappings_within limit tokens chunks ≡ Err e
+told_mappings x limit tokens chunks e h =
+    early_is limit (last_line 0 tokens) (writing_fault tokens chunks) (canonical tokens) e (canonical_le tokens) (fault_of x (early_fault limit tokens chunks) e h)
 
 last_line-from : (line : ℕ) (x : TokenRecord) (ts : List TokenRecord) (t : TokenRecord) → slice_get (x ∷ ts) (length ts) ≡ Some t → last_line line (x ∷ ts) ≡ t.dst_line
 last_line-from line x [] t e = let q : x ≡ t = cc in ap (λ u. u.dst_line) q

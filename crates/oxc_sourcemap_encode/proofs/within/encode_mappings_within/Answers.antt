@@ -6,5 +6,5 @@ use Rattle.oxc_sourcemap_encode.proofs.within.encode_mappings_within.Goals as go
 
 pub returns-in_err-check_early-clause-text : goal.returns-in_err-check_early-clause-text
 returns-in_err-check_early-clause-text c =
-    let told = told_mappings c.args.limit c.args.tokens.now (lent_chunks c.args.chunks) c.in_err-check_early.field-0.0 c.in_err-check_early.ensures in
+    let told = told_mappings _ c.args.limit c.args.tokens.now (lent_chunks c.args.chunks) c.in_err-check_early.field-0.0 c.in_err-check_early.ensures in
     grind (arith, common_steps, told)

@@ -7,5 +7,5 @@ use Rattle.oxc_sourcemap_encode.proofs.within.encode_parts_to_string_within.Goal
 
 pub returns-in_err-check_early-clause-text : goal.returns-in_err-check_early-clause-text
 returns-in_err-check_early-clause-text c =
-    let told = told_text c.args.limit (record_of_parts c.args.parts.now) c.as_slice.result.now (lent_chunks c.chunks_of.result) c.in_err-check_early.field-0.0 c.as_slice.ensures.value c.chunks_of.ensures c.in_err-check_early.ensures in
+    let told = told_text _ c.args.limit (record_of_parts c.args.parts.now) c.as_slice.result.now (lent_chunks c.chunks_of.result) c.in_err-check_early.field-0.0 c.as_slice.ensures.value c.chunks_of.ensures c.in_err-check_early.ensures in
     grind (arith, common_steps, told)

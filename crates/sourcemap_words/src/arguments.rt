@@ -132,7 +132,7 @@ const RESOLVE: Words = Words {
         Word(
             "explain",
             Kind::Flag,
-            "Says below a frame why it stays as it is",
+            "Says below a frame why it stays as it is, or by what less than its whole path its code was found",
         ),
     ],
 };

@@ -1138,12 +1138,13 @@ function nativeOf(module) {
     );
   };
 
-  function encodeMappings(tokens) {
+  function encodeMappings(tokens, limit) {
     const all = wordsOf(tokens);
+    const [called, most] = limit === undefined ? ['smap_encode_mappings', []] : ['smap_encode_mappings_within', [word(limit)]];
     if (all.length % TOKEN !== 0) return told(LENGTHS);
     return within(() => forText(all.byteLength), (it) =>
       lending(it, (lend) => {
-        const code = it.call('smap_encode_mappings', lend.words(all), all.length / TOKEN, made(it), faultOf(it));
+        const code = it.call(called, lend.words(all), all.length / TOKEN, ...most, made(it), faultOf(it));
         return written(it, code, asString);
       }),
     );

@@ -4,7 +4,7 @@
 const native = require('./native.js');
 const { Language } = require('./constants.js');
 const { made, madeOrNull } = require('./errors.js');
-const { text, word, tokens, texts } = require('./arguments.js');
+const { text, word, limitOf, tokens, texts } = require('./arguments.js');
 const { SourceMap, mapOf } = require('./map.js');
 
 function evaluate(words, given) {
@@ -13,8 +13,8 @@ function evaluate(words, given) {
   return mapOf(native.evaluate(said.bytes, said.lengths, bytes, lengths));
 }
 
-function encodeMappings(all) {
-  return made(native.encodeMappings(tokens(all)));
+function encodeMappings(all, options) {
+  return made(native.encodeMappings(tokens(all), limitOf(options)));
 }
 
 function decodeMappings(mappings, limits) {

@@ -571,8 +571,8 @@ export class ConcatSourceMapBuilder {
 export function evaluate(words: string | Iterable<Text>, texts: Iterable<Text>): SourceMap;
 
 /** The mappings text of tokens. Throws SourceMapError of SMAP_LINE_ORDER if a token is on a line before that of the token in front of it,
- *  or of SMAP_TOO_LARGE. */
-export function encodeMappings(tokens: Uint32Array | Iterable<Token>): string;
+ *  or of SMAP_TOO_LARGE, also if it has more than `limit` bytes. */
+export function encodeMappings(tokens: Uint32Array | Iterable<Token>, options?: { readonly limit?: number | undefined }): string;
 
 /** The tokens of a mappings text, six numbers each; as `SourceMap.fromMappings(mappings, limits).tokens()`. */
 export function decodeMappings(mappings: Text, limits?: { names?: number; sources?: number }): Uint32Array;

@@ -191,7 +191,7 @@ export interface Native {
   write(map: MapHandle, form: Form, code: Text, limit?: number): string | Code;
   /** The same as bytes. */
   writeBytes(map: MapHandle, form: Form, code: Text, limit?: number): Uint8Array | Code;
-  encodeMappings(tokens: Uint32Array): string | Code;
+  encodeMappings(tokens: Uint32Array, limit?: number): string | Code;
   /** 103 if the code names none. The language is 0 for JavaScript, 1 for CSS. */
   sourceMappingURL(code: Text, language: number): string | Code;
   /** 103 if it is no data URL of JSON. */

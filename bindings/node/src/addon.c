@@ -1323,10 +1323,13 @@ static napi_value write_bytes(Call *call)
 static napi_value encode_mappings(Call *call)
 {
     smap_string *out = NULL;
-    Words tokens = words(call, 0);
+    Words all = words(call, 0);
+    const smap_token *tokens = (const smap_token *)all.at;
+    size_t limit = limit_in(call, 1);
     if (call->failed) return NULL;
-    if (tokens.len % 6 != 0) return coded_alone(call, SMAP_LENGTHS);
-    uint32_t code = smap_encode_mappings((const smap_token *)tokens.at, tokens.len / 6, &out, call->fault);
+    if (all.len % 6 != 0) return coded_alone(call, SMAP_LENGTHS);
+    uint32_t code = limit == SIZE_MAX ? smap_encode_mappings(tokens, all.len / 6, &out, call->fault)
+                                      : smap_encode_mappings_within(tokens, all.len / 6, limit, &out, call->fault);
     return string_or_code(call, code, out);
 }
 

@@ -243,4 +243,9 @@ test('mappings of tokens', () => {
   assert.equal(encodeMappings(flat([[0, NO_ID, NO_ID, NO_ID, 0, NO_ID], [1, 0, 0, 0, 0, NO_ID]])), '+/////HA+/////H+/////H;AA//////H//////H');
   fails({ code: 'SMAP_LINE_ORDER', detail: 1 }, () => encodeMappings(flat(BACK)));
   fails({ code: 'SMAP_LENGTHS' }, () => encodeMappings(new Uint32Array(5)));
+  const far = flat([[4294967295, 0, 0, 0, 0, NO_ID]]);
+  assert.equal(encodeMappings(flat(TOKENS), { limit: MAP.mappings.length }), MAP.mappings);
+  fails({ code: 'SMAP_TOO_LARGE' }, () => encodeMappings(flat(TOKENS), { limit: MAP.mappings.length - 1 }));
+  fails({ code: 'SMAP_TOO_LARGE' }, () => encodeMappings(far, { limit: 1000 }));
+  assert.throws(() => encodeMappings([], { limit: -1 }), RangeError);
 });

@@ -29,7 +29,7 @@ test('the addon makes all calls of the header', needsHeader, () => {
   const calls = new Set(all(readFileSync(header, 'utf8'), /\b(smap_\w+)\(/g));
   const made = new Set(all(read('src/addon.c'), /\b(smap_\w+)\b/g));
   assert.deepEqual([...calls].filter((it) => !made.has(it)), []);
-  assert.equal(calls.size, 71);
+  assert.equal(calls.size, 76);
 });
 
 test('the constants are those of the header', needsHeader, () => {

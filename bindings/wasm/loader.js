@@ -1194,7 +1194,7 @@ function nativeOf(module) {
     const given = textOf(text);
     const struct = wordsOf(fault).slice();
     if (struct.length !== FAULT_WORDS) throw new TypeError('It is no fault');
-    const said = within((it) =>
+    const said = within(() => forText(given.length), (it) =>
       lending(it, (lend) => {
         const room = lend.room(256);
         const length = it.call('smap_reason_message', ...lend.text(given), lend.words(struct), room, 256);

@@ -163,6 +163,15 @@ pub struct Below {
     pub rest: String,
 }
 
+impl Below {
+    fn new(alloc: Global, prefix: &str, rest: &str) -> Result<Below, AllocError> {
+        Ok(Below {
+            prefix: String::from_str(alloc, prefix)?,
+            rest: String::from_str(alloc, rest)?,
+        })
+    }
+}
+
 /// How a path is found below a prefix of it.
 #[derive(Drop)]
 pub enum Found {
@@ -239,7 +248,7 @@ impl InputPrefix {
             && let Some(rest) = path.text.as_str().strip_prefix(prefix.as_str())
             && files.has(rest)?
         {
-            return Ok(Found::Below(below(alloc, prefix.as_str(), rest)?));
+            return Ok(Found::Below(Below::new(alloc, prefix.as_str(), rest)?));
         }
         Ok(Found::Nothing)
     }
@@ -268,21 +277,14 @@ impl InputPrefix {
             }
             if self.determines(alloc, path, prefix, rest)? {
                 self.known = Some(String::from_str(alloc, prefix)?);
-                return Ok(Found::Below(below(alloc, prefix, rest)?));
+                return Ok(Found::Below(Below::new(alloc, prefix, rest)?));
             }
             if matches!(&found, Found::Nothing) {
-                found = Found::Maybe(below(alloc, prefix, rest)?);
+                found = Found::Maybe(Below::new(alloc, prefix, rest)?);
             }
         }
         Ok(found)
     }
-}
-
-fn below(alloc: Global, prefix: &str, rest: &str) -> Result<Below, AllocError> {
-    Ok(Below {
-        prefix: String::from_str(alloc, prefix)?,
-        rest: String::from_str(alloc, rest)?,
-    })
 }
 
 /// A prefix that the user names, and the folder where what is below it lies, with a slash at its end.

@@ -81,12 +81,12 @@ fn climbing_path(alloc: Global, up: usize, parts: &[&str]) -> Result<String, All
 /// URL) stays, and so does every path where both folders are one. A path above the root stays as far above it.
 ///
 /// By the names of folders, and not by where links lead: sources were written, and are read, relative to the folder by its name.
-pub fn relative_path(
+pub fn relative_path<'p>(
     alloc: Global,
-    current: &str,
-    from: &str,
-    to: &str,
-    path: &str,
+    current: &'p str,
+    from: &'p str,
+    to: &'p str,
+    path: &'p str,
 ) -> Result<String, AllocError> {
     let base = folder_parts(alloc, current, to)?;
     let base = base.as_slice();

@@ -241,7 +241,7 @@ fn not_there(asked: &Asked<'_, '_>, file: &str, sought: &Sought) -> Result<Strin
 }
 
 /// The map of a file that frames name, or why there is none.
-fn search(asked: &Asked<'_, '_>, input: &mut InputPrefix, file: &str) -> Outcome<Search> {
+fn search_file(asked: &Asked<'_, '_>, input: &mut InputPrefix, file: &str) -> Outcome<Search> {
     let (rt, places) = (asked.rt, asked.places());
     let sought = match find_code(rt, file, places, input)? {
         Sought::Code(found) => return search_code(asked, file, found),
@@ -281,7 +281,7 @@ impl Maps {
             reason,
             matched,
             code,
-        } = search(asked, &mut self.input, file)?;
+        } = search_file(asked, &mut self.input, file)?;
         let text = match lookup {
             Lookup::Map(text) => text,
             Lookup::None(why) => return Ok(Known::None(Stay { reason, why })),

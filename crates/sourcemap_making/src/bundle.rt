@@ -183,15 +183,18 @@ fn comment_of(alloc: Global, output: &str) -> Result<String, AllocError> {
 /// Writes the code, with a comment that names the map, and the map.
 fn write(asked: &Asked<'_, '_>, bundle: Bundle, limit: u64) -> Outcome<()> {
     let alloc = asked.alloc();
-    let output = asked.word("output");
+    let output = String::from_str(alloc, asked.word("output"))?;
     let (mut code, parts) = bundle.finish(alloc)?;
-    code.push_str(comment_of(alloc, output)?.as_str())?;
+    code.push_str(comment_of(alloc, output.as_str())?.as_str())?;
     let mut map = SourceMap::from_parts(parts);
-    map.set_file(alloc, file_name(output))?;
+    map.set_file(alloc, file_name(output.as_str()))?;
     let path = output_map(asked)?;
-    let path = path.as_str();
-    let text = limited_json(alloc, path, &map, limit)?;
-    write_texts(asked.rt, &[(path, text.as_str()), (output, code.as_str())])
+    let text = limited_json(alloc, path.as_str(), &map, limit)?;
+    let files = [
+        (path.as_str(), text.as_str()),
+        (output.as_str(), code.as_str()),
+    ];
+    write_texts(asked.rt, &files)
 }
 
 pub fn run(asked: &Asked<'_, '_>) -> Outcome<Status> {

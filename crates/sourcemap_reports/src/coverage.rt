@@ -223,28 +223,43 @@ impl Coverage {
         self.add(&map, text.folder.as_str(), &lines)
     }
 
+    /// The code of a script, if it is there.
+    fn code_of(&mut self, asked: &Asked<'_, '_>, url: &str) -> Outcome<Option<CodeFile>> {
+        let found = match find_code(asked.rt, url, asked.places(), &mut self.input)? {
+            Sought::Code(found) => found,
+            _sought => return Ok(None),
+        };
+        if is_file(asked.rt, found.path.as_str()) {
+            Ok(Some(found))
+        } else {
+            Ok(None)
+        }
+    }
+
     /// Adds what V8 tells of a script, if its code is found and has a map.
     fn add_script(&mut self, asked: &Asked<'_, '_>, script: &Script) -> Outcome<()> {
-        let (rt, places) = (asked.rt, asked.places());
         let url = script.url.as_str();
         if is_of_engine(url) {
             return Ok(());
         }
-        let (path, folder) = match find_code(rt, url, places, &mut self.input)? {
-            Sought::Code(CodeFile { path, folder, .. }) if is_file(rt, path.as_str()) => {
-                (path, folder)
-            }
-            _ => {
+        match self.code_of(asked, url)? {
+            Some(found) => self.add_code(asked, script, found),
+            None => {
                 let why = format!(in self.alloc;
                     "{url} is not in the root: name its folder by --root"
                 )?;
-                return self.leave_out(url, why);
+                self.leave_out(url, why)
             }
-        };
-        let path = path.as_str();
+        }
+    }
+
+    /// Adds what V8 tells of a script with this code, if that has a map.
+    fn add_code(&mut self, asked: &Asked<'_, '_>, script: &Script, found: CodeFile) -> Outcome<()> {
+        let rt = asked.rt;
+        let path = found.path.as_str();
         let places = Places {
-            root: folder.as_str(),
-            ..places
+            root: found.folder.as_str(),
+            ..asked.places()
         };
         if !is_in_root(rt, path, places) {
             let why = format!(in self.alloc;

@@ -395,15 +395,16 @@ impl<'a, 'm, 'r> Resolver<'a, 'm, 'r> {
         let alloc = self.asked.alloc();
         let read = self.read(line)?;
         self.count.add(&read);
+        let form = self.form;
         let out = &mut self.out;
-        match self.form {
+        match form {
             Form::Objects => push_line_object(alloc, &self.maps, line, &read, out)?,
             Form::Lines(paint) | Form::Explained(paint) => {
                 push_led(alloc, &self.maps, line, &read, paint, out)?
             }
         }
         out.push(b'\n')?;
-        if let Form::Explained(_) = self.form {
+        if let Form::Explained(_) = form {
             push_notes(alloc, &read, out)?;
         }
         Ok(())

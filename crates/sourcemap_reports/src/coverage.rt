@@ -408,7 +408,7 @@ fn lcov(rt: &HostRuntime, sources: &Sources) -> Outcome<String> {
     let alloc = rt.alloc();
     let mut out = String::new(alloc);
     for (source, lines) in sources {
-        if source.as_str().chars().any(is_hidden) {
+        if source.as_str().chars().any(|ch| is_hidden(ch)) {
             let mut shown = String::new(alloc);
             push_shown(source.as_str(), &mut shown)?;
             warn(

@@ -21,7 +21,9 @@ pub use finding::{
 pub use input::{is_file, print, print_bytes, read_text, shown_name, tell, usage, warn};
 pub use limit::{limit_of, limited_json};
 pub use matching::{CodePath, InputPrefix, Prefix};
-pub use paths::{file_name, folder_of, has_scheme, is_inside, path_of_url, real_name, with_slash};
+pub use paths::{
+    file_name, folder_of, has_scheme, is_inside, path_of_url, real_name, with_slash, written_name,
+};
 pub use progress::Progress;
 pub use rebasing::{plain_path, rebase, relative_path, relative_to};
 pub use writing::{write_text, write_texts};

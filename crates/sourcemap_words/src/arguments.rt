@@ -263,7 +263,7 @@ Examples:
   sourcemap remap --follow --simplify dist/app.js.map > app.map"
         }
         "bundle" => {
-            "The map is written to OUT.map, and OUT names it.
+            "The map is written to OUT.map, and OUT names it. Of a link OUT is the file that it leads to.
 
 Examples:
   sourcemap bundle a.js b.js -o out.js

@@ -407,11 +407,16 @@ pub fn is_map(text: &str) -> bool {
         || text.starts_with("data:")
 }
 
+/// Whether a file is a map by its text or its name, and not a code.
+pub fn is_map_file(path: &str, text: &str) -> bool {
+    is_map(text) || path.ends_with(".map") || path.ends_with(".json")
+}
+
 /// The text of a map, given as a map, or as a code whose map is found.
 pub fn map_of_file(rt: &HostRuntime, path: &str, places: Places<'_>) -> Outcome<MapText> {
     let alloc = rt.alloc();
     let text = read_text(rt, path)?;
-    if is_map(text.as_str()) || path.ends_with(".map") || path.ends_with(".json") {
+    if is_map_file(path, text.as_str()) {
         return Ok(MapText {
             name: String::from_str(alloc, shown_name(path))?,
             folder: String::from_str(alloc, folder_of(path))?,

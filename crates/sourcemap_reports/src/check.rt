@@ -4,7 +4,7 @@ use oxc_sourcemap_map::SourceMap;
 use oxc_sourcemap_text::TextPositions;
 use oxc_sourcemap_tokens::{Error, Token};
 use sourcemap_files::{
-    Asked, Lookup, MapText, Progress, Status, error_text, found_error_text, is_file, is_map,
+    Asked, Lookup, MapText, Progress, Status, error_text, found_error_text, is_file, is_map_file,
     map_of_code, print, read_text, shown_name, tell,
 };
 use sourcemap_run::{push_object, push_shown, push_text_member, push_visible};
@@ -332,7 +332,7 @@ fn check_as_code(
 fn check_file(asked: &Asked<'_, '_>, file: &str) -> Outcome<Report> {
     let mut report = report_on(asked, file)?;
     let text = read_text(asked.rt, file)?;
-    if is_map(text.as_str()) || file.ends_with(".map") {
+    if is_map_file(file, text.as_str()) {
         check_as_map(asked.rt, file, text.as_str(), &mut report)?;
     } else {
         check_as_code(asked, file, text.as_str(), &mut report)?;

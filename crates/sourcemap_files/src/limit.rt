@@ -31,8 +31,9 @@ pub fn limit_of(asked: &Asked<'_, '_>) -> Outcome<u64> {
     match bytes_of(word) {
         Some(limit) => Ok(limit),
         None => {
+            let max = u64::MAX;
             let text = format!(in asked.alloc();
-                "{word:?} is no number of bytes: write one as 1000, 64K, 256M or 2G"
+                "{word:?} is no number of bytes from 0 to {max}: write one as 1000, 64K, 256M or 2G"
             )?;
             Err(failure_of(asked.alloc(), "--limit", text.as_str()))
         }

@@ -62,7 +62,8 @@ fn read_part(asked: &Asked<'_, '_>, file: &str, folder: &str) -> Outcome<Part> {
             })
         }
         Lookup::None(why) => {
-            warn(asked.rt, shown_name(file), why.as_str());
+            let note = format!(in alloc; "{why}; the code is mapped to itself")?;
+            warn(asked.rt, shown_name(file), note.as_str());
             unmapped_part(asked, file, text.as_str(), code, folder)
         }
     }

@@ -332,10 +332,10 @@ fn arg_of<'a>(alloc: Global, word: &Word) -> Arg<'a> {
         Kind::Flag => arg.long(name).action(ArgAction::SetTrue),
         Kind::Option(value) => option(arg, name, value),
         Kind::Options(value) => option(arg, name, value).action(ArgAction::Append),
+        // A number below 0 is refused as a value, and not as an option that is not there.
         Kind::Number(value) => option(arg, name, value)
             .allow_negative_numbers(true)
             .value_parser(clap::value_parser!(u32)),
-        // (a number below 0 is refused as a value, not as an option that is not there)
         Kind::Limit => option(arg, name, "BYTES")
             .allow_negative_numbers(true)
             .default_value("256M")

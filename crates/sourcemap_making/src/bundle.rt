@@ -199,15 +199,18 @@ fn comment_of(alloc: Global, output: &str) -> Result<String, AllocError> {
 }
 
 /// Writes the code, with a comment that names the map, and the map.
-fn write(asked: &Asked<'_, '_>, output: &str, bundle: Bundle, limit: u64) -> Outcome<()> {
+fn write(asked: &Asked<'_, '_>, output: String, bundle: Bundle, limit: u64) -> Outcome<()> {
     let alloc = asked.alloc();
     let (mut code, parts) = bundle.finish(alloc)?;
-    code.push_str(comment_of(alloc, output)?.as_str())?;
+    code.push_str(comment_of(alloc, output.as_str())?.as_str())?;
     let mut map = SourceMap::from_parts(parts);
-    map.set_file(alloc, file_name(output))?;
-    let path = output_map(alloc, output)?;
+    map.set_file(alloc, file_name(output.as_str()))?;
+    let path = output_map(alloc, output.as_str())?;
     let text = limited_json(alloc, path.as_str(), &map, limit)?;
-    let files = [(path.as_str(), text.as_str()), (output, code.as_str())];
+    let files = [
+        (path.as_str(), text.as_str()),
+        (output.as_str(), code.as_str()),
+    ];
     write_texts(asked.rt, &files)
 }
 
@@ -225,7 +228,7 @@ pub fn run(asked: &Asked<'_, '_>) -> Outcome<Status> {
         push_file(asked, file, output.as_str(), &mut bundle, &mut out)?;
     }
     progress.clear(asked.rt);
-    write(asked, output.as_str(), bundle, limit)?;
+    write(asked, output, bundle, limit)?;
     if asked.has("json") {
         print(asked.rt, out.as_str())?;
     }

@@ -64,12 +64,11 @@ fn without_debug_ids(alloc: Global, code: &str) -> Result<String, AllocError> {
         .unwrap_or((code, ""));
     let mut kept = String::from_str(alloc, front)?;
     for line in tail.split_inclusive(LINE_ENDS.as_slice()) {
-        let from = if is_debug_id(line) {
-            line.trim_end().len()
+        if is_debug_id(line) {
+            push_behind(line.get(line.trim_end().len()..).unwrap_or(""), &mut kept)?;
         } else {
-            0
-        };
-        push_behind(line.get(from..).unwrap_or(""), &mut kept)?;
+            kept.push_str(line)?;
+        }
     }
     Ok(kept)
 }

@@ -55,10 +55,9 @@ def bench(paths, *words):
 
 
 def beside(figures, goal, form="{:.1f}"):
-    """A figure of ours, and behind it the ratio to that of each other program."""
+    """A figure of ours, and behind it the ratio to the least of the other programs."""
     ours, *others = figures
-    ratios = ", ".join(ratio(ours, other, goal) for other in others)
-    return f"{form.format(ours)} ({ratios})" if others else form.format(ours)
+    return f"{form.format(ours)} ({ratio(ours, min(others), goal)})" if others else form.format(ours)
 
 
 def cell(row):
@@ -182,8 +181,8 @@ def instructions_of(command, text):
 def processes(title, inputs, is_counted=True):
     """A row for each whole process: name, words of smap, words of the other programs, input."""
     write(f"\n### {title}\n")
-    write("| input | MB | ms | ms / MB | peak MB | peak / input | million instructions | output |\n|---|---:|---|---:|---|---:|---|---|")
-    write(f"| *goal* | | {WHOLE_GOAL} | | {PEAK_GOAL} | | | |")
+    write("| input | MB | ms | peak MB | million instructions |\n|---|---:|---|---|---|")
+    write(f"| *goal* | | {WHOLE_GOAL} | {PEAK_GOAL} | |")
     for name, words, other, text in inputs:
         sides = {"ours": [smap(), *words], **{program: [program, *other] for program in options.whole}}
         best, size = in_turn(sides, text), len(text) / 1e6
@@ -192,10 +191,10 @@ def processes(title, inputs, is_counted=True):
         if is_counted:
             with ThreadPoolExecutor(os.cpu_count()) as pool:
                 counts = list(pool.map(lambda side: instructions_of(sides[side], text), sides))
-        same = "" if len(outputs) == 1 else "same bytes" if len(set(outputs)) == 1 else "differs"
-        cells = [f"{size:.1f}", beside([it * 1e3 for it in seconds], WHOLE_GOAL), f"{seconds[0] * 1e3 / size:.1f}",
-                 beside([it / 1e6 for it in peaks], PEAK_GOAL), f"{peaks[0] / len(text):.1f}",
-                 beside(counts, WHOLE_GOAL, "{:.0f}") if is_counted else "", same]
+        if len(set(outputs)) > 1:
+            name = f"{name} (outputs differ)"
+        cells = [f"{size:.1f}", beside([it * 1e3 for it in seconds], WHOLE_GOAL), beside([it / 1e6 for it in peaks], PEAK_GOAL),
+                 beside(counts, WHOLE_GOAL, "{:.0f}") if is_counted else ""]
         write(f"| {name} | {' | '.join(cells)} |")
 
 

@@ -4,7 +4,7 @@
 
 const test = require('node:test');
 const assert = require('node:assert/strict');
-const { readFileSync, existsSync } = require('node:fs');
+const { readFileSync, readdirSync, existsSync } = require('node:fs');
 const { join } = require('node:path');
 const vm = require('node:vm');
 
@@ -27,7 +27,7 @@ test('the addon has what native.d.ts says', () => {
 
 test('the addon makes all calls of the header', needsHeader, () => {
   const calls = new Set(all(readFileSync(header, 'utf8'), /\b(smap_\w+)\(/g));
-  const made = new Set(all(read('src/addon.c'), /\b(smap_\w+)\b/g));
+  const made = new Set(readdirSync(join(__dirname, '../src')).flatMap((it) => all(read(`src/${it}`), /\b(smap_\w+)\b/g)));
   assert.deepEqual([...calls].filter((it) => !made.has(it)), []);
   assert.equal(calls.size, 76);
 });

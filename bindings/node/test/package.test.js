@@ -35,11 +35,12 @@ test('the addon makes all calls of the header', needsHeader, () => {
 test('the constants are those of the header', needsHeader, () => {
   const text = readFileSync(header, 'utf8');
   const value = (name) => Number(text.match(new RegExp(`\\b${name} = (\\d+)`))[1]);
-  const { Bias, Direction, Language, Kind, Code, MENDS, PLACES } = constants;
+  const { Bias, Direction, Language, Kind, Code, Words, MENDS, PLACES } = constants;
   for (const them of [Bias, Direction, Kind, Code]) {
     for (const [name, number] of Object.entries(them)) if (!['SHARED', 'NO_THREADS'].includes(name)) assert.equal(number, value(`SMAP_${name}`), name);
   }
   for (const [name, number] of Object.entries(Language)) assert.equal(number, value(`SMAP_${name}`));
+  for (const [name, words] of Object.entries(Words)) assert.match(text, new RegExp(`SMAP_HAS_SIZE\\(smap_${name}, 0, ${4 * words}\\)`, 'i'));
   assert.deepEqual(MENDS.slice(1), all(text, /^ {4}SMAP_MEND_(\w+) = \d+/gm));
   assert.deepEqual(PLACES.slice(1), all(text, /^ {4}SMAP_PLACE_(\w+) = [1-9]/gm).map((it) => it.toLowerCase()));
   const fields = all(text, /^ {4}SMAP_FIELD_(\w+) = \d+/gm);

@@ -2,13 +2,13 @@
 // What is asked of one map: numbers, or a list of entries.
 
 const { mapOf, wordsOf } = require('./arguments.js');
-const { ANSWER, NULL_HANDLE } = require('./layout.js');
+const { ANSWER, Code } = require('./layout.js');
 const { lending } = require('./lending.js');
 
 /** Asks of a map what is answered to the words. */
 function asks(host, handle, run) {
   const map = mapOf(handle);
-  return host.told(map.isNull ? NULL_HANDLE : run(map.instance, map.at));
+  return host.told(map.isNull ? Code.NULL_HANDLE : run(map.instance, map.at));
 }
 
 /** A list of entries of so many words that a call fills in, as many as fit. */
@@ -31,7 +31,7 @@ function fills(host, { instance, at: map }, out, size, run) {
 function lists(host, handle, out, size, run) {
   const map = mapOf(handle);
   const to = wordsOf(out);
-  return map.isNull ? host.told(NULL_HANDLE) : fills(host, map, to, size, run);
+  return map.isNull ? host.told(Code.NULL_HANDLE) : fills(host, map, to, size, run);
 }
 
 module.exports = { asks, lists };

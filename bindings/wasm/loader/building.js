@@ -5,7 +5,7 @@ const { handleOf, mapOf, textOf, word, wordsOf } = require('./arguments.js');
 const { BUILDER, FREES, Handle, JOIN, MAP } = require('./handles.js');
 const { SMALL_MAP } = require('./host.js');
 const { NoMemory } = require('./instance.js');
-const { ANSWER, LENGTHS, NULL_HANDLE, TOKEN } = require('./layout.js');
+const { ANSWER, Code, Words } = require('./layout.js');
 const { lending } = require('./lending.js');
 const { gathering, sizeOf } = require('./moving.js');
 
@@ -32,7 +32,7 @@ function begins(host, kind) {
 /** A call with a builder or a join. After it was finished it has no instance until it is used again. */
 function adds(host, handle, kind, run) {
   const it = handleOf(handle, kind);
-  if (it.isFreed) return host.told(NULL_HANDLE);
+  if (it.isFreed) return host.told(Code.NULL_HANDLE);
   return host.orNoMemory(() => {
     const code = it.instance === null ? beginsAnew(host, it, kind) : 0;
     if (code !== 0) return code;
@@ -74,7 +74,7 @@ function joinAdd(host, join, handle, line, column) {
   const it = handleOf(join, JOIN);
   const map = mapOf(handle);
   const place = [word(line), word(column)];
-  if (it.isFreed || map.isNull) return host.told(NULL_HANDLE);
+  if (it.isFreed || map.isNull) return host.told(Code.NULL_HANDLE);
   return adds(host, it, JOIN, (instance, at, _, to) =>
     gathering(instance, [map], ([part]) => instance.call('smap_join_add', at, part, ...place, to)),
   );
@@ -116,9 +116,9 @@ function builderAddSource(host, builder, path, content) {
 function builderAddTokens(host, builder, tokens) {
   const all = wordsOf(tokens);
   const it = handleOf(builder, BUILDER);
-  if (all.length % TOKEN !== 0) return host.told(it.isFreed ? NULL_HANDLE : LENGTHS);
+  if (all.length % Words.TOKEN !== 0) return host.told(it.isFreed ? Code.NULL_HANDLE : Code.LENGTHS);
   return adds(host, it, BUILDER, (instance, at, lend, to) =>
-    instance.call('smap_builder_add_tokens', at, lend.words(all), all.length / TOKEN, to),
+    instance.call('smap_builder_add_tokens', at, lend.words(all), all.length / Words.TOKEN, to),
   );
 }
 

@@ -3,11 +3,11 @@
 
 const { mapOf, textOf, textsOf, word, wordsOf } = require('./arguments.js');
 const { SMALL_MAP } = require('./host.js');
-const { BAD_OPTION, NULL_HANDLE } = require('./layout.js');
+const { Code, Which } = require('./layout.js');
 const { lending } = require('./lending.js');
 
-const SETS_ONE = { 3: 'smap_set_file', 4: 'smap_set_source_root', 5: 'smap_set_debug_id' };
-const SETS_ALL = { 1: 'smap_set_sources', 2: 'smap_set_source_contents' };
+const SETS_ONE = { [Which.FILE]: 'smap_set_file', [Which.SOURCE_ROOT]: 'smap_set_source_root', [Which.DEBUG_ID]: 'smap_set_debug_id' };
+const SETS_ALL = { [Which.SOURCE]: 'smap_set_sources', [Which.CONTENT]: 'smap_set_source_contents' };
 
 /** Moves a map that is to become large to an instance of its own, where the host gives one. */
 function leaves(host, map, bytes) {
@@ -18,7 +18,7 @@ function leaves(host, map, bytes) {
 /** Changes a map by what `run` calls, with so many bytes. */
 function changes(host, handle, run, bytes = 0) {
   const map = mapOf(handle);
-  if (map.isNull) return host.told(NULL_HANDLE);
+  if (map.isNull) return host.told(Code.NULL_HANDLE);
   return host.orNoMemory(() => {
     if (bytes > SMALL_MAP && map.instance.isShared) leaves(host, map, bytes);
     const { instance, at } = map;
@@ -30,7 +30,7 @@ function setText(host, handle, which, given) {
   const name = SETS_ONE[word(which)];
   const it = textOf(given);
   const map = mapOf(handle);
-  if (name === undefined) return host.told(map.isNull ? NULL_HANDLE : BAD_OPTION);
+  if (name === undefined) return host.told(map.isNull ? Code.NULL_HANDLE : Code.BAD_OPTION);
   return changes(host, map, (instance, at, lend, to) => instance.call(name, at, ...lend.text(it), to), it.length);
 }
 
@@ -38,7 +38,7 @@ function setTexts(host, handle, which, bytes, lengths) {
   const name = SETS_ALL[word(which)];
   const all = textsOf(bytes, lengths);
   const map = mapOf(handle);
-  if (name === undefined) return host.told(map.isNull ? NULL_HANDLE : BAD_OPTION);
+  if (name === undefined) return host.told(map.isNull ? Code.NULL_HANDLE : Code.BAD_OPTION);
   return changes(host, map, (instance, at, lend, to) => instance.call(name, at, ...lend.texts(all), to), bytes.length);
 }
 

@@ -2,7 +2,7 @@
 // What a map, a builder or a join is, where it is, and how it is freed.
 
 const { NoMemory } = require('./instance.js');
-const { NO_INDEX } = require('./layout.js');
+const { Code } = require('./layout.js');
 const { moved } = require('./moving.js');
 
 const MAP = 'map';
@@ -96,7 +96,7 @@ class Handles {
   move(map, to) {
     const { instance, at, mends } = map;
     const index = instance.wordsAt;
-    const isIndexed = instance.call('smap_generated', at, 0, 0, 0, 0, index, index + 4) !== NO_INDEX;
+    const isIndexed = instance.call('smap_generated', at, 0, 0, 0, 0, index, index + 4) !== Code.NO_INDEX;
     const copy = moved(map, to);
     if (isIndexed && to.call('smap_index_sources', copy, to.faultAt) !== 0) {
       to.call('smap_free_map', copy);

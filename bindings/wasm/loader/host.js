@@ -3,7 +3,7 @@
 
 const { NoMemory } = require('./instance.js');
 const { Instances } = require('./instances.js');
-const { ANSWER, FAULT_WORDS, NO_MEMORY, WORDS } = require('./layout.js');
+const { ANSWER, Code, SLOTS, Words } = require('./layout.js');
 const { lending } = require('./lending.js');
 const { MAP, Handle, Handles } = require('./handles.js');
 const { sizeOf } = require('./moving.js');
@@ -17,8 +17,8 @@ const SMALL_MAP = 4 * SMALL_TEXT;
 /** The instances of the module, the numbers that calls answer, and which map is selected. */
 class Host {
   constructor(module) {
-    this.fault = new Uint32Array(FAULT_WORDS);
-    this.words = new Uint32Array(WORDS);
+    this.fault = new Uint32Array(Words.FAULT);
+    this.words = new Uint32Array(SLOTS);
     this.selection = new Selection(this.words);
     this.instances = new Instances(module, (instance, block) => this.handles.freeCollected(instance, block));
     this.handles = new Handles(this.instances, this.selection);
@@ -34,7 +34,7 @@ class Host {
 
   /** The code of a call that has filled in a fault. */
   coded(instance, code) {
-    if (code !== 0) instance.copy(ANSWER.FAULT, this.fault, FAULT_WORDS);
+    if (code !== 0) instance.copy(ANSWER.FAULT, this.fault, Words.FAULT);
     return code;
   }
 
@@ -43,7 +43,7 @@ class Host {
     try {
       return run();
     } catch (error) {
-      if (error instanceof NoMemory) return this.told(NO_MEMORY);
+      if (error instanceof NoMemory) return this.told(Code.OUT_OF_MEMORY);
       throw error;
     }
   }

@@ -14,7 +14,7 @@
 
 const { Host } = require('./host.js');
 const { TrapError } = require('./instance.js');
-const { NO_THREADS } = require('./layout.js');
+const { Code } = require('./layout.js');
 const { tracing } = require('./tracing.js');
 
 /** The calls by their names in native.d.ts. Each takes the host before its arguments. */
@@ -38,4 +38,4 @@ function nativeOf(module) {
   return { version, fault: host.fault, words: host.words, trace: tracing(host), ...calls };
 }
 
-module.exports = { nativeOf, TrapError, NO_THREADS };
+module.exports = { nativeOf, TrapError, NO_THREADS: Code.NO_THREADS };

@@ -3,7 +3,7 @@
 
 const { mapOf, word } = require('./arguments.js');
 const { asks, lists } = require('./asking.js');
-const { ANSWER, BAD_OPTION, BYTES, NOT_TOLD, NULL_HANDLE, TOKEN } = require('./layout.js');
+const { ANSWER, BYTES, Code, NOT_TOLD, Which, Words } = require('./layout.js');
 const { lending } = require('./lending.js');
 
 const ONE_TEXT = [
@@ -15,8 +15,6 @@ const ONE_TEXT = [
   'smap_get_debug_id',
 ];
 const ALL_TEXTS = ['smap_get_names', 'smap_get_sources', 'smap_get_source_contents'];
-/** From this on, what is asked has no id. */
-const FILE = 3;
 
 function getCounts(host, handle) {
   const { words } = host;
@@ -52,9 +50,9 @@ function text(host, handle, which, id) {
   const map = mapOf(handle);
   const kind = word(which);
   const name = ONE_TEXT[kind];
-  const ids = [word(id)].slice(0, kind < FILE ? 1 : 0);
-  if (name === undefined) return host.told(BAD_OPTION);
-  if (map.isNull) return host.told(NULL_HANDLE);
+  const ids = [word(id)].slice(0, kind < Which.FILE ? 1 : 0);
+  if (name === undefined) return host.told(Code.BAD_OPTION);
+  if (map.isNull) return host.told(Code.NULL_HANDLE);
   const { instance } = map;
   const code = instance.call(name, map.at, ...ids, instance.textAt);
   return code !== 0 ? host.told(code) : instance.lentText();
@@ -69,8 +67,8 @@ function listed(instance, at) {
 function texts(host, handle, which) {
   const map = mapOf(handle);
   const name = ALL_TEXTS[word(which)];
-  if (name === undefined) return host.told(BAD_OPTION);
-  if (map.isNull) return host.told(NULL_HANDLE);
+  if (name === undefined) return host.told(Code.BAD_OPTION);
+  if (map.isNull) return host.told(Code.NULL_HANDLE);
   const { instance } = map;
   return host.orNoMemory(() =>
     lending(instance, (lend) => {
@@ -87,13 +85,13 @@ function getToken(host, handle, index) {
   const which = word(index);
   return asks(host, handle, (it, at) => {
     const code = it.call('smap_get_token', at, which, it.wordsAt);
-    if (code === 0) it.copy(ANSWER.WORDS, host.words, TOKEN);
+    if (code === 0) it.copy(ANSWER.WORDS, host.words, Words.TOKEN);
     return code;
   });
 }
 
 function getTokens(host, handle, out) {
-  return lists(host, handle, out, TOKEN, (it, map, at, len) => it.call('smap_get_tokens', map, at, len, it.countAt));
+  return lists(host, handle, out, Words.TOKEN, (it, map, at, len) => it.call('smap_get_tokens', map, at, len, it.countAt));
 }
 
 function getIgnoreList(host, handle, out) {

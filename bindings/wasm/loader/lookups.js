@@ -3,7 +3,7 @@
 
 const { mapOf, word, wordsOf } = require('./arguments.js');
 const { asks, lists } = require('./asking.js');
-const { ANSWER, FOUND, LENGTHS, NULL_HANDLE, PIECE } = require('./layout.js');
+const { ANSWER, Code, FOUND, Words } = require('./layout.js');
 const { lending } = require('./lending.js');
 const { gathering } = require('./moving.js');
 
@@ -42,8 +42,8 @@ function lookups(host, handle, positions, bias, out, size, run) {
   const asks = wordsOf(positions);
   const by = word(bias);
   const to = wordsOf(out);
-  if (map.isNull) return host.told(NULL_HANDLE);
-  if (asks.length % 2 !== 0 || to.length !== (size * asks.length) / 2) return host.told(LENGTHS);
+  if (map.isNull) return host.told(Code.NULL_HANDLE);
+  if (asks.length % 2 !== 0 || to.length !== (size * asks.length) / 2) return host.told(Code.LENGTHS);
   return looksUp(host, map, asks, by, to, size, run);
 }
 
@@ -59,12 +59,12 @@ function findAll(host, handle, positions, bias, out) {
 
 function pieces(host, handle, line, column, endLine, endColumn, out) {
   const range = [word(line), word(column), word(endLine), word(endColumn)];
-  return lists(host, handle, out, PIECE, (it, map, at, len) => it.call('loader_pieces', map, ...range, at, len));
+  return lists(host, handle, out, Words.PIECE, (it, map, at, len) => it.call('loader_pieces', map, ...range, at, len));
 }
 
 function firstDifference(host, handle, otherHandle) {
   const maps = [mapOf(handle), mapOf(otherHandle)];
-  if (maps.some((it) => it.isNull)) return host.told(NULL_HANDLE);
+  if (maps.some((it) => it.isNull)) return host.told(Code.NULL_HANDLE);
   return host.within(() => host.forMaps(maps), (it) =>
     gathering(it, maps, ([one, other]) => {
       const code = it.call('smap_first_difference', one, other, it.wordsAt);

@@ -2,12 +2,12 @@
 // Maps of maps.
 
 const { mapOf, mapsOf, textsOf, wordsOf } = require('./arguments.js');
-const { LENGTHS, NULL_HANDLE } = require('./layout.js');
+const { Code } = require('./layout.js');
 const { gathering, pointers } = require('./moving.js');
 
 /** The map that `run` makes of maps, from where they are in one instance. */
 function makesOf(host, maps, run) {
-  if (maps.some((it) => it.isNull)) return host.told(NULL_HANDLE);
+  if (maps.some((it) => it.isNull)) return host.told(Code.NULL_HANDLE);
   return host.makes(() => host.forMaps(maps), (it, lend) =>
     gathering(it, maps, (all) => host.coded(it, run(it, all, lend))),
   );
@@ -31,7 +31,7 @@ function remap(host, handle, paths, pathLengths, inputs) {
 function joinAll(host, list, positions) {
   const maps = mapsOf(list);
   const places = wordsOf(positions);
-  if (places.length % 2 !== 0) return host.told(LENGTHS);
+  if (places.length % 2 !== 0) return host.told(Code.LENGTHS);
   return makesOf(host, maps, (it, parts, lend) => {
     const given = [lend.words(pointers(parts)), parts.length, lend.words(places), places.length / 2];
     return it.call('smap_join_all', ...given, it.madeAt, it.faultAt);

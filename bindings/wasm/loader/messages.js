@@ -2,7 +2,7 @@
 // Faults and mends in words.
 
 const { textOf, word, wordsOf } = require('./arguments.js');
-const { FAULT_WORDS, MEND } = require('./layout.js');
+const { Words } = require('./layout.js');
 const { lending } = require('./lending.js');
 
 /** A reason takes no more bytes. */
@@ -29,7 +29,7 @@ const says = (name, size) => (host, given) => {
 function reasonMessage(host, text, fault) {
   const given = textOf(text);
   const struct = wordsOf(fault).slice();
-  if (struct.length !== FAULT_WORDS) throw new TypeError('It is no fault');
+  if (struct.length !== Words.FAULT) throw new TypeError('It is no fault');
   const said = host.within(() => host.forText(given.length), (it) =>
     lending(it, (lend) => {
       const room = lend.room(REASON);
@@ -49,9 +49,9 @@ function codeName(host, code) {
 }
 
 module.exports = {
-  message: says('smap_message', FAULT_WORDS),
-  placeMessage: says('smap_place_message', FAULT_WORDS),
-  mendMessage: says('smap_mend_message', MEND),
+  message: says('smap_message', Words.FAULT),
+  placeMessage: says('smap_place_message', Words.FAULT),
+  mendMessage: says('smap_mend_message', Words.MEND),
   reasonMessage,
   codeName,
 };

@@ -3,7 +3,7 @@
 
 const { mapOf, textOf, textsOf, word, wordsOf } = require('./arguments.js');
 const { Handle } = require('./handles.js');
-const { ANSWER, LENGTHS, MEND, NULL_HANDLE, TOKEN } = require('./layout.js');
+const { ANSWER, Code, Words } = require('./layout.js');
 const { lending } = require('./lending.js');
 const { moved } = require('./moving.js');
 
@@ -32,9 +32,9 @@ function mendsIn(instance, mends) {
     return lending(instance, (lend) => {
       instance.call('smap_get_mends', mends, 0, 0, instance.countAt);
       const length = instance.answer(ANSWER.COUNT);
-      const at = lend.room(4 * MEND * length);
+      const at = lend.room(4 * Words.MEND * length);
       instance.call('smap_get_mends', mends, at, length, instance.countAt);
-      return instance.u32().slice(at >>> 2, (at >>> 2) + MEND * length);
+      return instance.u32().slice(at >>> 2, (at >>> 2) + Words.MEND * length);
     });
   } finally {
     if (instance.trap === null) instance.call('smap_free_mends', mends);
@@ -55,9 +55,9 @@ function readFound(host, found) {
 function getMends(host, handle, out) {
   const map = mapOf(handle);
   const to = wordsOf(out);
-  if (map.mends === null) return host.told(NULL_HANDLE);
-  to.set(map.mends.subarray(0, MEND * Math.floor(to.length / MEND)));
-  host.words[0] = map.mends.length / MEND;
+  if (map.mends === null) return host.told(Code.NULL_HANDLE);
+  to.set(map.mends.subarray(0, Words.MEND * Math.floor(to.length / Words.MEND)));
+  host.words[0] = map.mends.length / Words.MEND;
   return 0;
 }
 
@@ -65,12 +65,12 @@ function fromTokens(host, tokens, names, nameLengths, sources, sourceLengths, co
   const all = wordsOf(tokens);
   const texts = [textsOf(names, nameLengths), textsOf(sources, sourceLengths), textsOf(contents, contentLengths)];
   const ignored = wordsOf(ignoreList);
-  if (all.length % TOKEN !== 0) return host.told(LENGTHS);
+  if (all.length % Words.TOKEN !== 0) return host.told(Code.LENGTHS);
   const bytes = all.byteLength + texts.reduce((sum, { bytes: { length }, lengths }) => sum + length + lengths.byteLength, 0);
   const instanceFor = () => host.forText(bytes);
   return host.makes(instanceFor, (it, lend) => {
     const lists = texts.flatMap((list) => lend.texts(list));
-    const given = [lend.words(all), all.length / TOKEN, ...lists, lend.words(ignored), ignored.length];
+    const given = [lend.words(all), all.length / Words.TOKEN, ...lists, lend.words(ignored), ignored.length];
     return host.coded(it, it.call('smap_from_tokens', ...given, it.madeAt, it.faultAt));
   });
 }
@@ -83,7 +83,7 @@ function decodeMappings(host, mappings, names, sources) {
 
 function clone(host, handle) {
   const map = mapOf(handle);
-  if (map.isNull) return host.told(NULL_HANDLE);
+  if (map.isNull) return host.told(Code.NULL_HANDLE);
   const instanceFor = () => host.forMaps([map]);
   return host.makes(instanceFor, (it) => {
     if (map.instance === it) return host.coded(it, it.call('smap_clone', map.at, it.madeAt, it.faultAt));

@@ -1,7 +1,7 @@
 'use strict';
 // The map that `trace` asks.
 
-const { NOT_TOLD, SELECTED } = require('./layout.js');
+const { NOT_TOLD, Slot } = require('./layout.js');
 
 /** Where the map that is selected is. Its handle is not kept: once that is collected, no map is selected. */
 class Selection {
@@ -14,7 +14,7 @@ class Selection {
     this.asked = null;
     this.#words = words;
     this.#unselects = new FinalizationRegistry((number) => {
-      if (words[SELECTED] === number) this.clear();
+      if (words[Slot.SELECTED] === number) this.clear();
     });
   }
 
@@ -24,12 +24,12 @@ class Selection {
       if (map.block === null) this.#unselects.register(map, map.number);
     }
     this.asked = map.isNull ? null : { instance: map.instance, at: map.at };
-    this.#words[SELECTED] = map.number;
+    this.#words[Slot.SELECTED] = map.number;
   }
 
   clear() {
     this.asked = null;
-    this.#words[SELECTED] = 0;
+    this.#words[Slot.SELECTED] = 0;
   }
 
   /** Selects no map, if it is the one at this address. */

@@ -2,7 +2,9 @@
 // The one call that is made so often that its arguments are read from the words, and nothing is answered.
 
 const { TrapError } = require('./instance.js');
-const { ANSWER, BIAS, COLUMN, LINE, NULL_HANDLE } = require('./layout.js');
+const { ANSWER, Code, Slot } = require('./layout.js');
+
+const { LINE, COLUMN, BIAS } = Slot;
 
 /** Asks in an instance, for the map at an address; the code of the call. */
 function asked(instance, at, words) {
@@ -19,7 +21,7 @@ function tracing(host) {
   const { words, selection } = host;
   return function trace() {
     const map = selection.asked;
-    if (map === null) return host.told(NULL_HANDLE);
+    if (map === null) return host.told(Code.NULL_HANDLE);
     const { instance } = map;
     const code = asked(instance, map.at, words);
     if (code !== 0) return host.coded(instance, code);

@@ -2,12 +2,10 @@
 // Texts of maps and of codes.
 
 const { mapOf, textOf, word, wordsOf } = require('./arguments.js');
-const { ANSWER, BAD_OPTION, LENGTHS, NO_ENTRY, NULL_HANDLE, TOKEN } = require('./layout.js');
+const { ANSWER, Code, Form, Words } = require('./layout.js');
 const { lending } = require('./lending.js');
 
 const WRITES = ['smap_to_json_string', 'smap_to_data_url', 'smap_get_mappings', 'smap_visualize', 'smap_visualizer_url'];
-/** From this on, what is written has a code beside it. */
-const DRAWING = 3;
 
 /** What `take` makes of the text that a call has written. */
 function written(host, instance, code, take) {
@@ -31,10 +29,10 @@ const writes = (take) => (host, handle, form, code, limit) => {
   const map = mapOf(handle);
   const kind = word(form);
   const name = WRITES[kind];
-  const given = kind >= DRAWING ? textOf(code) : null;
+  const given = kind >= Form.DRAWING ? textOf(code) : null;
   const within = given === null && limit !== undefined ? [word(limit)] : [];
-  if (name === undefined) return host.told(BAD_OPTION);
-  if (map.isNull) return host.told(NULL_HANDLE);
+  if (name === undefined) return host.told(Code.BAD_OPTION);
+  if (map.isNull) return host.told(Code.NULL_HANDLE);
   const { instance } = map;
   return host.orNoMemory(() =>
     lending(instance, (lend) => {
@@ -49,10 +47,10 @@ const writes = (take) => (host, handle, form, code, limit) => {
 function encodeMappings(host, tokens, limit) {
   const all = wordsOf(tokens);
   const [called, most] = limit === undefined ? ['smap_encode_mappings', []] : ['smap_encode_mappings_within', [word(limit)]];
-  if (all.length % TOKEN !== 0) return host.told(LENGTHS);
+  if (all.length % Words.TOKEN !== 0) return host.told(Code.LENGTHS);
   return host.within(() => host.forText(all.byteLength), (it) =>
     lending(it, (lend) => {
-      const code = it.call(called, lend.words(all), all.length / TOKEN, ...most, it.madeAt, it.faultAt);
+      const code = it.call(called, lend.words(all), all.length / Words.TOKEN, ...most, it.madeAt, it.faultAt);
       return written(host, it, code, asString);
     }),
   );
@@ -64,7 +62,7 @@ function sourceMappingURL(host, code, language) {
   return host.within(() => host.forText(given.length), (it) =>
     lending(it, (lend) => {
       const answer = it.call('smap_source_mapping_url', ...lend.text(given), which, it.textAt, it.faultAt);
-      if (answer === NO_ENTRY) return host.told(answer);
+      if (answer === Code.NO_ENTRY) return host.told(answer);
       return answer !== 0 ? host.coded(it, answer) : it.lentText();
     }),
   );
@@ -75,7 +73,7 @@ function decodeDataURL(host, url) {
   return host.within(() => host.forText(given.length), (it) =>
     lending(it, (lend) => {
       const answer = it.call('smap_decode_data_url', ...lend.text(given), it.madeAt, it.faultAt);
-      return answer === NO_ENTRY ? host.told(answer) : written(host, it, answer, asString);
+      return answer === Code.NO_ENTRY ? host.told(answer) : written(host, it, answer, asString);
     }),
   );
 }

@@ -1,4 +1,4 @@
-/* What loader.js calls beside the functions of oxc_sourcemap.h: lookups whose answers are words alone, lists of texts as bytes and lengths,
+/* What the loader calls beside the functions of oxc_sourcemap.h: lookups whose answers are words alone, lists of texts as bytes and lengths,
  * and a map as one block of bytes, by which it moves from one instance of the module to another. */
 #include "oxc_sourcemap.h"
 
@@ -19,7 +19,7 @@ static struct answers {
     size_t count;
 } answers;
 
-/* Where loader.js finds them. */
+/* Where loader/layout.js has them. */
 #define AT(field, bytes) _Static_assert(offsetof(struct answers, field) == (bytes), #field)
 AT(fault, 0);
 AT(words, 72);

@@ -2,7 +2,7 @@
 // The class SourceMap.
 
 const native = require('./native.js');
-const { NO_ID, Bias, Direction, Kind, Code, Which, Form, MENDS } = require('./constants.js');
+const { NO_ID, Bias, Direction, Kind, Code, Which, Form, Slot, MENDS } = require('./constants.js');
 const { errorOf, check, made, madeOrNull, long, longOrNull } = require('./errors.js');
 const { text, word, limitOf, idOf, list, checkWords, words, tokens, texts, contents } = require('./arguments.js');
 
@@ -10,8 +10,7 @@ const answers = native.words;
 const ask = native.trace; // a look for it in so many properties would cost a fifth of the call
 const NOTHING = new Uint32Array(0);
 
-// Where `select` and `trace` have their words.
-const [SELECTED, LINE, COLUMN, BIAS] = [12, 13, 14, 15];
+const { SELECTED, LINE, COLUMN, BIAS } = Slot;
 
 /** What the constructor takes in place of a text: the handle of a map that a call has made. */
 class Made {

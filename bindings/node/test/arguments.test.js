@@ -3,6 +3,7 @@
 
 const test = require('node:test');
 const assert = require('node:assert/strict');
+const { isExternal } = require('node:util/types');
 const vm = require('node:vm');
 
 const { Bias, SourceMap, SourceMapBuilder, ConcatSourceMapBuilder, evaluate, encodeMappings, decodeMappings, sourceMappingURL, decodeDataURL } = require('..');
@@ -183,6 +184,15 @@ test('what runs while arguments are read', () => {
   const bytes = Buffer.from(TEXT);
   const names = { *[Symbol.iterator]() { structuredClone(bytes.buffer, { transfer: bytes.buffer.byteLength === bytes.length ? [bytes.buffer] : [] }); yield 'a'; } };
   assert.deepEqual(SourceMap.fromTokens([], { sources: [bytes], names }).names, ['a']);
+});
+
+test('what another addon or Node itself has made external is no handle', () => {
+  const { TCP, constants } = process.binding('tcp_wrap');
+  const socket = new TCP(constants.SOCKET);
+  const foreign = socket._externalStream;
+  assert.ok(isExternal(foreign));
+  for (const call of ['getCounts', 'clone', 'select', 'builderFinish', 'free']) assert.throws(() => native[call](foreign), TypeError, call);
+  socket.close();
 });
 
 test('the addon, called past the classes', () => {

@@ -4,7 +4,7 @@
 
 const test = require('node:test');
 const assert = require('node:assert/strict');
-const { readFileSync, existsSync } = require('node:fs');
+const { readFileSync, readdirSync, existsSync } = require('node:fs');
 const { join } = require('node:path');
 const vm = require('node:vm');
 
@@ -27,7 +27,7 @@ test('the addon has what native.d.ts says', () => {
 
 test('the addon makes all calls of the header', needsHeader, () => {
   const calls = new Set(all(readFileSync(header, 'utf8'), /\b(smap_\w+)\(/g));
-  const made = new Set(all(read('src/addon.c'), /\b(smap_\w+)\b/g));
+  const made = new Set(readdirSync(join(__dirname, '../src')).flatMap((it) => all(read(`src/${it}`), /\b(smap_\w+)\b/g)));
   assert.deepEqual([...calls].filter((it) => !made.has(it)), []);
   assert.equal(calls.size, 76);
 });
@@ -35,11 +35,12 @@ test('the addon makes all calls of the header', needsHeader, () => {
 test('the constants are those of the header', needsHeader, () => {
   const text = readFileSync(header, 'utf8');
   const value = (name) => Number(text.match(new RegExp(`\\b${name} = (\\d+)`))[1]);
-  const { Bias, Direction, Language, Kind, Code, MENDS, PLACES } = constants;
+  const { Bias, Direction, Language, Kind, Code, Words, MENDS, PLACES } = constants;
   for (const them of [Bias, Direction, Kind, Code]) {
     for (const [name, number] of Object.entries(them)) if (!['SHARED', 'NO_THREADS'].includes(name)) assert.equal(number, value(`SMAP_${name}`), name);
   }
   for (const [name, number] of Object.entries(Language)) assert.equal(number, value(`SMAP_${name}`));
+  for (const [name, words] of Object.entries(Words)) assert.match(text, new RegExp(`SMAP_HAS_SIZE\\(smap_${name}, 0, ${4 * words}\\)`, 'i'));
   assert.deepEqual(MENDS.slice(1), all(text, /^ {4}SMAP_MEND_(\w+) = \d+/gm));
   assert.deepEqual(PLACES.slice(1), all(text, /^ {4}SMAP_PLACE_(\w+) = [1-9]/gm).map((it) => it.toLowerCase()));
   const fields = all(text, /^ {4}SMAP_FIELD_(\w+) = \d+/gm);

@@ -2,41 +2,50 @@
 // bundle.js MODULE.wasm FOLDER   makes the folder of the package that has the module: the module, what loads it in Node, and the package's
 // own JavaScript as modules of ECMAScript for browsers and other hosts, which know no `require`:
 //   node.js     what native.d.ts says, for lib/native.js: with the module in it, so that bundlers, which follow no paths, can take it in
+//   loader      what it requires, with literal names
 //   load.mjs    load(response, bytes or module) and loadSync, which give what the package exports
 //   index.mjs   the package, which fetches the module beside it
 //   inline.mjs  the package in one file, with the module in it
 'use strict';
 
 const { copyFileSync, mkdirSync, readFileSync, rmSync, writeFileSync } = require('node:fs');
-const { join } = require('node:path');
+const { basename, dirname, join, relative } = require('node:path');
 
 const BINDINGS = join(__dirname, '../..');
 const LIB = join(BINDINGS, 'node/lib');
-const LOADER = join(BINDINGS, 'wasm/loader.js');
+const LIBRARY = join(LIB, 'index.js');
+const NATIVE = join(LIB, 'native.js');
+const LOADER = join(BINDINGS, 'wasm/loader/index.js');
 const MODULE = 'oxc_sourcemap.wasm';
 const MADE = '// Made of the files of the package.\n';
 
-/** The names of the files that a file requires. One that is no file of the package is refused. */
-function required(text) {
-  return [...text.matchAll(/\brequire\(([^)]*)\)/g)].map(([, word]) => {
-    const name = /^'(\.\/[\w-]+\.js)'$/.exec(word)?.[1];
+/** The text of a file, in which each that it requires has another name, and the paths of these. One that is no file of the package is
+ *  refused. */
+function linked(path, nameOf) {
+  const paths = [];
+  const text = readFileSync(path, 'utf8').replace(/\brequire\(([^)]*)\)/g, (_, word) => {
+    const name = /^'(\.\.?\/[\w/.-]+\.js)'$/.exec(word)?.[1];
     if (name === undefined) throw new Error(`bundle: ${word} is no file of the package`);
-    return name;
+    paths.push(join(dirname(path), name));
+    return `require('${nameOf(paths.at(-1))}')`;
   });
+  return { text, paths };
 }
 
-/** The files below one, by their names; native.js is given in another way. */
-function filesBelow(name, found = new Map()) {
-  if (found.has(name) || name === './native.js') return found;
-  const text = readFileSync(join(LIB, name), 'utf8');
-  found.set(name, text);
-  for (const it of required(text)) filesBelow(it, found);
+/** The texts of a file and of those below it, by the names that they have there; lib/native.js is given in another way. */
+function filesBelow(path, nameOf, found = new Map()) {
+  if (found.has(nameOf(path)) || path === NATIVE) return found;
+  const { text, paths } = linked(path, nameOf);
+  found.set(nameOf(path), text);
+  for (const it of paths) filesBelow(it, nameOf, found);
   return found;
 }
 
+const nameIn = (path) => relative(BINDINGS, path);
+
 /** The files as functions, and what runs them. */
 function bundled() {
-  const files = filesBelow('./index.js').set('./loader.js', readFileSync(LOADER, 'utf8'));
+  const files = filesBelow(LOADER, nameIn, filesBelow(LIBRARY, nameIn));
   const entries = [...files].map(([name, text]) => `  ${JSON.stringify(name)}(module, exports, require) {\n${text}  },\n`);
   return `${MADE}
 const FILES = {
@@ -54,8 +63,8 @@ function run(name, modules) {
 /** What the package exports, over a module of its own. */
 function libraryOf(module) {
   const modules = new Map();
-  modules.set('./native.js', { exports: run('./loader.js', modules).nativeOf(module) });
-  return run('./index.js', modules);
+  modules.set('${nameIn(NATIVE)}', { exports: run('${nameIn(LOADER)}', modules).nativeOf(module) });
+  return run('${nameIn(LIBRARY)}', modules);
 }
 `;
 }
@@ -96,7 +105,7 @@ const BYTES = `const bytes = typeof Buffer === 'function' ? Buffer.from(MODULE, 
 const node = (module) => `'use strict';
 // What native.d.ts says, of the WebAssembly module in this file.
 
-const { nativeOf } = require('./loader.js');
+const { nativeOf } = require('./loader/index.js');
 
 const MODULE = '${module.toString('base64')}';
 ${BYTES}
@@ -121,7 +130,10 @@ function main([path, folder]) {
   rmSync(folder, { recursive: true, force: true });
   mkdirSync(folder, { recursive: true });
   copyFileSync(path, join(folder, MODULE));
-  copyFileSync(LOADER, join(folder, 'loader.js'));
+  const loader = filesBelow(LOADER, (it) => `./${basename(it)}`);
+  if (loader.size !== filesBelow(LOADER, nameIn).size) throw new Error('bundle: two files have one name');
+  mkdirSync(join(folder, 'loader'));
+  for (const [name, text] of loader) writeFileSync(join(folder, 'loader', name), text);
   const code = bundled();
   const files = { 'node.js': node(module), 'load.mjs': code + LOADS, 'index.mjs': INDEX + exported(), 'inline.mjs': code + inlined(module) + exported() };
   for (const [name, text] of Object.entries(files)) writeFileSync(join(folder, name), text);

@@ -9,7 +9,7 @@ const { readFileSync } = require('node:fs');
 const { join } = require('node:path');
 const { Worker } = require('node:worker_threads');
 
-const LOADER = require.resolve('../loader.js');
+const LOADER = require.resolve('../loader/index.js');
 const { nativeOf, TrapError, NO_THREADS } = require(LOADER);
 
 const folder = process.env.MODULES;

@@ -73,8 +73,8 @@ fn check_length(text: String, limit: usize) -> Result<String>
 /// assert!(rt; matches!(encode_mappings_within(alloc, &tokens, None, 5), Err(Error::TooLarge)));
 /// ```
 ///
-/// Fails as `encode_mappings` does, and then with `TooLarge` for a longer text. Each line before the last token's is a byte:
-/// if there are more than `limit`, this is found before anything is written. So time and memory do not grow with the lines.
+/// Fails as `encode_mappings` does, and then with `TooLarge` for a longer text. Each line before that of the last token is a
+/// byte: if these are more than `limit`, the call fails before it writes anything.
 pub fn encode_mappings_within(
     alloc: Global,
     tokens: &[Token],

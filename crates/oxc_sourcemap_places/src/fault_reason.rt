@@ -15,11 +15,11 @@ use std::fmt;
 pub enum FaultReason {
     /// Of a segment of the mappings.
     Segment(SegmentReason),
-    /// The text is JSON, but values in it are nested deeper than 127, which is not read.
+    /// Values in the text are nested deeper than 127, which is not read.
     TooDeep,
-    /// The text is JSON, but a string in it has an escape of half a surrogate pair, which UTF-8 cannot have.
+    /// A string in the text has an escape of half a surrogate pair, which UTF-8 cannot have.
     LoneSurrogate,
-    /// The text is JSON, but a number in it is too large for a float.
+    /// A number in the text is too large for a float.
     NumberTooLarge,
     /// A number is below 0.
     NumberBelowZero,
@@ -196,7 +196,8 @@ fn list_len(map: &Value, key: &str) -> usize {
         .map_or(0, |list| list.len())
 }
 
-/// What is wrong with the segment of a mappings text that is at fault at this place, where there are so many names and sources, or any.
+/// What is wrong with the segment of a mappings text that is at fault at this place: what is wrong where there are so many names and
+/// sources, if that is at this place; else where there are any.
 pub fn segment_reason(
     text: &str,
     names: usize,

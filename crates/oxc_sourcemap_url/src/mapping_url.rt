@@ -100,7 +100,8 @@ pub struct SourceMappingComment<'c> {
 }
 
 /// The comment by which a code names its map, with the URL that `source_mapping_url` finds. Takes no memory. `front` and `back`
-/// together are the code without the comment, with as many lines.
+/// together are the code without the comment. They have as many lines, unless a carriage return ends `front` and a line feed
+/// begins `back`, which are then one end of a line.
 ///
 /// ```rust
 /// use oxc_sourcemap::{Language, source_mapping_comment};

@@ -407,11 +407,16 @@ pub fn is_map(text: &str) -> bool {
         || text.starts_with("data:")
 }
 
+/// Whether a file is a map by its text or its name, and not a code.
+pub fn is_map_file(path: &str, text: &str) -> bool {
+    is_map(text) || path.ends_with(".map") || path.ends_with(".json")
+}
+
 /// The text of a map, given as a map, or as a code whose map is found.
 pub fn map_of_file(rt: &HostRuntime, path: &str, places: Places<'_>) -> Outcome<MapText> {
     let alloc = rt.alloc();
     let text = read_text(rt, path)?;
-    if is_map(text.as_str()) || path.ends_with(".map") || path.ends_with(".json") {
+    if is_map_file(path, text.as_str()) {
         return Ok(MapText {
             name: String::from_str(alloc, shown_name(path))?,
             folder: String::from_str(alloc, folder_of(path))?,
@@ -424,8 +429,17 @@ pub fn map_of_file(rt: &HostRuntime, path: &str, places: Places<'_>) -> Outcome<
     }
 }
 
-/// The text of an error of reading this text, with its place if it has one, and with what is really wrong there if the error does not
-/// tell: `line 0, segment 3 (byte 12): a column below 0: ..`.
+/// What stands behind the reason of an error: a number by itself does not tell what is wrong with it.
+fn behind_reason(error: Error) -> &'static str {
+    match error {
+        Error::BadSourceReference(_) => ", and the map has no such source",
+        Error::BadNameReference(_) => ", and the map has no such name",
+        _ => "",
+    }
+}
+
+/// The text of an error of reading this text, with its place if it has one. Where the error says something else than what is wrong, the
+/// reason stands in its place: `line 0, segment 3 (byte 12): a column below 0`.
 fn placed_text(
     alloc: Global,
     text: &str,
@@ -436,7 +450,7 @@ fn placed_text(
         return format!(in alloc; "{error}");
     };
     match fault_reason(alloc, text, &place) {
-        Ok(Some(reason)) => format!(in alloc; "{place}: {reason}: {error}"),
+        Ok(Some(reason)) => format!(in alloc; "{place}: {reason}{}", behind_reason(error)),
         _ => format!(in alloc; "{place}: {error}"),
     }
 }

@@ -1,6 +1,7 @@
 //! How long a map may be that is written.
 use crate::asked::Asked;
 use oxc_sourcemap_map::SourceMap;
+use oxc_sourcemap_tokens::Error;
 use sourcemap_words::{Failure, Outcome, failure_of};
 use std::alloc::Global;
 
@@ -30,8 +31,9 @@ pub fn limit_of(asked: &Asked<'_, '_>) -> Outcome<u64> {
     match bytes_of(word) {
         Some(limit) => Ok(limit),
         None => {
+            let max = u64::MAX;
             let text = format!(in asked.alloc();
-                "{word:?} is no number of bytes: write one as 1000, 64K, 256M or 2G"
+                "{word:?} is no number of bytes from 0 to {max}: write one as 1000, 64K, 256M or 2G"
             )?;
             Err(failure_of(asked.alloc(), "--limit", text.as_str()))
         }
@@ -45,17 +47,14 @@ fn too_long(alloc: Global, path: &str, limit: u64) -> Failure {
     }
 }
 
-/// The text of a map that is written to a file, with a line feed. Fails if it would be above the limit, which is seen before it is made
-/// where the lines alone are too many: each has a byte, and a few bytes of an indexed map can name four thousand million.
+/// The text of a map that is written to a file, with a line feed. Fails if it would be above the limit.
 pub fn limited_json(alloc: Global, path: &str, map: &SourceMap<'_>, limit: u64) -> Outcome<String> {
-    let last = map.get_tokens().as_slice().last();
-    if last.is_some_and(|token| u64::from(token.get_dst_line()) > limit) {
-        return Err(too_long(alloc, path, limit));
-    }
-    let mut text = map.to_json_string(alloc)?;
+    let room = limit.saturating_sub(1) as usize;
+    let mut text = match map.to_json_string_within(alloc, room) {
+        Ok(text) => text,
+        Err(Error::TooLarge) => return Err(too_long(alloc, path, limit)),
+        Err(error) => return Err(Failure::from(error)),
+    };
     text.push('\n')?;
-    if text.len() as u64 > limit {
-        return Err(too_long(alloc, path, limit));
-    }
     Ok(text)
 }

@@ -138,6 +138,14 @@ pub fn path_of(alloc: Global, folder: &str, parts: &[&str]) -> Result<String, Al
     Ok(path)
 }
 
+/// The file to write to, if others are to lie beside it: of a link the file that it leads to. None of a link to nothing.
+pub fn written_name(rt: &HostRuntime, path: &str) -> Result<Option<String>, AllocError> {
+    match fs::symlink_metadata(rt, path) {
+        Ok(metadata) if metadata.is_symlink() => Ok(real_path(rt, path)),
+        _ => Ok(Some(String::from_str(rt.alloc(), path)?)),
+    }
+}
+
 /// The path of a file without links and dots, by which two names of one file are the same; the name itself if it is not there.
 pub fn real_name(rt: &HostRuntime, path: &str) -> Result<String, AllocError> {
     match real_path(rt, path) {

@@ -132,21 +132,28 @@ fn begin_all<'t>(
     Ok(())
 }
 
-fn finish_all(rt: &HostRuntime, all: &[Pending<'_>]) -> Outcome<()> {
+/// Puts those texts where they are to be that replace a file, or those that do not.
+fn finish_all(rt: &HostRuntime, all: &[Pending<'_>], replace: bool) -> Outcome<()> {
     for pending in all {
-        finish(rt, pending)?;
+        if pending.beside.is_some() == replace {
+            finish(rt, pending)?;
+        }
     }
     Ok(())
 }
 
 /// Writes texts to files, or to standard output for `-`: each first to a new file beside the one that it replaces, and only once all are
 /// on the disk do they replace these. So where a text cannot be written, each file is as it was. A file keeps its permissions; of a link
-/// the file that it leads to is replaced. Devices and pipes are written as they are, and so is a file in a folder that takes no new ones.
+/// the file that it leads to is replaced. Devices and pipes are written as they are, and so is a file in a folder that takes no new ones:
+/// these are written before a file is replaced, since that may fail.
 pub fn write_texts(rt: &HostRuntime, files: &[(&str, &str)]) -> Outcome<()> {
     let mut all = Vec::new(rt.alloc());
     let mut done = begin_all(rt, files, &mut all);
     if done.is_ok() {
-        done = finish_all(rt, all.as_slice());
+        done = finish_all(rt, all.as_slice(), false);
+    }
+    if done.is_ok() {
+        done = finish_all(rt, all.as_slice(), true);
     }
     if done.is_err() {
         give_up(rt, all.as_slice());

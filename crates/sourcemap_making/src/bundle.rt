@@ -8,7 +8,7 @@ use percent_encoding::{AsciiSet, CONTROLS, utf8_percent_encode};
 use sourcemap_files::{
     Asked, Lookup, Progress, Status, file_name, folder_of, language_of, limit_of, limited_json,
     map_of_code, print, read_map, read_text, real_name, rebase, relative_to, shown_name, usage,
-    warn, write_texts,
+    warn, write_texts, written_name,
 };
 use sourcemap_run::{Bundle, push_number_member, push_object, push_text_member};
 use sourcemap_words::{Outcome, failure_of};
@@ -62,7 +62,8 @@ fn read_part(asked: &Asked<'_, '_>, file: &str, folder: &str) -> Outcome<Part> {
             })
         }
         Lookup::None(why) => {
-            warn(asked.rt, shown_name(file), why.as_str());
+            let note = format!(in alloc; "{why}; the code is mapped to itself")?;
+            warn(asked.rt, shown_name(file), note.as_str());
             unmapped_part(asked, file, text.as_str(), code, folder)
         }
     }
@@ -139,11 +140,12 @@ fn push_front(
 fn push_file(
     asked: &Asked<'_, '_>,
     file: &str,
+    output: &str,
     bundle: &mut Bundle,
     out: &mut String,
 ) -> Outcome<()> {
     let alloc = asked.alloc();
-    let part = read_part(asked, file, folder_of(asked.word("output")))?;
+    let part = read_part(asked, file, folder_of(output))?;
     let Part {
         code,
         map,
@@ -155,7 +157,7 @@ fn push_file(
     let left_out = push_front(alloc, code.as_str(), language_of(file), before, bundle)?;
     let name = map_name.as_ref().map(|name| name.as_str());
     if let Some(name) = name {
-        refuse_overwriting(asked, name, output_map(asked)?.as_str())?;
+        refuse_overwriting(asked, name, output_map(alloc, output)?.as_str())?;
     }
     push_file_object(alloc, file, name, bundle.line(), out)?;
     let map = if is_first { map } else { stopped(alloc, map)? };
@@ -166,9 +168,25 @@ fn push_file(
     Ok(())
 }
 
+/// The file that the bundle is written to.
+fn output_of(asked: &Asked<'_, '_>) -> Outcome<String> {
+    let output = asked.word("output");
+    if output == "-" {
+        return Err(usage(asked.rt, "-o names a file: the map is written beside it"));
+    }
+    match written_name(asked.rt, output)? {
+        Some(name) => Ok(name),
+        None => Err(failure_of(
+            asked.alloc(),
+            output,
+            "is a link to nothing: name a file by -o",
+        )),
+    }
+}
+
 /// The path of the bundle's map.
-fn output_map(asked: &Asked<'_, '_>) -> Result<String, AllocError> {
-    format!(in asked.alloc(); "{}.map", asked.word("output"))
+fn output_map(alloc: Global, output: &str) -> Result<String, AllocError> {
+    format!(in alloc; "{output}.map")
 }
 
 /// The comment that names the map of a bundle.
@@ -181,27 +199,21 @@ fn comment_of(alloc: Global, output: &str) -> Result<String, AllocError> {
 }
 
 /// Writes the code, with a comment that names the map, and the map.
-fn write(asked: &Asked<'_, '_>, bundle: Bundle, limit: u64) -> Outcome<()> {
+fn write(asked: &Asked<'_, '_>, output: &str, bundle: Bundle, limit: u64) -> Outcome<()> {
     let alloc = asked.alloc();
-    let output = String::from_str(alloc, asked.word("output"))?;
     let (mut code, parts) = bundle.finish(alloc)?;
-    code.push_str(comment_of(alloc, output.as_str())?.as_str())?;
+    code.push_str(comment_of(alloc, output)?.as_str())?;
     let mut map = SourceMap::from_parts(parts);
-    map.set_file(alloc, file_name(output.as_str()))?;
-    let path = output_map(asked)?;
+    map.set_file(alloc, file_name(output))?;
+    let path = output_map(alloc, output)?;
     let text = limited_json(alloc, path.as_str(), &map, limit)?;
-    let files = [
-        (path.as_str(), text.as_str()),
-        (output.as_str(), code.as_str()),
-    ];
+    let files = [(path.as_str(), text.as_str()), (output, code.as_str())];
     write_texts(asked.rt, &files)
 }
 
 pub fn run(asked: &Asked<'_, '_>) -> Outcome<Status> {
     let alloc = asked.alloc();
-    if asked.word("output") == "-" {
-        return Err(usage(asked.rt, "-o names a file: the map is written beside it"));
-    }
+    let output = output_of(asked)?;
     let limit = limit_of(asked)?;
     let files = asked.words("FILE")?;
     let mut progress = Progress::new(asked.rt, files.len());
@@ -209,11 +221,11 @@ pub fn run(asked: &Asked<'_, '_>) -> Outcome<Status> {
     let mut out = String::new(alloc);
     for file in &files {
         progress.begin(asked.rt, file);
-        refuse_overwriting(asked, file, asked.word("output"))?;
-        push_file(asked, file, &mut bundle, &mut out)?;
+        refuse_overwriting(asked, file, output.as_str())?;
+        push_file(asked, file, output.as_str(), &mut bundle, &mut out)?;
     }
     progress.clear(asked.rt);
-    write(asked, bundle, limit)?;
+    write(asked, output.as_str(), bundle, limit)?;
     if asked.has("json") {
         print(asked.rt, out.as_str())?;
     }

@@ -13,12 +13,22 @@ const ENDED: [char; 18] = [
     ';', '{', '(', '[', ',', '=', ':', '?', '&', '|', '^', '~', '!', '<', '>', '*', '%', '.',
 ];
 
-/// A code without the comment that names its map, which would be named in the middle of the bundle.
-fn without_comment(alloc: Global, code: &str, language: Language) -> Result<String, AllocError> {
-    match source_mapping_comment(code, language) {
-        Some(found) => format!(in alloc; "{}{}", found.front, found.back),
-        None => String::from_str(alloc, code),
+/// Appends a text that stood further behind. A space keeps two ends of lines from being one.
+fn push_behind(text: &str, code: &mut String) -> Result<(), AllocError> {
+    if code.ends_with('\r') && text.starts_with('\n') {
+        code.push(' ')?;
     }
+    code.push_str(text)
+}
+
+/// A code without the comment that names its map, which would be named in the middle of the bundle. Its line stays.
+fn without_comment(alloc: Global, code: &str, language: Language) -> Result<String, AllocError> {
+    let Some(found) = source_mapping_comment(code, language) else {
+        return String::from_str(alloc, code);
+    };
+    let mut kept = String::from_str(alloc, found.front)?;
+    push_behind(found.back, &mut kept)?;
+    Ok(kept)
 }
 
 /// Whether a line has white space or a comment `//` alone, which cannot end a string, a template or a comment of earlier lines.
@@ -59,7 +69,7 @@ fn without_debug_ids(alloc: Global, code: &str) -> Result<String, AllocError> {
         } else {
             0
         };
-        kept.push_str(line.get(from..).unwrap_or(""))?;
+        push_behind(line.get(from..).unwrap_or(""), &mut kept)?;
     }
     Ok(kept)
 }

@@ -2,9 +2,9 @@
 use oxc_sourcemap_found::{Found, read_found};
 use oxc_sourcemap_map::SourceMap;
 use oxc_sourcemap_text::TextPositions;
-use oxc_sourcemap_tokens::Token;
+use oxc_sourcemap_tokens::{Error, Token};
 use sourcemap_files::{
-    Asked, Lookup, MapText, Progress, Status, error_text, found_error_text, is_file, is_map,
+    Asked, Lookup, MapText, Progress, Status, error_text, found_error_text, is_file, is_map_file,
     map_of_code, print, read_text, shown_name, tell,
 };
 use sourcemap_run::{push_object, push_shown, push_text_member, push_visible};
@@ -119,15 +119,22 @@ fn tell_unsorted(report: &mut Report, tokens: &[Token]) -> Outcome<()> {
     report.tell(Kind::Wrong, text.as_str())
 }
 
+/// What the exact reader refuses, and where. What is no JSON of a map to that reader is told by what is mended of it alone; of ids and
+/// sections that tells only how many are wrong.
+fn tell_refused(report: &mut Report, text: &str, error: Error, found: &Found) -> Outcome<()> {
+    if matches!(error, Error::BadJson(_)) && !found.mends.is_empty() {
+        return Ok(());
+    }
+    let text = error_text(report.alloc, text, error)?;
+    report.tell(Kind::Wrong, text.as_str())
+}
+
 /// What the exact reader refuses or leaves unsorted, and where; and what the tolerant one mends.
 fn tell_faults(report: &mut Report, text: &str, found: &Found) -> Outcome<()> {
     let alloc = report.alloc;
     match SourceMap::from_json_string(alloc, text) {
         Ok(map) => tell_unsorted(report, map.get_tokens().as_slice())?,
-        Err(error) => {
-            let text = error_text(alloc, text, error)?;
-            report.tell(Kind::Wrong, text.as_str())?;
-        }
+        Err(error) => tell_refused(report, text, error, found)?,
     }
     for mend in &found.mends {
         let text = format!(in alloc; "{mend}")?;
@@ -325,7 +332,7 @@ fn check_as_code(
 fn check_file(asked: &Asked<'_, '_>, file: &str) -> Outcome<Report> {
     let mut report = report_on(asked, file)?;
     let text = read_text(asked.rt, file)?;
-    if is_map(text.as_str()) || file.ends_with(".map") {
+    if is_map_file(file, text.as_str()) {
         check_as_map(asked.rt, file, text.as_str(), &mut report)?;
     } else {
         check_as_code(asked, file, text.as_str(), &mut report)?;

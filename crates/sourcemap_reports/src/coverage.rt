@@ -305,7 +305,9 @@ fn add_file(asked: &Asked<'_, '_>, file: &str, coverage: &mut Coverage) -> Outco
     let report: Report = match serde_json::from_str(alloc, text.as_str()) {
         Ok(report) => report,
         Err(error) => {
-            let text = format!(in alloc; "is no coverage of V8: {error}")?;
+            let text = format!(in alloc;
+                "is no coverage of V8, as Node writes it for NODE_V8_COVERAGE: {error}"
+            )?;
             return Err(failure_of(alloc, shown_name(file), text.as_str()));
         }
     };

@@ -324,7 +324,7 @@ impl Maps {
             && !named.is_bytecode
             && let Some(path) = map.past_end(position)
         {
-            let why = format!(in alloc; "it is past the end of {path}, which is of another build")?;
+            let why = format!(in alloc; "past the end of {path}, which is of another build")?;
             return Ok(Led::stays(Reason::PastEnd, why, matched));
         }
         let target = position.map(|position| Target {
@@ -333,8 +333,8 @@ impl Maps {
         });
         let why = match answer_to(self.tracers.as_slice(), target) {
             Answer::At(_) => None,
-            Answer::Unmapped => Some("its map says that it comes from no source"),
-            Answer::Nothing => Some("its map says nothing of this position"),
+            Answer::Unmapped => Some("unmapped position"),
+            Answer::Nothing => Some("no mapping at this position"),
         };
         let stay = match why {
             Some(why) => Some(Stay {

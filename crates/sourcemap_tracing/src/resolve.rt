@@ -114,14 +114,26 @@ impl Count {
     }
 }
 
-/// What holds of frames that stay for a reason.
-fn short(reason: Reason) -> &'static str {
+/// What holds of frames that stay for a reason, of one and of several.
+fn short(reason: Reason) -> (&'static str, &'static str) {
     match reason {
-        Reason::NotThere => "name files that are not here: see --root and --prefix",
-        Reason::NoMap => "have no map that can be read",
-        Reason::PastEnd => "are past the end of a code, which is of another build",
-        Reason::NotMapped => "are at positions that come from no source",
-        Reason::Elsewhere => "are the engine's own",
+        Reason::NotThere => (
+            "names a file that is not here: see --root and --prefix",
+            "name files that are not here: see --root and --prefix",
+        ),
+        Reason::NoMap => (
+            "has no map that can be read",
+            "have no map that can be read",
+        ),
+        Reason::PastEnd => (
+            "is past the end of a code, which is of another build",
+            "are past the end of a code, which is of another build",
+        ),
+        Reason::NotMapped => (
+            "is at a position without an original",
+            "are at positions without an original",
+        ),
+        Reason::Elsewhere => ("is the engine's own", "are the engine's own"),
     }
 }
 
@@ -464,9 +476,15 @@ impl<'a, 'm, 'r> Resolver<'a, 'm, 'r> {
             return Ok(());
         }
         let (count, reason) = self.count.commonest();
-        let why = short(reason);
+        let (one, several) = short(reason);
+        let why = if count == 1 { one } else { several };
+        let are = if frames == 1 {
+            "frame is"
+        } else {
+            "frames are"
+        };
         let text = format!(in self.asked.alloc();
-            "0 of {frames} frames are led back; {count} {why} (--explain says more)"
+            "0 of {frames} {are} led back; {count} {why} (--explain says more)"
         )?;
         warn(self.asked.rt, "resolve", text.as_str());
         Ok(())

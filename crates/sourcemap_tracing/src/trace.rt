@@ -3,12 +3,12 @@ use crate::context::Contents;
 use oxc_sourcemap_map::SourceMap;
 use oxc_sourcemap_reverse::{IndexTokens, SourceIndex};
 use oxc_sourcemap_tokens::Position;
-use sourcemap_files::{Asked, Status, print, rooted_map, usage};
+use sourcemap_files::{Asked, Status, print, rooted_map, tell, usage};
 use sourcemap_run::{
     Answer, Bias, Style, Tracer, push_answer, push_answers, push_number_member, push_text_member,
 };
 use sourcemap_words::{
-    Outcome, failure_of, file_failure, position_of_line, positions_in, source_position_of,
+    Failure, Outcome, failure_of, file_failure, position_of_line, positions_in, source_position_of,
 };
 use std::alloc::Global;
 use std::io::{BufRead, BufReader};
@@ -91,10 +91,36 @@ impl<'m> Answers<'m> {
         print(rt, out.as_str())
     }
 
-    /// Prints the answers for the lines of standard input, each as it comes. Empty lines are passed over.
+    /// Prints the answer for a line without a position, so that each line of the input has one.
+    fn print_none(&self, rt: &HostRuntime) -> Outcome<()> {
+        print(rt, if self.style.json { "{}\n" } else { "\n" })
+    }
+
+    /// Prints the answer for a line of standard input, and tells whether it has a position or is empty: what else it has is told.
+    fn print_line(&mut self, rt: &HostRuntime, line: &[u8], number: usize) -> Outcome<bool> {
+        let base = u32::from(self.style.base);
+        match position_of_line(rt.alloc(), line, number, base) {
+            Ok(Some(position)) => {
+                self.print(rt, &[position])?;
+                Ok(true)
+            }
+            Ok(None) => {
+                self.print_none(rt)?;
+                Ok(true)
+            }
+            Err(Failure::Told(message)) => {
+                tell(rt, message.as_str());
+                self.print_none(rt)?;
+                Ok(false)
+            }
+            Err(failure) => Err(failure),
+        }
+    }
+
+    /// Prints the answers for the lines of standard input, each as it comes. Fails at the end if some were no positions.
     fn print_lines(&mut self, rt: &HostRuntime) -> Outcome<()> {
         let alloc = rt.alloc();
-        let base = u32::from(self.style.base);
+        let mut bad = 0u64;
         let reader = match BufReader::new(alloc, rt.reader()) {
             Ok(reader) => reader,
             Err(error) => return Err(file_failure(alloc, "standard input", error)),
@@ -104,12 +130,16 @@ impl<'m> Answers<'m> {
                 Ok(line) => line,
                 Err(error) => return Err(file_failure(alloc, "standard input", error)),
             };
-            let number = i.saturating_add(1);
-            if let Some(position) = position_of_line(alloc, line.as_slice(), number, base)? {
-                self.print(rt, &[position])?;
+            if !self.print_line(rt, line.as_slice(), i.saturating_add(1))? {
+                bad = bad.saturating_add(1);
             }
         }
-        Ok(())
+        if bad == 0 {
+            return Ok(());
+        }
+        let lines = if bad == 1 { "line is" } else { "lines are" };
+        let text = format!(in alloc; "{bad} {lines} no position, see above")?;
+        Err(failure_of(alloc, "standard input", text.as_str()))
     }
 }
 

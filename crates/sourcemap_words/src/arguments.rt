@@ -89,7 +89,7 @@ const TRACE: Words = Words {
         Word(
             "POSITION",
             Kind::Words,
-            "LINE:COLUMN; without one, or for -, the lines of standard input, each answered as it comes",
+            "LINE:COLUMN; without one, or for -, the lines of standard input, each answered as it comes: one without a position by an empty line, or {} of --json",
         ),
         Word(
             "clamped",
@@ -263,7 +263,7 @@ Examples:
   sourcemap remap --follow --simplify dist/app.js.map > app.map"
         }
         "bundle" => {
-            "The map is written to OUT.map, and OUT names it.
+            "The map is written to OUT.map, and OUT names it. Of a link OUT is the file that it leads to.
 
 Examples:
   sourcemap bundle a.js b.js -o out.js
@@ -332,8 +332,12 @@ fn arg_of<'a>(alloc: Global, word: &Word) -> Arg<'a> {
         Kind::Flag => arg.long(name).action(ArgAction::SetTrue),
         Kind::Option(value) => option(arg, name, value),
         Kind::Options(value) => option(arg, name, value).action(ArgAction::Append),
-        Kind::Number(value) => option(arg, name, value).value_parser(clap::value_parser!(u32)),
+        // A number below 0 is refused as a value, and not as an option that is not there.
+        Kind::Number(value) => option(arg, name, value)
+            .allow_negative_numbers(true)
+            .value_parser(clap::value_parser!(u32)),
         Kind::Limit => option(arg, name, "BYTES")
+            .allow_negative_numbers(true)
             .default_value("256M")
             .hide_default_value(true),
         Kind::Two(values) => two(arg, name, values),
@@ -348,11 +352,24 @@ fn arg_of<'a>(alloc: Global, word: &Word) -> Arg<'a> {
     }
 }
 
+/// The option that an argument excludes: what `--json` prints has no place for it.
+fn excluded_by(name: &str) -> Option<&'static str> {
+    match name {
+        "context" | "lcov" => Some("json"),
+        _ => None,
+    }
+}
+
 /// A command with these arguments.
 fn with_words<'a>(alloc: Global, command: Command<'a>, words: &[Word]) -> Built<'a> {
     let mut command = command;
     for word in words {
-        command = command.arg(arg_of(alloc, word))?;
+        let arg = arg_of(alloc, word);
+        let arg = match excluded_by(word.0) {
+            Some(other) => arg.conflicts_with(other)?,
+            None => arg,
+        };
+        command = command.arg(arg)?;
     }
     Ok(command)
 }

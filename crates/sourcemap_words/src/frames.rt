@@ -25,22 +25,22 @@ const PLACE: &str =
 
 /// Frames of these forms name no position that has a map; the reasons are in the same order.
 const ELSEWHERE: [(&str, &str); 5] = [
-    (r"(?:\(|at |@)(?:node:|internal/)", "it is in Node"),
+    (r"(?:\(|at |@)(?:node:|internal/)", "code of Node itself"),
     (
         r" line [0-9]+ > (?:eval|Function)",
-        "Firefox tells no column of the code that calls eval",
+        "Firefox gives no column of the code that calls eval",
     ),
     (
         r"\[native code\]|\((?:native|<anonymous>)\)$|^\s*at (?:native|<anonymous>)$",
-        "it is in the engine",
+        "code of the engine itself",
     ),
     (
         r"^\s*at (?:.* \()?(?:wasm://|.*wasm-function\[)",
-        "it is in WebAssembly",
+        "code of WebAssembly",
     ),
     (
         r"^\s*at .*[^0-9:]:[0-9]+\)?$|@.*[^0-9:]:[0-9]+$",
-        "it names no column",
+        "no column is given",
     ),
 ];
 

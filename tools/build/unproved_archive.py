@@ -45,7 +45,17 @@ def write_program(room):
     """Copies the crate as a program that reaches each export."""
     shutil.copytree(TOP / "crates" / CRATE, room / CRATE, ignore=shutil.ignore_patterns("out"))
     root = room / CRATE / "src/lib.rt"
-    reach = ["fn any<T>() -> T {", "    loop {}", "}", "fn hold<T>(_value: T) {", "    loop {}", "}", "fn reach() {", *calls(root.parent), "}"]
+    reach = [
+        "fn any<T>() -> T {",
+        "    loop {}",
+        "}",
+        "fn hold<T>(_value: T) {",
+        "    loop {}",
+        "}",
+        "fn reach() {",
+        *calls(root.parent),
+        "}",
+    ]
     main = ["fn is_one(n: u32) -> bool {", "    n == 1", "}", "fn main() {", "    if is_one(0) {", "        reach()", "    }", "}"]
     root.with_name("main.rt").write_text(root.read_text() + "\n".join(["", *reach, *main, ""]))
     root.unlink()

@@ -19,7 +19,11 @@ class Function:
         opens = FN.match(lines[at])
         self.path, self.name, self.key = path, opens[2], (path, opens[2], number)
         # (a brace in a text of several lines has more of the text behind it)
-        ends = (i for i in range(at, len(lines)) if lines[i] in (opens[1] + "}", opens[1] + "{}") and "".join(lines[i + 1 : i + 2]).strip() in ("", "}"))
+        ends = (
+            i
+            for i in range(at, len(lines))
+            if lines[i] in (opens[1] + "}", opens[1] + "{}") and "".join(lines[i + 1 : i + 2]).strip() in ("", "}")
+        )
         self.last = next(ends, at) + 1
         # The lines of its body, if that can be left out: what is const may be computed while the crate is read.
         signature = () if " const fn " in f" {lines[at]}" else range(at, self.last - 2)

@@ -14,7 +14,7 @@ import peer
 from tools.compare.asking import Requests
 from tools.compare.report import header, row
 
-ODD = [None, True, 0, 1, 3, 3.0, 2**32, -1, "", "3", "a.js", [], [None], [0, 7, "x"], ["b.js", None, 4], {}]
+ODD: list[object] = [None, True, 0, 1, 3, 3.0, 2**32, -1, "", "3", "a.js", [], [None], [0, 7, "x"], ["b.js", None, 4], {}]
 KEYS = ["version", "file", "sourceRoot", "sources", "sourcesContent", "names", "ignoreList", "x_google_ignoreList", "mappings", "debugId"]
 BAD_MAPPINGS = ["A,", ";;A", "AA", "AAAAAA", "g", "ADAA", "*", "AAAA;AAAAD", "A+/////HAA", "gggggggggggggA"]
 
@@ -31,8 +31,12 @@ def random_mappings(chosen, sources, names, is_sorted):
 
 def random_map(chosen):
     sources, names = chosen.randrange(4), chosen.randrange(3)
-    value = {"version": 3, "sources": [f"s{k}.js" for k in range(sources)], "names": [f"n{k}" for k in range(names)],
-             "mappings": random_mappings(chosen, sources, names, chosen.random() < 0.7)}
+    value = {
+        "version": 3,
+        "sources": [f"s{k}.js" for k in range(sources)],
+        "names": [f"n{k}" for k in range(names)],
+        "mappings": random_mappings(chosen, sources, names, chosen.random() < 0.7),
+    }
     if chosen.random() < 0.3:
         value["sourcesContent"] = [chosen.choice(["A", None, "", 1]) for _ in range(chosen.randrange(5))]
     if chosen.random() < 0.3:
@@ -61,8 +65,10 @@ def random_value(chosen):
         return changed(chosen, random_map(chosen))
     places = [(chosen.randrange(3), chosen.randrange(9)) for _ in range(chosen.randrange(4))]
     one = lambda: random_map(chosen) if chosen.random() < 0.7 else changed(chosen, random_map(chosen))
-    sections = [{"offset": {"line": line, "column": column}, "map": one()}
-                for line, column in (sorted(places) if chosen.random() < 0.95 else places)]
+    sections = [
+        {"offset": {"line": line, "column": column}, "map": one()}
+        for line, column in (sorted(places) if chosen.random() < 0.95 else places)
+    ]
     if sections and chosen.random() < 0.05:
         chosen.choice(sections)[chosen.choice(["offset", "map"])] = copy.deepcopy(chosen.choice(ODD))
     return {"version": chosen.choice([3, 3, 3, 3, 3, 3.0, "3", 2]), "file": chosen.choice([None, "out.js"]), "sections": sections}
@@ -72,12 +78,23 @@ def wrapped(chosen, text):
     """A text with something in front, or in a data URL."""
     head = chosen.choice(["application/json", "text/json", "Application/JSON;charset=utf-8", "text/plain", "application/json;x"])
     bare = base64.b64encode(text.encode()).decode()
-    return chosen.choice([
-        lambda: "\ufeff" + text, lambda: ")]}'\n" + text, lambda: ")]}', x\r\n" + text, lambda: "\ufeff)]}'\n" + text, lambda: ")]}'" + text,
-        lambda: f"data:{head}," + quote(text), lambda: f"data:{head}," + text, lambda: f"DATA:{head};base64," + bare,
-        lambda: f"data:{head};base64," + bare.rstrip("="), lambda: f"data:{head};base64," + bare[:-1] + chosen.choice("=A*"),
-        lambda: "\ufeff" + f"data:{head};base64," + bare, lambda: text[:-1], lambda: " " + text + "\n",
-    ])()
+    return chosen.choice(
+        [
+            lambda: "\ufeff" + text,
+            lambda: ")]}'\n" + text,
+            lambda: ")]}', x\r\n" + text,
+            lambda: "\ufeff)]}'\n" + text,
+            lambda: ")]}'" + text,
+            lambda: f"data:{head}," + quote(text),
+            lambda: f"data:{head}," + text,
+            lambda: f"DATA:{head};base64," + bare,
+            lambda: f"data:{head};base64," + bare.rstrip("="),
+            lambda: f"data:{head};base64," + bare[:-1] + chosen.choice("=A*"),
+            lambda: "\ufeff" + f"data:{head};base64," + bare,
+            lambda: text[:-1],
+            lambda: " " + text + "\n",
+        ]
+    )()
 
 
 def kind_of(answer):

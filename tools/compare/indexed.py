@@ -188,15 +188,21 @@ def compared(name, how, value):
         trace = smap(["trace", *position], text)
         check(trace == sections.trace(*found), f"{name}: trace {position}: {trace}")
     answers = peers("indexed", {"map": value, "positions": positions})
-    tokens = Counter((line, column, *(named(map, (line, column, *rest)) or [None] * 4))
-                     for map, part in peer.placed(value) for line, column, *rest in part)
+    tokens = Counter(
+        (line, column, *(named(map, (line, column, *rest)) or [None] * 4))
+        for map, part in peer.placed(value)
+        for line, column, *rest in part
+    )
     none = sum(token is None for _, token in wanted)
     unmapped = sum(token is not None and token[2] is None for _, token in wanted)
     in_mid_line = sum(column > 0 for _, column in sections.starts)
-    maps_row = (name, how, len(sections.starts), in_mid_line, len(text.encode()), tokens.total(),
-                   *equal_mappings(name, answers, tokens))
-    traces_row = (name, len(positions), f"{none}/{unmapped}/{len(wanted) - none - unmapped}",
-                     *equal_answers(name, answers, positions, wanted, sections))
+    maps_row = (name, how, len(sections.starts), in_mid_line, len(text.encode()), tokens.total(), *equal_mappings(name, answers, tokens))
+    traces_row = (
+        name,
+        len(positions),
+        f"{none}/{unmapped}/{len(wanted) - none - unmapped}",
+        *equal_answers(name, answers, positions, wanted, sections),
+    )
     return maps_row, traces_row, f"{name}: remapping: {answers['remapped'][:80]}; esbuild: {by_esbuild(name)}"
 
 
@@ -219,7 +225,9 @@ def compare(asked):
         compared("several-lines", "esbuild, each on the last line of the one before", side_by_side(map(esbuild, few), " ")),
     ]
     maps, traces, others = zip(*rows)
-    header("indexed map | made by | sections# | begin in mid-line# | bytes# | tokens# | listed: trace-mapping# | node-source-map# | it differs")
+    header(
+        "indexed map | made by | sections# | begin in mid-line# | bytes# | tokens# | listed: trace-mapping# | node-source-map# | it differs"
+    )
     for cells in maps:
         row(*cells)
     header("indexed map | positions# | found | equal: trace-mapping# | node-source-map# | it differs | Node# | it differs")

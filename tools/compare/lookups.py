@@ -18,13 +18,24 @@ from tools.compare.asking import Requests
 from tools.compare.report import check, header, peers, row
 
 MAX = 2**32 - 1
-BACK = {"at": reference.generated_at, "for": reference.generated_for, "from": reference.generated_from,
-        "all_for": reference.all_generated_for, "all_from": reference.all_generated_from}
+BACK = {
+    "at": reference.generated_at,
+    "for": reference.generated_for,
+    "from": reference.generated_from,
+    "all_for": reference.all_generated_for,
+    "all_from": reference.all_generated_from,
+}
 FORWARD = {"find": reference.found_at, "near": reference.clamped_at, "after": reference.found_after}
 PIECES = ["a", "é", "😀", "\n", "\r", "\r\n", "\u2028", "\u2029", "日本", "\n\r", "let x = 1;"]
 # The call of ours that answers one of the peers', by the name that peers.js gives that.
-CALLS = {"generated GREATEST": "for", "generated LEAST": "from", "all GREATEST": "all_for", "all LEAST": "all_from",
-         "original GREATEST": "find", "original LEAST": "after"}
+CALLS = {
+    "generated GREATEST": "for",
+    "generated LEAST": "from",
+    "all GREATEST": "all_for",
+    "all LEAST": "all_from",
+    "original GREATEST": "find",
+    "original LEAST": "after",
+}
 LINE_ORDER = "Token {} lies on a line before the token in front of it"
 PEERS = ["trace-mapping", "node-source-map"]
 EXPLAINED = ["another line", "another source", "another of several", "order"]
@@ -61,8 +72,10 @@ def decoded(mappings):
 def random_tokens(chosen, count, lines, columns, sources):
     """Tokens in any order, with source lines up to the greatest. Names number them, but for some, so that equal ones come, too."""
     original = lambda: (chosen.choice([*lines, lines[0], lines[-1], MAX]), chosen.choice(columns))
-    return [(chosen.choice(lines), chosen.choice(columns), *original(), chosen.choice(sources), chosen.choice([i, i, i, None]))
-            for i in range(count)]
+    return [
+        (chosen.choice(lines), chosen.choice(columns), *original(), chosen.choice(sources), chosen.choice([i, i, i, None]))
+        for i in range(count)
+    ]
 
 
 def extreme_tokens(chosen, count):
@@ -79,6 +92,7 @@ def some_token(tokens, line):
     def holds(answer):
         token, _, index = answer.rpartition(" ")
         return token in here and index in indices
+
     return holds
 
 
@@ -133,7 +147,7 @@ def nearest(items, columns, col):
     """The items at the greatest column that is not past `col`, and at the least that is not before; they are sorted by columns."""
     at, past = bisect_left(columns, col), bisect_right(columns, col)
     start = bisect_left(columns, columns[at - 1]) if at else 0
-    return items[start:bisect_right(columns, columns[past]) if past < len(columns) else past]
+    return items[start : bisect_right(columns, columns[past]) if past < len(columns) else past]
 
 
 class Map:
@@ -238,7 +252,12 @@ def beside_peers():
         # The packages read numbers of 31 bits.
         tokens = reference.sorted_tokens((*t[:2], min(t[2], 3), *t[3:]) for t in tokens)
         names = [f"n{i}" for i in range(len(tokens))]
-        value = {"version": 3, "names": names, "sources": ["a.js", "b.js", "c.js"], "mappings": peer.encode([(*t[:2], t[4], *t[2:4], t[5]) for t in tokens])}
+        value = {
+            "version": 3,
+            "names": names,
+            "sources": ["a.js", "b.js", "c.js"],
+            "mappings": peer.encode([(*t[:2], t[4], *t[2:4], t[5]) for t in tokens]),
+        }
         place = lambda: (chosen.choice([0, 0, 1, 1, 2]), chosen.choice([0, 1, 2, 4, 3]), chosen.randrange(8))
         asked.append((Map(value, decoded(value["mappings"])), [place() for _ in range(3)], [place()[1:] for _ in range(3)]))
     compare_with_peers("random", asked)

@@ -43,8 +43,17 @@ def normalised(how):
         written = json.loads(output)["mappings"]
         check(segments(written) == segments(value["mappings"]) or peer.decode(written) == tokens, f"{one['name']}: segments")
         same = "same bytes" if written == value["mappings"] else "same segments"
-        row(one["name"], one["tool"], f"`{one['how']}`", len(text), len(value["sources"]), len(value.get("names", [])),
-            len(tokens), notes_on(value["mappings"]), same)
+        row(
+            one["name"],
+            one["tool"],
+            f"`{one['how']}`",
+            len(text),
+            len(value["sources"]),
+            len(value.get("names", [])),
+            len(tokens),
+            notes_on(value["mappings"]),
+            same,
+        )
 
 
 def some_positions(tokens, count):
@@ -55,8 +64,17 @@ def some_positions(tokens, count):
     positions = []
     for k in range(count):
         line, column = tokens[chosen.randrange(len(tokens))][:2] if tokens else (0, 0)
-        positions.append([(line, column), (line, max(column - 1, 0)), (chosen.randint(0, last), chosen.randint(0, widest)),
-                          (line, widest + 5), (chosen.randint(0, last), 0), (last + 1 + k % 3, column), (line, column + 1)][k % 7])
+        positions.append(
+            [
+                (line, column),
+                (line, max(column - 1, 0)),
+                (chosen.randint(0, last), chosen.randint(0, widest)),
+                (line, widest + 5),
+                (chosen.randint(0, last), 0),
+                (last + 1 + k % 3, column),
+                (line, column + 1),
+            ][k % 7]
+        )
     return positions
 
 
@@ -106,8 +124,13 @@ def traced(how):
                 check(because, f"{one['name']}: {name} at {position}: {answer}, not {expected}")
                 if name == "node" and because:
                     why[because] += 1
-        row(one["name"], len(positions), f"{counts[0]}/{counts[1]}/{len(found) - sum(counts)}", *equal.values(),
-            "/".join(str(why[it]) for it in EXPLAINED))
+        row(
+            one["name"],
+            len(positions),
+            f"{counts[0]}/{counts[1]}/{len(found) - sum(counts)}",
+            *equal.values(),
+            "/".join(str(why[it]) for it in EXPLAINED),
+        )
 
 
 def traced_by_steps(maps, line, column):
@@ -154,8 +177,18 @@ def composed(how):
             check(smap(["trace", *position], output.encode()) == answer, f"{name}: trace {position}")
         counts = [answers.count("nothing"), answers.count("unmapped")]
         found = f"{counts[0]}/{counts[1]}/{len(answers) - sum(counts)}"
-        row(name, steps, len(maps), len(text), len(expected_value["sources"]), len(expected_tokens), len(expected_value["names"]),
-            len(positions), found, f"{took:.2f}")
+        row(
+            name,
+            steps,
+            len(maps),
+            len(text),
+            len(expected_value["sources"]),
+            len(expected_tokens),
+            len(expected_value["names"]),
+            len(positions),
+            found,
+            f"{took:.2f}",
+        )
 
 
 def joined(lines):

@@ -36,7 +36,8 @@ class Case:
         top = self.rooted if number % 5 == 0 else self.remapped
         self.words, value, tokens = top(2)
         if number % 4 == 1:
-            self.words, value, tokens = ["simplify", *self.words], *peer.simplify(value, tokens)
+            value, tokens = peer.simplify(value, tokens)
+            self.words = ["simplify", *self.words]
         self.expected = peer.to_text(value, tokens)
 
     def some(self, values, most):
@@ -112,8 +113,9 @@ def compared(number):
     output = evaluated(case.words, case.texts)
     check(output == case.expected, f"case {number}: {case.words}: {output}, not {case.expected}")
     value = json.loads(case.expected)
-    return Counter(plans=1, words=len(case.words), texts=len(case.texts), sources=len(value["sources"]),
-                   tokens=len(peer.decode(value["mappings"])))
+    return Counter(
+        plans=1, words=len(case.words), texts=len(case.texts), sources=len(value["sources"]), tokens=len(peer.decode(value["mappings"]))
+    )
 
 
 def cases():
@@ -209,8 +211,14 @@ def why_differs(how, ours, theirs):
     return None
 
 
-EXPLAINED = ["clamped: none", "clamped: another place", "clamped: another module", "untraced: same module",
-             "untraced: another module", "name"]
+EXPLAINED = [
+    "clamped: none",
+    "clamped: another place",
+    "clamped: another module",
+    "untraced: same module",
+    "untraced: another module",
+    "name",
+]
 
 
 def positions(tokens):
@@ -250,6 +258,7 @@ def words_of(step):
         own = f"@{len(texts) - 1}"
         below = [word for path, step in step.inputs.items() for word in [path, *words(step)]]
         return ["remap", own, len(step.inputs), *below] if step.inputs else [own]
+
     return words(step), texts
 
 
@@ -265,9 +274,18 @@ def of_bundle(name, what, step):
     check(output == peer.to_text(*remapped(step)), f"{name}, {what}: plan remap")
     led, answers, answer = answers_compared(f"{name}, {what}", step, output)
     times = [f"{answer[of]:.1f}" for of in ("whole", "alone")] if options.rounds else []
-    row(name, what, len(texts) - 1, len(json.loads(output)["sources"]), len(step.tokens),
-        "/".join(str(led[how]) for how in ("exact", "clamped", "untraced")), answers.total(), answers["equal"],
-        "/".join(str(answers[why]) for why in EXPLAINED), *times)
+    row(
+        name,
+        what,
+        len(texts) - 1,
+        len(json.loads(output)["sources"]),
+        len(step.tokens),
+        "/".join(str(led[how]) for how in ("exact", "clamped", "untraced")),
+        answers.total(),
+        answers["equal"],
+        "/".join(str(answers[why]) for why in EXPLAINED),
+        *times,
+    )
 
 
 def meaning(text):

@@ -26,8 +26,21 @@ from pathlib import Path
 sys.path.insert(0, str(Path(__file__).resolve().parents[2] / "tests/reference"))
 import peer
 
-PACKAGES = ["node-typescript", "node-lodash", "libjs-three", "libjs-pdf", "libjs-bootstrap5", "libjs-olm", "libjs-moment",
-            "libjs-jquery", "libjs-underscore", "node-ampproject-remapping", "node-commander", "node-terser", "phpmyadmin"]
+PACKAGES = [
+    "node-typescript",
+    "node-lodash",
+    "libjs-three",
+    "libjs-pdf",
+    "libjs-bootstrap5",
+    "libjs-olm",
+    "libjs-moment",
+    "libjs-jquery",
+    "libjs-underscore",
+    "node-ampproject-remapping",
+    "node-commander",
+    "node-terser",
+    "phpmyadmin",
+]
 NODEJS, SCRIPTS = "packages/usr/share/nodejs", "packages/usr/share/javascript"
 TYPESCRIPT = f"{NODEJS}/typescript/lib/typescript.js"
 LODASH = f"{NODEJS}/lodash-es/lodash.js"
@@ -201,10 +214,12 @@ def make_maps():
     for name, package, path in SHIPPED:
         shutil.copy(path, f"maps/{name}.map")
         made.append({"name": name, "tool": package, "how": "as it came in the package"})
-    made += [edited("edited-google-ignore", "esbuild-three-root", with_google),
-             edited("edited-ignore-debugid", "esbuild-three-root", with_both),
-             edited("edited-some-content", "esbuild-lodash", with_some),
-             edited("edited-no-content", "tsc-inline", with_none)]
+    made += [
+        edited("edited-google-ignore", "esbuild-three-root", with_google),
+        edited("edited-ignore-debugid", "esbuild-three-root", with_both),
+        edited("edited-some-content", "esbuild-lodash", with_some),
+        edited("edited-no-content", "tsc-inline", with_none),
+    ]
     json.dump(made, open("maps.json", "w"), indent=1)
 
 

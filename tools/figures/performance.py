@@ -31,8 +31,21 @@ from tools.figures.measuring import built, measure
 MAPS = ["esbuild-lodash", "OpenLayers", "pdf.js", "pdf.worker", "theme.css", "olm_legacy.min", "esbuild-typescript"]
 PIPELINES = ["gen-mapping-5", "three-2", "typescript-2"]
 BUNDLES = ["lodash", "terser"]
-GOALS = {"parse": 0.6, "serialize": 0.75, "decode": 0.55, "encode": 0.7, "table": 0.6, "lookup": 1.0, "join": 0.9,
-         "compose": 0.5, "remap": 1.0, "parse_each": 1.2, "join_each": 1.2, "index": 0.2, "back": 0.5}
+GOALS = {
+    "parse": 0.6,
+    "serialize": 0.75,
+    "decode": 0.55,
+    "encode": 0.7,
+    "table": 0.6,
+    "lookup": 1.0,
+    "join": 0.9,
+    "compose": 0.5,
+    "remap": 1.0,
+    "parse_each": 1.2,
+    "join_each": 1.2,
+    "index": 0.2,
+    "back": 0.5,
+}
 STAGES = ["parse", "serialize", "decode", "encode", "table", "lookup", "join"]
 COUNTED = ["esbuild-lodash", "pdf.js", "theme.css", "olm_legacy.min"]
 WHOLE_GOAL, PEAK_GOAL = 0.85, 0.8
@@ -119,8 +132,10 @@ def remappings():
     for name in BUNDLES:
         composed = as_one[name, "compose"]
         others = list(composed["best"].values())[1:]
-        cells = [beside([ns / composed["items"] for ns in [list(row["best"].values())[0], *others]], GOALS["remap"])
-                 for row in (bundles[name, "remap"], as_one[name, "remap"])]
+        cells = [
+            beside([ns / composed["items"] for ns in [list(row["best"].values())[0], *others]], GOALS["remap"])
+            for row in (bundles[name, "remap"], as_one[name, "remap"])
+        ]
         write(f"| {name} | {composed['tokens']} | {' | '.join(cells)} | {cell(composed)} |")
 
 
@@ -153,8 +168,10 @@ def reverse_cells(path):
 
 def reverse():
     """The index by original positions and lookups in it, beside those of an npm package."""
-    write("\n### Reverse lookup\n\nNanoseconds for each token of the index by original positions, and for each of 100,000 lookups in it, with the ratios to "
-          "`@jridgewell/trace-mapping`: to its first lookup once it has decoded the mappings, which makes its index, and to further ones.\n")
+    write(
+        "\n### Reverse lookup\n\nNanoseconds for each token of the index by original positions, and for each of 100,000 lookups in it, with the ratios to "
+        "`@jridgewell/trace-mapping`: to its first lookup once it has decoded the mappings, which makes its index, and to further ones.\n"
+    )
     write("| map | tokens | index | instructions | lookup | instructions |\n|---|---:|---|---:|---|---:|")
     write(f"| *goal* | | {GOALS['index']} | | {GOALS['back']} | |")
     with tempfile.TemporaryDirectory() as folder:
@@ -207,9 +224,15 @@ def processes(title, inputs, is_counted=True):
             with ThreadPoolExecutor(os.cpu_count()) as pool:
                 counts = list(pool.map(lambda side: instructions_of(sides[side], text), sides))
         same = "" if len(outputs) == 1 else "same bytes" if len(set(outputs)) == 1 else "differs"
-        cells = [f"{size:.1f}", beside([it * 1e3 for it in seconds], WHOLE_GOAL), f"{seconds[0] * 1e3 / size:.1f}",
-                 beside([it / 1e6 for it in peaks], PEAK_GOAL), f"{peaks[0] / len(text):.1f}",
-                 beside(counts, WHOLE_GOAL, "{:.0f}") if is_counted else "", same]
+        cells = [
+            f"{size:.1f}",
+            beside([it * 1e3 for it in seconds], WHOLE_GOAL),
+            f"{seconds[0] * 1e3 / size:.1f}",
+            beside([it / 1e6 for it in peaks], PEAK_GOAL),
+            f"{peaks[0] / len(text):.1f}",
+            beside(counts, WHOLE_GOAL, "{:.0f}") if is_counted else "",
+            same,
+        ]
         write(f"| {name} | {' | '.join(cells)} |")
 
 

@@ -109,6 +109,8 @@ def mutate(words):
     bugs = chosen(planted, [it for it in words if it != "unproved"])
     with tempfile.TemporaryDirectory() as folder:
         common = Path(folder)
-        (common / "proved.h").write_text(subprocess.run([TOP / "tools/build/prototypes"], capture_output=True, text=True, check=True).stdout)
+        (common / "proved.h").write_text(
+            subprocess.run([TOP / "tools/build/prototypes"], capture_output=True, text=True, check=True).stdout
+        )
         subprocess.run(["ar", "x", kit() / "c/liblibc_c.a", "heap.pic.o"], cwd=common, check=True)
         return try_all(("none", LAYER, HEADER), bugs, lambda bug: found_by(bug, library, common), os.cpu_count() or 1)

@@ -16,7 +16,9 @@ from tools.mutate.planting import TOP, Tally, chosen, rows
 def failures(copy):
     """What fails in a copy of the repository, or why nothing could be tried."""
     ran = subprocess.run(["tools/check/package", "unproved"], cwd=copy, capture_output=True, text=True)
-    return re.findall(r"^package: (.*): FAILED$", ran.stdout, re.M) or ([] if re.search(r", 0 failed$", ran.stdout) else [(ran.stdout + ran.stderr)[-300:]])
+    return re.findall(r"^package: (.*): FAILED$", ran.stdout, re.M) or (
+        [] if re.search(r", 0 failed$", ran.stdout) else [(ran.stdout + ran.stderr)[-300:]]
+    )
 
 
 def is_apart(bug, other):

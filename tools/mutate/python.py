@@ -57,7 +57,9 @@ def constants():
                 continue
             group = 3 if found[3] else 5
             value = int(found[group], 0)
-            yield f"constant {owner + '.' if found[3] else ''}{found[2] or found[4]}", file, text[: found.start(group)] + f"{value + 500}" + text[found.end(group) :]
+            yield f"constant {owner + '.' if found[3] else ''}{found[2] or found[4]}", file, text[
+                : found.start(group)
+            ] + f"{value + 500}" + text[found.end(group) :]
 
 
 def fields():
@@ -66,7 +68,12 @@ def fields():
     for body in re.finditer(r"^class (\w+)\(NamedTuple\):\n(.*?)(?=^\S)", text, flags=re.M | re.S):
         lines = list(re.finditer(r"^    (\w+): .*$", body[2], flags=re.M))
         for one, two in zip(lines, lines[1:] + lines[:1]):
-            new = re.sub(rf"^    (?:{one[1]}|{two[1]}): ", lambda it: f"    {two[1] if it[0].split(':')[0].strip() == one[1] else one[1]}: ", body[2], flags=re.M)
+            new = re.sub(
+                rf"^    (?:{one[1]}|{two[1]}): ",
+                lambda it: f"    {two[1] if it[0].split(':')[0].strip() == one[1] else one[1]}: ",
+                body[2],
+                flags=re.M,
+            )
             yield f"field {body[1]}.{one[1]}", "_values.py", text[: body.start(2)] + new + text[body.end(2) :]
     text = SOURCE.joinpath("_library.py").read_text(encoding="utf-8")
     for body in re.finditer(r"^class (\w+)\(Structure\):\n(.*?)(?=^\S)", text, flags=re.M | re.S):

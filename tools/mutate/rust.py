@@ -50,7 +50,7 @@ def swapped_parameters(text):
                 continue
             arrow, passed = f" -> {gives}" if gives else "", names[:at] + [names[at + 1], names[at]] + names[at + 2 :]
             stub = f"/// # Safety\n/// None.\npub unsafe fn {name}({', '.join(takes)}){arrow} {{ unsafe {{ real::{name}({', '.join(passed)}) }} }}\n"
-            real = f"mod real {{ use super::*; unsafe extern \"C\" {{ {declared} }} }}\n"
+            real = f'mod real {{ use super::*; unsafe extern "C" {{ {declared} }} }}\n'
             yield f"{name} takes {names[at]} and {names[at + 1]} the wrong way round", text.replace(declared, "") + real + stub
 
 

@@ -19,7 +19,11 @@ WHAT = """\
 """
 # Of each package its section, its first line, and what the last paragraph says.
 TEXTS = {
-    PROGRAMS: ("devel", "programs that read, look up, join and remap source maps", " This package has the programs, which need no other package."),
+    PROGRAMS: (
+        "devel",
+        "programs that read, look up, join and remap source maps",
+        " This package has the programs, which need no other package.",
+    ),
     LIBRARY: ("libs", "proved library for source maps of version 3", " This package has the shared library."),
     DEVELOPMENT: (
         "libdevel",
@@ -54,7 +58,12 @@ def copyright_text():
         return "".join(f" {line.rstrip() or '.'}\n" for line in words.strip().splitlines())
 
     licence = (TOP / "LICENSE").read_text()
-    others = re.sub(r"^ *Apache License\n.*?(?=^-{4}$|\Z)", "Apache License 2.0: /usr/share/common-licenses/Apache-2.0\n\n", tree.third_party(), flags=re.S | re.M)
+    others = re.sub(
+        r"^ *Apache License\n.*?(?=^-{4}$|\Z)",
+        "Apache License 2.0: /usr/share/common-licenses/Apache-2.0\n\n",
+        tree.third_party(),
+        flags=re.S | re.M,
+    )
     holders = "".join(f" {it}\n" for it in re.findall(r"^Copyright.*", licence, re.M)) or " the authors of Junketscarp\n"
     head = "Format: https://www.debian.org/doc/packaging-manuals/copyright-format/1.0/\nUpstream-Name: Junketscarp\n"
     own = f"\nFiles: *\nCopyright:\n{holders}License: BSD-3-Clause\n{indented(licence)}"

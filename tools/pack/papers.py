@@ -38,11 +38,14 @@ def premises():
 def proved(products, passed):
     """What is proved of what was packed, and how to see it again."""
     if passed == "unproved":
-        return f"Junketscarp {products.semver}\n\ncommit: {products.commit}, or what was changed since\ntoolchain: {toolchain()}\n\n{UNPROVED}"
+        return (
+            f"Junketscarp {products.semver}\n\ncommit: {products.commit}, or what was changed since\ntoolchain: {toolchain()}\n\n{UNPROVED}"
+        )
     head = TRIAL if passed == "trial" else f"./check passed on this commit, with the last line: {passed}\n"
     programs = " and ".join(PROGRAMS)
     parts = {
-        "": f"Junketscarp {products.semver}\n\ncommit: {products.commit}\ntoolchain: {toolchain()}\n" + "".join(f"{it}\n" for it in tools()),
+        "": f"Junketscarp {products.semver}\n\ncommit: {products.commit}\ntoolchain: {toolchain()}\n"
+        + "".join(f"{it}\n" for it in tools()),
         "What passed": head,
         "What is proved": "The library for x86-64 is compiled from exports each of which is proved to meet its contract, for every input, and so is\n"
         f"{programs}. docs/BINDINGS.md and docs/PROOFS.md of the repository say what the contracts promise.\n",
@@ -81,7 +84,13 @@ def materials(products, archives):
         return about | {"licenseConcluded": licence, "licenseDeclared": licence, "copyrightText": "NOASSERTION"} | more
 
     packed = [
-        package(name, products.semver, "BSD-3-Clause", packageFileName=name, checksums=[{"algorithm": "SHA256", "checksumValue": sha256(content)}])
+        package(
+            name,
+            products.semver,
+            "BSD-3-Clause",
+            packageFileName=name,
+            checksums=[{"algorithm": "SHA256", "checksumValue": sha256(content)}],
+        )
         for name, content in sorted(archives.items())
     ]
     libraries = [package(f"rattle-{it}", toolchain(), licence_of(it)) for it in used]

@@ -52,7 +52,15 @@ class Products:
 
     def checksum(self):
         """The checksum of what was built, of which all archives are made."""
-        built = ["liboxc_sourcemap.a", "liboxc_sourcemap.so.1", "oxc_sourcemap.h", "wasm/module.ll.gz", "wasm/oxc_sourcemap.wasm", "wasm/page.html", *PROGRAMS]
+        built = [
+            "liboxc_sourcemap.a",
+            "liboxc_sourcemap.so.1",
+            "oxc_sourcemap.h",
+            "wasm/module.ll.gz",
+            "wasm/oxc_sourcemap.wasm",
+            "wasm/page.html",
+            *PROGRAMS,
+        ]
         files = [self.folder / it for it in built] + sorted((self.folder / "wasm/package").rglob("*"))
         sums = (hashlib.sha256(it.read_bytes()).hexdigest() + f"  {it.relative_to(self.folder)}\n" for it in files if it.is_file())
         return hashlib.sha256("".join(sums).encode()).hexdigest()

@@ -102,7 +102,10 @@ def reference(products):
     with tempfile.TemporaryDirectory() as room:
         environment = {**os.environ, "SOURCE_DATE_EPOCH": str(products.epoch)}
         run(TOP / "tools/pack/reference", "man", room, env=environment)
-        pages = {f"share/man/man3/{it.name}": File(link=os.readlink(it)) if it.is_symlink() else File(it.read_bytes()) for it in Path(room).iterdir()}
+        pages = {
+            f"share/man/man3/{it.name}": File(link=os.readlink(it)) if it.is_symlink() else File(it.read_bytes())
+            for it in Path(room).iterdir()
+        }
         run(TOP / "tools/pack/reference", "html", f"{room}/reference.html", env=environment)
         return pages | {"share/doc/junketscarp/reference.html": File(Path(room, "reference.html").read_bytes())}
 
@@ -133,7 +136,11 @@ def sourcemap_files(products):
     """The program sourcemap, which writes its own pages and completions."""
     program = products.folder / "sourcemap"
     files = {"bin/sourcemap": File(products.program("sourcemap"), 0o755)}
-    shells = {"bash": "bash-completion/completions/sourcemap", "zsh": "zsh/site-functions/_sourcemap", "fish": "fish/vendor_completions.d/sourcemap.fish"}
+    shells = {
+        "bash": "bash-completion/completions/sourcemap",
+        "zsh": "zsh/site-functions/_sourcemap",
+        "fish": "fish/vendor_completions.d/sourcemap.fish",
+    }
     files |= {f"share/{path}": text(run(program, "completions", shell)) for shell, path in shells.items()}
     page = products.folder / "wasm/page.html"
     if page.is_file():
@@ -151,8 +158,12 @@ def third_party():
     names = sorted({it for crate in ("oxc_sourcemap_c", *PROGRAMS) for it in libraries_of(crate)})
     found = {name: [it for it in licences(name) if it.name != "LICENSE-APACHE"] for name in names}
     own = ", ".join(name for name in names if not found[name])
-    head = "The library and the programs hold these libraries of the toolchain, each under its licence (of two, the MIT licence is taken).\n"
-    return "\n----\n\n".join([f"{head}{own} are parts of the toolchain.\n", *(f"{name}\n\n{it.read_text()}" for name in names for it in found[name])])
+    head = (
+        "The library and the programs hold these libraries of the toolchain, each under its licence (of two, the MIT licence is taken).\n"
+    )
+    return "\n----\n\n".join(
+        [f"{head}{own} are parts of the toolchain.\n", *(f"{name}\n\n{it.read_text()}" for name in names for it in found[name])]
+    )
 
 
 def papers(products, proved):

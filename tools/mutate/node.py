@@ -19,7 +19,7 @@ from tools.mutate.planting import TOP, Bug, chosen, listed, swapped, try_all
 PACKAGE = TOP / "bindings/node"
 LIBRARY = os.path.abspath(os.environ.get("LIBRARY", TOP / "target"))
 # What the tests read.
-READ = ("bindings/node", "bindings/c", "bindings/wasm/loader*", "bindings/wasm/test", "tests/real-maps", "CHANGELOG.md")
+READ = ("bindings/node", "bindings/c", "bindings/wasm/loader*", "bindings/wasm/test", "tests/real-maps", "docs/CHANGELOG.md")
 SLOW = ("memory", "workers", "fuzz")
 MODULES = ("map.js", "builders.js", "functions.js", "errors.js")
 LOADER = TOP / "bindings/wasm"

@@ -1,6 +1,6 @@
 """Plants bugs in what packs and builds, in a copy of the repository, and runs tools/check/package unproved there. package.txt has the
 bugs, each with where it is found: several are planted in one run, each of which is found elsewhere; one that is found everywhere (no place)
-is planted alone. It works over target/unproved, as `./package unproved` leaves it.
+is planted alone. It works over target/unproved, as `./build package unproved` leaves it.
 """
 
 import re

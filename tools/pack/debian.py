@@ -81,7 +81,7 @@ def placed(files, package, products, proved):
     papers = {
         "copyright": copyright_text(),
         "changelog.Debian.gz": gz(changelog(products), 0),
-        "changelog.gz": gz((TOP / "CHANGELOG.md").read_bytes(), 0),
+        "changelog.gz": gz((TOP / "docs/CHANGELOG.md").read_bytes(), 0),
         "PROVED.txt": proved.encode(),
     }
     if package == DEVELOPMENT:

@@ -10,7 +10,7 @@ from tools.pack.products import PROGRAMS, TOP, libraries_of, licences, run, tool
 REDO = """\
 git checkout {commit}
 ./check                 (proves all from nothing, and tests; its last line is as above)
-./package               (makes these archives; SHA256SUMS then has the same sums, given the same tools)
+./build package         (makes these archives; SHA256SUMS then has the same sums, given the same tools)
 """
 UNPROVED = """\
 NOTHING HERE IS PROVED. This was packed for people at work, over a build without proofs, and is no release.

@@ -11,7 +11,7 @@ TOP = Path(__file__).resolve().parents[2]
 sys.path.append(str(TOP))
 from tools.over_libraries import USES, below, kit
 
-VERSION = (TOP / "VERSION").read_text().strip()
+VERSION = (TOP / "tools/VERSION").read_text().strip()
 # What the toolchain writes into what it builds of a proved crate.
 LOGIC = b"rattle logic="
 PROGRAMS = [it for it in ("smap", "sourcemap") if (TOP / "crates" / it).is_dir()]

@@ -168,7 +168,7 @@ def third_party():
 
 def papers(products, proved):
     """What says what it is."""
-    names = {"LICENSE": "LICENSE", "CHANGELOG.md": "CHANGELOG.md"}
+    names = {"LICENSE": "LICENSE", "CHANGELOG.md": "docs/CHANGELOG.md"}
     files = {f"share/doc/junketscarp/{name}": File((TOP / it).read_bytes()) for name, it in names.items()}
     files["share/doc/junketscarp/LICENSES-OF-LIBRARIES"] = text(third_party())
     return files | {"share/doc/junketscarp/PROVED.txt": text(proved)}

@@ -66,8 +66,8 @@ def text(content, mode=0o644):
 
 
 def usage():
-    """What `smap --help` says, as ./smap of the repository has it, for the program where it is installed."""
-    return re.search(r"cat <<'TEXT'\n(.*?)^TEXT\n", (TOP / "smap").read_text(), re.S | re.M)[1].replace("./s", "s")
+    """What `smap --help` says, as bin/smap of the repository has it, for the program where it is installed."""
+    return re.search(r"cat <<'TEXT'\n(.*?)^TEXT\n", (TOP / "bin/smap").read_text(), re.S | re.M)[1].replace("bin/s", "s")
 
 
 def pc(lib, has_rpath):

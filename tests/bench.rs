@@ -1,4 +1,4 @@
-//! The stages of the program of `tools/bench/bench`, on small maps. (`./check tests` puts the program's modules beside this file.)
+//! The stages of the program of `tools/figures/bench/bench`, on small maps. (`./check tests` puts the program's modules beside this file.)
 mod fault;
 mod stages;
 mod timing;

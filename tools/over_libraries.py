@@ -15,7 +15,8 @@ import subprocess
 import sys
 from pathlib import Path
 
-LINES = [line.partition(":") for line in Path(__file__).parents[1].joinpath("crates.txt").read_text().splitlines()]
+TEXT = Path(__file__).parents[1].joinpath("crates.txt").read_text()
+LINES = [line.partition(":") for line in TEXT.splitlines() if line.strip() and not line.startswith("#")]
 # The libraries that each crate uses, the lowest crate first: those of this repository and those of the toolchain.
 USES = {head.split()[0]: uses.split() for head, _, uses in LINES}
 STATIC = {head.split()[0] for head, _, _ in LINES if head.endswith(" staticlib")}

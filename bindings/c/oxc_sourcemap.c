@@ -1,4 +1,4 @@
-/* The layer between oxc_sourcemap.h and the proved library. Each smap_X hands on to proved_X, whose prototype tools/prototypes
+/* The layer between oxc_sourcemap.h and the proved library. Each smap_X hands on to proved_X, whose prototype tools/build/prototypes
  * makes from its signature. What is done here is what a proved function cannot do with what C passes:
  *  - null gets something to point to: an empty text, an array of no entries, an output that the caller does not want (a single lookup
  *    without a fault has an export of its own, which is quicker);

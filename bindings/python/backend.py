@@ -1,6 +1,6 @@
 """Builds the wheel of oxc_sourcemap, with Python alone: `pip wheel bindings/python`, or `python3 backend.py FOLDER`.
 
-The wheel carries the shared library that OXC_SOURCEMAP_LIB names, or `./build-c` leaves in target/, or pkg-config finds, and _fast.c
+The wheel carries the shared library that OXC_SOURCEMAP_LIB names, or `./build c` leaves in target/, or pkg-config finds, and _fast.c
 compiled by one call of a C compiler, $CC or cc. Without a compiler, or with OXC_SOURCEMAP_CC set to nothing, it has no _fast and looks up
 by ctypes alone. OXC_SOURCEMAP_PLATFORM is the platform of its tag, if that is not this machine; SOURCE_DATE_EPOCH the time of all files.
 
@@ -64,7 +64,7 @@ def library() -> Path:
     for path in paths:
         if path and path.is_file():
             return path
-    raise FileNotFoundError(f"there is no {paths[0]}: run ./build-c, or let OXC_SOURCEMAP_LIB name the library")
+    raise FileNotFoundError(f"there is no {paths[0]}: run ./build c, or let OXC_SOURCEMAP_LIB name the library")
 
 
 def header() -> Path:

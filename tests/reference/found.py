@@ -9,7 +9,7 @@ sys.path.insert(0, str(Path(__file__).resolve().parents[2] / "tools"))
 import peer
 
 MAX, DIGITS = 4294967295, "ABCDEFGHIJKLMNOPQRSTUVWXYZabcdefghijklmnopqrstuvwxyz0123456789+/"
-NONE = {"version": None, "file": None, "sourceRoot": None, "names": [], "sourcesContent": None, "debugId": None, "ignoreList": None}
+NONE: dict = {"version": None, "file": None, "sourceRoot": None, "names": [], "sourcesContent": None, "debugId": None, "ignoreList": None}
 
 
 class Fault(Exception):

@@ -1,5 +1,5 @@
 """Lookups both ways, sorting, and positions in a text, in plain Python: filters after docs/FORMAT.md, with no thought of speed. For
-tools/compare_lookups.py.
+tools/compare/run lookups.
 
 A token is a tuple: generated line and column, source line and column, source id, name id; None for an id that is missing. A
 text is a list of UTF-16 units.

@@ -6,7 +6,7 @@ use smap_run::RunError;
 use std::alloc::Global;
 use std::process::Abort;
 
-// tools/refuse.c stands between the tests and the allocator of C. Requests are counted from `begin_call` to `end_call`, from 1.
+// tools/check/refuse.c stands between the tests and the allocator of C. Requests are counted from `begin_call` to `end_call`, from 1.
 unsafe extern "C" {
     /// A call begins: from here on requests are counted, and may be refused.
     safe fn begin_call();

@@ -77,7 +77,7 @@ test('CJS, ESM and the types have the same names', async () => {
 
 test('the version is that of the changelog, and nothing is depended on', needsHeader, () => {
   const said = JSON.parse(read('package.json'));
-  assert.equal(said.version, readFileSync(join(REPOSITORY, 'CHANGELOG.md'), 'utf8').match(/^## (.*)/m)[1]);
+  assert.equal(said.version, readFileSync(join(REPOSITORY, 'docs/CHANGELOG.md'), 'utf8').match(/^## (.*)/m)[1]);
   assert.deepEqual([said.dependencies, said.optionalDependencies, said.peerDependencies], [undefined, undefined, undefined]);
 });
 

@@ -11,12 +11,12 @@ from pathlib import Path
 
 TOP = Path(__file__).resolve().parents[3]
 sys.path.append(str(TOP / "bindings/python/src"))
-sys.path += [str(TOP), str(TOP / "tests/reference")]
+sys.path.append(str(TOP / "tests/reference"))
 
 import lookups  # tests/reference: these share no code with the library
 import mapping_urls
+import peer
 from oxc_sourcemap import Code, SourceMap, SourceMapError, Token
-from tools import peer
 
 __all__ = ["lookups", "mapping_urls", "peer"]
 

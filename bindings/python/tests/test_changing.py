@@ -13,7 +13,7 @@ INNER = simple(";AAEA", ("a.ts",))
 
 
 def in_peer(map: SourceMap):
-    """A map as tools/peer.py has it: its value, and its tokens."""
+    """A map as tests/reference/peer.py has it: its value, and its tokens."""
     value = json.loads(map.to_json())
     return value, peer.decode(value["mappings"])
 

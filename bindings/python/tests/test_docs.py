@@ -39,7 +39,7 @@ class Docs(unittest.TestCase):
                     self.assertEqual((bare, node.returns is None), ([], False), f"{path.name}: {node.name}")
 
     def test_version(self):
-        heading = next(it for it in (support.TOP / "CHANGELOG.md").read_text(encoding="utf-8").splitlines() if it.startswith("## "))
+        heading = next(it for it in (support.TOP / "docs/CHANGELOG.md").read_text(encoding="utf-8").splitlines() if it.startswith("## "))
         self.assertEqual(heading, f"## {oxc_sourcemap.__version__}")
 
 

@@ -2,7 +2,7 @@
 //!
 //! 1. in the folder that `OXC_SOURCEMAP_LIB_DIR` names;
 //! 2. in `lib/TARGET` of this crate, where a packed crate has it for x86-64 and aarch64 Linux;
-//! 3. in `target/` of the repository in which this crate stands, if `./build-c` has made it there;
+//! 3. in `target/` of the repository in which this crate stands, if `./build c` has made it there;
 //! 4. by `pkg-config oxc_sourcemap` (the program is that of `PKG_CONFIG`, if that is set).
 //!
 //! `OXC_SOURCEMAP_LINK=static` links `liboxc_sourcemap.a` and `OXC_SOURCEMAP_LINK=dynamic` the shared library. Without it, a folder

@@ -2,7 +2,7 @@
 // node small_maps.js ADDON MODULE [MAPS]   small maps over the WebAssembly module beside the addon: what each of 12,000 (or MAPS) maps of
 // 200 bytes costs that are kept, in memory (of the process, and that which its engine counts as external) and time; and the time of one
 // that is read, asked once and dropped, or freed, and of a consumer of the drop-in for source-map. The least of some processes each.
-// ADDON and MODULE are files that give what native.d.ts says, as bindings/node/build and ./build-wasm leave them.
+// ADDON and MODULE are files that give what native.d.ts says, as bindings/node/build and ./build wasm leave them.
 
 const { execFileSync } = require('node:child_process');
 const { join } = require('node:path');

@@ -1,7 +1,7 @@
 'use strict';
 // node --expose-gc time.js ADDON MODULE [MAP..]: the package over the WebAssembly module beside the package over the addon, and
 // @jridgewell/trace-mapping where it is installed, in one process and in turns: the least of some rounds, and ratios of these. ADDON and
-// MODULE are files that give what native.d.ts says, as bindings/node/build and ./build-wasm leave them. At last the memory of a thousand
+// MODULE are files that give what native.d.ts says, as bindings/node/build and ./build wasm leave them. At last the memory of a thousand
 // small maps that are kept, in a process of its own (of Linux).
 
 const { execFileSync } = require('node:child_process');

@@ -1,5 +1,5 @@
 #!/usr/bin/env node
-// browser.js BROWSER PACKAGE MAP..   opens the page of the example in a headless browser, over the folder PACKAGE that ./build-wasm left, and compares
+// browser.js BROWSER PACKAGE MAP..   opens the page of the example in a headless browser, over the folder PACKAGE that ./build wasm left, and compares
 // what the page and the package say there with what the package says in Node. BROWSER is chromium, firefox or another name of one of them.
 'use strict';
 

@@ -1,4 +1,4 @@
-"""What the steps of ./build-wasm refuse, and how they change the few instructions that they change."""
+"""What the steps of ./build wasm refuse, and how they change the few instructions that they change."""
 
 import subprocess
 import sys

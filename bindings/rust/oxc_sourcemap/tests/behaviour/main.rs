@@ -1,5 +1,5 @@
 //! The public behaviour of the crate. Expected values are those that the crate `oxc_sourcemap` 9.0.0 states in its tests, rows of
-//! docs/FORMAT.md worked by hand, or answers of tools/peer.py, which shares no code with the library.
+//! docs/FORMAT.md worked by hand, or answers of tests/reference/peer.py, which shares no code with the library.
 
 mod builders;
 mod compositions;

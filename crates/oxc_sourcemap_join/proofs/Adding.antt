@@ -24,7 +24,7 @@ use Rattle.oxc_sourcemap_join.specs.Joined.{added_tokens, added_chunk, added_ign
 use Rattle.oxc_sourcemap_join.specs.Joined.{nothing_joined, added_all, AreEntriesInBounds}
 use Rattle.oxc_sourcemap_join.specs.Joined.{IsWithinLimits, owned_records}
 use Rattle.oxc_sourcemap_join.specs.Joining.{IsJoin, all_shifted, IsAddition}
-use Rattle.oxc_sourcemap_join.specs.declared.joined_parts.Shift.{Shift}
+use Rattle.oxc_sourcemap_join.specs.declared.shift.Shift.{Shift}
 use Rattle.oxc_sourcemap_join.specs.declared.joined_parts.Addition.{Addition}
 use Rattle.oxc_sourcemap_join.proofs.Fitted.{length-fitted, fitted-more}
 use Rattle.oxc_sourcemap_join.proofs.Joining.{fit-added, added_all-continues, length-front}

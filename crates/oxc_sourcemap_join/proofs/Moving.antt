@@ -15,8 +15,8 @@ use Rattle.oxc_sourcemap_tokens.specs.declared.position.Position.{Position}
 use Rattle.oxc_sourcemap_join.specs.Joined.{fitted, raised_id, shifted_column, shifted}
 use Rattle.oxc_sourcemap_join.specs.Joined.{is_same_token, without_repeat}
 use Rattle.oxc_sourcemap_join.specs.Joining.{all_shifted, IsInReach}
-use Rattle.oxc_sourcemap_join.specs.declared.joined_parts.Reach.{Reach}
-use Rattle.oxc_sourcemap_join.specs.declared.joined_parts.Shift.{Shift}
+use Rattle.oxc_sourcemap_join.specs.declared.reach.Reach.{Reach}
+use Rattle.oxc_sourcemap_join.specs.declared.shift.Shift.{Shift}
 use Rattle.oxc_sourcemap_join.proofs.SameToken.{token_by, decides_token}
 
 pub length-mapped : {A B : Type 0} (f : A → B) (xs : List A) → length (map f xs) ≡ length xs

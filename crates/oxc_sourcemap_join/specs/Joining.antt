@@ -9,8 +9,8 @@ use Rattle.oxc_sourcemap_tokens.specs.declared.position.Position.{Position}
 use Rattle.oxc_sourcemap_join.specs.Joined.{shifted, is_same_token, without_repeat, added_chunk}
 use Rattle.oxc_sourcemap_join.specs.Joined.{raised_ignore_list, added, AreEntriesInBounds}
 use Rattle.oxc_sourcemap_join.specs.Joined.{IsWithinLimits}
-use Rattle.oxc_sourcemap_join.specs.declared.joined_parts.Reach.{Reach}
-use Rattle.oxc_sourcemap_join.specs.declared.joined_parts.Shift.{Shift}
+use Rattle.oxc_sourcemap_join.specs.declared.reach.Reach.{Reach}
+use Rattle.oxc_sourcemap_join.specs.declared.shift.Shift.{Shift}
 use Rattle.oxc_sourcemap_join.specs.declared.joined_parts.Addition.{Addition}
 
 -- What a join in the making consists of: counts within limits, tokens and entries of the ignore list in bounds, a content

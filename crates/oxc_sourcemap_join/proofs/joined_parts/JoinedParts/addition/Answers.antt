@@ -9,7 +9,7 @@ use Rattle.oxc_sourcemap_parts.specs.Views.{record_of_parts}
 use Rattle.oxc_sourcemap_join.specs.Joined.{is_same_token, without_repeat, raised_ignore_list}
 use Rattle.oxc_sourcemap_join.specs.Joined.{AreEntriesInBounds}
 use Rattle.oxc_sourcemap_join.specs.Joining.{all_shifted}
-use Rattle.oxc_sourcemap_join.specs.declared.joined_parts.Shift.{Shift}
+use Rattle.oxc_sourcemap_join.specs.declared.shift.Shift.{Shift}
 use Rattle.oxc_sourcemap_join.proofs.Moving.{length-mapped}
 use Rattle.oxc_sourcemap_join.proofs.IgnoreLists.{raised-in-bounds}
 use Rattle.oxc_sourcemap_join.proofs.Adding.{addition-is}

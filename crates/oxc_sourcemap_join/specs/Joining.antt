@@ -24,6 +24,20 @@ pub record IsJoin (ns ss : List Text) (cs : List (Option Text)) (ts : List Token
   pub fit : ChunksFit ts chunks
   pub entries : AreEntriesInBounds ignore_list
 
+-- a map of these names, sources, contents and tokens, and of this ignore list
+abbrev pub map_of : List Text → List Text → List (Option Text) → List TokenRecord → Option (List ℕ) → MapRecord
+map_of names sources contents tokens ignore_list = record {
+  file = None;
+  names = names;
+  source_root = None;
+  sources = sources;
+  source_contents = contents;
+  tokens = tokens;
+  token_chunks = None;
+  ignore_list = ignore_list;
+  debug_id = None;
+}
+
 -- tokens, moved
 abbrev pub all_shifted : Shift → List TokenRecord → List TokenRecord
 all_shifted s tokens = map (shifted s.names s.sources s.position) tokens

@@ -1,24 +1,21 @@
 //! Joining the parts of maps into those of one.
-ghost use Rattle.std.specs.Prelude.{◌≡◌, ◌↔◌, ◌⊎◌, []};
+ghost use Rattle.std.specs.Prelude.{◌≡◌, ◌≤◌, ◌+◌, []};
 ghost use Rattle.std.specs.Prelude.{length, Some, None};
-ghost use Rattle.std.specs.Prelude.{IfSome, IfOk, IfErr, IsErrOf, OnOk, OnErr};
+ghost use Rattle.std.specs.Prelude.{IfSome, IfOk, OnOk, vec_len};
+ghost use Rattle.std.specs.Vec.{vec_capacity};
 ghost use Rattle.std.specs.Option.{unwrap_or};
-ghost use Rattle.oxc_sourcemap_join.specs.Words.{OutOfMemory, TooLarge};
 ghost use Rattle.oxc_sourcemap_join.specs.Words.{last, ChunksFit, texts_of, contents_of, ids_of};
 ghost use Rattle.oxc_sourcemap_join.specs.Words.{record_of_parts};
-ghost use Rattle.oxc_sourcemap_join.specs.Words.{added, nothing_joined};
+ghost use Rattle.oxc_sourcemap_join.specs.Words.{added, nothing_joined, IsAdded};
 ghost use Rattle.oxc_sourcemap_join.specs.Words.{IsWithinLimits};
-ghost use Rattle.oxc_sourcemap_join.specs.Words.{IsAddition};
+ghost use Rattle.oxc_sourcemap_join.specs.Words.{IsAddition, map_of, lent_item};
 ghost use Rattle.oxc_sourcemap_join.specs.Words.{OnlyMemory};
 
-use crate::lists::{
-    Lengths, cut_texts, make_room, push_all_copies, push_fitted, push_lent_fitted, push_texts,
-};
+use crate::lists::{Copied, Lengths, Lent, Lists, Strings, make_room};
 use crate::shift::{Shift, push_tokens};
-use oxc_sourcemap_parts::{SourceMapParts, contents_in, texts_in};
-use oxc_sourcemap_tokens::{Error, Position, Result, Token, TokenChunk, next_chunk};
+use oxc_sourcemap_parts::SourceMapParts;
+use oxc_sourcemap_tokens::{Error, Memory, Position, Result, Token, TokenChunk, next_chunk};
 use std::alloc::Global;
-use std::borrow::CowStr;
 use std::marker::Model;
 
 /// The largest count of names, sources or tokens of a join.
@@ -33,6 +30,34 @@ struct Addition {
     chunk: TokenChunk,
 }
 
+/// Takes room for this many names, sources with their contents, and tokens, and for a chunk.
+#[inline(always)]
+fn make_room_for<'a>(
+    lists: &mut Lists<'a>,
+    tokens: &mut Vec<Token>,
+    chunks: &mut Vec<TokenChunk>,
+    lengths: Lengths,
+) -> Memory<()>
+    ensures names { lists.new.names.items ≡ lists.old.names.items }
+    ensures sources { lists.new.sources.items ≡ lists.old.sources.items }
+    ensures contents { lists.new.contents.items ≡ lists.old.contents.items }
+    ensures tokens { tokens.new.items ≡ tokens.old.items }
+    ensures chunks { chunks.new.items ≡ chunks.old.items }
+    ensures room_for_names { OnOk result
+        (vec_len lists.new.names + lengths.names ≤ vec_capacity lists.new.names) }
+    ensures room_for_sources { OnOk result
+        (vec_len lists.new.sources + lengths.sources ≤ vec_capacity lists.new.sources) }
+    ensures room_for_contents { OnOk result
+        (vec_len lists.new.contents + lengths.sources ≤ vec_capacity lists.new.contents) }
+    ensures room_for_tokens { OnOk result
+        (vec_len tokens.new + lengths.tokens ≤ vec_capacity tokens.new) }
+    ensures room_for_chunk { OnOk result (vec_len chunks.new + 1 ≤ vec_capacity chunks.new) }
+{
+    lists.make_room(lengths.names, lengths.sources)?;
+    make_room(tokens, lengths.tokens)?;
+    make_room(chunks, 1)
+}
+
 /// The parts of the join of some maps, each at a position of the joined code. `add_lent` borrows the strings of a map for
 /// `'a`, `add_moved` moves them, `add_copied` copies them.
 ///
@@ -40,9 +65,7 @@ struct Addition {
 #[derive(Drop)]
 pub struct JoinedParts<'a> {
     alloc: Global,
-    names: Vec<CowStr<'a>>,
-    sources: Vec<CowStr<'a>>,
-    source_contents: Vec<Option<CowStr<'a>>>,
+    lists: Lists<'a>,
     tokens: Vec<Token>,
     token_chunks: Vec<TokenChunk>,
     ignore_list: Option<Vec<u32>>,
@@ -58,18 +81,18 @@ impl<'a> Model for JoinedParts<'a> {
 
     ghost view = { λ b. record {
       file = None;
-      names = texts_of b.names;
+      names = texts_of b.lists.names;
       source_root = None;
-      sources = texts_of b.sources;
-      source_contents = contents_of b.source_contents;
+      sources = texts_of b.lists.sources;
+      source_contents = contents_of b.lists.contents;
       tokens = b.tokens.items;
       token_chunks = Some b.token_chunks.items;
       ignore_list = ids_of b.ignore_list;
       debug_id = None;
     } };
 
-    ghost invariant = { λ b. IsJoin (texts_of b.names) (texts_of b.sources)
-        (contents_of b.source_contents) b.tokens.items b.token_chunks.items
+    ghost invariant = { λ b. IsJoin (texts_of b.lists.names) (texts_of b.lists.sources)
+        (contents_of b.lists.contents) b.tokens.items b.token_chunks.items
         (ids_of b.ignore_list) };
 }
 
@@ -80,9 +103,11 @@ impl<'a> JoinedParts<'a> {
     {
         JoinedParts {
             alloc,
-            names: Vec::new(alloc),
-            sources: Vec::new(alloc),
-            source_contents: Vec::new(alloc),
+            lists: Lists {
+                names: Vec::new(alloc),
+                sources: Vec::new(alloc),
+                contents: Vec::new(alloc),
+            },
             tokens: Vec::new(alloc),
             token_chunks: Vec::new(alloc),
             ignore_list: None,
@@ -102,9 +127,11 @@ impl<'a> JoinedParts<'a> {
     {
         Ok(JoinedParts {
             alloc,
-            names: Vec::with_capacity(alloc, names_len)?,
-            sources: Vec::with_capacity(alloc, sources_len)?,
-            source_contents: Vec::with_capacity(alloc, sources_len)?,
+            lists: Lists {
+                names: Vec::with_capacity(alloc, names_len)?,
+                sources: Vec::with_capacity(alloc, sources_len)?,
+                contents: Vec::with_capacity(alloc, sources_len)?,
+            },
             tokens: Vec::with_capacity(alloc, tokens_len)?,
             token_chunks: Vec::with_capacity(alloc, token_chunks_len)?,
             ignore_list: None,
@@ -132,26 +159,34 @@ impl<'a> JoinedParts<'a> {
         self.tokens.as_slice().last().copied()
     }
 
-    /// What is worked out before this map is added; None if the join would pass a limit.
+    /// What is worked out before these tokens, and an ignore list, of a map with these strings are added; None if the join would
+    /// pass a limit.
     #[inline(always)]
-    fn addition(&self, parts: &SourceMapParts<'_>, position: Position) -> Option<Addition>
+    fn addition<S: Strings<'a>>(
+        &self,
+        strings: &S,
+        tokens: &[Token],
+        ignored: Option<&[u32]>,
+        position: Position,
+    ) -> Option<Addition>
         ensures fits { IfSome result (λ a. IsAddition self.now
-            (record_of_parts parts.now) position a) }
-        ensures too_large { result ≡ None → ¬ (IsWithinLimits
-            (added self.now (record_of_parts parts.now) position)) }
+            (map_of (S.names strings.now) (S.sources strings.now) (S.contents strings.now)
+            tokens.now (lent_item ignored.entry)) position a) }
+        ensures too_large { result ≡ None → ¬ (IsWithinLimits (added self.now
+            (map_of (S.names strings.now) (S.sources strings.now) (S.contents strings.now)
+            tokens.now (lent_item ignored.entry)) position)) }
     {
         let shift = Shift {
-            names: self.names.len() as u32,
-            sources: self.sources.len() as u32,
+            names: self.lists.names.len() as u32,
+            sources: self.lists.sources.len() as u32,
             position,
         };
-        let tokens = parts.tokens.as_slice();
-        if parts.names.len() > MAX_COUNT - self.names.len()
-            || parts.sources.len() > MAX_COUNT - self.sources.len()
+        if strings.names_len() > MAX_COUNT - self.lists.names.len()
+            || strings.sources_len() > MAX_COUNT - self.lists.sources.len()
         {
             return None;
         }
-        if !shift.fits_ignore_list(parts.ignore_list.as_deref()) {
+        if !shift.fits_ignore_list(ignored) {
             return None;
         }
         let passed = shift.skip_len(self.last_token(), tokens);
@@ -172,6 +207,50 @@ impl<'a> JoinedParts<'a> {
         })
     }
 
+    /// Appends a map of these strings, tokens and ignore list, as `add_lent` does.
+    #[inline(always)]
+    fn add<S: Strings<'a>>(
+        &mut self,
+        strings: S,
+        tokens: &[Token],
+        ignored: Option<&[u32]>,
+        position: Position,
+    ) -> Result<()>
+        ensures { IsAdded result self.old self.new
+            (map_of (S.names strings) (S.sources strings) (S.contents strings)
+            tokens.now (lent_item ignored.entry)) position }
+    {
+        let Some(addition) = self.addition(&strings, tokens, ignored, position) else {
+            return Err(Error::TooLarge);
+        };
+        let shift = addition.shift;
+        let kept = &tokens[addition.passed..];
+        let (names_len, sources_len) = (self.lists.names.len(), self.lists.sources.len());
+        let Ok(()) = make_room_for(
+            &mut self.lists,
+            &mut self.tokens,
+            &mut self.token_chunks,
+            Lengths {
+                names: strings.names_len(),
+                sources: strings.sources_len(),
+                tokens: kept.len(),
+            },
+        ) else {
+            return Err(shift.error_without_room(kept));
+        };
+        let Ok(()) = strings.push(self.alloc, &mut self.lists) else {
+            self.lists.cut(names_len, sources_len);
+            return Err(shift.error_without_room(kept));
+        };
+        let (list, ignore_list) = (&mut self.tokens, &mut self.ignore_list);
+        if let Err(e) = push_tokens(self.alloc, list, ignore_list, shift, kept, ignored) {
+            self.lists.cut(names_len, sources_len);
+            return Err(e);
+        }
+        self.token_chunks.push_reserved(addition.chunk);
+        Ok(())
+    }
+
     /// Appends a map whose code begins at this position of the joined code (docs/FORMAT.md, "Joins"). The strings of the map are
     /// borrowed.
     ///
@@ -179,177 +258,43 @@ impl<'a> JoinedParts<'a> {
     /// 4294967295, or an id or an entry of the ignore list above 4294967294, then with `OutOfMemory` for want of memory;
     /// the join is then as it was.
     pub fn add_lent(&mut self, parts: &'a SourceMapParts<'_>, position: Position) -> Result<()>
-        ensures joined { OnOk result (self.new
-            ≡ added self.old (record_of_parts parts.now) position) }
-        ensures limits { OnOk result (IsWithinLimits
-            (added self.old (record_of_parts parts.now) position)) }
-        ensures too_large { IsErrOf result TooLarge ↔ ¬
-            (IsWithinLimits (added self.old (record_of_parts parts.now) position)) }
-        ensures error { IfErr result (λ e. (e ≡ OutOfMemory) ⊎ (e ≡ TooLarge)) }
-        ensures unchanged { OnErr result (self.new ≡ self.old) }
+        ensures { IsAdded result self.old self.new (record_of_parts parts.now) position }
     {
-        let Some(addition) = self.addition(parts, position) else {
-            return Err(Error::TooLarge);
-        };
-        let shift = addition.shift;
-        let kept = &parts.tokens.as_slice()[addition.passed..];
-        let source_count = parts.sources.len();
-        let Ok(()) = make_room(
-            &mut self.names,
-            &mut self.sources,
-            &mut self.source_contents,
-            &mut self.tokens,
-            &mut self.token_chunks,
-            Lengths {
-                names: parts.names.len(),
-                sources: source_count,
-                tokens: kept.len(),
-            },
-        ) else {
-            return Err(shift.error_without_room(kept));
-        };
-        push_tokens(
-            self.alloc,
-            &mut self.tokens,
-            &mut self.ignore_list,
-            shift,
-            kept,
-            parts.ignore_list.as_deref(),
-        )?;
-        push_texts(&mut self.names, texts_in(parts.names.as_slice()));
-        push_texts(&mut self.sources, texts_in(parts.sources.as_slice()));
-        push_lent_fitted(
-            &mut self.source_contents,
-            contents_in(parts.source_contents.as_slice()),
-            source_count,
-        );
-        self.token_chunks.push_reserved(addition.chunk);
-        Ok(())
+        let tokens = parts.tokens.as_slice();
+        let ignored = parts.ignore_list.as_deref();
+        self.add(Lent(parts), tokens, ignored, position)
     }
 
     /// Appends a map as `add_lent` does, with the same result, but moves its strings and drops the rest of it. Fails as
     /// `add_lent` does; the join is then as it was, and the map is dropped.
     pub fn add_moved(&mut self, parts: SourceMapParts<'a>, position: Position) -> Result<()>
-        ensures joined { OnOk result (self.new
-            ≡ added self.old (record_of_parts parts.entry) position) }
-        ensures limits { OnOk result (IsWithinLimits
-            (added self.old (record_of_parts parts.entry) position)) }
-        ensures too_large { IsErrOf result TooLarge ↔ ¬
-            (IsWithinLimits (added self.old (record_of_parts parts.entry) position)) }
-        ensures error { IfErr result (λ e. (e ≡ OutOfMemory) ⊎ (e ≡ TooLarge)) }
-        ensures unchanged { OnErr result (self.new ≡ self.old) }
+        ensures { IsAdded result self.old self.new (record_of_parts parts.entry) position }
     {
-        let Some(addition) = self.addition(&parts, position) else {
-            return Err(Error::TooLarge);
-        };
         let SourceMapParts {
-            mut names,
-            mut sources,
-            source_contents,
+            names,
+            sources,
+            source_contents: contents,
             tokens,
             ignore_list,
             ..
         } = parts;
-        let shift = addition.shift;
-        let kept = &tokens.as_slice()[addition.passed..];
-        let count = sources.len();
-        let Ok(()) = make_room(
-            &mut self.names,
-            &mut self.sources,
-            &mut self.source_contents,
-            &mut self.tokens,
-            &mut self.token_chunks,
-            Lengths {
-                names: names.len(),
-                sources: count,
-                tokens: kept.len(),
-            },
-        ) else {
-            return Err(shift.error_without_room(kept));
+        let lists = Lists {
+            names,
+            sources,
+            contents,
         };
-        push_tokens(
-            self.alloc,
-            &mut self.tokens,
-            &mut self.ignore_list,
-            shift,
-            kept,
-            ignore_list.as_deref(),
-        )?;
-        self.names.append(&mut names).unwrap();
-        self.sources.append(&mut sources).unwrap();
-        push_fitted(&mut self.source_contents, source_contents, count);
-        self.token_chunks.push_reserved(addition.chunk);
-        Ok(())
+        self.add(lists, tokens.as_slice(), ignore_list.as_deref(), position)
     }
 
     /// Appends a map as `add_lent` does, with the same result, but copies its strings. Fails as `add_lent` does; the join is then
     /// as it was.
     #[inline(always)]
     pub fn add_copied(&mut self, parts: &SourceMapParts<'_>, position: Position) -> Result<()>
-        ensures joined { OnOk result (self.new
-            ≡ added self.old (record_of_parts parts.now) position) }
-        ensures limits { OnOk result (IsWithinLimits
-            (added self.old (record_of_parts parts.now) position)) }
-        ensures too_large { IsErrOf result TooLarge ↔ ¬
-            (IsWithinLimits (added self.old (record_of_parts parts.now) position)) }
-        ensures error { IfErr result (λ e. (e ≡ OutOfMemory) ⊎ (e ≡ TooLarge)) }
-        ensures unchanged { OnErr result (self.new ≡ self.old) }
+        ensures { IsAdded result self.old self.new (record_of_parts parts.now) position }
     {
-        let Some(addition) = self.addition(parts, position) else {
-            return Err(Error::TooLarge);
-        };
-        let shift = addition.shift;
-        let kept = &parts.tokens.as_slice()[addition.passed..];
-        let (names_len, sources_len) = (self.names.len(), self.sources.len());
-        let Ok(()) = make_room(
-            &mut self.names,
-            &mut self.sources,
-            &mut self.source_contents,
-            &mut self.tokens,
-            &mut self.token_chunks,
-            Lengths {
-                names: parts.names.len(),
-                sources: parts.sources.len(),
-                tokens: kept.len(),
-            },
-        ) else {
-            return Err(shift.error_without_room(kept));
-        };
-        let Ok(()) = push_all_copies(
-            self.alloc,
-            &mut self.names,
-            &mut self.sources,
-            &mut self.source_contents,
-            parts,
-        ) else {
-            cut_texts(
-                &mut self.names,
-                &mut self.sources,
-                &mut self.source_contents,
-                names_len,
-                sources_len,
-            );
-            return Err(shift.error_without_room(kept));
-        };
-        if let Err(e) = push_tokens(
-            self.alloc,
-            &mut self.tokens,
-            &mut self.ignore_list,
-            shift,
-            kept,
-            parts.ignore_list.as_deref(),
-        ) {
-            cut_texts(
-                &mut self.names,
-                &mut self.sources,
-                &mut self.source_contents,
-                names_len,
-                sources_len,
-            );
-            return Err(e);
-        }
-        self.token_chunks.push_reserved(addition.chunk);
-        Ok(())
+        let tokens = parts.tokens.as_slice();
+        let ignored = parts.ignore_list.as_deref();
+        self.add(Copied(parts), tokens, ignored, position)
     }
 
     /// The parts of the joined map: with chunks, which fit, with an ignore list if one of its maps has one, and without file,
@@ -361,10 +306,10 @@ impl<'a> JoinedParts<'a> {
     {
         SourceMapParts {
             file: None,
-            names: self.names,
+            names: self.lists.names,
             source_root: None,
-            sources: self.sources,
-            source_contents: self.source_contents,
+            sources: self.lists.sources,
+            source_contents: self.lists.contents,
             tokens: self.tokens.into_boxed_slice(),
             token_chunks: Some(self.token_chunks),
             ignore_list: self.ignore_list,

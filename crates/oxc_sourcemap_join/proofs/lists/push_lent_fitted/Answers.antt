@@ -1,10 +1,11 @@
 use Rattle.std.proofs.Common.{rules, arith, ◌≡◌, ◌∷◌, [], ◌++◌, ◌+◌, ◌-◌, ◌∙◌, suc, ap, sym, map}
+use Rattle.std.proofs.Common.{take, vec_len}
 use Rattle.std.proofs.Common.{append_assoc}
 use Rattle.std.specs.Option.{option_map}
 use Rattle.std.specs.Cow.{cow_str_bytes}
 use Rattle.std.proofs.lemmas.List.{map-append}
 use Rattle.oxc_sourcemap_join.specs.Joined.{fitted}
-use Rattle.oxc_sourcemap_join.proofs.Moving.{fitted-next}
+use Rattle.oxc_sourcemap_join.proofs.Moving.{fitted-next, take-before}
 use Rattle.oxc_sourcemap_join.proofs.lists.push_lent_fitted.Goals as goal
 
 pub loop-id-preserved : goal.loop-id-preserved
@@ -22,6 +23,7 @@ loop-id-preserved c =
           ∙ ap (λ cs. cs ++ more) (map-append f front (c.lent_content.result ∷ []))
           ∙ append_assoc (map f front) (f c.lent_content.result ∷ []) more
           ∙ ap (λ cs. map f front ++ cs) (sym next) ∙ c.loop-id.invariant.items;
+      front = ap (take (vec_len c.args.contents.now)) c.push_reserved.ensures.items ∙ take-before (vec_len c.args.contents.now) front (c.lent_content.result ∷ []) (omega (arith, c.loop-id.invariant.len)) ∙ c.loop-id.invariant.front;
       len = search rules;
       capacity = search rules;
     }

@@ -21,9 +21,9 @@ use oxc_sourcemap_decode::{into_member, is_indexed, is_plain};
 use oxc_sourcemap_json::{JSONSourceMap, file_from_value};
 use oxc_sourcemap_mappings::mappings_fault_at;
 use oxc_sourcemap_places::{
-    FaultPlace, FaultSpot, ignored_field, ignored_spot, offset_place, reading_place, shape_spot,
+    ignored_field, ignored_spot, offset_place, reading_place, shape_spot,
 };
-use oxc_sourcemap_tokens::{Error, Field, Result};
+use oxc_sourcemap_tokens::{Error, FaultPlace, FaultSpot, Field, Result};
 use serde_json::{Map, Value};
 use std::alloc::Global;
 use std::borrow::CowStr;

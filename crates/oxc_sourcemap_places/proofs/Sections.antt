@@ -18,7 +18,7 @@ use Rattle.oxc_sourcemap_decode.specs.JoinLimits.{is_map_within_limits}
 use Rattle.oxc_sourcemap_decode.proofs.Limits.{limits_decided}
 use Rattle.oxc_sourcemap_decode.proofs.Steps.{Placed, SoFar, SaysOfPlace}
 use Rattle.oxc_sourcemap_decode.proofs.Steps.{joined-more, last-more}
-use Rattle.oxc_sourcemap_places.specs.declared.fault_place.FaultPlace.{FaultPlace}
+use Rattle.oxc_sourcemap_tokens.specs.declared.fault.FaultPlace.{FaultPlace}
 use Rattle.oxc_sourcemap_places.specs.ValueSpots.{or_place, offset_place, map_place, limit_place}
 use Rattle.oxc_sourcemap_places.specs.ValueSpots.{sections_place}
 

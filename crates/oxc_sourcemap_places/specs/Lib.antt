@@ -1,3 +1,2 @@
-pub mod PlaceMessages
 pub mod ValueSpots
 pub mod Words

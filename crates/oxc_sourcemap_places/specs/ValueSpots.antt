@@ -31,12 +31,13 @@ use Rattle.oxc_sourcemap_decode.specs.JoinLimits.{is_map_within_limits}
 use Rattle.oxc_sourcemap_decode.specs.ReadMap.{sections_in}
 use Rattle.oxc_sourcemap_decode.specs.Section.{is_indexed, as_plain}
 use Rattle.oxc_sourcemap_decode.specs.Sections.{place_after, section_map}
-use Rattle.oxc_sourcemap_places.specs.declared.fault_place.FaultPlace.{FaultPlace}
-use Rattle.oxc_sourcemap_places.specs.declared.fault_place.FaultSpot.{FaultSpot}
-use Rattle.oxc_sourcemap_places.specs.declared.fault_place.FaultSpot.TheVariants.{Segment, Member}
-use Rattle.oxc_sourcemap_places.specs.declared.fault_place.FaultSpot.TheVariants.{Entry}
-use Rattle.oxc_sourcemap_places.specs.declared.fault_place.FaultSpot.TheVariants.{Reading as ReadingSpot}
-use Rattle.oxc_sourcemap_places.specs.PlaceMessages.{name_of}
+use Rattle.oxc_sourcemap_tokens.specs.declared.fault.FaultPlace.{FaultPlace}
+use Rattle.oxc_sourcemap_tokens.specs.declared.fault.FaultSpot.{FaultSpot}
+use Rattle.oxc_sourcemap_tokens.specs.declared.fault.FaultSpot.TheVariants.{Segment, Member}
+use Rattle.oxc_sourcemap_tokens.specs.declared.fault.FaultSpot.TheVariants.{Entry}
+use Rattle.oxc_sourcemap_tokens.specs.declared.fault.FaultSpot.TheVariants.{Reading as ReadingSpot}
+use Rattle.oxc_sourcemap_tokens.specs.PlaceMessages.{name_of}
+use Rattle.oxc_sourcemap_tokens.specs.Places.{place_in}
 
 -- the value may be an entry of the list that this member is
 abbrev pub is_entry : Field → Data → Bool
@@ -117,10 +118,6 @@ plain_map d = option_and_then as_plain (get (codes "map") d)
 abbrev pub map_spot : Option Data → Option FaultSpot
 map_spot None = Some (Member MapField)
 map_spot (Some d) = value_spot d
-
--- a place in this section, or in a text without sections
-abbrev pub place_in : Option ℕ → FaultSpot → FaultPlace
-place_in section spot = record { text = None; section = section; spot = spot }
 
 -- where the map of section `k` has its first fault
 abbrev pub map_place : ℕ → Data → Option FaultPlace

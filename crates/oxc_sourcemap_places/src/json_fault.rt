@@ -5,9 +5,8 @@ ghost use Rattle.serde_json.specs.Data.{Data};
 ghost use Rattle.oxc_sourcemap_places.specs.Words.{value_place, read, OnlyMemory, IsReading};
 ghost use Rattle.oxc_sourcemap_places.specs.Words.{read_map};
 
-use crate::fault_place::{FaultPlace, FaultSpot};
 use crate::value_fault::value_fault_at;
-use oxc_sourcemap_tokens::{Error, Result};
+use oxc_sourcemap_tokens::{Error, FaultPlace, FaultSpot, Result};
 use serde_json::Value;
 use std::alloc::Global;
 

@@ -1,14 +1,12 @@
 //! Where an input has its first fault: beside the errors, which do not tell. Part of `oxc_sourcemap`.
 #![tactic(auto)]
 
-mod fault_place;
 mod fault_reason;
 mod json_fault;
 mod map_fault;
 mod section_fault;
 mod value_fault;
 
-pub use fault_place::{FaultPlace, FaultSpot};
 pub use fault_reason::{
     FaultReason, json_fault_reason, reading_reason, segment_reason, value_reason,
 };

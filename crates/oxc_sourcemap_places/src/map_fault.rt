@@ -7,10 +7,9 @@ ghost use Rattle.oxc_sourcemap_places.specs.Words.{mappings_spot, read_alone, de
 ghost use Rattle.oxc_sourcemap_places.specs.Words.{json_record, OnlyMemory, ignored_spot};
 ghost use Rattle.oxc_sourcemap_places.specs.Words.{ignored_field};
 
-use crate::fault_place::{FaultSpot, name_of};
 use oxc_sourcemap_json::{JSONSourceMap, read_id};
 use oxc_sourcemap_mappings::mappings_fault_at;
-use oxc_sourcemap_tokens::{Error, Field, JsonFault, Result};
+use oxc_sourcemap_tokens::{Error, FaultSpot, Field, JsonFault, Result, name_of};
 use serde_json::Value;
 use std::alloc::Global;
 

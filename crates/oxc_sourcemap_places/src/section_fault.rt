@@ -8,13 +8,12 @@ ghost use Rattle.oxc_sourcemap_places.specs.Words.{joined_sections, all_sections
 ghost use Rattle.oxc_sourcemap_places.specs.Words.{indexed_said, file_of, sections_in};
 ghost use Rattle.oxc_sourcemap_places.specs.Words.{Answers, OnlyMemory};
 
-use crate::fault_place::{FaultPlace, FaultSpot};
 use crate::map_fault::{shape_spot, value_spot};
 use oxc_sourcemap_decode::{decode_parts, place_after};
 use oxc_sourcemap_join::JoinedParts;
 use oxc_sourcemap_json::{JSONSourceMap, file_from_value};
 use oxc_sourcemap_parts::SourceMapParts;
-use oxc_sourcemap_tokens::{Error, Field, JsonFault, Result};
+use oxc_sourcemap_tokens::{Error, FaultPlace, FaultSpot, Field, JsonFault, Result};
 use serde_json::Value;
 use std::alloc::Global;
 

@@ -3,10 +3,9 @@ ghost use Rattle.std.specs.Prelude.{◌≡◌, IfOk, is_some};
 ghost use Rattle.std.specs.Result.{is_err};
 ghost use Rattle.oxc_sourcemap_places.specs.Words.{view, value_place, read_value, OnlyMemory};
 
-use crate::fault_place::FaultPlace;
 use crate::map_fault::value_spot;
 use crate::section_fault::{indexed_place, is_indexed};
-use oxc_sourcemap_tokens::Result;
+use oxc_sourcemap_tokens::{FaultPlace, Result};
 use serde_json::Value;
 use std::alloc::Global;
 

@@ -4,11 +4,11 @@ use Rattle.std.specs.Option.{unwrap_or}
 use Rattle.std.specs.Fmt.{decimal}
 use Rattle.oxc_sourcemap_tokens.specs.Messages.{key_of}
 use Rattle.oxc_sourcemap_tokens.specs.declared.error.Field.{Field}
-use Rattle.oxc_sourcemap_mappings.specs.declared.fault_at.SegmentPlace.{SegmentPlace}
-use Rattle.oxc_sourcemap_places.specs.declared.fault_place.FaultPlace.{FaultPlace}
-use Rattle.oxc_sourcemap_places.specs.declared.fault_place.FaultSpot.{FaultSpot}
-use Rattle.oxc_sourcemap_places.specs.declared.fault_place.FaultSpot.TheVariants.{Segment, Reading}
-use Rattle.oxc_sourcemap_places.specs.declared.fault_place.FaultSpot.TheVariants.{Member, Entry}
+use Rattle.oxc_sourcemap_tokens.specs.declared.fault.SegmentPlace.{SegmentPlace}
+use Rattle.oxc_sourcemap_tokens.specs.declared.fault.FaultPlace.{FaultPlace}
+use Rattle.oxc_sourcemap_tokens.specs.declared.fault.FaultSpot.{FaultSpot}
+use Rattle.oxc_sourcemap_tokens.specs.declared.fault.FaultSpot.TheVariants.{Segment, Reading}
+use Rattle.oxc_sourcemap_tokens.specs.declared.fault.FaultSpot.TheVariants.{Member, Entry}
 
 -- the key of a member, and `the value` for the value itself
 abbrev pub name_of : Field → List ℕ

@@ -1,10 +1,22 @@
-//! The places of faults, as text.
+//! Faults: errors with the places of what is wrong in an input, and these places as text.
 ghost use Rattle.std.specs.Prelude.{◌≡◌, Some};
-ghost use Rattle.oxc_sourcemap_places.specs.Words.{spot_text, place_text, name_of};
+ghost use Rattle.oxc_sourcemap_tokens.specs.Words.{OutOfMemory, name_of, spot_text, place_text};
+ghost use Rattle.oxc_sourcemap_tokens.specs.Words.{place_in, fault_at, no_place, fault_in};
 
-use oxc_sourcemap_mappings::SegmentPlace;
-use oxc_sourcemap_tokens::Field;
+use crate::error::{Error, Field};
+use std::alloc::{AllocError, AllocFailed};
 use std::fmt;
+
+/// Where a segment of a `mappings` text begins. All three count from 0.
+#[derive(Clone, Copy, Debug, PartialEq, Eq)]
+pub struct SegmentPlace {
+    /// The index of its first byte in the text.
+    pub byte: usize,
+    /// Its generated line: how many `;` are before it.
+    pub line: u32,
+    /// How many segments are before it on its line. Empty segments do not count.
+    pub segment: usize,
+}
 
 /// Where an input has a fault. All numbers count from 0.
 #[derive(Clone, Copy, Debug, PartialEq, Eq)]
@@ -35,11 +47,19 @@ pub enum FaultSpot {
     Entry(Field, usize),
 }
 
-impl FaultPlace {
-    ghost use Rattle.oxc_sourcemap_places.specs.Words.{place_in};
+/// An error of reading an input, with its place. There is none for want of memory, and if the error comes from no one place.
+#[derive(Clone, Copy, Debug, PartialEq, Eq)]
+pub struct Fault {
+    pub error: Error,
+    pub place: Option<FaultPlace>,
+}
 
+/// A `Result` with an error of this library and its place.
+pub type Located<T> = std::result::Result<T, Fault>;
+
+impl FaultPlace {
     /// A place in this section, or in a text without sections.
-    pub(crate) fn new(section: Option<usize>, spot: FaultSpot) -> Self
+    pub fn new(section: Option<usize>, spot: FaultSpot) -> Self
         ensures { result ≡ place_in section spot }
     {
         Self {
@@ -60,25 +80,70 @@ impl FaultPlace {
     }
 }
 
+impl Fault {
+    /// An error at this spot of a text without sections.
+    pub fn at(error: Error, spot: FaultSpot) -> Self
+        ensures { result ≡ fault_at error spot }
+    {
+        Self {
+            error,
+            place: Some(FaultPlace::new(None, spot)),
+        }
+    }
+
+    /// An error that has no place.
+    pub fn without_place(error: Error) -> Self
+        ensures { result ≡ no_place error }
+    {
+        Self { error, place: None }
+    }
+
+    /// The fault of a map by itself as one of this section.
+    pub fn in_section(self, section: usize) -> Self
+        ensures { result ≡ fault_in section self }
+    {
+        match self.place {
+            Some(place) => Self {
+                error: self.error,
+                place: Some(FaultPlace::new(Some(section), place.spot)),
+            },
+            None => self,
+        }
+    }
+}
+
+impl From<AllocError> for Fault {
+    ghost from_gives = { λ _ fault. fault ≡ no_place OutOfMemory };
+
+    fn from(_: AllocError) -> Fault {
+        Fault::without_place(Error::OutOfMemory)
+    }
+}
+
+impl<T: Drop> From<AllocFailed<T>> for Fault {
+    ghost from_gives = { λ _ fault. fault ≡ no_place OutOfMemory };
+
+    fn from(_: AllocFailed<T>) -> Fault {
+        Fault::without_place(Error::OutOfMemory)
+    }
+}
+
+impl From<Fault> for Error {
+    ghost from_gives = { λ fault error. error ≡ fault.error };
+
+    /// The error without its place.
+    fn from(fault: Fault) -> Error {
+        fault.error
+    }
+}
+
 /// The key of a member, and `the value` for the value itself.
-pub(crate) fn name_of(field: Field) -> &'static str
+pub fn name_of(field: Field) -> &'static str
     ensures { result.now ≡ name_of field }
 {
-    match field {
-        Field::Object => "the value",
-        Field::Version => "version",
-        Field::File => "file",
-        Field::Mappings => "mappings",
-        Field::SourceRoot => "sourceRoot",
-        Field::Sources => "sources",
-        Field::SourcesContent => "sourcesContent",
-        Field::Names => "names",
-        Field::DebugId => "debugId",
-        Field::IgnoreList => "ignoreList",
-        Field::GoogleIgnoreList => "x_google_ignoreList",
-        Field::Sections => "sections",
-        Field::Offset => "offset",
-        Field::Map => "map",
+    match field.key() {
+        Some(key) => key,
+        None => "the value",
     }
 }
 

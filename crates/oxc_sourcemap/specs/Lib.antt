@@ -76,7 +76,8 @@ pub use Rattle.oxc_sourcemap_tokens.specs.declared.fault.FaultSpot
 pub use Rattle.oxc_sourcemap_places.specs.declared.fault_reason.FaultReason
 pub use Rattle.oxc_sourcemap_tokens.specs.PlaceMessages
 pub use Rattle.oxc_sourcemap_tokens.specs.Places
-pub use Rattle.oxc_sourcemap_places.specs.ValueSpots
+pub use Rattle.oxc_sourcemap_json.specs.ShapeSpots
+pub use Rattle.oxc_sourcemap_decode.specs.ValuePlaces
 pub use Rattle.oxc_sourcemap_plan_places.specs.PlanPlaces
 pub use Rattle.oxc_sourcemap_url.specs.declared.data_url_error.DataUrlError
 pub use Rattle.oxc_sourcemap_url.specs.declared.language.Language

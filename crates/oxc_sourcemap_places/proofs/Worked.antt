@@ -8,7 +8,7 @@ use Rattle.oxc_sourcemap_tokens.specs.declared.error.Field.TheVariants.{Version,
 use Rattle.oxc_sourcemap_tokens.specs.declared.fault.FaultSpot.TheVariants.{Segment, Reading}
 use Rattle.oxc_sourcemap_tokens.specs.declared.fault.FaultSpot.TheVariants.{Member, Entry}
 use Rattle.oxc_sourcemap_tokens.specs.PlaceMessages.{place_text}
-use Rattle.oxc_sourcemap_places.specs.ValueSpots.{sections_place, indexed_place}
+use Rattle.oxc_sourcemap_decode.specs.ValuePlaces.{sections_place, indexed_place}
 
 tells-text : place_text (record { text = Some 700; section = None; spot = Segment (record { byte = 12; line = 0; segment = 3 }) })
     ≡ codes "text 700, line 0, segment 3 (byte 12)"

@@ -1,2 +1,1 @@
-pub mod ValueSpots
 pub mod Words

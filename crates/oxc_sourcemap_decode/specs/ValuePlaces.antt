@@ -1,88 +1,41 @@
--- Where a JSON value has its first fault: by itself in the order of `shape` and then of the fields that it gives, with sections in
--- that of `section_after`.
-use Rattle.std.specs.Prelude.{◌≡◌, ℕ, ◌+◌, Bool, true, List, [], ◌∷◌, ◌++◌, length, codes}
-use Rattle.std.specs.Prelude.{Option, Some, None, Result, Ok, Err, if◌then◌else◌, is_some, nat_le}
-use Rattle.std.specs.Prelude.{position, ⊤}
+-- Where a JSON value or a JSON text has its first fault: by itself in the order of `shape` and then of the fields that it gives, with
+-- sections in that of `section_after`.
+use Rattle.std.specs.Prelude.{◌≡◌, ◌≢◌, ℕ, true, List, [], ◌∷◌, ◌++◌, length, codes}
+use Rattle.std.specs.Prelude.{Option, Some, None, Result, Ok, Err, IfOk, IfErr, if◌then◌else◌}
+use Rattle.std.specs.Prelude.{is_some, IsSomeAnd, nat_le, position, ⊤}
 use Rattle.std.specs.Option.{option_map, option_and_then, option_or}
-use Rattle.serde_json.specs.Data.{Data, Items, no_items, item, null}
-use Rattle.serde_json.specs.Find.{get, as_str, as_array, as_object}
+use Rattle.serde_json.specs.Data.{Data, Items, no_items, item}
+use Rattle.serde_json.specs.Find.{get, as_object}
+use Rattle.serde_json.specs.Read.{read}
 use Rattle.oxc_sourcemap_tokens.specs.declared.error.Error.{Error}
-use Rattle.oxc_sourcemap_tokens.specs.declared.error.Error.TheVariants.{BadJson}
-use Rattle.oxc_sourcemap_tokens.specs.declared.error.JsonFault.{JsonFault}
-use Rattle.oxc_sourcemap_tokens.specs.declared.error.JsonFault.TheVariants.{Reading, Shape, Version}
+use Rattle.oxc_sourcemap_tokens.specs.declared.error.Error.TheVariants.{OutOfMemory}
 use Rattle.oxc_sourcemap_tokens.specs.declared.error.Field.{Field}
-use Rattle.oxc_sourcemap_tokens.specs.declared.error.Field.TheVariants.{Sources, SourcesContent}
-use Rattle.oxc_sourcemap_tokens.specs.declared.error.Field.TheVariants.{Names, IgnoreList}
-use Rattle.oxc_sourcemap_tokens.specs.declared.error.Field.TheVariants.{GoogleIgnoreList}
-use Rattle.oxc_sourcemap_tokens.specs.declared.error.Field.TheVariants.{Version as VersionField}
 use Rattle.oxc_sourcemap_tokens.specs.declared.error.Field.TheVariants.{Map as MapField}
-use Rattle.oxc_sourcemap_tokens.specs.declared.error.Field.TheVariants.{Object}
 use Rattle.oxc_sourcemap_tokens.specs.declared.error.Field.TheVariants.{Offset as OffsetField}
 use Rattle.oxc_sourcemap_tokens.specs.declared.error.Field.TheVariants.{Sections as SectionsField}
-use Rattle.oxc_sourcemap_mappings.specs.SegmentPlaces.{fault_place}
-use Rattle.oxc_sourcemap_json.specs.Json.{JsonRecord}
-use Rattle.oxc_sourcemap_json.specs.Shape.{◌>>=◌, as_content, as_id, shape}
-use Rattle.oxc_sourcemap_json.specs.Shape.{file_of}
-use Rattle.oxc_sourcemap_tokens.specs.declared.position.Position.{Position}
-use Rattle.oxc_sourcemap_parts.specs.Record.{MapRecord}
-use Rattle.oxc_sourcemap_join.specs.Joined.{joined}
-use Rattle.oxc_sourcemap_decode.specs.Decoded.{decoded}
-use Rattle.oxc_sourcemap_decode.specs.JoinLimits.{is_map_within_limits}
-use Rattle.oxc_sourcemap_decode.specs.ReadMap.{sections_in}
-use Rattle.oxc_sourcemap_decode.specs.Section.{is_indexed, as_plain}
-use Rattle.oxc_sourcemap_decode.specs.Sections.{place_after, section_map}
+use Rattle.oxc_sourcemap_tokens.specs.declared.fault.Fault.{Fault}
 use Rattle.oxc_sourcemap_tokens.specs.declared.fault.FaultPlace.{FaultPlace}
 use Rattle.oxc_sourcemap_tokens.specs.declared.fault.FaultSpot.{FaultSpot}
 use Rattle.oxc_sourcemap_tokens.specs.declared.fault.FaultSpot.TheVariants.{Segment, Member}
 use Rattle.oxc_sourcemap_tokens.specs.declared.fault.FaultSpot.TheVariants.{Entry}
 use Rattle.oxc_sourcemap_tokens.specs.declared.fault.FaultSpot.TheVariants.{Reading as ReadingSpot}
-use Rattle.oxc_sourcemap_tokens.specs.PlaceMessages.{name_of}
+use Rattle.oxc_sourcemap_tokens.specs.declared.position.Position.{Position}
 use Rattle.oxc_sourcemap_tokens.specs.Places.{place_in}
+use Rattle.oxc_sourcemap_mappings.specs.SegmentPlaces.{fault_place}
+use Rattle.oxc_sourcemap_parts.specs.Record.{Text, MapRecord}
+use Rattle.oxc_sourcemap_join.specs.Joined.{joined}
+use Rattle.oxc_sourcemap_json.specs.Json.{JsonRecord}
+use Rattle.oxc_sourcemap_json.specs.Shape.{◌>>=◌, shape, file_of}
+use Rattle.oxc_sourcemap_json.specs.ShapeSpots.{shape_spot, ignored_field}
+use Rattle.oxc_sourcemap_decode.specs.Decoded.{decoded}
+use Rattle.oxc_sourcemap_decode.specs.JoinLimits.{is_map_within_limits}
+use Rattle.oxc_sourcemap_decode.specs.ReadMap.{sections_in}
+use Rattle.oxc_sourcemap_decode.specs.Section.{is_indexed, as_plain}
+use Rattle.oxc_sourcemap_decode.specs.Sections.{place_after, section_map}
 
--- the value may be an entry of the list that this member is
-abbrev pub is_entry : Field → Data → Bool
-is_entry Sources d = is_some (as_str d)
-is_entry SourcesContent d = is_some (as_content d)
-is_entry Names d = is_some (as_str d)
-is_entry IgnoreList d = is_some (as_id d)
-is_entry GoogleIgnoreList d = is_some (as_id d)
-is_entry field d = true
-
--- the index of the first item that fails a test
-abbrev pub first_failing : (Data → Bool) → Items → Option ℕ
-first_failing passes no_items = None
-first_failing passes (item d ds) = if passes d then option_map (λ i. i + 1) (first_failing passes ds) else Some 0
-
--- the index of the first entry of the wrong type, if this member is a list with one
-abbrev pub bad_entry : Field → Data → Option ℕ
-bad_entry field list = option_and_then (first_failing (is_entry field)) (as_array list)
-
--- where a member is misshapen: at an entry, or as a whole
-abbrev pub entry_or_member : Field → Option ℕ → FaultSpot
-entry_or_member field None = Member field
-entry_or_member field (Some index) = Entry field index
-
-abbrev pub member_spot : Field → Data → FaultSpot
-member_spot field d = entry_or_member field (option_and_then (bad_entry field) (get (name_of field) d))
-
--- where a value has this fault of its shape; there are no others
-abbrev pub json_spot : Data → JsonFault → FaultSpot
-json_spot d Reading = Member Object
-json_spot d (Shape field) = member_spot field d
-json_spot d (Version n) = Member VersionField
-
-abbrev pub shape_spot : Data → Error → FaultSpot
-shape_spot d (BadJson fault) = json_spot d fault
-shape_spot d error = Member Object
-
--- the member that is the ignore list of a map: the older one, if the other is null or missing
-abbrev pub ignored_by : Option Data → Field
-ignored_by None = GoogleIgnoreList
-ignored_by (Some null) = GoogleIgnoreList
-ignored_by (Some list) = IgnoreList
-
-abbrev pub ignored_field : Data → Field
-ignored_field d = ignored_by (get (codes "ignoreList") d)
+-- a spot as a place, in a text without sections
+abbrev pub place_at : FaultSpot → FaultPlace
+place_at spot = place_in None spot
 
 -- the entry of the ignore list, which is this member, that is no source
 abbrev pub ignored_spot : Field → JsonRecord → Option FaultSpot
@@ -164,3 +117,17 @@ IsReadingSpot spot = ⊥
 
 abbrev pub IsReading : FaultPlace → Type 0
 IsReading place = (place.text ≡ None) × (place.section ≡ None) × IsReadingSpot place.spot
+
+-- A text has no place of a fault, if it is JSON.
+abbrev pub HasNoPlace : Text → Type 0
+HasNoPlace text = (d : Data) → read text ≡ Some d → value_place d ≡ None
+
+-- A fault, unless it is want of memory, has the place of the first fault of this text.
+abbrev pub IsPlacedIn : Text → Fault → Type 0
+IsPlacedIn text f =
+    (f.error ≢ OutOfMemory) → ((d : Data) → read text ≡ Some d → value_place d ≡ f.place)
+    × (read text ≡ None → IsSomeAnd f.place IsReading) × (is_some f.place ≡ true)
+
+-- The place of the error of the call is that of the first fault of this text; where it succeeds, there is none.
+abbrev pub LocatesIn : {A : Type 0} → Text → Result A Fault → Type 0
+LocatesIn text result = IfOk result (λ x. HasNoPlace text) × IfErr result (IsPlacedIn text)

@@ -27,8 +27,8 @@ async function started(t, numbers) {
 
 async function answered(worker) {
   worker.postMessage('go');
-  const [answers] = await once(worker, 'message');
-  await once(worker, 'exit');
+  // (both are waited for at once: a message may come in the very turn of the loop in which the worker ends)
+  const [[answers]] = await Promise.all([once(worker, 'message'), once(worker, 'exit')]);
   return answers;
 }
 

@@ -110,6 +110,10 @@ const REMADE: &[PlanRow] = &[
     ("remap join 2 @0 0 @0 3 1 a.js @1",
      &[BUNDLE, OF_A],
      Ok(r#"{"version":3,"names":["add","y"],"sources":["a.ts","b.js","a.ts","b.js"],"sourcesContent":["let a",null,"let a",null],"mappings":"AACEA,IAAEC;ACAA,KAAK;;ACAPD,IAAEC;ACAA,KAAK"}"#)),
+    // A module that stands for two sources, and one that stays, each with its content.
+    ("remap @0 1 a.js @1",
+     &[r#"{"version":3,"sources":["a.js","b.js","a.js"],"sourcesContent":[null,"let b"],"mappings":"AAAA,ICAA,ICAA"}"#, OF_A],
+     Ok(r#"{"version":3,"names":["add"],"sources":["a.ts","b.js","a.ts"],"sourcesContent":["let a","let b","let a"],"mappings":"AACEA,ICDF,ICCEA"}"#)),
     ("root @0",
      &[ROOTED],
      Ok(r#"{"version":3,"names":[],"sources":["pkg/a/src/index.ts","/abs.ts","http://x/y.ts"],"mappings":"AAAA,CCAA,CCAA"}"#)),

@@ -14,7 +14,7 @@ pub use Rattle.oxc_sourcemap_tokens.specs.declared.plan_error.PlanError
 pub use Rattle.oxc_sourcemap_tokens.specs.Token
 pub use Rattle.oxc_sourcemap_mappings.specs.Faults
 pub use Rattle.oxc_sourcemap_mappings.specs.Reading
-pub use Rattle.oxc_sourcemap_mappings.specs.declared.fault_at.SegmentPlace
+pub use Rattle.oxc_sourcemap_tokens.specs.declared.fault.SegmentPlace
 pub use Rattle.oxc_sourcemap_mappings.specs.SegmentPlaces
 pub use Rattle.oxc_sourcemap_mappings.specs.declared.reason.SegmentReason
 pub use Rattle.oxc_sourcemap_tokens.specs.State
@@ -71,11 +71,13 @@ pub use Rattle.oxc_sourcemap_builders.specs.NameLaws
 pub use Rattle.oxc_sourcemap_text.specs.TextLines
 pub use Rattle.oxc_sourcemap_text.specs.Positions
 pub use Rattle.oxc_sourcemap_text.specs.PositionLaws
-pub use Rattle.oxc_sourcemap_places.specs.declared.fault_place.FaultPlace
-pub use Rattle.oxc_sourcemap_places.specs.declared.fault_place.FaultSpot
+pub use Rattle.oxc_sourcemap_tokens.specs.declared.fault.FaultPlace
+pub use Rattle.oxc_sourcemap_tokens.specs.declared.fault.FaultSpot
 pub use Rattle.oxc_sourcemap_places.specs.declared.fault_reason.FaultReason
-pub use Rattle.oxc_sourcemap_places.specs.PlaceMessages
-pub use Rattle.oxc_sourcemap_places.specs.ValueSpots
+pub use Rattle.oxc_sourcemap_tokens.specs.PlaceMessages
+pub use Rattle.oxc_sourcemap_tokens.specs.Places
+pub use Rattle.oxc_sourcemap_json.specs.ShapeSpots
+pub use Rattle.oxc_sourcemap_decode.specs.ValuePlaces
 pub use Rattle.oxc_sourcemap_plan_places.specs.PlanPlaces
 pub use Rattle.oxc_sourcemap_url.specs.declared.data_url_error.DataUrlError
 pub use Rattle.oxc_sourcemap_url.specs.declared.language.Language

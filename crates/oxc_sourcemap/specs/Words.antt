@@ -49,8 +49,8 @@ pub use Rattle.oxc_sourcemap_parts.specs.Texts.{index_of}
 pub use Rattle.oxc_sourcemap_parts.specs.Views.{record_of_parts, empty_record, text_of, texts_of}
 pub use Rattle.oxc_sourcemap_parts.specs.Views.{contents_of, chunks_of}
 pub use Rattle.oxc_sourcemap_pieces.specs.RangePieces.{place, pieces_of, DoCover}
-pub use Rattle.oxc_sourcemap_places.specs.PlaceMessages.{place_text, spot_text}
-pub use Rattle.oxc_sourcemap_places.specs.ValueSpots.{value_spot, value_place, IsReading}
+pub use Rattle.oxc_sourcemap_tokens.specs.PlaceMessages.{place_text, spot_text}
+pub use Rattle.oxc_sourcemap_decode.specs.ValuePlaces.{value_spot, value_place, IsReading}
 pub use Rattle.oxc_sourcemap_plan_places.specs.PlanPlaces.{texts_of as plan_texts_of, IsPlanPlace}
 pub use Rattle.oxc_sourcemap_plan.specs.Depth.{depth}
 pub use Rattle.oxc_sourcemap_plan.specs.Evaluated.{IsEvaluated, HasOutcome, IsErrorOf}

@@ -18,20 +18,19 @@ pub use oxc_sourcemap_found::{Found, Mend, MendKind, fault_reason, found_fault_a
 pub use oxc_sourcemap_json::{JSONSourceMap, file_from_value};
 pub use oxc_sourcemap_map::{OwnedSourceMap, SourceMap, SourceViewToken, ViewTokens};
 pub use oxc_sourcemap_mappings::{
-    SegmentPlace, SegmentReason, decode_mappings, encode_chunk, encode_mappings, mappings_fault_at,
+    SegmentReason, decode_mappings, encode_chunk, encode_mappings, mappings_fault_at,
     mappings_fault_reason,
 };
 pub use oxc_sourcemap_parts::{Contents, Names, SourceMapParts, Sources, Tokens};
 pub use oxc_sourcemap_pieces::{Piece, Pieces};
-pub use oxc_sourcemap_places::{
-    FaultPlace, FaultReason, FaultSpot, json_fault_at, json_fault_reason, value_fault_at,
-};
+pub use oxc_sourcemap_places::{FaultReason, json_fault_at, json_fault_reason, value_fault_at};
 pub use oxc_sourcemap_plan::Plan;
 pub use oxc_sourcemap_plan_places::plan_fault_at;
 pub use oxc_sourcemap_reverse::{IndexTokens, SourceIndex};
 pub use oxc_sourcemap_text::{PositionError, TextPositions};
 pub use oxc_sourcemap_tokens::{
-    Error, Field, JsonFault, PlanError, Position, Result, Token, TokenChunk, chunk_fault,
+    Error, FaultPlace, FaultSpot, Field, JsonFault, PlanError, Position, Result, SegmentPlace,
+    Token, TokenChunk, chunk_fault,
 };
 pub use oxc_sourcemap_url::{
     DataUrlError, Language, SourceMappingComment, decode_data_url, source_mapping_comment,

@@ -61,7 +61,7 @@ pub use Rattle.oxc_sourcemap_mappings.specs.Reading.{reading}
 pub use Rattle.oxc_sourcemap_parts.specs.Roots.{rooted}
 pub use Rattle.oxc_sourcemap_parts.specs.Sorted.{are_tokens_sorted}
 pub use Rattle.oxc_sourcemap_parts.specs.Sound.{IsSound}
-pub use Rattle.oxc_sourcemap_places.specs.PlaceMessages.{place_text}
+pub use Rattle.oxc_sourcemap_tokens.specs.PlaceMessages.{place_text}
 pub use Rattle.oxc_sourcemap_plan.specs.PlanArguments.{parsed_plan}
 pub use Rattle.oxc_sourcemap_simplify.specs.Simplified.{simplification}
 pub use Rattle.oxc_sourcemap_sort.specs.Sorting.{sorted_map}

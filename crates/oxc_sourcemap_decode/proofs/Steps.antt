@@ -83,7 +83,7 @@ error-map front d ds place e h g =
     ap (λ (r : Result Position Error). onto_section front (λ s. sections_after (front ++ s ∷ []) ds) (r >>= (λ place. section_map d >>= (λ m. Ok (m, place))))) h
     ∙ ap (λ (r : Result MapRecord Error). onto_section front (λ s. sections_after (front ++ s ∷ []) ds) (r >>= (λ m. Ok (m, place)))) g
 
-taken : (front : List Placed) (d : Data) (ds : Items) (place : Position) (m : MapRecord) → place_after front d ≡ Ok place → section_map d ≡ Ok m
+pub taken : (front : List Placed) (d : Data) (ds : Items) (place : Position) (m : MapRecord) → place_after front d ≡ Ok place → section_map d ≡ Ok m
     → sections_after front (item d ds) ≡ sections_after (front ++ (m, place) ∷ []) ds
 taken front d ds place m h g =
     ap (λ (r : Result Position Error). onto_section front (λ s. sections_after (front ++ s ∷ []) ds) (r >>= (λ place. section_map d >>= (λ m. Ok (m, place))))) h

@@ -1,28 +1,25 @@
 //! Reading the parts of a map from a JSON source map.
-ghost use Rattle.std.specs.Prelude.{◌≡◌, map, string_bytes, option_map, IfOk, None};
-ghost use Rattle.std.specs.Option.{option_map_or};
+ghost use Rattle.std.specs.Prelude.{◌≡◌, map, string_bytes, option_map, IfOk, None, length};
+ghost use Rattle.std.specs.Prelude.{nat_le, position, IfSome, is_some, true};
+ghost use Rattle.std.specs.Option.{option_map_or, option_and_then};
 ghost use Rattle.oxc_sourcemap_decode.specs.Words.{Error, texts_of, contents_of, record_of_parts};
 ghost use Rattle.oxc_sourcemap_decode.specs.Words.{json_record, json_contents, decoded, json_fault};
-ghost use Rattle.oxc_sourcemap_decode.specs.Words.{first_not_below, Answers, Reports};
+ghost use Rattle.oxc_sourcemap_decode.specs.Words.{first_not_below, Answers, Reports, Reads};
 ghost use Rattle.oxc_sourcemap_decode.specs.Words.{BadSourceReference, usual_record, json_ids};
+ghost use Rattle.oxc_sourcemap_decode.specs.Words.{Locates, Refuses, fields_spot, place_at, Entry};
 
 use oxc_sourcemap_json::{JSONSourceMap, UsualMap};
-use oxc_sourcemap_mappings::decode_mappings;
+use oxc_sourcemap_mappings::read_mappings;
 use oxc_sourcemap_parts::{SourceMapParts, from_optional_strings, from_string, from_strings};
-use oxc_sourcemap_tokens::{Error, JsonFault, Memory, Result};
+use oxc_sourcemap_tokens::{Error, Fault, FaultSpot, Field, JsonFault, Located, Memory, Result};
 use std::alloc::Global;
 use std::borrow::CowStr;
 
-/// The first id that is not below a count.
-fn first_id_not_below(count: usize, ids: &[u32]) -> Option<u32>
-    ensures { result ≡ first_not_below count ids.now }
+/// The index of the first id that is not below a count.
+fn first_past(count: usize, ids: &[u32]) -> Option<usize>
+    ensures { result ≡ position (λ id. nat_le count id) ids.now }
 {
-    for id in ids {
-        if *id as usize >= count {
-            return Some(*id);
-        }
-    }
-    None
+    ids.iter().position(|id| *id as usize >= count)
 }
 
 /// The contents of a JSON source map as those of a map.
@@ -66,35 +63,47 @@ fn from_lists(
     })
 }
 
-/// The fault of an ignore list for so many sources: the first entry that is not below their number.
-fn list_fault(list: &Option<Vec<u32>>, sources: usize) -> Option<Error>
-    ensures { result ≡ option_map BadSourceReference
+/// The fault of an ignore list, which is this member, for so many sources: the first entry that is not below their number.
+fn list_fault(ignored: Field, list: &Option<Vec<u32>>, sources: usize) -> Option<Fault>
+    ensures error { option_map (λ f. f.error) result ≡ option_map BadSourceReference
         (option_map_or (first_not_below sources) (json_ids list.now) None) }
+    ensures place { option_and_then (λ f. f.place) result ≡ option_map (λ i. place_at
+        (Entry ignored i)) (option_and_then (position (λ id. nat_le sources id))
+        (json_ids list.now)) }
+    ensures told { IfSome result (λ f. is_some f.place ≡ true) }
 {
-    let list = list.as_ref()?;
-    let id = first_id_not_below(sources, list.as_slice())?;
-    Some(Error::BadSourceReference(id))
+    let ids = list.as_ref()?.as_slice();
+    let index = first_past(sources, ids)?;
+    let error = Error::BadSourceReference(ids[index]);
+    Some(Fault::at(error, FaultSpot::Entry(ignored, index)))
 }
 
-/// The first fault of a JSON source map besides those of its mappings.
-fn json_fault(json: &JSONSourceMap) -> Option<Error>
-    ensures { result ≡ json_fault (json_record json.now) }
+/// The first fault of a JSON source map, whose ignore list is this member, besides those of its mappings.
+fn json_fault(ignored: Field, json: &JSONSourceMap) -> Option<Fault>
+    ensures error { option_map (λ f. f.error) result ≡ json_fault (json_record json.now) }
+    ensures place { (json_record json.now).version ≡ 3 → option_and_then (λ f. f.place) result
+        ≡ option_map (λ i. place_at (Entry ignored i)) (option_and_then (position (λ id.
+        nat_le (length (json_record json.now).sources) id)) (json_record json.now).ignore_list) }
+    ensures told { IfSome result (λ f. is_some f.place ≡ true) }
 {
     if json.version != 3 {
-        return Some(Error::BadJson(JsonFault::Version(json.version)));
+        let error = Error::BadJson(JsonFault::Version(json.version));
+        return Some(Fault::at(error, FaultSpot::Member(Field::Version)));
     }
-    list_fault(&json.ignore_list, json.sources.len())
+    list_fault(ignored, &json.ignore_list, json.sources.len())
 }
 
 /// The parts of the map of these fields. Fails as `decode_parts` does, but for the version, which is 3.
-pub(crate) fn decode_usual(alloc: Global, map: UsualMap<'_>) -> Result<SourceMapParts<'static>>
-    ensures map { Answers record_of_parts result (decoded (usual_record map.entry)) }
-    ensures fault { Reports (json_fault (usual_record map.entry)) result }
+pub(crate) fn read_usual(alloc: Global, map: UsualMap<'_>) -> Located<SourceMapParts<'static>>
+    ensures map { Reads record_of_parts result (decoded (usual_record map.entry)) }
+    ensures place { Locates result (option_map place_at
+        (fields_spot map.entry.ignored (usual_record map.entry))) }
+    ensures fault { Refuses (json_fault (usual_record map.entry)) result }
 {
-    if let Some(fault) = list_fault(&map.ignore_list, map.sources.len()) {
+    if let Some(fault) = list_fault(map.ignored, &map.ignore_list, map.sources.len()) {
         return Err(fault);
     }
-    let tokens = decode_mappings(alloc, map.mappings, map.names.len(), map.sources.len())?;
+    let tokens = read_mappings(alloc, map.mappings, map.names.len(), map.sources.len())?;
     Ok(SourceMapParts {
         file: from_string(map.file),
         names: map.names,
@@ -122,7 +131,21 @@ pub fn decode_parts(alloc: Global, json: JSONSourceMap) -> Result<SourceMapParts
     ensures map { Answers record_of_parts result (decoded (json_record json)) }
     ensures fault { Reports (json_fault (json_record json)) result }
 {
-    if let Some(fault) = json_fault(&json) {
+    Ok(read_fields(alloc, json, Field::IgnoreList)?)
+}
+
+/// The parts of the map of a JSON source map, as `decode_parts` reads it, whose ignore list is this member.
+pub fn read_fields(
+    alloc: Global,
+    json: JSONSourceMap,
+    ignored: Field,
+) -> Located<SourceMapParts<'static>>
+    ensures map { Reads record_of_parts result (decoded (json_record json)) }
+    ensures place { (json_record json).version ≡ 3 → Locates result (option_map place_at
+        (fields_spot ignored (json_record json))) }
+    ensures fault { Refuses (json_fault (json_record json)) result }
+{
+    if let Some(fault) = json_fault(ignored, &json) {
         return Err(fault);
     }
     let JSONSourceMap {
@@ -146,6 +169,7 @@ pub fn decode_parts(alloc: Global, json: JSONSourceMap) -> Result<SourceMapParts
         names: lists.names,
         debug_id,
         ignore_list,
+        ignored,
     };
-    decode_usual(alloc, map)
+    read_usual(alloc, map)
 }

@@ -4,10 +4,13 @@
 
 mod decode;
 mod place;
+mod reading;
 mod sections;
 
-pub use decode::decode_parts;
-pub use place::{may_follow, place_after, place_in};
+pub use decode::{decode_parts, read_fields};
+pub use place::{may_follow, place_in};
+pub use reading::reading_place;
 pub use sections::{
     decode_parts_from_string, decode_parts_from_value, into_member, is_indexed, is_plain,
+    offset_place, read_parts_from_string, read_parts_from_value,
 };

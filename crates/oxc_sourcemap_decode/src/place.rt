@@ -78,7 +78,7 @@ fn may_begin(so_far: &JoinedParts<'_>, before: Option<Position>, place: Position
 
 /// The offset of the section after the joined ones, the last of which begins at `before`. Fails with `BadJson` if the section has
 /// none, and with `SectionOrder` if it is before `before` or before the last joined token.
-pub fn place_after(
+pub(crate) fn place_after(
     so_far: &JoinedParts<'_>,
     before: Option<Position>,
     section: &Value,

@@ -11,8 +11,8 @@ use Rattle.oxc_sourcemap_parts.specs.Record.{Text}
 use Rattle.oxc_sourcemap_json.specs.Json.{JsonRecord}
 use Rattle.oxc_sourcemap_json.specs.Shape.{◌>>=◌, shape}
 use Rattle.oxc_sourcemap_decode.specs.Decoded.{ignore_list_fault}
-use Rattle.oxc_sourcemap_places.specs.declared.fault_place.FaultPlace.{FaultPlace}
-use Rattle.oxc_sourcemap_places.specs.ValueSpots.{ignored_spot}
+use Rattle.oxc_sourcemap_tokens.specs.declared.fault.FaultPlace.{FaultPlace}
+use Rattle.oxc_sourcemap_decode.specs.ValuePlaces.{ignored_spot}
 use Rattle.oxc_sourcemap_places.proofs.Found.{by-ignored, ignored-found}
 use Rattle.oxc_sourcemap_found.specs.declared.mend.Mend.{Mend}
 use Rattle.oxc_sourcemap_found.specs.FoundMaps.{FoundRecord, or_not_json, found_value}

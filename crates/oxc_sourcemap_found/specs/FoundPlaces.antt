@@ -18,11 +18,14 @@ use Rattle.oxc_sourcemap_json.specs.Json.{JsonRecord}
 use Rattle.oxc_sourcemap_json.specs.Shape.{shape, file_of}
 use Rattle.oxc_sourcemap_decode.specs.ReadMap.{sections_in}
 use Rattle.oxc_sourcemap_decode.specs.Section.{is_indexed, as_plain}
-use Rattle.oxc_sourcemap_places.specs.declared.fault_place.FaultPlace.{FaultPlace}
-use Rattle.oxc_sourcemap_places.specs.declared.fault_place.FaultSpot.{FaultSpot}
-use Rattle.oxc_sourcemap_places.specs.declared.fault_place.FaultSpot.TheVariants.{Segment, Member}
-use Rattle.oxc_sourcemap_places.specs.ValueSpots.{shape_spot, ignored_spot, place_in, offset_place}
-use Rattle.oxc_sourcemap_places.specs.ValueSpots.{or_place, IsReading, ignored_field}
+use Rattle.oxc_sourcemap_tokens.specs.declared.fault.FaultPlace.{FaultPlace}
+use Rattle.oxc_sourcemap_tokens.specs.declared.fault.FaultSpot.{FaultSpot}
+use Rattle.oxc_sourcemap_tokens.specs.declared.fault.FaultSpot.TheVariants.{Segment, Member}
+use Rattle.oxc_sourcemap_json.specs.ShapeSpots.{shape_spot}
+use Rattle.oxc_sourcemap_decode.specs.ValuePlaces.{ignored_spot, offset_place}
+use Rattle.oxc_sourcemap_tokens.specs.Places.{place_in}
+use Rattle.oxc_sourcemap_json.specs.ShapeSpots.{ignored_field}
+use Rattle.oxc_sourcemap_decode.specs.ValuePlaces.{or_place, IsReading}
 use Rattle.oxc_sourcemap_found.specs.FoundMaps.{FoundRecord}
 use Rattle.oxc_sourcemap_found.specs.Mended.{mended_members, with_version, as_found}
 use Rattle.oxc_sourcemap_found.specs.MendedSections.{place_from}

@@ -44,4 +44,5 @@ pub use Rattle.oxc_sourcemap_found.specs.FoundPlaces.{section_place, found_secti
 pub use Rattle.oxc_sourcemap_found.specs.FoundPlaces.{map_members}
 pub use Rattle.oxc_sourcemap_found.specs.FoundPlaces.{found_indexed_place, found_value_place}
 pub use Rattle.oxc_sourcemap_found.specs.FoundPlaces.{IsFoundPlace, HasPlaceIfRefused}
-pub use Rattle.oxc_sourcemap_places.specs.ValueSpots.{IsReading, place_in}
+pub use Rattle.oxc_sourcemap_decode.specs.ValuePlaces.{IsReading}
+pub use Rattle.oxc_sourcemap_tokens.specs.Places.{place_in}

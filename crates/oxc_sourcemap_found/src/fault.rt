@@ -17,13 +17,11 @@ use crate::members::{mend_object, mend_version};
 use crate::opening::open;
 use crate::plain::into_object;
 use crate::sections::place_after;
-use oxc_sourcemap_decode::{into_member, is_indexed, is_plain};
-use oxc_sourcemap_json::{JSONSourceMap, file_from_value};
+use oxc_sourcemap_decode::{into_member, is_indexed, is_plain, offset_place, reading_place};
+use oxc_sourcemap_json::{JSONSourceMap, file_from_value, ignored_field};
 use oxc_sourcemap_mappings::mappings_fault_at;
-use oxc_sourcemap_places::{
-    FaultPlace, FaultSpot, ignored_field, ignored_spot, offset_place, reading_place, shape_spot,
-};
-use oxc_sourcemap_tokens::{Error, Field, Result};
+use oxc_sourcemap_places::{ignored_spot, shape_spot};
+use oxc_sourcemap_tokens::{Error, FaultPlace, FaultSpot, Field, Result};
 use serde_json::{Map, Value};
 use std::alloc::Global;
 use std::borrow::CowStr;

@@ -1,17 +1,19 @@
 //! A map by itself, mended.
 ghost use Rattle.std.specs.Prelude.{◌≡◌, option_map, IfOk};
-ghost use Rattle.oxc_sourcemap_found.specs.Words.{view, Answers, json_record, record_of_parts};
+ghost use Rattle.oxc_sourcemap_found.specs.Words.{view, json_record, record_of_parts, Reads};
 ghost use Rattle.oxc_sourcemap_found.specs.Words.{decoded_with_any_ids, mended_map, plain_map};
 ghost use Rattle.oxc_sourcemap_found.specs.Words.{mended_view, members_view, as_object};
+ghost use Rattle.oxc_sourcemap_found.specs.Words.{found_fields_spot, plain_spot, place_at};
+ghost use Rattle.oxc_sourcemap_found.specs.Words.{Locates};
 
 use crate::members::mend_object;
 use crate::mend::MendKind;
 use crate::tokens::mend_ids;
-use oxc_sourcemap_decode::decode_parts;
-use oxc_sourcemap_json::{JSONSourceMap, json_of};
-use oxc_sourcemap_mappings::decode_mappings;
+use oxc_sourcemap_decode::read_fields;
+use oxc_sourcemap_json::{JSONSourceMap, ignored_field, json_of};
+use oxc_sourcemap_mappings::read_mappings;
 use oxc_sourcemap_parts::SourceMapParts;
-use oxc_sourcemap_tokens::{Memory, Result};
+use oxc_sourcemap_tokens::{Field, Located, Memory};
 use serde_json::{Map, Value};
 use std::alloc::Global;
 use std::mem;
@@ -23,15 +25,21 @@ pub(crate) struct MendedParts {
     pub(crate) kinds: Vec<MendKind>,
 }
 
-/// The parts of the map of a JSON source map, whose mappings may have any ids.
+/// The parts of the map of a JSON source map, whose mappings may have any ids and whose ignore list is this member.
 #[tactic(auto, using(crate::proofs::AnyIds::any_ok, crate::proofs::AnyIds::any_fault, crate::proofs::AnyIds::any_text_fault))]
-fn decode_with_any_ids(alloc: Global, mut json: JSONSourceMap) -> Result<SourceMapParts<'static>>
-    ensures { Answers record_of_parts result (decoded_with_any_ids (json_record json)) }
+fn read_with_any_ids(
+    alloc: Global,
+    mut json: JSONSourceMap,
+    ignored: Field,
+) -> Located<SourceMapParts<'static>>
+    ensures map { Reads record_of_parts result (decoded_with_any_ids (json_record json)) }
+    ensures place { (json_record json).version ≡ 3 → Locates result (option_map place_at
+        (found_fields_spot ignored (json_record json))) }
 {
     let mappings = mem::replace(&mut json.mappings, String::new(alloc));
-    let mut parts = decode_parts(alloc, json)?;
+    let mut parts = read_fields(alloc, json, ignored)?;
     let any = u32::MAX as usize;
-    parts.tokens = decode_mappings(alloc, mappings.as_str(), any, any)?;
+    parts.tokens = read_mappings(alloc, mappings.as_str(), any, any)?;
     Ok(parts)
 }
 
@@ -59,11 +67,14 @@ fn mend_tokens(
 }
 
 /// The parts of the map of an object that is no indexed map.
-pub(crate) fn mend_plain(alloc: Global, object: Map<String, Value>) -> Result<MendedParts>
-    ensures { Answers mended_view result (plain_map (members_view object.entries)) }
+pub(crate) fn mend_plain(alloc: Global, object: Map<String, Value>) -> Located<MendedParts>
+    ensures map { Reads mended_view result (plain_map (members_view object.entries)) }
+    ensures place { Locates result (option_map place_at (plain_spot (members_view object.entries))) }
 {
     let (object, kinds) = mend_object(alloc, object)?;
-    let json = json_of(alloc, Value::Object(object))?;
-    let parts = decode_with_any_ids(alloc, json)?;
+    let value = Value::Object(object);
+    let ignored = ignored_field(&value);
+    let json = json_of(alloc, value)?;
+    let parts = read_with_any_ids(alloc, json, ignored)?;
     Ok(mend_tokens(alloc, kinds, parts)?)
 }

@@ -1,12 +1,16 @@
 //! The sections of an indexed map, each mended as a map by itself.
-ghost use Rattle.std.specs.Prelude.{◌≡◌, map, None};
-ghost use Rattle.oxc_sourcemap_found.specs.Words.{view, items_view, Answers, place_from, map_from};
+ghost use Rattle.std.specs.Prelude.{◌≡◌, map, option_map, Some, None};
+ghost use Rattle.oxc_sourcemap_found.specs.Words.{view, items_view, place_from, map_from, Reads};
 ghost use Rattle.oxc_sourcemap_found.specs.Words.{section_from, sections_from, mended_view};
-ghost use Rattle.oxc_sourcemap_found.specs.Words.{section_view};
+ghost use Rattle.oxc_sourcemap_found.specs.Words.{section_view, Locates, misshapen, place_at};
+ghost use Rattle.oxc_sourcemap_found.specs.Words.{found_map_spot, section_place, offset_place};
+ghost use Rattle.oxc_sourcemap_found.specs.Words.{found_sections_place, or_place};
 
 use crate::plain::{MendedParts, into_object, mend_plain};
-use oxc_sourcemap_decode::{into_member, is_plain, may_follow, place_in};
-use oxc_sourcemap_tokens::{Error, Field, JsonFault, Position, Result};
+use oxc_sourcemap_decode::{into_member, is_plain, may_follow, offset_place, place_in};
+use oxc_sourcemap_tokens::{
+    Error, Fault, FaultSpot, Field, JsonFault, Located, Position, Result,
+};
 use serde_json::Value;
 use std::alloc::Global;
 
@@ -33,18 +37,26 @@ pub(crate) fn place_after(
     }
 }
 
+/// The fault of this field, which is missing or has the wrong type, at this spot.
+pub(crate) fn misshapen(field: Field, spot: FaultSpot) -> Fault
+    ensures { result ≡ misshapen field spot }
+{
+    Fault::at(Error::BadJson(JsonFault::Shape(field)), spot)
+}
+
 /// The map of a section.
-fn map_of(alloc: Global, section: Value) -> Result<MendedParts>
-    ensures { Answers mended_view result (map_from (view section)) }
+fn map_of(alloc: Global, section: Value) -> Located<MendedParts>
+    ensures map { Reads mended_view result (map_from (view section)) }
+    ensures place { Locates result (option_map place_at (found_map_spot (view section))) }
 {
     let Some(map) = into_member(section, "map") else {
-        return Err(Error::BadJson(JsonFault::Shape(Field::Map)));
+        return Err(misshapen(Field::Map, FaultSpot::Member(Field::Map)));
     };
     if !is_plain(&map) {
-        return Err(Error::BadJson(JsonFault::Shape(Field::Map)));
+        return Err(misshapen(Field::Map, FaultSpot::Member(Field::Map)));
     }
     let Some(object) = into_object(map) else {
-        return Err(Error::BadJson(JsonFault::Shape(Field::Object)));
+        return Err(misshapen(Field::Object, FaultSpot::Member(Field::Map)));
     };
     mend_plain(alloc, object)
 }
@@ -55,18 +67,30 @@ fn read_section(
     before: Option<Position>,
     number: usize,
     section: Value,
-) -> Result<Section>
-    ensures { Answers section_view result (section_from before number (view section)) }
+) -> Located<Section>
+    ensures section { Reads section_view result (section_from before number (view section)) }
+    ensures place { Locates result (or_place (place_from before number (view section))
+        (λ _. Some (offset_place number (view section)))
+        (λ _. section_place number (view section))) }
 {
-    let place = place_after(before, number, &section)?;
-    let map = map_of(alloc, section)?;
-    Ok(Section { map, place })
+    let place = match place_after(before, number, &section) {
+        Ok(place) => place,
+        Err(error) => {
+            let place = Some(offset_place(number, &section));
+            return Err(Fault { error, place });
+        }
+    };
+    match map_of(alloc, section) {
+        Ok(map) => Ok(Section { map, place }),
+        Err(fault) => Err(fault.in_section(number)),
+    }
 }
 
 /// All sections of a list. The first bad one is reported.
-pub(crate) fn read_sections(alloc: Global, items: Vec<Value>) -> Result<Vec<Section>>
-    ensures { Answers (λ sections. map section_view sections.items) result
+pub(crate) fn read_sections(alloc: Global, items: Vec<Value>) -> Located<Vec<Section>>
+    ensures sections { Reads (λ sections. map section_view sections.items) result
         (sections_from None 0 (items_view items.items)) }
+    ensures place { Locates result (found_sections_place None 0 (items_view items.items)) }
 {
     let mut sections = Vec::with_capacity(alloc, items.len())?;
     let mut before = None;

@@ -28,7 +28,7 @@ use Rattle.oxc_sourcemap_handles.specs.declared.call_error.CallError.TheVariants
 use Rattle.oxc_sourcemap_handles.specs.declared.call_error.CallError.TheVariants.{BadBase64}
 use Rattle.oxc_sourcemap_handles.specs.declared.call_error.CallError.TheVariants.{BadDataUtf8}
 use Rattle.oxc_sourcemap_handles.specs.declared.fault.Fault.{Fault}
-use Rattle.oxc_sourcemap_places.specs.declared.fault_place.FaultPlace.{FaultPlace}
+use Rattle.oxc_sourcemap_tokens.specs.declared.fault.FaultPlace.{FaultPlace}
 use Rattle.oxc_sourcemap_handles.specs.FieldNumbers.{number_of_field, field_of}
 use Rattle.oxc_sourcemap_handles.specs.PlaceNumbers.{no_place, numbers_of_place}
 use Rattle.oxc_sourcemap_handles.specs.CallErrors.{out_of_memory}

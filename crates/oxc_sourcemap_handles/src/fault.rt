@@ -7,8 +7,7 @@ ghost use Rattle.oxc_sourcemap_handles.specs.Words.{call_error_of, error_of};
 use crate::call_error::CallError;
 use crate::field_numbers::{field_of, number_of};
 use crate::place_numbers::PlaceNumbers;
-use oxc_sourcemap_places::FaultPlace;
-use oxc_sourcemap_tokens::{Error, JsonFault, PlanError};
+use oxc_sourcemap_tokens::{Error, FaultPlace, JsonFault, PlanError};
 
 /// The numbers of an error: its code, the number of the field of a JSON source map that it is about, the number that it carries,
 /// and the place of its fault in the input. The code 0 is for no error.

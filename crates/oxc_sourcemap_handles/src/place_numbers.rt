@@ -5,8 +5,7 @@ ghost use Rattle.oxc_sourcemap_handles.specs.Words.{numbers_of_place, told_numbe
 ghost use Rattle.oxc_sourcemap_handles.specs.Words.{place_of_numbers};
 
 use crate::field_numbers::{field_of, number_of};
-use oxc_sourcemap_mappings::SegmentPlace;
-use oxc_sourcemap_places::{FaultPlace, FaultSpot};
+use oxc_sourcemap_tokens::{FaultPlace, FaultSpot, SegmentPlace};
 
 /// Where a fault is. The kind is 0 for no place, 1 for a segment of the mappings, 2 for what is not JSON, 3 for a member and 4 for
 /// an entry of a list; numbers that a kind does not use are 0. 18446744073709551615 stands for no text and no section.

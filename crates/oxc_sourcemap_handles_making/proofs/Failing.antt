@@ -1,6 +1,6 @@
 -- Calls that fail, by what was made for them.
 use Rattle.std.proofs.Common.{◌≡◌, ℕ, Option, None, Result, Ok, Err, IfErr, MatchResult, refl}
-use Rattle.oxc_sourcemap_places.specs.declared.fault_place.FaultPlace.{FaultPlace}
+use Rattle.oxc_sourcemap_tokens.specs.declared.fault.FaultPlace.{FaultPlace}
 use Rattle.oxc_sourcemap_handles.specs.declared.call_error.CallError.{CallError}
 use Rattle.oxc_sourcemap_handles_making.specs.declared.failure.Failure.{Failure}
 use Rattle.oxc_sourcemap_handles.specs.declared.fault.Fault.{Fault}

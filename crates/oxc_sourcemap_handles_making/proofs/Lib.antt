@@ -1,5 +1,4 @@
 mod Building
-pub mod Composing
 pub mod MapsOfMaps
 pub mod Failing
 pub mod Located

@@ -4,7 +4,7 @@ use Rattle.std.proofs.Common.{slice_get, IsSomeAnd}
 use Rattle.oxc_sourcemap_tokens.specs.declared.error.Error.{Error}
 use Rattle.oxc_sourcemap_parts.specs.Record.{Text}
 use Rattle.oxc_sourcemap_decode.specs.ReadMap.{read_map}
-use Rattle.oxc_sourcemap_places.specs.declared.fault_place.FaultPlace.{FaultPlace}
+use Rattle.oxc_sourcemap_tokens.specs.declared.fault.FaultPlace.{FaultPlace}
 use Rattle.oxc_sourcemap_plan_places.specs.PlanPlaces.{first_unread, IsTextPlace}
 use Rattle.oxc_sourcemap_plan_places.specs.PlanPlaces.{IsNumberPlace, IsPlaceOf}
 use Rattle.oxc_sourcemap_plan_places.proofs.Unread.{first-is}

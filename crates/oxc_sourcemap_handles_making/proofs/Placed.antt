@@ -6,8 +6,8 @@ use Rattle.serde_json.specs.Read.{read}
 use Rattle.oxc_sourcemap_tokens.specs.declared.error.Error.{Error}
 use Rattle.oxc_sourcemap_parts.specs.Record.{Text, MapRecord}
 use Rattle.oxc_sourcemap_decode.specs.ReadMap.{read_map}
-use Rattle.oxc_sourcemap_places.specs.declared.fault_place.FaultPlace.{FaultPlace}
-use Rattle.oxc_sourcemap_places.specs.ValueSpots.{value_place, IsReading}
+use Rattle.oxc_sourcemap_tokens.specs.declared.fault.FaultPlace.{FaultPlace}
+use Rattle.oxc_sourcemap_decode.specs.ValuePlaces.{value_place, IsReading}
 use Rattle.oxc_sourcemap_plan_places.specs.PlanPlaces.{IsTextPlace}
 
 is_no_error : (x : Result MapRecord Error) → IsErr x → false ≡ is_err x → ⊥

@@ -102,8 +102,11 @@ IsJoinErrorOfMaps ms ps r =
 abbrev pub IsJoinErrorOf : List (Option Held) → List Position → CallError → Type 0
 IsJoinErrorOf hs ps r = MatchOption (all_maps hs) (r ≡ NullHandle) (λ ms. IsJoinErrorOfMaps ms ps r)
 
+-- an error of composing two maps: they have no composition
+abbrev pub IsComposingError : MapRecord → MapRecord → CallError → Type 0
+IsComposingError a b r = (e : Error) × SomeComposition a b (Err e) × (r ≡ of_map e)
+
 -- an error of composing what two handles hold: one holds no map, or the maps have no composition
 abbrev pub IsCompositionError : Option MapRecord → Option MapRecord → CallError → Type 0
-IsCompositionError (Some a) (Some b) r = (e : Error) × SomeComposition a b (Err e) × (r ≡ of_map e)
-IsCompositionError (Some a) None r = r ≡ NullHandle
-IsCompositionError None b r = r ≡ NullHandle
+IsCompositionError first second r =
+    MatchOption first (r ≡ NullHandle) (λ a. MatchOption second (r ≡ NullHandle) (λ b. IsComposingError a b r))

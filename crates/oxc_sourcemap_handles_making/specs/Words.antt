@@ -31,7 +31,8 @@ pub use Rattle.oxc_sourcemap_handles_making.specs.Making.{ids_fault, ids_if_any,
 pub use Rattle.oxc_sourcemap_handles_making.specs.Making.{lists_fault, map_of_lists, map_of_tokens}
 pub use Rattle.oxc_sourcemap_handles_making.specs.Making.{token_fault, tokens_fault}
 pub use Rattle.oxc_sourcemap_handles_making.specs.MapsOfMaps.{HoldMaps, IsComposition}
-pub use Rattle.oxc_sourcemap_handles_making.specs.MapsOfMaps.{IsCompositionError, IsJoinErrorOf}
+pub use Rattle.oxc_sourcemap_handles_making.specs.MapsOfMaps.{IsComposingError, IsCompositionError}
+pub use Rattle.oxc_sourcemap_handles_making.specs.MapsOfMaps.{IsJoinErrorOf}
 pub use Rattle.oxc_sourcemap_handles_making.specs.MapsOfMaps.{IsAddErrorOf, IsJoinOfLent}
 pub use Rattle.oxc_sourcemap_handles_making.specs.MapsOfMaps.{IsRemapError}
 pub use Rattle.oxc_sourcemap_handles_making.specs.MapsOfMaps.{IsRemapped, IsRemapping}

@@ -3,7 +3,7 @@ ghost use Rattle.std.specs.Prelude.{◌≡◌, None};
 ghost use Rattle.oxc_sourcemap_handles_making.specs.Words.{out_of_memory};
 
 use oxc_sourcemap_handles::CallError;
-use oxc_sourcemap_places::FaultPlace;
+use oxc_sourcemap_tokens::FaultPlace;
 
 /// Why a call fails, and where in the input the fault is.
 #[derive(Clone, Copy, Debug, PartialEq, Eq)]

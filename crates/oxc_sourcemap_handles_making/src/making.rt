@@ -18,8 +18,8 @@ use oxc_sourcemap_handles::{CallError, Fault, Handle, Held, box_map, text_of};
 use oxc_sourcemap_map::OwnedSourceMap;
 use oxc_sourcemap_mappings::mappings_fault_at;
 use oxc_sourcemap_parts::SourceMapParts;
-use oxc_sourcemap_places::{FaultPlace, FaultSpot, json_fault_at};
-use oxc_sourcemap_tokens::Error;
+use oxc_sourcemap_places::json_fault_at;
+use oxc_sourcemap_tokens::{Error, FaultPlace, FaultSpot};
 use std::alloc::Global;
 
 /// Where a JSON text that is not read has its first fault. Fails only with `OutOfMemory`.

@@ -10,12 +10,14 @@ ghost use Rattle.oxc_sourcemap_handles_making.specs.Words.{IsRemappingError, IsR
 ghost use Rattle.oxc_sourcemap_handles_making.specs.Words.{IsJoinOfLent, IsJoinErrorOf, added};
 ghost use Rattle.oxc_sourcemap_handles_making.specs.Words.{owned_input_records, nothing_joined};
 ghost use Rattle.oxc_sourcemap_handles_making.specs.Words.{IsMapMissing, IsAddErrorOf};
+ghost use Rattle.oxc_sourcemap_handles_making.specs.Words.{IsComposingError};
 
 use oxc_sourcemap_handles::{CallError, Held, Lent, map_of, texts_of};
 use oxc_sourcemap_join::{JoinedParts, Lengths, with_lengths, with_room};
+use oxc_sourcemap_lookup::compose_lent_parts;
 use oxc_sourcemap_map::{OwnedSourceMap, parts_of};
 use oxc_sourcemap_parts::SourceMapParts;
-use oxc_sourcemap_remap::remap_owned_parts;
+use oxc_sourcemap_remap::remap_through_owned_parts;
 use oxc_sourcemap_tokens::{Memory, Position};
 use std::alloc::Global;
 
@@ -36,6 +38,38 @@ pub fn clone_map(alloc: Global, map: &mut Lent) -> Result<OwnedSourceMap, CallEr
     clone_of(alloc, map.get())
 }
 
+fn compose_maps(
+    alloc: Global,
+    first: &OwnedSourceMap,
+    input: &OwnedSourceMap,
+) -> Result<OwnedSourceMap, CallError>
+    ensures map { IfOk result (IsComposition first.now input.now) }
+    ensures error { IfErr result (λ r. (r ≢ out_of_memory)
+        → IsComposingError first.now input.now r) }
+{
+    let parts = compose_lent_parts(
+        alloc,
+        parts_of(first.as_source_map()),
+        parts_of(input.as_source_map()),
+    )?;
+    Ok(OwnedSourceMap::from_parts(parts))
+}
+
+fn compose_held(
+    alloc: Global,
+    first: Option<&Held>,
+    input: Option<&Held>,
+) -> Result<OwnedSourceMap, CallError>
+    ensures map { IfOk result (λ made. HoldMaps (lent_item first.entry) (lent_item input.entry)
+        (λ a b. IsComposition a b made)) }
+    ensures error { IfErr result (λ r. (r ≢ out_of_memory) → IsCompositionError
+        (held_map (lent_item first.entry)) (held_map (lent_item input.entry)) r) }
+{
+    let first = map_of(first)?;
+    let input = map_of(input)?;
+    compose_maps(alloc, first, input)
+}
+
 /// The composition of two maps that are lent.
 pub fn compose(
     alloc: Global,
@@ -49,9 +83,7 @@ pub fn compose(
     ensures back { IsBack first.old first.new }
     ensures input_back { IsBack input.old input.new }
 {
-    let first = clone_map(alloc, first)?;
-    let input = clone_map(alloc, input)?;
-    Ok(first.compose(alloc, input)?)
+    compose_held(alloc, first.get(), input.get())
 }
 
 /// Maps that are equal to those that are lent. Fails with `NullHandle` if one is missing.
@@ -103,7 +135,7 @@ fn remap_map(
     }
     let paths = texts_of(alloc, paths)?;
     let inputs = with_paths(alloc, paths.as_slice(), inputs)?;
-    let parts = remap_owned_parts(alloc, parts_of(map), inputs.as_slice())?;
+    let parts = remap_through_owned_parts(alloc, parts_of(map), inputs)?;
     Ok(OwnedSourceMap::from_parts(parts))
 }
 

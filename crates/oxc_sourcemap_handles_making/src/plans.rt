@@ -12,10 +12,9 @@ ghost use Rattle.oxc_sourcemap_handles_making.specs.Words.{outcome, meaning, is_
 use crate::failure::Failure;
 use oxc_sourcemap_handles::{CallError, texts_of};
 use oxc_sourcemap_map::OwnedSourceMap;
-use oxc_sourcemap_places::FaultPlace;
 use oxc_sourcemap_plan::{Plan, RunError, evaluate_to_parts, read_plan};
 use oxc_sourcemap_plan_places::{plan_fault_at, plan_texts};
-use oxc_sourcemap_tokens::{Error, Memory, PlanError};
+use oxc_sourcemap_tokens::{Error, FaultPlace, Memory, PlanError};
 use std::alloc::Global;
 
 /// Copies of words.

@@ -42,7 +42,7 @@ pub use Rattle.oxc_sourcemap_parts.specs.Sorted.{are_tokens_sorted}
 pub use Rattle.oxc_sourcemap_parts.specs.Sound.{IsSound}
 pub use Rattle.oxc_sourcemap_parts.specs.Views.{cow_texts}
 pub use Rattle.oxc_sourcemap_pieces.specs.declared.cuts.Piece.{Piece}
-pub use Rattle.oxc_sourcemap_places.specs.PlaceMessages.{place_text}
+pub use Rattle.oxc_sourcemap_tokens.specs.PlaceMessages.{place_text}
 pub use Rattle.oxc_sourcemap_reverse.specs.Orders.{IsSourceOrderOf}
 pub use Rattle.oxc_sourcemap_reverse.specs.Reverse.{indices_on, is_into}
 pub use Rattle.oxc_sourcemap_tokens.specs.Chunks.{lent_chunks}

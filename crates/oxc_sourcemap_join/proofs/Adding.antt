@@ -2,7 +2,7 @@
 use Rattle.std.proofs.Common.{◌≡◌, ℕ, ◌+◌, ◌-◌, ◌≤◌, List, [], ◌∷◌, ◌++◌, map, length, take, drop}
 use Rattle.std.proofs.Common.{refl, sym, ap, ◌∙◌, subst, arith, Option, Some, None, ◌⊎◌, inl, inr}
 use Rattle.std.proofs.Common.{◌↔◌, Result, Ok, Err}
-use Rattle.std.specs.Result.{IsErrOf, IsErrAnd}
+use Rattle.std.specs.Result.{IsErrOf, IsErrAnd, OnOk}
 use Rattle.oxc_sourcemap_tokens.specs.declared.error.Error.{Error}
 use Rattle.oxc_sourcemap_tokens.specs.declared.error.Error.TheVariants.{OutOfMemory, TooLarge}
 use Rattle.std.specs.List.{AllByRecursion, All}
@@ -22,9 +22,9 @@ use Rattle.oxc_sourcemap_join.specs.Joined.{fitted, shifted, is_same_token, with
 use Rattle.oxc_sourcemap_join.specs.Joined.{raised_ignore_list, appended_ignore_lists, added}
 use Rattle.oxc_sourcemap_join.specs.Joined.{added_tokens, added_chunk, added_ignore_list}
 use Rattle.oxc_sourcemap_join.specs.Joined.{nothing_joined, added_all, AreEntriesInBounds}
-use Rattle.oxc_sourcemap_join.specs.Joined.{IsWithinLimits, owned_records}
+use Rattle.oxc_sourcemap_join.specs.Joined.{IsWithinLimits, owned_records, IsAdded}
 use Rattle.oxc_sourcemap_join.specs.Joining.{IsJoin, all_shifted, IsAddition}
-use Rattle.oxc_sourcemap_join.specs.declared.joined_parts.Shift.{Shift}
+use Rattle.oxc_sourcemap_join.specs.declared.shift.Shift.{Shift}
 use Rattle.oxc_sourcemap_join.specs.declared.joined_parts.Addition.{Addition}
 use Rattle.oxc_sourcemap_join.proofs.Fitted.{length-fitted, fitted-more}
 use Rattle.oxc_sourcemap_join.proofs.Joining.{fit-added, added_all-continues, length-front}
@@ -141,6 +141,24 @@ module _ (r m : MapRecord) (offset : Position) (a : Addition) (h : IsAddition r 
     fit = fit-added r m offset (subst (λ o. ChunksFit r.tokens (unwrap_or o [])) (sym has) f);
     entries = w.ignore_list;
   })
+
+-- the record of a join, by lists that equal its own
+pub by-lists : (r : MapRecord) {ns ms ss us : List Text} {cs ds : List (Option Text)} {ts vs : List TokenRecord} {ks ls : List TokenChunk} {is js : Option (List ℕ)}
+    → ns ≡ ms → ss ≡ us → cs ≡ ds → ts ≡ vs → ks ≡ ls → is ≡ js
+    → record { file = None; names = ms; source_root = None; sources = us; source_contents = ds; tokens = vs; token_chunks = Some ls; ignore_list = js; debug_id = None } ≡ r
+    → record { file = None; names = ns; source_root = None; sources = ss; source_contents = cs; tokens = ts; token_chunks = Some ks; ignore_list = is; debug_id = None } ≡ r
+by-lists r en es ec et ek ei h = rw (en, es, ec, et, ek, ei) h
+
+-- what an add gives, where the join with the map after it is that of another map
+pub as-added : {result : Result (Unit {0}) Error} {old new : MapRecord} (m n : MapRecord) {offset : Position} → added old m offset ≡ added old n offset
+    → IsAdded result old new m offset → IsAdded result old new n offset
+as-added {result = result} {old = old} {new = new} m n e h = record {
+  joined = subst (λ r. OnOk result (new ≡ r)) e h.joined;
+  limits = subst (λ r. OnOk result (IsWithinLimits r)) e h.limits;
+  too_large = subst (λ r. IsErrOf result TooLarge ↔ ¬ (IsWithinLimits r)) e h.too_large;
+  error = h.error;
+  unchanged = h.unchanged;
+}
 
 -- as many items as there are after some are all of them
 all-after-some : {A : Type 0} (p : ℕ) (xs : List A) → take (length xs - p) (drop p xs) ≡ drop p xs

@@ -15,8 +15,8 @@ use Rattle.oxc_sourcemap_tokens.specs.declared.position.Position.{Position}
 use Rattle.oxc_sourcemap_join.specs.Joined.{fitted, raised_id, shifted_column, shifted}
 use Rattle.oxc_sourcemap_join.specs.Joined.{is_same_token, without_repeat}
 use Rattle.oxc_sourcemap_join.specs.Joining.{all_shifted, IsInReach}
-use Rattle.oxc_sourcemap_join.specs.declared.joined_parts.Reach.{Reach}
-use Rattle.oxc_sourcemap_join.specs.declared.joined_parts.Shift.{Shift}
+use Rattle.oxc_sourcemap_join.specs.declared.reach.Reach.{Reach}
+use Rattle.oxc_sourcemap_join.specs.declared.shift.Shift.{Shift}
 use Rattle.oxc_sourcemap_join.proofs.SameToken.{token_by, decides_token}
 
 pub length-mapped : {A B : Type 0} (f : A → B) (xs : List A) → length (map f xs) ≡ length xs
@@ -130,3 +130,17 @@ take-take zero n xs h = refl
 take-take (suc m) zero xs h = absurd (omega (arith, h))
 take-take (suc m) (suc n) [] h = refl
 take-take (suc m) (suc n) (x ∷ xs) h = ap (λ ys. x ∷ ys) (take-take m n xs (omega (arith, h)))
+
+-- the first items of a list, where others follow it
+pub take-before : {A : Type 0} (n : ℕ) (xs ys : List A) → n ≤ length xs → take n (xs ++ ys) ≡ take n xs
+take-before zero xs ys h = refl
+take-before (suc n) [] ys h = absurd (omega (arith, h))
+take-before (suc n) (x ∷ xs) ys h = ap (λ zs. x ∷ zs) (take-before n xs ys (omega (arith, h)))
+
+take-whole : {A : Type 0} (xs : List A) → take (length xs) xs ≡ xs
+take-whole [] = refl
+take-whole (x ∷ xs) = ap (λ zs. x ∷ zs) (take-whole xs)
+
+-- a list, as the front of one that goes on
+pub take-front : {A : Type 0} (n : ℕ) (xs ys zs : List A) → n ≡ length xs → zs ≡ xs ++ ys → take n zs ≡ xs
+take-front n xs ys zs e q = ap (take n) q ∙ take-before n xs ys (omega (arith, e)) ∙ ap (λ k. take k xs) e ∙ take-whole xs

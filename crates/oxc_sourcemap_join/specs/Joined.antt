@@ -2,9 +2,12 @@
 -- before it.
 use Rattle.std.specs.Prelude.{ℕ, zero, suc, ◌+◌, Bool, true, false, ◌&&◌, ◌≤◌, ◌<◌, List, [], ◌∷◌}
 use Rattle.std.specs.Prelude.{◌++◌, map, length, Option, Some, None, if◌then◌else◌, ◌==◌}
+use Rattle.std.specs.Prelude.{◌≡◌, ◌↔◌, ◌⊎◌, Result, IsErrOf, IfErr, OnOk, OnErr}
 use Rattle.std.specs.Borrow.{Bor}
 use Rattle.std.specs.List.{All}
 use Rattle.std.specs.Option.{IfSome, option_map, unwrap_or}
+use Rattle.oxc_sourcemap_tokens.specs.declared.error.Error.{Error}
+use Rattle.oxc_sourcemap_tokens.specs.declared.error.Error.TheVariants.{OutOfMemory, TooLarge}
 use Rattle.oxc_sourcemap_tokens.specs.declared.position.Position.{Position}
 use Rattle.oxc_sourcemap_tokens.specs.declared.token.TokenChunk.{TokenChunk}
 use Rattle.oxc_sourcemap_tokens.specs.Token.{TokenRecord, AreInBounds, last}
@@ -160,3 +163,12 @@ pub record IsWithinLimits (r : MapRecord) : Type 0 where
   pub tokens : length r.tokens ≤ 4294967295
   pub in_bounds : AreInBounds r.tokens
   pub ignore_list : AreEntriesInBounds r.ignore_list
+
+-- What an add of a map to a join gives: at Ok the join with the map after it, within limits; `TooLarge` exactly if that is not
+-- within limits, and no error but that and `OutOfMemory`; at an error the join as it was.
+pub record IsAdded (result : Result (Unit {0}) Error) (old new map : MapRecord) (offset : Position) : Type 0 where
+  pub joined : OnOk result (new ≡ added old map offset)
+  pub limits : OnOk result (IsWithinLimits (added old map offset))
+  pub too_large : IsErrOf result TooLarge ↔ ¬ (IsWithinLimits (added old map offset))
+  pub error : IfErr result (λ e. (e ≡ OutOfMemory) ⊎ (e ≡ TooLarge))
+  pub unchanged : OnErr result (new ≡ old)

@@ -9,8 +9,8 @@ use Rattle.oxc_sourcemap_tokens.specs.declared.position.Position.{Position}
 use Rattle.oxc_sourcemap_join.specs.Joined.{shifted, is_same_token, without_repeat, added_chunk}
 use Rattle.oxc_sourcemap_join.specs.Joined.{raised_ignore_list, added, AreEntriesInBounds}
 use Rattle.oxc_sourcemap_join.specs.Joined.{IsWithinLimits}
-use Rattle.oxc_sourcemap_join.specs.declared.joined_parts.Reach.{Reach}
-use Rattle.oxc_sourcemap_join.specs.declared.joined_parts.Shift.{Shift}
+use Rattle.oxc_sourcemap_join.specs.declared.reach.Reach.{Reach}
+use Rattle.oxc_sourcemap_join.specs.declared.shift.Shift.{Shift}
 use Rattle.oxc_sourcemap_join.specs.declared.joined_parts.Addition.{Addition}
 
 -- What a join in the making consists of: counts within limits, tokens and entries of the ignore list in bounds, a content
@@ -23,6 +23,20 @@ pub record IsJoin (ns ss : List Text) (cs : List (Option Text)) (ts : List Token
   pub in_bounds : AreInBounds ts
   pub fit : ChunksFit ts chunks
   pub entries : AreEntriesInBounds ignore_list
+
+-- a map of these names, sources, contents and tokens, and of this ignore list
+abbrev pub map_of : List Text → List Text → List (Option Text) → List TokenRecord → Option (List ℕ) → MapRecord
+map_of names sources contents tokens ignore_list = record {
+  file = None;
+  names = names;
+  source_root = None;
+  sources = sources;
+  source_contents = contents;
+  tokens = tokens;
+  token_chunks = None;
+  ignore_list = ignore_list;
+  debug_id = None;
+}
 
 -- tokens, moved
 abbrev pub all_shifted : Shift → List TokenRecord → List TokenRecord

@@ -4,7 +4,8 @@ ghost use Rattle.oxc_sourcemap_join.specs.Words.{OutOfMemory, TooLarge, ChunksFi
 ghost use Rattle.oxc_sourcemap_join.specs.Words.{nothing_joined, IsWithinLimits, OnlyMemory};
 ghost use Rattle.oxc_sourcemap_join.specs.Words.{record_of_parts, owned_records};
 
-use crate::joined_parts::{JoinedParts, Lengths};
+use crate::joined_parts::JoinedParts;
+use crate::lists::Lengths;
 use oxc_sourcemap_parts::SourceMapParts;
 use oxc_sourcemap_tokens::{Position, Result};
 use std::alloc::Global;

@@ -3,6 +3,10 @@
 
 mod join;
 mod joined_parts;
+mod lists;
+mod reach;
+mod shift;
 
 pub use join::{join_owned_parts, with_lengths, with_room};
-pub use joined_parts::{JoinedParts, Lengths};
+pub use joined_parts::JoinedParts;
+pub use lists::Lengths;

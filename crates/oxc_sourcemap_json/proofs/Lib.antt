@@ -4,5 +4,6 @@ mod HeldMembers
 mod HeldShape
 pub mod Moving
 mod PlainTokens
+pub mod Spots
 mod Tokens
 mod Worked

@@ -2,6 +2,7 @@
 use Rattle.std.proofs.Common.{◌≡◌, ℕ, List, [], ◌∷◌, ◌++◌, length, option_map, Option, Some, None}
 use Rattle.std.proofs.Common.{cond, Bool, true, false, bytes_eq, string_bytes, nat_cmp, is_eq, refl}
 use Rattle.std.proofs.Common.{sym, ap, ◌∙◌, append_assoc, append-nil, true≢false, arith}
+use Rattle.std.proofs.Common.{◌+◌, add-zero, is_some}
 use Rattle.std.proofs.lemmas.Map.Text.{is_eq-slice_cmp}
 use Rattle.std.proofs.lemmas.Slice.Eq.{bytes_eq-Decides}
 use Rattle.std.specs.Cmp.Lexicographic.{slice_cmp}
@@ -14,6 +15,7 @@ use Rattle.serde_json.specs.View.{view, items_view, members_view}
 use Rattle.serde_json.specs.declared.value.Value.{Value}
 use Rattle.serde_json.proofs.Views.{member_later, Entry}
 use Rattle.oxc_sourcemap_json.specs.Shape.{all_items, onto_read}
+use Rattle.oxc_sourcemap_json.specs.ShapeSpots.{first_failing}
 
 unlike : (other name key : List ℕ) → bytes_eq other name ≡ false → is_eq (slice_cmp nat_cmp name key) ≡ true → other ≡ key → ⊥
 unlike other name key apart here same =
@@ -69,3 +71,37 @@ pub next_bad : {A : Type 0} (read : Data → Option A) (all : List Value) (done 
 next_bad read all done left v more is here h =
     h ∙ ap (λ l. option_map (λ rest. done ++ rest) (all_items read (items_view l))) is
     ∙ ap (λ r. option_map (λ rest. done ++ rest) (onto_read r (all_items read (items_view more)))) here
+
+-- ---- the first item that cannot be read
+
+-- it is not among the first so many items, but is the first one of those that are left
+abbrev pub IsLeft : {A : Type 0} → (Data → Option A) → List Value → ℕ → List Value → Type 0
+IsLeft read all n left =
+    first_failing (λ d. is_some (read d)) (items_view all) ≡ option_map (λ i. i + n) (first_failing (λ d. is_some (read d)) (items_view left))
+
+at_once : (o : Option ℕ) → o ≡ option_map (λ i. i + 0) o
+at_once None = refl
+at_once (Some i) = ap Some (sym (add-zero i))
+
+pub first_left : {A : Type 0} (read : Data → Option A) (all : List Value) → IsLeft read all 0 all
+first_left read all = at_once (first_failing (λ d. is_some (read d)) (items_view all))
+
+one_later : (n m : ℕ) (o : Option ℕ) → m ≡ n + 1 → option_map (λ i. i + n) (option_map (λ i. i + 1) o) ≡ option_map (λ i. i + m) o
+one_later n m None is = refl
+one_later n m (Some i) is = ap Some (omega (arith, is))
+
+-- past an item that can be read
+pub left_next : {A : Type 0} (read : Data → Option A) (all : List Value) (n m : ℕ) (left : List Value) (v : Value) (x : A) (more : List Value)
+    → left ≡ v ∷ more → read (view v) ≡ Some x → m ≡ n + 1 → IsLeft read all n left → IsLeft read all m more
+left_next read all n m left v x more is here next h =
+    h ∙ ap (λ l. option_map (λ i. i + n) (first_failing (λ d. is_some (read d)) (items_view l))) is
+    ∙ ap (λ r. option_map (λ i. i + n) (cond (is_some r) (option_map (λ i. i + 1) (first_failing (λ d. is_some (read d)) (items_view more))) (Some 0))) here
+    ∙ one_later n m (first_failing (λ d. is_some (read d)) (items_view more)) next
+
+-- at an item that cannot
+pub left_bad : {A : Type 0} (read : Data → Option A) (all : List Value) (n : ℕ) (left : List Value) (v : Value) (more : List Value)
+    → left ≡ v ∷ more → read (view v) ≡ None → IsLeft read all n left → first_failing (λ d. is_some (read d)) (items_view all) ≡ Some n
+left_bad read all n left v more is here h =
+    h ∙ ap (λ l. option_map (λ i. i + n) (first_failing (λ d. is_some (read d)) (items_view l))) is
+    ∙ ap (λ r. option_map (λ i. i + n) (cond (is_some r) (option_map (λ i. i + 1) (first_failing (λ d. is_some (read d)) (items_view more))) (Some 0))) here
+    ∙ ap Some (omega arith)

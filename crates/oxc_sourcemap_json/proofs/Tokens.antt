@@ -31,6 +31,10 @@ pub of_some : {A : Type 0} {P Q : A → Type 0} → ((a : A) → P a → Q a) �
 of_some f (Some a) p = f a p
 of_some f None p = tt
 
+pub of_both : {A : Type 0} {P Q R : A → Type 0} → ((a : A) → P a → Q a → R a) → (o : Option A) → IfSome o P → IfSome o Q → IfSome o R
+of_both f (Some a) p q = f a p q
+of_both f None p q = tt
+
 pub text_begins : (ts rest : List Token) (s : List ℕ) → ts ≡ Token.string s ∷ rest → BeginsAny ts (string s) rest
 text_begins ts rest s is depth = ap (converted of_json) (ap (value depth) is ∙ value_is depth _)
 

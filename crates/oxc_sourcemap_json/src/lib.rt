@@ -11,5 +11,5 @@ mod usual;
 
 pub use json_source_map::JSONSourceMap;
 pub use members::json_of;
-pub use shape::{file_from_value, read_id};
+pub use shape::{file_from_value, ignored_field, read_file, read_id};
 pub use usual::{UsualMap, plain_map, usual_map};

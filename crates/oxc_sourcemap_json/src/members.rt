@@ -1,16 +1,17 @@
 //! The members of a source map, moved out of a JSON value: strings are moved, and never copied.
-ghost use Rattle.std.specs.Prelude.{◌≡◌, ℕ, List, option_map, string_bytes, codes, false, Ok, Err};
-ghost use Rattle.std.specs.Prelude.{Some, None};
+ghost use Rattle.std.specs.Prelude.{◌≡◌, ℕ, List, option_map, string_bytes, codes, false, Some};
 ghost use Rattle.std.specs.Str.{bytes_eq};
 ghost use Rattle.oxc_sourcemap_json.specs.Words.{view, Mappings, Sources, SourcesContent};
 ghost use Rattle.oxc_sourcemap_json.specs.Words.{json_record, json_texts, json_content_list};
 ghost use Rattle.oxc_sourcemap_json.specs.Words.{json_contents, lent_member, member_in, present};
 ghost use Rattle.oxc_sourcemap_json.specs.Words.{optional, required, text_in, texts_in, as_content};
-ghost use Rattle.oxc_sourcemap_json.specs.Words.{contents_in, names_of, shape, Gives, Answers};
+ghost use Rattle.oxc_sourcemap_json.specs.Words.{contents_in, names_of, shape, Reads, Member};
+ghost use Rattle.oxc_sourcemap_json.specs.Words.{Names, list_spot, texts_spot, misshapen};
+ghost use Rattle.oxc_sourcemap_json.specs.Words.{as_str, FailsAs, FailsWithin};
 
 use crate::json_source_map::JSONSourceMap;
-use crate::shape::{read_either_list, read_version};
-use oxc_sourcemap_tokens::{Error, Field, JsonFault, Result};
+use crate::shape::{misshapen, read_either_list, read_version};
+use oxc_sourcemap_tokens::{FaultSpot, Field, Located};
 use serde_json::{Map, Value};
 use std::alloc::Global;
 
@@ -102,25 +103,40 @@ fn present(member: Option<Value>) -> Option<Value>
 }
 
 /// The string of a member, or the fault of its field.
-fn text_of(member: Value, field: Field) -> Result<String>
-    ensures { Gives string_bytes result (text_in field (view member)) }
+fn text_of(member: Value, field: Field) -> Located<String>
+    ensures text { Reads string_bytes result (text_in field (view member)) }
+    ensures fault { FailsAs (misshapen field (Member field)) result }
 {
     match member {
         Value::String(text) => Ok(text),
-        _ => Err(Error::BadJson(JsonFault::Shape(field))),
+        _ => Err(misshapen(field, FaultSpot::Member(field))),
+    }
+}
+
+/// A string of a list.
+fn string_of(item: Value) -> Option<String>
+    ensures { option_map string_bytes result ≡ as_str (view item) }
+{
+    match item {
+        Value::String(text) => Some(text),
+        _ => None,
     }
 }
 
 /// The strings of a member that is a list of them, or the fault of its field.
-fn texts_of(alloc: Global, member: Value, field: Field) -> Result<Vec<String>>
-    ensures { Answers json_texts result (texts_in field (view member)) }
+fn texts_of(alloc: Global, member: Value, field: Field) -> Located<Vec<String>>
+    ensures texts { Reads json_texts result (texts_in field (view member)) }
+    ensures fault { FailsAs (misshapen field (texts_spot field (view member))) result }
 {
     let Value::Array(items) = member else {
-        return Err(Error::BadJson(JsonFault::Shape(field)));
+        return Err(misshapen(field, FaultSpot::Member(field)));
     };
     let mut texts = Vec::with_capacity(alloc, items.len())?;
     for item in items {
-        texts.push(text_of(item, field)?)?;
+        let Some(text) = string_of(item) else {
+            return Err(misshapen(field, FaultSpot::Entry(field, texts.len())));
+        };
+        texts.push(text)?;
     }
     Ok(texts)
 }
@@ -136,17 +152,20 @@ fn content_of(item: Value) -> Option<Option<String>>
     }
 }
 
-/// The contents of a member that is a list of strings and nulls, or the fault of its field.
-fn contents_of(alloc: Global, member: Value, field: Field) -> Result<Vec<Option<String>>>
-    ensures { Answers json_content_list result (contents_in field (view member)) }
+/// The contents of a member that is a list of strings and nulls, or the fault of the contents of sources.
+fn contents_of(alloc: Global, member: Value) -> Located<Vec<Option<String>>>
+    ensures contents { Reads json_content_list result (contents_in SourcesContent (view member)) }
+    ensures fault { FailsAs (misshapen SourcesContent (list_spot SourcesContent
+        (Some (view member)))) result }
 {
+    let field = Field::SourcesContent;
     let Value::Array(items) = member else {
-        return Err(Error::BadJson(JsonFault::Shape(field)));
+        return Err(misshapen(field, FaultSpot::Member(field)));
     };
     let mut contents = Vec::with_capacity(alloc, items.len())?;
     for item in items {
         let Some(content) = content_of(item) else {
-            return Err(Error::BadJson(JsonFault::Shape(field)));
+            return Err(misshapen(field, FaultSpot::Entry(field, contents.len())));
         };
         contents.push(content)?;
     }
@@ -154,9 +173,10 @@ fn contents_of(alloc: Global, member: Value, field: Field) -> Result<Vec<Option<
 }
 
 /// The string of a member that may be missing or null.
-fn optional_text(member: Option<Value>, field: Field) -> Result<Option<String>>
-    ensures { Gives (option_map string_bytes) result
+fn optional_text(member: Option<Value>, field: Field) -> Located<Option<String>>
+    ensures text { Reads (option_map string_bytes) result
         (optional (text_in field) (present (option_map view member))) }
+    ensures fault { FailsAs (misshapen field (Member field)) result }
 {
     match present(member) {
         Some(value) => Ok(Some(text_of(value, field)?)),
@@ -165,41 +185,47 @@ fn optional_text(member: Option<Value>, field: Field) -> Result<Option<String>>
 }
 
 /// The mappings, which must be there.
-fn mappings_of(member: Option<Value>) -> Result<String>
-    ensures { Gives string_bytes result (required Mappings (text_in Mappings)
+fn mappings_of(member: Option<Value>) -> Located<String>
+    ensures text { Reads string_bytes result (required Mappings (text_in Mappings)
         (option_map view member)) }
+    ensures fault { FailsAs (misshapen Mappings (Member Mappings)) result }
 {
     match member {
         Some(value) => text_of(value, Field::Mappings),
-        None => Err(Error::BadJson(JsonFault::Shape(Field::Mappings))),
+        None => Err(misshapen(Field::Mappings, FaultSpot::Member(Field::Mappings))),
     }
 }
 
 /// The sources, which must be there.
-fn sources_of(alloc: Global, member: Option<Value>) -> Result<Vec<String>>
-    ensures { Answers json_texts result (required Sources (texts_in Sources)
+fn sources_of(alloc: Global, member: Option<Value>) -> Located<Vec<String>>
+    ensures texts { Reads json_texts result (required Sources (texts_in Sources)
         (option_map view member)) }
+    ensures fault { FailsAs (misshapen Sources (list_spot Sources (option_map view member)))
+        result }
 {
     match member {
         Some(value) => texts_of(alloc, value, Field::Sources),
-        None => Err(Error::BadJson(JsonFault::Shape(Field::Sources))),
+        None => Err(misshapen(Field::Sources, FaultSpot::Member(Field::Sources))),
     }
 }
 
 /// The contents of sources, which may be missing or null.
-fn sources_content_of(alloc: Global, member: Option<Value>) -> Result<Option<Vec<Option<String>>>>
-    ensures { Answers json_contents result
+fn sources_content_of(alloc: Global, member: Option<Value>) -> Located<Option<Vec<Option<String>>>>
+    ensures contents { Reads json_contents result
         (optional (contents_in SourcesContent) (present (option_map view member))) }
+    ensures fault { FailsAs (misshapen SourcesContent (list_spot SourcesContent
+        (present (option_map view member)))) result }
 {
     match present(member) {
-        Some(value) => Ok(Some(contents_of(alloc, value, Field::SourcesContent)?)),
+        Some(value) => Ok(Some(contents_of(alloc, value)?)),
         None => Ok(None),
     }
 }
 
 /// The names, which may be missing but not null.
-fn names_of(alloc: Global, member: Option<Value>) -> Result<Vec<String>>
-    ensures { Answers json_texts result (names_of (option_map view member)) }
+fn names_of(alloc: Global, member: Option<Value>) -> Located<Vec<String>>
+    ensures texts { Reads json_texts result (names_of (option_map view member)) }
+    ensures fault { FailsAs (misshapen Names (list_spot Names (option_map view member))) result }
 {
     match member {
         Some(value) => texts_of(alloc, value, Field::Names),
@@ -208,13 +234,14 @@ fn names_of(alloc: Global, member: Option<Value>) -> Result<Vec<String>>
 }
 
 /// The fields of an owned JSON value, as `JSONSourceMap::from_value` reads them; its strings are moved, and the rest of the
-/// value is dropped. Fails as that call does.
+/// value is dropped. Fails as that call does, at the member or the entry of a list that is at fault.
 #[tactic(auto, unfolding(crate::specs::Shape::shape))]
-pub fn json_of(alloc: Global, value: Value) -> Result<JSONSourceMap>
-    ensures { Answers json_record result (shape (view value)) }
+pub fn json_of(alloc: Global, value: Value) -> Located<JSONSourceMap>
+    ensures fields { Reads json_record result (shape (view value)) }
+    ensures place { FailsWithin (view value) result }
 {
     let Value::Object(object) = value else {
-        return Err(Error::BadJson(JsonFault::Shape(Field::Object)));
+        return Err(misshapen(Field::Object, FaultSpot::Member(Field::Object)));
     };
     let mut members = members_of(object);
     let version = read_version(member_ref(&members.version))?;

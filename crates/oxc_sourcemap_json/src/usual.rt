@@ -11,13 +11,14 @@ ghost use Rattle.oxc_sourcemap_json.specs.Words.{no_members, Begins, BeginsAny, 
 ghost use Rattle.oxc_sourcemap_json.specs.Words.{BeginMembers, IsAll, IsJsonOf, AreHeld};
 ghost use Rattle.oxc_sourcemap_json.specs.Words.{text_data, texts_data, contents_data};
 ghost use Rattle.oxc_sourcemap_json.specs.Words.{content_data, members_held, with_held};
-ghost use Rattle.oxc_sourcemap_json.specs.Words.{ids_data, HaveIds, number_of};
+ghost use Rattle.oxc_sourcemap_json.specs.Words.{ids_data, HaveIds, number_of, ignored_by};
+ghost use Rattle.oxc_sourcemap_json.specs.Words.{ignored_field};
 
 use crate::token_reader::TokenReader;
 use fast_float::Numeral;
 use json::Scratch;
 use oxc_sourcemap_parts::from_string;
-use oxc_sourcemap_tokens::Memory;
+use oxc_sourcemap_tokens::{Field, Memory};
 use std::alloc::Global;
 use std::borrow::CowStr;
 
@@ -34,6 +35,8 @@ pub struct UsualMap<'a> {
     pub names: Vec<CowStr<'static>>,
     pub debug_id: Option<String>,
     pub ignore_list: Option<Vec<u32>>,
+    /// The member that is the ignore list.
+    pub ignored: Field,
 }
 
 /// The members of a source map that were read so far. One that comes again takes the place of the one before.
@@ -281,6 +284,16 @@ fn keep_ids(
     Ok(kept.is_some())
 }
 
+/// The member that is the ignore list, where this is the newer one.
+fn ignored_by(ignore_list: &Option<Vec<u32>>) -> Field
+    ensures { result ≡ ignored_by (option_map (λ ids. ids_data ids.items) ignore_list.now) }
+{
+    match ignore_list {
+        Some(_) => Field::IgnoreList,
+        None => Field::GoogleIgnoreList,
+    }
+}
+
 impl<'a> UsualMembers<'a> {
     /// No members.
     fn none() -> UsualMembers<'a>
@@ -334,8 +347,10 @@ impl<'a> UsualMembers<'a> {
 
     /// The fields that the members have; None if one that has to be there is not.
     fn into_map(self, alloc: Global) -> Option<UsualMap<'a>>
-        ensures { IfSome result (λ map. (ms : Members) → AreHeld self.entry ms → HaveIds self.entry
-            → shape (object ms) ≡ Ok (usual_record map)) }
+        ensures fields { IfSome result (λ map. (ms : Members) → AreHeld self.entry ms
+            → HaveIds self.entry → shape (object ms) ≡ Ok (usual_record map)) }
+        ensures ignored { IfSome result (λ map. (ms : Members) → AreHeld self.entry ms
+            → ignored_field (object ms) ≡ map.ignored) }
     {
         let UsualMembers {
             has_version,
@@ -360,6 +375,7 @@ impl<'a> UsualMembers<'a> {
             source_contents,
             names: names.unwrap_or(Vec::new(alloc)),
             debug_id,
+            ignored: ignored_by(&ignore_list),
             ignore_list: ignore_list.or(older_ignore_list),
         })
     }
@@ -409,7 +425,7 @@ const MOST_PLAIN: usize = 4096;
 /// The fields of the tokens that are left, which are those of the text.
 fn fields_of<'a>(alloc: Global, reader: &mut TokenReader<'a>) -> Memory<Option<UsualMap<'a>>>
     ensures { IfOk result (λ found. IfSome found (λ map. (text : List ℕ) → reader.old ≡ tokens text
-        → IsJsonOf text (usual_record map))) }
+        → IsJsonOf text (usual_record map) map.ignored)) }
 {
     let Some(members) = members_of(alloc, reader)? else {
         return Ok(None);
@@ -420,7 +436,7 @@ fn fields_of<'a>(alloc: Global, reader: &mut TokenReader<'a>) -> Memory<Option<U
 /// The fields of the JSON text of a map by itself, if it is short and plain, as `usual_map` gives them.
 pub fn plain_map<'a>(alloc: Global, text: &'a str) -> Memory<Option<UsualMap<'a>>>
     ensures { IfOk result (λ found. IfSome found
-        (λ map. IsJsonOf text.now (usual_record map))) }
+        (λ map. IsJsonOf text.now (usual_record map) map.ignored)) }
 {
     if text.len() > MOST_PLAIN {
         return Ok(None);
@@ -438,7 +454,7 @@ pub fn usual_map<'a>(
     scratch: &'a mut Scratch,
 ) -> Memory<Option<UsualMap<'a>>>
     ensures { IfOk result (λ found. IfSome found
-        (λ map. IsJsonOf text.now (usual_record map))) }
+        (λ map. IsJsonOf text.now (usual_record map) map.ignored)) }
 {
     let mut reader = TokenReader::any(text, scratch)?;
     fields_of(alloc, &mut reader)

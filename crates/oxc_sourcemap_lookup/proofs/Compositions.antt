@@ -1,6 +1,6 @@
 -- From targets to the composed map.
 use Rattle.std.proofs.Common.{◌≡◌, sym, ap, subst, ◌∙◌, Bool, true, false, cond, List, map, Option}
-use Rattle.std.proofs.Common.{Some, None, Result, Ok, Err, ◌≢◌, IfErr}
+use Rattle.std.proofs.Common.{Some, None, Result, Ok, Err, ◌≢◌, IfOk, IfErr}
 use Rattle.oxc_sourcemap_tokens.specs.declared.error.Error.{Error}
 use Rattle.oxc_sourcemap_tokens.specs.declared.error.Error.TheVariants.{TooLarge, OutOfMemory}
 use Rattle.oxc_sourcemap_tokens.specs.Token.{TokenRecord}
@@ -56,6 +56,10 @@ module _ (a b : MapRecord) where
   pub exact_error : {X : Type 0} (r : Result X Error) → NoColumnGoesBack b.tokens → IfErr r (λ e. (e ≢ OutOfMemory) → SomeComposition a b (Err e)) → IfErr r (λ e. (e ≢ OutOfMemory) → composition a b ≡ Err e)
   exact_error (Ok x) g s = tt
   exact_error (Err e) g s = λ other. exact (Err e) g (s other)
+
+  pub exact_map : {X : Type 0} (view : X → MapRecord) (r : Result X Error) → NoColumnGoesBack b.tokens → IfOk r (λ x. SomeComposition a b (Ok (view x))) → IfOk r (λ x. composition a b ≡ Ok (view x))
+  exact_map view (Ok x) g s = exact (Ok (view x)) g s
+  exact_map view (Err e) g s = tt
 
 pub of_equals : (a p b q : MapRecord) (answer : Result MapRecord Error) → a ≡ p → b ≡ q → SomeComposition a b answer → SomeComposition p q answer
 of_equals a p b q answer e f s = subst (λ a. SomeComposition a q answer) e (subst (λ b. SomeComposition a b answer) f s)

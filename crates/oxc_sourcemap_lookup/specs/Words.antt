@@ -1,7 +1,8 @@
 -- The words of this crate's clauses, from one place.
 pub use Rattle.oxc_sourcemap_parts.specs.Sorted.{are_tokens_sorted, token_line, token_column}
 pub use Rattle.oxc_sourcemap_parts.specs.Texts.{index_of, with_text}
-pub use Rattle.oxc_sourcemap_parts.specs.Views.{texts_of, record_of_parts, cow_texts}
+pub use Rattle.oxc_sourcemap_parts.specs.Views.{texts_of, text_of, contents_of, record_of_parts}
+pub use Rattle.oxc_sourcemap_parts.specs.Views.{cow_texts}
 pub use Rattle.oxc_sourcemap_tokens.specs.LineOrder.{IsInLineOrder, first_out_of_order}
 pub use Rattle.oxc_sourcemap_tokens.specs.Results.{FailsBy, Reports, lent_items, Answers}
 pub use Rattle.oxc_sourcemap_tokens.specs.Token.{last, TokenRecord}

@@ -10,13 +10,14 @@ ghost use Rattle.oxc_sourcemap_lookup.specs.Words.{inherited_name, composed_name
 ghost use Rattle.oxc_sourcemap_lookup.specs.Words.{may_be_id, are_ids, composition_fault};
 ghost use Rattle.oxc_sourcemap_lookup.specs.Words.{composition, SomeComposition, NoColumnGoesBack};
 ghost use Rattle.oxc_sourcemap_lookup.specs.Words.{with_inherited, inherited_index, names_with};
-ghost use Rattle.oxc_sourcemap_lookup.specs.Words.{IsInheriting, FailsBy, Reports};
+ghost use Rattle.oxc_sourcemap_lookup.specs.Words.{IsInheriting, FailsBy, Reports, text_of};
+ghost use Rattle.oxc_sourcemap_lookup.specs.Words.{contents_of};
 
 use crate::inherited_names::{InheritedNames, inherit_id, no_names, owned_names};
 use crate::line_index::LineIndex;
 use crate::near::{Near, lookup_near};
-use oxc_sourcemap_parts::{SourceMapParts, into_owned_text};
-use oxc_sourcemap_tokens::{Error, Result, Token};
+use oxc_sourcemap_parts::{SourceMapParts, clone_ids, into_owned_text, owned_text};
+use oxc_sourcemap_tokens::{Error, Memory, Result, Token};
 use std::alloc::Global;
 use std::borrow::CowStr;
 use std::mem::swap;
@@ -191,4 +192,106 @@ pub fn compose_parts<'input>(
 {
     compose_into(alloc, &mut first, &mut second)?;
     Ok(second)
+}
+
+/// A copy of a string, if there is one.
+fn copied_text<'a>(alloc: Global, text: &Option<CowStr<'_>>) -> Memory<Option<CowStr<'a>>>
+    ensures { IfOk result (λ copy. text_of copy ≡ text_of text.now) }
+{
+    match text {
+        Some(text) => Ok(Some(owned_text(alloc, text.as_str())?)),
+        None => Ok(None),
+    }
+}
+
+/// Copies of strings.
+fn copied_texts<'a>(alloc: Global, texts: &[CowStr<'_>]) -> Memory<Vec<CowStr<'a>>>
+    ensures { IfOk result (λ copies. texts_of copies ≡ cow_texts texts.now) }
+{
+    let mut copies = Vec::with_capacity(alloc, texts.len())?;
+    for text in texts {
+        copies.push(owned_text(alloc, text.as_str())?)?;
+    }
+    Ok(copies)
+}
+
+/// Copies of contents.
+fn copied_contents<'a>(
+    alloc: Global,
+    contents: &[Option<CowStr<'_>>],
+) -> Memory<Vec<Option<CowStr<'a>>>>
+    ensures { IfOk result (λ copies. contents_of copies ≡ map text_of contents.now) }
+{
+    let mut copies = Vec::with_capacity(alloc, contents.len())?;
+    for content in contents {
+        copies.push(copied_text(alloc, content)?)?;
+    }
+    Ok(copies)
+}
+
+/// The composition of two maps that stay as they are. `compose_lent_parts` has the errors.
+fn compose_lent<'a>(
+    alloc: Global,
+    first: &SourceMapParts<'_>,
+    second: &SourceMapParts<'_>,
+) -> Result<SourceMapParts<'a>>
+    ensures made { IfOk result (λ parts. SomeComposition (record_of_parts first.now)
+        (record_of_parts second.now) (Ok (record_of_parts parts))) }
+    ensures error { IfErr result (λ e. (e ≢ OutOfMemory)
+        → SomeComposition (record_of_parts first.now) (record_of_parts second.now) (Err e)) }
+    ensures fault { Reports (composition_fault (record_of_parts first.now)
+        (record_of_parts second.now)) result }
+{
+    let index = input_index(alloc, first, second)?;
+    let mut tokens = first.tokens.as_slice().to_vec(alloc)?;
+    let mut more = compose_tokens(
+        alloc,
+        first.names.as_slice(),
+        tokens.as_mut_slice(),
+        second.names.as_slice(),
+        second.tokens.as_slice(),
+        &index,
+    )?;
+    let mut names = copied_texts(alloc, second.names.as_slice())?;
+    names.append(&mut more)?;
+    let sources = copied_texts(alloc, second.sources.as_slice())?;
+    let source_contents = copied_contents(alloc, second.source_contents.as_slice())?;
+    let ignore_list = clone_ids(alloc, &second.ignore_list)?;
+    let source_root = copied_text(alloc, &second.source_root)?;
+    let file = copied_text(alloc, &first.file)?;
+    let debug_id = copied_text(alloc, &first.debug_id)?;
+    Ok(SourceMapParts {
+        tokens: tokens.into_boxed_slice(),
+        names,
+        sources,
+        source_contents,
+        ignore_list,
+        file,
+        source_root,
+        token_chunks: None,
+        debug_id,
+    })
+}
+
+/// The composition of two maps, as `compose_parts` makes it, with copies of their strings. Fails as that does; both maps stay
+/// as they are.
+pub fn compose_lent_parts<'a>(
+    alloc: Global,
+    first: &SourceMapParts<'_>,
+    second: &SourceMapParts<'_>,
+) -> Result<SourceMapParts<'a>>
+    ensures map { let a = record_of_parts first.now in let b = record_of_parts second.now in
+        NoColumnGoesBack b.tokens → IfOk result
+        (λ parts. composition a b ≡ Ok (record_of_parts parts)) }
+    ensures error { let a = record_of_parts first.now in let b = record_of_parts second.now in
+        NoColumnGoesBack b.tokens → IfErr result
+        (λ e. (e ≢ OutOfMemory) → composition a b ≡ Err e) }
+    ensures any_map { IfOk result (λ parts. SomeComposition (record_of_parts first.now)
+        (record_of_parts second.now) (Ok (record_of_parts parts))) }
+    ensures any_error { IfErr result (λ e. (e ≢ OutOfMemory)
+        → SomeComposition (record_of_parts first.now) (record_of_parts second.now) (Err e)) }
+    ensures fault { Reports (composition_fault (record_of_parts first.now)
+        (record_of_parts second.now)) result }
+{
+    compose_lent(alloc, first, second)
 }

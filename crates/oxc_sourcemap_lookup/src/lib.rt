@@ -9,7 +9,7 @@ mod line_index;
 mod lookup;
 mod near;
 
-pub use compose::{compose_parts, target};
+pub use compose::{compose_lent_parts, compose_parts, target};
 pub use line_index::{LineIndex, UsualIndex};
 pub use lookup::{
     index_from_line, lookup_table, search, search_after, search_clamped, search_index,

@@ -1,13 +1,18 @@
 -- The place of the first fault, one segment at a time.
 use Rattle.std.proofs.Common.{◌≡◌, ℕ, ◌+◌, ◌<◌, true, false, List, [], ◌∷◌, ◌==◌, length}
-use Rattle.std.proofs.Common.{drop, Option, Some, Result, Ok, Err, if◌then◌else◌, arith, refl}
-use Rattle.std.proofs.Common.{sym, ap, ◌∙◌, add-zero, slice_get, suc, IsErr}
+use Rattle.std.proofs.Common.{drop, Option, Some, None, Result, Ok, Err, if◌then◌else◌, arith}
+use Rattle.std.proofs.Common.{refl}
+use Rattle.std.proofs.Common.{sym, ap, ◌∙◌, subst, add-zero, slice_get, suc, IsErr, ◌⊎◌, inl, inr}
+use Rattle.std.proofs.lemmas.List.{length-drop}
+use Rattle.std.specs.Option.{option_map}
 use Rattle.std.specs.Result.{result_err}
 use Rattle.std.proofs.lemmas.Bool.{eq-eqb}
 use Rattle.std.proofs.lemmas.Bool.Decides.{nat_tests}
 use Rattle.oxc_sourcemap_tokens.specs.declared.error.Error.{Error}
 use Rattle.oxc_sourcemap_tokens.specs.Token.{TokenRecord}
-use Rattle.oxc_sourcemap_mappings.specs.declared.fault_at.SegmentPlace.{SegmentPlace}
+use Rattle.oxc_sourcemap_tokens.specs.declared.fault.FaultSpot.TheVariants.{Segment}
+use Rattle.oxc_sourcemap_tokens.specs.declared.fault.SegmentPlace.{SegmentPlace}
+use Rattle.oxc_sourcemap_tokens.specs.Places.{place_in}
 use Rattle.oxc_sourcemap_mappings.specs.Parts.{is_semicolon, is_comma}
 use Rattle.oxc_sourcemap_mappings.specs.Places.{Place, place, nothing_before}
 use Rattle.oxc_sourcemap_mappings.specs.Faults.{Counts, counts_of}
@@ -165,3 +170,101 @@ front-some (a ∷ bs) b g m =
 pub err_from : {A : Type 0} (r : Result A Error) (e : Error) → result_err r ≡ Some e → IsErr r
 err_from (Ok x) e h = cc
 err_from (Err f) e h = refl
+
+-- ---- where a reading is
+
+-- What is left of a text begins at a place, behind so many tokens, of which so many are on lines before. The first fault of the text,
+-- whose place is the answer, is that of what is left.
+pub record IsHere (c : Counts) (text : List ℕ) (answer : Option SegmentPlace) (rest : List ℕ) (line tokens before : ℕ) (reached : Place) : Type 0 where
+  pub at : SegmentPlace
+  pub byte : at.byte + length rest ≡ length text
+  pub on : at.line ≡ line
+  pub segment : at.segment + before ≡ tokens
+  pub place : rest_place c at reached rest ≡ answer
+
+pub here-first : (text rest : List ℕ) (names sources tokens : ℕ) (reached : Place) → tokens ≡ 0 → reached ≡ place nothing_before → rest ≡ text
+    → IsHere (counts_of names sources) text (fault_place text names sources) rest 0 tokens 0 reached
+here-first text rest names sources tokens reached none start same = record {
+  at = text_start;
+  byte = omega (arith, ap length same);
+  on = refl;
+  segment = omega (arith, none);
+  place = ap (λ q. rest_place (counts_of names sources) text_start q rest) start
+      ∙ ap (rest_place (counts_of names sources) text_start (place nothing_before)) same
+      ∙ sym (fault_place-is text names sources);
+}
+
+told-place : (p : SegmentPlace) (byte line segment : ℕ) → byte ≡ p.byte → line ≡ p.line → segment ≡ p.segment
+    → p ≡ record { byte = byte; line = line; segment = segment }
+told-place p byte line segment e f g = rw (e, f, g) refl
+
+module _ (c : Counts) (text : List ℕ) (answer : Option SegmentPlace) where
+  pub here-comma : (rest : List ℕ) (line tokens before : ℕ) (reached : Place) → IsHere c text answer (44 ∷ rest) line tokens before reached
+      → IsHere c text answer rest line tokens before reached
+  here-comma rest line tokens before reached h = record {
+    at = bytes_on h.at 1;
+    byte = omega (arith, h.byte);
+    on = h.on;
+    segment = h.segment;
+    place = sym (place-comma c h.at reached rest) ∙ h.place;
+  }
+
+  pub here-semicolon : (rest : List ℕ) (line next tokens before start : ℕ) (reached : Place) → next ≡ line + 1 → line < 4294967295 → start ≡ tokens
+      → IsHere c text answer (59 ∷ rest) line tokens before reached → IsHere c text answer rest next tokens start (at_line_start reached)
+  here-semicolon rest line next tokens before start reached is few none h = record {
+    at = line_on h.at;
+    byte = omega (arith, h.byte);
+    on = omega (arith, h.on, is);
+    segment = omega (arith, none);
+    place = sym (place-semicolon c h.at reached rest (omega (arith, h.on, few))) ∙ h.place;
+  }
+
+  here-after : (left after : List ℕ) (line tokens before : ℕ) (reached : Place) → (left ≡ after) ⊎ (left ≡ 44 ∷ after)
+      → IsHere c text answer left line tokens before reached → IsHere c text answer after line tokens before reached
+  here-after left after line tokens before reached comma h =
+      elim comma [
+        | inl e ↦ subst (λ xs. IsHere c text answer xs line tokens before reached) e h
+        | inr e ↦ here-comma after line tokens before reached (subst (λ xs. IsHere c text answer xs line tokens before reached) e h)
+      ]
+
+  -- one token further, past a `,` behind it
+  pub here-token : (rest left after : List ℕ) (line tokens more before b len : ℕ) (reached here : Place) (token : TokenRecord)
+      → slice_get rest 0 ≡ Some b → ends_segment b ≡ false → IsFrontOf c line reached rest here token len → left ≡ drop len rest
+      → (left ≡ after) ⊎ (left ≡ 44 ∷ after) → more ≡ tokens + 1 → IsHere c text answer rest line tokens before reached
+      → IsHere c text answer after line more before here
+  here-token rest left after line tokens more before b len reached here token g m is behind comma one h =
+      let front : IsFrontOf c h.at.line reached rest here token len = subst (λ n. IsFrontOf c n reached rest here token len) (sym h.on) is in
+      here-after left after line more before here comma (record {
+        at = record { byte = h.at.byte + len; line = h.at.line; segment = h.at.segment + 1 };
+        byte = omega (arith, ap length behind, length-drop len rest, is.within, h.byte);
+        on = h.on;
+        segment = omega (arith, h.segment, one);
+        place = ap (rest_place c (record { byte = h.at.byte + len; line = h.at.line; segment = h.at.segment + 1 }) here) behind
+            ∙ sym (place-token c h.at reached here rest b len token g m front) ∙ h.place;
+      })
+
+  -- at a segment with a fault
+  pub here-fault : (rest : List ℕ) (line tokens before b : ℕ) (reached : Place) (e : Error) → slice_get rest 0 ≡ Some b → ends_segment b ≡ false
+      → segment_result c line reached (front_segment rest) (moved_by reached (front_segment rest)) ≡ Err e
+      → (h : IsHere c text answer rest line tokens before reached) → answer ≡ Some h.at
+  here-fault rest line tokens before b reached e g m bad h =
+      let same : segment_result c h.at.line reached (front_segment rest) (moved_by reached (front_segment rest)) ≡ Err e =
+      ap (λ n. segment_result c n reached (front_segment rest) (moved_by reached (front_segment rest))) h.on ∙ bad in
+      sym h.place ∙ (place-fault c h.at reached rest b e g m same).0
+
+  pub here-last : (rest : List ℕ) (line tokens before : ℕ) (reached : Place) → line ≡ 4294967295
+      → (h : IsHere c text answer (59 ∷ rest) line tokens before reached) → answer ≡ Some h.at
+  here-last rest line tokens before reached last h = sym h.place ∙ place-last_line c h.at reached rest (h.on ∙ last)
+
+  -- at the end
+  pub here-none : (line tokens before : ℕ) (reached : Place) → IsHere c text answer [] line tokens before reached → answer ≡ None
+  unfolding places_from
+  here-none line tokens before reached h = sym h.place
+
+  -- the place of that fault, told by its numbers
+  pub here-told : (rest : List ℕ) (line tokens before : ℕ) (reached : Place) (byte segment : ℕ) (h : IsHere c text answer rest line tokens before reached)
+      → answer ≡ Some h.at → byte + length rest ≡ length text → segment + before ≡ tokens
+      → option_map (λ p. place_in None (Segment p)) answer ≡ Some (place_in None (Segment (record { byte = byte; line = line; segment = segment })))
+  here-told rest line tokens before reached byte segment h found e f =
+      ap (option_map (λ p. place_in None (Segment p))) found
+      ∙ ap (λ p. Some (place_in None (Segment p))) (told-place h.at byte line segment (omega (arith, e, h.byte)) (sym h.on) (omega (arith, f, h.segment)))

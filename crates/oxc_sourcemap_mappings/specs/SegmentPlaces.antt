@@ -1,9 +1,13 @@
 -- Where the segments of a `mappings` text begin, and where the first with a fault does.
 use Rattle.std.specs.Prelude.{ℕ, ◌+◌, Bool, true, false, List, [], ◌∷◌, Option, Some, None, Result}
 use Rattle.std.specs.Prelude.{Ok, Err, if◌then◌else◌, ◌==◌}
+use Rattle.std.specs.Option.{option_map}
 use Rattle.oxc_sourcemap_tokens.specs.declared.error.Error.{Error}
 use Rattle.oxc_sourcemap_tokens.specs.Token.{TokenRecord}
-use Rattle.oxc_sourcemap_mappings.specs.declared.fault_at.SegmentPlace.{SegmentPlace}
+use Rattle.oxc_sourcemap_tokens.specs.declared.fault.FaultPlace.{FaultPlace}
+use Rattle.oxc_sourcemap_tokens.specs.declared.fault.FaultSpot.TheVariants.{Segment}
+use Rattle.oxc_sourcemap_tokens.specs.declared.fault.SegmentPlace.{SegmentPlace}
+use Rattle.oxc_sourcemap_tokens.specs.Places.{place_in}
 use Rattle.oxc_sourcemap_mappings.specs.Parts.{lines, is_semicolon, is_comma}
 use Rattle.oxc_sourcemap_mappings.specs.Places.{nothing_before}
 use Rattle.oxc_sourcemap_mappings.specs.Faults.{counts_of}
@@ -45,3 +49,7 @@ first_fault (Err fault ∷ results) (p ∷ places) = Some p
 unfoldable pub fault_place : List ℕ → ℕ → ℕ → Option SegmentPlace
 fault_place text names sources =
     first_fault (text_results (counts_of names sources) 0 nothing_before (lines text)) (places_from text_start false text)
+
+-- that segment as the place of a fault
+abbrev pub mappings_place : List ℕ → ℕ → ℕ → Option FaultPlace
+mappings_place text names sources = option_map (λ p. place_in None (Segment p)) (fault_place text names sources)

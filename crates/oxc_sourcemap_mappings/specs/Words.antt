@@ -1,11 +1,13 @@
 -- The words of this crate's clauses, from one place.
 pub use Rattle.oxc_sourcemap_tokens.specs.Chunks.{header, lent_chunks}
 pub use Rattle.oxc_sourcemap_tokens.specs.LineOrder.{back_from}
+pub use Rattle.oxc_sourcemap_tokens.specs.Places.{fault_at, Reads, Locates}
 pub use Rattle.oxc_sourcemap_tokens.specs.Results.{Answers, OnlyMemory, FailsBy, Reports, Pushes}
 pub use Rattle.oxc_sourcemap_tokens.specs.Steps.{state_of}
 pub use Rattle.oxc_sourcemap_tokens.specs.Token.{last_line}
 pub use Rattle.oxc_sourcemap_tokens.specs.declared.error.Error.{Error}
 pub use Rattle.oxc_sourcemap_tokens.specs.declared.error.Error.TheVariants.{TooLarge, OutOfMemory}
+pub use Rattle.oxc_sourcemap_tokens.specs.declared.fault.FaultSpot.TheVariants.{Segment}
 pub use Rattle.oxc_sourcemap_mappings.specs.Canonical.{letter, vlq_text, raw_delta, delta_text}
 pub use Rattle.oxc_sourcemap_mappings.specs.Canonical.{canonical}
 pub use Rattle.oxc_sourcemap_mappings.specs.Decoding.{ends_segment, front_digits, front_segment}
@@ -23,4 +25,4 @@ pub use Rattle.oxc_sourcemap_mappings.specs.Pieces.{piece, piece_fault, writing_
 pub use Rattle.oxc_sourcemap_mappings.specs.Places.{nothing_before, place}
 pub use Rattle.oxc_sourcemap_mappings.specs.Reading.{token_at, segment_result, reading}
 pub use Rattle.oxc_sourcemap_mappings.specs.Reasons.{IsReasonOf, moved_by_all}
-pub use Rattle.oxc_sourcemap_mappings.specs.SegmentPlaces.{fault_place}
+pub use Rattle.oxc_sourcemap_mappings.specs.SegmentPlaces.{fault_place, mappings_place}

@@ -4,7 +4,7 @@ ghost use Rattle.std.specs.Prelude.{ℕ, List, ◌≡◌, ◌⊎◌, ◌+◌, �
 ghost use Rattle.std.specs.Prelude.{length, ◌∷◌, [], drop, not, ℤ, pos, nat_abs, ◌+ℤ◌, ◌<ℤ◌, ◌≤ℤ◌};
 ghost use Rattle.std.specs.Prelude.{set, true, false, min, is_some, IfSome, IfNone, OnOk, IfOk};
 ghost use Rattle.std.specs.Prelude.{IfErr, Option, Some, None, Result, Ok, Err};
-ghost use Rattle.oxc_sourcemap_mappings.specs.Words.{TooLarge, digit, payload, signed};
+ghost use Rattle.oxc_sourcemap_mappings.specs.Words.{digit, payload, signed};
 ghost use Rattle.oxc_sourcemap_mappings.specs.Words.{nothing_before, place, digit_fault};
 ghost use Rattle.oxc_sourcemap_mappings.specs.Words.{range_fault, is_id_below, low_bits};
 ghost use Rattle.oxc_sourcemap_mappings.specs.Words.{source_fault, place_fault, counts_of};
@@ -14,8 +14,10 @@ ghost use Rattle.oxc_sourcemap_mappings.specs.Words.{segments_after, is_over, Is
 ghost use Rattle.oxc_sourcemap_mappings.specs.Words.{AreFieldsOf, AreSmall, value, place_of};
 ghost use Rattle.oxc_sourcemap_mappings.specs.Words.{source_moved, moved, moved_by, IsFrontOf};
 ghost use Rattle.oxc_sourcemap_mappings.specs.Words.{Answers, at_line_start};
+ghost use Rattle.oxc_sourcemap_mappings.specs.Words.{Reads, Locates, mappings_place, fault_at};
+ghost use Rattle.oxc_sourcemap_mappings.specs.Words.{Segment};
 
-use oxc_sourcemap_tokens::{Error, Result, Token};
+use oxc_sourcemap_tokens::{Error, Fault, FaultSpot, Located, Result, SegmentPlace, Token};
 use std::alloc::Global;
 use std::boxed::BoxedSlice;
 
@@ -464,11 +466,26 @@ impl Sums {
 }
 
 /// The line after this one.
-fn next_line(line: u32) -> Result<u32>
-    ensures line { IfOk result (λ next. next ≡ line + 1) }
-    ensures last { IfErr result (λ e. (e ≡ TooLarge) × (line ≡ 4294967295)) }
+fn next_line(line: u32) -> Option<u32>
+    ensures line { IfSome result (λ next. next ≡ line + 1) }
+    ensures last { IfNone result (line ≡ 4294967295) }
 {
-    line.checked_add(1).ok_or(Error::TooLarge)
+    line.checked_add(1)
+}
+
+/// The fault of the segment, or of the `;`, that begins at this byte, behind so many segments of its line.
+// A call of its own: it is rare.
+#[inline(never)]
+fn fault_of(error: Error, byte: usize, line: u32, segment: usize) -> Fault
+    ensures { result ≡ fault_at error
+        (Segment (record { byte = byte; line = line; segment = segment })) }
+{
+    let place = SegmentPlace {
+        byte,
+        line,
+        segment,
+    };
+    Fault::at(error, FaultSpot::Segment(place))
 }
 
 /// Whether a byte belongs to a segment: all but `,` and `;`.
@@ -520,6 +537,53 @@ fn after_comma(text: &[u8]) -> &[u8]
     }
 }
 
+/// Reads a `mappings` text as `decode_mappings` does, and tells of an error where it is: at the segment that `mappings_fault_at` tells.
+pub fn read_mappings(
+    alloc: Global,
+    text: &str,
+    names: usize,
+    sources: usize,
+) -> Located<BoxedSlice<Token>>
+    ensures tokens { Reads boxed_slice_items result (reading text.now names sources) }
+    ensures place { Locates result (mappings_place text.now names sources) }
+{
+    let mut rest = text.as_bytes();
+    let mut tokens = Vec::with_capacity(alloc, segment_count(rest))?;
+    let mut sums = Sums::new();
+    let mut line = 0;
+    let mut before = 0; // tokens on the lines before
+    while let Some(byte) = rest.first() {
+        // In an arm of its own, the token goes from registers to its place.
+        if let Some((token, len)) = sums.usual_token(line, rest, names, sources) {
+            tokens.push_reserved(token);
+            rest = after_comma(&rest[len..]);
+            continue;
+        }
+        let at = text.len() - rest.len();
+        match *byte {
+            b';' => {
+                let Some(next) = next_line(line) else {
+                    return Err(fault_of(Error::TooLarge, at, line, tokens.len() - before));
+                };
+                line = next;
+                before = tokens.len();
+                sums.dst_col = 0;
+                rest = &rest[1..];
+            }
+            b',' => rest = &rest[1..],
+            _ => {
+                let (token, len) = match sums.any_token(line, rest, names, sources) {
+                    Ok(read) => read,
+                    Err(error) => return Err(fault_of(error, at, line, tokens.len() - before)),
+                };
+                tokens.push_reserved(token);
+                rest = after_comma(&rest[len..]);
+            }
+        }
+    }
+    Ok(tokens.into_boxed_slice())
+}
+
 /// Reads a `mappings` text into tokens, in the order of the text (docs/FORMAT.md, "Reading"; ECMA-426, "Mappings
 /// structure"). `names` and `sources` are the lengths of the lists that its ids refer to; more than 4294967295 are taken as
 /// 4294967295.
@@ -552,30 +616,5 @@ pub fn decode_mappings(
 ) -> Result<BoxedSlice<Token>>
     ensures { Answers boxed_slice_items result (reading text.now names sources) }
 {
-    let mut rest = text.as_bytes();
-    let mut tokens = Vec::with_capacity(alloc, segment_count(rest))?;
-    let mut sums = Sums::new();
-    let mut line = 0;
-    while let Some(byte) = rest.first() {
-        // In an arm of its own, the token goes from registers to its place.
-        if let Some((token, len)) = sums.usual_token(line, rest, names, sources) {
-            tokens.push_reserved(token);
-            rest = after_comma(&rest[len..]);
-            continue;
-        }
-        match *byte {
-            b';' => {
-                line = next_line(line)?;
-                sums.dst_col = 0;
-                rest = &rest[1..];
-            }
-            b',' => rest = &rest[1..],
-            _ => {
-                let (token, len) = sums.any_token(line, rest, names, sources)?;
-                tokens.push_reserved(token);
-                rest = after_comma(&rest[len..]);
-            }
-        }
-    }
-    Ok(tokens.into_boxed_slice())
+    Ok(read_mappings(alloc, text, names, sources)?)
 }

@@ -4,17 +4,7 @@ ghost use Rattle.std.specs.Prelude.{length, option_map};
 ghost use Rattle.oxc_sourcemap_mappings.specs.Words.{reading, fault_place};
 
 use crate::decode::Sums;
-
-/// Where a segment of a `mappings` text begins. All three count from 0.
-#[derive(Clone, Copy, Debug, PartialEq, Eq)]
-pub struct SegmentPlace {
-    /// The index of its first byte in the text.
-    pub byte: usize,
-    /// Its generated line: how many `;` are before it.
-    pub line: u32,
-    /// How many segments are before it on its line. Empty segments do not count.
-    pub segment: usize,
-}
+use oxc_sourcemap_tokens::SegmentPlace;
 
 /// Where the first segment with a fault begins, as `mappings_fault_at` tells it, and the sums of the fields before it.
 pub(crate) fn first_fault(text: &str, names: usize, sources: usize) -> Option<(SegmentPlace, Sums)>

@@ -8,7 +8,7 @@ mod fault_at;
 mod near;
 mod reason;
 
-pub use decode::decode_mappings;
+pub use decode::{decode_mappings, read_mappings};
 pub use encode::{encode_chunk, encode_mappings};
-pub use fault_at::{SegmentPlace, mappings_fault_at};
+pub use fault_at::mappings_fault_at;
 pub use reason::{SegmentReason, mappings_fault_reason};

@@ -31,7 +31,7 @@ use Rattle.oxc_sourcemap_decode.specs.Section.{is_indexed}
 use Rattle.oxc_sourcemap_decode.specs.ReadMap.{plain, map_said, indexed_said, sections_in, said_of}
 use Rattle.oxc_sourcemap_decode.specs.ReadMap.{read_value, read_map}
 use Rattle.oxc_sourcemap_decode.proofs.WellRead.{value_is_said, read_is_said}
-use Rattle.oxc_sourcemap_places.specs.ValueSpots.{ignored_spot, read_alone}
+use Rattle.oxc_sourcemap_decode.specs.ValuePlaces.{ignored_spot, read_alone}
 
 -- two tests that hold together
 pub together : (a b : Bool) → (a ≡ true → b ≡ true) → (b ≡ true → a ≡ true) → a ≡ b
@@ -84,76 +84,7 @@ fields-found field j three =
     rw three (by-ignored j (reading j.mappings (length j.names) (length j.sources)) (ignore_list_fault j))
     ∙ ap (λ b. b || is_err (reading j.mappings (length j.names) (length j.sources))) (sym (ignored-found field j))
 
--- ---- the version of a map that has the shape of one
-abbrev fine : {A : Type 0} → A → Result A Error
-fine x = Ok x
-
-same-ok : {A : Type 0} (x y : A) → fine x ≡ fine y → x ≡ y
-same-ok x y e = cc
-
-is-three : (n m : ℕ) → version_three n ≡ Ok m → m ≡ 3
-is-three n m e = grind (arith, nat_tests)
-
-of-three : (x : Result ℕ Error) (m : ℕ) → (x >>= version_three) ≡ Ok m → m ≡ 3
-of-three (Ok n) m e = is-three n m e
-of-three (Err f) m e = cc
-
-version-is : (o : Option Data) (m : ℕ) → version_of o ≡ Ok m → m ≡ 3
-version-is None m e = cc
-version-is (Some d) m e = of-three (or_misshapen VersionField (as_id d)) m e
-
-abbrev made : ℕ → Option Text → Text → Option Text → List Text → Option (List (Option Text)) → List Text → Option Text → Option (List ℕ) → JsonRecord
-made version file mappings source_root sources contents names debug_id ignore_list = record {
-  version = version;
-  file = file;
-  mappings = mappings;
-  source_root = source_root;
-  sources = sources;
-  sources_content = contents;
-  names = names;
-  debug_id = debug_id;
-  ignore_list = ignore_list;
-}
-
--- the version of a map is the one that is read
-walked : (v : Result ℕ Error) (f : Result (Option Text) Error) (m : Result Text Error) (r : Result (Option Text) Error) (s : Result (List Text) Error)
-    (c : Result (Option (List (Option Text))) Error) (n : Result (List Text) Error) (d : Result (Option Text) Error) (i : Result (Option (List ℕ)) Error) (j : JsonRecord)
-    → (v >>= (λ version. f >>= (λ file. m >>= (λ mappings. r >>= (λ source_root. s >>= (λ sources. c >>= (λ contents. n >>= (λ names. d >>= (λ debug_id. i >>= (λ ignore_list.
-    fine (made version file mappings source_root sources contents names debug_id ignore_list))))))))))) ≡ fine j → v ≡ Ok j.version
-walked (Err x) f m r s c n d i j e = cc
-walked (Ok v) (Err x) m r s c n d i j e = cc
-walked (Ok v) (Ok f) (Err x) r s c n d i j e = cc
-walked (Ok v) (Ok f) (Ok m) (Err x) s c n d i j e = cc
-walked (Ok v) (Ok f) (Ok m) (Ok r) (Err x) c n d i j e = cc
-walked (Ok v) (Ok f) (Ok m) (Ok r) (Ok s) (Err x) n d i j e = cc
-walked (Ok v) (Ok f) (Ok m) (Ok r) (Ok s) (Ok c) (Err x) d i j e = cc
-walked (Ok v) (Ok f) (Ok m) (Ok r) (Ok s) (Ok c) (Ok n) (Err x) i j e = cc
-walked (Ok v) (Ok f) (Ok m) (Ok r) (Ok s) (Ok c) (Ok n) (Ok d) (Err x) j e = cc
-walked (Ok v) (Ok f) (Ok m) (Ok r) (Ok s) (Ok c) (Ok n) (Ok d) (Ok i) j e =
-    ap (λ (q : JsonRecord). fine q.version) (same-ok (made v f m r s c n d i) j e)
-
-after-object : {A : Type 0} (x : Result A Error) (rest : Result JsonRecord Error) (j : JsonRecord) → (x >>= (λ _. rest)) ≡ Ok j → rest ≡ Ok j
-after-object (Ok a) rest j e = e
-after-object (Err f) rest j e = cc
-
-pub shape-version : (d : Data) (j : JsonRecord) → shape d ≡ Ok j → j.version ≡ 3
-unfolding shape
-shape-version d j e =
-    version-is (get (codes "version") d) j.version
-    (walked (version_of (get (codes "version") d)) (optional (text_in File) (present (get (codes "file") d)))
-    (required Mappings (text_in Mappings) (get (codes "mappings") d)) (optional (text_in SourceRoot) (present (get (codes "sourceRoot") d)))
-    (required Sources (texts_in Sources) (get (codes "sources") d)) (optional (contents_in SourcesContent) (present (get (codes "sourcesContent") d)))
-    (names_of (get (codes "names") d)) (optional (text_in DebugId) (present (get (codes "debugId") d)))
-    (ignore_list_of (present (get (codes "ignoreList") d)) (present (get (codes "x_google_ignoreList") d))) j
-    (after-object (or_misshapen Object (as_object d)) _ j e))
-
--- ---- a value that is read
-pub indexed-read : (d : Data) → is_indexed d ≡ true → read_value d ≡ map_said (indexed_said (file_of d) (sections_in d))
-indexed-read d t = value_is_said d ∙ ap (λ b. map_said (cond b (indexed_said (file_of d) (sections_in d)) (plain (shape d >>= decoded)))) t
-
-pub alone-read : (d : Data) → is_indexed d ≡ false → read_value d ≡ read_alone d
-alone-read d f = value_is_said d ∙ ap (λ b. map_said (cond b (indexed_said (file_of d) (sections_in d)) (plain (shape d >>= decoded)))) f
-
+-- ---- a text that is read
 pub text-read : (text : Text) (d : Data) → read text ≡ Some d → read_value d ≡ read_map text
 text-read text d e = value_is_said d ∙ ap (λ o. map_said (said_of o)) (sym e) ∙ sym (read_is_said text)
 

@@ -5,10 +5,10 @@ use Rattle.serde_json.specs.Data.{Data, null, number, array, object, unsigned, n
 use Rattle.serde_json.specs.Data.{no_members, member}
 use Rattle.oxc_sourcemap_tokens.specs.declared.error.Field.TheVariants.{Sources, Object, Sections}
 use Rattle.oxc_sourcemap_tokens.specs.declared.error.Field.TheVariants.{Version, Offset, Map}
-use Rattle.oxc_sourcemap_places.specs.declared.fault_place.FaultSpot.TheVariants.{Segment, Reading}
-use Rattle.oxc_sourcemap_places.specs.declared.fault_place.FaultSpot.TheVariants.{Member, Entry}
-use Rattle.oxc_sourcemap_places.specs.PlaceMessages.{place_text}
-use Rattle.oxc_sourcemap_places.specs.ValueSpots.{sections_place, indexed_place}
+use Rattle.oxc_sourcemap_tokens.specs.declared.fault.FaultSpot.TheVariants.{Segment, Reading}
+use Rattle.oxc_sourcemap_tokens.specs.declared.fault.FaultSpot.TheVariants.{Member, Entry}
+use Rattle.oxc_sourcemap_tokens.specs.PlaceMessages.{place_text}
+use Rattle.oxc_sourcemap_decode.specs.ValuePlaces.{sections_place, indexed_place}
 
 tells-text : place_text (record { text = Some 700; section = None; spot = Segment (record { byte = 12; line = 0; segment = 3 }) })
     ≡ codes "text 700, line 0, segment 3 (byte 12)"

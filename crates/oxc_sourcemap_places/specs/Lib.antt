@@ -1,3 +1,1 @@
-pub mod PlaceMessages
-pub mod ValueSpots
 pub mod Words

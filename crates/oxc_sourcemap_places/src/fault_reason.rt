@@ -1,11 +1,8 @@
 //! What is really wrong with an input, where the text of its error says something else.
 ghost use Rattle.oxc_sourcemap_places.specs.Words.{OnlyMemory};
 
-use crate::fault_place::{FaultPlace, FaultSpot, name_of};
-use oxc_sourcemap_mappings::{
-    SegmentPlace, SegmentReason, mappings_fault_at, mappings_fault_reason,
-};
-use oxc_sourcemap_tokens::{Error, Field, Result};
+use oxc_sourcemap_mappings::{SegmentReason, mappings_fault_at, mappings_fault_reason};
+use oxc_sourcemap_tokens::{Error, FaultPlace, FaultSpot, Field, Result, SegmentPlace, name_of};
 use serde_json::Value;
 use std::alloc::Global;
 use std::fmt;

@@ -1,45 +1,24 @@
-//! Where a JSON text has its first fault.
-ghost use Rattle.std.specs.Prelude.{◌≡◌, ◌≤◌, length, IfOk, Some, None, IsSomeAnd, is_some};
+//! Where a JSON text, or a JSON value, has its first fault: the place of the error with which it is read.
+ghost use Rattle.std.specs.Prelude.{◌≡◌, ◌≢◌, IfOk, Some, None, IsSomeAnd, is_some};
 ghost use Rattle.std.specs.Result.{is_err};
 ghost use Rattle.serde_json.specs.Data.{Data};
 ghost use Rattle.oxc_sourcemap_places.specs.Words.{value_place, read, OnlyMemory, IsReading};
-ghost use Rattle.oxc_sourcemap_places.specs.Words.{read_map};
+ghost use Rattle.oxc_sourcemap_places.specs.Words.{read_map, read_value, view, OutOfMemory};
 
-use crate::fault_place::{FaultPlace, FaultSpot};
-use crate::value_fault::value_fault_at;
-use oxc_sourcemap_tokens::{Error, Result};
+use oxc_sourcemap_decode::{read_parts_from_string, read_parts_from_value};
+use oxc_sourcemap_tokens::{Error, Fault, FaultPlace, Result};
 use serde_json::Value;
 use std::alloc::Global;
 
-/// The index of the first byte of a line, or the length of the text if there is no such line. Lines end in line feeds.
-fn line_start(text: &[u8], line: usize) -> usize
-    ensures { result ≤ length text.now }
+/// The place of a fault, or want of memory.
+fn place_of(fault: Fault) -> Result<Option<FaultPlace>>
+    ensures place { IfOk result (λ place. (fault.error ≢ OutOfMemory) × (place ≡ fault.place)) }
+    ensures error { OnlyMemory result }
 {
-    let mut left = line;
-    for (i, byte) in text.iter().enumerate() {
-        if left == 0 {
-            return i;
-        }
-        if *byte == b'\n' {
-            left -= 1;
-        }
+    match fault.error {
+        Error::OutOfMemory => Err(Error::OutOfMemory),
+        _ => Ok(fault.place),
     }
-    text.len()
-}
-
-/// Where a text is not JSON, which the reader refused with this error.
-pub fn reading_place(text: &str, error: &serde_json::Error) -> FaultPlace
-    ensures { IsReading result }
-{
-    let line = error.line().saturating_sub(1);
-    // The reader counts the byte at fault with those before it, but at the end of the text, where there is none.
-    let column = if error.is_eof() {
-        error.column()
-    } else {
-        error.column().saturating_sub(1)
-    };
-    let byte = line_start(text.as_bytes(), line).saturating_add(column);
-    FaultPlace::new(None, FaultSpot::Reading { line, column, byte })
 }
 
 /// Where a JSON text has its first fault. If it is not JSON, the place that the reader gives: that of the token that it cannot
@@ -59,13 +38,39 @@ pub fn json_fault_at(alloc: Global, text: &str) -> Result<Option<FaultPlace>>
     ensures found { IfOk result (λ place. is_some place ≡ is_err (read_map text.now)) }
     ensures error { OnlyMemory result }
 {
-    match Value::from_str(alloc, text) {
-        Ok(value) => value_fault_at(alloc, &value),
-        Err(error) => {
-            if error.is_memory() {
-                return Err(Error::OutOfMemory);
-            }
-            Ok(Some(reading_place(text, &error)))
-        }
-    }
+    let fault = match read_parts_from_string(alloc, text) {
+        Ok(_) => return Ok(None),
+        Err(fault) => fault,
+    };
+    place_of(fault)
+}
+
+/// Where a JSON value has its first fault, the one whose error `decode_value` returns: the member that is missing or has the wrong
+/// type, and of a list with an entry of the wrong type the first such entry; then the first entry of the ignore list that is no
+/// source; then the segment of the mappings. None exactly if `decode_value` reads the value.
+///
+/// Of an indexed map it is the value, its version or its file; `sections`, if that is no list, or its first entry that is no
+/// object; else a place in the first section with a fault: its offset, which is missing, misshapen or out of order (`SectionOrder`);
+/// its map, or the place in that; and its map too if that makes the join pass a limit (`TooLarge`).
+///
+/// Fails only with `OutOfMemory`.
+///
+/// ```rust
+/// use oxc_sourcemap::{FaultSpot, Field, value_fault_at};
+///
+/// let text = r#"{"version":3,"sources":["a.js",7],"mappings":""}"#;
+/// let value = serde_json::Value::from_str(alloc, text)?;
+/// let place = value_fault_at(alloc, &value)?;
+/// assert_eq!(rt; place.map(|place| place.spot), Some(FaultSpot::Entry(Field::Sources, 1)));
+/// ```
+pub fn value_fault_at(alloc: Global, value: &Value) -> Result<Option<FaultPlace>>
+    ensures place { IfOk result (λ place. place ≡ value_place (view value.now)) }
+    ensures found { IfOk result (λ place. is_some place ≡ is_err (read_value (view value.now))) }
+    ensures error { OnlyMemory result }
+{
+    let fault = match read_parts_from_value(alloc, value) {
+        Ok(_) => return Ok(None),
+        Err(fault) => fault,
+    };
+    place_of(fault)
 }

@@ -241,7 +241,7 @@ fn remap(
         → FailsAs e (remap_outcome o os)) }
 {
     remapping_associative();
-    Ok(remap_owned_parts(alloc, &map, inputs.as_slice())?)
+    Ok(remap_owned_parts(alloc, map, inputs)?)
 }
 
 /// The map of a plan of any depth.

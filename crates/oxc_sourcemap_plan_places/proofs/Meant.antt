@@ -46,7 +46,7 @@ use Rattle.oxc_sourcemap_plan.specs.Outcome.{are_inputs_within_limits, names_of_
 use Rattle.oxc_sourcemap_plan.proofs.Realizing.{JoinLaws}
 use Rattle.oxc_sourcemap_plan.proofs.Reading.{not-within}
 use Rattle.oxc_sourcemap_plan.proofs.Meanings.{agrees}
-use Rattle.oxc_sourcemap_places.specs.declared.fault_place.FaultPlace.{FaultPlace}
+use Rattle.oxc_sourcemap_tokens.specs.declared.fault.FaultPlace.{FaultPlace}
 use Rattle.oxc_sourcemap_plan_places.specs.PlanPlaces.{IsOfReading, texts_of, texts_step, Unread}
 use Rattle.oxc_sourcemap_plan_places.specs.PlanPlaces.{unread_from, first_unread, IsPlaceOf}
 use Rattle.oxc_sourcemap_plan_places.proofs.Unread.{unread-more, unread-here}

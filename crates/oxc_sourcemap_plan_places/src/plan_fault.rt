@@ -8,9 +8,9 @@ ghost use Rattle.oxc_sourcemap_plan_places.specs.Words.{Error, Map, IsOfReading}
 use crate::collecting::plan_texts;
 use oxc_sourcemap_decode::decode_parts_from_string;
 use oxc_sourcemap_laws::dropping_harmless;
-use oxc_sourcemap_places::{FaultPlace, json_fault_at};
+use oxc_sourcemap_places::json_fault_at;
 use oxc_sourcemap_plan::Plan;
-use oxc_sourcemap_tokens::{Error, PlanError, Result};
+use oxc_sourcemap_tokens::{Error, FaultPlace, PlanError, Result};
 use std::alloc::Global;
 
 /// The place of the first fault of a text that cannot be read, with its number.

@@ -4,4 +4,5 @@ pub mod Flags
 pub mod InputPlaces
 pub mod SourceBlocks
 pub mod Gathered
+pub mod MovedSources
 mod Worked

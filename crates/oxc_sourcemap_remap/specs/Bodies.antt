@@ -1,7 +1,13 @@
 -- How the private steps of a remapping are seen. No public contract cites this module.
-use Rattle.std.specs.Prelude.{◌≡◌, ℕ, ◌+◌, ◌≤◌, Bool, List, [], ◌∷◌, map, length, take, drop}
-use Rattle.std.specs.Prelude.{slice_get, Option, Some, None, option_map, if◌then◌else◌}
+use Rattle.std.specs.Prelude.{◌≡◌, ℕ, ◌+◌, ◌<◌, ◌≤◌, Bool, List, [], ◌∷◌, map, length, take, drop}
+use Rattle.std.specs.Prelude.{slice_get, Option, Some, None, option_map, if◌then◌else◌, Vec, get_or}
+use Rattle.std.specs.Prelude.{set, ◌==◌, ◌⊎◌, false}
 use Rattle.std.specs.Borrow.{Bor}
+use Rattle.std.specs.Cow.{cow_str_bytes}
+use Rattle.std.specs.HashMap as hash
+use Rattle.std.specs.HashMap.{HashMap}
+use Rattle.std.specs.Str.{bytes_eq}
+use Rattle.std.specs.declared.alloc.Global.{Global}
 use Rattle.std.specs.Box.{boxed_slice_items}
 use Rattle.std.specs.List.{AllByRecursion, flat_map}
 use Rattle.std.specs.Option.{option_and_then}
@@ -20,6 +26,7 @@ use Rattle.oxc_sourcemap_remap.specs.Inputs.{input_for, decoded_inputs}
 use Rattle.oxc_sourcemap_remap.specs.Remapped.{listed_sources, Original, original_by, IsTargetBy}
 use Rattle.oxc_sourcemap_remap.specs.declared.blocks.Block.{Block}
 use Rattle.oxc_sourcemap_remap.specs.declared.inputs.Input.{Input}
+use Rattle.oxc_sourcemap_remap.specs.declared.moving.Source.{Source}
 use Rattle.oxc_sourcemap_remap.specs.declared.needed_names.NeededNames.{NeededNames}
 use Rattle.oxc_sourcemap_remap.specs.declared.remap.LentOriginal.{LentOriginal}
 
@@ -160,3 +167,55 @@ put_together a bs tokens names = record {
   ignore_list = unless_empty (block_ids bs);
   debug_id = a.debug_id;
 }
+
+-- a source of its own, with its content
+abbrev pub source_record : Source → DecodedSource
+source_record source = record { path = cow_str_bytes source.path; content = text_of source.content }
+
+abbrev pub source_records : List Source → List DecodedSource
+source_records sources = map source_record sources
+
+-- the paths of sources
+abbrev pub source_paths : List Source → List Text
+source_paths sources = map (λ source. cow_str_bytes source.path) sources
+
+-- the sources of each input
+abbrev pub source_lists : List (Vec Source Global) → List (List DecodedSource)
+source_lists lists = map (λ sources. source_records sources.items) lists
+
+-- the index that a map of indices has for a path
+abbrev pub place_in : {S : Type 0} → HashMap (Bor Text) ℕ S → Text → Option ℕ
+place_in places path = hash.get_by (λ key. bytes_eq path key.now) places
+
+-- all of its indices are below this number
+abbrev pub AreBelow : {S : Type 0} → ℕ → HashMap (Bor Text) ℕ S → Type 0
+AreBelow count places = (path : Text) (k : ℕ) → place_in places path ≡ Some k → k < count
+
+-- of the first `n` of these paths, none that has an index stands after the one that is listed for it
+abbrev pub AreLastUses : {S : Type 0} → ℕ → HashMap (Bor Text) ℕ S → List Text → List ℕ → Type 0
+AreLastUses n places paths last = (i k : ℕ) → i < n → place_in places (get_or paths i []) ≡ Some k → i ≤ get_or last k 0
+
+-- what stands for a source, if its input is this one of these, or if it has none
+abbrev pub sources_in : List (List DecodedSource) → Option ℕ → DecodedSource → List DecodedSource
+sources_in lists None source = source ∷ []
+sources_in lists (Some k) source = get_or lists k []
+
+-- contents begin with this one, or are none where there are none
+abbrev pub HasNext : List (Option Text) → Option Text → List (Option Text) → Type 0
+HasNext olds content news = (olds ≡ content ∷ news) ⊎ ((olds ≡ []) × (news ≡ []) × (content ≡ None))
+
+-- indices with one of them set, if there is one
+abbrev pub with_last : List ℕ → Option ℕ → ℕ → List ℕ
+with_last last None i = last
+with_last last (Some k) i = set last k i
+
+-- of lists, no other is changed than the one at this place, and that only if this is its last use
+abbrev pub KeepsOthers : Option ℕ → List ℕ → ℕ → List (Vec Source Global) → List (Vec Source Global) → Type 0
+KeepsOthers None last i olds news = news ≡ olds
+KeepsOthers (Some k) last i olds news =
+    (new : Vec Source Global) × (news ≡ set olds k new)
+    × ((get_or last k 0 == i) ≡ false → source_records new.items ≡ get_or (source_lists olds) k [])
+
+-- a map with its sources and their contents left out
+abbrev pub without_sources : MapRecord → MapRecord
+without_sources a = record a { sources = []; source_contents = [] }

@@ -20,6 +20,10 @@ pub use Rattle.oxc_sourcemap_remap.specs.Bodies.{IsBlockTarget}
 pub use Rattle.oxc_sourcemap_remap.specs.Bodies.{AreBlockTargets, set_from, block_ids}
 pub use Rattle.oxc_sourcemap_remap.specs.Bodies.{lent_original, names_in, ArePlaced}
 pub use Rattle.oxc_sourcemap_remap.specs.Bodies.{put_together}
+pub use Rattle.oxc_sourcemap_remap.specs.Bodies.{source_record, source_records, source_paths}
+pub use Rattle.oxc_sourcemap_remap.specs.Bodies.{source_lists, place_in, AreBelow, AreLastUses}
+pub use Rattle.oxc_sourcemap_remap.specs.Bodies.{sources_in, without_sources}
+pub use Rattle.oxc_sourcemap_remap.specs.Bodies.{HasNext, with_last, KeepsOthers}
 pub use Rattle.oxc_sourcemap_remap.specs.Inputs.{input_records, owned_input_records, decoded_inputs}
 pub use Rattle.oxc_sourcemap_remap.specs.Inputs.{goes_back}
 pub use Rattle.oxc_sourcemap_remap.specs.Inputs.{inputs_fault, NoInputColumnGoesBack}

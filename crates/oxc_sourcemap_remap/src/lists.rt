@@ -52,7 +52,7 @@ pub(crate) fn source_list<'m>(alloc: Global, blocks: &[Block<'m, '_>]) -> Memory
 }
 
 /// The content of a block's source, borrowed, if it is known.
-fn content_at<'m>(contents: &'m [Option<CowStr<'m>>], i: usize) -> Option<CowStr<'m>>
+pub(crate) fn content_at<'m>(contents: &'m [Option<CowStr<'m>>], i: usize) -> Option<CowStr<'m>>
     ensures { text_of result ≡ option_and_then text_of (slice_get contents.now i) }
 {
     match contents.get(i) {

@@ -2,6 +2,8 @@ pub mod Errors
 pub mod Results
 pub mod Messages
 pub mod PlanMessages
+pub mod PlaceMessages
+pub mod Places
 pub mod Token
 pub mod State
 pub mod LineOrder

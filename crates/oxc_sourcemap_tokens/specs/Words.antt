@@ -3,6 +3,8 @@ pub use Rattle.oxc_sourcemap_tokens.specs.Chunks.{header, chunk_tokens, chunk_fr
 pub use Rattle.oxc_sourcemap_tokens.specs.Chunks.{first_misfit, ChunksFit}
 pub use Rattle.oxc_sourcemap_tokens.specs.LineOrder.{first_out_of_order, back_from}
 pub use Rattle.oxc_sourcemap_tokens.specs.Messages.{key_of, json_fault_text, error_text}
+pub use Rattle.oxc_sourcemap_tokens.specs.PlaceMessages.{name_of, spot_text, place_text}
+pub use Rattle.oxc_sourcemap_tokens.specs.Places.{place_in, fault_at, no_place, fault_in}
 pub use Rattle.oxc_sourcemap_tokens.specs.PlanMessages.{plan_error_text}
 pub use Rattle.oxc_sourcemap_tokens.specs.Errors.{error_of_json}
 pub use Rattle.oxc_sourcemap_tokens.specs.Results.{lent_item}

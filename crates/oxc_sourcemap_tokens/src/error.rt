@@ -101,7 +101,7 @@ pub type Memory<T> = std::result::Result<T, AllocError>;
 
 impl Field {
     /// The key of the field in the JSON object, and None for the object itself.
-    fn key(self) -> Option<&'static str>
+    pub(crate) fn key(self) -> Option<&'static str>
         ensures { lent_item result ≡ key_of self }
     {
         match self {

@@ -1,9 +1,10 @@
-//! What all crates of the port of `oxc_sourcemap` share: its errors and their messages; the tokens of a source map and the
+//! What all crates of the port of `oxc_sourcemap` share: its errors, their messages and places; the tokens of a source map and the
 //! order of their generated lines; and the chunks that a list of tokens is written in. Part of `oxc_sourcemap`.
 #![tactic(auto)]
 
 mod chunks;
 mod error;
+mod fault;
 mod laws;
 mod order;
 mod plan_error;
@@ -13,6 +14,7 @@ mod token;
 
 pub use chunks::{chunk_fault, next_chunk, tokens_of};
 pub use error::{Error, Field, JsonFault, Memory, Result};
+pub use fault::{Fault, FaultPlace, FaultSpot, Located, SegmentPlace, name_of};
 pub use laws::tokens_in_bounds;
 pub use order::{line_back_from, line_order_fault};
 pub use plan_error::PlanError;

@@ -10,12 +10,10 @@ use crate::arguments::Command;
 use crate::port::Port;
 use crate::running::{read_all, run, without_last_line_feed};
 use oxc_sourcemap_mappings::mappings_fault_at;
-use oxc_sourcemap_places::{
-    FaultPlace, FaultReason, FaultSpot, json_fault_at, json_fault_reason, segment_reason,
-};
+use oxc_sourcemap_places::{FaultReason, json_fault_at, json_fault_reason, segment_reason};
 use oxc_sourcemap_plan::{RunError, inputs_of, read_plan};
 use oxc_sourcemap_plan_places::{plan_texts, texts_fault_at};
-use oxc_sourcemap_tokens::{Error, PlanError};
+use oxc_sourcemap_tokens::{Error, FaultPlace, FaultSpot, PlanError};
 use std::alloc::Global;
 use std::io::{Read, Write};
 

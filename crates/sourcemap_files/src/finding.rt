@@ -6,8 +6,8 @@ use crate::paths::{
 };
 use oxc_sourcemap_found::{Found, fault_reason, found_fault_at, read_found};
 use oxc_sourcemap_map::SourceMap;
-use oxc_sourcemap_places::{FaultPlace, json_fault_at};
-use oxc_sourcemap_tokens::Error;
+use oxc_sourcemap_places::json_fault_at;
+use oxc_sourcemap_tokens::{Error, FaultPlace};
 use oxc_sourcemap_url::{Language, decode_data_url, source_mapping_url};
 use sourcemap_words::{Outcome, failure_of};
 use std::alloc::{AllocError, Global};

@@ -5,7 +5,7 @@ use Rattle.serde_json.specs.View.{members_view}
 use Rattle.serde_json.proofs.Views.{view-Object}
 use Rattle.oxc_sourcemap_json.specs.Json.{json_record}
 use Rattle.oxc_sourcemap_json.specs.Shape.{◌>>=◌, shape}
-use Rattle.oxc_sourcemap_places.proofs.Found.{shape-version}
+use Rattle.oxc_sourcemap_decode.proofs.ReadPlaces.{shape-version}
 use Rattle.oxc_sourcemap_found.specs.Mended.{MendedMembers, mended_members}
 use Rattle.oxc_sourcemap_found.specs.MendedMaps.{decoded_with_any_ids}
 use Rattle.oxc_sourcemap_found.proofs.Placed.{plain-found}

@@ -3,7 +3,6 @@ use Rattle.std.proofs.lemmas.List.{length-map}
 use Rattle.oxc_sourcemap_tokens.specs.Results.{lent_items}
 use Rattle.oxc_sourcemap_tokens.specs.declared.plan_error.PlanError.TheVariants.{Map}
 use Rattle.oxc_sourcemap_tokens.proofs.Carried.{carried_error}
-use Rattle.oxc_sourcemap_remap.specs.Inputs.{owned_input_records}
 use Rattle.oxc_sourcemap_handles.specs.declared.call_error.CallError.TheVariants.{Plan}
 use Rattle.oxc_sourcemap_handles.specs.CallErrors.{of_map}
 use Rattle.oxc_sourcemap_handles_making.specs.MapsOfMaps.{by_path}
@@ -16,7 +15,7 @@ returns-in_err-parts-clause-error c =
     let maps = c.args.inputs.items in
     let paths = lent_items c.args.paths.now in
     let many : length paths ≡ length maps = omega (arith, length-map c.args.paths.now (λ p. p.now)) in
-    let inputs = ap owned_input_records c.as_slice-2.ensures.value ∙ c.in_ok-inputs.ensures ∙ ap (λ ps. by_path (lent_items ps) maps) c.as_slice.ensures.value ∙ ap (λ ts. by_path ts maps) c.in_ok-paths.ensures.texts.0 in
+    let inputs = c.in_ok-inputs.ensures ∙ ap (λ ps. by_path (lent_items ps) maps) c.as_slice.ensures.value ∙ ap (λ ts. by_path ts maps) c.in_ok-paths.ensures.texts.0 in
     carried_error c.from_residual-in_err-parts.result (of_map e) _ c.from_residual-in_err-parts.ensures.1
     (λ n. inr (
       many,

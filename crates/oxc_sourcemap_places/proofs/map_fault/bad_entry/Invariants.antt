@@ -1,6 +1,6 @@
 use Rattle.std.proofs.Common.{◌≡◌, ◌+◌, drop, option_map}
 use Rattle.serde_json.specs.View.{items_view}
-use Rattle.oxc_sourcemap_places.specs.ValueSpots.{is_entry, first_failing}
+use Rattle.oxc_sourcemap_json.specs.ShapeSpots.{is_entry, first_failing}
 use Rattle.oxc_sourcemap_places.proofs.map_fault.bad_entry.Given as goal
 
 -- the first entry of the wrong type is among those that are left

@@ -1,7 +1,7 @@
 use Rattle.std.proofs.Common.{◌≡◌, ◌∙◌, ap, arith, nat_le, length, map, option_map, position}
 use Rattle.std.proofs.Common.{string_bytes}
 use Rattle.std.proofs.lemmas.Grind.{common_steps}
-use Rattle.oxc_sourcemap_places.specs.declared.fault_place.FaultSpot.TheVariants.{Entry}
+use Rattle.oxc_sourcemap_tokens.specs.declared.fault.FaultSpot.TheVariants.{Entry}
 use Rattle.oxc_sourcemap_places.proofs.map_fault.ignored_spot.Goals as goal
 
 pub returns-in-Some-first_past : goal.returns-in-Some-first_past

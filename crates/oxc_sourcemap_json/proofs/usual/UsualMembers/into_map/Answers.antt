@@ -8,13 +8,13 @@ use Rattle.oxc_sourcemap_tokens.specs.declared.error.Field.TheVariants.{DebugId}
 use Rattle.oxc_sourcemap_json.specs.Shape.{version_of, ignore_list_of, required, optional, present}
 use Rattle.oxc_sourcemap_json.specs.Shape.{text_in, texts_in, contents_in, names_of}
 use Rattle.oxc_sourcemap_json.specs.Words.{texts_of, contents_of, number, unsigned, string}
-use Rattle.oxc_sourcemap_json.specs.Words.{texts_data, ids_data}
+use Rattle.oxc_sourcemap_json.specs.Words.{texts_data, ids_data, ignored_by}
 use Rattle.oxc_sourcemap_json.proofs.HeldShape.{shape_of, texts_read, text_read, contents_read}
 use Rattle.oxc_sourcemap_json.proofs.HeldShape.{names_read, ids_read}
 use Rattle.oxc_sourcemap_json.proofs.usual.UsualMembers.into_map.Goals as goal
 
-pub returns : goal.returns
-returns c = λ ms h small.
+pub returns-clause-fields : goal.returns-clause-fields
+returns-clause-fields c = λ ms h small.
     let m = c.args.self in
     let mappings = c.in_ok-mappings.field-0 in
     let sources = c.in_ok-sources.field-0 in
@@ -33,3 +33,6 @@ returns c = λ ms h small.
     version (ap (λ o. optional (text_in File) (present o)) (h (codes "file")) ∙ text_read File m.file) given
     (ap (λ o. optional (text_in SourceRoot) (present o)) (h (codes "sourceRoot")) ∙ text_read SourceRoot m.source_root) listed contents named
     (ap (λ o. optional (text_in DebugId) (present o)) (h (codes "debugId")) ∙ text_read DebugId m.debug_id) ignored
+
+pub returns-clause-ignored : goal.returns-clause-ignored
+returns-clause-ignored c = λ ms h. ap ignored_by (h (codes "ignoreList")) ∙ sym c.ignored_by.ensures

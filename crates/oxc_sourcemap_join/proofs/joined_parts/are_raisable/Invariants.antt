@@ -1,6 +1,0 @@
-use Rattle.std.proofs.Common.{◌+◌, ◌<◌, take}
-use Rattle.std.specs.List.{All}
-use Rattle.oxc_sourcemap_join.proofs.joined_parts.are_raisable.Given as goal
-
-abbrev pub invariant-loop-id : goal.invariant-loop-id
-invariant-loop-id l = All (λ id. id + l.number < 4294967295) (take l.id-index l.ids)

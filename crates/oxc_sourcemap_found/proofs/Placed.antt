@@ -1,69 +1,157 @@
--- A place is found exactly if a text is refused, but for a join past a limit.
-use Rattle.std.proofs.Common.{◌≡◌, ◌||◌, List, refl, sym, ap, ◌∙◌, subst}
-use Rattle.std.proofs.Common.{Option, Some, None, Result, Ok, Err, is_some}
-use Rattle.std.specs.Result.{is_err}
-use Rattle.serde_json.specs.Data.{Data, Members, object}
+-- The places of faults of texts as they are found, by what is read of them.
+use Rattle.std.proofs.Common.{◌≡◌, ◌≢◌, ℕ, ◌+◌, true, true≢false, refl, ap, sym, ◌∙◌, subst}
+use Rattle.std.proofs.Common.{Option, Some, None, option_map, is_some, Result, Ok, Err, IsSomeAnd, []}
+use Rattle.std.specs.Option.{option_and_then, option_or}
+use Rattle.serde_json.specs.Data.{Data, Items, no_items, item, Members, object}
+use Rattle.serde_json.specs.Find.{get, as_object}
 use Rattle.serde_json.specs.Read.{read}
 use Rattle.oxc_sourcemap_tokens.specs.declared.error.Error.{Error}
+use Rattle.oxc_sourcemap_tokens.specs.declared.error.Error.TheVariants.{OutOfMemory}
 use Rattle.oxc_sourcemap_tokens.specs.declared.error.Field.{Field}
-use Rattle.oxc_sourcemap_mappings.specs.Reading.{reading}
+use Rattle.oxc_sourcemap_tokens.specs.declared.fault.Fault.{Fault}
+use Rattle.oxc_sourcemap_tokens.specs.declared.fault.FaultPlace.{FaultPlace}
+use Rattle.oxc_sourcemap_tokens.specs.declared.fault.FaultSpot.{FaultSpot}
+use Rattle.oxc_sourcemap_tokens.specs.declared.fault.FaultSpot.TheVariants.{Segment}
+use Rattle.oxc_sourcemap_tokens.specs.declared.fault.SegmentPlace.{SegmentPlace}
+use Rattle.oxc_sourcemap_tokens.specs.declared.position.Position.{Position}
+use Rattle.oxc_sourcemap_tokens.specs.Places.{place_in, placed_in, Locates}
+use Rattle.oxc_sourcemap_mappings.specs.Faults.{counts_of}
+use Rattle.oxc_sourcemap_mappings.specs.Parts.{lines}
+use Rattle.oxc_sourcemap_mappings.specs.Places.{nothing_before}
+use Rattle.oxc_sourcemap_mappings.specs.Reading.{text_results, line_results}
+use Rattle.oxc_sourcemap_mappings.specs.SegmentPlaces.{fault_place, mappings_place, places_from}
 use Rattle.oxc_sourcemap_parts.specs.Record.{Text}
 use Rattle.oxc_sourcemap_json.specs.Json.{JsonRecord}
 use Rattle.oxc_sourcemap_json.specs.Shape.{◌>>=◌, shape}
-use Rattle.oxc_sourcemap_decode.specs.Decoded.{ignore_list_fault}
-use Rattle.oxc_sourcemap_tokens.specs.declared.fault.FaultPlace.{FaultPlace}
-use Rattle.oxc_sourcemap_decode.specs.ValuePlaces.{ignored_spot}
-use Rattle.oxc_sourcemap_places.proofs.Found.{by-ignored, ignored-found}
-use Rattle.oxc_sourcemap_found.specs.declared.mend.Mend.{Mend}
-use Rattle.oxc_sourcemap_found.specs.FoundMaps.{FoundRecord, or_not_json, found_value}
-use Rattle.oxc_sourcemap_found.specs.FoundMaps.{in_order, found}
-use Rattle.oxc_sourcemap_found.specs.FoundPlaces.{HasPlaceIfRefused}
-use Rattle.oxc_sourcemap_found.specs.Mended.{MendedMembers, mended_members}
-use Rattle.oxc_sourcemap_found.specs.MendedMaps.{decoded_with_any_ids, mended_map}
-use Rattle.oxc_sourcemap_found.specs.MendedMaps.{plain_map, mends_in}
+use Rattle.oxc_sourcemap_json.specs.ShapeSpots.{shape_spot, ignored_field}
+use Rattle.oxc_sourcemap_decode.specs.ValuePlaces.{place_at, ignored_spot, fields_spot, offset_place}
+use Rattle.oxc_sourcemap_decode.specs.ValuePlaces.{mappings_spot, or_place, IsReading}
+use Rattle.oxc_sourcemap_decode.proofs.ReadPlaces.{in-place, some-place}
+use Rattle.oxc_sourcemap_found.specs.FoundPlaces.{found_fields_spot, found_mappings_spot}
+use Rattle.oxc_sourcemap_found.specs.FoundPlaces.{found_spot_in, found_map_spot, section_place}
+use Rattle.oxc_sourcemap_found.specs.FoundPlaces.{found_sections_place, HasPlaceIfRefused, Finds}
+use Rattle.oxc_sourcemap_found.specs.FoundPlaces.{found_value_place, FindsIn, IsFoundPlace}
+use Rattle.oxc_sourcemap_found.specs.FoundPlaces.{IsFoundFault}
+use Rattle.oxc_sourcemap_found.specs.FoundMaps.{FoundRecord}
+use Rattle.oxc_sourcemap_found.specs.MendedSections.{MendedSection, place_from, map_from}
+use Rattle.oxc_sourcemap_found.specs.MendedSections.{section_from}
 use Rattle.oxc_sourcemap_found.specs.Opening.{opened}
+use Rattle.oxc_sourcemap_found.proofs.Kept.{step}
+
+-- ---- the fields of a map, whose mappings are read behind the others
+
+-- a map without mappings
+abbrev bare : JsonRecord → JsonRecord
+bare j = record j { mappings = [] }
+
+bare-placed : (names sources : ℕ) → fault_place [] names sources ≡ None
+unfolding fault_place text_results line_results places_from
+bare-placed names sources = refl
+
+first-spot : (o x y : Option FaultSpot) (place : Option FaultPlace) → x ≡ None → option_map place_at (option_or o x) ≡ place → is_some place ≡ true
+    → option_map place_at (option_or o y) ≡ place
+first-spot None x y place none is some = absurd (true≢false (sym some ∙ ap is_some (sym is) ∙ ap (λ o. is_some (option_map place_at o)) none))
+first-spot (Some s) x y place none is some = is
+
+-- what is at fault without the mappings is at fault with them
+pub bare-fault : (field : Field) (j : JsonRecord) (place : Option FaultPlace) → option_map place_at (fields_spot field (bare j)) ≡ place → is_some place ≡ true
+    → option_map place_at (found_fields_spot field j) ≡ place
+bare-fault field j place is some =
+    first-spot (ignored_spot field j) (mappings_spot (bare j)) (found_mappings_spot j) place (ap (option_map Segment) (bare-placed _ _)) is some
+
+no-spot : (o x : Option FaultSpot) → option_map place_at (option_or o x) ≡ None → o ≡ None
+no-spot None x is = refl
+no-spot (Some s) x is = cc
+
+at-segment : (o : Option SegmentPlace) → option_map place_at (option_map Segment o) ≡ option_map (λ p. place_in None (Segment p)) o
+at-segment None = refl
+at-segment (Some p) = refl
+
+-- else it is at fault in its mappings
+pub then-mappings : (field : Field) (j : JsonRecord) → option_map place_at (fields_spot field (bare j)) ≡ None
+    → option_map place_at (found_fields_spot field j) ≡ mappings_place j.mappings 4294967295 4294967295
+then-mappings field j none =
+    ap (λ o. option_map place_at (option_or o (found_mappings_spot j))) (no-spot (ignored_spot field j) (mappings_spot (bare j)) none)
+    ∙ at-segment (fault_place j.mappings 4294967295 4294967295)
 
 -- ---- a map by itself
 
--- a map whose ids may be any has a fault if an entry of its ignore list or its mappings have one
-pub fields-found : (field : Field) (j : JsonRecord) → j.version ≡ 3
-    → is_err (decoded_with_any_ids j) ≡ (is_some (ignored_spot field j) || is_err (reading j.mappings 4294967295 4294967295))
-fields-found field j three =
-    rw three (by-ignored j (reading j.mappings 4294967295 4294967295) (ignore_list_fault j))
-    ∙ ap (λ b. b || is_err (reading j.mappings 4294967295 4294967295)) (sym (ignored-found field j))
+-- a value that does not have the shape of a map
+pub misshapen-place : (d : Data) (f : Fault) → shape d ≡ Err f.error → f.place ≡ Some (place_at (shape_spot d f.error))
+    → (option_map place_at (found_spot_in d (shape d)) ≡ f.place) × (is_some f.place ≡ true)
+misshapen-place d f is at = (ap (λ r. option_map place_at (found_spot_in d r)) is ∙ sym at, ap is_some at)
 
--- a step that cannot fail, behind one that can, is at no fault
-then-fine : {A B : Type 0} (f : A → B) (r : Result A Error) → is_err (r >>= (λ x. Ok (f x))) ≡ is_err r
-then-fine f (Ok x) = refl
-then-fine f (Err fault) = refl
+-- ---- sections
 
-by-fields : (m : MendedMembers) (r : Result JsonRecord Error)
-    → is_err (r >>= (λ fields. decoded_with_any_ids fields >>= (λ q. Ok (mended_map m.kinds q)))) ≡ is_err (r >>= decoded_with_any_ids)
-by-fields m (Ok fields) = then-fine (mended_map m.kinds) (decoded_with_any_ids fields)
-by-fields m (Err fault) = refl
+abbrev fine : MendedSection → Result MendedSection Error
+fine s = Ok s
 
--- a map is refused exactly if its shape or its fields are
-pub plain-found : (ms : Members) → is_err (plain_map ms) ≡ is_err (shape (object (mended_members ms).members) >>= decoded_with_any_ids)
-plain-found ms = by-fields (mended_members ms) (shape (object (mended_members ms).members))
+same-section : (a b : MendedSection) → fine a ≡ fine b → a ≡ b
+same-section a b e = cc
+
+-- the place of a fault in the map of a section
+pub in-section : (number : ℕ) (d : Data) (place : Option FaultPlace) → option_map place_at (found_map_spot d) ≡ place
+    → section_place number d ≡ option_map (placed_in number) place
+in-section number d place is = sym (in-place number (found_map_spot d)) ∙ ap (option_map (placed_in number)) is
+
+by-section : (o rest place : Option FaultPlace) → o ≡ place → is_some place ≡ true → option_or o rest ≡ place
+by-section None rest place is some = absurd (true≢false (sym some ∙ ap is_some (sym is)))
+by-section (Some x) rest place is some = is
+
+by-offset : (r : Result Position Error) (offset : FaultPlace) (section place : Option FaultPlace) (rest : Position → Option FaultPlace)
+    → or_place r (λ fault. Some offset) (λ at. section) ≡ place → is_some place ≡ true → or_place r (λ fault. Some offset) (λ at. option_or section (rest at)) ≡ place
+by-offset (Ok at) offset section place rest is some = by-section section (rest at) place is some
+by-offset (Err fault) offset section place rest is some = is
+
+-- the place of the fault of a section
+abbrev pub place_of_section : Option Position → ℕ → Data → Option FaultPlace
+place_of_section before number d = or_place (place_from before number d) (λ fault. Some (offset_place number d)) (λ at. section_place number d)
+
+-- sections are at fault where the first of them is
+pub first-refused : (before : Option Position) (number : ℕ) (d : Data) (ds : Items) (place : Option FaultPlace) → place_of_section before number d ≡ place → is_some place ≡ true
+    → found_sections_place before number (item d ds) ≡ place
+first-refused before number d ds place is some =
+    by-offset (place_from before number d) (offset_place number d) (section_place number d) place (λ at. found_sections_place (Some at) (number + 1) ds) is some
+
+-- else where the others are
+pub then-others : (before : Option Position) (number : ℕ) (d : Data) (ds : Items) (s : MendedSection) → section_from before number d ≡ Ok s → place_of_section before number d ≡ None
+    → found_sections_place before number (item d ds) ≡ found_sections_place (Some s.1) (number + 1) ds
+then-others before number d ds s e none =
+    let a = step (place_from before number d) (λ place. map_from d >>= (λ m. Ok (m, place))) s e in
+    let m = step (map_from d) (λ m. Ok (m, a.value)) s a.later in
+    let at : a.value ≡ s.1 = ap (λ (q : MendedSection). q.1) (same-section (m.value, a.value) s m.later) in
+    let section : section_place number d ≡ None = ap (λ r. or_place r (λ fault. Some (offset_place number d)) (λ at. section_place number d)) (sym a.first) ∙ none in
+    ap (λ r. or_place r (λ fault. Some (offset_place number d)) (λ at. option_or (section_place number d) (found_sections_place (Some at) (number + 1) ds))) a.first
+    ∙ ap (λ o. option_or o (found_sections_place (Some a.value) (number + 1) ds)) section
+    ∙ ap (λ p. found_sections_place (Some p) (number + 1) ds) at
+
+-- ---- faults that have a place
+
+pub has-place : (f : Fault) → is_some f.place ≡ true → HasPlaceIfRefused (Err f.error) f.place
+has-place f some =
+    elim f.place as (λ o. is_some o ≡ true → HasPlaceIfRefused (Err f.error) o) [
+      | None ↦ (λ e. absurd (true≢false (sym e)))
+      | Some place ↦ (λ e. tt)
+    ] some
+
+pub finds : {A : Type 0} (r : Result A Fault) (place : Option FaultPlace) → Locates r place → Finds r place
+finds (Ok x) place h = h
+finds (Err f) place h = (tt, λ n. ((h.1 n).0, has-place f (h.1 n).1))
 
 -- ---- a text
 
--- a step that cannot fail has no place
-in-order-placed : (r : Result FoundRecord Error) (place : Option FaultPlace) → HasPlaceIfRefused r place → HasPlaceIfRefused (r >>= (λ f. Ok (in_order f))) place
-in-order-placed (Ok f) place h = h
-in-order-placed (Err fault) None h = h
-in-order-placed (Err fault) (Some place) h = h
+pub finds-in : {A : Type 0} (text : Text) (d : Data) (r : Result A Fault) → read (opened text).text ≡ Some d → Finds r (found_value_place d) → FindsIn text r
+finds-in text d (Ok x) is h = (rw is h.0, tt)
+finds-in text d (Err f) is h = (tt, λ n. (rw is (h.1 n).0, (h.1 n).1))
+-- A text that is not JSON is at fault where the reader says.
+has-some : (e : Error) (o : Option FaultPlace) → IsSomeAnd o IsReading → HasPlaceIfRefused (Err e) o
+has-some e None h = absurd h
+has-some e (Some place) h = tt
 
-pub value-placed : (text : Text) (d : Data) (place : Option FaultPlace) → read (opened text).text ≡ Some d
-    → ((mends : List Mend) → HasPlaceIfRefused (found_value mends d) place) → HasPlaceIfRefused (found text) place
-unfolding found
-value-placed text d place is of =
-    let kinds = (opened text).kinds in
-    in-order-placed (or_not_json (read (opened text).text) >>= found_value (mends_in None kinds)) place
-    (subst (λ (o : Option Data). HasPlaceIfRefused (or_not_json o >>= found_value (mends_in None kinds)) place) (sym is) (of (mends_in None kinds)))
+pub text-fault : (text : Text) (f : Fault) → read (opened text).text ≡ None → ((f.error ≢ OutOfMemory) → IsSomeAnd f.place IsReading) → IsFoundFault text f
+text-fault text f none at = λ n. (rw none (at n), has-some f.error f.place (at n))
 
-pub text-placed : (text : Text) (place : FaultPlace) → read (opened text).text ≡ None → HasPlaceIfRefused (found text) (Some place)
-unfolding found
-text-placed text place is =
-    in-order-placed (or_not_json (read (opened text).text) >>= found_value (mends_in None (opened text).kinds)) (Some place)
-    (subst (λ (o : Option Data). HasPlaceIfRefused (or_not_json o >>= found_value (mends_in None (opened text).kinds)) (Some place)) (sym is) tt)
+-- ---- what is found
+
+pub found-at : (r : Result FoundRecord Error) (f : Fault) → r ≡ Err f.error → HasPlaceIfRefused (Err f.error) f.place → HasPlaceIfRefused r f.place
+found-at r f is h = rw is h

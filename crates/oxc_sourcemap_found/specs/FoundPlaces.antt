@@ -1,12 +1,12 @@
 -- Where a text as it is found has the fault for which it is refused.
-use Rattle.std.specs.Prelude.{◌≡◌, ℕ, ◌+◌, codes, Option, Some, None, Result, Ok, Err}
-use Rattle.std.specs.Prelude.{MatchOption, IsSomeAnd, ⊤, if◌then◌else◌}
+use Rattle.std.specs.Prelude.{◌≡◌, ◌≢◌, ℕ, ◌+◌, codes, Option, Some, None, Result, Ok, Err}
+use Rattle.std.specs.Prelude.{MatchOption, IsSomeAnd, IfOk, IfErr, ⊤, if◌then◌else◌}
 use Rattle.std.specs.Option.{option_map, option_and_then, option_or}
 use Rattle.serde_json.specs.Data.{Data, Items, no_items, item, Members, object}
 use Rattle.serde_json.specs.Find.{get, as_object}
 use Rattle.serde_json.specs.Read.{read}
 use Rattle.oxc_sourcemap_tokens.specs.declared.error.Error.{Error}
-use Rattle.oxc_sourcemap_tokens.specs.declared.error.Error.TheVariants.{TooLarge}
+use Rattle.oxc_sourcemap_tokens.specs.declared.error.Error.TheVariants.{OutOfMemory, TooLarge}
 use Rattle.oxc_sourcemap_tokens.specs.declared.error.Field.{Field}
 use Rattle.oxc_sourcemap_tokens.specs.declared.error.Field.TheVariants.{Object}
 use Rattle.oxc_sourcemap_tokens.specs.declared.error.Field.TheVariants.{Map as MapField}
@@ -18,6 +18,7 @@ use Rattle.oxc_sourcemap_json.specs.Json.{JsonRecord}
 use Rattle.oxc_sourcemap_json.specs.Shape.{shape, file_of}
 use Rattle.oxc_sourcemap_decode.specs.ReadMap.{sections_in}
 use Rattle.oxc_sourcemap_decode.specs.Section.{is_indexed, as_plain}
+use Rattle.oxc_sourcemap_tokens.specs.declared.fault.Fault.{Fault}
 use Rattle.oxc_sourcemap_tokens.specs.declared.fault.FaultPlace.{FaultPlace}
 use Rattle.oxc_sourcemap_tokens.specs.declared.fault.FaultSpot.{FaultSpot}
 use Rattle.oxc_sourcemap_tokens.specs.declared.fault.FaultSpot.TheVariants.{Segment, Member}
@@ -104,3 +105,20 @@ abbrev pub HasPlaceIfRefused : Result FoundRecord Error → Option FaultPlace �
 HasPlaceIfRefused (Ok r) place = place ≡ None
 HasPlaceIfRefused (Err fault) (Some place) = ⊤
 HasPlaceIfRefused (Err fault) None = fault ≡ TooLarge
+
+-- ---- the places that the reader gives
+
+-- The place of the error of the call is this one, if it does not lack memory; it is none for `TooLarge` alone. Where the call succeeds,
+-- there is no such place.
+abbrev pub Finds : {A : Type 0} → Result A Fault → Option FaultPlace → Type 0
+Finds result place =
+    IfOk result (λ x. place ≡ None)
+    × IfErr result (λ f. (f.error ≢ OutOfMemory) → (place ≡ f.place) × HasPlaceIfRefused (Err f.error) f.place)
+
+-- A fault, unless it is want of memory, has the place of the fault of this text.
+abbrev pub IsFoundFault : Text → Fault → Type 0
+IsFoundFault text f = (f.error ≢ OutOfMemory) → IsFoundPlace text f.place × HasPlaceIfRefused (Err f.error) f.place
+
+-- The place of the error of the call is that of the fault of this text; where the call succeeds, there is none.
+abbrev pub FindsIn : {A : Type 0} → Text → Result A Fault → Type 0
+FindsIn text result = IfOk result (λ x. IsFoundPlace text None) × IfErr result (IsFoundFault text)

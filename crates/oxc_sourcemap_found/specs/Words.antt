@@ -8,13 +8,17 @@ pub use Rattle.oxc_sourcemap_decode.specs.ReadMap.{indexed_record}
 pub use Rattle.oxc_sourcemap_json.specs.Json.{json_record}
 pub use Rattle.oxc_sourcemap_json.specs.Members.{lent_member}
 pub use Rattle.oxc_sourcemap_json.specs.Shape.{present}
-pub use Rattle.oxc_sourcemap_mappings.specs.Reading.{reading}
+pub use Rattle.oxc_sourcemap_json.specs.ShapeSpots.{misshapen}
 pub use Rattle.oxc_sourcemap_parts.specs.Views.{record_of_parts}
 pub use Rattle.oxc_sourcemap_sort.specs.Sorting.{sorted_map}
+pub use Rattle.oxc_sourcemap_tokens.specs.Places.{Reads, Locates, no_place}
 pub use Rattle.oxc_sourcemap_tokens.specs.Results.{Answers, OnlyMemory, lent_item}
+pub use Rattle.oxc_sourcemap_tokens.specs.declared.error.Error.TheVariants.{OutOfMemory, TooLarge}
+pub use Rattle.oxc_sourcemap_tokens.specs.declared.error.Error.TheVariants.{BadJson}
+pub use Rattle.oxc_sourcemap_tokens.specs.declared.error.JsonFault.TheVariants.{Reading}
 pub use Rattle.oxc_sourcemap_found.specs.FoundMaps.{found_record, found_map, joined_map}
 pub use Rattle.oxc_sourcemap_found.specs.FoundMaps.{found_sections, found_value, found}
-pub use Rattle.oxc_sourcemap_found.specs.FoundMaps.{order_mends}
+pub use Rattle.oxc_sourcemap_found.specs.FoundMaps.{order_mends, in_order}
 pub use Rattle.oxc_sourcemap_found.specs.InRange.{is_past, has_bad_source, has_bad_name}
 pub use Rattle.oxc_sourcemap_found.specs.InRange.{token_in_range, map_in_range}
 pub use Rattle.oxc_sourcemap_found.specs.InRange.{source_kinds, name_kinds}
@@ -38,11 +42,10 @@ pub use Rattle.oxc_sourcemap_found.specs.States.{state_of, found_view, opened_vi
 pub use Rattle.oxc_sourcemap_found.specs.States.{mended_view, section_view}
 pub use Rattle.oxc_sourcemap_found.specs.FoundLaws.{ExactIsFound, ExactIsSorted}
 pub use Rattle.oxc_sourcemap_found.specs.FoundLaws.{MendedIsMended, FoundIsSound}
-pub use Rattle.oxc_sourcemap_found.specs.FoundPlaces.{found_mappings_spot, found_fields_spot}
-pub use Rattle.oxc_sourcemap_found.specs.FoundPlaces.{plain_spot, found_map_spot}
-pub use Rattle.oxc_sourcemap_found.specs.FoundPlaces.{section_place, found_sections_place}
-pub use Rattle.oxc_sourcemap_found.specs.FoundPlaces.{map_members}
-pub use Rattle.oxc_sourcemap_found.specs.FoundPlaces.{found_indexed_place, found_value_place}
-pub use Rattle.oxc_sourcemap_found.specs.FoundPlaces.{IsFoundPlace, HasPlaceIfRefused}
-pub use Rattle.oxc_sourcemap_decode.specs.ValuePlaces.{IsReading}
-pub use Rattle.oxc_sourcemap_tokens.specs.Places.{place_in}
+pub use Rattle.oxc_sourcemap_found.specs.FoundPlaces.{found_fields_spot, plain_spot}
+pub use Rattle.oxc_sourcemap_found.specs.FoundPlaces.{found_map_spot, section_place}
+pub use Rattle.oxc_sourcemap_found.specs.FoundPlaces.{found_sections_place, found_indexed_place}
+pub use Rattle.oxc_sourcemap_found.specs.FoundPlaces.{found_value_place, IsFoundPlace}
+pub use Rattle.oxc_sourcemap_found.specs.FoundPlaces.{HasPlaceIfRefused, Finds, FindsIn}
+pub use Rattle.oxc_sourcemap_decode.specs.ValuePlaces.{place_at, offset_place, or_place, IsReading}
+pub use Rattle.serde_json.specs.Errors.{IsMemory}

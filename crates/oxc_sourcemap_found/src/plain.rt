@@ -26,7 +26,6 @@ pub(crate) struct MendedParts {
 }
 
 /// The parts of the map of a JSON source map, whose mappings may have any ids and whose ignore list is this member.
-#[tactic(auto, using(crate::proofs::AnyIds::any_ok, crate::proofs::AnyIds::any_fault, crate::proofs::AnyIds::any_text_fault))]
 fn read_with_any_ids(
     alloc: Global,
     mut json: JSONSourceMap,

@@ -11,7 +11,7 @@ use serde_json::Value;
 use std::alloc::Global;
 
 /// The place of a fault, or want of memory.
-fn place_of(fault: Fault) -> Result<Option<FaultPlace>>
+pub fn place_of(fault: Fault) -> Result<Option<FaultPlace>>
     ensures place { IfOk result (λ place. (fault.error ≢ OutOfMemory) × (place ≡ fault.place)) }
     ensures error { OnlyMemory result }
 {

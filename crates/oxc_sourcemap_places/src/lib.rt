@@ -3,10 +3,8 @@
 
 mod fault_reason;
 mod json_fault;
-mod map_fault;
 
 pub use fault_reason::{
     FaultReason, json_fault_reason, reading_reason, segment_reason, value_reason,
 };
-pub use json_fault::{json_fault_at, value_fault_at};
-pub use map_fault::{ignored_spot, shape_spot};
+pub use json_fault::{json_fault_at, place_of, value_fault_at};

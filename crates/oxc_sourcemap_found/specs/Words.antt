@@ -47,5 +47,6 @@ pub use Rattle.oxc_sourcemap_found.specs.FoundPlaces.{found_map_spot, section_pl
 pub use Rattle.oxc_sourcemap_found.specs.FoundPlaces.{found_sections_place, found_indexed_place}
 pub use Rattle.oxc_sourcemap_found.specs.FoundPlaces.{found_value_place, IsFoundPlace}
 pub use Rattle.oxc_sourcemap_found.specs.FoundPlaces.{HasPlaceIfRefused, Finds, FindsIn}
+pub use Rattle.oxc_sourcemap_found.specs.FoundPlaces.{IsFoundFault}
 pub use Rattle.oxc_sourcemap_decode.specs.ValuePlaces.{place_at, offset_place, or_place, IsReading}
 pub use Rattle.serde_json.specs.Errors.{IsMemory}

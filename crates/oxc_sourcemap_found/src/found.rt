@@ -6,8 +6,10 @@ ghost use Rattle.oxc_sourcemap_found.specs.Words.{indexed_record, Reads, OutOfMe
 ghost use Rattle.oxc_sourcemap_found.specs.Words.{found_value, found, found_view, found_map};
 ghost use Rattle.oxc_sourcemap_found.specs.Words.{with_version, as_found, members_view};
 ghost use Rattle.oxc_sourcemap_found.specs.Words.{plain_spot, place_at, found_indexed_place};
-ghost use Rattle.oxc_sourcemap_found.specs.Words.{found_value_place, Finds, FindsIn, no_place, in_order};
+ghost use Rattle.oxc_sourcemap_found.specs.Words.{found_value_place, Finds, FindsIn, no_place};
+ghost use Rattle.oxc_sourcemap_found.specs.Words.{in_order};
 ghost use Rattle.oxc_sourcemap_found.specs.Words.{IsFoundPlace, HasPlaceIfRefused, TooLarge};
+ghost use Rattle.oxc_sourcemap_found.specs.Words.{IsFoundFault};
 
 use crate::cut::{cut_sections, mends_in};
 use crate::members::mend_version;
@@ -27,7 +29,7 @@ use oxc_sourcemap_tokens::{
     Error, Fault, FaultPlace, FaultSpot, Field, Located, Memory, Position, Result,
 };
 use serde_json::{Map, Value};
-use std::alloc::Global;
+use std::alloc::{AllocError, Global};
 
 /// A map as it was found, and what was mended to read it.
 #[derive(Drop)]
@@ -157,14 +159,25 @@ fn read_text(alloc: Global, text: &str) -> Located<Found>
 }
 
 /// The map of a text that the exact reader reads, in which nothing is to be mended but the order of its tokens.
-fn read_exact(alloc: Global, text: &str) -> Result<Option<Found>>
-    ensures map { IfOk result (λ read. IfSome read (λ f. found text.now ≡ Ok (found_view f))) }
-    ensures error { OnlyMemory result }
+fn read_exact(alloc: Global, text: &str) -> Memory<Option<Found>>
+    ensures { IfOk result (λ read. IfSome read (λ f. found text.now ≡ Ok (found_view f))) }
 {
     match decode_parts_from_string(alloc, text) {
         Ok(parts) => Ok(Some(in_order(alloc, parts, Vec::new(alloc))?)),
-        Err(Error::OutOfMemory) => Err(Error::OutOfMemory),
+        Err(Error::OutOfMemory) => Err(AllocError),
         Err(_) => Ok(None),
+    }
+}
+
+/// Reads the map of a text as `read_found` does; an error has the place that `found_fault_at` tells.
+pub fn read_located(alloc: Global, text: &str) -> Located<Found>
+    ensures map { Reads found_view result (found text.now) }
+    ensures place { IfErr result (IsFoundFault text.now) }
+{
+    // Most texts have nothing to mend, and the exact reader is the fast one.
+    match read_exact(alloc, text)? {
+        Some(found) => Ok(found),
+        None => read_text(alloc, text),
     }
 }
 
@@ -194,11 +207,7 @@ fn read_exact(alloc: Global, text: &str) -> Result<Option<Found>>
 pub fn read_found(alloc: Global, text: &str) -> Result<Found>
     ensures { Answers found_view result (found text.now) }
 {
-    // Most texts have nothing to mend, and the exact reader is the fast one.
-    match read_exact(alloc, text)? {
-        Some(found) => Ok(found),
-        None => Ok(read_text(alloc, text)?),
-    }
+    Ok(read_located(alloc, text)?)
 }
 
 /// Where a text has the fault for which `read_found` refuses it; None if it reads the text, or if the join of the sections of an

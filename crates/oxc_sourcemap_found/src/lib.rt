@@ -13,7 +13,7 @@ mod reason;
 mod sections;
 mod tokens;
 
-pub use found::{Found, found_fault_at, read_found};
+pub use found::{Found, found_fault_at, read_found, read_located};
 pub use laws::mending_harmless;
 pub use mend::{Mend, MendKind};
 pub use reason::fault_reason;

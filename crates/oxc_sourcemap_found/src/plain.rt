@@ -68,7 +68,8 @@ fn mend_tokens(
 /// The parts of the map of an object that is no indexed map.
 pub(crate) fn mend_plain(alloc: Global, object: Map<String, Value>) -> Located<MendedParts>
     ensures map { Reads mended_view result (plain_map (members_view object.entries)) }
-    ensures place { Locates result (option_map place_at (plain_spot (members_view object.entries))) }
+    ensures place { Locates result (option_map place_at
+        (plain_spot (members_view object.entries))) }
 {
     let (object, kinds) = mend_object(alloc, object)?;
     let value = Value::Object(object);

@@ -1,11 +1,11 @@
-use Rattle.std.proofs.Common.{◌≡◌, sym, subst, ap}
+use Rattle.std.proofs.Common.{refl, sym, subst}
 use Rattle.std.proofs.lemmas.Result.{IfOk-weaker}
 use Rattle.oxc_sourcemap_found.specs.FoundPlaces.{IsFoundPlace, HasPlaceIfRefused}
 use Rattle.oxc_sourcemap_found.specs.FoundMaps.{found}
 use Rattle.oxc_sourcemap_found.proofs.found.found_fault_at.Goals as goal
 
 pub returns-in-Ok-clause-found : goal.returns-in-Ok-clause-found
-returns-in-Ok-clause-found c = rw c.in-Ok.ensures.map.0 ?
+returns-in-Ok-clause-found c = rw c.in-Ok.ensures.map.0 refl
 
 pub returns-clause-place : goal.returns-clause-place
 returns-clause-place c =

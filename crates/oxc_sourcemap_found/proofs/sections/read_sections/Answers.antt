@@ -50,7 +50,7 @@ loop-item-preserved c =
     let count = size ∙ sym (length-map c.loop-item.sections.items section_view) in
     let more = one-read (items_view c.args.items.items) d ds before got (section_view c.in_ok-section.section) left
     (ap (λ k. section_from before k d) (sym count) ∙ c.in_ok-section.ensures.section.0) in
-    let longer : length c.push.new.self.items ≡ c.len-in-loop-item.result + 1 = ap length c.in_ok-push.ensures.items ∙ length-append c.loop-item.sections.items (c.in_ok-section.section ∷ []) ∙ ap (λ k. k + 1) (sym size) in
+    let longer = ap length c.in_ok-push.ensures.items ∙ length-append c.loop-item.sections.items (c.in_ok-section.section ∷ []) ∙ ap (λ k. k + 1) (sym size) in
     record {
       read = subst (λ got. AreRead (items_view c.args.items.items) ds (Some c.in_ok-section.section.place) got)
           (sym (ap (map section_view) c.in_ok-push.ensures.items ∙ map-append section_view c.loop-item.sections.items (c.in_ok-section.section ∷ []))) more;

@@ -1,45 +1,30 @@
 -- The places of faults of texts as they are found, by what is read of them.
-use Rattle.std.proofs.Common.{◌≡◌, ◌≢◌, ℕ, ◌+◌, true, true≢false, refl, ap, sym, ◌∙◌, subst}
+use Rattle.std.proofs.Common.{◌≡◌, ◌≢◌, ℕ, ◌+◌, true, true≢false, refl, ap, sym, ◌∙◌}
 use Rattle.std.proofs.Common.{Option, Some, None, option_map, is_some, Result, Ok, Err, []}
-use Rattle.std.proofs.Common.{IsSomeAnd}
-use Rattle.std.specs.Option.{option_and_then, option_or}
-use Rattle.serde_json.specs.Data.{Data, Items, no_items, item, Members, object}
-use Rattle.serde_json.specs.Find.{get, as_object}
+use Rattle.std.specs.Option.{option_or}
+use Rattle.serde_json.specs.Data.{Data, Items, item}
 use Rattle.serde_json.specs.Read.{read}
 use Rattle.oxc_sourcemap_tokens.specs.declared.error.Error.{Error}
-use Rattle.oxc_sourcemap_tokens.specs.declared.error.Error.TheVariants.{OutOfMemory}
 use Rattle.oxc_sourcemap_tokens.specs.declared.error.Field.{Field}
-use Rattle.oxc_sourcemap_tokens.specs.declared.error.Field.TheVariants.{Sections as SectionsField}
-use Rattle.oxc_sourcemap_tokens.specs.declared.fault.Fault.{Fault}
 use Rattle.oxc_sourcemap_tokens.specs.declared.fault.FaultPlace.{FaultPlace}
 use Rattle.oxc_sourcemap_tokens.specs.declared.fault.FaultSpot.{FaultSpot}
-use Rattle.oxc_sourcemap_tokens.specs.declared.fault.FaultSpot.TheVariants.{Segment, Member}
+use Rattle.oxc_sourcemap_tokens.specs.declared.fault.FaultSpot.TheVariants.{Segment}
 use Rattle.oxc_sourcemap_tokens.specs.declared.fault.SegmentPlace.{SegmentPlace}
 use Rattle.oxc_sourcemap_tokens.specs.declared.position.Position.{Position}
-use Rattle.oxc_sourcemap_tokens.specs.Places.{place_in, placed_in, Locates}
-use Rattle.oxc_sourcemap_mappings.specs.Faults.{counts_of}
-use Rattle.oxc_sourcemap_mappings.specs.Parts.{lines}
-use Rattle.oxc_sourcemap_mappings.specs.Places.{nothing_before}
+use Rattle.oxc_sourcemap_tokens.specs.Places.{place_in}
 use Rattle.oxc_sourcemap_mappings.specs.Reading.{text_results, line_results}
 use Rattle.oxc_sourcemap_mappings.specs.SegmentPlaces.{fault_place, mappings_place, places_from}
-use Rattle.oxc_sourcemap_parts.specs.Record.{Text}
 use Rattle.oxc_sourcemap_json.specs.Json.{JsonRecord}
-use Rattle.oxc_sourcemap_json.specs.Shape.{◌>>=◌, shape, file_of}
-use Rattle.oxc_sourcemap_json.specs.ShapeSpots.{shape_spot, ignored_field}
-use Rattle.oxc_sourcemap_decode.specs.ReadMap.{sections_in}
+use Rattle.oxc_sourcemap_json.specs.Shape.{◌>>=◌, shape}
+use Rattle.oxc_sourcemap_json.specs.ShapeSpots.{ignored_field}
 use Rattle.oxc_sourcemap_decode.specs.ValuePlaces.{place_at, ignored_spot, fields_spot}
 use Rattle.oxc_sourcemap_decode.specs.ValuePlaces.{offset_place}
-use Rattle.oxc_sourcemap_decode.specs.ValuePlaces.{mappings_spot, or_place, IsReading}
-use Rattle.oxc_sourcemap_decode.proofs.ReadPlaces.{in-place, some-place}
+use Rattle.oxc_sourcemap_decode.specs.ValuePlaces.{mappings_spot, or_place}
 use Rattle.oxc_sourcemap_found.specs.FoundPlaces.{found_fields_spot, found_mappings_spot}
-use Rattle.oxc_sourcemap_found.specs.FoundPlaces.{found_spot_in, found_map_spot, section_place}
-use Rattle.oxc_sourcemap_found.specs.FoundPlaces.{found_sections_place, HasPlaceIfRefused, Finds}
-use Rattle.oxc_sourcemap_found.specs.FoundPlaces.{found_indexed_place}
-use Rattle.oxc_sourcemap_found.specs.FoundPlaces.{found_value_place, FindsIn, IsFoundPlace}
-use Rattle.oxc_sourcemap_found.specs.FoundPlaces.{IsFoundFault}
+use Rattle.oxc_sourcemap_found.specs.FoundPlaces.{found_spot_in, section_place}
+use Rattle.oxc_sourcemap_found.specs.FoundPlaces.{found_sections_place}
 use Rattle.oxc_sourcemap_found.specs.MendedSections.{MendedSection, place_from, map_from}
 use Rattle.oxc_sourcemap_found.specs.MendedSections.{section_from}
-use Rattle.oxc_sourcemap_found.specs.Opening.{opened}
 use Rattle.oxc_sourcemap_found.proofs.Kept.{step}
 
 -- ---- the fields of a map, whose mappings are read behind the others
@@ -80,11 +65,6 @@ then-mappings field j none =
 
 -- ---- a map by itself
 
--- a value that does not have the shape of a map
-pub misshapen-place : (d : Data) (f : Fault) → shape d ≡ Err f.error → f.place ≡ Some (place_at (shape_spot d f.error))
-    → (option_map place_at (found_spot_in d (shape d)) ≡ f.place) × (is_some f.place ≡ true)
-misshapen-place d f is at = (ap (λ r. option_map place_at (found_spot_in d r)) is ∙ sym at, ap is_some at)
-
 -- a value that has this shape
 pub shaped-place : (d : Data) (j : JsonRecord) (field : Field) → shape d ≡ Ok j → field ≡ ignored_field d → found_spot_in d (shape d) ≡ found_fields_spot field j
 shaped-place d j field is same = ap (found_spot_in d) is ∙ ap (λ f. found_fields_spot f j) (sym same)
@@ -96,11 +76,6 @@ fine s = Ok s
 
 same-section : (a b : MendedSection) → fine a ≡ fine b → a ≡ b
 same-section a b e = cc
-
--- the place of a fault in the map of a section
-pub in-section : (number : ℕ) (d : Data) (place : Option FaultPlace) → option_map place_at (found_map_spot d) ≡ place
-    → section_place number d ≡ option_map (placed_in number) place
-in-section number d place is = sym (in-place number (found_map_spot d)) ∙ ap (option_map (placed_in number)) is
 
 by-section : (o rest place : Option FaultPlace) → o ≡ place → is_some place ≡ true → option_or o rest ≡ place
 by-section None rest place is some = absurd (true≢false (sym some ∙ ap is_some (sym is)))
@@ -132,43 +107,3 @@ then-others before number d ds s e none =
     ap (λ r. or_place r (λ fault. Some (offset_place number d)) (λ at. option_or (section_place number d) (found_sections_place (Some at) (number + 1) ds))) a.first
     ∙ ap (λ o. option_or o (found_sections_place (Some a.value) (number + 1) ds)) section
     ∙ ap (λ p. found_sections_place (Some p) (number + 1) ds) at
-
--- ---- an indexed map
-
-pub file-fault : (ms : Members) (f : Fault) → file_of (object ms) ≡ Err f.error → f.place ≡ Some (place_at (shape_spot (object ms) f.error)) → found_indexed_place ms ≡ f.place
-file-fault ms f is at = rw is (sym at)
-
-pub no-list : (ms : Members) (file : Option Text) (e : Error) → file_of (object ms) ≡ Ok file → sections_in (object ms) ≡ Err e
-    → found_indexed_place ms ≡ Some (place_at (Member SectionsField))
-no-list ms file e is none = rw (is, none) refl
-
-pub by-sections : (ms : Members) (file : Option Text) (items : Items) → file_of (object ms) ≡ Ok file → sections_in (object ms) ≡ Ok items
-    → found_indexed_place ms ≡ found_sections_place None 0 items
-by-sections ms file items is list = rw (is, list) refl
-
--- ---- faults that have a place
-
-pub has-place : (f : Fault) → is_some f.place ≡ true → HasPlaceIfRefused (Err f.error) f.place
-has-place f some =
-    elim f.place as (λ o. is_some o ≡ true → HasPlaceIfRefused (Err f.error) o) [
-      | None ↦ (λ e. absurd (true≢false (sym e)))
-      | Some place ↦ (λ e. tt)
-    ] some
-
-pub finds : {A : Type 0} (r : Result A Fault) (place : Option FaultPlace) → Locates r place → Finds r place
-finds (Ok x) place h = h
-finds (Err f) place h = (tt, λ n. ((h.1 n).0, has-place f (h.1 n).1))
-
--- ---- a text
-
-pub finds-in : {A : Type 0} (text : Text) (d : Data) (r : Result A Fault) → read (opened text).text ≡ Some d → Finds r (found_value_place d) → FindsIn text r
-finds-in text d (Ok x) is h = (rw is (sym h.0), tt)
-finds-in text d (Err f) is h = (tt, λ n. (rw is (sym (h.1 n).0), (h.1 n).1))
-
--- A text that is not JSON is at fault where the reader says.
-has-some : (e : Error) (o : Option FaultPlace) → IsSomeAnd o IsReading → HasPlaceIfRefused (Err e) o
-has-some e None h = absurd h
-has-some e (Some place) h = tt
-
-pub text-fault : (text : Text) (f : Fault) → read (opened text).text ≡ None → ((f.error ≢ OutOfMemory) → IsSomeAnd f.place IsReading) → IsFoundFault text f
-text-fault text f none at = λ n. (rw none (at n), has-some f.error f.place (at n))

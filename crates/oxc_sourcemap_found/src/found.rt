@@ -232,8 +232,9 @@ pub fn found_fault_at(alloc: Global, text: &str) -> Result<Option<FaultPlace>>
     ensures found { IfOk result (HasPlaceIfRefused (found text.now)) }
     ensures error { OnlyMemory result }
 {
-    match read_text(alloc, text) {
-        Ok(_) => Ok(None),
-        Err(fault) => place_of(fault),
-    }
+    let fault = match read_text(alloc, text) {
+        Ok(_) => return Ok(None),
+        Err(fault) => fault,
+    };
+    place_of(fault)
 }

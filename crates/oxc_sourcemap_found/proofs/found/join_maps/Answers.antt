@@ -15,8 +15,8 @@ returns-in-Ok-clause-map c =
       tt,
     )
 
-pub returns-clause-map : goal.returns-clause-map
-returns-clause-map c = rw c.without_place.ensures (
+pub returns-in-Err-clause-map : goal.returns-in-Err-clause-map
+returns-in-Err-clause-map c = rw c.without_place.ensures (
   tt,
   λ n. elim c.in-Err.ensures.error [
     | inl m ↦ absurd (n m)
@@ -24,8 +24,8 @@ returns-clause-map c = rw c.without_place.ensures (
   ],
 )
 
-pub returns-clause-place : goal.returns-clause-place
-returns-clause-place c = rw c.without_place.ensures (λ n. elim c.in-Err.ensures.error [
+pub returns-in-Err-clause-place : goal.returns-in-Err-clause-place
+returns-in-Err-clause-place c = rw c.without_place.ensures (λ n. elim c.in-Err.ensures.error [
   | inl m ↦ absurd (n m)
   | inr t ↦ ap no_place t.0
 ])

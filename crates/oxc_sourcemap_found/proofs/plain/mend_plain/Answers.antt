@@ -1,4 +1,4 @@
-use Rattle.std.proofs.Common.{◌≡◌, true, ap, sym, subst, ◌∙◌, option_map, is_some}
+use Rattle.std.proofs.Common.{ap, sym, ◌∙◌, option_map}
 use Rattle.serde_json.specs.Data.{object}
 use Rattle.serde_json.specs.View.{members_view}
 use Rattle.serde_json.proofs.Views.{view-Object}
@@ -9,16 +9,8 @@ use Rattle.oxc_sourcemap_decode.specs.ValuePlaces.{place_at}
 use Rattle.oxc_sourcemap_decode.proofs.ReadPlaces.{shape-version}
 use Rattle.oxc_sourcemap_found.specs.FoundPlaces.{found_spot_in}
 use Rattle.oxc_sourcemap_found.specs.Mended.{MendedMembers, mended_members}
-use Rattle.oxc_sourcemap_found.proofs.Placed.{misshapen-place, shaped-place}
+use Rattle.oxc_sourcemap_found.proofs.Placed.{shaped-place}
 use Rattle.oxc_sourcemap_found.proofs.plain.mend_plain.Goals as goal
-
-pub returns-in_err-json-clause-place : goal.returns-in_err-json-clause-place
-returns-in_err-json-clause-place c =
-    let fault = c.in_err-json.field-0.0 in
-    let same = ap (λ (m : MendedMembers). object m.members) c.in_ok-object.ensures ∙ sym (view-Object c.in_ok-object.object) in
-    failed-answer c.from_residual-in_err-json.result fault _ _ c.from_residual-in_err-json.ensures.1
-    (λ n. subst (λ d. (option_map place_at (found_spot_in d (shape d)) ≡ fault.place) × (is_some fault.place ≡ true)) (sym same)
-    (misshapen-place _ fault (c.in_err-json.ensures.fields.1 n) (c.in_err-json.ensures.place n)))
 
 pub returns-in_err-parts-clause-place : goal.returns-in_err-parts-clause-place
 returns-in_err-parts-clause-place c =
@@ -29,11 +21,3 @@ returns-in_err-parts-clause-place c =
     let spot = ap (λ d. option_map place_at (found_spot_in d (shape d))) same ∙ ap (option_map place_at) (shaped-place _ j _ is c.ignored_field-ignored.ensures) in
     failed-answer c.from_residual-in_err-parts.result fault _ _ c.from_residual-in_err-parts.ensures.1
     (λ n. let h = (c.in_err-parts.ensures.place (shape-version _ j is)).1 n in (spot ∙ h.0, h.1))
-
-pub returns-clause-place : goal.returns-clause-place
-returns-clause-place c =
-    let j = json_record c.in_ok-json.json in
-    let is = c.in_ok-json.ensures.fields.0 in
-    let same = ap (λ (m : MendedMembers). object m.members) c.in_ok-object.ensures ∙ sym (view-Object c.in_ok-object.object) in
-    let spot = ap (λ d. option_map place_at (found_spot_in d (shape d))) same ∙ ap (option_map place_at) (shaped-place _ j _ is c.ignored_field-ignored.ensures) in
-    (spot ∙ (c.in_ok-parts.ensures.place (shape-version _ j is)).0, tt)

@@ -1,6 +1,5 @@
 use Rattle.std.proofs.Common.{ap, sym, ◌∙◌, option_map}
 use Rattle.serde_json.specs.Data.{object}
-use Rattle.serde_json.specs.View.{members_view}
 use Rattle.serde_json.proofs.Views.{view-Object}
 use Rattle.oxc_sourcemap_tokens.proofs.Carried.{failed-answer}
 use Rattle.oxc_sourcemap_json.specs.Json.{json_record}
@@ -8,7 +7,7 @@ use Rattle.oxc_sourcemap_json.specs.Shape.{shape}
 use Rattle.oxc_sourcemap_decode.specs.ValuePlaces.{place_at}
 use Rattle.oxc_sourcemap_decode.proofs.ReadPlaces.{shape-version}
 use Rattle.oxc_sourcemap_found.specs.FoundPlaces.{found_spot_in}
-use Rattle.oxc_sourcemap_found.specs.Mended.{MendedMembers, mended_members}
+use Rattle.oxc_sourcemap_found.specs.Mended.{MendedMembers}
 use Rattle.oxc_sourcemap_found.proofs.Placed.{shaped-place}
 use Rattle.oxc_sourcemap_found.proofs.plain.mend_plain.Goals as goal
 

@@ -4,8 +4,8 @@ use Rattle.std.proofs.Common.{Ok, Err, slice_get, arith}
 use Rattle.oxc_sourcemap_tokens.specs.declared.error.Error.{Error}
 use Rattle.oxc_sourcemap_parts.specs.Record.{Text, MapRecord}
 use Rattle.oxc_sourcemap_decode.specs.ReadMap.{read_map}
-use Rattle.oxc_sourcemap_plan_places.specs.PlanPlaces.{Unread, unread_or, unread_from}
-use Rattle.oxc_sourcemap_plan_places.specs.PlanPlaces.{first_unread}
+use Rattle.oxc_sourcemap_plan.specs.PlanPlaces.{Unread, unread_or, unread_from}
+use Rattle.oxc_sourcemap_plan.specs.PlanPlaces.{first_unread}
 
 abbrev some : Unread → Option Unread
 some x = Some x

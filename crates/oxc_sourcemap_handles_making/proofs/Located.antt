@@ -1,6 +1,7 @@
 -- Failures and the places that they tell.
 use Rattle.std.proofs.Common.{◌≡◌, ◌≢◌, ℕ, List, refl, sym, ap, subst, Option, Some, None, true}
-use Rattle.std.proofs.Common.{Result, Ok, Err, IfSome, IsSomeAnd, slice_get, is_some, inl, inr}
+use Rattle.std.proofs.Common.{Result, Ok, Err, IfSome, IsSomeAnd, slice_get, is_some, ◌⊎◌, inl, inr}
+use Rattle.std.proofs.Common.{◌∙◌}
 use Rattle.std.specs.Result.{IfErr, IsErrAnd}
 use Rattle.serde_json.specs.Data.{Data}
 use Rattle.serde_json.specs.Read.{read}
@@ -13,13 +14,18 @@ use Rattle.oxc_sourcemap_tokens.specs.declared.plan_error.PlanError.TheVariants.
 use Rattle.oxc_sourcemap_parts.specs.Record.{Text}
 use Rattle.oxc_sourcemap_decode.specs.ReadMap.{read_map}
 use Rattle.oxc_sourcemap_decode.specs.ValuePlaces.{value_place, IsPlacedIn, IsReading}
-use Rattle.oxc_sourcemap_plan.specs.PlanPlaces.{IsTextPlace, IsTextFault}
+use Rattle.oxc_sourcemap_plan.specs.declared.fault.PlanFault.{PlanFault}
+use Rattle.oxc_sourcemap_plan.specs.Evaluated.{IsErrorOf}
+use Rattle.oxc_sourcemap_plan.specs.Meaning.{Meaning}
+use Rattle.oxc_sourcemap_plan.specs.Outcome.{Outcome}
+use Rattle.oxc_sourcemap_plan.specs.PlanPlaces.{IsTextPlace, IsTextFault, TellsText, IsTold}
 use Rattle.oxc_sourcemap_plan.proofs.Realizing.{memory_or_not}
 use Rattle.oxc_sourcemap_handles.specs.declared.call_error.CallError.{CallError}
 use Rattle.oxc_sourcemap_handles.specs.CallErrors.{out_of_memory, of_map}
 use Rattle.oxc_sourcemap_handles_making.specs.declared.failure.Failure.{Failure}
 use Rattle.oxc_sourcemap_handles_making.specs.Failures.{IsFailure, IsTextErrorAt}
-use Rattle.oxc_sourcemap_handles_making.specs.Plans.{IsPlaceOfPlan, of_plan}
+use Rattle.oxc_sourcemap_handles_making.specs.Plans.{IsPlaceOfPlan, of_plan, HasPlanPlace}
+use Rattle.oxc_sourcemap_handles_making.specs.Plans.{IsOutcomeErrorAt}
 
 -- what a fault becomes for C
 abbrev IsOf : ReadFault → Failure → Type 0
@@ -51,3 +57,26 @@ text_failed text f reads is other = let told = is other in (f.error, reads other
 pub in_input : (inputs : List Text) (k : ℕ) (text : Text) (e : PlanError) (place : FaultPlace) → slice_get inputs k ≡ Some text → IsTextFault e text place
     → IsPlaceOfPlan inputs (of_plan e) (record place { text = Some k })
 in_input inputs k text e place here told = (told.0, ap of_plan told.1, k, text, here, told.2, place, told.3, refl)
+
+-- why a plan over these inputs fails, by the fault of its evaluation
+abbrev pub IsPlanFailure : List Text → PlanFault → Failure → Type 0
+IsPlanFailure inputs f g = IsFailure (λ r place. (r ≡ of_plan f.error) × IfSome place (IsPlaceOfPlan inputs r) × (place ≡ None → f.at ≡ None)) g
+
+same-plan-error : (e : PlanError) (x : Error) → of_plan e ≡ of_map x → e ≡ Map x
+same-plan-error e x h = cc (h)
+
+has-place : (o : Outcome) (f : PlanFault) (r : CallError) (place : Option FaultPlace) → f.error ≢ Map OutOfMemory → IsTold o.is_within_limits f → r ≡ of_plan f.error → (place ≡ None → f.at ≡ None)
+    → HasPlanPlace (Ok o) r place
+has-place o f r (Some p) other told is none = λ within e same reads. refl
+has-place o f r None other told is none =
+    λ within e same reads. absurd ((told other).1 (none refl) within e (same-plan-error f.error e (sym is ∙ same)) reads)
+
+-- the failure of a plan with this outcome
+pub plan_failed : (o : Outcome) (m : Meaning) (f : PlanFault) (inputs : List Text) (g : Failure) → f.error ≢ Map OutOfMemory → o.meaning ≡ m
+    → (f.error ≡ Map OutOfMemory) ⊎ IsErrorOf m o.is_within_limits f.error → IsTold o.is_within_limits f → (TellsText f → IsPlanFailure inputs f g)
+    → IsFailure (IsOutcomeErrorAt inputs (Ok o)) g
+plan_failed o m f inputs g other is fails told made =
+    let h = made (told other).0 in
+    let error : IsErrorOf o.meaning o.is_within_limits f.error =
+    elim fails [ inl memory ↦ absurd (other memory) | inr meant ↦ subst (λ w. IsErrorOf w o.is_within_limits f.error) (sym is) meant ] in
+    (h.0, λ n. let t = h.1 n in ((f.error, error, t.0), t.1, has-place o f g.error g.place other told t.0 t.2))

@@ -2,17 +2,24 @@
 use Rattle.std.proofs.Common.{◌≡◌, ◌≢◌, ℕ, ◌+◌, ◌<◌, Bool, true, false, cond, nat_lt, List, [], ◌∷◌, ◌++◌}
 use Rattle.std.proofs.Common.{map, length, take, drop, get_or, refl, sym, ap, ◌∙◌, subst, ◌⊎◌, inl, inr}
 use Rattle.std.proofs.Common.{Option, Some, None, Result, Ok, Err}
+use Rattle.std.proofs.Common.{IfSome, IsSomeAnd, is_some, option_map}
 use Rattle.std.specs.Result.{IfErr, IsErrAnd}
 use Rattle.std.specs.Borrow.{Bor}
 use Rattle.std.proofs.lemmas.Bool.{and_parts, both_ways}
 use Rattle.std.proofs.lemmas.List.{map-append}
 use Rattle.oxc_sourcemap_tokens.specs.declared.error.Error.{Error}
 use Rattle.oxc_sourcemap_tokens.specs.declared.error.Error.TheVariants.{OutOfMemory, SeveralSources}
+use Rattle.oxc_sourcemap_tokens.specs.declared.fault.Fault.{Fault}
+use Rattle.oxc_sourcemap_tokens.specs.declared.fault.FaultPlace.{FaultPlace}
 use Rattle.oxc_sourcemap_tokens.specs.declared.plan_error.PlanError.{PlanError}
 use Rattle.oxc_sourcemap_tokens.specs.declared.plan_error.PlanError.TheVariants.{Map, Unsorted}
 use Rattle.oxc_sourcemap_tokens.specs.declared.position.Position.{Position}
 use Rattle.oxc_sourcemap_parts.specs.Record.{Text, MapRecord}
 use Rattle.oxc_sourcemap_parts.specs.DecodedMap.{DecodedMap}
+use Rattle.serde_json.specs.Data.{Data}
+use Rattle.serde_json.specs.Read.{read}
+use Rattle.oxc_sourcemap_decode.specs.ReadMap.{read_map}
+use Rattle.oxc_sourcemap_decode.specs.ValuePlaces.{value_place, IsReading, IsPlacedIn}
 use Rattle.oxc_sourcemap_laws.specs.Repeats.{is_sorted_decoded_map}
 use Rattle.oxc_sourcemap_laws.specs.JoinedDecodedMaps.{joined_decoded_maps}
 use Rattle.oxc_sourcemap_laws.specs.ComposedDecodedMaps.{composed_decoded_maps}
@@ -26,7 +33,8 @@ use Rattle.oxc_sourcemap_plan.specs.Outcome.{simplified_outcome, join_outcome, m
 use Rattle.oxc_sourcemap_plan.specs.Outcome.{composition_outcome, remap_outcome, input_meanings}
 use Rattle.oxc_sourcemap_plan.specs.Outcome.{are_all_within_limits, are_inputs_within_limits}
 use Rattle.oxc_sourcemap_plan.specs.Outcome.{input_outcomes}
-use Rattle.oxc_sourcemap_plan.specs.PlanPlaces.{IsOfReading, IsTold}
+use Rattle.oxc_sourcemap_plan.specs.PlanPlaces.{IsOfReading, IsOfNoText, IsTextFault}
+use Rattle.oxc_sourcemap_plan.specs.PlanPlaces.{TellsText, IsTold}
 use Rattle.oxc_sourcemap_plan.specs.Realizes.{Realizes, FailsAs, AllRealize, InputsRealize}
 use Rattle.oxc_sourcemap_plan.proofs.Parts.{around, input_at, outcomes-of}
 use Rattle.oxc_sourcemap_plan.proofs.Realizing.{no-room-part}
@@ -81,6 +89,26 @@ of_input first ps i p l q w =
     outcomes-of ps ∙ ap (map input_at) (around ps i p l q) ∙ map-append input_at (take i ps) (p ∷ drop (i + 1) ps) in
     let all = (and_parts first.is_within_limits (are_inputs_within_limits (input_outcomes (by_path ps))) (and_parts _ _ w).0).1 in
     true-of (outcome_of p.1).is_within_limits (are_inputs_within_limits (os ++ input_at p ∷ rest)) (no-room-input os rest (input_at p)) (ap are_inputs_within_limits (sym cut) ∙ all)
+
+-- ---- a text that cannot be read
+no-text-none : (x : Bor Text × FaultPlace) (o : Option (Bor Text × FaultPlace)) → o ≡ Some x → o ≡ None → ⊥
+no-text-none x o is none = cc (sym is ∙ none)
+
+told-by : (w : Bool) (text : Bor Text) (e : Error) (place : Option FaultPlace) (g : PlanFault) → g.error ≡ Map e → g.at ≡ option_map (λ p. (text, p)) place → read_map text.now ≡ Err e
+    → ((d : Data) → read text.now ≡ Some d → value_place d ≡ place) → (read text.now ≡ None → IsSomeAnd place IsReading) → is_some place ≡ true
+    → TellsText g × (g.at ≡ None → IsOfNoText w g.error)
+told-by w text e None g error at reads json bad there = absurd (cc (there))
+told-by w text e (Some p) g error at reads json bad there = (
+  subst (λ (o : Option (Bor Text × FaultPlace)). IfSome o (λ at. IsTextFault g.error at.0.now at.1)) (sym at) (e, error, reads, (json, bad)),
+  λ none. absurd (no-text-none (text, p) g.at at none),
+)
+
+pub text_told : (w : Bool) (text : Bor Text) (f : Fault) (g : PlanFault) → g.error ≡ Map f.error → g.at ≡ option_map (λ p. (text, p)) f.place
+    → (f.error ≢ OutOfMemory → read_map text.now ≡ Err f.error) → IsPlacedIn text.now f → IsTold w g
+text_told w text f g error at reads placed = λ other.
+    let not : f.error ≢ OutOfMemory = λ memory. other (error ∙ ap (λ e. Map e) memory) in
+    let told = placed not in
+    told-by w text f.error f.place g error at (reads not) told.0 told.1 told.2
 
 -- ---- a step that fails by itself
 -- what is meant is no error that reading can have

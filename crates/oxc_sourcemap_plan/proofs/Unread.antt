@@ -1,11 +1,18 @@
 -- The first text that cannot be read.
 use Rattle.std.proofs.Common.{◌≡◌, ℕ, suc, ◌+◌, List, [], ◌∷◌, refl, ap, ◌∙◌, subst, Option, Some}
-use Rattle.std.proofs.Common.{Ok, Err, slice_get, arith}
+use Rattle.std.proofs.Common.{Ok, Err, slice_get, arith, None, sym, ◌≢◌, is_some, true, option_map}
+use Rattle.std.proofs.Common.{IsSomeAnd}
+use Rattle.serde_json.specs.Data.{Data}
+use Rattle.serde_json.specs.Read.{read}
 use Rattle.oxc_sourcemap_tokens.specs.declared.error.Error.{Error}
+use Rattle.oxc_sourcemap_tokens.specs.declared.error.Error.TheVariants.{OutOfMemory}
+use Rattle.oxc_sourcemap_tokens.specs.declared.fault.Fault.{Fault}
+use Rattle.oxc_sourcemap_tokens.specs.declared.fault.FaultPlace.{FaultPlace}
 use Rattle.oxc_sourcemap_parts.specs.Record.{Text, MapRecord}
 use Rattle.oxc_sourcemap_decode.specs.ReadMap.{read_map}
+use Rattle.oxc_sourcemap_decode.specs.ValuePlaces.{value_place, IsReading, IsPlacedIn}
 use Rattle.oxc_sourcemap_plan.specs.PlanPlaces.{Unread, unread_or, unread_from}
-use Rattle.oxc_sourcemap_plan.specs.PlanPlaces.{first_unread}
+use Rattle.oxc_sourcemap_plan.specs.PlanPlaces.{first_unread, IsPlaceOf, IsNumberPlace}
 
 abbrev some : Unread → Option Unread
 some x = Some x
@@ -40,3 +47,16 @@ first-is texts u e =
     let found = unread-is 0 texts u e in
     let same : u.number ≡ found.0 = omega (arith, found.1) in
     (ap (slice_get texts) same ∙ found.2, found.3)
+
+placed : (texts : List Text) (u : Unread) (error : Error) (place : Option FaultPlace) → first_unread texts ≡ Some u → u.error ≡ error
+    → ((d : Data) → read u.text ≡ Some d → value_place d ≡ place) → (read u.text ≡ None → IsSomeAnd place IsReading) → is_some place ≡ true
+    → IsPlaceOf texts error (option_map (λ (p : FaultPlace). record p { text = Some u.number }) place)
+placed texts u error None first same json bad there = absurd (cc (there))
+placed texts u error (Some p) first same json bad there =
+    subst (λ o. IsSomeAnd o (λ u. (u.error ≡ error) × IsNumberPlace u.number u.text (record p { text = Some u.number }))) (sym first) (same, p, (json, bad), refl)
+
+-- its place is told, with its number
+pub placed_first : (texts : List Text) (k : ℕ) (text : Text) (f : Fault) (error : Error) → first_unread texts ≡ Some (record { number = k; text = text; error = f.error }) → f.error ≡ error
+    → f.error ≢ OutOfMemory → IsPlacedIn text f → IsPlaceOf texts error (option_map (λ (p : FaultPlace). record p { text = Some k }) f.place)
+placed_first texts k text f error first same other is =
+    let told = is other in placed texts (record { number = k; text = text; error = f.error }) error f.place first same told.0 told.1 told.2

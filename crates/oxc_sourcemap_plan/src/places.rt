@@ -1,5 +1,5 @@
 //! Where a plan has its first fault, if that is one of a text.
-ghost use Rattle.std.specs.Prelude.{◌≡◌, true, IfOk, IsSome, Err};
+ghost use Rattle.std.specs.Prelude.{◌≡◌, true, IfOk, IsSome, Some, Err, option_map};
 ghost use Rattle.oxc_sourcemap_plan.specs.Words.{lent_items, texts_of, IsPlaceOf, IsPlanPlace};
 ghost use Rattle.oxc_sourcemap_plan.specs.Words.{OnlyMemory, is_within_limits, meaning};
 ghost use Rattle.oxc_sourcemap_plan.specs.Words.{Error, Map, IsOfReading};
@@ -8,8 +8,15 @@ use crate::collecting::plan_texts;
 use crate::plan::Plan;
 use oxc_sourcemap_decode::read_parts_from_string;
 use oxc_sourcemap_laws::dropping_harmless;
-use oxc_sourcemap_tokens::{Error, FaultPlace, PlanError, Result};
+use oxc_sourcemap_tokens::{Error, Fault, FaultPlace, PlanError, Result};
 use std::alloc::Global;
+
+/// The place of the fault of the text with this number.
+fn numbered(fault: Fault, k: usize) -> Option<FaultPlace>
+    ensures { result ≡ option_map (λ place. record place { text = Some k }) fault.place }
+{
+    Some(fault.place?.in_text(k))
+}
 
 /// The first fault of the first of these texts that cannot be read, if its error is this one; its number is the index of that text.
 /// None if all can be read, or the first that cannot has another error. Fails only with `OutOfMemory`.
@@ -25,7 +32,7 @@ fn texts_fault_at(alloc: Global, texts: &[&str], error: Error) -> Result<Option<
             if fault.error != error {
                 return Ok(None);
             }
-            return Ok(fault.place.map(|place| place.in_text(k)));
+            return Ok(numbered(fault, k));
         }
     }
     Ok(None)

@@ -153,10 +153,6 @@ pub evaluate_rewrite-returns-in_err-map-clause-told : goal.evaluate_rewrite-retu
 evaluate_rewrite-returns-in_err-map-clause-told t c =
     told_on (rewrite_outcome (outcome_of c.args.part.now)).is_within_limits (outcome_of c.args.part.now).is_within_limits c.from_residual.result c.in_err-map.field-0.0 c.from_residual.ensures.1 (λ w. w) c.in_err-map.ensures.told
 
-pub evaluate_rewrite-returns-in_ok-rewrite-clause-map : goal.evaluate_rewrite-returns-in_ok-rewrite-clause-map
-evaluate_rewrite-returns-in_ok-rewrite-clause-map t c =
-    c.in_ok-rewrite.ensures.map (outcome_of c.args.part.now) c.in_ok-map.ensures.map
-
 pub evaluate_rewrite-returns-in_err-rewrite-clause-error : goal.evaluate_rewrite-returns-in_err-rewrite-clause-error
 evaluate_rewrite-returns-in_err-rewrite-clause-error t c =
     from_err c.from_residual-in_err-rewrite.result _ _ c.from_residual-in_err-rewrite.ensures.1
@@ -171,10 +167,6 @@ pub evaluate_root-returns-in_err-map-clause-told : goal.evaluate_root-returns-in
 evaluate_root-returns-in_err-map-clause-told t c =
     told_on (root_outcome (outcome_of c.args.part.now)).is_within_limits (outcome_of c.args.part.now).is_within_limits c.from_residual.result c.in_err-map.field-0.0 c.from_residual.ensures.1 (λ w. w) c.in_err-map.ensures.told
 
-pub evaluate_root-returns-in_ok-put_root-clause-map : goal.evaluate_root-returns-in_ok-put_root-clause-map
-evaluate_root-returns-in_ok-put_root-clause-map t c =
-    c.in_ok-put_root.ensures.map (outcome_of c.args.part.now) c.in_ok-map.ensures.map
-
 pub evaluate_root-returns-in_err-put_root-clause-error : goal.evaluate_root-returns-in_err-put_root-clause-error
 evaluate_root-returns-in_err-put_root-clause-error t c =
     from_err c.from_residual-in_err-put_root.result _ _ c.from_residual-in_err-put_root.ensures.1
@@ -188,10 +180,6 @@ evaluate_root-returns-in_err-put_root-clause-told t c =
 pub evaluate_simplification-returns-in_err-map-clause-told : goal.evaluate_simplification-returns-in_err-map-clause-told
 evaluate_simplification-returns-in_err-map-clause-told t c =
     told_on (simplified_outcome (outcome_of c.args.part.now)).is_within_limits (outcome_of c.args.part.now).is_within_limits c.from_residual.result c.in_err-map.field-0.0 c.from_residual.ensures.1 (of_simplified (outcome_of c.args.part.now)) c.in_err-map.ensures.told
-
-pub evaluate_simplification-returns-in_ok-simplify-clause-map : goal.evaluate_simplification-returns-in_ok-simplify-clause-map
-evaluate_simplification-returns-in_ok-simplify-clause-map t c =
-    c.in_ok-simplify.ensures.map (outcome_of c.args.part.now) c.in_ok-map.ensures.map
 
 pub evaluate_simplification-returns-in_err-simplify-clause-error : goal.evaluate_simplification-returns-in_err-simplify-clause-error
 evaluate_simplification-returns-in_err-simplify-clause-error t c =
@@ -208,12 +196,6 @@ evaluate_join-returns-in_err-map-clause-told t c =
     let parts = c.args.parts.now in
     told_on (join_outcome (outcomes (at_lines parts))).is_within_limits (outcome_of c.loop-part-item.result.0).is_within_limits c.from_residual.result c.in_err-map.field-0.0 c.from_residual.ensures.1
     (of_part at_its_line parts c.loop-part.part-index c.loop-part-item.result c.loop-part-test.true c.loop-part-item.is) c.in_err-map.ensures.told
-
-pub evaluate_join-returns-in_ok-join-clause-map : goal.evaluate_join-returns-in_ok-join-clause-map
-evaluate_join-returns-in_ok-join-clause-map t c =
-    let parts = c.args.parts.now in
-    let all = subst (λ ps. AllRealize (owned_records c.loop-part.maps.items) (outcomes (at_lines ps))) (take_all c.loop-part.part-index parts (let f = c.loop-part-test.false in omega (arith, f))) c.loop-part.invariant in
-    c.in_ok-join.ensures.map (outcomes (at_lines parts)) all
 
 pub evaluate_join-returns-in_err-join-clause-error : goal.evaluate_join-returns-in_err-join-clause-error
 evaluate_join-returns-in_err-join-clause-error t c =
@@ -235,12 +217,6 @@ evaluate_join_at-returns-in_err-map-clause-told t c =
     let parts = c.args.parts.now in
     told_on (join_outcome (outcomes (at_positions parts))).is_within_limits (outcome_of c.loop-part-item.result.0).is_within_limits c.from_residual.result c.in_err-map.field-0.0 c.from_residual.ensures.1
     (of_part at_its_position parts c.loop-part.part-index c.loop-part-item.result c.loop-part-test.true c.loop-part-item.is) c.in_err-map.ensures.told
-
-pub evaluate_join_at-returns-in_ok-join-clause-map : goal.evaluate_join_at-returns-in_ok-join-clause-map
-evaluate_join_at-returns-in_ok-join-clause-map t c =
-    let parts = c.args.parts.now in
-    let all = subst (λ ps. AllRealize (owned_records c.loop-part.maps.items) (outcomes (at_positions ps))) (take_all c.loop-part.part-index parts (let f = c.loop-part-test.false in omega (arith, f))) c.loop-part.invariant in
-    c.in_ok-join.ensures.map (outcomes (at_positions parts)) all
 
 pub evaluate_join_at-returns-in_err-join-clause-error : goal.evaluate_join_at-returns-in_err-join-clause-error
 evaluate_join_at-returns-in_err-join-clause-error t c =
@@ -279,10 +255,6 @@ evaluate_composition-returns-in_err-second-clause-told t c =
     told_on (composition_outcome first second).is_within_limits second.is_within_limits c.from_residual-in_err-second.result c.in_err-second.field-0.0 c.from_residual-in_err-second.ensures.1
     (of_second first second) c.in_err-second.ensures.told
 
-pub evaluate_composition-returns-in_ok-compose-clause-map : goal.evaluate_composition-returns-in_ok-compose-clause-map
-evaluate_composition-returns-in_ok-compose-clause-map t c =
-    c.in_ok-compose.ensures.map (outcome_of c.args.first.now) (outcome_of c.args.second.now) c.in_ok-first.ensures.map c.in_ok-second.ensures.map
-
 pub evaluate_composition-returns-in_err-compose-clause-error : goal.evaluate_composition-returns-in_err-compose-clause-error
 evaluate_composition-returns-in_err-compose-clause-error t c =
     let first = outcome_of c.args.first.now in
@@ -311,8 +283,8 @@ evaluate_remapping-returns-in_err-input-clause-told t c =
     told_on (remap_outcome first (input_outcomes (by_path inputs))).is_within_limits (outcome_of c.loop-path-item.result.1).is_within_limits c.from_residual-in_err-input.result c.in_err-input.field-0.0
     c.from_residual-in_err-input.ensures.1 (of_input first inputs c.loop-path.path-index c.loop-path-item.result c.loop-path-test.true c.loop-path-item.is) c.in_err-input.ensures.told
 
-pub evaluate_remapping-returns-in_ok-remap-clause-map : goal.evaluate_remapping-returns-in_ok-remap-clause-map
-evaluate_remapping-returns-in_ok-remap-clause-map t c =
+pub evaluate_remapping-returns-clause-map : goal.evaluate_remapping-returns-clause-map
+evaluate_remapping-returns-clause-map t c =
     let first = outcome_of c.args.first.now in
     let inputs = c.args.inputs.now in
     let all = subst (λ xs. InputsRealize (owned_input_records c.loop-path.maps.items) (input_outcomes (by_path xs))) (take_all c.loop-path.path-index inputs (let f = c.loop-path-test.false in omega (arith, f))) c.loop-path.invariant in

@@ -1,7 +1,10 @@
 -- The first text that cannot be read.
 use Rattle.std.proofs.Common.{◌≡◌, ℕ, suc, ◌+◌, List, [], ◌∷◌, refl, ap, ◌∙◌, subst, Option, Some}
 use Rattle.std.proofs.Common.{Ok, Err, slice_get, arith, None, sym, ◌≢◌, is_some, true, option_map}
-use Rattle.std.proofs.Common.{IsSomeAnd}
+use Rattle.std.proofs.Common.{IsSomeAnd, drop, length, get_or, ◌<◌}
+use Rattle.std.proofs.lemmas.List.{drop_more}
+use Rattle.std.specs.Borrow.{Bor}
+use Rattle.oxc_sourcemap_tokens.specs.Results.{lent_items}
 use Rattle.serde_json.specs.Data.{Data}
 use Rattle.serde_json.specs.Read.{read}
 use Rattle.oxc_sourcemap_tokens.specs.declared.error.Error.{Error}
@@ -13,6 +16,7 @@ use Rattle.oxc_sourcemap_decode.specs.ReadMap.{read_map}
 use Rattle.oxc_sourcemap_decode.specs.ValuePlaces.{value_place, IsReading, IsPlacedIn}
 use Rattle.oxc_sourcemap_plan.specs.PlanPlaces.{Unread, unread_or, unread_from}
 use Rattle.oxc_sourcemap_plan.specs.PlanPlaces.{first_unread, IsPlaceOf, IsNumberPlace}
+use Rattle.oxc_sourcemap_plan.specs.PlanPlaces.{with_number}
 
 abbrev some : Unread → Option Unread
 some x = Some x
@@ -50,13 +54,20 @@ first-is texts u e =
 
 placed : (texts : List Text) (u : Unread) (error : Error) (place : Option FaultPlace) → first_unread texts ≡ Some u → u.error ≡ error
     → ((d : Data) → read u.text ≡ Some d → value_place d ≡ place) → (read u.text ≡ None → IsSomeAnd place IsReading) → is_some place ≡ true
-    → IsPlaceOf texts error (option_map (λ (p : FaultPlace). record p { text = Some u.number }) place)
+    → IsPlaceOf texts error (option_map (with_number u.number) place)
 placed texts u error None first same json bad there = absurd (cc (there))
 placed texts u error (Some p) first same json bad there =
-    subst (λ o. IsSomeAnd o (λ u. (u.error ≡ error) × IsNumberPlace u.number u.text (record p { text = Some u.number }))) (sym first) (same, p, (json, bad), refl)
+    subst (λ o. IsSomeAnd o (λ x. (x.error ≡ error) × IsNumberPlace x.number x.text (with_number u.number p))) (sym first) (same, (p, (json, bad), refl))
 
--- its place is told, with its number
-pub placed_first : (texts : List Text) (k : ℕ) (text : Text) (f : Fault) (error : Error) → first_unread texts ≡ Some (record { number = k; text = text; error = f.error }) → f.error ≡ error
-    → f.error ≢ OutOfMemory → IsPlacedIn text f → IsPlaceOf texts error (option_map (λ (p : FaultPlace). record p { text = Some k }) f.place)
-placed_first texts k text f error first same other is =
-    let told = is other in placed texts (record { number = k; text = text; error = f.error }) error f.place first same told.0 told.1 told.2
+-- The place of the first fault of texts whose first ones can be read, if the text behind these cannot.
+pub placed_at : (texts : List (Bor Text)) (k : ℕ) (none : Bor Text) (f : Fault) (error : Error) → k < length texts → unread_from k (lent_items (drop k texts)) ≡ first_unread (lent_items texts)
+    → f.error ≡ error → f.error ≢ OutOfMemory → (f.error ≢ OutOfMemory → read_map (get_or texts k none).now ≡ Err f.error) → IsPlacedIn (get_or texts k none).now f
+    → IsPlaceOf (lent_items texts) error (option_map (with_number k) f.place)
+placed_at texts k none f error below so_far same other reads is =
+    let text = get_or texts k none in
+    let u : Unread = record { number = k; text = text.now; error = f.error } in
+    let told = is other in
+    let rest = lent_items (drop (k + 1) texts) in
+    let cut : lent_items (drop k texts) ≡ text.now ∷ rest = ap lent_items (drop_more texts k none below) in
+    let first : first_unread (lent_items texts) ≡ Some u = sym so_far ∙ ap (unread_from k) cut ∙ unread-here k text.now rest f.error (reads other) in
+    placed (lent_items texts) u error f.place first same told.0 told.1 told.2

@@ -58,9 +58,13 @@ first_unread texts = unread_from 0 texts
 abbrev pub IsTextPlace : Text → FaultPlace → Type 0
 IsTextPlace text place = ((d : Data) → read text ≡ Some d → value_place d ≡ Some place) × (read text ≡ None → IsReading place)
 
+-- a place, with the number of the text
+abbrev pub with_number : ℕ → FaultPlace → FaultPlace
+with_number k place = record place { text = Some k }
+
 -- such a place, with the number of the text
 abbrev pub IsNumberPlace : ℕ → Text → FaultPlace → Type 0
-IsNumberPlace k text place = (p : FaultPlace) × IsTextPlace text p × (place ≡ record p { text = Some k })
+IsNumberPlace k text place = (p : FaultPlace) × IsTextPlace text p × (place ≡ with_number k p)
 
 -- The place of this error of texts: in the first that cannot be read, if its error is this one. There is none if that is another
 -- one, or all can be read.

@@ -28,7 +28,7 @@ pub use Rattle.oxc_sourcemap_plan.specs.PlanArguments.{parsed_input_part, parsed
 pub use Rattle.oxc_sourcemap_plan.specs.PlanArguments.{parsed_text, parsed_sort, parsed_plan}
 pub use Rattle.oxc_sourcemap_plan.specs.PlanInputs.{inputs_of}
 pub use Rattle.oxc_sourcemap_plan.specs.PlanPlaces.{texts_of, IsPlaceOf, IsPlanPlace}
-pub use Rattle.oxc_sourcemap_plan.specs.PlanPlaces.{IsOfReading, IsTold}
+pub use Rattle.oxc_sourcemap_plan.specs.PlanPlaces.{IsOfReading, IsTold, with_number}
 pub use Rattle.oxc_sourcemap_plan.specs.Realizes.{PartsRealize, FailsAs, AllRealize}
 pub use Rattle.oxc_sourcemap_plan.specs.Realizes.{InputsRealize}
 pub use Rattle.oxc_sourcemap_plan.specs.RunErrors.{out_of_memory, run_error_text, status_of}

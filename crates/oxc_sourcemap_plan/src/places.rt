@@ -1,8 +1,8 @@
 //! Where a plan has its first fault, if that is one of a text.
-ghost use Rattle.std.specs.Prelude.{◌≡◌, true, IfOk, IsSome, Some, Err, option_map};
+ghost use Rattle.std.specs.Prelude.{◌≡◌, true, IfOk, IsSome, Err, option_map};
 ghost use Rattle.oxc_sourcemap_plan.specs.Words.{lent_items, texts_of, IsPlaceOf, IsPlanPlace};
 ghost use Rattle.oxc_sourcemap_plan.specs.Words.{OnlyMemory, is_within_limits, meaning};
-ghost use Rattle.oxc_sourcemap_plan.specs.Words.{Error, Map, IsOfReading};
+ghost use Rattle.oxc_sourcemap_plan.specs.Words.{Error, Map, IsOfReading, with_number};
 
 use crate::collecting::plan_texts;
 use crate::plan::Plan;
@@ -13,7 +13,7 @@ use std::alloc::Global;
 
 /// The place of the fault of the text with this number.
 fn numbered(fault: Fault, k: usize) -> Option<FaultPlace>
-    ensures { result ≡ option_map (λ place. record place { text = Some k }) fault.place }
+    ensures { result ≡ option_map (with_number k) fault.place }
 {
     Some(fault.place?.in_text(k))
 }

@@ -5,4 +5,4 @@ use Rattle.oxc_sourcemap_plan.proofs.places.texts_fault_at.Given as goal
 
 -- the first text that cannot be read is among those that are left
 abbrev pub invariant-loop-k : goal.invariant-loop-k
-invariant-loop-k l = unread_from l.k-counter (lent_items (drop l.k-counter l.texts)) ≡ first_unread (lent_items l.texts)
+invariant-loop-k l = unread_from l.k (lent_items (drop l.k l.texts)) ≡ first_unread (lent_items l.texts)

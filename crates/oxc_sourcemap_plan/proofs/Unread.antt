@@ -1,7 +1,7 @@
 -- The first text that cannot be read.
 use Rattle.std.proofs.Common.{◌≡◌, ℕ, suc, ◌+◌, List, [], ◌∷◌, refl, ap, ◌∙◌, subst, Option, Some}
 use Rattle.std.proofs.Common.{Ok, Err, slice_get, arith, None, sym, ◌≢◌, is_some, true, option_map}
-use Rattle.std.proofs.Common.{IsSomeAnd, drop, length, get_or, ◌<◌}
+use Rattle.std.proofs.Common.{IsSomeAnd, IfSome, drop, length, get_or, ◌<◌, ◌⊎◌, inl, inr}
 use Rattle.std.proofs.lemmas.List.{drop_more}
 use Rattle.std.specs.Borrow.{Bor}
 use Rattle.oxc_sourcemap_tokens.specs.Results.{lent_items}
@@ -59,15 +59,19 @@ placed texts u error None first same json bad there = absurd (cc (there))
 placed texts u error (Some p) first same json bad there =
     subst (λ o. IsSomeAnd o (λ x. (x.error ≡ error) × IsNumberPlace x.number x.text (with_number u.number p))) (sym first) (same, (p, (json, bad), refl))
 
--- The place of the first fault of texts whose first ones can be read, if the text behind these cannot.
-pub placed_at : (texts : List (Bor Text)) (k : ℕ) (none : Bor Text) (f : Fault) (error : Error) → k < length texts → unread_from k (lent_items (drop k texts)) ≡ first_unread (lent_items texts)
-    → f.error ≡ error → f.error ≢ OutOfMemory → (f.error ≢ OutOfMemory → read_map (get_or texts k none).now ≡ Err f.error) → IsPlacedIn (get_or texts k none).now f
-    → IsPlaceOf (lent_items texts) error (option_map (with_number k) f.place)
-placed_at texts k none f error below so_far same other reads is =
+-- The place of this error of texts whose first ones can be read, if the text behind these cannot.
+pub placed_at : (texts : List (Bor Text)) (k : ℕ) (none : Bor Text) (f : Fault) (error : Error) (place : Option FaultPlace) → k < length texts
+    → unread_from k (lent_items (drop k texts)) ≡ first_unread (lent_items texts) → f.error ≢ OutOfMemory → (f.error ≢ OutOfMemory → read_map (get_or texts k none).now ≡ Err f.error)
+    → IsPlacedIn (get_or texts k none).now f → ((f.error ≡ error) × (place ≡ option_map (with_number k) f.place)) ⊎ ((f.error ≢ error) × (place ≡ None))
+    → IsPlaceOf (lent_items texts) error place
+placed_at texts k none f error place below so_far other reads is told =
     let text = get_or texts k none in
     let u : Unread = record { number = k; text = text.now; error = f.error } in
-    let told = is other in
+    let there = is other in
     let rest = lent_items (drop (k + 1) texts) in
     let cut : lent_items (drop k texts) ≡ text.now ∷ rest = ap lent_items (drop_more texts k none below) in
     let first : first_unread (lent_items texts) ≡ Some u = sym so_far ∙ ap (unread_from k) cut ∙ unread-here k text.now rest f.error (reads other) in
-    placed (lent_items texts) u error f.place first same told.0 told.1 told.2
+    elim told [
+      | inl same ↦ subst (IsPlaceOf (lent_items texts) error) (sym same.1) (placed (lent_items texts) u error f.place first same.0 there.0 there.1 there.2)
+      | inr not ↦ subst (IsPlaceOf (lent_items texts) error) (sym not.1) (subst (λ o. IfSome o (λ x. x.error ≢ error)) (sym first) not.0)
+    ]

@@ -1,8 +1,8 @@
 //! Where a plan has its first fault, if that is one of a text.
-ghost use Rattle.std.specs.Prelude.{◌≡◌, true, IfOk, IsSome, Err, option_map};
+ghost use Rattle.std.specs.Prelude.{◌≡◌, ◌≢◌, ◌⊎◌, true, IfOk, IsSome, None, Err, option_map};
 ghost use Rattle.oxc_sourcemap_plan.specs.Words.{lent_items, texts_of, IsPlaceOf, IsPlanPlace};
-ghost use Rattle.oxc_sourcemap_plan.specs.Words.{OnlyMemory, is_within_limits, meaning};
-ghost use Rattle.oxc_sourcemap_plan.specs.Words.{Error, Map, IsOfReading, with_number};
+ghost use Rattle.oxc_sourcemap_plan.specs.Words.{OnlyMemory, OutOfMemory, is_within_limits};
+ghost use Rattle.oxc_sourcemap_plan.specs.Words.{Error, Map, IsOfReading, with_number, meaning};
 
 use crate::collecting::plan_texts;
 use crate::plan::Plan;
@@ -18,6 +18,22 @@ fn numbered(fault: Fault, k: usize) -> Option<FaultPlace>
     Some(fault.place?.in_text(k))
 }
 
+/// The place of the fault of the text with this number, if its error is this one. Fails only with `OutOfMemory`.
+fn place_if(fault: Fault, error: Error, k: usize) -> Result<Option<FaultPlace>>
+    ensures place { IfOk result (λ place. (fault.error ≢ OutOfMemory)
+        × (((fault.error ≡ error) × (place ≡ option_map (with_number k) fault.place))
+        ⊎ ((fault.error ≢ error) × (place ≡ None)))) }
+    ensures error { OnlyMemory result }
+{
+    if fault.error == Error::OutOfMemory {
+        return Err(Error::OutOfMemory);
+    }
+    if fault.error != error {
+        return Ok(None);
+    }
+    Ok(numbered(fault, k))
+}
+
 /// The first fault of the first of these texts that cannot be read, if its error is this one; its number is the index of that text.
 /// None if all can be read, or the first that cannot has another error. Fails only with `OutOfMemory`.
 fn texts_fault_at(alloc: Global, texts: &[&str], error: Error) -> Result<Option<FaultPlace>>
@@ -26,13 +42,7 @@ fn texts_fault_at(alloc: Global, texts: &[&str], error: Error) -> Result<Option<
 {
     for (k, text) in texts.iter().enumerate() {
         if let Err(fault) = read_parts_from_string(alloc, text) {
-            if fault.error == Error::OutOfMemory {
-                return Err(Error::OutOfMemory);
-            }
-            if fault.error != error {
-                return Ok(None);
-            }
-            return Ok(numbered(fault, k));
+            return place_if(fault, error, k);
         }
     }
     Ok(None)

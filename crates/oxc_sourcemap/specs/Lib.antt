@@ -78,7 +78,7 @@ pub use Rattle.oxc_sourcemap_tokens.specs.PlaceMessages
 pub use Rattle.oxc_sourcemap_tokens.specs.Places
 pub use Rattle.oxc_sourcemap_json.specs.ShapeSpots
 pub use Rattle.oxc_sourcemap_decode.specs.ValuePlaces
-pub use Rattle.oxc_sourcemap_plan_places.specs.PlanPlaces
+pub use Rattle.oxc_sourcemap_plan.specs.PlanPlaces
 pub use Rattle.oxc_sourcemap_url.specs.declared.data_url_error.DataUrlError
 pub use Rattle.oxc_sourcemap_url.specs.declared.language.Language
 pub use Rattle.oxc_sourcemap_url.specs.declared.mapping_url.SourceMappingComment

@@ -51,7 +51,7 @@ pub use Rattle.oxc_sourcemap_parts.specs.Views.{contents_of, chunks_of}
 pub use Rattle.oxc_sourcemap_pieces.specs.RangePieces.{place, pieces_of, DoCover}
 pub use Rattle.oxc_sourcemap_tokens.specs.PlaceMessages.{place_text, spot_text}
 pub use Rattle.oxc_sourcemap_decode.specs.ValuePlaces.{value_spot, value_place, IsReading}
-pub use Rattle.oxc_sourcemap_plan_places.specs.PlanPlaces.{texts_of as plan_texts_of, IsPlanPlace}
+pub use Rattle.oxc_sourcemap_plan.specs.PlanPlaces.{texts_of as plan_texts_of, IsPlanPlace}
 pub use Rattle.oxc_sourcemap_plan.specs.Depth.{depth}
 pub use Rattle.oxc_sourcemap_plan.specs.Evaluated.{IsEvaluated, HasOutcome, IsErrorOf}
 pub use Rattle.oxc_sourcemap_plan.specs.Meaning.{meaning, read_meaning, text_meaning, by_path}

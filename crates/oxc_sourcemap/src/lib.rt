@@ -24,8 +24,7 @@ pub use oxc_sourcemap_mappings::{
 pub use oxc_sourcemap_parts::{Contents, Names, SourceMapParts, Sources, Tokens};
 pub use oxc_sourcemap_pieces::{Piece, Pieces};
 pub use oxc_sourcemap_places::{FaultReason, json_fault_at, json_fault_reason, value_fault_at};
-pub use oxc_sourcemap_plan::Plan;
-pub use oxc_sourcemap_plan_places::plan_fault_at;
+pub use oxc_sourcemap_plan::{Plan, plan_fault_at};
 pub use oxc_sourcemap_reverse::{IndexTokens, SourceIndex};
 pub use oxc_sourcemap_text::{PositionError, TextPositions};
 pub use oxc_sourcemap_tokens::{

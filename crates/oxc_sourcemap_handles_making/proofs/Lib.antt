@@ -2,5 +2,4 @@ mod Building
 pub mod MapsOfMaps
 pub mod Failing
 pub mod Located
-pub mod Placed
 pub mod Planned

@@ -11,7 +11,7 @@ use Rattle.oxc_sourcemap_tokens.specs.declared.fault.FaultSpot.TheVariants.{Segm
 use Rattle.oxc_sourcemap_tokens.specs.Places.{place_in}
 use Rattle.oxc_sourcemap_found.specs.FoundMaps.{found}
 use Rattle.oxc_sourcemap_found.specs.FoundPlaces.{IsFoundPlace, HasPlaceIfRefused}
-use Rattle.oxc_sourcemap_plan_places.specs.PlanPlaces.{IsTextPlace}
+use Rattle.oxc_sourcemap_plan.specs.PlanPlaces.{IsTextPlace}
 use Rattle.oxc_sourcemap_handles.specs.declared.call_error.CallError.{CallError}
 use Rattle.oxc_sourcemap_handles_making.specs.declared.failure.Failure.{Failure}
 use Rattle.oxc_sourcemap_handles.specs.declared.fault.Fault.{Fault}

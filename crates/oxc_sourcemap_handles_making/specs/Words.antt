@@ -49,8 +49,7 @@ pub use Rattle.oxc_sourcemap_parts.specs.Views.{cow_texts, ids_of, record_of_par
 pub use Rattle.oxc_sourcemap_plan.specs.Meaning.{meaning}
 pub use Rattle.oxc_sourcemap_plan.specs.Outcome.{is_within_limits, outcome}
 pub use Rattle.oxc_sourcemap_plan.specs.PlanArguments.{parsed_plan}
-pub use Rattle.oxc_sourcemap_plan_places.specs.PlanPlaces.{IsPlanPlace, IsTextPlace}
-pub use Rattle.oxc_sourcemap_plan_places.specs.PlanPlaces.{texts_of as plan_texts_of}
+pub use Rattle.oxc_sourcemap_plan.specs.PlanPlaces.{TellsText}
 pub use Rattle.oxc_sourcemap_remap.specs.Inputs.{owned_input_records}
 pub use Rattle.oxc_sourcemap_tokens.specs.Chunks.{ChunksFit}
 pub use Rattle.oxc_sourcemap_tokens.specs.Results.{lent_item, lent_items}

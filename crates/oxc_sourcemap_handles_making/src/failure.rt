@@ -1,9 +1,9 @@
 //! Errors with the places of their faults.
-ghost use Rattle.std.specs.Prelude.{◌≡◌, None};
-ghost use Rattle.oxc_sourcemap_handles_making.specs.Words.{out_of_memory};
+ghost use Rattle.std.specs.Prelude.{◌≡◌, ◌≢◌, None};
+ghost use Rattle.oxc_sourcemap_handles_making.specs.Words.{out_of_memory, OutOfMemory, of_map};
 
 use oxc_sourcemap_handles::CallError;
-use oxc_sourcemap_tokens::FaultPlace;
+use oxc_sourcemap_tokens::{Error, Fault, FaultPlace};
 
 /// Why a call fails, and where in the input the fault is.
 #[derive(Clone, Copy, Debug, PartialEq, Eq)]
@@ -34,5 +34,22 @@ impl From<CallError> for Failure {
 
     fn from(error: CallError) -> Failure {
         Failure::of(error)
+    }
+}
+
+impl From<Fault> for Failure {
+    ghost from_gives = { λ fault failure.
+        (fault.error ≡ OutOfMemory → failure ≡ record { error = out_of_memory; place = None })
+        × ((fault.error ≢ OutOfMemory)
+        → failure ≡ record { error = of_map fault.error; place = fault.place }) };
+
+    fn from(fault: Fault) -> Failure {
+        match fault.error {
+            Error::OutOfMemory => Failure::memory(),
+            error => Failure {
+                error: CallError::from(error),
+                place: fault.place,
+            },
+        }
     }
 }

@@ -1,69 +1,30 @@
 //! Maps made of texts, and put into handles.
-ghost use Rattle.std.specs.Prelude.{◌≡◌, ◌≢◌, Some, None, Ok, Err, IfOk, IfErr};
-ghost use Rattle.std.specs.Prelude.{MatchResult, IsErr, IsSomeAnd};
+ghost use Rattle.std.specs.Prelude.{◌≡◌, ◌≢◌, Some, Ok, Err, IfOk, IfErr, MatchResult};
 ghost use Rattle.oxc_sourcemap_handles_making.specs.Words.{read_map, out_of_memory, no_fault};
 ghost use Rattle.oxc_sourcemap_handles_making.specs.Words.{fault_at, fault_of, code_of, held_map};
-ghost use Rattle.oxc_sourcemap_handles_making.specs.Words.{held_mends, IsFailure};
-ghost use Rattle.oxc_sourcemap_handles_making.specs.Words.{IsTextPlace, OnlyMemory, OutOfMemory};
+ghost use Rattle.oxc_sourcemap_handles_making.specs.Words.{held_mends, IsFailure, OutOfMemory};
 ghost use Rattle.oxc_sourcemap_handles_making.specs.Words.{IsTextErrorAt, IsReadErrorAt};
 ghost use Rattle.oxc_sourcemap_handles_making.specs.Words.{IsSegmentErrorAt, found};
-ghost use Rattle.oxc_sourcemap_handles_making.specs.Words.{IsMappingsErrorAt, mappings_place};
+ghost use Rattle.oxc_sourcemap_handles_making.specs.Words.{IsMappingsErrorAt, IsSound};
 ghost use Rattle.oxc_sourcemap_handles_making.specs.Words.{reading, map_of_tokens, found_record};
 ghost use Rattle.oxc_sourcemap_handles_making.specs.Words.{IsFoundErrorAt, IsFoundTextErrorAt};
-ghost use Rattle.oxc_sourcemap_handles_making.specs.Words.{IsSound, of_map};
 
 use crate::failure::Failure;
+use oxc_sourcemap_decode::read_parts_from_string;
 use oxc_sourcemap_found::{Mend, found_fault_at, mending_harmless};
 use oxc_sourcemap_handles::{CallError, Fault, Handle, Held, box_map, text_of};
 use oxc_sourcemap_map::OwnedSourceMap;
-use oxc_sourcemap_mappings::mappings_fault_at;
+use oxc_sourcemap_mappings::read_mappings;
 use oxc_sourcemap_parts::SourceMapParts;
-use oxc_sourcemap_places::json_fault_at;
-use oxc_sourcemap_tokens::{Error, FaultPlace, FaultSpot};
+use oxc_sourcemap_tokens::Error;
 use std::alloc::Global;
-
-/// Where a JSON text that is not read has its first fault. Fails only with `OutOfMemory`.
-fn text_place(alloc: Global, text: &str) -> oxc_sourcemap_tokens::Result<Option<FaultPlace>>
-    requires { IsErr (read_map text.now) }
-    ensures place { IfOk result (λ place. IsSomeAnd place (IsTextPlace text.now)) }
-    ensures error { OnlyMemory result }
-{
-    json_fault_at(alloc, text)
-}
-
-/// An error, with the place of its fault, or want of memory to tell that.
-fn placed(error: Error, place: oxc_sourcemap_tokens::Result<Option<FaultPlace>>) -> Failure
-    ensures { MatchResult place
-        (λ place. result ≡ record { error = of_map error; place = place })
-        (λ _. result ≡ record { error = out_of_memory; place = None }) }
-{
-    match place {
-        Ok(place) => Failure {
-            error: CallError::from(error),
-            place,
-        },
-        Err(_) => Failure::memory(),
-    }
-}
-
-/// Why a JSON text is not read: the error, with the place of the fault, or want of memory to tell that.
-fn text_failure(alloc: Global, text: &str, error: Error) -> Failure
-    requires unread { read_map text.now ≡ Err error }
-    requires memory { error ≢ OutOfMemory }
-    ensures { IsFailure (IsTextErrorAt text.now) result }
-{
-    placed(error, text_place(alloc, text))
-}
 
 fn read_text(alloc: Global, text: &str) -> Result<OwnedSourceMap, Failure>
     ensures map { IfOk result (λ map. read_map text.now ≡ Ok map) }
     ensures error { IfErr result (IsFailure (IsTextErrorAt text.now)) }
 {
-    match OwnedSourceMap::from_json_string(alloc, text) {
-        Ok(map) => Ok(map),
-        Err(Error::OutOfMemory) => Err(Failure::memory()),
-        Err(error) => Err(text_failure(alloc, text, error)),
-    }
+    let parts = read_parts_from_string(alloc, text)?;
+    Ok(OwnedSourceMap::from_parts(parts))
 }
 
 /// The map of a JSON text.
@@ -77,20 +38,6 @@ pub fn read(alloc: Global, json: &[u8]) -> Result<OwnedSourceMap, Failure>
     }
 }
 
-/// Where a mappings text has its first fault.
-fn mappings_place(text: &str, names: usize, sources: usize) -> Option<FaultPlace>
-    ensures { result ≡ mappings_place text.now names sources }
-{
-    match mappings_fault_at(text, names, sources) {
-        Some(place) => Some(FaultPlace {
-            text: None,
-            section: None,
-            spot: FaultSpot::Segment(place),
-        }),
-        None => None,
-    }
-}
-
 fn decode_text(
     alloc: Global,
     text: &str,
@@ -101,21 +48,12 @@ fn decode_text(
         × (reading text.now names sources ≡ Ok map.tokens)) }
     ensures error { IfErr result (IsFailure (IsSegmentErrorAt text.now names sources)) }
 {
-    match oxc_sourcemap_mappings::decode_mappings(alloc, text, names, sources) {
-        Ok(tokens) => match SourceMapParts::empty(alloc) {
-            Ok(empty) => {
-                let mut parts = empty;
-                parts.tokens = tokens;
-                Ok(OwnedSourceMap::from_parts(parts))
-            }
-            Err(_) => Err(Failure::memory()),
-        },
-        Err(Error::OutOfMemory) => Err(Failure::memory()),
-        Err(error) => Err(Failure {
-            error: CallError::from(error),
-            place: mappings_place(text, names, sources),
-        }),
-    }
+    let tokens = read_mappings(alloc, text, names, sources)?;
+    let Ok(mut parts) = SourceMapParts::empty(alloc) else {
+        return Err(Failure::memory());
+    };
+    parts.tokens = tokens;
+    Ok(OwnedSourceMap::from_parts(parts))
 }
 
 /// The map that has the tokens of a mappings text and nothing else. Ids are to be below these numbers of names and sources.
@@ -170,7 +108,13 @@ fn found_failure(alloc: Global, text: &str, error: Error) -> Failure
     requires memory { error ≢ OutOfMemory }
     ensures { IsFailure (IsFoundTextErrorAt text.now) result }
 {
-    placed(error, found_fault_at(alloc, text))
+    match found_fault_at(alloc, text) {
+        Ok(place) => Failure {
+            error: CallError::from(error),
+            place,
+        },
+        Err(_) => Failure::memory(),
+    }
 }
 
 fn read_found_text(alloc: Global, text: &str) -> Result<(OwnedSourceMap, Vec<Mend>), Failure>

@@ -10,12 +10,14 @@ use Rattle.oxc_sourcemap_laws.proofs.UpToRepeats.{matches}
 use Rattle.oxc_sourcemap_tokens.specs.declared.error.Error.TheVariants.{OutOfMemory}
 use Rattle.oxc_sourcemap_tokens.specs.declared.plan_error.PlanError.{PlanError}
 use Rattle.oxc_sourcemap_tokens.specs.declared.plan_error.PlanError.TheVariants.{Map}
+use Rattle.oxc_sourcemap_plan.specs.declared.fault.PlanFault.{PlanFault}
 use Rattle.oxc_sourcemap_plan.specs.declared.plan.Plan.{Plan}
 use Rattle.oxc_sourcemap_plan.specs.Depth.{depth}
 use Rattle.oxc_sourcemap_plan.specs.Meaning.{meaning}
 use Rattle.oxc_sourcemap_plan.specs.Outcome.{Outcome, outcome_of, outcome, too_deep}
 use Rattle.oxc_sourcemap_plan.specs.Outcome.{is_within_limits}
 use Rattle.oxc_sourcemap_plan.specs.Evaluated.{IsReadBack, IsErrorOf, IsEvaluated, HasOutcome}
+use Rattle.oxc_sourcemap_plan.specs.PlanPlaces.{IsTold}
 use Rattle.oxc_sourcemap_plan.specs.Realizes.{Realizes, FailsAs}
 use Rattle.oxc_sourcemap_plan.proofs.Meanings.{same_meaning}
 use Rattle.oxc_sourcemap_plan.proofs.Decoding.{decoded-reading}
@@ -70,3 +72,10 @@ failed plan e few f =
     let t : nat_le (depth plan) 64 ≡ true = grind (arith, nat_tests) in
     let is = ap (λ b. cond b (outcome_of plan) too_deep) t in
     subst (λ w. (e ≡ Map OutOfMemory) ⊎ IsErrorOf w (is_within_limits plan) e) (same_meaning plan) (subst (FailsAs e) (sym is) f)
+
+-- its fault
+pub told : (plan : Plan) (f : PlanFault) → depth plan ≤ 64 → IsTold (outcome_of plan).is_within_limits f → IsTold (is_within_limits plan) f
+told plan f few h =
+    let t : nat_le (depth plan) 64 ≡ true = grind (arith, nat_tests) in
+    let is = ap (λ b. cond b (outcome_of plan) too_deep) t in
+    subst (λ (o : Outcome). IsTold o.is_within_limits f) (sym is) h

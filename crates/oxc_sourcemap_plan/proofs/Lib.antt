@@ -10,6 +10,11 @@ pub mod Parts
 pub mod Answering
 mod Sorting
 mod Worked
+pub mod PlanTexts
+pub mod Unread
+pub mod Meant
+pub mod Told
+mod WorkedPlaces
 pub mod Digits
 pub mod PlanInputs
 pub mod PlanArguments

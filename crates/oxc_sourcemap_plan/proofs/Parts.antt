@@ -27,7 +27,7 @@ from_err (Ok x) P Q h f = tt
 from_err (Err e) P Q h f = f e h
 
 -- the list in two halves around its item i
-around : {A : Type 0} (ps : List A) (i : ℕ) (p : A) → i < length ps → p ≡ get_or ps i p → ps ≡ take i ps ++ p ∷ drop (i + 1) ps
+pub around : {A : Type 0} (ps : List A) (i : ℕ) (p : A) → i < length ps → p ≡ get_or ps i p → ps ≡ take i ps ++ p ∷ drop (i + 1) ps
 around ps i p l q = sym (take-append-drop i ps) ∙ ap (λ xs. take i ps ++ xs) (drop_more ps i p l ∙ ap (λ x. x ∷ drop (i + 1) ps) (sym q))
 
 below_deepest : {A : Type 0} (f : A → ℕ) (xs ys : List A) (p : A) → f p ≤ deepest (map f (xs ++ p ∷ ys))
@@ -83,11 +83,11 @@ one_input_more [] (p ∷ os) m o h e g = absurd h
 one_input_more (n ∷ ms) [] m o h e g = absurd h
 one_input_more (n ∷ ms) (p ∷ os) m o h e g = (h.0, one_input_more ms os m o h.1 e g)
 
-abbrev input_at : Bor Text × Plan → Text × Outcome
+abbrev pub input_at : Bor Text × Plan → Text × Outcome
 input_at p = (p.0.now, outcome_of p.1)
 
 -- these lists with one item more, or cut at it
-outcomes-of : (ps : List (Bor Text × Plan)) → input_outcomes (by_path ps) ≡ map input_at ps
+pub outcomes-of : (ps : List (Bor Text × Plan)) → input_outcomes (by_path ps) ≡ map input_at ps
 outcomes-of [] = refl
 outcomes-of (p ∷ ps) = ap (λ os. input_at p ∷ os) (outcomes-of ps)
 

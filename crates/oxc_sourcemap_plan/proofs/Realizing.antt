@@ -403,7 +403,7 @@ decoded_maps-error [] (p ∷ os) ps o n e h q = absurd h
 decoded_maps-error (m ∷ ms) [] ps o n e h q = absurd h
 decoded_maps-error (m ∷ ms) (p ∷ os) ps o n e h q = ap (λ r. onto_decoded_maps r p.1 (all_decoded_maps (meanings (os ++ (o, n) ∷ ps)))) h.0.0.means ∙ ap (onto_decoded_maps (Ok h.0.0.decoded_map) p.1) (decoded_maps-error ms os ps o n e h.1 q)
 
-no-room-part : (os ps : List (Outcome × Position)) (o : Outcome) (n : Position) → o.is_within_limits ≡ false → are_all_within_limits (os ++ (o, n) ∷ ps) ≡ false
+pub no-room-part : (os ps : List (Outcome × Position)) (o : Outcome) (n : Position) → o.is_within_limits ≡ false → are_all_within_limits (os ++ (o, n) ∷ ps) ≡ false
 no-room-part [] ps o n q = and_left _ _ q
 no-room-part (p ∷ os) ps o n q = and_right _ _ (no-room-part os ps o n q)
 

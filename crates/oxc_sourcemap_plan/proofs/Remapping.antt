@@ -178,7 +178,7 @@ inputs-error [] (p ∷ os) ps o e h q = absurd h
 inputs-error (m ∷ ms) [] ps o e h q = absurd h
 inputs-error (m ∷ ms) (p ∷ os) ps o e h q = ap (λ r. onto_inputs p.0 r (all_inputs (input_meanings (os ++ o ∷ ps)))) h.0.1.means ∙ ap (onto_inputs p.0 (Ok h.0.1.decoded_map)) (inputs-error ms os ps o e h.1 q)
 
-no-room-input : (os ps : List (Text × Outcome)) (o : Text × Outcome) → o.1.is_within_limits ≡ false → are_inputs_within_limits (os ++ o ∷ ps) ≡ false
+pub no-room-input : (os ps : List (Text × Outcome)) (o : Text × Outcome) → o.1.is_within_limits ≡ false → are_inputs_within_limits (os ++ o ∷ ps) ≡ false
 no-room-input [] ps o q = and_left _ _ q
 no-room-input (p ∷ os) ps o q = and_right _ _ (no-room-input os ps o q)
 

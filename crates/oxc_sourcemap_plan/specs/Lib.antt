@@ -4,6 +4,7 @@ pub mod Limits
 pub mod Outcome
 pub mod Evaluated
 pub mod Realizes
+pub mod PlanPlaces
 pub mod Numbers
 pub mod PlanInputs
 pub mod PlanArguments

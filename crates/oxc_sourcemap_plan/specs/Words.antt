@@ -2,10 +2,13 @@
 pub use Rattle.oxc_sourcemap_decode.specs.ReadMap.{said_in}
 pub use Rattle.oxc_sourcemap_join.specs.Joined.{at_lines, at_positions, owned_records}
 pub use Rattle.oxc_sourcemap_parts.specs.Record.{Text}
+pub use Rattle.oxc_sourcemap_sort.specs.Sorting.{sorted_map}
 pub use Rattle.oxc_sourcemap_remap.specs.Inputs.{owned_input_records}
 pub use Rattle.oxc_sourcemap_parts.specs.Sorted.{are_tokens_sorted}
 pub use Rattle.oxc_sourcemap_parts.specs.Views.{record_of_parts}
-pub use Rattle.oxc_sourcemap_tokens.specs.Results.{Gives, lent_items, lent_item}
+pub use Rattle.oxc_sourcemap_tokens.specs.Results.{Gives, OnlyMemory, lent_items}
+pub use Rattle.oxc_sourcemap_tokens.specs.Results.{lent_item}
+pub use Rattle.oxc_sourcemap_tokens.specs.declared.error.Error.{Error}
 pub use Rattle.oxc_sourcemap_tokens.specs.declared.error.Error.TheVariants.{OutOfMemory}
 pub use Rattle.oxc_sourcemap_tokens.specs.declared.plan_error.PlanError.TheVariants.{Map, Unsorted}
 pub use Rattle.oxc_sourcemap_tokens.specs.declared.position.Position.{Position}
@@ -24,6 +27,8 @@ pub use Rattle.oxc_sourcemap_plan.specs.PlanArguments.{parsed_path, parsed_list}
 pub use Rattle.oxc_sourcemap_plan.specs.PlanArguments.{parsed_input_part, parsed_remapping}
 pub use Rattle.oxc_sourcemap_plan.specs.PlanArguments.{parsed_text, parsed_sort, parsed_plan}
 pub use Rattle.oxc_sourcemap_plan.specs.PlanInputs.{inputs_of}
+pub use Rattle.oxc_sourcemap_plan.specs.PlanPlaces.{texts_of, IsPlaceOf, IsPlanPlace}
+pub use Rattle.oxc_sourcemap_plan.specs.PlanPlaces.{IsOfReading, IsTold, with_number}
 pub use Rattle.oxc_sourcemap_plan.specs.Realizes.{PartsRealize, FailsAs, AllRealize}
 pub use Rattle.oxc_sourcemap_plan.specs.Realizes.{InputsRealize}
 pub use Rattle.oxc_sourcemap_plan.specs.RunErrors.{out_of_memory, run_error_text, status_of}

@@ -11,9 +11,11 @@ ghost use Rattle.oxc_sourcemap_plan.specs.Words.{is_within_limits, InputsRealize
 ghost use Rattle.oxc_sourcemap_plan.specs.Words.{owned_input_records, IsEvaluated, HasOutcome};
 ghost use Rattle.oxc_sourcemap_plan.specs.Words.{IsErrorOf, PartsRealize, FailsAs, AllRealize};
 ghost use Rattle.oxc_sourcemap_plan.specs.Words.{OutOfMemory, said_in, are_tokens_sorted, Map};
-ghost use Rattle.oxc_sourcemap_plan.specs.Words.{Unsorted, record_of_parts, owned_records};
+ghost use Rattle.oxc_sourcemap_plan.specs.Words.{Unsorted, record_of_parts, owned_records, IsTold};
+ghost use Rattle.oxc_sourcemap_plan.specs.Words.{sorted_map};
 
-use oxc_sourcemap_decode::{decode_parts, decode_parts_from_string};
+use crate::fault::PlanFault;
+use oxc_sourcemap_decode::{decode_parts, read_parts_from_string};
 use oxc_sourcemap_encode::encode_owned_parts;
 use oxc_sourcemap_join::join_owned_parts;
 use oxc_sourcemap_laws::{
@@ -25,7 +27,7 @@ use oxc_sourcemap_parts::{SourceMapParts, apply_root, are_sorted};
 use oxc_sourcemap_remap::remap_owned_parts;
 use oxc_sourcemap_simplify::{simplify_parts, simplifying_harmless};
 use oxc_sourcemap_sort::sort_parts;
-use oxc_sourcemap_tokens::{PlanError, Position};
+use oxc_sourcemap_tokens::{Memory, PlanError, Position};
 use std::alloc::Global;
 
 /// What to do with maps, which are given as JSON texts borrowed for `'t`. Lines and columns count from 0; columns are in
@@ -122,27 +124,42 @@ fn check_sorted(map: SourceMapParts<'static>) -> Result<SourceMapParts<'static>,
     }
 }
 
+/// A map, sorted.
+fn sort(alloc: Global, map: SourceMapParts<'static>) -> Memory<SourceMapParts<'static>>
+    ensures { IfOk result (λ m. record_of_parts m ≡ sorted_map (record_of_parts map.entry)) }
+{
+    let mut map = map;
+    sort_parts(alloc, &mut map)?;
+    Ok(map)
+}
+
 /// The map of a JSON text, if it is sorted.
 #[inline(never)]
-fn read(alloc: Global, text: &str) -> Result<SourceMapParts<'static>, PlanError>
+fn read<'t>(alloc: Global, text: &'t str) -> Result<SourceMapParts<'static>, PlanFault<'t>>
     ensures map { IfOk result (λ map. PartsRealize map (read_outcome (said_in text.now))) }
-    ensures error { IfErr result (λ e. FailsAs e (read_outcome (said_in text.now))) }
+    ensures error { IfErr result (λ f. FailsAs f.error (read_outcome (said_in text.now))) }
+    ensures told { IfErr result (IsTold (read_outcome (said_in text.now)).is_within_limits) }
 {
     canonical_unique();
     dropping_harmless();
-    check_sorted(decode_parts_from_string(alloc, text)?)
+    match read_parts_from_string(alloc, text) {
+        Ok(map) => Ok(check_sorted(map)?),
+        Err(fault) => Err(PlanFault::of_text(text, fault)),
+    }
 }
 
 /// The map of a JSON text, sorted.
 #[inline(never)]
-fn read_sorted(alloc: Global, text: &str) -> Result<SourceMapParts<'static>, PlanError>
+fn read_sorted<'t>(alloc: Global, text: &'t str) -> Result<SourceMapParts<'static>, PlanFault<'t>>
     ensures map { IfOk result (λ map. PartsRealize map (sorted_outcome (said_in text.now))) }
-    ensures error { IfErr result (λ e. FailsAs e (sorted_outcome (said_in text.now))) }
+    ensures error { IfErr result (λ f. FailsAs f.error (sorted_outcome (said_in text.now))) }
+    ensures told { IfErr result (IsTold (sorted_outcome (said_in text.now)).is_within_limits) }
 {
     dropping_harmless();
-    let mut map = decode_parts_from_string(alloc, text)?;
-    sort_parts(alloc, &mut map)?;
-    Ok(map)
+    match read_parts_from_string(alloc, text) {
+        Ok(map) => Ok(sort(alloc, map)?),
+        Err(fault) => Err(PlanFault::of_text(text, fault)),
+    }
 }
 
 /// A map, written and read again.
@@ -249,9 +266,13 @@ fn remap(
 /// The stack has a frame for each level of a plan. To keep these small, each kind of part has a function of its own, and
 /// what those call is not inlined.
 #[cycle(evaluation)]
-fn evaluate_part(alloc: Global, plan: &Plan<'_>) -> Result<SourceMapParts<'static>, PlanError>
+fn evaluate_part<'t>(
+    alloc: Global,
+    plan: &Plan<'t>,
+) -> Result<SourceMapParts<'static>, PlanFault<'t>>
     ensures map { IfOk result (λ map. PartsRealize map (outcome_of plan.now)) }
-    ensures error { IfErr result (λ e. FailsAs e (outcome_of plan.now)) }
+    ensures error { IfErr result (λ f. FailsAs f.error (outcome_of plan.now)) }
+    ensures told { IfErr result (IsTold (outcome_of plan.now).is_within_limits) }
 {
     match plan {
         Plan::Read(text) => read(alloc, text),
@@ -269,50 +290,63 @@ fn evaluate_part(alloc: Global, plan: &Plan<'_>) -> Result<SourceMapParts<'stati
 /// The map of a part, written and read again.
 #[cycle(evaluation)]
 #[inline(never)]
-fn evaluate_rewrite(alloc: Global, part: &Plan<'_>) -> Result<SourceMapParts<'static>, PlanError>
+fn evaluate_rewrite<'t>(
+    alloc: Global,
+    part: &Plan<'t>,
+) -> Result<SourceMapParts<'static>, PlanFault<'t>>
     ensures map { IfOk result (λ map. PartsRealize map (rewrite_outcome (outcome_of part.now))) }
-    ensures error { IfErr result (λ e. FailsAs e (rewrite_outcome (outcome_of part.now))) }
+    ensures error { IfErr result (λ f. FailsAs f.error (rewrite_outcome (outcome_of part.now))) }
+    ensures told { IfErr result (IsTold (rewrite_outcome (outcome_of part.now)).is_within_limits) }
 {
     let map = evaluate_part(alloc, part)?;
-    rewrite(alloc, map)
+    Ok(rewrite(alloc, map)?)
 }
 
 /// The map of a part, with its source root before its sources.
 #[cycle(evaluation)]
 #[inline(never)]
-fn evaluate_root(alloc: Global, part: &Plan<'_>) -> Result<SourceMapParts<'static>, PlanError>
+fn evaluate_root<'t>(
+    alloc: Global,
+    part: &Plan<'t>,
+) -> Result<SourceMapParts<'static>, PlanFault<'t>>
     ensures map { IfOk result (λ map. PartsRealize map (root_outcome (outcome_of part.now))) }
-    ensures error { IfErr result (λ e. FailsAs e (root_outcome (outcome_of part.now))) }
+    ensures error { IfErr result (λ f. FailsAs f.error (root_outcome (outcome_of part.now))) }
+    ensures told { IfErr result (IsTold (root_outcome (outcome_of part.now)).is_within_limits) }
 {
     let map = evaluate_part(alloc, part)?;
-    put_root(alloc, map)
+    Ok(put_root(alloc, map)?)
 }
 
 /// The map of a part, simplified.
 #[cycle(evaluation)]
 #[inline(never)]
-fn evaluate_simplification(
+fn evaluate_simplification<'t>(
     alloc: Global,
-    part: &Plan<'_>,
-) -> Result<SourceMapParts<'static>, PlanError>
+    part: &Plan<'t>,
+) -> Result<SourceMapParts<'static>, PlanFault<'t>>
     ensures map { IfOk result (λ map. PartsRealize map
         (simplified_outcome (outcome_of part.now))) }
-    ensures error { IfErr result (λ e. FailsAs e (simplified_outcome (outcome_of part.now))) }
+    ensures error { IfErr result (λ f. FailsAs f.error (simplified_outcome (outcome_of part.now))) }
+    ensures told { IfErr result (IsTold
+        (simplified_outcome (outcome_of part.now)).is_within_limits) }
 {
     let map = evaluate_part(alloc, part)?;
-    simplify(alloc, map)
+    Ok(simplify(alloc, map)?)
 }
 
 /// The join of the maps of parts, each at its line.
 #[cycle(evaluation)]
 #[inline(never)]
-fn evaluate_join(
+fn evaluate_join<'t>(
     alloc: Global,
-    parts: &[(Plan<'_>, u32)],
-) -> Result<SourceMapParts<'static>, PlanError>
+    parts: &[(Plan<'t>, u32)],
+) -> Result<SourceMapParts<'static>, PlanFault<'t>>
     ensures map { IfOk result (λ map. PartsRealize map
         (join_outcome (outcomes (at_lines parts.now)))) }
-    ensures error { IfErr result (λ e. FailsAs e (join_outcome (outcomes (at_lines parts.now)))) }
+    ensures error { IfErr result (λ f. FailsAs f.error
+        (join_outcome (outcomes (at_lines parts.now)))) }
+    ensures told { IfErr result (IsTold
+        (join_outcome (outcomes (at_lines parts.now))).is_within_limits) }
 {
     let mut maps = Vec::new(alloc);
     for (part, line) in parts {
@@ -323,20 +357,22 @@ fn evaluate_join(
         };
         maps.push((map, position))?;
     }
-    join(alloc, maps)
+    Ok(join(alloc, maps)?)
 }
 
 /// The join of the maps of parts, each at its line and column.
 #[cycle(evaluation)]
 #[inline(never)]
-fn evaluate_join_at(
+fn evaluate_join_at<'t>(
     alloc: Global,
-    parts: &[(Plan<'_>, u32, u32)],
-) -> Result<SourceMapParts<'static>, PlanError>
+    parts: &[(Plan<'t>, u32, u32)],
+) -> Result<SourceMapParts<'static>, PlanFault<'t>>
     ensures map { IfOk result (λ map. PartsRealize map
         (join_outcome (outcomes (at_positions parts.now)))) }
-    ensures error { IfErr result (λ e. FailsAs e
+    ensures error { IfErr result (λ f. FailsAs f.error
         (join_outcome (outcomes (at_positions parts.now)))) }
+    ensures told { IfErr result (IsTold
+        (join_outcome (outcomes (at_positions parts.now))).is_within_limits) }
 {
     let mut maps = Vec::new(alloc);
     for (part, line, column) in parts {
@@ -347,41 +383,44 @@ fn evaluate_join_at(
         };
         maps.push((map, position))?;
     }
-    join(alloc, maps)
+    Ok(join(alloc, maps)?)
 }
 
 /// The composition of the maps of two parts.
 #[cycle(evaluation)]
 #[inline(never)]
-fn evaluate_composition(
+fn evaluate_composition<'t>(
     alloc: Global,
-    first: &Plan<'_>,
-    second: &Plan<'_>,
-) -> Result<SourceMapParts<'static>, PlanError>
+    first: &Plan<'t>,
+    second: &Plan<'t>,
+) -> Result<SourceMapParts<'static>, PlanFault<'t>>
     ensures map { IfOk result (λ map. PartsRealize map
         (composition_outcome (outcome_of first.now) (outcome_of second.now))) }
-    ensures error { IfErr result (λ e. FailsAs e
+    ensures error { IfErr result (λ f. FailsAs f.error
         (composition_outcome (outcome_of first.now) (outcome_of second.now))) }
+    ensures told { IfErr result (IsTold
+        (composition_outcome (outcome_of first.now) (outcome_of second.now)).is_within_limits) }
 {
-    compose(
-        alloc,
-        evaluate_part(alloc, first)?,
-        evaluate_part(alloc, second)?,
-    )
+    let first = evaluate_part(alloc, first)?;
+    let second = evaluate_part(alloc, second)?;
+    Ok(compose(alloc, first, second)?)
 }
 
 /// The map of the first part, led on through those of others.
 #[cycle(evaluation)]
 #[inline(never)]
-fn evaluate_remapping(
+fn evaluate_remapping<'t>(
     alloc: Global,
-    first: &Plan<'_>,
-    inputs: &[(&str, Plan<'_>)],
-) -> Result<SourceMapParts<'static>, PlanError>
+    first: &Plan<'t>,
+    inputs: &[(&'t str, Plan<'t>)],
+) -> Result<SourceMapParts<'static>, PlanFault<'t>>
     ensures map { IfOk result (λ map. PartsRealize map
         (remap_outcome (outcome_of first.now) (input_outcomes (by_path inputs.now)))) }
-    ensures error { IfErr result (λ e. FailsAs e
+    ensures error { IfErr result (λ f. FailsAs f.error
         (remap_outcome (outcome_of first.now) (input_outcomes (by_path inputs.now)))) }
+    ensures told { IfErr result (IsTold
+        (remap_outcome (outcome_of first.now)
+        (input_outcomes (by_path inputs.now))).is_within_limits) }
 {
     let map = evaluate_part(alloc, first)?;
     let mut maps = Vec::new(alloc);
@@ -389,10 +428,31 @@ fn evaluate_remapping(
         let input = evaluate_part(alloc, input)?;
         maps.push((*path, input))?;
     }
-    remap(alloc, map, maps)
+    Ok(remap(alloc, map, maps)?)
 }
 
-/// Evaluates a plan, as parts: `evaluate` of the crate `oxc_sourcemap` makes a map of these, and has the rules.
+/// Evaluates a plan, as parts, and tells the text that cannot be read, if the error is that of one. `evaluate` of the crate
+/// `oxc_sourcemap` makes a map of these parts, and has the rules.
+pub fn evaluate_where<'t>(
+    alloc: Global,
+    plan: &Plan<'t>,
+) -> Result<SourceMapParts<'static>, PlanFault<'t>>
+    ensures map { IfOk result (λ map. IsEvaluated (record_of_parts map) (meaning plan.now)) }
+    ensures error { IfErr result (λ f. (f.error ≡ Map OutOfMemory)
+        ⊎ IsErrorOf (meaning plan.now) (is_within_limits plan.now) f.error) }
+    ensures told { IfErr result (IsTold (is_within_limits plan.now)) }
+    ensures outcome { IfOk result (λ map. HasOutcome (record_of_parts map) (outcome plan.now)) }
+    ensures same_meaning { (outcome plan.now).meaning ≡ meaning plan.now }
+{
+    dropping_harmless();
+    canonical_unique();
+    if !is_within_depth(plan, 64) {
+        return Err(PlanFault::from(PlanError::TooDeep));
+    }
+    evaluate_part(alloc, plan)
+}
+
+/// Evaluates a plan, as parts: `evaluate_where` without the text at fault.
 pub fn evaluate_to_parts(
     alloc: Global,
     plan: &Plan<'_>,
@@ -403,10 +463,5 @@ pub fn evaluate_to_parts(
     ensures outcome { IfOk result (λ map. HasOutcome (record_of_parts map) (outcome plan.now)) }
     ensures same_meaning { (outcome plan.now).meaning ≡ meaning plan.now }
 {
-    dropping_harmless();
-    canonical_unique();
-    if !is_within_depth(plan, 64) {
-        return Err(PlanError::TooDeep);
-    }
-    evaluate_part(alloc, plan)
+    Ok(evaluate_where(alloc, plan)?)
 }

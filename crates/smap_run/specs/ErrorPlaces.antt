@@ -1,5 +1,5 @@
 -- Where the input of a command has the fault that its error tells.
-use Rattle.std.specs.Prelude.{◌≡◌, ℕ, List, Some, None, Err, slice_get}
+use Rattle.std.specs.Prelude.{◌≡◌, ◌≢◌, ℕ, List, Some, None, Err, IfSome, slice_get}
 use Rattle.oxc_sourcemap_tokens.specs.declared.error.Error.{Error}
 use Rattle.oxc_sourcemap_tokens.specs.declared.plan_error.PlanError.TheVariants.{Map}
 use Rattle.oxc_sourcemap_parts.specs.Record.{Text}
@@ -12,7 +12,9 @@ use Rattle.oxc_sourcemap_tokens.specs.Places.{place_in}
 use Rattle.oxc_sourcemap_plan.specs.declared.run_error.RunError.{RunError}
 use Rattle.oxc_sourcemap_plan.specs.declared.run_error.RunError.TheVariants.{Plan}
 use Rattle.oxc_sourcemap_plan.specs.PlanInputs.{inputs_of}
-use Rattle.oxc_sourcemap_plan_places.specs.PlanPlaces.{IsTextPlace, IsNumberPlace}
+use Rattle.oxc_sourcemap_plan.specs.RunErrors.{out_of_memory}
+use Rattle.oxc_sourcemap_plan.specs.PlanPlaces.{IsTextPlace, IsNumberPlace}
+use Rattle.smap_run.specs.declared.failure.Failure.{Failure}
 use Rattle.smap_run.specs.Request.{Request, Mappings, Normalise, Plan as PlanOf, Trace, Url}
 use Rattle.smap_run.specs.Answer.{without_line_feed}
 
@@ -36,3 +38,7 @@ IsPlaceIn (PlanOf arguments) text error place = IsInputPlace (inputs_of text) er
 -- the place of an error of the program: that of a call on a text
 abbrev pub IsPlaceFor : Request → Text → RunError → FaultPlace → Type 0
 IsPlaceFor request text e place = (error : Error) × (e ≡ Plan (Map error)) × IsPlaceIn request text error place
+
+-- The place of a failure, unless it is want of memory, is such a one for the error of a call, if there is one.
+abbrev pub IsPlacedBy : (Error → FaultPlace → Type 0) → Failure → Type 0
+IsPlacedBy These f = (f.error ≢ out_of_memory) → IfSome f.place (λ place. (e : Error) × (f.error ≡ Plan (Map e)) × These e place)

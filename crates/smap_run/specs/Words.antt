@@ -16,7 +16,7 @@ pub use Rattle.oxc_sourcemap_tokens.specs.Results.{Answers, OnlyMemory, Pushes, 
 pub use Rattle.oxc_sourcemap_tokens.specs.Results.{lent_items}
 pub use Rattle.smap_run.specs.Answer.{without_line_feed, mappings_answer, normalised}
 pub use Rattle.smap_run.specs.Answer.{normalised_url, IsPlanAnswer, IsPlanError, IsAnswer}
-pub use Rattle.smap_run.specs.Answer.{FailsWith, IsInput, AppendsBeginning}
+pub use Rattle.smap_run.specs.Answer.{FailsWith, IsInput, AppendsBeginning, of_map, of_plan}
 pub use Rattle.smap_run.specs.Arguments.{two_numbers, without_arguments, parsed_command, command_of}
 pub use Rattle.smap_run.specs.Flags.{read_flag, write_flag}
 pub use Rattle.smap_run.specs.Request.{request_of}
@@ -24,4 +24,7 @@ pub use Rattle.smap_run.specs.Traced.{number_part, name_part, original_text, tra
 pub use Rattle.smap_run.specs.Traced.{traced}
 pub use Rattle.smap_run.specs.Arguments.{taken_where}
 pub use Rattle.smap_run.specs.ErrorPlaces.{IsMappingsPlace, IsInputPlace, IsPlaceFor}
-pub use Rattle.oxc_sourcemap_plan_places.specs.PlanPlaces.{IsPlaceOf, IsTextPlace}
+pub use Rattle.smap_run.specs.ErrorPlaces.{IsPlaceIn, IsPlacedBy}
+pub use Rattle.oxc_sourcemap_plan.specs.PlanPlaces.{IsTextPlace, TellsText}
+pub use Rattle.oxc_sourcemap_plan.specs.declared.run_error.RunError.TheVariants.{Plan}
+pub use Rattle.oxc_sourcemap_tokens.specs.declared.error.Error.{Error}

@@ -1,26 +1,28 @@
 //! Running a command over a reader and a writer.
 ghost use Rattle.std.specs.Prelude.{◌≡◌, ◌≢◌, ◌≤◌, ◌<◌, ◌++◌, ◌∷◌, [], ℕ, take, true, false, ◌↔◌};
-ghost use Rattle.std.specs.Prelude.{IfOk, OnOk, OnErr, IfErr, IfSome, List, None, Ok, Err, IsErrOf};
-ghost use Rattle.std.specs.Prelude.{◌⊎◌, IsUtf8, string_bytes, map};
+ghost use Rattle.std.specs.Prelude.{IfOk, OnOk, OnErr, IfErr, IfSome, List, None, Some, Ok, Err};
+ghost use Rattle.std.specs.Prelude.{◌⊎◌, IsErrOf, IsUtf8, string_bytes, map, slice_get};
 ghost use Rattle.std.specs.Vec.{vec_len};
 ghost use Rattle.std.specs.Io.KnownBytes.{Appends, Keeps};
-ghost use Rattle.smap_run.specs.Words.{out_of_memory, without_line_feed};
+ghost use Rattle.smap_run.specs.Words.{out_of_memory, without_line_feed, OutOfMemory, Map, Error};
 ghost use Rattle.smap_run.specs.Words.{mappings_answer, normalised, normalised_url, IsPlanAnswer};
 ghost use Rattle.smap_run.specs.Words.{IsPlanError, IsAnswer, FailsWith, AppendsBeginning};
-ghost use Rattle.smap_run.specs.Words.{reading, inputs_of, IsInput};
-ghost use Rattle.smap_run.specs.Words.{parsed_plan, request_of, Answers, map_text};
-ghost use Rattle.smap_run.specs.Words.{record_of_parts};
+ghost use Rattle.smap_run.specs.Words.{reading, inputs_of, IsInput, of_map, of_plan, traced};
+ghost use Rattle.smap_run.specs.Words.{parsed_plan, request_of, Answers, map_text, lent_items};
+ghost use Rattle.smap_run.specs.Words.{record_of_parts, IsPlacedBy, IsMappingsPlace, IsTextPlace};
+ghost use Rattle.smap_run.specs.Words.{IsInputPlace, IsPlaceIn, TellsText, Plan};
 
 use crate::arguments::Command;
+use crate::failure::Failure;
 use crate::port::Port;
-use crate::tracing::trace;
-use oxc_sourcemap_decode::decode_parts_from_string;
+use crate::tracing::trace_in;
+use oxc_sourcemap_decode::read_parts_from_string;
 use oxc_sourcemap_encode::{encode_parts_into, encode_parts_to_data_url};
 use oxc_sourcemap_laws::canonical_unique;
-use oxc_sourcemap_mappings::{decode_mappings, encode_mappings};
+use oxc_sourcemap_mappings::{encode_mappings, read_mappings};
 use oxc_sourcemap_parts::SourceMapParts;
-use oxc_sourcemap_plan::{RunError, evaluate_to_parts, inputs_of, read_plan};
-use oxc_sourcemap_tokens::Error;
+use oxc_sourcemap_plan::{PlanFault, RunError, evaluate_where, inputs_of, read_plan};
+use oxc_sourcemap_tokens::{Error, FaultPlace};
 use std::alloc::{AllocError, Global};
 use std::io::{Read, Write};
 
@@ -64,7 +66,7 @@ pub(crate) fn read_all<R: Read>(alloc: Global, reader: &mut Port<R>) -> Result<V
 }
 
 /// Writes all of the bytes, by a loop over `write`.
-fn write_all<W: Write>(bytes: &[u8], writer: &mut Port<W>) -> Result<(), RunError>
+pub(crate) fn write_all<W: Write>(bytes: &[u8], writer: &mut Port<W>) -> Result<(), RunError>
     ensures ok { OnOk result (Appends (W.contents writer.old.inner)
         (W.contents writer.new.inner) bytes.now) }
     ensures flag { writer.old.failed ≡ false → IsErrOf result RunError.Write ↔
@@ -92,13 +94,14 @@ pub(crate) fn without_last_line_feed(text: &str) -> &str
 }
 
 /// The canonical text of a mappings text.
-fn rewrite_mappings(alloc: Global, text: &str, names: u32, sources: u32) -> Result<String, RunError>
+fn rewrite_mappings(alloc: Global, text: &str, names: u32, sources: u32) -> Result<String, Failure>
     ensures text { IfOk result (λ out. mappings_answer (reading text.now names sources)
         ≡ Ok (string_bytes out)) }
-    ensures error { IfErr result (λ e. (e ≢ out_of_memory)
-        → mappings_answer (reading text.now names sources) ≡ Err e) }
+    ensures error { IfErr result (λ f. (f.error ≢ out_of_memory)
+        → mappings_answer (reading text.now names sources) ≡ Err f.error) }
+    ensures place { IfErr result (IsPlacedBy (λ _. IsMappingsPlace text.now names sources)) }
 {
-    let tokens = decode_mappings(alloc, text, names as usize, sources as usize)?;
+    let tokens = read_mappings(alloc, text, names as usize, sources as usize)?;
     let mut out = String::new(alloc);
     encode_mappings(tokens.as_slice(), None, &mut out)?;
     Ok(out)
@@ -114,49 +117,109 @@ fn write_over(mut text: String, map: &SourceMapParts<'_>) -> Result<String, Erro
 }
 
 /// The JSON text of the map of a JSON text, of which the map borrows nothing.
-fn normalise(alloc: Global, text: String) -> Result<String, Error>
-    ensures { Answers string_bytes result (normalised (string_bytes text)) }
+fn normalise(alloc: Global, text: String) -> Result<String, Failure>
+    ensures text { IfOk result (λ out. normalised (string_bytes text) ≡ Ok (string_bytes out)) }
+    ensures error { IfErr result (λ f. (f.error ≢ out_of_memory)
+        → of_map (normalised (string_bytes text)) ≡ Err f.error) }
+    ensures place { IfErr result (IsPlacedBy (λ _. IsTextPlace (string_bytes text))) }
 {
-    let map = decode_parts_from_string(alloc, text.as_str())?;
-    write_over(text, &map)
+    let map = read_parts_from_string(alloc, text.as_str())?;
+    Ok(write_over(text, &map)?)
 }
 
 /// The data URL of the map of a JSON text.
-fn data_url(alloc: Global, text: &str) -> Result<String, Error>
-    ensures { Answers string_bytes result (normalised_url text.now) }
+fn data_url(alloc: Global, text: &str) -> Result<String, Failure>
+    ensures text { IfOk result (λ out. normalised_url text.now ≡ Ok (string_bytes out)) }
+    ensures error { IfErr result (λ f. (f.error ≢ out_of_memory)
+        → of_map (normalised_url text.now) ≡ Err f.error) }
+    ensures place { IfErr result (IsPlacedBy (λ _. IsTextPlace text.now)) }
 {
-    let map = decode_parts_from_string(alloc, text)?;
-    encode_parts_to_data_url(alloc, &map)
+    let map = read_parts_from_string(alloc, text)?;
+    Ok(encode_parts_to_data_url(alloc, &map)?)
+}
+
+/// The text of `trace` for the map of a JSON text.
+fn trace_text(alloc: Global, text: &str, line: u32, col: u32) -> Result<String, Failure>
+    ensures text { IfOk result (λ out. traced text.now line col ≡ Ok (string_bytes out)) }
+    ensures error { IfErr result (λ f. (f.error ≢ out_of_memory)
+        → of_plan (traced text.now line col) ≡ Err f.error) }
+    ensures place { IfErr result (IsPlacedBy (λ _. IsTextPlace text.now)) }
+{
+    let map = read_parts_from_string(alloc, text)?;
+    Ok(trace_in(alloc, &map, line, col)?)
+}
+
+/// The number of the first input with this text.
+fn input_number(inputs: &[&str], text: &str) -> Option<usize>
+    ensures { IfSome result (λ k. slice_get (lent_items inputs.now) k ≡ Some text.now) }
+{
+    for k in 0..inputs.len() {
+        if inputs[k] == text {
+            return Some(k);
+        }
+    }
+    None
+}
+
+/// The place in an input of the fault of a plan. None if it comes from no text.
+fn input_place(inputs: &[&str], fault: &PlanFault<'_>) -> Option<FaultPlace>
+    ensures { TellsText fault.now → IfSome result (λ place. (e : Error)
+        × (fault.now.error ≡ Map e) × IsInputPlace (lent_items inputs.now) e place) }
+{
+    let (text, place) = fault.at?;
+    Some(place.in_text(input_number(inputs, text)?))
+}
+
+/// Why the plan over these inputs fails.
+fn plan_failure(inputs: &[&str], fault: &PlanFault<'_>) -> Failure
+    requires told { (fault.now.error ≢ Map OutOfMemory) → TellsText fault.now }
+    ensures error { result.error ≡ Plan fault.now.error }
+    ensures place { IsPlacedBy (IsInputPlace (lent_items inputs.now)) result }
+{
+    Failure {
+        error: RunError::Plan(fault.error),
+        place: input_place(inputs, fault),
+        reason: None,
+    }
 }
 
 /// The JSON text of the map of the plan of these arguments, over the maps of an input. The parts of the plan borrow from it,
 /// the map of the plan does not.
-fn plan_text(alloc: Global, input: String, arguments: &[String]) -> Result<String, RunError>
+fn plan_text(alloc: Global, input: String, arguments: &[String]) -> Result<String, Failure>
     ensures text { let texts = inputs_of (string_bytes input) in
         IfOk result (λ out. IsPlanAnswer (parsed_plan texts (map string_bytes arguments.now))
         (string_bytes out)) }
     ensures error { let texts = inputs_of (string_bytes input) in
-        IfErr result (λ e. (e ≢ out_of_memory)
-        → IsPlanError (parsed_plan texts (map string_bytes arguments.now)) e) }
+        IfErr result (λ f. (f.error ≢ out_of_memory)
+        → IsPlanError (parsed_plan texts (map string_bytes arguments.now)) f.error) }
+    ensures place { IfErr result (IsPlacedBy (IsInputPlace (inputs_of (string_bytes input)))) }
 {
     canonical_unique();
     let map = {
         let inputs = inputs_of(alloc, input.as_str())?;
         let plan = read_plan(alloc, inputs.as_slice(), arguments)?;
-        evaluate_to_parts(alloc, &plan)?
+        match evaluate_where(alloc, &plan) {
+            Ok(map) => map,
+            Err(fault) => return Err(plan_failure(inputs.as_slice(), &fault)),
+        }
     };
     Ok(write_over(input, &map)?)
 }
 
-/// The answer of a command to an input, without its line feed.
-fn answer(alloc: Global, command: &Command<'_>, input: Vec<u8>) -> Result<String, RunError>
+/// The answer of a command to an input, without its line feed; or its error, and where the input has the fault.
+pub(crate) fn answer(
+    alloc: Global,
+    command: &Command<'_>,
+    input: Vec<u8>,
+) -> Result<String, Failure>
     ensures text { IfOk result (λ out. IsUtf8 input.items
         × IsAnswer (request_of command.now) input.items (string_bytes out)) }
-    ensures error { IfErr result (λ e. (e ≢ out_of_memory)
-        → FailsWith (request_of command.now) input.items e) }
+    ensures error { IfErr result (λ f. (f.error ≢ out_of_memory)
+        → FailsWith (request_of command.now) input.items f.error) }
+    ensures place { IfErr result (IsPlacedBy (IsPlaceIn (request_of command.now) input.items)) }
 {
     let Ok(text) = String::from_utf8(input) else {
-        return Err(RunError::Utf8);
+        return Err(Failure::from(RunError::Utf8));
     };
     match command {
         Command::Mappings(names, sources) => {
@@ -167,10 +230,10 @@ fn answer(alloc: Global, command: &Command<'_>, input: Vec<u8>) -> Result<String
                 *sources,
             )
         }
-        Command::Normalise => Ok(normalise(alloc, text)?),
+        Command::Normalise => normalise(alloc, text),
         Command::Plan(arguments) => plan_text(alloc, text, arguments),
-        Command::Trace(line, col) => Ok(trace(alloc, text.as_str(), *line, *col)?),
-        Command::Url => Ok(data_url(alloc, text.as_str())?),
+        Command::Trace(line, col) => trace_text(alloc, text.as_str(), *line, *col),
+        Command::Url => data_url(alloc, text.as_str()),
     }
 }
 

@@ -109,7 +109,7 @@ fn token_at(
 }
 
 /// The text of the trace of a map at a generated position.
-fn trace_in(
+pub(crate) fn trace_in(
     alloc: Global,
     map: &SourceMapParts<'_>,
     line: u32,

@@ -21,20 +21,20 @@ returns-in_err-out-clause-error g c =
 
 pub returns-in_err-out-clause-begun : goal.returns-in_err-out-clause-begun
 returns-in_err-out-clause-begun g c = λ w.
-    let fails = not_of_port (request_of c.args.command.now) c.in_ok-input.input.items c.in_err-out.field-0.0 c.in_err-out.ensures.error in
-    absurd (not_this_error c.from_residual-in_err-out.result c.in_err-out.field-0.0 Write c.from_residual-in_err-out.ensures.1 fails refl w)
+    let fails = not_of_port (request_of c.args.command.now) c.in_ok-input.input.items c.in_err-out.field-0.0.error c.in_err-out.ensures.error in
+    absurd (not_this_error c.from_residual-in_err-out.result c.in_err-out.field-0.0.error Write c.from_residual-in_err-out.ensures.1 fails refl w)
 
 pub returns-in_err-out-clause-read : goal.returns-in_err-out-clause-read
 returns-in_err-out-clause-read g c = λ f.
-    let fails = not_of_port (request_of c.args.command.now) c.in_ok-input.input.items c.in_err-out.field-0.0 c.in_err-out.ensures.error in (
-      λ r. absurd (not_this_error c.from_residual-in_err-out.result c.in_err-out.field-0.0 Read c.from_residual-in_err-out.ensures.1 fails refl r),
+    let fails = not_of_port (request_of c.args.command.now) c.in_ok-input.input.items c.in_err-out.field-0.0.error c.in_err-out.ensures.error in (
+      λ r. absurd (not_this_error c.from_residual-in_err-out.result c.in_err-out.field-0.0.error Read c.from_residual-in_err-out.ensures.1 fails refl r),
       λ t. let read = (c.in_ok-input.ensures.flag f).1 t in absurd (cc (read)),
     )
 
 pub returns-in_err-out-clause-write : goal.returns-in_err-out-clause-write
 returns-in_err-out-clause-write g c = λ f.
-    let fails = not_of_port (request_of c.args.command.now) c.in_ok-input.input.items c.in_err-out.field-0.0 c.in_err-out.ensures.error in (
-      λ w. absurd (not_this_error c.from_residual-in_err-out.result c.in_err-out.field-0.0 Write c.from_residual-in_err-out.ensures.1 fails refl w),
+    let fails = not_of_port (request_of c.args.command.now) c.in_ok-input.input.items c.in_err-out.field-0.0.error c.in_err-out.ensures.error in (
+      λ w. absurd (not_this_error c.from_residual-in_err-out.result c.in_err-out.field-0.0.error Write c.from_residual-in_err-out.ensures.1 fails refl w),
       λ t. absurd (cc (f, t)),
     )
 

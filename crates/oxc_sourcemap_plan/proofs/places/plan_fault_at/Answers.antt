@@ -2,9 +2,9 @@ use Rattle.std.proofs.Common.{◌≡◌, ap, sym, ◌∙◌, Err}
 use Rattle.std.proofs.lemmas.Result.{IfOk-weaker}
 use Rattle.oxc_sourcemap_tokens.specs.Results.{lent_items}
 use Rattle.oxc_sourcemap_plan.proofs.Realizing.{join_laws}
-use Rattle.oxc_sourcemap_plan_places.specs.PlanPlaces.{texts_of}
-use Rattle.oxc_sourcemap_plan_places.proofs.Meant.{place_of_meant}
-use Rattle.oxc_sourcemap_plan_places.proofs.plan_fault.plan_fault_at.Goals as goal
+use Rattle.oxc_sourcemap_plan.specs.PlanPlaces.{texts_of}
+use Rattle.oxc_sourcemap_plan.proofs.Meant.{place_of_meant}
+use Rattle.oxc_sourcemap_plan.proofs.places.plan_fault_at.Goals as goal
 
 pub returns-in_ok-texts-in-Map-clause-meant : goal.returns-in_ok-texts-in-Map-clause-meant
 returns-in_ok-texts-in-Map-clause-meant c =

@@ -1,8 +1,8 @@
 use Rattle.std.proofs.Common.{◌≡◌, ◌++◌, drop}
 use Rattle.std.specs.List.{flat_map}
 use Rattle.oxc_sourcemap_tokens.specs.Results.{lent_items}
-use Rattle.oxc_sourcemap_plan_places.specs.PlanPlaces.{texts_of}
-use Rattle.oxc_sourcemap_plan_places.proofs.collecting.+push_texts.Given as goal
+use Rattle.oxc_sourcemap_plan.specs.PlanPlaces.{texts_of}
+use Rattle.oxc_sourcemap_plan.proofs.collecting.+push_texts.Given as goal
 
 abbrev pub decreases-push_texts : goal.decreases-push_texts
 decreases-push_texts l = goal.size-push_texts l

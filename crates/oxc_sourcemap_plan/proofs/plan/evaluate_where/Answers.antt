@@ -1,9 +1,9 @@
 use Rattle.std.proofs.Common.{refl}
 use Rattle.std.proofs.lemmas.Result.{IfOk-weaker, IfErr-weaker}
 use Rattle.oxc_sourcemap_parts.specs.Views.{record_of_parts}
-use Rattle.oxc_sourcemap_plan.proofs.Answering.{evaluated, with_outcome, failed}
+use Rattle.oxc_sourcemap_plan.proofs.Answering.{evaluated, with_outcome, failed, told}
 use Rattle.oxc_sourcemap_plan.proofs.Meanings.{same_meaning}
-use Rattle.oxc_sourcemap_plan.proofs.plan.evaluate_to_parts.Goals as goal
+use Rattle.oxc_sourcemap_plan.proofs.plan.evaluate_where.Goals as goal
 
 pub returns-clause-map : goal.returns-clause-map
 returns-clause-map c =
@@ -19,7 +19,11 @@ returns-clause-outcome c =
 
 pub returns-clause-error : goal.returns-clause-error
 returns-clause-error c =
-    IfErr-weaker c.evaluate_part.result _ _ (λ e f. failed c.args.plan.now e (c.is_within_depth.ensures.0 c.if-not-is_within_depth.false) f) c.evaluate_part.ensures.error
+    IfErr-weaker c.evaluate_part.result _ _ (λ f h. failed c.args.plan.now f.error (c.is_within_depth.ensures.0 c.if-not-is_within_depth.false) h) c.evaluate_part.ensures.error
 
 pub returns-clause-same_meaning : goal.returns-clause-same_meaning
 returns-clause-same_meaning c = same_meaning c.args.plan.now
+
+pub returns-clause-told : goal.returns-clause-told
+returns-clause-told c =
+    IfErr-weaker c.evaluate_part.result _ _ (λ f h. told c.args.plan.now f (c.is_within_depth.ensures.0 c.if-not-is_within_depth.false) h) c.evaluate_part.ensures.told

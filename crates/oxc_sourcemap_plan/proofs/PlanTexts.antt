@@ -18,7 +18,7 @@ use Rattle.oxc_sourcemap_plan.specs.declared.plan.Plan.TheVariants.{rolls-Remap,
 use Rattle.oxc_sourcemap_plan.specs.declared.plan.Plan.TheVariants.{rolls-Simplify}
 use Rattle.oxc_sourcemap_plan.specs.declared.plan.Plan.TheOpen.{Plan-F}
 use Rattle.oxc_sourcemap_plan.specs.declared.plan.Plan.TheFolds.{fold-roll-Plan}
-use Rattle.oxc_sourcemap_plan_places.specs.PlanPlaces.{texts_of, texts_step}
+use Rattle.oxc_sourcemap_plan.specs.PlanPlaces.{texts_of, texts_step}
 
 firsts : {B : Type 0} (parts : List (Plan × B)) → flat_map (λ (p : List Text × B). p.0) (map (λ (p : Plan × B). (texts_of p.0, p.1)) parts) ≡ flat_map (λ p. texts_of p.0) parts
 firsts [] = refl

@@ -1,44 +1,48 @@
 //! Where a plan has its first fault, if that is one of a text.
-ghost use Rattle.std.specs.Prelude.{◌≡◌, true, IfOk, IsErr, IsSome, IsSomeAnd, Err};
-ghost use Rattle.oxc_sourcemap_plan_places.specs.Words.{lent_items, texts_of, read_map};
-ghost use Rattle.oxc_sourcemap_plan_places.specs.Words.{IsPlaceOf, IsPlanPlace, IsNumberPlace};
-ghost use Rattle.oxc_sourcemap_plan_places.specs.Words.{OnlyMemory, is_within_limits, meaning};
-ghost use Rattle.oxc_sourcemap_plan_places.specs.Words.{Error, Map, IsOfReading};
+ghost use Rattle.std.specs.Prelude.{◌≡◌, ◌≢◌, ◌⊎◌, true, IfOk, IsSome, None, Err, option_map};
+ghost use Rattle.oxc_sourcemap_plan.specs.Words.{lent_items, texts_of, IsPlaceOf, IsPlanPlace};
+ghost use Rattle.oxc_sourcemap_plan.specs.Words.{OnlyMemory, OutOfMemory, is_within_limits};
+ghost use Rattle.oxc_sourcemap_plan.specs.Words.{Error, Map, IsOfReading, with_number, meaning};
 
 use crate::collecting::plan_texts;
-use oxc_sourcemap_decode::decode_parts_from_string;
+use crate::plan::Plan;
+use oxc_sourcemap_decode::read_parts_from_string;
 use oxc_sourcemap_laws::dropping_harmless;
-use oxc_sourcemap_places::json_fault_at;
-use oxc_sourcemap_plan::Plan;
-use oxc_sourcemap_tokens::{Error, FaultPlace, PlanError, Result};
+use oxc_sourcemap_tokens::{Error, Fault, FaultPlace, PlanError, Result};
 use std::alloc::Global;
 
-/// The place of the first fault of a text that cannot be read, with its number.
-fn number_place(alloc: Global, k: usize, text: &str) -> Result<Option<FaultPlace>>
-    requires unread { IsErr (read_map text.now) }
-    ensures place { IfOk result (λ place. IsSomeAnd place (IsNumberPlace k text.now)) }
-    ensures error { OnlyMemory result }
+/// The place of the fault of the text with this number.
+fn numbered(fault: Fault, k: usize) -> Option<FaultPlace>
+    ensures { result ≡ option_map (with_number k) fault.place }
 {
-    match json_fault_at(alloc, text)? {
-        Some(place) => Ok(Some(place.in_text(k))),
-        None => Ok(None),
-    }
+    Some(fault.place?.in_text(k))
 }
 
-/// The first fault of the first of these texts that cannot be read, if `decode_from_string` fails with this error for it; its
-/// number is the index of that text. None if all can be read, or the first that cannot has another error.
-///
-/// Fails only with `OutOfMemory`.
-pub fn texts_fault_at(alloc: Global, texts: &[&str], error: Error) -> Result<Option<FaultPlace>>
+/// The place of the fault of the text with this number, if its error is this one. Fails only with `OutOfMemory`.
+fn place_if(fault: Fault, error: Error, k: usize) -> Result<Option<FaultPlace>>
+    ensures place { IfOk result (λ place. (fault.error ≢ OutOfMemory)
+        × (((fault.error ≡ error) × (place ≡ option_map (with_number k) fault.place))
+        ⊎ ((fault.error ≢ error) × (place ≡ None)))) }
+    ensures error { OnlyMemory result }
+{
+    if fault.error == Error::OutOfMemory {
+        return Err(Error::OutOfMemory);
+    }
+    if fault.error != error {
+        return Ok(None);
+    }
+    Ok(numbered(fault, k))
+}
+
+/// The first fault of the first of these texts that cannot be read, if its error is this one; its number is the index of that text.
+/// None if all can be read, or the first that cannot has another error. Fails only with `OutOfMemory`.
+fn texts_fault_at(alloc: Global, texts: &[&str], error: Error) -> Result<Option<FaultPlace>>
     ensures place { IfOk result (λ place. IsPlaceOf (lent_items texts.now) error place) }
     ensures error { OnlyMemory result }
 {
     for (k, text) in texts.iter().enumerate() {
-        match decode_parts_from_string(alloc, text) {
-            Ok(_) => {}
-            Err(Error::OutOfMemory) => return Err(Error::OutOfMemory),
-            Err(found) if found == error => return number_place(alloc, k, text),
-            Err(_) => return Ok(None),
+        if let Err(fault) = read_parts_from_string(alloc, text) {
+            return place_if(fault, error, k);
         }
     }
     Ok(None)

@@ -1,8 +1,8 @@
 //! The texts of a plan.
 ghost use Rattle.std.specs.Prelude.{◌≡◌, ◌++◌, OnOk, IfOk};
-ghost use Rattle.oxc_sourcemap_plan_places.specs.Words.{lent_items, texts_of};
+ghost use Rattle.oxc_sourcemap_plan.specs.Words.{lent_items, texts_of};
 
-use oxc_sourcemap_plan::Plan;
+use crate::plan::Plan;
 use oxc_sourcemap_tokens::Memory;
 use std::alloc::Global;
 
@@ -44,7 +44,7 @@ fn push_texts<'t>(plan: &Plan<'t>, texts: &mut Vec<&'t str>) -> Memory<()>
 }
 
 /// The texts of a plan, in the order in which it is evaluated: that of its words. A text that is read twice is there twice.
-pub fn plan_texts<'t>(alloc: Global, plan: &Plan<'t>) -> Memory<Vec<&'t str>>
+pub(crate) fn plan_texts<'t>(alloc: Global, plan: &Plan<'t>) -> Memory<Vec<&'t str>>
     ensures { IfOk result (λ texts. lent_items texts.items ≡ texts_of plan.now) }
 {
     let mut texts = Vec::new(alloc);

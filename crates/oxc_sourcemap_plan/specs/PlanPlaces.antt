@@ -1,18 +1,20 @@
 -- Where a plan has its first fault, if that is one of a text.
 use Rattle.std.specs.Prelude.{◌≡◌, ◌≢◌, ℕ, ◌+◌, List, [], ◌∷◌, ◌++◌, Option, Some, None}
-use Rattle.std.specs.Prelude.{Result}
+use Rattle.std.specs.Prelude.{Result, Bool, true}
 use Rattle.std.specs.Prelude.{Ok, Err, IfSome, IsSomeAnd, ⊤}
 use Rattle.std.specs.List.{flat_map}
 use Rattle.serde_json.specs.Data.{Data}
 use Rattle.serde_json.specs.Read.{read}
 use Rattle.oxc_sourcemap_tokens.specs.declared.error.Error.{Error}
 use Rattle.oxc_sourcemap_tokens.specs.declared.error.Error.TheVariants.{SeveralSources}
+use Rattle.oxc_sourcemap_tokens.specs.declared.error.Error.TheVariants.{OutOfMemory}
 use Rattle.oxc_sourcemap_tokens.specs.declared.plan_error.PlanError.{PlanError}
 use Rattle.oxc_sourcemap_tokens.specs.declared.plan_error.PlanError.TheVariants.{Map}
 use Rattle.oxc_sourcemap_parts.specs.Record.{Text, MapRecord}
 use Rattle.oxc_sourcemap_decode.specs.ReadMap.{read_map}
 use Rattle.oxc_sourcemap_tokens.specs.declared.fault.FaultPlace.{FaultPlace}
 use Rattle.oxc_sourcemap_decode.specs.ValuePlaces.{value_place, IsReading}
+use Rattle.oxc_sourcemap_plan.specs.declared.fault.PlanFault.{PlanFault}
 use Rattle.oxc_sourcemap_plan.specs.declared.plan.Plan.{Plan}
 use Rattle.oxc_sourcemap_plan.specs.declared.plan.Plan.TheOpen.{Plan-F}
 use Rattle.oxc_sourcemap_plan.specs.declared.plan.Plan.TheFolds.{fold-Plan}
@@ -56,9 +58,13 @@ first_unread texts = unread_from 0 texts
 abbrev pub IsTextPlace : Text → FaultPlace → Type 0
 IsTextPlace text place = ((d : Data) → read text ≡ Some d → value_place d ≡ Some place) × (read text ≡ None → IsReading place)
 
+-- a place, with the number of the text
+abbrev pub with_number : ℕ → FaultPlace → FaultPlace
+with_number k place = record place { text = Some k }
+
 -- such a place, with the number of the text
 abbrev pub IsNumberPlace : ℕ → Text → FaultPlace → Type 0
-IsNumberPlace k text place = (p : FaultPlace) × IsTextPlace text p × (place ≡ record p { text = Some k })
+IsNumberPlace k text place = (p : FaultPlace) × IsTextPlace text p × (place ≡ with_number k p)
 
 -- The place of this error of texts: in the first that cannot be read, if its error is this one. There is none if that is another
 -- one, or all can be read.
@@ -75,3 +81,21 @@ IsPlanPlace texts error (Some place) = (e : Error) × (error ≡ Map e) × IsPla
 abbrev pub IsOfReading : Error → Type 0
 IsOfReading (SeveralSources n) = ⊥
 IsOfReading e = ⊤
+
+-- ---- the fault of an evaluation
+-- this text cannot be read, which is the error, and has its first fault at this place
+abbrev pub IsTextFault : PlanError → Text → FaultPlace → Type 0
+IsTextFault error text place = (e : Error) × (error ≡ Map e) × (read_map text ≡ Err e) × IsTextPlace text place
+
+-- a fault tells the text that it comes from
+abbrev pub TellsText : PlanFault → Type 0
+TellsText f = IfSome f.at (λ at. IsTextFault f.error at.0.now at.1)
+
+-- an error that comes from no text: none that reading can have, unless a part passes a limit
+abbrev pub IsOfNoText : Bool → PlanError → Type 0
+IsOfNoText is_within_limits error = is_within_limits ≡ true → (e : Error) → error ≡ Map e → ¬ (IsOfReading e)
+
+-- A fault, unless it is want of memory, tells the text that it comes from, or comes from none.
+abbrev pub IsTold : Bool → PlanFault → Type 0
+IsTold is_within_limits f =
+    (f.error ≢ Map OutOfMemory) → TellsText f × (f.at ≡ None → IsOfNoText is_within_limits f.error)

@@ -47,9 +47,9 @@ use Rattle.oxc_sourcemap_plan.proofs.Realizing.{JoinLaws}
 use Rattle.oxc_sourcemap_plan.proofs.Reading.{not-within}
 use Rattle.oxc_sourcemap_plan.proofs.Meanings.{agrees}
 use Rattle.oxc_sourcemap_tokens.specs.declared.fault.FaultPlace.{FaultPlace}
-use Rattle.oxc_sourcemap_plan_places.specs.PlanPlaces.{IsOfReading, texts_of, texts_step, Unread}
-use Rattle.oxc_sourcemap_plan_places.specs.PlanPlaces.{unread_from, first_unread, IsPlaceOf}
-use Rattle.oxc_sourcemap_plan_places.proofs.Unread.{unread-more, unread-here}
+use Rattle.oxc_sourcemap_plan.specs.PlanPlaces.{IsOfReading, texts_of, texts_step, Unread}
+use Rattle.oxc_sourcemap_plan.specs.PlanPlaces.{unread_from, first_unread, IsPlaceOf}
+use Rattle.oxc_sourcemap_plan.proofs.Unread.{unread-more, unread-here}
 
 -- ---- texts in front of others
 -- all of these can be read

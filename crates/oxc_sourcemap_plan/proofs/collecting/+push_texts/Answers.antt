@@ -4,10 +4,10 @@ use Rattle.std.proofs.lemmas.Result.{IfOk-weaker}
 use Rattle.std.specs.List.{flat_map}
 use Rattle.oxc_sourcemap_tokens.specs.Results.{lent_items}
 use Rattle.oxc_sourcemap_plan.specs.declared.plan.Plan.{Plan}
-use Rattle.oxc_sourcemap_plan_places.specs.PlanPlaces.{texts_of}
-use Rattle.oxc_sourcemap_plan_places.proofs.Texts.{texts_join, texts_join_at, texts_compose}
-use Rattle.oxc_sourcemap_plan_places.proofs.Texts.{texts_remap, pushed}
-use Rattle.oxc_sourcemap_plan_places.proofs.collecting.+push_texts.Goals as goal
+use Rattle.oxc_sourcemap_plan.specs.PlanPlaces.{texts_of}
+use Rattle.oxc_sourcemap_plan.proofs.PlanTexts.{texts_join, texts_join_at, texts_compose}
+use Rattle.oxc_sourcemap_plan.proofs.PlanTexts.{texts_remap, pushed}
+use Rattle.oxc_sourcemap_plan.proofs.collecting.+push_texts.Goals as goal
 
 pub returns-after-loop-part : goal.returns-after-loop-part
 returns-after-loop-part t c =

@@ -1,4 +1,0 @@
-pub mod Texts
-pub mod Unread
-pub mod Meant
-mod Worked

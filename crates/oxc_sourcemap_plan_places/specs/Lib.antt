@@ -1,2 +1,0 @@
-pub mod PlanPlaces
-pub mod Words

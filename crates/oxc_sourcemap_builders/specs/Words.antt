@@ -1,6 +1,6 @@
 -- The words of this crate's clauses, from one place.
-pub use Rattle.oxc_sourcemap_join.specs.Joined.{at_line, at_lines, added, nothing_joined, joined}
-pub use Rattle.oxc_sourcemap_join.specs.Joined.{lent_maps, IsWithinLimits, position}
+pub use Rattle.oxc_sourcemap_join.specs.Joined.{at_line, at_lines, nothing_joined, joined}
+pub use Rattle.oxc_sourcemap_join.specs.Joined.{lent_maps, IsWithinLimits, position, IsAdded}
 pub use Rattle.oxc_sourcemap_parts.specs.Texts.{index_of}
 pub use Rattle.oxc_sourcemap_parts.specs.Views.{texts_of, contents_of, text_of, record_of_parts}
 pub use Rattle.oxc_sourcemap_tokens.specs.Chunks.{ChunksFit}

@@ -9,5 +9,7 @@ pub use Rattle.oxc_sourcemap_tokens.specs.Token.{kept_id}
 pub use Rattle.oxc_sourcemap_tokens.specs.declared.error.Error.TheVariants.{OutOfMemory, TooLarge}
 pub use Rattle.oxc_sourcemap_builders.specs.Building.{with_name, with_name_at, with_another_source}
 pub use Rattle.oxc_sourcemap_builders.specs.Building.{with_path, with_path_at, with_bare_path}
+pub use Rattle.oxc_sourcemap_builders.specs.Building.{HasNoIdForName, HasNoIdForSource}
+pub use Rattle.oxc_sourcemap_builders.specs.Building.{HasNoIdForPath, GivesId}
 pub use Rattle.oxc_sourcemap_builders.specs.Built.{nothing_built}
 pub use Rattle.oxc_sourcemap_builders.specs.NameLaws.{EqualIdsForEqualNames}

@@ -33,7 +33,7 @@ pub record FindsClamped (m : MapRecord) (table : List (List TokenRecord)) (line 
 -- map's own table it points to the trace of the decoded map.
 pub record Sees (m : MapRecord) (table : List (List TokenRecord)) (line col : ℕ) (view : Option SourceViewToken) : Type 0 where
   pub found : no_column_goes_back token_column (slice_of table line) ≡ true
-    → option_map view_of view ≡ option_map (seen_in m) (at token_column (slice_of table line) col)
+      → option_map view_of view ≡ option_map (seen_in m) (at token_column (slice_of table line) col)
   pub among : IfSome view (λ v. ((view_of v).map ≡ m) × Contains (slice_of table line) (view_of v).token)
   pub own_table : IfOwnTable m.tokens table (option_map view_of view ≡ option_map (seen_in m) (token_for m.tokens line col))
   pub traced : IfOwnTable m.tokens table (option_map view_original (option_map view_of view) ≡ trace (decoded_map_of m) line col)
@@ -41,7 +41,7 @@ pub record Sees (m : MapRecord) (table : List (List TokenRecord)) (line col : �
 -- The clamped lookup finds the view of a token in a map, or none, as `Sees` has it; none only on a line without tokens.
 pub record SeesClamped (m : MapRecord) (table : List (List TokenRecord)) (line col : ℕ) (view : Option SourceViewToken) : Type 0 where
   pub found : no_column_goes_back token_column (slice_of table line) ≡ true
-    → option_map view_of view ≡ option_map (seen_in m) (clamped_at token_column (slice_of table line) col)
+      → option_map view_of view ≡ option_map (seen_in m) (clamped_at token_column (slice_of table line) col)
   pub among : IfSome view (λ v. ((view_of v).map ≡ m) × Contains (slice_of table line) (view_of v).token)
   pub own_table : IfOwnTable m.tokens table (option_map view_of view ≡ option_map (seen_in m) (clamped_token_for m.tokens line col))
   pub traced : IfOwnTable m.tokens table (option_map view_original (option_map view_of view) ≡ clamped_trace (decoded_map_of m) line col)

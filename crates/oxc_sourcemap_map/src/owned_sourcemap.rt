@@ -4,18 +4,17 @@ ghost use Rattle.oxc_sourcemap_map.specs.Words.{record_of_parts, empty_record, a
 ghost use Rattle.oxc_sourcemap_map.specs.Words.{token_column, IsSound, decoded_map_of, decoded};
 ghost use Rattle.oxc_sourcemap_map.specs.Words.{json_fault, encoded, read_map, read_decoded_map};
 ghost use Rattle.oxc_sourcemap_map.specs.Words.{map_text, map_url, at, table_fault, line_table};
-ghost use Rattle.oxc_sourcemap_map.specs.Words.{token_for, clamped_token_for, composition};
-ghost use Rattle.oxc_sourcemap_map.specs.Words.{composition_fault, SomeComposition};
-ghost use Rattle.oxc_sourcemap_map.specs.Words.{NoColumnGoesBack, view_of, seen_in, content_at};
-ghost use Rattle.oxc_sourcemap_map.specs.Words.{source_and_content_at, the_row, map_row, Answers};
-ghost use Rattle.oxc_sourcemap_map.specs.Words.{OnlyMemory, Reports, lent_items, lent_item};
-ghost use Rattle.oxc_sourcemap_map.specs.Words.{appended, rooted, at_or_after, token_after};
-ghost use Rattle.oxc_sourcemap_map.specs.Words.{index_for, clamped_index_for, index_after};
-ghost use Rattle.oxc_sourcemap_map.specs.Words.{sorted_map, place, pieces_of, DoCover, Map};
-ghost use Rattle.oxc_sourcemap_map.specs.Words.{Unsorted, simplification, IfBothSorted};
+ghost use Rattle.oxc_sourcemap_map.specs.Words.{token_for, clamped_token_for, view_of, seen_in};
+ghost use Rattle.oxc_sourcemap_map.specs.Words.{content_at, source_and_content_at, the_row};
+ghost use Rattle.oxc_sourcemap_map.specs.Words.{map_row, Answers, OnlyMemory, Reports, lent_items};
+ghost use Rattle.oxc_sourcemap_map.specs.Words.{lent_item, appended, rooted, at_or_after};
+ghost use Rattle.oxc_sourcemap_map.specs.Words.{token_after, index_for, clamped_index_for};
+ghost use Rattle.oxc_sourcemap_map.specs.Words.{index_after, sorted_map, place, pieces_of, DoCover};
+ghost use Rattle.oxc_sourcemap_map.specs.Words.{Map, Unsorted, simplification, IfBothSorted};
 ghost use Rattle.oxc_sourcemap_map.specs.Words.{HaveSameTraceEverywhere, IsFirstDifference};
 ghost use Rattle.oxc_sourcemap_map.specs.Words.{early_fault, map_text_within, map_url_within};
 ghost use Rattle.oxc_sourcemap_map.specs.Words.{Finds, FindsClamped, Sees, SeesClamped, FindsIndex};
+ghost use Rattle.oxc_sourcemap_map.specs.Words.{Composes, IsChanged};
 ghost use Rattle.std.specs.Prelude.{IsOk, ◌≡◌, ◌≢◌, List, [], map, option_map, slice_get};
 ghost use Rattle.std.specs.Prelude.{string_bytes, IfOk, IfErr, IfSome, IsNone, Ok, Err, Some, OnOk};
 ghost use Rattle.std.specs.Prelude.{OnErr, ◌↔◌, true, false};
@@ -183,14 +182,7 @@ impl OwnedSourceMap {
     /// Composes this map, from generated to intermediate code, with `input`, from there to original code, as
     /// `SourceMap::compose` does, and fails as that does; both maps are then dropped.
     pub fn compose(self, alloc: Global, input: OwnedSourceMap) -> Result<OwnedSourceMap>
-        ensures map { NoColumnGoesBack input.tokens
-            → IfOk result (λ map. composition self input ≡ Ok map) }
-        ensures error { NoColumnGoesBack input.tokens
-            → IfErr result (λ e. (e ≢ OutOfMemory) → composition self input ≡ Err e) }
-        ensures any_map { IfOk result (λ map. SomeComposition self input (Ok map)) }
-        ensures any_error { IfErr result (λ e. (e ≢ OutOfMemory)
-            → SomeComposition self input (Err e)) }
-        ensures fault { Reports (composition_fault self input) result }
+        ensures { Composes self input result }
     {
         Ok(OwnedSourceMap::new(self.inner.compose(alloc, input.inner)?))
     }
@@ -205,9 +197,8 @@ impl OwnedSourceMap {
     /// Sets the name of the generated file to a copy of this string. Fails only with `OutOfMemory`; the map is then as it
     /// was.
     pub fn set_file(&mut self, alloc: Global, file: &str) -> Result<()>
-        ensures set { OnOk result (self.new ≡ record self.old { file = Some file.now }) }
-        ensures error { OnlyMemory result }
-        ensures unchanged { OnErr result (self.new ≡ self.old) }
+        ensures { IsChanged result self.old self.new
+            (record self.old { file = Some file.now }) }
     {
         self.inner.set_file(alloc, file)
     }
@@ -223,10 +214,8 @@ impl OwnedSourceMap {
     /// Sets the source root to a copy of this string. Sources stay as they are. Fails only with `OutOfMemory`; the map is then
     /// as it was.
     pub fn set_source_root(&mut self, alloc: Global, source_root: &str) -> Result<()>
-        ensures set { OnOk result (self.new
-            ≡ record self.old { source_root = Some source_root.now }) }
-        ensures error { OnlyMemory result }
-        ensures unchanged { OnErr result (self.new ≡ self.old) }
+        ensures { IsChanged result self.old self.new
+            (record self.old { source_root = Some source_root.now }) }
     {
         self.inner.set_source_root(alloc, source_root)
     }
@@ -237,9 +226,7 @@ impl OwnedSourceMap {
     ///
     /// Fails only with `OutOfMemory`; the map is then as it was.
     pub fn apply_source_root(&mut self, alloc: Global) -> Result<()>
-        ensures rooted { OnOk result (self.new ≡ rooted self.old) }
-        ensures error { OnlyMemory result }
-        ensures unchanged { OnErr result (self.new ≡ self.old) }
+        ensures { IsChanged result self.old self.new (rooted self.old) }
     {
         self.inner.apply_source_root(alloc)
     }
@@ -291,9 +278,8 @@ impl OwnedSourceMap {
 
     /// Sets the debug id to a copy of this string. Fails only with `OutOfMemory`; the map is then as it was.
     pub fn set_debug_id(&mut self, alloc: Global, debug_id: &str) -> Result<()>
-        ensures set { OnOk result (self.new ≡ record self.old { debug_id = Some debug_id.now }) }
-        ensures error { OnlyMemory result }
-        ensures unchanged { OnErr result (self.new ≡ self.old) }
+        ensures { IsChanged result self.old self.new
+            (record self.old { debug_id = Some debug_id.now }) }
     {
         self.inner.set_debug_id(alloc, debug_id)
     }
@@ -347,11 +333,9 @@ impl OwnedSourceMap {
         alloc: Global,
         source_contents: Vec<Option<&str>>,
     ) -> Result<()>
-        ensures set { let contents = map (option_map
+        ensures { let contents = map (option_map
             (λ content. content.now)) source_contents.entry.items in
-            OnOk result (self.new ≡ record self.old { source_contents = contents }) }
-        ensures error { OnlyMemory result }
-        ensures unchanged { OnErr result (self.new ≡ self.old) }
+            IsChanged result self.old self.new (record self.old { source_contents = contents }) }
     {
         self.inner.set_source_contents(alloc, source_contents)
     }

@@ -9,6 +9,6 @@ returns c = record {
   among = search rules;
   own_table = search rules;
   traced = λ sorted own.
-    ap (option_map view_original) (c.view_token.ensures ∙ ap (option_map (seen_in c.args.self.now)) (c.lookup_token.ensures.own_table sorted own))
-    ∙ traced c.args.self.now c.args.line c.args.col;
+      ap (option_map view_original) (c.view_token.ensures ∙ ap (option_map (seen_in c.args.self.now)) (c.lookup_token.ensures.own_table sorted own))
+      ∙ traced c.args.self.now c.args.line c.args.col;
 }

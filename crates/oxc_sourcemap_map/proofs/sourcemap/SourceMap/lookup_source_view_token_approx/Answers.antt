@@ -9,7 +9,7 @@ returns c = record {
   among = search rules;
   own_table = search rules;
   traced = λ sorted own.
-    ap (option_map view_original) (c.view_token.ensures ∙ ap (option_map (seen_in c.args.self.now)) (c.lookup_token_approx.ensures.own_table sorted own))
-    ∙ clamped_traced c.args.self.now c.args.line c.args.col;
+      ap (option_map view_original) (c.view_token.ensures ∙ ap (option_map (seen_in c.args.self.now)) (c.lookup_token_approx.ensures.own_table sorted own))
+      ∙ clamped_traced c.args.self.now c.args.line c.args.col;
   clamped = search rules;
 }

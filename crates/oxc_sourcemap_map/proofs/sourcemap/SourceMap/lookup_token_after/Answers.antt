@@ -9,5 +9,5 @@ returns c = record {
   found = search rules;
   among = search rules;
   own_table = own_table (λ tokens. at_or_after token_column tokens c.args.col) _ c.args.line c.args.self.now.tokens _
-    (rw c.slice_of.ensures at c.search_after.ensures.found);
+      (rw c.slice_of.ensures at c.search_after.ensures.found);
 }

@@ -9,6 +9,6 @@ returns c = record {
   found = search rules;
   among = search rules;
   own_table = own_table (λ tokens. clamped_at token_column tokens c.args.col) _ c.args.line c.args.self.now.tokens _
-    (rw c.slice_of.ensures at c.search_clamped.ensures.found);
+      (rw c.slice_of.ensures at c.search_clamped.ensures.found);
   clamped = search rules;
 }

@@ -291,8 +291,8 @@ impl<'a> SourceMapBuilder<'a> {
     /// Fails with `TooLarge` if the new id would be 4294967295, then with `OutOfMemory` for want of memory; the builder
     /// is then as it was.
     pub fn set_source_and_content(&mut self, path: &'a str, content: &'a str) -> Result<u32>
-        ensures { GivesId result self.old self.new (with_another_source self.old path.now content.now)
-            (HasNoIdForSource self.old) }
+        ensures { GivesId result self.old self.new
+            (with_another_source self.old path.now content.now) (HasNoIdForSource self.old) }
     {
         let last = next_id(self.sources.len())?;
         push_source(
@@ -306,8 +306,8 @@ impl<'a> SourceMapBuilder<'a> {
 
     /// As `set_source_and_content`, but the path and the content are copied.
     pub fn set_source_and_content_copied(&mut self, path: &str, content: &str) -> Result<u32>
-        ensures { GivesId result self.old self.new (with_another_source self.old path.now content.now)
-            (HasNoIdForSource self.old) }
+        ensures { GivesId result self.old self.new
+            (with_another_source self.old path.now content.now) (HasNoIdForSource self.old) }
     {
         let new_id = next_id(self.sources.len())?;
         let path = owned_text(self.alloc, path)?;

@@ -10,8 +10,9 @@ use Rattle.oxc_sourcemap_lookup.specs.Composed.{NoColumnGoesBack}
 use Rattle.oxc_sourcemap_remap.specs.Inputs.{inputs_fault, NoInputColumnGoesBack}
 use Rattle.oxc_sourcemap_remap.specs.Remapped.{remapping, SomeRemapping}
 
--- What the composition of a map with an input gives: the composed map or its error, exactly, if no column of the input goes back
--- on a line, else some of those that are open there; or `OutOfMemory`. A fault of the two maps is reported even without memory.
+-- What a composition of a map with an input gives: the composed map, or its error, or `OutOfMemory`. Where a column of the input
+-- goes back on a line it is open which tokens are found there, so it is some composition. A fault of the two maps is reported
+-- even without memory.
 pub record Composes (m input : MapRecord) (result : Result MapRecord Error) : Type 0 where
   pub map : NoColumnGoesBack input.tokens → IfOk result (λ made. composition m input ≡ Ok made)
   pub error : NoColumnGoesBack input.tokens → IfErr result (λ e. (e ≢ OutOfMemory) → composition m input ≡ Err e)

@@ -1,5 +1,5 @@
--- What the lookups of a position in a table find, as tokens of a map, as views of them, and as their indices. Each word has what
--- holds of the own table of a map with sorted tokens and, but for indices, what holds of any table.
+-- What the lookups of a position in a table find, as tokens of a map, as views of them, and as their indices. Each word says what
+-- is found in a map's own table, if its tokens are sorted, and what in any table.
 use Rattle.std.specs.Prelude.{◌≡◌, ◌<◌, ℕ, true, List, [], length, slice_get, Option, IsNone}
 use Rattle.std.specs.List.{Contains}
 use Rattle.std.specs.Option.{IfSome, option_map, option_and_then}
@@ -13,23 +13,22 @@ use Rattle.oxc_sourcemap_lookup.specs.Trace.{trace, clamped_trace}
 use Rattle.oxc_sourcemap_map.specs.View.{view_of, seen_in, view_original}
 use Rattle.oxc_sourcemap_map.specs.declared.source_view_token.SourceViewToken.{SourceViewToken}
 
--- A lookup in a table finds this token or none, by a rule for the tokens of one line, and by the same rule for all tokens of a
--- map: on a line where no column goes back the token of the rule, on any line one of its tokens, if any; and in the map's own
--- table the token of the map.
+-- What a lookup finds: where no column goes back on the line, the token that a rule has for the line, or none; on any line one of
+-- its tokens, or none; and in the map's own table the token that the rule has for the map, or none.
 pub record Finds (on_line : List TokenRecord → ℕ → Option TokenRecord) (in_map : List TokenRecord → ℕ → ℕ → Option TokenRecord)
     (m : MapRecord) (table : List (List TokenRecord)) (line col : ℕ) (token : Option TokenRecord) : Type 0 where
   pub found : no_column_goes_back token_column (slice_of table line) ≡ true → token ≡ on_line (slice_of table line) col
   pub among : IfSome token (Contains (slice_of table line))
   pub own_table : IfOwnTable m.tokens table (token ≡ in_map m.tokens line col)
 
--- The clamped lookup finds this token or none, as `Finds` has it; none only on a line without tokens.
+-- What the clamped lookup finds, as `Finds` has it; none only on a line without tokens.
 pub record FindsClamped (m : MapRecord) (table : List (List TokenRecord)) (line col : ℕ) (token : Option TokenRecord) : Type 0 where
   pub found : no_column_goes_back token_column (slice_of table line) ≡ true → token ≡ clamped_at token_column (slice_of table line) col
   pub among : IfSome token (Contains (slice_of table line))
   pub own_table : IfOwnTable m.tokens table (token ≡ clamped_token_for m.tokens line col)
   pub clamped : IsNone token → slice_of table line ≡ []
 
--- The lookup finds the view of a token in a map, or none: it is a view of this map, of the token that `Finds` has, and in the
+-- What the lookup finds as a view of a map: a view of this map and of a token that is found as `Finds` has it, or none. In the
 -- map's own table it points to the trace of the decoded map.
 pub record Sees (m : MapRecord) (table : List (List TokenRecord)) (line col : ℕ) (view : Option SourceViewToken) : Type 0 where
   pub found : no_column_goes_back token_column (slice_of table line) ≡ true
@@ -38,7 +37,7 @@ pub record Sees (m : MapRecord) (table : List (List TokenRecord)) (line col : �
   pub own_table : IfOwnTable m.tokens table (option_map view_of view ≡ option_map (seen_in m) (token_for m.tokens line col))
   pub traced : IfOwnTable m.tokens table (option_map view_original (option_map view_of view) ≡ trace (decoded_map_of m) line col)
 
--- The clamped lookup finds the view of a token in a map, or none, as `Sees` has it; none only on a line without tokens.
+-- What the clamped lookup finds as a view of a map, as `Sees` has it; none only on a line without tokens.
 pub record SeesClamped (m : MapRecord) (table : List (List TokenRecord)) (line col : ℕ) (view : Option SourceViewToken) : Type 0 where
   pub found : no_column_goes_back token_column (slice_of table line) ≡ true
       → option_map view_of view ≡ option_map (seen_in m) (clamped_at token_column (slice_of table line) col)
@@ -47,8 +46,8 @@ pub record SeesClamped (m : MapRecord) (table : List (List TokenRecord)) (line c
   pub traced : IfOwnTable m.tokens table (option_map view_original (option_map view_of view) ≡ clamped_trace (decoded_map_of m) line col)
   pub clamped : IsNone view → slice_of table line ≡ []
 
--- A lookup finds this index or none, by the rule for the index and by that for the token: in the map's own table both hold, and
--- in any table the index is that of some token of the map.
+-- What a lookup finds as an index in a map: in the map's own table the index that a rule has for the map, and there the token that
+-- the lookup of tokens finds, or none; in any table the index of some token of the map, or none.
 pub record FindsIndex (index_in : List TokenRecord → ℕ → ℕ → Option ℕ) (token_in : List TokenRecord → ℕ → ℕ → Option TokenRecord)
     (m : MapRecord) (table : List (List TokenRecord)) (line col : ℕ) (index : Option ℕ) : Type 0 where
   pub own_table : IfOwnTable m.tokens table (index ≡ index_in m.tokens line col)

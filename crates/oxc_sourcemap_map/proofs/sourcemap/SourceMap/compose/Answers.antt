@@ -18,13 +18,11 @@ returns-in_err-parts c =
     }
 
 pub returns : goal.returns
-returns c =
-    let any : SomeComposition c.args.self c.args.input (Ok c.from_parts.result) =
-    rw c.from_parts.ensures (of_equals _ c.args.self _ c.args.input _ c.self.view_is c.input.view_is c.in_ok-parts.ensures.any_map) in
-    record {
-      map = λ g. exact c.args.self c.args.input _ g any;
-      error = search rules;
-      any_map = any;
-      any_error = search rules;
-      fault = search rules;
-    }
+returns c = record {
+  map = λ g. exact c.args.self c.args.input (Ok c.from_parts.result) g
+      (rw c.from_parts.ensures (of_equals _ c.args.self _ c.args.input _ c.self.view_is c.input.view_is c.in_ok-parts.ensures.any_map));
+  error = search rules;
+  any_map = rw c.from_parts.ensures (of_equals _ c.args.self _ c.args.input _ c.self.view_is c.input.view_is c.in_ok-parts.ensures.any_map);
+  any_error = search rules;
+  fault = search rules;
+}

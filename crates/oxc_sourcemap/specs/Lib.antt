@@ -63,6 +63,9 @@ pub use Rattle.oxc_sourcemap_simplify.specs.Simple
 pub use Rattle.oxc_sourcemap_simplify.specs.Simplified
 pub use Rattle.oxc_sourcemap_simplify.specs.SimplifyLaws
 pub use Rattle.oxc_sourcemap_map.specs.View
+pub use Rattle.oxc_sourcemap_map.specs.Lookups
+pub use Rattle.oxc_sourcemap_map.specs.Changes
+pub use Rattle.oxc_sourcemap_map.specs.Composing
 pub use Rattle.oxc_sourcemap_reverse.specs.Reverse
 pub use Rattle.oxc_sourcemap_reverse.specs.ReverseLaws
 pub use Rattle.oxc_sourcemap_builders.specs.Built

@@ -1,6 +1,9 @@
 -- A builder after a call, and the id that the call returns.
-use Rattle.std.specs.Prelude.{ℕ, [], ◌∷◌, ◌++◌, length, Option, Some, None}
+use Rattle.std.specs.Prelude.{ℕ, [], ◌∷◌, ◌++◌, ◌≤◌, length, Option, Some, None, IsNone}
+use Rattle.std.specs.Prelude.{◌≡◌, ◌↔◌, ◌⊎◌, Result, IsErrOf, IfOk, IfErr, OnErr}
 use Rattle.std.specs.FinMap as fin
+use Rattle.oxc_sourcemap_tokens.specs.declared.error.Error.{Error}
+use Rattle.oxc_sourcemap_tokens.specs.declared.error.Error.TheVariants.{OutOfMemory, TooLarge}
 use Rattle.oxc_sourcemap_parts.specs.Record.{Text, MapRecord}
 use Rattle.oxc_sourcemap_parts.specs.Texts.{index_of}
 use Rattle.oxc_sourcemap_builders.specs.Built.{Built}
@@ -39,3 +42,23 @@ with_path b path content = with_path_at b path (Some content) (fin.get b.given p
 -- the same of a source without a content
 abbrev pub with_bare_path : Built → Text → Built × ℕ
 with_bare_path b path = with_path_at b path None (fin.get b.given path)
+
+-- a builder has no id for a name: there is no equal name, and one more name would be too many
+abbrev pub HasNoIdForName : Built → Text → Type 0
+HasNoIdForName b name = IsNone (index_of name b.map.names) × (4294967295 ≤ length b.map.names)
+
+-- a builder has no id for one more source
+abbrev pub HasNoIdForSource : Built → Type 0
+HasNoIdForSource b = 4294967295 ≤ length b.map.sources
+
+-- a builder has no id for a source by its path: the path was given none, and one more source would be too many
+abbrev pub HasNoIdForPath : Built → Text → Type 0
+HasNoIdForPath b path = IsNone (fin.get b.given path) × HasNoIdForSource b
+
+-- What an add of a name or a source to a builder gives: at Ok the builder with it and its id; `TooLarge` exactly if the builder has
+-- no id for it, and no error but that and `OutOfMemory`; at an error the builder as it was.
+pub record GivesId (result : Result ℕ Error) (old new : Built) (with_id : Built × ℕ) (HasNoId : Type 0) : Type 0 where
+  pub added : IfOk result (λ id. (new, id) ≡ with_id)
+  pub too_large : IsErrOf result TooLarge ↔ HasNoId
+  pub error : IfErr result (λ e. (e ≡ OutOfMemory) ⊎ (e ≡ TooLarge))
+  pub unchanged : OnErr result (new ≡ old)

@@ -1,7 +1,7 @@
 //! Joining maps into one.
-ghost use Rattle.std.specs.Prelude.{◌≡◌, ◌↔◌, ◌⊎◌, IfSome, IfOk, IfErr, IsErrOf, OnOk, OnErr};
+ghost use Rattle.std.specs.Prelude.{◌≡◌, ◌⊎◌, IfSome, IfOk, IfErr};
 ghost use Rattle.oxc_sourcemap_builders.specs.Words.{OutOfMemory, TooLarge, ChunksFit, at_line};
-ghost use Rattle.oxc_sourcemap_builders.specs.Words.{at_lines, added, nothing_joined, joined};
+ghost use Rattle.oxc_sourcemap_builders.specs.Words.{at_lines, nothing_joined, joined, IsAdded};
 ghost use Rattle.oxc_sourcemap_builders.specs.Words.{lent_maps, IsWithinLimits, position};
 ghost use Rattle.oxc_sourcemap_builders.specs.Words.{OnlyMemory, record_of_parts};
 
@@ -81,14 +81,7 @@ impl<'a> ConcatSourceMapBuilder<'a> {
     /// Appends a map, without its source root (`apply_source_root`, called before, keeps it), whose code begins at line
     /// `line_offset` (from 0) and column 0 of the joined code, as `add_sourcemap_at` does, and fails as that does.
     pub fn add_sourcemap(&mut self, sourcemap: &'a SourceMap<'_>, line_offset: u32) -> Result<()>
-        ensures joined { OnOk result (self.new
-            ≡ added self.old sourcemap.now (at_line line_offset)) }
-        ensures limits { OnOk result (IsWithinLimits
-            (added self.old sourcemap.now (at_line line_offset))) }
-        ensures too_large { IsErrOf result TooLarge ↔ ¬
-            (IsWithinLimits (added self.old sourcemap.now (at_line line_offset))) }
-        ensures error { IfErr result (λ e. (e ≡ OutOfMemory) ⊎ (e ≡ TooLarge)) }
-        ensures unchanged { OnErr result (self.new ≡ self.old) }
+        ensures { IsAdded result self.old self.new sourcemap.now (at_line line_offset) }
     {
         self.add_sourcemap_at(sourcemap, line_offset, 0)
     }
@@ -114,14 +107,7 @@ impl<'a> ConcatSourceMapBuilder<'a> {
         line: u32,
         column: u32,
     ) -> Result<()>
-        ensures joined { OnOk result (self.new
-            ≡ added self.old sourcemap.now (position line column)) }
-        ensures limits { OnOk result (IsWithinLimits
-            (added self.old sourcemap.now (position line column))) }
-        ensures too_large { IsErrOf result TooLarge ↔ ¬
-            (IsWithinLimits (added self.old sourcemap.now (position line column))) }
-        ensures error { IfErr result (λ e. (e ≡ OutOfMemory) ⊎ (e ≡ TooLarge)) }
-        ensures unchanged { OnErr result (self.new ≡ self.old) }
+        ensures { IsAdded result self.old self.new sourcemap.now (position line column) }
     {
         self.parts
             .add_lent(parts_of(sourcemap), Position { line, column })
@@ -131,14 +117,7 @@ impl<'a> ConcatSourceMapBuilder<'a> {
     /// it, its source root as well (`apply_source_root`, called before, keeps it). Fails as that does; the builder is then as
     /// it was, and the map is dropped.
     pub fn add_sourcemap_owned(&mut self, sourcemap: SourceMap<'a>, line_offset: u32) -> Result<()>
-        ensures joined { OnOk result (self.new
-            ≡ added self.old sourcemap.entry (at_line line_offset)) }
-        ensures limits { OnOk result (IsWithinLimits
-            (added self.old sourcemap.entry (at_line line_offset))) }
-        ensures too_large { IsErrOf result TooLarge ↔ ¬
-            (IsWithinLimits (added self.old sourcemap.entry (at_line line_offset))) }
-        ensures error { IfErr result (λ e. (e ≡ OutOfMemory) ⊎ (e ≡ TooLarge)) }
-        ensures unchanged { OnErr result (self.new ≡ self.old) }
+        ensures { IsAdded result self.old self.new sourcemap.entry (at_line line_offset) }
     {
         self.add_sourcemap_owned_at(sourcemap, line_offset, 0)
     }
@@ -152,14 +131,7 @@ impl<'a> ConcatSourceMapBuilder<'a> {
         line: u32,
         column: u32,
     ) -> Result<()>
-        ensures joined { OnOk result (self.new
-            ≡ added self.old sourcemap.entry (position line column)) }
-        ensures limits { OnOk result (IsWithinLimits
-            (added self.old sourcemap.entry (position line column))) }
-        ensures too_large { IsErrOf result TooLarge ↔ ¬
-            (IsWithinLimits (added self.old sourcemap.entry (position line column))) }
-        ensures error { IfErr result (λ e. (e ≡ OutOfMemory) ⊎ (e ≡ TooLarge)) }
-        ensures unchanged { OnErr result (self.new ≡ self.old) }
+        ensures { IsAdded result self.old self.new sourcemap.entry (position line column) }
     {
         self.parts
             .add_moved(sourcemap.into_parts(), Position { line, column })
@@ -186,14 +158,7 @@ impl<'a> ConcatSourceMapBuilder<'a> {
         line: u32,
         column: u32,
     ) -> Result<()>
-        ensures joined { OnOk result (self.new
-            ≡ added self.old sourcemap.now (position line column)) }
-        ensures limits { OnOk result (IsWithinLimits
-            (added self.old sourcemap.now (position line column))) }
-        ensures too_large { IsErrOf result TooLarge ↔ ¬
-            (IsWithinLimits (added self.old sourcemap.now (position line column))) }
-        ensures error { IfErr result (λ e. (e ≡ OutOfMemory) ⊎ (e ≡ TooLarge)) }
-        ensures unchanged { OnErr result (self.new ≡ self.old) }
+        ensures { IsAdded result self.old self.new sourcemap.now (position line column) }
     {
         self.parts
             .add_copied(parts_of(sourcemap), Position { line, column })

@@ -1,13 +1,13 @@
 //! Building a map call by call.
-ghost use Rattle.std.specs.Prelude.{◌≡◌, ◌↔◌, ◌≤◌, ◌<◌, ◌++◌, ◌∷◌, ◌⊎◌, [], length, Some, None};
-ghost use Rattle.std.specs.Prelude.{IsNone, IfOk, IfErr, IsErrOf, OnOk, OnErr};
+ghost use Rattle.std.specs.Prelude.{◌≡◌, ◌↔◌, ◌≤◌, ◌<◌, ◌++◌, ◌∷◌, [], length, Some, None};
+ghost use Rattle.std.specs.Prelude.{IfOk, IfErr, IsErrOf, OnOk, OnErr};
 ghost use Rattle.std.specs.Cow.{cow_str_bytes};
-ghost use Rattle.std.specs.FinMap as fin;
-ghost use Rattle.oxc_sourcemap_builders.specs.Words.{OutOfMemory, TooLarge, kept_id, texts_of};
-ghost use Rattle.oxc_sourcemap_builders.specs.Words.{contents_of, index_of, nothing_built};
-ghost use Rattle.oxc_sourcemap_builders.specs.Words.{with_name, with_name_at, with_another_source};
-ghost use Rattle.oxc_sourcemap_builders.specs.Words.{with_path, with_path_at, with_bare_path};
-ghost use Rattle.oxc_sourcemap_builders.specs.Words.{OnlyMemory, text_of, record_of_parts};
+ghost use Rattle.oxc_sourcemap_builders.specs.Words.{TooLarge, kept_id, texts_of, contents_of};
+ghost use Rattle.oxc_sourcemap_builders.specs.Words.{index_of, nothing_built, with_name};
+ghost use Rattle.oxc_sourcemap_builders.specs.Words.{with_name_at, with_another_source, with_path};
+ghost use Rattle.oxc_sourcemap_builders.specs.Words.{with_path_at, with_bare_path, OnlyMemory};
+ghost use Rattle.oxc_sourcemap_builders.specs.Words.{text_of, record_of_parts, HasNoIdForName};
+ghost use Rattle.oxc_sourcemap_builders.specs.Words.{HasNoIdForPath, HasNoIdForSource, GivesId};
 
 use oxc_sourcemap_map::{OwnedSourceMap, SourceMap};
 use oxc_sourcemap_parts::{SourceMapParts, owned_text};
@@ -138,12 +138,8 @@ impl<'a> SourceMapBuilder<'a> {
     /// Fails with `TooLarge` if the new id would be 4294967295, then with `OutOfMemory` for want of memory; the builder
     /// is then as it was.
     pub fn add_name(&mut self, name: &'a str) -> Result<u32>
-        ensures added { IfOk result (λ id. (self.new, id) ≡ with_name self.old name.now) }
-        ensures too_large { IsErrOf result TooLarge
-            ↔ (IsNone (index_of name.now self.old.map.names)
-            × (4294967295 ≤ length self.old.map.names)) }
-        ensures error { IfErr result (λ e. (e ≡ OutOfMemory) ⊎ (e ≡ TooLarge)) }
-        ensures unchanged { OnErr result (self.new ≡ self.old) }
+        ensures { GivesId result self.old self.new (with_name self.old name.now)
+            (HasNoIdForName self.old name.now) }
     {
         if let Some(id) = self.name_ids.get(name) {
             return Ok(*id);
@@ -155,12 +151,8 @@ impl<'a> SourceMapBuilder<'a> {
 
     /// As `add_name`, but a new name is copied.
     pub fn add_name_copied(&mut self, name: &str) -> Result<u32>
-        ensures added { IfOk result (λ id. (self.new, id) ≡ with_name self.old name.now) }
-        ensures too_large { IsErrOf result TooLarge
-            ↔ (IsNone (index_of name.now self.old.map.names)
-            × (4294967295 ≤ length self.old.map.names)) }
-        ensures error { IfErr result (λ e. (e ≡ OutOfMemory) ⊎ (e ≡ TooLarge)) }
-        ensures unchanged { OnErr result (self.new ≡ self.old) }
+        ensures { GivesId result self.old self.new (with_name self.old name.now)
+            (HasNoIdForName self.old name.now) }
     {
         if let Some(known) = self.name_ids.get(name) {
             return Ok(*known);
@@ -196,13 +188,8 @@ impl<'a> SourceMapBuilder<'a> {
     /// Fails with `TooLarge` if the new id would be 4294967295, then with `OutOfMemory` for want of memory; the builder
     /// is then as it was.
     pub fn add_source_and_content(&mut self, path: &'a str, content: &'a str) -> Result<u32>
-        ensures added { IfOk result (λ id. (self.new, id)
-            ≡ with_path self.old path.now content.now) }
-        ensures too_large { IsErrOf result TooLarge
-            ↔ (IsNone (fin.get self.old.given path.now)
-            × (4294967295 ≤ length self.old.map.sources)) }
-        ensures error { IfErr result (λ e. (e ≡ OutOfMemory) ⊎ (e ≡ TooLarge)) }
-        ensures unchanged { OnErr result (self.new ≡ self.old) }
+        ensures { GivesId result self.old self.new (with_path self.old path.now content.now)
+            (HasNoIdForPath self.old path.now) }
     {
         if let Some(id) = self.given.get(path) {
             return Ok(*id);
@@ -219,13 +206,8 @@ impl<'a> SourceMapBuilder<'a> {
 
     /// As `add_source_and_content`, but a new path and its content are copied.
     pub fn add_source_and_content_copied(&mut self, path: &str, content: &str) -> Result<u32>
-        ensures added { IfOk result (λ id. (self.new, id)
-            ≡ with_path self.old path.now content.now) }
-        ensures too_large { IsErrOf result TooLarge
-            ↔ (IsNone (fin.get self.old.given path.now)
-            × (4294967295 ≤ length self.old.map.sources)) }
-        ensures error { IfErr result (λ e. (e ≡ OutOfMemory) ⊎ (e ≡ TooLarge)) }
-        ensures unchanged { OnErr result (self.new ≡ self.old) }
+        ensures { GivesId result self.old self.new (with_path self.old path.now content.now)
+            (HasNoIdForPath self.old path.now) }
     {
         if let Some(known) = self.given.get(path) {
             return Ok(*known);
@@ -255,12 +237,8 @@ impl<'a> SourceMapBuilder<'a> {
     /// Fails with `TooLarge` if the new id would be 4294967295, then with `OutOfMemory` for want of memory; the builder
     /// is then as it was.
     pub fn add_source(&mut self, path: &'a str) -> Result<u32>
-        ensures added { IfOk result (λ id. (self.new, id) ≡ with_bare_path self.old path.now) }
-        ensures too_large { IsErrOf result TooLarge
-            ↔ (IsNone (fin.get self.old.given path.now)
-            × (4294967295 ≤ length self.old.map.sources)) }
-        ensures error { IfErr result (λ e. (e ≡ OutOfMemory) ⊎ (e ≡ TooLarge)) }
-        ensures unchanged { OnErr result (self.new ≡ self.old) }
+        ensures { GivesId result self.old self.new (with_bare_path self.old path.now)
+            (HasNoIdForPath self.old path.now) }
     {
         if let Some(found) = self.given.get(path) {
             return Ok(*found);
@@ -272,12 +250,8 @@ impl<'a> SourceMapBuilder<'a> {
 
     /// As `add_source`, but a new path is copied.
     pub fn add_source_copied(&mut self, path: &str) -> Result<u32>
-        ensures added { IfOk result (λ id. (self.new, id) ≡ with_bare_path self.old path.now) }
-        ensures too_large { IsErrOf result TooLarge
-            ↔ (IsNone (fin.get self.old.given path.now)
-            × (4294967295 ≤ length self.old.map.sources)) }
-        ensures error { IfErr result (λ e. (e ≡ OutOfMemory) ⊎ (e ≡ TooLarge)) }
-        ensures unchanged { OnErr result (self.new ≡ self.old) }
+        ensures { GivesId result self.old self.new (with_bare_path self.old path.now)
+            (HasNoIdForPath self.old path.now) }
     {
         if let Some(given) = self.given.get(path) {
             return Ok(*given);
@@ -317,11 +291,8 @@ impl<'a> SourceMapBuilder<'a> {
     /// Fails with `TooLarge` if the new id would be 4294967295, then with `OutOfMemory` for want of memory; the builder
     /// is then as it was.
     pub fn set_source_and_content(&mut self, path: &'a str, content: &'a str) -> Result<u32>
-        ensures added { IfOk result (λ id. (self.new, id)
-            ≡ with_another_source self.old path.now content.now) }
-        ensures too_large { IsErrOf result TooLarge ↔ (4294967295 ≤ length self.old.map.sources) }
-        ensures error { IfErr result (λ e. (e ≡ OutOfMemory) ⊎ (e ≡ TooLarge)) }
-        ensures unchanged { OnErr result (self.new ≡ self.old) }
+        ensures { GivesId result self.old self.new
+            (with_another_source self.old path.now content.now) (HasNoIdForSource self.old) }
     {
         let last = next_id(self.sources.len())?;
         push_source(
@@ -335,11 +306,8 @@ impl<'a> SourceMapBuilder<'a> {
 
     /// As `set_source_and_content`, but the path and the content are copied.
     pub fn set_source_and_content_copied(&mut self, path: &str, content: &str) -> Result<u32>
-        ensures added { IfOk result (λ id. (self.new, id)
-            ≡ with_another_source self.old path.now content.now) }
-        ensures too_large { IsErrOf result TooLarge ↔ (4294967295 ≤ length self.old.map.sources) }
-        ensures error { IfErr result (λ e. (e ≡ OutOfMemory) ⊎ (e ≡ TooLarge)) }
-        ensures unchanged { OnErr result (self.new ≡ self.old) }
+        ensures { GivesId result self.old self.new
+            (with_another_source self.old path.now content.now) (HasNoIdForSource self.old) }
     {
         let new_id = next_id(self.sources.len())?;
         let path = owned_text(self.alloc, path)?;

@@ -1,2 +1,5 @@
+pub mod Changes
+pub mod Composing
+pub mod Lookups
 pub mod View
 pub mod Words

@@ -34,6 +34,9 @@ pub use Rattle.oxc_sourcemap_tokens.specs.declared.error.Error.TheVariants.{OutO
 pub use Rattle.oxc_sourcemap_tokens.specs.declared.plan_error.PlanError.TheVariants.{Map, Unsorted}
 pub use Rattle.oxc_sourcemap_simplify.specs.Simplified.{simplification}
 pub use mir.Syntax.{static}
+pub use Rattle.oxc_sourcemap_map.specs.Changes.{IsChanged}
+pub use Rattle.oxc_sourcemap_map.specs.Composing.{Composes, Remaps}
+pub use Rattle.oxc_sourcemap_map.specs.Lookups.{Finds, FindsClamped, Sees, SeesClamped, FindsIndex}
 pub use Rattle.oxc_sourcemap_map.specs.View.{view_of, seen_in, view_original, content_at}
 pub use Rattle.oxc_sourcemap_map.specs.View.{source_and_content_at, view_name, view_source}
 pub use Rattle.oxc_sourcemap_map.specs.View.{view_content, view_source_and_content}

@@ -1,9 +1,6 @@
 //! Composition: of a map from generated to intermediate code and one from intermediate to original code, one map from
 //! generated to original code is made.
-ghost use Rattle.std.specs.Prelude.{◌≡◌, ◌≢◌, IfOk, IfErr, Ok, Err};
-ghost use Rattle.oxc_sourcemap_map.specs.Words.{OutOfMemory, composition};
-ghost use Rattle.oxc_sourcemap_map.specs.Words.{composition_fault, SomeComposition};
-ghost use Rattle.oxc_sourcemap_map.specs.Words.{NoColumnGoesBack, Reports};
+ghost use Rattle.oxc_sourcemap_map.specs.Words.{Composes};
 
 use crate::sourcemap::SourceMap;
 use oxc_sourcemap_lookup::compose_parts;
@@ -49,14 +46,7 @@ impl<'a> SourceMap<'a> {
         alloc: Global,
         input: SourceMap<'input>,
     ) -> Result<SourceMap<'input>>
-        ensures map { NoColumnGoesBack input.entry.tokens
-            → IfOk result (λ map. composition self.entry input.entry ≡ Ok map) }
-        ensures error { NoColumnGoesBack input.entry.tokens
-            → IfErr result (λ e. (e ≢ OutOfMemory) → composition self.entry input.entry ≡ Err e) }
-        ensures any_map { IfOk result (λ map. SomeComposition self.entry input.entry (Ok map)) }
-        ensures any_error { IfErr result (λ e. (e ≢ OutOfMemory)
-            → SomeComposition self.entry input.entry (Err e)) }
-        ensures fault { Reports (composition_fault self.entry input.entry) result }
+        ensures { Composes self.entry input.entry result }
     {
         let parts = compose_parts(alloc, self.parts, input.parts)?;
         Ok(SourceMap::from_parts(parts))

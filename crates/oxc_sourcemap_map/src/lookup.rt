@@ -1,17 +1,16 @@
 //! The lookups of `SourceMap` by generated position. (The Rust crate has these calls in the module `sourcemap`.)
-ghost use Rattle.std.specs.Prelude.{◌≡◌, ◌↔◌, ◌+◌, ◌<◌, ◌≤◌, true, length, map, option_map, IfSome};
-ghost use Rattle.std.specs.Prelude.{IsNone, Some, [], slice_get};
-ghost use Rattle.std.specs.Option.{option_and_then};
+ghost use Rattle.std.specs.Prelude.{◌≡◌, ◌↔◌, ◌+◌, ◌<◌, ◌≤◌, true, length, option_map, IfSome};
+ghost use Rattle.std.specs.Prelude.{IsNone, []};
 ghost use Rattle.std.specs.List.{Contains};
-ghost use Rattle.oxc_sourcemap_map.specs.Words.{token_column, decoded_map_of, binary_digits, at};
-ghost use Rattle.oxc_sourcemap_map.specs.Words.{clamped_at, no_column_goes_back, token_for};
-ghost use Rattle.oxc_sourcemap_map.specs.Words.{clamped_token_for, IfOwnTable, table_fault};
-ghost use Rattle.oxc_sourcemap_map.specs.Words.{line_table, slice_of, trace, clamped_trace};
-ghost use Rattle.oxc_sourcemap_map.specs.Words.{view_of, seen_in, view_original, Answers, Reports};
-ghost use Rattle.oxc_sourcemap_map.specs.Words.{lent_items, at_or_after, token_after, index_for};
-ghost use Rattle.oxc_sourcemap_map.specs.Words.{clamped_index_for, index_after, place, pieces_of};
-ghost use Rattle.oxc_sourcemap_map.specs.Words.{DoCover, are_tokens_sorted, IfBothSorted};
-ghost use Rattle.oxc_sourcemap_map.specs.Words.{HaveSameTraceEverywhere, IsFirstDifference};
+ghost use Rattle.oxc_sourcemap_map.specs.Words.{token_column, binary_digits, at};
+ghost use Rattle.oxc_sourcemap_map.specs.Words.{no_column_goes_back, token_for, clamped_token_for};
+ghost use Rattle.oxc_sourcemap_map.specs.Words.{table_fault, line_table, view_of, seen_in, Answers};
+ghost use Rattle.oxc_sourcemap_map.specs.Words.{Reports, lent_items, at_or_after, token_after};
+ghost use Rattle.oxc_sourcemap_map.specs.Words.{index_for, clamped_index_for, index_after, place};
+ghost use Rattle.oxc_sourcemap_map.specs.Words.{pieces_of, DoCover, are_tokens_sorted};
+ghost use Rattle.oxc_sourcemap_map.specs.Words.{IfBothSorted, HaveSameTraceEverywhere};
+ghost use Rattle.oxc_sourcemap_map.specs.Words.{IsFirstDifference, Finds, FindsClamped, Sees};
+ghost use Rattle.oxc_sourcemap_map.specs.Words.{SeesClamped, FindsIndex};
 
 use crate::source_view_token::SourceViewToken;
 use crate::sourcemap::SourceMap;
@@ -68,11 +67,8 @@ impl<'a> SourceMap<'a> {
     /// Pass the table that `generate_lookup_table` makes of this map: only the table is read, so the table of another map
     /// gives tokens of that map. Takes no memory.
     pub fn lookup_token(&self, lookup_table: &[&[Token]], line: u32, col: u32) -> Option<Token>
-        ensures found { let tokens = slice_of (lent_items lookup_table.now) line in
-            no_column_goes_back token_column tokens ≡ true → result ≡ at token_column tokens col }
-        ensures among { IfSome result (Contains (slice_of (lent_items lookup_table.now) line)) }
-        ensures own_table { IfOwnTable self.now.tokens (lent_items lookup_table.now)
-            (result ≡ token_for self.now.tokens line col) }
+        ensures { Finds (at token_column) token_for self.now
+            (lent_items lookup_table.now) line col result }
     {
         search(slice_of(lookup_table, line), col, &mut 0)
     }
@@ -84,19 +80,7 @@ impl<'a> SourceMap<'a> {
         line: u32,
         col: u32,
     ) -> Option<SourceViewToken<'_, 'a>>
-        ensures found { let tokens = slice_of (lent_items lookup_table.now) line in
-            no_column_goes_back token_column tokens ≡ true
-            → option_map view_of result ≡ option_map (seen_in self.now)
-            (at token_column tokens col) }
-        ensures among { let tokens = slice_of (lent_items lookup_table.now) line in
-            IfSome result (λ view. ((view_of view).map ≡ self.now)
-            × Contains tokens (view_of view).token) }
-        ensures own_table { IfOwnTable self.now.tokens (lent_items lookup_table.now)
-            (option_map view_of result ≡ option_map (seen_in self.now)
-            (token_for self.now.tokens line col)) }
-        ensures traced { IfOwnTable self.now.tokens (lent_items lookup_table.now)
-            (option_map view_original (option_map view_of result)
-            ≡ trace (decoded_map_of self.now) line col) }
+        ensures { Sees self.now (lent_items lookup_table.now) line col result }
     {
         self.view_token(self.lookup_token(lookup_table, line, col))
     }
@@ -109,13 +93,7 @@ impl<'a> SourceMap<'a> {
         line: u32,
         col: u32,
     ) -> Option<Token>
-        ensures found { let tokens = slice_of (lent_items lookup_table.now) line in
-            no_column_goes_back token_column tokens ≡ true
-            → result ≡ clamped_at token_column tokens col }
-        ensures among { IfSome result (Contains (slice_of (lent_items lookup_table.now) line)) }
-        ensures own_table { IfOwnTable self.now.tokens (lent_items lookup_table.now)
-            (result ≡ clamped_token_for self.now.tokens line col) }
-        ensures clamped { IsNone result → slice_of (lent_items lookup_table.now) line ≡ [] }
+        ensures { FindsClamped self.now (lent_items lookup_table.now) line col result }
     {
         search_clamped(slice_of(lookup_table, line), col)
     }
@@ -132,12 +110,8 @@ impl<'a> SourceMap<'a> {
         line: u32,
         col: u32,
     ) -> Option<Token>
-        ensures found { let tokens = slice_of (lent_items lookup_table.now) line in
-            no_column_goes_back token_column tokens ≡ true
-            → result ≡ at_or_after token_column tokens col }
-        ensures among { IfSome result (Contains (slice_of (lent_items lookup_table.now) line)) }
-        ensures own_table { IfOwnTable self.now.tokens (lent_items lookup_table.now)
-            (result ≡ token_after self.now.tokens line col) }
+        ensures { Finds (at_or_after token_column) token_after self.now
+            (lent_items lookup_table.now) line col result }
     {
         search_after(slice_of(lookup_table, line), col, &mut 0)
     }
@@ -149,20 +123,7 @@ impl<'a> SourceMap<'a> {
         line: u32,
         col: u32,
     ) -> Option<SourceViewToken<'_, 'a>>
-        ensures found { let tokens = slice_of (lent_items lookup_table.now) line in
-            no_column_goes_back token_column tokens ≡ true
-            → option_map view_of result ≡ option_map (seen_in self.now)
-            (clamped_at token_column tokens col) }
-        ensures among { let tokens = slice_of (lent_items lookup_table.now) line in
-            IfSome result (λ view. ((view_of view).map ≡ self.now)
-            × Contains tokens (view_of view).token) }
-        ensures own_table { IfOwnTable self.now.tokens (lent_items lookup_table.now)
-            (option_map view_of result ≡ option_map (seen_in self.now)
-            (clamped_token_for self.now.tokens line col)) }
-        ensures traced { IfOwnTable self.now.tokens (lent_items lookup_table.now)
-            (option_map view_original (option_map view_of result)
-            ≡ clamped_trace (decoded_map_of self.now) line col) }
-        ensures clamped { IsNone result → slice_of (lent_items lookup_table.now) line ≡ [] }
+        ensures { SeesClamped self.now (lent_items lookup_table.now) line col result }
     {
         self.view_token(self.lookup_token_approx(lookup_table, line, col))
     }
@@ -177,12 +138,8 @@ impl<'a> SourceMap<'a> {
         line: u32,
         col: u32,
     ) -> Option<usize>
-        ensures own_table { IfOwnTable self.now.tokens (lent_items lookup_table.now)
-            (result ≡ index_for self.now.tokens line col) }
-        ensures token { IfOwnTable self.now.tokens (lent_items lookup_table.now)
-            (option_and_then (slice_get self.now.tokens) result
-            ≡ token_for self.now.tokens line col) }
-        ensures within { IfSome result (λ i. i < length self.now.tokens) }
+        ensures { FindsIndex index_for token_for self.now
+            (lent_items lookup_table.now) line col result }
     {
         let index = search_index(slice_of(lookup_table, line), col);
         index_from_line(self.parts.tokens.as_slice(), line, index)
@@ -198,12 +155,8 @@ impl<'a> SourceMap<'a> {
         line: u32,
         col: u32,
     ) -> Option<usize>
-        ensures own_table { IfOwnTable self.now.tokens (lent_items lookup_table.now)
-            (result ≡ clamped_index_for self.now.tokens line col) }
-        ensures token { IfOwnTable self.now.tokens (lent_items lookup_table.now)
-            (option_and_then (slice_get self.now.tokens) result
-            ≡ clamped_token_for self.now.tokens line col) }
-        ensures within { IfSome result (λ i. i < length self.now.tokens) }
+        ensures { FindsIndex clamped_index_for clamped_token_for self.now
+            (lent_items lookup_table.now) line col result }
     {
         let index = search_index_clamped(slice_of(lookup_table, line), col);
         index_from_line(self.parts.tokens.as_slice(), line, index)
@@ -219,12 +172,8 @@ impl<'a> SourceMap<'a> {
         line: u32,
         col: u32,
     ) -> Option<usize>
-        ensures own_table { IfOwnTable self.now.tokens (lent_items lookup_table.now)
-            (result ≡ index_after self.now.tokens line col) }
-        ensures token { IfOwnTable self.now.tokens (lent_items lookup_table.now)
-            (option_and_then (slice_get self.now.tokens) result
-            ≡ token_after self.now.tokens line col) }
-        ensures within { IfSome result (λ i. i < length self.now.tokens) }
+        ensures { FindsIndex index_after token_after self.now
+            (lent_items lookup_table.now) line col result }
     {
         let index = search_index_after(slice_of(lookup_table, line), col, &mut 0);
         index_from_line(self.parts.tokens.as_slice(), line, index)

@@ -1,31 +1,25 @@
 //! A map in a type without a lifetime.
-ghost use Rattle.oxc_sourcemap_map.specs.Words.{static, OutOfMemory, IsInLineOrder};
-ghost use Rattle.oxc_sourcemap_map.specs.Words.{json_record, record_of_parts, empty_record};
-ghost use Rattle.oxc_sourcemap_map.specs.Words.{are_tokens_sorted, token_column, IsSound};
-ghost use Rattle.oxc_sourcemap_map.specs.Words.{decoded_map_of, decoded, json_fault, encoded};
-ghost use Rattle.oxc_sourcemap_map.specs.Words.{read_map, read_decoded_map, map_text, map_url, at};
-ghost use Rattle.oxc_sourcemap_map.specs.Words.{clamped_at, no_column_goes_back, table_fault};
-ghost use Rattle.oxc_sourcemap_map.specs.Words.{line_table, slice_of, token_for, clamped_token_for};
-ghost use Rattle.oxc_sourcemap_map.specs.Words.{IfOwnTable, composition, composition_fault};
-ghost use Rattle.oxc_sourcemap_map.specs.Words.{SomeComposition, NoColumnGoesBack, trace};
-ghost use Rattle.oxc_sourcemap_map.specs.Words.{clamped_trace, view_of, seen_in, view_original};
+ghost use Rattle.oxc_sourcemap_map.specs.Words.{static, OutOfMemory, IsInLineOrder, json_record};
+ghost use Rattle.oxc_sourcemap_map.specs.Words.{record_of_parts, empty_record, are_tokens_sorted};
+ghost use Rattle.oxc_sourcemap_map.specs.Words.{token_column, IsSound, decoded_map_of, decoded};
+ghost use Rattle.oxc_sourcemap_map.specs.Words.{json_fault, encoded, read_map, read_decoded_map};
+ghost use Rattle.oxc_sourcemap_map.specs.Words.{map_text, map_url, at, table_fault, line_table};
+ghost use Rattle.oxc_sourcemap_map.specs.Words.{token_for, clamped_token_for, view_of, seen_in};
 ghost use Rattle.oxc_sourcemap_map.specs.Words.{content_at, source_and_content_at, the_row};
 ghost use Rattle.oxc_sourcemap_map.specs.Words.{map_row, Answers, OnlyMemory, Reports, lent_items};
 ghost use Rattle.oxc_sourcemap_map.specs.Words.{lent_item, appended, rooted, at_or_after};
 ghost use Rattle.oxc_sourcemap_map.specs.Words.{token_after, index_for, clamped_index_for};
 ghost use Rattle.oxc_sourcemap_map.specs.Words.{index_after, sorted_map, place, pieces_of, DoCover};
-ghost use Rattle.oxc_sourcemap_map.specs.Words.{Map, Unsorted, simplification};
-ghost use Rattle.oxc_sourcemap_map.specs.Words.{IfBothSorted, HaveSameTraceEverywhere};
-ghost use Rattle.oxc_sourcemap_map.specs.Words.{IsFirstDifference, early_fault};
-ghost use Rattle.oxc_sourcemap_map.specs.Words.{map_text_within, map_url_within};
-ghost use Rattle.std.specs.Prelude.{IsOk};
-ghost use Rattle.std.specs.Prelude.{◌≡◌, ◌≢◌, List, [], map, option_map, slice_get, string_bytes};
-ghost use Rattle.std.specs.Prelude.{IfOk, IfErr, IfSome, IsNone, Ok, Err, Some, OnOk, OnErr, ◌↔◌};
-ghost use Rattle.std.specs.Prelude.{true, false, ◌<◌, length};
+ghost use Rattle.oxc_sourcemap_map.specs.Words.{Map, Unsorted, simplification, IfBothSorted};
+ghost use Rattle.oxc_sourcemap_map.specs.Words.{HaveSameTraceEverywhere, IsFirstDifference};
+ghost use Rattle.oxc_sourcemap_map.specs.Words.{early_fault, map_text_within, map_url_within};
+ghost use Rattle.oxc_sourcemap_map.specs.Words.{Finds, FindsClamped, Sees, SeesClamped, FindsIndex};
+ghost use Rattle.oxc_sourcemap_map.specs.Words.{Composes, IsChanged};
+ghost use Rattle.std.specs.Prelude.{IsOk, ◌≡◌, ◌≢◌, List, [], map, option_map, slice_get};
+ghost use Rattle.std.specs.Prelude.{string_bytes, IfOk, IfErr, IfSome, IsNone, Ok, Err, Some, OnOk};
+ghost use Rattle.std.specs.Prelude.{OnErr, ◌↔◌, true, false};
 ghost use Rattle.std.specs.Borrow.{Lends, sem};
 ghost use Rattle.std.specs.Iterator.{IsFinite, Drains};
-ghost use Rattle.std.specs.List.{Contains};
-ghost use Rattle.std.specs.Option.{option_and_then};
 
 use crate::source_view_token::SourceViewToken;
 use crate::sourcemap::SourceMap;
@@ -188,14 +182,7 @@ impl OwnedSourceMap {
     /// Composes this map, from generated to intermediate code, with `input`, from there to original code, as
     /// `SourceMap::compose` does, and fails as that does; both maps are then dropped.
     pub fn compose(self, alloc: Global, input: OwnedSourceMap) -> Result<OwnedSourceMap>
-        ensures map { NoColumnGoesBack input.tokens
-            → IfOk result (λ map. composition self input ≡ Ok map) }
-        ensures error { NoColumnGoesBack input.tokens
-            → IfErr result (λ e. (e ≢ OutOfMemory) → composition self input ≡ Err e) }
-        ensures any_map { IfOk result (λ map. SomeComposition self input (Ok map)) }
-        ensures any_error { IfErr result (λ e. (e ≢ OutOfMemory)
-            → SomeComposition self input (Err e)) }
-        ensures fault { Reports (composition_fault self input) result }
+        ensures { Composes self input result }
     {
         Ok(OwnedSourceMap::new(self.inner.compose(alloc, input.inner)?))
     }
@@ -210,9 +197,8 @@ impl OwnedSourceMap {
     /// Sets the name of the generated file to a copy of this string. Fails only with `OutOfMemory`; the map is then as it
     /// was.
     pub fn set_file(&mut self, alloc: Global, file: &str) -> Result<()>
-        ensures set { OnOk result (self.new ≡ record self.old { file = Some file.now }) }
-        ensures error { OnlyMemory result }
-        ensures unchanged { OnErr result (self.new ≡ self.old) }
+        ensures { IsChanged result self.old self.new
+            (record self.old { file = Some file.now }) }
     {
         self.inner.set_file(alloc, file)
     }
@@ -228,10 +214,8 @@ impl OwnedSourceMap {
     /// Sets the source root to a copy of this string. Sources stay as they are. Fails only with `OutOfMemory`; the map is then
     /// as it was.
     pub fn set_source_root(&mut self, alloc: Global, source_root: &str) -> Result<()>
-        ensures set { OnOk result (self.new
-            ≡ record self.old { source_root = Some source_root.now }) }
-        ensures error { OnlyMemory result }
-        ensures unchanged { OnErr result (self.new ≡ self.old) }
+        ensures { IsChanged result self.old self.new
+            (record self.old { source_root = Some source_root.now }) }
     {
         self.inner.set_source_root(alloc, source_root)
     }
@@ -242,9 +226,7 @@ impl OwnedSourceMap {
     ///
     /// Fails only with `OutOfMemory`; the map is then as it was.
     pub fn apply_source_root(&mut self, alloc: Global) -> Result<()>
-        ensures rooted { OnOk result (self.new ≡ rooted self.old) }
-        ensures error { OnlyMemory result }
-        ensures unchanged { OnErr result (self.new ≡ self.old) }
+        ensures { IsChanged result self.old self.new (rooted self.old) }
     {
         self.inner.apply_source_root(alloc)
     }
@@ -296,9 +278,8 @@ impl OwnedSourceMap {
 
     /// Sets the debug id to a copy of this string. Fails only with `OutOfMemory`; the map is then as it was.
     pub fn set_debug_id(&mut self, alloc: Global, debug_id: &str) -> Result<()>
-        ensures set { OnOk result (self.new ≡ record self.old { debug_id = Some debug_id.now }) }
-        ensures error { OnlyMemory result }
-        ensures unchanged { OnErr result (self.new ≡ self.old) }
+        ensures { IsChanged result self.old self.new
+            (record self.old { debug_id = Some debug_id.now }) }
     {
         self.inner.set_debug_id(alloc, debug_id)
     }
@@ -352,11 +333,9 @@ impl OwnedSourceMap {
         alloc: Global,
         source_contents: Vec<Option<&str>>,
     ) -> Result<()>
-        ensures set { let contents = map (option_map
+        ensures { let contents = map (option_map
             (λ content. content.now)) source_contents.entry.items in
-            OnOk result (self.new ≡ record self.old { source_contents = contents }) }
-        ensures error { OnlyMemory result }
-        ensures unchanged { OnErr result (self.new ≡ self.old) }
+            IsChanged result self.old self.new (record self.old { source_contents = contents }) }
     {
         self.inner.set_source_contents(alloc, source_contents)
     }
@@ -439,11 +418,8 @@ impl OwnedSourceMap {
     /// Pass the table that `generate_lookup_table` makes of this map: only the table is read, so the table of another map
     /// gives tokens of that map. Takes no memory.
     pub fn lookup_token(&self, lookup_table: &[&[Token]], line: u32, col: u32) -> Option<Token>
-        ensures found { let tokens = slice_of (lent_items lookup_table.now) line in
-            no_column_goes_back token_column tokens ≡ true → result ≡ at token_column tokens col }
-        ensures among { IfSome result (Contains (slice_of (lent_items lookup_table.now) line)) }
-        ensures own_table { IfOwnTable self.now.tokens (lent_items lookup_table.now)
-            (result ≡ token_for self.now.tokens line col) }
+        ensures { Finds (at token_column) token_for self.now
+            (lent_items lookup_table.now) line col result }
     {
         self.inner.lookup_token(lookup_table, line, col)
     }
@@ -455,19 +431,7 @@ impl OwnedSourceMap {
         line: u32,
         col: u32,
     ) -> Option<SourceViewToken<'_, 'static>>
-        ensures found { let tokens = slice_of (lent_items lookup_table.now) line in
-            no_column_goes_back token_column tokens ≡ true
-            → option_map view_of result ≡ option_map (seen_in self.now)
-            (at token_column tokens col) }
-        ensures among { let tokens = slice_of (lent_items lookup_table.now) line in
-            IfSome result (λ view. ((view_of view).map ≡ self.now)
-            × Contains tokens (view_of view).token) }
-        ensures own_table { IfOwnTable self.now.tokens (lent_items lookup_table.now)
-            (option_map view_of result ≡ option_map (seen_in self.now)
-            (token_for self.now.tokens line col)) }
-        ensures traced { IfOwnTable self.now.tokens (lent_items lookup_table.now)
-            (option_map view_original (option_map view_of result)
-            ≡ trace (decoded_map_of self.now) line col) }
+        ensures { Sees self.now (lent_items lookup_table.now) line col result }
     {
         self.inner.lookup_source_view_token(lookup_table, line, col)
     }
@@ -480,13 +444,7 @@ impl OwnedSourceMap {
         line: u32,
         col: u32,
     ) -> Option<Token>
-        ensures found { let tokens = slice_of (lent_items lookup_table.now) line in
-            no_column_goes_back token_column tokens ≡ true
-            → result ≡ clamped_at token_column tokens col }
-        ensures among { IfSome result (Contains (slice_of (lent_items lookup_table.now) line)) }
-        ensures own_table { IfOwnTable self.now.tokens (lent_items lookup_table.now)
-            (result ≡ clamped_token_for self.now.tokens line col) }
-        ensures clamped { IsNone result → slice_of (lent_items lookup_table.now) line ≡ [] }
+        ensures { FindsClamped self.now (lent_items lookup_table.now) line col result }
     {
         self.inner.lookup_token_approx(lookup_table, line, col)
     }
@@ -503,12 +461,8 @@ impl OwnedSourceMap {
         line: u32,
         col: u32,
     ) -> Option<Token>
-        ensures found { let tokens = slice_of (lent_items lookup_table.now) line in
-            no_column_goes_back token_column tokens ≡ true
-            → result ≡ at_or_after token_column tokens col }
-        ensures among { IfSome result (Contains (slice_of (lent_items lookup_table.now) line)) }
-        ensures own_table { IfOwnTable self.now.tokens (lent_items lookup_table.now)
-            (result ≡ token_after self.now.tokens line col) }
+        ensures { Finds (at_or_after token_column) token_after self.now
+            (lent_items lookup_table.now) line col result }
     {
         self.inner.lookup_token_after(lookup_table, line, col)
     }
@@ -520,20 +474,7 @@ impl OwnedSourceMap {
         line: u32,
         col: u32,
     ) -> Option<SourceViewToken<'_, 'static>>
-        ensures found { let tokens = slice_of (lent_items lookup_table.now) line in
-            no_column_goes_back token_column tokens ≡ true
-            → option_map view_of result ≡ option_map (seen_in self.now)
-            (clamped_at token_column tokens col) }
-        ensures among { let tokens = slice_of (lent_items lookup_table.now) line in
-            IfSome result (λ view. ((view_of view).map ≡ self.now)
-            × Contains tokens (view_of view).token) }
-        ensures own_table { IfOwnTable self.now.tokens (lent_items lookup_table.now)
-            (option_map view_of result ≡ option_map (seen_in self.now)
-            (clamped_token_for self.now.tokens line col)) }
-        ensures traced { IfOwnTable self.now.tokens (lent_items lookup_table.now)
-            (option_map view_original (option_map view_of result)
-            ≡ clamped_trace (decoded_map_of self.now) line col) }
-        ensures clamped { IsNone result → slice_of (lent_items lookup_table.now) line ≡ [] }
+        ensures { SeesClamped self.now (lent_items lookup_table.now) line col result }
     {
         self.inner
             .lookup_source_view_token_approx(lookup_table, line, col)
@@ -549,12 +490,8 @@ impl OwnedSourceMap {
         line: u32,
         col: u32,
     ) -> Option<usize>
-        ensures own_table { IfOwnTable self.now.tokens (lent_items lookup_table.now)
-            (result ≡ index_for self.now.tokens line col) }
-        ensures token { IfOwnTable self.now.tokens (lent_items lookup_table.now)
-            (option_and_then (slice_get self.now.tokens) result
-            ≡ token_for self.now.tokens line col) }
-        ensures within { IfSome result (λ i. i < length self.now.tokens) }
+        ensures { FindsIndex index_for token_for self.now
+            (lent_items lookup_table.now) line col result }
     {
         self.inner.lookup_token_index(lookup_table, line, col)
     }
@@ -569,12 +506,8 @@ impl OwnedSourceMap {
         line: u32,
         col: u32,
     ) -> Option<usize>
-        ensures own_table { IfOwnTable self.now.tokens (lent_items lookup_table.now)
-            (result ≡ clamped_index_for self.now.tokens line col) }
-        ensures token { IfOwnTable self.now.tokens (lent_items lookup_table.now)
-            (option_and_then (slice_get self.now.tokens) result
-            ≡ clamped_token_for self.now.tokens line col) }
-        ensures within { IfSome result (λ i. i < length self.now.tokens) }
+        ensures { FindsIndex clamped_index_for clamped_token_for self.now
+            (lent_items lookup_table.now) line col result }
     {
         self.inner
             .lookup_token_index_approx(lookup_table, line, col)
@@ -590,12 +523,8 @@ impl OwnedSourceMap {
         line: u32,
         col: u32,
     ) -> Option<usize>
-        ensures own_table { IfOwnTable self.now.tokens (lent_items lookup_table.now)
-            (result ≡ index_after self.now.tokens line col) }
-        ensures token { IfOwnTable self.now.tokens (lent_items lookup_table.now)
-            (option_and_then (slice_get self.now.tokens) result
-            ≡ token_after self.now.tokens line col) }
-        ensures within { IfSome result (λ i. i < length self.now.tokens) }
+        ensures { FindsIndex index_after token_after self.now
+            (lent_items lookup_table.now) line col result }
     {
         self.inner.lookup_token_index_after(lookup_table, line, col)
     }

@@ -1,8 +1,5 @@
 //! Remapping: of a map and maps for some of its sources, one map to the originals is made.
-ghost use Rattle.std.specs.Prelude.{◌≡◌, ◌≢◌, IfOk, IfErr, Ok, Err};
-ghost use Rattle.oxc_sourcemap_map.specs.Words.{OutOfMemory, remapping, inputs_fault};
-ghost use Rattle.oxc_sourcemap_map.specs.Words.{SomeRemapping, NoInputColumnGoesBack, lent_inputs};
-ghost use Rattle.oxc_sourcemap_map.specs.Words.{Reports};
+ghost use Rattle.oxc_sourcemap_map.specs.Words.{lent_inputs, Remaps};
 
 use crate::owned_sourcemap::OwnedSourceMap;
 use crate::sourcemap::SourceMap;
@@ -73,15 +70,7 @@ impl<'a> SourceMap<'a> {
         alloc: Global,
         inputs: &[(&str, &'m SourceMap<'_>)],
     ) -> Result<SourceMap<'m>>
-        ensures map { NoInputColumnGoesBack (lent_inputs inputs.now)
-            → IfOk result (λ map. remapping self.now (lent_inputs inputs.now) ≡ Ok map) }
-        ensures error { NoInputColumnGoesBack (lent_inputs inputs.now) → IfErr result
-            (λ e. (e ≢ OutOfMemory) → remapping self.now (lent_inputs inputs.now) ≡ Err e) }
-        ensures any_map { IfOk result
-            (λ map. SomeRemapping self.now (lent_inputs inputs.now) (Ok map)) }
-        ensures any_error { IfErr result (λ e. (e ≢ OutOfMemory)
-            → SomeRemapping self.now (lent_inputs inputs.now) (Err e)) }
-        ensures fault { Reports (inputs_fault (lent_inputs inputs.now)) result }
+        ensures { Remaps self.now (lent_inputs inputs.now) result }
     {
         Ok(SourceMap::from_parts(remap_parts(alloc, &self.parts, inputs)?))
     }
@@ -91,15 +80,7 @@ impl OwnedSourceMap {
     /// Remaps this map through maps for some of its sources, as `SourceMap::remap` does, and fails as that does; the strings
     /// of the result are copies.
     pub fn remap(&self, alloc: Global, inputs: &[(&str, &OwnedSourceMap)]) -> Result<OwnedSourceMap>
-        ensures map { NoInputColumnGoesBack (lent_inputs inputs.now)
-            → IfOk result (λ map. remapping self.now (lent_inputs inputs.now) ≡ Ok map) }
-        ensures error { NoInputColumnGoesBack (lent_inputs inputs.now) → IfErr result
-            (λ e. (e ≢ OutOfMemory) → remapping self.now (lent_inputs inputs.now) ≡ Err e) }
-        ensures any_map { IfOk result
-            (λ map. SomeRemapping self.now (lent_inputs inputs.now) (Ok map)) }
-        ensures any_error { IfErr result (λ e. (e ≢ OutOfMemory)
-            → SomeRemapping self.now (lent_inputs inputs.now) (Err e)) }
-        ensures fault { Reports (inputs_fault (lent_inputs inputs.now)) result }
+        ensures { Remaps self.now (lent_inputs inputs.now) result }
     {
         let map = self.as_source_map();
         let lent = SourceMap::from_parts(remap_parts(alloc, &map.parts, inputs)?);

@@ -1,19 +1,17 @@
 //! The type of a map, without its lookups and composition.
-ghost use Rattle.std.specs.Prelude.{◌≡◌, ◌↔◌, ◌<◌, List, map, option_map, slice_get, IsTrue};
-ghost use Rattle.std.specs.Prelude.{true, string_bytes, IfOk, Ok, Some, None, OnOk};
-ghost use Rattle.std.specs.Prelude.{OnErr, IsOk};
+ghost use Rattle.std.specs.Prelude.{◌≡◌, ◌↔◌, ◌<◌, List, map, option_map, slice_get, IsTrue, true};
+ghost use Rattle.std.specs.Prelude.{string_bytes, IfOk, Ok, Some, None, OnOk, OnErr, IsOk};
 ghost use Rattle.std.specs.Iterator.{IsFinite, Drains};
 ghost use Rattle.std.specs.Box.{boxed_slice_items};
-ghost use Rattle.oxc_sourcemap_map.specs.Words.{IsInLineOrder};
-ghost use Rattle.oxc_sourcemap_map.specs.Words.{json_record, text_of, texts_of, contents_of};
-ghost use Rattle.oxc_sourcemap_map.specs.Words.{chunks_of, record_of_parts, empty_record};
-ghost use Rattle.oxc_sourcemap_map.specs.Words.{are_tokens_sorted, IsSound, decoded, json_fault};
-ghost use Rattle.oxc_sourcemap_map.specs.Words.{encoded, decoded_map_of, read_map};
+ghost use Rattle.oxc_sourcemap_map.specs.Words.{IsInLineOrder, json_record, text_of, texts_of};
+ghost use Rattle.oxc_sourcemap_map.specs.Words.{contents_of, chunks_of, record_of_parts};
+ghost use Rattle.oxc_sourcemap_map.specs.Words.{empty_record, are_tokens_sorted, IsSound, decoded};
+ghost use Rattle.oxc_sourcemap_map.specs.Words.{json_fault, encoded, decoded_map_of, read_map};
 ghost use Rattle.oxc_sourcemap_map.specs.Words.{read_decoded_map, map_text, map_url, view_of};
 ghost use Rattle.oxc_sourcemap_map.specs.Words.{seen_in, content_at, source_and_content_at};
 ghost use Rattle.oxc_sourcemap_map.specs.Words.{Answers, OnlyMemory, Reports, lent_item, appended};
-ghost use Rattle.oxc_sourcemap_map.specs.Words.{rooted, sorted_map, early_fault};
-ghost use Rattle.oxc_sourcemap_map.specs.Words.{map_text_within, map_url_within};
+ghost use Rattle.oxc_sourcemap_map.specs.Words.{rooted, sorted_map, early_fault, map_text_within};
+ghost use Rattle.oxc_sourcemap_map.specs.Words.{map_url_within, IsChanged};
 
 use crate::source_view_token::SourceViewToken;
 use crate::view_tokens::ViewTokens;
@@ -253,9 +251,8 @@ impl<'a> SourceMap<'a> {
     /// Sets the name of the generated file to a copy of this string. Fails only with `OutOfMemory`; the map is then as it
     /// was.
     pub fn set_file(&mut self, alloc: Global, file: &str) -> Result<()>
-        ensures set { OnOk result (self.new ≡ record self.old { file = Some file.now }) }
-        ensures error { OnlyMemory result }
-        ensures unchanged { OnErr result (self.new ≡ self.old) }
+        ensures { IsChanged result self.old self.new
+            (record self.old { file = Some file.now }) }
     {
         self.parts.file = Some(CowStr::Owned(String::from_str(alloc, file)?));
         Ok(())
@@ -283,10 +280,8 @@ impl<'a> SourceMap<'a> {
     ///
     /// Fails only with `OutOfMemory`; the map is then as it was.
     pub fn set_source_root(&mut self, alloc: Global, source_root: &str) -> Result<()>
-        ensures set { OnOk result (self.new
-            ≡ record self.old { source_root = Some source_root.now }) }
-        ensures error { OnlyMemory result }
-        ensures unchanged { OnErr result (self.new ≡ self.old) }
+        ensures { IsChanged result self.old self.new
+            (record self.old { source_root = Some source_root.now }) }
     {
         self.parts.source_root = Some(CowStr::Owned(String::from_str(alloc, source_root)?));
         Ok(())
@@ -309,9 +304,7 @@ impl<'a> SourceMap<'a> {
     ///
     /// Fails only with `OutOfMemory`; the map is then as it was.
     pub fn apply_source_root(&mut self, alloc: Global) -> Result<()>
-        ensures rooted { OnOk result (self.new ≡ rooted self.old) }
-        ensures error { OnlyMemory result }
-        ensures unchanged { OnErr result (self.new ≡ self.old) }
+        ensures { IsChanged result self.old self.new (rooted self.old) }
     {
         Ok(apply_root(alloc, &mut self.parts)?)
     }
@@ -355,9 +348,8 @@ impl<'a> SourceMap<'a> {
 
     /// Sets the debug id to a copy of this string. Fails only with `OutOfMemory`; the map is then as it was.
     pub fn set_debug_id(&mut self, alloc: Global, debug_id: &str) -> Result<()>
-        ensures set { OnOk result (self.new ≡ record self.old { debug_id = Some debug_id.now }) }
-        ensures error { OnlyMemory result }
-        ensures unchanged { OnErr result (self.new ≡ self.old) }
+        ensures { IsChanged result self.old self.new
+            (record self.old { debug_id = Some debug_id.now }) }
     {
         self.parts.debug_id = Some(CowStr::Owned(String::from_str(alloc, debug_id)?));
         Ok(())
@@ -413,11 +405,9 @@ impl<'a> SourceMap<'a> {
         alloc: Global,
         source_contents: Vec<Option<&str>>,
     ) -> Result<()>
-        ensures set { let contents = map (option_map
+        ensures { let contents = map (option_map
             (λ content. content.now)) source_contents.entry.items in
-            OnOk result (self.new ≡ record self.old { source_contents = contents }) }
-        ensures error { OnlyMemory result }
-        ensures unchanged { OnErr result (self.new ≡ self.old) }
+            IsChanged result self.old self.new (record self.old { source_contents = contents }) }
     {
         self.parts.source_contents = owned_contents(alloc, source_contents)?;
         Ok(())

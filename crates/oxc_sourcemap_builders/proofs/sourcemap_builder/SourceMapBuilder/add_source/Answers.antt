@@ -1,16 +1,34 @@
-use Rattle.std.proofs.Common.{arith}
+use Rattle.std.proofs.Common.{rules, arith}
 use Rattle.std.proofs.lemmas.Grind.{common_steps}
 use Rattle.oxc_sourcemap_builders.proofs.GivenIds.{get_given}
 use Rattle.oxc_sourcemap_builders.proofs.sourcemap_builder.SourceMapBuilder.add_source.Goals as goal
 
-pub returns-in-Some-clause-added : goal.returns-in-Some-clause-added
-returns-in-Some-clause-added c = grind (arith, common_steps, get_given c.self.inside.given.entries c.args.path.now, c.self.view_is)
+pub returns-in-Some : goal.returns-in-Some
+returns-in-Some c =
+    let known = get_given c.self.inside.given.entries c.args.path.now in
+    record {
+      added = grind (arith, common_steps, known, c.self.view_is);
+      too_large = grind (arith, common_steps, known, c.self.view_is);
+      error = search rules;
+      unchanged = search rules;
+    }
 
-pub returns-in-Some-clause-too_large : goal.returns-in-Some-clause-too_large
-returns-in-Some-clause-too_large c = grind (arith, common_steps, get_given c.self.inside.given.entries c.args.path.now, c.self.view_is)
+pub returns-in_err-id : goal.returns-in_err-id
+returns-in_err-id c =
+    let known = get_given c.self.inside.given.entries c.args.path.now in
+    record {
+      added = search rules;
+      too_large = grind (arith, common_steps, known, c.self.view_is);
+      error = search rules;
+      unchanged = search rules;
+    }
 
-pub returns-in_err-id-clause-too_large : goal.returns-in_err-id-clause-too_large
-returns-in_err-id-clause-too_large c = grind (arith, common_steps, get_given c.self.inside.given.entries c.args.path.now, c.self.view_is)
-
-pub returns-clause-added : goal.returns-clause-added
-returns-clause-added c = grind (arith, common_steps, c.self.view_is, get_given c.self.inside.given.entries c.args.path.now)
+pub returns : goal.returns
+returns c =
+    let known = get_given c.self.inside.given.entries c.args.path.now in
+    record {
+      added = grind (arith, common_steps, c.self.view_is, known);
+      too_large = grind (arith, common_steps);
+      error = search rules;
+      unchanged = search rules;
+    }

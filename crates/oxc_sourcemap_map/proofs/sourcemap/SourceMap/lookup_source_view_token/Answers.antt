@@ -1,9 +1,14 @@
-use Rattle.std.proofs.Common.{ap, ◌∙◌, option_map}
+use Rattle.std.proofs.Common.{rules, ap, ◌∙◌, option_map}
 use Rattle.oxc_sourcemap_map.specs.View.{seen_in, view_original}
 use Rattle.oxc_sourcemap_map.proofs.Picks.{traced}
 use Rattle.oxc_sourcemap_map.proofs.sourcemap.SourceMap.lookup_source_view_token.Goals as goal
 
-pub returns-clause-traced : goal.returns-clause-traced
-returns-clause-traced c = λ sorted own.
-    ap (option_map view_original) (c.view_token.ensures ∙ ap (option_map (seen_in c.args.self.now)) (c.lookup_token.ensures.own_table sorted own))
-    ∙ traced c.args.self.now c.args.line c.args.col
+pub returns : goal.returns
+returns c = record {
+  found = search rules;
+  among = search rules;
+  own_table = search rules;
+  traced = λ sorted own.
+      ap (option_map view_original) (c.view_token.ensures ∙ ap (option_map (seen_in c.args.self.now)) (c.lookup_token.ensures.own_table sorted own))
+      ∙ traced c.args.self.now c.args.line c.args.col;
+}

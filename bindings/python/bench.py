@@ -10,7 +10,7 @@ from time import perf_counter_ns
 
 sys.path.append(str(Path(__file__).resolve().parent / "src"))
 
-from oxc_sourcemap import SourceMap, _map
+from oxc_sourcemap import SourceMap, _lookups
 
 
 def took(call, times, count):
@@ -29,7 +29,7 @@ def main():
         positions = [token[:2] for token in chosen.choices(tokens, k=100_000)]
         flat = array("I", [number for position in positions for number in position])
         indices, numbers, trace = array("I", bytes(400_000)), map.token_array(), map.trace
-        print(f"{len(tokens)} tokens, lookups by {_map.trace.__module__ or 'the extension in C'}")
+        print(f"{len(tokens)} tokens, lookups by {_lookups.trace.__module__ or 'the extension in C'}")
         print(f"one lookup: {took(lambda: [trace(*it) for it in positions[:1000]], 200, 1000):.0f}")
         print(f"in bulk, as indices: {took(lambda: map.find_all_into(flat, indices), 20, 100_000):.1f}")
         print(f"in bulk, as objects: {took(lambda: map.trace_all(flat), 10, 100_000):.0f}")

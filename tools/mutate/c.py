@@ -1,4 +1,4 @@
-"""Plants bugs in the layer of C and in the header, and runs bindings/c/test.c over each. It works over the library in target/, or with
+"""Plants bugs in the layer of C and in the header, and runs bindings/c/tests over each. It works over the library in target/, or with
 `unproved` over that in target/unproved.
 
 Planted are, for each call of the layer: it does nothing and says that all went well; it hands on a null fault; it writes *out on an
@@ -80,9 +80,9 @@ def found_by(bug, library, common):
     name, layer, header = bug
     with tempfile.TemporaryDirectory() as folder:
         room = Path(folder)
-        shutil.copy(TOP / "bindings/c/test.c", room)
+        tests = sorted(shutil.copytree(TOP / "bindings/c/tests", room / "tests").glob("*.c"))
         (room / "oxc_sourcemap.h").write_text(header)
-        build = ["cc", "-std=c99", "-O1", "-w", WRAPS, f"-I{room}", f"-I{common}", "-o", "test", "test.c"]
+        build = ["cc", "-std=c99", "-O1", "-w", WRAPS, f"-I{room}", f"-I{common}", "-o", "test", *tests]
         if name.endswith("on the stack"):
             build.append("-fsanitize=address")  # as ./check c tries it
         if layer is None:

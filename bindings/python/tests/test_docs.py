@@ -10,12 +10,13 @@ import support
 import oxc_sourcemap
 from oxc_sourcemap import SourceMap, SourceMapBuilder, SourceMapJoin
 
-MODULES = ("", "._errors", "._map", "._making", "._texts", "._values")
+MODULES = ("", "._contents", "._errors", "._handle", "._lookups", "._making", "._map", "._texts", "._values")
 
 
 def load_tests(loader: unittest.TestLoader, tests: unittest.TestSuite, pattern: object) -> unittest.TestSuite:
+    public = {name: getattr(oxc_sourcemap, name) for name in oxc_sourcemap.__all__}
     for name in MODULES:
-        tests.addTests(doctest.DocTestSuite(importlib.import_module(f"oxc_sourcemap{name}")))
+        tests.addTests(doctest.DocTestSuite(importlib.import_module(f"oxc_sourcemap{name}"), extraglobs=public))
     return tests
 
 

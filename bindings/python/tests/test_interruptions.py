@@ -14,11 +14,11 @@ from unittest import mock
 from support import Case, read
 
 import oxc_sourcemap
-from oxc_sourcemap import SourceMap, SourceMapBuilder, SourceMapJoin, _map
+from oxc_sourcemap import SourceMap, SourceMapBuilder, SourceMapJoin, _handle, _lookups
 
 HEAD = """
 import gc, random, signal, sys, threading, time
-from oxc_sourcemap import SourceMap, SourceMapBuilder, SourceMapJoin, _map
+from oxc_sourcemap import SourceMap, SourceMapBuilder, SourceMapJoin, _lookups
 TEXT = '{"version":3,"sources":["a.ts"],"names":["f"],"mappings":"AAEA,IAAIA"}'
 FOUND = ("a.ts", 2, 4, "f")
 """
@@ -137,7 +137,7 @@ class Interruptions(Case):
                         self.map.close()
                     except RuntimeError as error:
                         refused.append((self.map, str(error)))
-            refused, inside = [], sys.version_info < (3, 12) or _map.trace.__module__ == "oxc_sourcemap._plain"
+            refused, inside = [], sys.version_info < (3, 12) or _lookups.trace.__module__ == "oxc_sourcemap._plain"
             for turn in range(1_000_000 if inside else 2_000):
                 map = SourceMap.from_json(TEXT)
                 map.trace(0, 0)
@@ -280,12 +280,12 @@ class Interruptions(Case):
 class Leases(Case):
     def test_threads_that_have_ended_leave_few(self):
         map = read()
-        with mock.patch.object(_map, "get_ident") as thread:
+        with mock.patch.object(_handle, "get_ident") as thread:
 
             def reading(at):
                 for thread.return_value in range(1000):
                     map.file
-                self.assertLessEqual(max(len(map._leases), len(map._held)), _map.MANY)
+                self.assertLessEqual(max(len(map._leases), len(map._held)), _handle.MANY)
                 thread.return_value = -1
                 self.assertRaises(RuntimeError, map.close)
 

@@ -1,4 +1,4 @@
-/* What bindings/c/test.c needs of the library of C, for its run in a module. What is printed stays in memory, where run_c_test.js reads it.
+/* What bindings/c/tests needs of the library of C, for its run in a module. What is printed stays in memory, where run_c_test.js reads it.
  * The formats of printf are %d, %ld, %lu, %s and %.*s; another one ends the run. */
 #include "stdio.h"
 

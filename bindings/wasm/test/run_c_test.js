@@ -1,5 +1,5 @@
 #!/usr/bin/env node
-// run_c_test.js MODULE   runs bindings/c/test.c, which was linked with the library into this module, and prints what it says.
+// run_c_test.js MODULE   runs bindings/c/tests, which was linked with the library into this module, and prints what it says.
 'use strict';
 
 const { readFileSync } = require('node:fs');

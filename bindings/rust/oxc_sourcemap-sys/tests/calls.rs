@@ -49,86 +49,178 @@ fn versions_agree() {
     assert_eq!(unsafe { smap_version() }, SMAP_VERSION);
 }
 
+/// What calls write to. One that gets a null handle writes its fault alone.
+struct Outputs {
+    map: *mut smap_map,
+    string: *mut smap_string,
+    mapped: smap_original,
+    number: u32,
+    count: usize,
+    lent: smap_text,
+    counts: smap_counts,
+    position: smap_position,
+    token: smap_token,
+    fault: smap_fault,
+}
+
+fn outputs() -> Outputs {
+    Outputs {
+        map: null_mut(),
+        string: null_mut(),
+        mapped: smap_original { kind: 7, index: 7, token: smap_token::default(), source: text(""), name: text("") },
+        number: 7,
+        count: 7,
+        lent: text("x"),
+        counts: smap_counts::default(),
+        position: smap_position::default(),
+        token: smap_token::default(),
+        fault: smap_fault::default(),
+    }
+}
+
+/// The codes of calls that got these outputs, and a null handle each.
+fn are_of_null_handles(codes: &[u32], out: &Outputs) {
+    for (nth, &code) in codes.iter().enumerate() {
+        assert_eq!(code, SMAP_NULL_HANDLE, "call {nth}");
+    }
+    assert_eq!((out.number, out.count, out.mapped.kind), (7, 7, 7));
+    assert!(out.map.is_null() && out.string.is_null());
+}
+
+const NOWHERE: smap_position = smap_position { line: 0, column: 0 };
+
 #[test]
-fn null_handles_are_told_first() {
-    let (mut map, mut string, mut mapped) = (
-        null_mut(),
-        null_mut(),
-        smap_original { kind: 7, index: 7, token: smap_token::default(), source: text(""), name: text("") },
-    );
-    let (mut number, mut count, mut lent, mut counts) = (7, 7, text("x"), smap_counts::default());
-    let (mut token, mut fault) = (smap_token::default(), smap_fault::default());
-    let position = smap_position::default();
-    let maps = [null()];
+fn readers_tell_null_handles() {
+    let mut out = outputs();
+    // SAFETY: pointers are null or to live values, and lengths are theirs.
+    let codes = unsafe {
+        [
+            smap_get_mends(null(), null_mut(), 0, &mut out.count),
+            smap_get_counts(null(), &mut out.counts),
+            smap_is_sorted(null(), &mut out.number),
+            smap_is_sound(null(), &mut out.number),
+            smap_get_name(null(), 0, &mut out.lent),
+            smap_get_source(null(), 0, &mut out.lent),
+            smap_get_source_content(null(), 0, &mut out.lent),
+            smap_get_file(null(), &mut out.lent),
+            smap_get_source_root(null(), &mut out.lent),
+            smap_get_debug_id(null(), &mut out.lent),
+            smap_get_token(null(), 0, &mut out.token),
+            smap_get_tokens(null(), null_mut(), 0, &mut out.count),
+            smap_get_names(null(), null_mut(), 0, &mut out.count),
+            smap_get_sources(null(), null_mut(), 0, &mut out.count),
+            smap_get_source_contents(null(), null_mut(), 0, &mut out.count),
+            smap_get_ignore_list(null(), null_mut(), 0, &mut out.count),
+            smap_get_text(null(), &mut out.lent),
+        ]
+    };
+    are_of_null_handles(&codes, &out);
+}
+
+#[test]
+fn lookups_tell_null_handles_first() {
+    let mut out = outputs();
     let live = read(JSON);
     // SAFETY: pointers are null or to live values, and lengths are theirs.
-    unsafe {
-        let codes = [
-            smap_clone(null(), &mut map, &mut fault),
-            smap_get_mends(null(), null_mut(), 0, &mut count),
-            smap_get_counts(null(), &mut counts),
-            smap_is_sorted(null(), &mut number),
-            smap_is_sound(null(), &mut number),
-            smap_get_name(null(), 0, &mut lent),
-            smap_get_source(null(), 0, &mut lent),
-            smap_get_source_content(null(), 0, &mut lent),
-            smap_get_file(null(), &mut lent),
-            smap_get_source_root(null(), &mut lent),
-            smap_get_debug_id(null(), &mut lent),
-            smap_get_token(null(), 0, &mut token),
-            smap_get_tokens(null(), null_mut(), 0, &mut count),
-            smap_get_names(null(), null_mut(), 0, &mut count),
-            smap_get_sources(null(), null_mut(), 0, &mut count),
-            smap_get_source_contents(null(), null_mut(), 0, &mut count),
-            smap_get_ignore_list(null(), null_mut(), 0, &mut count),
-            smap_trace(null(), 0, 0, 99, &mut mapped, &mut fault),
-            smap_trace_all(null(), &position, 1, 99, null_mut(), 0, &mut fault),
-            smap_find_all(null(), &position, 1, 99, null_mut(), 0, &mut fault),
-            smap_pieces(null(), position, position, null_mut(), 0, &mut count),
-            smap_first_difference(null(), live, &mut smap_position::default()),
-            smap_first_difference(live, null(), &mut smap_position::default()),
-            smap_index_sources(null_mut(), &mut fault),
-            smap_generated(null(), 0, 0, 0, 99, &mut number, &mut token),
-            smap_all_generated(null(), 0, 0, 0, 99, null_mut(), 0, &mut count),
-            smap_set_file(null_mut(), at("\u{ff}"), 1, &mut fault),
-            smap_set_source_root(null_mut(), at(""), 0, &mut fault),
-            smap_set_debug_id(null_mut(), at(""), 0, &mut fault),
-            smap_set_ignore_list(null_mut(), null(), 0, &mut fault),
-            smap_set_sources(null_mut(), null(), 0, &mut fault),
-            smap_set_source_contents(null_mut(), null(), 0, &mut fault),
-            smap_apply_source_root(null_mut(), &mut fault),
-            smap_sort(null_mut(), &mut fault),
-            smap_simplify(null_mut(), &mut fault),
-            smap_compose(null(), live, &mut map, &mut fault),
-            smap_compose(live, null(), &mut map, &mut fault),
-            smap_remap(null(), null(), 0, null(), 0, &mut map, &mut fault),
-            smap_remap(live, &text(""), 1, maps.as_ptr(), 1, &mut map, &mut fault),
-            smap_join_all(maps.as_ptr(), 1, &position, 1, &mut map, &mut fault),
-            smap_join_add(null_mut(), live, 0, 0, &mut fault),
-            smap_join_finish(null_mut(), &mut map, &mut fault),
-            smap_builder_add_name(null_mut(), at(""), 0, &mut number, &mut fault),
-            smap_builder_add_source_and_content(null_mut(), at(""), 0, at(""), 0, &mut number, &mut fault),
-            smap_builder_add_source(null_mut(), at(""), 0, &mut number, &mut fault),
-            smap_builder_add_tokens(null_mut(), null(), 0, &mut fault),
-            smap_builder_set_file(null_mut(), at(""), 0, &mut fault),
-            smap_builder_finish(null_mut(), &mut map, &mut fault),
-            smap_to_json_string(null(), &mut string, &mut fault),
-            smap_to_data_url(null(), &mut string, &mut fault),
-            smap_get_mappings(null(), &mut string, &mut fault),
-            smap_to_json_string_within(null(), 9, &mut string, &mut fault),
-            smap_to_data_url_within(null(), 9, &mut string, &mut fault),
-            smap_get_mappings_within(null(), 9, &mut string, &mut fault),
-            smap_visualize(null(), at(""), 0, &mut string, &mut fault),
-            smap_visualizer_url(null(), at(""), 0, &mut string, &mut fault),
-            smap_get_text(null(), &mut lent),
-        ];
-        for (nth, code) in codes.into_iter().enumerate() {
-            assert_eq!(code, SMAP_NULL_HANDLE, "call {nth}");
-        }
-        assert_eq!((fault.code, number, count, mapped.kind), (SMAP_NULL_HANDLE, 7, 7, 7));
-        assert!(map.is_null() && string.is_null());
-        smap_free_map(live);
-    }
+    let codes = unsafe {
+        [
+            smap_trace(null(), 0, 0, 99, &mut out.mapped, &mut out.fault),
+            smap_trace_all(null(), &NOWHERE, 1, 99, null_mut(), 0, &mut out.fault),
+            smap_find_all(null(), &NOWHERE, 1, 99, null_mut(), 0, &mut out.fault),
+            smap_pieces(null(), NOWHERE, NOWHERE, null_mut(), 0, &mut out.count),
+            smap_first_difference(null(), live, &mut out.position),
+            smap_first_difference(live, null(), &mut out.position),
+            smap_generated(null(), 0, 0, 0, 99, &mut out.number, &mut out.token),
+            smap_all_generated(null(), 0, 0, 0, 99, null_mut(), 0, &mut out.count),
+        ]
+    };
+    are_of_null_handles(&codes, &out);
+    assert_eq!(out.fault.code, SMAP_NULL_HANDLE);
+    // SAFETY: the map is live, and used no more.
+    unsafe { smap_free_map(live) };
+}
+
+#[test]
+fn changes_tell_null_handles_first() {
+    let mut out = outputs();
+    // SAFETY: pointers are null or to live values, and lengths are theirs.
+    let codes = unsafe {
+        [
+            smap_index_sources(null_mut(), &mut out.fault),
+            smap_set_file(null_mut(), at("\u{ff}"), 1, &mut out.fault),
+            smap_set_source_root(null_mut(), at(""), 0, &mut out.fault),
+            smap_set_debug_id(null_mut(), at(""), 0, &mut out.fault),
+            smap_set_ignore_list(null_mut(), null(), 0, &mut out.fault),
+            smap_set_sources(null_mut(), null(), 0, &mut out.fault),
+            smap_set_source_contents(null_mut(), null(), 0, &mut out.fault),
+            smap_apply_source_root(null_mut(), &mut out.fault),
+            smap_sort(null_mut(), &mut out.fault),
+            smap_simplify(null_mut(), &mut out.fault),
+        ]
+    };
+    are_of_null_handles(&codes, &out);
+    assert_eq!(out.fault.code, SMAP_NULL_HANDLE);
+}
+
+#[test]
+fn makers_of_maps_tell_null_handles_first() {
+    let mut out = outputs();
+    let live = read(JSON);
+    // SAFETY: pointers are null or to live values, and lengths are theirs.
+    let codes = unsafe {
+        [
+            smap_clone(null(), &mut out.map, &mut out.fault),
+            smap_compose(null(), live, &mut out.map, &mut out.fault),
+            smap_compose(live, null(), &mut out.map, &mut out.fault),
+            smap_remap(null(), null(), 0, null(), 0, &mut out.map, &mut out.fault),
+            smap_remap(live, &text(""), 1, [null()].as_ptr(), 1, &mut out.map, &mut out.fault),
+            smap_join_all([null()].as_ptr(), 1, &NOWHERE, 1, &mut out.map, &mut out.fault),
+            smap_join_add(null_mut(), live, 0, 0, &mut out.fault),
+            smap_join_finish(null_mut(), &mut out.map, &mut out.fault),
+        ]
+    };
+    are_of_null_handles(&codes, &out);
+    assert_eq!(out.fault.code, SMAP_NULL_HANDLE);
+    // SAFETY: the map is live, and used no more.
+    unsafe { smap_free_map(live) };
+}
+
+#[test]
+fn builders_tell_null_handles_first() {
+    let mut out = outputs();
+    // SAFETY: pointers are null or to live values, and lengths are theirs.
+    let codes = unsafe {
+        [
+            smap_builder_add_name(null_mut(), at(""), 0, &mut out.number, &mut out.fault),
+            smap_builder_add_source_and_content(null_mut(), at(""), 0, at(""), 0, &mut out.number, &mut out.fault),
+            smap_builder_add_source(null_mut(), at(""), 0, &mut out.number, &mut out.fault),
+            smap_builder_add_tokens(null_mut(), null(), 0, &mut out.fault),
+            smap_builder_set_file(null_mut(), at(""), 0, &mut out.fault),
+            smap_builder_finish(null_mut(), &mut out.map, &mut out.fault),
+        ]
+    };
+    are_of_null_handles(&codes, &out);
+    assert_eq!(out.fault.code, SMAP_NULL_HANDLE);
+}
+
+#[test]
+fn writers_tell_null_handles_first() {
+    let mut out = outputs();
+    // SAFETY: pointers are null or to live values, and lengths are theirs.
+    let codes = unsafe {
+        [
+            smap_to_json_string(null(), &mut out.string, &mut out.fault),
+            smap_to_data_url(null(), &mut out.string, &mut out.fault),
+            smap_get_mappings(null(), &mut out.string, &mut out.fault),
+            smap_to_json_string_within(null(), 9, &mut out.string, &mut out.fault),
+            smap_to_data_url_within(null(), 9, &mut out.string, &mut out.fault),
+            smap_get_mappings_within(null(), 9, &mut out.string, &mut out.fault),
+            smap_visualize(null(), at(""), 0, &mut out.string, &mut out.fault),
+            smap_visualizer_url(null(), at(""), 0, &mut out.string, &mut out.fault),
+        ]
+    };
+    are_of_null_handles(&codes, &out);
+    assert_eq!(out.fault.code, SMAP_NULL_HANDLE);
 }
 
 #[test]

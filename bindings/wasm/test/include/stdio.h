@@ -1,4 +1,4 @@
-/* As much of it as bindings/c/test.c needs. */
+/* As much of it as bindings/c/tests needs. */
 #ifndef STDIO_H
 #define STDIO_H
 #include <stddef.h>

@@ -1,0 +1,100 @@
+/* Null in the place of a handle. */
+#include "tests.h"
+
+static void null_readers(void) {
+    smap_counts counts;
+    smap_text text = text_of("kept");
+    smap_token token;
+    smap_mend mend;
+    uint32_t n = 77;
+    size_t count = 77;
+    counts.tokens = 77;
+    token.dst_line = 77;
+#define NULL_HANDLE(call) CHECK((call) == SMAP_NULL_HANDLE)
+    NULL_HANDLE(smap_get_counts(NULL, &counts));
+    NULL_HANDLE(smap_is_sorted(NULL, &n));
+    NULL_HANDLE(smap_is_sound(NULL, &n));
+    NULL_HANDLE(smap_get_name(NULL, 0, &text));
+    NULL_HANDLE(smap_get_source(NULL, 0, &text));
+    NULL_HANDLE(smap_get_source_content(NULL, 0, &text));
+    NULL_HANDLE(smap_get_file(NULL, &text));
+    NULL_HANDLE(smap_get_source_root(NULL, &text));
+    NULL_HANDLE(smap_get_debug_id(NULL, &text));
+    NULL_HANDLE(smap_get_token(NULL, 0, &token));
+    NULL_HANDLE(smap_get_tokens(NULL, &token, 1, &count));
+    NULL_HANDLE(smap_get_names(NULL, &text, 1, &count));
+    NULL_HANDLE(smap_get_sources(NULL, &text, 1, &count));
+    NULL_HANDLE(smap_get_source_contents(NULL, &text, 1, &count));
+    NULL_HANDLE(smap_get_ignore_list(NULL, &n, 1, &count));
+    NULL_HANDLE(smap_get_mends(NULL, &mend, 1, &count));
+    NULL_HANDLE(smap_generated(NULL, 0, 0, 0, 9, &n, &token));
+    NULL_HANDLE(smap_all_generated(NULL, 0, 0, 0, 9, &n, 1, &count));
+    NULL_HANDLE(smap_get_text(NULL, &text));
+    CHECK(counts.tokens == 77 && n == 77 && count == 77 && token.dst_line == 77 && is(&text, "kept"));
+    smap_free_map(NULL);
+    smap_free_mends(NULL);
+    smap_free_join(NULL);
+    smap_free_builder(NULL);
+    smap_free_string(NULL);
+}
+
+/* The same of calls with a fault. */
+static void null_handles(void) {
+    smap_map *map = read_map(B), *out = (smap_map *)&failed;
+    smap_string *string = (smap_string *)&failed;
+    smap_fault fault = junk();
+    smap_original p;
+    smap_position one = { 0, 0 };
+    smap_piece piece;
+    smap_token token = token_of(0, 0, 0, 0, 0, 0);
+    smap_text bad = text_of("\xff");
+    uint32_t n = 77;
+    size_t count = 77;
+    p.kind = 77;
+#define NULL_FAULT(call) CHECK((call) == SMAP_NULL_HANDLE && is_fault(&fault, SMAP_NULL_HANDLE, 0)), fault = junk()
+    NULL_FAULT(smap_clone(NULL, &out, &fault));
+    NULL_FAULT(smap_trace(NULL, 0, 0, 9, &p, &fault));
+    NULL_FAULT(smap_trace_all(NULL, &one, 1, 9, &p, 0, &fault));
+    NULL_FAULT(smap_find_all(NULL, &one, 1, 9, &n, 0, &fault));
+    NULL_HANDLE(smap_pieces(NULL, one, one, &piece, 1, &count));
+    NULL_HANDLE(smap_first_difference(NULL, map, &one));
+    NULL_HANDLE(smap_first_difference(map, NULL, &one));
+    NULL_FAULT(smap_index_sources(NULL, &fault));
+    NULL_FAULT(smap_set_file(NULL, TEXT("\xff"), &fault));
+    NULL_FAULT(smap_set_source_root(NULL, TEXT("\xff"), &fault));
+    NULL_FAULT(smap_set_debug_id(NULL, TEXT("\xff"), &fault));
+    NULL_FAULT(smap_set_ignore_list(NULL, &n, 1, &fault));
+    NULL_FAULT(smap_set_sources(NULL, &bad, 1, &fault));
+    NULL_FAULT(smap_set_source_contents(NULL, &bad, 1, &fault));
+    NULL_FAULT(smap_apply_source_root(NULL, &fault));
+    NULL_FAULT(smap_sort(NULL, &fault));
+    NULL_FAULT(smap_simplify(NULL, &fault));
+    NULL_FAULT(smap_compose(NULL, map, &out, &fault));
+    NULL_FAULT(smap_compose(map, NULL, &out, &fault));
+    NULL_FAULT(smap_remap(NULL, &bad, 1, NULL, 0, &out, &fault));
+    NULL_FAULT(smap_join_add(NULL, map, 0, 0, &fault));
+    NULL_FAULT(smap_join_finish(NULL, &out, &fault));
+    NULL_FAULT(smap_builder_add_name(NULL, TEXT("\xff"), &n, &fault));
+    NULL_FAULT(smap_builder_add_source_and_content(NULL, TEXT("\xff"), TEXT("\xff"), &n, &fault));
+    NULL_FAULT(smap_builder_add_source(NULL, TEXT("\xff"), &n, &fault));
+    NULL_FAULT(smap_builder_add_tokens(NULL, &token, 1, &fault));
+    NULL_FAULT(smap_builder_set_file(NULL, TEXT("\xff"), &fault));
+    NULL_FAULT(smap_builder_finish(NULL, &out, &fault));
+    NULL_FAULT(smap_to_json_string(NULL, &string, &fault));
+    NULL_FAULT(smap_to_data_url(NULL, &string, &fault));
+    NULL_FAULT(smap_get_mappings(NULL, &string, &fault));
+    NULL_FAULT(smap_to_json_string_within(NULL, 9, &string, &fault));
+    NULL_FAULT(smap_to_data_url_within(NULL, 9, &string, &fault));
+    NULL_FAULT(smap_get_mappings_within(NULL, 9, &string, &fault));
+    NULL_FAULT(smap_visualize(NULL, TEXT("\xff"), &string, &fault));
+    NULL_FAULT(smap_visualizer_url(NULL, TEXT("\xff"), &string, &fault));
+    NULL_HANDLE(smap_to_json_string(NULL, &string, NULL));
+    NULL_HANDLE(smap_sort(NULL, NULL));
+    CHECK(out == (smap_map *)&failed && string == (smap_string *)&failed && n == 77 && count == 77 && p.kind == 77);
+    smap_free_map(map);
+}
+
+void test_null_handles(void) {
+    null_readers();
+    null_handles();
+}

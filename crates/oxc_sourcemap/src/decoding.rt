@@ -4,8 +4,7 @@ ghost use Rattle.oxc_sourcemap.specs.Words.{view, IsInLineOrder, are_tokens_sort
 ghost use Rattle.oxc_sourcemap.specs.Words.{IsSound, json_record, decoded, json_fault, read_value};
 ghost use Rattle.oxc_sourcemap.specs.Words.{read_map, Answers, Reports};
 
-use oxc_sourcemap_decode::decode_parts_from_value;
-use oxc_sourcemap_json::JSONSourceMap;
+use oxc_sourcemap_json::{JSONSourceMap, decode_parts_from_value};
 use oxc_sourcemap_map::SourceMap;
 use oxc_sourcemap_tokens::Result;
 use serde_json::Value;
@@ -67,7 +66,7 @@ pub fn decode(alloc: Global, json: JSONSourceMap) -> Result<SourceMap<'static>>
 /// - `TooLarge` if the join with its map would be too large, as for `ConcatSourceMapBuilder::add_sourcemap_at`.
 ///
 /// Also `OutOfMemory` for want of memory, which may be before another error is found.
-#[tactic(auto, using(oxc_sourcemap_decode::proofs::WellRead::value_sound, oxc_sourcemap_decode::proofs::WellRead::value_in_order))]
+#[tactic(auto, using(oxc_sourcemap_json::proofs::WellRead::value_sound, oxc_sourcemap_json::proofs::WellRead::value_in_order))]
 pub fn decode_value(alloc: Global, value: &Value) -> Result<SourceMap<'static>>
     ensures map { Answers (λ map. map) result (read_value (view value.now)) }
     ensures sound { IfOk result (λ map. IsSound map ↔ (are_tokens_sorted map.tokens ≡ true)) }

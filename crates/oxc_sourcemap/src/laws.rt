@@ -1,16 +1,13 @@
 //! Laws of the definitions. Each is a function that does nothing: its contract is the law, and a caller gets it by calling the
 //! function. All but `tokens_in_bounds` have no parameters, result or body.
 
-pub use oxc_sourcemap_builders::name_ids_unique;
 pub use oxc_sourcemap_found::mending_harmless;
 pub use oxc_sourcemap_laws::{
-    canonical_unique, composition_associative, dropping_harmless, joins_associative,
-    remapping_associative, rooting_idempotent, simplifying_stands, steps_over_simplified,
-    tokens_in_bounds, trace_of_composition, trace_of_join, trace_of_remap,
+    canonical_unique, composition_associative, data_urls_read_back, dropping_harmless,
+    joins_associative, remapping_associative, rooting_idempotent, simplifying_stands,
+    steps_over_simplified, tokens_in_bounds, trace_of_composition, trace_of_join, trace_of_remap,
 };
-pub use oxc_sourcemap_pieces::range_pieces;
-pub use oxc_sourcemap_reverse::reverse_lookups;
-pub use oxc_sourcemap_simplify::simplifying_harmless;
-pub use oxc_sourcemap_sort::sorting_harmless;
+pub use oxc_sourcemap_map::{name_ids_unique, reverse_lookups};
+pub use oxc_sourcemap_queries::range_pieces;
+pub use oxc_sourcemap_steps::{simplifying_harmless, sorting_harmless};
 pub use oxc_sourcemap_text::positions_and_offsets_inverse;
-pub use oxc_sourcemap_url::data_urls_read_back;

@@ -12,27 +12,27 @@ pub mod laws;
 pub use decoding::{decode, decode_from_string, decode_value};
 pub use encoding::{encode, encode_to_string};
 pub use evaluation::evaluate;
-pub use oxc_sourcemap_builders::{ConcatSourceMapBuilder, SourceMapBuilder};
-pub use oxc_sourcemap_encode::{encode_mappings_within, push_json_string};
 pub use oxc_sourcemap_found::{Found, Mend, MendKind, fault_reason, found_fault_at, read_found};
-pub use oxc_sourcemap_json::{JSONSourceMap, file_from_value};
-pub use oxc_sourcemap_map::{OwnedSourceMap, SourceMap, SourceViewToken, ViewTokens};
+pub use oxc_sourcemap_json::{
+    FaultReason, JSONSourceMap, encode_mappings_within, file_from_value, json_fault_at,
+    json_fault_reason, push_json_string, value_fault_at,
+};
+pub use oxc_sourcemap_map::{
+    ConcatSourceMapBuilder, IndexTokens, OwnedSourceMap, SourceIndex, SourceMap, SourceMapBuilder,
+    SourceViewToken, SourcemapVisualizer, ViewTokens,
+};
 pub use oxc_sourcemap_mappings::{
     SegmentReason, decode_mappings, encode_chunk, encode_mappings, mappings_fault_at,
     mappings_fault_reason,
 };
 pub use oxc_sourcemap_parts::{Contents, Names, SourceMapParts, Sources, Tokens};
-pub use oxc_sourcemap_pieces::{Piece, Pieces};
-pub use oxc_sourcemap_places::{FaultReason, json_fault_at, json_fault_reason, value_fault_at};
 pub use oxc_sourcemap_plan::{Plan, plan_fault_at};
-pub use oxc_sourcemap_reverse::{IndexTokens, SourceIndex};
-pub use oxc_sourcemap_text::{PositionError, TextPositions};
+pub use oxc_sourcemap_queries::{Piece, Pieces};
+pub use oxc_sourcemap_text::{
+    DataUrlError, Language, PositionError, SourceMappingComment, TextPositions, decode_data_url,
+    source_mapping_comment, source_mapping_url,
+};
 pub use oxc_sourcemap_tokens::{
     Error, FaultPlace, FaultSpot, Field, JsonFault, PlanError, Position, Result, SegmentPlace,
     Token, TokenChunk, chunk_fault,
 };
-pub use oxc_sourcemap_url::{
-    DataUrlError, Language, SourceMappingComment, decode_data_url, source_mapping_comment,
-    source_mapping_url,
-};
-pub use oxc_sourcemap_visualizer::SourcemapVisualizer;

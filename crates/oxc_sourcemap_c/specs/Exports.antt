@@ -12,8 +12,8 @@ use Rattle.oxc_sourcemap_handles.specs.Codes.{fault_of, code_of, no_fault}
 use Rattle.oxc_sourcemap_handles.specs.declared.held.Held.{Held}
 use Rattle.oxc_sourcemap_handles.specs.declared.text.Text.{Text as LentText}
 use Rattle.oxc_sourcemap_handles.specs.Holding.{held_map, held_text, HoldsMap}
-use Rattle.oxc_sourcemap_handles_reading.specs.Answers.{HasLength}
-use Rattle.oxc_sourcemap_handles_reading.specs.Writing.{IsUrlOf}
+use Rattle.oxc_sourcemap_c.specs.Answers.{HasLength}
+use Rattle.oxc_sourcemap_c.specs.Writing.{IsUrlOf}
 
 -- A call that takes no memory fails: its code and its fault are those of one of these errors.
 abbrev pub IsError : ℕ → Fault → (CallError → Type 0) → Type 0

@@ -1,3 +1,16 @@
+pub mod Messages
+pub mod Reverse
+pub mod Ranges
+pub mod Answers
+pub mod Mends
+pub mod Writing
+pub mod Joining
+pub mod Changes
+pub mod Builders
+pub mod Failures
+pub mod Making
+pub mod MapsOfMaps
+pub mod Plans
 pub mod Exports
 pub mod Reading
 pub mod Words

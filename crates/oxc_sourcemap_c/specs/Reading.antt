@@ -1,22 +1,22 @@
 -- The results of exports that read: a code, and what is written.
-use Rattle.std.specs.Prelude.{◌≡◌, ◌≢◌, ℕ, List, length, get_or, slice_get, Option}
-use Rattle.std.specs.Prelude.{MatchOption, MatchResult}
+use Rattle.std.specs.Prelude.{◌≡◌, ◌≢◌, ℕ, List, length, get_or, slice_get, Option, MatchOption}
+use Rattle.std.specs.Prelude.{MatchResult}
 use Rattle.oxc_sourcemap_tokens.specs.declared.position.Position.{Position}
 use Rattle.oxc_sourcemap_parts.specs.Record.{MapRecord}
-use Rattle.oxc_sourcemap_differ.specs.Differences.{HaveSameTraceEverywhere, IsFirstDifference}
-use Rattle.oxc_sourcemap_differ.specs.Differences.{IfBothSorted}
-use Rattle.oxc_sourcemap_reverse.specs.Places.{no_token}
+use Rattle.oxc_sourcemap_queries.specs.Differences.{HaveSameTraceEverywhere, IsFirstDifference}
+use Rattle.oxc_sourcemap_queries.specs.Differences.{IfBothSorted}
+use Rattle.oxc_sourcemap_map.specs.Places.{no_token}
 use Rattle.oxc_sourcemap_handles.specs.declared.call_error.CallError.TheVariants.{NullHandle}
 use Rattle.oxc_sourcemap_handles.specs.declared.call_error.CallError.TheVariants.{NoEntry}
 use Rattle.oxc_sourcemap_handles.specs.declared.held.Held.{Held}
-use Rattle.oxc_sourcemap_handles_reading.specs.declared.reverse.SourcePlace.{SourcePlace}
+use Rattle.oxc_sourcemap_c.specs.declared.reading.reverse.SourcePlace.{SourcePlace}
 use Rattle.oxc_sourcemap_handles.specs.declared.text.TokenNumbers.{TokenNumbers}
 use Rattle.oxc_sourcemap_handles.specs.Codes.{code_of}
 use Rattle.oxc_sourcemap_handles.specs.Holding.{held_map}
 use Rattle.oxc_sourcemap_handles.specs.Indexed.{Loaded}
 use Rattle.oxc_sourcemap_handles.specs.Listed.{filled, AreFilled}
 use Rattle.oxc_sourcemap_handles.specs.Places.{numbers_of}
-use Rattle.oxc_sourcemap_handles_reading.specs.Reverse.{generated_in, tokens_in}
+use Rattle.oxc_sourcemap_c.specs.Reverse.{generated_in, tokens_in}
 
 -- the result of asking for a list of a handle's map: the code of an empty handle, or 0, as many entries as there is room for, and
 -- the number of all

@@ -1,8 +1,7 @@
 -- What is read with some numbers of names and sources is read with greater ones, as the same tokens.
-use Rattle.std.proofs.Common.{◌≡◌, ℕ, ◌+◌, ◌≤◌, Bool, true, false, cond, nat_lt, List, []}
-use Rattle.std.proofs.Common.{◌∷◌, ◌++◌, length, pos, negsuc, ℤ, arith, refl, ap, inl}
-use Rattle.std.proofs.Common.{inr}
-use Rattle.std.proofs.Common.{Option, Some, None, Result, Ok, Err}
+use Rattle.std.proofs.Common.{◌≡◌, ℕ, ◌+◌, ◌≤◌, Bool, true, false, cond, nat_lt, List, [], ◌∷◌}
+use Rattle.std.proofs.Common.{◌++◌, length, pos, negsuc, ℤ, arith, refl, ap, inl, inr, Option, Some}
+use Rattle.std.proofs.Common.{None, Result, Ok, Err}
 use Rattle.std.proofs.lemmas.Bool.{cases_lt}
 use Rattle.std.proofs.lemmas.Bool.Decides.{nat_tests}
 use Rattle.oxc_sourcemap_tokens.specs.declared.error.Error.{Error}
@@ -10,18 +9,16 @@ use Rattle.oxc_sourcemap_tokens.specs.Errors.{unless}
 use Rattle.oxc_sourcemap_tokens.specs.Token.{TokenRecord}
 use Rattle.oxc_sourcemap_json.specs.Json.{JsonRecord}
 use Rattle.oxc_sourcemap_parts.specs.Record.{MapRecord}
-use Rattle.oxc_sourcemap_decode.specs.Decoded.{decoded_record, with_tokens, json_fault, decoded}
+use Rattle.oxc_sourcemap_json.specs.Decoded.{decoded_record, with_tokens, json_fault, decoded}
 use Rattle.oxc_sourcemap_found.specs.MendedMaps.{decoded_with_any_ids}
 use Rattle.oxc_sourcemap_mappings.specs.Parts.{Segment, has_source, has_name, lines}
 use Rattle.oxc_sourcemap_mappings.specs.Places.{Place, Before, nothing_before, place, past_segment}
 use Rattle.oxc_sourcemap_mappings.specs.Places.{past_line}
 use Rattle.oxc_sourcemap_mappings.specs.Faults.{Counts, counts_of, ◌orelse◌, is_id_below}
 use Rattle.oxc_sourcemap_mappings.specs.Faults.{source_fault, name_fault, place_fault}
-use Rattle.oxc_sourcemap_mappings.specs.Faults.{segment_fault}
-use Rattle.oxc_sourcemap_mappings.specs.Faults.{digit_fault}
+use Rattle.oxc_sourcemap_mappings.specs.Faults.{segment_fault, digit_fault}
 use Rattle.oxc_sourcemap_mappings.specs.Reading.{token_at, segment_result, line_results}
-use Rattle.oxc_sourcemap_mappings.specs.Reading.{text_results}
-use Rattle.oxc_sourcemap_mappings.specs.Reading.{onto, gathered, reading}
+use Rattle.oxc_sourcemap_mappings.specs.Reading.{text_results, onto, gathered, reading}
 
 -- one count of names and of sources is at most another one
 record IsAtMost (c d : Counts) : Type 0 where

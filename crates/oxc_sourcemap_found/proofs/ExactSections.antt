@@ -1,14 +1,13 @@
 -- Sections of an indexed map that the exact reader reads: nothing is mended in them, and none is cut.
-use Rattle.std.proofs.Common.{◌≡◌, ℕ, ◌+◌, Bool, true, false, cond, not, List, [], ◌∷◌}
-use Rattle.std.proofs.Common.{◌++◌, map, length, refl, ap, sym, ◌∙◌, subst, append_assoc}
-use Rattle.std.proofs.Common.{Option, Some, None, option_map, Result, Ok, Err}
+use Rattle.std.proofs.Common.{◌≡◌, ℕ, ◌+◌, Bool, true, false, cond, not, List, [], ◌∷◌, ◌++◌, map}
+use Rattle.std.proofs.Common.{length, refl, ap, sym, ◌∙◌, subst, append_assoc, Option, Some, None}
+use Rattle.std.proofs.Common.{option_map, Result, Ok, Err}
 use Rattle.std.specs.List.{last_or}
 use Rattle.std.specs.Option.{option_map_or}
 use Rattle.std.proofs.lemmas.Bool.{and_parts}
 use Rattle.std.proofs.lemmas.List.{append-nil, length-append}
 use Rattle.serde_json.specs.Data.{Data, null, boolean, number, string, array, object, Items}
-use Rattle.serde_json.specs.Data.{no_items}
-use Rattle.serde_json.specs.Data.{item}
+use Rattle.serde_json.specs.Data.{no_items, item}
 use Rattle.serde_json.specs.Find.{as_object}
 use Rattle.oxc_sourcemap_tokens.specs.declared.error.Error.{Error}
 use Rattle.oxc_sourcemap_tokens.specs.declared.error.Error.TheVariants.{SectionOrder}
@@ -17,18 +16,16 @@ use Rattle.oxc_sourcemap_tokens.specs.declared.position.Position.{Position}
 use Rattle.oxc_sourcemap_tokens.specs.Token.{TokenRecord, last}
 use Rattle.oxc_sourcemap_parts.specs.Record.{MapRecord}
 use Rattle.oxc_sourcemap_json.specs.Shape.{◌>>=◌, or_misshapen, shape}
-use Rattle.oxc_sourcemap_decode.specs.Decoded.{decoded}
-use Rattle.oxc_sourcemap_decode.specs.Section.{place_in, map_in}
-use Rattle.oxc_sourcemap_decode.specs.Sections.{Sections, may_follow, moved_position}
-use Rattle.oxc_sourcemap_decode.specs.Sections.{token_positions, may_begin, in_order, place_after}
-use Rattle.oxc_sourcemap_decode.specs.Sections.{section_map, section_after, onto_section}
-use Rattle.oxc_sourcemap_decode.specs.Sections.{sections_after}
+use Rattle.oxc_sourcemap_json.specs.Decoded.{decoded}
+use Rattle.oxc_sourcemap_json.specs.Section.{place_in, map_in}
+use Rattle.oxc_sourcemap_json.specs.Sections.{Sections, may_follow, moved_position, token_positions}
+use Rattle.oxc_sourcemap_json.specs.Sections.{may_begin, in_order, place_after, section_map}
+use Rattle.oxc_sourcemap_json.specs.Sections.{section_after, onto_section, sections_after}
 use Rattle.oxc_sourcemap_found.specs.MendedMaps.{plain_map}
-use Rattle.oxc_sourcemap_found.specs.MendedSections.{MendedSection, place_from}
-use Rattle.oxc_sourcemap_found.specs.MendedSections.{map_from, section_from, sections_from}
-use Rattle.oxc_sourcemap_found.specs.MendedSections.{is_behind, reaches_into}
-use Rattle.oxc_sourcemap_found.specs.MendedSections.{next_place, cut_map, cut_kinds, cut_maps}
-use Rattle.oxc_sourcemap_found.specs.MendedSections.{section_mends}
+use Rattle.oxc_sourcemap_found.specs.MendedSections.{MendedSection, place_from, map_from}
+use Rattle.oxc_sourcemap_found.specs.MendedSections.{section_from, sections_from, is_behind}
+use Rattle.oxc_sourcemap_found.specs.MendedSections.{reaches_into, next_place, cut_map, cut_kinds}
+use Rattle.oxc_sourcemap_found.specs.MendedSections.{cut_maps, section_mends}
 use Rattle.oxc_sourcemap_found.proofs.Kept.{step}
 use Rattle.oxc_sourcemap_found.proofs.PlainMaps.{mended_as, plain-kept}
 

@@ -7,8 +7,8 @@ use Rattle.oxc_sourcemap_parts.specs.Record.{Text}
 use Rattle.oxc_sourcemap_json.specs.Shape.{◌>>=◌}
 use Rattle.oxc_sourcemap_found.specs.declared.mend.Mend.{Mend}
 use Rattle.oxc_sourcemap_found.specs.MendedMaps.{mends_in}
-use Rattle.oxc_sourcemap_found.specs.FoundMaps.{FoundRecord, found_value, found_opened}
-use Rattle.oxc_sourcemap_found.specs.FoundMaps.{in_order, found}
+use Rattle.oxc_sourcemap_found.specs.FoundMaps.{FoundRecord, found_value, found_opened, in_order}
+use Rattle.oxc_sourcemap_found.specs.FoundMaps.{found}
 use Rattle.oxc_sourcemap_found.specs.Opening.{Opened, opened}
 
 pub found-by : (text : Text) (o : Opened) (d : Data) (mends : List Mend) (r : Result FoundRecord Error) → o ≡ opened text → read o.text ≡ Some d → mends ≡ mends_in None o.kinds

@@ -1,12 +1,11 @@
 -- In the object of a map that the exact reader reads, nothing is mended.
-use Rattle.std.proofs.Common.{◌≡◌, ℕ, suc, ◌+◌, true, false, cond, not, nat_lt, List, []}
-use Rattle.std.proofs.Common.{◌∷◌, length, codes, refl, ap, ◌∙◌, inl, inr, arith}
-use Rattle.std.proofs.Common.{Option, Some, None, Result, Ok, Err}
+use Rattle.std.proofs.Common.{◌≡◌, ℕ, suc, ◌+◌, true, false, cond, not, nat_lt, List, [], ◌∷◌}
+use Rattle.std.proofs.Common.{length, codes, refl, ap, ◌∙◌, inl, inr, arith, Option, Some, None}
+use Rattle.std.proofs.Common.{Result, Ok, Err}
 use Rattle.std.proofs.lemmas.Bool.{cases_lt}
 use Rattle.std.proofs.lemmas.Bool.Decides.{nat_tests}
 use Rattle.std.specs.Option.{is_some, option_and_then, option_map_or}
-use Rattle.serde_json.specs.Data.{unsigned, negative, float, Data, null, boolean, number}
-use Rattle.serde_json.specs.Data.{string}
+use Rattle.serde_json.specs.Data.{unsigned, negative, float, Data, null, boolean, number, string}
 use Rattle.serde_json.specs.Data.{array, object, Items, no_items, item, Members}
 use Rattle.serde_json.specs.Find.{get_member, as_str, as_array}
 use Rattle.oxc_sourcemap_tokens.specs.declared.error.Error.{Error}
@@ -15,26 +14,25 @@ use Rattle.oxc_sourcemap_tokens.specs.declared.error.Field.TheVariants.{Version 
 use Rattle.oxc_sourcemap_tokens.specs.declared.error.Field.TheVariants.{Sources as SourcesField}
 use Rattle.oxc_sourcemap_tokens.specs.declared.error.Field.TheVariants.{Names, SourcesContent}
 use Rattle.oxc_sourcemap_tokens.specs.declared.error.Field.TheVariants.{IgnoreList}
-use Rattle.oxc_sourcemap_tokens.specs.declared.error.Field.TheVariants.{GoogleIgnoreList}
-use Rattle.oxc_sourcemap_tokens.specs.declared.error.Field.TheVariants.{File, Mappings, SourceRoot}
+use Rattle.oxc_sourcemap_tokens.specs.declared.error.Field.TheVariants.{GoogleIgnoreList, File}
+use Rattle.oxc_sourcemap_tokens.specs.declared.error.Field.TheVariants.{Mappings, SourceRoot}
 use Rattle.oxc_sourcemap_tokens.specs.declared.error.Field.TheVariants.{DebugId}
 use Rattle.oxc_sourcemap_json.specs.Json.{JsonRecord}
 use Rattle.oxc_sourcemap_json.specs.Shape.{◌>>=◌, or_misshapen, present, optional, onto_read}
 use Rattle.oxc_sourcemap_json.specs.Shape.{all_items, as_list, as_content, as_id, texts_in}
-use Rattle.oxc_sourcemap_json.specs.Shape.{contents_in, ids_in, required, version_of}
-use Rattle.oxc_sourcemap_json.specs.Shape.{names_of, ignore_list_of, shape, text_in, version_three}
+use Rattle.oxc_sourcemap_json.specs.Shape.{contents_in, ids_in, required, version_of, names_of}
+use Rattle.oxc_sourcemap_json.specs.Shape.{ignore_list_of, shape, text_in, version_three}
 use Rattle.oxc_sourcemap_found.specs.declared.members.Entries.{Entries}
 use Rattle.oxc_sourcemap_found.specs.declared.members.Entries.TheVariants.{Sources, Contents, Ids}
 use Rattle.oxc_sourcemap_found.specs.declared.members.Entries.TheVariants.{GoogleIds}
 use Rattle.oxc_sourcemap_found.specs.Mended.{is_null, is_other_three, version_change, names_change}
 use Rattle.oxc_sourcemap_found.specs.Mended.{entries, is_id_of, may_stay, kinds_from, list_change}
 use Rattle.oxc_sourcemap_found.specs.Mended.{sources_change, list_or_null_change}
-use Rattle.oxc_sourcemap_found.specs.Mended.{optional_list_change, changed, as_found}
-use Rattle.oxc_sourcemap_found.specs.Mended.{with_version, with_sources, with_contents, with_names}
-use Rattle.oxc_sourcemap_found.specs.Mended.{source_count, with_ignore_list}
-use Rattle.oxc_sourcemap_found.specs.Mended.{with_google_ignore_list}
+use Rattle.oxc_sourcemap_found.specs.Mended.{optional_list_change, changed, as_found, with_version}
+use Rattle.oxc_sourcemap_found.specs.Mended.{with_sources, with_contents, with_names, source_count}
+use Rattle.oxc_sourcemap_found.specs.Mended.{with_ignore_list, with_google_ignore_list}
 use Rattle.oxc_sourcemap_found.specs.Mended.{mended_members}
-use Rattle.oxc_sourcemap_decode.specs.Decoded.{first_not_below}
+use Rattle.oxc_sourcemap_json.specs.Decoded.{first_not_below}
 
 -- ---- steps that were taken
 

@@ -1,7 +1,6 @@
 -- A JSON text is found as it is: nothing is passed over in front of it, and it is no data URL.
-use Rattle.std.proofs.Common.{◌≡◌, ℕ, ◌+◌, Bool, true, false, cond, ◌&&◌, nat_lt, ◌==◌, List}
-use Rattle.std.proofs.Common.{[], ◌∷◌, codes, arith, refl, ap, subst, ◌∙◌}
-use Rattle.std.proofs.Common.{Some, None, Ok, suc}
+use Rattle.std.proofs.Common.{◌≡◌, ℕ, ◌+◌, Bool, true, false, cond, ◌&&◌, nat_lt, ◌==◌, List, []}
+use Rattle.std.proofs.Common.{◌∷◌, codes, arith, refl, ap, subst, ◌∙◌, Some, None, Ok, suc}
 use Rattle.std.proofs.lemmas.Bool.Decides.{nat_tests}
 use Rattle.std.specs.List.{position_or_len, before_first}
 use Rattle.std.specs.Char.{to_ascii_lowercase}
@@ -12,7 +11,7 @@ use Rattle.json.specs.Json.{value}
 use Rattle.serde_json.specs.Data.{Data}
 use Rattle.serde_json.specs.Read.{read}
 use Rattle.oxc_sourcemap_parts.specs.Record.{Text}
-use Rattle.oxc_sourcemap_url.specs.DataUrls.{has_byte, has_data_scheme, decoded_data_url}
+use Rattle.oxc_sourcemap_text.specs.DataUrls.{has_byte, has_data_scheme, decoded_data_url}
 use Rattle.oxc_sourcemap_found.specs.Opening.{opened, as_given, without_mark, without_prefix}
 use Rattle.oxc_sourcemap_found.specs.Opening.{with_data, behind_url, or_no_data}
 

@@ -1,6 +1,6 @@
 -- The places of faults of texts as they are found, by what is read of them.
-use Rattle.std.proofs.Common.{◌≡◌, ℕ, ◌+◌, true, true≢false, refl, ap, sym, ◌∙◌}
-use Rattle.std.proofs.Common.{Option, Some, None, option_map, is_some, Result, Ok, Err, []}
+use Rattle.std.proofs.Common.{◌≡◌, ℕ, ◌+◌, true, true≢false, refl, ap, sym, ◌∙◌, Option, Some, None}
+use Rattle.std.proofs.Common.{option_map, is_some, Result, Ok, Err, []}
 use Rattle.std.specs.Option.{option_or}
 use Rattle.serde_json.specs.Data.{Data, Items, item}
 use Rattle.oxc_sourcemap_tokens.specs.declared.error.Error.{Error}
@@ -16,9 +16,8 @@ use Rattle.oxc_sourcemap_mappings.specs.SegmentPlaces.{fault_place, mappings_pla
 use Rattle.oxc_sourcemap_json.specs.Json.{JsonRecord}
 use Rattle.oxc_sourcemap_json.specs.Shape.{◌>>=◌, shape}
 use Rattle.oxc_sourcemap_json.specs.ShapeSpots.{ignored_field}
-use Rattle.oxc_sourcemap_decode.specs.ValuePlaces.{place_at, ignored_spot, fields_spot}
-use Rattle.oxc_sourcemap_decode.specs.ValuePlaces.{offset_place}
-use Rattle.oxc_sourcemap_decode.specs.ValuePlaces.{mappings_spot, or_place}
+use Rattle.oxc_sourcemap_json.specs.ValuePlaces.{place_at, ignored_spot, fields_spot, offset_place}
+use Rattle.oxc_sourcemap_json.specs.ValuePlaces.{mappings_spot, or_place}
 use Rattle.oxc_sourcemap_found.specs.FoundPlaces.{found_fields_spot, found_mappings_spot}
 use Rattle.oxc_sourcemap_found.specs.FoundPlaces.{found_spot_in, section_place}
 use Rattle.oxc_sourcemap_found.specs.FoundPlaces.{found_sections_place}

@@ -1,7 +1,7 @@
 -- Maps by themselves: of an exact map nothing is mended, and each is sound but for the order of its tokens.
-use Rattle.std.proofs.Common.{◌≡◌, ℕ, ◌<◌, Bool, true, false, cond, not, nat_lt, ◌==◌}
-use Rattle.std.proofs.Common.{List, [], ◌∷◌, ◌++◌, map, length, refl, ap, ◌∙◌, subst}
-use Rattle.std.proofs.Common.{arith, Option, Some, None, option_map, Result, Ok, Err}
+use Rattle.std.proofs.Common.{◌≡◌, ℕ, ◌<◌, Bool, true, false, cond, not, nat_lt, ◌==◌, List, []}
+use Rattle.std.proofs.Common.{◌∷◌, ◌++◌, map, length, refl, ap, ◌∙◌, subst, arith, Option, Some}
+use Rattle.std.proofs.Common.{None, option_map, Result, Ok, Err}
 use Rattle.std.proofs.lemmas.Bool.Decides.{nat_tests}
 use Rattle.std.specs.List.{AllByRecursion, count_by}
 use Rattle.std.specs.Option.{IfSome}
@@ -16,11 +16,11 @@ use Rattle.oxc_sourcemap_parts.specs.Sorted.{token_column}
 use Rattle.oxc_sourcemap_parts.specs.Sound.{IsInRange, AreIdsInRange, IsSound}
 use Rattle.oxc_sourcemap_json.specs.Json.{JsonRecord}
 use Rattle.oxc_sourcemap_json.specs.Shape.{◌>>=◌, shape}
-use Rattle.oxc_sourcemap_sort.specs.Sorting.{put_in, sorted_tokens, sorted_map}
-use Rattle.oxc_sourcemap_sort.proofs.Sorting.{sorted-once}
-use Rattle.oxc_sourcemap_decode.specs.Decoded.{decoded_record, with_tokens, json_fault, decoded}
-use Rattle.oxc_sourcemap_decode.specs.Decoded.{ignore_list_fault}
-use Rattle.oxc_sourcemap_decode.proofs.ReadSound.{decoded-well}
+use Rattle.oxc_sourcemap_steps.specs.Sorting.{put_in, sorted_tokens, sorted_map}
+use Rattle.oxc_sourcemap_steps.proofs.Sorting.{sorted-once}
+use Rattle.oxc_sourcemap_json.specs.Decoded.{decoded_record, with_tokens, json_fault, decoded}
+use Rattle.oxc_sourcemap_json.specs.Decoded.{ignore_list_fault}
+use Rattle.oxc_sourcemap_json.proofs.ReadSound.{decoded-well}
 use Rattle.oxc_sourcemap_found.specs.InRange.{is_past, has_bad_source, has_bad_name, token_in_range}
 use Rattle.oxc_sourcemap_found.specs.InRange.{map_in_range, source_kinds, name_kinds}
 use Rattle.oxc_sourcemap_found.specs.declared.mend.MendKind.{MendKind}

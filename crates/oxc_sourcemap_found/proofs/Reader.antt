@@ -1,6 +1,5 @@
 -- Maps that are found: of an exact map nothing is mended but the order of its tokens, and each is sound.
-use Rattle.std.proofs.Common.{◌≡◌, Bool, true, false, cond, List, [], ◌∷◌, ◌++◌, map, refl, ap}
-use Rattle.std.proofs.Common.{◌∙◌}
+use Rattle.std.proofs.Common.{◌≡◌, Bool, true, false, cond, List, [], ◌∷◌, ◌++◌, map, refl, ap, ◌∙◌}
 use Rattle.std.proofs.Common.{subst, codes, Option, Some, None, Result, Ok, Err}
 use Rattle.serde_json.specs.Data.{Data, null, boolean, number, string, array, object, Members}
 use Rattle.serde_json.specs.Data.{Items}
@@ -15,12 +14,12 @@ use Rattle.oxc_sourcemap_parts.specs.Sorted.{are_tokens_sorted}
 use Rattle.oxc_sourcemap_parts.specs.Sound.{IsSound}
 use Rattle.oxc_sourcemap_json.specs.Shape.{◌>>=◌, or_misshapen, shape, file_of, version_of}
 use Rattle.oxc_sourcemap_join.specs.Joined.{joined}
-use Rattle.oxc_sourcemap_decode.specs.JoinLimits.{is_map_within_limits}
-use Rattle.oxc_sourcemap_decode.specs.Section.{is_indexed}
-use Rattle.oxc_sourcemap_decode.specs.Sections.{Sections, all_sections, joined_sections}
-use Rattle.oxc_sourcemap_decode.specs.ReadMap.{sections_in, indexed_said, indexed_record, map_said}
-use Rattle.oxc_sourcemap_decode.specs.ReadMap.{read_value, read_map}
-use Rattle.oxc_sourcemap_sort.specs.Sorting.{sorted_tokens, sorted_map}
+use Rattle.oxc_sourcemap_json.specs.JoinLimits.{is_map_within_limits}
+use Rattle.oxc_sourcemap_json.specs.Section.{is_indexed}
+use Rattle.oxc_sourcemap_json.specs.Sections.{Sections, all_sections, joined_sections}
+use Rattle.oxc_sourcemap_json.specs.ReadMap.{sections_in, indexed_said, indexed_record, map_said}
+use Rattle.oxc_sourcemap_json.specs.ReadMap.{read_value, read_map}
+use Rattle.oxc_sourcemap_steps.specs.Sorting.{sorted_tokens, sorted_map}
 use Rattle.oxc_sourcemap_found.specs.declared.mend.Mend.{Mend}
 use Rattle.oxc_sourcemap_found.specs.declared.mend.MendKind.TheVariants.{Unsorted}
 use Rattle.oxc_sourcemap_found.specs.Mended.{MendedMembers, with_version, as_found, changed}

@@ -12,8 +12,8 @@ use Rattle.oxc_sourcemap_parts.specs.Record.{MapRecord}
 use Rattle.oxc_sourcemap_parts.specs.Sound.{IsInRange, AreIdsInRange}
 use Rattle.oxc_sourcemap_json.specs.Shape.{◌>>=◌, or_misshapen}
 use Rattle.oxc_sourcemap_join.specs.Joined.{added, added_all, nothing_joined, joined}
-use Rattle.oxc_sourcemap_decode.specs.Section.{map_in}
-use Rattle.oxc_sourcemap_decode.proofs.InRange.{added-in-range}
+use Rattle.oxc_sourcemap_json.specs.Section.{map_in}
+use Rattle.oxc_sourcemap_json.proofs.InRange.{added-in-range}
 use Rattle.oxc_sourcemap_found.specs.MendedMaps.{MendedMap, plain_map}
 use Rattle.oxc_sourcemap_found.specs.MendedSections.{MendedSection, place_from, map_from}
 use Rattle.oxc_sourcemap_found.specs.MendedSections.{section_from, sections_from, is_behind}

@@ -1,14 +1,11 @@
 -- What is mended has nothing to mend.
-use Rattle.std.proofs.Common.{◌≡◌, ℕ, ◌+◌, Bool, true, false, cond, bytes_eq}
-use Rattle.std.proofs.Common.{true≢false}
-use Rattle.std.proofs.Common.{List, [], ◌∷◌, ◌++◌, length, codes, refl, ap, sym, ◌∙◌}
-use Rattle.std.proofs.Common.{Option, Some, None}
+use Rattle.std.proofs.Common.{◌≡◌, ℕ, ◌+◌, Bool, true, false, cond, bytes_eq, true≢false, List, []}
+use Rattle.std.proofs.Common.{◌∷◌, ◌++◌, length, codes, refl, ap, sym, ◌∙◌, Option, Some, None}
 use Rattle.std.proofs.lemmas.Slice.Eq.{bytes_eq-Decides}
 use Rattle.std.specs.List.{flat_map}
 use Rattle.std.specs.Option.{is_some, option_and_then, option_map_or, option_to_list}
 use Rattle.serde_json.specs.Data.{unsigned, Data, null, boolean, number, string, array, object}
-use Rattle.serde_json.specs.Data.{Items}
-use Rattle.serde_json.specs.Data.{no_items, Members}
+use Rattle.serde_json.specs.Data.{Items, no_items, Members}
 use Rattle.serde_json.specs.Find.{get_member, as_array}
 use Rattle.serde_json.proofs.Views.{get_member-put, get_member-put_other}
 use Rattle.oxc_sourcemap_json.specs.Shape.{present}
@@ -18,13 +15,11 @@ use Rattle.oxc_sourcemap_found.specs.declared.members.Entries.TheVariants.{Googl
 use Rattle.oxc_sourcemap_found.specs.declared.mend.MendKind.{MendKind}
 use Rattle.oxc_sourcemap_found.specs.Mended.{Change, is_null, is_other_three, version_change}
 use Rattle.oxc_sourcemap_found.specs.Mended.{names_change, entries, may_stay, stand_in}
-use Rattle.oxc_sourcemap_found.specs.Mended.{mended_entry}
-use Rattle.oxc_sourcemap_found.specs.Mended.{mended_items, kinds_from, replaced_if, list_change}
-use Rattle.oxc_sourcemap_found.specs.Mended.{sources_change}
-use Rattle.oxc_sourcemap_found.specs.Mended.{optional_list_change, MendedMembers, changed, as_found}
-use Rattle.oxc_sourcemap_found.specs.Mended.{with_version, with_sources, with_contents, with_names}
-use Rattle.oxc_sourcemap_found.specs.Mended.{source_count, with_ignore_list}
-use Rattle.oxc_sourcemap_found.specs.Mended.{with_google_ignore_list}
+use Rattle.oxc_sourcemap_found.specs.Mended.{mended_entry, mended_items, kinds_from, replaced_if}
+use Rattle.oxc_sourcemap_found.specs.Mended.{list_change, sources_change, optional_list_change}
+use Rattle.oxc_sourcemap_found.specs.Mended.{MendedMembers, changed, as_found, with_version}
+use Rattle.oxc_sourcemap_found.specs.Mended.{with_sources, with_contents, with_names, source_count}
+use Rattle.oxc_sourcemap_found.specs.Mended.{with_ignore_list, with_google_ignore_list}
 use Rattle.oxc_sourcemap_found.specs.Mended.{mended_members}
 use Rattle.oxc_sourcemap_found.proofs.Entries.{entries-items_of}
 use Rattle.oxc_sourcemap_found.proofs.Kept.{nothing-mended}

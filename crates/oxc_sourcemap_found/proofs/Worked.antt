@@ -5,7 +5,7 @@ use Rattle.serde_json.specs.Data.{item, no_items}
 use Rattle.oxc_sourcemap_tokens.specs.declared.error.Field.TheVariants.{Object, Version, Sections}
 use Rattle.oxc_sourcemap_tokens.specs.declared.error.Field.TheVariants.{Map, Offset}
 use Rattle.oxc_sourcemap_tokens.specs.declared.fault.FaultSpot.TheVariants.{Member, Entry}
-use Rattle.oxc_sourcemap_url.specs.DataUrls.{decoded_data_url}
+use Rattle.oxc_sourcemap_text.specs.DataUrls.{decoded_data_url}
 use Rattle.oxc_sourcemap_tokens.specs.declared.position.Position.{Position}
 use Rattle.oxc_sourcemap_tokens.specs.Token.{TokenRecord}
 use Rattle.oxc_sourcemap_parts.specs.Record.{Text, MapRecord}

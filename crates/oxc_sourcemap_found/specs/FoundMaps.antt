@@ -13,16 +13,15 @@ use Rattle.oxc_sourcemap_tokens.specs.Token.{TokenRecord}
 use Rattle.oxc_sourcemap_parts.specs.Record.{Text, MapRecord}
 use Rattle.oxc_sourcemap_parts.specs.Sorted.{are_tokens_sorted}
 use Rattle.oxc_sourcemap_json.specs.Shape.{◌>>=◌, or_misshapen, file_of}
-use Rattle.oxc_sourcemap_sort.specs.Sorting.{sorted_map}
-use Rattle.oxc_sourcemap_decode.specs.Section.{is_indexed}
-use Rattle.oxc_sourcemap_decode.specs.Sections.{joined_sections}
-use Rattle.oxc_sourcemap_decode.specs.ReadMap.{sections_in, indexed_record}
+use Rattle.oxc_sourcemap_steps.specs.Sorting.{sorted_map}
+use Rattle.oxc_sourcemap_json.specs.Section.{is_indexed}
+use Rattle.oxc_sourcemap_json.specs.Sections.{joined_sections}
+use Rattle.oxc_sourcemap_json.specs.ReadMap.{sections_in, indexed_record}
 use Rattle.oxc_sourcemap_found.specs.declared.mend.Mend.{Mend}
 use Rattle.oxc_sourcemap_found.specs.declared.mend.MendKind.TheVariants.{Unsorted}
 use Rattle.oxc_sourcemap_found.specs.Mended.{MendedMembers, with_version, as_found}
 use Rattle.oxc_sourcemap_found.specs.MendedMaps.{MendedMap, plain_map, mends_in}
-use Rattle.oxc_sourcemap_found.specs.MendedSections.{sections_from, cut_maps}
-use Rattle.oxc_sourcemap_found.specs.MendedSections.{section_mends}
+use Rattle.oxc_sourcemap_found.specs.MendedSections.{sections_from, cut_maps, section_mends}
 use Rattle.oxc_sourcemap_found.specs.Opening.{Opened, opened}
 
 -- the value of a text, or that it is not JSON

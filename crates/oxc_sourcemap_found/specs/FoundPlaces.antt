@@ -8,25 +8,22 @@ use Rattle.serde_json.specs.Read.{read}
 use Rattle.oxc_sourcemap_tokens.specs.declared.error.Error.{Error}
 use Rattle.oxc_sourcemap_tokens.specs.declared.error.Error.TheVariants.{OutOfMemory, TooLarge}
 use Rattle.oxc_sourcemap_tokens.specs.declared.error.Field.{Field}
-use Rattle.oxc_sourcemap_tokens.specs.declared.error.Field.TheVariants.{Object}
-use Rattle.oxc_sourcemap_tokens.specs.declared.error.Field.TheVariants.{Map as MapField}
+use Rattle.oxc_sourcemap_tokens.specs.declared.error.Field.TheVariants.{Object, Map as MapField}
 use Rattle.oxc_sourcemap_tokens.specs.declared.error.Field.TheVariants.{Sections as SectionsField}
 use Rattle.oxc_sourcemap_tokens.specs.declared.position.Position.{Position}
 use Rattle.oxc_sourcemap_mappings.specs.SegmentPlaces.{fault_place}
 use Rattle.oxc_sourcemap_parts.specs.Record.{Text}
 use Rattle.oxc_sourcemap_json.specs.Json.{JsonRecord}
 use Rattle.oxc_sourcemap_json.specs.Shape.{shape, file_of}
-use Rattle.oxc_sourcemap_decode.specs.ReadMap.{sections_in}
-use Rattle.oxc_sourcemap_decode.specs.Section.{is_indexed, as_plain}
+use Rattle.oxc_sourcemap_json.specs.ReadMap.{sections_in}
+use Rattle.oxc_sourcemap_json.specs.Section.{is_indexed, as_plain}
 use Rattle.oxc_sourcemap_tokens.specs.declared.fault.Fault.{Fault}
 use Rattle.oxc_sourcemap_tokens.specs.declared.fault.FaultPlace.{FaultPlace}
 use Rattle.oxc_sourcemap_tokens.specs.declared.fault.FaultSpot.{FaultSpot}
 use Rattle.oxc_sourcemap_tokens.specs.declared.fault.FaultSpot.TheVariants.{Segment, Member}
-use Rattle.oxc_sourcemap_json.specs.ShapeSpots.{shape_spot}
-use Rattle.oxc_sourcemap_decode.specs.ValuePlaces.{ignored_spot, offset_place}
+use Rattle.oxc_sourcemap_json.specs.ShapeSpots.{shape_spot, ignored_field}
+use Rattle.oxc_sourcemap_json.specs.ValuePlaces.{ignored_spot, offset_place, or_place, IsReading}
 use Rattle.oxc_sourcemap_tokens.specs.Places.{place_in}
-use Rattle.oxc_sourcemap_json.specs.ShapeSpots.{ignored_field}
-use Rattle.oxc_sourcemap_decode.specs.ValuePlaces.{or_place, IsReading}
 use Rattle.oxc_sourcemap_found.specs.FoundMaps.{FoundRecord}
 use Rattle.oxc_sourcemap_found.specs.Mended.{mended_members, with_version, as_found}
 use Rattle.oxc_sourcemap_found.specs.MendedSections.{place_from}

@@ -1,13 +1,12 @@
 -- A JSON value with the members mended that the exact reader refuses, and what was mended.
-use Rattle.std.specs.Prelude.{ℕ, ◌+◌, Bool, false, not, List, [], ◌∷◌, ◌++◌, codes}
-use Rattle.std.specs.Prelude.{length, Option, Some, None, is_some, if◌then◌else◌, nat_lt}
+use Rattle.std.specs.Prelude.{ℕ, ◌+◌, Bool, false, not, List, [], ◌∷◌, ◌++◌, codes, length, Option}
+use Rattle.std.specs.Prelude.{Some, None, is_some, if◌then◌else◌, nat_lt}
 use Rattle.std.specs.Float.Ieee.{eq}
 use Rattle.std.specs.List.{flat_map}
 use Rattle.std.specs.Option.{option_and_then, option_map_or, option_to_list}
 use Rattle.std.specs.Str.{bytes_eq}
 use Rattle.serde_json.specs.Data.{Num, unsigned, negative, float, Data, null, boolean, number}
-use Rattle.serde_json.specs.Data.{string}
-use Rattle.serde_json.specs.Data.{array, object, Items, no_items, item, Members, put}
+use Rattle.serde_json.specs.Data.{string, array, object, Items, no_items, item, Members, put}
 use Rattle.serde_json.specs.Find.{get_member, as_null, as_array}
 use Rattle.serde_json.specs.View.{items_of}
 use Rattle.oxc_sourcemap_json.specs.Shape.{present, as_content, as_id}

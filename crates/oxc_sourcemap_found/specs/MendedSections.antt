@@ -11,8 +11,8 @@ use Rattle.oxc_sourcemap_tokens.specs.declared.position.Position.{Position}
 use Rattle.oxc_sourcemap_tokens.specs.Token.{TokenRecord, last}
 use Rattle.oxc_sourcemap_parts.specs.Record.{MapRecord}
 use Rattle.oxc_sourcemap_json.specs.Shape.{◌>>=◌, or_misshapen}
-use Rattle.oxc_sourcemap_decode.specs.Section.{place_in, map_in}
-use Rattle.oxc_sourcemap_decode.specs.Sections.{may_follow, moved_position}
+use Rattle.oxc_sourcemap_json.specs.Section.{place_in, map_in}
+use Rattle.oxc_sourcemap_json.specs.Sections.{may_follow, moved_position}
 use Rattle.oxc_sourcemap_found.specs.declared.mend.Mend.{Mend}
 use Rattle.oxc_sourcemap_found.specs.declared.mend.MendKind.{MendKind}
 use Rattle.oxc_sourcemap_found.specs.declared.mend.MendKind.TheVariants.{Cut}

@@ -1,11 +1,11 @@
 -- What is passed over and opened before a JSON text is read: a byte order mark, a line that keeps the text from being run as a
 -- script, and a data URL.
-use Rattle.std.specs.Prelude.{List, [], ◌∷◌, ◌++◌, length, drop, codes, Option, Some, None}
-use Rattle.std.specs.Prelude.{Result, Ok, Err, if◌then◌else◌, ◌==◌, nat_eq}
+use Rattle.std.specs.Prelude.{List, [], ◌∷◌, ◌++◌, length, drop, codes, Option, Some, None, Result}
+use Rattle.std.specs.Prelude.{Ok, Err, if◌then◌else◌, ◌==◌, nat_eq}
 use Rattle.std.specs.List.{starts_with, after_first}
 use Rattle.oxc_sourcemap_parts.specs.Record.{Text}
-use Rattle.oxc_sourcemap_url.specs.declared.data_url_error.DataUrlError.{DataUrlError}
-use Rattle.oxc_sourcemap_url.specs.DataUrls.{decoded_data_url}
+use Rattle.oxc_sourcemap_text.specs.declared.url.data_url_error.DataUrlError.{DataUrlError}
+use Rattle.oxc_sourcemap_text.specs.DataUrls.{decoded_data_url}
 use Rattle.oxc_sourcemap_found.specs.declared.mend.MendKind.{MendKind}
 use Rattle.oxc_sourcemap_found.specs.declared.mend.MendKind.TheVariants.{ByteOrderMark, JsonPrefix}
 use Rattle.oxc_sourcemap_found.specs.declared.mend.MendKind.TheVariants.{DataUrl}

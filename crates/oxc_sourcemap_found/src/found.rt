@@ -19,12 +19,10 @@ use crate::plain::{into_object, mend_plain};
 use crate::reading::text_fault;
 use crate::sections::{misshapen, read_sections};
 use crate::tokens::mend_order;
-use oxc_sourcemap_decode::{decode_parts_from_string, into_member, is_indexed};
 use oxc_sourcemap_join::join_owned_parts;
-use oxc_sourcemap_json::read_file;
+use oxc_sourcemap_json::{decode_parts_from_string, into_member, is_indexed, place_of, read_file};
 use oxc_sourcemap_map::SourceMap;
 use oxc_sourcemap_parts::{SourceMapParts, from_string};
-use oxc_sourcemap_places::place_of;
 use oxc_sourcemap_tokens::{
     Error, Fault, FaultPlace, FaultSpot, Field, Located, Memory, Position, Result,
 };

@@ -6,8 +6,8 @@ ghost use Rattle.oxc_sourcemap_found.specs.Words.{Opened, lent_item, behind, ope
 ghost use Rattle.oxc_sourcemap_found.specs.Words.{without_mark, without_prefix, data_in};
 
 use crate::mend::MendKind;
+use oxc_sourcemap_text::{DataUrlError, decode_data_url};
 use oxc_sourcemap_tokens::Memory;
-use oxc_sourcemap_url::{DataUrlError, decode_data_url};
 use std::alloc::{AllocError, Global};
 use std::borrow::CowStr;
 

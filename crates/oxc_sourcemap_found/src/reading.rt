@@ -3,7 +3,7 @@ ghost use Rattle.std.specs.Prelude.{◌≡◌, IsSomeAnd};
 ghost use Rattle.oxc_sourcemap_found.specs.Words.{OutOfMemory, BadJson, Reading};
 ghost use Rattle.oxc_sourcemap_found.specs.Words.{IsReading, IsMemory};
 
-use oxc_sourcemap_decode::reading_place;
+use oxc_sourcemap_json::reading_place;
 use oxc_sourcemap_tokens::{Error, Fault, FaultPlace, FaultSpot, JsonFault};
 use std::borrow::CowStr;
 

@@ -2,7 +2,7 @@
 ghost use Rattle.oxc_sourcemap_found.specs.Words.{OnlyMemory};
 
 use crate::opening::open;
-use oxc_sourcemap_places::{FaultReason, reading_reason, segment_reason, value_reason};
+use oxc_sourcemap_json::{FaultReason, reading_reason, segment_reason, value_reason};
 use oxc_sourcemap_tokens::{Error, FaultPlace, FaultSpot, Result};
 use serde_json::Value;
 use std::alloc::Global;

@@ -7,7 +7,7 @@ ghost use Rattle.oxc_sourcemap_found.specs.Words.{found_map_spot, section_place,
 ghost use Rattle.oxc_sourcemap_found.specs.Words.{found_sections_place, or_place};
 
 use crate::plain::{MendedParts, into_object, mend_plain};
-use oxc_sourcemap_decode::{into_member, is_plain, may_follow, offset_place, place_in};
+use oxc_sourcemap_json::{into_member, is_plain, may_follow, offset_place, place_in};
 use oxc_sourcemap_tokens::{Error, Fault, FaultSpot, Field, JsonFault, Located, Position, Result};
 use serde_json::Value;
 use std::alloc::Global;

@@ -1,9 +1,8 @@
 -- A handle, as contracts see it: what it holds. Rattle has one type of handle and C has five, so a handle may also hold what a call
 -- does not take.
-use Rattle.std.specs.Prelude.{◌≡◌, true, List, Option, Some, None, string_bytes}
-use Rattle.std.specs.Prelude.{MatchOption}
+use Rattle.std.specs.Prelude.{◌≡◌, true, List, Option, Some, None, string_bytes, MatchOption}
 use Rattle.oxc_sourcemap_parts.specs.Record.{Text, MapRecord}
-use Rattle.oxc_sourcemap_builders.specs.Built.{Built}
+use Rattle.oxc_sourcemap_map.specs.Built.{Built}
 use Rattle.oxc_sourcemap_handles.specs.Indexed.{Loaded}
 use Rattle.oxc_sourcemap_found.specs.declared.mend.Mend.{Mend}
 use Rattle.oxc_sourcemap_handles.specs.declared.held.Held.{Held}

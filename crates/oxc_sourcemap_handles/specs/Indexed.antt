@@ -8,8 +8,8 @@ use Rattle.oxc_sourcemap_tokens.specs.LineOrder.{first_out_of_order}
 use Rattle.oxc_sourcemap_parts.specs.Record.{MapRecord}
 use Rattle.oxc_sourcemap_lookup.specs.declared.line_index.LineIndex.{LineIndex}
 use Rattle.oxc_sourcemap_lookup.specs.LineSpans.{IsIndexOf, index_bytes}
-use Rattle.oxc_sourcemap_reverse.specs.declared.source_order.SourceOrder.{SourceOrder}
-use Rattle.oxc_sourcemap_reverse.specs.Orders.{IsSourceOrderOf, order_bytes}
+use Rattle.oxc_sourcemap_map.specs.declared.reverse.source_order.SourceOrder.{SourceOrder}
+use Rattle.oxc_sourcemap_map.specs.Orders.{IsSourceOrderOf, order_bytes}
 
 -- the error of making the index of the lines of tokens
 abbrev pub IsOutOfOrder : List TokenRecord → Error → Type 0

@@ -8,7 +8,7 @@ use Rattle.oxc_sourcemap_parts.specs.Record.{Text, MapRecord}
 use Rattle.oxc_sourcemap_parts.specs.DecodedMap.{OriginalPosition, name_of}
 use Rattle.oxc_sourcemap_lookup.specs.Lookup.{lines_through}
 use Rattle.oxc_sourcemap_lookup.specs.Trace.{original_in}
-use Rattle.oxc_sourcemap_pieces.specs.declared.cuts.Piece.{Piece}
+use Rattle.oxc_sourcemap_queries.specs.declared.pieces.cuts.Piece.{Piece}
 use Rattle.oxc_sourcemap_handles.specs.declared.text.Original.{Original}
 use Rattle.oxc_sourcemap_handles.specs.declared.text.PieceNumbers.{PieceNumbers}
 use Rattle.oxc_sourcemap_handles.specs.declared.text.Text.{Text as LentText}

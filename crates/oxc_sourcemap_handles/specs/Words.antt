@@ -6,7 +6,7 @@ pub use Rattle.oxc_sourcemap_handles.specs.Codes.{fault_at, fault_of, fault_of_e
 pub use Rattle.oxc_sourcemap_handles.specs.Codes.{fault_of_plan_error, no_fault}
 pub use Rattle.oxc_sourcemap_handles.specs.FieldNumbers.{field_of, number_of_field}
 pub use Rattle.oxc_sourcemap_handles.specs.Holding.{held_map, held_text}
-pub use Rattle.oxc_sourcemap_handles.specs.Indexed.{IsOutOfOrder}
+pub use Rattle.oxc_sourcemap_handles.specs.Indexed.{IsOutOfOrder, IsIndexed}
 pub use Rattle.oxc_sourcemap_handles.specs.Lists.{AreContents, AreTexts, IsContent, IsNotContent}
 pub use Rattle.oxc_sourcemap_handles.specs.Lists.{IsNotContents, IsNotTexts, known_text}
 pub use Rattle.oxc_sourcemap_handles.specs.Lists.{known_texts, token_of}
@@ -21,14 +21,15 @@ pub use Rattle.oxc_sourcemap_handles.specs.Traces.{AreFoundIn, AreTracesOf, IsTr
 pub use Rattle.oxc_sourcemap_handles.specs.declared.call_error.CallError.{CallError}
 pub use Rattle.oxc_sourcemap_handles.specs.declared.call_error.CallError.TheVariants.{BadOption}
 pub use Rattle.oxc_sourcemap_handles.specs.declared.call_error.CallError.TheVariants.{NoIndex, Plan}
+pub use Rattle.oxc_sourcemap_handles.specs.declared.call_error.CallError.TheVariants.{NullHandle}
 pub use Rattle.oxc_sourcemap_lookup.specs.LineSpans.{IsIndexOf, IsUsualIndexOf}
 pub use Rattle.oxc_sourcemap_map.specs.View.{view_of, view_name, view_original}
 pub use Rattle.oxc_sourcemap_parts.specs.Roots.{rooted}
 pub use Rattle.oxc_sourcemap_parts.specs.Sorted.{are_tokens_sorted}
-pub use Rattle.oxc_sourcemap_reverse.specs.Orders.{IsSourceOrderOf}
-pub use Rattle.oxc_sourcemap_reverse.specs.Reverse.{index_fault}
-pub use Rattle.oxc_sourcemap_simplify.specs.Simplified.{simplification}
-pub use Rattle.oxc_sourcemap_sort.specs.Sorting.{sorted_map}
+pub use Rattle.oxc_sourcemap_map.specs.Orders.{IsSourceOrderOf}
+pub use Rattle.oxc_sourcemap_map.specs.Reverse.{index_fault}
+pub use Rattle.oxc_sourcemap_steps.specs.Simplified.{simplification}
+pub use Rattle.oxc_sourcemap_steps.specs.Sorting.{sorted_map}
 pub use Rattle.oxc_sourcemap_tokens.specs.LineOrder.{IsInLineOrder}
 pub use Rattle.oxc_sourcemap_tokens.specs.Results.{FailsBy, OnlyMemory, Reports, lent_item}
 pub use Rattle.oxc_sourcemap_tokens.specs.Results.{lent_items}
@@ -36,6 +37,4 @@ pub use Rattle.oxc_sourcemap_tokens.specs.Token.{id_of}
 pub use Rattle.oxc_sourcemap_tokens.specs.declared.error.Error.TheVariants.{OutOfMemory}
 pub use Rattle.oxc_sourcemap_tokens.specs.declared.plan_error.PlanError.TheVariants.{Map}
 pub use Rattle.std_alloc.specs.Box.Ownership.{box_owns}
-pub use Rattle.oxc_sourcemap_handles.specs.Indexed.{IsIndexed}
-pub use Rattle.oxc_sourcemap_handles.specs.declared.call_error.CallError.TheVariants.{NullHandle}
 pub use Rattle.oxc_sourcemap_handles.specs.declared.options.Bias.TheVariants.{Before}

@@ -9,7 +9,7 @@ ghost use Rattle.oxc_sourcemap_handles.specs.Words.{lent_item, index_number, IsS
 ghost use Rattle.oxc_sourcemap_handles.specs.Words.{piece_numbers};
 
 use oxc_sourcemap_map::{SourceMap, SourceViewToken};
-use oxc_sourcemap_pieces::Piece;
+use oxc_sourcemap_queries::Piece;
 use oxc_sourcemap_tokens::{Position, Token};
 use std::ptr::null;
 

@@ -1,7 +1,7 @@
 -- The fields of an object, from what is held for its keys.
 use Rattle.std.proofs.Common.{◌≡◌, ◌<◌, ℕ, suc, List, [], ◌∷◌, Option, Some, None, Ok, map}
-use Rattle.std.proofs.Common.{option_map}
-use Rattle.std.proofs.Common.{codes, string_bytes, String, Vec, Global, refl, sym, ap, ◌∙◌, arith}
+use Rattle.std.proofs.Common.{option_map, codes, string_bytes, String, Vec, Global, refl, sym, ap}
+use Rattle.std.proofs.Common.{◌∙◌, arith}
 use Rattle.std.specs.List.{All}
 use Rattle.std.specs.Option.{unwrap_or, option_or}
 use Rattle.std.specs.Cow.{cow_str_bytes}
@@ -15,10 +15,9 @@ use Rattle.oxc_sourcemap_tokens.specs.declared.error.Field.TheVariants.{Names, D
 use Rattle.oxc_sourcemap_tokens.specs.declared.error.Field.TheVariants.{GoogleIgnoreList}
 use Rattle.oxc_sourcemap_parts.specs.Views.{texts_of, contents_of}
 use Rattle.oxc_sourcemap_json.specs.Shape.{all_items, onto_read, as_content, as_id, text_in}
-use Rattle.oxc_sourcemap_json.specs.Shape.{texts_in}
-use Rattle.oxc_sourcemap_json.specs.Shape.{◌>>=◌}
-use Rattle.oxc_sourcemap_json.specs.Shape.{contents_in, optional, required, present, names_of}
-use Rattle.oxc_sourcemap_json.specs.Shape.{version_of, ignore_list_of, or_misshapen, shape}
+use Rattle.oxc_sourcemap_json.specs.Shape.{texts_in, ◌>>=◌, contents_in, optional, required}
+use Rattle.oxc_sourcemap_json.specs.Shape.{present, names_of, version_of, ignore_list_of}
+use Rattle.oxc_sourcemap_json.specs.Shape.{or_misshapen, shape}
 use Rattle.oxc_sourcemap_json.specs.Usual.{items_of, text_data, content_data, texts_data}
 use Rattle.oxc_sourcemap_json.specs.Usual.{contents_data, ids_data, AreIds}
 

@@ -1,8 +1,8 @@
 -- Members that are moved out of an object, and lists that are moved item by item.
 use Rattle.std.proofs.Common.{◌≡◌, ℕ, List, [], ◌∷◌, ◌++◌, length, option_map, Option, Some, None}
 use Rattle.std.proofs.Common.{cond, Bool, true, false, bytes_eq, string_bytes, nat_cmp, is_eq, refl}
-use Rattle.std.proofs.Common.{sym, ap, ◌∙◌, append_assoc, append-nil, true≢false, arith}
-use Rattle.std.proofs.Common.{◌+◌, add-zero, is_some}
+use Rattle.std.proofs.Common.{sym, ap, ◌∙◌, append_assoc, append-nil, true≢false, arith, ◌+◌}
+use Rattle.std.proofs.Common.{add-zero, is_some}
 use Rattle.std.proofs.lemmas.Map.Text.{is_eq-slice_cmp}
 use Rattle.std.proofs.lemmas.Slice.Eq.{bytes_eq-Decides}
 use Rattle.std.specs.Cmp.Lexicographic.{slice_cmp}

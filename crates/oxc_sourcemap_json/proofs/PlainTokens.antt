@@ -12,10 +12,11 @@ use Rattle.json.proofs.Found.{not_found}
 use Rattle.json.specs.Text.{content, plain, prepend, short_escape}
 use Rattle.json.specs.Word.{is_operator, is_space, word, after_number}
 use Rattle.json.specs.Lex.{Lexeme, token, colon, operator, space, other, string_token, Mode}
-use Rattle.json.specs.Lex.{between, in_string, lex_byte, lex}
-use Rattle.json.specs.Lex.{fresh, after_value, after_comma, begins_colon, place_token, punctuate}
-use Rattle.oxc_sourcemap_json.specs.declared.plain.Place.{Place}
-use Rattle.oxc_sourcemap_json.specs.declared.plain.Place.TheVariants.{Fresh, AfterValue, AfterComma}
+use Rattle.json.specs.Lex.{between, in_string, lex_byte, lex, fresh, after_value, after_comma}
+use Rattle.json.specs.Lex.{begins_colon, place_token, punctuate}
+use Rattle.oxc_sourcemap_json.specs.declared.object.plain.Place.{Place}
+use Rattle.oxc_sourcemap_json.specs.declared.object.plain.Place.TheVariants.{Fresh, AfterValue}
+use Rattle.oxc_sourcemap_json.specs.declared.object.plain.Place.TheVariants.{AfterComma}
 use Rattle.oxc_sourcemap_json.specs.Plain.{place_of, tokens_at, opening, is_plain, MayBegin}
 use Rattle.oxc_sourcemap_json.specs.Plain.{MayClose, EndsValue, IsRead}
 

@@ -1,15 +1,14 @@
 -- What tokens begin with: values, items and members, one after the other.
 use Rattle.std.specs.List.{All}
 use Rattle.std.proofs.Common.{zero, suc, ◌≡◌, ℕ, ◌-◌, ◌<◌, ◌≤◌, List, [], ◌∷◌, ◌++◌, length, Option}
-use Rattle.std.proofs.Common.{Some, MatchOption, String, string_bytes}
+use Rattle.std.proofs.Common.{Some, MatchOption, String, string_bytes, Result, Ok, Err, IfOk}
+use Rattle.std.proofs.Common.{IfSome, None, codes, option_map, option_and_then, refl, sym, ap, ◌∙◌}
+use Rattle.std.proofs.Common.{arith}
 use Rattle.std.specs.declared.alloc.Global.{Global}
-use Rattle.std.proofs.Common.{Result, Ok, Err, IfOk, IfSome, None, codes, option_map}
-use Rattle.std.proofs.Common.{option_and_then, refl, sym, ap, ◌∙◌, arith}
 use Rattle.json.specs.Token.{Token}
 use Rattle.json.specs.Json.{after_end_array, read_key, items, members, value, parse_map, if_last}
 use Rattle.json.specs.Lex.{tokens}
-use Rattle.json.proofs.Grammar.{value_is, value-begin_array, value-begin_object}
-use Rattle.json.proofs.Grammar.{read_key-shorter}
+use Rattle.json.proofs.Grammar.{value_is, value-begin_array, value-begin_object, read_key-shorter}
 use Rattle.json.proofs.Found.{not_found}
 use Rattle.serde_json.specs.Data.{Data, Num, null, number, unsigned, string, array, object, Items}
 use Rattle.serde_json.specs.Data.{no_items, item, Members, no_members, put}

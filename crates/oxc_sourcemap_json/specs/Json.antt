@@ -2,8 +2,8 @@
 use Rattle.std.specs.Prelude.{ℕ, List, Option, map, option_map, string_bytes, Vec, String}
 use Rattle.std.specs.declared.alloc.Global.{Global}
 use Rattle.oxc_sourcemap_parts.specs.Views.{texts_of, contents_of}
-use Rattle.oxc_sourcemap_json.specs.declared.json_source_map.JSONSourceMap.{JSONSourceMap}
-use Rattle.oxc_sourcemap_json.specs.declared.usual.UsualMap.{UsualMap}
+use Rattle.oxc_sourcemap_json.specs.declared.object.json_source_map.JSONSourceMap.{JSONSourceMap}
+use Rattle.oxc_sourcemap_json.specs.declared.object.usual.UsualMap.{UsualMap}
 
 -- the fields of the JSON object, as numbers, texts and lists
 pub record JsonRecord : Type 0 where

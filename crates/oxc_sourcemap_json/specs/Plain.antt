@@ -5,9 +5,10 @@ use Rattle.json.specs.Token.{Token}
 use Rattle.json.specs.Lex as spec
 use Rattle.json.specs.Text.{content, plain}
 use Rattle.json.specs.Lex.{between, in_string, lex, punctuate}
-use Rattle.oxc_sourcemap_json.specs.declared.plain.Place.{Place}
-use Rattle.oxc_sourcemap_json.specs.declared.plain.Place.TheVariants.{Fresh, AfterValue, AfterComma}
-use Rattle.oxc_sourcemap_json.specs.declared.plain.PlainReader.{PlainReader}
+use Rattle.oxc_sourcemap_json.specs.declared.object.plain.Place.{Place}
+use Rattle.oxc_sourcemap_json.specs.declared.object.plain.Place.TheVariants.{Fresh, AfterValue}
+use Rattle.oxc_sourcemap_json.specs.declared.object.plain.Place.TheVariants.{AfterComma}
+use Rattle.oxc_sourcemap_json.specs.declared.object.plain.PlainReader.{PlainReader}
 
 abbrev pub place_of : Place → spec.Place
 place_of Fresh = spec.fresh

@@ -2,8 +2,8 @@
 use Rattle.std.specs.Prelude.{List}
 use Rattle.json.specs.Token.{Token}
 use Rattle.oxc_sourcemap_json.specs.Plain.{tokens_left}
-use Rattle.oxc_sourcemap_json.specs.declared.token_reader.Way.{Way}
-use Rattle.oxc_sourcemap_json.specs.declared.token_reader.Way.TheVariants.{Plain, Any}
+use Rattle.oxc_sourcemap_json.specs.declared.object.token_reader.Way.{Way}
+use Rattle.oxc_sourcemap_json.specs.declared.object.token_reader.Way.TheVariants.{Plain, Any}
 
 abbrev pub tokens_of : Way → List Token
 tokens_of (Plain reader) = tokens_left reader

@@ -1,14 +1,14 @@
 -- What is read of a JSON text token by token: values at the front of tokens, and members by their keys.
 use Rattle.std.specs.Prelude.{ℕ, ◌≡◌, ◌<◌, IfSome, Vec, List, [], ◌∷◌, codes, length, map}
-use Rattle.std.specs.Prelude.{option_map, string_bytes}
-use Rattle.std.specs.Prelude.{Option, Some, None, Ok, if◌then◌else◌, String}
+use Rattle.std.specs.Prelude.{option_map, string_bytes, Option, Some, None, Ok, if◌then◌else◌}
+use Rattle.std.specs.Prelude.{String}
 use Rattle.std.specs.List.{All}
 use Rattle.std.specs.Str.{bytes_eq}
 use Rattle.std.specs.declared.alloc.Global.{Global}
 use Rattle.json.specs.Token.{Token}
 use Rattle.json.specs.Json.{items, members, value}
-use Rattle.serde_json.specs.Data.{Data, null, number, unsigned, string, array, Items}
-use Rattle.serde_json.specs.Data.{no_items, item, Members, no_members}
+use Rattle.serde_json.specs.Data.{Data, null, number, unsigned, string, array, Items, no_items}
+use Rattle.serde_json.specs.Data.{item, Members, no_members}
 use Rattle.serde_json.specs.Find.{get, get_member}
 use Rattle.serde_json.specs.Read.{of_json, of_items, of_members, converted, max_depth, read}
 use Rattle.oxc_sourcemap_parts.specs.Views.{texts_of, contents_of}
@@ -16,7 +16,7 @@ use Rattle.oxc_sourcemap_json.specs.Json.{JsonRecord}
 use Rattle.oxc_sourcemap_json.specs.Shape.{shape}
 use Rattle.oxc_sourcemap_json.specs.ShapeSpots.{ignored_field}
 use Rattle.oxc_sourcemap_tokens.specs.declared.error.Field.{Field}
-use Rattle.oxc_sourcemap_json.specs.declared.usual.UsualMembers.{UsualMembers}
+use Rattle.oxc_sourcemap_json.specs.declared.object.usual.UsualMembers.{UsualMembers}
 
 -- These tokens begin with this value, a member of the object that a text is, and go on with those.
 abbrev pub Begins : List Token → Data → List Token → Type 0

@@ -1,15 +1,23 @@
-//! The JSON object of a source map (ECMA-426, "Source map format"): its fields, read from a JSON value. Part of
-//! `oxc_sourcemap`.
+//! The JSON text of a map: its members, reading, writing, and where a text is wrong. Part of `oxc_sourcemap`.
 #![tactic(auto)]
 
-mod json_source_map;
-mod members;
-mod plain;
-mod shape;
-mod token_reader;
-mod usual;
+mod fault;
+mod object;
+mod read;
+mod write;
 
-pub use json_source_map::JSONSourceMap;
-pub use members::json_of;
-pub use shape::{file_from_value, ignored_field, read_file, read_id};
-pub use usual::{UsualMap, plain_map, usual_map};
+pub use fault::{
+    FaultReason, json_fault_at, json_fault_reason, place_of, reading_reason, segment_reason,
+    value_fault_at, value_reason,
+};
+pub use object::{JSONSourceMap, file_from_value, ignored_field, json_of, read_file, read_id};
+pub use read::{
+    decode_parts, decode_parts_from_string, decode_parts_from_value, into_member, is_indexed,
+    is_plain, may_follow, offset_place, place_in, read_fields, read_parts_from_string,
+    reading_place,
+};
+pub use write::{
+    encode_mappings_within, encode_owned_parts, encode_parts, encode_parts_into,
+    encode_parts_to_data_url, encode_parts_to_data_url_within, encode_parts_to_string,
+    encode_parts_to_string_within, push_json_string,
+};

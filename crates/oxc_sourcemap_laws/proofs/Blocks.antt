@@ -7,7 +7,7 @@ use Rattle.std.specs.List.{flat_map}
 use Rattle.std.specs.Option.{option_or}
 use Rattle.std.specs.Str.{bytes_eq}
 use Rattle.oxc_sourcemap_parts.specs.Record.{Text}
-use Rattle.oxc_sourcemap_remap.specs.Inputs.{input_for}
+use Rattle.oxc_sourcemap_steps.specs.Inputs.{input_for}
 use Rattle.oxc_sourcemap_laws.proofs.JoinDecodedMaps.{slice_get-left, slice_get-right}
 
 -- an item of a block, found from where the block begins

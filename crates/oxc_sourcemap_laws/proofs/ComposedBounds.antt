@@ -11,11 +11,11 @@ use Rattle.oxc_sourcemap_tokens.specs.declared.error.Error.TheVariants.{TooLarge
 use Rattle.oxc_sourcemap_tokens.specs.Token.{TokenRecord, IsInBounds, AreInBounds}
 use Rattle.oxc_sourcemap_parts.specs.Record.{Text, MapRecord}
 use Rattle.oxc_sourcemap_tokens.specs.Errors.{unless}
-use Rattle.oxc_sourcemap_lookup.specs.Composed.{target_of, target_in, line_of, found_on, targets}
-use Rattle.oxc_sourcemap_lookup.specs.Composed.{inherited_id, composed_names, composed_token}
-use Rattle.oxc_sourcemap_lookup.specs.Composed.{composed, may_be_id, are_ids, composition_fault}
-use Rattle.oxc_sourcemap_lookup.specs.Composed.{composition}
-use Rattle.oxc_sourcemap_lookup.proofs.Targets.{found-all}
+use Rattle.oxc_sourcemap_steps.specs.Composed.{target_of, target_in, line_of, found_on, targets}
+use Rattle.oxc_sourcemap_steps.specs.Composed.{inherited_id, composed_names, composed_token}
+use Rattle.oxc_sourcemap_steps.specs.Composed.{composed, may_be_id, are_ids, composition_fault}
+use Rattle.oxc_sourcemap_steps.specs.Composed.{composition}
+use Rattle.oxc_sourcemap_steps.proofs.Targets.{found-all}
 
 small-id : (id taken : Option ℕ) → IfSome id (λ n. n < 4294967295) → may_be_id taken ≡ true → IfSome (option_or id taken) (λ n. n < 4294967295)
 small-id (Some i) taken h k = h

@@ -11,8 +11,7 @@ use Rattle.std.proofs.lemmas.List.Folds.{list_all-append}
 use Rattle.oxc_sourcemap_tokens.specs.Token.{TokenRecord}
 use Rattle.oxc_sourcemap_parts.specs.Record.{Text, MapRecord}
 use Rattle.oxc_sourcemap_parts.specs.Texts.{index_of, with_text_at, with_text, with_texts}
-use Rattle.oxc_sourcemap_lookup.specs.Composed.{Target, kept_name, inherited_name, targets}
-use Rattle.oxc_sourcemap_lookup.specs.Composed.{composed}
+use Rattle.oxc_sourcemap_steps.specs.Composed.{Target, kept_name, inherited_name, targets, composed}
 use Rattle.oxc_sourcemap_parts.proofs.Places.{index-last, index-front}
 
 -- a text that is in a list

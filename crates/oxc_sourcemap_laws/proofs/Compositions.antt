@@ -17,13 +17,13 @@ use Rattle.oxc_sourcemap_parts.specs.DecodedMap.{DecodedMap, sources_of, name_of
 use Rattle.oxc_sourcemap_parts.specs.DecodedMap.{original_of, mapping_of, decoded_map_of}
 use Rattle.oxc_sourcemap_parts.specs.DecodedMap.{mapping_line, mapping_column}
 use Rattle.oxc_sourcemap_lookup.specs.Lookup.{clamped_pick}
-use Rattle.oxc_sourcemap_lookup.specs.Composed.{target_of, if_mapped, found_on, line_of, target_in}
-use Rattle.oxc_sourcemap_lookup.specs.Composed.{targets, kept_name, inherited_name, inherited_id}
-use Rattle.oxc_sourcemap_lookup.specs.Composed.{composed_names, composed_token, token_through}
-use Rattle.oxc_sourcemap_lookup.specs.Composed.{composed}
+use Rattle.oxc_sourcemap_steps.specs.Composed.{target_of, if_mapped, found_on, line_of, target_in}
+use Rattle.oxc_sourcemap_steps.specs.Composed.{targets, kept_name, inherited_name, inherited_id}
+use Rattle.oxc_sourcemap_steps.specs.Composed.{composed_names, composed_token, token_through}
+use Rattle.oxc_sourcemap_steps.specs.Composed.{composed}
 use Rattle.oxc_sourcemap_lookup.proofs.Picks.{clamped_pick-map}
-use Rattle.oxc_sourcemap_lookup.proofs.Targets.{clamped_pick-all, found-all}
-use Rattle.oxc_sourcemap_lookup.proofs.InheritedNames.{IsPlaced, all-placed, with_texts-front}
+use Rattle.oxc_sourcemap_steps.proofs.Targets.{clamped_pick-all, found-all}
+use Rattle.oxc_sourcemap_steps.proofs.InheritedNames.{IsPlaced, all-placed, with_texts-front}
 use Rattle.oxc_sourcemap_laws.specs.Repeats.{without_repeats, is_same_mapping}
 use Rattle.oxc_sourcemap_laws.specs.Repeats.{decoded_map_without_repeats, EqualUpToRepeats}
 use Rattle.oxc_sourcemap_laws.specs.ComposedDecodedMaps.{found_original, named_by, original_through}

@@ -21,9 +21,9 @@ use Rattle.oxc_sourcemap_parts.specs.Texts.{index_of}
 use Rattle.oxc_sourcemap_parts.specs.Sound.{IsSound}
 use Rattle.oxc_sourcemap_parts.specs.DecodedMap.{decoded_map_of}
 use Rattle.oxc_sourcemap_tokens.specs.Errors.{unless}
-use Rattle.oxc_sourcemap_lookup.specs.Composed.{Target, targets, inherited_name, inherited_id}
-use Rattle.oxc_sourcemap_lookup.specs.Composed.{may_be_id, are_ids, composed_names, composed}
-use Rattle.oxc_sourcemap_lookup.specs.Composed.{composition_fault, composition}
+use Rattle.oxc_sourcemap_steps.specs.Composed.{Target, targets, inherited_name, inherited_id}
+use Rattle.oxc_sourcemap_steps.specs.Composed.{may_be_id, are_ids, composed_names, composed}
+use Rattle.oxc_sourcemap_steps.specs.Composed.{composition_fault, composition}
 use Rattle.oxc_sourcemap_parts.proofs.Order.{sorted_in_order}
 use Rattle.oxc_sourcemap_laws.specs.ComposeLaws.{then_with, with_then, grouped_left, grouped_right}
 use Rattle.oxc_sourcemap_laws.specs.ComposeLaws.{IsSeveralSources, TellsOf}

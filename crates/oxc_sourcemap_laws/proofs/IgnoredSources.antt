@@ -1,8 +1,7 @@
 -- Sources with whether they are ignored: an ignore list gives them again, and those of a remapped map are those that stand for
 -- its sources.
-use Rattle.std.proofs.Common.{◌≡◌, refl, sym, ap, ◌∙◌, ℕ, ◌+◌, ◌<◌, ◌≤◌, Bool, true, false}
-use Rattle.std.proofs.Common.{cond, ◌||◌, ◌==◌, List, [], ◌∷◌, ◌++◌, map, length, Option, Some}
-use Rattle.std.proofs.Common.{None}
+use Rattle.std.proofs.Common.{◌≡◌, refl, sym, ap, ◌∙◌, ℕ, ◌+◌, ◌<◌, ◌≤◌, Bool, true, false, cond}
+use Rattle.std.proofs.Common.{◌||◌, ◌==◌, List, [], ◌∷◌, ◌++◌, map, length, Option, Some, None}
 use Rattle.std.proofs.Common.{append_assoc, arith}
 use Rattle.std.proofs.lemmas.Bool.Decides.{nat_tests}
 use Rattle.std.proofs.lemmas.List.{map-append, append-nil, length-map}
@@ -11,12 +10,12 @@ use Rattle.std.specs.Option.{IfSome}
 use Rattle.oxc_sourcemap_parts.specs.Record.{Text}
 use Rattle.oxc_sourcemap_parts.specs.DecodedMap.{DecodedSource, DecodedMap}
 use Rattle.oxc_sourcemap_join.specs.Joined.{raised_ignore_list, appended_ignore_lists}
-use Rattle.oxc_sourcemap_remap.specs.Blocks.{sources_by, sources_for, remapped_sources, is_listed}
-use Rattle.oxc_sourcemap_remap.specs.Blocks.{marked_from, marked_sources, marked_by, marked_for}
-use Rattle.oxc_sourcemap_remap.specs.Blocks.{ignored_from, unless_empty, ignored_ids}
-use Rattle.oxc_sourcemap_remap.specs.Blocks.{remapped_ignore_list}
-use Rattle.oxc_sourcemap_remap.specs.Inputs.{input_for}
-use Rattle.oxc_sourcemap_remap.proofs.Flags.{marked-unmarked, ignored-append}
+use Rattle.oxc_sourcemap_steps.specs.Blocks.{sources_by, sources_for, remapped_sources, is_listed}
+use Rattle.oxc_sourcemap_steps.specs.Blocks.{marked_from, marked_sources, marked_by, marked_for}
+use Rattle.oxc_sourcemap_steps.specs.Blocks.{ignored_from, unless_empty, ignored_ids}
+use Rattle.oxc_sourcemap_steps.specs.Blocks.{remapped_ignore_list}
+use Rattle.oxc_sourcemap_steps.specs.Inputs.{input_for}
+use Rattle.oxc_sourcemap_steps.proofs.Flags.{marked-unmarked, ignored-append}
 use Rattle.oxc_sourcemap_laws.specs.RemappedDecodedMaps.{remapped_decoded_map}
 
 sources-by : (q : Option DecodedMap) (s : DecodedSource) (f : Bool) → map (λ m. m.0) (marked_by q (s, f)) ≡ sources_by q s

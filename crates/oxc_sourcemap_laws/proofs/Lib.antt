@@ -1,3 +1,4 @@
+mod ReadBack
 pub mod ReadsBack
 pub mod Rewriting
 pub mod DroppingRepeats

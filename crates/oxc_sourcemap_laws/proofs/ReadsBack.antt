@@ -24,9 +24,9 @@ use Rattle.oxc_sourcemap_parts.specs.Sorted.{token_column}
 use Rattle.oxc_sourcemap_parts.specs.Sound.{IsInRange, IsSound}
 use Rattle.oxc_sourcemap_parts.specs.DecodedMap.{DecodedSource, mapping_of, sources_of}
 use Rattle.oxc_sourcemap_parts.specs.DecodedMap.{decoded_map_of}
-use Rattle.oxc_sourcemap_decode.specs.Decoded.{first_not_below}
+use Rattle.oxc_sourcemap_json.specs.Decoded.{first_not_below}
 use Rattle.oxc_sourcemap_tokens.specs.Errors.{unless}
-use Rattle.oxc_sourcemap_encode.specs.Encoded.{written_contents, encoded, encoded_record}
+use Rattle.oxc_sourcemap_json.specs.Encoded.{written_contents, encoded, encoded_record}
 use Rattle.oxc_sourcemap_laws.specs.MapLaws.{rewritten, ComesBack}
 
 both-true : (a b : Bool) → (a && b) ≡ true → (a ≡ true) × (b ≡ true)

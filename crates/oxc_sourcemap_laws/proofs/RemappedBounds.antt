@@ -16,12 +16,11 @@ use Rattle.oxc_sourcemap_parts.specs.Record.{Text, MapRecord}
 use Rattle.oxc_sourcemap_parts.specs.Sorted.{token_line, token_column}
 use Rattle.oxc_sourcemap_parts.specs.Sound.{IsInRange}
 use Rattle.oxc_sourcemap_lookup.specs.Lookup.{clamped_pick}
-use Rattle.oxc_sourcemap_lookup.proofs.Targets.{clamped_pick-all}
-use Rattle.oxc_sourcemap_remap.specs.Inputs.{input_for, inputs_fault}
-use Rattle.oxc_sourcemap_remap.specs.Remapped.{listed_sources, Original, input_original}
-use Rattle.oxc_sourcemap_remap.specs.Remapped.{block_start}
-use Rattle.oxc_sourcemap_remap.specs.Remapped.{token_to, remapped, has_few, remapping}
-use Rattle.oxc_sourcemap_remap.proofs.InputPlaces.{input_for-all}
+use Rattle.oxc_sourcemap_steps.proofs.Targets.{clamped_pick-all}
+use Rattle.oxc_sourcemap_steps.specs.Inputs.{input_for, inputs_fault}
+use Rattle.oxc_sourcemap_steps.specs.Remapped.{listed_sources, Original, input_original}
+use Rattle.oxc_sourcemap_steps.specs.Remapped.{block_start, token_to, remapped, has_few, remapping}
+use Rattle.oxc_sourcemap_steps.proofs.InputPlaces.{input_for-all}
 use Rattle.oxc_sourcemap_laws.specs.RemapLaws.{AreInputsInBounds}
 use Rattle.oxc_sourcemap_laws.proofs.RemappedRecords.{leads_in, leads_from, leads, tokens-remapped}
 use Rattle.oxc_sourcemap_laws.proofs.RemappedStands.{range_remapped}

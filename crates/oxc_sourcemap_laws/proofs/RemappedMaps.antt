@@ -14,11 +14,11 @@ use Rattle.oxc_sourcemap_parts.specs.DecodedMap.{DecodedMap, mapping_line, mappi
 use Rattle.oxc_sourcemap_join.specs.Joined.{raised_ignore_list, appended_ignore_lists}
 use Rattle.oxc_sourcemap_lookup.specs.Lookup.{clamped_pick}
 use Rattle.oxc_sourcemap_lookup.proofs.Picks.{clamped_pick-map}
-use Rattle.oxc_sourcemap_remap.specs.Blocks.{sources_by, sources_for, remapped_sources, is_listed}
-use Rattle.oxc_sourcemap_remap.specs.Blocks.{marked_from, marked_sources, marked_by, marked_for}
-use Rattle.oxc_sourcemap_remap.specs.Blocks.{ignored_ids, remapped_ignore_list}
-use Rattle.oxc_sourcemap_remap.specs.Inputs.{input_for}
-use Rattle.oxc_sourcemap_remap.proofs.InputPlaces.{input_for-map}
+use Rattle.oxc_sourcemap_steps.specs.Blocks.{sources_by, sources_for, remapped_sources, is_listed}
+use Rattle.oxc_sourcemap_steps.specs.Blocks.{marked_from, marked_sources, marked_by, marked_for}
+use Rattle.oxc_sourcemap_steps.specs.Blocks.{ignored_ids, remapped_ignore_list}
+use Rattle.oxc_sourcemap_steps.specs.Inputs.{input_for}
+use Rattle.oxc_sourcemap_steps.proofs.InputPlaces.{input_for-map}
 use Rattle.oxc_sourcemap_laws.specs.Repeats.{without_repeats, is_same_mapping, EqualUpToRepeats}
 use Rattle.oxc_sourcemap_laws.specs.JoinedDecodedMaps.{lowered, joined_ignore_lists}
 use Rattle.oxc_sourcemap_laws.specs.JoinedDecodedMaps.{joined_decoded_maps}

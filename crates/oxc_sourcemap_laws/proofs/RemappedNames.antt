@@ -1,8 +1,7 @@
 -- How many names a remapped map has, whose they are, and when it is too large.
 use Rattle.std.proofs.Common.{◌≡◌, refl, sym, ap, subst, ◌∙◌, ℕ, ◌+◌, ◌≤◌, ◌<◌, Bool, true, false}
 use Rattle.std.proofs.Common.{cond, ◌&&◌, List, [], ◌∷◌, ◌++◌, map, length, slice_get, nat_lt}
-use Rattle.std.proofs.Common.{nat_le}
-use Rattle.std.proofs.Common.{Option, Some, None, Ok, Err, ◌⊎◌, inl, inr, arith}
+use Rattle.std.proofs.Common.{nat_le, Option, Some, None, Ok, Err, ◌⊎◌, inl, inr, arith}
 use Rattle.std.proofs.lemmas.Bool.Decides.{nat_tests}
 use Rattle.std.proofs.lemmas.List.{length-append}
 use Rattle.std.proofs.lemmas.List.Folds.{list_all-append}
@@ -19,14 +18,14 @@ use Rattle.oxc_sourcemap_parts.specs.Sorted.{token_line, token_column}
 use Rattle.oxc_sourcemap_parts.specs.Texts.{with_texts}
 use Rattle.oxc_sourcemap_lookup.specs.Lookup.{clamped_pick}
 use Rattle.oxc_sourcemap_lookup.proofs.OwnTables.{line_goes_on}
-use Rattle.oxc_sourcemap_remap.specs.Inputs.{input_for, goes_back, inputs_fault}
-use Rattle.oxc_sourcemap_remap.specs.Inputs.{NoInputColumnGoesBack}
-use Rattle.oxc_sourcemap_remap.specs.Remapped.{listed_sources, input_original}
-use Rattle.oxc_sourcemap_remap.specs.Remapped.{block_start, original, needed_name, needed_names}
-use Rattle.oxc_sourcemap_remap.specs.Remapped.{remapped, has_few, remapping}
+use Rattle.oxc_sourcemap_steps.specs.Inputs.{input_for, goes_back, inputs_fault}
+use Rattle.oxc_sourcemap_steps.specs.Inputs.{NoInputColumnGoesBack}
+use Rattle.oxc_sourcemap_steps.specs.Remapped.{listed_sources, input_original, block_start}
+use Rattle.oxc_sourcemap_steps.specs.Remapped.{original, needed_name, needed_names, remapped}
+use Rattle.oxc_sourcemap_steps.specs.Remapped.{has_few, remapping}
 use Rattle.oxc_sourcemap_laws.specs.RemapLaws.{names_of_inputs, AreInputsSorted}
-use Rattle.oxc_sourcemap_laws.proofs.ComposedNames.{IsOf, found-at, taken-are_of}
-use Rattle.oxc_sourcemap_laws.proofs.ComposedNames.{missing-most, grown, tested, all-tested}
+use Rattle.oxc_sourcemap_laws.proofs.ComposedNames.{IsOf, found-at, taken-are_of, missing-most}
+use Rattle.oxc_sourcemap_laws.proofs.ComposedNames.{grown, tested, all-tested}
 use Rattle.oxc_sourcemap_laws.proofs.JoinDecodedMaps.{slice_get-left, slice_get-right}
 use Rattle.oxc_sourcemap_laws.proofs.Joins.{map_twice}
 use Rattle.oxc_sourcemap_laws.proofs.JoinStands.{all_weaker}

@@ -1,8 +1,7 @@
 -- The decoded map of a remapped map is the remapping of the decoded maps.
 use Rattle.std.proofs.Common.{◌≡◌, refl, sym, ap, subst, ◌∙◌, ℕ, ◌+◌, ◌<◌, ◌≤◌, Bool, true, false}
 use Rattle.std.proofs.Common.{cond, List, [], ◌∷◌, map, length, slice_get, nat_lt, Option, Some}
-use Rattle.std.proofs.Common.{None}
-use Rattle.std.proofs.Common.{arith}
+use Rattle.std.proofs.Common.{None, arith}
 use Rattle.std.proofs.lemmas.Bool.Decides.{nat_tests}
 use Rattle.std.proofs.lemmas.Option.{slice_get_past}
 use Rattle.std.specs.List.{AllByRecursion}
@@ -10,24 +9,23 @@ use Rattle.std.specs.Option.{option_map, option_and_then, option_or}
 use Rattle.oxc_sourcemap_tokens.specs.Token.{TokenRecord}
 use Rattle.oxc_sourcemap_parts.specs.DecodedMap.{DecodedSource, OriginalPosition, DecodedMapping}
 use Rattle.oxc_sourcemap_parts.specs.DecodedMap.{DecodedMap, sources_of, name_of, original_at}
-use Rattle.oxc_sourcemap_parts.specs.DecodedMap.{mapping_of, decoded_map_of}
-use Rattle.oxc_sourcemap_parts.specs.DecodedMap.{mapping_line, mapping_column}
+use Rattle.oxc_sourcemap_parts.specs.DecodedMap.{mapping_of, decoded_map_of, mapping_line}
+use Rattle.oxc_sourcemap_parts.specs.DecodedMap.{mapping_column}
 use Rattle.oxc_sourcemap_parts.specs.Record.{Text, MapRecord}
 use Rattle.oxc_sourcemap_parts.specs.Sorted.{token_line, token_column}
-use Rattle.oxc_sourcemap_lookup.specs.Composed.{Target, if_mapped}
+use Rattle.oxc_sourcemap_steps.specs.Composed.{Target, if_mapped}
 use Rattle.oxc_sourcemap_lookup.specs.Lookup.{clamped_pick}
-use Rattle.oxc_sourcemap_lookup.proofs.InheritedNames.{IsPlaced}
+use Rattle.oxc_sourcemap_steps.proofs.InheritedNames.{IsPlaced}
 use Rattle.oxc_sourcemap_lookup.proofs.Picks.{clamped_pick-map}
-use Rattle.oxc_sourcemap_remap.specs.Blocks.{sources_by, sources_for, remapped_sources}
-use Rattle.oxc_sourcemap_remap.specs.Blocks.{remapped_ignore_list}
-use Rattle.oxc_sourcemap_remap.specs.Inputs.{input_for, decoded_inputs}
-use Rattle.oxc_sourcemap_remap.specs.Remapped.{listed_sources, input_of, target_by, remap_targets}
-use Rattle.oxc_sourcemap_remap.specs.Remapped.{Original}
-use Rattle.oxc_sourcemap_remap.specs.Remapped.{input_original, original_by}
-use Rattle.oxc_sourcemap_remap.specs.Remapped.{block_start, original, needed_name, token_to}
-use Rattle.oxc_sourcemap_remap.specs.Remapped.{remapped_token, remapped}
-use Rattle.oxc_sourcemap_remap.proofs.InputPlaces.{input_for-map}
-use Rattle.oxc_sourcemap_remap.proofs.NeededNames.{all-needed, name-back}
+use Rattle.oxc_sourcemap_steps.specs.Blocks.{sources_by, sources_for, remapped_sources}
+use Rattle.oxc_sourcemap_steps.specs.Blocks.{remapped_ignore_list}
+use Rattle.oxc_sourcemap_steps.specs.Inputs.{input_for, decoded_inputs}
+use Rattle.oxc_sourcemap_steps.specs.Remapped.{listed_sources, input_of, target_by, remap_targets}
+use Rattle.oxc_sourcemap_steps.specs.Remapped.{Original, input_original, original_by, block_start}
+use Rattle.oxc_sourcemap_steps.specs.Remapped.{original, needed_name, token_to, remapped_token}
+use Rattle.oxc_sourcemap_steps.specs.Remapped.{remapped}
+use Rattle.oxc_sourcemap_steps.proofs.InputPlaces.{input_for-map}
+use Rattle.oxc_sourcemap_steps.proofs.NeededNames.{all-needed, name-back}
 use Rattle.oxc_sourcemap_laws.specs.ComposedDecodedMaps.{named_by}
 use Rattle.oxc_sourcemap_laws.specs.RemappedDecodedMaps.{original_through_input, remapped_original}
 use Rattle.oxc_sourcemap_laws.specs.RemappedDecodedMaps.{remapped_mapping, remapped_decoded_map}

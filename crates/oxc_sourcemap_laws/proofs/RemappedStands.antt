@@ -1,8 +1,7 @@
 -- Remapped maps: their order, their ids, their soundness, and the laws of decoded maps for them.
 use Rattle.std.proofs.Common.{◌≡◌, refl, sym, ap, subst, ◌∙◌, ℕ, zero, suc, ◌+◌, ◌<◌, ◌≤◌, Bool}
-use Rattle.std.proofs.Common.{◌&&◌, Ok, Err}
-use Rattle.std.proofs.Common.{true, false, cond, List, [], ◌∷◌, map, length, take, slice_get}
-use Rattle.std.proofs.Common.{nat_lt, Option, Some, None, arith}
+use Rattle.std.proofs.Common.{◌&&◌, Ok, Err, true, false, cond, List, [], ◌∷◌, map, length, take}
+use Rattle.std.proofs.Common.{slice_get, nat_lt, Option, Some, None, arith}
 use Rattle.std.proofs.lemmas.Bool.Decides.{nat_tests}
 use Rattle.std.proofs.lemmas.List.{length-append, length-map}
 use Rattle.std.specs.List.{flat_map, AllByRecursion}
@@ -12,28 +11,26 @@ use Rattle.oxc_sourcemap_tokens.specs.declared.error.Error.TheVariants.{TooLarge
 use Rattle.oxc_sourcemap_tokens.specs.declared.position.Position.{Position}
 use Rattle.oxc_sourcemap_tokens.specs.Errors.{unless}
 use Rattle.oxc_sourcemap_tokens.specs.Token.{TokenRecord}
-use Rattle.oxc_sourcemap_parts.specs.DecodedMap.{DecodedSource, DecodedMap}
-use Rattle.oxc_sourcemap_parts.specs.DecodedMap.{sources_of, name_of, original_at, decoded_map_of}
-use Rattle.oxc_sourcemap_parts.specs.DecodedMap.{mapping_of}
+use Rattle.oxc_sourcemap_parts.specs.DecodedMap.{DecodedSource, DecodedMap, sources_of, name_of}
+use Rattle.oxc_sourcemap_parts.specs.DecodedMap.{original_at, decoded_map_of, mapping_of}
 use Rattle.oxc_sourcemap_parts.specs.Record.{Text, MapRecord}
 use Rattle.oxc_sourcemap_parts.specs.Sorted.{token_line, token_column, may_precede}
 use Rattle.oxc_sourcemap_parts.specs.Sorted.{are_tokens_sorted}
 use Rattle.oxc_sourcemap_parts.specs.Sound.{IsInRange, AreIdsInRange, IsSound}
 use Rattle.oxc_sourcemap_parts.specs.Texts.{index_of}
 use Rattle.oxc_sourcemap_join.specs.Joined.{joined}
-use Rattle.oxc_sourcemap_lookup.specs.Composed.{Target, composed}
-use Rattle.oxc_sourcemap_lookup.proofs.InheritedNames.{IsPlaced}
-use Rattle.oxc_sourcemap_remap.specs.Blocks.{sources_by, sources_for, remapped_sources}
-use Rattle.oxc_sourcemap_remap.specs.Blocks.{marked_sources, marked_for, ignored_from, unless_empty}
-use Rattle.oxc_sourcemap_remap.specs.Inputs.{input_for, decoded_inputs, inputs_fault}
-use Rattle.oxc_sourcemap_remap.specs.Remapped.{listed_sources, input_of, remap_targets, Original}
-use Rattle.oxc_sourcemap_remap.specs.Remapped.{input_original, original_by, block_start}
-use Rattle.oxc_sourcemap_remap.specs.Remapped.{original_at as original_in}
-use Rattle.oxc_sourcemap_remap.specs.Remapped.{original, needed_name, token_to, remapped_token}
-use Rattle.oxc_sourcemap_remap.specs.Remapped.{remapped_names, remapped_by, remapped, has_few}
-use Rattle.oxc_sourcemap_remap.specs.Remapped.{SomeRemapping}
-use Rattle.oxc_sourcemap_remap.proofs.InputPlaces.{input_for-map}
-use Rattle.oxc_sourcemap_remap.proofs.NeededNames.{all-needed}
+use Rattle.oxc_sourcemap_steps.specs.Composed.{Target, composed}
+use Rattle.oxc_sourcemap_steps.proofs.InheritedNames.{IsPlaced}
+use Rattle.oxc_sourcemap_steps.specs.Blocks.{sources_by, sources_for, remapped_sources}
+use Rattle.oxc_sourcemap_steps.specs.Blocks.{marked_sources, marked_for, ignored_from, unless_empty}
+use Rattle.oxc_sourcemap_steps.specs.Inputs.{input_for, decoded_inputs, inputs_fault}
+use Rattle.oxc_sourcemap_steps.specs.Remapped.{listed_sources, input_of, remap_targets, Original}
+use Rattle.oxc_sourcemap_steps.specs.Remapped.{input_original, original_by, block_start}
+use Rattle.oxc_sourcemap_steps.specs.Remapped.{original_at as original_in, original, needed_name}
+use Rattle.oxc_sourcemap_steps.specs.Remapped.{token_to, remapped_token, remapped_names}
+use Rattle.oxc_sourcemap_steps.specs.Remapped.{remapped_by, remapped, has_few, SomeRemapping}
+use Rattle.oxc_sourcemap_steps.proofs.InputPlaces.{input_for-map}
+use Rattle.oxc_sourcemap_steps.proofs.NeededNames.{all-needed}
 use Rattle.oxc_sourcemap_laws.specs.Repeats.{decoded_map_without_repeats, EqualUpToRepeats}
 use Rattle.oxc_sourcemap_laws.specs.JoinedDecodedMaps.{joined_decoded_maps}
 use Rattle.oxc_sourcemap_laws.specs.JoinLaws.{AreAllInRange, AreIgnoreListsInRange, StandsFor}
@@ -42,9 +39,8 @@ use Rattle.oxc_sourcemap_laws.specs.ComposedDecodedMaps.{composed_decoded_maps}
 use Rattle.oxc_sourcemap_laws.specs.ComposeLaws.{AreSourceIdsInRange, AreTokensInRange}
 use Rattle.oxc_sourcemap_laws.specs.RemappedDecodedMaps.{remapped_decoded_map}
 use Rattle.oxc_sourcemap_laws.specs.RemapLaws.{as_remapped, inputs_through, maps_through}
-use Rattle.oxc_sourcemap_laws.specs.RemapLaws.{PointsInto}
-use Rattle.oxc_sourcemap_laws.specs.RemapLaws.{AreIgnoredInRange, AreInputsEqualUpToRepeats}
-use Rattle.oxc_sourcemap_laws.specs.RemapLaws.{InputsStandFor}
+use Rattle.oxc_sourcemap_laws.specs.RemapLaws.{PointsInto, AreIgnoredInRange}
+use Rattle.oxc_sourcemap_laws.specs.RemapLaws.{AreInputsEqualUpToRepeats, InputsStandFor}
 use Rattle.oxc_sourcemap_laws.proofs.Compositions.{index-below, decoded_map_composed}
 use Rattle.oxc_sourcemap_laws.proofs.IgnoredSources.{count_marked}
 use Rattle.oxc_sourcemap_laws.proofs.JoinDecodedMaps.{length-sources_of, decoded_map_joined}

@@ -16,7 +16,7 @@ use Rattle.oxc_sourcemap_parts.specs.DecodedMap.{DecodedSource, mapping_of, mapp
 use Rattle.oxc_sourcemap_parts.specs.DecodedMap.{mapping_column}
 use Rattle.oxc_sourcemap_laws.specs.MapLaws.{StaysSound}
 use Rattle.oxc_sourcemap_laws.proofs.ReadsBack.{beside-in, carried-mappings, same-decoded_map}
-use Rattle.oxc_sourcemap_decode.proofs.ReadSound.{carried-name}
+use Rattle.oxc_sourcemap_json.proofs.ReadSound.{carried-name}
 
 -- tokens are sorted exactly if their mappings are
 pub sorted-tokens : (ss : List DecodedSource) (ns : List Text) (ts : List TokenRecord) → is_sorted_by mapping_line mapping_column (map (mapping_of ss ns) ts) ≡ are_tokens_sorted ts

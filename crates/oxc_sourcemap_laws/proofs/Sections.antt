@@ -10,11 +10,11 @@ use Rattle.oxc_sourcemap_parts.specs.DecodedMap.{DecodedMap, decoded_map_of}
 use Rattle.oxc_sourcemap_json.specs.Shape.{◌>>=◌}
 use Rattle.oxc_sourcemap_tokens.specs.declared.position.Position.{Position}
 use Rattle.oxc_sourcemap_join.specs.Joined.{joined}
-use Rattle.oxc_sourcemap_decode.specs.Sections.{Sections, joined_sections}
-use Rattle.oxc_sourcemap_decode.specs.JoinLimits.{is_map_within_limits}
-use Rattle.oxc_sourcemap_decode.specs.ReadMap.{indexed, indexed_record, map_said}
-use Rattle.oxc_sourcemap_decode.proofs.WellRead.{IsWellRead, sections_well, value_sections_well}
-use Rattle.oxc_sourcemap_decode.proofs.WellRead.{read_is_said, value_is_said}
+use Rattle.oxc_sourcemap_json.specs.Sections.{Sections, joined_sections}
+use Rattle.oxc_sourcemap_json.specs.JoinLimits.{is_map_within_limits}
+use Rattle.oxc_sourcemap_json.specs.ReadMap.{indexed, indexed_record, map_said}
+use Rattle.oxc_sourcemap_json.proofs.WellRead.{IsWellRead, sections_well, value_sections_well}
+use Rattle.oxc_sourcemap_json.proofs.WellRead.{read_is_said, value_is_said}
 use Rattle.oxc_sourcemap_laws.specs.Repeats.{EqualUpToRepeats}
 use Rattle.oxc_sourcemap_laws.specs.JoinLaws.{AreAllInRange}
 use Rattle.oxc_sourcemap_laws.specs.SectionLaws.{decoded_map_of_sections, ValueOfSections}

@@ -13,22 +13,21 @@ use Rattle.oxc_sourcemap_parts.specs.DecodedMap.{sources_of, name_of, original_a
 use Rattle.oxc_sourcemap_parts.specs.Record.{Text, MapRecord}
 use Rattle.oxc_sourcemap_parts.specs.Sorted.{token_line, token_column}
 use Rattle.oxc_sourcemap_lookup.specs.Trace.{original_in}
-use Rattle.oxc_sourcemap_remap.specs.Blocks.{marked_from, marked_sources, ignored_ids}
-use Rattle.oxc_sourcemap_remap.proofs.SourceBlocks.{count-all-marked}
-use Rattle.oxc_sourcemap_simplify.specs.Simple.{is_after_repeat}
-use Rattle.oxc_sourcemap_simplify.specs.Simplified.{found_mappings, simple_mappings, listings}
-use Rattle.oxc_sourcemap_simplify.specs.Simplified.{needed_sources, simple_sources, pointed_to}
-use Rattle.oxc_sourcemap_simplify.specs.Simplified.{simplified_decoded_map, found_tokens}
-use Rattle.oxc_sourcemap_simplify.specs.Simplified.{found_originals, are_alike_in}
-use Rattle.oxc_sourcemap_simplify.specs.Simplified.{token_at_next_column, simple_tokens, name_in}
-use Rattle.oxc_sourcemap_simplify.specs.Simplified.{simple_names, simple_sources_of}
-use Rattle.oxc_sourcemap_simplify.specs.Simplified.{marked_source_of, token_among, renumbered}
-use Rattle.oxc_sourcemap_simplify.specs.Simplified.{simplified, fits}
-use Rattle.oxc_sourcemap_simplify.proofs.Fewer.{sources-most}
-use Rattle.oxc_sourcemap_simplify.proofs.Means.{decoded_map_simplified, kept-has, found-has}
-use Rattle.oxc_sourcemap_simplify.proofs.Order.{found-length, keep-length}
-use Rattle.oxc_sourcemap_simplify.proofs.Sound.{simplified-sound, source-below, name-below}
-use Rattle.oxc_sourcemap_simplify.proofs.Twice.{mappings-twice, sources-twice}
+use Rattle.oxc_sourcemap_steps.specs.Blocks.{marked_from, marked_sources, ignored_ids}
+use Rattle.oxc_sourcemap_steps.proofs.SourceBlocks.{count-all-marked}
+use Rattle.oxc_sourcemap_steps.specs.Simple.{is_after_repeat}
+use Rattle.oxc_sourcemap_steps.specs.Simplified.{found_mappings, simple_mappings, listings}
+use Rattle.oxc_sourcemap_steps.specs.Simplified.{needed_sources, simple_sources, pointed_to}
+use Rattle.oxc_sourcemap_steps.specs.Simplified.{simplified_decoded_map, found_tokens}
+use Rattle.oxc_sourcemap_steps.specs.Simplified.{found_originals, are_alike_in}
+use Rattle.oxc_sourcemap_steps.specs.Simplified.{token_at_next_column, simple_tokens, name_in}
+use Rattle.oxc_sourcemap_steps.specs.Simplified.{simple_names, simple_sources_of, marked_source_of}
+use Rattle.oxc_sourcemap_steps.specs.Simplified.{token_among, renumbered, simplified, fits}
+use Rattle.oxc_sourcemap_steps.proofs.Fewer.{sources-most}
+use Rattle.oxc_sourcemap_steps.proofs.Means.{decoded_map_simplified, kept-has, found-has}
+use Rattle.oxc_sourcemap_steps.proofs.Order.{found-length, keep-length}
+use Rattle.oxc_sourcemap_steps.proofs.Sound.{simplified-sound, source-below, name-below}
+use Rattle.oxc_sourcemap_steps.proofs.Twice.{mappings-twice, sources-twice}
 use Rattle.oxc_sourcemap_laws.specs.Repeats.{is_same_mapping, decoded_map_without_repeats}
 use Rattle.oxc_sourcemap_laws.specs.Repeats.{EqualUpToRepeats}
 use Rattle.oxc_sourcemap_laws.specs.JoinLaws.{StandsFor}

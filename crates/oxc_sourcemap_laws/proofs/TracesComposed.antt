@@ -6,7 +6,7 @@ use Rattle.oxc_sourcemap_parts.specs.DecodedMap.{OriginalPosition, DecodedMappin
 use Rattle.oxc_sourcemap_parts.specs.DecodedMap.{mapping_line, mapping_column, decoded_map_of}
 use Rattle.oxc_sourcemap_lookup.specs.Lookup.{pick, clamped_pick}
 use Rattle.oxc_sourcemap_lookup.specs.Trace.{trace, clamped_trace}
-use Rattle.oxc_sourcemap_lookup.specs.Composed.{composed}
+use Rattle.oxc_sourcemap_steps.specs.Composed.{composed}
 use Rattle.oxc_sourcemap_lookup.proofs.Picks.{pick-map, clamped_pick-map}
 use Rattle.oxc_sourcemap_laws.specs.ComposedDecodedMaps.{named_by, original_through}
 use Rattle.oxc_sourcemap_laws.specs.ComposedDecodedMaps.{composed_mapping, composed_decoded_maps}

@@ -11,8 +11,8 @@ use Rattle.std.proofs.lemmas.List.Elements.{filter-append}
 use Rattle.oxc_sourcemap_tokens.specs.declared.position.Position.{Position}
 use Rattle.oxc_sourcemap_parts.specs.Record.{MapRecord}
 use Rattle.oxc_sourcemap_parts.specs.Sorted.{may_precede, is_sorted_by, are_tokens_sorted}
-use Rattle.oxc_sourcemap_parts.specs.DecodedMap.{DecodedMapping, OriginalPosition}
-use Rattle.oxc_sourcemap_parts.specs.DecodedMap.{mapping_line, mapping_column, decoded_map_of}
+use Rattle.oxc_sourcemap_parts.specs.DecodedMap.{DecodedMapping, OriginalPosition, mapping_line}
+use Rattle.oxc_sourcemap_parts.specs.DecodedMap.{mapping_column, decoded_map_of}
 use Rattle.oxc_sourcemap_lookup.specs.Lookup.{first, not_past, in_column, at, clamped_at, on_line}
 use Rattle.oxc_sourcemap_lookup.specs.Lookup.{pick, clamped_pick}
 use Rattle.oxc_sourcemap_lookup.specs.Trace.{trace, clamped_trace}
@@ -27,13 +27,11 @@ use Rattle.oxc_sourcemap_laws.proofs.JoinStands.{all_weaker, sorted-mappings}
 use Rattle.oxc_sourcemap_laws.proofs.JoinDecodedMaps.{decoded_map_joined}
 use Rattle.oxc_sourcemap_laws.proofs.UpToRepeats.{trace_up_to_repeats, clamped_trace_up_to_repeats}
 use Rattle.oxc_sourcemap_laws.proofs.UpToRepeats.{sorted_decoded_map_up_to_repeats}
-use Rattle.oxc_sourcemap_laws.proofs.TracesMoved.{or_false, placed, pick_placed}
-use Rattle.oxc_sourcemap_laws.proofs.TracesMoved.{traces_on_own_line}
+use Rattle.oxc_sourcemap_laws.proofs.TracesMoved.{or_false, placed, pick_placed, traces_on_own_line}
 use Rattle.oxc_sourcemap_laws.proofs.TracesMoved.{clamped_pick_placed}
-use Rattle.oxc_sourcemap_laws.proofs.TracesRising.{or_kept, map_or, Rises, rises_left}
-use Rattle.oxc_sourcemap_laws.proofs.TracesRising.{rises_right, at_rising, at_none, at_between}
-use Rattle.oxc_sourcemap_laws.proofs.TracesRising.{clamped_first, Tells, at_chosen}
-use Rattle.oxc_sourcemap_laws.proofs.TracesRising.{clamped_at_chosen}
+use Rattle.oxc_sourcemap_laws.proofs.TracesRising.{or_kept, map_or, Rises, rises_left, rises_right}
+use Rattle.oxc_sourcemap_laws.proofs.TracesRising.{at_rising, at_none, at_between, clamped_first}
+use Rattle.oxc_sourcemap_laws.proofs.TracesRising.{Tells, at_chosen, clamped_at_chosen}
 
 -- ---- on a line of sorted items no column goes back
 precedes : (a b c x y z : ℕ) → (nat_lt a b || (a == b && nat_le x y)) ≡ true → (nat_lt b c || (b == c && nat_le y z)) ≡ true → (nat_lt a c || (a == c && nat_le x z)) ≡ true

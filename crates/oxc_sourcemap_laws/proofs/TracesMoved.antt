@@ -1,7 +1,6 @@
 -- Lookups in the mappings of a part of a join, each at its offset.
-use Rattle.std.proofs.Common.{◌≡◌, ℕ, ◌+◌, Bool, true, false, ◌||◌, ◌==◌, nat_le, cond}
-use Rattle.std.proofs.Common.{max, List, [], ◌∷◌, ◌++◌, map, refl, sym, ap, ◌∙◌, arith, Option}
-use Rattle.std.proofs.Common.{Some, None}
+use Rattle.std.proofs.Common.{◌≡◌, ℕ, ◌+◌, Bool, true, false, ◌||◌, ◌==◌, nat_le, cond, max, List}
+use Rattle.std.proofs.Common.{[], ◌∷◌, ◌++◌, map, refl, sym, ap, ◌∙◌, arith, Option, Some, None}
 use Rattle.std.specs.List.{filter, flat_map, list_any, AllByRecursion}
 use Rattle.std.specs.Option.{option_map, option_or}
 use Rattle.std.proofs.lemmas.Bool.Decides.{nat_tests}
@@ -11,8 +10,7 @@ use Rattle.std.proofs.lemmas.List.Folds.{list_any-append}
 use Rattle.std.proofs.lemmas.Grind.{flat_map-append}
 use Rattle.oxc_sourcemap_tokens.specs.Token.{last}
 use Rattle.oxc_sourcemap_tokens.specs.declared.position.Position.{Position}
-use Rattle.oxc_sourcemap_parts.specs.DecodedMap.{DecodedMapping}
-use Rattle.oxc_sourcemap_parts.specs.DecodedMap.{mapping_line, mapping_column}
+use Rattle.oxc_sourcemap_parts.specs.DecodedMap.{DecodedMapping, mapping_line, mapping_column}
 use Rattle.oxc_sourcemap_lookup.specs.Lookup.{first, greatest, not_past, in_column, at, clamped_at}
 use Rattle.oxc_sourcemap_lookup.specs.Lookup.{on_line, pick, clamped_pick}
 use Rattle.oxc_sourcemap_lookup.proofs.Picks.{pick-map, clamped_pick-map}

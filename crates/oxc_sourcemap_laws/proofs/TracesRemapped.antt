@@ -7,8 +7,8 @@ use Rattle.oxc_sourcemap_parts.specs.DecodedMap.{mapping_line, mapping_column, d
 use Rattle.oxc_sourcemap_lookup.specs.Lookup.{pick, clamped_pick}
 use Rattle.oxc_sourcemap_lookup.specs.Trace.{trace, clamped_trace}
 use Rattle.oxc_sourcemap_lookup.proofs.Picks.{pick-map, clamped_pick-map}
-use Rattle.oxc_sourcemap_remap.specs.Inputs.{input_for, decoded_inputs}
-use Rattle.oxc_sourcemap_remap.specs.Remapped.{remapped}
+use Rattle.oxc_sourcemap_steps.specs.Inputs.{input_for, decoded_inputs}
+use Rattle.oxc_sourcemap_steps.specs.Remapped.{remapped}
 use Rattle.oxc_sourcemap_laws.specs.RemappedDecodedMaps.{original_through_input, remapped_original}
 use Rattle.oxc_sourcemap_laws.specs.RemappedDecodedMaps.{remapped_mapping, remapped_decoded_map}
 use Rattle.oxc_sourcemap_laws.specs.TraceLaws.{leads_by_input, led_through_inputs}

@@ -6,10 +6,10 @@ use Rattle.std.specs.Str.{bytes_eq}
 use Rattle.oxc_sourcemap_parts.specs.DecodedMap.{DecodedMap, OriginalPosition}
 use Rattle.oxc_sourcemap_parts.specs.Record.{Text}
 use Rattle.oxc_sourcemap_lookup.specs.Trace.{trace, clamped_trace}
-use Rattle.oxc_sourcemap_remap.specs.Inputs.{input_for}
-use Rattle.oxc_sourcemap_simplify.specs.Simplified.{simplified_decoded_map}
-use Rattle.oxc_sourcemap_simplify.specs.SimplifyLaws.{IsSortedMap}
-use Rattle.oxc_sourcemap_simplify.proofs.Traces.{traces-stay}
+use Rattle.oxc_sourcemap_steps.specs.Inputs.{input_for}
+use Rattle.oxc_sourcemap_steps.specs.Simplified.{simplified_decoded_map}
+use Rattle.oxc_sourcemap_steps.specs.SimplifyLaws.{IsSortedMap}
+use Rattle.oxc_sourcemap_steps.proofs.Traces.{traces-stay}
 use Rattle.oxc_sourcemap_laws.specs.TraceLaws.{leads_to, led_through, leads_by_input}
 use Rattle.oxc_sourcemap_laws.specs.TraceLaws.{led_through_inputs}
 use Rattle.oxc_sourcemap_laws.specs.SimplifyTraces.{SimplifiedComposed, SimplifiedRemapped}

@@ -1,8 +1,7 @@
 -- Traces of compositions and joins, computed by the definitions themselves.
 use Rattle.std.specs.Prelude.{◌≡◌, refl, ℕ, true, List, [], ◌∷◌, Option, Some, None, codes}
 use Rattle.oxc_sourcemap_parts.specs.Record.{Text}
-use Rattle.oxc_sourcemap_parts.specs.DecodedMap.{OriginalPosition, DecodedMapping}
-use Rattle.oxc_sourcemap_parts.specs.DecodedMap.{DecodedMap}
+use Rattle.oxc_sourcemap_parts.specs.DecodedMap.{OriginalPosition, DecodedMapping, DecodedMap}
 use Rattle.oxc_sourcemap_lookup.specs.Trace.{trace, clamped_trace}
 use Rattle.oxc_sourcemap_laws.specs.Repeats.{is_sorted_decoded_map}
 use Rattle.oxc_sourcemap_laws.specs.JoinedDecodedMaps.{joined_decoded_maps}

@@ -9,7 +9,7 @@ use Rattle.oxc_sourcemap_parts.specs.Record.{Text, MapRecord}
 use Rattle.oxc_sourcemap_parts.specs.Sorted.{are_tokens_sorted}
 use Rattle.oxc_sourcemap_parts.specs.Sound.{IsInRange, AreIdsInRange, IsSound}
 use Rattle.oxc_sourcemap_parts.specs.DecodedMap.{DecodedMap, decoded_map_of}
-use Rattle.oxc_sourcemap_lookup.specs.Composed.{composed, composition, NoColumnGoesBack}
+use Rattle.oxc_sourcemap_steps.specs.Composed.{composed, composition, NoColumnGoesBack}
 use Rattle.oxc_sourcemap_laws.specs.Repeats.{EqualUpToRepeats}
 use Rattle.oxc_sourcemap_laws.specs.ComposedDecodedMaps.{composed_decoded_maps}
 use Rattle.oxc_sourcemap_laws.specs.JoinLaws.{StandsFor}

@@ -1,3 +1,4 @@
+pub mod DataUrlLaws
 pub mod MapLaws
 pub mod Repeats
 pub mod JoinedDecodedMaps

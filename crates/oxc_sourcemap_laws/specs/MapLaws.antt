@@ -7,8 +7,8 @@ use Rattle.oxc_sourcemap_mappings.specs.Canonical.{as_written, carried}
 use Rattle.oxc_sourcemap_parts.specs.Record.{MapRecord}
 use Rattle.oxc_sourcemap_parts.specs.Sound.{IsSound}
 use Rattle.oxc_sourcemap_parts.specs.DecodedMap.{decoded_map_of}
-use Rattle.oxc_sourcemap_encode.specs.Encoded.{encoded, encoded_record, written_contents}
-use Rattle.oxc_sourcemap_decode.specs.Decoded.{decoded}
+use Rattle.oxc_sourcemap_json.specs.Encoded.{encoded, encoded_record, written_contents}
+use Rattle.oxc_sourcemap_json.specs.Decoded.{decoded}
 
 -- A map as it comes back: an unmapped token has the source position that the sums have reached there, and no name; contents
 -- that are all unknown are gone; and it has no chunks.

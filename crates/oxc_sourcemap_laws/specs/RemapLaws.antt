@@ -9,11 +9,11 @@ use Rattle.oxc_sourcemap_parts.specs.Record.{Text, MapRecord}
 use Rattle.oxc_sourcemap_parts.specs.Sorted.{are_tokens_sorted}
 use Rattle.oxc_sourcemap_parts.specs.Sound.{AreIdsInRange, IsSound}
 use Rattle.oxc_sourcemap_parts.specs.DecodedMap.{DecodedSource, DecodedMap, decoded_map_of}
-use Rattle.oxc_sourcemap_lookup.specs.Composed.{composed}
+use Rattle.oxc_sourcemap_steps.specs.Composed.{composed}
 use Rattle.oxc_sourcemap_join.specs.Joined.{joined}
-use Rattle.oxc_sourcemap_remap.specs.Blocks.{marked_sources, marked_for, ignored_ids}
-use Rattle.oxc_sourcemap_remap.specs.Inputs.{decoded_inputs, inputs_fault, NoInputColumnGoesBack}
-use Rattle.oxc_sourcemap_remap.specs.Remapped.{remapped, remapping, SomeRemapping}
+use Rattle.oxc_sourcemap_steps.specs.Blocks.{marked_sources, marked_for, ignored_ids}
+use Rattle.oxc_sourcemap_steps.specs.Inputs.{decoded_inputs, inputs_fault, NoInputColumnGoesBack}
+use Rattle.oxc_sourcemap_steps.specs.Remapped.{remapped, remapping, SomeRemapping}
 use Rattle.oxc_sourcemap_laws.specs.Repeats.{EqualUpToRepeats}
 use Rattle.oxc_sourcemap_laws.specs.JoinedDecodedMaps.{joined_decoded_maps}
 use Rattle.oxc_sourcemap_laws.specs.JoinLaws.{AreAllInRange, AreIgnoreListsInRange, StandsFor}

@@ -4,8 +4,8 @@ use Rattle.std.specs.Prelude.{List, map, Option, Some, None}
 use Rattle.std.specs.Option.{option_and_then}
 use Rattle.oxc_sourcemap_parts.specs.Record.{Text}
 use Rattle.oxc_sourcemap_parts.specs.DecodedMap.{OriginalPosition, DecodedMapping, DecodedMap}
-use Rattle.oxc_sourcemap_remap.specs.Blocks.{remapped_sources, remapped_ignore_list}
-use Rattle.oxc_sourcemap_remap.specs.Inputs.{input_for}
+use Rattle.oxc_sourcemap_steps.specs.Blocks.{remapped_sources, remapped_ignore_list}
+use Rattle.oxc_sourcemap_steps.specs.Inputs.{input_for}
 use Rattle.oxc_sourcemap_laws.specs.ComposedDecodedMaps.{original_through}
 
 -- what an original position becomes whose source has this input, or none: without an input it stays, with one it is what a

@@ -3,8 +3,8 @@ use Rattle.std.specs.Prelude.{◌≡◌, Option, Ok}
 use Rattle.serde_json.specs.Data.{Data}
 use Rattle.oxc_sourcemap_parts.specs.Record.{Text, MapRecord}
 use Rattle.oxc_sourcemap_parts.specs.DecodedMap.{DecodedMap, decoded_map_of}
-use Rattle.oxc_sourcemap_decode.specs.Sections.{Sections}
-use Rattle.oxc_sourcemap_decode.specs.ReadMap.{indexed, said_by, said_in, read_value, read_map}
+use Rattle.oxc_sourcemap_json.specs.Sections.{Sections}
+use Rattle.oxc_sourcemap_json.specs.ReadMap.{indexed, said_by, said_in, read_value, read_map}
 use Rattle.oxc_sourcemap_laws.specs.Repeats.{EqualUpToRepeats}
 use Rattle.oxc_sourcemap_laws.specs.JoinedDecodedMaps.{joined_decoded_maps}
 use Rattle.oxc_sourcemap_laws.specs.JoinLaws.{decoded_maps_of}

@@ -4,7 +4,7 @@ use Rattle.std.specs.List.{list_all}
 use Rattle.oxc_sourcemap_tokens.specs.Token.{AreInBounds}
 use Rattle.oxc_sourcemap_parts.specs.DecodedMap.{DecodedMap}
 use Rattle.oxc_sourcemap_parts.specs.Record.{Text, MapRecord}
-use Rattle.oxc_sourcemap_simplify.specs.Simplified.{simplified_decoded_map, simplified, fits}
+use Rattle.oxc_sourcemap_steps.specs.Simplified.{simplified_decoded_map, simplified, fits}
 use Rattle.oxc_sourcemap_laws.specs.Repeats.{EqualUpToRepeats}
 use Rattle.oxc_sourcemap_laws.specs.JoinLaws.{StandsFor}
 

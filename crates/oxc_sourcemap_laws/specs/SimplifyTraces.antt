@@ -5,8 +5,8 @@ use Rattle.oxc_sourcemap_parts.specs.DecodedMap.{DecodedMap}
 use Rattle.oxc_sourcemap_parts.specs.Record.{Text}
 use Rattle.oxc_sourcemap_join.specs.Joined.{shifted_column}
 use Rattle.oxc_sourcemap_lookup.specs.Trace.{trace, clamped_trace}
-use Rattle.oxc_sourcemap_simplify.specs.Simplified.{simplified_decoded_map}
-use Rattle.oxc_sourcemap_simplify.specs.SimplifyLaws.{IsSortedMap}
+use Rattle.oxc_sourcemap_steps.specs.Simplified.{simplified_decoded_map}
+use Rattle.oxc_sourcemap_steps.specs.SimplifyLaws.{IsSortedMap}
 use Rattle.oxc_sourcemap_laws.specs.ComposedDecodedMaps.{composed_decoded_maps}
 use Rattle.oxc_sourcemap_laws.specs.JoinedDecodedMaps.{joined_decoded_maps}
 use Rattle.oxc_sourcemap_laws.specs.RemappedDecodedMaps.{remapped_decoded_map}

@@ -1,7 +1,7 @@
 -- What the traces of a composition, of a remapped map and of a join are, by the traces of the decoded maps that they are made of.
 use Rattle.std.specs.Prelude.{◌≡◌, ℕ, ◌+◌, ◌-◌, Bool, true, false, ◌&&◌, ◌||◌, List, ◌∷◌, ◌++◌, map}
-use Rattle.std.specs.Prelude.{filter, Option, Some, None, is_some, if◌then◌else◌}
-use Rattle.std.specs.Prelude.{nat_lt, nat_le, ◌==◌}
+use Rattle.std.specs.Prelude.{filter, Option, Some, None, is_some, if◌then◌else◌, nat_lt, nat_le}
+use Rattle.std.specs.Prelude.{◌==◌}
 use Rattle.std.specs.List.{list_any}
 use Rattle.std.specs.Option.{option_and_then, option_or}
 use Rattle.oxc_sourcemap_tokens.specs.Token.{last}
@@ -11,10 +11,10 @@ use Rattle.oxc_sourcemap_parts.specs.Sorted.{are_tokens_sorted}
 use Rattle.oxc_sourcemap_parts.specs.DecodedMap.{OriginalPosition, DecodedMap, decoded_map_of}
 use Rattle.oxc_sourcemap_lookup.specs.Lookup.{first}
 use Rattle.oxc_sourcemap_lookup.specs.Trace.{trace, clamped_trace}
-use Rattle.oxc_sourcemap_lookup.specs.Composed.{composed}
+use Rattle.oxc_sourcemap_steps.specs.Composed.{composed}
 use Rattle.oxc_sourcemap_join.specs.Joined.{shifted_column, joined}
-use Rattle.oxc_sourcemap_remap.specs.Inputs.{input_for, decoded_inputs}
-use Rattle.oxc_sourcemap_remap.specs.Remapped.{remapped}
+use Rattle.oxc_sourcemap_steps.specs.Inputs.{input_for, decoded_inputs}
+use Rattle.oxc_sourcemap_steps.specs.Remapped.{remapped}
 use Rattle.oxc_sourcemap_laws.specs.Repeats.{is_sorted_decoded_map}
 use Rattle.oxc_sourcemap_laws.specs.JoinedDecodedMaps.{lowered, joined_decoded_maps}
 use Rattle.oxc_sourcemap_laws.specs.JoinLaws.{AreAllInRange, decoded_maps_of}

@@ -1,17 +1,16 @@
 -- The words of this crate's clauses, from one place.
-pub use Rattle.oxc_sourcemap_decode.specs.ReadLaws.{ReadIsInBounds, ReadIsInLineOrder}
+pub use Rattle.oxc_sourcemap_json.specs.ReadLaws.{ReadIsInBounds, ReadIsInLineOrder}
 pub use Rattle.oxc_sourcemap_mappings.specs.TextLaws.{CanonicalUnique, ReadsBack, ReadsAgain}
 pub use Rattle.oxc_sourcemap_mappings.specs.TextLaws.{InPieces, PiecesAreAscii}
 pub use Rattle.oxc_sourcemap_laws.specs.ComposeLaws.{DecodedMapOfComposition}
 pub use Rattle.oxc_sourcemap_laws.specs.ComposeLaws.{CompositionKeepsEqualUpToRepeats}
 pub use Rattle.oxc_sourcemap_laws.specs.ComposeLaws.{CompositionStandsFor, DecodedMapsAssociative}
 pub use Rattle.oxc_sourcemap_laws.specs.ComposeLaws.{ComposedMapsAssociative}
-pub use Rattle.oxc_sourcemap_laws.specs.ComposeLaws.{CompositionAssociative}
-pub use Rattle.oxc_sourcemap_laws.specs.ComposeLaws.{GroupingsFailTogether, GroupingsAnswered}
-pub use Rattle.oxc_sourcemap_laws.specs.ComposeLaws.{GroupingsTell, CompositionInRange}
-pub use Rattle.oxc_sourcemap_laws.specs.ComposeLaws.{CompositionNames, CompositionTokens}
-pub use Rattle.oxc_sourcemap_laws.specs.ComposeLaws.{CompositionTooLarge, CompositionInBounds}
-pub use Rattle.oxc_sourcemap_laws.specs.ComposeLaws.{SortedGoesOn}
+pub use Rattle.oxc_sourcemap_laws.specs.ComposeLaws.{CompositionAssociative, GroupingsFailTogether}
+pub use Rattle.oxc_sourcemap_laws.specs.ComposeLaws.{GroupingsAnswered, GroupingsTell}
+pub use Rattle.oxc_sourcemap_laws.specs.ComposeLaws.{CompositionInRange, CompositionNames}
+pub use Rattle.oxc_sourcemap_laws.specs.ComposeLaws.{CompositionTokens, CompositionTooLarge}
+pub use Rattle.oxc_sourcemap_laws.specs.ComposeLaws.{CompositionInBounds, SortedGoesOn}
 pub use Rattle.oxc_sourcemap_laws.specs.JoinLaws.{RepeatsHarmless, TracesAgree, TestsAgree}
 pub use Rattle.oxc_sourcemap_laws.specs.JoinLaws.{JoinKeepsEqualUpToRepeats, DecodedMapOfJoin}
 pub use Rattle.oxc_sourcemap_laws.specs.JoinLaws.{JoinStandsFor, JoinInRange, JoinNames, JoinTokens}
@@ -22,8 +21,8 @@ pub use Rattle.oxc_sourcemap_laws.specs.SectionLaws.{ValueOfSections, TextOfSect
 pub use Rattle.oxc_sourcemap_laws.specs.TraceLaws.{TracesOfComposition, TracesOfComposedMaps}
 pub use Rattle.oxc_sourcemap_laws.specs.TraceLaws.{TracesOnOwnLine, TracesOfSortedJoin}
 pub use Rattle.oxc_sourcemap_laws.specs.TraceLaws.{TracesWithinPart, TracesOfJoinedMaps}
-pub use Rattle.oxc_sourcemap_laws.specs.TraceLaws.{TracesOnOwnLineOfMaps}
-pub use Rattle.oxc_sourcemap_laws.specs.TraceLaws.{TracesOfRemapping, TracesOfRemappedMaps}
+pub use Rattle.oxc_sourcemap_laws.specs.TraceLaws.{TracesOnOwnLineOfMaps, TracesOfRemapping}
+pub use Rattle.oxc_sourcemap_laws.specs.TraceLaws.{TracesOfRemappedMaps}
 pub use Rattle.oxc_sourcemap_laws.specs.SimplifyTraces.{SimplifiedComposed, SimplifiedRemapped}
 pub use Rattle.oxc_sourcemap_laws.specs.SimplifyTraces.{SimplifiedJoined}
 pub use Rattle.oxc_sourcemap_laws.specs.SimplifiedMaps.{SimplifyingEndsRepeats}
@@ -35,10 +34,9 @@ pub use Rattle.oxc_sourcemap_laws.specs.RemapLaws.{RemappedMapsAssociative, Join
 pub use Rattle.oxc_sourcemap_laws.specs.RemapLaws.{JoinedMapsRemapped, CompositionRemapped}
 pub use Rattle.oxc_sourcemap_laws.specs.RemapLaws.{ComposedMapsRemapped, OneRemapped}
 pub use Rattle.oxc_sourcemap_laws.specs.RemapLaws.{OneMapRemapped, RemappingStandsFor}
-pub use Rattle.oxc_sourcemap_laws.specs.RemapLaws.{RemappingKeepsEqualUpToRepeats}
-pub use Rattle.oxc_sourcemap_laws.specs.RemapLaws.{RemappingSorted, RemappingInRange}
-pub use Rattle.oxc_sourcemap_laws.specs.RemapLaws.{RemappingIsSound, RemappingCounts}
-pub use Rattle.oxc_sourcemap_laws.specs.RemapLaws.{SomeRemappingIsSound}
+pub use Rattle.oxc_sourcemap_laws.specs.RemapLaws.{RemappingKeepsEqualUpToRepeats, RemappingSorted}
+pub use Rattle.oxc_sourcemap_laws.specs.RemapLaws.{RemappingInRange, RemappingIsSound}
+pub use Rattle.oxc_sourcemap_laws.specs.RemapLaws.{RemappingCounts, SomeRemappingIsSound}
 pub use Rattle.oxc_sourcemap_laws.specs.RemapLaws.{RemappingNames, SortedInputsGoOn}
 pub use Rattle.oxc_sourcemap_laws.specs.RemapLaws.{RemappingAnswered, RemappingTooLarge}
 pub use Rattle.oxc_sourcemap_laws.specs.RemapLaws.{RemappingInBounds}
@@ -47,3 +45,4 @@ pub use Rattle.oxc_sourcemap_laws.specs.RootLaws.{RootedDecodedMapsAgain, Rootin
 pub use Rattle.oxc_sourcemap_laws.specs.RootLaws.{RootedDecodedMapsKeep, TracesOfRooting}
 pub use Rattle.oxc_sourcemap_laws.specs.RootLaws.{RootingKeepsEqualUpToRepeats, RootingIsSound}
 pub use Rattle.oxc_sourcemap_laws.specs.RootLaws.{RootingStandsFor}
+pub use Rattle.oxc_sourcemap_laws.specs.DataUrlLaws.{TextsReadBack, MapsReadBack}

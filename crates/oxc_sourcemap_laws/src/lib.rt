@@ -4,10 +4,11 @@
 //! Users find them in the module `laws` of the crate `oxc_sourcemap`.
 #![tactic(auto)]
 
+mod data_urls;
+
 ghost use Rattle.oxc_sourcemap_laws.specs.Words.{CanonicalUnique, ReadsBack, ReadsAgain, InPieces};
-ghost use Rattle.oxc_sourcemap_laws.specs.Words.{PiecesAreAscii};
-ghost use Rattle.oxc_sourcemap_laws.specs.Words.{SoundIsWritten, SoundIsTooLarge, SoundReadsBack};
-ghost use Rattle.oxc_sourcemap_laws.specs.Words.{SoundStaysSound, ReadIsInBounds};
+ghost use Rattle.oxc_sourcemap_laws.specs.Words.{PiecesAreAscii, SoundIsWritten, SoundIsTooLarge};
+ghost use Rattle.oxc_sourcemap_laws.specs.Words.{SoundReadsBack, SoundStaysSound, ReadIsInBounds};
 ghost use Rattle.oxc_sourcemap_laws.specs.Words.{ReadIsInLineOrder, ValueOfSections};
 ghost use Rattle.oxc_sourcemap_laws.specs.Words.{TextOfSections, DecodedMapOfComposition};
 ghost use Rattle.oxc_sourcemap_laws.specs.Words.{CompositionKeepsEqualUpToRepeats};
@@ -17,38 +18,38 @@ ghost use Rattle.oxc_sourcemap_laws.specs.Words.{GroupingsFailTogether, Grouping
 ghost use Rattle.oxc_sourcemap_laws.specs.Words.{GroupingsTell, CompositionInRange};
 ghost use Rattle.oxc_sourcemap_laws.specs.Words.{CompositionNames, CompositionTokens};
 ghost use Rattle.oxc_sourcemap_laws.specs.Words.{CompositionTooLarge, CompositionInBounds};
-ghost use Rattle.oxc_sourcemap_laws.specs.Words.{SortedGoesOn};
-ghost use Rattle.oxc_sourcemap_laws.specs.Words.{RepeatsHarmless, TracesAgree, TestsAgree};
-ghost use Rattle.oxc_sourcemap_laws.specs.Words.{JoinKeepsEqualUpToRepeats, DecodedMapOfJoin};
-ghost use Rattle.oxc_sourcemap_laws.specs.Words.{JoinStandsFor, JoinInRange, JoinNames, JoinTokens};
-ghost use Rattle.oxc_sourcemap_laws.specs.Words.{JoinChunksFit, JoinsAssociative, JoinOneMore};
+ghost use Rattle.oxc_sourcemap_laws.specs.Words.{SortedGoesOn, RepeatsHarmless, TracesAgree};
+ghost use Rattle.oxc_sourcemap_laws.specs.Words.{TestsAgree, JoinKeepsEqualUpToRepeats};
+ghost use Rattle.oxc_sourcemap_laws.specs.Words.{DecodedMapOfJoin, JoinStandsFor, JoinInRange};
+ghost use Rattle.oxc_sourcemap_laws.specs.Words.{JoinNames, JoinTokens, JoinChunksFit};
+ghost use Rattle.oxc_sourcemap_laws.specs.Words.{JoinsAssociative, JoinOneMore};
 ghost use Rattle.oxc_sourcemap_laws.specs.Words.{TracesOfComposition, TracesOfComposedMaps};
 ghost use Rattle.oxc_sourcemap_laws.specs.Words.{TracesOnOwnLine, TracesOfSortedJoin};
 ghost use Rattle.oxc_sourcemap_laws.specs.Words.{TracesWithinPart, TracesOfJoinedMaps};
-ghost use Rattle.oxc_sourcemap_laws.specs.Words.{TracesOnOwnLineOfMaps};
-ghost use Rattle.oxc_sourcemap_laws.specs.Words.{TracesOfRemapping, TracesOfRemappedMaps};
-ghost use Rattle.oxc_sourcemap_laws.specs.Words.{SimplifiedComposed, SimplifiedRemapped};
-ghost use Rattle.oxc_sourcemap_laws.specs.Words.{SimplifiedJoined, SimplifyingEndsRepeats};
-ghost use Rattle.oxc_sourcemap_laws.specs.Words.{SimplifyingStandsFor, SimplifyingCounts};
-ghost use Rattle.oxc_sourcemap_laws.specs.Words.{SimplifyingNames, SimplifyingInBounds};
-ghost use Rattle.oxc_sourcemap_laws.specs.Words.{DecodedMapOfRemapping, RemappingIgnores};
-ghost use Rattle.oxc_sourcemap_laws.specs.Words.{NothingRemapped, RemappedDecodedMapsAssociative};
+ghost use Rattle.oxc_sourcemap_laws.specs.Words.{TracesOnOwnLineOfMaps, TracesOfRemapping};
+ghost use Rattle.oxc_sourcemap_laws.specs.Words.{TracesOfRemappedMaps, SimplifiedComposed};
+ghost use Rattle.oxc_sourcemap_laws.specs.Words.{SimplifiedRemapped, SimplifiedJoined};
+ghost use Rattle.oxc_sourcemap_laws.specs.Words.{SimplifyingEndsRepeats, SimplifyingStandsFor};
+ghost use Rattle.oxc_sourcemap_laws.specs.Words.{SimplifyingCounts, SimplifyingNames};
+ghost use Rattle.oxc_sourcemap_laws.specs.Words.{SimplifyingInBounds, DecodedMapOfRemapping};
+ghost use Rattle.oxc_sourcemap_laws.specs.Words.{RemappingIgnores, NothingRemapped};
+ghost use Rattle.oxc_sourcemap_laws.specs.Words.{RemappedDecodedMapsAssociative};
 ghost use Rattle.oxc_sourcemap_laws.specs.Words.{RemappedMapsAssociative, JoinRemapped};
 ghost use Rattle.oxc_sourcemap_laws.specs.Words.{JoinedMapsRemapped, CompositionRemapped};
 ghost use Rattle.oxc_sourcemap_laws.specs.Words.{ComposedMapsRemapped, OneRemapped, OneMapRemapped};
 ghost use Rattle.oxc_sourcemap_laws.specs.Words.{RemappingKeepsEqualUpToRepeats};
-ghost use Rattle.oxc_sourcemap_laws.specs.Words.{RemappingStandsFor};
-ghost use Rattle.oxc_sourcemap_laws.specs.Words.{RemappingSorted, RemappingInRange};
-ghost use Rattle.oxc_sourcemap_laws.specs.Words.{RemappingIsSound, RemappingCounts, RemappingNames};
-ghost use Rattle.oxc_sourcemap_laws.specs.Words.{SortedInputsGoOn, RemappingAnswered};
-ghost use Rattle.oxc_sourcemap_laws.specs.Words.{RemappingTooLarge, RemappingInBounds};
-ghost use Rattle.oxc_sourcemap_laws.specs.Words.{SomeRemappingIsSound};
+ghost use Rattle.oxc_sourcemap_laws.specs.Words.{RemappingStandsFor, RemappingSorted};
+ghost use Rattle.oxc_sourcemap_laws.specs.Words.{RemappingInRange, RemappingIsSound};
+ghost use Rattle.oxc_sourcemap_laws.specs.Words.{RemappingCounts, RemappingNames, SortedInputsGoOn};
+ghost use Rattle.oxc_sourcemap_laws.specs.Words.{RemappingAnswered, RemappingTooLarge};
+ghost use Rattle.oxc_sourcemap_laws.specs.Words.{RemappingInBounds, SomeRemappingIsSound};
 ghost use Rattle.oxc_sourcemap_laws.specs.Words.{DecodedMapOfRooting, RootingAgain};
 ghost use Rattle.oxc_sourcemap_laws.specs.Words.{RootedDecodedMapsAgain, RootingKeeps};
 ghost use Rattle.oxc_sourcemap_laws.specs.Words.{RootedDecodedMapsKeep, TracesOfRooting};
 ghost use Rattle.oxc_sourcemap_laws.specs.Words.{RootingKeepsEqualUpToRepeats, RootingIsSound};
 ghost use Rattle.oxc_sourcemap_laws.specs.Words.{RootingStandsFor};
 
+pub use data_urls::data_urls_read_back;
 pub use oxc_sourcemap_tokens::tokens_in_bounds;
 
 /// The `mappings` text of a list is unique, and reading undoes writing. Lists are *equal as written* if they differ only in

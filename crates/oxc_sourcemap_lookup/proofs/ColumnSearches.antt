@@ -1,8 +1,7 @@
 -- The columns of the tokens of a line, and how many of them a column is after.
 use Rattle.std.proofs.Common.{◌≡◌, Bool, refl, sym, ap, ◌∙◌, ℕ, suc, ◌+◌, ◌<◌, ◌≤◌, true, List, []}
-use Rattle.std.proofs.Common.{◌∷◌, map, length, take, drop, get_or, nat_lt, arith}
-use Rattle.std.proofs.Common.{◌-◌, Option, Some, None, IfSome, if◌then◌else◌, length-take}
-use Rattle.std.proofs.Common.{length-drop}
+use Rattle.std.proofs.Common.{◌∷◌, map, length, take, drop, get_or, nat_lt, arith, ◌-◌, Option}
+use Rattle.std.proofs.Common.{Some, None, IfSome, if◌then◌else◌, length-take, length-drop}
 use Rattle.std.proofs.lemmas.List.{get_or-map, length-map, take-map, drop-map, get_or_default}
 use Rattle.std.proofs.lemmas.Option.{slice_get_read}
 use Rattle.oxc_sourcemap_tokens.specs.Token.{TokenRecord}

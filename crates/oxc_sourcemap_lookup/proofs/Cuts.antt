@@ -1,14 +1,13 @@
 -- Lines cut at a column: where the lookups of the column, and from it on, find what they find.
-use Rattle.std.proofs.Common.{◌≡◌, refl, sym, ap, ◌∙◌, ℕ, zero, suc, ◌+◌, ◌<◌, ◌≤◌, ◌≢◌, Bool}
-use Rattle.std.proofs.Common.{true, false, cond, List, [], ◌∷◌, length, take, drop, slice_get}
-use Rattle.std.proofs.Common.{Option, Some, None, nat_lt, nat_le, ◌==◌, arith}
-use Rattle.std.proofs.Common.{if◌then◌else◌}
+use Rattle.std.proofs.Common.{◌≡◌, refl, sym, ap, ◌∙◌, ℕ, zero, suc, ◌+◌, ◌<◌, ◌≤◌, ◌≢◌, Bool, true}
+use Rattle.std.proofs.Common.{false, cond, List, [], ◌∷◌, length, take, drop, slice_get, Option}
+use Rattle.std.proofs.Common.{Some, None, nat_lt, nat_le, ◌==◌, arith, if◌then◌else◌}
 use Rattle.std.proofs.lemmas.List.Sums.{prefix_len-le-length}
 use Rattle.std.specs.List.{prefix_len, last_or, AllByRecursion}
 use Rattle.std.specs.Option.{option_or}
 use Rattle.oxc_sourcemap_tokens.specs.Token.{last}
-use Rattle.oxc_sourcemap_lookup.specs.Lookup.{first, at, at_or_after, least, in_column}
-use Rattle.oxc_sourcemap_lookup.specs.Lookup.{not_before, no_column_goes_back}
+use Rattle.oxc_sourcemap_lookup.specs.Lookup.{first, at, at_or_after, least, in_column, not_before}
+use Rattle.oxc_sourcemap_lookup.specs.Lookup.{no_column_goes_back}
 use Rattle.oxc_sourcemap_lookup.proofs.Lookups.{AreNotBefore, goes_on, at-front, at-here, at-past}
 use Rattle.oxc_sourcemap_lookup.proofs.Lookups.{or_else-some, or_else-none, last_or-else}
 use Rattle.oxc_sourcemap_lookup.proofs.Lookups.{none_among}

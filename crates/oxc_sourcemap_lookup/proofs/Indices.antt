@@ -1,16 +1,15 @@
 -- Indices of what the lookups on a line find.
-use Rattle.std.proofs.Common.{◌≡◌, refl, sym, ap, ◌∙◌, ℕ, zero, suc, ◌+◌, ◌-◌, ◌<◌, ◌≤◌, Bool}
-use Rattle.std.proofs.Common.{true, false, List, [], ◌∷◌, length, slice_get}
-use Rattle.std.proofs.Common.{Option, Some, None, option_map, nat_lt, ◌==◌, ◌≢◌, arith}
-use Rattle.std.proofs.Common.{if◌then◌else◌, get_or, take, drop}
+use Rattle.std.proofs.Common.{◌≡◌, refl, sym, ap, ◌∙◌, ℕ, zero, suc, ◌+◌, ◌-◌, ◌<◌, ◌≤◌, Bool, true}
+use Rattle.std.proofs.Common.{false, List, [], ◌∷◌, length, slice_get, Option, Some, None}
+use Rattle.std.proofs.Common.{option_map, nat_lt, ◌==◌, ◌≢◌, arith, if◌then◌else◌, get_or, take}
+use Rattle.std.proofs.Common.{drop}
 use Rattle.std.proofs.lemmas.Option.{slice_get_read, slice_get_past}
 use Rattle.std.specs.Option.{option_or}
 use Rattle.oxc_sourcemap_tokens.specs.Token.{TokenRecord}
 use Rattle.oxc_sourcemap_parts.specs.Sorted.{token_column}
-use Rattle.oxc_sourcemap_lookup.specs.Lookup.{first, at, no_column_goes_back}
-use Rattle.oxc_sourcemap_lookup.specs.Lookup.{numbered_from, numbered, numbered_column}
-use Rattle.oxc_sourcemap_lookup.specs.Lookup.{index_at, index_at_or_after, clamped_index_at}
-use Rattle.oxc_sourcemap_lookup.specs.Lookup.{index_before}
+use Rattle.oxc_sourcemap_lookup.specs.Lookup.{first, at, no_column_goes_back, numbered_from}
+use Rattle.oxc_sourcemap_lookup.specs.Lookup.{numbered, numbered_column, index_at}
+use Rattle.oxc_sourcemap_lookup.specs.Lookup.{index_at_or_after, clamped_index_at, index_before}
 use Rattle.oxc_sourcemap_lookup.proofs.Halving.{before, before-earlier, before-later, before-all}
 use Rattle.oxc_sourcemap_lookup.proofs.Halving.{before-front, not_before-get}
 use Rattle.oxc_sourcemap_lookup.proofs.Cuts.{cut, here_or, get_before, at-cut, after-cut}

@@ -1,9 +1,3 @@
-pub mod InheritedNames
-pub mod KeptNames
-pub mod Targets
-pub mod Replaced
-pub mod Compositions
-mod WorkedCompositions
 pub mod Lookups
 pub mod ColumnSearches
 pub mod Cuts

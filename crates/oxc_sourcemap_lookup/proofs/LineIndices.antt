@@ -1,9 +1,8 @@
 -- Indices on a line, and indices among all tokens.
 use Rattle.std.proofs.Common.{◌≡◌, refl, sym, ap, ◌∙◌, ℕ, zero, suc, ◌+◌, ◌<◌, ◌≤◌, Bool, true}
-use Rattle.std.proofs.Common.{false}
-use Rattle.std.proofs.Common.{List, [], ◌∷◌, map, length, get_or, Option, Some, None, option_map}
-use Rattle.std.proofs.Common.{nat_lt, ◌==◌, arith, subst, IfSome, Ok}
-use Rattle.std.proofs.Common.{take, drop, length-take, length-drop}
+use Rattle.std.proofs.Common.{false, List, [], ◌∷◌, map, length, get_or, Option, Some, None}
+use Rattle.std.proofs.Common.{option_map, nat_lt, ◌==◌, arith, subst, IfSome, Ok, take, drop}
+use Rattle.std.proofs.Common.{length-take, length-drop}
 use Rattle.std.proofs.lemmas.List.Elements.{filter_passes}
 use Rattle.std.specs.List.{All}
 use Rattle.std.specs.List.Sorted.{IsNonDecreasingBy}

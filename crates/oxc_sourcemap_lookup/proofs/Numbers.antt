@@ -1,7 +1,7 @@
 -- What lookups find is among the items, and so an index that is found belongs to the token that is.
-use Rattle.std.proofs.Common.{◌≡◌, refl, sym, ap, ◌∙◌, ℕ, suc, ◌+◌, Bool, true, false}
-use Rattle.std.proofs.Common.{cond, List, [], ◌∷◌, map, slice_get, Option, Some, None, option_map}
-use Rattle.std.proofs.Common.{nat_le, ◌==◌, arith, if◌then◌else◌}
+use Rattle.std.proofs.Common.{◌≡◌, refl, sym, ap, ◌∙◌, ℕ, suc, ◌+◌, Bool, true, false, cond, List}
+use Rattle.std.proofs.Common.{[], ◌∷◌, map, slice_get, Option, Some, None, option_map, nat_le, ◌==◌}
+use Rattle.std.proofs.Common.{arith, if◌then◌else◌}
 use Rattle.std.specs.List.{filter, last_or, AllByRecursion}
 use Rattle.std.specs.Option.{option_or, option_and_then}
 use Rattle.oxc_sourcemap_tokens.specs.Token.{TokenRecord}
@@ -9,10 +9,9 @@ use Rattle.oxc_sourcemap_parts.specs.Sorted.{token_line, token_column}
 use Rattle.oxc_sourcemap_lookup.specs.Lookup.{first, at, clamped_at, at_or_after, greatest, least}
 use Rattle.oxc_sourcemap_lookup.specs.Lookup.{not_past, not_before, in_column, on_line, token_after}
 use Rattle.oxc_sourcemap_lookup.specs.Lookup.{pick, clamped_pick, pick_after, numbered_from}
-use Rattle.oxc_sourcemap_lookup.specs.Lookup.{numbered}
-use Rattle.oxc_sourcemap_lookup.specs.Lookup.{numbered_line, numbered_column, index_for, token_for}
-use Rattle.oxc_sourcemap_lookup.specs.Lookup.{clamped_index_for, clamped_token_for, index_after}
-use Rattle.oxc_sourcemap_lookup.specs.Lookup.{index_at_or_after, clamped_index_at}
+use Rattle.oxc_sourcemap_lookup.specs.Lookup.{numbered, numbered_line, numbered_column, index_for}
+use Rattle.oxc_sourcemap_lookup.specs.Lookup.{token_for, clamped_index_for, clamped_token_for}
+use Rattle.oxc_sourcemap_lookup.specs.Lookup.{index_after, index_at_or_after, clamped_index_at}
 use Rattle.oxc_sourcemap_lookup.proofs.Picks.{pick-map, clamped_pick-map, pick_after-map}
 use Rattle.oxc_sourcemap_lookup.proofs.Picks.{clamped_at-map, at_or_after-map}
 

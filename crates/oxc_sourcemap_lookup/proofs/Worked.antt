@@ -8,9 +8,8 @@ use Rattle.oxc_sourcemap_parts.specs.Views.{empty_record}
 use Rattle.oxc_sourcemap_parts.specs.Sorted.{token_line, token_column}
 use Rattle.oxc_sourcemap_parts.specs.DecodedMap.{decoded_map_of}
 use Rattle.oxc_sourcemap_lookup.specs.Digits.{binary_digits}
-use Rattle.oxc_sourcemap_lookup.specs.Lookup.{pick, clamped_pick, line_table}
-use Rattle.oxc_sourcemap_lookup.specs.Lookup.{token_after, index_for, clamped_index_for}
-use Rattle.oxc_sourcemap_lookup.specs.Lookup.{index_after}
+use Rattle.oxc_sourcemap_lookup.specs.Lookup.{pick, clamped_pick, line_table, token_after}
+use Rattle.oxc_sourcemap_lookup.specs.Lookup.{index_for, clamped_index_for, index_after}
 use Rattle.oxc_sourcemap_lookup.specs.LineSpans.{AreStarts}
 use Rattle.oxc_sourcemap_lookup.specs.Trace.{trace}
 

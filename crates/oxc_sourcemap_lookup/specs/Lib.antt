@@ -1,6 +1,3 @@
-pub mod Composed
-pub mod InheritedNames
-pub mod Inherited
 pub mod Digits
 pub mod Lookup
 pub mod LineSpans

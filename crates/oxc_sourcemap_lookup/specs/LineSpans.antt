@@ -1,7 +1,6 @@
 -- The index of the lines of a list of tokens: `IsIndexOf`, its parts, and where the tokens of a line lie in the list.
 use Rattle.std.specs.Prelude.{◌≡◌, ◌≢◌, ℕ, ◌+◌, ◌-◌, ◌*◌, ◌<◌, ◌≤◌, nat_lt, min, List, [], length}
-use Rattle.std.specs.Prelude.{take}
-use Rattle.std.specs.Prelude.{drop, get_or, map, count_by, max, IfSome}
+use Rattle.std.specs.Prelude.{take, drop, get_or, map, count_by, max, IfSome}
 use Rattle.std.specs.Option.{option_map_or}
 use Rattle.std.specs.List.{All, range_with_len}
 use Rattle.oxc_sourcemap_tokens.specs.Token.{TokenRecord, last}

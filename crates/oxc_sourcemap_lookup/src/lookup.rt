@@ -1,8 +1,7 @@
 //! Lookup tables over slices of tokens, and lookups on a line. (In the Rust crate they are in the module `sourcemap`.)
 ghost use Rattle.std.specs.Prelude.{◌≡◌, ◌↔◌, ◌==◌, ◌+◌, ◌*◌, ◌^◌, ◌<◌, ◌≤◌, nat_lt, true, false};
 ghost use Rattle.std.specs.Prelude.{length, take, slice_get, option_map, IsTrue, IfOk, IfSome};
-ghost use Rattle.std.specs.Prelude.{IsNone, Ok, Err};
-ghost use Rattle.std.specs.Prelude.{Some, None, [], if◌then◌else◌};
+ghost use Rattle.std.specs.Prelude.{IsNone, Ok, Err, Some, None, [], if◌then◌else◌};
 ghost use Rattle.std.specs.Option.{option_map_or, option_and_then};
 ghost use Rattle.std.specs.List.{All, Contains, prefix_len};
 ghost use Rattle.oxc_sourcemap_lookup.specs.Words.{Error, OutOfMemory, IsInLineOrder, token_column};

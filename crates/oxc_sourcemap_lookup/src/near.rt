@@ -1,7 +1,7 @@
 //! Lookups that begin where the one before ended. Next to each other, most tokens of a map lead to tokens that are close
 //! to each other.
-ghost use Rattle.std.specs.Prelude.{◌≡◌, ◌+◌, ◌<◌, ◌≤◌, [], length, true, Some, IfSome};
-ghost use Rattle.std.specs.Prelude.{IsNone, nat_lt};
+ghost use Rattle.std.specs.Prelude.{◌≡◌, ◌+◌, ◌<◌, ◌≤◌, [], length, true, Some, IfSome, IsNone};
+ghost use Rattle.std.specs.Prelude.{nat_lt};
 ghost use Rattle.std.specs.List.{Contains, count_by};
 ghost use Rattle.oxc_sourcemap_lookup.specs.Words.{IsIndexOf, on_line, token_line, token_column};
 ghost use Rattle.oxc_sourcemap_lookup.specs.Words.{no_column_goes_back, clamped_at};
@@ -114,7 +114,7 @@ fn index_from(line: &[Token], col: u32, near: usize) -> Option<usize>
 
 /// The clamped lookup of a position, as `LineIndex::lookup_clamped` has it. It looks first where the last one ended.
 #[inline(always)]
-pub(crate) fn lookup_near(
+pub fn lookup_near(
     index: &LineIndex,
     tokens: &[Token],
     line: u32,

@@ -5,10 +5,10 @@ use Rattle.oxc_sourcemap_tokens.specs.declared.error.Error.{Error}
 use Rattle.oxc_sourcemap_tokens.specs.declared.error.Error.TheVariants.{OutOfMemory}
 use Rattle.oxc_sourcemap_tokens.specs.Results.{Reports}
 use Rattle.oxc_sourcemap_parts.specs.Record.{Text, MapRecord}
-use Rattle.oxc_sourcemap_lookup.specs.Composed.{composition, composition_fault, SomeComposition}
-use Rattle.oxc_sourcemap_lookup.specs.Composed.{NoColumnGoesBack}
-use Rattle.oxc_sourcemap_remap.specs.Inputs.{inputs_fault, NoInputColumnGoesBack}
-use Rattle.oxc_sourcemap_remap.specs.Remapped.{remapping, SomeRemapping}
+use Rattle.oxc_sourcemap_steps.specs.Composed.{composition, composition_fault, SomeComposition}
+use Rattle.oxc_sourcemap_steps.specs.Composed.{NoColumnGoesBack}
+use Rattle.oxc_sourcemap_steps.specs.Inputs.{inputs_fault, NoInputColumnGoesBack}
+use Rattle.oxc_sourcemap_steps.specs.Remapped.{remapping, SomeRemapping}
 
 -- What a composition of a map with an input gives: the composed map, or its error, or `OutOfMemory`. Where a column of the input
 -- goes back on a line it is open which tokens are found there, so it is some composition. A fault of the two maps is reported

@@ -2,4 +2,13 @@ pub mod Changes
 pub mod Composing
 pub mod Lookups
 pub mod View
+pub mod Reverse
+pub mod Places
+pub mod Orders
+pub mod ReverseLaws
+pub mod Built
+pub mod Building
+pub mod NameLaws
+pub mod VisualText
+pub mod Link
 pub mod Words

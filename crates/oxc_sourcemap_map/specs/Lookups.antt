@@ -11,7 +11,7 @@ use Rattle.oxc_sourcemap_lookup.specs.Lookup.{at, clamped_at, no_column_goes_bac
 use Rattle.oxc_sourcemap_lookup.specs.Lookup.{clamped_token_for, slice_of, IfOwnTable}
 use Rattle.oxc_sourcemap_lookup.specs.Trace.{trace, clamped_trace}
 use Rattle.oxc_sourcemap_map.specs.View.{view_of, seen_in, view_original}
-use Rattle.oxc_sourcemap_map.specs.declared.source_view_token.SourceViewToken.{SourceViewToken}
+use Rattle.oxc_sourcemap_map.specs.declared.maps.source_view_token.SourceViewToken.{SourceViewToken}
 
 -- What a lookup finds: where no column goes back on the line, the token that a rule has for the line, or none; on any line one of
 -- its tokens, or none; and in the map's own table the token that the rule has for the map, or none.

@@ -5,7 +5,7 @@ use Rattle.oxc_sourcemap_tokens.specs.Token.{TokenRecord}
 use Rattle.oxc_sourcemap_parts.specs.Record.{Text, MapRecord}
 use Rattle.oxc_sourcemap_parts.specs.DecodedMap.{OriginalPosition, name_of}
 use Rattle.oxc_sourcemap_lookup.specs.Trace.{original_in}
-use Rattle.oxc_sourcemap_map.specs.declared.source_view_token.SourceViewToken.{SourceViewToken}
+use Rattle.oxc_sourcemap_map.specs.declared.maps.source_view_token.SourceViewToken.{SourceViewToken}
 
 -- a token of a map
 pub record ViewRecord : Type 0 where

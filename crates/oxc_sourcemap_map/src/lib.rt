@@ -1,17 +1,14 @@
-//! `SourceMap` and `OwnedSourceMap`, with views of their tokens: thin calls over the crates that read, write, look up, compose
-//! and remap parts. Part of `oxc_sourcemap`, but for the functions outside of types, which are only for crates of this library.
+//! What users hold: maps, builders, the index by original positions, and the visualizer. Part of `oxc_sourcemap`.
 #![tactic(auto)]
 
-mod compose;
-mod lookup;
-mod owned_sourcemap;
-mod remap;
-mod simplify;
-mod source_view_token;
-mod sourcemap;
-mod view_tokens;
+mod builders;
+mod maps;
+mod reverse;
 
-pub use owned_sourcemap::OwnedSourceMap;
-pub use source_view_token::SourceViewToken;
-pub use sourcemap::{SourceMap, parts_of};
-pub use view_tokens::ViewTokens;
+pub use builders::{ConcatSourceMapBuilder, SourceMapBuilder, name_ids_unique};
+pub use maps::{OwnedSourceMap, SourceMap, SourceViewToken, ViewTokens, parts_of};
+pub use reverse::{IndexTokens, SourceIndex, SourceOrder, reverse_lookups};
+
+mod sourcemap_visualizer;
+
+pub use sourcemap_visualizer::SourcemapVisualizer;

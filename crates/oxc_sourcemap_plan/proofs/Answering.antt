@@ -3,7 +3,7 @@ use Rattle.std.proofs.Common.{◌≡◌, ◌⊎◌, ◌≤◌, true, cond, nat_l
 use Rattle.std.proofs.lemmas.Bool.Decides.{nat_tests}
 use Rattle.oxc_sourcemap_parts.specs.Record.{MapRecord}
 use Rattle.oxc_sourcemap_parts.specs.DecodedMap.{decoded_map_of}
-use Rattle.oxc_sourcemap_encode.specs.Encoded.{encoded_record}
+use Rattle.oxc_sourcemap_json.specs.Encoded.{encoded_record}
 use Rattle.oxc_sourcemap_laws.specs.MapLaws.{rewritten, SoundIsWritten, SoundReadsBack}
 use Rattle.oxc_sourcemap_laws.specs.JoinLaws.{TracesAgree}
 use Rattle.oxc_sourcemap_laws.proofs.UpToRepeats.{matches}

@@ -13,7 +13,7 @@ use Rattle.oxc_sourcemap_json.specs.Json.{JsonRecord}
 use Rattle.oxc_sourcemap_parts.specs.Record.{MapRecord}
 use Rattle.oxc_sourcemap_parts.specs.Sorted.{are_tokens_sorted, may_precede, token_line}
 use Rattle.oxc_sourcemap_parts.specs.Sorted.{token_column}
-use Rattle.oxc_sourcemap_decode.specs.Decoded.{decoded, decoded_record, with_tokens, json_fault}
+use Rattle.oxc_sourcemap_json.specs.Decoded.{decoded, decoded_record, with_tokens, json_fault}
 
 tokens-read : (j : JsonRecord) (q : Result (List TokenRecord) Error) (r : MapRecord) → with_tokens j q ≡ Ok r → q ≡ Ok r.tokens
 tokens-read j (Ok ts) r e = let s : decoded_record j ts ≡ r = cc (e) in ap (λ (m : MapRecord). Ok m.tokens) s

@@ -1,10 +1,10 @@
 -- What a plan means is what its outcome means.
-use Rattle.std.proofs.Common.{◌≡◌, ℕ, true, false, cond, nat_le, List, [], ◌∷◌, map, refl, sym}
-use Rattle.std.proofs.Common.{ap, ◌∙◌, subst, Err}
+use Rattle.std.proofs.Common.{◌≡◌, ℕ, true, false, cond, nat_le, List, [], ◌∷◌, map, refl, sym, ap}
+use Rattle.std.proofs.Common.{◌∙◌, subst, Err}
 use Rattle.std.specs.Borrow.{Bor}
 use Rattle.oxc_sourcemap_parts.specs.Record.{Text}
 use Rattle.oxc_sourcemap_tokens.specs.declared.plan_error.PlanError.TheVariants.{TooDeep}
-use Rattle.oxc_sourcemap_decode.specs.ReadMap.{Said, plain, indexed, said_in}
+use Rattle.oxc_sourcemap_json.specs.ReadMap.{Said, plain, indexed, said_in}
 use Rattle.oxc_sourcemap_join.specs.Joined.{at_line, at_lines, at_positions}
 use Rattle.oxc_sourcemap_plan.specs.declared.plan.Plan.{Plan}
 use Rattle.oxc_sourcemap_plan.specs.declared.plan.Plan.TheOpen.{Plan-F}
@@ -12,13 +12,12 @@ use Rattle.oxc_sourcemap_plan.specs.declared.plan.Plan.TheViews.{roll-Plan}
 use Rattle.oxc_sourcemap_plan.specs.declared.plan.Plan.TheFolds.{fold-roll-Plan, map-Plan, ind-Plan}
 use Rattle.oxc_sourcemap_plan.specs.Depth.{depth}
 use Rattle.oxc_sourcemap_plan.specs.Meaning.{Meaning, meaning_step, meaning_of, meaning}
-use Rattle.oxc_sourcemap_plan.specs.Meaning.{said_meaning, sorted_said_meaning}
-use Rattle.oxc_sourcemap_plan.specs.Outcome.{sorted_outcome}
-use Rattle.oxc_sourcemap_plan.specs.Meaning.{root_meaning, all_decoded_maps, join_meaning}
-use Rattle.oxc_sourcemap_plan.specs.Meaning.{composition_meaning, by_path, all_inputs}
-use Rattle.oxc_sourcemap_plan.specs.Meaning.{remap_meaning, simplified_meaning}
-use Rattle.oxc_sourcemap_plan.specs.Outcome.{Outcome, outcome_step, outcome_of, outcome, too_deep}
-use Rattle.oxc_sourcemap_plan.specs.Outcome.{read_outcome, meanings, input_meanings}
+use Rattle.oxc_sourcemap_plan.specs.Meaning.{said_meaning, sorted_said_meaning, root_meaning}
+use Rattle.oxc_sourcemap_plan.specs.Meaning.{all_decoded_maps, join_meaning, composition_meaning}
+use Rattle.oxc_sourcemap_plan.specs.Meaning.{by_path, all_inputs, remap_meaning, simplified_meaning}
+use Rattle.oxc_sourcemap_plan.specs.Outcome.{sorted_outcome, Outcome, outcome_step, outcome_of}
+use Rattle.oxc_sourcemap_plan.specs.Outcome.{outcome, too_deep, read_outcome, meanings}
+use Rattle.oxc_sourcemap_plan.specs.Outcome.{input_meanings}
 
 -- the outcome of this plan means what the plan means
 abbrev pub Agrees : Plan → Type 0

@@ -7,7 +7,7 @@ use Rattle.std.specs.Borrow.{Bor}
 use Rattle.oxc_sourcemap_parts.specs.Record.{Text, MapRecord}
 use Rattle.oxc_sourcemap_parts.specs.Views.{record_of_parts}
 use Rattle.oxc_sourcemap_parts.specs.declared.parts.SourceMapParts.{SourceMapParts}
-use Rattle.oxc_sourcemap_remap.specs.Inputs.{owned_input_records}
+use Rattle.oxc_sourcemap_steps.specs.Inputs.{owned_input_records}
 use Rattle.oxc_sourcemap_tokens.specs.declared.position.Position.{Position}
 use Rattle.oxc_sourcemap_join.specs.Joined.{at_line, owned_records}
 use Rattle.oxc_sourcemap_join.proofs.Adding.{records_pushed}

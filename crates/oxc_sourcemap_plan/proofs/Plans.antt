@@ -3,7 +3,7 @@ use Rattle.std.proofs.Common.{◌≡◌, ℕ, List, [], ◌∷◌, ◌++◌, map
 use Rattle.std.proofs.Common.{◌∙◌}
 use Rattle.std.specs.declared.alloc.Global.{Global}
 use Rattle.std.specs.Borrow.{Bor}
-use Rattle.oxc_sourcemap_decode.specs.ReadMap.{said_in}
+use Rattle.oxc_sourcemap_json.specs.ReadMap.{said_in}
 use Rattle.oxc_sourcemap_join.specs.Joined.{at_line, at_lines, at_positions}
 use Rattle.oxc_sourcemap_plan.specs.declared.plan.Plan.{Plan}
 use Rattle.oxc_sourcemap_plan.specs.declared.plan.Plan.TheVariants.{Read, rolls-Read, Rewrite}
@@ -11,7 +11,9 @@ use Rattle.oxc_sourcemap_plan.specs.declared.plan.Plan.TheVariants.{rolls-Rewrit
 use Rattle.oxc_sourcemap_plan.specs.declared.plan.Plan.TheVariants.{JoinAt, rolls-JoinAt, Compose}
 use Rattle.oxc_sourcemap_plan.specs.declared.plan.Plan.TheVariants.{rolls-Compose, ApplyRoot}
 use Rattle.oxc_sourcemap_plan.specs.declared.plan.Plan.TheVariants.{rolls-ApplyRoot, Remap}
-use Rattle.oxc_sourcemap_plan.specs.declared.plan.Plan.TheVariants.{rolls-Remap}
+use Rattle.oxc_sourcemap_plan.specs.declared.plan.Plan.TheVariants.{rolls-Remap, ReadSorted}
+use Rattle.oxc_sourcemap_plan.specs.declared.plan.Plan.TheVariants.{rolls-ReadSorted, Simplify}
+use Rattle.oxc_sourcemap_plan.specs.declared.plan.Plan.TheVariants.{rolls-Simplify}
 use Rattle.oxc_sourcemap_plan.specs.declared.plan.Plan.TheOpen.{Plan-F}
 use Rattle.oxc_sourcemap_plan.specs.declared.plan.Plan.TheFolds.{fold-roll-Plan}
 use Rattle.oxc_sourcemap_plan.specs.Depth.{depth, depth_step, deepest}
@@ -20,8 +22,6 @@ use Rattle.oxc_sourcemap_plan.specs.Outcome.{Outcome, outcome_of, outcomes, outc
 use Rattle.oxc_sourcemap_plan.specs.Outcome.{read_outcome, rewrite_outcome, root_outcome}
 use Rattle.oxc_sourcemap_plan.specs.Outcome.{join_outcome, composition_outcome, remap_outcome}
 use Rattle.oxc_sourcemap_plan.specs.Outcome.{input_outcomes, sorted_outcome, simplified_outcome}
-use Rattle.oxc_sourcemap_plan.specs.declared.plan.Plan.TheVariants.{ReadSorted, rolls-ReadSorted}
-use Rattle.oxc_sourcemap_plan.specs.declared.plan.Plan.TheVariants.{Simplify, rolls-Simplify}
 
 firsts : {A B C : Type 0} (f : A → C) (parts : List (A × B)) → map (λ (p : C × B). p.0) (map (λ (p : A × B). (f p.0, p.1)) parts) ≡ map (λ p. f p.0) parts
 firsts f [] = refl

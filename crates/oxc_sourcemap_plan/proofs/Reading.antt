@@ -1,7 +1,7 @@
 -- What reading a text gives: a map by itself, or the join of the sections of an indexed map.
-use Rattle.std.proofs.Common.{◌≡◌, ◌≢◌, ◌≤◌, true, false, cond, List, [], ◌∷◌}
-use Rattle.std.proofs.Common.{map, length, refl, sym, ap, ◌∙◌, subst, arith, inl, inr, Option}
-use Rattle.std.proofs.Common.{Some, None, Result, Ok, Err}
+use Rattle.std.proofs.Common.{◌≡◌, ◌≢◌, ◌≤◌, true, false, cond, List, [], ◌∷◌, map, length, refl}
+use Rattle.std.proofs.Common.{sym, ap, ◌∙◌, subst, arith, inl, inr, Option, Some, None, Result, Ok}
+use Rattle.std.proofs.Common.{Err}
 use Rattle.std.specs.List.{flat_map, AllByRecursion}
 use Rattle.std.proofs.lemmas.Bool.{and_parts, both_ways, false_from_ne_true}
 use Rattle.std.proofs.lemmas.List.{length-append, length-map}
@@ -17,12 +17,12 @@ use Rattle.oxc_sourcemap_parts.specs.DecodedMap.{DecodedMap, mapping_of, sources
 use Rattle.oxc_sourcemap_json.specs.Shape.{◌>>=◌}
 use Rattle.oxc_sourcemap_tokens.specs.declared.position.Position.{Position}
 use Rattle.oxc_sourcemap_join.specs.Joined.{nothing_joined, joined, IsWithinLimits}
-use Rattle.oxc_sourcemap_decode.specs.Sections.{Sections, joined_sections}
-use Rattle.oxc_sourcemap_decode.specs.JoinLimits.{is_map_within_limits}
-use Rattle.oxc_sourcemap_decode.specs.ReadMap.{Said, plain, indexed, indexed_record, map_said}
-use Rattle.oxc_sourcemap_decode.specs.ReadMap.{said_in, read_map}
-use Rattle.oxc_sourcemap_decode.proofs.Limits.{limits_decided}
-use Rattle.oxc_sourcemap_decode.proofs.WellRead.{IsWellRead, sections_well, read_is_said}
+use Rattle.oxc_sourcemap_json.specs.Sections.{Sections, joined_sections}
+use Rattle.oxc_sourcemap_json.specs.JoinLimits.{is_map_within_limits}
+use Rattle.oxc_sourcemap_json.specs.ReadMap.{Said, plain, indexed, indexed_record, map_said}
+use Rattle.oxc_sourcemap_json.specs.ReadMap.{said_in, read_map}
+use Rattle.oxc_sourcemap_json.proofs.Limits.{limits_decided}
+use Rattle.oxc_sourcemap_json.proofs.WellRead.{IsWellRead, sections_well, read_is_said}
 use Rattle.oxc_sourcemap_laws.specs.Repeats.{EqualUpToRepeats, is_sorted_decoded_map}
 use Rattle.oxc_sourcemap_laws.specs.JoinedDecodedMaps.{lowered, joined_decoded_maps}
 use Rattle.oxc_sourcemap_laws.specs.JoinLaws.{AreIgnoreListsInRange, decoded_maps_of}
@@ -32,8 +32,8 @@ use Rattle.oxc_sourcemap_laws.proofs.UpToRepeats.{sorted_decoded_map_up_to_repea
 use Rattle.oxc_sourcemap_tokens.specs.declared.plan_error.PlanError.TheVariants.{Map, Unsorted}
 use Rattle.oxc_sourcemap_plan.specs.Limits.{are_counts_within_limits, are_positions_within_limits}
 use Rattle.oxc_sourcemap_plan.specs.Limits.{is_join_within_limits}
-use Rattle.oxc_sourcemap_plan.specs.Outcome.{plain_outcome, names_of_sections}
-use Rattle.oxc_sourcemap_plan.specs.Outcome.{sections_outcome, read_outcome}
+use Rattle.oxc_sourcemap_plan.specs.Outcome.{plain_outcome, names_of_sections, sections_outcome}
+use Rattle.oxc_sourcemap_plan.specs.Outcome.{read_outcome}
 use Rattle.oxc_sourcemap_plan.specs.Evaluated.{are_among}
 use Rattle.oxc_sourcemap_plan.specs.Realizes.{Realizes, FailsAs}
 use Rattle.oxc_sourcemap_plan.proofs.KnownNames.{among-self}

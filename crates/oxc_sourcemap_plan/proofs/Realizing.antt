@@ -30,8 +30,8 @@ use Rattle.oxc_sourcemap_parts.specs.Sorted.{are_tokens_sorted}
 use Rattle.oxc_sourcemap_parts.specs.Sound.{IsInRange, IsSound}
 use Rattle.oxc_sourcemap_parts.specs.DecodedMap.{DecodedSource, DecodedMapping, DecodedMap}
 use Rattle.oxc_sourcemap_parts.specs.DecodedMap.{sources_of, mapping_of, decoded_map_of}
-use Rattle.oxc_sourcemap_decode.specs.Decoded.{decoded}
-use Rattle.oxc_sourcemap_encode.specs.Encoded.{encoded, encoded_record, written_contents}
+use Rattle.oxc_sourcemap_json.specs.Decoded.{decoded}
+use Rattle.oxc_sourcemap_json.specs.Encoded.{encoded, encoded_record, written_contents}
 use Rattle.oxc_sourcemap_mappings.specs.Pieces.{writing_fault}
 use Rattle.oxc_sourcemap_laws.specs.MapLaws.{SoundIsWritten, SoundIsTooLarge, SoundReadsBack}
 use Rattle.oxc_sourcemap_laws.specs.MapLaws.{SoundStaysSound, rewritten}
@@ -41,8 +41,8 @@ use Rattle.oxc_sourcemap_join.specs.Joined.{added_all, nothing_joined, joined, A
 use Rattle.oxc_sourcemap_join.specs.Joined.{IsWithinLimits}
 use Rattle.oxc_sourcemap_join.proofs.Fitted.{length-fitted}
 use Rattle.oxc_sourcemap_tokens.specs.Errors.{unless}
-use Rattle.oxc_sourcemap_lookup.specs.Composed.{targets, composed_names, composed, are_ids}
-use Rattle.oxc_sourcemap_lookup.specs.Composed.{composition}
+use Rattle.oxc_sourcemap_steps.specs.Composed.{targets, composed_names, composed, are_ids}
+use Rattle.oxc_sourcemap_steps.specs.Composed.{composition}
 use Rattle.oxc_sourcemap_laws.specs.Repeats.{decoded_map_without_repeats, EqualUpToRepeats}
 use Rattle.oxc_sourcemap_laws.specs.Repeats.{is_sorted_decoded_map}
 use Rattle.oxc_sourcemap_laws.proofs.UpToRepeats.{matches}

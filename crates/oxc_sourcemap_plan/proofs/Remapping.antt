@@ -1,7 +1,6 @@
 -- Source roots and remappings realize their outcomes if their parts do.
-use Rattle.std.proofs.Common.{◌≡◌, ◌≤◌, ◌&&◌, true, false, List, [], ◌∷◌, ◌++◌, length}
-use Rattle.std.proofs.Common.{refl, sym, ap, ◌∙◌, subst, arith, Some, option_map, Ok, Err, inl}
-use Rattle.std.proofs.Common.{inr}
+use Rattle.std.proofs.Common.{◌≡◌, ◌≤◌, ◌&&◌, true, false, List, [], ◌∷◌, ◌++◌, length, refl, sym}
+use Rattle.std.proofs.Common.{ap, ◌∙◌, subst, arith, Some, option_map, Ok, Err, inl, inr}
 use Rattle.std.specs.Option.{option_and_then}
 use Rattle.std.proofs.lemmas.Bool.{and_parts, and_left, and_right, false_from_ne_true, both_ways}
 use Rattle.std.proofs.lemmas.List.{length-append, length-map}
@@ -11,29 +10,28 @@ use Rattle.oxc_sourcemap_tokens.specs.Token.{AreInBounds}
 use Rattle.oxc_sourcemap_parts.specs.Record.{Text, MapRecord}
 use Rattle.oxc_sourcemap_parts.specs.Roots.{rooted}
 use Rattle.oxc_sourcemap_parts.specs.DecodedMap.{DecodedMap}
-use Rattle.oxc_sourcemap_remap.specs.Remapped.{remapped, remapping}
+use Rattle.oxc_sourcemap_steps.specs.Remapped.{remapped, remapping}
 use Rattle.oxc_sourcemap_laws.specs.RemappedDecodedMaps.{remapped_mapping, remapped_decoded_map}
 use Rattle.oxc_sourcemap_laws.specs.RootedDecodedMaps.{rooted_mapping, rooted_decoded_map}
 use Rattle.oxc_sourcemap_laws.specs.RootLaws.{RootingStandsFor}
 use Rattle.oxc_sourcemap_laws.specs.RemapLaws.{InputsStandFor, RemappingStandsFor, RemappingCounts}
 use Rattle.oxc_sourcemap_laws.specs.RemapLaws.{names_of_inputs, RemappingNames, AreInputsSorted}
 use Rattle.oxc_sourcemap_laws.specs.RemapLaws.{SortedInputsGoOn, RemappingAnswered}
-use Rattle.oxc_sourcemap_laws.specs.RemapLaws.{RemappingTooLarge}
-use Rattle.oxc_sourcemap_laws.specs.RemapLaws.{AreInputsInBounds, RemappingInBounds}
+use Rattle.oxc_sourcemap_laws.specs.RemapLaws.{RemappingTooLarge, AreInputsInBounds}
+use Rattle.oxc_sourcemap_laws.specs.RemapLaws.{RemappingInBounds}
 use Rattle.oxc_sourcemap_tokens.specs.declared.plan_error.PlanError.{PlanError}
 use Rattle.oxc_sourcemap_tokens.specs.declared.plan_error.PlanError.TheVariants.{Map}
 use Rattle.oxc_sourcemap_plan.specs.Meaning.{root_meaning, onto_inputs, all_inputs, remap_meaning}
 use Rattle.oxc_sourcemap_plan.specs.Limits.{is_part_within_limits}
 use Rattle.oxc_sourcemap_plan.specs.Outcome.{Outcome, root_outcome, input_meanings}
-use Rattle.oxc_sourcemap_plan.specs.Outcome.{all_input_records}
-use Rattle.oxc_sourcemap_plan.specs.Outcome.{input_names, are_inputs_within_limits, source_count}
+use Rattle.oxc_sourcemap_plan.specs.Outcome.{all_input_records, input_names}
+use Rattle.oxc_sourcemap_plan.specs.Outcome.{are_inputs_within_limits, source_count}
 use Rattle.oxc_sourcemap_plan.specs.Outcome.{remapped_meaning, remap_outcome}
 use Rattle.oxc_sourcemap_plan.specs.Evaluated.{is_among, are_among}
 use Rattle.oxc_sourcemap_plan.specs.Realizes.{Realizes, FailsAs, InputsRealize}
 use Rattle.oxc_sourcemap_plan.proofs.KnownNames.{among-left, among-right, among-both}
 use Rattle.oxc_sourcemap_plan.proofs.Realizing.{same-sources, CountsFit, counts-fit, ok-same}
-use Rattle.oxc_sourcemap_plan.proofs.Realizing.{err-same}
-use Rattle.oxc_sourcemap_plan.proofs.Realizing.{no-ok-err}
+use Rattle.oxc_sourcemap_plan.proofs.Realizing.{err-same, no-ok-err}
 
 -- ---- a source root
 pub root_gives : RootingStandsFor → (r : MapRecord) (o : Outcome) → Realizes r o → Realizes (rooted r) (root_outcome o)

@@ -1,7 +1,7 @@
 -- A simplified map realizes its outcome if its part does.
-use Rattle.std.proofs.Common.{◌≡◌, ◌≢◌, ℕ, ◌≤◌, Bool, true, false, cond, List, [], ◌∷◌, map}
-use Rattle.std.proofs.Common.{length, refl, sym, ap, ◌∙◌, subst, arith, option_map, Result, Ok, Err}
-use Rattle.std.proofs.Common.{inl, inr, ◌⊎◌, nat_le}
+use Rattle.std.proofs.Common.{◌≡◌, ◌≢◌, ℕ, ◌≤◌, Bool, true, false, cond, List, [], ◌∷◌, map, length}
+use Rattle.std.proofs.Common.{refl, sym, ap, ◌∙◌, subst, arith, option_map, Result, Ok, Err, inl}
+use Rattle.std.proofs.Common.{inr, ◌⊎◌, nat_le}
 use Rattle.std.specs.List.{list_all}
 use Rattle.std.proofs.lemmas.Bool.{and_parts, and_left, false_from_ne_true, both_ways}
 use Rattle.std.proofs.lemmas.Bool.Decides.{nat_tests}
@@ -10,11 +10,11 @@ use Rattle.oxc_sourcemap_tokens.specs.declared.error.Error.TheVariants.{OutOfMem
 use Rattle.oxc_sourcemap_tokens.specs.Token.{TokenRecord}
 use Rattle.oxc_sourcemap_parts.specs.Record.{Text, MapRecord}
 use Rattle.oxc_sourcemap_parts.specs.Sorted.{are_tokens_sorted}
-use Rattle.oxc_sourcemap_parts.specs.DecodedMap.{DecodedSource, DecodedMap, mapping_of}
-use Rattle.oxc_sourcemap_parts.specs.DecodedMap.{sources_of, decoded_map_of}
-use Rattle.oxc_sourcemap_simplify.specs.Simplified.{simplified_decoded_map, simplified, fits}
-use Rattle.oxc_sourcemap_simplify.specs.Simplified.{simplification}
-use Rattle.oxc_sourcemap_simplify.specs.SimplifyLaws.{DecodedMapOfSimplified}
+use Rattle.oxc_sourcemap_parts.specs.DecodedMap.{DecodedSource, DecodedMap, mapping_of, sources_of}
+use Rattle.oxc_sourcemap_parts.specs.DecodedMap.{decoded_map_of}
+use Rattle.oxc_sourcemap_steps.specs.Simplified.{simplified_decoded_map, simplified, fits}
+use Rattle.oxc_sourcemap_steps.specs.Simplified.{simplification}
+use Rattle.oxc_sourcemap_steps.specs.SimplifyLaws.{DecodedMapOfSimplified}
 use Rattle.oxc_sourcemap_laws.specs.JoinLaws.{StandsFor}
 use Rattle.oxc_sourcemap_laws.specs.SimplifiedMaps.{SimplifyingEndsRepeats, SimplifyingStandsFor}
 use Rattle.oxc_sourcemap_laws.specs.SimplifiedMaps.{SimplifyingCounts, SimplifyingNames}

@@ -1,8 +1,7 @@
 -- What reading and sorting a text gives.
-use Rattle.std.proofs.Common.{◌≡◌, ℕ, suc, Bool, true, false, cond, List, [], ◌∷◌, ◌++◌}
-use Rattle.std.proofs.Common.{length}
-use Rattle.std.proofs.Common.{refl, sym, ap, ◌∙◌, subst, arith, inl, inr, Option, None}
-use Rattle.std.proofs.Common.{Ok, Err, ◌≢◌}
+use Rattle.std.proofs.Common.{◌≡◌, ℕ, suc, Bool, true, false, cond, List, [], ◌∷◌, ◌++◌, length}
+use Rattle.std.proofs.Common.{refl, sym, ap, ◌∙◌, subst, arith, inl, inr, Option, None, Ok, Err}
+use Rattle.std.proofs.Common.{◌≢◌}
 use Rattle.std.specs.Bool.{Decides}
 use Rattle.std.specs.List.{AllByRecursion}
 use Rattle.std.specs.Option.{IfSome}
@@ -19,18 +18,17 @@ use Rattle.oxc_sourcemap_parts.specs.Record.{Text, MapRecord}
 use Rattle.oxc_sourcemap_parts.specs.Sorted.{may_precede, are_tokens_sorted, token_line}
 use Rattle.oxc_sourcemap_parts.specs.Sorted.{token_column}
 use Rattle.oxc_sourcemap_parts.specs.Sound.{IsInRange, AreIdsInRange, IsSound}
-use Rattle.oxc_sourcemap_parts.specs.DecodedMap.{DecodedMap, decoded_map_of}
-use Rattle.oxc_sourcemap_parts.specs.DecodedMap.{mapping_line, mapping_column, mapping_of}
-use Rattle.oxc_sourcemap_parts.specs.DecodedMap.{sources_of}
+use Rattle.oxc_sourcemap_parts.specs.DecodedMap.{DecodedMap, decoded_map_of, mapping_line}
+use Rattle.oxc_sourcemap_parts.specs.DecodedMap.{mapping_column, mapping_of, sources_of}
 use Rattle.oxc_sourcemap_tokens.specs.declared.position.Position.{Position}
 use Rattle.oxc_sourcemap_join.specs.Joined.{joined}
-use Rattle.oxc_sourcemap_decode.specs.Sections.{Sections, joined_sections}
-use Rattle.oxc_sourcemap_decode.specs.JoinLimits.{is_map_within_limits}
-use Rattle.oxc_sourcemap_decode.specs.ReadMap.{Said, plain, indexed, indexed_record, map_said}
-use Rattle.oxc_sourcemap_decode.specs.ReadMap.{said_in, read_map}
-use Rattle.oxc_sourcemap_decode.proofs.WellRead.{IsWellRead, sections_well, read_is_said, read_well}
-use Rattle.oxc_sourcemap_laws.specs.Repeats.{decoded_map_without_repeats}
-use Rattle.oxc_sourcemap_laws.specs.Repeats.{without_repeats, is_same_mapping, EqualUpToRepeats}
+use Rattle.oxc_sourcemap_json.specs.Sections.{Sections, joined_sections}
+use Rattle.oxc_sourcemap_json.specs.JoinLimits.{is_map_within_limits}
+use Rattle.oxc_sourcemap_json.specs.ReadMap.{Said, plain, indexed, indexed_record, map_said}
+use Rattle.oxc_sourcemap_json.specs.ReadMap.{said_in, read_map}
+use Rattle.oxc_sourcemap_json.proofs.WellRead.{IsWellRead, sections_well, read_is_said, read_well}
+use Rattle.oxc_sourcemap_laws.specs.Repeats.{decoded_map_without_repeats, without_repeats}
+use Rattle.oxc_sourcemap_laws.specs.Repeats.{is_same_mapping, EqualUpToRepeats}
 use Rattle.oxc_sourcemap_laws.specs.JoinedDecodedMaps.{joined_decoded_maps}
 use Rattle.oxc_sourcemap_laws.specs.JoinLaws.{decoded_maps_of}
 use Rattle.oxc_sourcemap_laws.proofs.DroppingRepeats.{IsBlind, up_to_repeats_by}
@@ -38,21 +36,20 @@ use Rattle.oxc_sourcemap_laws.proofs.DroppingRepeats.{blind_without_repeats, bli
 use Rattle.oxc_sourcemap_laws.proofs.Same.{decides_entry}
 use Rattle.oxc_sourcemap_laws.proofs.Sections.{from-sections, joined-of}
 use Rattle.oxc_sourcemap_laws.proofs.UpToRepeats.{matches, up_to_repeats}
-use Rattle.oxc_sourcemap_sort.specs.Sorting.{put_in, sorted_by, sorted_tokens, sorted_map}
-use Rattle.oxc_sourcemap_sort.specs.Sorting.{sorted_decoded_map}
-use Rattle.oxc_sourcemap_sort.proofs.Sorting.{precedes, sorted-once}
-use Rattle.oxc_sourcemap_sort.proofs.Lookups.{decoded-sorted}
+use Rattle.oxc_sourcemap_steps.specs.Sorting.{put_in, sorted_by, sorted_tokens, sorted_map}
+use Rattle.oxc_sourcemap_steps.specs.Sorting.{sorted_decoded_map}
+use Rattle.oxc_sourcemap_steps.proofs.Sorting.{precedes, sorted-once}
+use Rattle.oxc_sourcemap_steps.proofs.Lookups.{decoded-sorted}
 use Rattle.oxc_sourcemap_tokens.specs.declared.plan_error.PlanError.TheVariants.{Map}
 use Rattle.oxc_sourcemap_plan.specs.Outcome.{sorted_outcome, sorted_plain_outcome}
-use Rattle.oxc_sourcemap_plan.specs.Outcome.{sorted_sections_outcome}
-use Rattle.oxc_sourcemap_plan.specs.Outcome.{names_of_sections}
+use Rattle.oxc_sourcemap_plan.specs.Outcome.{sorted_sections_outcome, names_of_sections}
 use Rattle.oxc_sourcemap_plan.specs.Evaluated.{are_among}
 use Rattle.oxc_sourcemap_plan.specs.Realizes.{Realizes, FailsAs}
 use Rattle.oxc_sourcemap_plan.proofs.KnownNames.{among-self}
 use Rattle.oxc_sourcemap_plan.proofs.Realizing.{counts-fit, JoinLaws, unless_memory}
 use Rattle.oxc_sourcemap_plan.proofs.Reading.{room, count-mappings, not-within}
-use Rattle.oxc_sourcemap_plan.proofs.Reading.{same as sections-same}
-use Rattle.oxc_sourcemap_plan.proofs.Reading.{sections-contents, error-of, fault-of}
+use Rattle.oxc_sourcemap_plan.proofs.Reading.{same as sections-same, sections-contents, error-of}
+use Rattle.oxc_sourcemap_plan.proofs.Reading.{fault-of}
 
 -- ---- repeats
 before-itself : (a b : ℕ) → precedes a b a b ≡ true

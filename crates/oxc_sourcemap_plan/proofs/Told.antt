@@ -1,9 +1,8 @@
 -- A fault of an evaluation tells the text that it comes from, or comes from none.
 use Rattle.std.proofs.Common.{◌≡◌, ◌≢◌, ℕ, ◌+◌, ◌<◌, Bool, true, false, cond, nat_lt, List, [], ◌∷◌}
-use Rattle.std.proofs.Common.{◌++◌}
-use Rattle.std.proofs.Common.{map, length, take, drop, get_or, refl, sym, ap, ◌∙◌, subst, inl, inr}
-use Rattle.std.proofs.Common.{Option, Some, None, Result, Ok, Err}
-use Rattle.std.proofs.Common.{IfSome, IsSomeAnd, is_some, option_map}
+use Rattle.std.proofs.Common.{◌++◌, map, length, take, drop, get_or, refl, sym, ap, ◌∙◌, subst, inl}
+use Rattle.std.proofs.Common.{inr, Option, Some, None, Result, Ok, Err, IfSome, IsSomeAnd, is_some}
+use Rattle.std.proofs.Common.{option_map}
 use Rattle.std.specs.Result.{IfErr, IsErrAnd}
 use Rattle.std.specs.Borrow.{Bor}
 use Rattle.std.proofs.lemmas.Bool.{and_parts, both_ways}
@@ -19,8 +18,8 @@ use Rattle.oxc_sourcemap_parts.specs.Record.{Text, MapRecord}
 use Rattle.oxc_sourcemap_parts.specs.DecodedMap.{DecodedMap}
 use Rattle.serde_json.specs.Data.{Data}
 use Rattle.serde_json.specs.Read.{read}
-use Rattle.oxc_sourcemap_decode.specs.ReadMap.{read_map}
-use Rattle.oxc_sourcemap_decode.specs.ValuePlaces.{value_place, IsReading, IsPlacedIn}
+use Rattle.oxc_sourcemap_json.specs.ReadMap.{read_map}
+use Rattle.oxc_sourcemap_json.specs.ValuePlaces.{value_place, IsReading, IsPlacedIn}
 use Rattle.oxc_sourcemap_laws.specs.Repeats.{is_sorted_decoded_map}
 use Rattle.oxc_sourcemap_laws.specs.JoinedDecodedMaps.{joined_decoded_maps}
 use Rattle.oxc_sourcemap_laws.specs.ComposedDecodedMaps.{composed_decoded_maps}
@@ -34,8 +33,8 @@ use Rattle.oxc_sourcemap_plan.specs.Outcome.{simplified_outcome, join_outcome, m
 use Rattle.oxc_sourcemap_plan.specs.Outcome.{composition_outcome, remap_outcome, input_meanings}
 use Rattle.oxc_sourcemap_plan.specs.Outcome.{are_all_within_limits, are_inputs_within_limits}
 use Rattle.oxc_sourcemap_plan.specs.Outcome.{input_outcomes}
-use Rattle.oxc_sourcemap_plan.specs.PlanPlaces.{IsOfReading, IsOfNoText, IsTextFault}
-use Rattle.oxc_sourcemap_plan.specs.PlanPlaces.{TellsText, IsTold}
+use Rattle.oxc_sourcemap_plan.specs.PlanPlaces.{IsOfReading, IsOfNoText, IsTextFault, TellsText}
+use Rattle.oxc_sourcemap_plan.specs.PlanPlaces.{IsTold}
 use Rattle.oxc_sourcemap_plan.specs.Realizes.{Realizes, FailsAs, AllRealize, InputsRealize}
 use Rattle.oxc_sourcemap_plan.proofs.Parts.{around, input_at, outcomes-of}
 use Rattle.oxc_sourcemap_plan.proofs.Realizing.{no-room-part}

@@ -12,11 +12,10 @@ use Rattle.oxc_sourcemap_tokens.specs.declared.error.Error.TheVariants.{OutOfMem
 use Rattle.oxc_sourcemap_tokens.specs.declared.fault.Fault.{Fault}
 use Rattle.oxc_sourcemap_tokens.specs.declared.fault.FaultPlace.{FaultPlace}
 use Rattle.oxc_sourcemap_parts.specs.Record.{Text, MapRecord}
-use Rattle.oxc_sourcemap_decode.specs.ReadMap.{read_map}
-use Rattle.oxc_sourcemap_decode.specs.ValuePlaces.{value_place, IsReading, IsPlacedIn}
-use Rattle.oxc_sourcemap_plan.specs.PlanPlaces.{Unread, unread_or, unread_from}
-use Rattle.oxc_sourcemap_plan.specs.PlanPlaces.{first_unread, IsPlaceOf, IsNumberPlace}
-use Rattle.oxc_sourcemap_plan.specs.PlanPlaces.{with_number}
+use Rattle.oxc_sourcemap_json.specs.ReadMap.{read_map}
+use Rattle.oxc_sourcemap_json.specs.ValuePlaces.{value_place, IsReading, IsPlacedIn}
+use Rattle.oxc_sourcemap_plan.specs.PlanPlaces.{Unread, unread_or, unread_from, first_unread}
+use Rattle.oxc_sourcemap_plan.specs.PlanPlaces.{IsPlaceOf, IsNumberPlace, with_number}
 
 abbrev some : Unread → Option Unread
 some x = Some x

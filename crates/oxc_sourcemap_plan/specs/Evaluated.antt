@@ -8,7 +8,7 @@ use Rattle.oxc_sourcemap_parts.specs.Record.{Text, MapRecord}
 use Rattle.oxc_sourcemap_parts.specs.DecodedMap.{DecodedMap, decoded_map_of}
 use Rattle.oxc_sourcemap_parts.specs.Sound.{IsSound}
 use Rattle.oxc_sourcemap_laws.specs.Repeats.{EqualUpToRepeats, EqualButForMappings}
-use Rattle.oxc_sourcemap_encode.specs.Encoded.{encoded, encoded_record}
+use Rattle.oxc_sourcemap_json.specs.Encoded.{encoded, encoded_record}
 use Rattle.oxc_sourcemap_laws.specs.MapLaws.{ComesBack}
 use Rattle.oxc_sourcemap_laws.specs.JoinLaws.{HaveSameTraces}
 use Rattle.oxc_sourcemap_tokens.specs.declared.plan_error.PlanError.{PlanError}

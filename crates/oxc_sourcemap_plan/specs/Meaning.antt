@@ -7,17 +7,17 @@ use Rattle.oxc_sourcemap_tokens.specs.declared.error.Error.TheVariants.{SeveralS
 use Rattle.oxc_sourcemap_parts.specs.Record.{Text, MapRecord}
 use Rattle.oxc_sourcemap_parts.specs.Sorted.{are_tokens_sorted}
 use Rattle.oxc_sourcemap_parts.specs.DecodedMap.{DecodedMap, decoded_map_of}
-use Rattle.oxc_sourcemap_sort.specs.Sorting.{sorted_decoded_map}
+use Rattle.oxc_sourcemap_steps.specs.Sorting.{sorted_decoded_map}
 use Rattle.oxc_sourcemap_tokens.specs.declared.position.Position.{Position}
 use Rattle.oxc_sourcemap_join.specs.Joined.{at_lines, at_positions}
-use Rattle.oxc_sourcemap_decode.specs.ReadMap.{Said, plain, indexed, said_in}
+use Rattle.oxc_sourcemap_json.specs.ReadMap.{Said, plain, indexed, said_in}
 use Rattle.oxc_sourcemap_laws.specs.Repeats.{is_sorted_decoded_map}
 use Rattle.oxc_sourcemap_laws.specs.JoinedDecodedMaps.{joined_decoded_maps}
 use Rattle.oxc_sourcemap_laws.specs.JoinLaws.{decoded_maps_of}
 use Rattle.oxc_sourcemap_laws.specs.ComposedDecodedMaps.{composed_decoded_maps}
 use Rattle.oxc_sourcemap_laws.specs.RemappedDecodedMaps.{remapped_decoded_map}
 use Rattle.oxc_sourcemap_laws.specs.RootedDecodedMaps.{rooted_decoded_map}
-use Rattle.oxc_sourcemap_simplify.specs.Simplified.{simplified_decoded_map}
+use Rattle.oxc_sourcemap_steps.specs.Simplified.{simplified_decoded_map}
 use Rattle.oxc_sourcemap_tokens.specs.declared.plan_error.PlanError.{PlanError}
 use Rattle.oxc_sourcemap_tokens.specs.declared.plan_error.PlanError.TheVariants.{Map, Unsorted}
 use Rattle.oxc_sourcemap_tokens.specs.declared.plan_error.PlanError.TheVariants.{TooDeep}

@@ -9,13 +9,13 @@ use Rattle.oxc_sourcemap_parts.specs.Record.{Text, MapRecord}
 use Rattle.oxc_sourcemap_parts.specs.Roots.{rooted}
 use Rattle.oxc_sourcemap_parts.specs.DecodedMap.{DecodedMap}
 use Rattle.oxc_sourcemap_laws.specs.MapLaws.{rewritten}
-use Rattle.oxc_sourcemap_lookup.specs.Composed.{composed}
-use Rattle.oxc_sourcemap_remap.specs.Remapped.{remapped}
-use Rattle.oxc_sourcemap_simplify.specs.Simplified.{simplified}
-use Rattle.oxc_sourcemap_sort.specs.Sorting.{sorted_map}
+use Rattle.oxc_sourcemap_steps.specs.Composed.{composed}
+use Rattle.oxc_sourcemap_steps.specs.Remapped.{remapped}
+use Rattle.oxc_sourcemap_steps.specs.Simplified.{simplified}
+use Rattle.oxc_sourcemap_steps.specs.Sorting.{sorted_map}
 use Rattle.oxc_sourcemap_tokens.specs.declared.position.Position.{Position}
 use Rattle.oxc_sourcemap_join.specs.Joined.{at_lines, at_positions, joined}
-use Rattle.oxc_sourcemap_decode.specs.ReadMap.{Said, plain, indexed, indexed_record, said_in}
+use Rattle.oxc_sourcemap_json.specs.ReadMap.{Said, plain, indexed, indexed_record, said_in}
 use Rattle.oxc_sourcemap_laws.specs.JoinedDecodedMaps.{joined_decoded_maps}
 use Rattle.oxc_sourcemap_laws.specs.JoinLaws.{decoded_maps_of}
 use Rattle.oxc_sourcemap_plan.specs.declared.plan.Plan.{Plan}
@@ -26,8 +26,7 @@ use Rattle.oxc_sourcemap_tokens.specs.declared.plan_error.PlanError.TheVariants.
 use Rattle.oxc_sourcemap_plan.specs.Depth.{depth}
 use Rattle.oxc_sourcemap_plan.specs.Meaning.{Meaning, read_meaning, indexed_meaning, root_meaning}
 use Rattle.oxc_sourcemap_plan.specs.Meaning.{all_decoded_maps, join_meaning, composition_meaning}
-use Rattle.oxc_sourcemap_plan.specs.Meaning.{by_path, all_inputs, remap_meaning}
-use Rattle.oxc_sourcemap_plan.specs.Meaning.{simplified_meaning}
+use Rattle.oxc_sourcemap_plan.specs.Meaning.{by_path, all_inputs, remap_meaning, simplified_meaning}
 use Rattle.oxc_sourcemap_plan.specs.Meaning.{sorted_read_meaning, sorted_indexed_meaning}
 use Rattle.oxc_sourcemap_plan.specs.Limits.{is_part_within_limits, is_join_within_limits}
 use Rattle.oxc_sourcemap_plan.specs.Limits.{is_simplified_within_limits}

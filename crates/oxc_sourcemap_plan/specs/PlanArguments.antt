@@ -3,7 +3,7 @@ use Rattle.std.specs.Prelude.{ℕ, zero, suc, Bool, true, false, List, [], ◌�
 use Rattle.std.specs.Prelude.{Option, Some, None, Result, Ok, Err, if◌then◌else◌, ◌==◌}
 use Rattle.std.specs.Str.{bytes_eq}
 use Rattle.oxc_sourcemap_parts.specs.Record.{Text}
-use Rattle.oxc_sourcemap_decode.specs.ReadMap.{said_in}
+use Rattle.oxc_sourcemap_json.specs.ReadMap.{said_in}
 use Rattle.oxc_sourcemap_tokens.specs.declared.position.Position.{Position}
 use Rattle.oxc_sourcemap_join.specs.Joined.{position, at_line}
 use Rattle.oxc_sourcemap_tokens.specs.declared.plan_error.PlanError.TheVariants.{TooDeep}
@@ -12,8 +12,8 @@ use Rattle.oxc_sourcemap_plan.specs.declared.run_error.RunError.TheVariants.{Pla
 use Rattle.oxc_sourcemap_plan.specs.declared.run_error.RunError.TheVariants.{NoText}
 use Rattle.oxc_sourcemap_plan.specs.Numbers.{number_of}
 use Rattle.oxc_sourcemap_plan.specs.Outcome.{Outcome, read_outcome, rewrite_outcome, root_outcome}
-use Rattle.oxc_sourcemap_plan.specs.Outcome.{sorted_outcome, simplified_outcome}
-use Rattle.oxc_sourcemap_plan.specs.Outcome.{join_outcome, composition_outcome, remap_outcome}
+use Rattle.oxc_sourcemap_plan.specs.Outcome.{sorted_outcome, simplified_outcome, join_outcome}
+use Rattle.oxc_sourcemap_plan.specs.Outcome.{composition_outcome, remap_outcome}
 
 -- what was read of the first arguments, and the arguments that are left
 abbrev pub Parsed : Type 0 → Type 0

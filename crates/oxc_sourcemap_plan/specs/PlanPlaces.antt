@@ -1,19 +1,17 @@
 -- Where a plan has its first fault, if that is one of a text.
-use Rattle.std.specs.Prelude.{◌≡◌, ◌≢◌, ℕ, ◌+◌, List, [], ◌∷◌, ◌++◌, Option, Some, None}
-use Rattle.std.specs.Prelude.{Result, Bool, true}
-use Rattle.std.specs.Prelude.{Ok, Err, IfSome, IsSomeAnd, ⊤}
+use Rattle.std.specs.Prelude.{◌≡◌, ◌≢◌, ℕ, ◌+◌, List, [], ◌∷◌, ◌++◌, Option, Some, None, Result}
+use Rattle.std.specs.Prelude.{Bool, true, Ok, Err, IfSome, IsSomeAnd, ⊤}
 use Rattle.std.specs.List.{flat_map}
 use Rattle.serde_json.specs.Data.{Data}
 use Rattle.serde_json.specs.Read.{read}
 use Rattle.oxc_sourcemap_tokens.specs.declared.error.Error.{Error}
-use Rattle.oxc_sourcemap_tokens.specs.declared.error.Error.TheVariants.{SeveralSources}
-use Rattle.oxc_sourcemap_tokens.specs.declared.error.Error.TheVariants.{OutOfMemory}
+use Rattle.oxc_sourcemap_tokens.specs.declared.error.Error.TheVariants.{SeveralSources, OutOfMemory}
 use Rattle.oxc_sourcemap_tokens.specs.declared.plan_error.PlanError.{PlanError}
 use Rattle.oxc_sourcemap_tokens.specs.declared.plan_error.PlanError.TheVariants.{Map}
 use Rattle.oxc_sourcemap_parts.specs.Record.{Text, MapRecord}
-use Rattle.oxc_sourcemap_decode.specs.ReadMap.{read_map}
+use Rattle.oxc_sourcemap_json.specs.ReadMap.{read_map}
 use Rattle.oxc_sourcemap_tokens.specs.declared.fault.FaultPlace.{FaultPlace}
-use Rattle.oxc_sourcemap_decode.specs.ValuePlaces.{value_place, IsReading}
+use Rattle.oxc_sourcemap_json.specs.ValuePlaces.{value_place, IsReading}
 use Rattle.oxc_sourcemap_plan.specs.declared.fault.PlanFault.{PlanFault}
 use Rattle.oxc_sourcemap_plan.specs.declared.plan.Plan.{Plan}
 use Rattle.oxc_sourcemap_plan.specs.declared.plan.Plan.TheOpen.{Plan-F}

@@ -6,7 +6,7 @@ ghost use Rattle.oxc_sourcemap_plan.specs.Words.{Error, Map, IsOfReading, with_n
 
 use crate::collecting::plan_texts;
 use crate::plan::Plan;
-use oxc_sourcemap_decode::read_parts_from_string;
+use oxc_sourcemap_json::read_parts_from_string;
 use oxc_sourcemap_laws::dropping_harmless;
 use oxc_sourcemap_tokens::{Error, Fault, FaultPlace, PlanError, Result};
 use std::alloc::Global;

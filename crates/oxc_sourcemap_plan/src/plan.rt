@@ -15,18 +15,16 @@ ghost use Rattle.oxc_sourcemap_plan.specs.Words.{Unsorted, record_of_parts, owne
 ghost use Rattle.oxc_sourcemap_plan.specs.Words.{sorted_map};
 
 use crate::fault::PlanFault;
-use oxc_sourcemap_decode::{decode_parts, read_parts_from_string};
-use oxc_sourcemap_encode::encode_owned_parts;
 use oxc_sourcemap_join::join_owned_parts;
+use oxc_sourcemap_json::{decode_parts, encode_owned_parts, read_parts_from_string};
 use oxc_sourcemap_laws::{
     canonical_unique, composition_associative, dropping_harmless, remapping_associative,
     rooting_idempotent, simplifying_stands,
 };
-use oxc_sourcemap_lookup::compose_parts;
 use oxc_sourcemap_parts::{SourceMapParts, apply_root, are_sorted};
-use oxc_sourcemap_remap::remap_owned_parts;
-use oxc_sourcemap_simplify::{simplify_parts, simplifying_harmless};
-use oxc_sourcemap_sort::sort_parts;
+use oxc_sourcemap_steps::{
+    compose_parts, remap_owned_parts, simplify_parts, simplifying_harmless, sort_parts,
+};
 use oxc_sourcemap_tokens::{Memory, PlanError, Position};
 use std::alloc::Global;
 

@@ -1,16 +1,16 @@
 -- What the calls on an index find.
-use Rattle.std.proofs.Common.{◌≡◌, ℕ, ◌+◌, ◌-◌, ◌<◌, ◌≤◌, Bool, true, false, List, length}
-use Rattle.std.proofs.Common.{get_or, refl, sym, ap, ◌∙◌, arith, Ok, Err, Some, None, Result}
-use Rattle.std.proofs.Common.{nat_le, nat_lt, slice_get, ◌⊎◌, inl, inr, is_ok, MatchResult}
+use Rattle.std.proofs.Common.{◌≡◌, ℕ, ◌+◌, ◌-◌, ◌<◌, ◌≤◌, Bool, true, false, List, length, get_or}
+use Rattle.std.proofs.Common.{refl, sym, ap, ◌∙◌, arith, Ok, Err, Some, None, Result, nat_le}
+use Rattle.std.proofs.Common.{nat_lt, slice_get, ◌⊎◌, inl, inr, is_ok, MatchResult}
 use Rattle.std.specs.List.Sorted.{IsNonDecreasingBy}
 use Rattle.std.specs.Char.Utf16.{is_low_surrogate}
 use Rattle.std.proofs.lemmas.Bool.{cases_order}
 use Rattle.std.proofs.lemmas.List.Sorted.{IsNonDecreasingBy-from_default}
 use Rattle.std.proofs.lemmas.Option.{slice_get_within, get_or_from_slice_get, slice_get-get_or}
-use Rattle.oxc_sourcemap_text.specs.declared.position_error.PositionError.TheVariants.{PastText}
-use Rattle.oxc_sourcemap_text.specs.declared.position_error.PositionError.TheVariants.{NoLine}
-use Rattle.oxc_sourcemap_text.specs.declared.position_error.PositionError.TheVariants.{PastLine}
-use Rattle.oxc_sourcemap_text.specs.declared.position_error.PositionError.TheVariants.{InsidePair}
+use Rattle.oxc_sourcemap_text.specs.declared.positions.position_error.PositionError.TheVariants.{PastText}
+use Rattle.oxc_sourcemap_text.specs.declared.positions.position_error.PositionError.TheVariants.{NoLine}
+use Rattle.oxc_sourcemap_text.specs.declared.positions.position_error.PositionError.TheVariants.{PastLine}
+use Rattle.oxc_sourcemap_text.specs.declared.positions.position_error.PositionError.TheVariants.{InsidePair}
 use Rattle.oxc_sourcemap_tokens.specs.declared.error.Error.TheVariants.{TooLarge}
 use Rattle.oxc_sourcemap_text.specs.TextLines.{units_of, text_lines}
 use Rattle.oxc_sourcemap_text.specs.Positions.{line_start, column_count, is_inside_pair, line_of}

@@ -3,11 +3,11 @@ use Rattle.std.proofs.Common.{◌≡◌, ◌↔◌, ℕ, ◌+◌, ◌-◌, ◌<�
 use Rattle.std.proofs.Common.{refl, ap, arith, Result, Ok, Err, nat_lt, if◌then◌else◌, ◌⊎◌, inl}
 use Rattle.std.proofs.Common.{inr}
 use Rattle.std.proofs.lemmas.Bool.{cases_order}
-use Rattle.oxc_sourcemap_text.specs.declared.position_error.PositionError.{PositionError}
-use Rattle.oxc_sourcemap_text.specs.declared.position_error.PositionError.TheVariants.{PastText}
-use Rattle.oxc_sourcemap_text.specs.declared.position_error.PositionError.TheVariants.{NoLine}
-use Rattle.oxc_sourcemap_text.specs.declared.position_error.PositionError.TheVariants.{PastLine}
-use Rattle.oxc_sourcemap_text.specs.declared.position_error.PositionError.TheVariants.{InsidePair}
+use Rattle.oxc_sourcemap_text.specs.declared.positions.position_error.PositionError.{PositionError}
+use Rattle.oxc_sourcemap_text.specs.declared.positions.position_error.PositionError.TheVariants.{PastText}
+use Rattle.oxc_sourcemap_text.specs.declared.positions.position_error.PositionError.TheVariants.{NoLine}
+use Rattle.oxc_sourcemap_text.specs.declared.positions.position_error.PositionError.TheVariants.{PastLine}
+use Rattle.oxc_sourcemap_text.specs.declared.positions.position_error.PositionError.TheVariants.{InsidePair}
 use Rattle.oxc_sourcemap_text.specs.TextLines.{units_of, text_lines}
 use Rattle.oxc_sourcemap_text.specs.Positions.{line_start, column_count, is_inside_pair, line_of}
 use Rattle.oxc_sourcemap_text.specs.Positions.{offset_of, position_of}

@@ -5,3 +5,11 @@ pub mod Steps
 pub mod Inverse
 pub mod Calls
 mod Worked
+pub mod Bytes
+mod Chars
+mod Pieces
+mod Blocks
+mod LineCuts
+mod Spaces
+mod Placed
+mod UrlWorked

@@ -1,7 +1,6 @@
 -- The second halves of surrogate pairs.
 use Rattle.std.proofs.Common.{◌≡◌, ℕ, zero, suc, ◌+◌, ◌-◌, ◌<◌, ◌≤◌, Bool, true, false, List, []}
-use Rattle.std.proofs.Common.{◌∷◌}
-use Rattle.std.proofs.Common.{length, get_or, refl, sym, ap, ◌∙◌, arith, ◌⊎◌, inl, inr}
+use Rattle.std.proofs.Common.{◌∷◌, length, get_or, refl, sym, ap, ◌∙◌, arith, ◌⊎◌, inl, inr}
 use Rattle.std.specs.Char.Utf16.{is_low_surrogate}
 use Rattle.std.proofs.lemmas.Bool.{cases_order}
 use Rattle.oxc_sourcemap_text.specs.Scans.{second_halves}

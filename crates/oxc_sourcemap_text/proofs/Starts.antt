@@ -1,9 +1,7 @@
 -- Where lines begin, and the positions that follow from it.
 use Rattle.std.proofs.Common.{◌≡◌, ℕ, zero, suc, ◌+◌, ◌-◌, ◌<◌, ◌≤◌, Bool, true, false, List, []}
-use Rattle.std.proofs.Common.{◌∷◌}
-use Rattle.std.proofs.Common.{length, take, get_or, refl, sym, ap, ◌∙◌, arith, cond, nat_le}
-use Rattle.std.proofs.Common.{add-zero}
-use Rattle.std.proofs.Common.{◌⊎◌, inl, inr, ◌==◌}
+use Rattle.std.proofs.Common.{◌∷◌, length, take, get_or, refl, sym, ap, ◌∙◌, arith, cond, nat_le}
+use Rattle.std.proofs.Common.{add-zero, ◌⊎◌, inl, inr, ◌==◌}
 use Rattle.std.proofs.lemmas.Bool.{cases_order}
 use Rattle.std.proofs.lemmas.Bool.Decides.{nat_tests}
 use Rattle.std.proofs.lemmas.List.{take_all}

@@ -1,8 +1,7 @@
 -- What a character adds to a scan.
 use Rattle.std.proofs.Common.{◌≡◌, ℕ, zero, suc, ◌+◌, ◌-◌, ◌/◌, ◌%◌, ◌<◌, ◌≤◌, Bool, true, false}
-use Rattle.std.proofs.Common.{not, ◌&&◌, ◌||◌}
-use Rattle.std.proofs.Common.{List, [], ◌∷◌, ◌++◌, length, refl, sym, ap, ◌∙◌, arith, if◌then◌else◌}
-use Rattle.std.proofs.Common.{◌==◌}
+use Rattle.std.proofs.Common.{not, ◌&&◌, ◌||◌, List, [], ◌∷◌, ◌++◌, length, refl, sym, ap, ◌∙◌}
+use Rattle.std.proofs.Common.{arith, if◌then◌else◌, ◌==◌}
 use lib.Utf8.{scalar, scalar_cases}
 use Rattle.std.specs.List.{flat_map}
 use Rattle.std.proofs.Common.{take, get_or, ◌⊎◌, inl, inr, nat_lt, Vec, Global, Result, Ok, Err}
@@ -15,9 +14,8 @@ use mathlib.Core.List.{append_assoc}
 use Rattle.oxc_sourcemap_text.specs.TextLines.{ends_line, onto_first, lines_of}
 use Rattle.oxc_sourcemap_text.specs.TextLines.{begins_with_line_feed}
 use Rattle.oxc_sourcemap_text.specs.Scans.{starts_from, later_starts, second_halves}
-use Rattle.oxc_sourcemap_text.specs.Scans.{ends_line_alone}
-use Rattle.oxc_sourcemap_text.specs.Scans.{starts_ahead, IsScan}
-use Rattle.oxc_sourcemap_text.specs.declared.scan.Scan.{Scan}
+use Rattle.oxc_sourcemap_text.specs.Scans.{ends_line_alone, starts_ahead, IsScan}
+use Rattle.oxc_sourcemap_text.specs.declared.positions.scan.Scan.{Scan}
 use Rattle.oxc_sourcemap_text.proofs.Cuts.{lines-end, lines-no_end}
 use Rattle.oxc_sourcemap_text.proofs.Starts.{lines-some}
 use Rattle.oxc_sourcemap_text.proofs.Pairs.{first-half, no-half}

@@ -2,10 +2,10 @@
 use Rattle.std.specs.Prelude.{◌≡◌, refl, ℕ, List, [], ◌∷◌, codes, Ok, Err}
 use lib.Utf8.{encode}
 use Rattle.std.specs.Str.{chars}
-use Rattle.oxc_sourcemap_text.specs.declared.position_error.PositionError.TheVariants.{PastText}
-use Rattle.oxc_sourcemap_text.specs.declared.position_error.PositionError.TheVariants.{NoLine}
-use Rattle.oxc_sourcemap_text.specs.declared.position_error.PositionError.TheVariants.{PastLine}
-use Rattle.oxc_sourcemap_text.specs.declared.position_error.PositionError.TheVariants.{InsidePair}
+use Rattle.oxc_sourcemap_text.specs.declared.positions.position_error.PositionError.TheVariants.{PastText}
+use Rattle.oxc_sourcemap_text.specs.declared.positions.position_error.PositionError.TheVariants.{NoLine}
+use Rattle.oxc_sourcemap_text.specs.declared.positions.position_error.PositionError.TheVariants.{PastLine}
+use Rattle.oxc_sourcemap_text.specs.declared.positions.position_error.PositionError.TheVariants.{InsidePair}
 use Rattle.oxc_sourcemap_text.specs.TextLines.{lines_of}
 use Rattle.oxc_sourcemap_text.specs.Positions.{offset_of, position_of}
 

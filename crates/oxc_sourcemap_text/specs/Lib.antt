@@ -2,4 +2,8 @@ pub mod TextLines
 pub mod Positions
 pub mod PositionLaws
 pub mod Scans
+pub mod DataUrls
+pub mod DataUrlMessages
+pub mod MappingUrls
+pub mod Comments
 pub mod Words

@@ -6,11 +6,11 @@ use Rattle.std.specs.List.{sum_by, count_by, range_with_len}
 use Rattle.std.specs.Char.Utf16.{is_low_surrogate}
 use Rattle.oxc_sourcemap_tokens.specs.declared.error.Error.{Error}
 use Rattle.oxc_sourcemap_tokens.specs.declared.error.Error.TheVariants.{TooLarge}
-use Rattle.oxc_sourcemap_text.specs.declared.position_error.PositionError.{PositionError}
-use Rattle.oxc_sourcemap_text.specs.declared.position_error.PositionError.TheVariants.{PastText}
-use Rattle.oxc_sourcemap_text.specs.declared.position_error.PositionError.TheVariants.{NoLine}
-use Rattle.oxc_sourcemap_text.specs.declared.position_error.PositionError.TheVariants.{PastLine}
-use Rattle.oxc_sourcemap_text.specs.declared.position_error.PositionError.TheVariants.{InsidePair}
+use Rattle.oxc_sourcemap_text.specs.declared.positions.position_error.PositionError.{PositionError}
+use Rattle.oxc_sourcemap_text.specs.declared.positions.position_error.PositionError.TheVariants.{PastText}
+use Rattle.oxc_sourcemap_text.specs.declared.positions.position_error.PositionError.TheVariants.{NoLine}
+use Rattle.oxc_sourcemap_text.specs.declared.positions.position_error.PositionError.TheVariants.{PastLine}
+use Rattle.oxc_sourcemap_text.specs.declared.positions.position_error.PositionError.TheVariants.{InsidePair}
 use Rattle.oxc_sourcemap_text.specs.TextLines.{units_of, text_lines, line_at}
 
 -- where a line begins: the number of units of the lines before it

@@ -2,7 +2,7 @@
 use Rattle.std.specs.Prelude.{◌≡◌, ℕ, ◌+◌, ◌≤◌, Bool, true, false, List, [], ◌∷◌, ◌++◌, length}
 use Rattle.std.specs.Prelude.{if◌then◌else◌, ◌||◌, ◌==◌}
 use Rattle.std.specs.Char.Utf16.{is_low_surrogate}
-use Rattle.oxc_sourcemap_text.specs.declared.scan.Scan.{Scan}
+use Rattle.oxc_sourcemap_text.specs.declared.positions.scan.Scan.{Scan}
 use Rattle.oxc_sourcemap_text.specs.TextLines.{units_of, lines_of, text_lines}
 use Rattle.oxc_sourcemap_text.specs.TextLines.{begins_with_line_feed}
 

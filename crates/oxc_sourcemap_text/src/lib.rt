@@ -1,13 +1,13 @@
-//! The lines of a text, and positions in it: lines and columns, and offsets in UTF-16 code units. Part of `oxc_sourcemap`.
+//! Texts: lines, positions and offsets in UTF-16 units, comments that name a map, and data URLs. Part of `oxc_sourcemap`.
 #![tactic(auto)]
 
-mod laws;
-mod position_error;
-mod scan;
-mod text_lines;
-mod text_positions;
+mod positions;
+mod url;
 
-pub use laws::positions_and_offsets_inverse;
-pub use position_error::PositionError;
-pub use text_lines::{Lines, utf16_units};
-pub use text_positions::TextPositions;
+pub use positions::{
+    Lines, PositionError, TextPositions, positions_and_offsets_inverse, utf16_units,
+};
+pub use url::{
+    DataUrlError, Language, SourceMappingComment, decode_data_url, source_mapping_comment,
+    source_mapping_url,
+};

@@ -1,6 +1,6 @@
 -- Failures and the places that they tell.
-use Rattle.std.proofs.Common.{◌≡◌, ◌≢◌, ℕ, List, refl, ap, subst, sym, Option, Some, None}
-use Rattle.std.proofs.Common.{Result, Ok, Err, IfSome, IsSomeAnd, option_map, slice_get}
+use Rattle.std.proofs.Common.{◌≡◌, ◌≢◌, ℕ, List, refl, ap, subst, sym, Option, Some, None, Result}
+use Rattle.std.proofs.Common.{Ok, Err, IfSome, IsSomeAnd, option_map, slice_get}
 use Rattle.std.specs.Result.{IfErr, IsErrAnd}
 use Rattle.serde_json.specs.Data.{Data}
 use Rattle.serde_json.specs.Read.{read}
@@ -14,7 +14,7 @@ use Rattle.oxc_sourcemap_tokens.specs.declared.plan_error.PlanError.{PlanError}
 use Rattle.oxc_sourcemap_tokens.specs.declared.plan_error.PlanError.TheVariants.{Map}
 use Rattle.oxc_sourcemap_tokens.specs.Places.{place_in}
 use Rattle.oxc_sourcemap_parts.specs.Record.{Text}
-use Rattle.oxc_sourcemap_decode.specs.ValuePlaces.{value_place, IsPlacedIn, IsReading}
+use Rattle.oxc_sourcemap_json.specs.ValuePlaces.{value_place, IsPlacedIn, IsReading}
 use Rattle.oxc_sourcemap_plan.specs.declared.run_error.RunError.{RunError}
 use Rattle.oxc_sourcemap_plan.specs.declared.run_error.RunError.TheVariants.{Plan}
 use Rattle.oxc_sourcemap_plan.specs.PlanPlaces.{IsTextPlace, IsTextFault}

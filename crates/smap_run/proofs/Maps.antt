@@ -6,8 +6,8 @@ use Rattle.oxc_sourcemap_tokens.specs.declared.error.Error.{Error}
 use Rattle.oxc_sourcemap_tokens.specs.declared.error.Error.TheVariants.{LineOrder, OutOfMemory}
 use Rattle.oxc_sourcemap_parts.specs.Record.{Text, MapRecord}
 use Rattle.oxc_sourcemap_json.specs.Shape.{◌>>=◌}
-use Rattle.oxc_sourcemap_decode.specs.ReadMap.{read_map}
-use Rattle.oxc_sourcemap_encode.specs.JsonText.{map_text, map_url}
+use Rattle.oxc_sourcemap_json.specs.ReadMap.{read_map}
+use Rattle.oxc_sourcemap_json.specs.JsonText.{map_text, map_url}
 use Rattle.oxc_sourcemap_tokens.specs.Token.{TokenRecord}
 use Rattle.oxc_sourcemap_tokens.specs.LineOrder.{first_out_of_order}
 use Rattle.oxc_sourcemap_lookup.specs.Lookup.{token_for}

@@ -1,14 +1,14 @@
 -- The answers and errors of a plan.
-use Rattle.std.proofs.Common.{◌≡◌, ◌≢◌, ℕ, List, length, sym, ap, ◌∙◌, subst, arith}
-use Rattle.std.proofs.Common.{Result, Ok, Err, inl, inr, ◌⊎◌}
+use Rattle.std.proofs.Common.{◌≡◌, ◌≢◌, ℕ, List, length, sym, ap, ◌∙◌, subst, arith, Result, Ok}
+use Rattle.std.proofs.Common.{Err, inl, inr, ◌⊎◌}
 use Rattle.std.specs.Result.{IsErrOf, OnErr}
 use Rattle.std.proofs.lemmas.Bool.{cases_lt, false_from_ne_true}
 use Rattle.oxc_sourcemap_tokens.specs.declared.error.Error.{Error}
 use Rattle.oxc_sourcemap_tokens.specs.declared.error.Error.TheVariants.{TooLarge, OutOfMemory}
 use Rattle.oxc_sourcemap_parts.specs.Record.{MapRecord}
 use Rattle.oxc_sourcemap_json.specs.Shape.{◌>>=◌}
-use Rattle.oxc_sourcemap_encode.specs.Encoded.{encoded, encoded_record}
-use Rattle.oxc_sourcemap_encode.specs.JsonText.{json_text, map_text}
+use Rattle.oxc_sourcemap_json.specs.Encoded.{encoded, encoded_record}
+use Rattle.oxc_sourcemap_json.specs.JsonText.{json_text, map_text}
 use Rattle.oxc_sourcemap_laws.specs.MapLaws.{SoundIsTooLarge}
 use Rattle.oxc_sourcemap_tokens.specs.declared.plan_error.PlanError.{PlanError}
 use Rattle.oxc_sourcemap_tokens.specs.declared.plan_error.PlanError.TheVariants.{Map}

@@ -10,8 +10,8 @@ use Rattle.oxc_sourcemap_mappings.specs.Reading.{reading}
 use Rattle.oxc_sourcemap_mappings.specs.Canonical.{canonical}
 use Rattle.oxc_sourcemap_mappings.specs.Pieces.{writing_fault}
 use Rattle.oxc_sourcemap_json.specs.Shape.{◌>>=◌}
-use Rattle.oxc_sourcemap_decode.specs.ReadMap.{read_map}
-use Rattle.oxc_sourcemap_encode.specs.JsonText.{map_text, map_url}
+use Rattle.oxc_sourcemap_json.specs.ReadMap.{read_map}
+use Rattle.oxc_sourcemap_json.specs.JsonText.{map_text, map_url}
 use Rattle.oxc_sourcemap_tokens.specs.declared.plan_error.PlanError.{PlanError}
 use Rattle.oxc_sourcemap_tokens.specs.declared.plan_error.PlanError.TheVariants.{Map}
 use Rattle.oxc_sourcemap_plan.specs.declared.run_error.RunError.{RunError}

@@ -6,8 +6,8 @@ use Rattle.oxc_sourcemap_parts.specs.Record.{Text, MapRecord}
 use Rattle.oxc_sourcemap_parts.specs.Sorted.{are_tokens_sorted}
 use Rattle.oxc_sourcemap_parts.specs.DecodedMap.{OriginalPosition, decoded_map_of}
 use Rattle.oxc_sourcemap_lookup.specs.Trace.{trace}
-use Rattle.oxc_sourcemap_encode.specs.JsonString.{json_string}
-use Rattle.oxc_sourcemap_decode.specs.ReadMap.{read_map}
+use Rattle.oxc_sourcemap_json.specs.JsonString.{json_string}
+use Rattle.oxc_sourcemap_json.specs.ReadMap.{read_map}
 use Rattle.oxc_sourcemap_tokens.specs.declared.plan_error.PlanError.{PlanError}
 use Rattle.oxc_sourcemap_tokens.specs.declared.plan_error.PlanError.TheVariants.{Map, Unsorted}
 

@@ -2,7 +2,7 @@
 pub use Rattle.oxc_sourcemap_lookup.specs.Lookup.{token_for}
 pub use Rattle.oxc_sourcemap_parts.specs.DecodedMap.{name_of}
 pub use Rattle.oxc_sourcemap_tokens.specs.declared.error.Error.TheVariants.{OutOfMemory}
-pub use Rattle.oxc_sourcemap_encode.specs.JsonText.{map_text}
+pub use Rattle.oxc_sourcemap_json.specs.JsonText.{map_text}
 pub use Rattle.oxc_sourcemap_tokens.specs.LineOrder.{IsInLineOrder}
 pub use Rattle.oxc_sourcemap_tokens.specs.declared.plan_error.PlanError.TheVariants.{Map}
 pub use Rattle.oxc_sourcemap_mappings.specs.Reading.{reading}
@@ -18,13 +18,13 @@ pub use Rattle.smap_run.specs.Answer.{without_line_feed, mappings_answer, normal
 pub use Rattle.smap_run.specs.Answer.{normalised_url, IsPlanAnswer, IsPlanError, IsAnswer}
 pub use Rattle.smap_run.specs.Answer.{FailsWith, IsInput, AppendsBeginning, of_map, of_plan}
 pub use Rattle.smap_run.specs.Arguments.{two_numbers, without_arguments, parsed_command, command_of}
+pub use Rattle.smap_run.specs.Arguments.{taken_where}
 pub use Rattle.smap_run.specs.Flags.{read_flag, write_flag}
 pub use Rattle.smap_run.specs.Request.{request_of}
 pub use Rattle.smap_run.specs.Traced.{number_part, name_part, original_text, trace_text, traced_of}
 pub use Rattle.smap_run.specs.Traced.{traced}
-pub use Rattle.smap_run.specs.Arguments.{taken_where}
-pub use Rattle.smap_run.specs.ErrorPlaces.{IsMappingsPlace, IsInputPlace, IsPlaceFor}
-pub use Rattle.smap_run.specs.ErrorPlaces.{IsPlaceIn, IsPlacedBy}
+pub use Rattle.smap_run.specs.ErrorPlaces.{IsMappingsPlace, IsInputPlace, IsPlaceFor, IsPlaceIn}
+pub use Rattle.smap_run.specs.ErrorPlaces.{IsPlacedBy}
 pub use Rattle.oxc_sourcemap_plan.specs.PlanPlaces.{IsTextPlace, TellsText}
 pub use Rattle.oxc_sourcemap_plan.specs.declared.run_error.RunError.TheVariants.{Plan}
 pub use Rattle.oxc_sourcemap_tokens.specs.declared.error.Error.{Error}

@@ -2,7 +2,7 @@
 ghost use Rattle.std.specs.Prelude.{◌≡◌, None};
 ghost use Rattle.smap_run.specs.Words.{Map, Plan, out_of_memory};
 
-use oxc_sourcemap_places::FaultReason;
+use oxc_sourcemap_json::FaultReason;
 use oxc_sourcemap_plan::RunError;
 use oxc_sourcemap_tokens::{Error, Fault, FaultPlace, PlanError};
 use std::alloc::AllocError;

@@ -9,7 +9,7 @@ use crate::arguments::Command;
 use crate::failure::Failure;
 use crate::port::Port;
 use crate::running::{answer, read_all, without_last_line_feed, write_all};
-use oxc_sourcemap_places::{FaultReason, json_fault_reason, segment_reason};
+use oxc_sourcemap_json::{FaultReason, json_fault_reason, segment_reason};
 use oxc_sourcemap_plan::{RunError, inputs_of};
 use oxc_sourcemap_tokens::{FaultPlace, FaultSpot};
 use std::alloc::Global;

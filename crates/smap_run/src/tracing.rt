@@ -7,8 +7,7 @@ ghost use Rattle.smap_run.specs.Words.{record_of_parts, original_in, name_of, Ma
 ghost use Rattle.smap_run.specs.Words.{number_part, name_part, original_text, trace_text};
 ghost use Rattle.smap_run.specs.Words.{traced_of, traced, OnlyMemory, Pushes, lent_item};
 
-use oxc_sourcemap_decode::decode_parts_from_string;
-use oxc_sourcemap_encode::push_json_string;
+use oxc_sourcemap_json::{decode_parts_from_string, push_json_string};
 use oxc_sourcemap_lookup::LineIndex;
 use oxc_sourcemap_parts::{SourceMapParts, are_sorted};
 use oxc_sourcemap_tokens::{Error, PlanError, Token};

@@ -6,6 +6,9 @@
 #![tactic(auto)]
 
 mod commands;
+mod making;
+mod reports;
+mod tracing;
 
 use clap::{ArgMatches, Error};
 use sourcemap_files::{Asked, Status, print, tell};

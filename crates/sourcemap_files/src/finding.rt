@@ -5,10 +5,10 @@ use crate::paths::{
     file_name, folder_of, has_scheme, is_folder, is_inside, joined, parts_of, path_of, path_of_url,
 };
 use oxc_sourcemap_found::{Found, fault_reason, found_fault_at, read_found};
+use oxc_sourcemap_json::json_fault_at;
 use oxc_sourcemap_map::SourceMap;
-use oxc_sourcemap_places::json_fault_at;
+use oxc_sourcemap_text::{Language, decode_data_url, source_mapping_url};
 use oxc_sourcemap_tokens::{Error, FaultPlace};
-use oxc_sourcemap_url::{Language, decode_data_url, source_mapping_url};
 use sourcemap_words::{Outcome, failure_of};
 use std::alloc::{AllocError, Global};
 

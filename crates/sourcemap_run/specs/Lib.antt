@@ -5,5 +5,5 @@ pub mod Lines
 pub mod Frames
 pub mod Bundled
 pub mod Marks
-pub mod Words
 pub mod Page
+pub mod Words

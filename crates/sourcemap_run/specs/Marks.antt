@@ -2,7 +2,7 @@
 use Rattle.std.specs.Prelude.{ℕ, Option, Some, None, option_map}
 use Rattle.std.specs.Option.{option_and_then}
 use Rattle.oxc_sourcemap_tokens.specs.Token.{TokenRecord}
-use Rattle.oxc_sourcemap_pieces.specs.declared.cuts.Piece.{Piece}
+use Rattle.oxc_sourcemap_queries.specs.declared.pieces.cuts.Piece.{Piece}
 use Rattle.sourcemap_run.specs.declared.counting.Mark.{Mark}
 
 -- the mark of a piece with this token and this source

@@ -1,11 +1,11 @@
 -- What is printed of an answer.
-use Rattle.std.specs.Prelude.{ℕ, ◌+◌, ◌/◌, ◌%◌, List, [], ◌++◌, ◌∷◌, codes, decimal}
-use Rattle.std.specs.Prelude.{Bool, not, ◌&&◌, ◌||◌, ◌==◌, nat_le, if◌then◌else◌}
-use Rattle.std.specs.Prelude.{Option, Some, None, chars, encode_utf8}
+use Rattle.std.specs.Prelude.{ℕ, ◌+◌, ◌/◌, ◌%◌, List, [], ◌++◌, ◌∷◌, codes, decimal, Bool, not}
+use Rattle.std.specs.Prelude.{◌&&◌, ◌||◌, ◌==◌, nat_le, if◌then◌else◌, Option, Some, None, chars}
+use Rattle.std.specs.Prelude.{encode_utf8}
 use Rattle.std.specs.Char.{digit_char}
 use Rattle.std.specs.List.{list_all, flat_map}
 use Rattle.oxc_sourcemap_parts.specs.Record.{Text}
-use Rattle.oxc_sourcemap_encode.specs.JsonString.{json_string}
+use Rattle.oxc_sourcemap_json.specs.JsonString.{json_string}
 use Rattle.sourcemap_run.specs.Answers.{Place}
 
 abbrev pub is_between : ℕ → ℕ → ℕ → Bool

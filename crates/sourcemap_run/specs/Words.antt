@@ -9,17 +9,15 @@ pub use Rattle.oxc_sourcemap_lookup.specs.Trace.{original_in}
 pub use Rattle.sourcemap_run.specs.Answers.{token_by, pointed, said, place_of, place_seen, seen}
 pub use Rattle.sourcemap_run.specs.Answers.{lent_place}
 pub use Rattle.sourcemap_run.specs.Texts.{is_hidden, unicode_escape, visible_char, visible}
-pub use Rattle.sourcemap_run.specs.Texts.{visible_string, is_plain, shown}
-pub use Rattle.sourcemap_run.specs.Texts.{number_part, place_text, name_part}
-pub use Rattle.sourcemap_run.specs.Texts.{number_member, text_member, name_member, answer_text}
-pub use Rattle.sourcemap_run.specs.Texts.{answer_members, position_members}
+pub use Rattle.sourcemap_run.specs.Texts.{visible_string, is_plain, shown, number_part, place_text}
+pub use Rattle.sourcemap_run.specs.Texts.{name_part, number_member, text_member, name_member}
+pub use Rattle.sourcemap_run.specs.Texts.{answer_text, answer_members, position_members}
 pub use Rattle.sourcemap_run.specs.Texts.{without_comma, object_text}
 pub use Rattle.sourcemap_run.specs.Lines.{answer_object, answer_line}
 pub use Rattle.sourcemap_run.specs.Frames.{frame_text, answer_to, location_text, painted, led_back}
 pub use Rattle.oxc_sourcemap_parts.specs.Views.{record_of_parts}
-pub use Rattle.oxc_sourcemap_join.specs.Joined.{joined}
-pub use Rattle.oxc_sourcemap_join.specs.Joined.{IsWithinLimits}
-pub use Rattle.oxc_sourcemap_pieces.specs.RangePieces.{pieces_of}
+pub use Rattle.oxc_sourcemap_join.specs.Joined.{joined, IsWithinLimits}
+pub use Rattle.oxc_sourcemap_queries.specs.RangePieces.{pieces_of}
 pub use Rattle.sourcemap_run.specs.Bundled.{HasLineEnds, IsEnded, IsPushed, at_line}
 pub use Rattle.sourcemap_run.specs.Marks.{mark_of}
 pub use Rattle.sourcemap_run.specs.Page.{HasMark, IsFilled}

@@ -4,7 +4,7 @@ ghost use Rattle.std.specs.List.{filter_map};
 ghost use Rattle.sourcemap_run.specs.Words.{are_tokens_sorted, pieces_of, mark_of};
 
 use oxc_sourcemap_map::SourceMap;
-use oxc_sourcemap_pieces::Piece;
+use oxc_sourcemap_queries::Piece;
 use oxc_sourcemap_tokens::{Memory, Position};
 
 /// A range of generated code, and how often it ran.

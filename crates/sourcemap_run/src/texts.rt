@@ -10,7 +10,7 @@ ghost use Rattle.sourcemap_run.specs.Words.{number_member, text_member, name_mem
 ghost use Rattle.sourcemap_run.specs.Words.{without_comma, object_text};
 
 use crate::tracer::Spot;
-use oxc_sourcemap_encode::push_json_string;
+use oxc_sourcemap_json::push_json_string;
 use oxc_sourcemap_tokens::Result;
 use std::alloc::Global;
 

@@ -8,7 +8,7 @@ use Rattle.std.proofs.Common.{◌∙◌, sym}
 use Rattle.std.proofs.lemmas.List.Elements.{recursion_from_All}
 use Rattle.oxc_sourcemap_tokens.specs.Token.{IsInBounds}
 use Rattle.oxc_sourcemap_laws.proofs.ReadsBack.{is_written, is_too_large, reads_back}
-use Rattle.oxc_sourcemap_decode.proofs.WellRead.{read_in_bounds, read_in_order}
+use Rattle.oxc_sourcemap_json.proofs.WellRead.{read_in_bounds, read_in_order}
 use Rattle.oxc_sourcemap_laws.proofs.Rewriting.{stays_sound}
 use Rattle.oxc_sourcemap_laws.proofs.canonical_unique.Goals as goal
 

@@ -2,17 +2,15 @@ use Rattle.oxc_sourcemap_laws.proofs.IgnoredSources.{marked_remapped}
 use Rattle.oxc_sourcemap_laws.proofs.RemappedBounds.{bounds_remapped}
 use Rattle.oxc_sourcemap_laws.proofs.RemappedMaps.{remappings_associative, nothing_remapped}
 use Rattle.oxc_sourcemap_laws.proofs.RemappedMaps.{composition_remapped, one_remapped}
-use Rattle.oxc_sourcemap_laws.proofs.RemappedMaps.{join_remapped}
-use Rattle.oxc_sourcemap_laws.proofs.RemappedMaps.{remapped_up_to_repeats}
+use Rattle.oxc_sourcemap_laws.proofs.RemappedMaps.{join_remapped, remapped_up_to_repeats}
 use Rattle.oxc_sourcemap_laws.proofs.RemappedNames.{names-most, names-tested, room, answered}
 use Rattle.oxc_sourcemap_laws.proofs.RemappedNames.{sorted_inputs}
 use Rattle.oxc_sourcemap_laws.proofs.RemappedRecords.{decoded_map_remapped}
 use Rattle.oxc_sourcemap_laws.proofs.RemappedStands.{sorted_remapped, counts_remapped}
-use Rattle.oxc_sourcemap_laws.proofs.RemappedStands.{range_remapped}
-use Rattle.oxc_sourcemap_laws.proofs.RemappedStands.{sound_remapped, some_remapped}
-use Rattle.oxc_sourcemap_laws.proofs.RemappedStands.{remapping_stands}
-use Rattle.oxc_sourcemap_laws.proofs.RemappedStands.{maps_associative, joined_maps_remapped}
-use Rattle.oxc_sourcemap_laws.proofs.RemappedStands.{composed_maps_remapped, one_map_remapped}
+use Rattle.oxc_sourcemap_laws.proofs.RemappedStands.{range_remapped, sound_remapped, some_remapped}
+use Rattle.oxc_sourcemap_laws.proofs.RemappedStands.{remapping_stands, maps_associative}
+use Rattle.oxc_sourcemap_laws.proofs.RemappedStands.{joined_maps_remapped, composed_maps_remapped}
+use Rattle.oxc_sourcemap_laws.proofs.RemappedStands.{one_map_remapped}
 use Rattle.oxc_sourcemap_laws.proofs.remapping_associative.Goals as goal
 
 pub returns-clause-decoded_map_of_remapping : goal.returns-clause-decoded_map_of_remapping

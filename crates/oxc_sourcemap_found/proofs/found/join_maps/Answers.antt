@@ -1,7 +1,7 @@
 use Rattle.std.proofs.Common.{ap, sym, subst, ◌∙◌, inl, inr, Err, Ok, option_map}
 use Rattle.std.specs.String.{string_bytes}
 use Rattle.oxc_sourcemap_join.specs.Joined.{owned_records, IsWithinLimits}
-use Rattle.oxc_sourcemap_decode.specs.ReadMap.{indexed_record}
+use Rattle.oxc_sourcemap_json.specs.ReadMap.{indexed_record}
 use Rattle.oxc_sourcemap_tokens.specs.Places.{no_place}
 use Rattle.oxc_sourcemap_found.proofs.Joining.{within_joined, past_joined}
 use Rattle.oxc_sourcemap_found.proofs.found.join_maps.Goals as goal

@@ -4,8 +4,8 @@ use Rattle.serde_json.proofs.Views.{view-Object}
 use Rattle.oxc_sourcemap_tokens.proofs.Carried.{failed-answer}
 use Rattle.oxc_sourcemap_json.specs.Json.{json_record}
 use Rattle.oxc_sourcemap_json.specs.Shape.{shape}
-use Rattle.oxc_sourcemap_decode.specs.ValuePlaces.{place_at}
-use Rattle.oxc_sourcemap_decode.proofs.ReadPlaces.{shape-version}
+use Rattle.oxc_sourcemap_json.specs.ValuePlaces.{place_at}
+use Rattle.oxc_sourcemap_json.proofs.ReadPlaces.{shape-version}
 use Rattle.oxc_sourcemap_found.specs.FoundPlaces.{found_spot_in}
 use Rattle.oxc_sourcemap_found.specs.Mended.{MendedMembers}
 use Rattle.oxc_sourcemap_found.proofs.Placed.{shaped-place}

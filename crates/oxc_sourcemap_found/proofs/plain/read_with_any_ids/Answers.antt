@@ -6,8 +6,8 @@ use Rattle.oxc_sourcemap_mappings.specs.Reading.{reading}
 use Rattle.oxc_sourcemap_mappings.specs.SegmentPlaces.{mappings_place}
 use Rattle.oxc_sourcemap_parts.specs.Views.{record_of_parts}
 use Rattle.oxc_sourcemap_tokens.proofs.Carried.{failed-answer}
-use Rattle.oxc_sourcemap_decode.specs.Decoded.{decoded}
-use Rattle.oxc_sourcemap_decode.specs.ValuePlaces.{place_at, fields_spot}
+use Rattle.oxc_sourcemap_json.specs.Decoded.{decoded}
+use Rattle.oxc_sourcemap_json.specs.ValuePlaces.{place_at, fields_spot}
 use Rattle.oxc_sourcemap_found.proofs.AnyIds.{any_ok, any_fault, any_text_fault}
 use Rattle.oxc_sourcemap_found.proofs.Placed.{bare-fault, then-mappings}
 use Rattle.oxc_sourcemap_found.proofs.plain.read_with_any_ids.Goals as goal

@@ -1,12 +1,12 @@
-use Rattle.std.proofs.Common.{◌≡◌, ◌∷◌, [], rules, map, length, arith, ap, sym, ◌∙◌, subst}
-use Rattle.std.proofs.Common.{Some, None, ◌+◌}
+use Rattle.std.proofs.Common.{◌≡◌, ◌∷◌, [], rules, map, length, arith, ap, sym, ◌∙◌, subst, Some}
+use Rattle.std.proofs.Common.{None, ◌+◌}
 use Rattle.std.specs.Vec.Iter.{into_iter_items}
 use Rattle.std.proofs.lemmas.Grind.{common_steps}
 use Rattle.std.proofs.lemmas.List.{length-map, map-append, length-append}
 use Rattle.serde_json.specs.Data.{item}
 use Rattle.serde_json.specs.View.{view, items_view}
 use Rattle.oxc_sourcemap_tokens.proofs.Carried.{failed-answer}
-use Rattle.oxc_sourcemap_decode.proofs.Steps.{none-left}
+use Rattle.oxc_sourcemap_json.proofs.Steps.{none-left}
 use Rattle.oxc_sourcemap_found.specs.FoundPlaces.{found_sections_place}
 use Rattle.oxc_sourcemap_found.specs.States.{section_view}
 use Rattle.oxc_sourcemap_found.specs.MendedSections.{section_from}

@@ -1,5 +1,5 @@
-use Rattle.std.proofs.Common.{◌≡◌, nat_lt, get_or, if◌then◌else◌, ◌+◌, ◌-◌, ◌/◌, length}
-use Rattle.std.proofs.Common.{arith, ap, ◌∙◌, refl}
+use Rattle.std.proofs.Common.{◌≡◌, nat_lt, get_or, if◌then◌else◌, ◌+◌, ◌-◌, ◌/◌, length, arith, ap}
+use Rattle.std.proofs.Common.{◌∙◌, refl}
 use Rattle.std.proofs.lemmas.Grind.{common_steps}
 use Rattle.std.proofs.lemmas.List.{length-map}
 use Rattle.oxc_sourcemap_parts.specs.Sorted.{token_column}

@@ -1,5 +1,5 @@
-use Rattle.std.proofs.Common.{◌≡◌, ◌+◌, ◌-◌, ◌<◌, map, take, length, get_or, nat_lt}
-use Rattle.std.proofs.Common.{◌∙◌, ap, arith, if◌then◌else◌}
+use Rattle.std.proofs.Common.{◌≡◌, ◌+◌, ◌-◌, ◌<◌, map, take, length, get_or, nat_lt, ◌∙◌, ap, arith}
+use Rattle.std.proofs.Common.{if◌then◌else◌}
 use Rattle.std.proofs.lemmas.Grind.{common_steps}
 use Rattle.std.proofs.lemmas.List.{length-map, take-map}
 use Rattle.oxc_sourcemap_parts.specs.Sorted.{token_column}

@@ -1,6 +1,5 @@
 use Rattle.std.proofs.Common.{◌≡◌, ◌+◌, ◌<◌, ◌^◌, length, arith, rules, Some, option_map, IfSome}
-use Rattle.std.proofs.Common.{subst}
-use Rattle.std.proofs.Common.{ap, sym, ◌∙◌}
+use Rattle.std.proofs.Common.{subst, ap, sym, ◌∙◌}
 use Rattle.std.proofs.lemmas.Grind.{common_steps}
 use Rattle.oxc_sourcemap_parts.specs.Sorted.{token_line}
 use Rattle.oxc_sourcemap_lookup.specs.Lookup.{on_line}

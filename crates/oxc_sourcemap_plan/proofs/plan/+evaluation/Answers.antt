@@ -5,7 +5,7 @@ use Rattle.std.proofs.lemmas.Result.{IfOk-weaker, IfErr-weaker}
 use Rattle.oxc_sourcemap_join.specs.Joined.{position, at_line, at_lines, at_positions}
 use Rattle.oxc_sourcemap_join.specs.Joined.{owned_records}
 use Rattle.oxc_sourcemap_parts.specs.Views.{record_of_parts}
-use Rattle.oxc_sourcemap_remap.specs.Inputs.{owned_input_records}
+use Rattle.oxc_sourcemap_steps.specs.Inputs.{owned_input_records}
 use Rattle.oxc_sourcemap_plan.specs.declared.fault.PlanFault.{PlanFault}
 use Rattle.oxc_sourcemap_plan.specs.Depth.{depth}
 use Rattle.oxc_sourcemap_plan.specs.Meaning.{by_path}
@@ -22,9 +22,9 @@ use Rattle.oxc_sourcemap_plan.proofs.Simplifying.{simplified_fails}
 use Rattle.oxc_sourcemap_plan.proofs.Parts.{from_err, more_owned, part_error, part_below_deepest}
 use Rattle.oxc_sourcemap_plan.proofs.Parts.{at_its_line, at_its_position, more_inputs, input_error}
 use Rattle.oxc_sourcemap_plan.proofs.Told.{told_on, step_told, of_part, of_input, of_first}
-use Rattle.oxc_sourcemap_plan.proofs.Told.{of_second, of_remapped, of_simplified}
-use Rattle.oxc_sourcemap_plan.proofs.Told.{rewritten_means, rooted_means, simplified_means}
-use Rattle.oxc_sourcemap_plan.proofs.Told.{composed_means, joined_means, remapped_means}
+use Rattle.oxc_sourcemap_plan.proofs.Told.{of_second, of_remapped, of_simplified, rewritten_means}
+use Rattle.oxc_sourcemap_plan.proofs.Told.{rooted_means, simplified_means, composed_means}
+use Rattle.oxc_sourcemap_plan.proofs.Told.{joined_means, remapped_means}
 use Rattle.oxc_sourcemap_plan.proofs.plan.+evaluation.Goals as goal
 
 pub evaluate_part-evaluate_join-requires : goal.evaluate_part-evaluate_join-requires

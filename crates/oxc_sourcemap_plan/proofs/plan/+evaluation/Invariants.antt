@@ -1,6 +1,6 @@
 use Rattle.std.proofs.Common.{◌+◌, map, max, take}
 use Rattle.oxc_sourcemap_join.specs.Joined.{at_lines, at_positions, owned_records}
-use Rattle.oxc_sourcemap_remap.specs.Inputs.{owned_input_records}
+use Rattle.oxc_sourcemap_steps.specs.Inputs.{owned_input_records}
 use Rattle.oxc_sourcemap_plan.specs.Depth.{depth, deepest}
 use Rattle.oxc_sourcemap_plan.specs.Meaning.{by_path}
 use Rattle.oxc_sourcemap_plan.specs.Outcome.{outcomes, input_outcomes}

@@ -1,7 +1,7 @@
 use Rattle.std.proofs.Common.{subst, sym}
 use Rattle.oxc_sourcemap_parts.specs.Views.{record_of_parts}
-use Rattle.oxc_sourcemap_decode.specs.ReadMap.{said_in}
-use Rattle.oxc_sourcemap_decode.proofs.WellRead.{read_map_sound}
+use Rattle.oxc_sourcemap_json.specs.ReadMap.{said_in}
+use Rattle.oxc_sourcemap_json.proofs.WellRead.{read_map_sound}
 use Rattle.oxc_sourcemap_plan.specs.declared.fault.PlanFault.{PlanFault}
 use Rattle.oxc_sourcemap_plan.specs.Outcome.{read_outcome}
 use Rattle.oxc_sourcemap_plan.specs.Realizes.{Realizes, FailsAs}

@@ -1,6 +1,6 @@
 use Rattle.std.proofs.Common.{subst, sym}
 use Rattle.oxc_sourcemap_parts.specs.Views.{record_of_parts}
-use Rattle.oxc_sourcemap_decode.specs.ReadMap.{said_in}
+use Rattle.oxc_sourcemap_json.specs.ReadMap.{said_in}
 use Rattle.oxc_sourcemap_plan.specs.Outcome.{sorted_outcome}
 use Rattle.oxc_sourcemap_plan.specs.Realizes.{Realizes, FailsAs}
 use Rattle.oxc_sourcemap_plan.proofs.Realizing.{join_laws}

@@ -1,6 +1,6 @@
 use Rattle.std.proofs.Common.{subst, sym}
 use Rattle.oxc_sourcemap_parts.specs.Views.{record_of_parts}
-use Rattle.oxc_sourcemap_remap.specs.Inputs.{owned_input_records}
+use Rattle.oxc_sourcemap_steps.specs.Inputs.{owned_input_records}
 use Rattle.oxc_sourcemap_plan.specs.Outcome.{remap_outcome}
 use Rattle.oxc_sourcemap_plan.specs.Realizes.{FailsAs}
 use Rattle.oxc_sourcemap_plan.proofs.Remapping.{remap_laws, remap_gives, remap_error, inputs_sorted}

@@ -1,6 +1,6 @@
 use Rattle.std.proofs.Common.{Ok, ap, sym, refl, ◌∙◌}
 use Rattle.oxc_sourcemap_tokens.proofs.Carried.{carried_error}
-use Rattle.oxc_sourcemap_simplify.specs.Simplified.{simplification}
+use Rattle.oxc_sourcemap_steps.specs.Simplified.{simplification}
 use Rattle.oxc_sourcemap_handles.specs.declared.call_error.CallError.TheVariants.{Plan}
 use Rattle.oxc_sourcemap_handles.specs.Indexed.{Loaded}
 use Rattle.oxc_sourcemap_handles.proofs.held.LoadedMap.simplify.Goals as goal

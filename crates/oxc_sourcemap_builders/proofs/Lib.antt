@@ -1,3 +1,0 @@
-pub mod GivenIds
-pub mod NameIds
-mod Worked

@@ -1,4 +1,0 @@
-pub mod Built
-pub mod Building
-pub mod NameLaws
-pub mod Words

@@ -1,0 +1,81 @@
+-- Failures and the places that they tell.
+use Rattle.std.proofs.Common.{◌≡◌, ◌≢◌, ℕ, List, refl, sym, ap, subst, Option, Some, None, true}
+use Rattle.std.proofs.Common.{Result, Ok, Err, IfSome, IsSomeAnd, slice_get, is_some, ◌⊎◌, inl, inr}
+use Rattle.std.proofs.Common.{◌∙◌}
+use Rattle.std.specs.Result.{IfErr, IsErrAnd}
+use Rattle.serde_json.specs.Data.{Data}
+use Rattle.serde_json.specs.Read.{read}
+use Rattle.oxc_sourcemap_tokens.specs.declared.error.Error.{Error}
+use Rattle.oxc_sourcemap_tokens.specs.declared.error.Error.TheVariants.{OutOfMemory}
+use Rattle.oxc_sourcemap_tokens.specs.declared.fault.Fault.{Fault as ReadFault}
+use Rattle.oxc_sourcemap_tokens.specs.declared.fault.FaultPlace.{FaultPlace}
+use Rattle.oxc_sourcemap_tokens.specs.declared.plan_error.PlanError.{PlanError}
+use Rattle.oxc_sourcemap_tokens.specs.declared.plan_error.PlanError.TheVariants.{Map}
+use Rattle.oxc_sourcemap_parts.specs.Record.{Text}
+use Rattle.oxc_sourcemap_json.specs.ReadMap.{read_map}
+use Rattle.oxc_sourcemap_json.specs.ValuePlaces.{value_place, IsPlacedIn, IsReading}
+use Rattle.oxc_sourcemap_plan.specs.declared.fault.PlanFault.{PlanFault}
+use Rattle.oxc_sourcemap_plan.specs.Evaluated.{IsErrorOf}
+use Rattle.oxc_sourcemap_plan.specs.Meaning.{Meaning}
+use Rattle.oxc_sourcemap_plan.specs.Outcome.{Outcome}
+use Rattle.oxc_sourcemap_plan.specs.PlanPlaces.{IsTextPlace, IsTextFault, TellsText, IsTold}
+use Rattle.oxc_sourcemap_plan.proofs.Realizing.{memory_or_not}
+use Rattle.oxc_sourcemap_handles.specs.declared.call_error.CallError.{CallError}
+use Rattle.oxc_sourcemap_handles.specs.CallErrors.{out_of_memory, of_map}
+use Rattle.oxc_sourcemap_c.specs.declared.making.failure.Failure.{Failure}
+use Rattle.oxc_sourcemap_c.specs.Failures.{IsFailure, IsTextErrorAt}
+use Rattle.oxc_sourcemap_c.specs.Plans.{IsPlaceOfPlan, of_plan, HasPlanPlace, IsOutcomeErrorAt}
+
+-- what a fault becomes for C
+abbrev IsOf : ReadFault → Failure → Type 0
+IsOf f g =
+    (f.error ≡ OutOfMemory → g ≡ record { error = out_of_memory; place = None }) × ((f.error ≢ OutOfMemory) → g ≡ record { error = of_map f.error; place = f.place })
+
+same-error : (e f : Error) → of_map e ≡ of_map f → e ≡ f
+same-error e f h = cc (h)
+
+-- a fault that a `?` returns
+pub failed_on : {A : Type 0} (These : CallError → Option FaultPlace → Type 0) (r : Result A Failure) (f : ReadFault) → IsErrAnd r (IsOf f)
+    → (f.error ≢ OutOfMemory → These (of_map f.error) f.place) → IfErr r (IsFailure These)
+failed_on These (Ok x) f is h = tt
+failed_on These (Err g) f is h = elim (memory_or_not f.error) [
+  | inl memory ↦ subst (IsFailure These) (sym (is.0 memory)) ((λ q. refl), (λ other. absurd (other refl)))
+  | inr other ↦ subst (IsFailure These) (sym (is.1 other)) ((λ memory. absurd (other (same-error f.error OutOfMemory memory))), (λ q. h other))
+]
+
+placed : (text : Text) (place : Option FaultPlace) → ((d : Data) → read text ≡ Some d → value_place d ≡ place) → (read text ≡ None → IsSomeAnd place IsReading) → is_some place ≡ true
+    → IsSomeAnd place (IsTextPlace text)
+placed text None json bad there = absurd (cc (there))
+placed text (Some p) json bad there = (json, bad)
+
+-- the fault of a text that is not read
+pub text_failed : (text : Text) (f : ReadFault) → (f.error ≢ OutOfMemory → read_map text ≡ Err f.error) → IsPlacedIn text f → f.error ≢ OutOfMemory → IsTextErrorAt text (of_map f.error) f.place
+text_failed text f reads is other = let told = is other in (f.error, reads other, refl, placed text f.place told.0 told.1 told.2)
+
+-- the same place in an input with this text
+pub in_input : (inputs : List Text) (k : ℕ) (text : Text) (e : PlanError) (place : FaultPlace) → slice_get inputs k ≡ Some text → IsTextFault e text place
+    → IsPlaceOfPlan inputs (of_plan e) (record place { text = Some k })
+in_input inputs k text e place here told = (told.0, ap of_plan told.1, k, text, here, told.2, place, told.3, refl)
+
+-- why a plan over these inputs fails, by the fault of its evaluation
+abbrev pub IsPlanFailure : List Text → PlanFault → Failure → Type 0
+IsPlanFailure inputs f g = IsFailure (λ r place. (r ≡ of_plan f.error) × IfSome place (IsPlaceOfPlan inputs r) × (place ≡ None → f.at ≡ None)) g
+
+same-plan-error : (e : PlanError) (x : Error) → of_plan e ≡ of_map x → e ≡ Map x
+same-plan-error e x h = cc (h)
+
+has-place : (o : Outcome) (f : PlanFault) (r : CallError) (place : Option FaultPlace) → f.error ≢ Map OutOfMemory → IsTold o.is_within_limits f → r ≡ of_plan f.error → (place ≡ None → f.at ≡ None)
+    → HasPlanPlace (Ok o) r place
+has-place o f r (Some p) other told is none = λ within e same reads. refl
+has-place o f r None other told is none =
+    λ within e same reads. absurd ((told other).1 (none refl) within e (same-plan-error f.error e (sym is ∙ same)) reads)
+
+-- the failure of a plan with this outcome
+pub plan_failed : (o : Outcome) (m : Meaning) (f : PlanFault) (inputs : List Text) (g : Failure) → f.error ≢ Map OutOfMemory → o.meaning ≡ m
+    → (f.error ≡ Map OutOfMemory) ⊎ IsErrorOf m o.is_within_limits f.error → IsTold o.is_within_limits f → (TellsText f → IsPlanFailure inputs f g)
+    → IsFailure (IsOutcomeErrorAt inputs (Ok o)) g
+plan_failed o m f inputs g other is fails told made =
+    let h = made (told other).0 in
+    let error : IsErrorOf o.meaning o.is_within_limits f.error =
+    elim fails [ inl memory ↦ absurd (other memory) | inr meant ↦ subst (λ w. IsErrorOf w o.is_within_limits f.error) (sym is) meant ] in
+    (h.0, λ n. let t = h.1 n in ((f.error, error, t.0), t.1, has-place o f g.error g.place other told t.0 t.2))

@@ -1,0 +1,202 @@
+-- The maps that handles lend, one after the other.
+use Rattle.std.proofs.Common.{◌≡◌, ℕ, ◌+◌, ◌<◌, List, [], ◌∷◌, ◌++◌, length, drop, get_or}
+use Rattle.std.proofs.Common.{slice_set, Option, Some, None, Err, option_map, refl, sym, ap, subst}
+use Rattle.std.proofs.Common.{◌∙◌, ◌≢◌, zero, suc, inl, inr, arith}
+use Rattle.std.specs.Prelude.{IsNone, MatchOption}
+use Rattle.std.specs.Option.{option_and_then}
+use Rattle.std.proofs.lemmas.List.{append_assoc, append-nil, drop_more, set-get_or}
+use Rattle.oxc_sourcemap_tokens.specs.declared.error.Error.{Error}
+use Rattle.oxc_sourcemap_parts.specs.Record.{Text, MapRecord}
+use Rattle.oxc_sourcemap_steps.specs.Remapped.{SomeRemapping}
+use Rattle.oxc_sourcemap_handles.specs.declared.lent.Lent.{Lent}
+use Rattle.oxc_sourcemap_handles.specs.Back.{IsBack}
+use Rattle.oxc_sourcemap_handles.specs.Holding.{held_map}
+use Rattle.oxc_sourcemap_tokens.specs.declared.error.Error.TheVariants.{TooLarge}
+use Rattle.oxc_sourcemap_tokens.specs.declared.position.Position.{Position}
+use Rattle.oxc_sourcemap_join.specs.Joined.{added, added_all, joined, nothing_joined}
+use Rattle.oxc_sourcemap_join.specs.Joined.{IsWithinLimits}
+use Rattle.oxc_sourcemap_join.proofs.Adding.{front-within}
+use Rattle.oxc_sourcemap_handles.specs.declared.held.Held.{Held}
+use Rattle.oxc_sourcemap_handles.specs.declared.call_error.CallError.{CallError}
+use Rattle.oxc_sourcemap_handles.specs.declared.call_error.CallError.TheVariants.{NullHandle}
+use Rattle.oxc_sourcemap_handles.specs.declared.call_error.CallError.TheVariants.{Lengths}
+use Rattle.oxc_sourcemap_handles.specs.CallErrors.{of_map}
+use Rattle.oxc_sourcemap_c.specs.MapsOfMaps.{all_lent, all_maps, at_places, IsAddErrorOf}
+use Rattle.oxc_sourcemap_c.specs.MapsOfMaps.{IsJoinErrorOf, IsJoinErrorOfMaps, IsJoinOfLent}
+use Rattle.oxc_sourcemap_c.specs.MapsOfMaps.{IsJoinOfMaps}
+
+-- what is given back is what was lent
+pub lent_back : (old new : Lent) → IsBack old new → new ≡ old
+lent_back old new e =
+    ap (λ x. record new { at = x }) e.0
+    ∙ ap (λ x. record new { at = old.at; life = x }) e.1
+    ∙ ap (λ x. record old { held = x }) e.2
+
+-- all are given back, after one more was
+pub all_given_back : (old now : List Lent) (i : ℕ) (d new : Lent) → now ≡ old → IsBack (get_or now i d) new → slice_set now i new ≡ old
+all_given_back old now i d new same back = ap (λ x. slice_set now i x) (lent_back (get_or now i d) new back) ∙ set-get_or now i d ∙ same
+
+-- the maps that are done, and those after them
+abbrev pub after : List MapRecord → Option (List MapRecord) → Option (List MapRecord)
+after done rest = option_map (λ ms. done ++ ms) rest
+
+after_one : (done : List MapRecord) (m : MapRecord) (rest : Option (List MapRecord)) → after done (option_map (λ ms. m ∷ ms) rest) ≡ after (done ++ m ∷ []) rest
+after_one done m None = refl
+after_one done m (Some ms) = ap (λ xs. Some xs) (sym (append_assoc done (m ∷ []) ms))
+
+front : (hs : List Lent) (i : ℕ) (h : Lent) → i < length hs → h ≡ get_or hs i h → drop i hs ≡ h ∷ drop (i + 1) hs
+front hs i h a is = drop_more hs i h a ∙ ap (λ x. x ∷ drop (i + 1) hs) (sym is)
+
+-- the maps after one more
+pub cloned_more : (hs : List Lent) (i : ℕ) (h : Lent) (m : MapRecord) (done new : List MapRecord) (whole : Option (List MapRecord)) → i < length hs → h ≡ get_or hs i h → held_map h.held ≡ Some m
+    → new ≡ done ++ m ∷ [] → after done (all_maps (all_lent (drop i hs))) ≡ whole → after new (all_maps (all_lent (drop (i + 1) hs))) ≡ whole
+cloned_more hs i h m done new whole a is held grown so_far =
+    let rest = all_maps (all_lent (drop (i + 1) hs)) in
+    ap (λ xs. after xs rest) grown ∙ sym (after_one done m rest)
+    ∙ ap (λ o. after done (option_and_then (λ m. option_map (λ ms. m ∷ ms) rest) o)) (sym held)
+    ∙ ap (λ xs. after done (all_maps (all_lent xs))) (sym (front hs i h a is)) ∙ so_far
+
+none_is : (o : Option MapRecord) → IsNone o → o ≡ None
+none_is None e = refl
+none_is (Some m) e = cc (e)
+
+-- one of them is missing
+pub one_missing : (hs : List Lent) (i : ℕ) (h : Lent) (done : List MapRecord) (whole : Option (List MapRecord)) → i < length hs → h ≡ get_or hs i h → IsNone (held_map h.held)
+    → after done (all_maps (all_lent (drop i hs))) ≡ whole → whole ≡ None
+one_missing hs i h done whole a is none so_far =
+    let rest = all_maps (all_lent (drop (i + 1) hs)) in
+    sym so_far ∙ ap (λ xs. after done (all_maps (all_lent xs))) (front hs i h a is)
+    ∙ ap (λ o. after done (option_and_then (λ m. option_map (λ ms. m ∷ ms) rest) o)) (none_is (held_map h.held) none)
+
+-- all are done
+pub all_cloned : (hs : List Lent) (i : ℕ) (done : List MapRecord) (whole : Option (List MapRecord)) → drop i hs ≡ [] → after done (all_maps (all_lent (drop i hs))) ≡ whole → whole ≡ Some done
+all_cloned hs i done whole e so_far = sym so_far ∙ ap (λ xs. after done (all_maps (all_lent xs))) e ∙ ap (λ xs. Some xs) (append-nil done)
+
+-- the error of a remapping of the same
+pub not_remapped : (a b : MapRecord) (xs ys : List (Text × MapRecord)) (e : Error) → a ≡ b → xs ≡ ys → SomeRemapping a xs (Err e) → SomeRemapping b ys (Err e)
+not_remapped a b xs ys e same alike is = subst (λ z. SomeRemapping z ys (Err e)) same (subst (λ z. SomeRemapping a z (Err e)) alike is)
+
+-- ---- maps that are there
+all_there : (o : Option MapRecord) (rest : Option (List MapRecord)) → o ≢ None → option_and_then (λ m. option_map (λ ms. m ∷ ms) rest) o ≡ None → rest ≡ None
+all_there None rest there e = absurd (there refl)
+all_there (Some m) None there e = refl
+all_there (Some m) (Some ms) there e = cc (e)
+
+all_missing : (o : Option MapRecord) (rest : Option (List MapRecord)) → rest ≡ None → option_and_then (λ m. option_map (λ ms. m ∷ ms) rest) o ≡ None
+all_missing None rest e = refl
+all_missing (Some m) None e = refl
+all_missing (Some m) (Some ms) e = cc (e)
+
+-- the maps from an index on are there if those after it are, and the map at it is
+pub there_more : (hs : List Lent) (i : ℕ) (h : Lent) → i < length hs → h ≡ get_or hs i h → held_map h.held ≢ None
+    → all_maps (all_lent (drop (i + 1) hs)) ≢ None → all_maps (all_lent (drop i hs)) ≢ None
+there_more hs i h a is there more e =
+    more (all_there (held_map h.held) (all_maps (all_lent (drop (i + 1) hs))) there (sym (ap (λ xs. all_maps (all_lent xs)) (front hs i h a is)) ∙ e))
+
+pub missing_more : (hs : List Lent) (i : ℕ) (h : Lent) → i < length hs → h ≡ get_or hs i h
+    → all_maps (all_lent (drop (i + 1) hs)) ≡ None → all_maps (all_lent (drop i hs)) ≡ None
+missing_more hs i h a is e =
+    ap (λ xs. all_maps (all_lent xs)) (front hs i h a is) ∙ all_missing (held_map h.held) (all_maps (all_lent (drop (i + 1) hs))) e
+
+pub missing_here : (hs : List Lent) (i : ℕ) (h : Lent) → i < length hs → h ≡ get_or hs i h → IsNone (held_map h.held) → all_maps (all_lent (drop i hs)) ≡ None
+missing_here hs i h a is none =
+    ap (λ xs. all_maps (all_lent xs)) (front hs i h a is)
+    ∙ ap (λ o. option_and_then (λ m. option_map (λ ms. m ∷ ms) (all_maps (all_lent (drop (i + 1) hs)))) o) (none_is (held_map h.held) none)
+
+-- ---- joins
+-- the join of some maps with those that handles hold, each at its position
+abbrev pub joined_with : MapRecord → List Lent → List Position → Option MapRecord
+joined_with j hs ps = option_map (λ ms. added_all j (at_places ms ps)) (all_maps (all_lent hs))
+
+one_added : (j m : MapRecord) (p : Position) (ps : List Position) (o : Option (List MapRecord))
+    → option_map (λ ms. added_all j (at_places ms (p ∷ ps))) (option_map (λ ms. m ∷ ms) o) ≡ option_map (λ ms. added_all (added j m p) (at_places ms ps)) o
+one_added j m p ps None = refl
+one_added j m p ps (Some ms) = refl
+
+held_added : (o : Option MapRecord) (j j' : MapRecord) (p : Position) (ps : List Position) (rest : Option (List MapRecord)) → MatchOption o ⊥ (λ m. j' ≡ added j m p)
+    → option_map (λ ms. added_all j' (at_places ms ps)) rest ≡ option_map (λ ms. added_all j (at_places ms (p ∷ ps))) (option_and_then (λ m. option_map (λ ms. m ∷ ms) rest) o)
+held_added None j j' p ps rest e = absurd e
+held_added (Some m) j j' p ps rest e = ap (λ r. option_map (λ ms. added_all r (at_places ms ps)) rest) e ∙ sym (one_added j m p ps rest)
+
+front_place : (ps : List Position) (i : ℕ) (p : Position) → i < length ps → p ≡ get_or ps i p → drop i ps ≡ p ∷ drop (i + 1) ps
+front_place ps i p a is = drop_more ps i p a ∙ ap (λ x. x ∷ drop (i + 1) ps) (sym is)
+
+pub joined_more : (hs : List Lent) (ps : List Position) (i : ℕ) (h : Lent) (p : Position) (j j' : MapRecord) → i < length hs → i < length ps → h ≡ get_or hs i h → p ≡ get_or ps i p
+    → MatchOption (held_map h.held) ⊥ (λ m. j' ≡ added j m p) → joined_with j' (drop (i + 1) hs) (drop (i + 1) ps) ≡ joined_with j (drop i hs) (drop i ps)
+joined_more hs ps i h p j j' a b is at e =
+    held_added (held_map h.held) j j' p (drop (i + 1) ps) (all_maps (all_lent (drop (i + 1) hs))) e
+    ∙ sym (ap (λ xs. joined_with j xs (drop i ps)) (front hs i h a is) ∙ ap (λ qs. joined_with j (h ∷ drop (i + 1) hs) qs) (front_place ps i p b at))
+
+same_number_by : (o : Option MapRecord) (rest : Option (List MapRecord)) (hs : List (Option Held)) (ms : List MapRecord) → ((ns : List MapRecord) → rest ≡ Some ns → length ns ≡ length hs)
+    → option_and_then (λ m. option_map (λ ms. m ∷ ms) rest) o ≡ Some ms → length ms ≡ suc (length hs)
+same_number_by None rest hs ms more e = cc (e)
+same_number_by (Some m) None hs ms more e = cc (e)
+same_number_by (Some m) (Some ns) hs ms more e =
+    let is : m ∷ ns ≡ ms = cc (e) in
+    sym (ap length is) ∙ ap suc (more ns refl)
+
+same_number : (hs : List (Option Held)) (ms : List MapRecord) → all_maps hs ≡ Some ms → length ms ≡ length hs
+same_number [] ms e = (let is : [] ≡ ms = cc (e) in sym (ap length is))
+same_number (h ∷ hs) ms e = same_number_by (held_map h) (all_maps hs) hs ms (same_number hs) e
+
+number_of_lent : (hs : List Lent) → length (all_lent hs) ≡ length hs
+number_of_lent [] = refl
+number_of_lent (h ∷ hs) = ap suc (number_of_lent hs)
+
+all_joined_by : (o : Option (List MapRecord)) (j : MapRecord) (ps : List Position) → o ≢ None → Some j ≡ option_map (λ ms. joined (at_places ms ps)) o
+    → ((ms : List MapRecord) → o ≡ Some ms → length ms ≡ length ps) → MatchOption o ⊥ (λ ms. IsJoinOfMaps ms ps j)
+all_joined_by None j ps there e number = absurd (there refl)
+all_joined_by (Some ms) j ps there e number = (number ms refl, cc (e))
+
+-- all maps are joined
+pub all_joined : (hs : List Lent) (ps left : List Position) (i : ℕ) (j : MapRecord) → all_maps (all_lent hs) ≢ None → length hs ≡ length ps → drop i hs ≡ []
+    → joined_with j (drop i hs) left ≡ joined_with nothing_joined hs ps → IsJoinOfLent (all_lent hs) ps j
+all_joined hs ps left i j there number done so_far =
+    all_joined_by (all_maps (all_lent hs)) j ps there (sym (ap (λ xs. joined_with j xs left) done) ∙ so_far)
+    (λ ms e. same_number (all_lent hs) ms e ∙ number_of_lent hs ∙ number)
+
+past_limit_by : (o rest : Option (List MapRecord)) (j : MapRecord) (ps left : List Position) (r : CallError) → o ≢ None
+    → option_map (λ ms. added_all j (at_places ms left)) rest ≡ option_map (λ ms. joined (at_places ms ps)) o → ¬ (IsWithinLimits j) → r ≡ of_map TooLarge
+    → ((ms : List MapRecord) → o ≡ Some ms → length ms ≡ length ps) → MatchOption o (r ≡ NullHandle) (λ ms. IsJoinErrorOfMaps ms ps r)
+past_limit_by None rest j ps left r there e past is number = absurd (there refl)
+past_limit_by (Some ms) None j ps left r there e past is number = cc (e)
+past_limit_by (Some ms) (Some ns) j ps left r there e past is number =
+    let same : added_all j (at_places ns left) ≡ joined (at_places ms ps) = cc (e) in
+    inr (number ms refl, is, λ w. past (front-within j (at_places ns left) (subst IsWithinLimits (sym same) w)))
+
+none_joined : (o : Option (List MapRecord)) (ps : List Position) → None ≡ option_map (λ ms. joined (at_places ms ps)) o → o ≡ None
+none_joined None ps e = refl
+none_joined (Some ms) ps e = cc (e)
+
+not_added_by : (o : Option MapRecord) (hs : List Lent) (ps left : List Position) (j : MapRecord) (p : Position) (rest : Option (List MapRecord)) (r : CallError)
+    → all_maps (all_lent hs) ≢ None → length hs ≡ length ps
+    → option_map (λ ms. added_all j (at_places ms (p ∷ left))) (option_and_then (λ m. option_map (λ ms. m ∷ ms) rest) o) ≡ joined_with nothing_joined hs ps
+    → IsAddErrorOf j o p r → IsJoinErrorOf (all_lent hs) ps r
+not_added_by None hs ps left j p rest r there number e is = absurd (there (none_joined (all_maps (all_lent hs)) ps e))
+not_added_by (Some m) hs ps left j p rest r there number e is =
+    past_limit_by (all_maps (all_lent hs)) rest (added j m p) ps left r there (sym (one_added j m p left rest) ∙ e) is.0 is.1
+    (λ ms q. same_number (all_lent hs) ms q ∙ number_of_lent hs ∙ number)
+
+-- a map is not added
+pub not_added : (hs : List Lent) (ps : List Position) (i : ℕ) (h : Lent) (p : Position) (j : MapRecord) (r : CallError) → i < length hs → i < length ps → h ≡ get_or hs i h → p ≡ get_or ps i p
+    → all_maps (all_lent hs) ≢ None → length hs ≡ length ps → joined_with j (drop i hs) (drop i ps) ≡ joined_with nothing_joined hs ps
+    → IsAddErrorOf j (held_map h.held) p r → IsJoinErrorOf (all_lent hs) ps r
+not_added hs ps i h p j r a b is at there number so_far e =
+    not_added_by (held_map h.held) hs ps (drop (i + 1) ps) j p (all_maps (all_lent (drop (i + 1) hs))) r there number
+    (sym (ap (λ xs. joined_with j xs (drop i ps)) (front hs i h a is) ∙ ap (λ qs. joined_with j (h ∷ drop (i + 1) hs) qs) (front_place ps i p b at)) ∙ so_far) e
+
+-- there are not as many positions as maps
+wrong_number_by : (o : Option (List MapRecord)) (ps : List Position) → o ≢ None → ((ms : List MapRecord) → o ≡ Some ms → length ms ≢ length ps)
+    → MatchOption o (Lengths ≡ NullHandle) (λ ms. IsJoinErrorOfMaps ms ps Lengths)
+wrong_number_by None ps there other = absurd (there refl)
+wrong_number_by (Some ms) ps there other = inl (refl, other ms refl)
+
+pub wrong_number : (hs : List Lent) (ps : List Position) → all_maps (all_lent hs) ≢ None → length hs ≢ length ps → IsJoinErrorOf (all_lent hs) ps Lengths
+wrong_number hs ps there other =
+    wrong_number_by (all_maps (all_lent hs)) ps there (λ ms e q. other (sym (number_of_lent hs) ∙ sym (same_number (all_lent hs) ms e) ∙ q))
+
+-- an item that is there is found with any default
+pub any_default : {A : Type 0} (xs : List A) (i : ℕ) (d e : A) → i < length xs → get_or xs i d ≡ get_or xs i e
+any_default [] i d e a = absurd (omega (arith, a))
+any_default (x ∷ xs) zero d e a = refl
+any_default (x ∷ xs) (suc i) d e a = any_default xs i d e (omega (arith, a))

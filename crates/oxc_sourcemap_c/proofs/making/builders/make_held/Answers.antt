@@ -1,0 +1,7 @@
+use Rattle.std.proofs.Common.{sym}
+use Rattle.oxc_sourcemap_handles.specs.declared.held.Held.TheVariants.{Building}
+use Rattle.oxc_sourcemap_c.proofs.Building.{unchanged}
+use Rattle.oxc_sourcemap_c.proofs.making.builders.make_held.Goals as goal
+
+pub returns-in-Building-clause-unchanged : goal.returns-in-Building-clause-unchanged
+returns-in-Building-clause-unchanged c = unchanged c.make.result Building c.in-Building.builder _ _ _ c.make.ensures.unchanged c.as_mut.ensures.value (sym c.in-Building.is)

@@ -1,0 +1,43 @@
+-- The results and errors of calls on what handles hold.
+use Rattle.std.specs.Prelude.{◌≡◌, ℕ, ◌⊎◌, Option, Result, Err, MatchOption, MatchResult, slice_get}
+use Rattle.std.specs.Prelude.{length, Bool, true, false}
+use Rattle.oxc_sourcemap_parts.specs.Record.{Text, MapRecord}
+use Rattle.oxc_sourcemap_map.specs.View.{content_at}
+use Rattle.oxc_sourcemap_handles.specs.declared.call_error.CallError.{CallError}
+use Rattle.oxc_sourcemap_handles.specs.declared.call_error.CallError.TheVariants.{NullHandle}
+use Rattle.oxc_sourcemap_handles.specs.declared.call_error.CallError.TheVariants.{NoEntry}
+use Rattle.oxc_sourcemap_handles.specs.declared.held.Held.{Held}
+use Rattle.oxc_sourcemap_handles.specs.declared.text.Text.{Text as LentText}
+use Rattle.oxc_sourcemap_c.specs.declared.reading.asked.Asked.{Asked}
+use Rattle.oxc_sourcemap_c.specs.declared.reading.asked.Asked.TheVariants.{Name, Source}
+use Rattle.oxc_sourcemap_c.specs.declared.reading.asked.Asked.TheVariants.{SourceContent, File}
+use Rattle.oxc_sourcemap_c.specs.declared.reading.asked.Asked.TheVariants.{SourceRoot, DebugId}
+use Rattle.oxc_sourcemap_handles.specs.Holding.{held_map}
+
+-- the text of a map that is asked for
+abbrev pub text_at : MapRecord → Asked → Option Text
+text_at m (Name id) = slice_get m.names id
+text_at m (Source id) = slice_get m.sources id
+text_at m (SourceContent id) = content_at m.source_contents id
+text_at m File = m.file
+text_at m SourceRoot = m.source_root
+text_at m DebugId = m.debug_id
+
+-- the result of a lookup in what a handle holds: `NullHandle`, `NoEntry`, or what is found
+abbrev pub IsFound : {A B : Type 0} → Result A CallError → Option Held → (MapRecord → Option B) → (A → B → Type 0) → Type 0
+IsFound answer held ask Is =
+    MatchOption (held_map held) (answer ≡ Err NullHandle)
+    (λ m. MatchOption (ask m) (answer ≡ Err NoEntry) (λ found. MatchResult answer (λ x. Is x found) (λ _. ⊥)))
+
+-- a borrowed text has the length of this one
+abbrev pub HasLength : LentText → Text → Type 0
+HasLength lent text = lent.len ≡ length text
+
+-- 1 for true and 0 for false
+abbrev pub flag_of : Bool → ℕ
+flag_of true = 1
+flag_of false = 0
+
+-- a number is 1 if this is so, and else 0
+abbrev pub IsFlagOf : Type 0 → ℕ → Type 0
+IsFlagOf holds n = ((n ≡ 1) × holds) ⊎ ((n ≡ 0) × ¬ holds)

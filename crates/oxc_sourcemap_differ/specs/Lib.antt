@@ -1,4 +1,0 @@
-pub mod Differences
-pub mod Originals
-pub mod Walk
-pub mod Words

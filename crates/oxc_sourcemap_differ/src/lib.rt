@@ -1,8 +1,0 @@
-//! Where the traces of two maps differ first. Part of `oxc_sourcemap`.
-#![tactic(auto)]
-
-mod difference;
-mod originals;
-mod walk;
-
-pub use difference::first_difference_of_parts;

@@ -1,7 +1,0 @@
-use Rattle.std.proofs.Common.{take}
-use Rattle.std.specs.List.{sum_by}
-use Rattle.oxc_sourcemap_encode.specs.Room.{content_room, IsRoomFor}
-use Rattle.oxc_sourcemap_encode.proofs.room.contents_room.Given as goal
-
-abbrev pub invariant-loop-content : goal.invariant-loop-content
-invariant-loop-content l = IsRoomFor (sum_by content_room (take l.content-index l.contents)) l.room

@@ -1,9 +1,0 @@
-pub mod JsonString
-pub mod Plain
-pub mod Appends
-pub mod Encoded
-pub mod JsonText
-pub mod Room
-pub mod JsonParts
-pub mod Within
-pub mod Words

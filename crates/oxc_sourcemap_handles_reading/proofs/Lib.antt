@@ -1,3 +1,0 @@
-pub mod Passing
-pub mod Characters
-pub mod Buffers

@@ -1,0 +1,13 @@
+//! Lookups from original positions to generated ones. Part of `oxc_sourcemap`.
+
+mod index_tokens;
+mod laws;
+mod order;
+mod search;
+mod source_index;
+mod source_order;
+
+pub use index_tokens::IndexTokens;
+pub use laws::reverse_lookups;
+pub use source_index::SourceIndex;
+pub use source_order::SourceOrder;

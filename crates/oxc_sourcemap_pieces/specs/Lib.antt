@@ -1,4 +1,0 @@
-pub mod RangePieces
-pub mod Cuts
-pub mod RangeLaws
-pub mod Words

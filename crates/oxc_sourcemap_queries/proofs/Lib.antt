@@ -1,0 +1,9 @@
+pub mod Runs
+pub mod Order
+pub mod Found
+pub mod Cutting
+pub mod Held
+mod Worked
+pub mod Walked
+pub mod Sources
+mod DifferWorked

@@ -1,0 +1,7 @@
+//! Where the traces of two maps differ first. Part of `oxc_sourcemap`.
+
+mod difference;
+mod originals;
+mod walk;
+
+pub use difference::first_difference_of_parts;

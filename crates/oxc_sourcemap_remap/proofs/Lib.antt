@@ -1,8 +1,0 @@
-pub mod Indices
-pub mod NeededNames
-pub mod Flags
-pub mod InputPlaces
-pub mod SourceBlocks
-pub mod Gathered
-pub mod MovedSources
-mod Worked

@@ -1,6 +1,0 @@
-use Rattle.std.proofs.Common.{◌≡◌, take}
-use Rattle.oxc_sourcemap_remap.specs.Bodies.{block_ids}
-use Rattle.oxc_sourcemap_remap.proofs.lists.ignore_list.Given as goal
-
-abbrev pub invariant-loop-block : goal.invariant-loop-block
-invariant-loop-block l = l.ids.items ≡ block_ids (take l.block-index l.blocks)

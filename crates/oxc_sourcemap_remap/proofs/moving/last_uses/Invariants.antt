@@ -1,9 +1,0 @@
-use Rattle.std.proofs.Common.{◌≡◌, length}
-use Rattle.oxc_sourcemap_remap.specs.Bodies.{AreLastUses, source_paths}
-use Rattle.oxc_sourcemap_remap.proofs.moving.last_uses.Given as goal
-
-abbrev pub invariant-loop-i : goal.invariant-loop-i
-invariant-loop-i l = record {
-  each : length l.last.items ≡ l.count;
-  last : AreLastUses l.i l.places (source_paths l.sources) l.last.items;
-}

@@ -1,7 +1,0 @@
-use Rattle.std.proofs.Common.{◌≡◌, take}
-use Rattle.oxc_sourcemap_parts.specs.Views.{record_of_parts}
-use Rattle.oxc_sourcemap_remap.specs.Inputs.{input_records, owned_input_records}
-use Rattle.oxc_sourcemap_remap.proofs.owned.lent_maps.Given as goal
-
-abbrev pub invariant-loop-path : goal.invariant-loop-path
-invariant-loop-path l = input_records record_of_parts l.lent.items ≡ owned_input_records (take l.path-index l.inputs)

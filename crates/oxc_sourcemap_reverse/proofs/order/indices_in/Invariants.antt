@@ -1,5 +1,0 @@
-use Rattle.std.proofs.Common.{◌≡◌, ◌++◌, ◌%◌, map, drop}
-use Rattle.oxc_sourcemap_reverse.proofs.order.indices_in.Given as goal
-
-abbrev pub invariant-loop-number : goal.invariant-loop-number
-invariant-loop-number l = l.order.items ++ map (λ n. n % 4294967296) (drop l.number-index l.numbers) ≡ map (λ n. n % 4294967296) l.numbers

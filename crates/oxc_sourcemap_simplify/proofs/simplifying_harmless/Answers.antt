@@ -1,7 +1,0 @@
-use Rattle.oxc_sourcemap_simplify.proofs.Means.{decoded_map_simplified}
-use Rattle.oxc_sourcemap_simplify.proofs.Sound.{simplified-sound}
-use Rattle.oxc_sourcemap_simplify.proofs.Traces.{traces-stay, stays-sorted, is-least, mappings-stay}
-use Rattle.oxc_sourcemap_simplify.proofs.simplifying_harmless.Goals as goal
-
-pub returns : goal.returns
-returns c = record { traces = traces-stay; sorted = stays-sorted; least = is-least; once = mappings-stay; decoded_map = decoded_map_simplified; sound = simplified-sound }

@@ -1,5 +1,0 @@
-pub mod Sorting
-pub mod Unique
-pub mod Stable
-pub mod Lookups
-mod Worked

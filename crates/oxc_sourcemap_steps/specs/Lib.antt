@@ -1,0 +1,15 @@
+pub mod Composed
+pub mod InheritedNames
+pub mod Inherited
+pub mod Sorting
+pub mod SortLaws
+pub mod Inputs
+pub mod Blocks
+pub mod Remapped
+pub mod Bodies
+pub mod Same
+pub mod Simple
+pub mod Simplified
+pub mod SimplifyBodies
+pub mod SimplifyLaws
+pub mod Words

@@ -1,0 +1,132 @@
+use Rattle.std.proofs.Common.{◌∷◌, ◌++◌, ◌∙◌, sym, ap, arith, length, subst, [], None, fold}
+use Rattle.std.specs.Str.{chars, IsUtf8}
+use Rattle.std.specs.Str.Iter.{chars_rest}
+use Rattle.std.proofs.lemmas.List.{nil_from_length}
+use Rattle.std.proofs.lemmas.Str.{chars_past_char, chars-nil, IsUtf8-past_char}
+use Rattle.oxc_sourcemap_text.specs.Comments.{second_of, url_of}
+use lib.Utf8.{encode}
+use Rattle.oxc_sourcemap_text.proofs.Placed.{placed-after, passed-next, past-comment, around}
+use Rattle.oxc_sourcemap_text.proofs.Placed.{line-placed, block-placed}
+use Rattle.oxc_sourcemap_text.specs.MappingUrls.{known_after, pieces}
+use Rattle.oxc_sourcemap_text.proofs.Pieces.{past-space, past-code, past-line, past-block}
+use Rattle.oxc_sourcemap_text.proofs.Pieces.{past-open, pieces-nil}
+use Rattle.oxc_sourcemap_text.proofs.Blocks.{around-shorter}
+use Rattle.oxc_sourcemap_text.proofs.url.mapping_url.read_line.Goals as goal
+
+pub loop-ch-smaller-then-is_whitespace : goal.loop-ch-smaller-then-is_whitespace
+loop-ch-smaller-then-is_whitespace c =
+    let spelt = chars_past_char _ _ c.in-Some.ch c.loop-ch.invariant.utf8 c.in-Some.ensures.steps.0 in
+    omega (arith, ap length spelt)
+
+pub loop-ch-preserved-then-is_whitespace : goal.loop-ch-preserved-then-is_whitespace
+loop-ch-preserved-then-is_whitespace c =
+    let inv = c.loop-ch.invariant in
+    let spelt = chars_past_char _ _ c.in-Some.ch inv.utf8 c.in-Some.ensures.steps.0 in
+    record {
+      utf8 = IsUtf8-past_char _ _ c.in-Some.ch inv.utf8 c.in-Some.ensures.steps.0;
+      known = past-space c.args.slashes (url_of c.loop-ch.known) _ c.in-Some.ch _ _ spelt inv.known (sym c.is_whitespace.ensures ∙ c.if-is_whitespace.true);
+      passed = (inv.passed.0 ++ encode c.in-Some.ch, passed-next _ inv.passed.0 _ _ c.in-Some.ch inv.passed.1 c.in-Some.ensures.steps.0);
+      placed = inv.placed;
+    }
+
+pub loop-ch-smaller-in_default-comment_at : goal.loop-ch-smaller-in_default-comment_at
+loop-ch-smaller-in_default-comment_at c =
+    let spelt = chars_past_char _ _ c.in-Some.ch c.loop-ch.invariant.utf8 c.in-Some.ensures.steps.0 in
+    omega (arith, ap length spelt)
+
+pub loop-ch-preserved-in_default-comment_at : goal.loop-ch-preserved-in_default-comment_at
+loop-ch-preserved-in_default-comment_at c =
+    let inv = c.loop-ch.invariant in
+    let spelt = chars_past_char _ _ c.in-Some.ch inv.utf8 c.in-Some.ensures.steps.0 in
+    let none = rw c.as_str.ensures at c.in_default-comment_at.ensures.at in
+    record {
+      utf8 = IsUtf8-past_char _ _ c.in-Some.ch inv.utf8 c.in-Some.ensures.steps.0;
+      known = past-code c.args.slashes (url_of c.loop-ch.known) _ c.in-Some.ch _ _ spelt inv.known
+          (sym c.is_whitespace.ensures ∙ c.if-is_whitespace.false) none.0 none.1;
+      passed = (inv.passed.0 ++ encode c.in-Some.ch, passed-next _ inv.passed.0 _ _ c.in-Some.ch inv.passed.1 c.in-Some.ensures.steps.0);
+      placed = λ _ _ _ _. tt;
+    }
+
+pub returns-then-ends_with_line-clause-url : goal.returns-then-ends_with_line-clause-url
+returns-then-ends_with_line-clause-url c =
+    let inv = c.loop-ch.invariant in
+    let spelt = chars_past_char _ _ c.in-Some.ch inv.utf8 c.in-Some.ensures.steps.0 in
+    let found = c.in-Some-comment_at.ensures.at in
+    let second = sym (ap chars c.as_str.ensures) ∙ found.1 ∙ ap (λ b. second_of b ∷ chars c.in-Some-comment_at.text.now) c.if-ends_with_line.true in
+    c.known_after.ensures.url ∙ past-line c.args.slashes (url_of c.loop-ch.known) _ c.in-Some.ch _ _ spelt inv.known
+    (chars c.in-Some-comment_at.text.now) found.0 second (found.2 c.if-ends_with_line.true)
+
+pub returns-then-ends_with_line-clause-placed : goal.returns-then-ends_with_line-clause-placed
+returns-then-ends_with_line-clause-placed c = λ code front whole before.
+    let inv = c.loop-ch.invariant in
+    let found = c.in-Some-comment_at.ensures.at in
+    let next = sym c.as_str.ensures ∙ c.in-Some-comment_at.ensures.bytes ∙ ap (λ b. encode (second_of b) ++ c.in-Some-comment_at.text.now) c.if-ends_with_line.true in
+    let trim = c.space_at_end-rest.ensures.cut in
+    placed-after c.args.slashes code c.loop-ch.known _ (chars c.in-Some-comment_at.text.now) _ c.known_after.ensures.place (inv.placed code front whole before)
+    (λ new e names. line-placed c.args.slashes code (front ++ inv.passed.0) [] new _ trim.0
+    (around code front _ _ inv.passed.0 _ _ _ c.in-Some.ch 47 whole inv.passed.1 c.in-Some.ensures.steps.0 found.0 (omega arith) next)
+    (found.2 c.if-ends_with_line.true) trim.1 trim.2 c.space_at_end-rest.ensures.utf8 c.utf8.after e names)
+
+pub returns-in_err-comment-clause-url : goal.returns-in_err-comment-clause-url
+returns-in_err-comment-clause-url c =
+    let inv = c.loop-ch.invariant in
+    let spelt = chars_past_char _ _ c.in-Some.ch inv.utf8 c.in-Some.ensures.steps.0 in
+    let found = c.in-Some-comment_at.ensures.at in
+    let second = sym (ap chars c.as_str.ensures) ∙ found.1 ∙ ap (λ b. second_of b ∷ chars c.in-Some-comment_at.text.now) c.if-ends_with_line.false in
+    let ended = past-open c.args.slashes (url_of c.loop-ch.known) _ c.in-Some.ch _ _ spelt inv.known
+    (chars c.in-Some-comment_at.text.now) found.0 second (sym c.in_err-comment.ensures.parts) in
+    rw c.from_residual.ensures ended
+
+pub returns-in_err-comment-clause-placed : goal.returns-in_err-comment-clause-placed
+returns-in_err-comment-clause-placed c = λ _ _ _ _. rw c.from_residual.ensures tt
+
+pub loop-ch-smaller : goal.loop-ch-smaller
+loop-ch-smaller c =
+    let inv = c.loop-ch.invariant in
+    let spelt = chars_past_char _ _ c.in-Some.ch inv.utf8 c.in-Some.ensures.steps.0 in
+    let found = c.in-Some-comment_at.ensures.at in
+    let second = sym (ap chars c.as_str.ensures) ∙ found.1 in
+    let shorter = rw (sym c.in_ok-comment.ensures.parts) at (around-shorter (chars c.in-Some-comment_at.text.now)) in
+    omega (arith, ap length spelt, ap length second, shorter, ap (λ l. length (chars l)) c.chars-rest-in-Some.ensures.rest)
+
+pub loop-ch-preserved : goal.loop-ch-preserved
+loop-ch-preserved c =
+    let inv = c.loop-ch.invariant in
+    let spelt = chars_past_char _ _ c.in-Some.ch inv.utf8 c.in-Some.ensures.steps.0 in
+    let found = c.in-Some-comment_at.ensures.at in
+    let second = sym (ap chars c.as_str.ensures) ∙ found.1 ∙ ap (λ b. second_of b ∷ chars c.in-Some-comment_at.text.now) c.if-ends_with_line.false in
+    let next = sym c.as_str.ensures ∙ c.in-Some-comment_at.ensures.bytes ∙ ap (λ b. encode (second_of b) ++ c.in-Some-comment_at.text.now) c.if-ends_with_line.false in
+    let block = past-block c.args.slashes (url_of c.loop-ch.known) _ c.in-Some.ch _ _ spelt inv.known
+    (chars c.in-Some-comment_at.text.now) _ _ found.0 second (sym c.in_ok-comment.ensures.parts) in
+    record {
+      utf8 = subst IsUtf8 (sym c.chars-rest-in-Some.ensures.rest) c.in_ok-comment.ensures.utf8;
+      known = ap (λ l. fold known_after (url_of c.known_after-known.result) (pieces c.args.slashes None (chars l))) c.chars-rest-in-Some.ensures.rest
+          ∙ ap (λ k. fold known_after k (pieces c.args.slashes None (chars c.in_ok-comment.code.now))) c.known_after-known.ensures.url ∙ block;
+      passed = (
+        inv.passed.0 ++ 47 ∷ 42 ∷ c.in_ok-comment.comment.now ++ 42 ∷ 47 ∷ [],
+        past-comment _ inv.passed.0 _ _ _ _ _ _ c.in-Some.ch inv.passed.1 c.in-Some.ensures.steps.0
+            found.0 next c.in_ok-comment.ensures.whole c.chars-rest-in-Some.ensures.rest,
+      );
+      placed = λ code front whole before.
+          placed-after c.args.slashes code c.loop-ch.known _ (chars c.in_ok-comment.comment.now) _ c.known_after-known.ensures.place (inv.placed code front whole before)
+          (λ new e names. block-placed c.args.slashes code (front ++ inv.passed.0) new _ c.in_ok-comment.comment.now
+          (around code front _ _ inv.passed.0 _ _ _ c.in-Some.ch 42 whole inv.passed.1 c.in-Some.ensures.steps.0 found.0 (omega arith) next)
+          c.in_ok-comment.ensures.whole c.in_ok-comment.ensures.front c.in_ok-comment.ensures.utf8 c.utf8.after e names);
+    }
+
+pub returns-clause-url : goal.returns-clause-url
+returns-clause-url c =
+    let nothing = nil_from_length (chars_rest c.loop-ch.rest) c.in_default.ensures.steps.0.0 in
+    sym (ap (λ l. fold known_after (url_of c.loop-ch.known) (pieces c.args.slashes None l)) (ap chars nothing ∙ chars-nil)
+    ∙ ap (fold known_after (url_of c.loop-ch.known)) (pieces-nil c.args.slashes)) ∙ c.loop-ch.invariant.known
+
+pub returns-clause-placed : goal.returns-clause-placed
+returns-clause-placed c = c.loop-ch.invariant.placed
+
+pub loop-ch-init : goal.loop-ch-init
+loop-ch-init c = record {
+  utf8 = subst IsUtf8 (sym c.chars-rest.ensures.rest) c.utf8.line;
+  known = ap (λ l. fold known_after (url_of c.args.before) (pieces c.args.slashes None (chars l))) c.chars-rest.ensures.rest;
+  passed = ([], sym c.chars-rest.ensures.rest);
+  placed = λ _ _ _ before. before;
+}

@@ -1,0 +1,42 @@
+-- The steps of the reader of lines. Only private clauses cite this module.
+use Rattle.std.specs.Prelude.{◌≡◌, ◌⊎◌, ◌++◌, ℕ, Bool, true, false, ◌&&◌, List, ◌∷◌, Option, Some}
+use Rattle.std.specs.Prelude.{None, ◌==◌, if◌then◌else◌}
+use Rattle.std.specs.Borrow.{Bor}
+use Rattle.std.specs.Str.{chars, IsUtf8}
+use Rattle.std.specs.Option.{option_map}
+use Rattle.oxc_sourcemap_text.specs.declared.url.comment.Place.{Place}
+use Rattle.oxc_sourcemap_text.specs.declared.url.comment.Naming.{Naming}
+use Rattle.oxc_sourcemap_text.specs.MappingUrls.{begins_with, IsNamingText, IsComment}
+
+-- the second character of a comment that ends with its line, or does not
+abbrev pub second_of : Bool → ℕ
+second_of ends_with_line = if ends_with_line then 47 else 42
+
+-- Whether a comment begins at this character, where these follow, and what is behind its first two. With `slashes` there are
+-- comments that end with their line.
+abbrev pub IsCommentAt : Bool → ℕ → List ℕ → Option (Bool × Bor (List ℕ)) → Type 0
+IsCommentAt slashes c after None =
+    ((c == 47 && (slashes && begins_with 47 after)) ≡ false) × ((c == 47 && begins_with 42 after) ≡ false)
+IsCommentAt slashes c after (Some found) =
+    (c ≡ 47) × (after ≡ second_of found.0 ∷ chars found.1.now) × (found.0 ≡ true → slashes ≡ true)
+
+-- ---- a comment that names a URL, and its place
+
+abbrev pub url_of : Option Naming → Option (List ℕ)
+url_of known = option_map (λ found. chars found.url.now) known
+
+-- What is known after a comment with this text at this place: what was known, or that this comment names the URL.
+abbrev pub IsKnownAfter : Option Naming → List ℕ → Place → Naming → Type 0
+IsKnownAfter known text place new =
+    (known ≡ Some new) ⊎ ((new.place ≡ place) × IsNamingText text (chars new.url.now))
+
+-- The comment stands in this code.
+pub record IsPlaced (slashes : Bool) (code : List ℕ) (known : Naming) : Type 0 where
+  pub front : List ℕ
+  pub second : ℕ
+  pub is_second : (second ≡ 47) ⊎ (second ≡ 42)
+  pub comment : List ℕ
+  pub split : code ≡ front ++ 47 ∷ second ∷ known.place.text.now ++ known.place.after.now
+  pub cut : known.place.text.now ≡ comment ++ known.place.rest.now
+  pub back_utf8 : IsUtf8 (known.place.rest.now ++ known.place.after.now)
+  pub names : IsComment slashes (47 ∷ second ∷ chars comment) (chars known.url.now)

@@ -1,5 +1,0 @@
-pub mod Appends
-pub mod KnownContents
-pub mod Printing
-pub mod SourceEnds
-mod Worked

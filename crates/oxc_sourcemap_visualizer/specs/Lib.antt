@@ -1,3 +1,0 @@
-pub mod VisualText
-pub mod Link
-pub mod Words

@@ -1,0 +1,6 @@
+//! What positions and stack traces come from: the commands `trace` and `resolve` of the program `sourcemap`.
+
+mod context;
+mod maps;
+pub mod resolve;
+pub mod trace;

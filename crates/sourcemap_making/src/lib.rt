@@ -1,7 +1,0 @@
-//! Maps made of maps: the commands `bundle` and `remap` of the program `sourcemap`.
-#![tactic(auto)]
-
-pub mod bundle;
-mod codes;
-mod own;
-pub mod remap;

@@ -1,7 +1,0 @@
-//! What positions and stack traces come from: the commands `trace` and `resolve` of the program `sourcemap`.
-#![tactic(auto)]
-
-mod context;
-mod maps;
-pub mod resolve;
-pub mod trace;

@@ -42,8 +42,10 @@ def calls(folder):
 
 
 def write_program(room):
-    """Copies the crate as a program that reaches each export."""
+    """Copies the crate as a program that reaches each export, in whatever module it stands."""
     shutil.copytree(TOP / "crates" / CRATE, room / CRATE, ignore=shutil.ignore_patterns("out"))
+    for file in (room / CRATE / "src").rglob("*.rt"):
+        file.write_text(re.sub(r"^mod ", "pub mod ", file.read_text(), flags=re.M))
     root = room / CRATE / "src/lib.rt"
     reach = [
         "fn any<T>() -> T {",

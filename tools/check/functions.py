@@ -49,7 +49,7 @@ class Function:
         # (functions that call one another in a cycle have one folder, and goals that begin with their names)
         parts = folder.split("/")
         is_own = parts[-1].lstrip("+") == self.name or parts[-1][0] == "+" and goal.startswith(f"`{self.name}-")
-        return is_own and self.module in ("", parts[0])
+        return is_own and f"{folder}/".startswith(f"{self.module.replace('::', '/')}/" if self.module else "")
 
     def proof(self, room):
         """The folder of its proof, and whether that is its own: functions that call one another have one proof."""

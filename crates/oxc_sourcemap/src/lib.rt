@@ -1,7 +1,7 @@
 //! Source maps of version 3 (ECMA-426): a port of the Rust crate `oxc_sourcemap`, with each call proved to meet its
 //! contract.
 //!
-//! Users name this crate alone. Its items are made in other crates, one for each subject; CONTRIBUTING.md has a table.
+//! Users name this crate alone. Its items are made in other crates, one for each subject (`crates.txt`).
 #![tactic(auto)]
 
 mod decoding;

@@ -12,7 +12,11 @@ use Rattle.oxc_sourcemap_c.specs.declared.reading.asked.Asked.{Asked}
 use Rattle.oxc_sourcemap_c.specs.declared.reading.asked.Asked.TheVariants.{Name, Source}
 use Rattle.oxc_sourcemap_c.specs.declared.reading.asked.Asked.TheVariants.{SourceContent, File}
 use Rattle.oxc_sourcemap_c.specs.declared.reading.asked.Asked.TheVariants.{SourceRoot, DebugId}
-use Rattle.oxc_sourcemap_handles.specs.Holding.{held_map}
+use Rattle.oxc_sourcemap_handles.specs.Holding.{held_map, HoldsMap}
+use Rattle.oxc_sourcemap_handles.specs.Traces.{HasBias, IsTraceOf}
+use Rattle.oxc_sourcemap_handles.specs.declared.text.Original.{Original}
+use Rattle.oxc_sourcemap_tokens.specs.LineOrder.{IsInLineOrder}
+use Rattle.oxc_sourcemap_tokens.specs.declared.position.Position.{Position}
 
 -- the text of a map that is asked for
 abbrev pub text_at : MapRecord → Asked → Option Text
@@ -41,3 +45,7 @@ flag_of false = 0
 -- a number is 1 if this is so, and else 0
 abbrev pub IsFlagOf : Type 0 → ℕ → Type 0
 IsFlagOf holds n = ((n ≡ 1) × holds) ⊎ ((n ≡ 0) × ¬ holds)
+
+-- what the map that is held says of a position, by the bias of this number; its tokens are in line order
+abbrev pub IsTraced : Option Held → ℕ → Position → Original → Type 0
+IsTraced held bias at out = HoldsMap held (λ m. IsInLineOrder m.tokens × HasBias bias (λ b. IsTraceOf b m at out))

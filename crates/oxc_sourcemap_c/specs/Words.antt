@@ -56,6 +56,7 @@ pub use Rattle.oxc_sourcemap_map.specs.View.{content_at}
 pub use Rattle.oxc_sourcemap_parts.specs.Roots.{rooted}
 pub use Rattle.oxc_sourcemap_steps.specs.Simplified.{simplification}
 pub use Rattle.oxc_sourcemap_steps.specs.Sorting.{sorted_map}
+pub use Rattle.oxc_sourcemap_c.specs.Answers.{IsTraced}
 pub use Rattle.oxc_sourcemap_c.specs.Answers.{HasLength, IsFlagOf, IsFound, flag_of, text_at}
 pub use Rattle.oxc_sourcemap_c.specs.Mends.{kind_numbers, kind_of_numbers, mend_of_numbers}
 pub use Rattle.oxc_sourcemap_c.specs.Mends.{numbers_of_kind, numbers_of_mend}

@@ -1,5 +1,5 @@
 //! What the handles of the library for C hold, what C lends to a call, and the codes and places of errors.
-//! The crates of the library for C alone use this crate.
+//! `oxc_sourcemap_c` alone uses this crate.
 #![tactic(auto)]
 
 mod call_error;

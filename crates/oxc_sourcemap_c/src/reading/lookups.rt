@@ -2,9 +2,9 @@
 ghost use Rattle.std.specs.Prelude.{◌≡◌, ◌≢◌, Ok, Err, length, map, OnOk, OnErr, IfErr};
 ghost use Rattle.std.specs.Prelude.{MatchOption, MatchResult, Some, ◌<◌, drop, get_or, true, false};
 ghost use Rattle.oxc_sourcemap_c.specs.Words.{NullHandle, code_of, no_fault, held_map, HoldsMap};
-ghost use Rattle.oxc_sourcemap_c.specs.Words.{HasBias, IsTraceOf, AreTracesOf, AreFoundIn};
+ghost use Rattle.oxc_sourcemap_c.specs.Words.{HasBias, IsTraced, AreTracesOf, AreFoundIn};
 ghost use Rattle.oxc_sourcemap_c.specs.Words.{IsTraceError, IsTraceAllError, Lengths};
-ghost use Rattle.oxc_sourcemap_c.specs.Words.{IsInLineOrder, piece_numbers, IsBack, ArePieces};
+ghost use Rattle.oxc_sourcemap_c.specs.Words.{piece_numbers, IsBack, ArePieces};
 ghost use Rattle.oxc_sourcemap_c.specs.Words.{IsDifference, Piece, filled, IsError, DifferFrom};
 ghost use Rattle.oxc_sourcemap_c.specs.Words.{position_at, IsGivenBack, IsCodeOf};
 
@@ -18,8 +18,7 @@ use oxc_sourcemap_tokens::Position;
 /// usual form, and the number is that of the bias `Before`. Else it writes nothing, and returns false.
 #[inline(always)]
 fn trace_usual(map: &mut Lent, at: Position, bias: u32, out: &mut Original) -> bool
-    ensures traced { result ≡ true → HoldsMap map.old.held (λ m. IsInLineOrder m.tokens
-        × HasBias bias (λ b. IsTraceOf b m at out.new)) }
+    ensures traced { result ≡ true → IsTraced map.old.held bias at out.new }
     ensures unchanged { result ≡ false → out.new ≡ out.old }
     ensures back { IsBack map.old map.new }
 {
@@ -41,8 +40,7 @@ pub extern "C" fn proved_trace(
     out: &mut Original,
     fault: &mut Fault,
 ) -> GivenBack
-    ensures traced { result.code ≡ 0 → HoldsMap map.held (λ m. IsInLineOrder m.tokens
-        × HasBias bias (λ b. IsTraceOf b m (position_at line column) out.new)) }
+    ensures traced { result.code ≡ 0 → IsTraced map.held bias (position_at line column) out.new }
     ensures no_error { result.code ≡ 0 → fault.new ≡ no_fault }
     ensures error { result.code ≢ 0 → (out.new ≡ out.old)
         × IsError result.code fault.new (IsTraceError (held_map map.held) bias) }
@@ -66,8 +64,7 @@ pub extern "C" fn proved_trace_code(
     bias: u32,
     out: &mut Original,
 ) -> GivenBack
-    ensures traced { result.code ≡ 0 → HoldsMap map.held (λ m. IsInLineOrder m.tokens
-        × HasBias bias (λ b. IsTraceOf b m (position_at line column) out.new)) }
+    ensures traced { result.code ≡ 0 → IsTraced map.held bias (position_at line column) out.new }
     ensures error { result.code ≢ 0 → (out.new ≡ out.old)
         × IsCodeOf result.code (IsTraceError (held_map map.held) bias) }
     ensures back { IsGivenBack map result }
@@ -84,8 +81,7 @@ pub extern "C" fn proved_trace_code(
 /// As `proved_trace_code`, for any map and bias.
 #[inline(never)]
 fn trace_code_anyhow(map: Lent, at: Position, bias: u32, out: &mut Original) -> GivenBack
-    ensures traced { result.code ≡ 0 → HoldsMap map.held (λ m. IsInLineOrder m.tokens
-        × HasBias bias (λ b. IsTraceOf b m at out.new)) }
+    ensures traced { result.code ≡ 0 → IsTraced map.held bias at out.new }
     ensures error { result.code ≢ 0 → (out.new ≡ out.old)
         × IsCodeOf result.code (IsTraceError (held_map map.held) bias) }
     ensures back { IsGivenBack map result }
@@ -96,8 +92,7 @@ fn trace_code_anyhow(map: Lent, at: Position, bias: u32, out: &mut Original) -> 
 
 /// Writes what the map in a handle says of a generated position, by the bias of this number, and nothing on an error.
 fn trace(map: &mut Lent, at: Position, bias: u32, out: &mut Original) -> Result<(), CallError>
-    ensures traced { OnOk result (HoldsMap map.old.held (λ m. IsInLineOrder m.tokens
-        × HasBias bias (λ b. IsTraceOf b m at out.new))) }
+    ensures traced { OnOk result (IsTraced map.old.held bias at out.new) }
     ensures error { IfErr result (IsTraceError (held_map map.old.held) bias) }
     ensures unchanged { OnErr result (out.new ≡ out.old) }
     ensures back { IsBack map.old map.new }
@@ -117,8 +112,7 @@ fn trace_anyhow(
     out: &mut Original,
     fault: &mut Fault,
 ) -> GivenBack
-    ensures traced { result.code ≡ 0 → HoldsMap map.held (λ m. IsInLineOrder m.tokens
-        × HasBias bias (λ b. IsTraceOf b m at out.new)) }
+    ensures traced { result.code ≡ 0 → IsTraced map.held bias at out.new }
     ensures no_error { result.code ≡ 0 → fault.new ≡ no_fault }
     ensures error { result.code ≢ 0 → (out.new ≡ out.old)
         × IsError result.code fault.new (IsTraceError (held_map map.held) bias) }

@@ -1,4 +1,3 @@
-pub mod Located
 pub mod Texts
 pub mod Maps
 pub mod Pieces

@@ -1,14 +1,21 @@
-use Rattle.std.proofs.Common.{◌≡◌, map, string_bytes, subst, sym, ap, inr, IsUtf8, Ok, Err}
+use Rattle.std.proofs.Common.{◌≡◌, map, string_bytes, subst, sym, ap, ◌∙◌, inr, IsUtf8, Ok, Err}
 use Rattle.std.proofs.lemmas.Result.{IfOk-weaker, IfErr-weaker}
 use Rattle.std.proofs.lemmas.Str.{IsUtf8-string_bytes}
 use Rattle.smap_run.specs.Request.{request_of}
 use Rattle.oxc_sourcemap_plan.specs.PlanInputs.{inputs_of}
 use Rattle.oxc_sourcemap_plan.specs.PlanArguments.{parsed_plan}
 use Rattle.smap_run.specs.Answer.{IsPlanAnswer, IsPlanError, IsAnswer, IsCommandError, normalised}
-use Rattle.smap_run.specs.Answer.{of_map}
+use Rattle.smap_run.specs.Answer.{of_map, without_line_feed}
 use Rattle.oxc_sourcemap_plan.specs.PlanPlaces.{IsTextPlace}
-use Rattle.smap_run.specs.ErrorPlaces.{IsPlaceIn, IsInputPlace, IsPlacedBy}
+use Rattle.smap_run.specs.ErrorPlaces.{IsPlaceIn, IsInputPlace, IsMappingsPlace, IsPlacedBy}
 use Rattle.smap_run.proofs.running.answer.Goals as goal
+
+pub returns-in-Mappings-clause-place : goal.returns-in-Mappings-clause-place
+returns-in-Mappings-clause-place c =
+    let s : string_bytes c.in-Ok.text ≡ c.args.input.items = ap (λ bytes. bytes.items) c.in-Ok.ensures.ok in
+    let t = c.without_last_line_feed.ensures ∙ ap without_line_feed (c.as_str.ensures.value ∙ s) in
+    IfErr-weaker c.rewrite_mappings.result _ _ (λ f h. subst (λ command. IsPlacedBy (IsPlaceIn (request_of command) c.args.input.items) f) (sym c.in-Mappings.is)
+    (subst (λ text. IsPlacedBy (λ _. IsMappingsPlace text c.in-Mappings.names c.in-Mappings.sources) f) t h)) c.rewrite_mappings.ensures.place
 
 pub returns-in-Normalise-clause-text : goal.returns-in-Normalise-clause-text
 returns-in-Normalise-clause-text c =
@@ -57,3 +64,15 @@ returns-in-Plan-clause-place c =
     let s : string_bytes c.in-Ok.text ≡ c.args.input.items = ap (λ bytes. bytes.items) c.in-Ok.ensures.ok in
     IfErr-weaker c.plan_text.result _ _ (λ f h. subst (λ command. IsPlacedBy (IsPlaceIn (request_of command) c.args.input.items) f) (sym c.in-Plan.is)
     (subst (λ text. IsPlacedBy (IsInputPlace (inputs_of text)) f) s h)) c.plan_text.ensures.place
+
+pub returns-in-Trace-clause-place : goal.returns-in-Trace-clause-place
+returns-in-Trace-clause-place c =
+    let s : string_bytes c.in-Ok.text ≡ c.args.input.items = ap (λ bytes. bytes.items) c.in-Ok.ensures.ok in
+    IfErr-weaker c.trace_text.result _ _ (λ f h. subst (λ command. IsPlacedBy (IsPlaceIn (request_of command) c.args.input.items) f) (sym c.in-Trace.is)
+    (subst (λ text. IsPlacedBy (λ _. IsTextPlace text) f) (c.as_str-in-Trace.ensures.value ∙ s) h)) c.trace_text.ensures.place
+
+pub returns-in-Url-clause-place : goal.returns-in-Url-clause-place
+returns-in-Url-clause-place c =
+    let s : string_bytes c.in-Ok.text ≡ c.args.input.items = ap (λ bytes. bytes.items) c.in-Ok.ensures.ok in
+    IfErr-weaker c.data_url.result _ _ (λ f h. subst (λ command. IsPlacedBy (IsPlaceIn (request_of command) c.args.input.items) f) (sym c.in-Url.is)
+    (subst (λ text. IsPlacedBy (λ _. IsTextPlace text) f) (c.as_str-in-Url.ensures.value ∙ s) h)) c.data_url.ensures.place

@@ -1,7 +1,6 @@
 -- Failures and the places that they tell.
 use Rattle.std.proofs.Common.{◌≡◌, ◌≢◌, ℕ, List, refl, sym, ap, subst, Option, Some, None, true}
-use Rattle.std.proofs.Common.{Result, Ok, Err, IfSome, IsSomeAnd, slice_get, is_some, ◌⊎◌, inl, inr}
-use Rattle.std.proofs.Common.{◌∙◌}
+use Rattle.std.proofs.Common.{Result, Ok, Err, IfSome, IsSomeAnd, is_some, ◌⊎◌, inl, inr, ◌∙◌}
 use Rattle.std.specs.Result.{IfErr, IsErrAnd}
 use Rattle.serde_json.specs.Data.{Data}
 use Rattle.serde_json.specs.Read.{read}
@@ -14,16 +13,18 @@ use Rattle.oxc_sourcemap_tokens.specs.declared.plan_error.PlanError.TheVariants.
 use Rattle.oxc_sourcemap_parts.specs.Record.{Text}
 use Rattle.oxc_sourcemap_json.specs.ReadMap.{read_map}
 use Rattle.oxc_sourcemap_json.specs.ValuePlaces.{value_place, IsPlacedIn, IsReading}
+use Rattle.oxc_sourcemap_found.specs.FoundMaps.{found}
+use Rattle.oxc_sourcemap_found.specs.FoundPlaces.{IsFoundFault, HasPlaceIfRefused}
 use Rattle.oxc_sourcemap_plan.specs.declared.fault.PlanFault.{PlanFault}
 use Rattle.oxc_sourcemap_plan.specs.Evaluated.{IsErrorOf}
 use Rattle.oxc_sourcemap_plan.specs.Meaning.{Meaning}
 use Rattle.oxc_sourcemap_plan.specs.Outcome.{Outcome}
-use Rattle.oxc_sourcemap_plan.specs.PlanPlaces.{IsTextPlace, IsTextFault, TellsText, IsTold}
+use Rattle.oxc_sourcemap_plan.specs.PlanPlaces.{IsTextPlace, TellsText, IsTold}
 use Rattle.oxc_sourcemap_plan.proofs.Realizing.{memory_or_not}
 use Rattle.oxc_sourcemap_handles.specs.declared.call_error.CallError.{CallError}
 use Rattle.oxc_sourcemap_handles.specs.CallErrors.{out_of_memory, of_map}
 use Rattle.oxc_sourcemap_c.specs.declared.making.failure.Failure.{Failure}
-use Rattle.oxc_sourcemap_c.specs.Failures.{IsFailure, IsTextErrorAt}
+use Rattle.oxc_sourcemap_c.specs.Failures.{IsFailure, IsTextErrorAt, IsFoundTextErrorAt}
 use Rattle.oxc_sourcemap_c.specs.Plans.{IsPlaceOfPlan, of_plan, HasPlanPlace, IsOutcomeErrorAt}
 
 -- what a fault becomes for C
@@ -52,10 +53,10 @@ placed text (Some p) json bad there = (json, bad)
 pub text_failed : (text : Text) (f : ReadFault) → (f.error ≢ OutOfMemory → read_map text ≡ Err f.error) → IsPlacedIn text f → f.error ≢ OutOfMemory → IsTextErrorAt text (of_map f.error) f.place
 text_failed text f reads is other = let told = is other in (f.error, reads other, refl, placed text f.place told.0 told.1 told.2)
 
--- the same place in an input with this text
-pub in_input : (inputs : List Text) (k : ℕ) (text : Text) (e : PlanError) (place : FaultPlace) → slice_get inputs k ≡ Some text → IsTextFault e text place
-    → IsPlaceOfPlan inputs (of_plan e) (record place { text = Some k })
-in_input inputs k text e place here told = (told.0, ap of_plan told.1, k, text, here, told.2, place, told.3, refl)
+-- the fault of a text as it is found that is not read
+pub found_failed : (text : Text) (f : ReadFault) → (f.error ≢ OutOfMemory → found text ≡ Err f.error) → IsFoundFault text f → f.error ≢ OutOfMemory → IsFoundTextErrorAt text (of_map f.error) f.place
+found_failed text f reads is other =
+    let told = is other in (f.error, reads other, refl, told.0, subst (λ r. HasPlaceIfRefused r f.place) (sym (reads other)) told.1)
 
 -- why a plan over these inputs fails, by the fault of its evaluation
 abbrev pub IsPlanFailure : List Text → PlanFault → Failure → Type 0

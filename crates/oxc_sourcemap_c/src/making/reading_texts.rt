@@ -1,21 +1,20 @@
 //! Maps made of texts, and put into handles.
-ghost use Rattle.std.specs.Prelude.{◌≡◌, ◌≢◌, Some, Ok, Err, IfOk, IfErr, MatchResult, map};
+ghost use Rattle.std.specs.Prelude.{◌≡◌, ◌≢◌, Some, Ok, IfOk, IfErr, MatchResult, map};
 ghost use Rattle.std.specs.Prelude.{MatchOption};
 ghost use Rattle.oxc_sourcemap_c.specs.Words.{read_map, out_of_memory, no_fault, fault_at};
 ghost use Rattle.oxc_sourcemap_c.specs.Words.{fault_of, code_of, held_map, held_mends, IsFailure};
-ghost use Rattle.oxc_sourcemap_c.specs.Words.{OutOfMemory, IsTextErrorAt, IsReadErrorAt};
+ghost use Rattle.oxc_sourcemap_c.specs.Words.{IsTextErrorAt, IsReadErrorAt};
 ghost use Rattle.oxc_sourcemap_c.specs.Words.{IsSegmentErrorAt, found, IsMappingsErrorAt, IsSound};
 ghost use Rattle.oxc_sourcemap_c.specs.Words.{reading, map_of_tokens, found_record, IsFoundErrorAt};
 ghost use Rattle.oxc_sourcemap_c.specs.Words.{IsFoundTextErrorAt, HoldsMap, IsErrorAt};
 
 use crate::making::failure::Failure;
-use oxc_sourcemap_found::{Mend, found_fault_at, mending_harmless};
+use oxc_sourcemap_found::{Mend, mending_harmless, read_located};
 use oxc_sourcemap_handles::{CallError, Fault, Handle, Held, box_map, text_of};
 use oxc_sourcemap_json::read_parts_from_string;
 use oxc_sourcemap_map::OwnedSourceMap;
 use oxc_sourcemap_mappings::read_mappings;
 use oxc_sourcemap_parts::SourceMapParts;
-use oxc_sourcemap_tokens::Error;
 use std::alloc::Global;
 
 fn read_text(alloc: Global, text: &str) -> Result<OwnedSourceMap, Failure>
@@ -141,32 +140,14 @@ pub fn put_read(
     }
 }
 
-/// Why a text as it is found is not read: the error, with the place of the fault, or want of memory to tell that.
-fn found_failure(alloc: Global, text: &str, error: Error) -> Failure
-    requires unread { found text.now ≡ Err error }
-    requires memory { error ≢ OutOfMemory }
-    ensures { IsFailure (IsFoundTextErrorAt text.now) result }
-{
-    match found_fault_at(alloc, text) {
-        Ok(place) => Failure {
-            error: CallError::from(error),
-            place,
-        },
-        Err(_) => Failure::memory(),
-    }
-}
-
 fn read_found_text(alloc: Global, text: &str) -> Result<(OwnedSourceMap, Vec<Mend>), Failure>
     ensures found { IfOk result (λ f. found text.now ≡ Ok (found_record f.1.items f.0)) }
     ensures sound { IfOk result (λ f. IsSound f.0) }
     ensures error { IfErr result (IsFailure (IsFoundTextErrorAt text.now)) }
 {
     mending_harmless();
-    match oxc_sourcemap_found::read_found(alloc, text) {
-        Ok(found) => Ok((OwnedSourceMap::new(found.map), found.mends)),
-        Err(Error::OutOfMemory) => Err(Failure::memory()),
-        Err(error) => Err(found_failure(alloc, text, error)),
-    }
+    let found = read_located(alloc, text)?;
+    Ok((OwnedSourceMap::new(found.map), found.mends))
 }
 
 /// The map of a text as it is found, with what was mended.

@@ -1,7 +1,7 @@
 //! `sourcemap`: looks positions up in source maps, leads stack traces back, and checks, joins and compares maps.
 //!
-//! What the commands print is made by the crate `sourcemap_run`, which is proved to print what the library answers. `sourcemap_base`
-//! has the words of the command line, and finds maps.
+//! What the commands print is made by the crate `sourcemap_run`, which is proved to print what the library answers. `sourcemap_words`
+//! has the words of the command line, `sourcemap_files` finds maps.
 #![tactic(auto)]
 
 mod commands;

@@ -1,5 +1,5 @@
 -- The builder that a handle holds, in its box.
-use Rattle.std.proofs.Common.{◌≡◌, ◌∙◌, Result, Ok, Err, sym, ap}
+use Rattle.std.proofs.Common.{◌≡◌, ◌∙◌, Result, Ok, Err, ap}
 use Rattle.std.specs.Prelude.{Box}
 use Rattle.std.specs.Box.{with_value}
 use Rattle.std.specs.Result.{OnErr}

@@ -1,5 +1,5 @@
 -- Failures and the places that they tell.
-use Rattle.std.proofs.Common.{◌≡◌, ◌≢◌, ℕ, List, refl, sym, ap, subst, Option, Some, None, true}
+use Rattle.std.proofs.Common.{◌≡◌, ◌≢◌, List, refl, sym, subst, Option, Some, None, true}
 use Rattle.std.proofs.Common.{Result, Ok, Err, IfSome, IsSomeAnd, is_some, ◌⊎◌, inl, inr, ◌∙◌}
 use Rattle.std.specs.Result.{IfErr, IsErrAnd}
 use Rattle.serde_json.specs.Data.{Data}

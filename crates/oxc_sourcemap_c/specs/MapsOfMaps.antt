@@ -1,5 +1,5 @@
 -- Compositions, remappings and joins of maps that handles lend.
-use Rattle.std.specs.Prelude.{◌≡◌, ◌≢◌, ◌⊎◌, List, [], ◌∷◌, map, length, Option, Some, None, Ok}
+use Rattle.std.specs.Prelude.{◌≡◌, ◌≢◌, ◌⊎◌, List, [], ◌∷◌, map, length, Option, Some, Ok}
 use Rattle.std.specs.Prelude.{Err, option_map, MatchOption}
 use Rattle.std.specs.Option.{option_and_then}
 use Rattle.oxc_sourcemap_tokens.specs.declared.error.Error.{Error}

@@ -11,5 +11,5 @@ returns-clause-sound c =
 pub returns-in_err-found-clause-error : goal.returns-in_err-found-clause-error
 returns-in_err-found-clause-error c =
     let fault = c.in_err-found.field-0.0 in
-    failed_on (IsFoundTextErrorAt c.args.text.now) c.from_residual-in_err-found.result fault c.from_residual-in_err-found.ensures.1
+    failed_on (IsFoundTextErrorAt c.args.text.now) c.from_residual.result fault c.from_residual.ensures.1
     (found_failed c.args.text.now fault c.in_err-found.ensures.map.1 c.in_err-found.ensures.place)

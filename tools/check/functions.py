@@ -35,7 +35,9 @@ class Function:
             at -= 1
         self.first, self.lines = at + 1, lines[at : self.last]
         is_of_trait, owner = " for " in above, OWNER.match(above)
-        self.module = module_of(path) if is_of_trait or not owner else types.get(owner[1], "")
+        # (two modules may each have a type of a name)
+        is_here = is_of_trait or not owner or owner[1] in TYPE.findall("\n".join(lines))
+        self.module = module_of(path) if is_here else types.get(owner[1], "")
         # Its whole name, but for the method of a trait, which is called after the trait, too: then its module's.
         parts = [self.module, owner and owner[1], self.name]
         self.whole = self.module if is_of_trait else "::".join(it for it in parts if it)

@@ -5,7 +5,6 @@ pub mod Faults
 pub mod Reading
 pub mod SegmentPlaces
 pub mod Canonical
-pub mod Pieces
 pub mod TextLaws
 pub mod Decoding
 pub mod Encoding
